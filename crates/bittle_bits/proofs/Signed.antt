@@ -1,0 +1,14 @@
+-- The digits of a signed word.
+use Rattle.std.proofs.Common.{◌≡◌, ℤ, bit_or, bit_xor}
+use Rattle.std.specs.Int.{Width, cast_unsigned, cast_signed}
+use Rattle.std.specs.Prelude.{FitsSigned}
+use Rattle.std.proofs.Math.Facts.{Fits-of_z}
+use Rattle.std.proofs.lemmas.Int.{of_z-to_z}
+use Rattle.std.proofs.lemmas.Nat.{or_lt, xor_lt}
+use mir.Val.{bits}
+
+pub signed_or : (w : Width) (a b : ℤ) → FitsSigned w a → FitsSigned w b → cast_unsigned w (cast_signed w (bit_or (cast_unsigned w a) (cast_unsigned w b))) ≡ bit_or (cast_unsigned w a) (cast_unsigned w b)
+signed_or w a b f g = of_z-to_z w _ (or_lt (bits w) _ _ (Fits-of_z f).fits (Fits-of_z g).fits)
+
+pub signed_xor : (w : Width) (a b : ℤ) → FitsSigned w a → FitsSigned w b → cast_unsigned w (cast_signed w (bit_xor (cast_unsigned w a) (cast_unsigned w b))) ≡ bit_xor (cast_unsigned w a) (cast_unsigned w b)
+signed_xor w a b f g = of_z-to_z w _ (xor_lt (bits w) _ _ (Fits-of_z f).fits (Fits-of_z g).fits)

@@ -1,0 +1,5 @@
+use Rattle.bittle_bits.proofs.DigitSets.{no_digits}
+use Rattle.bittle_bits.proofs.number.word.zeros.Goals as goal
+
+pub returns : goal.returns
+returns g c = no_digits _ _ c.zero.ensures

@@ -1,0 +1,6 @@
+pub mod Digits
+pub mod Laws
+pub mod Orders
+pub mod PlainSet
+pub mod Rows
+pub mod Shapes

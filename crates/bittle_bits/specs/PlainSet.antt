@@ -1,0 +1,77 @@
+-- Plain sets of numbers below a capacity: what a value stands for, whatever its words are.
+use Rattle.std.specs.Prelude.{◌≡◌, ℕ, zero, suc, ◌+◌, ◌-◌, ◌%◌, ◌<◌, ◌≤◌, Bool, true, false, cond, ◌&&◌, ◌||◌, not, nat_lt, ◌==◌, List, [], ◌∷◌}
+
+-- a set of numbers below a capacity, by the test of each number
+pub record PlainSet : Type 0 where
+  pub capacity : ℕ
+  pub has : ℕ → Bool
+
+-- whether the index, which wraps at the capacity, is a member; nothing is a member where the capacity is 0
+unfoldable pub contains : PlainSet → ℕ → Bool
+contains s i = nat_lt 0 s.capacity && s.has (i % s.capacity)
+
+-- whether a number is a member, or is the index, which wraps at the capacity
+unfoldable pub has_with : PlainSet → ℕ → ℕ → Bool
+has_with s i k = (nat_lt 0 s.capacity && (k == i % s.capacity)) || s.has k
+
+-- the set with the index, which wraps at the capacity
+abbrev pub with_index : PlainSet → ℕ → PlainSet
+with_index s i = record { capacity = s.capacity; has = has_with s i }
+
+-- whether a number is a member, and is not the index, which wraps at the capacity
+unfoldable pub has_without : PlainSet → ℕ → ℕ → Bool
+has_without s i k = not (nat_lt 0 s.capacity && (k == i % s.capacity)) && s.has k
+
+-- the set without the index, which wraps at the capacity
+abbrev pub without_index : PlainSet → ℕ → PlainSet
+without_index s i = record { capacity = s.capacity; has = has_without s i }
+
+-- the set of a capacity that has no members
+abbrev pub empty : ℕ → PlainSet
+empty c = record { capacity = c; has = λ _. false }
+
+-- the set of a capacity that has each number below it
+abbrev pub filled : ℕ → PlainSet
+filled c = record { capacity = c; has = λ k. nat_lt k c }
+
+-- the set of the same capacity that has no members
+abbrev pub emptied : PlainSet → PlainSet
+emptied s = empty s.capacity
+
+-- whether a number below the capacity is no member
+unfoldable pub lacks : PlainSet → ℕ → Bool
+lacks s k = nat_lt k s.capacity && not (s.has k)
+
+-- the set of the numbers below the capacity that are no members
+abbrev pub complement : PlainSet → PlainSet
+complement s = record { capacity = s.capacity; has = lacks s }
+
+-- how many of the numbers below c pass the test
+unfoldable pub count_below : ℕ → (ℕ → Bool) → ℕ
+count_below zero p = 0
+count_below (suc c) p = count_below c p + cond (p c) 1 0
+
+-- how many members there are
+abbrev pub size : PlainSet → ℕ
+size s = count_below s.capacity s.has
+
+-- those of the n numbers from one on that pass the test, in increasing order
+unfoldable pub ascending_from : (ℕ → Bool) → ℕ → ℕ → List ℕ
+ascending_from p from zero = []
+ascending_from p from (suc n) = cond (p from) (from ∷ ascending_from p (suc from) n) (ascending_from p (suc from) n)
+
+-- the members in increasing order
+abbrev pub ascending : PlainSet → List ℕ
+ascending s = ascending_from s.has 0 s.capacity
+
+-- r is the least member, or the capacity where there is none
+pub record IsLeastMember (s : PlainSet) (r : ℕ) : Type 0 where
+  pub within : r ≤ s.capacity
+  pub none_below : (k : ℕ) → k < r → s.has k ≡ false
+  pub is_member : r < s.capacity → s.has r ≡ true
+
+-- r is how far the greatest member lies below the last number, or the capacity where there is none
+pub record IsGreatestMember (s : PlainSet) (r : ℕ) : Type 0 where
+  pub within : r ≤ s.capacity
+  pub none_above : (k : ℕ) → k < r → s.has (s.capacity - 1 - k) ≡ false
+  pub is_member : r < s.capacity → s.has (s.capacity - 1 - r) ≡ true

@@ -1,0 +1,103 @@
+//! Arrays as sets.
+
+ghost use Rattle.std.specs.Prelude.{◌*◌, ◌&&◌, nat_lt, refl};
+ghost use Rattle.bittle_bits.specs.Laws.{elements_has-past, words_of, second_is_below};
+ghost use Rattle.bittle_bits.specs.Rows.{elements_set};
+
+use crate::bits::Bits;
+use crate::bits_mut::BitsMut;
+use crate::bits_owned::BitsOwned;
+use crate::elements;
+use crate::endian::{DefaultEndian, Endian};
+use crate::hidden::Sealed;
+
+impl<T: BitsOwned, const N: usize> Sealed for [T; N] {}
+
+impl<T: BitsOwned, const N: usize> Bits for [T; N] {
+    type Order = DefaultEndian;
+
+    ghost width = { T.width };
+
+    ghost indexable = { T.indexable && nat_lt (N * T.type_capacity) 4294967295 };
+
+    ghost big = { λ v. elements_set N T.type_capacity T.big v };
+
+    ghost width_positive = { T.width_positive };
+
+    ghost whole_words = { λ _. words_of N _ _ T.type_whole_words };
+
+    ghost none_past = { λ v i h. elements_has-past N T.type_capacity (λ x. (T.big x).has) v i h };
+
+    #[inline]
+    fn bits_capacity(&self) -> u32 {
+        elements::bits_capacity::<T>(self.len())
+    }
+
+    #[inline]
+    fn count_ones(&self) -> u32 {
+        elements::count_ones::<T>(self)
+    }
+
+    #[inline]
+    fn all_zeros(&self) -> bool {
+        elements::all_zeros::<T>(self)
+    }
+
+    #[inline]
+    fn all_ones(&self) -> bool {
+        elements::all_ones::<T>(self)
+    }
+
+    #[inline]
+    fn test_bit_in<E: Endian>(&self, index: u32) -> bool {
+        elements::test_bit::<T, E>(self, index)
+    }
+}
+
+impl<T: BitsOwned, const N: usize> BitsMut for [T; N] {
+    ghost same_place = { λ _ _. Unit {0} };
+
+    ghost same_place_self = { λ _. tt };
+
+    ghost same_place_on = { λ _ _ _ _ _. tt };
+
+    #[inline]
+    fn set_bit_in<E: Endian>(&mut self, index: u32) {
+        elements::set_bit::<T, E>(self, index);
+    }
+
+    #[inline]
+    fn clear_bit_in<E: Endian>(&mut self, index: u32) {
+        elements::clear_bit::<T, E>(self, index);
+    }
+
+    #[inline]
+    fn clear_bits(&mut self) {
+        elements::clear_bits::<T>(self);
+    }
+}
+
+impl<T: BitsOwned, const N: usize> BitsOwned for [T; N] {
+    ghost type_capacity = { N * T.type_capacity };
+
+    ghost one_capacity = { λ _. refl };
+
+    ghost type_whole_words = { words_of N _ _ T.type_whole_words };
+
+    ghost type_fits = { λ h. second_is_below T.indexable (N * T.type_capacity) 4294967295 h };
+
+    #[inline]
+    fn bits() -> u32 {
+        elements::bits_capacity::<T>(N)
+    }
+
+    #[inline]
+    fn zeros() -> [T; N] {
+        [T::zeros(); N]
+    }
+
+    #[inline]
+    fn ones() -> [T; N] {
+        [T::ones(); N]
+    }
+}

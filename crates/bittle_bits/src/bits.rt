@@ -1,0 +1,96 @@
+//! Reading a set.
+
+ghost use Rattle.std.specs.Prelude.{◌≡◌, ◌==◌, ℕ, ◌*◌, ◌-◌, ◌<◌, ◌≤◌, Bool, false, IsTrue};
+ghost use Rattle.bittle_bits.specs.Orders.{members};
+ghost use Rattle.bittle_bits.specs.PlainSet.{PlainSet, contains, size};
+ghost use Rattle.bittle_bits.specs.Shapes.{Fits};
+
+use crate::endian::{BigEndian, Endian, LittleEndian};
+use crate::hidden::Sealed;
+
+/// A set of the numbers below a capacity, one digit each.
+///
+/// The integers are sets, and so are arrays of sets, nested to any depth, and slices. An index past the capacity wraps.
+pub trait Bits: Drop + Sealed {
+    /// The order of the calls that name none.
+    type Order: Endian;
+
+    // The digits of each word.
+    ghost width: { ℕ };
+
+    // Whether the elements of the shape fit, so that an index finds its element.
+    ghost indexable: { Bool };
+
+    // The set in big-endian order.
+    ghost big: { Self → PlainSet };
+
+    /// How many numbers the set can hold, or `u32::MAX` where the shape does not fit.
+    fn bits_capacity(&self) -> u32
+        ensures value { Fits indexable (big self.now).capacity → result ≡ (big self.now).capacity }
+        ensures fits { result < 4294967295 → Fits indexable (big self.now).capacity };
+
+    /// How many members there are.
+    fn count_ones(&self) -> u32
+        requires { Fits indexable (big self.now).capacity }
+        ensures { result ≡ size (big self.now) };
+
+    /// How many numbers below the capacity are no members.
+    #[inline]
+    final fn count_zeros(&self) -> u32
+        requires { Fits indexable (big self.now).capacity }
+        ensures { result ≡ (big self.now).capacity - size (big self.now) }
+    {
+        self.bits_capacity() - self.count_ones()
+    }
+
+    /// Whether there are no members.
+    fn all_zeros(&self) -> bool
+        ensures { result ≡ (size (big self.now) == 0) };
+
+    /// Whether each number below the capacity is a member. With capacity 0 it is so.
+    fn all_ones(&self) -> bool
+        ensures { result ≡ (size (big self.now) == (big self.now).capacity) };
+
+    /// Whether the index, which wraps at the capacity, is a member in the order `E`. With capacity 0 it is not.
+    fn test_bit_in<E: Endian>(&self, index: u32) -> bool
+        requires { IsTrue indexable }
+        ensures { result ≡ contains (members E.mirrored width (big self.now)) index };
+
+    /// [`test_bit_in`](Bits::test_bit_in) in the order of the type.
+    #[inline]
+    final fn test_bit(&self, index: u32) -> bool
+        requires { IsTrue indexable }
+        ensures { result ≡ contains (members Self.Order.mirrored width (big self.now)) index }
+    {
+        self.test_bit_in::<Self::Order>(index)
+    }
+
+    /// [`test_bit_in`](Bits::test_bit_in) in [`LittleEndian`] order.
+    #[inline]
+    final fn test_bit_le(&self, index: u32) -> bool
+        requires { IsTrue indexable }
+        ensures { result
+            ≡ contains (members ⟦<LittleEndian as Endian>⟧.mirrored width (big self.now)) index }
+    {
+        self.test_bit_in::<LittleEndian>(index)
+    }
+
+    /// [`test_bit_in`](Bits::test_bit_in) in [`BigEndian`] order.
+    #[inline]
+    final fn test_bit_be(&self, index: u32) -> bool
+        requires { IsTrue indexable }
+        ensures { result
+            ≡ contains (members ⟦<BigEndian as Endian>⟧.mirrored width (big self.now)) index }
+    {
+        self.test_bit_in::<BigEndian>(index)
+    }
+
+    // A word has a digit.
+    ghost width_positive: { 0 < width };
+
+    // The capacity is whole words.
+    ghost whole_words: { (v : Self) → (words : ℕ) × ((big v).capacity ≡ words * width) };
+
+    // No number from the capacity on is a member.
+    ghost none_past: { (v : Self) (i : ℕ) → (big v).capacity ≤ i → (big v).has i ≡ false };
+}

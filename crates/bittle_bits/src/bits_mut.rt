@@ -1,0 +1,107 @@
+//! Changing a set.
+
+ghost use Rattle.std.specs.Prelude.{◌≡◌, IsTrue};
+ghost use Rattle.bittle_bits.specs.Orders.{members};
+ghost use Rattle.bittle_bits.specs.PlainSet.{with_index, without_index, emptied};
+
+use crate::bits::Bits;
+use crate::endian::{BigEndian, Endian, LittleEndian};
+
+/// A set that can be changed. A change keeps the capacity.
+pub trait BitsMut: Bits {
+    // How the values before and after a change stand to each other: of a slice that is lent, that it is the same slice.
+    ghost same_place: { Self → Self → Type 0 };
+
+    /// Makes the index, which wraps at the capacity, a member in the order `E`. With capacity 0 nothing changes.
+    fn set_bit_in<E: Endian>(&mut self, index: u32)
+        requires { IsTrue Self.indexable }
+        ensures set { members E.mirrored Self.width (Self.big self.new)
+            ≡ with_index (members E.mirrored Self.width (Self.big self.old)) index }
+        ensures stays { same_place self.old self.new };
+
+    /// Makes the index, which wraps at the capacity, no member in the order `E`. With capacity 0 nothing changes.
+    fn clear_bit_in<E: Endian>(&mut self, index: u32)
+        requires { IsTrue Self.indexable }
+        ensures set { members E.mirrored Self.width (Self.big self.new)
+            ≡ without_index (members E.mirrored Self.width (Self.big self.old)) index }
+        ensures stays { same_place self.old self.new };
+
+    /// Leaves no members.
+    fn clear_bits(&mut self)
+        ensures set { Self.big self.new ≡ emptied (Self.big self.old) }
+        ensures stays { same_place self.old self.new };
+
+    /// [`set_bit_in`](BitsMut::set_bit_in) in the order of the type.
+    #[inline]
+    final fn set_bit(&mut self, index: u32)
+        requires { IsTrue Self.indexable }
+        ensures set { members Self.Order.mirrored Self.width (Self.big self.new)
+            ≡ with_index (members Self.Order.mirrored Self.width (Self.big self.old)) index }
+        ensures stays { same_place self.old self.new }
+    {
+        self.set_bit_in::<Self::Order>(index);
+    }
+
+    /// [`set_bit_in`](BitsMut::set_bit_in) in [`LittleEndian`] order.
+    #[inline]
+    final fn set_bit_le(&mut self, index: u32)
+        requires { IsTrue Self.indexable }
+        ensures set { members ⟦<LittleEndian as Endian>⟧.mirrored Self.width (Self.big self.new)
+            ≡ with_index
+            (members ⟦<LittleEndian as Endian>⟧.mirrored Self.width (Self.big self.old)) index }
+        ensures stays { same_place self.old self.new }
+    {
+        self.set_bit_in::<LittleEndian>(index);
+    }
+
+    /// [`set_bit_in`](BitsMut::set_bit_in) in [`BigEndian`] order.
+    #[inline]
+    final fn set_bit_be(&mut self, index: u32)
+        requires { IsTrue Self.indexable }
+        ensures set { members ⟦<BigEndian as Endian>⟧.mirrored Self.width (Self.big self.new)
+            ≡ with_index
+            (members ⟦<BigEndian as Endian>⟧.mirrored Self.width (Self.big self.old)) index }
+        ensures stays { same_place self.old self.new }
+    {
+        self.set_bit_in::<BigEndian>(index);
+    }
+
+    /// [`clear_bit_in`](BitsMut::clear_bit_in) in the order of the type.
+    #[inline]
+    final fn clear_bit(&mut self, index: u32)
+        requires { IsTrue Self.indexable }
+        ensures set { members Self.Order.mirrored Self.width (Self.big self.new)
+            ≡ without_index (members Self.Order.mirrored Self.width (Self.big self.old)) index }
+        ensures stays { same_place self.old self.new }
+    {
+        self.clear_bit_in::<Self::Order>(index);
+    }
+
+    /// [`clear_bit_in`](BitsMut::clear_bit_in) in [`LittleEndian`] order.
+    #[inline]
+    final fn clear_bit_le(&mut self, index: u32)
+        requires { IsTrue Self.indexable }
+        ensures set { members ⟦<LittleEndian as Endian>⟧.mirrored Self.width (Self.big self.new)
+            ≡ without_index
+            (members ⟦<LittleEndian as Endian>⟧.mirrored Self.width (Self.big self.old)) index }
+        ensures stays { same_place self.old self.new }
+    {
+        self.clear_bit_in::<LittleEndian>(index);
+    }
+
+    /// [`clear_bit_in`](BitsMut::clear_bit_in) in [`BigEndian`] order.
+    #[inline]
+    final fn clear_bit_be(&mut self, index: u32)
+        requires { IsTrue Self.indexable }
+        ensures set { members ⟦<BigEndian as Endian>⟧.mirrored Self.width (Self.big self.new)
+            ≡ without_index
+            (members ⟦<BigEndian as Endian>⟧.mirrored Self.width (Self.big self.old)) index }
+        ensures stays { same_place self.old self.new }
+    {
+        self.clear_bit_in::<BigEndian>(index);
+    }
+
+    ghost same_place_self: { (v : Self) → same_place v v };
+
+    ghost same_place_on: { (u v w : Self) → same_place u v → same_place v w → same_place u w };
+}

@@ -1,0 +1,128 @@
+//! The calls on a row of elements, for arrays and for slices.
+
+ghost use Rattle.std.specs.Prelude.{◌≡◌, ◌==◌, ◌*◌, ◌<◌, length, IsTrue, MatchOption};
+ghost use Rattle.bittle_bits.specs.Orders.{members};
+ghost use Rattle.bittle_bits.specs.PlainSet.{contains, with_index, without_index, emptied, size};
+ghost use Rattle.bittle_bits.specs.Rows.{elements_set, GoesTo};
+ghost use Rattle.bittle_bits.specs.Shapes.{Fits};
+
+use crate::bits_owned::BitsOwned;
+use crate::endian::Endian;
+
+/// The capacity of this many elements, or `u32::MAX` where they do not fit.
+#[inline]
+pub fn bits_capacity<T: BitsOwned>(len: usize) -> u32
+    ensures value { Fits T.indexable (len * T.type_capacity) → result ≡ len * T.type_capacity }
+    ensures fits { result < 4294967295 → Fits T.indexable (len * T.type_capacity) }
+{
+    let each = T::bits();
+    if each == u32::MAX {
+        return u32::MAX;
+    }
+    match u32::try_from(len) {
+        Ok(len) => each.saturating_mul(len),
+        Err(_) => if each == 0 { 0 } else { u32::MAX },
+    }
+}
+
+/// The element that an index goes to, and the index there. There is none where the capacity is 0.
+#[inline]
+fn place_of<T: BitsOwned>(len: usize, index: u32) -> Option<(usize, u32)>
+    requires { IsTrue T.indexable }
+    ensures { MatchOption result (len * T.type_capacity ≡ 0) (λ at. GoesTo len T.type_capacity index at.0 at.1) }
+{
+    let each = T::bits();
+    if each == 0 || len == 0 {
+        return None;
+    }
+    let element = (index / each) as usize;
+    // Few indexes wrap, and a remainder by a length that is not constant is slow.
+    let element = if element < len {
+        element
+    } else {
+        element % len
+    };
+    Some((element, index % each))
+}
+
+#[inline]
+pub fn test_bit<T: BitsOwned, E: Endian>(elements: &[T], index: u32) -> bool
+    requires { IsTrue T.indexable }
+    ensures { result ≡ contains
+        (members E.mirrored T.width (elements_set (length elements.now) T.type_capacity T.big elements.now)) index }
+{
+    match place_of::<T>(elements.len(), index) {
+        Some((element, at)) => elements[element].test_bit_in::<E>(at),
+        None => false,
+    }
+}
+
+#[inline]
+pub fn set_bit<T: BitsOwned, E: Endian>(elements: &mut [T], index: u32)
+    requires { IsTrue T.indexable }
+    ensures { members E.mirrored T.width (elements_set (length elements.new) T.type_capacity T.big elements.new)
+        ≡ with_index
+        (members E.mirrored T.width (elements_set (length elements.old) T.type_capacity T.big elements.old)) index }
+{
+    if let Some((element, at)) = place_of::<T>(elements.len(), index) {
+        elements[element].set_bit_in::<E>(at);
+    }
+}
+
+#[inline]
+pub fn clear_bit<T: BitsOwned, E: Endian>(elements: &mut [T], index: u32)
+    requires { IsTrue T.indexable }
+    ensures { members E.mirrored T.width (elements_set (length elements.new) T.type_capacity T.big elements.new)
+        ≡ without_index
+        (members E.mirrored T.width (elements_set (length elements.old) T.type_capacity T.big elements.old)) index }
+{
+    if let Some((element, at)) = place_of::<T>(elements.len(), index) {
+        elements[element].clear_bit_in::<E>(at);
+    }
+}
+
+pub fn clear_bits<T: BitsOwned>(elements: &mut [T])
+    ensures { elements_set (length elements.new) T.type_capacity T.big elements.new
+        ≡ emptied (elements_set (length elements.old) T.type_capacity T.big elements.old) }
+{
+    for element in elements.iter_mut() {
+        element.clear_bits();
+    }
+}
+
+pub fn count_ones<T: BitsOwned>(elements: &[T]) -> u32
+    requires { Fits T.indexable (length elements.now * T.type_capacity) }
+    ensures { result ≡ size
+        (elements_set (length elements.now) T.type_capacity T.big elements.now) }
+{
+    let mut total = 0;
+    for element in elements {
+        total += element.count_ones();
+    }
+    total
+}
+
+pub fn all_zeros<T: BitsOwned>(elements: &[T]) -> bool
+    ensures { result ≡ (size
+        (elements_set (length elements.now) T.type_capacity T.big elements.now) == 0) }
+{
+    for element in elements {
+        if !element.all_zeros() {
+            return false;
+        }
+    }
+    true
+}
+
+pub fn all_ones<T: BitsOwned>(elements: &[T]) -> bool
+    ensures { result ≡ (size
+        (elements_set (length elements.now) T.type_capacity T.big elements.now)
+        == length elements.now * T.type_capacity) }
+{
+    for element in elements {
+        if !element.all_ones() {
+            return false;
+        }
+    }
+    true
+}

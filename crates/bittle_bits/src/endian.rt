@@ -1,0 +1,115 @@
+//! The two orders in which the digits of a word are read.
+
+ghost use Rattle.std.specs.Prelude.{◌≡◌, Bool, true, false};
+ghost use Rattle.bittle_bits.specs.Digits.{digit_set};
+ghost use Rattle.bittle_bits.specs.Orders.{members};
+ghost use Rattle.bittle_bits.specs.PlainSet.{empty, with_index, complement, IsLeastMember, IsGreatestMember};
+
+use crate::hidden::{Number, Sealed};
+
+/// An order in which the digits of each word are read: [`BigEndian`] or [`LittleEndian`].
+pub trait Endian: Drop + Sealed {
+    // Whether the first index is the digit of greatest weight.
+    ghost mirrored: { Bool };
+
+    /// The word whose one member is the index, which wraps at the width.
+    #[doc(hidden)]
+    fn mask<T: Number>(index: u32) -> T
+        ensures { members mirrored T.width (digit_set T.width (T.digits result))
+            ≡ with_index (empty T.width) index };
+
+    /// The least member, or the width where there is none.
+    #[doc(hidden)]
+    fn zeros<T: Number>(value: T) -> u32
+        ensures { IsLeastMember (members mirrored T.width (digit_set T.width (T.digits value))) result };
+
+    /// The least index that is no member, or the width where there is none.
+    #[doc(hidden)]
+    fn ones<T: Number>(value: T) -> u32
+        ensures { IsLeastMember
+            (complement (members mirrored T.width (digit_set T.width (T.digits value)))) result };
+
+    /// How far the greatest member lies below the last index, or the width where there is none.
+    #[doc(hidden)]
+    fn zeros_rev<T: Number>(value: T) -> u32
+        ensures { IsGreatestMember (members mirrored T.width (digit_set T.width (T.digits value))) result };
+
+    /// How far the greatest index that is no member lies below the last index, or the width where there is none.
+    #[doc(hidden)]
+    fn ones_rev<T: Number>(value: T) -> u32
+        ensures { IsGreatestMember
+            (complement (members mirrored T.width (digit_set T.width (T.digits value)))) result };
+}
+
+/// Index 0 is the digit of least weight, the rightmost one as a number is written.
+#[derive(Drop)]
+pub enum BigEndian {}
+
+/// Index 0 is the digit of greatest weight, the leftmost one as a number is written.
+#[derive(Drop)]
+pub enum LittleEndian {}
+
+/// The order of calls that name none.
+pub type DefaultEndian = BigEndian;
+
+impl Sealed for BigEndian {}
+
+impl Sealed for LittleEndian {}
+
+impl Endian for BigEndian {
+    ghost mirrored = { false };
+
+    #[inline]
+    fn mask<T: Number>(index: u32) -> T {
+        T::one_at(index % T::width())
+    }
+
+    #[inline]
+    fn zeros<T: Number>(value: T) -> u32 {
+        value.trailing_zeros()
+    }
+
+    #[inline]
+    fn ones<T: Number>(value: T) -> u32 {
+        value.not().trailing_zeros()
+    }
+
+    #[inline]
+    fn zeros_rev<T: Number>(value: T) -> u32 {
+        value.leading_zeros()
+    }
+
+    #[inline]
+    fn ones_rev<T: Number>(value: T) -> u32 {
+        value.not().leading_zeros()
+    }
+}
+
+impl Endian for LittleEndian {
+    ghost mirrored = { true };
+
+    #[inline]
+    fn mask<T: Number>(index: u32) -> T {
+        T::one_at(T::width() - 1 - index % T::width())
+    }
+
+    #[inline]
+    fn zeros<T: Number>(value: T) -> u32 {
+        value.leading_zeros()
+    }
+
+    #[inline]
+    fn ones<T: Number>(value: T) -> u32 {
+        value.not().leading_zeros()
+    }
+
+    #[inline]
+    fn zeros_rev<T: Number>(value: T) -> u32 {
+        value.trailing_zeros()
+    }
+
+    #[inline]
+    fn ones_rev<T: Number>(value: T) -> u32 {
+        value.not().trailing_zeros()
+    }
+}

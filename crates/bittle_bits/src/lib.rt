@@ -1,0 +1,15 @@
+//! Sets of small numbers over native integers: the traits, the orders and the plain shapes.
+//!
+//! Users name the crate `bittle`, which exports the public items of this one.
+#![tactic(auto)]
+
+mod array;
+pub mod bits;
+pub mod bits_mut;
+pub mod bits_owned;
+mod elements;
+pub mod endian;
+#[doc(hidden)]
+pub mod hidden;
+pub mod number;
+mod slice;

@@ -1,0 +1,323 @@
+//! The words of 128 digits: `u128` and `i128`.
+
+ghost use Rattle.std.specs.Prelude.{true, refl};
+ghost use Rattle.std.specs.Int.{w128, cast_unsigned};
+ghost use Rattle.std.proofs.Common.{lit<};
+ghost use Rattle.bittle_bits.specs.Digits.{digit_set};
+ghost use Rattle.bittle_bits.specs.Laws.{digit_has-past, one_word};
+
+use crate::bits::Bits;
+use crate::bits_mut::BitsMut;
+use crate::bits_owned::BitsOwned;
+use crate::endian::{DefaultEndian, Endian};
+use crate::hidden::{Number, Sealed};
+use crate::number::word;
+
+impl Sealed for u128 {}
+
+impl Number for u128 {
+    ghost width = { 128 };
+
+    ghost digits = { λ x. x };
+
+    ghost width_positive = { lit< tt };
+
+    #[inline]
+    fn width() -> u32 {
+        u128::BITS
+    }
+
+    #[inline]
+    fn one_at(index: u32) -> u128 {
+        1 << index
+    }
+
+    #[inline]
+    fn zero() -> u128 {
+        0
+    }
+
+    #[inline]
+    fn not(self) -> u128 {
+        !self
+    }
+
+    #[inline]
+    fn and(self, other: u128) -> u128 {
+        self & other
+    }
+
+    #[inline]
+    fn or(self, other: u128) -> u128 {
+        self | other
+    }
+
+    #[inline]
+    fn xor(self, other: u128) -> u128 {
+        self ^ other
+    }
+
+    #[inline]
+    fn is_zero(self) -> bool {
+        self == 0
+    }
+
+    #[inline]
+    fn count_ones(self) -> u32 {
+        self.count_ones()
+    }
+
+    #[inline]
+    fn trailing_zeros(self) -> u32 {
+        self.trailing_zeros()
+    }
+
+    #[inline]
+    fn leading_zeros(self) -> u32 {
+        self.leading_zeros()
+    }
+}
+
+impl Bits for u128 {
+    type Order = DefaultEndian;
+
+    ghost width = { 128 };
+
+    ghost indexable = { true };
+
+    ghost big = { λ x. digit_set 128 x };
+
+    ghost width_positive = { lit< tt };
+
+    ghost whole_words = { λ _. one_word 128 };
+
+    ghost none_past = { λ v i h. digit_has-past 128 _ i h };
+
+    #[inline]
+    fn bits_capacity(&self) -> u32 {
+        u128::BITS
+    }
+
+    #[inline]
+    fn count_ones(&self) -> u32 {
+        word::count_ones::<u128>(*self)
+    }
+
+    #[inline]
+    fn all_zeros(&self) -> bool {
+        word::all_zeros::<u128>(*self)
+    }
+
+    #[inline]
+    fn all_ones(&self) -> bool {
+        word::all_ones::<u128>(*self)
+    }
+
+    #[inline]
+    fn test_bit_in<E: Endian>(&self, index: u32) -> bool {
+        word::test_bit::<u128, E>(*self, index)
+    }
+}
+
+impl BitsMut for u128 {
+    ghost same_place = { λ _ _. Unit {0} };
+
+    ghost same_place_self = { λ _. tt };
+
+    ghost same_place_on = { λ _ _ _ _ _. tt };
+
+    #[inline]
+    fn set_bit_in<E: Endian>(&mut self, index: u32) {
+        word::set_bit::<u128, E>(self, index);
+    }
+
+    #[inline]
+    fn clear_bit_in<E: Endian>(&mut self, index: u32) {
+        word::clear_bit::<u128, E>(self, index);
+    }
+
+    #[inline]
+    fn clear_bits(&mut self) {
+        word::clear_bits::<u128>(self);
+    }
+}
+
+impl BitsOwned for u128 {
+    ghost type_capacity = { 128 };
+
+    ghost one_capacity = { λ _. refl };
+
+    ghost type_whole_words = { one_word 128 };
+
+    ghost type_fits = { λ _. lit< tt };
+
+    #[inline]
+    fn bits() -> u32 {
+        u128::BITS
+    }
+
+    #[inline]
+    fn zeros() -> u128 {
+        word::zeros::<u128>()
+    }
+
+    #[inline]
+    fn ones() -> u128 {
+        word::ones::<u128>()
+    }
+}
+
+impl Sealed for i128 {}
+
+#[tactic(auto, using(crate::proofs::Signed::signed_or, crate::proofs::Signed::signed_xor))]
+impl Number for i128 {
+    ghost width = { 128 };
+
+    ghost digits = { cast_unsigned w128 };
+
+    ghost width_positive = { lit< tt };
+
+    #[inline]
+    fn width() -> u32 {
+        i128::BITS
+    }
+
+    #[inline]
+    fn one_at(index: u32) -> i128 {
+        1 << index
+    }
+
+    #[inline]
+    fn zero() -> i128 {
+        0
+    }
+
+    #[inline]
+    fn not(self) -> i128 {
+        !self
+    }
+
+    #[inline]
+    fn and(self, other: i128) -> i128 {
+        self & other
+    }
+
+    #[inline]
+    fn or(self, other: i128) -> i128 {
+        self | other
+    }
+
+    #[inline]
+    fn xor(self, other: i128) -> i128 {
+        self ^ other
+    }
+
+    #[inline]
+    fn is_zero(self) -> bool {
+        self == 0
+    }
+
+    #[inline]
+    fn count_ones(self) -> u32 {
+        self.count_ones()
+    }
+
+    #[inline]
+    fn trailing_zeros(self) -> u32 {
+        self.trailing_zeros()
+    }
+
+    #[inline]
+    fn leading_zeros(self) -> u32 {
+        self.leading_zeros()
+    }
+}
+
+impl Bits for i128 {
+    type Order = DefaultEndian;
+
+    ghost width = { 128 };
+
+    ghost indexable = { true };
+
+    ghost big = { λ x. digit_set 128 (cast_unsigned w128 x) };
+
+    ghost width_positive = { lit< tt };
+
+    ghost whole_words = { λ _. one_word 128 };
+
+    ghost none_past = { λ v i h. digit_has-past 128 _ i h };
+
+    #[inline]
+    fn bits_capacity(&self) -> u32 {
+        i128::BITS
+    }
+
+    #[inline]
+    fn count_ones(&self) -> u32 {
+        word::count_ones::<i128>(*self)
+    }
+
+    #[inline]
+    fn all_zeros(&self) -> bool {
+        word::all_zeros::<i128>(*self)
+    }
+
+    #[inline]
+    fn all_ones(&self) -> bool {
+        word::all_ones::<i128>(*self)
+    }
+
+    #[inline]
+    fn test_bit_in<E: Endian>(&self, index: u32) -> bool {
+        word::test_bit::<i128, E>(*self, index)
+    }
+}
+
+impl BitsMut for i128 {
+    ghost same_place = { λ _ _. Unit {0} };
+
+    ghost same_place_self = { λ _. tt };
+
+    ghost same_place_on = { λ _ _ _ _ _. tt };
+
+    #[inline]
+    fn set_bit_in<E: Endian>(&mut self, index: u32) {
+        word::set_bit::<i128, E>(self, index);
+    }
+
+    #[inline]
+    fn clear_bit_in<E: Endian>(&mut self, index: u32) {
+        word::clear_bit::<i128, E>(self, index);
+    }
+
+    #[inline]
+    fn clear_bits(&mut self) {
+        word::clear_bits::<i128>(self);
+    }
+}
+
+impl BitsOwned for i128 {
+    ghost type_capacity = { 128 };
+
+    ghost one_capacity = { λ _. refl };
+
+    ghost type_whole_words = { one_word 128 };
+
+    ghost type_fits = { λ _. lit< tt };
+
+    #[inline]
+    fn bits() -> u32 {
+        i128::BITS
+    }
+
+    #[inline]
+    fn zeros() -> i128 {
+        word::zeros::<i128>()
+    }
+
+    #[inline]
+    fn ones() -> i128 {
+        word::ones::<i128>()
+    }
+}

@@ -1,0 +1,322 @@
+//! The words of 16 digits: `u16` and `i16`.
+
+ghost use Rattle.std.specs.Prelude.{true, refl};
+ghost use Rattle.std.specs.Int.{w16, cast_unsigned};
+ghost use Rattle.std.proofs.Common.{lit<};
+ghost use Rattle.bittle_bits.specs.Digits.{digit_set};
+ghost use Rattle.bittle_bits.specs.Laws.{digit_has-past, one_word};
+
+use crate::bits::Bits;
+use crate::bits_mut::BitsMut;
+use crate::bits_owned::BitsOwned;
+use crate::endian::{DefaultEndian, Endian};
+use crate::hidden::{Number, Sealed};
+use crate::number::word;
+
+impl Sealed for u16 {}
+
+impl Number for u16 {
+    ghost width = { 16 };
+
+    ghost digits = { λ x. x };
+
+    ghost width_positive = { lit< tt };
+
+    #[inline]
+    fn width() -> u32 {
+        u16::BITS
+    }
+
+    #[inline]
+    fn one_at(index: u32) -> u16 {
+        1 << index
+    }
+
+    #[inline]
+    fn zero() -> u16 {
+        0
+    }
+
+    #[inline]
+    fn not(self) -> u16 {
+        !self
+    }
+
+    #[inline]
+    fn and(self, other: u16) -> u16 {
+        self & other
+    }
+
+    #[inline]
+    fn or(self, other: u16) -> u16 {
+        self | other
+    }
+
+    #[inline]
+    fn xor(self, other: u16) -> u16 {
+        self ^ other
+    }
+
+    #[inline]
+    fn is_zero(self) -> bool {
+        self == 0
+    }
+
+    #[inline]
+    fn count_ones(self) -> u32 {
+        self.count_ones()
+    }
+
+    #[inline]
+    fn trailing_zeros(self) -> u32 {
+        self.trailing_zeros()
+    }
+
+    #[inline]
+    fn leading_zeros(self) -> u32 {
+        self.leading_zeros()
+    }
+}
+
+impl Bits for u16 {
+    type Order = DefaultEndian;
+
+    ghost width = { 16 };
+
+    ghost indexable = { true };
+
+    ghost big = { λ x. digit_set 16 x };
+
+    ghost width_positive = { lit< tt };
+
+    ghost whole_words = { λ _. one_word 16 };
+
+    ghost none_past = { λ v i h. digit_has-past 16 _ i h };
+
+    #[inline]
+    fn bits_capacity(&self) -> u32 {
+        u16::BITS
+    }
+
+    #[inline]
+    fn count_ones(&self) -> u32 {
+        word::count_ones::<u16>(*self)
+    }
+
+    #[inline]
+    fn all_zeros(&self) -> bool {
+        word::all_zeros::<u16>(*self)
+    }
+
+    #[inline]
+    fn all_ones(&self) -> bool {
+        word::all_ones::<u16>(*self)
+    }
+
+    #[inline]
+    fn test_bit_in<E: Endian>(&self, index: u32) -> bool {
+        word::test_bit::<u16, E>(*self, index)
+    }
+}
+
+impl BitsMut for u16 {
+    ghost same_place = { λ _ _. Unit {0} };
+
+    ghost same_place_self = { λ _. tt };
+
+    ghost same_place_on = { λ _ _ _ _ _. tt };
+
+    #[inline]
+    fn set_bit_in<E: Endian>(&mut self, index: u32) {
+        word::set_bit::<u16, E>(self, index);
+    }
+
+    #[inline]
+    fn clear_bit_in<E: Endian>(&mut self, index: u32) {
+        word::clear_bit::<u16, E>(self, index);
+    }
+
+    #[inline]
+    fn clear_bits(&mut self) {
+        word::clear_bits::<u16>(self);
+    }
+}
+
+impl BitsOwned for u16 {
+    ghost type_capacity = { 16 };
+
+    ghost one_capacity = { λ _. refl };
+
+    ghost type_whole_words = { one_word 16 };
+
+    ghost type_fits = { λ _. lit< tt };
+
+    #[inline]
+    fn bits() -> u32 {
+        u16::BITS
+    }
+
+    #[inline]
+    fn zeros() -> u16 {
+        word::zeros::<u16>()
+    }
+
+    #[inline]
+    fn ones() -> u16 {
+        word::ones::<u16>()
+    }
+}
+
+impl Sealed for i16 {}
+
+impl Number for i16 {
+    ghost width = { 16 };
+
+    ghost digits = { cast_unsigned w16 };
+
+    ghost width_positive = { lit< tt };
+
+    #[inline]
+    fn width() -> u32 {
+        i16::BITS
+    }
+
+    #[inline]
+    fn one_at(index: u32) -> i16 {
+        1 << index
+    }
+
+    #[inline]
+    fn zero() -> i16 {
+        0
+    }
+
+    #[inline]
+    fn not(self) -> i16 {
+        !self
+    }
+
+    #[inline]
+    fn and(self, other: i16) -> i16 {
+        self & other
+    }
+
+    #[inline]
+    fn or(self, other: i16) -> i16 {
+        self | other
+    }
+
+    #[inline]
+    fn xor(self, other: i16) -> i16 {
+        self ^ other
+    }
+
+    #[inline]
+    fn is_zero(self) -> bool {
+        self == 0
+    }
+
+    #[inline]
+    fn count_ones(self) -> u32 {
+        self.count_ones()
+    }
+
+    #[inline]
+    fn trailing_zeros(self) -> u32 {
+        self.trailing_zeros()
+    }
+
+    #[inline]
+    fn leading_zeros(self) -> u32 {
+        self.leading_zeros()
+    }
+}
+
+impl Bits for i16 {
+    type Order = DefaultEndian;
+
+    ghost width = { 16 };
+
+    ghost indexable = { true };
+
+    ghost big = { λ x. digit_set 16 (cast_unsigned w16 x) };
+
+    ghost width_positive = { lit< tt };
+
+    ghost whole_words = { λ _. one_word 16 };
+
+    ghost none_past = { λ v i h. digit_has-past 16 _ i h };
+
+    #[inline]
+    fn bits_capacity(&self) -> u32 {
+        i16::BITS
+    }
+
+    #[inline]
+    fn count_ones(&self) -> u32 {
+        word::count_ones::<i16>(*self)
+    }
+
+    #[inline]
+    fn all_zeros(&self) -> bool {
+        word::all_zeros::<i16>(*self)
+    }
+
+    #[inline]
+    fn all_ones(&self) -> bool {
+        word::all_ones::<i16>(*self)
+    }
+
+    #[inline]
+    fn test_bit_in<E: Endian>(&self, index: u32) -> bool {
+        word::test_bit::<i16, E>(*self, index)
+    }
+}
+
+impl BitsMut for i16 {
+    ghost same_place = { λ _ _. Unit {0} };
+
+    ghost same_place_self = { λ _. tt };
+
+    ghost same_place_on = { λ _ _ _ _ _. tt };
+
+    #[inline]
+    fn set_bit_in<E: Endian>(&mut self, index: u32) {
+        word::set_bit::<i16, E>(self, index);
+    }
+
+    #[inline]
+    fn clear_bit_in<E: Endian>(&mut self, index: u32) {
+        word::clear_bit::<i16, E>(self, index);
+    }
+
+    #[inline]
+    fn clear_bits(&mut self) {
+        word::clear_bits::<i16>(self);
+    }
+}
+
+impl BitsOwned for i16 {
+    ghost type_capacity = { 16 };
+
+    ghost one_capacity = { λ _. refl };
+
+    ghost type_whole_words = { one_word 16 };
+
+    ghost type_fits = { λ _. lit< tt };
+
+    #[inline]
+    fn bits() -> u32 {
+        i16::BITS
+    }
+
+    #[inline]
+    fn zeros() -> i16 {
+        word::zeros::<i16>()
+    }
+
+    #[inline]
+    fn ones() -> i16 {
+        word::ones::<i16>()
+    }
+}

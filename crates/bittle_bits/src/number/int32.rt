@@ -1,0 +1,322 @@
+//! The words of 32 digits: `u32` and `i32`.
+
+ghost use Rattle.std.specs.Prelude.{true, refl};
+ghost use Rattle.std.specs.Int.{w32, cast_unsigned};
+ghost use Rattle.std.proofs.Common.{lit<};
+ghost use Rattle.bittle_bits.specs.Digits.{digit_set};
+ghost use Rattle.bittle_bits.specs.Laws.{digit_has-past, one_word};
+
+use crate::bits::Bits;
+use crate::bits_mut::BitsMut;
+use crate::bits_owned::BitsOwned;
+use crate::endian::{DefaultEndian, Endian};
+use crate::hidden::{Number, Sealed};
+use crate::number::word;
+
+impl Sealed for u32 {}
+
+impl Number for u32 {
+    ghost width = { 32 };
+
+    ghost digits = { λ x. x };
+
+    ghost width_positive = { lit< tt };
+
+    #[inline]
+    fn width() -> u32 {
+        u32::BITS
+    }
+
+    #[inline]
+    fn one_at(index: u32) -> u32 {
+        1 << index
+    }
+
+    #[inline]
+    fn zero() -> u32 {
+        0
+    }
+
+    #[inline]
+    fn not(self) -> u32 {
+        !self
+    }
+
+    #[inline]
+    fn and(self, other: u32) -> u32 {
+        self & other
+    }
+
+    #[inline]
+    fn or(self, other: u32) -> u32 {
+        self | other
+    }
+
+    #[inline]
+    fn xor(self, other: u32) -> u32 {
+        self ^ other
+    }
+
+    #[inline]
+    fn is_zero(self) -> bool {
+        self == 0
+    }
+
+    #[inline]
+    fn count_ones(self) -> u32 {
+        self.count_ones()
+    }
+
+    #[inline]
+    fn trailing_zeros(self) -> u32 {
+        self.trailing_zeros()
+    }
+
+    #[inline]
+    fn leading_zeros(self) -> u32 {
+        self.leading_zeros()
+    }
+}
+
+impl Bits for u32 {
+    type Order = DefaultEndian;
+
+    ghost width = { 32 };
+
+    ghost indexable = { true };
+
+    ghost big = { λ x. digit_set 32 x };
+
+    ghost width_positive = { lit< tt };
+
+    ghost whole_words = { λ _. one_word 32 };
+
+    ghost none_past = { λ v i h. digit_has-past 32 _ i h };
+
+    #[inline]
+    fn bits_capacity(&self) -> u32 {
+        u32::BITS
+    }
+
+    #[inline]
+    fn count_ones(&self) -> u32 {
+        word::count_ones::<u32>(*self)
+    }
+
+    #[inline]
+    fn all_zeros(&self) -> bool {
+        word::all_zeros::<u32>(*self)
+    }
+
+    #[inline]
+    fn all_ones(&self) -> bool {
+        word::all_ones::<u32>(*self)
+    }
+
+    #[inline]
+    fn test_bit_in<E: Endian>(&self, index: u32) -> bool {
+        word::test_bit::<u32, E>(*self, index)
+    }
+}
+
+impl BitsMut for u32 {
+    ghost same_place = { λ _ _. Unit {0} };
+
+    ghost same_place_self = { λ _. tt };
+
+    ghost same_place_on = { λ _ _ _ _ _. tt };
+
+    #[inline]
+    fn set_bit_in<E: Endian>(&mut self, index: u32) {
+        word::set_bit::<u32, E>(self, index);
+    }
+
+    #[inline]
+    fn clear_bit_in<E: Endian>(&mut self, index: u32) {
+        word::clear_bit::<u32, E>(self, index);
+    }
+
+    #[inline]
+    fn clear_bits(&mut self) {
+        word::clear_bits::<u32>(self);
+    }
+}
+
+impl BitsOwned for u32 {
+    ghost type_capacity = { 32 };
+
+    ghost one_capacity = { λ _. refl };
+
+    ghost type_whole_words = { one_word 32 };
+
+    ghost type_fits = { λ _. lit< tt };
+
+    #[inline]
+    fn bits() -> u32 {
+        u32::BITS
+    }
+
+    #[inline]
+    fn zeros() -> u32 {
+        word::zeros::<u32>()
+    }
+
+    #[inline]
+    fn ones() -> u32 {
+        word::ones::<u32>()
+    }
+}
+
+impl Sealed for i32 {}
+
+impl Number for i32 {
+    ghost width = { 32 };
+
+    ghost digits = { cast_unsigned w32 };
+
+    ghost width_positive = { lit< tt };
+
+    #[inline]
+    fn width() -> u32 {
+        i32::BITS
+    }
+
+    #[inline]
+    fn one_at(index: u32) -> i32 {
+        1 << index
+    }
+
+    #[inline]
+    fn zero() -> i32 {
+        0
+    }
+
+    #[inline]
+    fn not(self) -> i32 {
+        !self
+    }
+
+    #[inline]
+    fn and(self, other: i32) -> i32 {
+        self & other
+    }
+
+    #[inline]
+    fn or(self, other: i32) -> i32 {
+        self | other
+    }
+
+    #[inline]
+    fn xor(self, other: i32) -> i32 {
+        self ^ other
+    }
+
+    #[inline]
+    fn is_zero(self) -> bool {
+        self == 0
+    }
+
+    #[inline]
+    fn count_ones(self) -> u32 {
+        self.count_ones()
+    }
+
+    #[inline]
+    fn trailing_zeros(self) -> u32 {
+        self.trailing_zeros()
+    }
+
+    #[inline]
+    fn leading_zeros(self) -> u32 {
+        self.leading_zeros()
+    }
+}
+
+impl Bits for i32 {
+    type Order = DefaultEndian;
+
+    ghost width = { 32 };
+
+    ghost indexable = { true };
+
+    ghost big = { λ x. digit_set 32 (cast_unsigned w32 x) };
+
+    ghost width_positive = { lit< tt };
+
+    ghost whole_words = { λ _. one_word 32 };
+
+    ghost none_past = { λ v i h. digit_has-past 32 _ i h };
+
+    #[inline]
+    fn bits_capacity(&self) -> u32 {
+        i32::BITS
+    }
+
+    #[inline]
+    fn count_ones(&self) -> u32 {
+        word::count_ones::<i32>(*self)
+    }
+
+    #[inline]
+    fn all_zeros(&self) -> bool {
+        word::all_zeros::<i32>(*self)
+    }
+
+    #[inline]
+    fn all_ones(&self) -> bool {
+        word::all_ones::<i32>(*self)
+    }
+
+    #[inline]
+    fn test_bit_in<E: Endian>(&self, index: u32) -> bool {
+        word::test_bit::<i32, E>(*self, index)
+    }
+}
+
+impl BitsMut for i32 {
+    ghost same_place = { λ _ _. Unit {0} };
+
+    ghost same_place_self = { λ _. tt };
+
+    ghost same_place_on = { λ _ _ _ _ _. tt };
+
+    #[inline]
+    fn set_bit_in<E: Endian>(&mut self, index: u32) {
+        word::set_bit::<i32, E>(self, index);
+    }
+
+    #[inline]
+    fn clear_bit_in<E: Endian>(&mut self, index: u32) {
+        word::clear_bit::<i32, E>(self, index);
+    }
+
+    #[inline]
+    fn clear_bits(&mut self) {
+        word::clear_bits::<i32>(self);
+    }
+}
+
+impl BitsOwned for i32 {
+    ghost type_capacity = { 32 };
+
+    ghost one_capacity = { λ _. refl };
+
+    ghost type_whole_words = { one_word 32 };
+
+    ghost type_fits = { λ _. lit< tt };
+
+    #[inline]
+    fn bits() -> u32 {
+        i32::BITS
+    }
+
+    #[inline]
+    fn zeros() -> i32 {
+        word::zeros::<i32>()
+    }
+
+    #[inline]
+    fn ones() -> i32 {
+        word::ones::<i32>()
+    }
+}

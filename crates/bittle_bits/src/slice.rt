@@ -1,0 +1,122 @@
+//! Slices as sets: a shared one is read, and one that is lent for a change is read and changed.
+
+ghost use Rattle.std.specs.Prelude.{◌≡◌, length};
+ghost use Rattle.std.proofs.Common.{rules, ◌∙◌};
+ghost use Rattle.bittle_bits.specs.Laws.{elements_has-past, words_of};
+ghost use Rattle.bittle_bits.specs.Rows.{elements_set};
+
+use crate::bits::Bits;
+use crate::bits_mut::BitsMut;
+use crate::bits_owned::BitsOwned;
+use crate::elements;
+use crate::endian::{DefaultEndian, Endian};
+use crate::hidden::Sealed;
+
+impl<'a, T: BitsOwned> Sealed for &'a [T] {}
+
+impl<'a, T: BitsOwned> Bits for &'a [T] {
+    type Order = DefaultEndian;
+
+    ghost width = { T.width };
+
+    ghost indexable = { T.indexable };
+
+    ghost big = { λ v. elements_set (length v.now) T.type_capacity T.big v.now };
+
+    ghost width_positive = { T.width_positive };
+
+    ghost whole_words = { λ v. words_of (length v.now) _ _ T.type_whole_words };
+
+    ghost none_past = { λ v i h. elements_has-past (length v.now) T.type_capacity (λ x. (T.big x).has) v.now i h };
+
+    #[inline]
+    fn bits_capacity(&self) -> u32 {
+        elements::bits_capacity::<T>(self.len())
+    }
+
+    #[inline]
+    fn count_ones(&self) -> u32 {
+        elements::count_ones::<T>(self)
+    }
+
+    #[inline]
+    fn all_zeros(&self) -> bool {
+        elements::all_zeros::<T>(self)
+    }
+
+    #[inline]
+    fn all_ones(&self) -> bool {
+        elements::all_ones::<T>(self)
+    }
+
+    #[inline]
+    fn test_bit_in<E: Endian>(&self, index: u32) -> bool {
+        elements::test_bit::<T, E>(self, index)
+    }
+}
+
+impl<'a, T: BitsOwned> Sealed for &'a mut [T] {}
+
+impl<'a, T: BitsOwned> Bits for &'a mut [T] {
+    type Order = DefaultEndian;
+
+    ghost width = { T.width };
+
+    ghost indexable = { T.indexable };
+
+    ghost big = { λ v. elements_set (length v.now) T.type_capacity T.big v.now };
+
+    ghost width_positive = { T.width_positive };
+
+    ghost whole_words = { λ v. words_of (length v.now) _ _ T.type_whole_words };
+
+    ghost none_past = { λ v i h. elements_has-past (length v.now) T.type_capacity (λ x. (T.big x).has) v.now i h };
+
+    #[inline]
+    fn bits_capacity(&self) -> u32 {
+        elements::bits_capacity::<T>(self.len())
+    }
+
+    #[inline]
+    fn count_ones(&self) -> u32 {
+        elements::count_ones::<T>(self)
+    }
+
+    #[inline]
+    fn all_zeros(&self) -> bool {
+        elements::all_zeros::<T>(self)
+    }
+
+    #[inline]
+    fn all_ones(&self) -> bool {
+        elements::all_ones::<T>(self)
+    }
+
+    #[inline]
+    fn test_bit_in<E: Endian>(&self, index: u32) -> bool {
+        elements::test_bit::<T, E>(self, index)
+    }
+}
+
+impl<'a, T: BitsOwned> BitsMut for &'a mut [T] {
+    ghost same_place = { λ u v. u.ghost_name ≡ v.ghost_name };
+
+    ghost same_place_self = { λ _. Prim.search rules };
+
+    ghost same_place_on = { λ _ _ _ p q. p ∙ q };
+
+    #[inline]
+    fn set_bit_in<E: Endian>(&mut self, index: u32) {
+        elements::set_bit::<T, E>(self, index);
+    }
+
+    #[inline]
+    fn clear_bit_in<E: Endian>(&mut self, index: u32) {
+        elements::clear_bit::<T, E>(self, index);
+    }
+
+    #[inline]
+    fn clear_bits(&mut self) {
+        elements::clear_bits::<T>(self);
+    }
+}
