@@ -1,0 +1,24 @@
+use Rattle.std.proofs.Common.{refl, ◌<◌, length, subst, arith}
+use Rattle.bittle_bits.specs.Shapes.{Fits}
+use Rattle.bittle.specs.Machine.{replies_of, final_set}
+use Rattle.bittle.proofs.Runs.{replies_step, set_step, run-capacity}
+use Rattle.bittle.proofs.replay.replay.Goals as goal
+
+pub loop-i-init : goal.loop-i-init
+unfolding replies_of final_set
+loop-i-init g c = record { replies = refl; set = refl; stays = g.met.B.BitsMut.same_place_self _ }
+
+pub answer-requires : goal.answer-requires
+answer-requires g c = subst (Fits g.B.Bits.indexable) (run-capacity _ _ _ c.loop-i.invariant.set) c.requires.fits
+
+pub loop-i-preserved : goal.loop-i-preserved
+loop-i-preserved g c =
+    let t = c.loop-i.invariant in
+    let a = c.answer.ensures in
+    let in_calls : c.loop-i.i < length c.args.calls.now = omega arith in
+    let in_replies : c.loop-i.i < length c.loop-i.replies = omega arith in
+    record {
+      replies = replies_step _ _ c.args.calls.now c.loop-i.i _ in_calls t.set c.loop-i.replies c.answer.result in_replies t.replies a.reply;
+      set = set_step _ _ c.args.calls.now c.loop-i.i _ in_calls t.set _ a.set;
+      stays = g.met.B.BitsMut.same_place_on _ _ _ t.stays a.stays;
+    }
