@@ -40,7 +40,7 @@ least_digit w d =
     let at = lowest w d in record {
       within = low;
       none_below = λ k h. digit_has-at w d k (omega arith) ∙ ap (λ b. b == 1) (at.below k h);
-      is_member = λ h. digit_has-at w d r h ∙ eq-eqb (bit_at d r) 1 (at.there h)
+      is_member = λ h. digit_has-at w d r h ∙ eq-eqb (bit_at d r) 1 (at.there h);
     }
 
 pub greatest_digit : (w d : ℕ) → d < 2 ^ w → IsGreatestMember (digit_set w d) (count_leading_zeros w d)
@@ -54,7 +54,7 @@ greatest_digit w d fits = by (cases_eq d 0)
         let all : count_leading_zeros w d ≡ w = ap (count_leading_zeros w) z ∙ leading_of_zero w in record {
           within = omega arith;
           none_above = λ k h. digit_has-at w d (w - 1 - k) (omega arith) ∙ ap (λ b. b == 1) (ap (λ x. bit_at x (w - 1 - k)) z ∙ bit_at-zero (w - 1 - k));
-          is_member = λ h. absurd (omega arith)
+          is_member = λ h. absurd (omega arith);
         }
     by (inr n) =
         let t = leading_top w d (omega arith) fits in
@@ -62,24 +62,24 @@ greatest_digit w d fits = by (cases_eq d 0)
         let e : w - 1 - r ≡ j = omega (arith, t.1) in record {
           within = leading_le w d;
           none_above = λ k h. digit_has-at w d (w - 1 - k) (omega (arith, t.1)) ∙ ap (λ b. b == 1) (bit_at_above d (suc j) (w - 1 - k) t.3 (omega (arith, t.1)));
-          is_member = λ h. rw e (digit_has-at w d j (omega (arith, t.1)) ∙ eq-eqb (bit_at d j) 1 (top_digit j d t.2 t.3))
+          is_member = λ h. rw e (digit_has-at w d j (omega (arith, t.1)) ∙ eq-eqb (bit_at d j) 1 (top_digit j d t.2 t.3));
         }
 
 -- within one word the mirrored set has the ends the other way round
 module _ (w r : ℕ) (p : ℕ → Bool) where
   pub mirrored_least : IsGreatestMember (plain w p) r → IsLeastMember (members true w (plain w p)) r
   mirrored_least h = record {
-        within = h.within;
-        none_below = λ k l. let low = h.within in ap p (mirror_in_word w k (omega arith)) ∙ h.none_above k l;
-        is_member = λ l. ap p (mirror_in_word w r l) ∙ h.is_member l
-      }
+    within = h.within;
+    none_below = λ k l. let low = h.within in ap p (mirror_in_word w k (omega arith)) ∙ h.none_above k l;
+    is_member = λ l. ap p (mirror_in_word w r l) ∙ h.is_member l;
+  }
 
   pub mirrored_greatest : IsLeastMember (plain w p) r → IsGreatestMember (members true w (plain w p)) r
   mirrored_greatest h = record {
-        within = h.within;
-        none_above = λ k l. let low = h.within in ap p (mirror_in_word w (w - 1 - k) (omega arith) ∙ omega arith) ∙ h.none_below k l;
-        is_member = λ l. ap p (mirror_in_word w (w - 1 - r) (omega arith) ∙ omega arith) ∙ h.is_member l
-      }
+    within = h.within;
+    none_above = λ k l. let low = h.within in ap p (mirror_in_word w (w - 1 - k) (omega arith) ∙ omega arith) ∙ h.none_below k l;
+    is_member = λ l. ap p (mirror_in_word w (w - 1 - r) (omega arith) ∙ omega arith) ∙ h.is_member l;
+  }
 
 -- the ends of what a word lacks, in an order
 pub ends_of_rest : (m : Bool) (w d e : ℕ) (P : PlainSet → Type 0) → 0 < w → d < 2 ^ w → e ≡ 2 ^ w - 1 - d → P (members m w (digit_set w e)) → P (complement (members m w (digit_set w d)))

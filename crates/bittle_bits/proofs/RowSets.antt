@@ -142,7 +142,7 @@ goes_to n c each i q asked some any is =
     rw (is, asked) (record {
       is_element = mod_below (i / c) n some;
       within = mod_below i c any;
-      at = wraps_at n c i some any
+      at = wraps_at n c i some any;
     })
 
 at_element-none : {X : Type 0} (p : X → Bool) (xs : List X) (n : ℕ) → ((k : ℕ) (d : X) → k < length xs → p (get_or xs k d) ≡ false) → at_element p xs n ≡ false

@@ -1,9 +1,9 @@
 //! The twelve integers as sets.
 
-mod int8;
+mod int128;
 mod int16;
 mod int32;
 mod int64;
-mod int128;
+mod int8;
 mod int_size;
 mod word;
