@@ -1,5 +1,5 @@
 -- How many members a set has.
-use Rattle.std.proofs.Common.{◌≡◌, ◌≢◌, ℕ, zero, suc, ◌+◌, ◌-◌, ◌*◌, ◌%◌, ◌^◌, ◌<◌, ◌≤◌, Bool, true, false, ◌&&◌, ◌==◌, cond, inl, inr, refl, sym, ap, ◌∙◌, arith, List, [], ◌∷◌, length, get_or, take, add-zero, add_assoc, add_comm, subst}
+use Rattle.std.proofs.Common.{◌≡◌, ◌≢◌, ℕ, zero, suc, ◌+◌, ◌-◌, ◌*◌, ◌%◌, ◌^◌, ◌<◌, ◌≤◌, Bool, true, false, not, ◌&&◌, ◌==◌, cond, inl, inr, refl, sym, ap, ◌∙◌, arith, List, [], ◌∷◌, length, get_or, take, add-zero, add_assoc, add_comm, subst}
 use Rattle.std.proofs.Math.Path.{fun_ext}
 use Rattle.std.proofs.Math.Nat.{mod-eq_of_lt, zero-mul, one-mul, add-suc}
 use Rattle.std.specs.List.{sum_by}
@@ -9,11 +9,12 @@ use Rattle.std.proofs.lemmas.Nat.{ones_cat, mod-pow-add, mod_below, pow_pos}
 use Rattle.std.proofs.lemmas.Nat.Bits.{bit_at-lt}
 use Rattle.std.proofs.lemmas.List.Sums.{sum_by-cons, sum_by_more_le}
 use Rattle.std.proofs.lemmas.List.{take_all}
-use Rattle.std.proofs.lemmas.Bool.{cases_eq, lt-ltb}
-use Rattle.bittle_bits.specs.Digits.{digit_has}
+use Rattle.std.proofs.lemmas.Bool.{cases_eq, cases_Bool, lt-ltb, eq-eqb, ne_eqb}
+use Rattle.bittle_bits.specs.Digits.{digit_has, digit_set}
 use Rattle.bittle_bits.specs.Orders.{place, mirror, members}
-use Rattle.bittle_bits.specs.PlainSet.{PlainSet, count_below, size}
+use Rattle.bittle_bits.specs.PlainSet.{PlainSet, count_below, size, lacks, complement}
 use Rattle.bittle_bits.specs.Rows.{at_element, elements_has, elements_set}
+use Rattle.bittle_bits.proofs.DigitSets.{digit_has-zero, digit_has-not, digit_has-below, some_digit}
 use Rattle.bittle_bits.proofs.PlaceLemmas.{place_part}
 use Rattle.bittle_bits.proofs.RowSets.{elements_has_at, by_place}
 
@@ -106,6 +107,48 @@ pub size-digit_set : (w d n : ℕ) → n ≡ ones d → d < 2 ^ w → n ≡ coun
 unfolding digit_has
 size-digit_set w d n is h =
     is ∙ sym (count-same w _ _ (λ k l. ap (λ t. t && (bit_at d k == 1)) (lt-ltb k w l)) ∙ low_digits w d ∙ ap ones (mod-eq_of_lt h))
+
+pub count-some : (c k : ℕ) (s : ℕ → Bool) → k < c → s k ≡ true → 0 < count_below c s
+unfolding count_below
+count-some zero k s h t = absurd (omega arith)
+count-some (suc c) k s h t =
+    elim (cases_eq k c) [
+      | inl e ↦ let b : s c ≡ true = ap s (sym e) ∙ t in rw b (omega arith)
+      | inr n ↦ let r = count-some c k s (omega arith) t in omega arith
+    ]
+
+count-never : (c : ℕ) → count_below c (λ _. false) ≡ 0
+unfolding count_below
+count-never zero = refl
+count-never (suc c) = omega (arith, count-never c)
+
+count-others : (c : ℕ) (s : ℕ → Bool) → count_below c (λ k. not (s k)) + count_below c s ≡ c
+unfolding count_below
+count-others zero s = refl
+count-others (suc c) s = elim (cases_Bool (s c)) [ inl t ↦ rw t (omega (arith, count-others c s)) | inr f ↦ rw f (omega (arith, count-others c s)) ]
+
+-- ones and zeros together are the capacity
+pub size-complement : (s : PlainSet) → size (complement s) + size s ≡ s.capacity
+unfolding lacks
+size-complement s =
+    ap (λ n. n + size s) (count-same s.capacity (lacks s) (λ k. not (s.has k)) (λ k l. ap (λ b. b && not (s.has k)) (lt-ltb k s.capacity l))) ∙ count-others s.capacity s.has
+
+-- a word of no digit, and one that lacks none
+pub word_empty : (w d : ℕ) → d < 2 ^ w → (d == 0) ≡ (size (digit_set w d) == 0)
+word_empty w d fits =
+    elim (cases_eq d 0) [
+      | inl z ↦ eq-eqb d 0 z ∙ sym (eq-eqb _ 0 (ap (count_below w) (digit_has-zero w d z) ∙ count-never w))
+      | inr n ↦ let k = some_digit w d fits n in let m = count-some w k.0 (digit_has w d) (digit_has-below w d k.0 k.1) k.1 in ne_eqb d 0 n ∙ sym (ne_eqb _ 0 (λ z. omega arith))
+    ]
+
+pub word_full : (w d e : ℕ) → d < 2 ^ w → e < 2 ^ w → e ≡ 2 ^ w - 1 - d → (e == 0) ≡ (size (digit_set w d) == w)
+word_full w d e fits low is =
+    let rest : size (digit_set w e) ≡ size (complement (digit_set w d)) = ap (count_below w) (ap (digit_has w) is ∙ digit_has-not w d fits) in
+    let all = size-complement (digit_set w d) in
+    word_empty w e low ∙ elim (cases_eq (size (digit_set w d)) w) [
+      | inl y ↦ eq-eqb _ 0 (omega arith) ∙ sym (eq-eqb _ w y)
+      | inr n ↦ ne_eqb _ 0 (λ z. n (omega arith)) ∙ sym (ne_eqb _ w n)
+    ]
 
 -- each order has as many members, in a capacity of whole words
 pub size-members : (m : Bool) (w : ℕ) (s : PlainSet) → 0 < w → (words : ℕ) × (s.capacity ≡ words * w) → size (members m w s) ≡ size s

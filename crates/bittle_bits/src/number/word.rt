@@ -50,14 +50,14 @@ pub fn count_ones<T: Number>(word: T) -> u32
 pub fn all_zeros<T: Number>(word: T) -> bool
     ensures { result ≡ (size (digit_set T.width (T.digits word)) == 0) }
 {
-    count_ones(word) == 0
+    word.is_zero()
 }
 
 #[inline]
 pub fn all_ones<T: Number>(word: T) -> bool
     ensures { result ≡ (size (digit_set T.width (T.digits word)) == T.width) }
 {
-    count_ones(word) == T::width()
+    word.not().is_zero()
 }
 
 #[inline]
