@@ -1,16 +1,15 @@
 -- The least and the greatest digit of a word.
-use Rattle.std.proofs.Common.{◌≡◌, ℕ, zero, suc, ◌+◌, ◌-◌, ◌*◌, ◌/◌, ◌%◌, ◌^◌, ◌<◌, ◌≤◌, ◌⊎◌, Bool, true, false, ◌==◌, inl, inr, refl, sym, ap, ◌∙◌, arith, subst}
+use Rattle.std.proofs.Common.{◌≡◌, ℕ, zero, suc, ◌-◌, ◌*◌, ◌/◌, ◌%◌, ◌^◌, ◌<◌, ◌⊎◌, Bool, true, ◌==◌, inl, inr, sym, ap, ◌∙◌, arith, subst}
 use Rattle.std.specs.Int.{bit_at}
 use Rattle.std.specs.Int.Count.{count_leading_zeros, count_trailing_zeros, leading_of_zero}
-use Rattle.std.proofs.Math.Nat.{pow-suc}
-use Rattle.std.proofs.lemmas.Nat.{trailing_le, leading_le, leading_top, mod_below, pow_pos}
-use Rattle.std.proofs.lemmas.Nat.Bits.{bit_at-lt, bit_at-suc, bit_at_lowest, bit_at_above, bit_at-zero}
-use Rattle.std.proofs.lemmas.Bool.{cases_eq, cases_lt, eq-eqb, ne_eqb}
+use Rattle.std.proofs.lemmas.Nat.{trailing_le, leading_le, leading_top, mod_below}
+use Rattle.std.proofs.lemmas.Nat.Bits.{bit_at-suc, bit_at_lowest, bit_at_above, bit_at-zero}
+use Rattle.std.proofs.lemmas.Bool.{cases_eq, eq-eqb}
 use Rattle.bittle_bits.specs.Digits.{digit_has, digit_set}
-use Rattle.bittle_bits.specs.Orders.{place, mirror, members}
+use Rattle.bittle_bits.specs.Orders.{members}
 use Rattle.bittle_bits.specs.PlainSet.{PlainSet, complement, IsLeastMember, IsGreatestMember}
 use Rattle.bittle_bits.proofs.DigitSets.{digit_has-at, digit_has-not, top_digit}
-use Rattle.bittle_bits.proofs.PlaceLemmas.{mirror_in_word, place_in_word}
+use Rattle.bittle_bits.proofs.PlaceLemmas.{mirror_in_word}
 use Rattle.bittle_bits.proofs.PlainSets.{plain, complement-members}
 
 -- the digits below the least one are 0, and it is 1

@@ -1,3 +1,4 @@
+pub mod Ascending
 pub mod DigitSets
 pub mod Ends
 pub mod PlaceLemmas

@@ -1,4 +1,4 @@
-use Rattle.std.proofs.Common.{◌≡◌, ◌%◌, ◌^◌, ap, ◌∙◌, false}
+use Rattle.std.proofs.Common.{◌%◌, ◌^◌, ap, ◌∙◌, false}
 use Rattle.bittle_bits.proofs.WordCalls.{mask_set}
 use Rattle.bittle_bits.proofs.endian.BigEndianEndian.mask.Goals as goal
 

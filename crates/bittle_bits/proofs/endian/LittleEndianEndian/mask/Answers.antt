@@ -1,4 +1,4 @@
-use Rattle.std.proofs.Common.{◌≡◌, ◌-◌, ◌%◌, ◌^◌, ap, ◌∙◌}
+use Rattle.std.proofs.Common.{◌-◌, ◌%◌, ◌^◌, ap, ◌∙◌}
 use Rattle.bittle_bits.proofs.WordCalls.{mirrored_mask}
 use Rattle.bittle_bits.proofs.endian.LittleEndianEndian.mask.Goals as goal
 

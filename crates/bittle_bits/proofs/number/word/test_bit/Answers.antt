@@ -1,4 +1,4 @@
-use Rattle.std.proofs.Common.{◌≡◌, ◌∙◌, ap, not, bit_and, ◌==◌, sym}
+use Rattle.std.proofs.Common.{◌∙◌, ap, not}
 use Rattle.bittle_bits.proofs.WordCalls.{word_tested}
 use Rattle.bittle_bits.proofs.number.word.test_bit.Goals as goal
 

@@ -1,0 +1,130 @@
+-- The increasing list of the members: its ends, what is left without one of them, and its length.
+use Rattle.std.proofs.Common.{◌≡◌, ℕ, zero, suc, ◌+◌, ◌-◌, ◌<◌, ◌≤◌, Bool, true, false, not, ◌&&◌, ◌==◌, cond, [], ◌∷◌, ◌++◌, length, length-append, refl, sym, ap, ◌∙◌, arith}
+use Rattle.std.proofs.Math.Nat.{mod-eq_of_lt}
+use Rattle.std.proofs.lemmas.Bool.{eq-eqb, ne_eqb}
+use Rattle.std.proofs.lemmas.List.{append-nil}
+use Rattle.bittle_bits.specs.PlainSet.{PlainSet, without_index, has_without, count_below, size, ascending_from, ascending, IsLeastMember, IsGreatestMember}
+use Rattle.bittle_bits.proofs.PlainSets.{has_without-in}
+
+ascending-yes : (p : ℕ → Bool) (from n : ℕ) → p from ≡ true → ascending_from p from (suc n) ≡ from ∷ ascending_from p (suc from) n
+unfolding ascending_from
+ascending-yes p from n h = rw h refl
+
+ascending-no : (p : ℕ → Bool) (from n : ℕ) → p from ≡ false → ascending_from p from (suc n) ≡ ascending_from p (suc from) n
+unfolding ascending_from
+ascending-no p from n h = rw h refl
+
+pub ascending_from-zero : (p : ℕ → Bool) (from : ℕ) → ascending_from p from 0 ≡ []
+unfolding ascending_from
+ascending_from-zero p from = refl
+
+-- a list over two ranges that lie side by side
+pub ascending_from-add : (p : ℕ → Bool) (from a b c mid : ℕ) → c ≡ a + b → mid ≡ from + a → ascending_from p from c ≡ ascending_from p from a ++ ascending_from p mid b
+unfolding ascending_from
+ascending_from-add p from zero b c mid e f =
+    let all : c ≡ b = omega arith in
+    let start : mid ≡ from = omega arith in
+    rw (all, start) refl
+ascending_from-add p from (suc a) b zero mid e f = absurd (omega arith)
+ascending_from-add p from (suc a) b (suc c) mid e f =
+    let rest = ascending_from-add p (suc from) a b c mid (omega arith) (omega arith) in
+    elim (p from) as (λ v. cond v (from ∷ ascending_from p (suc from) c) (ascending_from p (suc from) c) ≡ cond v (from ∷ ascending_from p (suc from) a) (ascending_from p (suc from) a) ++ ascending_from p mid b)
+    [ true ↦ ap (λ xs. from ∷ xs) rest | false ↦ rest ]
+
+-- tests that agree over the range give one list
+pub ascending_from-same : (p q : ℕ → Bool) (from n : ℕ) → ((k : ℕ) → from ≤ k → k < from + n → p k ≡ q k) → ascending_from p from n ≡ ascending_from q from n
+unfolding ascending_from
+ascending_from-same p q from zero h = refl
+ascending_from-same p q from (suc n) h =
+    rw (h from (omega arith) (omega arith), ascending_from-same p q (suc from) n (λ k lo hi. h k (omega arith) (omega arith))) refl
+
+-- nothing over a range where nothing passes
+pub ascending_from-none : (p : ℕ → Bool) (from n : ℕ) → ((k : ℕ) → from ≤ k → k < from + n → p k ≡ false) → ascending_from p from n ≡ []
+unfolding ascending_from
+ascending_from-none p from zero h = refl
+ascending_from-none p from (suc n) h =
+    ascending-no p from n (h from (omega arith) (omega arith)) ∙ ascending_from-none p (suc from) n (λ k lo hi. h k (omega arith) (omega arith))
+
+one_more : (p : ℕ → Bool) (n : ℕ) → length (ascending_from p n 1) ≡ cond (p n) 1 0
+unfolding ascending_from
+one_more p n = elim (p n) as (λ v. length (cond v (n ∷ []) []) ≡ cond v 1 0) [ true ↦ refl | false ↦ refl ]
+
+pub ascending_from-length : (p : ℕ → Bool) (n : ℕ) → length (ascending_from p 0 n) ≡ count_below n p
+unfolding count_below
+ascending_from-length p zero = ap length (ascending_from-zero p 0)
+ascending_from-length p (suc n) =
+    ap length (ascending_from-add p 0 n 1 (suc n) n (omega arith) (omega arith))
+    ∙ length-append (ascending_from p 0 n) (ascending_from p n 1)
+    ∙ ap (λ k. k + length (ascending_from p n 1)) (ascending_from-length p n)
+    ∙ ap (λ k. count_below n p + k) (one_more p n)
+
+-- as many items as members
+pub ascending-length : (s : PlainSet) → length (ascending s) ≡ size s
+ascending-length s = ascending_from-length s.has s.capacity
+
+-- no items where there are no members
+pub ascending-none : (s : PlainSet) → ((k : ℕ) → k < s.capacity → s.has k ≡ false) → ascending s ≡ []
+ascending-none s h = ascending_from-none s.has 0 s.capacity (λ k lo hi. h k (omega arith))
+
+-- one member of a set
+module _ (s : PlainSet) (r : ℕ) (inside : r < s.capacity) (here : s.has r ≡ true) where
+  -- the list before it, the member, and the list after it
+  pub ascending-at : ascending s ≡ (ascending_from s.has 0 r ++ r ∷ []) ++ ascending_from s.has (suc r) (s.capacity - suc r)
+  ascending-at =
+      ascending_from-add s.has 0 (suc r) (s.capacity - suc r) s.capacity (suc r) (omega arith) (omega arith)
+      ∙ ap (λ xs. xs ++ ascending_from s.has (suc r) (s.capacity - suc r)) (
+      ascending_from-add s.has 0 r 1 (suc r) r (omega arith) (omega arith)
+      ∙ ap (λ xs. ascending_from s.has 0 r ++ xs) (ascending-yes s.has r 0 here ∙ ap (λ xs. r ∷ xs) (ascending_from-zero s.has (suc r))))
+
+  others : (k : ℕ) → (k ≡ r → ⊥) → has_without s r k ≡ s.has k
+  others k n =
+      ap (λ p. p k) (has_without-in s s.capacity r refl (omega arith))
+      ∙ ap (λ t. not (k == t) && s.has k) (mod-eq_of_lt inside)
+      ∙ ap (λ b. not b && s.has k) (ne_eqb k r n)
+
+  gone : has_without s r r ≡ false
+  gone =
+      ap (λ p. p r) (has_without-in s s.capacity r refl (omega arith))
+      ∙ ap (λ t. not (r == t) && s.has r) (mod-eq_of_lt inside)
+      ∙ ap (λ b. not b && s.has r) (eq-eqb r r refl)
+
+  -- without it just the two lists
+  pub ascending-without : ascending (without_index s r) ≡ ascending_from s.has 0 r ++ ascending_from s.has (suc r) (s.capacity - suc r)
+  ascending-without =
+      ascending_from-add (has_without s r) 0 (suc r) (s.capacity - suc r) s.capacity (suc r) (omega arith) (omega arith)
+      ∙ ap (λ xs. xs ++ ascending_from (has_without s r) (suc r) (s.capacity - suc r)) (
+      ascending_from-add (has_without s r) 0 r 1 (suc r) r (omega arith) (omega arith)
+      ∙ ap (λ xs. ascending_from (has_without s r) 0 r ++ xs) (ascending-no (has_without s r) r 0 gone ∙ ascending_from-zero (has_without s r) (suc r)))
+      ∙ ap (λ xs. (xs ++ []) ++ ascending_from (has_without s r) (suc r) (s.capacity - suc r)) (ascending_from-same _ _ 0 r (λ k lo hi. others k (λ e. absurd (omega arith))))
+      ∙ ap (λ xs. xs ++ ascending_from (has_without s r) (suc r) (s.capacity - suc r)) (append-nil (ascending_from s.has 0 r))
+      ∙ ap (λ xs. ascending_from s.has 0 r ++ xs) (ascending_from-same _ _ (suc r) (s.capacity - suc r) (λ k lo hi. others k (λ e. absurd (omega arith))))
+
+-- the least member is the first item, and the others are left
+pub ascending-first : (s : PlainSet) (r : ℕ) → IsLeastMember s r → r < s.capacity → ascending s ≡ r ∷ ascending (without_index s r)
+ascending-first s r least inside =
+    let none = ascending_from-none s.has 0 r (λ k lo hi. least.none_below k (omega arith)) in
+    let here = least.is_member inside in
+    let rest = ascending_from s.has (suc r) (s.capacity - suc r) in
+    ascending-at s r inside here
+    ∙ ap (λ xs. (xs ++ r ∷ []) ++ rest) none
+    ∙ ap (λ xs. r ∷ xs) (sym (ascending-without s r inside here ∙ ap (λ xs. xs ++ rest) none))
+
+-- the greatest member is the last item, and the others are left
+pub ascending-last : (s : PlainSet) (r v : ℕ) → IsGreatestMember s r → r < s.capacity → v ≡ s.capacity - 1 - r → ascending s ≡ ascending (without_index s v) ++ v ∷ []
+ascending-last s r v greatest inside is =
+    let none : ascending_from s.has (suc v) (s.capacity - suc v) ≡ [] =
+    ascending_from-none s.has (suc v) (s.capacity - suc v) (λ k lo hi. ap s.has (omega arith) ∙ greatest.none_above (s.capacity - 1 - k) (omega arith)) in
+    let here : s.has v ≡ true = ap s.has is ∙ greatest.is_member inside in
+    let low : v < s.capacity = omega arith in
+    ascending-at s v low here
+    ∙ ap (λ xs. (ascending_from s.has 0 v ++ v ∷ []) ++ xs) none
+    ∙ append-nil (ascending_from s.has 0 v ++ v ∷ [])
+    ∙ sym (ap (λ xs. xs ++ v ∷ []) (ascending-without s v low here ∙ ap (λ xs. ascending_from s.has 0 v ++ xs) none ∙ append-nil (ascending_from s.has 0 v)))
+
+-- a search that reaches the capacity found no member
+pub least-none : (s : PlainSet) (r : ℕ) → IsLeastMember s r → s.capacity ≤ r → ascending s ≡ []
+least-none s r least past = ascending-none s (λ k h. least.none_below k (omega arith))
+
+pub greatest-none : (s : PlainSet) (r : ℕ) → IsGreatestMember s r → s.capacity ≤ r → ascending s ≡ []
+greatest-none s r greatest past =
+    ascending-none s (λ k h. ap s.has (omega arith) ∙ greatest.none_above (s.capacity - 1 - k) (omega arith))
