@@ -128,3 +128,10 @@ least-none s r least past = ascending-none s (λ k h. least.none_below k (omega 
 pub greatest-none : (s : PlainSet) (r : ℕ) → IsGreatestMember s r → s.capacity ≤ r → ascending s ≡ []
 greatest-none s r greatest past =
     ascending-none s (λ k h. ap s.has (omega arith) ∙ greatest.none_above (s.capacity - 1 - k) (omega arith))
+
+-- the same, of any set that has just the others
+pub taken_first : (s t : PlainSet) (r : ℕ) → IsLeastMember s r → r < s.capacity → t ≡ without_index s r → ascending s ≡ r ∷ ascending t
+taken_first s t r least inside is = rw is (ascending-first s r least inside)
+
+pub taken_last : (s t : PlainSet) (r v : ℕ) → IsGreatestMember s r → r < s.capacity → v ≡ s.capacity - 1 - r → t ≡ without_index s v → ascending s ≡ ascending t ++ v ∷ []
+taken_last s t r v greatest inside is left = rw left (ascending-last s r v greatest inside is)

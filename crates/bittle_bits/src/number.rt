@@ -6,4 +6,7 @@ mod int32;
 mod int64;
 mod int8;
 mod int_size;
+mod walk;
 mod word;
+
+pub use walk::{IterOnes, IterZeros};

@@ -1,9 +1,10 @@
 //! The calls on one word, for every width at once.
 
+ghost use Rattle.std.specs.Iterator.{YieldsFirst, YieldsLast};
 ghost use Rattle.std.specs.Prelude.{◌≡◌, ◌==◌};
 ghost use Rattle.bittle_bits.specs.Digits.{digit_set};
 ghost use Rattle.bittle_bits.specs.Orders.{members};
-ghost use Rattle.bittle_bits.specs.PlainSet.{contains, with_index, without_index, empty, emptied, filled, size};
+ghost use Rattle.bittle_bits.specs.PlainSet.{contains, with_index, without_index, empty, emptied, filled, size, ascending};
 
 use crate::endian::Endian;
 use crate::hidden::Number;
@@ -72,4 +73,35 @@ pub fn ones<T: Number>() -> T
     ensures { digit_set T.width (T.digits result) ≡ filled T.width }
 {
     T::zero().not()
+}
+
+/// Takes the least member out of the word.
+#[inline]
+pub fn take_first<T: Number, E: Endian>(word: &mut T) -> Option<u32>
+    ensures { YieldsFirst
+        (λ w. ascending (members E.mirrored T.width (digit_set T.width (T.digits w))))
+        word.old result word.new }
+{
+    let index = E::zeros::<T>(*word);
+    if index == T::width() {
+        return None;
+    }
+    clear_bit::<T, E>(word, index);
+    Some(index)
+}
+
+/// Takes the greatest member out of the word.
+#[inline]
+pub fn take_last<T: Number, E: Endian>(word: &mut T) -> Option<u32>
+    ensures { YieldsLast
+        (λ w. ascending (members E.mirrored T.width (digit_set T.width (T.digits w))))
+        word.old result word.new }
+{
+    let below_last = E::zeros_rev::<T>(*word);
+    if below_last == T::width() {
+        return None;
+    }
+    let index = T::width() - 1 - below_last;
+    clear_bit::<T, E>(word, index);
+    Some(index)
 }

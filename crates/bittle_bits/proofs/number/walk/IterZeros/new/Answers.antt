@@ -1,0 +1,8 @@
+use Rattle.std.proofs.Common.{◌≡◌}
+use Rattle.bittle_bits.specs.PlainSet.{ascending}
+use Rattle.bittle_bits.proofs.Ends.{ends_of_rest}
+use Rattle.bittle_bits.proofs.number.walk.IterZeros.new.Goals as goal
+
+pub returns : goal.returns
+returns g c =
+    ends_of_rest g.E.Endian.mirrored g.T.Number.width (g.T.Number.digits c.args.word) (g.T.Number.digits c.not.result) (λ s. c.new.result ≡ ascending s) g.met.T.Number.width_positive c.not.ensures.range c.not.ensures.digits c.new.ensures
