@@ -4,3 +4,4 @@ pub use Rattle.bittle_bits.specs.PlainSet
 pub use Rattle.bittle_bits.specs.Rows
 pub use Rattle.bittle_bits.specs.Shapes
 pub mod Machine
+pub mod Ranges

@@ -1,9 +1,13 @@
 //! Sets of small numbers over native integers, arrays of them and slices, proved.
 #![tactic(auto)]
 
+#[doc(hidden)]
+pub mod macros;
+pub mod prelude;
 pub mod replay;
 
 pub use bittle_bits::bits::Bits;
 pub use bittle_bits::bits_mut::BitsMut;
 pub use bittle_bits::bits_owned::BitsOwned;
 pub use bittle_bits::endian::{BigEndian, DefaultEndian, Endian, LittleEndian};
+pub use bittle_bits::number;

@@ -1,0 +1,160 @@
+//! The macros that make a set of what they list, and the ranges that they expand to.
+
+ghost use Rattle.std.specs.Prelude.{◌≡◌, ◌+◌};
+ghost use Rattle.bittle_bits.specs.Orders.{members};
+ghost use Rattle.bittle_bits.specs.Shapes.{Fits};
+ghost use Rattle.bittle.specs.Ranges.{with_range};
+
+use bittle_bits::bits::Bits;
+use bittle_bits::bits_mut::BitsMut;
+use bittle_bits::endian::Endian;
+
+#[cfg(test)]
+mod tests;
+mod uses;
+
+/// Makes a set of what is listed, in the order of its type.
+///
+/// A list has indexes, which are expressions of the type `u32`, and ranges `a..=b`, `a..b` and `a..` whose bounds are
+/// literals; `a..` ends at the capacity. An index past the capacity wraps. A range that ends before it starts adds
+/// nothing, and with capacity 0 the set is empty. The type, which the place of use names, has to fit.
+///
+/// ```
+/// let mask: u8 = bittle::set![0, 2..=3, 6..];
+/// let empty: [u16; 4] = bittle::set![];
+/// ```
+#[macro_export]
+macro_rules! set {
+    ($($list:tt)*) => {
+        $crate::set_of_listed!(
+            [$crate::BitsMut::set_bit] [$crate::macros::put_until] [$crate::macros::put_through]
+            $($list)*
+        )
+    };
+}
+
+/// Makes a set of what is listed, as [`set!`] does, in [`LittleEndian`](crate::LittleEndian) order.
+#[macro_export]
+macro_rules! set_le {
+    ($($list:tt)*) => {
+        $crate::set_of_listed!(
+            [$crate::BitsMut::set_bit_le]
+            [$crate::macros::put_until_in::<_, $crate::LittleEndian>]
+            [$crate::macros::put_through_in::<_, $crate::LittleEndian>]
+            $($list)*
+        )
+    };
+}
+
+/// Makes a set of what is listed, as [`set!`] does, in [`BigEndian`](crate::BigEndian) order.
+#[macro_export]
+macro_rules! set_be {
+    ($($list:tt)*) => {
+        $crate::set_of_listed!(
+            [$crate::BitsMut::set_bit_be]
+            [$crate::macros::put_until_in::<_, $crate::BigEndian>]
+            [$crate::macros::put_through_in::<_, $crate::BigEndian>]
+            $($list)*
+        )
+    };
+}
+
+// The set of a list, by the calls for an index, for a range `a..b` and for a range `a..=b`.
+#[doc(hidden)]
+#[macro_export]
+macro_rules! set_of_listed {
+    ($index:tt $until:tt $through:tt $($list:tt)*) => {{
+        let mut set = $crate::BitsOwned::zeros();
+        $crate::put_listed!(set $index $until $through $($list)*);
+        set
+    }};
+}
+
+// Puts what is listed, one after another. A bare range is also an expression, so the ranges stand first.
+#[doc(hidden)]
+#[macro_export]
+macro_rules! put_listed {
+    ($set:ident $index:tt $until:tt $through:tt) => {};
+
+    ($set:ident $index:tt $until:tt [$($through:tt)*] $from:literal ..= $to:literal $(, $($rest:tt)*)?) => {
+        $($through)*(&mut $set, $from, $to);
+        $crate::put_listed!($set $index $until [$($through)*] $($($rest)*)?);
+    };
+
+    ($set:ident $index:tt [$($until:tt)*] $through:tt $from:literal .. $to:literal $(, $($rest:tt)*)?) => {
+        $($until)*(&mut $set, $from, $to);
+        $crate::put_listed!($set $index [$($until)*] $through $($($rest)*)?);
+    };
+
+    ($set:ident $index:tt [$($until:tt)*] $through:tt $from:literal .. $(, $($rest:tt)*)?) => {
+        let capacity = $crate::Bits::bits_capacity(&$set);
+        $($until)*(&mut $set, $from, capacity);
+        $crate::put_listed!($set $index [$($until)*] $through $($($rest)*)?);
+    };
+
+    ($set:ident [$($index:tt)*] $until:tt $through:tt $number:expr $(, $($rest:tt)*)?) => {
+        $($index)*(&mut $set, $number);
+        $crate::put_listed!($set [$($index)*] $until $through $($($rest)*)?);
+    };
+}
+
+/// Makes each index of `from..to`, which wraps at the capacity, a member in the order of the type.
+///
+/// The shape has to fit. A range that ends before it starts changes nothing, and neither does any range with capacity 0.
+#[inline]
+pub fn put_until<B: BitsMut>(bits: &mut B, from: u32, to: u32)
+    requires { Fits B.indexable (B.big bits.old).capacity }
+    ensures set { members B.Order.mirrored B.width (B.big bits.new)
+        ≡ with_range (members B.Order.mirrored B.width (B.big bits.old)) from to }
+    ensures stays { B.same_place bits.old bits.new }
+{
+    put_until_in::<B, B::Order>(bits, from, to);
+}
+
+/// [`put_until`] in the order `E`.
+#[inline]
+pub fn put_until_in<B: BitsMut, E: Endian>(bits: &mut B, from: u32, to: u32)
+    requires { Fits B.indexable (B.big bits.old).capacity }
+    ensures set { members E.mirrored B.width (B.big bits.new)
+        ≡ with_range (members E.mirrored B.width (B.big bits.old)) from to }
+    ensures stays { B.same_place bits.old bits.new }
+{
+    if from < to {
+        put_through_in::<B, E>(bits, from, to - 1);
+    }
+}
+
+/// Makes each index of `from..=to`, which wraps at the capacity, a member in the order of the type.
+///
+/// The shape has to fit. A range that ends before it starts changes nothing, and neither does any range with capacity 0.
+#[inline]
+pub fn put_through<B: BitsMut>(bits: &mut B, from: u32, to: u32)
+    requires { Fits B.indexable (B.big bits.old).capacity }
+    ensures set { members B.Order.mirrored B.width (B.big bits.new)
+        ≡ with_range (members B.Order.mirrored B.width (B.big bits.old)) from (to + 1) }
+    ensures stays { B.same_place bits.old bits.new }
+{
+    put_through_in::<B, B::Order>(bits, from, to);
+}
+
+/// [`put_through`] in the order `E`.
+pub fn put_through_in<B: BitsMut, E: Endian>(bits: &mut B, from: u32, to: u32)
+    requires { Fits B.indexable (B.big bits.old).capacity }
+    ensures set { members E.mirrored B.width (B.big bits.new)
+        ≡ with_range (members E.mirrored B.width (B.big bits.old)) from (to + 1) }
+    ensures stays { B.same_place bits.old bits.new }
+{
+    if to < from {
+        return;
+    }
+    // As many neighbours as the capacity are all of them, so no range makes more changes.
+    let capacity = bits.bits_capacity();
+    let count = if to - from < capacity {
+        to - from + 1
+    } else {
+        capacity
+    };
+    for past in 0..count {
+        bits.set_bit_in::<E>(from + past);
+    }
+}

@@ -1,0 +1,1 @@
+//! The macros at the values of tables.
