@@ -72,3 +72,6 @@ place_in_word m w i h =
 pub mirror_in_word : (w i : ℕ) → i < w → mirror w i ≡ w - 1 - i
 unfolding mirror
 mirror_in_word w i h = let e = mod-eq_of_lt h in omega arith
+
+pub place_apart : (m : Bool) (w i j : ℕ) → 0 < w → place m w i ≡ place m w j → i ≡ j
+place_apart m w i j h e = sym (place-place m w i h) ∙ ap (place m w) e ∙ place-place m w j h

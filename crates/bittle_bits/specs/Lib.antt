@@ -1,5 +1,6 @@
 pub mod Digits
 pub mod Laws
+pub mod OrderLaws
 pub mod Orders
 pub mod PlainSet
 pub mod Rows

@@ -11,5 +11,7 @@ mod elements;
 pub mod endian;
 #[doc(hidden)]
 pub mod hidden;
+#[doc(hidden)]
+pub mod laws;
 pub mod number;
 mod slice;
