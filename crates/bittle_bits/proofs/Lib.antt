@@ -1,3 +1,4 @@
+pub mod Combined
 pub mod DigitSets
 pub mod Ends
 pub mod PlaceLemmas

@@ -3,4 +3,5 @@ pub mod Laws
 pub mod Orders
 pub mod PlainSet
 pub mod Rows
+pub mod SetOperations
 pub mod Shapes

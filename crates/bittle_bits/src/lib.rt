@@ -12,4 +12,5 @@ pub mod endian;
 #[doc(hidden)]
 pub mod hidden;
 pub mod number;
+mod operation;
 mod slice;
