@@ -1,4 +1,5 @@
 pub mod Ascending
+pub mod Combined
 pub mod DigitSets
 pub mod Ends
 pub mod PlaceLemmas

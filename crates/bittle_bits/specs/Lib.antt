@@ -4,4 +4,5 @@ pub mod OrderLaws
 pub mod Orders
 pub mod PlainSet
 pub mod Rows
+pub mod SetOperations
 pub mod Shapes

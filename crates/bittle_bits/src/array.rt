@@ -10,6 +10,7 @@ use crate::bits_owned::BitsOwned;
 use crate::elements;
 use crate::endian::{DefaultEndian, Endian};
 use crate::hidden::Sealed;
+use crate::operation::{Conjunction, Difference, SymmetricDifference, Union};
 
 impl<T: BitsOwned, const N: usize> Sealed for [T; N] {}
 
@@ -74,6 +75,26 @@ impl<T: BitsOwned, const N: usize> BitsMut for [T; N] {
     #[inline]
     fn clear_bits(&mut self) {
         elements::clear_bits::<T>(self);
+    }
+
+    #[inline]
+    fn union_assign(&mut self, other: &[T; N]) {
+        elements::combine::<T, Union>(self, other);
+    }
+
+    #[inline]
+    fn conjunction_assign(&mut self, other: &[T; N]) {
+        elements::combine::<T, Conjunction>(self, other);
+    }
+
+    #[inline]
+    fn difference_assign(&mut self, other: &[T; N]) {
+        elements::combine::<T, Difference>(self, other);
+    }
+
+    #[inline]
+    fn symmetric_difference_assign(&mut self, other: &[T; N]) {
+        elements::combine::<T, SymmetricDifference>(self, other);
     }
 }
 

@@ -1,8 +1,9 @@
 //! Changing a set.
 
-ghost use Rattle.std.specs.Prelude.{◌≡◌, IsTrue};
+ghost use Rattle.std.specs.Prelude.{◌≡◌, Bool, IsTrue};
 ghost use Rattle.bittle_bits.specs.Orders.{members};
 ghost use Rattle.bittle_bits.specs.PlainSet.{with_index, without_index, emptied};
+ghost use Rattle.bittle_bits.specs.SetOperations.{union_of, conjunction_of, difference_of, symmetric_difference_of};
 
 use crate::bits::Bits;
 use crate::endian::{BigEndian, Endian, LittleEndian};
@@ -29,6 +30,42 @@ pub trait BitsMut: Bits {
     /// Leaves no members.
     fn clear_bits(&mut self)
         ensures set { Self.big self.new ≡ emptied (Self.big self.old) }
+        ensures stays { same_place self.old self.new };
+
+    /// Makes each member of the other set a member.
+    ///
+    /// Where the capacities differ, as of two slices, only what lies below both changes.
+    fn union_assign(&mut self, other: &Self)
+        ensures union { (mirrored : Bool) → members mirrored Self.width (Self.big self.new)
+            ≡ union_of
+            (members mirrored Self.width (Self.big self.old)) (members mirrored Self.width (Self.big other.now)) }
+        ensures stays { same_place self.old self.new };
+
+    /// Keeps the members that are members of the other set too.
+    ///
+    /// Where the capacities differ, as of two slices, only what lies below both changes; the later members of the longer one stay.
+    fn conjunction_assign(&mut self, other: &Self)
+        ensures conjunction { (mirrored : Bool) → members mirrored Self.width (Self.big self.new)
+            ≡ conjunction_of
+            (members mirrored Self.width (Self.big self.old)) (members mirrored Self.width (Self.big other.now)) }
+        ensures stays { same_place self.old self.new };
+
+    /// Takes the members of the other set out.
+    ///
+    /// Where the capacities differ, as of two slices, only what lies below both changes.
+    fn difference_assign(&mut self, other: &Self)
+        ensures difference { (mirrored : Bool) → members mirrored Self.width (Self.big self.new)
+            ≡ difference_of
+            (members mirrored Self.width (Self.big self.old)) (members mirrored Self.width (Self.big other.now)) }
+        ensures stays { same_place self.old self.new };
+
+    /// Makes each member of the other set a member, or, where it is one already, takes it out.
+    ///
+    /// Where the capacities differ, as of two slices, only what lies below both changes.
+    fn symmetric_difference_assign(&mut self, other: &Self)
+        ensures symmetric_difference { (mirrored : Bool) → members mirrored Self.width (Self.big self.new)
+            ≡ symmetric_difference_of
+            (members mirrored Self.width (Self.big self.old)) (members mirrored Self.width (Self.big other.now)) }
         ensures stays { same_place self.old self.new };
 
     /// [`set_bit_in`](BitsMut::set_bit_in) in the order of the type.

@@ -1,13 +1,15 @@
 //! The calls on a row of elements, for arrays and for slices.
 
-ghost use Rattle.std.specs.Prelude.{◌≡◌, ◌==◌, ◌*◌, ◌<◌, length, IsTrue, MatchOption};
+ghost use Rattle.std.specs.Prelude.{◌≡◌, ◌==◌, ◌*◌, ◌<◌, Bool, length, IsTrue, MatchOption};
 ghost use Rattle.bittle_bits.specs.Orders.{members};
 ghost use Rattle.bittle_bits.specs.PlainSet.{contains, with_index, without_index, emptied, size};
 ghost use Rattle.bittle_bits.specs.Rows.{elements_set, GoesTo};
+ghost use Rattle.bittle_bits.specs.SetOperations.{combined};
 ghost use Rattle.bittle_bits.specs.Shapes.{Fits};
 
 use crate::bits_owned::BitsOwned;
 use crate::endian::Endian;
+use crate::operation::Operation;
 
 /// The capacity of this many elements, or `u32::MAX` where they do not fit.
 #[inline]
@@ -87,6 +89,19 @@ pub fn clear_bits<T: BitsOwned>(elements: &mut [T])
 {
     for element in elements.iter_mut() {
         element.clear_bits();
+    }
+}
+
+/// The operation on the elements of the common beginning.
+pub fn combine<T: BitsOwned, O: Operation>(elements: &mut [T], others: &[T])
+    ensures { (mirrored : Bool) → members mirrored T.width (elements_set (length elements.new) T.type_capacity T.big elements.new)
+        ≡ combined O.decide
+        (members mirrored T.width (elements_set (length elements.old) T.type_capacity T.big elements.old))
+        (members mirrored T.width (elements_set (length others.now) T.type_capacity T.big others.now)) }
+{
+    let common = elements.len().min(others.len());
+    for at in 0..common {
+        O::on_sets::<T>(&mut elements[at], &others[at]);
     }
 }
 

@@ -14,4 +14,5 @@ pub mod hidden;
 #[doc(hidden)]
 pub mod laws;
 pub mod number;
+mod operation;
 mod slice;

@@ -12,6 +12,7 @@ use crate::bits_owned::BitsOwned;
 use crate::endian::{DefaultEndian, Endian};
 use crate::hidden::{Number, Sealed};
 use crate::number::word;
+use crate::operation::{Conjunction, Difference, SymmetricDifference, Union};
 
 impl Sealed for u128 {}
 
@@ -139,6 +140,26 @@ impl BitsMut for u128 {
     #[inline]
     fn clear_bits(&mut self) {
         word::clear_bits::<u128>(self);
+    }
+
+    #[inline]
+    fn union_assign(&mut self, other: &u128) {
+        word::combine::<u128, Union>(self, *other);
+    }
+
+    #[inline]
+    fn conjunction_assign(&mut self, other: &u128) {
+        word::combine::<u128, Conjunction>(self, *other);
+    }
+
+    #[inline]
+    fn difference_assign(&mut self, other: &u128) {
+        word::combine::<u128, Difference>(self, *other);
+    }
+
+    #[inline]
+    fn symmetric_difference_assign(&mut self, other: &u128) {
+        word::combine::<u128, SymmetricDifference>(self, *other);
     }
 }
 
@@ -294,6 +315,26 @@ impl BitsMut for i128 {
     #[inline]
     fn clear_bits(&mut self) {
         word::clear_bits::<i128>(self);
+    }
+
+    #[inline]
+    fn union_assign(&mut self, other: &i128) {
+        word::combine::<i128, Union>(self, *other);
+    }
+
+    #[inline]
+    fn conjunction_assign(&mut self, other: &i128) {
+        word::combine::<i128, Conjunction>(self, *other);
+    }
+
+    #[inline]
+    fn difference_assign(&mut self, other: &i128) {
+        word::combine::<i128, Difference>(self, *other);
+    }
+
+    #[inline]
+    fn symmetric_difference_assign(&mut self, other: &i128) {
+        word::combine::<i128, SymmetricDifference>(self, *other);
     }
 }
 

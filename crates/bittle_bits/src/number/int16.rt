@@ -12,6 +12,7 @@ use crate::bits_owned::BitsOwned;
 use crate::endian::{DefaultEndian, Endian};
 use crate::hidden::{Number, Sealed};
 use crate::number::word;
+use crate::operation::{Conjunction, Difference, SymmetricDifference, Union};
 
 impl Sealed for u16 {}
 
@@ -139,6 +140,26 @@ impl BitsMut for u16 {
     #[inline]
     fn clear_bits(&mut self) {
         word::clear_bits::<u16>(self);
+    }
+
+    #[inline]
+    fn union_assign(&mut self, other: &u16) {
+        word::combine::<u16, Union>(self, *other);
+    }
+
+    #[inline]
+    fn conjunction_assign(&mut self, other: &u16) {
+        word::combine::<u16, Conjunction>(self, *other);
+    }
+
+    #[inline]
+    fn difference_assign(&mut self, other: &u16) {
+        word::combine::<u16, Difference>(self, *other);
+    }
+
+    #[inline]
+    fn symmetric_difference_assign(&mut self, other: &u16) {
+        word::combine::<u16, SymmetricDifference>(self, *other);
     }
 }
 
@@ -293,6 +314,26 @@ impl BitsMut for i16 {
     #[inline]
     fn clear_bits(&mut self) {
         word::clear_bits::<i16>(self);
+    }
+
+    #[inline]
+    fn union_assign(&mut self, other: &i16) {
+        word::combine::<i16, Union>(self, *other);
+    }
+
+    #[inline]
+    fn conjunction_assign(&mut self, other: &i16) {
+        word::combine::<i16, Conjunction>(self, *other);
+    }
+
+    #[inline]
+    fn difference_assign(&mut self, other: &i16) {
+        word::combine::<i16, Difference>(self, *other);
+    }
+
+    #[inline]
+    fn symmetric_difference_assign(&mut self, other: &i16) {
+        word::combine::<i16, SymmetricDifference>(self, *other);
     }
 }
 

@@ -12,6 +12,7 @@ use crate::bits_owned::BitsOwned;
 use crate::endian::{DefaultEndian, Endian};
 use crate::hidden::{Number, Sealed};
 use crate::number::word;
+use crate::operation::{Conjunction, Difference, SymmetricDifference, Union};
 
 impl Sealed for u32 {}
 
@@ -139,6 +140,26 @@ impl BitsMut for u32 {
     #[inline]
     fn clear_bits(&mut self) {
         word::clear_bits::<u32>(self);
+    }
+
+    #[inline]
+    fn union_assign(&mut self, other: &u32) {
+        word::combine::<u32, Union>(self, *other);
+    }
+
+    #[inline]
+    fn conjunction_assign(&mut self, other: &u32) {
+        word::combine::<u32, Conjunction>(self, *other);
+    }
+
+    #[inline]
+    fn difference_assign(&mut self, other: &u32) {
+        word::combine::<u32, Difference>(self, *other);
+    }
+
+    #[inline]
+    fn symmetric_difference_assign(&mut self, other: &u32) {
+        word::combine::<u32, SymmetricDifference>(self, *other);
     }
 }
 
@@ -293,6 +314,26 @@ impl BitsMut for i32 {
     #[inline]
     fn clear_bits(&mut self) {
         word::clear_bits::<i32>(self);
+    }
+
+    #[inline]
+    fn union_assign(&mut self, other: &i32) {
+        word::combine::<i32, Union>(self, *other);
+    }
+
+    #[inline]
+    fn conjunction_assign(&mut self, other: &i32) {
+        word::combine::<i32, Conjunction>(self, *other);
+    }
+
+    #[inline]
+    fn difference_assign(&mut self, other: &i32) {
+        word::combine::<i32, Difference>(self, *other);
+    }
+
+    #[inline]
+    fn symmetric_difference_assign(&mut self, other: &i32) {
+        word::combine::<i32, SymmetricDifference>(self, *other);
     }
 }
 

@@ -12,6 +12,7 @@ use crate::bits_owned::BitsOwned;
 use crate::endian::{DefaultEndian, Endian};
 use crate::hidden::{Number, Sealed};
 use crate::number::word;
+use crate::operation::{Conjunction, Difference, SymmetricDifference, Union};
 
 impl Sealed for u64 {}
 
@@ -139,6 +140,26 @@ impl BitsMut for u64 {
     #[inline]
     fn clear_bits(&mut self) {
         word::clear_bits::<u64>(self);
+    }
+
+    #[inline]
+    fn union_assign(&mut self, other: &u64) {
+        word::combine::<u64, Union>(self, *other);
+    }
+
+    #[inline]
+    fn conjunction_assign(&mut self, other: &u64) {
+        word::combine::<u64, Conjunction>(self, *other);
+    }
+
+    #[inline]
+    fn difference_assign(&mut self, other: &u64) {
+        word::combine::<u64, Difference>(self, *other);
+    }
+
+    #[inline]
+    fn symmetric_difference_assign(&mut self, other: &u64) {
+        word::combine::<u64, SymmetricDifference>(self, *other);
     }
 }
 
@@ -294,6 +315,26 @@ impl BitsMut for i64 {
     #[inline]
     fn clear_bits(&mut self) {
         word::clear_bits::<i64>(self);
+    }
+
+    #[inline]
+    fn union_assign(&mut self, other: &i64) {
+        word::combine::<i64, Union>(self, *other);
+    }
+
+    #[inline]
+    fn conjunction_assign(&mut self, other: &i64) {
+        word::combine::<i64, Conjunction>(self, *other);
+    }
+
+    #[inline]
+    fn difference_assign(&mut self, other: &i64) {
+        word::combine::<i64, Difference>(self, *other);
+    }
+
+    #[inline]
+    fn symmetric_difference_assign(&mut self, other: &i64) {
+        word::combine::<i64, SymmetricDifference>(self, *other);
     }
 }
 

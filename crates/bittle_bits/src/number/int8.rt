@@ -12,6 +12,7 @@ use crate::bits_owned::BitsOwned;
 use crate::endian::{DefaultEndian, Endian};
 use crate::hidden::{Number, Sealed};
 use crate::number::word;
+use crate::operation::{Conjunction, Difference, SymmetricDifference, Union};
 
 impl Sealed for u8 {}
 
@@ -139,6 +140,26 @@ impl BitsMut for u8 {
     #[inline]
     fn clear_bits(&mut self) {
         word::clear_bits::<u8>(self);
+    }
+
+    #[inline]
+    fn union_assign(&mut self, other: &u8) {
+        word::combine::<u8, Union>(self, *other);
+    }
+
+    #[inline]
+    fn conjunction_assign(&mut self, other: &u8) {
+        word::combine::<u8, Conjunction>(self, *other);
+    }
+
+    #[inline]
+    fn difference_assign(&mut self, other: &u8) {
+        word::combine::<u8, Difference>(self, *other);
+    }
+
+    #[inline]
+    fn symmetric_difference_assign(&mut self, other: &u8) {
+        word::combine::<u8, SymmetricDifference>(self, *other);
     }
 }
 
@@ -293,6 +314,26 @@ impl BitsMut for i8 {
     #[inline]
     fn clear_bits(&mut self) {
         word::clear_bits::<i8>(self);
+    }
+
+    #[inline]
+    fn union_assign(&mut self, other: &i8) {
+        word::combine::<i8, Union>(self, *other);
+    }
+
+    #[inline]
+    fn conjunction_assign(&mut self, other: &i8) {
+        word::combine::<i8, Conjunction>(self, *other);
+    }
+
+    #[inline]
+    fn difference_assign(&mut self, other: &i8) {
+        word::combine::<i8, Difference>(self, *other);
+    }
+
+    #[inline]
+    fn symmetric_difference_assign(&mut self, other: &i8) {
+        word::combine::<i8, SymmetricDifference>(self, *other);
     }
 }
 

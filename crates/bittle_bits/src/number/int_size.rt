@@ -12,6 +12,7 @@ use crate::bits_owned::BitsOwned;
 use crate::endian::{DefaultEndian, Endian};
 use crate::hidden::{Number, Sealed};
 use crate::number::word;
+use crate::operation::{Conjunction, Difference, SymmetricDifference, Union};
 
 impl Sealed for usize {}
 
@@ -139,6 +140,26 @@ impl BitsMut for usize {
     #[inline]
     fn clear_bits(&mut self) {
         word::clear_bits::<usize>(self);
+    }
+
+    #[inline]
+    fn union_assign(&mut self, other: &usize) {
+        word::combine::<usize, Union>(self, *other);
+    }
+
+    #[inline]
+    fn conjunction_assign(&mut self, other: &usize) {
+        word::combine::<usize, Conjunction>(self, *other);
+    }
+
+    #[inline]
+    fn difference_assign(&mut self, other: &usize) {
+        word::combine::<usize, Difference>(self, *other);
+    }
+
+    #[inline]
+    fn symmetric_difference_assign(&mut self, other: &usize) {
+        word::combine::<usize, SymmetricDifference>(self, *other);
     }
 }
 
@@ -294,6 +315,26 @@ impl BitsMut for isize {
     #[inline]
     fn clear_bits(&mut self) {
         word::clear_bits::<isize>(self);
+    }
+
+    #[inline]
+    fn union_assign(&mut self, other: &isize) {
+        word::combine::<isize, Union>(self, *other);
+    }
+
+    #[inline]
+    fn conjunction_assign(&mut self, other: &isize) {
+        word::combine::<isize, Conjunction>(self, *other);
+    }
+
+    #[inline]
+    fn difference_assign(&mut self, other: &isize) {
+        word::combine::<isize, Difference>(self, *other);
+    }
+
+    #[inline]
+    fn symmetric_difference_assign(&mut self, other: &isize) {
+        word::combine::<isize, SymmetricDifference>(self, *other);
     }
 }
 

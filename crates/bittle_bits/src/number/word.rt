@@ -1,13 +1,15 @@
 //! The calls on one word, for every width at once.
 
 ghost use Rattle.std.specs.Iterator.{YieldsFirst, YieldsLast};
-ghost use Rattle.std.specs.Prelude.{◌≡◌, ◌==◌};
+ghost use Rattle.std.specs.Prelude.{◌≡◌, ◌==◌, Bool};
 ghost use Rattle.bittle_bits.specs.Digits.{digit_set};
 ghost use Rattle.bittle_bits.specs.Orders.{members};
 ghost use Rattle.bittle_bits.specs.PlainSet.{contains, with_index, without_index, empty, emptied, filled, size, ascending};
+ghost use Rattle.bittle_bits.specs.SetOperations.{combined};
 
 use crate::endian::Endian;
 use crate::hidden::Number;
+use crate::operation::Operation;
 
 #[inline]
 pub fn test_bit<T: Number, E: Endian>(word: T, index: u32) -> bool
@@ -38,6 +40,15 @@ pub fn clear_bits<T: Number>(word: &mut T)
         ≡ emptied (digit_set T.width (T.digits word.old)) }
 {
     *word = T::zero();
+}
+
+#[inline]
+pub fn combine<T: Number, O: Operation>(word: &mut T, other: T)
+    ensures { (mirrored : Bool) → members mirrored T.width (digit_set T.width (T.digits word.new))
+        ≡ combined O.decide
+        (members mirrored T.width (digit_set T.width (T.digits word.old))) (members mirrored T.width (digit_set T.width (T.digits other))) }
+{
+    *word = O::on_words::<T>(*word, other);
 }
 
 #[inline]

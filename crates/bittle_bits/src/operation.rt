@@ -1,0 +1,91 @@
+//! The four operations on two sets, so that each shape has one body for them all.
+
+ghost use Rattle.std.specs.Prelude.{◌≡◌, Bool, ◌||◌, ◌&&◌};
+ghost use Rattle.bittle_bits.specs.Digits.{digit_set};
+ghost use Rattle.bittle_bits.specs.Orders.{members};
+ghost use Rattle.bittle_bits.specs.SetOperations.{combined, first_alone, just_one};
+
+use crate::bits_mut::BitsMut;
+use crate::hidden::Number;
+
+/// An operation on two sets.
+pub trait Operation {
+    // Whether a number is a member afterwards, by whether it is one of each set.
+    ghost decide: { Bool → Bool → Bool };
+
+    /// The operation on the digits of two words.
+    fn on_words<T: Number>(word: T, other: T) -> T
+        ensures { digit_set T.width (T.digits result)
+            ≡ combined decide
+            (digit_set T.width (T.digits word)) (digit_set T.width (T.digits other)) };
+
+    /// The operation on a set, with another one.
+    fn on_sets<T: BitsMut>(set: &mut T, other: &T)
+        ensures { (mirrored : Bool) → members mirrored T.width (T.big set.new)
+            ≡ combined decide
+            (members mirrored T.width (T.big set.old)) (members mirrored T.width (T.big other.now)) };
+}
+
+pub enum Union {}
+
+pub enum Conjunction {}
+
+pub enum Difference {}
+
+pub enum SymmetricDifference {}
+
+impl Operation for Union {
+    ghost decide = { ◌||◌ };
+
+    #[inline]
+    fn on_words<T: Number>(word: T, other: T) -> T {
+        word.or(other)
+    }
+
+    #[inline]
+    fn on_sets<T: BitsMut>(set: &mut T, other: &T) {
+        set.union_assign(other);
+    }
+}
+
+impl Operation for Conjunction {
+    ghost decide = { ◌&&◌ };
+
+    #[inline]
+    fn on_words<T: Number>(word: T, other: T) -> T {
+        word.and(other)
+    }
+
+    #[inline]
+    fn on_sets<T: BitsMut>(set: &mut T, other: &T) {
+        set.conjunction_assign(other);
+    }
+}
+
+impl Operation for Difference {
+    ghost decide = { first_alone };
+
+    #[inline]
+    fn on_words<T: Number>(word: T, other: T) -> T {
+        word.and(other.not())
+    }
+
+    #[inline]
+    fn on_sets<T: BitsMut>(set: &mut T, other: &T) {
+        set.difference_assign(other);
+    }
+}
+
+impl Operation for SymmetricDifference {
+    ghost decide = { just_one };
+
+    #[inline]
+    fn on_words<T: Number>(word: T, other: T) -> T {
+        word.xor(other)
+    }
+
+    #[inline]
+    fn on_sets<T: BitsMut>(set: &mut T, other: &T) {
+        set.symmetric_difference_assign(other);
+    }
+}
