@@ -1,0 +1,5 @@
+pub mod FirstLine
+pub mod Digits
+pub mod Beginnings
+pub mod Given
+pub mod Allowed

@@ -1,0 +1,10 @@
+pub mod Numbers
+pub mod Words
+pub mod Commands
+pub mod Headers
+pub mod Texts
+pub mod Numbering
+pub mod Beginnings
+pub mod Answers
+pub mod Refusals
+pub mod Runs
