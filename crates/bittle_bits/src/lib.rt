@@ -13,4 +13,8 @@ pub mod endian;
 pub mod hidden;
 pub mod number;
 mod operation;
+#[cfg(test)]
+mod operation_tests;
+#[doc(hidden)]
+pub mod set_laws;
 mod slice;
