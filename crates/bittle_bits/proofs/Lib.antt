@@ -5,6 +5,7 @@ pub mod Ends
 pub mod PlaceLemmas
 pub mod PlainSets
 pub mod RowSets
+pub mod SetLaws
 pub mod Signed
 pub mod Sizes
 pub mod WordCalls

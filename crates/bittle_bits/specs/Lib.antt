@@ -4,5 +4,6 @@ pub mod OrderLaws
 pub mod Orders
 pub mod PlainSet
 pub mod Rows
+pub mod SetAlgebra
 pub mod SetOperations
 pub mod Shapes

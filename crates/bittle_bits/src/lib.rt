@@ -15,4 +15,8 @@ pub mod hidden;
 pub mod laws;
 pub mod number;
 mod operation;
+#[cfg(test)]
+mod operation_tests;
+#[doc(hidden)]
+pub mod set_laws;
 mod slice;

@@ -1,0 +1,113 @@
+-- The laws of the operations on sets of one capacity, from those of the tests of one number.
+use Rattle.std.proofs.Common.{◌≡◌, ℕ, ◌<◌, ◌≤◌, Bool, true, false, cond, not, ◌&&◌, ◌||◌, nat_lt, ◌⊎◌, inl, inr, refl, sym, ap, ◌∙◌}
+use Rattle.std.proofs.Math.Path.{fun_ext}
+use Rattle.std.proofs.lemmas.Bool.{cases_lt, lt-ltb, le-ltb}
+use Rattle.bittle_bits.specs.PlainSet.{PlainSet}
+use Rattle.bittle_bits.specs.SetAlgebra.{IsBelow, Commutes, Associates, IsIdempotent, DistributesOver, UndoesItself}
+use Rattle.bittle_bits.specs.SetOperations.{has_combined, combined, just_one}
+use Rattle.bittle_bits.proofs.PlainSets.{plain}
+
+-- one number of two sets of one capacity
+decided : (f : Bool → Bool → Bool) (c : ℕ) (s t : PlainSet) (k : ℕ) → s.capacity ≡ c → t.capacity ≡ c → has_combined f s t k ≡ cond (nat_lt k c) (f (s.has k) (t.has k)) (s.has k)
+unfolding has_combined
+decided f c s t k d e = rw (d, e) (ap (λ b. cond b (f (s.has k) (t.has k)) (s.has k)) (twice (nat_lt k c)))
+  where
+    twice : (b : Bool) → b && b ≡ b
+    twice true = refl
+    twice false = refl
+
+module _ (f : Bool → Bool → Bool) where
+  pub commutes : ((a b : Bool) → f a b ≡ f b a) → Commutes (combined f)
+  commutes law c s t p q = λ j. plain ((p.has_capacity ∙ sym q.has_capacity) j) (fun_ext each j)
+    where
+      each : (k : ℕ) → has_combined f s t k ≡ has_combined f t s k
+      each k =
+          decided f c s t k p.has_capacity q.has_capacity ∙
+          elim (cases_lt k c) [
+            | inl l ↦ rw (lt-ltb k c l) (law (s.has k) (t.has k))
+            | inr g ↦ rw (le-ltb k c g) (p.none_past k g ∙ sym (q.none_past k g))
+          ] ∙ sym (decided f c t s k q.has_capacity p.has_capacity)
+
+  pub associates : ((a b d : Bool) → f (f a b) d ≡ f a (f b d)) → Associates (combined f)
+  associates law c s t u p q r = ap (plain s.capacity) (fun_ext λ k.
+      decided f c (combined f s t) u k p.has_capacity r.has_capacity
+      ∙ ap (λ b. cond (nat_lt k c) (f b (u.has k)) b) (decided f c s t k p.has_capacity q.has_capacity)
+      ∙ by (nat_lt k c) (s.has k) (t.has k) (u.has k)
+      ∙ sym (decided f c s (combined f t u) k p.has_capacity q.has_capacity ∙ ap (λ b. cond (nat_lt k c) (f (s.has k) b) (s.has k)) (decided f c t u k q.has_capacity r.has_capacity)))
+    where
+      by : (b x y z : Bool) → cond b (f (cond b (f x y) x) z) (cond b (f x y) x) ≡ cond b (f x (cond b (f y z) y)) x
+      by true x y z = law x y z
+      by false x y z = refl
+
+  pub idempotent : ((a : Bool) → f a a ≡ a) → IsIdempotent (combined f)
+  idempotent law s = ap (plain s.capacity) (fun_ext λ k. decided f s.capacity s s k refl refl ∙ by (nat_lt k s.capacity) (s.has k))
+    where
+      by : (b x : Bool) → cond b (f x x) x ≡ x
+      by true x = law x
+      by false x = refl
+
+  pub undoes : ((a b : Bool) → f (f a b) b ≡ a) → UndoesItself (combined f)
+  undoes law c s t p q = ap (plain s.capacity) (fun_ext λ k.
+      decided f c (combined f s t) t k p.has_capacity q.has_capacity
+      ∙ ap (λ b. cond (nat_lt k c) (f b (t.has k)) b) (decided f c s t k p.has_capacity q.has_capacity)
+      ∙ by (nat_lt k c) (s.has k) (t.has k))
+    where
+      by : (b x y : Bool) → cond b (f (cond b (f x y) x) y) (cond b (f x y) x) ≡ x
+      by true x y = law x y
+      by false x y = refl
+
+pub distributes : (f g : Bool → Bool → Bool) → ((a b d : Bool) → f a (g b d) ≡ g (f a b) (f a d)) → DistributesOver (combined g) (combined f)
+distributes f g law c s t u p q r = ap (plain s.capacity) (fun_ext λ k.
+    decided f c s (combined g t u) k p.has_capacity q.has_capacity
+    ∙ ap (λ b. cond (nat_lt k c) (f (s.has k) b) (s.has k)) (decided g c t u k q.has_capacity r.has_capacity)
+    ∙ by (nat_lt k c) (s.has k) (t.has k) (u.has k)
+    ∙ sym (decided g c (combined f s t) (combined f s u) k p.has_capacity p.has_capacity
+    ∙ ap (λ b. cond (nat_lt k c) (g b ((combined f s u).has k)) b) (decided f c s t k p.has_capacity q.has_capacity)
+    ∙ ap (λ b. cond (nat_lt k c) (g (cond (nat_lt k c) (f (s.has k) (t.has k)) (s.has k)) b) (cond (nat_lt k c) (f (s.has k) (t.has k)) (s.has k))) (decided f c s u k p.has_capacity r.has_capacity)))
+  where
+    by : (b x y z : Bool) → cond b (f x (cond b (g y z) y)) x ≡ cond b (g (cond b (f x y) x) (cond b (f x z) x)) (cond b (f x y) x)
+    by true x y z = law x y z
+    by false x y z = refl
+
+-- the same of the test of one number
+pub or_commutes : (a b : Bool) → a || b ≡ b || a
+or_commutes true true = refl
+or_commutes true false = refl
+or_commutes false true = refl
+or_commutes false false = refl
+
+pub and_commutes : (a b : Bool) → a && b ≡ b && a
+and_commutes true true = refl
+and_commutes true false = refl
+and_commutes false true = refl
+and_commutes false false = refl
+
+pub or_associates : (a b c : Bool) → (a || b) || c ≡ a || (b || c)
+or_associates true b c = refl
+or_associates false b c = refl
+
+pub and_associates : (a b c : Bool) → (a && b) && c ≡ a && (b && c)
+and_associates true b c = refl
+and_associates false b c = refl
+
+pub or_idempotent : (a : Bool) → a || a ≡ a
+or_idempotent true = refl
+or_idempotent false = refl
+
+pub and_idempotent : (a : Bool) → a && a ≡ a
+and_idempotent true = refl
+and_idempotent false = refl
+
+pub or_over_and : (a b c : Bool) → a || (b && c) ≡ (a || b) && (a || c)
+or_over_and true b c = refl
+or_over_and false b c = refl
+
+pub and_over_or : (a b c : Bool) → a && (b || c) ≡ (a && b) || (a && c)
+and_over_or true b c = refl
+and_over_or false b c = refl
+
+pub just_one-undoes : (a b : Bool) → just_one (just_one a b) b ≡ a
+just_one-undoes true true = refl
+just_one-undoes true false = refl
+just_one-undoes false true = refl
+just_one-undoes false false = refl
