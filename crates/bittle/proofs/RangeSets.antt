@@ -78,14 +78,14 @@ module _ (s : PlainSet) (from : ℕ) where
       alike k =
           let z = nat_lt 0 s.capacity in
           same_answer (z && some_below last (reaches k)) (z && some_below end (reaches k))
-            (λ e.
-            let a = and_parts z (some_below last (reaches k)) e in
-            let f = some_below-found last (reaches k) a.1 in
-            and_from z (some_below end (reaches k)) a.0 (some_below-from end (reaches k) f.0 (omega (arith, f.1)) f.2))
-            (λ e.
-            let a = and_parts z (some_below end (reaches k)) e in
-            let f = some_below-found end (reaches k) a.1 in
-            and_from z (some_below last (reaches k)) a.0 (sooner k f.0 (ltb-true 0 s.capacity a.0) f.2))
+          (λ e.
+          let a = and_parts z (some_below last (reaches k)) e in
+          let f = some_below-found last (reaches k) a.1 in
+          and_from z (some_below end (reaches k)) a.0 (some_below-from end (reaches k) f.0 (omega (arith, f.1)) f.2))
+          (λ e.
+          let a = and_parts z (some_below end (reaches k)) e in
+          let f = some_below-found end (reaches k) a.1 in
+          and_from z (some_below last (reaches k)) a.0 (sooner k f.0 (ltb-true 0 s.capacity a.0) f.2))
 
   -- one more change
   pub range_step : (past : ℕ) (now next : PlainSet) → now ≡ with_range s from (from + past) → next ≡ with_index now (from + past) → next ≡ with_range s from (from + (past + 1))

@@ -1,1 +1,89 @@
-//! The macros at the values of tables.
+ghost use Rattle.std.specs.Prelude.{IsTrue};
+
+use crate::prelude::*;
+use crate::{set, set_be, set_le};
+use std::process::Abort;
+
+#[test]
+fn words_of_lists(rt: HostRuntime) {
+    let index = 4;
+    let lists: [(&str, u8, u8); 17] = [
+        ("no items", set![], 0),
+        ("indexes", set![0, 1, 3], 0b0000_1011),
+        (
+            "indexes in little-endian order",
+            set_le![0, 1, 3],
+            0b1101_0000,
+        ),
+        ("indexes in big-endian order", set_be![0, 1, 3], 0b0000_1011),
+        ("an expression", set![index / 2, index + 1], 0b0010_0100),
+        ("ranges", set![0..=4, 6..], 0b1101_1111),
+        (
+            "ranges in little-endian order",
+            set_le![0..=4, 6..],
+            0b1111_1011,
+        ),
+        (
+            "ranges in big-endian order",
+            set_be![0..=4, 6..],
+            0b1101_1111,
+        ),
+        (
+            "a wrapped index, a reversed range and a comma at the end",
+            set![9, 5..2, 7,],
+            0b1000_0010,
+        ),
+        ("reversed ranges", set_le![5..=4, 255..=0, 3..3], 0),
+        ("one index as a range", set![3..=3], 0b0000_1000),
+        ("each index", set![0..=4294967295], 255),
+        ("each index but the last", set![0..4294967295], 255),
+        (
+            "the last indexes",
+            set![4294967290..=4294967295],
+            0b1111_1100,
+        ),
+        ("from past the capacity", set![9..], 0),
+        ("across the capacity", set![6..10], 195),
+        (
+            "across the capacity in little-endian order",
+            set_le![6..10],
+            195,
+        ),
+    ];
+    for (list, word, want) in lists {
+        assert_eq!(rt; word, want, "{list}");
+    }
+}
+
+#[test]
+fn other_types(rt: HostRuntime) {
+    let signed: i8 = set_le![0];
+    assert_eq!(rt; signed, i8::MIN);
+    let words: [u16; 2] = set![31, 7];
+    assert_eq!(rt; words, [128, 32768]);
+    let mirrored: [u8; 2] = set_le![7, 11];
+    assert_eq!(rt; mirrored, [1, 16]);
+    let bytes: [u8; 2] = set![4, 11, 14];
+    assert_eq!(rt; (bytes.count_ones(), bytes.count_zeros()), (3, 13));
+}
+
+fn has_no_capacity<B: BitsOwned>(rt: &impl Abort, bits: B)
+    requires { IsTrue B.indexable }
+{
+    assert_eq!(rt; (bits.count_ones(), bits.count_zeros()), (0, 0));
+    assert!(rt; bits.all_zeros() && bits.all_ones());
+}
+
+fn lists_nothing<B: BitsOwned>(rt: &impl Abort)
+    requires { IsTrue B.indexable }
+{
+    has_no_capacity::<B>(rt, set![0, 7, 100, 0..10, 0..=10, 0..]);
+    has_no_capacity::<B>(rt, set_le![0, 7, 100, 0..10, 0..=10, 0..]);
+    has_no_capacity::<B>(rt, set_be![0, 7, 100, 0..10, 0..=10, 0..]);
+}
+
+#[test]
+fn without_capacity(rt: HostRuntime) {
+    lists_nothing::<[u8; 0]>(&rt);
+    lists_nothing::<[[u8; 0]; 4]>(&rt);
+}

@@ -1,28 +1,31 @@
-//! A use of each macro with an index, all three kinds of range and a reversed one: an edit of a macro is refused here.
+//! A use of each macro, with an index and each kind of range, on any type: the check refuses a macro that lists otherwise.
 
-ghost use Rattle.std.specs.Prelude.{◌≡◌, ◌+◌, true, false};
-ghost use Rattle.bittle_bits.specs.Digits.{digit_set};
+ghost use Rattle.std.specs.Prelude.{◌≡◌, IsTrue};
 ghost use Rattle.bittle_bits.specs.Orders.{members};
-ghost use Rattle.bittle_bits.specs.PlainSet.{empty, with_index};
-ghost use Rattle.bittle.specs.Ranges.{with_range};
+ghost use Rattle.bittle.specs.Listed.{listed_set};
 
-fn listed(index: u32) -> u16
-    ensures { members false 16 (digit_set 16 result)
-        ≡ with_range (with_range (with_range (with_range (with_index (empty 16) index) 2 (3 + 1)) 5 7) 9 4) 14 16 }
+use bittle_bits::bits_owned::BitsOwned;
+use bittle_bits::endian::{BigEndian, Endian, LittleEndian};
+
+fn listed<B: BitsOwned>(index: u32) -> B
+    requires { IsTrue B.indexable }
+    ensures { members B.Order.mirrored B.width (B.big result) ≡ listed_set B.type_capacity index }
 {
     crate::set![index, 2..=3, 5..7, 9..4, 14..]
 }
 
-fn listed_le(index: u32) -> u16
-    ensures { members true 16 (digit_set 16 result)
-        ≡ with_range (with_range (with_range (with_range (with_index (empty 16) index) 2 (3 + 1)) 5 7) 9 4) 14 16 }
+fn listed_le<B: BitsOwned>(index: u32) -> B
+    requires { IsTrue B.indexable }
+    ensures { members ⟦<LittleEndian as Endian>⟧.mirrored B.width (B.big result)
+        ≡ listed_set B.type_capacity index }
 {
     crate::set_le![index, 2..=3, 5..7, 9..4, 14..]
 }
 
-fn listed_be(index: u32) -> u16
-    ensures { members false 16 (digit_set 16 result)
-        ≡ with_range (with_range (with_range (with_range (with_index (empty 16) index) 2 (3 + 1)) 5 7) 9 4) 14 16 }
+fn listed_be<B: BitsOwned>(index: u32) -> B
+    requires { IsTrue B.indexable }
+    ensures { members ⟦<BigEndian as Endian>⟧.mirrored B.width (B.big result)
+        ≡ listed_set B.type_capacity index }
 {
     crate::set_be![index, 2..=3, 5..7, 9..4, 14..]
 }
