@@ -7,3 +7,6 @@ pub use bittle_bits::bits::Bits;
 pub use bittle_bits::bits_mut::BitsMut;
 pub use bittle_bits::bits_owned::BitsOwned;
 pub use bittle_bits::endian::{BigEndian, DefaultEndian, Endian, LittleEndian};
+
+#[cfg(test)]
+mod tests;

@@ -15,3 +15,5 @@ pub mod hidden;
 pub mod laws;
 pub mod number;
 mod slice;
+#[cfg(test)]
+mod tests;
