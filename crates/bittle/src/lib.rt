@@ -5,6 +5,8 @@
 pub mod macros;
 pub mod prelude;
 pub mod replay;
+#[cfg(test)]
+mod tests;
 
 pub use bittle_bits::bits::Bits;
 pub use bittle_bits::bits_mut::BitsMut;

@@ -20,3 +20,5 @@ mod operation_tests;
 #[doc(hidden)]
 pub mod set_laws;
 mod slice;
+#[cfg(test)]
+mod tests;

@@ -7,6 +7,6 @@ mod int64;
 mod int8;
 mod int_size;
 mod walk;
-mod word;
+pub(crate) mod word;
 
 pub use walk::{IterOnes, IterZeros};

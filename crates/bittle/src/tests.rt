@@ -1,0 +1,4 @@
+//! Worked values, from outside the crate.
+
+mod runs;
+mod shapes;

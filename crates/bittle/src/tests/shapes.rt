@@ -1,0 +1,87 @@
+//! One list of calls on shapes of every nesting, and on slices of the caller.
+
+ghost use Rattle.bittle_bits.specs.Shapes.{Fits};
+
+use crate::replay::{Call, Reply, replay};
+use crate::{BigEndian, BitsMut, Endian, LittleEndian};
+use std::process::Abort;
+
+#[test]
+fn nested_arrays(rt: HostRuntime) {
+    let mut bytes = [[0u8; 2]; 2];
+    put_and_ask::<[[u8; 2]; 2], BigEndian>(&rt, &mut bytes, 49, 32);
+    assert!(rt; bytes == [[0, 0], [2, 0]]);
+    bytes = [[0; 2]; 2];
+    put_and_ask::<[[u8; 2]; 2], LittleEndian>(&rt, &mut bytes, 17, 32);
+    assert!(rt; bytes == [[0, 0], [64, 0]]);
+
+    // The same calls on another shape of the same capacity.
+    let mut word = 0i32;
+    put_and_ask::<i32, BigEndian>(&rt, &mut word, 49, 32);
+    assert_eq!(rt; word, 131_072);
+
+    let mut words = [[[0u16; 3]; 2]; 2];
+    put_and_ask::<[[[u16; 3]; 2]; 2], BigEndian>(&rt, &mut words, 100, 192);
+    assert!(rt; words == [[[0, 0, 0], [0, 0, 0]], [[16, 0, 0], [0, 0, 0]]]);
+    words = [[[0; 3]; 2]; 2];
+    put_and_ask::<[[[u16; 3]; 2]; 2], LittleEndian>(&rt, &mut words, 292, 192);
+    assert!(rt; words == [[[0, 0, 0], [0, 0, 0]], [[2048, 0, 0], [0, 0, 0]]]);
+}
+
+#[test]
+fn slices(rt: HostRuntime) {
+    let mut words = [0i64; 5];
+    let mut all = &mut words[..];
+    put_and_ask::<&mut [i64], LittleEndian>(&rt, &mut all, 320 + 64, 320);
+    let mut one = &mut words[..1];
+    put_and_ask::<&mut [i64], BigEndian>(&rt, &mut one, 67, 64);
+    assert!(rt; words == [8, i64::MIN, 0, 0, 0]);
+
+    let mut pairs = [[0u8; 2]; 3];
+    let mut slice = &mut pairs[..];
+    put_and_ask::<&mut [[u8; 2]], LittleEndian>(&rt, &mut slice, 40, 48);
+    assert!(rt; pairs == [[0, 0], [0, 0], [0, 128]]);
+    let mut slice = &mut pairs[..2];
+    put_and_ask::<&mut [[u8; 2]], BigEndian>(&rt, &mut slice, 40, 32);
+    assert!(rt; pairs == [[0, 1], [0, 0], [0, 128]]);
+
+    let mut none = &mut words[..0];
+    let mut replies = [Reply::Done; 5];
+    let calls = [
+        Call::Put(3),
+        Call::Test(3),
+        Call::CountZeros,
+        Call::AllOnes,
+        Call::Capacity,
+    ];
+    replay::<&mut [i64], BigEndian>(&mut none, &calls, &mut replies);
+    let expected = [
+        Reply::Done,
+        Reply::Bit(false),
+        Reply::Number(0),
+        Reply::Bit(true),
+        Reply::Number(0),
+    ];
+    assert!(rt; replies == expected);
+}
+
+// Puts an index into an empty set: it is tested, counted, and alone among as many numbers as the capacity.
+fn put_and_ask<B: BitsMut, E: Endian>(rt: &impl Abort, bits: &mut B, index: u32, capacity: u32)
+    requires { Fits B.indexable (B.big bits.old).capacity }
+{
+    let calls = [
+        Call::Put(index),
+        Call::Test(index),
+        Call::CountOnes,
+        Call::Capacity,
+    ];
+    let mut replies = [Reply::Done; 4];
+    replay::<B, E>(bits, &calls, &mut replies);
+    let expected = [
+        Reply::Done,
+        Reply::Bit(true),
+        Reply::Number(1),
+        Reply::Number(capacity),
+    ];
+    assert!(rt; replies == expected);
+}

@@ -1,0 +1,5 @@
+//! Worked values, from outside the crate.
+
+mod shapes;
+mod values;
+mod words;

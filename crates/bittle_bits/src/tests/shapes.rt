@@ -1,0 +1,40 @@
+//! Arrays and slices.
+
+use crate::bits::Bits;
+use crate::bits_mut::BitsMut;
+use crate::bits_owned::BitsOwned;
+
+#[test]
+fn indexes_wrap(rt: HostRuntime) {
+    let mut bytes = [0u8; 3];
+    bytes.set_bit(u32::MAX);
+    assert!(rt; bytes == [0, 128, 0]);
+
+    let mut bytes = [0u8; 3];
+    bytes.set_bit_le(u32::MAX);
+    assert!(rt; bytes == [0, 1, 0]);
+
+    let mut bytes = [0u8; 2];
+    bytes.set_bit_le(8);
+    assert!(rt; bytes == [0, 128]);
+
+    let mut words = [0u32; 4];
+    let mut slice = words.as_mut_slice();
+    for index in [32, 65, 96, 97] {
+        slice.set_bit(index);
+    }
+    assert!(rt; words == [0, 1, 2, 3]);
+}
+
+#[test]
+fn capacities(rt: HostRuntime) {
+    assert_eq!(rt; <[u8; 536_870_911]>::bits(), 4_294_967_288);
+    assert_eq!(rt; <[u8; 536_870_912]>::bits(), u32::MAX);
+    assert_eq!(rt; <[[u8; 536_870_912]; 0]>::bits(), u32::MAX);
+    assert_eq!(rt; <[[[u8; 536_870_912]; 0]; 3]>::bits(), u32::MAX);
+    assert_eq!(rt; <[u8; 4_294_967_297]>::bits(), u32::MAX);
+    assert_eq!(rt; <[[u8; 0]; 5_000_000_000]>::bits(), 0);
+    let none: &[[u8; 536_870_912]] = &[];
+    assert_eq!(rt; none.bits_capacity(), u32::MAX);
+    assert_eq!(rt; [[0u8; 2]; 3].bits_capacity(), 48);
+}

@@ -1,0 +1,102 @@
+//! Each call over every value of the words of 8 digits, against plain arithmetic.
+
+ghost use Rattle.std.specs.Prelude.{◌<◌, IsTrue};
+
+use crate::bits::Bits;
+use crate::bits_mut::BitsMut;
+use crate::bits_owned::BitsOwned;
+use crate::endian::{BigEndian, Endian, LittleEndian};
+use crate::hidden::Number;
+use crate::number::{IterOnes, IterZeros};
+use std::process::Abort;
+
+// How many ones the numbers from 0 to 15 have.
+const ONES_OF_HALF: [u8; 16] = [0, 1, 1, 2, 1, 2, 2, 3, 1, 2, 2, 3, 2, 3, 3, 4];
+
+#[test]
+fn every_byte(rt: HostRuntime) {
+    for byte in 0..=u8::MAX {
+        let signed = byte.cast_signed();
+        let high = ONES_OF_HALF[(byte / 16) as usize];
+        let low = ONES_OF_HALF[(byte % 16) as usize];
+        let count = u32::from(high) + u32::from(low);
+        assert!(rt; Bits::count_ones(&byte) == count && Bits::count_ones(&signed) == count);
+        assert!(rt;
+            Bits::count_zeros(&byte) == 8u32.wrapping_sub(count)
+                && Bits::count_zeros(&signed) == 8u32.wrapping_sub(count)
+        );
+        assert!(rt; byte.all_zeros() == (byte == 0) && signed.all_zeros() == (byte == 0));
+        assert!(rt; byte.all_ones() == (byte == 255) && signed.all_ones() == (byte == 255));
+        walks::<u8, BigEndian>(&rt, byte, byte);
+        walks::<i8, BigEndian>(&rt, signed, byte);
+        walks::<u8, LittleEndian>(&rt, byte, byte.reverse_bits());
+        walks::<i8, LittleEndian>(&rt, signed, byte.reverse_bits());
+        for index in 0..8 {
+            let weight = 1u8 << index;
+            let digit = byte / weight % 2 == 1;
+            let with = if digit {
+                byte
+            } else {
+                byte.wrapping_add(weight)
+            };
+            let without = if digit {
+                byte.wrapping_sub(weight)
+            } else {
+                byte
+            };
+            let signed_two = (with.cast_signed(), without.cast_signed());
+            at_index::<u8, BigEndian>(&rt, byte, index, digit, (with, without));
+            at_index::<i8, BigEndian>(&rt, signed, index, digit, signed_two);
+            at_index::<u8, LittleEndian>(&rt, byte, 7 - index, digit, (with, without));
+            at_index::<i8, LittleEndian>(&rt, signed, 7 - index, digit, signed_two);
+        }
+    }
+}
+
+// The calls on one index, and on one that wraps to it.
+fn at_index<T: BitsOwned, E: Endian>(
+    rt: &impl Abort,
+    word: T,
+    index: u32,
+    digit: bool,
+    changed: (T, T),
+)
+    requires indexable { IsTrue T.indexable }
+    requires within { index < 8 }
+{
+    assert!(rt; word.test_bit_in::<E>(index) == digit && word.test_bit_in::<E>(index + 8) == digit);
+    let mut with = word;
+    with.set_bit_in::<E>(index);
+    assert!(rt; with == changed.0);
+    let mut without = word;
+    without.clear_bit_in::<E>(index + 16);
+    assert!(rt; without == changed.1);
+}
+
+// The walks and the searches of a word whose members in the order are the ones of the byte.
+fn walks<T: Number, E: Endian>(rt: &impl Abort, word: T, members: u8) {
+    let (least, below_greatest) = (members.trailing_zeros(), members.leading_zeros());
+    assert!(rt; E::zeros(word) == least && E::zeros_rev(word) == below_greatest);
+    let (least, below_greatest) = (members.trailing_ones(), members.leading_ones());
+    assert!(rt; E::ones(word) == least && E::ones_rev(word) == below_greatest);
+
+    let (mut ones, mut zeros) = (IterOnes::<T, E>::new(word), IterZeros::<T, E>::new(word));
+    for index in 0..8 {
+        if (members >> index) % 2 == 1 {
+            assert!(rt; ones.next() == Some(index));
+        } else {
+            assert!(rt; zeros.next() == Some(index));
+        }
+    }
+    assert!(rt; ones.next().is_none() && zeros.next().is_none());
+
+    let (mut ones, mut zeros) = (IterOnes::<T, E>::new(word), IterZeros::<T, E>::new(word));
+    for index in (0..8).rev() {
+        if (members >> index) % 2 == 1 {
+            assert!(rt; ones.next_back() == Some(index));
+        } else {
+            assert!(rt; zeros.next_back() == Some(index));
+        }
+    }
+    assert!(rt; ones.next_back().is_none() && zeros.next_back().is_none());
+}

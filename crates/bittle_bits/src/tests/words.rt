@@ -1,0 +1,153 @@
+//! Words of all widths, at their borders.
+
+ghost use Rattle.std.specs.Prelude.{◌<◌};
+
+use crate::bits::Bits;
+use crate::bits_mut::BitsMut;
+use crate::endian::{BigEndian, Endian, LittleEndian};
+use crate::hidden::Number;
+use crate::number::{IterOnes, IterZeros, word};
+use std::process::Abort;
+
+#[test]
+fn single_calls(rt: HostRuntime) {
+    let mut byte = 0u8;
+    byte.set_bit_in::<LittleEndian>(0);
+    assert_eq!(rt; byte, 128);
+
+    let mut signed = 0i8;
+    signed.set_bit_le(0);
+    assert_eq!(rt; signed, i8::MIN);
+    assert!(rt; !signed.test_bit_le(1));
+
+    let mut word = 0u32;
+    word.set_bit(0);
+    assert!(rt; word.test_bit(32));
+
+    assert_eq!(rt; Bits::count_ones(&-1i16), 16);
+    assert_eq!(rt; Bits::count_zeros(&-2i8), 1);
+}
+
+#[test]
+fn searches_of_one_word(rt: HostRuntime) {
+    assert_eq!(rt; LittleEndian::mask::<u8>(9), 0x40);
+    assert_eq!(rt; LittleEndian::mask::<i16>(0), -32768);
+    assert_eq!(rt; BigEndian::zeros_rev(0x10u8), 3);
+    assert_eq!(rt; LittleEndian::zeros_rev(0x10u8), 4);
+    assert_eq!(rt; BigEndian::zeros(0u8), 8);
+}
+
+#[test]
+fn steps_of_walks(rt: HostRuntime) {
+    let mut members = IterOnes::<i8, LittleEndian>::new(-2);
+    assert_eq!(rt; members.len(), 7);
+    assert_eq!(rt; members.next_back(), Some(6));
+    assert_eq!(rt; members.next(), Some(0));
+    assert_eq!(rt; members.len(), 5);
+
+    let mut none = IterZeros::<i16, BigEndian>::new(-1);
+    assert_eq!(rt; none.next(), None);
+    assert_eq!(rt; none.next_back(), None);
+    assert_eq!(rt; none.size_hint(), (0, Some(0)));
+
+    let mut members = IterOnes::<u8, LittleEndian>::new(0xD0);
+    assert_eq!(rt; members.len(), 3);
+    assert_eq!(rt; members.next_back(), Some(3));
+    assert_eq!(rt; members.size_hint(), (2, Some(2)));
+
+    assert_eq!(rt; IterZeros::<u8, BigEndian>::new(17).len(), 6);
+}
+
+#[test]
+fn clones_go_on_from_their_source(rt: HostRuntime) {
+    let mut source = IterOnes::<u16, BigEndian>::new(0x8421);
+    source.next();
+    let mut clone = source.clone().unwrap();
+    assert_eq!(rt; source.next_back(), Some(15));
+    assert_eq!(rt; source.len(), 2);
+    assert_eq!(rt; clone.next(), Some(5));
+    assert_eq!(rt; clone.next_back(), Some(15));
+
+    let mut source = IterZeros::<u16, LittleEndian>::new(0xFFF0);
+    source.next();
+    assert!(rt; source.clone().unwrap().eq([13, 14, 15]));
+}
+
+#[test]
+fn signed_words_from_the_back(rt: HostRuntime) {
+    assert!(rt;
+        IterOnes::<i8, LittleEndian>::new(-2)
+            .rev()
+            .eq([6, 5, 4, 3, 2, 1, 0])
+    );
+    assert!(rt; IterOnes::<i16, LittleEndian>::new(-32767).rev().eq([15, 0]));
+    assert!(rt; IterZeros::<i32, LittleEndian>::new(-4).rev().eq([31, 30]));
+    assert!(rt;
+        IterOnes::<i64, LittleEndian>::new(i64::MIN + 3)
+            .rev()
+            .eq([63, 62, 0])
+    );
+    assert!(rt; IterOnes::<i128, LittleEndian>::new(5).rev().eq([127, 125]));
+    assert!(rt;
+        IterZeros::<isize, LittleEndian>::new(isize::MAX)
+            .rev()
+            .eq([0])
+    );
+}
+
+#[test]
+fn every_type_at_its_borders(rt: HostRuntime) {
+    at_borders(&rt, 8, 0u8, u8::MAX, 0x80, 1);
+    at_borders(&rt, 8, 0i8, -1, i8::MIN, 1);
+    at_borders(&rt, 16, 0u16, u16::MAX, 0x8000, 1);
+    at_borders(&rt, 16, 0i16, -1, i16::MIN, 1);
+    at_borders(&rt, 32, 0u32, u32::MAX, 0x8000_0000, 1);
+    at_borders(&rt, 32, 0i32, -1, i32::MIN, 1);
+    at_borders(&rt, 64, 0u64, u64::MAX, 0x8000_0000_0000_0000, 1);
+    at_borders(&rt, 64, 0i64, -1, i64::MIN, 1);
+    at_borders(
+        &rt,
+        128,
+        0u128,
+        u128::MAX,
+        0x8000_0000_0000_0000_0000_0000_0000_0000,
+        1,
+    );
+    at_borders(&rt, 128, 0i128, -1, i128::MIN, 1);
+    at_borders(&rt, 64, 0usize, usize::MAX, 0x8000_0000_0000_0000, 1);
+    at_borders(&rt, 64, 0isize, -1, isize::MIN, 1);
+}
+
+// The word without a digit, with all, with its greatest alone, which is the least signed value, and with its least alone.
+fn at_borders<T: Number>(rt: &impl Abort, width: u32, none: T, all: T, top: T, least: T)
+    requires { 0 < width }
+{
+    assert!(rt; word::count_ones(none) == 0 && word::count_ones(all) == width);
+    assert!(rt;
+        word::all_zeros(none)
+            && !word::all_ones(none)
+            && word::all_ones(all)
+            && !word::all_zeros(all)
+    );
+    walks_alone::<T, BigEndian>(rt, all, 0, width);
+    walks_alone::<T, LittleEndian>(rt, all, 0, width);
+    walks_alone::<T, BigEndian>(rt, none, 0, 0);
+    walks_alone::<T, BigEndian>(rt, top, width - 1, width);
+    walks_alone::<T, LittleEndian>(rt, top, 0, 1);
+    walks_alone::<T, BigEndian>(rt, least, 0, 1);
+    walks_alone::<T, LittleEndian>(rt, least, width - 1, width);
+}
+
+// The members are the indexes from one on and below another: from the front, and from the back of what the other word
+// lacks.
+fn walks_alone<T: Number, E: Endian>(rt: &impl Abort, word: T, from: u32, to: u32) {
+    let mut ones = IterOnes::<T, E>::new(word);
+    let mut zeros = IterZeros::<T, E>::new(word.not());
+    for index in from..to {
+        assert!(rt; ones.next() == Some(index));
+    }
+    for index in (from..to).rev() {
+        assert!(rt; zeros.next_back() == Some(index));
+    }
+    assert!(rt; ones.next().is_none() && zeros.next_back().is_none());
+}

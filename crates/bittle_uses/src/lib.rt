@@ -1,0 +1,4 @@
+//! What callers of `bittle` can say and prove of their own values, from the library's contracts alone.
+#![tactic(auto)]
+
+pub mod slices;

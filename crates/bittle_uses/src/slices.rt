@@ -1,0 +1,52 @@
+//! Runs on a slice of the caller, which holds all changes when the borrow ends.
+
+ghost use Rattle.std.specs.Prelude.{◌≡◌, ◌*◌, ◌<◌, length, true, false};
+ghost use Rattle.bittle.specs.Digits.{digit_set};
+ghost use Rattle.bittle.specs.Machine.{replies_of, final_set};
+ghost use Rattle.bittle.specs.Orders.{members};
+ghost use Rattle.bittle.specs.Rows.{elements_set};
+ghost use Rattle.bittle.specs.Shapes.{Fits};
+
+use bittle::replay::{Call, Reply, replay};
+use bittle::{BigEndian, BitsOwned, Endian, LittleEndian};
+
+/// Makes the calls on the caller's slice in the order `E`, and writes a reply to each.
+pub fn replay_on_slice<T: BitsOwned, E: Endian>(
+    elements: &mut [T],
+    calls: &[Call],
+    replies: &mut [Reply],
+)
+    requires fits { Fits T.indexable (length elements.old * T.type_capacity) }
+    requires room { length replies.old ≡ length calls.now }
+    ensures replies { replies.new ≡ replies_of (members E.mirrored T.width
+        (elements_set (length elements.old) T.type_capacity T.big elements.old)) calls.now }
+    ensures set { members E.mirrored T.width
+        (elements_set (length elements.new) T.type_capacity T.big elements.new)
+        ≡ final_set (members E.mirrored T.width
+        (elements_set (length elements.old) T.type_capacity T.big elements.old)) calls.now }
+{
+    let mut held = (elements,);
+    let lent = &mut held;
+    replay::<&mut [T], E>(&mut lent.0, calls, replies);
+}
+
+/// Words of 16 digits, read with the digit of greatest weight first.
+pub fn replay_on_words(words: &mut [u16], calls: &[Call], replies: &mut [Reply])
+    requires fits { length words.old * 16 < 4294967295 }
+    requires room { length replies.old ≡ length calls.now }
+    ensures { members true 16 (elements_set (length words.new) 16 (digit_set 16) words.new)
+        ≡ final_set (members true 16 (elements_set (length words.old) 16 (digit_set 16) words.old)) calls.now }
+{
+    replay_on_slice::<u16, LittleEndian>(words, calls, replies);
+}
+
+/// Pairs of bytes, read with the digit of least weight first.
+pub fn replay_on_pairs(pairs: &mut [[u8; 2]], calls: &[Call], replies: &mut [Reply])
+    requires fits { length pairs.old * 16 < 4294967295 }
+    requires room { length replies.old ≡ length calls.now }
+    ensures { members false 8 (elements_set (length pairs.new) 16 (elements_set 2 8 (digit_set 8)) pairs.new)
+        ≡ final_set
+        (members false 8 (elements_set (length pairs.old) 16 (elements_set 2 8 (digit_set 8)) pairs.old)) calls.now }
+{
+    replay_on_slice::<[u8; 2], BigEndian>(pairs, calls, replies);
+}
