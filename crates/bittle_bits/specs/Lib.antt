@@ -1,6 +1,11 @@
+pub mod Copies
 pub mod Digits
 pub mod Laws
 pub mod Orders
 pub mod PlainSet
 pub mod Rows
 pub mod Shapes
+pub mod Standing
+pub mod Tally
+pub mod Walk
+pub mod Words

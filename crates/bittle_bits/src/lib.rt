@@ -7,9 +7,15 @@ mod array;
 pub mod bits;
 pub mod bits_mut;
 pub mod bits_owned;
+#[cfg(test)]
+mod callers;
+mod count;
 mod elements;
 pub mod endian;
 #[doc(hidden)]
 pub mod hidden;
+mod look;
 pub mod number;
 mod slice;
+mod standing;
+pub mod walk;
