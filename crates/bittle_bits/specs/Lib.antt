@@ -1,3 +1,4 @@
+pub mod Copies
 pub mod Digits
 pub mod Laws
 pub mod OrderLaws
@@ -7,3 +8,7 @@ pub mod Rows
 pub mod SetAlgebra
 pub mod SetOperations
 pub mod Shapes
+pub mod Standing
+pub mod Tally
+pub mod Walk
+pub mod Words

@@ -7,12 +7,16 @@ mod array;
 pub mod bits;
 pub mod bits_mut;
 pub mod bits_owned;
+#[cfg(test)]
+mod callers;
+mod count;
 mod elements;
 pub mod endian;
 #[doc(hidden)]
 pub mod hidden;
 #[doc(hidden)]
 pub mod laws;
+mod look;
 pub mod number;
 mod operation;
 #[cfg(test)]
@@ -20,5 +24,7 @@ mod operation_tests;
 #[doc(hidden)]
 pub mod set_laws;
 mod slice;
+mod standing;
 #[cfg(test)]
 mod tests;
+pub mod walk;

@@ -1,11 +1,12 @@
 //! The calls on one word, for every width at once.
 
 ghost use Rattle.std.specs.Iterator.{YieldsFirst, YieldsLast};
-ghost use Rattle.std.specs.Prelude.{◌≡◌, ◌==◌, Bool};
+ghost use Rattle.std.specs.Prelude.{◌≡◌, ◌==◌, Bool, ◌*◌, ◌<◌};
 ghost use Rattle.bittle_bits.specs.Digits.{digit_set};
 ghost use Rattle.bittle_bits.specs.Orders.{members};
 ghost use Rattle.bittle_bits.specs.PlainSet.{contains, with_index, without_index, empty, emptied, filled, size, ascending};
 ghost use Rattle.bittle_bits.specs.SetOperations.{combined};
+ghost use Rattle.bittle_bits.specs.Words.{word_of};
 
 use crate::endian::Endian;
 use crate::hidden::Number;
@@ -115,4 +116,14 @@ pub fn take_last<T: Number, E: Endian>(word: &mut T) -> Option<u32>
     let index = T::width() - 1 - below_last;
     clear_bit::<T, E>(word, index);
     Some(index)
+}
+
+/// Word `k` of a word, which is its only one.
+#[inline]
+pub fn leaf_word<T: Number>(word: T, k: u32) -> T
+    requires { k * T.width < T.width }
+    ensures { digit_set T.width (T.digits result) ≡ word_of T.width (digit_set T.width (T.digits word)) k }
+{
+    let _ = k;
+    word
 }
