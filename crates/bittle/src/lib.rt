@@ -13,3 +13,4 @@ pub use bittle_bits::bits_mut::BitsMut;
 pub use bittle_bits::bits_owned::BitsOwned;
 pub use bittle_bits::endian::{BigEndian, DefaultEndian, Endian, LittleEndian};
 pub use bittle_bits::number;
+pub use bittle_bits::walk;

@@ -5,6 +5,7 @@ use Rattle.std.proofs.lemmas.Bool.{eq-eqb, ne_eqb}
 use Rattle.std.proofs.lemmas.List.{append-nil}
 use Rattle.bittle_bits.specs.PlainSet.{PlainSet, without_index, has_without, count_below, size, ascending_from, ascending, IsLeastMember, IsGreatestMember}
 use Rattle.bittle_bits.proofs.PlainSets.{has_without-in}
+use Rattle.bittle_bits.proofs.Sizes.{size-le}
 
 ascending-yes : (p : ℕ → Bool) (from n : ℕ) → p from ≡ true → ascending_from p from (suc n) ≡ from ∷ ascending_from p (suc from) n
 unfolding ascending_from
@@ -61,6 +62,10 @@ ascending_from-length p (suc n) =
 -- as many items as members
 pub ascending-length : (s : PlainSet) → length (ascending s) ≡ size s
 ascending-length s = ascending_from-length s.has s.capacity
+
+-- no more items than the capacity
+pub ascending-few : (s : PlainSet) → length (ascending s) ≤ s.capacity
+ascending-few s = omega (arith, ascending-length s, size-le s)
 
 -- no items where there are no members
 pub ascending-none : (s : PlainSet) → ((k : ℕ) → k < s.capacity → s.has k ≡ false) → ascending s ≡ []

@@ -105,6 +105,7 @@ impl Endian for LittleEndian {
 
     #[inline]
     fn zeros_rev<T: Number>(value: T) -> u32 {
+        // The last index is the digit of least weight.
         value.trailing_zeros()
     }
 

@@ -2,3 +2,4 @@
 #![tactic(auto)]
 
 pub mod slices;
+pub mod words;

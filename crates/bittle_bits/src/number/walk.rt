@@ -2,7 +2,7 @@
 
 ghost use Rattle.std.specs.Iterator.SizeHint.{IsWithinCount};
 ghost use Rattle.std.specs.Iterator.{UpTo, YieldsFirst, YieldsLast, item_count};
-ghost use Rattle.std.specs.Prelude.{◌≡◌, length, IfSome, ⊤, Some};
+ghost use Rattle.std.specs.Prelude.{◌≡◌, ◌≤◌, length, IfSome, ⊤, Some};
 ghost use Rattle.bittle_bits.specs.Digits.{digit_set};
 ghost use Rattle.bittle_bits.specs.Orders.{members};
 ghost use Rattle.bittle_bits.specs.PlainSet.{ascending, complement};
@@ -36,7 +36,8 @@ impl<T: Number, E: Endian> IterOnes<T, E> {
     /// A walk over the members of the word.
     #[inline]
     pub fn new(word: T) -> IterOnes<T, E>
-        ensures { result ≡ ascending (members E.mirrored T.width (digit_set T.width (T.digits word))) }
+        ensures items { result ≡ ascending (members E.mirrored T.width (digit_set T.width (T.digits word))) }
+        ensures few { length result ≤ T.width }
     {
         IterOnes {
             left: word,
@@ -119,7 +120,8 @@ impl<T: Number, E: Endian> IterZeros<T, E> {
     /// A walk over the indexes below the width that are no members of the word.
     #[inline]
     pub fn new(word: T) -> IterZeros<T, E>
-        ensures { result ≡ ascending (complement (members E.mirrored T.width (digit_set T.width (T.digits word)))) }
+        ensures items { result ≡ ascending (complement (members E.mirrored T.width (digit_set T.width (T.digits word)))) }
+        ensures few { length result ≤ T.width }
     {
         IterZeros {
             others: IterOnes::new(word.not()),

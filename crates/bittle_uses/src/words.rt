@@ -1,0 +1,58 @@
+//! Walks over one word, in a loop, in chains and from the back.
+
+ghost use Rattle.std.specs.Int.{w8, cast_unsigned};
+ghost use Rattle.std.specs.Prelude.{◌≡◌, ◌/◌, length, map, count_by, ◌<◌, nat_lt, true, false, IfSome, MatchOption, [], ◌∷◌, ◌++◌, ℕ, List};
+ghost use Rattle.bittle.specs.Digits.{digit_set};
+ghost use Rattle.bittle.specs.Orders.{members};
+ghost use Rattle.bittle.specs.PlainSet.{ascending, complement};
+
+use bittle::number::{IterOnes, IterZeros};
+use bittle::{BigEndian, LittleEndian};
+
+/// How many members a word of 32 digits has.
+pub fn how_many(word: u32) -> usize
+    ensures { result ≡ length (ascending (members true 32 (digit_set 32 word))) }
+{
+    IterOnes::<u32, LittleEndian>::new(word).count()
+}
+
+/// How many indexes below a bound a word of 64 digits lacks.
+pub fn how_many_lacking(word: u64, bound: u32) -> usize
+    ensures { result ≡ count_by (λ i. nat_lt i bound)
+        (ascending (complement (members false 64 (digit_set 64 word)))) }
+{
+    IterZeros::<u64, BigEndian>::new(word)
+        .filter(|i| *i < bound)
+        .count()
+}
+
+/// How many members of a byte have a half above a bound.
+pub fn halves_above(word: i8, bound: u32) -> usize
+    ensures { result ≡ count_by (λ i. nat_lt bound i)
+        (map (λ i. i / 2) (ascending (members false 8 (digit_set 8 (cast_unsigned w8 word))))) }
+{
+    IterOnes::<i8, BigEndian>::new(word)
+        .map(|i| i / 2)
+        .filter(|i| bound < *i)
+        .count()
+}
+
+/// The greatest index that a word of 16 digits lacks.
+pub fn greatest_lacking(word: u16) -> Option<u32>
+    ensures { MatchOption result (ascending (complement (members true 16 (digit_set 16 word))) ≡ [])
+        (λ i. (rest : List ℕ) × (ascending (complement (members true 16 (digit_set 16 word))) ≡ rest ++ i ∷ [])) }
+{
+    IterZeros::<u16, LittleEndian>::new(word).rev().next()
+}
+
+/// A member of a byte above a bound, or none.
+pub fn any_above(word: u8, bound: u32) -> Option<u32>
+    ensures { IfSome result (λ i. bound < i) }
+{
+    for member in IterOnes::<u8, LittleEndian>::new(word) {
+        if bound < member {
+            return Some(member);
+        }
+    }
+    None
+}
