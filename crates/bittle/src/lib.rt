@@ -12,5 +12,6 @@ pub use bittle_bits::bits::Bits;
 pub use bittle_bits::bits_mut::BitsMut;
 pub use bittle_bits::bits_owned::BitsOwned;
 pub use bittle_bits::endian::{BigEndian, DefaultEndian, Endian, LittleEndian};
+pub use bittle_bits::join;
 pub use bittle_bits::number;
 pub use bittle_bits::walk;

@@ -3,6 +3,7 @@ pub mod Combined
 pub mod DigitSets
 pub mod Ends
 pub mod Items
+pub mod Joined
 pub mod PlaceLemmas
 pub mod PlainSets
 pub mod RowSets

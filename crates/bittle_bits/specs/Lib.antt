@@ -1,5 +1,6 @@
 pub mod Copies
 pub mod Digits
+pub mod Join
 pub mod Laws
 pub mod OrderLaws
 pub mod Orders

@@ -2,14 +2,16 @@
 
 ghost use Rattle.std.specs.Prelude.{◌≡◌, ◌==◌, ℕ, ◌*◌, ◌-◌, ◌/◌, ◌<◌, ◌≤◌, Bool, false, IsTrue};
 ghost use Rattle.bittle_bits.specs.Digits.{digit_set};
+ghost use Rattle.bittle_bits.specs.Join.{AnswersItemsAtMembers, EndsAfterMembers};
 ghost use Rattle.bittle_bits.specs.Orders.{members};
 ghost use Rattle.bittle_bits.specs.PlainSet.{PlainSet, contains, size, ascending, complement};
 ghost use Rattle.bittle_bits.specs.Shapes.{Fits};
 ghost use Rattle.bittle_bits.specs.Walk.{IsFresh};
 ghost use Rattle.bittle_bits.specs.Words.{word_of};
 
-use crate::endian::{BigEndian, Endian, LittleEndian};
+use crate::endian::{BigEndian, DefaultEndian, Endian, LittleEndian};
 use crate::hidden::{Number, Sealed};
+use crate::join::JoinOnes;
 use crate::walk::{IterOnes, IterZeros};
 
 /// A set of the numbers below a capacity, one digit each.
@@ -194,6 +196,87 @@ pub trait Bits: Drop + Sealed {
         ensures fresh { IsFresh ((big self.now).capacity / width) result }
     {
         self.iter_zeros_in::<BigEndian>()
+    }
+
+    /// The items of an iterator at the members in the order `E`: for each member, in increasing order, the item at that
+    /// position. With capacity 0 there are none.
+    #[inline]
+    final fn join_ones_in<I: IntoIterator, E: Endian>(
+        &self,
+        iter: I,
+    ) -> JoinOnes<'_, Self, E, I::IntoIter>
+    where
+        Self: Sized,
+        I::Item: Drop,
+        requires { Fits indexable (big self.now).capacity }
+        ensures members { result.mask.left ≡ ascending (members E.mirrored width (big self.now)) }
+        ensures iter { I.into_iter_gives iter result.iter }
+        ensures none_taken { result.taken ≡ 0 }
+        ensures goes_on { result.ended ≡ false }
+        ensures answers { AnswersItemsAtMembers I.IntoIter.next_gives result }
+        ensures end { EndsAfterMembers I.IntoIter.next_gives result }
+    {
+        JoinOnes::new(self.iter_ones_in::<E>(), iter.into_iter())
+    }
+
+    /// [`join_ones_in`](Bits::join_ones_in) in [`DefaultEndian`] order, whatever the order of the type.
+    #[inline]
+    final fn join_ones<I: IntoIterator>(
+        &self,
+        iter: I,
+    ) -> JoinOnes<'_, Self, DefaultEndian, I::IntoIter>
+    where
+        Self: Sized,
+        I::Item: Drop,
+        requires { Fits indexable (big self.now).capacity }
+        ensures members { result.mask.left ≡ ascending (members ⟦<DefaultEndian as Endian>⟧.mirrored width (big self.now)) }
+        ensures iter { I.into_iter_gives iter result.iter }
+        ensures none_taken { result.taken ≡ 0 }
+        ensures goes_on { result.ended ≡ false }
+        ensures answers { AnswersItemsAtMembers I.IntoIter.next_gives result }
+        ensures end { EndsAfterMembers I.IntoIter.next_gives result }
+    {
+        self.join_ones_in::<I, DefaultEndian>(iter)
+    }
+
+    /// [`join_ones_in`](Bits::join_ones_in) in [`LittleEndian`] order.
+    #[inline]
+    final fn join_ones_le<I: IntoIterator>(
+        &self,
+        iter: I,
+    ) -> JoinOnes<'_, Self, LittleEndian, I::IntoIter>
+    where
+        Self: Sized,
+        I::Item: Drop,
+        requires { Fits indexable (big self.now).capacity }
+        ensures members { result.mask.left ≡ ascending (members ⟦<LittleEndian as Endian>⟧.mirrored width (big self.now)) }
+        ensures iter { I.into_iter_gives iter result.iter }
+        ensures none_taken { result.taken ≡ 0 }
+        ensures goes_on { result.ended ≡ false }
+        ensures answers { AnswersItemsAtMembers I.IntoIter.next_gives result }
+        ensures end { EndsAfterMembers I.IntoIter.next_gives result }
+    {
+        self.join_ones_in::<I, LittleEndian>(iter)
+    }
+
+    /// [`join_ones_in`](Bits::join_ones_in) in [`BigEndian`] order.
+    #[inline]
+    final fn join_ones_be<I: IntoIterator>(
+        &self,
+        iter: I,
+    ) -> JoinOnes<'_, Self, BigEndian, I::IntoIter>
+    where
+        Self: Sized,
+        I::Item: Drop,
+        requires { Fits indexable (big self.now).capacity }
+        ensures members { result.mask.left ≡ ascending (members ⟦<BigEndian as Endian>⟧.mirrored width (big self.now)) }
+        ensures iter { I.into_iter_gives iter result.iter }
+        ensures none_taken { result.taken ≡ 0 }
+        ensures goes_on { result.ended ≡ false }
+        ensures answers { AnswersItemsAtMembers I.IntoIter.next_gives result }
+        ensures end { EndsAfterMembers I.IntoIter.next_gives result }
+    {
+        self.join_ones_in::<I, BigEndian>(iter)
     }
 
     // The integers that the set is made of have the width of its words.

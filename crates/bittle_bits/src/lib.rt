@@ -14,6 +14,9 @@ mod elements;
 pub mod endian;
 #[doc(hidden)]
 pub mod hidden;
+pub mod join;
+#[cfg(test)]
+mod join_tests;
 #[doc(hidden)]
 pub mod laws;
 mod look;

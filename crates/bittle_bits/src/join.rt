@@ -1,0 +1,87 @@
+//! Joins: the items of an iterator at the members of a set.
+
+ghost use Rattle.std.specs.Prelude.{◌≡◌, false, length};
+ghost use Rattle.std.specs.Iterator.{at_most};
+ghost use Rattle.bittle_bits.specs.Join.{IsAscendingFrom, join_steps, AnswersItemsAtMembers, EndsAfterMembers};
+
+use crate::bits::Bits;
+use crate::endian::Endian;
+use crate::walk::IterOnes;
+use std::marker::Model;
+
+/// The items of an iterator at the members of a set, which is its mask.
+///
+/// For each member in turn it moves the iterator on to the item at that position, counted from the iterator's first
+/// item, and gives it. Nothing past the greatest member is taken. At the first member that is not before the
+/// iterator's end it answers `None`, as after the last member, and from then on it asks neither its mask nor its
+/// iterator again.
+#[derive(Drop)]
+pub struct JoinOnes<'a, A: Bits, E: Endian, I> {
+    mask: IterOnes<'a, A, E>,
+    iter: I,
+    taken: usize,
+    ended: bool,
+}
+
+impl<'a, A: Bits, E: Endian, I> Model for JoinOnes<'a, A, E, I> {
+    ghost use Rattle.bittle_bits.specs.Join.{Join, IsAscendingFrom};
+
+    ghost Value = { Join I };
+
+    ghost view = { λ j. record { mask = j.mask; iter = j.iter; taken = j.taken; ended = j.ended } };
+
+    ghost invariant = { λ j. IsAscendingFrom j.taken j.mask.left };
+}
+
+impl<'a, A: Bits, E: Endian, I: Iterator> JoinOnes<'a, A, E, I>
+where
+    I::Item: Drop,
+{
+    #[inline]
+    pub(crate) fn new(mask: IterOnes<'a, A, E>, iter: I) -> Self
+        requires { IsAscendingFrom 0 mask.left }
+        ensures mask { result.mask ≡ mask.entry }
+        ensures iter { result.iter ≡ iter }
+        ensures none_taken { result.taken ≡ 0 }
+        ensures goes_on { result.ended ≡ false }
+        ensures answers { AnswersItemsAtMembers I.next_gives result }
+        ensures end { EndsAfterMembers I.next_gives result }
+    {
+        JoinOnes {
+            mask,
+            iter,
+            taken: 0,
+            ended: false,
+        }
+    }
+}
+
+impl<A: Bits, E: Endian, I: Iterator> Iterator for JoinOnes<'_, A, E, I>
+where
+    I::Item: Drop,
+{
+    type Item = I::Item;
+
+    ghost can_next = { λ s. s.ended ≡ false → I.can_next s.iter };
+
+    ghost next_gives = { join_steps I.next_gives };
+
+    ghost remaining = { λ s. at_most (length s.mask.left) };
+
+    #[inline]
+    fn next(&mut self) -> Option<I::Item> {
+        if self.ended {
+            return None;
+        }
+        let item = match self.mask.next() {
+            Some(member) => {
+                let passed_over = member as usize - self.taken;
+                self.taken = member as usize + 1;
+                self.iter.nth(passed_over)
+            }
+            None => None,
+        };
+        self.ended = item.is_none();
+        item
+    }
+}

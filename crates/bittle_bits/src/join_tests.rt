@@ -1,0 +1,132 @@
+//! Joins, with values worked out by hand.
+
+ghost use Rattle.std.specs.Prelude.{◌-◌};
+ghost use Rattle.std.specs.Iterator.{at_most};
+
+use crate::bits::Bits;
+use crate::bits_mut::BitsMut;
+use crate::bits_owned::BitsOwned;
+
+/// Gives how often it was asked, but `None` where it is asked for the second time.
+#[derive(Drop)]
+struct Stutter {
+    asked: u32,
+}
+
+impl Iterator for Stutter {
+    type Item = u32;
+
+    ghost remaining = { λ s. at_most (9 - s.asked) };
+
+    fn next(&mut self) -> Option<u32> {
+        if self.asked >= 9 {
+            return None;
+        }
+        self.asked += 1;
+        if self.asked == 2 {
+            None
+        } else {
+            Some(self.asked)
+        }
+    }
+}
+
+#[test]
+fn gives_the_items_at_the_members(rt: HostRuntime) {
+    let mask = 0u8.with_bit(0).with_bit(2).with_bit(5);
+    let mut join = mask.join_ones([10u8, 20, 30].iter());
+    for expected in [Some(10), Some(30), None, None] {
+        assert_eq!(rt; join.next().copied(), expected);
+    }
+}
+
+#[test]
+fn reads_its_mask_in_the_order_that_is_named(rt: HostRuntime) {
+    let mask = 0b1101_0000u8;
+    let letters = ['a', 'b', 'c', 'd', 'e', 'f', 'g', 'h'];
+    let mut join = mask.join_ones_le(letters.iter());
+    for expected in [Some('a'), Some('b'), Some('d'), None] {
+        assert_eq!(rt; join.next().copied(), expected);
+    }
+    let mut join = mask.join_ones_be(letters.iter());
+    for expected in [Some('e'), Some('g'), Some('h'), None] {
+        assert_eq!(rt; join.next().copied(), expected);
+    }
+}
+
+#[test]
+fn joins_masks_of_every_shape(rt: HostRuntime) {
+    let mut mask = 0u128;
+    mask.set_bit(0);
+    mask.set_bit(2);
+    let mut join = mask.join_ones(&[10, 48, 101]);
+    for expected in [Some(10), Some(101), None] {
+        assert_eq!(rt; join.next().copied(), expected);
+    }
+
+    let mask = [[16u8, 0], [0, 0x81]];
+    let mut join = mask.join_ones(100..132);
+    for expected in [Some(104), Some(124), Some(131), None] {
+        assert_eq!(rt; join.next(), expected);
+    }
+}
+
+#[test]
+fn takes_nothing_past_the_greatest_member(rt: HostRuntime) {
+    let items = [10u8, 48, 101, 7, 8];
+    let mut iter = items.iter();
+    {
+        let mask = 0u8.with_bit(0).with_bit(2);
+        let mut join = mask.join_ones(&mut iter);
+        for expected in [Some(10), Some(101), None, None] {
+            assert_eq!(rt; join.next().copied(), expected);
+        }
+    }
+    assert_eq!(rt; iter.as_slice(), [7, 8].as_slice());
+}
+
+#[test]
+fn takes_as_much_as_there_are_members(rt: HostRuntime) {
+    let items = [10u8, 20];
+    let mut iter = items.iter();
+    {
+        let mut join = 0u8.join_ones(&mut iter);
+        assert_eq!(rt; join.next().copied(), None);
+    }
+    assert_eq!(rt; iter.as_slice(), [10, 20].as_slice());
+
+    let mut iter = 0u32..200;
+    {
+        let mut join = u128::MAX.join_ones(&mut iter);
+        for place in 0..128u32 {
+            assert_eq!(rt; join.next(), Some(place));
+        }
+        assert_eq!(rt; join.next(), None);
+    }
+    assert_eq!(rt; iter.next(), Some(128));
+}
+
+#[test]
+fn ends_with_its_iterator_and_asks_no_more(rt: HostRuntime) {
+    let mut join = u8::MAX.join_ones([0u8; 0].iter());
+    assert_eq!(rt; join.next().copied(), None);
+
+    let mut stutter = Stutter { asked: 0 };
+    {
+        let mut join = u8::MAX.join_ones(&mut stutter);
+        for expected in [Some(1), None, None, None] {
+            assert_eq!(rt; join.next(), expected);
+        }
+    }
+    assert_eq!(rt; stutter.asked, 2);
+
+    let mut stutter = Stutter { asked: 2 };
+    {
+        let mask = 0u8.with_bit_le(1).with_bit_le(3);
+        let mut join = mask.join_ones_le(&mut stutter);
+        for expected in [Some(4), Some(6), None, None] {
+            assert_eq!(rt; join.next(), expected);
+        }
+    }
+    assert_eq!(rt; stutter.asked, 6);
+}
