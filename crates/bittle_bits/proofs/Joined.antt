@@ -1,6 +1,6 @@
 -- What any number of calls of a join give.
 use Rattle.std.proofs.Common.{◌≡◌, ℕ, suc, zero, ◌+◌, ◌-◌, ◌<◌, ◌≤◌, Bool, true, false, cond, List, [], ◌∷◌, ◌++◌, Some, None, length, drop, slice_index, sym, ap, ◌∙◌, subst, arith, zero-add, length-append, add-one}
-use Rattle.std.specs.Prelude.{Option, slice_get, ⊤}
+use Rattle.std.specs.Prelude.{Option, slice_get}
 use Rattle.std.specs.Iterator.{Yields, YieldsThen}
 use Rattle.std.proofs.iter.runs.Lists.{Yields-both}
 use Rattle.bittle_bits.specs.Join.{IsAscendingFrom, Join, JoinsNext, join_steps, IsJoin, EndsAt}
