@@ -29,13 +29,9 @@ pub fn mirroring_undoes_itself()
 pub fn sets_mirror_each_other<B: Bits>(bits: &B)
     ensures { MembersMirror ⟦<LittleEndian as Endian>⟧.mirrored ⟦<BigEndian as Endian>⟧.mirrored
         B.width (B.big bits.now) }
-{
-    let _ = bits;
-}
+{}
 
 /// Testing an index is testing it modulo the capacity.
 pub fn testing_wraps<B: Bits, E: Endian>(bits: &B)
     ensures { TestingWraps (members E.mirrored B.width (B.big bits.now)) }
-{
-    let _ = bits;
-}
+{}

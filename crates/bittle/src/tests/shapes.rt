@@ -31,22 +31,24 @@ fn nested_arrays(rt: HostRuntime) {
 #[test]
 fn slices(rt: HostRuntime) {
     let mut words = [0i64; 5];
-    let mut all = &mut words[..];
-    put_and_ask::<&mut [i64], LittleEndian>(&rt, &mut all, 320 + 64, 320);
-    let mut one = &mut words[..1];
-    put_and_ask::<&mut [i64], BigEndian>(&rt, &mut one, 67, 64);
+    put_and_ask::<&mut [i64], LittleEndian>(&rt, &mut &mut words[..], 384, 320);
+    put_and_ask::<&mut [i64], BigEndian>(&rt, &mut &mut words[..1], 67, 64);
     assert!(rt; words == [8, i64::MIN, 0, 0, 0]);
+    words = [0; 5];
+    put_and_ask::<&mut [i64], BigEndian>(&rt, &mut &mut words[..], 384, 320);
+    put_and_ask::<&mut [i64], LittleEndian>(&rt, &mut &mut words[..1], 64, 64);
+    assert!(rt; words == [i64::MIN, 1, 0, 0, 0]);
+    no_words::<BigEndian>(&rt);
+    no_words::<LittleEndian>(&rt);
 
     let mut pairs = [[0u8; 2]; 3];
-    let mut slice = &mut pairs[..];
-    put_and_ask::<&mut [[u8; 2]], LittleEndian>(&rt, &mut slice, 40, 48);
-    assert!(rt; pairs == [[0, 0], [0, 0], [0, 128]]);
-    let mut slice = &mut pairs[..2];
-    put_and_ask::<&mut [[u8; 2]], BigEndian>(&rt, &mut slice, 40, 32);
+    put_and_ask::<&mut [[u8; 2]], LittleEndian>(&rt, &mut &mut pairs[..], 40, 48);
+    put_and_ask::<&mut [[u8; 2]], BigEndian>(&rt, &mut &mut pairs[..2], 40, 32);
     assert!(rt; pairs == [[0, 1], [0, 0], [0, 128]]);
+}
 
-    let mut none = &mut words[..0];
-    let mut replies = [Reply::Done; 5];
+fn no_words<E: Endian>(rt: &impl Abort) {
+    let mut words: [i64; 0] = [];
     let calls = [
         Call::Put(3),
         Call::Test(3),
@@ -54,7 +56,8 @@ fn slices(rt: HostRuntime) {
         Call::AllOnes,
         Call::Capacity,
     ];
-    replay::<&mut [i64], BigEndian>(&mut none, &calls, &mut replies);
+    let mut replies = [Reply::Done; 5];
+    replay::<&mut [i64], E>(&mut &mut words[..], &calls, &mut replies);
     let expected = [
         Reply::Done,
         Reply::Bit(false),
