@@ -1,10 +1,14 @@
 pub mod Combined
 pub mod DigitSets
 pub mod Ends
+pub mod Items
 pub mod PlaceLemmas
 pub mod PlainSets
 pub mod RowSets
+pub mod Runs
 pub mod SetLaws
 pub mod Signed
 pub mod Sizes
+pub mod Steps
 pub mod WordCalls
+pub mod WordItems

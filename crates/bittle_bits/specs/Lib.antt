@@ -1,3 +1,4 @@
+pub mod Copies
 pub mod Digits
 pub mod Laws
 pub mod Orders
@@ -6,3 +7,7 @@ pub mod Rows
 pub mod SetAlgebra
 pub mod SetOperations
 pub mod Shapes
+pub mod Standing
+pub mod Tally
+pub mod Walk
+pub mod Words

@@ -17,11 +17,15 @@ impl<T: BitsOwned, const N: usize> Sealed for [T; N] {}
 impl<T: BitsOwned, const N: usize> Bits for [T; N] {
     type Order = DefaultEndian;
 
+    type LeafWord = T::LeafWord;
+
     ghost width = { T.width };
 
     ghost indexable = { T.indexable && nat_lt (N * T.type_capacity) 4294967295 };
 
     ghost big = { λ v. elements_set N T.type_capacity T.big v };
+
+    ghost leaf_width = { T.leaf_width };
 
     ghost width_positive = { T.width_positive };
 
@@ -52,6 +56,11 @@ impl<T: BitsOwned, const N: usize> Bits for [T; N] {
     #[inline]
     fn test_bit_in<E: Endian>(&self, index: u32) -> bool {
         elements::test_bit::<T, E>(self, index)
+    }
+
+    #[inline]
+    fn leaf_word(&self, k: u32) -> T::LeafWord {
+        elements::leaf_word::<T>(self, k)
     }
 }
 

@@ -1,12 +1,16 @@
 //! Reading a set.
 
-ghost use Rattle.std.specs.Prelude.{◌≡◌, ◌==◌, ℕ, ◌*◌, ◌-◌, ◌<◌, ◌≤◌, Bool, false, IsTrue};
+ghost use Rattle.std.specs.Prelude.{◌≡◌, ◌==◌, ℕ, ◌*◌, ◌-◌, ◌/◌, ◌<◌, ◌≤◌, Bool, false, IsTrue};
+ghost use Rattle.bittle_bits.specs.Digits.{digit_set};
 ghost use Rattle.bittle_bits.specs.Orders.{members};
-ghost use Rattle.bittle_bits.specs.PlainSet.{PlainSet, contains, size};
+ghost use Rattle.bittle_bits.specs.PlainSet.{PlainSet, contains, size, ascending, complement};
 ghost use Rattle.bittle_bits.specs.Shapes.{Fits};
+ghost use Rattle.bittle_bits.specs.Walk.{IsFresh};
+ghost use Rattle.bittle_bits.specs.Words.{word_of};
 
 use crate::endian::{BigEndian, Endian, LittleEndian};
-use crate::hidden::Sealed;
+use crate::hidden::{Number, Sealed};
+use crate::walk::{IterOnes, IterZeros};
 
 /// A set of the numbers below a capacity, one digit each.
 ///
@@ -14,6 +18,10 @@ use crate::hidden::Sealed;
 pub trait Bits: Drop + Sealed {
     /// The order of the calls that name none.
     type Order: Endian;
+
+    /// The integer that the set is made of.
+    #[doc(hidden)]
+    type LeafWord: Number;
 
     // The digits of each word.
     ghost width: { ℕ };
@@ -56,6 +64,13 @@ pub trait Bits: Drop + Sealed {
         requires { IsTrue indexable }
         ensures { result ≡ contains (members E.mirrored width (big self.now)) index };
 
+    /// Word `k` of the set: the members from `k` times the width on.
+    #[doc(hidden)]
+    fn leaf_word(&self, k: u32) -> Self::LeafWord
+        requires fits { Fits indexable (big self.now).capacity }
+        requires within { k * width < (big self.now).capacity }
+        ensures { digit_set width (Self.LeafWord.digits result) ≡ word_of width (big self.now) k };
+
     /// [`test_bit_in`](Bits::test_bit_in) in the order of the type.
     #[inline]
     final fn test_bit(&self, index: u32) -> bool
@@ -84,6 +99,105 @@ pub trait Bits: Drop + Sealed {
     {
         self.test_bit_in::<BigEndian>(index)
     }
+
+    /// The members in increasing order in the order `E`, from both ends.
+    #[inline]
+    final fn iter_ones_in<E: Endian>(&self) -> IterOnes<'_, Self, E>
+    where
+        Self: Sized,
+        requires { Fits indexable (big self.now).capacity }
+        ensures left { result.left ≡ ascending (members E.mirrored width (big self.now)) }
+        ensures fresh { IsFresh ((big self.now).capacity / width) result }
+    {
+        IterOnes::new(self)
+    }
+
+    /// The numbers below the capacity that are no members, in increasing order in the order `E`, from both ends.
+    #[inline]
+    final fn iter_zeros_in<E: Endian>(&self) -> IterZeros<'_, Self, E>
+    where
+        Self: Sized,
+        requires { Fits indexable (big self.now).capacity }
+        ensures left { result.left ≡ ascending (complement (members E.mirrored width (big self.now))) }
+        ensures fresh { IsFresh ((big self.now).capacity / width) result }
+    {
+        IterZeros::new(self)
+    }
+
+    /// [`iter_ones_in`](Bits::iter_ones_in) in the order of the type.
+    #[inline]
+    final fn iter_ones(&self) -> IterOnes<'_, Self, Self::Order>
+    where
+        Self: Sized,
+        requires { Fits indexable (big self.now).capacity }
+        ensures left { result.left ≡ ascending (members Self.Order.mirrored width (big self.now)) }
+        ensures fresh { IsFresh ((big self.now).capacity / width) result }
+    {
+        self.iter_ones_in::<Self::Order>()
+    }
+
+    /// [`iter_ones_in`](Bits::iter_ones_in) in [`LittleEndian`] order.
+    #[inline]
+    final fn iter_ones_le(&self) -> IterOnes<'_, Self, LittleEndian>
+    where
+        Self: Sized,
+        requires { Fits indexable (big self.now).capacity }
+        ensures left { result.left ≡ ascending (members ⟦<LittleEndian as Endian>⟧.mirrored width (big self.now)) }
+        ensures fresh { IsFresh ((big self.now).capacity / width) result }
+    {
+        self.iter_ones_in::<LittleEndian>()
+    }
+
+    /// [`iter_ones_in`](Bits::iter_ones_in) in [`BigEndian`] order.
+    #[inline]
+    final fn iter_ones_be(&self) -> IterOnes<'_, Self, BigEndian>
+    where
+        Self: Sized,
+        requires { Fits indexable (big self.now).capacity }
+        ensures left { result.left ≡ ascending (members ⟦<BigEndian as Endian>⟧.mirrored width (big self.now)) }
+        ensures fresh { IsFresh ((big self.now).capacity / width) result }
+    {
+        self.iter_ones_in::<BigEndian>()
+    }
+
+    /// [`iter_zeros_in`](Bits::iter_zeros_in) in the order of the type.
+    #[inline]
+    final fn iter_zeros(&self) -> IterZeros<'_, Self, Self::Order>
+    where
+        Self: Sized,
+        requires { Fits indexable (big self.now).capacity }
+        ensures left { result.left ≡ ascending (complement (members Self.Order.mirrored width (big self.now))) }
+        ensures fresh { IsFresh ((big self.now).capacity / width) result }
+    {
+        self.iter_zeros_in::<Self::Order>()
+    }
+
+    /// [`iter_zeros_in`](Bits::iter_zeros_in) in [`LittleEndian`] order.
+    #[inline]
+    final fn iter_zeros_le(&self) -> IterZeros<'_, Self, LittleEndian>
+    where
+        Self: Sized,
+        requires { Fits indexable (big self.now).capacity }
+        ensures left { result.left ≡ ascending (complement (members ⟦<LittleEndian as Endian>⟧.mirrored width (big self.now))) }
+        ensures fresh { IsFresh ((big self.now).capacity / width) result }
+    {
+        self.iter_zeros_in::<LittleEndian>()
+    }
+
+    /// [`iter_zeros_in`](Bits::iter_zeros_in) in [`BigEndian`] order.
+    #[inline]
+    final fn iter_zeros_be(&self) -> IterZeros<'_, Self, BigEndian>
+    where
+        Self: Sized,
+        requires { Fits indexable (big self.now).capacity }
+        ensures left { result.left ≡ ascending (complement (members ⟦<BigEndian as Endian>⟧.mirrored width (big self.now))) }
+        ensures fresh { IsFresh ((big self.now).capacity / width) result }
+    {
+        self.iter_zeros_in::<BigEndian>()
+    }
+
+    // The integers that the set is made of have the width of its words.
+    ghost leaf_width: { Self.LeafWord.width ≡ width };
 
     // A word has a digit.
     ghost width_positive: { 0 < width };

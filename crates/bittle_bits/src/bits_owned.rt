@@ -1,13 +1,15 @@
 //! Sets that are owned.
 
-ghost use Rattle.std.specs.Prelude.{◌≡◌, ℕ, ◌*◌, ◌<◌, Bool, IsTrue};
+ghost use Rattle.std.specs.Prelude.{◌≡◌, ℕ, ◌*◌, ◌<◌, Bool, IsTrue, ◌/◌};
 ghost use Rattle.bittle_bits.specs.Orders.{members};
-ghost use Rattle.bittle_bits.specs.PlainSet.{empty, filled, with_index, without_index};
+ghost use Rattle.bittle_bits.specs.PlainSet.{empty, filled, with_index, without_index, ascending, complement};
 ghost use Rattle.bittle_bits.specs.SetOperations.{union_of, conjunction_of, difference_of, symmetric_difference_of};
 ghost use Rattle.bittle_bits.specs.Shapes.{Fits};
+ghost use Rattle.bittle_bits.specs.Walk.{IsFresh};
 
 use crate::bits_mut::BitsMut;
 use crate::endian::{BigEndian, Endian, LittleEndian};
+use crate::walk::{IntoIterOnes, IntoIterZeros};
 
 /// A set that is copied with its value. All values of the type have one capacity.
 pub trait BitsOwned: Copy + Eq + BitsMut {
@@ -159,6 +161,102 @@ pub trait BitsOwned: Copy + Eq + BitsMut {
         let mut set = self;
         set.symmetric_difference_assign(&other);
         set
+    }
+
+    /// The members in increasing order in the order `E`, from both ends, of a set that the walk owns.
+    #[inline]
+    final fn into_iter_ones_in<E: Endian>(self) -> IntoIterOnes<Self, E>
+    where
+        Self: Sized,
+        requires { Fits Self.indexable (Self.big self).capacity }
+        ensures left { result.left ≡ ascending (members E.mirrored Self.width (Self.big self)) }
+        ensures fresh { IsFresh ((Self.big self).capacity / Self.width) result }
+    {
+        IntoIterOnes::new(self)
+    }
+
+    /// [`into_iter_ones_in`](BitsOwned::into_iter_ones_in) in the order of the type.
+    #[inline]
+    final fn into_iter_ones(self) -> IntoIterOnes<Self, Self::Order>
+    where
+        Self: Sized,
+        requires { Fits Self.indexable (Self.big self).capacity }
+        ensures left { result.left ≡ ascending (members Self.Order.mirrored Self.width (Self.big self)) }
+        ensures fresh { IsFresh ((Self.big self).capacity / Self.width) result }
+    {
+        self.into_iter_ones_in::<Self::Order>()
+    }
+
+    /// [`into_iter_ones_in`](BitsOwned::into_iter_ones_in) in [`LittleEndian`] order.
+    #[inline]
+    final fn into_iter_ones_le(self) -> IntoIterOnes<Self, LittleEndian>
+    where
+        Self: Sized,
+        requires { Fits Self.indexable (Self.big self).capacity }
+        ensures left { result.left ≡ ascending (members ⟦<LittleEndian as Endian>⟧.mirrored Self.width (Self.big self)) }
+        ensures fresh { IsFresh ((Self.big self).capacity / Self.width) result }
+    {
+        self.into_iter_ones_in::<LittleEndian>()
+    }
+
+    /// [`into_iter_ones_in`](BitsOwned::into_iter_ones_in) in [`BigEndian`] order.
+    #[inline]
+    final fn into_iter_ones_be(self) -> IntoIterOnes<Self, BigEndian>
+    where
+        Self: Sized,
+        requires { Fits Self.indexable (Self.big self).capacity }
+        ensures left { result.left ≡ ascending (members ⟦<BigEndian as Endian>⟧.mirrored Self.width (Self.big self)) }
+        ensures fresh { IsFresh ((Self.big self).capacity / Self.width) result }
+    {
+        self.into_iter_ones_in::<BigEndian>()
+    }
+
+    /// The numbers below the capacity that are no members, in increasing order in the order `E`, from both ends, of a set that the walk owns.
+    #[inline]
+    final fn into_iter_zeros_in<E: Endian>(self) -> IntoIterZeros<Self, E>
+    where
+        Self: Sized,
+        requires { Fits Self.indexable (Self.big self).capacity }
+        ensures left { result.left ≡ ascending (complement (members E.mirrored Self.width (Self.big self))) }
+        ensures fresh { IsFresh ((Self.big self).capacity / Self.width) result }
+    {
+        IntoIterZeros::new(self)
+    }
+
+    /// [`into_iter_zeros_in`](BitsOwned::into_iter_zeros_in) in the order of the type.
+    #[inline]
+    final fn into_iter_zeros(self) -> IntoIterZeros<Self, Self::Order>
+    where
+        Self: Sized,
+        requires { Fits Self.indexable (Self.big self).capacity }
+        ensures left { result.left ≡ ascending (complement (members Self.Order.mirrored Self.width (Self.big self))) }
+        ensures fresh { IsFresh ((Self.big self).capacity / Self.width) result }
+    {
+        self.into_iter_zeros_in::<Self::Order>()
+    }
+
+    /// [`into_iter_zeros_in`](BitsOwned::into_iter_zeros_in) in [`LittleEndian`] order.
+    #[inline]
+    final fn into_iter_zeros_le(self) -> IntoIterZeros<Self, LittleEndian>
+    where
+        Self: Sized,
+        requires { Fits Self.indexable (Self.big self).capacity }
+        ensures left { result.left ≡ ascending (complement (members ⟦<LittleEndian as Endian>⟧.mirrored Self.width (Self.big self))) }
+        ensures fresh { IsFresh ((Self.big self).capacity / Self.width) result }
+    {
+        self.into_iter_zeros_in::<LittleEndian>()
+    }
+
+    /// [`into_iter_zeros_in`](BitsOwned::into_iter_zeros_in) in [`BigEndian`] order.
+    #[inline]
+    final fn into_iter_zeros_be(self) -> IntoIterZeros<Self, BigEndian>
+    where
+        Self: Sized,
+        requires { Fits Self.indexable (Self.big self).capacity }
+        ensures left { result.left ≡ ascending (complement (members ⟦<BigEndian as Endian>⟧.mirrored Self.width (Self.big self))) }
+        ensures fresh { IsFresh ((Self.big self).capacity / Self.width) result }
+    {
+        self.into_iter_zeros_in::<BigEndian>()
     }
 
     ghost one_capacity: { (v : Self) → (Self.big v).capacity ≡ type_capacity };

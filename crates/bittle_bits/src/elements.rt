@@ -1,14 +1,17 @@
 //! The calls on a row of elements, for arrays and for slices.
 
 ghost use Rattle.std.specs.Prelude.{◌≡◌, ◌==◌, ◌*◌, ◌<◌, Bool, length, IsTrue, MatchOption};
+ghost use Rattle.bittle_bits.specs.Digits.{digit_set};
 ghost use Rattle.bittle_bits.specs.Orders.{members};
 ghost use Rattle.bittle_bits.specs.PlainSet.{contains, with_index, without_index, emptied, size};
 ghost use Rattle.bittle_bits.specs.Rows.{elements_set, GoesTo};
 ghost use Rattle.bittle_bits.specs.SetOperations.{combined};
 ghost use Rattle.bittle_bits.specs.Shapes.{Fits};
+ghost use Rattle.bittle_bits.specs.Words.{word_of};
 
 use crate::bits_owned::BitsOwned;
 use crate::endian::Endian;
+use crate::hidden::Number;
 use crate::operation::Operation;
 
 /// The capacity of this many elements, or `u32::MAX` where they do not fit.
@@ -81,6 +84,18 @@ pub fn clear_bit<T: BitsOwned, E: Endian>(elements: &mut [T], index: u32)
     if let Some((element, at)) = place_of::<T>(elements.len(), index) {
         elements[element].clear_bit_in::<E>(at);
     }
+}
+
+/// Word `k` of the row, which lies in one element.
+#[inline]
+pub fn leaf_word<T: BitsOwned>(elements: &[T], k: u32) -> T::LeafWord
+    requires fits { Fits T.indexable (length elements.now * T.type_capacity) }
+    requires within { k * T.width < length elements.now * T.type_capacity }
+    ensures { digit_set T.width (T.LeafWord.digits result)
+        ≡ word_of T.width (elements_set (length elements.now) T.type_capacity T.big elements.now) k }
+{
+    let each = T::bits() / <T::LeafWord as Number>::width();
+    elements[(k / each) as usize].leaf_word(k % each)
 }
 
 pub fn clear_bits<T: BitsOwned>(elements: &mut [T])

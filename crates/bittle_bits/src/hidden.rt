@@ -3,6 +3,8 @@
 ghost use Rattle.std.specs.Prelude.{◌≡◌, ℕ, ◌-◌, ◌<◌, ◌^◌, ◌==◌, bit_and, bit_or, bit_xor, count_ones};
 ghost use Rattle.std.specs.Int.Count.{count_leading_zeros, count_trailing_zeros};
 
+pub use crate::count::{Count, Counted};
+
 /// Holds of the types of this project alone, so that nobody else can implement the traits above it.
 pub trait Sealed {}
 

@@ -7,10 +7,14 @@ mod array;
 pub mod bits;
 pub mod bits_mut;
 pub mod bits_owned;
+#[cfg(test)]
+mod callers;
+mod count;
 mod elements;
 pub mod endian;
 #[doc(hidden)]
 pub mod hidden;
+mod look;
 pub mod number;
 mod operation;
 #[cfg(test)]
@@ -18,3 +22,5 @@ mod operation_tests;
 #[doc(hidden)]
 pub mod set_laws;
 mod slice;
+mod standing;
+pub mod walk;

@@ -6,4 +6,4 @@ mod int32;
 mod int64;
 mod int8;
 mod int_size;
-mod word;
+pub(crate) mod word;

@@ -18,11 +18,15 @@ impl<'a, T: BitsOwned> Sealed for &'a [T] {}
 impl<'a, T: BitsOwned> Bits for &'a [T] {
     type Order = DefaultEndian;
 
+    type LeafWord = T::LeafWord;
+
     ghost width = { T.width };
 
     ghost indexable = { T.indexable };
 
     ghost big = { λ v. elements_set (length v.now) T.type_capacity T.big v.now };
+
+    ghost leaf_width = { T.leaf_width };
 
     ghost width_positive = { T.width_positive };
 
@@ -53,6 +57,11 @@ impl<'a, T: BitsOwned> Bits for &'a [T] {
     #[inline]
     fn test_bit_in<E: Endian>(&self, index: u32) -> bool {
         elements::test_bit::<T, E>(self, index)
+    }
+
+    #[inline]
+    fn leaf_word(&self, k: u32) -> T::LeafWord {
+        elements::leaf_word::<T>(self, k)
     }
 }
 
@@ -61,11 +70,15 @@ impl<'a, T: BitsOwned> Sealed for &'a mut [T] {}
 impl<'a, T: BitsOwned> Bits for &'a mut [T] {
     type Order = DefaultEndian;
 
+    type LeafWord = T::LeafWord;
+
     ghost width = { T.width };
 
     ghost indexable = { T.indexable };
 
     ghost big = { λ v. elements_set (length v.now) T.type_capacity T.big v.now };
+
+    ghost leaf_width = { T.leaf_width };
 
     ghost width_positive = { T.width_positive };
 
@@ -96,6 +109,11 @@ impl<'a, T: BitsOwned> Bits for &'a mut [T] {
     #[inline]
     fn test_bit_in<E: Endian>(&self, index: u32) -> bool {
         elements::test_bit::<T, E>(self, index)
+    }
+
+    #[inline]
+    fn leaf_word(&self, k: u32) -> T::LeafWord {
+        elements::leaf_word::<T>(self, k)
     }
 }
 

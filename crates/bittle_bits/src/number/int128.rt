@@ -82,11 +82,15 @@ impl Number for u128 {
 impl Bits for u128 {
     type Order = DefaultEndian;
 
+    type LeafWord = u128;
+
     ghost width = { 128 };
 
     ghost indexable = { true };
 
     ghost big = { λ x. digit_set 128 x };
+
+    ghost leaf_width = { refl };
 
     ghost width_positive = { lit< tt };
 
@@ -117,6 +121,11 @@ impl Bits for u128 {
     #[inline]
     fn test_bit_in<E: Endian>(&self, index: u32) -> bool {
         word::test_bit::<u128, E>(*self, index)
+    }
+
+    #[inline]
+    fn leaf_word(&self, k: u32) -> u128 {
+        word::leaf_word::<u128>(*self, k)
     }
 }
 
@@ -257,11 +266,15 @@ impl Number for i128 {
 impl Bits for i128 {
     type Order = DefaultEndian;
 
+    type LeafWord = i128;
+
     ghost width = { 128 };
 
     ghost indexable = { true };
 
     ghost big = { λ x. digit_set 128 (cast_unsigned w128 x) };
+
+    ghost leaf_width = { refl };
 
     ghost width_positive = { lit< tt };
 
@@ -292,6 +305,11 @@ impl Bits for i128 {
     #[inline]
     fn test_bit_in<E: Endian>(&self, index: u32) -> bool {
         word::test_bit::<i128, E>(*self, index)
+    }
+
+    #[inline]
+    fn leaf_word(&self, k: u32) -> i128 {
+        word::leaf_word::<i128>(*self, k)
     }
 }
 

@@ -82,11 +82,15 @@ impl Number for u16 {
 impl Bits for u16 {
     type Order = DefaultEndian;
 
+    type LeafWord = u16;
+
     ghost width = { 16 };
 
     ghost indexable = { true };
 
     ghost big = { λ x. digit_set 16 x };
+
+    ghost leaf_width = { refl };
 
     ghost width_positive = { lit< tt };
 
@@ -117,6 +121,11 @@ impl Bits for u16 {
     #[inline]
     fn test_bit_in<E: Endian>(&self, index: u32) -> bool {
         word::test_bit::<u16, E>(*self, index)
+    }
+
+    #[inline]
+    fn leaf_word(&self, k: u32) -> u16 {
+        word::leaf_word::<u16>(*self, k)
     }
 }
 
@@ -256,11 +265,15 @@ impl Number for i16 {
 impl Bits for i16 {
     type Order = DefaultEndian;
 
+    type LeafWord = i16;
+
     ghost width = { 16 };
 
     ghost indexable = { true };
 
     ghost big = { λ x. digit_set 16 (cast_unsigned w16 x) };
+
+    ghost leaf_width = { refl };
 
     ghost width_positive = { lit< tt };
 
@@ -291,6 +304,11 @@ impl Bits for i16 {
     #[inline]
     fn test_bit_in<E: Endian>(&self, index: u32) -> bool {
         word::test_bit::<i16, E>(*self, index)
+    }
+
+    #[inline]
+    fn leaf_word(&self, k: u32) -> i16 {
+        word::leaf_word::<i16>(*self, k)
     }
 }
 

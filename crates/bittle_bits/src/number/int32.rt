@@ -82,11 +82,15 @@ impl Number for u32 {
 impl Bits for u32 {
     type Order = DefaultEndian;
 
+    type LeafWord = u32;
+
     ghost width = { 32 };
 
     ghost indexable = { true };
 
     ghost big = { λ x. digit_set 32 x };
+
+    ghost leaf_width = { refl };
 
     ghost width_positive = { lit< tt };
 
@@ -117,6 +121,11 @@ impl Bits for u32 {
     #[inline]
     fn test_bit_in<E: Endian>(&self, index: u32) -> bool {
         word::test_bit::<u32, E>(*self, index)
+    }
+
+    #[inline]
+    fn leaf_word(&self, k: u32) -> u32 {
+        word::leaf_word::<u32>(*self, k)
     }
 }
 
@@ -256,11 +265,15 @@ impl Number for i32 {
 impl Bits for i32 {
     type Order = DefaultEndian;
 
+    type LeafWord = i32;
+
     ghost width = { 32 };
 
     ghost indexable = { true };
 
     ghost big = { λ x. digit_set 32 (cast_unsigned w32 x) };
+
+    ghost leaf_width = { refl };
 
     ghost width_positive = { lit< tt };
 
@@ -291,6 +304,11 @@ impl Bits for i32 {
     #[inline]
     fn test_bit_in<E: Endian>(&self, index: u32) -> bool {
         word::test_bit::<i32, E>(*self, index)
+    }
+
+    #[inline]
+    fn leaf_word(&self, k: u32) -> i32 {
+        word::leaf_word::<i32>(*self, k)
     }
 }
 

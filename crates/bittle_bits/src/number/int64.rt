@@ -82,11 +82,15 @@ impl Number for u64 {
 impl Bits for u64 {
     type Order = DefaultEndian;
 
+    type LeafWord = u64;
+
     ghost width = { 64 };
 
     ghost indexable = { true };
 
     ghost big = { λ x. digit_set 64 x };
+
+    ghost leaf_width = { refl };
 
     ghost width_positive = { lit< tt };
 
@@ -117,6 +121,11 @@ impl Bits for u64 {
     #[inline]
     fn test_bit_in<E: Endian>(&self, index: u32) -> bool {
         word::test_bit::<u64, E>(*self, index)
+    }
+
+    #[inline]
+    fn leaf_word(&self, k: u32) -> u64 {
+        word::leaf_word::<u64>(*self, k)
     }
 }
 
@@ -257,11 +266,15 @@ impl Number for i64 {
 impl Bits for i64 {
     type Order = DefaultEndian;
 
+    type LeafWord = i64;
+
     ghost width = { 64 };
 
     ghost indexable = { true };
 
     ghost big = { λ x. digit_set 64 (cast_unsigned w64 x) };
+
+    ghost leaf_width = { refl };
 
     ghost width_positive = { lit< tt };
 
@@ -292,6 +305,11 @@ impl Bits for i64 {
     #[inline]
     fn test_bit_in<E: Endian>(&self, index: u32) -> bool {
         word::test_bit::<i64, E>(*self, index)
+    }
+
+    #[inline]
+    fn leaf_word(&self, k: u32) -> i64 {
+        word::leaf_word::<i64>(*self, k)
     }
 }
 

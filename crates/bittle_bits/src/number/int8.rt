@@ -82,11 +82,15 @@ impl Number for u8 {
 impl Bits for u8 {
     type Order = DefaultEndian;
 
+    type LeafWord = u8;
+
     ghost width = { 8 };
 
     ghost indexable = { true };
 
     ghost big = { λ x. digit_set 8 x };
+
+    ghost leaf_width = { refl };
 
     ghost width_positive = { lit< tt };
 
@@ -117,6 +121,11 @@ impl Bits for u8 {
     #[inline]
     fn test_bit_in<E: Endian>(&self, index: u32) -> bool {
         word::test_bit::<u8, E>(*self, index)
+    }
+
+    #[inline]
+    fn leaf_word(&self, k: u32) -> u8 {
+        word::leaf_word::<u8>(*self, k)
     }
 }
 
@@ -256,11 +265,15 @@ impl Number for i8 {
 impl Bits for i8 {
     type Order = DefaultEndian;
 
+    type LeafWord = i8;
+
     ghost width = { 8 };
 
     ghost indexable = { true };
 
     ghost big = { λ x. digit_set 8 (cast_unsigned w8 x) };
+
+    ghost leaf_width = { refl };
 
     ghost width_positive = { lit< tt };
 
@@ -291,6 +304,11 @@ impl Bits for i8 {
     #[inline]
     fn test_bit_in<E: Endian>(&self, index: u32) -> bool {
         word::test_bit::<i8, E>(*self, index)
+    }
+
+    #[inline]
+    fn leaf_word(&self, k: u32) -> i8 {
+        word::leaf_word::<i8>(*self, k)
     }
 }
 

@@ -82,11 +82,15 @@ impl Number for usize {
 impl Bits for usize {
     type Order = DefaultEndian;
 
+    type LeafWord = usize;
+
     ghost width = { 64 };
 
     ghost indexable = { true };
 
     ghost big = { λ x. digit_set 64 x };
+
+    ghost leaf_width = { refl };
 
     ghost width_positive = { lit< tt };
 
@@ -117,6 +121,11 @@ impl Bits for usize {
     #[inline]
     fn test_bit_in<E: Endian>(&self, index: u32) -> bool {
         word::test_bit::<usize, E>(*self, index)
+    }
+
+    #[inline]
+    fn leaf_word(&self, k: u32) -> usize {
+        word::leaf_word::<usize>(*self, k)
     }
 }
 
@@ -257,11 +266,15 @@ impl Number for isize {
 impl Bits for isize {
     type Order = DefaultEndian;
 
+    type LeafWord = isize;
+
     ghost width = { 64 };
 
     ghost indexable = { true };
 
     ghost big = { λ x. digit_set 64 (cast_unsigned w64 x) };
+
+    ghost leaf_width = { refl };
 
     ghost width_positive = { lit< tt };
 
@@ -292,6 +305,11 @@ impl Bits for isize {
     #[inline]
     fn test_bit_in<E: Endian>(&self, index: u32) -> bool {
         word::test_bit::<isize, E>(*self, index)
+    }
+
+    #[inline]
+    fn leaf_word(&self, k: u32) -> isize {
+        word::leaf_word::<isize>(*self, k)
     }
 }
 

@@ -1,10 +1,11 @@
 //! The calls on one word, for every width at once.
 
-ghost use Rattle.std.specs.Prelude.{◌≡◌, ◌==◌, Bool};
+ghost use Rattle.std.specs.Prelude.{◌≡◌, ◌==◌, Bool, ◌*◌, ◌<◌};
 ghost use Rattle.bittle_bits.specs.Digits.{digit_set};
 ghost use Rattle.bittle_bits.specs.Orders.{members};
 ghost use Rattle.bittle_bits.specs.PlainSet.{contains, with_index, without_index, empty, emptied, filled, size};
 ghost use Rattle.bittle_bits.specs.SetOperations.{combined};
+ghost use Rattle.bittle_bits.specs.Words.{word_of};
 
 use crate::endian::Endian;
 use crate::hidden::Number;
@@ -15,6 +16,16 @@ pub fn test_bit<T: Number, E: Endian>(word: T, index: u32) -> bool
     ensures { result ≡ contains (members E.mirrored T.width (digit_set T.width (T.digits word))) index }
 {
     !word.and(E::mask::<T>(index)).is_zero()
+}
+
+/// Word `k` of a word, which is its only one.
+#[inline]
+pub fn leaf_word<T: Number>(word: T, k: u32) -> T
+    requires { k * T.width < T.width }
+    ensures { digit_set T.width (T.digits result) ≡ word_of T.width (digit_set T.width (T.digits word)) k }
+{
+    let _ = k;
+    word
 }
 
 #[inline]

@@ -1,0 +1,24 @@
+-- What runs of a walk's steps give, and walks that have not stepped yet.
+use Rattle.std.proofs.Common.{◌≡◌, ℕ, ap, length, refl, arith}
+use Rattle.std.specs.Iterator.Runs.{YieldsInOrder, YieldsInReverse}
+use Rattle.std.proofs.iter.runs.Sources.{from_front, from_back, as_is, as_is_back}
+use Rattle.bittle_bits.specs.Walk.{Walk, StepsFront, StepsBack, IsFresh, ResumesAs}
+
+in_order : YieldsInOrder StepsFront (λ w. w.left)
+in_order p seen = as_is p p.from.left (from_front StepsFront (λ x. x) (λ w. w.left) (λ s t h. ap length h.gave.0) (λ s x t h. h.gave) p seen)
+
+in_reverse : YieldsInReverse StepsBack (λ w. w.left)
+in_reverse p seen = as_is_back p p.from.left (from_back StepsBack (λ x. x) (λ w. w.left) (λ s t h. ap length h.gave.0) (λ s x t h. h.gave) p seen)
+
+pub is_fresh : (words : ℕ) (w : Walk) → w.looks ≡ 0 → w.items ≡ 0 → w.words ≡ words → IsFresh words w
+is_fresh words w l i n = record {
+  looks = l;
+  items = i;
+  words_are = n;
+  thrifty = record { at_least = omega arith; at_most = omega arith };
+  in_order = in_order;
+  in_reverse = in_reverse;
+}
+
+pub resumes_as : (source clone : Walk) → clone.left ≡ source.left → clone.words ≡ source.words → clone.looks ≡ 0 → clone.items ≡ 0 → ResumesAs source clone
+resumes_as source clone left n l i = record { left = left; fresh = is_fresh source.words clone l i n }

@@ -1,0 +1,14 @@
+use Rattle.std.proofs.Common.{not, ◌-◌, ◌/◌, ◌==◌}
+use Rattle.bittle_bits.specs.Orders.{members}
+use Rattle.bittle_bits.specs.Standing.{walk_of, Retires}
+use Rattle.bittle_bits.specs.Walk.{wanted}
+use Rattle.bittle_bits.proofs.Steps.{Seeks}
+use Rattle.bittle_bits.proofs.standing.step_front.Given as goal
+
+abbrev pub invariant-loop-item : goal.invariant-loop-item
+invariant-loop-item g l =
+    let s = wanted (not (g.row.ONES == 0)) (members g.E.Endian.mirrored g.B.Bits.width (g.B.Bits.big l.bits)) in
+    Seeks (walk_of s g.B.Bits.width l.initial.at) (walk_of s g.B.Bits.width l.at) × Retires (s.capacity / g.B.Bits.width) l.at
+
+abbrev pub decreases-loop-item : goal.decreases-loop-item
+decreases-loop-item g l = l.at.high - l.at.low

@@ -1,0 +1,23 @@
+-- Where a walk stands: two copies, and the words between them.
+use Rattle.std.specs.Prelude.{◌≡◌, ℕ, ◌+◌, ◌-◌, ◌*◌, ◌/◌, ◌≤◌, List, ◌++◌}
+use Rattle.bittle_bits.specs.Copies.{between, items_in, held}
+use Rattle.bittle_bits.specs.PlainSet.{PlainSet}
+use Rattle.bittle_bits.specs.Walk.{Walk}
+use Rattle.bittle_bits.specs.declared.standing.Standing.{Standing}
+
+-- the types are those of the set, of the order of the walk, and of the order and the words of the set
+module _ {B E O W : Type 0} where
+  -- what is left: the head's items, the members of the words between, and the tail's items
+  abbrev pub left_in : PlainSet → ℕ → Standing B E O W → List ℕ
+  left_in s w at = items_in at.copies.head ++ (between s (at.low * w) (at.high * w) ++ items_in at.copies.tail)
+
+  -- the walk over a set of words of w digits
+  abbrev pub walk_of : PlainSet → ℕ → Standing B E O W → Walk
+  walk_of s w at = record { left = left_in s w at; looks = at.copies.looks; items = at.items; words = s.capacity / w }
+
+-- each look gave an item or retired one of the words
+pub record Retires {B E O W : Type 0} (words : ℕ) (at : Standing B E O W) : Type 0 where
+  pub ordered : at.low ≤ at.high
+  pub within : at.high + held at.copies.tail ≤ words
+  pub at_least : at.items ≤ at.copies.looks
+  pub at_most : at.copies.looks + held at.copies.head + (at.high - at.low) + held at.copies.tail ≤ at.items + words

@@ -1,0 +1,60 @@
+-- What contracts see of a walk.
+use Rattle.std.specs.Prelude.{◌≡◌, ℕ, ◌+◌, ◌≤◌, Bool, true, false, List, Option, Some, None}
+use Rattle.std.specs.Iterator.{YieldsFirst, YieldsLast}
+use Rattle.std.specs.Iterator.Runs.{YieldsInOrder, YieldsInReverse}
+use Rattle.bittle_bits.specs.PlainSet.{PlainSet, complement}
+
+-- the set that a walk goes over: of the ones the set itself, of the zeros its complement
+abbrev pub wanted : Bool → PlainSet → PlainSet
+wanted true s = s
+wanted false s = complement s
+
+-- a walk
+pub record Walk : Type 0 where
+  -- the items that it has left, in increasing order
+  pub left : List ℕ
+  -- how many looks at words it has made, and how many items it has given
+  pub looks : ℕ
+  pub items : ℕ
+  -- how many words its set has
+  pub words : ℕ
+
+-- the looks are at least the items given, and at most these and the words
+pub record IsThrifty (w : Walk) : Type 0 where
+  pub at_least : w.items ≤ w.looks
+  pub at_most : w.looks ≤ w.items + w.words
+
+-- one more where a step gave an item
+abbrev pub counted : ℕ → Option ℕ → ℕ
+counted n None = n
+counted n (Some item) = n + 1
+
+-- a step from the front: it gave the first item that was left, or None where none was
+pub record StepsFront (before : Walk) (r : Option ℕ) (after : Walk) : Type 0 where
+  pub gave : YieldsFirst (λ w. w.left) before r after
+  pub items : after.items ≡ counted before.items r
+  pub looks : before.looks ≤ after.looks
+  pub words : after.words ≡ before.words
+  pub thrifty : IsThrifty after
+
+-- a step from the back: it gave the last item that was left, or None where none was
+pub record StepsBack (before : Walk) (r : Option ℕ) (after : Walk) : Type 0 where
+  pub gave : YieldsLast (λ w. w.left) before r after
+  pub items : after.items ≡ counted before.items r
+  pub looks : before.looks ≤ after.looks
+  pub words : after.words ≡ before.words
+  pub thrifty : IsThrifty after
+
+-- a walk that has not stepped yet, and what runs of its steps give
+pub record IsFresh (words : ℕ) (w : Walk) : Type 0 where
+  pub looks : w.looks ≡ 0
+  pub items : w.items ≡ 0
+  pub words_are : w.words ≡ words
+  pub thrifty : IsThrifty w
+  pub in_order : YieldsInOrder StepsFront (λ s. s.left)
+  pub in_reverse : YieldsInReverse StepsBack (λ s. s.left)
+
+-- a clone has what its source has left, and has counted nothing
+pub record ResumesAs (source clone : Walk) : Type 0 where
+  pub left : clone.left ≡ source.left
+  pub fresh : IsFresh source.words clone

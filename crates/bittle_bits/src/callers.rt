@@ -1,0 +1,72 @@
+//! What callers prove of walks with no proof but a loop's invariant.
+
+ghost use Rattle.std.specs.Prelude.{◌≡◌, ◌+◌, ◌*◌, ◌/◌, ◌<◌, ◌^◌, IfOk, length, map, reverse, true, false};
+ghost use Rattle.std.specs.Int.{w16, cast_unsigned};
+ghost use Rattle.bittle_bits.specs.Digits.{digit_set};
+ghost use Rattle.bittle_bits.specs.Orders.{members};
+ghost use Rattle.bittle_bits.specs.PlainSet.{ascending, complement};
+ghost use Rattle.bittle_bits.specs.Rows.{elements_set};
+ghost use Rattle.bittle_bits.specs.Shapes.{Fits};
+
+use crate::bits::Bits;
+use crate::bits_owned::BitsOwned;
+use crate::endian::Endian;
+use std::alloc::{AllocError, Global};
+
+/// A `for` over the members of any set.
+fn each_member<B: Bits, E: Endian>(bits: &B) -> u64
+    requires fits { Fits B.indexable (B.big bits.now).capacity }
+    requires few { length (ascending (members E.mirrored B.width (B.big bits.now))) < 100 }
+    ensures { result ≡ length (ascending (members E.mirrored B.width (B.big bits.now))) }
+{
+    let mut total: u64 = 0;
+    for _index in bits.iter_ones_in::<E>() {
+        total += 1;
+    }
+    total
+}
+
+/// A `for` over the other numbers of an array.
+fn each_other(bits: &[[u8; 2]; 2]) -> u32
+    requires { length (ascending (complement (members false 8 (elements_set 2 16 (elements_set 2 8 (digit_set 8)) bits.now)))) < 100 }
+    ensures { result ≡ length (ascending (complement (members false 8 (elements_set 2 16 (elements_set 2 8 (digit_set 8)) bits.now)))) }
+{
+    let mut total = 0;
+    for _index in bits.iter_zeros() {
+        total += 1;
+    }
+    total
+}
+
+/// How many members an owned set has, by its walk.
+fn counted<B: BitsOwned, E: Endian>(bits: B) -> usize
+    requires fits { Fits B.indexable (B.big bits).capacity }
+    requires few { length (ascending (members E.mirrored B.width (B.big bits))) < 2 ^ 64 }
+    ensures { result ≡ length (ascending (members E.mirrored B.width (B.big bits))) }
+{
+    bits.into_iter_ones_in::<E>().count()
+}
+
+/// The members of a set in an order, from the last on.
+fn reversed<B: Bits, E: Endian>(alloc: Global, bits: &B) -> Result<Vec<u32>, AllocError>
+    requires { Fits B.indexable (B.big bits.now).capacity }
+    ensures { IfOk result (λ v. v.items ≡ reverse (ascending (members E.mirrored B.width (B.big bits.now)))) }
+{
+    bits.iter_ones_in::<E>().rev().collect(alloc)
+}
+
+/// The members of a word, from the last on.
+fn word_reversed(alloc: Global, word: i16) -> Result<Vec<u32>, AllocError>
+    ensures { IfOk result (λ v. v.items ≡ reverse (ascending (members false 16 (digit_set 16 (cast_unsigned w16 word))))) }
+{
+    word.into_iter_ones_be().rev().collect(alloc)
+}
+
+/// Half of each number that a word lacks.
+fn halves(alloc: Global, word: u8) -> Result<Vec<u32>, AllocError>
+    ensures { IfOk result (λ v. v.items ≡ map (λ i. i / 2) (ascending (complement (members true 8 (digit_set 8 word))))) }
+{
+    word.into_iter_zeros_le()
+        .map(|index| index / 2)
+        .collect(alloc)
+}

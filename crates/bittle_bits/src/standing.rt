@@ -1,0 +1,123 @@
+//! Where a walk stands, and its steps: one core for the walks of ones and of zeros, borrowed and owned.
+
+ghost use Rattle.std.specs.Prelude.{◌≡◌, ℕ, ◌/◌};
+ghost use Rattle.bittle_bits.specs.Orders.{members};
+ghost use Rattle.bittle_bits.specs.PlainSet.{PlainSet, ascending};
+ghost use Rattle.bittle_bits.specs.Shapes.{Fits};
+ghost use Rattle.bittle_bits.specs.Standing.{left_in, walk_of, Retires};
+ghost use Rattle.bittle_bits.specs.Walk.{wanted, IsFresh, ResumesAs, StepsFront, StepsBack};
+
+use crate::bits::Bits;
+use crate::count::Count;
+use crate::endian::Endian;
+use crate::hidden::Number;
+use crate::look::Copies;
+
+/// The copies of a walk, and the range of words between them that are not copied yet.
+#[derive(Drop)]
+pub struct Standing<B: Bits, E: Endian> {
+    pub copies: Copies<B, E>,
+    pub low: u32,
+    pub high: u32,
+    pub items: Count,
+}
+
+/// Where a walk begins: the first word is copied to the head, and the last to the tail where there are two or more.
+#[inline]
+pub fn begin<B: Bits, E: Endian, const ONES: bool>(bits: &B) -> Standing<B, E>
+    requires { Fits B.indexable (B.big bits.now).capacity }
+    ensures left { left_in (wanted ONES (members E.mirrored B.width (B.big bits.now))) B.width result
+        ≡ ascending (wanted ONES (members E.mirrored B.width (B.big bits.now))) }
+    ensures fresh { IsFresh ((B.big bits.now).capacity / B.width) (walk_of (wanted ONES (members E.mirrored B.width (B.big bits.now))) B.width result) }
+    ensures retires { Retires ((B.big bits.now).capacity / B.width) result }
+{
+    let mut at = Standing {
+        copies: Copies::none(),
+        low: 0,
+        high: bits.bits_capacity() / <B::LeafWord as Number>::width(),
+        items: Count::new(),
+    };
+    if at.low == at.high {
+        return at;
+    }
+    at.copies.fetch_head::<ONES>(bits, at.low);
+    at.low += 1;
+    if at.low == at.high {
+        return at;
+    }
+    at.high -= 1;
+    at.copies.fetch_tail::<ONES>(bits, at.high);
+    at
+}
+
+/// The same place, where nothing is counted yet.
+#[inline]
+pub fn again<B: Bits, E: Endian>(at: &Standing<B, E>) -> Standing<B, E>
+    ensures resumes { (s : PlainSet) (w : ℕ) → ResumesAs (walk_of s w at.now) (walk_of s w result) }
+    ensures same { result ≡ record { copies = record { head = at.now.copies.head; tail = at.now.copies.tail; looks = 0 }; low = at.now.low; high = at.now.high; items = 0 } }
+{
+    Standing {
+        copies: at.copies.again(),
+        low: at.low,
+        high: at.high,
+        items: Count::new(),
+    }
+}
+
+/// Takes the first item that is left.
+#[inline]
+pub fn step_front<B: Bits, E: Endian, const ONES: bool>(
+    bits: &B,
+    at: &mut Standing<B, E>,
+) -> Option<u32>
+    requires fits { Fits B.indexable (B.big bits.now).capacity }
+    requires retires { Retires ((B.big bits.now).capacity / B.width) at.old }
+    ensures steps { StepsFront (walk_of (wanted ONES (members E.mirrored B.width (B.big bits.now))) B.width at.old) result (walk_of (wanted ONES (members E.mirrored B.width (B.big bits.now))) B.width at.new) }
+    ensures retires { Retires ((B.big bits.now).capacity / B.width) at.new }
+{
+    loop {
+        if let Some(item) = at.copies.first_of_head() {
+            at.items.raise();
+            return Some(item);
+        }
+        if at.low == at.high {
+            break;
+        }
+        at.copies.fetch_head::<ONES>(bits, at.low);
+        at.low += 1;
+    }
+    let Some(item) = at.copies.first_of_tail() else {
+        return None;
+    };
+    at.items.raise();
+    Some(item)
+}
+
+/// Takes the last item that is left.
+#[inline]
+pub fn step_back<B: Bits, E: Endian, const ONES: bool>(
+    bits: &B,
+    at: &mut Standing<B, E>,
+) -> Option<u32>
+    requires fits { Fits B.indexable (B.big bits.now).capacity }
+    requires retires { Retires ((B.big bits.now).capacity / B.width) at.old }
+    ensures steps { StepsBack (walk_of (wanted ONES (members E.mirrored B.width (B.big bits.now))) B.width at.old) result (walk_of (wanted ONES (members E.mirrored B.width (B.big bits.now))) B.width at.new) }
+    ensures retires { Retires ((B.big bits.now).capacity / B.width) at.new }
+{
+    loop {
+        if let Some(item) = at.copies.last_of_tail() {
+            at.items.raise();
+            return Some(item);
+        }
+        if at.low == at.high {
+            break;
+        }
+        at.high -= 1;
+        at.copies.fetch_tail::<ONES>(bits, at.high);
+    }
+    let Some(item) = at.copies.last_of_head() else {
+        return None;
+    };
+    at.items.raise();
+    Some(item)
+}
