@@ -2,5 +2,10 @@ pub use Rattle.bittle_bits.specs.Digits
 pub use Rattle.bittle_bits.specs.Orders
 pub use Rattle.bittle_bits.specs.PlainSet
 pub use Rattle.bittle_bits.specs.Rows
+pub use Rattle.bittle_bits.specs.SetOperations
 pub use Rattle.bittle_bits.specs.Shapes
+pub use Rattle.bittle_bits.specs.Walk
 pub mod Machine
+pub mod Order
+pub mod SetLaws
+pub mod SetOperators
