@@ -1,8 +1,14 @@
 pub use Rattle.bittle_bits.specs.Digits
+pub use Rattle.bittle_bits.specs.Join
 pub use Rattle.bittle_bits.specs.Orders
 pub use Rattle.bittle_bits.specs.PlainSet
 pub use Rattle.bittle_bits.specs.Rows
+pub use Rattle.bittle_bits.specs.SetOperations
 pub use Rattle.bittle_bits.specs.Shapes
+pub use Rattle.bittle_bits.specs.Walk
 pub mod Listed
 pub mod Machine
+pub mod Order
 pub mod Ranges
+pub mod SetLaws
+pub mod SetOperators

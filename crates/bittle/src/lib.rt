@@ -5,6 +5,8 @@
 pub mod macros;
 pub mod prelude;
 pub mod replay;
+#[doc(hidden)]
+pub mod set;
 #[cfg(test)]
 mod tests;
 
@@ -15,3 +17,4 @@ pub use bittle_bits::endian::{BigEndian, DefaultEndian, Endian, LittleEndian};
 pub use bittle_bits::join;
 pub use bittle_bits::number;
 pub use bittle_bits::walk;
+pub use set::Set;

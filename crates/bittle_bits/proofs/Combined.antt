@@ -1,5 +1,5 @@
 -- The operations on two sets, in each order, of words and of rows.
-use Rattle.std.proofs.Common.{◌≡◌, ◌≢◌, ℕ, zero, suc, ◌+◌, ◌-◌, ◌*◌, ◌%◌, ◌^◌, ◌<◌, ◌≤◌, Bool, true, false, cond, not, ◌&&◌, ◌||◌, ◌==◌, nat_lt, ◌⊎◌, inl, inr, refl, sym, ap, ◌∙◌, arith, List, [], ◌∷◌, length, get_or, set, bit_and, bit_or, bit_xor}
+use Rattle.std.proofs.Common.{◌≡◌, ℕ, zero, suc, ◌+◌, ◌-◌, ◌*◌, ◌%◌, ◌^◌, ◌<◌, ◌≤◌, Bool, true, false, cond, not, ◌&&◌, ◌||◌, ◌==◌, nat_lt, inl, inr, refl, sym, ap, ◌∙◌, arith, List, [], ◌∷◌, length, get_or, set, bit_and, bit_or, bit_xor}
 use Rattle.std.proofs.Math.Path.{fun_ext}
 use Rattle.std.specs.Int.{bit_at}
 use Rattle.std.proofs.Math.Nat.{mul-le-mul_right}
@@ -13,10 +13,10 @@ use Rattle.bittle_bits.specs.Orders.{place, members}
 use Rattle.bittle_bits.specs.PlainSet.{PlainSet, lacks}
 use Rattle.bittle_bits.specs.Rows.{at_element, elements_has, elements_set}
 use Rattle.bittle_bits.specs.SetOperations.{has_combined, combined, first_alone, just_one}
-use Rattle.bittle_bits.proofs.DigitSets.{digit_has-and, digit_has-or, digit_has-not, digit_has-at}
+use Rattle.bittle_bits.proofs.DigitSets.{two, digit_has-and, digit_has-or, digit_has-not, digit_has-at}
 use Rattle.bittle_bits.proofs.PlaceLemmas.{place_inside}
 use Rattle.bittle_bits.proofs.PlainSets.{plain}
-use Rattle.bittle_bits.proofs.RowSets.{at_element-read, elements_has_at, by_place}
+use Rattle.bittle_bits.proofs.RowSets.{elements_has_at, by_place}
 
 -- a number below both capacities is decided
 pub combined_below : (f : Bool → Bool → Bool) (s t : PlainSet) (k : ℕ) → k < s.capacity → k < t.capacity → has_combined f s t k ≡ f (s.has k) (t.has k)
@@ -72,9 +72,6 @@ unfolding lacks
 digits_first_alone w a b rest fits is =
     rw is (digits_combined first_alone w a b (bit_and a (2 ^ w - 1 - b)) (λ k h.
     ap (λ p. p k) (digit_has-and w a (2 ^ w - 1 - b)) ∙ ap (λ p. digit_has w a k && p k) (digit_has-not w b fits) ∙ ap (λ t. digit_has w a k && (t && not (digit_has w b k))) (lt-ltb k w h)))
-
-two : (x : ℕ) → x < 2 → (x ≡ 0) ⊎ (x ≡ 1)
-two x h = elim (cases_eq x 0) [ inl e ↦ inl e | inr n ↦ inr (omega arith) ]
 
 one_of : (x y : ℕ) → x < 2 → y < 2 → ((x + y) % 2 == 1) ≡ just_one (x == 1) (y == 1)
 one_of x y p q = elim (two x p) [ inl e ↦ elim (two y q) [ inl f ↦ rw (e, f) refl | inr f ↦ rw (e, f) refl ] | inr e ↦ elim (two y q) [ inl f ↦ rw (e, f) refl | inr f ↦ rw (e, f) refl ] ]

@@ -10,7 +10,7 @@ use Rattle.bittle_bits.specs.Digits.{digit_has, digit_set}
 use Rattle.bittle_bits.specs.PlainSet.{lacks, empty, filled}
 use Rattle.bittle_bits.proofs.PlainSets.{plain}
 
-two : (x : ℕ) → x < 2 → (x ≡ 0) ⊎ (x ≡ 1)
+pub two : (x : ℕ) → x < 2 → (x ≡ 0) ⊎ (x ≡ 1)
 two x h = elim (cases_eq x 0) [ inl e ↦ inl e | inr n ↦ inr (omega arith) ]
 
 either : (t : Bool) (x y : ℕ) → x < 2 → y < 2 → (t && (max x y == 1)) ≡ (t && (x == 1)) || (t && (y == 1))

@@ -1,20 +1,17 @@
 -- The laws of the operations on sets of one capacity, from those of the tests of one number.
-use Rattle.std.proofs.Common.{◌≡◌, ℕ, ◌<◌, ◌≤◌, Bool, true, false, cond, not, ◌&&◌, ◌||◌, nat_lt, ◌⊎◌, inl, inr, refl, sym, ap, ◌∙◌}
+use Rattle.std.proofs.Common.{◌≡◌, ℕ, Bool, true, false, cond, nat_lt, inl, inr, refl, sym, ap, ◌∙◌}
+use Rattle.std.proofs.Math.Bool.{and_self}
 use Rattle.std.proofs.Math.Path.{fun_ext}
 use Rattle.std.proofs.lemmas.Bool.{cases_lt, lt-ltb, le-ltb}
 use Rattle.bittle_bits.specs.PlainSet.{PlainSet}
-use Rattle.bittle_bits.specs.SetAlgebra.{IsBelow, Commutes, Associates, IsIdempotent, DistributesOver, UndoesItself}
+use Rattle.bittle_bits.specs.SetAlgebra.{Commutes, Associates, IsIdempotent, DistributesOver, UndoesItself}
 use Rattle.bittle_bits.specs.SetOperations.{has_combined, combined, just_one}
 use Rattle.bittle_bits.proofs.PlainSets.{plain}
 
 -- one number of two sets of one capacity
 decided : (f : Bool → Bool → Bool) (c : ℕ) (s t : PlainSet) (k : ℕ) → s.capacity ≡ c → t.capacity ≡ c → has_combined f s t k ≡ cond (nat_lt k c) (f (s.has k) (t.has k)) (s.has k)
 unfolding has_combined
-decided f c s t k d e = rw (d, e) (ap (λ b. cond b (f (s.has k) (t.has k)) (s.has k)) (twice (nat_lt k c)))
-  where
-    twice : (b : Bool) → b && b ≡ b
-    twice true = refl
-    twice false = refl
+decided f c s t k d e = rw (d, e) (ap (λ b. cond b (f (s.has k) (t.has k)) (s.has k)) (and_self (nat_lt k c)))
 
 module _ (f : Bool → Bool → Bool) where
   pub commutes : ((a b : Bool) → f a b ≡ f b a) → Commutes (combined f)
@@ -68,43 +65,6 @@ distributes f g law c s t u p q r = ap (plain s.capacity) (fun_ext λ k.
     by : (b x y z : Bool) → cond b (f x (cond b (g y z) y)) x ≡ cond b (g (cond b (f x y) x) (cond b (f x z) x)) (cond b (f x y) x)
     by true x y z = law x y z
     by false x y z = refl
-
--- the same of the test of one number
-pub or_commutes : (a b : Bool) → a || b ≡ b || a
-or_commutes true true = refl
-or_commutes true false = refl
-or_commutes false true = refl
-or_commutes false false = refl
-
-pub and_commutes : (a b : Bool) → a && b ≡ b && a
-and_commutes true true = refl
-and_commutes true false = refl
-and_commutes false true = refl
-and_commutes false false = refl
-
-pub or_associates : (a b c : Bool) → (a || b) || c ≡ a || (b || c)
-or_associates true b c = refl
-or_associates false b c = refl
-
-pub and_associates : (a b c : Bool) → (a && b) && c ≡ a && (b && c)
-and_associates true b c = refl
-and_associates false b c = refl
-
-pub or_idempotent : (a : Bool) → a || a ≡ a
-or_idempotent true = refl
-or_idempotent false = refl
-
-pub and_idempotent : (a : Bool) → a && a ≡ a
-and_idempotent true = refl
-and_idempotent false = refl
-
-pub or_over_and : (a b c : Bool) → a || (b && c) ≡ (a || b) && (a || c)
-or_over_and true b c = refl
-or_over_and false b c = refl
-
-pub and_over_or : (a b c : Bool) → a && (b || c) ≡ (a && b) || (a && c)
-and_over_or true b c = refl
-and_over_or false b c = refl
 
 pub just_one-undoes : (a b : Bool) → just_one (just_one a b) b ≡ a
 just_one-undoes true true = refl

@@ -1,5 +1,5 @@
 -- The laws of operations on sets of one capacity.
-use Rattle.std.specs.Prelude.{◌≡◌, ℕ, ◌≤◌, Bool, false}
+use Rattle.std.specs.Prelude.{◌≡◌, ℕ, ◌≤◌, false}
 use Rattle.bittle_bits.specs.PlainSet.{PlainSet}
 
 -- a set of numbers below c, with no member past them

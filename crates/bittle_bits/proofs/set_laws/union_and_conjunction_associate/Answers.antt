@@ -1,9 +1,10 @@
 use Rattle.std.proofs.Common.{◌||◌, ◌&&◌}
-use Rattle.bittle_bits.proofs.SetLaws.{associates, or_associates, and_associates}
+use Rattle.std.proofs.Math.Bool.{or_assoc, and_assoc}
+use Rattle.bittle_bits.proofs.SetLaws.{associates}
 use Rattle.bittle_bits.proofs.set_laws.union_and_conjunction_associate.Goals as goal
 
 pub returns : goal.returns
 returns c = record {
-  union = associates ◌||◌ or_associates;
-  conjunction = associates ◌&&◌ and_associates;
+  union = associates ◌||◌ or_assoc;
+  conjunction = associates ◌&&◌ and_assoc;
 }

@@ -1,0 +1,16 @@
+use Rattle.std.proofs.Common.{◌≡◌, ◌+◌, ◌-◌, ◌≤◌, length}
+use Rattle.std.specs.List.{flat_map, fold}
+use Rattle.std.specs.Hash as fed
+use Rattle.bittle_bits.specs.Orders.{members}
+use Rattle.bittle_bits.specs.PlainSet.{ascending}
+use Rattle.bittle.proofs.set.hash.SetHash.hash.Given as goal
+
+-- what is fed of the rest completes what is fed of all
+abbrev pub invariant-loop-index : goal.invariant-loop-index
+invariant-loop-index g l =
+    let all = ascending (members g.E.Endian.mirrored g.T.Bits.width (g.T.Bits.big l.self.bits)) in
+    let write = g.H.Hasher.write in
+    record {
+      count : l.count + length l.index-iterator.left ≡ length all;
+      fed : fold write l.initial.state (flat_map fed.u32 all) ≡ fold write l.state (flat_map fed.u32 l.index-iterator.left);
+    }

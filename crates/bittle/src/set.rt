@@ -1,0 +1,263 @@
+//! Sets that remember the order in which their digits are read.
+
+ghost use Rattle.std.specs.Prelude.{◌≡◌, ◌*◌, ◌<◌, length, IsTrue};
+ghost use Rattle.bittle_bits.specs.Shapes.{Fits};
+
+use bittle_bits::bits::Bits;
+use bittle_bits::bits_mut::BitsMut;
+use bittle_bits::bits_owned::BitsOwned;
+use bittle_bits::endian::{DefaultEndian, Endian, LittleEndian};
+use bittle_bits::hidden::Sealed;
+use std::alloc::AllocError;
+use std::marker::PhantomData;
+
+mod compare;
+mod debug;
+mod hash;
+mod integers;
+mod iteration;
+#[doc(hidden)]
+pub mod laws;
+mod operators;
+#[cfg(test)]
+mod tests;
+
+/// A set that remembers the order in which its digits are read.
+///
+/// Calls that name no order use the remembered one, and so do iteration, comparison, hashing and debug text. What a set
+/// wraps always fits: its capacity, and that of every array type within it, is below `u32::MAX`.
+#[derive(Drop)]
+pub struct Set<T: Bits, E: Endian = DefaultEndian> {
+    bits: T,
+    order: PhantomData<E>,
+    pub ghost fits: { Fits T.indexable (T.big bits).capacity },
+}
+
+impl<T: Bits> Set<T> {
+    /// The set of `bits`, read in [`DefaultEndian`] order. The shape has to fit.
+    #[inline]
+    pub fn new(bits: T) -> Set<T>
+        requires { Fits T.indexable (T.big bits).capacity }
+        ensures { result.bits ≡ bits }
+    {
+        Set::<T>::new_in(bits)
+    }
+}
+
+impl<T: Bits> Set<T, LittleEndian> {
+    /// The set of `bits`, read in [`LittleEndian`] order. The shape has to fit.
+    #[inline]
+    pub fn new_le(bits: T) -> Set<T, LittleEndian>
+        requires { Fits T.indexable (T.big bits).capacity }
+        ensures { result.bits ≡ bits }
+    {
+        Set::<T, LittleEndian>::new_in(bits)
+    }
+}
+
+impl<T: Bits, E: Endian> Set<T, E> {
+    /// The set of `bits`, read in the order `E`. The shape has to fit.
+    #[inline]
+    pub fn new_in(bits: T) -> Set<T, E>
+        requires { Fits T.indexable (T.big bits).capacity }
+        ensures { result.bits ≡ bits }
+    {
+        Set {
+            bits,
+            order: PhantomData,
+        }
+    }
+
+    /// The wrapped value.
+    #[inline]
+    pub fn into_bits(self) -> T
+        ensures value { result ≡ self.bits }
+        ensures fits { Fits T.indexable (T.big result).capacity }
+    {
+        self.bits
+    }
+}
+
+impl<'a, U: BitsOwned> Set<&'a [U]> {
+    /// The set of a slice, read in [`DefaultEndian`] order. The shape has to fit.
+    #[inline]
+    pub fn from_ref(bits: &'a [U]) -> Set<&'a [U]>
+        requires { Fits U.indexable (length bits.now * U.type_capacity) }
+        ensures { result.bits.now ≡ bits.now }
+    {
+        Set::<&'a [U]>::new_in(bits)
+    }
+}
+
+impl<'a, U: BitsOwned> Set<&'a [U], LittleEndian> {
+    /// The set of a slice, read in [`LittleEndian`] order. The shape has to fit.
+    #[inline]
+    pub fn from_ref_le(bits: &'a [U]) -> Set<&'a [U], LittleEndian>
+        requires { Fits U.indexable (length bits.now * U.type_capacity) }
+        ensures { result.bits.now ≡ bits.now }
+    {
+        Set::<&'a [U], LittleEndian>::new_in(bits)
+    }
+}
+
+impl<'a, U: BitsOwned> Set<&'a mut [U]> {
+    /// The set of a slice that is lent, read in [`DefaultEndian`] order. Changes reach the slice. The shape has to fit.
+    #[inline]
+    pub fn from_mut(bits: &'a mut [U]) -> Set<&'a mut [U]>
+        requires { Fits U.indexable (length bits.old * U.type_capacity) }
+        ensures same_slice { result.bits.ghost_name ≡ bits.entry.ghost_name }
+        ensures value { result.bits.now ≡ bits.old }
+    {
+        Set::<&'a mut [U]>::new_in(bits)
+    }
+}
+
+impl<'a, U: BitsOwned> Set<&'a mut [U], LittleEndian> {
+    /// The set of a slice that is lent, read in [`LittleEndian`] order. Changes reach the slice. The shape has to fit.
+    #[inline]
+    pub fn from_mut_le(bits: &'a mut [U]) -> Set<&'a mut [U], LittleEndian>
+        requires { Fits U.indexable (length bits.old * U.type_capacity) }
+        ensures same_slice { result.bits.ghost_name ≡ bits.entry.ghost_name }
+        ensures value { result.bits.now ≡ bits.old }
+    {
+        Set::<&'a mut [U], LittleEndian>::new_in(bits)
+    }
+}
+
+impl<T: Bits + Copy, E: Endian> Clone for Set<T, E> {
+    ghost use Rattle.std.specs.Prelude.{⊤};
+
+    ghost is_clone = { λ s r. r ≡ s };
+
+    ghost is_infallible = { λ _. ⊤ };
+
+    #[inline]
+    fn clone(&self) -> Result<Set<T, E>, AllocError> {
+        Ok(Set {
+            bits: self.bits,
+            order: PhantomData,
+        })
+    }
+}
+
+impl<T: Bits + Copy, E: Endian> Copy for Set<T, E> {}
+
+impl<T: Bits, E: Endian> Sealed for Set<T, E> {}
+
+impl<T: Bits, U: Endian> Bits for Set<T, U> {
+    type Order = U;
+
+    type LeafWord = T::LeafWord;
+
+    ghost width = { T.width };
+
+    ghost indexable = { T.indexable };
+
+    ghost big = { λ s. T.big s.bits };
+
+    ghost leaf_width = { T.leaf_width };
+
+    ghost width_positive = { T.width_positive };
+
+    ghost whole_words = { λ s. T.whole_words s.bits };
+
+    ghost none_past = { λ s. T.none_past s.bits };
+
+    #[inline]
+    fn bits_capacity(&self) -> u32 {
+        self.bits.bits_capacity()
+    }
+
+    #[inline]
+    fn count_ones(&self) -> u32 {
+        self.bits.count_ones()
+    }
+
+    #[inline]
+    fn all_zeros(&self) -> bool {
+        self.bits.all_zeros()
+    }
+
+    #[inline]
+    fn all_ones(&self) -> bool {
+        self.bits.all_ones()
+    }
+
+    #[inline]
+    fn test_bit_in<E: Endian>(&self, index: u32) -> bool {
+        self.bits.test_bit_in::<E>(index)
+    }
+
+    #[inline]
+    fn leaf_word(&self, k: u32) -> T::LeafWord {
+        self.bits.leaf_word(k)
+    }
+}
+
+impl<T: BitsMut, U: Endian> BitsMut for Set<T, U> {
+    ghost same_place = { λ s t. T.same_place s.bits t.bits };
+
+    ghost same_place_self = { λ s. T.same_place_self s.bits };
+
+    ghost same_place_on = { λ s t u. T.same_place_on s.bits t.bits u.bits };
+
+    #[inline]
+    fn set_bit_in<E: Endian>(&mut self, index: u32) {
+        self.bits.set_bit_in::<E>(index);
+    }
+
+    #[inline]
+    fn clear_bit_in<E: Endian>(&mut self, index: u32) {
+        self.bits.clear_bit_in::<E>(index);
+    }
+
+    #[inline]
+    fn clear_bits(&mut self) {
+        self.bits.clear_bits();
+    }
+
+    #[inline]
+    fn union_assign(&mut self, other: &Set<T, U>) {
+        self.bits.union_assign(&other.bits);
+    }
+
+    #[inline]
+    fn conjunction_assign(&mut self, other: &Set<T, U>) {
+        self.bits.conjunction_assign(&other.bits);
+    }
+
+    #[inline]
+    fn difference_assign(&mut self, other: &Set<T, U>) {
+        self.bits.difference_assign(&other.bits);
+    }
+
+    #[inline]
+    fn symmetric_difference_assign(&mut self, other: &Set<T, U>) {
+        self.bits.symmetric_difference_assign(&other.bits);
+    }
+}
+
+impl<T: BitsOwned, U: Endian> BitsOwned for Set<T, U> {
+    ghost type_capacity = { T.type_capacity };
+
+    ghost one_capacity = { λ s. T.one_capacity s.bits };
+
+    ghost type_whole_words = { T.type_whole_words };
+
+    ghost type_fits = { T.type_fits };
+
+    #[inline]
+    fn bits() -> u32 {
+        T::bits()
+    }
+
+    #[inline]
+    fn zeros() -> Set<T, U> {
+        Set::new_in(T::zeros())
+    }
+
+    #[inline]
+    fn ones() -> Set<T, U> {
+        Set::new_in(T::ones())
+    }
+}

@@ -1,0 +1,22 @@
+//! The text of a set.
+
+use super::Set;
+use bittle_bits::bits::Bits;
+use bittle_bits::endian::Endian;
+use std::fmt;
+
+/// The members in increasing order between braces, as `{1, 14}`. Flags of the format change nothing.
+impl<T: Bits, E: Endian> fmt::Debug for Set<T, E> {
+    fn fmt<W: fmt::Write>(&self, f: &mut fmt::Formatter<W>) -> fmt::Result {
+        f.write_str("{")?;
+        let mut first = true;
+        for index in self.bits.iter_ones_in::<E>() {
+            if !first {
+                f.write_str(", ")?;
+            }
+            write!(f, "{index}")?;
+            first = false;
+        }
+        f.write_str("}")
+    }
+}

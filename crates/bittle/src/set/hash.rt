@@ -1,0 +1,29 @@
+//! What a hasher is fed of a set.
+
+ghost use Rattle.std.specs.Cmp.Lexicographic.{bytes_decides};
+ghost use Rattle.std.specs.Hash.{on_Alike, same_Alike};
+ghost use Rattle.bittle_bits.specs.Orders.{members};
+ghost use Rattle.bittle_bits.specs.PlainSet.{ascending};
+ghost use Rattle.bittle.specs.Order.{feed};
+
+use super::Set;
+use bittle_bits::bits::Bits;
+use bittle_bits::endian::Endian;
+use std::hash::{Hash, Hasher};
+
+/// The hasher is fed each member in increasing order and then how many there are, each as a `u32`. So equal sets are fed
+/// alike, whatever the slices that they lie over.
+impl<T: Bits, E: Endian> Hash for Set<T, E> {
+    ghost hash_input = { λ s. feed (ascending (members E.mirrored T.width (T.big s.bits))) };
+
+    ghost respects_eq = { (on_Alike (λ s. ascending (members E.mirrored T.width (T.big s.bits))) (same_Alike feed bytes_decides)).fed };
+
+    fn hash<H: Hasher>(&self, state: &mut H) {
+        let mut count = 0;
+        for index in self.bits.iter_ones_in::<E>() {
+            state.write_u32(index);
+            count += 1;
+        }
+        state.write_u32(count);
+    }
+}

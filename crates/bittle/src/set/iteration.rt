@@ -1,0 +1,40 @@
+//! Iteration over the members of a set, in the order that it remembers.
+
+ghost use Rattle.std.specs.Prelude.{◌≡◌, ◌/◌};
+ghost use Rattle.bittle_bits.specs.Orders.{members};
+ghost use Rattle.bittle_bits.specs.PlainSet.{ascending};
+ghost use Rattle.bittle_bits.specs.Walk.{IsFresh};
+
+use super::Set;
+use bittle_bits::bits::Bits;
+use bittle_bits::bits_owned::BitsOwned;
+use bittle_bits::endian::Endian;
+use bittle_bits::walk::{IntoIterOnes, IterOnes};
+
+/// The members in increasing order.
+impl<T: BitsOwned, E: Endian> IntoIterator for Set<T, E> {
+    type Item = u32;
+
+    type IntoIter = IntoIterOnes<Set<T, E>, E>;
+
+    ghost into_iter_gives = { λ s w. (w.left ≡ ascending (members E.mirrored T.width (T.big s.bits))) × IsFresh ((T.big s.bits).capacity / T.width) w };
+
+    #[inline]
+    fn into_iter(self) -> IntoIterOnes<Set<T, E>, E> {
+        self.into_iter_ones()
+    }
+}
+
+/// The members in increasing order.
+impl<'a, T: Bits, E: Endian> IntoIterator for &'a Set<T, E> {
+    type Item = u32;
+
+    type IntoIter = IterOnes<'a, Set<T, E>, E>;
+
+    ghost into_iter_gives = { λ s w. (w.left ≡ ascending (members E.mirrored T.width (T.big s.now.bits))) × IsFresh ((T.big s.now.bits).capacity / T.width) w };
+
+    #[inline]
+    fn into_iter(self) -> IterOnes<'a, Set<T, E>, E> {
+        self.iter_ones()
+    }
+}

@@ -1,0 +1,28 @@
+//! Laws of comparison. Each function does nothing: its contract is the law.
+
+ghost use Rattle.bittle.specs.SetLaws.{OrderIsTotal, OrderAgreesWithEquality, OrderReverses, EqualityIsSymmetric, EqualSetsFeedAlike};
+
+/// The order of sets is total.
+pub fn order_is_total()
+    ensures { OrderIsTotal }
+{}
+
+/// Two sets are equal exactly where the order says so.
+pub fn order_agrees_with_equality()
+    ensures { OrderAgreesWithEquality }
+{}
+
+/// The order of two sets, of any two shapes, reverses with its sides.
+pub fn order_reverses()
+    ensures { OrderReverses }
+{}
+
+/// Whether two sets, of any two shapes, are equal is the same from both sides.
+pub fn equality_is_symmetric()
+    ensures { EqualityIsSymmetric }
+{}
+
+/// Equal sets feed a hasher alike.
+pub fn equal_sets_feed_alike()
+    ensures { EqualSetsFeedAlike }
+{}

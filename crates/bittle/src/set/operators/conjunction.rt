@@ -1,0 +1,80 @@
+//! The operators `&` and `&=` of sets.
+
+ghost use Rattle.bittle_bits.specs.SetOperations.{conjunction_of};
+ghost use Rattle.bittle.specs.SetOperators.{IsInBothOrders};
+
+use crate::set::Set;
+use bittle_bits::bits_mut::BitsMut;
+use bittle_bits::bits_owned::BitsOwned;
+use bittle_bits::endian::Endian;
+use std::ops::{BitAnd, BitAndAssign};
+
+/// `&` gives the members of both sets.
+impl<T: BitsOwned, E: Endian> BitAnd<Set<T, E>> for Set<T, E> {
+    type Output = Set<T, E>;
+
+    ghost bitand_gives = { λ a b r. IsInBothOrders conjunction_of T.width (T.big a.bits) (T.big b.bits) (T.big r.bits) };
+
+    #[inline]
+    fn bitand(self, rhs: Set<T, E>) -> Set<T, E> {
+        self.conjunction(rhs)
+    }
+}
+
+impl<'b, T: BitsOwned, E: Endian> BitAnd<&'b Set<T, E>> for Set<T, E> {
+    type Output = Set<T, E>;
+
+    ghost bitand_gives = { λ a b r. IsInBothOrders conjunction_of T.width (T.big a.bits) (T.big b.now.bits) (T.big r.bits) };
+
+    #[inline]
+    fn bitand(self, rhs: &'b Set<T, E>) -> Set<T, E> {
+        let mut set = self;
+        set.conjunction_assign(rhs);
+        set
+    }
+}
+
+impl<'a, T: BitsOwned, E: Endian> BitAnd<Set<T, E>> for &'a Set<T, E> {
+    type Output = Set<T, E>;
+
+    ghost bitand_gives = { λ a b r. IsInBothOrders conjunction_of T.width (T.big a.now.bits) (T.big b.bits) (T.big r.bits) };
+
+    #[inline]
+    fn bitand(self, rhs: Set<T, E>) -> Set<T, E> {
+        let mut set = Set::<T, E>::new_in(self.bits);
+        set.conjunction_assign(&rhs);
+        set
+    }
+}
+
+impl<'a, 'b, T: BitsOwned, E: Endian> BitAnd<&'b Set<T, E>> for &'a Set<T, E> {
+    type Output = Set<T, E>;
+
+    ghost bitand_gives = { λ a b r. IsInBothOrders conjunction_of T.width (T.big a.now.bits) (T.big b.now.bits) (T.big r.bits) };
+
+    #[inline]
+    fn bitand(self, rhs: &'b Set<T, E>) -> Set<T, E> {
+        let mut set = Set::<T, E>::new_in(self.bits);
+        set.conjunction_assign(rhs);
+        set
+    }
+}
+
+/// `&=` keeps the members that are members of the other set too. Of two slices only what lies below both capacities changes.
+impl<T: BitsMut, E: Endian> BitAndAssign<Set<T, E>> for Set<T, E> {
+    ghost bitand_assign_gives = { λ a b r. IsInBothOrders conjunction_of T.width (T.big a.bits) (T.big b.bits) (T.big r.bits) × T.same_place a.bits r.bits };
+
+    #[inline]
+    fn bitand_assign(&mut self, rhs: Set<T, E>) {
+        self.conjunction_assign(&rhs);
+    }
+}
+
+impl<'b, T: BitsMut, E: Endian> BitAndAssign<&'b Set<T, E>> for Set<T, E> {
+    ghost bitand_assign_gives = { λ a b r. IsInBothOrders conjunction_of T.width (T.big a.bits) (T.big b.now.bits) (T.big r.bits) × T.same_place a.bits r.bits };
+
+    #[inline]
+    fn bitand_assign(&mut self, rhs: &'b Set<T, E>) {
+        self.conjunction_assign(rhs);
+    }
+}

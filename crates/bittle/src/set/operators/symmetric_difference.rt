@@ -1,0 +1,80 @@
+//! The operators `^` and `^=` of sets.
+
+ghost use Rattle.bittle_bits.specs.SetOperations.{symmetric_difference_of};
+ghost use Rattle.bittle.specs.SetOperators.{IsInBothOrders};
+
+use crate::set::Set;
+use bittle_bits::bits_mut::BitsMut;
+use bittle_bits::bits_owned::BitsOwned;
+use bittle_bits::endian::Endian;
+use std::ops::{BitXor, BitXorAssign};
+
+/// `^` gives the members of just one of the sets.
+impl<T: BitsOwned, E: Endian> BitXor<Set<T, E>> for Set<T, E> {
+    type Output = Set<T, E>;
+
+    ghost bitxor_gives = { λ a b r. IsInBothOrders symmetric_difference_of T.width (T.big a.bits) (T.big b.bits) (T.big r.bits) };
+
+    #[inline]
+    fn bitxor(self, rhs: Set<T, E>) -> Set<T, E> {
+        self.symmetric_difference(rhs)
+    }
+}
+
+impl<'b, T: BitsOwned, E: Endian> BitXor<&'b Set<T, E>> for Set<T, E> {
+    type Output = Set<T, E>;
+
+    ghost bitxor_gives = { λ a b r. IsInBothOrders symmetric_difference_of T.width (T.big a.bits) (T.big b.now.bits) (T.big r.bits) };
+
+    #[inline]
+    fn bitxor(self, rhs: &'b Set<T, E>) -> Set<T, E> {
+        let mut set = self;
+        set.symmetric_difference_assign(rhs);
+        set
+    }
+}
+
+impl<'a, T: BitsOwned, E: Endian> BitXor<Set<T, E>> for &'a Set<T, E> {
+    type Output = Set<T, E>;
+
+    ghost bitxor_gives = { λ a b r. IsInBothOrders symmetric_difference_of T.width (T.big a.now.bits) (T.big b.bits) (T.big r.bits) };
+
+    #[inline]
+    fn bitxor(self, rhs: Set<T, E>) -> Set<T, E> {
+        let mut set = Set::<T, E>::new_in(self.bits);
+        set.symmetric_difference_assign(&rhs);
+        set
+    }
+}
+
+impl<'a, 'b, T: BitsOwned, E: Endian> BitXor<&'b Set<T, E>> for &'a Set<T, E> {
+    type Output = Set<T, E>;
+
+    ghost bitxor_gives = { λ a b r. IsInBothOrders symmetric_difference_of T.width (T.big a.now.bits) (T.big b.now.bits) (T.big r.bits) };
+
+    #[inline]
+    fn bitxor(self, rhs: &'b Set<T, E>) -> Set<T, E> {
+        let mut set = Set::<T, E>::new_in(self.bits);
+        set.symmetric_difference_assign(rhs);
+        set
+    }
+}
+
+/// `^=` makes each member of the other set a member, or, where it is one already, takes it out. Of two slices only what lies below both capacities changes.
+impl<T: BitsMut, E: Endian> BitXorAssign<Set<T, E>> for Set<T, E> {
+    ghost bitxor_assign_gives = { λ a b r. IsInBothOrders symmetric_difference_of T.width (T.big a.bits) (T.big b.bits) (T.big r.bits) × T.same_place a.bits r.bits };
+
+    #[inline]
+    fn bitxor_assign(&mut self, rhs: Set<T, E>) {
+        self.symmetric_difference_assign(&rhs);
+    }
+}
+
+impl<'b, T: BitsMut, E: Endian> BitXorAssign<&'b Set<T, E>> for Set<T, E> {
+    ghost bitxor_assign_gives = { λ a b r. IsInBothOrders symmetric_difference_of T.width (T.big a.bits) (T.big b.now.bits) (T.big r.bits) × T.same_place a.bits r.bits };
+
+    #[inline]
+    fn bitxor_assign(&mut self, rhs: &'b Set<T, E>) {
+        self.symmetric_difference_assign(rhs);
+    }
+}

@@ -1,0 +1,80 @@
+//! The operators `|` and `|=` of sets.
+
+ghost use Rattle.bittle_bits.specs.SetOperations.{union_of};
+ghost use Rattle.bittle.specs.SetOperators.{IsInBothOrders};
+
+use crate::set::Set;
+use bittle_bits::bits_mut::BitsMut;
+use bittle_bits::bits_owned::BitsOwned;
+use bittle_bits::endian::Endian;
+use std::ops::{BitOr, BitOrAssign};
+
+/// `|` gives the members of either set.
+impl<T: BitsOwned, E: Endian> BitOr<Set<T, E>> for Set<T, E> {
+    type Output = Set<T, E>;
+
+    ghost bitor_gives = { λ a b r. IsInBothOrders union_of T.width (T.big a.bits) (T.big b.bits) (T.big r.bits) };
+
+    #[inline]
+    fn bitor(self, rhs: Set<T, E>) -> Set<T, E> {
+        self.union(rhs)
+    }
+}
+
+impl<'b, T: BitsOwned, E: Endian> BitOr<&'b Set<T, E>> for Set<T, E> {
+    type Output = Set<T, E>;
+
+    ghost bitor_gives = { λ a b r. IsInBothOrders union_of T.width (T.big a.bits) (T.big b.now.bits) (T.big r.bits) };
+
+    #[inline]
+    fn bitor(self, rhs: &'b Set<T, E>) -> Set<T, E> {
+        let mut set = self;
+        set.union_assign(rhs);
+        set
+    }
+}
+
+impl<'a, T: BitsOwned, E: Endian> BitOr<Set<T, E>> for &'a Set<T, E> {
+    type Output = Set<T, E>;
+
+    ghost bitor_gives = { λ a b r. IsInBothOrders union_of T.width (T.big a.now.bits) (T.big b.bits) (T.big r.bits) };
+
+    #[inline]
+    fn bitor(self, rhs: Set<T, E>) -> Set<T, E> {
+        let mut set = Set::<T, E>::new_in(self.bits);
+        set.union_assign(&rhs);
+        set
+    }
+}
+
+impl<'a, 'b, T: BitsOwned, E: Endian> BitOr<&'b Set<T, E>> for &'a Set<T, E> {
+    type Output = Set<T, E>;
+
+    ghost bitor_gives = { λ a b r. IsInBothOrders union_of T.width (T.big a.now.bits) (T.big b.now.bits) (T.big r.bits) };
+
+    #[inline]
+    fn bitor(self, rhs: &'b Set<T, E>) -> Set<T, E> {
+        let mut set = Set::<T, E>::new_in(self.bits);
+        set.union_assign(rhs);
+        set
+    }
+}
+
+/// `|=` makes each member of the other set a member. Of two slices only what lies below both capacities changes.
+impl<T: BitsMut, E: Endian> BitOrAssign<Set<T, E>> for Set<T, E> {
+    ghost bitor_assign_gives = { λ a b r. IsInBothOrders union_of T.width (T.big a.bits) (T.big b.bits) (T.big r.bits) × T.same_place a.bits r.bits };
+
+    #[inline]
+    fn bitor_assign(&mut self, rhs: Set<T, E>) {
+        self.union_assign(&rhs);
+    }
+}
+
+impl<'b, T: BitsMut, E: Endian> BitOrAssign<&'b Set<T, E>> for Set<T, E> {
+    ghost bitor_assign_gives = { λ a b r. IsInBothOrders union_of T.width (T.big a.bits) (T.big b.now.bits) (T.big r.bits) × T.same_place a.bits r.bits };
+
+    #[inline]
+    fn bitor_assign(&mut self, rhs: &'b Set<T, E>) {
+        self.union_assign(rhs);
+    }
+}

@@ -1,0 +1,70 @@
+//! What a slice holds after changes through the set that it was lent to.
+
+ghost use Rattle.std.specs.Prelude.{◌≡◌, ◌*◌, ◌<◌, length, IsTrue};
+ghost use Rattle.bittle.specs.Orders.{members};
+ghost use Rattle.bittle.specs.PlainSet.{with_index, without_index};
+ghost use Rattle.bittle.specs.SetOperations.{union_of};
+ghost use Rattle.bittle.specs.SetOperators.{IsInBothOrders};
+ghost use Rattle.bittle.specs.Rows.{elements_set};
+ghost use Rattle.bittle.specs.Shapes.{Fits};
+ghost use Rattle.bittle.specs.Machine.{replies_of, final_set};
+
+use bittle::replay::{Call, Reply, replay};
+use bittle::{BitsMut, BitsOwned, DefaultEndian, Endian, LittleEndian, Set};
+
+/// Makes one index a member and another none, through a set in the default order.
+pub fn set_and_clear<U: BitsOwned>(slice: &mut [U], set: u32, clear: u32)
+    requires { Fits U.indexable (length slice.old * U.type_capacity) }
+    ensures { members ⟦<DefaultEndian as Endian>⟧.mirrored U.width (elements_set (length slice.new) U.type_capacity U.big slice.new)
+        ≡ without_index
+        (with_index (members ⟦<DefaultEndian as Endian>⟧.mirrored U.width (elements_set (length slice.old) U.type_capacity U.big slice.old)) set)
+        clear }
+{
+    let mut wrapped = Set::from_mut(slice);
+    wrapped.set_bit(set);
+    wrapped.clear_bit(clear);
+}
+
+/// Makes one index a member and another none, through a set in little-endian order.
+pub fn set_and_clear_le<U: BitsOwned>(slice: &mut [U], set: u32, clear: u32)
+    requires { Fits U.indexable (length slice.old * U.type_capacity) }
+    ensures { members ⟦<LittleEndian as Endian>⟧.mirrored U.width (elements_set (length slice.new) U.type_capacity U.big slice.new)
+        ≡ without_index
+        (with_index (members ⟦<LittleEndian as Endian>⟧.mirrored U.width (elements_set (length slice.old) U.type_capacity U.big slice.old)) set)
+        clear }
+{
+    let mut wrapped = Set::from_mut_le(slice);
+    wrapped.set_bit(set);
+    wrapped.clear_bit(clear);
+}
+
+/// Makes the calls, in the order `E`, through a set in the default order.
+pub fn replay_through<U: BitsOwned, E: Endian>(
+    slice: &mut [U],
+    calls: &[Call],
+    replies: &mut [Reply],
+)
+    requires fits { Fits U.indexable (length slice.old * U.type_capacity) }
+    requires room { length replies.old ≡ length calls.now }
+    ensures replies { replies.new
+        ≡ replies_of (members E.mirrored U.width (elements_set (length slice.old) U.type_capacity U.big slice.old)) calls.now }
+    ensures set { members E.mirrored U.width (elements_set (length slice.new) U.type_capacity U.big slice.new)
+        ≡ final_set (members E.mirrored U.width (elements_set (length slice.old) U.type_capacity U.big slice.old)) calls.now }
+{
+    let mut wrapped = Set::from_mut(slice);
+    replay::<Set<&mut [U]>, E>(&mut wrapped, calls, replies);
+}
+
+/// Adds the members of another slice by `|=` of two sets. Past the shorter slice nothing changes.
+pub fn unite<U: BitsOwned>(slice: &mut [U], other: &mut [U])
+    requires fits { Fits U.indexable (length slice.old * U.type_capacity) }
+    requires other_fits { Fits U.indexable (length other.old * U.type_capacity) }
+    ensures united { IsInBothOrders union_of U.width
+        (elements_set (length slice.old) U.type_capacity U.big slice.old)
+        (elements_set (length other.old) U.type_capacity U.big other.old)
+        (elements_set (length slice.new) U.type_capacity U.big slice.new) }
+    ensures other_stays { other.new ≡ other.old }
+{
+    let mut wrapped = Set::from_mut(slice);
+    wrapped |= &Set::from_mut(other);
+}
