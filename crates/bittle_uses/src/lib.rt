@@ -3,3 +3,4 @@
 
 pub mod slices;
 pub mod words;
+pub mod slots;
