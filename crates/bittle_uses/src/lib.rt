@@ -1,6 +1,8 @@
 //! What callers of `bittle` can say and prove of their own values, from the library's contracts alone.
 #![tactic(auto)]
 
+pub mod board;
 pub mod slices;
+pub mod slots;
 pub mod words;
 pub mod wrapped_slices;
