@@ -14,7 +14,7 @@ use crate::header::{Header, Order, Shape};
 use crate::lines::Lines;
 use crate::writing::{Output, WriteFailed};
 use bittle::replay::{Call, Reply, replay};
-use bittle::{BigEndian, BitsOwned, Endian, LittleEndian};
+use bittle::{BigEndian, BitsOwned, Endian, LittleEndian, set};
 use std::io::Write;
 
 /// How a run ended whose output did not fail.
@@ -103,7 +103,7 @@ fn answer_lines<B: BitsOwned, E: Endian, W: Write>(
     ensures answers { IsGiven (W.contents output.old.writer.now) (W.contents output.new.writer.now) result
         (answers (empty B.type_capacity) (lines_left lines.entry)) }
 {
-    let mut bits = B::zeros();
+    let mut bits = empty_value::<B>();
     for line in lines {
         if line.text.is_empty() {
             continue;
@@ -114,6 +114,14 @@ fn answer_lines<B: BitsOwned, E: Endian, W: Write>(
         obey::<B, E, W>(command, &mut bits, output)?;
     }
     Ok(Outcome::Answered)
+}
+
+/// The value that is the empty set.
+fn empty_value<B: BitsOwned>() -> B
+    requires { IsTrue B.indexable }
+    ensures { B.big result ≡ empty B.type_capacity }
+{
+    set![]
 }
 
 /// Does what a command asks for, and prints the reply.

@@ -31,7 +31,7 @@ pub fn run<R: Read, W: Write>(input: &mut R, output: &mut W) -> u8
     let mut output = Output::new(output);
     match answer_and_flush(input, &mut output) {
         Ok(outcome) => outcome.status(),
-        Err(WriteFailed) => OUTPUT_FAILED,
+        Err(_) => OUTPUT_FAILED,
     }
 }
 

@@ -11,9 +11,9 @@ use std::io::Write;
 /// At this many interrupted writes a run fails.
 const MOST_INTERRUPTED: u32 = 8192;
 
-/// The output failed, and nothing more is written.
+/// The output failed, and nothing more is written. Only this module can say so.
 #[derive(Debug, Drop)]
-pub struct WriteFailed;
+pub struct WriteFailed(());
 
 /// What a run writes to.
 #[derive(Drop)]
@@ -44,11 +44,11 @@ impl<'a, W: Write> Output<'a, W> {
         let mut rest = bytes;
         while !rest.is_empty() {
             match self.writer.write(rest) {
-                Ok(0) => return Err(WriteFailed),
+                Ok(0) => return Err(WriteFailed(())),
                 Ok(count) => rest = &rest[count..],
                 Err(error) => {
                     if !is_interrupted(&error) {
-                        return Err(WriteFailed);
+                        return Err(WriteFailed(()));
                     }
                     self.note_interrupted()?;
                 }
@@ -74,7 +74,7 @@ impl<'a, W: Write> Output<'a, W> {
         ensures same_writer { self.new.writer.ghost_name ≡ self.old.writer.ghost_name }
         ensures keeps { Keeps (W.contents self.old.writer.now) (W.contents self.new.writer.now) }
     {
-        self.writer.flush().map_err(|_| WriteFailed)
+        self.writer.flush().map_err(|_| WriteFailed(()))
     }
 
     // Counts one more interrupted write, and fails at the last one.
@@ -84,7 +84,7 @@ impl<'a, W: Write> Output<'a, W> {
         ensures last { IsErr result ↔ (self.old.interrupted + 1 ≡ MOST_INTERRUPTED) }
     {
         if self.interrupted + 1 == MOST_INTERRUPTED {
-            return Err(WriteFailed);
+            return Err(WriteFailed(()));
         }
         self.interrupted += 1;
         Ok(())
