@@ -3,12 +3,16 @@ pub use Rattle.bittle_bits.specs.Join
 pub use Rattle.bittle_bits.specs.Orders
 pub use Rattle.bittle_bits.specs.PlainSet
 pub use Rattle.bittle_bits.specs.Rows
+pub use Rattle.bittle_bits.specs.Searches
 pub use Rattle.bittle_bits.specs.SetOperations
 pub use Rattle.bittle_bits.specs.Shapes
 pub use Rattle.bittle_bits.specs.Walk
+pub use Rattle.bittle_bits.specs.Words
+pub mod Ends
 pub mod Listed
 pub mod Machine
 pub mod Order
 pub mod Ranges
 pub mod SetLaws
 pub mod SetOperators
+pub mod Trail

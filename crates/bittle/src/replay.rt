@@ -5,6 +5,10 @@ ghost use Rattle.bittle_bits.specs.Orders.{members};
 ghost use Rattle.bittle_bits.specs.Shapes.{Fits};
 ghost use Rattle.bittle.specs.Machine.{reply_to, set_after, replies_of, final_set};
 
+mod walk;
+
+pub use walk::{Looks, Step, ends_keep_all, replay_walk};
+
 use bittle_bits::bits_mut::BitsMut;
 use bittle_bits::endian::Endian;
 

@@ -29,7 +29,7 @@ module _ (m : Bool) (w d e i : ℕ) (h : 0 < w) (one : members m w (digit_set w 
   mask_has : ◌≡◌ {A = ℕ → Bool} (λ k. digit_has w e (place m w k)) (λ k. k == i % w)
   mask_has = ap (λ s. s.has) one ∙ has_with-in (empty w) w i refl h ∙ fun_ext λ k. or_false (k == i % w)
 
-  at_mask : (k : ℕ) → digit_has w e (place m w k) ≡ (k == i % w)
+  pub at_mask : (k : ℕ) → digit_has w e (place m w k) ≡ (k == i % w)
   at_mask k = ap (λ p. p k) mask_has
 
   swapped : (a b : Bool) → a || b ≡ b || a

@@ -75,27 +75,14 @@ module _ (m : Bool) (w k : ℕ) (s : PlainSet) (d : ℕ) (word : 0 < w) where
       let e : place m w (k * w + i) ≡ k * w + place m w i = rw one at (place_part m w 1 k i word b) in
       ap s.has e
 
-  digit_at : digit_set w d ≡ word_of w s k → (i : ℕ) → i < w → (members m w (digit_set w d)).has i ≡ (members m w s).has (k * w + i)
+  pub digit_at : digit_set w d ≡ word_of w s k → (i : ℕ) → i < w → (members m w (digit_set w d)).has i ≡ (members m w s).has (k * w + i)
   digit_at is i h = ap (λ t. t.has (place m w i)) is ∙ word_has-at w s k (place m w i) (place_in_word m w i h) ∙ sym (member_at i h)
 
-  pub items_of-ones : digit_set w d ≡ word_of w s k → items_of m w d (k * w) ≡ between (members m w s) (k * w) (k * w + w)
+  pub items_of-word : digit_set w d ≡ word_of w s k → items_of m w d (k * w) ≡ between (members m w s) (k * w) (k * w + w)
   unfolding items_of between
-  items_of-ones is =
+  items_of-word is =
       let n : k * w + w - k * w ≡ w = omega arith in
       rw n (same_from _ _ (k * w) w (λ i lo hi. let e : k * w + (i - k * w) ≡ i = omega arith in digit_at is (i - k * w) (omega arith) ∙ ap (members m w s).has e))
-
-  pub items_of-zeros : (e : ℕ) → digit_set w d ≡ word_of w s k → d < 2 ^ w → e ≡ 2 ^ w - 1 - d → k * w + w ≤ s.capacity → items_of m w e (k * w) ≡ between (complement (members m w s)) (k * w) (k * w + w)
-  unfolding items_of between lacks
-  items_of-zeros e is fits rest within =
-      let n : k * w + w - k * w ≡ w = omega arith in
-      rw n (same_from _ _ (k * w) w (λ i lo hi.
-      let j = i - k * w in
-      let low : j < w = omega arith in
-      let back : k * w + j ≡ i = omega arith in
-      ap (λ p. p (place m w j)) (ap (digit_has w) rest ∙ digit_has-not w d fits)
-      ∙ ap (λ b. b && not (digit_has w d (place m w j))) (lt-ltb (place m w j) w (place_in_word m w j low))
-      ∙ ap not (digit_at is j low ∙ ap (members m w s).has back)
-      ∙ sym (ap (λ b. b && not ((members m w s).has i)) (lt-ltb i s.capacity (omega arith)))))
 
 -- the first and the last item of a word of some set
 module _ (s t : PlainSet) (w base r : ℕ) (wide : s.capacity ≡ w) where
@@ -169,3 +156,12 @@ word_ends w k c whole within =
     let low : k < whole.0 = lt_of_mul-lt-mul_right w h in
     let up : suc k * w ≤ whole.0 * w = mul-le-mul_right w low in
     omega (arith, up, whole.1)
+
+-- the complement of a word is the word of the complement
+pub word_of-complement : (w d e k : ℕ) (s : PlainSet) → digit_set w d ≡ word_of w s k → d < 2 ^ w → e ≡ 2 ^ w - 1 - d → k * w + w ≤ s.capacity → digit_set w e ≡ word_of w (complement s) k
+unfolding word_has lacks
+word_of-complement w d e k s is fits rest within =
+    ap (plain w) (ap (digit_has w) rest ∙ digit_has-not w d fits ∙ fun_ext λ i. elim (cases_lt i w) [
+      | inl l ↦ ap (λ p. nat_lt i w && not (p i)) (ap (λ t. t.has) is) ∙ rw (lt-ltb i w l, lt-ltb (k * w + i) s.capacity (omega arith)) refl
+      | inr g ↦ rw (le-ltb i w g) refl
+    ])

@@ -6,9 +6,11 @@ pub mod OrderLaws
 pub mod Orders
 pub mod PlainSet
 pub mod Rows
+pub mod Searches
 pub mod SetAlgebra
 pub mod SetOperations
 pub mod Shapes
+pub mod Splits
 pub mod Standing
 pub mod Tally
 pub mod Walk

@@ -34,6 +34,10 @@ empty c = record { capacity = c; has = λ _. false }
 abbrev pub filled : ℕ → PlainSet
 filled c = record { capacity = c; has = λ k. nat_lt k c }
 
+-- the set of a capacity that has each number below it from one number on
+abbrev pub filled_from : ℕ → ℕ → PlainSet
+filled_from c i = record { capacity = c; has = λ k. nat_lt k c && not (nat_lt k i) }
+
 -- the set of the same capacity that has no members
 abbrev pub emptied : PlainSet → PlainSet
 emptied s = empty s.capacity

@@ -5,6 +5,7 @@ ghost use Rattle.bittle_bits.specs.Digits.{digit_set};
 ghost use Rattle.bittle_bits.specs.Join.{AnswersItemsAtMembers, EndsAfterMembers};
 ghost use Rattle.bittle_bits.specs.Orders.{members};
 ghost use Rattle.bittle_bits.specs.PlainSet.{PlainSet, contains, size, ascending, complement};
+ghost use Rattle.bittle_bits.specs.Searches.{IsFirstIn, IsLastIn};
 ghost use Rattle.bittle_bits.specs.Shapes.{Fits};
 ghost use Rattle.bittle_bits.specs.Walk.{IsFresh};
 ghost use Rattle.bittle_bits.specs.Words.{word_of};
@@ -12,6 +13,7 @@ ghost use Rattle.bittle_bits.specs.Words.{word_of};
 use crate::endian::{BigEndian, DefaultEndian, Endian, LittleEndian};
 use crate::hidden::{Number, Sealed};
 use crate::join::JoinOnes;
+use crate::search;
 use crate::walk::{IterOnes, IterZeros};
 
 /// A set of the numbers below a capacity, one digit each.
@@ -100,6 +102,66 @@ pub trait Bits: Drop + Sealed {
             ≡ contains (members ⟦<BigEndian as Endian>⟧.mirrored width (big self.now)) index }
     {
         self.test_bit_in::<BigEndian>(index)
+    }
+
+    /// The least member from `from` on and below `to` in the order `E`, or `None` where there is none.
+    ///
+    /// It reads the words of the range alone, and stops at the answer.
+    #[inline]
+    final fn first_one_in<E: Endian>(&self, from: u32, to: u32) -> Option<u32>
+    where
+        Self: Sized,
+        requires fits { Fits indexable (big self.now).capacity }
+        requires ordered { from ≤ to }
+        requires within { to ≤ (big self.now).capacity }
+        ensures { IsFirstIn (members E.mirrored width (big self.now)) from to result }
+    {
+        search::first_in::<Self, E, true>(self, from, to)
+    }
+
+    /// The least number that is no member from `from` on and below `to` in the order `E`, or `None` where there is none.
+    ///
+    /// It reads the words of the range alone, and stops at the answer.
+    #[inline]
+    final fn first_zero_in<E: Endian>(&self, from: u32, to: u32) -> Option<u32>
+    where
+        Self: Sized,
+        requires fits { Fits indexable (big self.now).capacity }
+        requires ordered { from ≤ to }
+        requires within { to ≤ (big self.now).capacity }
+        ensures { IsFirstIn (complement (members E.mirrored width (big self.now))) from to result }
+    {
+        search::first_in::<Self, E, false>(self, from, to)
+    }
+
+    /// The greatest member from `from` on and below `to` in the order `E`, or `None` where there is none.
+    ///
+    /// It reads the words of the range alone, and stops at the answer.
+    #[inline]
+    final fn last_one_in<E: Endian>(&self, from: u32, to: u32) -> Option<u32>
+    where
+        Self: Sized,
+        requires fits { Fits indexable (big self.now).capacity }
+        requires ordered { from ≤ to }
+        requires within { to ≤ (big self.now).capacity }
+        ensures { IsLastIn (members E.mirrored width (big self.now)) from to result }
+    {
+        search::last_in::<Self, E, true>(self, from, to)
+    }
+
+    /// The greatest number that is no member from `from` on and below `to` in the order `E`, or `None` where there is none.
+    ///
+    /// It reads the words of the range alone, and stops at the answer.
+    #[inline]
+    final fn last_zero_in<E: Endian>(&self, from: u32, to: u32) -> Option<u32>
+    where
+        Self: Sized,
+        requires fits { Fits indexable (big self.now).capacity }
+        requires ordered { from ≤ to }
+        requires within { to ≤ (big self.now).capacity }
+        ensures { IsLastIn (complement (members E.mirrored width (big self.now))) from to result }
+    {
+        search::last_in::<Self, E, false>(self, from, to)
     }
 
     /// The members in increasing order in the order `E`, from both ends.

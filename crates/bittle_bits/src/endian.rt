@@ -1,9 +1,9 @@
 //! The two orders in which the digits of a word are read.
 
-ghost use Rattle.std.specs.Prelude.{◌≡◌, Bool, true, false};
+ghost use Rattle.std.specs.Prelude.{◌≡◌, ◌<◌, Bool, true, false};
 ghost use Rattle.bittle_bits.specs.Digits.{digit_set};
 ghost use Rattle.bittle_bits.specs.Orders.{members};
-ghost use Rattle.bittle_bits.specs.PlainSet.{empty, with_index, complement, IsLeastMember, IsGreatestMember};
+ghost use Rattle.bittle_bits.specs.PlainSet.{empty, filled_from, with_index, complement, IsLeastMember, IsGreatestMember};
 
 use crate::hidden::{Number, Sealed};
 
@@ -17,6 +17,12 @@ pub trait Endian: Drop + Sealed {
     fn mask<T: Number>(index: u32) -> T
         ensures { members mirrored T.width (digit_set T.width (T.digits result))
             ≡ with_index (empty T.width) index };
+
+    /// The word whose members are the indexes from one on.
+    #[doc(hidden)]
+    fn from_index<T: Number>(index: u32) -> T
+        requires { index < T.width }
+        ensures { members mirrored T.width (digit_set T.width (T.digits result)) ≡ filled_from T.width index };
 
     /// The least member, or the width where there is none.
     #[doc(hidden)]
@@ -65,6 +71,11 @@ impl Endian for BigEndian {
     }
 
     #[inline]
+    fn from_index<T: Number>(index: u32) -> T {
+        T::low(index).not()
+    }
+
+    #[inline]
     fn zeros<T: Number>(value: T) -> u32 {
         value.trailing_zeros()
     }
@@ -91,6 +102,12 @@ impl Endian for LittleEndian {
     #[inline]
     fn mask<T: Number>(index: u32) -> T {
         T::one_at(T::width() - 1 - index % T::width())
+    }
+
+    #[inline]
+    fn from_index<T: Number>(index: u32) -> T {
+        let place = T::width() - 1 - index;
+        T::low(place).or(T::one_at(place))
     }
 
     #[inline]

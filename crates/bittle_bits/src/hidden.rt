@@ -25,6 +25,11 @@ pub trait Number: Copy + Eq + Sealed {
         requires { index < width }
         ensures { digits result ≡ 2 ^ index };
 
+    /// The word whose digits are those of weight below `2 ^ index`.
+    fn low(index: u32) -> Self
+        requires { index < width }
+        ensures { digits result ≡ 2 ^ index - 1 };
+
     /// The word with no digit.
     fn zero() -> Self
         ensures { digits result ≡ 0 };

@@ -26,8 +26,15 @@ mod operation;
 mod operation_tests;
 #[doc(hidden)]
 pub mod set_laws;
+#[cfg(test)]
+mod probe;
+mod search;
 mod slice;
 mod standing;
 #[cfg(test)]
 mod tests;
 pub mod walk;
+#[doc(hidden)]
+pub mod walk_laws;
+#[cfg(test)]
+mod walk_tests;

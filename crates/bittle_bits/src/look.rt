@@ -11,6 +11,7 @@ use crate::count::Count;
 use crate::endian::Endian;
 use crate::hidden::Number;
 use crate::number::word;
+use crate::search;
 use std::marker::{Model, PhantomData};
 
 // A copied word, and the index in its set of the first digit.
@@ -29,9 +30,8 @@ fn copy_of<B: Bits, E: Endian, const ONES: bool>(bits: &B, k: u32) -> Copied<B::
         ≡ between (wanted ONES (members E.mirrored B.width (B.big bits.now))) (k * B.width) (k * B.width + B.width) }
     ensures reach { result.base + B.LeafWord.width < 4294967296 }
 {
-    let word = bits.leaf_word(k);
     Copied {
-        word: if ONES { word } else { word.not() },
+        word: search::wanted_word::<B, ONES>(bits, k),
         base: k * <B::LeafWord as Number>::width(),
     }
 }

@@ -34,6 +34,11 @@ impl Number for u128 {
     }
 
     #[inline]
+    fn low(index: u32) -> u128 {
+        (1 << index) - 1
+    }
+
+    #[inline]
     fn zero() -> u128 {
         0
     }
@@ -215,6 +220,12 @@ impl Number for i128 {
     #[inline]
     fn one_at(index: u32) -> i128 {
         1 << index
+    }
+
+    #[inline]
+    fn low(index: u32) -> i128 {
+        let low: u128 = (1 << index) - 1;
+        low as i128
     }
 
     #[inline]

@@ -34,6 +34,11 @@ impl Number for u16 {
     }
 
     #[inline]
+    fn low(index: u32) -> u16 {
+        (1 << index) - 1
+    }
+
+    #[inline]
     fn zero() -> u16 {
         0
     }
@@ -214,6 +219,12 @@ impl Number for i16 {
     #[inline]
     fn one_at(index: u32) -> i16 {
         1 << index
+    }
+
+    #[inline]
+    fn low(index: u32) -> i16 {
+        let low: u16 = (1 << index) - 1;
+        low as i16
     }
 
     #[inline]

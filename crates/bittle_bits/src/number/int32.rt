@@ -34,6 +34,11 @@ impl Number for u32 {
     }
 
     #[inline]
+    fn low(index: u32) -> u32 {
+        (1 << index) - 1
+    }
+
+    #[inline]
     fn zero() -> u32 {
         0
     }
@@ -214,6 +219,12 @@ impl Number for i32 {
     #[inline]
     fn one_at(index: u32) -> i32 {
         1 << index
+    }
+
+    #[inline]
+    fn low(index: u32) -> i32 {
+        let low: u32 = (1 << index) - 1;
+        low as i32
     }
 
     #[inline]

@@ -34,6 +34,11 @@ impl Number for u64 {
     }
 
     #[inline]
+    fn low(index: u32) -> u64 {
+        (1 << index) - 1
+    }
+
+    #[inline]
     fn zero() -> u64 {
         0
     }
@@ -215,6 +220,12 @@ impl Number for i64 {
     #[inline]
     fn one_at(index: u32) -> i64 {
         1 << index
+    }
+
+    #[inline]
+    fn low(index: u32) -> i64 {
+        let low: u64 = (1 << index) - 1;
+        low as i64
     }
 
     #[inline]

@@ -34,6 +34,11 @@ impl Number for u8 {
     }
 
     #[inline]
+    fn low(index: u32) -> u8 {
+        (1 << index) - 1
+    }
+
+    #[inline]
     fn zero() -> u8 {
         0
     }
@@ -214,6 +219,12 @@ impl Number for i8 {
     #[inline]
     fn one_at(index: u32) -> i8 {
         1 << index
+    }
+
+    #[inline]
+    fn low(index: u32) -> i8 {
+        let low: u8 = (1 << index) - 1;
+        low as i8
     }
 
     #[inline]

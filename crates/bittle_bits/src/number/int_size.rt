@@ -34,6 +34,11 @@ impl Number for usize {
     }
 
     #[inline]
+    fn low(index: u32) -> usize {
+        (1 << index) - 1
+    }
+
+    #[inline]
     fn zero() -> usize {
         0
     }
@@ -215,6 +220,12 @@ impl Number for isize {
     #[inline]
     fn one_at(index: u32) -> isize {
         1 << index
+    }
+
+    #[inline]
+    fn low(index: u32) -> isize {
+        let low: usize = (1 << index) - 1;
+        low as isize
     }
 
     #[inline]

@@ -1,0 +1,5 @@
+use Rattle.bittle.proofs.WalkEnds.{keeps_all}
+use Rattle.bittle.proofs.replay.walk.ends_keep_all.Goals as goal
+
+pub returns : goal.returns
+returns c = keeps_all

@@ -1,0 +1,17 @@
+use Rattle.std.proofs.Common.{refl, arith}
+use Rattle.bittle.proofs.WalkRuns.{replayed_start, replayed_more, replayed_end}
+use Rattle.bittle.proofs.replay.walk.run.Goals as goal
+
+pub loop-k-init : goal.loop-k-init
+loop-k-init g c = rw c.new-looks.ensures (replayed_start _ _ _ _ _ refl c.requires.fresh refl)
+
+pub loop-k-preserved : goal.loop-k-preserved
+loop-k-preserved g c =
+    let e = c.take_step.ensures in
+    rw (c.push.ensures, c.looks.ensures) (replayed_more _ _ _ _ _ _ _ _ _ _ c.loop-k-test.true (omega arith) c.loop-k.invariant e.answer e.left e.items e.looks e.words e.thrifty)
+
+pub returns-clause-answers : goal.returns-clause-answers
+returns-clause-answers g c = (replayed_end _ _ _ _ _ _ _ c.loop-k-test.false (omega arith) c.loop-k.invariant).0
+
+pub returns-clause-looks : goal.returns-clause-looks
+returns-clause-looks g c = (replayed_end _ _ _ _ _ _ _ c.loop-k-test.false (omega arith) c.loop-k.invariant).1

@@ -1,0 +1,62 @@
+-- Steps that take the items of a list from its two ends, and the looks that they may cost.
+use Rattle.std.specs.Prelude.{◌≡◌, ℕ, ◌+◌, ◌<◌, ◌≤◌, Option, Some, None, List, [], ◌∷◌, ◌++◌, length, take, slice_index, is_some, count_by, reverse}
+use Rattle.bittle.specs.declared.replay.walk.Step.{Step}
+use Rattle.bittle.specs.declared.replay.walk.Step.TheVariants.{Front, Back}
+
+-- the first item, and what follows it
+abbrev pub first_of : List ℕ → Option ℕ
+first_of [] = None
+first_of (x ∷ xs) = Some x
+
+abbrev pub rest_of : List ℕ → List ℕ
+rest_of [] = []
+rest_of (x ∷ xs) = xs
+
+-- the answer of one step, and the list that it leaves: the empty list answers None and stays
+abbrev pub answer_of : Step → List ℕ → Option ℕ
+answer_of Front xs = first_of xs
+answer_of Back xs = first_of (reverse xs)
+
+abbrev pub left_by : Step → List ℕ → List ℕ
+left_by Front xs = rest_of xs
+left_by Back xs = reverse (rest_of (reverse xs))
+
+-- the answers of a list of steps, and the list that remains
+abbrev pub answers_of : List Step → List ℕ → List (Option ℕ)
+answers_of [] xs = []
+answers_of (step ∷ steps) xs = answer_of step xs ∷ answers_of steps (left_by step xs)
+
+abbrev pub remains_of : List Step → List ℕ → List ℕ
+remains_of [] xs = xs
+remains_of (step ∷ steps) xs = remains_of steps (left_by step xs)
+
+-- an item as a list, and None as the empty one
+abbrev pub item_in : Option ℕ → List ℕ
+item_in None = []
+item_in (Some x) = x ∷ []
+
+-- the items that the steps from the front give, in turn, and those that the steps from the back give
+abbrev pub from_front : List Step → List ℕ → List ℕ
+from_front [] xs = []
+from_front (Front ∷ steps) xs = item_in (first_of xs) ++ from_front steps (left_by Front xs)
+from_front (Back ∷ steps) xs = from_front steps (left_by Back xs)
+
+abbrev pub from_back : List Step → List ℕ → List ℕ
+from_back [] xs = []
+from_back (Front ∷ steps) xs = from_back steps (left_by Front xs)
+from_back (Back ∷ steps) xs = item_in (first_of (reverse xs)) ++ from_back steps (left_by Back xs)
+
+-- the items from the front, what remains, and the items from the back in reverse are the whole list
+abbrev pub KeepsAll : List Step → List ℕ → Type 0
+KeepsAll steps xs = from_front steps xs ++ (remains_of steps xs ++ reverse (from_back steps xs)) ≡ xs
+
+-- how many answers are items
+abbrev pub given : List (Option ℕ) → ℕ
+given answers = count_by is_some answers
+
+-- looks, one number for each answer, never fall, and each is at least the items given so far and at most these and the words
+pub record AreThrifty (looks : List ℕ) (answers : List (Option ℕ)) (words : ℕ) : Type 0 where
+  pub each : length looks ≡ length answers
+  pub rise : (k : ℕ) → k + 1 < length looks → slice_index looks k ≤ slice_index looks (k + 1)
+  pub at_least : (k : ℕ) → k < length looks → given (take (k + 1) answers) ≤ slice_index looks k
+  pub at_most : (k : ℕ) → k < length looks → slice_index looks k ≤ given (take (k + 1) answers) + words

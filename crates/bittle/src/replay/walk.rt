@@ -1,0 +1,126 @@
+//! One walk through a list of steps, and the looks that it costs.
+
+ghost use Rattle.std.specs.Prelude.{◌≡◌, ℕ, ◌+◌, ◌/◌, ◌≤◌, ◌∷◌, ◌++◌, [], List, length};
+ghost use Rattle.bittle_bits.specs.Orders.{members};
+ghost use Rattle.bittle_bits.specs.PlainSet.{ascending};
+ghost use Rattle.bittle_bits.specs.Shapes.{Fits};
+ghost use Rattle.bittle_bits.specs.Walk.{wanted, counted, IsThrifty};
+ghost use Rattle.bittle.specs.Ends.{answer_of, left_by, answers_of, AreThrifty, KeepsAll};
+
+use bittle_bits::bits::Bits;
+use bittle_bits::endian::Endian;
+use bittle_bits::hidden::{Count, Counted};
+use std::marker::Model;
+use std::mem::replace;
+use std::snapshot::Snapshot;
+
+/// From which end of a walk an item is taken.
+#[derive(Clone, Copy, Debug, PartialEq, Eq)]
+pub enum Step {
+    /// The first item that is left.
+    Front,
+    /// The last item that is left.
+    Back,
+}
+
+// A list of numbers, of which snapshots alone are kept.
+#[derive(Drop)]
+enum Trail {
+    Empty,
+    And(Snapshot<Trail>, Snapshot<Count>),
+}
+
+/// One number for each step of a walk, the looks made up to it. Contracts alone see them, and they take no bytes.
+#[derive(Drop)]
+pub struct Looks {
+    trail: Snapshot<Trail>,
+}
+
+impl Model for Looks {
+    ghost use Rattle.std.specs.Prelude.{ℕ, List};
+
+    ghost Value = { List ℕ };
+
+    ghost use Rattle.bittle.specs.Trail.{numbers_of};
+
+    ghost view = { λ c. numbers_of c.trail.value };
+}
+
+impl Looks {
+    fn new() -> Looks
+        ensures { result ≡ [] }
+    {
+        Looks {
+            trail: Snapshot::of(&Trail::Empty),
+        }
+    }
+
+    fn push(&mut self, count: &Count)
+        ensures { self.new ≡ self.old ++ count.now ∷ [] }
+    {
+        let Looks { trail } = replace(self, Looks::new());
+        self.trail = Snapshot::of(&Trail::And(trail, Snapshot::of(count)));
+    }
+}
+
+const _: () = prove!(size_of::<Looks>() == 0);
+
+// Takes one step.
+#[inline]
+fn take_step<W: Counted>(walk: &mut W, step: Step) -> Option<u32>
+    ensures answer { result ≡ answer_of step (W.walk walk.old).left }
+    ensures left { (W.walk walk.new).left ≡ left_by step (W.walk walk.old).left }
+    ensures items { (W.walk walk.new).items ≡ counted (W.walk walk.old).items result }
+    ensures looks { (W.walk walk.old).looks ≤ (W.walk walk.new).looks }
+    ensures words { (W.walk walk.new).words ≡ (W.walk walk.old).words }
+    ensures thrifty { IsThrifty (W.walk walk.new) }
+{
+    match step {
+        Step::Front => walk.next(),
+        Step::Back => walk.next_back(),
+    }
+}
+
+// Takes a walk that has given nothing yet through the steps.
+fn run<W: Counted>(mut walk: W, steps: &[Step], answers: &mut [Option<u32>]) -> Looks
+    requires places { length answers.old ≡ length steps.now }
+    requires fresh { (W.walk walk).items ≡ 0 }
+    ensures answers { answers.new ≡ answers_of steps.now (W.walk walk).left }
+    ensures looks { AreThrifty result answers.new (W.walk walk).words }
+{
+    let mut looks = Looks::new();
+    for (k, step) in steps.iter().enumerate() {
+        answers[k] = take_step(&mut walk, *step);
+        looks.push(walk.looks());
+    }
+    looks
+}
+
+/// Takes one walk of a set in the order `E`, of its ones or of its zeros, through the steps, and answers each.
+///
+/// The answers are the items of the increasing list from its two ends, and `None` once none is left. There is a place for the
+/// answer of each step, and the shape fits. Contracts see in the result the looks made up to each step.
+pub fn replay_walk<B: Bits, E: Endian>(
+    bits: &B,
+    ones: bool,
+    steps: &[Step],
+    answers: &mut [Option<u32>],
+) -> Looks
+    requires fits { Fits B.indexable (B.big bits.now).capacity }
+    requires places { length answers.old ≡ length steps.now }
+    ensures answers { answers.new ≡ answers_of steps.now (ascending (wanted ones (members E.mirrored B.width (B.big bits.now)))) }
+    ensures looks { AreThrifty result answers.new ((B.big bits.now).capacity / B.width) }
+{
+    if ones {
+        run(bits.iter_ones_in::<E>(), steps, answers)
+    } else {
+        run(bits.iter_zeros_in::<E>(), steps, answers)
+    }
+}
+
+/// At every moment the items from the front, what remains, and the items from the back in reverse are the whole list.
+#[doc(hidden)]
+pub fn ends_keep_all()
+    ensures { (steps : List Step) (xs : List ℕ) → KeepsAll steps xs }
+{
+}

@@ -1,0 +1,17 @@
+-- The ends of a set between two numbers.
+use Rattle.std.specs.Prelude.{◌≡◌, ℕ, ◌+◌, ◌<◌, ◌≤◌, true, false, Option, Some, None}
+use Rattle.bittle_bits.specs.PlainSet.{PlainSet}
+
+-- no number from one on and below another is a member
+abbrev pub NoneIn : PlainSet → ℕ → ℕ → Type 0
+NoneIn s from to = (k : ℕ) → from ≤ k → k < to → s.has k ≡ false
+
+-- the least member from one number on and below another, or None where there is none
+abbrev pub IsFirstIn : PlainSet → ℕ → ℕ → Option ℕ → Type 0
+IsFirstIn s from to None = NoneIn s from to
+IsFirstIn s from to (Some i) = (from ≤ i) × (i < to) × (s.has i ≡ true) × NoneIn s from i
+
+-- the greatest member from one number on and below another, or None where there is none
+abbrev pub IsLastIn : PlainSet → ℕ → ℕ → Option ℕ → Type 0
+IsLastIn s from to None = NoneIn s from to
+IsLastIn s from to (Some i) = (from ≤ i) × (i < to) × (s.has i ≡ true) × NoneIn s (i + 1) to

@@ -1,0 +1,86 @@
+//! The first and the last member between two numbers, found word by word.
+
+ghost use Rattle.std.specs.Prelude.{◌≡◌, ◌*◌, ◌<◌, ◌≤◌};
+ghost use Rattle.bittle_bits.specs.Digits.{digit_set};
+ghost use Rattle.bittle_bits.specs.Orders.{members};
+ghost use Rattle.bittle_bits.specs.Searches.{IsFirstIn, IsLastIn};
+ghost use Rattle.bittle_bits.specs.Shapes.{Fits};
+ghost use Rattle.bittle_bits.specs.Walk.{wanted};
+ghost use Rattle.bittle_bits.specs.Words.{word_of};
+
+use crate::bits::Bits;
+use crate::endian::Endian;
+use crate::hidden::Number;
+
+/// Word `k` of a set, or where `ONES` is false the digits that it lacks.
+#[inline]
+pub fn wanted_word<B: Bits, const ONES: bool>(bits: &B, k: u32) -> B::LeafWord
+    requires fits { Fits B.indexable (B.big bits.now).capacity }
+    requires within { k * B.width < (B.big bits.now).capacity }
+    ensures { digit_set B.width (B.LeafWord.digits result) ≡ word_of B.width (wanted ONES (B.big bits.now)) k }
+{
+    let word = bits.leaf_word(k);
+    if ONES { word } else { word.not() }
+}
+
+/// The first member, or where `ONES` is false the first number that is none.
+#[inline]
+pub fn first_in<B: Bits, E: Endian, const ONES: bool>(bits: &B, from: u32, to: u32) -> Option<u32>
+    requires fits { Fits B.indexable (B.big bits.now).capacity }
+    requires ordered { from ≤ to }
+    requires within { to ≤ (B.big bits.now).capacity }
+    ensures { IsFirstIn (wanted ONES (members E.mirrored B.width (B.big bits.now))) from to result }
+{
+    if from == to {
+        return None;
+    }
+    let width = <B::LeafWord as Number>::width();
+    let last = (to - 1) / width;
+    let mut k = from / width;
+    let mut word = wanted_word::<B, ONES>(bits, k).and(E::from_index::<B::LeafWord>(from % width));
+    loop {
+        let index = E::zeros::<B::LeafWord>(word);
+        if index < width {
+            let found = k * width + index;
+            return if found < to { Some(found) } else { None };
+        }
+        if k == last {
+            return None;
+        }
+        k += 1;
+        word = wanted_word::<B, ONES>(bits, k);
+    }
+}
+
+/// The last member, or where `ONES` is false the last number that is none.
+#[inline]
+pub fn last_in<B: Bits, E: Endian, const ONES: bool>(bits: &B, from: u32, to: u32) -> Option<u32>
+    requires fits { Fits B.indexable (B.big bits.now).capacity }
+    requires ordered { from ≤ to }
+    requires within { to ≤ (B.big bits.now).capacity }
+    ensures { IsLastIn (wanted ONES (members E.mirrored B.width (B.big bits.now))) from to result }
+{
+    if from == to {
+        return None;
+    }
+    let width = <B::LeafWord as Number>::width();
+    let first = from / width;
+    let top = (to - 1) % width;
+    let mut k = (to - 1) / width;
+    let up_to = E::from_index::<B::LeafWord>(top)
+        .not()
+        .or(E::mask::<B::LeafWord>(top));
+    let mut word = wanted_word::<B, ONES>(bits, k).and(up_to);
+    loop {
+        let above = E::zeros_rev::<B::LeafWord>(word);
+        if above < width {
+            let found = k * width + (width - 1 - above);
+            return if from <= found { Some(found) } else { None };
+        }
+        if k == first {
+            return None;
+        }
+        k -= 1;
+        word = wanted_word::<B, ONES>(bits, k);
+    }
+}

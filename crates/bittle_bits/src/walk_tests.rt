@@ -1,0 +1,208 @@
+//! Walks of each form, and the bounded searches, against values worked out by hand.
+
+ghost use Rattle.bittle_bits.specs.Shapes.{Fits};
+
+use crate::bits::Bits;
+use crate::bits_mut::BitsMut;
+use crate::bits_owned::BitsOwned;
+use crate::count::Counted;
+use crate::endian::{BigEndian, LittleEndian};
+use std::alloc::AllocError;
+use std::test::Fail;
+
+// Whether a walk gives these items from the front, from the back and from both ends in turn, and then `None` at both ends for good.
+fn gives<W: Counted + Clone>(mut walk: W, items: &[u32]) -> Result<bool, AllocError> {
+    let mut back = walk.clone()?;
+    let mut both = walk.clone()?;
+    let mut good = true;
+    let len = items.len();
+    for i in 0..len {
+        good = good && walk.next() == Some(items[i]);
+        good = good && back.next_back() == Some(items[len - 1 - i]);
+        let item = if i % 2 == 0 {
+            both.next()
+        } else {
+            both.next_back()
+        };
+        let at = if i % 2 == 0 { i / 2 } else { len - 1 - i / 2 };
+        good = good && item == Some(items[at]);
+    }
+    for _ in 0..2 {
+        good = good && walk.next().is_none() && walk.next_back().is_none();
+        good = good && back.next_back().is_none() && back.next().is_none();
+        good = good && both.next().is_none() && both.next_back().is_none();
+    }
+    Ok(good)
+}
+
+// The members in big-endian and in little-endian order, and the numbers that are no members.
+#[derive(Drop)]
+struct Expected<'a> {
+    ones_be: &'a [u32],
+    ones_le: &'a [u32],
+    zeros_be: &'a [u32],
+    zeros_le: &'a [u32],
+}
+
+// Each borrowing form once.
+fn borrowed<B: Bits<Order = BigEndian>>(
+    bits: &B,
+    expected: &Expected<'_>,
+) -> Result<bool, AllocError>
+    requires { Fits B.indexable (B.big bits.now).capacity }
+{
+    Ok(
+        gives(bits.iter_ones(), expected.ones_be)?
+            && gives(bits.iter_ones_in::<BigEndian>(), expected.ones_be)?
+            && gives(bits.iter_ones_be(), expected.ones_be)?
+            && gives(bits.iter_ones_in::<LittleEndian>(), expected.ones_le)?
+            && gives(bits.iter_ones_le(), expected.ones_le)?
+            && gives(bits.iter_zeros(), expected.zeros_be)?
+            && gives(bits.iter_zeros_in::<BigEndian>(), expected.zeros_be)?
+            && gives(bits.iter_zeros_be(), expected.zeros_be)?
+            && gives(bits.iter_zeros_in::<LittleEndian>(), expected.zeros_le)?
+            && gives(bits.iter_zeros_le(), expected.zeros_le)?,
+    )
+}
+
+// Each owning form once.
+fn owned<B: BitsOwned<Order = BigEndian>>(
+    bits: B,
+    expected: &Expected<'_>,
+) -> Result<bool, AllocError>
+    requires { Fits B.indexable (B.big bits).capacity }
+{
+    Ok(
+        gives(bits.into_iter_ones(), expected.ones_be)?
+            && gives(bits.into_iter_ones_in::<BigEndian>(), expected.ones_be)?
+            && gives(bits.into_iter_ones_be(), expected.ones_be)?
+            && gives(bits.into_iter_ones_in::<LittleEndian>(), expected.ones_le)?
+            && gives(bits.into_iter_ones_le(), expected.ones_le)?
+            && gives(bits.into_iter_zeros(), expected.zeros_be)?
+            && gives(bits.into_iter_zeros_in::<BigEndian>(), expected.zeros_be)?
+            && gives(bits.into_iter_zeros_be(), expected.zeros_be)?
+            && gives(bits.into_iter_zeros_in::<LittleEndian>(), expected.zeros_le)?
+            && gives(bits.into_iter_zeros_le(), expected.zeros_le)?,
+    )
+}
+
+#[test]
+fn each_form_at_a_word(rt: HostRuntime) -> Result<(), Fail> {
+    let expected = Expected {
+        ones_be: &[4, 6, 7],
+        ones_le: &[0, 1, 3],
+        zeros_be: &[0, 1, 2, 3, 5],
+        zeros_le: &[2, 4, 5, 6, 7],
+    };
+    assert!(rt; borrowed(&0b1101_0000u8, &expected)?);
+    assert!(rt; owned(0b1101_0000u8, &expected)?);
+    Ok(())
+}
+
+#[test]
+fn each_form_at_a_signed_word(rt: HostRuntime) -> Result<(), Fail> {
+    let expected = Expected {
+        ones_be: &[1, 2, 3, 4, 5, 6, 7],
+        ones_le: &[0, 1, 2, 3, 4, 5, 6],
+        zeros_be: &[0],
+        zeros_le: &[7],
+    };
+    assert!(rt; borrowed(&-2i8, &expected)?);
+    assert!(rt; owned(-2i8, &expected)?);
+    Ok(())
+}
+
+#[test]
+fn each_form_at_an_array_and_a_slice(rt: HostRuntime) -> Result<(), Fail> {
+    let expected = Expected {
+        ones_be: &[3, 14, 16, 17, 18, 19, 20, 21, 22, 23],
+        ones_le: &[4, 9, 16, 17, 18, 19, 20, 21, 22, 23],
+        zeros_be: &[0, 1, 2, 4, 5, 6, 7, 8, 9, 10, 11, 12, 13, 15],
+        zeros_le: &[0, 1, 2, 3, 5, 6, 7, 8, 10, 11, 12, 13, 14, 15],
+    };
+    let mut words = [8u8, 64, 255];
+    assert!(rt; borrowed(&words, &expected)?);
+    assert!(rt; owned(words, &expected)?);
+    let shared: &[u8] = &words;
+    assert!(rt; borrowed(&shared, &expected)?);
+    let lent: &mut [u8] = &mut words;
+    assert!(rt; borrowed(&lent, &expected)?);
+    Ok(())
+}
+
+#[test]
+fn each_form_at_a_nested_array(rt: HostRuntime) -> Result<(), Fail> {
+    let expected = Expected {
+        ones_be: &[8, 31],
+        ones_le: &[15, 24],
+        zeros_be: &[
+            0, 1, 2, 3, 4, 5, 6, 7, 9, 10, 11, 12, 13, 14, 15, 16, 17, 18, 19, 20, 21, 22, 23, 24,
+            25, 26, 27, 28, 29, 30,
+        ],
+        zeros_le: &[
+            0, 1, 2, 3, 4, 5, 6, 7, 8, 9, 10, 11, 12, 13, 14, 16, 17, 18, 19, 20, 21, 22, 23, 25,
+            26, 27, 28, 29, 30, 31,
+        ],
+    };
+    assert!(rt; borrowed(&[[0u8, 1], [0, 128]], &expected)?);
+    assert!(rt; owned([[0u8, 1], [0, 128]], &expected)?);
+    Ok(())
+}
+
+#[test]
+fn worked_walks(rt: HostRuntime) -> Result<(), Fail> {
+    assert!(rt; gives([0u32, 1, 2, 3].into_iter_ones(), &[32, 65, 96, 97])?);
+    assert!(rt; gives([[16u8, 0, 0, 0], [0, 0, 1, 0]].into_iter_ones(), &[4, 48])?);
+    assert!(rt; gives(0b1101_0000u8.into_iter_ones_le(), &[0, 1, 3])?);
+    let mut pair = [0u8; 2];
+    for index in [3, 7, 13, 14, 15] {
+        pair.set_bit_in::<BigEndian>(index);
+    }
+    assert!(rt;
+        gives(
+            pair.into_iter_zeros(),
+            &[0, 1, 2, 4, 5, 6, 8, 9, 10, 11, 12]
+        )?
+    );
+    let mut wide = [0u32; 4];
+    for index in [4, 63, 71, 127] {
+        wide.set_bit_in::<BigEndian>(index);
+    }
+    assert!(rt; gives(wide.into_iter_ones(), &[4, 63, 71, 127])?);
+    assert!(rt; gives([0u8; 0].into_iter_zeros(), &[])?);
+    assert!(rt; gives((-2i8).into_iter_zeros(), &[0])?);
+    Ok(())
+}
+
+#[test]
+fn a_clone_goes_on_apart(rt: HostRuntime) -> Result<(), Fail> {
+    let bits = [0b1001_0010u8, 0, 0b0000_0101];
+    let mut walk = bits.iter_ones();
+    assert_eq!(rt; walk.next(), Some(1));
+    assert_eq!(rt; walk.next_back(), Some(18));
+    let mut other = walk.clone()?;
+    assert_eq!(rt; walk.next(), Some(4));
+    assert_eq!(rt; other.next_back(), Some(16));
+    assert_eq!(rt; other.next_back(), Some(7));
+    assert_eq!(rt; walk.next_back(), Some(16));
+    assert_eq!(rt; other.next_back(), Some(4));
+    assert_eq!(rt; other.next(), None);
+    assert_eq!(rt; walk.next(), Some(7));
+    assert_eq!(rt; walk.next(), None);
+    Ok(())
+}
+
+#[test]
+fn worked_searches(rt: HostRuntime) {
+    let bits = [0x10u8, 0x01];
+    assert_eq!(rt; bits.first_one_in::<BigEndian>(5, 16), Some(8));
+    assert_eq!(rt; bits.first_one_in::<BigEndian>(5, 8), None);
+    assert_eq!(rt; bits.last_one_in::<BigEndian>(0, 8), Some(4));
+    assert_eq!(rt; bits.first_zero_in::<BigEndian>(4, 16), Some(5));
+    assert_eq!(rt; bits.last_zero_in::<BigEndian>(0, 9), Some(7));
+    assert_eq!(rt; bits.first_one_in::<BigEndian>(4, 4), None);
+    assert_eq!(rt; bits.first_one_in::<LittleEndian>(4, 16), Some(15));
+    assert_eq!(rt; bits.last_one_in::<LittleEndian>(0, 15), Some(3));
+    assert_eq!(rt; bits.first_zero_in::<LittleEndian>(3, 16), Some(4));
+    assert_eq!(rt; bits.last_zero_in::<LittleEndian>(0, 4), Some(2));
+}
