@@ -14,7 +14,5 @@ pub use bittle_bits::bits::Bits;
 pub use bittle_bits::bits_mut::BitsMut;
 pub use bittle_bits::bits_owned::BitsOwned;
 pub use bittle_bits::endian::{BigEndian, DefaultEndian, Endian, LittleEndian};
-pub use bittle_bits::join;
-pub use bittle_bits::number;
-pub use bittle_bits::walk;
+pub use bittle_bits::{join, number, walk};
 pub use set::Set;

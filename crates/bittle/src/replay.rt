@@ -7,10 +7,9 @@ ghost use Rattle.bittle.specs.Machine.{reply_to, set_after, replies_of, final_se
 
 mod walk;
 
-pub use walk::{Looks, Step, ends_keep_all, replay_walk};
-
 use bittle_bits::bits_mut::BitsMut;
 use bittle_bits::endian::Endian;
+pub use walk::{Looks, Step, ends_keep_all, replay_walk};
 
 /// A call on a set. An index past the capacity wraps.
 #[derive(Clone, Copy, Debug, PartialEq, Eq)]

@@ -24,11 +24,11 @@ pub mod number;
 mod operation;
 #[cfg(test)]
 mod operation_tests;
-#[doc(hidden)]
-pub mod set_laws;
 #[cfg(test)]
 mod probe;
 mod search;
+#[doc(hidden)]
+pub mod set_laws;
 mod slice;
 mod standing;
 #[cfg(test)]

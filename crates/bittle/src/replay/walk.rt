@@ -122,5 +122,4 @@ pub fn replay_walk<B: Bits, E: Endian>(
 #[doc(hidden)]
 pub fn ends_keep_all()
     ensures { (steps : List Step) (xs : List ℕ) → KeepsAll steps xs }
-{
-}
+{}
