@@ -1,10 +1,11 @@
 //! A set that counts what it is asked.
 
-ghost use Rattle.std.specs.Prelude.{refl};
+ghost use Rattle.std.specs.Prelude.{◌≡◌, ◌*◌, ◌<◌, true, refl};
 ghost use Rattle.std.proofs.Common.{lit<};
 ghost use Rattle.bittle_bits.specs.Digits.{digit_set};
 ghost use Rattle.bittle_bits.specs.Laws.{elements_has-past, digit_has-past, words_of, one_word};
 ghost use Rattle.bittle_bits.specs.Rows.{elements_set};
+ghost use Rattle.bittle_bits.specs.Shapes.{Fits};
 
 use crate::bits::Bits;
 use crate::bits_mut::BitsMut;
@@ -53,7 +54,7 @@ impl<'a> Bits for Probe<'a> {
 
     ghost width = { ⟦<[u8; 4] as Bits>⟧.width };
 
-    ghost indexable = { ⟦<[u8; 4] as Bits>⟧.indexable };
+    ghost indexable = { true };
 
     ghost big = { λ p. ⟦<[u8; 4] as Bits>⟧.big p.bytes };
 
@@ -127,7 +128,10 @@ impl<'a> BitsOwned for Probe<'a> {
 
     ghost type_fits = { λ _. lit< tt };
 
-    fn bits() -> u32 {
+    fn bits() -> u32
+        ensures value { Fits true (4 * 8) → result ≡ 4 * 8 }
+        ensures fits { result < 4294967295 → Fits true (4 * 8) }
+    {
         <[u8; 4]>::bits()
     }
 

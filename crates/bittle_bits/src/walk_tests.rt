@@ -1,17 +1,24 @@
 //! Walks of each form, and the bounded searches, against values worked out by hand.
 
+ghost use Rattle.std.specs.Iterator.{IsFinite};
 ghost use Rattle.bittle_bits.specs.Shapes.{Fits};
 
 use crate::bits::Bits;
 use crate::bits_mut::BitsMut;
 use crate::bits_owned::BitsOwned;
-use crate::count::Counted;
 use crate::endian::{BigEndian, LittleEndian};
 use std::alloc::AllocError;
 use std::test::Fail;
 
 // Whether a walk gives these items from the front, from the back and from both ends in turn, and then `None` at both ends for good.
-fn gives<W: Counted + Clone>(mut walk: W, items: &[u32]) -> Result<bool, AllocError> {
+fn gives<W: DoubleEndedIterator<Item = u32> + Clone>(
+    mut walk: W,
+    items: &[u32],
+) -> Result<bool, AllocError>
+    requires front { (w : W) → W.can_next w }
+    requires back { (w : W) → W.can_next_back w }
+    requires ends { (w : W) → IsFinite (W.remaining w) }
+{
     let mut back = walk.clone()?;
     let mut both = walk.clone()?;
     let mut good = true;
@@ -150,10 +157,25 @@ fn each_form_at_a_nested_array(rt: HostRuntime) -> Result<(), Fail> {
 }
 
 #[test]
-fn worked_walks(rt: HostRuntime) -> Result<(), Fail> {
+fn worked_walks_of_ones(rt: HostRuntime) -> Result<(), Fail> {
     assert!(rt; gives([0u32, 1, 2, 3].into_iter_ones(), &[32, 65, 96, 97])?);
-    assert!(rt; gives([[16u8, 0, 0, 0], [0, 0, 1, 0]].into_iter_ones(), &[4, 48])?);
-    assert!(rt; gives(0b1101_0000u8.into_iter_ones_le(), &[0, 1, 3])?);
+    let mut wide = [0u32; 4];
+    for index in [4, 63, 71, 127] {
+        wide.set_bit_in::<BigEndian>(index);
+    }
+    assert!(rt; gives(wide.into_iter_ones(), &[4, 63, 71, 127])?);
+    Ok(())
+}
+
+#[test]
+fn worked_walk_of_a_nested_array(rt: HostRuntime) -> Result<(), Fail> {
+    let bits = [[16u8, 0, 0, 0], [0, 0, 1, 0]];
+    assert!(rt; gives(bits.iter_ones(), &[4, 48])?);
+    Ok(())
+}
+
+#[test]
+fn worked_walks_of_zeros(rt: HostRuntime) -> Result<(), Fail> {
     let mut pair = [0u8; 2];
     for index in [3, 7, 13, 14, 15] {
         pair.set_bit_in::<BigEndian>(index);
@@ -164,13 +186,7 @@ fn worked_walks(rt: HostRuntime) -> Result<(), Fail> {
             &[0, 1, 2, 4, 5, 6, 8, 9, 10, 11, 12]
         )?
     );
-    let mut wide = [0u32; 4];
-    for index in [4, 63, 71, 127] {
-        wide.set_bit_in::<BigEndian>(index);
-    }
-    assert!(rt; gives(wide.into_iter_ones(), &[4, 63, 71, 127])?);
     assert!(rt; gives([0u8; 0].into_iter_zeros(), &[])?);
-    assert!(rt; gives((-2i8).into_iter_zeros(), &[0])?);
     Ok(())
 }
 
