@@ -3,8 +3,6 @@
 ghost use Rattle.std.specs.Prelude.{◌≡◌, ◌*◌, ◌<◌, length, IsTrue};
 ghost use Rattle.bittle.specs.Orders.{members};
 ghost use Rattle.bittle.specs.PlainSet.{with_index, without_index};
-ghost use Rattle.bittle.specs.SetOperations.{union_of};
-ghost use Rattle.bittle.specs.SetOperators.{IsInBothOrders};
 ghost use Rattle.bittle.specs.Rows.{elements_set};
 ghost use Rattle.bittle.specs.Shapes.{Fits};
 ghost use Rattle.bittle.specs.Machine.{replies_of, final_set};
@@ -53,18 +51,4 @@ pub fn replay_through<U: BitsOwned, E: Endian>(
 {
     let mut wrapped = Set::from_mut(slice);
     replay::<Set<&mut [U]>, E>(&mut wrapped, calls, replies);
-}
-
-/// Adds the members of another slice by `|=` of two sets. Past the shorter slice nothing changes.
-pub fn unite<U: BitsOwned>(slice: &mut [U], other: &mut [U])
-    requires fits { Fits U.indexable (length slice.old * U.type_capacity) }
-    requires other_fits { Fits U.indexable (length other.old * U.type_capacity) }
-    ensures united { IsInBothOrders union_of U.width
-        (elements_set (length slice.old) U.type_capacity U.big slice.old)
-        (elements_set (length other.old) U.type_capacity U.big other.old)
-        (elements_set (length slice.new) U.type_capacity U.big slice.new) }
-    ensures other_stays { other.new ≡ other.old }
-{
-    let mut wrapped = Set::from_mut(slice);
-    wrapped |= &Set::from_mut(other);
 }

@@ -60,14 +60,24 @@ fn sets_are_walked_in_their_order(rt: HostRuntime) {
             .iter_zeros_be()
             .eq([1, 2, 4, 5, 6, 7])
     );
+}
+
+#[test]
+fn sets_of_rows_are_walked_in_their_order(rt: HostRuntime) {
     assert!(rt; Set::from_ref_le(&[0x01u8, 0x10]).iter_ones_le().eq([7, 11]));
     assert!(rt; Set::new([8u8, 0]).into_iter().eq([3]));
     assert!(rt; Set::new_le([8u8, 0]).into_iter().rev().eq([4]));
+}
 
+#[test]
+fn sets_in_an_array_are_walked_in_the_default_order(rt: HostRuntime) {
     let sets = [Set::new_le(0x80u8), Set::new_le(0x01)];
     assert!(rt; sets.iter_ones().eq([7, 8]));
     assert!(rt; sets.iter_ones_le().eq([0, 15]));
+}
 
+#[test]
+fn sets_are_iterated_by_value_and_by_reference(rt: HostRuntime) {
     let set = Set::new_le([0x01u8, 0x10]);
     let mut total: u32 = 0;
     for index in &set {
