@@ -7,25 +7,17 @@ mod array;
 pub mod bits;
 pub mod bits_mut;
 pub mod bits_owned;
-#[cfg(test)]
-mod callers;
 mod count;
 mod elements;
 pub mod endian;
 #[doc(hidden)]
 pub mod hidden;
 pub mod join;
-#[cfg(test)]
-mod join_tests;
 #[doc(hidden)]
 pub mod laws;
 mod look;
 pub mod number;
 mod operation;
-#[cfg(test)]
-mod operation_tests;
-#[cfg(test)]
-mod probe;
 mod search;
 #[doc(hidden)]
 pub mod set_laws;
@@ -36,5 +28,3 @@ mod tests;
 pub mod walk;
 #[doc(hidden)]
 pub mod walk_laws;
-#[cfg(test)]
-mod walk_tests;
