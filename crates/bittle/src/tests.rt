@@ -1,4 +1,5 @@
 //! Worked values, from outside the crate.
 
+mod guide;
 mod runs;
 mod shapes;
