@@ -1,2 +1,5 @@
 pub mod Board
+pub mod Entities
+pub mod Least
+pub mod Scheduler
 pub mod Slots

@@ -2,6 +2,8 @@
 #![tactic(auto)]
 
 pub mod board;
+pub mod entities;
+pub mod scheduler;
 pub mod slices;
 pub mod slots;
 pub mod words;
