@@ -3,6 +3,7 @@
 
 pub mod board;
 pub mod entities;
+pub mod permissions;
 pub mod scheduler;
 pub mod slices;
 pub mod slots;
