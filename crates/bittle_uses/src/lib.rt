@@ -2,6 +2,9 @@
 #![tactic(auto)]
 
 pub mod board;
+pub mod entities;
+pub mod permissions;
+pub mod scheduler;
 pub mod slices;
 pub mod slots;
 pub mod words;

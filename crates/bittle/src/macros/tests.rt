@@ -1,7 +1,7 @@
 ghost use Rattle.std.specs.Prelude.{IsTrue};
 
 use crate::prelude::*;
-use crate::{set, set_be, set_le};
+use crate::{LittleEndian, Set, set, set_be, set_le};
 use std::process::Abort;
 
 #[test]
@@ -59,6 +59,8 @@ fn words_of_lists(rt: HostRuntime) {
 fn other_types(rt: HostRuntime) {
     let signed: i8 = set_le![0];
     assert_eq!(rt; signed, i8::MIN);
+    let remembered: Set<u16, LittleEndian> = set![1, 12];
+    assert_eq!(rt; remembered.into_bits(), 0b0100_0000_0000_1000);
     let words: [u16; 2] = set![31, 7];
     assert_eq!(rt; words, [128, 32768]);
     let mirrored: [u8; 2] = set_le![7, 11];
