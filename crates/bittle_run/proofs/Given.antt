@@ -10,30 +10,28 @@ use Rattle.bittle_run.specs.declared.command.Command.{Command}
 use Rattle.bittle_run.specs.Answers.{Answers, IsGiven, answers, answers_from, refused_at, prepend, printed, after_command}
 use Rattle.bittle_run.specs.Beginnings.{AppendsBeginning}
 use Rattle.bittle_run.specs.Commands.{command_of}
-use Rattle.bittle_run.proofs.Beginnings.{begins-before, begins-after}
+use Rattle.bittle_run.proofs.Beginnings.{HasBegun, begins-before, begun-nothing, begun-more, begun-whole, begun-failed}
 
 pub given-failed : {E : Type 0} (a b : Option (List ℕ)) (r : Result Outcome E) (given : Answers) → IsErr r → AppendsBeginning a b given.text → IsGiven a b r given
 given-failed a b r given failed h = MatchResult-from_err r (λ outcome. (outcome ≡ given.outcome) × Appends a b given.text) (λ _. AppendsBeginning a b given.text) failed (λ _. h)
 
 -- an output got the first of all the answers, and these are left
 pub record IsUnderWay (a b : Option (List ℕ)) (all left : Answers) : Type 0 where
-  pub done : List ℕ
-  pub appends : Appends a b done
-  pub split : all ≡ prepend done left
+  pub text : HasBegun a b all.text left.text
+  pub outcome : all.outcome ≡ left.outcome
 
 pub under_way-begins : (a : Option (List ℕ)) (all left : Answers) → all ≡ left → IsUnderWay a a all left
-under_way-begins a all left e = record { done = []; appends = Appends-nil a; split = e }
+under_way-begins a all left e = record { text = begun-nothing a all.text left.text (ap (λ given. given.text) e); outcome = ap (λ given. given.outcome) e }
 
 pub under_way-after : (a b c : Option (List ℕ)) (all left rest : Answers) (reply : List ℕ) → IsUnderWay a b all left → left ≡ prepend reply rest → Appends b c reply → IsUnderWay a c all rest
-under_way-after a b c all left rest reply h is k =
-    let joined : prepend h.done (prepend reply rest) ≡ prepend (h.done ++ reply) rest = ap (λ text. record rest { text = text }) (sym (append_assoc h.done reply rest.text)) in
-    record { done = h.done ++ reply; appends = Appends-trans a b c h.done reply h.appends k; split = h.split ∙ ap (prepend h.done) is ∙ joined }
+under_way-after a b c all left rest reply h is k = record {
+  text = begun-more a b c all.text left.text reply rest.text h.text (ap (λ given. given.text) is) k;
+  outcome = h.outcome ∙ ap (λ given. given.outcome) is;
+}
 
 pub given-after : {E : Type 0} (a b c : Option (List ℕ)) (r : Result Outcome E) (all left : Answers) → IsUnderWay a b all left → IsGiven b c r left → IsGiven a c r all
-given-after a b c r all left h k = rw h.split (by_result r k) where
-  by_result : {E : Type 0} (r : Result Outcome E) → IsGiven b c r left → IsGiven a c r (prepend h.done left)
-  by_result (Ok outcome) k = (k.0, Appends-trans a b c h.done left.text h.appends k.1)
-  by_result (Err e) k = begins-after a b c h.done left.text h.appends k
+given-after a b c (Ok outcome) all left h k = (k.0 ∙ sym h.outcome, begun-whole a b c all.text left.text h.text k.1)
+given-after a b c (Err e) all left h k = begun-failed a b c all.text left.text h.text k
 
 -- the output failed at the next reply
 pub given-failed_at : {E : Type 0} (a b : Option (List ℕ)) (r : Result Outcome E) (left rest : Answers) (reply : List ℕ) → IsErr r → left ≡ prepend reply rest → AppendsBeginning a b reply → IsGiven a b r left

@@ -3,3 +3,4 @@ pub mod Digits
 pub mod Beginnings
 pub mod Given
 pub mod Allowed
+pub mod Spaced

@@ -1,16 +1,15 @@
 -- The answers to a script: those of a plain set of numbers, line by line.
 use Rattle.std.specs.Prelude.{◌≡◌, ℕ, List, [], ◌∷◌, ◌++◌, Option, None, Some, length, drop, codes, ◌==◌, if◌then◌else◌, Result, MatchResult}
-use Rattle.std.specs.List.{enumerate_from}
+use Rattle.std.specs.List.{enumerate_from, join_by}
 use Rattle.std.specs.Fmt.{decimal}
 use Rattle.std.specs.Io.KnownBytes.{Appends}
-use Rattle.bittle.specs.PlainSet.{PlainSet, empty}
+use Rattle.bittle.specs.PlainSet.{PlainSet, empty, ascending}
 use Rattle.bittle.specs.Machine.{reply_to, set_after}
-use Rattle.bittle.specs.declared.replay.Call.{Call}
 use Rattle.bittle.specs.declared.replay.Call.TheVariants.{Test as Test_call, Put, Clear as Clear_call, CountOnes}
 use Rattle.bittle.specs.declared.replay.Reply.{Reply}
 use Rattle.bittle.specs.declared.replay.Reply.TheVariants.{Done, Bit, Number}
 use Rattle.bittle_run.specs.declared.command.Command.{Command}
-use Rattle.bittle_run.specs.declared.command.Command.TheVariants.{Set, Clear, Test, Count}
+use Rattle.bittle_run.specs.declared.command.Command.TheVariants.{Set, Clear, Test, Count, Ones}
 use Rattle.bittle_run.specs.declared.header.Header.{Header}
 use Rattle.bittle_run.specs.declared.answering.Outcome.{Outcome}
 use Rattle.bittle_run.specs.declared.answering.Outcome.TheVariants.{Answered, Refused}
@@ -19,26 +18,31 @@ use Rattle.bittle_run.specs.Commands.{command_of}
 use Rattle.bittle_run.specs.Headers.{header_of, capacity_of}
 use Rattle.bittle_run.specs.Texts.{script_lines}
 
--- the call that a command makes
-abbrev pub call_of : Command → Call
-call_of (Set i) = Put i
-call_of (Clear i) = Clear_call i
-call_of (Test i) = Test_call i
-call_of Count = CountOnes
-
 -- what is printed of a reply
 abbrev pub text_of : Reply → List ℕ
 text_of Done = []
 text_of (Bit b) = if b then codes "true\n" else codes "false\n"
 text_of (Number n) = decimal n ++ codes "\n"
 
+-- the members on a line, in increasing order and with one space between
+abbrev pub line_of_members : PlainSet → List ℕ
+line_of_members s = join_by decimal (codes " ") (ascending s) ++ codes "\n"
+
 -- what is printed at a command
 abbrev pub printed : PlainSet → Command → List ℕ
-printed s command = text_of (reply_to s (call_of command))
+printed s (Set i) = text_of (reply_to s (Put i))
+printed s (Clear i) = text_of (reply_to s (Clear_call i))
+printed s (Test i) = text_of (reply_to s (Test_call i))
+printed s Count = text_of (reply_to s CountOnes)
+printed s Ones = line_of_members s
 
 -- the set after a command
 abbrev pub after_command : PlainSet → Command → PlainSet
-after_command s command = set_after s (call_of command)
+after_command s (Set i) = set_after s (Put i)
+after_command s (Clear i) = set_after s (Clear_call i)
+after_command s (Test i) = set_after s (Test_call i)
+after_command s Count = set_after s CountOnes
+after_command s Ones = s
 
 -- what is printed of a line that is not understood
 abbrev pub refusal_of : ℕ → List ℕ

@@ -2,7 +2,7 @@
 use Rattle.std.specs.Prelude.{ℕ, List, Option, Some, None, codes, drop, if◌then◌else◌}
 use Rattle.std.specs.Option.{option_map}
 use Rattle.bittle_run.specs.declared.command.Command.{Command}
-use Rattle.bittle_run.specs.declared.command.Command.TheVariants.{Set, Clear, Test, Count}
+use Rattle.bittle_run.specs.declared.command.Command.TheVariants.{Set, Clear, Test, Count, Ones}
 use Rattle.bittle_run.specs.Numbers.{number_of}
 use Rattle.bittle_run.specs.Words.{is_word, begins_with}
 
@@ -15,4 +15,6 @@ indexed_command_of line =
 
 -- the command that a line says
 abbrev pub command_of : List ℕ → Option Command
-command_of line = if is_word line (codes "count") then Some Count else indexed_command_of line
+command_of line =
+    if is_word line (codes "count") then Some Count
+    else (if is_word line (codes "ones") then Some Ones else indexed_command_of line)

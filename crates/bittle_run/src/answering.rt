@@ -3,7 +3,7 @@ ghost use Rattle.std.specs.Prelude.{◌≡◌, ◌≤◌, length, drop, OnSome, 
 ghost use Rattle.bittle.specs.Orders.{members};
 ghost use Rattle.bittle.specs.PlainSet.{empty};
 ghost use Rattle.bittle.specs.Machine.{reply_to, set_after};
-ghost use Rattle.bittle_run.specs.Answers.{answers, answers_to, answers_in, header_in, call_of, text_of, printed, after_command, refused_at, IsGiven};
+ghost use Rattle.bittle_run.specs.Answers.{answers, answers_to, answers_in, header_in, text_of, line_of_members, printed, after_command, refused_at, IsGiven};
 ghost use Rattle.bittle_run.specs.Beginnings.{Writes};
 ghost use Rattle.bittle_run.specs.Headers.{capacity_of};
 ghost use Rattle.bittle_run.specs.Numbering.{lines_left};
@@ -14,7 +14,7 @@ use crate::header::{Header, Order, Shape};
 use crate::lines::Lines;
 use crate::writing::{Output, WriteFailed};
 use bittle::replay::{Call, Reply, replay};
-use bittle::{BigEndian, BitsOwned, Endian, LittleEndian, set};
+use bittle::{BigEndian, Bits, BitsOwned, Endian, LittleEndian, Set, set};
 use std::io::Write;
 
 /// How a run ended whose output did not fail.
@@ -142,6 +142,7 @@ fn obey<B: BitsOwned, E: Endian, W: Write>(
         Command::Clear(index) => Call::Clear(index),
         Command::Test(index) => Call::Test(index),
         Command::Count => Call::CountOnes,
+        Command::Ones => return print_members::<B, E, W>(&Set::new_in(*bits), output),
     };
     print(ask::<B, E>(bits, call), output)
 }
@@ -173,6 +174,23 @@ fn print<W: Write>(reply: Reply, output: &mut Output<'_, W>) -> Result<(), Write
             output.put(b"\n")
         }
     }
+}
+
+/// Prints the members of a set, in increasing order and with one space between, on a line.
+fn print_members<B: BitsOwned, E: Endian, W: Write>(
+    set: &Set<B, E>,
+    output: &mut Output<'_, W>,
+) -> Result<(), WriteFailed>
+    ensures same_writer { output.new.writer.ghost_name ≡ output.old.writer.ghost_name }
+    ensures prints { Writes (W.contents output.old.writer.now) (W.contents output.new.writer.now) result
+        (line_of_members (members E.mirrored B.width (B.big set.now.bits))) }
+{
+    let mut space: &[u8] = b"";
+    for member in set.iter_ones() {
+        output.put_after(space, member)?;
+        space = b" ";
+    }
+    output.put(b"\n")
 }
 
 /// Says that the line with this number is not understood.

@@ -14,6 +14,8 @@ pub enum Command {
     Test(u32),
     /// How many members there are.
     Count,
+    /// Which numbers are members.
+    Ones,
 }
 
 impl Command {
@@ -25,6 +27,7 @@ impl Command {
     {
         match line {
             b"count" => Some(Command::Count),
+            b"ones" => Some(Command::Ones),
             _ => Command::parse_indexed(line),
         }
     }

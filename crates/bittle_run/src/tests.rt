@@ -13,13 +13,19 @@ const PRINTED: &[u8] = b"true\nfalse\n";
 
 #[test]
 fn answers_scripts(rt: HostRuntime) {
-    let rows: [(&[u8], &[u8]); 10] = [
+    let rows: [(&[u8], &[u8]); 13] = [
         (SCRIPT, PRINTED),
         (b"le u8\nset 4294967295\ntest 7\n", b"true\n"),
         (b"be u8\ncount\n", b"0\n"),
         (b"le u16x2\nset 31\nset 0\ncount\ntest 32\n", b"2\ntrue\n"),
         (b"be u8x2x2\nset 17\ntest 49\ncount\n", b"true\n1\n"),
         (b"be i32\nset 31\ntest 63\ncount\n", b"true\n1\n"),
+        (
+            b"le u16x2\nset 31\nset 0\ncount\nones\ntest 32\n",
+            b"2\n0 31\ntrue\n",
+        ),
+        (b"le u8x2x2\nset 4294967295\nones\n", b"31\n"),
+        (b"be i32\nones\n", b"\n"),
         (b"be u8\nset 0\ntest 0", b"true\n"),
         (b"be u8\r\nset 000\r\n\r\ntest 0\r\n", b"true\n"),
         (b"be u8\r\ntest 0\r", b"false\n"),
@@ -34,7 +40,7 @@ fn answers_scripts(rt: HostRuntime) {
 
 #[test]
 fn refuses_the_first_bad_line(rt: HostRuntime) {
-    let rows: [(&[u8], &[u8]); 16] = [
+    let rows: [(&[u8], &[u8]); 18] = [
         (b"", b"line 1: not understood\n"),
         (b"\nbe u8\n", b"line 1: not understood\n"),
         (b"be  u8\n", b"line 1: not understood\n"),
@@ -48,6 +54,11 @@ fn refuses_the_first_bad_line(rt: HostRuntime) {
         (b"be u8\nset  1\n", b"line 2: not understood\n"),
         (b"be u8\nset \n", b"line 2: not understood\n"),
         (b"be u8\ncount 1\n", b"line 2: not understood\n"),
+        (b"be u8\nones 1\n", b"line 2: not understood\n"),
+        (
+            b"be u8x4\nset 32\nones\nsat 1\nones\n",
+            b"0\nline 4: not understood\n",
+        ),
         (b"be u8\nSET 1\n", b"line 2: not understood\n"),
         (b"be u8\n\n\nset 1 \n", b"line 4: not understood\n"),
         (

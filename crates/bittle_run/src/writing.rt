@@ -1,5 +1,5 @@
 //! Writes to the output, and counts the writes that were interrupted.
-ghost use Rattle.std.specs.Prelude.{◌<◌, ◌≡◌, ◌↔◌, IsErr, OnOk, ◌+◌};
+ghost use Rattle.std.specs.Prelude.{◌<◌, ◌≡◌, ◌↔◌, IsErr, OnOk, ◌+◌, ◌++◌};
 ghost use Rattle.std.specs.Fmt.{decimal};
 ghost use Rattle.std.specs.Io.KnownBytes.{Keeps};
 ghost use Rattle.bittle_run.specs.Beginnings.{Writes};
@@ -67,6 +67,16 @@ impl<'a, W: Write> Output<'a, W> {
             self.put_number(number / 10)?;
         }
         self.put(&[b'0' + (number % 10) as u8])
+    }
+
+    /// Writes `before`, and then a number in digits.
+    pub fn put_after(&mut self, before: &[u8], number: u32) -> Result<(), WriteFailed>
+        ensures same_writer { self.new.writer.ghost_name ≡ self.old.writer.ghost_name }
+        ensures both { Writes (W.contents self.old.writer.now) (W.contents self.new.writer.now) result
+            (before.now ++ decimal number) }
+    {
+        self.put(before)?;
+        self.put_number(number)
     }
 
     /// Flushes. A flush that was interrupted has failed.

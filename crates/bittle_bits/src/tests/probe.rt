@@ -117,6 +117,26 @@ impl<'a> BitsMut for Probe<'a> {
         self.note_other();
         self.bytes.clear_bits();
     }
+
+    fn union_assign(&mut self, other: &Probe<'a>) {
+        self.note_other();
+        self.bytes.union_assign(&other.bytes);
+    }
+
+    fn conjunction_assign(&mut self, other: &Probe<'a>) {
+        self.note_other();
+        self.bytes.conjunction_assign(&other.bytes);
+    }
+
+    fn difference_assign(&mut self, other: &Probe<'a>) {
+        self.note_other();
+        self.bytes.difference_assign(&other.bytes);
+    }
+
+    fn symmetric_difference_assign(&mut self, other: &Probe<'a>) {
+        self.note_other();
+        self.bytes.symmetric_difference_assign(&other.bytes);
+    }
 }
 
 impl<'a> BitsOwned for Probe<'a> {
