@@ -352,3 +352,17 @@ fn sets_without_capacity(rt: HostRuntime) -> Result<(), Fail> {
     );
     Ok(())
 }
+
+#[test]
+fn a_join_reads_its_mask_in_the_default_order(rt: HostRuntime) {
+    let set = Set::new_le(0b1101_0000u8);
+    let letters = *b"abcdefgh";
+    let mut join = set.join_ones(letters.iter());
+    for expected in [Some(b'e'), Some(b'g'), Some(b'h'), None, None] {
+        assert_eq!(rt; join.next().copied(), expected);
+    }
+    let mut join = set.join_ones_le(letters.iter());
+    for expected in [Some(b'a'), Some(b'b'), Some(b'd'), None, None] {
+        assert_eq!(rt; join.next().copied(), expected);
+    }
+}

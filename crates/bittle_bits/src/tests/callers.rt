@@ -38,6 +38,32 @@ fn each_other(bits: &[[u8; 2]; 2]) -> u32
     total
 }
 
+/// A `for` over the members of an owned set.
+fn each_owned_member<B: BitsOwned, E: Endian>(bits: B) -> u64
+    requires fits { Fits B.indexable (B.big bits).capacity }
+    requires few { length (ascending (members E.mirrored B.width (B.big bits))) < 100 }
+    ensures { result ≡ length (ascending (members E.mirrored B.width (B.big bits))) }
+{
+    let mut total: u64 = 0;
+    for _index in bits.into_iter_ones_in::<E>() {
+        total += 1;
+    }
+    total
+}
+
+/// A `for` over the other numbers of an owned set.
+fn each_owned_other<B: BitsOwned, E: Endian>(bits: B) -> u64
+    requires fits { Fits B.indexable (B.big bits).capacity }
+    requires few { length (ascending (complement (members E.mirrored B.width (B.big bits)))) < 100 }
+    ensures { result ≡ length (ascending (complement (members E.mirrored B.width (B.big bits)))) }
+{
+    let mut total: u64 = 0;
+    for _index in bits.into_iter_zeros_in::<E>() {
+        total += 1;
+    }
+    total
+}
+
 /// How many members an owned set has, by its walk.
 fn counted<B: BitsOwned, E: Endian>(bits: B) -> usize
     requires fits { Fits B.indexable (B.big bits).capacity }
