@@ -5,7 +5,7 @@ use Rattle.std.specs.Hash as fed
 use Rattle.std.specs.List.{flat_map}
 use Rattle.std.specs.Ordering.{nat_cmp}
 use Rattle.std.specs.declared.cmp.Ordering.{Ordering}
-use Rattle.bittle_bits.specs.PlainSet.{PlainSet, ascending}
+use Rattle.bittle_bits.specs.PlainSet.{PlainSet}
 
 -- the order of two increasing lists, by their first items that differ
 abbrev pub list_cmp : List ℕ → List ℕ → Ordering

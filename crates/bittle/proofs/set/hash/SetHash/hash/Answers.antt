@@ -1,4 +1,4 @@
-use Rattle.std.proofs.Common.{ap, arith, length, rules}
+use Rattle.std.proofs.Common.{ap, arith, length}
 use Rattle.bittle_bits.specs.Orders.{members}
 use Rattle.bittle.proofs.Ascending.{length-ascending}
 use Rattle.bittle.proofs.set.hash.SetHash.hash.Goals as goal

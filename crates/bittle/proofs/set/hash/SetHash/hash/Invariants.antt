@@ -1,4 +1,4 @@
-use Rattle.std.proofs.Common.{◌≡◌, ◌+◌, ◌-◌, ◌≤◌, length}
+use Rattle.std.proofs.Common.{◌≡◌, ◌+◌, length}
 use Rattle.std.specs.List.{flat_map, fold}
 use Rattle.std.specs.Hash as fed
 use Rattle.bittle_bits.specs.Orders.{members}
