@@ -21,7 +21,7 @@ impl<T: BitsOwned, E: Endian> IntoIterator for Set<T, E> {
 
     #[inline]
     fn into_iter(self) -> IntoIterOnes<Set<T, E>, E> {
-        self.into_iter_ones()
+        self.into_iter_ones_in::<E>()
     }
 }
 
@@ -35,6 +35,6 @@ impl<'a, T: Bits, E: Endian> IntoIterator for &'a Set<T, E> {
 
     #[inline]
     fn into_iter(self) -> IterOnes<'a, Set<T, E>, E> {
-        self.iter_ones()
+        self.iter_ones_in::<E>()
     }
 }
