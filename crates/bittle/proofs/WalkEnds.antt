@@ -3,7 +3,7 @@ use Rattle.std.proofs.Common.{◌≡◌, ℕ, Option, Some, None, List, [], ◌�
 use Rattle.std.proofs.lemmas.List.{reverse-append, reverse-reverse}
 use Rattle.bittle.specs.declared.replay.walk.Step.{Step}
 use Rattle.bittle.specs.declared.replay.walk.Step.TheVariants.{Front, Back}
-use Rattle.bittle.specs.Ends.{first_of, rest_of, answer_of, left_by, remains_of, item_in, from_front, from_back, KeepsAll}
+use Rattle.bittle.specs.Ends.{first_of, rest_of, left_by, remains_of, item_in, from_front, from_back, KeepsAll}
 
 -- a list is its first item and the rest
 first_and_rest : (xs : List ℕ) → item_in (first_of xs) ++ rest_of xs ≡ xs

@@ -11,7 +11,7 @@ use bittle_bits::bits_mut::BitsMut;
 use bittle_bits::endian::Endian;
 pub use walk::{Looks, Step, ends_keep_all, replay_walk};
 
-/// A call on a set. An index past the capacity wraps.
+/// A call on a set. An index past the capacity wraps. With capacity 0 a test finds false, and nothing changes.
 #[derive(Clone, Copy, Debug, PartialEq, Eq)]
 pub enum Call {
     /// Asks whether the index is a member: answered by [`Reply::Bit`].

@@ -3,3 +3,5 @@
 mod guide;
 mod runs;
 mod shapes;
+mod vectors;
+mod without_capacity;

@@ -1,5 +1,5 @@
 -- The word whose members are the indexes from one on.
-use Rattle.std.proofs.Common.{◌≡◌, ℕ, ◌+◌, ◌-◌, ◌*◌, ◌^◌, ◌<◌, ◌≤◌, ◌⊎◌, Bool, true, false, not, ◌&&◌, ◌||◌, nat_lt, ◌==◌, inl, inr, refl, sym, ap, ◌∙◌, arith, bit_or}
+use Rattle.std.proofs.Common.{◌≡◌, ℕ, ◌-◌, ◌*◌, ◌^◌, ◌<◌, ◌≤◌, ◌⊎◌, Bool, true, false, not, ◌&&◌, ◌||◌, nat_lt, ◌==◌, inl, inr, refl, sym, ap, ◌∙◌, arith, bit_or}
 use Rattle.std.proofs.Math.Path.{fun_ext}
 use Rattle.std.specs.Int.{bit_at}
 use Rattle.std.proofs.lemmas.Nat.{pow_pos}
@@ -7,9 +7,9 @@ use Rattle.std.proofs.lemmas.Nat.Bits.{bit_at_above}
 use Rattle.std.proofs.lemmas.Bool.{cases_eq, cases_lt, eq-eqb, ne_eqb, lt-ltb, le-ltb}
 use Rattle.bittle_bits.specs.Digits.{digit_has, digit_set}
 use Rattle.bittle_bits.specs.Laws.{digit_has-past}
-use Rattle.bittle_bits.specs.Orders.{place, mirror, members}
-use Rattle.bittle_bits.specs.PlainSet.{PlainSet, filled_from, lacks, filled}
-use Rattle.bittle_bits.proofs.DigitSets.{digit_has-not, digit_has-or, digit_has-pow, digit_has-at, digit_has-below, all_digits}
+use Rattle.bittle_bits.specs.Orders.{mirror, members}
+use Rattle.bittle_bits.specs.PlainSet.{filled_from, lacks}
+use Rattle.bittle_bits.proofs.DigitSets.{digit_has-not, digit_has-or, digit_has-pow, all_digits}
 use Rattle.bittle_bits.proofs.PlaceLemmas.{mirror_in_word, place_past}
 use Rattle.bittle_bits.proofs.PlainSets.{plain}
 

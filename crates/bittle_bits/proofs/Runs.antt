@@ -1,8 +1,9 @@
 -- What runs of a walk's steps give, and walks that have not stepped yet.
-use Rattle.std.proofs.Common.{◌≡◌, ℕ, ap, length, refl, arith}
+use Rattle.std.proofs.Common.{◌≡◌, ℕ, List, ap, length, arith}
+use Rattle.std.specs.Iterator.{YieldsFirst, YieldsLast}
 use Rattle.std.specs.Iterator.Runs.{YieldsInOrder, YieldsInReverse}
 use Rattle.std.proofs.iter.runs.Sources.{from_front, from_back, as_is, as_is_back}
-use Rattle.bittle_bits.specs.Walk.{Walk, StepsFront, StepsBack, IsFresh, ResumesAs}
+use Rattle.bittle_bits.specs.Walk.{Walk, StepsFront, StepsBack, IsFresh, ResumesAs, ListsInOrder, ListsInReverse}
 
 in_order : YieldsInOrder StepsFront (λ w. w.left)
 in_order p seen = as_is p p.from.left (from_front StepsFront (λ x. x) (λ w. w.left) (λ s t h. ap length h.gave.0) (λ s x t h. h.gave) p seen)
@@ -22,3 +23,10 @@ is_fresh words w l i n = record {
 
 pub resumes_as : (source clone : Walk) → clone.left ≡ source.left → clone.words ≡ source.words → clone.looks ≡ 0 → clone.items ≡ 0 → ResumesAs source clone
 resumes_as source clone left n l i = record { left = left; fresh = is_fresh source.words clone l i n }
+
+-- the same of a plain list of numbers
+pub list_in_order : ListsInOrder
+list_in_order p seen = as_is p p.from (from_front (YieldsFirst (λ (left : List ℕ). left)) (λ x. x) (λ left. left) (λ s t h. ap length h.0) (λ s x t h. h) p seen)
+
+pub list_in_reverse : ListsInReverse
+list_in_reverse p seen = as_is_back p p.from (from_back (YieldsLast (λ (left : List ℕ). left)) (λ x. x) (λ left. left) (λ s t h. ap length h.0) (λ s x t h. h) p seen)

@@ -1,11 +1,11 @@
 -- A search for the first or the last member between two numbers, word by word.
-use Rattle.std.proofs.Common.{◌≡◌, ℕ, suc, ◌+◌, ◌-◌, ◌*◌, ◌/◌, ◌%◌, ◌^◌, ◌<◌, ◌≤◌, ◌⊎◌, Bool, true, false, not, ◌&&◌, ◌||◌, ◌==◌, nat_lt, inl, inr, Some, None, refl, sym, ap, ◌∙◌, arith, bit_and, bit_or}
+use Rattle.std.proofs.Common.{◌≡◌, ℕ, ◌+◌, ◌-◌, ◌*◌, ◌/◌, ◌%◌, ◌^◌, ◌<◌, ◌≤◌, ◌⊎◌, Bool, true, false, not, ◌&&◌, ◌||◌, ◌==◌, nat_lt, inl, inr, Some, None, refl, sym, ap, ◌∙◌, arith, bit_and, bit_or}
 use Rattle.std.proofs.Math.Nat.{div-add-mod', mul-le-mul_right, mod-eq_of_lt, lt_of_mul-lt-mul_right}
 use Rattle.std.proofs.lemmas.Nat.{mod_below}
 use Rattle.std.proofs.lemmas.Bool.{cases_lt, cases_eq, eq-eqb, ne_eqb, lt-ltb, le-ltb, ltb-true, and_parts, true≢false}
 use Rattle.bittle_bits.specs.Digits.{digit_has, digit_set}
 use Rattle.bittle_bits.specs.Orders.{place, members}
-use Rattle.bittle_bits.specs.PlainSet.{PlainSet, complement, filled_from, with_index, empty, lacks, IsLeastMember, IsGreatestMember}
+use Rattle.bittle_bits.specs.PlainSet.{PlainSet, filled_from, with_index, empty, lacks, IsLeastMember, IsGreatestMember}
 use Rattle.bittle_bits.specs.Searches.{NoneIn, IsFirstIn, IsLastIn}
 use Rattle.bittle_bits.specs.Walk.{wanted}
 use Rattle.bittle_bits.specs.Words.{word_of}

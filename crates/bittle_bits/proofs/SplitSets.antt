@@ -1,9 +1,9 @@
 -- The members and the other numbers of a set split the numbers below its capacity.
-use Rattle.std.proofs.Common.{◌≡◌, ℕ, zero, suc, ◌+◌, ◌<◌, ◌≤◌, Bool, true, false, not, ◌&&◌, ◌||◌, ◌==◌, cond, nat_lt, inl, inr, List, [], ◌∷◌, length, refl, sym, ap, ◌∙◌, arith}
+use Rattle.std.proofs.Common.{◌≡◌, ℕ, zero, suc, ◌+◌, ◌<◌, ◌≤◌, Bool, true, false, not, ◌&&◌, ◌==◌, cond, inl, inr, ◌∷◌, length, refl, sym, ap, ◌∙◌, arith}
 use Rattle.std.specs.List.{list_any}
 use Rattle.std.proofs.lemmas.Bool.{cases_eq, eq-eqb, ne_eqb, lt-ltb}
-use Rattle.bittle_bits.specs.PlainSet.{PlainSet, ascending_from, ascending, complement, count_below, size, lacks}
-use Rattle.bittle_bits.specs.Splits.{Splits, OnesAndZerosSplit}
+use Rattle.bittle_bits.specs.PlainSet.{ascending_from, complement, count_below, size, lacks}
+use Rattle.bittle_bits.specs.Splits.{OnesAndZerosSplit}
 use Rattle.bittle_bits.proofs.Sizes.{count-same, count-add}
 
 other_and_it : (b : Bool) → cond b 1 0 + cond (not b) 1 0 ≡ 1

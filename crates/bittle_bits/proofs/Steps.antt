@@ -1,10 +1,10 @@
 -- The parts of a walk's step: a look that gives an item, a look that retires a copy, and a word that is fetched.
-use Rattle.std.proofs.Common.{◌≡◌, ℕ, suc, Bool, true, false, ◌+◌, ◌-◌, ◌*◌, ◌/◌, ◌<◌, ◌≤◌, List, [], ◌∷◌, ◌++◌, Option, Some, None, refl, sym, ap, ◌∙◌, arith, append_assoc, append-nil, le_trans}
+use Rattle.std.proofs.Common.{◌≡◌, ℕ, Bool, true, false, ◌+◌, ◌-◌, ◌*◌, ◌/◌, ◌<◌, ◌≤◌, List, ◌++◌, Option, Some, None, refl, sym, ap, ◌∙◌, arith, append_assoc, append-nil, le_trans}
 use Rattle.std.proofs.Math.Nat.{mul-le-mul_right, mul-div_left, zero-mul}
 use Rattle.bittle_bits.specs.Copies.{Held, between, items_in, held, TakesFirst, TakesLast}
 use Rattle.bittle_bits.specs.PlainSet.{PlainSet, ascending}
 use Rattle.bittle_bits.specs.Standing.{left_in, walk_of, Retires}
-use Rattle.bittle_bits.specs.Walk.{Walk, wanted, IsThrifty, StepsFront, StepsBack, counted}
+use Rattle.bittle_bits.specs.Walk.{Walk, wanted, IsThrifty, StepsFront, StepsBack}
 use Rattle.bittle_bits.specs.declared.standing.Standing.{Standing}
 use Rattle.bittle_bits.proofs.Items.{between_split, between_empty, between_all}
 

@@ -1,5 +1,5 @@
 -- Copied words: which members of their set they hold, and what is left of one without its first or last item.
-use Rattle.std.proofs.Common.{◌≡◌, ℕ, suc, ◌+◌, ◌-◌, ◌*◌, ◌/◌, ◌%◌, ◌^◌, ◌<◌, ◌≤◌, Bool, true, false, not, ◌&&◌, nat_lt, ◌==◌, inl, inr, List, [], ◌∷◌, ◌++◌, length, get_or, refl, sym, ap, ◌∙◌, arith}
+use Rattle.std.proofs.Common.{◌≡◌, ℕ, suc, ◌+◌, ◌-◌, ◌*◌, ◌/◌, ◌%◌, ◌^◌, ◌<◌, ◌≤◌, Bool, not, ◌&&◌, nat_lt, ◌==◌, inl, inr, List, [], ◌∷◌, ◌++◌, length, get_or, refl, sym, ap, ◌∙◌, arith}
 use Rattle.std.proofs.Math.Path.{fun_ext}
 use Rattle.std.proofs.Math.Nat.{mul-div_left, mod-eq_of_lt, div-add-mod', mul_assoc, zero-mul, lt_of_mul-lt-mul_right, mul-lt-mul_of_pos_right, mul-le-mul_right}
 use Rattle.std.proofs.lemmas.Nat.{mod_below, div_below, mul-add-lt}
@@ -9,7 +9,6 @@ use Rattle.bittle_bits.specs.Digits.{digit_has, digit_set}
 use Rattle.bittle_bits.specs.Orders.{place, members}
 use Rattle.bittle_bits.specs.PlainSet.{PlainSet, ascending_from, IsLeastMember, IsGreatestMember, without_index, complement, lacks}
 use Rattle.bittle_bits.specs.Rows.{elements_has, elements_set}
-use Rattle.bittle_bits.specs.Walk.{wanted}
 use Rattle.bittle_bits.specs.Words.{word_has, word_of}
 use Rattle.bittle_bits.proofs.DigitSets.{digit_has-not}
 use Rattle.bittle_bits.proofs.Items.{none_from, same_from, first_from, last_from}

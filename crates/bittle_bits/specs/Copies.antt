@@ -1,5 +1,5 @@
 -- Copied words: what is left in each, and what a look takes.
-use Rattle.std.specs.Prelude.{◌≡◌, ℕ, ◌+◌, ◌-◌, ◌*◌, ◌<◌, Bool, List, [], ◌∷◌, ◌++◌, Option, Some, None, MatchOption}
+use Rattle.std.specs.Prelude.{◌≡◌, ℕ, ◌+◌, ◌-◌, ◌<◌, Bool, List, [], ◌∷◌, ◌++◌, Option, Some, None, MatchOption}
 use Rattle.bittle_bits.specs.Digits.{digit_set}
 use Rattle.bittle_bits.specs.Orders.{members}
 use Rattle.bittle_bits.specs.PlainSet.{PlainSet, ascending_from}

@@ -58,3 +58,10 @@ pub record IsFresh (words : ℕ) (w : Walk) : Type 0 where
 pub record ResumesAs (source clone : Walk) : Type 0 where
   pub left : clone.left ≡ source.left
   pub fresh : IsFresh source.words clone
+
+-- runs of steps over a list of numbers give it from its first item on, and from its last
+abbrev pub ListsInOrder : Type 0
+ListsInOrder = YieldsInOrder (YieldsFirst (λ (left : List ℕ). left)) (λ left. left)
+
+abbrev pub ListsInReverse : Type 0
+ListsInReverse = YieldsInReverse (YieldsLast (λ (left : List ℕ). left)) (λ left. left)

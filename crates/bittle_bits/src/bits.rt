@@ -19,6 +19,10 @@ use crate::walk::{IterOnes, IterZeros};
 /// A set of the numbers below a capacity, one digit each.
 ///
 /// The integers are sets, and so are arrays of sets, nested to any depth, and slices. An index past the capacity wraps.
+///
+/// A shape fits where its capacity, and that of each array type within it, is below `u32::MAX`, which
+/// `bits_capacity() < u32::MAX` tells. What counts, walks, joins or searches asks for that. A call on one index asks of a
+/// slice only that the element type fits, so it works at any length.
 pub trait Bits: Drop + Sealed {
     /// The order of the calls that name none.
     type Order: Endian;
@@ -36,17 +40,17 @@ pub trait Bits: Drop + Sealed {
     // The set in big-endian order.
     ghost big: { Self → PlainSet };
 
-    /// How many numbers the set can hold, or `u32::MAX` where the shape does not fit.
+    /// How many numbers the set can hold, or `u32::MAX` where the shape does not fit. It has no condition.
     fn bits_capacity(&self) -> u32
         ensures value { Fits indexable (big self.now).capacity → result ≡ (big self.now).capacity }
         ensures fits { result < 4294967295 → Fits indexable (big self.now).capacity };
 
-    /// How many members there are.
+    /// How many members there are, the same in both orders. The shape has to fit. With capacity 0 there are none.
     fn count_ones(&self) -> u32
         requires { Fits indexable (big self.now).capacity }
         ensures { result ≡ size (big self.now) };
 
-    /// How many numbers below the capacity are no members.
+    /// How many numbers below the capacity are no members, the same in both orders. The shape has to fit.
     #[inline]
     final fn count_zeros(&self) -> u32
         requires { Fits indexable (big self.now).capacity }
@@ -55,15 +59,17 @@ pub trait Bits: Drop + Sealed {
         self.bits_capacity() - self.count_ones()
     }
 
-    /// Whether there are no members.
+    /// Whether there are no members. With capacity 0 it is so. It has no condition.
     fn all_zeros(&self) -> bool
         ensures { result ≡ (size (big self.now) == 0) };
 
-    /// Whether each number below the capacity is a member. With capacity 0 it is so.
+    /// Whether each number below the capacity is a member. With capacity 0 it is so. It has no condition.
     fn all_ones(&self) -> bool
         ensures { result ≡ (size (big self.now) == (big self.now).capacity) };
 
     /// Whether the index, which wraps at the capacity, is a member in the order `E`. With capacity 0 it is not.
+    ///
+    /// Of a slice the element type has to fit, of any other type the type itself.
     fn test_bit_in<E: Endian>(&self, index: u32) -> bool
         requires { IsTrue indexable }
         ensures { result ≡ contains (members E.mirrored width (big self.now)) index };
@@ -106,7 +112,8 @@ pub trait Bits: Drop + Sealed {
 
     /// The least member from `from` on and below `to` in the order `E`, or `None` where there is none.
     ///
-    /// It reads the words of the range alone, and stops at the answer.
+    /// The shape has to fit, and `from` is at most `to`, which is at most the capacity: nothing wraps. It reads the words of
+    /// the range alone, and stops at the answer.
     #[inline]
     final fn first_one_in<E: Endian>(&self, from: u32, to: u32) -> Option<u32>
     where
@@ -121,7 +128,8 @@ pub trait Bits: Drop + Sealed {
 
     /// The least number that is no member from `from` on and below `to` in the order `E`, or `None` where there is none.
     ///
-    /// It reads the words of the range alone, and stops at the answer.
+    /// The shape has to fit, and `from` is at most `to`, which is at most the capacity: nothing wraps. It reads the words of
+    /// the range alone, and stops at the answer.
     #[inline]
     final fn first_zero_in<E: Endian>(&self, from: u32, to: u32) -> Option<u32>
     where
@@ -136,7 +144,8 @@ pub trait Bits: Drop + Sealed {
 
     /// The greatest member from `from` on and below `to` in the order `E`, or `None` where there is none.
     ///
-    /// It reads the words of the range alone, and stops at the answer.
+    /// The shape has to fit, and `from` is at most `to`, which is at most the capacity: nothing wraps. It reads the words of
+    /// the range alone, and stops at the answer.
     #[inline]
     final fn last_one_in<E: Endian>(&self, from: u32, to: u32) -> Option<u32>
     where
@@ -151,7 +160,8 @@ pub trait Bits: Drop + Sealed {
 
     /// The greatest number that is no member from `from` on and below `to` in the order `E`, or `None` where there is none.
     ///
-    /// It reads the words of the range alone, and stops at the answer.
+    /// The shape has to fit, and `from` is at most `to`, which is at most the capacity: nothing wraps. It reads the words of
+    /// the range alone, and stops at the answer.
     #[inline]
     final fn last_zero_in<E: Endian>(&self, from: u32, to: u32) -> Option<u32>
     where
@@ -164,7 +174,10 @@ pub trait Bits: Drop + Sealed {
         search::last_in::<Self, E, false>(self, from, to)
     }
 
-    /// The members in increasing order in the order `E`, from both ends.
+    /// The members in increasing order in the order `E`, from both ends. The shape has to fit. With capacity 0 there are
+    /// none.
+    ///
+    /// The walk borrows the set, of a slice the slice reference, which is kept in a variable.
     #[inline]
     final fn iter_ones_in<E: Endian>(&self) -> IterOnes<'_, Self, E>
     where
@@ -176,7 +189,10 @@ pub trait Bits: Drop + Sealed {
         IterOnes::new(self)
     }
 
-    /// The numbers below the capacity that are no members, in increasing order in the order `E`, from both ends.
+    /// The numbers below the capacity that are no members, in increasing order in the order `E`, from both ends. The shape
+    /// has to fit. With capacity 0 there are none.
+    ///
+    /// The walk borrows the set, of a slice the slice reference, which is kept in a variable.
     #[inline]
     final fn iter_zeros_in<E: Endian>(&self) -> IterZeros<'_, Self, E>
     where
@@ -261,7 +277,9 @@ pub trait Bits: Drop + Sealed {
     }
 
     /// The items of an iterator at the members in the order `E`: for each member, in increasing order, the item at that
-    /// position. With capacity 0 there are none.
+    /// position. The shape has to fit. With capacity 0 there are none.
+    ///
+    /// [`JoinOnes`] says what is taken from the iterator, and where the join ends.
     #[inline]
     final fn join_ones_in<I: IntoIterator, E: Endian>(
         &self,

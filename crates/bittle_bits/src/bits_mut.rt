@@ -13,21 +13,27 @@ pub trait BitsMut: Bits {
     // How the values before and after a change stand to each other: of a slice that is lent, that it is the same slice.
     ghost same_place: { Self → Self → Type 0 };
 
-    /// Makes the index, which wraps at the capacity, a member in the order `E`. With capacity 0 nothing changes.
+    /// Makes the index, which wraps at the capacity, a member in the order `E`, and changes no other. With capacity 0
+    /// nothing changes.
+    ///
+    /// Of a slice the element type has to fit, of any other type the type itself.
     fn set_bit_in<E: Endian>(&mut self, index: u32)
         requires { IsTrue Self.indexable }
         ensures set { members E.mirrored Self.width (Self.big self.new)
             ≡ with_index (members E.mirrored Self.width (Self.big self.old)) index }
         ensures stays { same_place self.old self.new };
 
-    /// Makes the index, which wraps at the capacity, no member in the order `E`. With capacity 0 nothing changes.
+    /// Makes the index, which wraps at the capacity, no member in the order `E`, and changes no other. With capacity 0
+    /// nothing changes.
+    ///
+    /// Of a slice the element type has to fit, of any other type the type itself.
     fn clear_bit_in<E: Endian>(&mut self, index: u32)
         requires { IsTrue Self.indexable }
         ensures set { members E.mirrored Self.width (Self.big self.new)
             ≡ without_index (members E.mirrored Self.width (Self.big self.old)) index }
         ensures stays { same_place self.old self.new };
 
-    /// Leaves no members.
+    /// Leaves no members. It has no condition.
     fn clear_bits(&mut self)
         ensures set { Self.big self.new ≡ emptied (Self.big self.old) }
         ensures stays { same_place self.old self.new };

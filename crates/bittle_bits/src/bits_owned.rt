@@ -16,22 +16,23 @@ pub trait BitsOwned: Copy + Eq + BitsMut {
     // The capacity of each value.
     ghost type_capacity: { ℕ };
 
-    /// How many numbers a set of the type can hold, or `u32::MAX` where the type does not fit.
+    /// How many numbers a set of the type can hold, or `u32::MAX` where the type does not fit. It has no condition.
     fn bits() -> u32
         ensures value { Fits Self.indexable type_capacity → result ≡ type_capacity }
         ensures fits { result < 4294967295 → Fits Self.indexable type_capacity };
 
-    /// The set with no members. An owned type that is indexable fits, which is the condition.
+    /// The set with no members. The type has to fit.
     fn zeros() -> Self
         requires { IsTrue Self.indexable }
         ensures { Self.big result ≡ empty type_capacity };
 
-    /// The set with each number below the capacity. An owned type that is indexable fits, which is the condition.
+    /// The set with each number below the capacity, which is empty with capacity 0. The type has to fit.
     fn ones() -> Self
         requires { IsTrue Self.indexable }
         ensures { Self.big result ≡ filled type_capacity };
 
-    /// The set with the index, which wraps at the capacity, in the order `E`. With capacity 0 it is the set itself.
+    /// The set with the index, which wraps at the capacity, in the order `E`. With capacity 0 it is the set itself. The
+    /// type has to fit.
     #[inline]
     final fn with_bit_in<E: Endian>(self, bit: u32) -> Self
         requires { IsTrue Self.indexable }
@@ -73,7 +74,8 @@ pub trait BitsOwned: Copy + Eq + BitsMut {
         self.with_bit_in::<BigEndian>(bit)
     }
 
-    /// The set without the index, which wraps at the capacity, in the order `E`. With capacity 0 it is the set itself.
+    /// The set without the index, which wraps at the capacity, in the order `E`. With capacity 0 it is the set itself. The
+    /// type has to fit.
     #[inline]
     final fn without_bit_in<E: Endian>(self, bit: u32) -> Self
         requires { IsTrue Self.indexable }
@@ -115,7 +117,7 @@ pub trait BitsOwned: Copy + Eq + BitsMut {
         self.without_bit_in::<BigEndian>(bit)
     }
 
-    /// The members of either set.
+    /// The members of either set. It has no condition.
     #[inline]
     final fn union(self, other: Self) -> Self
         ensures { (mirrored : Bool) → members mirrored Self.width (Self.big result)
@@ -127,7 +129,7 @@ pub trait BitsOwned: Copy + Eq + BitsMut {
         set
     }
 
-    /// The members of both sets.
+    /// The members of both sets. It has no condition.
     #[inline]
     final fn conjunction(self, other: Self) -> Self
         ensures { (mirrored : Bool) → members mirrored Self.width (Self.big result)
@@ -139,7 +141,7 @@ pub trait BitsOwned: Copy + Eq + BitsMut {
         set
     }
 
-    /// The members that are none of the other set.
+    /// The members that are none of the other set. It has no condition.
     #[inline]
     final fn difference(self, other: Self) -> Self
         ensures { (mirrored : Bool) → members mirrored Self.width (Self.big result)
@@ -151,7 +153,7 @@ pub trait BitsOwned: Copy + Eq + BitsMut {
         set
     }
 
-    /// The members of just one of the sets.
+    /// The members of just one of the sets. It has no condition.
     #[inline]
     final fn symmetric_difference(self, other: Self) -> Self
         ensures { (mirrored : Bool) → members mirrored Self.width (Self.big result)
@@ -163,7 +165,8 @@ pub trait BitsOwned: Copy + Eq + BitsMut {
         set
     }
 
-    /// The members in increasing order in the order `E`, from both ends, of a set that the walk owns.
+    /// The members in increasing order in the order `E`, from both ends, of a set that the walk owns. The type has to fit.
+    /// With capacity 0 there are none.
     #[inline]
     final fn into_iter_ones_in<E: Endian>(self) -> IntoIterOnes<Self, E>
     where
@@ -211,7 +214,8 @@ pub trait BitsOwned: Copy + Eq + BitsMut {
         self.into_iter_ones_in::<BigEndian>()
     }
 
-    /// The numbers below the capacity that are no members, in increasing order in the order `E`, from both ends, of a set that the walk owns.
+    /// The numbers below the capacity that are no members, in increasing order in the order `E`, from both ends, of a set
+    /// that the walk owns. The type has to fit. With capacity 0 there are none.
     #[inline]
     final fn into_iter_zeros_in<E: Endian>(self) -> IntoIterZeros<Self, E>
     where

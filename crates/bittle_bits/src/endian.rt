@@ -47,7 +47,7 @@ pub trait Endian: Drop + Sealed {
             (complement (members mirrored T.width (digit_set T.width (T.digits value)))) result };
 }
 
-/// Index 0 is the digit of least weight, the rightmost one as a number is written.
+/// Index 0 is the digit of least weight, the rightmost one as a number is written. The order of calls that name none.
 #[derive(Drop)]
 pub enum BigEndian {}
 
@@ -55,7 +55,7 @@ pub enum BigEndian {}
 #[derive(Drop)]
 pub enum LittleEndian {}
 
-/// The order of calls that name none.
+/// The order of calls that name none, [`BigEndian`].
 pub type DefaultEndian = BigEndian;
 
 impl Sealed for BigEndian {}
@@ -77,21 +77,25 @@ impl Endian for BigEndian {
 
     #[inline]
     fn zeros<T: Number>(value: T) -> u32 {
+        // Right of the least member stand zeros alone.
         value.trailing_zeros()
     }
 
     #[inline]
     fn ones<T: Number>(value: T) -> u32 {
+        // Right of the least index that is no member stand ones alone.
         value.not().trailing_zeros()
     }
 
     #[inline]
     fn zeros_rev<T: Number>(value: T) -> u32 {
+        // Left of the greatest member stand zeros alone.
         value.leading_zeros()
     }
 
     #[inline]
     fn ones_rev<T: Number>(value: T) -> u32 {
+        // Left of the greatest index that is no member stand ones alone.
         value.not().leading_zeros()
     }
 }
@@ -112,22 +116,25 @@ impl Endian for LittleEndian {
 
     #[inline]
     fn zeros<T: Number>(value: T) -> u32 {
+        // Left of the least member stand zeros alone.
         value.leading_zeros()
     }
 
     #[inline]
     fn ones<T: Number>(value: T) -> u32 {
+        // Left of the least index that is no member stand ones alone.
         value.not().leading_zeros()
     }
 
     #[inline]
     fn zeros_rev<T: Number>(value: T) -> u32 {
-        // The last index is the digit of least weight.
+        // Right of the greatest member stand zeros alone.
         value.trailing_zeros()
     }
 
     #[inline]
     fn ones_rev<T: Number>(value: T) -> u32 {
+        // Right of the greatest index that is no member stand ones alone.
         value.not().trailing_zeros()
     }
 }

@@ -18,6 +18,9 @@ use std::alloc::AllocError;
 use std::marker::Model;
 
 /// The members of a set that it borrows, in increasing order in the order `E`.
+///
+/// Each step takes the first or the last item that is left. After its end it answers None on both sides. A clone goes on
+/// from where its source stands.
 #[derive(Drop)]
 pub struct IterOnes<'a, B: Bits, E: Endian> {
     bits: &'a B,
@@ -104,6 +107,9 @@ impl<'a, B: Bits, E: Endian> Counted for IterOnes<'a, B, E> {
 }
 
 /// The numbers below the capacity that are no members of a set that it borrows, in increasing order in the order `E`.
+///
+/// Each step takes the first or the last item that is left. After its end it answers None on both sides. A clone goes on
+/// from where its source stands.
 #[derive(Drop)]
 pub struct IterZeros<'a, B: Bits, E: Endian> {
     bits: &'a B,
@@ -190,6 +196,9 @@ impl<'a, B: Bits, E: Endian> Counted for IterZeros<'a, B, E> {
 }
 
 /// The members of a set that it owns, in increasing order in the order `E`.
+///
+/// Each step takes the first or the last item that is left. After its end it answers None on both sides. A clone goes on
+/// from where its source stands.
 #[derive(Drop)]
 pub struct IntoIterOnes<B: BitsOwned, E: Endian> {
     bits: B,
@@ -276,6 +285,9 @@ impl<B: BitsOwned, E: Endian> Counted for IntoIterOnes<B, E> {
 }
 
 /// The numbers below the capacity that are no members of a set that it owns, in increasing order in the order `E`.
+///
+/// Each step takes the first or the last item that is left. After its end it answers None on both sides. A clone goes on
+/// from where its source stands.
 #[derive(Drop)]
 pub struct IntoIterZeros<B: BitsOwned, E: Endian> {
     bits: B,

@@ -1,3 +1,1 @@
-pub mod Joined
 pub mod RoleOrder
-pub mod Within

@@ -8,12 +8,12 @@ use Rattle.std.specs.List.{All, HoldsAt}
 use Rattle.std.specs.Ordering.{is_eq, is_lt}
 use Rattle.std.specs.Prelude.{slice_index_or}
 use Rattle.std.specs.Result.{result_ok}
-use Rattle.std.specs.declared.cmp.Ordering.TheVariants.{Less, Equal, Greater}
+use Rattle.std.specs.declared.cmp.Ordering.TheVariants.{Less, Greater}
 use Rattle.std.specs.declared.cmp.Ordering.{Ordering}
 use Rattle.bittle.specs.Digits.{digit_has}
 use Rattle.bittle.specs.Order.{list_cmp, AreSame}
 use Rattle.bittle.specs.PlainSet.{ascending}
-use Rattle.bittle.proofs.Decided.{decided, equal_iff_same}
+use Rattle.bittle.proofs.CallerLemmas.{equal_iff_same_members}
 use Rattle.bittle_uses.specs.Permissions.{granted}
 
 none_past : (role i : ℕ) → 32 ≤ i → digit_has 32 role i ≡ false
@@ -22,7 +22,7 @@ none_past role i h = rw (le-ltb i 32 h)
 
 -- two roles are equal in the order exactly where they grant the same
 pub equal_iff_granted : (m n : ℕ) → IsTrue (is_eq (list_cmp (ascending (granted m)) (ascending (granted n)))) ↔ AreSame (granted m) (granted n)
-equal_iff_granted m n = equal_iff_same (granted m) (granted n) (list_cmp (ascending (granted m)) (ascending (granted n))) (decided (granted m) (granted n) (none_past m) (none_past n))
+equal_iff_granted m n = equal_iff_same_members (granted m) (granted n) (none_past m) (none_past n)
 
 -- a search of a sorted table, whose roles are read by `bits`
 module _ {X : Type 0} (bits : X → ℕ) (wanted : ℕ) where

@@ -1,8 +1,7 @@
-ghost use Rattle.std.specs.Prelude.{IsTrue};
+//! Lists, and the sets that they make.
 
 use crate::prelude::*;
 use crate::{LittleEndian, Set, set, set_be, set_le};
-use std::process::Abort;
 
 #[test]
 fn words_of_lists(rt: HostRuntime) {
@@ -67,25 +66,4 @@ fn other_types(rt: HostRuntime) {
     assert_eq!(rt; mirrored, [1, 16]);
     let bytes: [u8; 2] = set![4, 11, 14];
     assert_eq!(rt; (bytes.count_ones(), bytes.count_zeros()), (3, 13));
-}
-
-fn has_no_capacity<B: BitsOwned>(rt: &impl Abort, bits: B)
-    requires { IsTrue B.indexable }
-{
-    assert_eq!(rt; (bits.count_ones(), bits.count_zeros()), (0, 0));
-    assert!(rt; bits.all_zeros() && bits.all_ones());
-}
-
-fn lists_nothing<B: BitsOwned>(rt: &impl Abort)
-    requires { IsTrue B.indexable }
-{
-    has_no_capacity::<B>(rt, set![0, 7, 100, 0..10, 0..=10, 0..]);
-    has_no_capacity::<B>(rt, set_le![0, 7, 100, 0..10, 0..=10, 0..]);
-    has_no_capacity::<B>(rt, set_be![0, 7, 100, 0..10, 0..=10, 0..]);
-}
-
-#[test]
-fn without_capacity(rt: HostRuntime) {
-    lists_nothing::<[u8; 0]>(&rt);
-    lists_nothing::<[[u8; 0]; 4]>(&rt);
 }

@@ -6,6 +6,7 @@ ghost use Rattle.std.specs.Prelude.{◌≡◌, ◌≤◌, length, IfSome, ⊤, S
 ghost use Rattle.bittle_bits.specs.Digits.{digit_set};
 ghost use Rattle.bittle_bits.specs.Orders.{members};
 ghost use Rattle.bittle_bits.specs.PlainSet.{ascending, complement};
+ghost use Rattle.bittle_bits.specs.Walk.{ListsInOrder, ListsInReverse};
 
 use crate::endian::Endian;
 use crate::hidden::Number;
@@ -38,6 +39,8 @@ impl<T: Number, E: Endian> IterOnes<T, E> {
     pub fn new(word: T) -> IterOnes<T, E>
         ensures items { result ≡ ascending (members E.mirrored T.width (digit_set T.width (T.digits word))) }
         ensures few { length result ≤ T.width }
+        ensures in_order { ListsInOrder }
+        ensures in_reverse { ListsInReverse }
     {
         IterOnes {
             left: word,
@@ -122,6 +125,8 @@ impl<T: Number, E: Endian> IterZeros<T, E> {
     pub fn new(word: T) -> IterZeros<T, E>
         ensures items { result ≡ ascending (complement (members E.mirrored T.width (digit_set T.width (T.digits word)))) }
         ensures few { length result ≤ T.width }
+        ensures in_order { ListsInOrder }
+        ensures in_reverse { ListsInReverse }
     {
         IterZeros {
             others: IterOnes::new(word.not()),

@@ -10,7 +10,9 @@ ghost use Rattle.bittle_bits.specs.Shapes.{Fits};
 
 use crate::bits::Bits;
 use crate::bits_owned::BitsOwned;
-use crate::endian::Endian;
+use crate::endian::{Endian, LittleEndian};
+use crate::hidden::Number;
+use crate::number;
 use std::alloc::{AllocError, Global};
 
 /// A `for` over the members of any set.
@@ -94,5 +96,26 @@ fn halves(alloc: Global, word: u8) -> Result<Vec<u32>, AllocError>
 {
     word.into_iter_zeros_le()
         .map(|index| index / 2)
+        .collect(alloc)
+}
+
+/// A `for` over the members of one word of any type.
+fn each_digit<T: Number, E: Endian>(word: T) -> u64
+    requires { T.width < 1000 }
+    ensures { result ≡ length (ascending (members E.mirrored T.width (digit_set T.width (T.digits word)))) }
+{
+    let mut total: u64 = 0;
+    for _index in number::IterOnes::<T, E>::new(word) {
+        total += 1;
+    }
+    total
+}
+
+/// The numbers that one word lacks, from the last on.
+fn lacking_reversed(alloc: Global, word: u32) -> Result<Vec<u32>, AllocError>
+    ensures { IfOk result (λ v. v.items ≡ reverse (ascending (complement (members true 32 (digit_set 32 word))))) }
+{
+    number::IterZeros::<u32, LittleEndian>::new(word)
+        .rev()
         .collect(alloc)
 }

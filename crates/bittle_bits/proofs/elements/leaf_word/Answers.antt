@@ -1,4 +1,4 @@
-use Rattle.std.proofs.Common.{◌≡◌, ◌/◌, refl, sym, ap, ◌∙◌, arith, length}
+use Rattle.std.proofs.Common.{refl, ◌∙◌, arith, length}
 use Rattle.bittle_bits.proofs.WordItems.{word_element, word_within, row_word, words_each}
 use Rattle.bittle_bits.proofs.elements.leaf_word.Goals as goal
 

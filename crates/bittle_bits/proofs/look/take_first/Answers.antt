@@ -1,5 +1,5 @@
-use Rattle.std.proofs.Common.{◌≡◌, refl, sym, ap, ◌∙◌, Some}
-use Rattle.bittle_bits.specs.Copies.{copied, items_in, items_of}
+use Rattle.std.proofs.Common.{refl, sym, ap, ◌∙◌, Some}
+use Rattle.bittle_bits.specs.Copies.{copied, items_in}
 use Rattle.bittle_bits.proofs.WordItems.{first_item, no_first}
 use Rattle.bittle_bits.proofs.look.take_first.Goals as goal
 

@@ -1,6 +1,4 @@
-use Rattle.std.proofs.Common.{◌≡◌, ◌+◌, ◌-◌, ◌*◌, ◌/◌, ◌%◌, ◌<◌, ◌≤◌, not, ◌==◌, refl, sym, ap, ◌∙◌, arith, subst}
-use Rattle.bittle_bits.specs.Orders.{members}
-use Rattle.bittle_bits.specs.Searches.{IsFirstIn, IsLastIn}
+use Rattle.std.proofs.Common.{◌≡◌, ◌-◌, ◌/◌, ◌%◌, ◌<◌, ◌≤◌, not, ◌==◌, refl, ◌∙◌, arith}
 use Rattle.bittle_bits.specs.Walk.{wanted}
 use Rattle.bittle_bits.proofs.Searching.{wanted_members, seeks_back_start, seeks_back_next, seeks_back_found, seeks_back_past, first_word, words_ordered}
 use Rattle.bittle_bits.proofs.search.last_in.Goals as goal

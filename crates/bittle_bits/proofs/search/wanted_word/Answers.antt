@@ -1,4 +1,4 @@
-use Rattle.std.proofs.Common.{◌≡◌, Bool, not, ◌==◌, sym, ap, ◌∙◌}
+use Rattle.std.proofs.Common.{Bool, not, sym, ap, ◌∙◌}
 use Rattle.std.proofs.lemmas.Bool.{eq-eqb}
 use Rattle.bittle_bits.specs.Walk.{wanted}
 use Rattle.bittle_bits.specs.Words.{word_of}

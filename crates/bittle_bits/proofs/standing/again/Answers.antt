@@ -1,4 +1,4 @@
-use Rattle.std.proofs.Common.{refl, ap}
+use Rattle.std.proofs.Common.{refl}
 use Rattle.bittle_bits.proofs.Runs.{resumes_as}
 use Rattle.bittle_bits.proofs.standing.again.Goals as goal
 

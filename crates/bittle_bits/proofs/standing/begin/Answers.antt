@@ -1,7 +1,5 @@
-use Rattle.std.proofs.Common.{◌≡◌, ℕ, ◌<◌, ◌*◌, ◌/◌, ◌-◌, ◌+◌, not, ◌==◌, refl, sym, ap, ◌∙◌, arith, None}
-use Rattle.bittle_bits.specs.Copies.{Held}
+use Rattle.std.proofs.Common.{◌≡◌, ℕ, ◌<◌, ◌*◌, ◌/◌, not, ◌==◌, refl, ap, ◌∙◌, arith}
 use Rattle.bittle_bits.specs.Orders.{members}
-use Rattle.bittle_bits.specs.Standing.{left_in}
 use Rattle.bittle_bits.specs.Walk.{wanted}
 use Rattle.bittle_bits.proofs.Runs.{is_fresh}
 use Rattle.bittle_bits.proofs.Steps.{begins, head_fetched, tail_fetched, wanted_capacity}

@@ -1,8 +1,7 @@
-use Rattle.std.proofs.Common.{◌≡◌, ◌<◌, not, ◌==◌, refl, sym, ap, ◌∙◌, arith}
+use Rattle.std.proofs.Common.{◌<◌, not, ◌==◌, refl, arith}
 use Rattle.bittle_bits.specs.Orders.{members}
-use Rattle.bittle_bits.specs.Standing.{walk_of, Retires}
-use Rattle.bittle_bits.specs.Walk.{wanted, StepsFront}
-use Rattle.bittle_bits.proofs.Steps.{Seeks, seeks_on, front_on, head_retired, head_fetched, tail_gave, front_ended}
+use Rattle.bittle_bits.specs.Walk.{wanted}
+use Rattle.bittle_bits.proofs.Steps.{seeks_on, front_on, head_retired, head_fetched, tail_gave, front_ended}
 use Rattle.bittle_bits.proofs.standing.step_front.Goals as goal
 
 pub loop-item-preserved : goal.loop-item-preserved

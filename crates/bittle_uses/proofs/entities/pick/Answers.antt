@@ -3,7 +3,7 @@ use Rattle.std.proofs.lemmas.List.{take_more_set, map-append, length-append, len
 use Rattle.std.specs.Prelude.{slice_index}
 use Rattle.bittle.specs.PlainSet.{ascending}
 use Rattle.bittle_uses.specs.Entities.{entities}
-use Rattle.bittle_uses.proofs.Joined.{answers_below, all_joined, ascending-below}
+use Rattle.bittle.proofs.CallerLemmas.{answers_below, all_joined, ascending-below}
 use Rattle.bittle_uses.proofs.entities.pick.Goals as goal
 
 pub bounds-row-count : goal.bounds-row-count

@@ -1,5 +1,5 @@
 use Rattle.std.proofs.Common.{◌∙◌}
-use Rattle.bittle_uses.proofs.Within.{contains-within}
+use Rattle.bittle.proofs.CallerLemmas.{contains-within}
 use Rattle.bittle_uses.specs.Slots.{taken}
 use Rattle.bittle_uses.proofs.slots.Slots.is_taken.Goals as goal
 

@@ -1,5 +1,5 @@
-use Rattle.std.proofs.Common.{◌≡◌, ◌*◌, ◌%◌, ◌^◌, ◌<◌, ◌≤◌, ◌-◌, arith, ◌∙◌, lit<, lit≤, refl}
-use Rattle.std.proofs.Math.Nat.{mod-eq_of_lt, one-mul}
+use Rattle.std.proofs.Common.{◌*◌, ◌^◌, ◌<◌, ◌≤◌, arith, lit<}
+use Rattle.std.proofs.Math.Nat.{mod-eq_of_lt}
 use Rattle.std.proofs.Math.Pow.{pow_mono}
 use Rattle.bittle_bits.proofs.number.int128.I128Number.low.Goals as goal
 

@@ -1,16 +1,60 @@
--- What a join of a slice gives: the elements at the members of the mask.
-use Rattle.std.proofs.Common.{◌≡◌, ℕ, zero, suc, ◌+◌, ◌-◌, ◌<◌, ◌≤◌, Bool, true, false, cond, List, [], ◌∷◌, ◌++◌, length, drop, map, get_or, Option, Some, None, Bor, inl, inr, refl, sym, ap, ◌∙◌, subst, arith}
+-- Facts of the definitions that callers cite, of sets, of their increasing lists and of joins of slices.
+use Rattle.std.proofs.Common.{◌≡◌, ℕ, zero, suc, ◌+◌, ◌-◌, ◌<◌, ◌≤◌, Bool, true, false, cond, List, [], ◌∷◌, ◌++◌, length, drop, map, get_or, Option, Some, None, Bor, inl, inr, refl, sym, ap, ◌∙◌, subst, arith, IsTrue, ◌↔◌}
+use Rattle.std.proofs.Math.Nat.{mod-eq_of_lt}
 use Rattle.std.specs.Prelude.{slice_get, slice_index}
 use Rattle.std.specs.Iterator.{Yields}
 use Rattle.std.specs.Option.{option_map, MatchOption}
 use Rattle.std.proofs.Math.Seq.{drop-cons}
-use Rattle.std.proofs.lemmas.Bool.{cases_lt}
+use Rattle.std.proofs.lemmas.Bool.{cases_lt, lt-ltb}
 use Rattle.std.proofs.lemmas.Grind.{same_number_lists}
 use Rattle.std.proofs.lemmas.List.{drop_all, length-append, length-map, get_or-map, get_or_append_left}
 use Rattle.std.proofs.lemmas.Option.{slice_get-map, slice_get-get_or, slice_get_within, get_or_from_slice_get}
-use Rattle.bittle.specs.PlainSet.{PlainSet, ascending_from, ascending}
-use Rattle.bittle.specs.Join.{IsJoin, EndsAt, Join, join_steps, AnswersItemsAtMembers, EndsAfterMembers}
+use Rattle.bittle_bits.specs.PlainSet.{PlainSet, contains, ascending_from, ascending}
+use Rattle.std.specs.Ordering.{is_eq}
+use Rattle.bittle_bits.specs.Join.{IsJoin, EndsAt, Join, join_steps, AnswersItemsAtMembers, EndsAfterMembers}
+use Rattle.bittle.specs.Order.{list_cmp, AreSame}
+use Rattle.bittle.proofs.Decided.{decided, equal_iff_same}
 
+-- below the capacity no index wraps
+pub contains-within : (s : PlainSet) (i : ℕ) → i < s.capacity → contains s i ≡ s.has i
+unfolding contains
+contains-within s i h =
+    let some = lt-ltb 0 s.capacity (omega arith) in
+    let same = mod-eq_of_lt h in
+    rw (some, same) refl
+
+-- each of the members is below the end of the range that they come from
+ascending_from-below : (p : ℕ → Bool) (from n k : ℕ) → k < length (ascending_from p from n) → get_or (ascending_from p from n) k 0 < from + n
+unfolding ascending_from
+ascending_from-below p from zero k h = absurd (omega arith)
+ascending_from-below p from (suc n) k h = by (p from) (ascending_from-below p (suc from) n) k h
+  where
+    by : (b : Bool) → ((k : ℕ) → k < length (ascending_from p (suc from) n) → get_or (ascending_from p (suc from) n) k 0 < suc from + n) → (k : ℕ) → k < length (cond b (from ∷ ascending_from p (suc from) n) (ascending_from p (suc from) n)) → get_or (cond b (from ∷ ascending_from p (suc from) n) (ascending_from p (suc from) n)) k 0 < from + suc n
+    by true later zero h = omega arith
+    by true later (suc k) h = let b = later k (omega arith) in omega (arith, b)
+    by false later k h = let b = later k h in omega (arith, b)
+
+pub ascending-below : (s : PlainSet) (k : ℕ) → k < length (ascending s) → get_or (ascending s) k 0 < s.capacity
+ascending-below s k h = let b = ascending_from-below s.has 0 s.capacity k h in omega (arith, b)
+
+ascending_from-short : (p : ℕ → Bool) (from n : ℕ) → length (ascending_from p from n) ≤ n
+unfolding ascending_from
+ascending_from-short p from zero = omega arith
+ascending_from-short p from (suc n) = by (p from) (ascending_from-short p (suc from) n)
+  where
+    by : (b : Bool) → length (ascending_from p (suc from) n) ≤ n → length (cond b (from ∷ ascending_from p (suc from) n) (ascending_from p (suc from) n)) ≤ suc n
+    by true h = omega (arith, h)
+    by false h = omega (arith, h)
+
+-- there are at most as many members as the capacity
+pub ascending-short : (s : PlainSet) → length (ascending s) ≤ s.capacity
+ascending-short s = ascending_from-short s.has 0 s.capacity
+
+-- two increasing lists are equal in their order exactly where the sets have the same members
+pub equal_iff_same_members : (a b : PlainSet) → ((i : ℕ) → a.capacity ≤ i → a.has i ≡ false) → ((i : ℕ) → b.capacity ≤ i → b.has i ≡ false) → IsTrue (is_eq (list_cmp (ascending a) (ascending b))) ↔ AreSame a b
+equal_iff_same_members a b none_a none_b = equal_iff_same a b (list_cmp (ascending a) (ascending b)) (decided a b none_a none_b)
+
+-- what a join of a slice gives: the elements at the members of the mask
 module _ {S : Type 0} (rest : S → List ℕ) where
   -- a call of a slice's iterator takes its first element, or gives `None` where none is left
   abbrev pub taking : S → Option (Bor ℕ) → S → Type 0
@@ -74,33 +118,6 @@ module _ {S : Type 0} (rest : S → List ℕ) where
   all_joined s now next answers clause none bound y e =
       let a = clause answers next (now, y, e) in
       joined s next a.0 answers none bound a.1 a.2
-
--- each of the members is below the end of the range that they come from
-ascending_from-below : (p : ℕ → Bool) (from n k : ℕ) → k < length (ascending_from p from n) → get_or (ascending_from p from n) k 0 < from + n
-unfolding ascending_from
-ascending_from-below p from zero k h = absurd (omega arith)
-ascending_from-below p from (suc n) k h = by (p from) (ascending_from-below p (suc from) n) k h
-  where
-    by : (b : Bool) → ((k : ℕ) → k < length (ascending_from p (suc from) n) → get_or (ascending_from p (suc from) n) k 0 < suc from + n) → (k : ℕ) → k < length (cond b (from ∷ ascending_from p (suc from) n) (ascending_from p (suc from) n)) → get_or (cond b (from ∷ ascending_from p (suc from) n) (ascending_from p (suc from) n)) k 0 < from + suc n
-    by true later zero h = omega arith
-    by true later (suc k) h = let b = later k (omega arith) in omega (arith, b)
-    by false later k h = let b = later k h in omega (arith, b)
-
-pub ascending-below : (s : PlainSet) (k : ℕ) → k < length (ascending s) → get_or (ascending s) k 0 < s.capacity
-ascending-below s k h = let b = ascending_from-below s.has 0 s.capacity k h in omega (arith, b)
-
-ascending_from-short : (p : ℕ → Bool) (from n : ℕ) → length (ascending_from p from n) ≤ n
-unfolding ascending_from
-ascending_from-short p from zero = omega arith
-ascending_from-short p from (suc n) = by (p from) (ascending_from-short p (suc from) n)
-  where
-    by : (b : Bool) → length (ascending_from p (suc from) n) ≤ n → length (cond b (from ∷ ascending_from p (suc from) n) (ascending_from p (suc from) n)) ≤ suc n
-    by true h = omega (arith, h)
-    by false h = omega (arith, h)
-
--- there are at most as many members as the capacity
-pub ascending-short : (s : PlainSet) → length (ascending s) ≤ s.capacity
-ascending-short s = ascending_from-short s.has 0 s.capacity
 
 -- one more answer of a join whose mask is this set: there were fewer answers than its capacity
 pub answers_below : {S : Type 0} (rest : S → List ℕ) (s now next : Join S) (answers : List (Bor ℕ)) (x : Bor ℕ) (set : PlainSet) (count : ℕ) → s.mask.left ≡ ascending set → count ≡ length answers → AnswersItemsAtMembers (taking rest) s → Yields (join_steps (taking rest)) s answers now → join_steps (taking rest) now (Some x) next → count < set.capacity

@@ -1,0 +1,247 @@
+//! Shapes without capacity: each call answers, and nothing is held.
+
+ghost use Rattle.std.specs.Prelude.{IsTrue};
+ghost use Rattle.bittle_bits.specs.Shapes.{Fits};
+
+use crate::prelude::*;
+use crate::{BigEndian, LittleEndian, Set, set, set_be, set_le};
+use std::cmp::Ordering;
+use std::process::Abort;
+use std::test::Fail;
+
+const INDEXES: [u32; 6] = [0, 1, 7, 8, 127, u32::MAX];
+
+// What each call that reads answers.
+fn reads<B: Bits>(rt: &impl Abort, bits: &B) {
+    assert_eq!(rt; bits.bits_capacity(), 0);
+    assert_eq!(rt; bits.count_ones(), 0);
+    assert_eq!(rt; bits.count_zeros(), 0);
+    assert!(rt; bits.all_zeros());
+    assert!(rt; bits.all_ones());
+    for index in INDEXES {
+        tests_false(rt, bits, index);
+    }
+    walks_nothing(rt, bits);
+    joins_nothing(rt, bits);
+}
+
+fn tests_false<B: Bits>(rt: &impl Abort, bits: &B, index: u32)
+    requires { IsTrue B.indexable }
+{
+    assert!(rt; !bits.test_bit(index));
+    assert!(rt; !bits.test_bit_in::<BigEndian>(index));
+    assert!(rt; !bits.test_bit_in::<LittleEndian>(index));
+    assert!(rt; !bits.test_bit_le(index));
+    assert!(rt; !bits.test_bit_be(index));
+}
+
+fn walks_nothing<B: Bits>(rt: &impl Abort, bits: &B)
+    requires { Fits B.indexable (B.big bits.now).capacity }
+{
+    assert_eq!(rt; bits.iter_ones().next(), None);
+    assert_eq!(rt; bits.iter_ones_le().next(), None);
+    assert_eq!(rt; bits.iter_ones_be().next(), None);
+    assert_eq!(rt; bits.iter_zeros().next(), None);
+    assert_eq!(rt; bits.iter_zeros_le().next(), None);
+    assert_eq!(rt; bits.iter_zeros_be().next(), None);
+    assert_eq!(rt; bits.iter_ones().rev().next(), None);
+    assert_eq!(rt; bits.iter_zeros().rev().next(), None);
+}
+
+fn joins_nothing<B: Bits>(rt: &impl Abort, bits: &B)
+    requires { Fits B.indexable (B.big bits.now).capacity }
+{
+    let letters = ["a", "b", "c"];
+    assert!(rt; bits.join_ones(letters.iter()).next().is_none());
+    assert!(rt; bits.join_ones_le(letters.iter()).next().is_none());
+    assert!(rt; bits.join_ones_be(letters.iter()).next().is_none());
+}
+
+// After each call that writes, nothing is held.
+fn writes<B: BitsMut>(rt: &impl Abort, bits: &mut B) {
+    reads(rt, bits);
+    for index in INDEXES {
+        sets_nothing(rt, bits, index);
+        clears_nothing(rt, bits, index);
+    }
+    bits.clear_bits();
+    reads(rt, bits);
+}
+
+fn sets_nothing<B: BitsMut>(rt: &impl Abort, bits: &mut B, index: u32) {
+    assert_eq!(rt; bits.bits_capacity(), 0);
+    bits.set_bit(index);
+    reads(rt, bits);
+    bits.set_bit_in::<BigEndian>(index);
+    reads(rt, bits);
+    bits.set_bit_in::<LittleEndian>(index);
+    reads(rt, bits);
+    bits.set_bit_le(index);
+    reads(rt, bits);
+    bits.set_bit_be(index);
+    reads(rt, bits);
+}
+
+fn clears_nothing<B: BitsMut>(rt: &impl Abort, bits: &mut B, index: u32) {
+    assert_eq!(rt; bits.bits_capacity(), 0);
+    bits.clear_bit(index);
+    reads(rt, bits);
+    bits.clear_bit_in::<BigEndian>(index);
+    reads(rt, bits);
+    bits.clear_bit_in::<LittleEndian>(index);
+    reads(rt, bits);
+    bits.clear_bit_le(index);
+    reads(rt, bits);
+    bits.clear_bit_be(index);
+    reads(rt, bits);
+}
+
+fn assigns_nothing<B: BitsMut>(rt: &impl Abort, bits: &mut B, other: &B) {
+    bits.union_assign(other);
+    reads(rt, bits);
+    bits.conjunction_assign(other);
+    reads(rt, bits);
+    bits.difference_assign(other);
+    reads(rt, bits);
+    bits.symmetric_difference_assign(other);
+    reads(rt, bits);
+}
+
+// What each call of an owned type answers.
+fn owned<B: BitsOwned>(rt: &impl Abort) {
+    assert_eq!(rt; B::bits(), 0);
+    let (mut zeros, mut ones) = (B::zeros(), B::ones());
+    writes(rt, &mut zeros);
+    writes(rt, &mut ones);
+    for index in INDEXES {
+        makes_nothing_with(rt, zeros, index);
+        makes_nothing_without(rt, ones, index);
+    }
+    assigns_nothing(rt, &mut zeros, &ones);
+    reads(rt, &zeros.union(ones));
+    reads(rt, &zeros.conjunction(ones));
+    reads(rt, &zeros.difference(ones));
+    reads(rt, &zeros.symmetric_difference(ones));
+    gives_nothing(rt, zeros);
+    gives_nothing(rt, ones);
+}
+
+fn makes_nothing_with<B: BitsOwned>(rt: &impl Abort, bits: B, index: u32)
+    requires { IsTrue B.indexable }
+{
+    reads(rt, &bits.with_bit(index));
+    reads(rt, &bits.with_bit_in::<BigEndian>(index));
+    reads(rt, &bits.with_bit_in::<LittleEndian>(index));
+    reads(rt, &bits.with_bit_le(index));
+    reads(rt, &bits.with_bit_be(index));
+}
+
+fn makes_nothing_without<B: BitsOwned>(rt: &impl Abort, bits: B, index: u32)
+    requires { IsTrue B.indexable }
+{
+    reads(rt, &bits.without_bit(index));
+    reads(rt, &bits.without_bit_in::<BigEndian>(index));
+    reads(rt, &bits.without_bit_in::<LittleEndian>(index));
+    reads(rt, &bits.without_bit_le(index));
+    reads(rt, &bits.without_bit_be(index));
+}
+
+fn gives_nothing<B: BitsOwned>(rt: &impl Abort, bits: B)
+    requires { IsTrue B.indexable }
+{
+    assert_eq!(rt; bits.into_iter_ones().next(), None);
+    assert_eq!(rt; bits.into_iter_ones_le().next(), None);
+    assert_eq!(rt; bits.into_iter_ones_be().next(), None);
+    assert_eq!(rt; bits.into_iter_zeros().next(), None);
+    assert_eq!(rt; bits.into_iter_zeros_le().next(), None);
+    assert_eq!(rt; bits.into_iter_zeros_be().next(), None);
+    assert_eq!(rt; bits.into_iter_ones().rev().next(), None);
+    assert_eq!(rt; bits.into_iter_zeros().rev().next(), None);
+}
+
+// What each macro makes of any list.
+fn listed<B: BitsOwned>(rt: &impl Abort)
+    requires { IsTrue B.indexable }
+{
+    let in_its_order: B = set![0, 7, 100, 0..10, 0..=10, 0..];
+    reads(rt, &in_its_order);
+    let in_little_endian: B = set_le![0, 7, 100, 0..10, 0..=10, 0..];
+    reads(rt, &in_little_endian);
+    let in_big_endian: B = set_be![0, 7, 100, 0..10, 0..=10, 0..];
+    reads(rt, &in_big_endian);
+}
+
+#[test]
+fn arrays(rt: HostRuntime) {
+    owned::<[u8; 0]>(&rt);
+    owned::<[u128; 0]>(&rt);
+    owned::<[[u8; 0]; 4]>(&rt);
+    owned::<[[u8; 0]; 0]>(&rt);
+    owned::<[[[u8; 0]; 4]; 4]>(&rt);
+}
+
+#[test]
+fn slices(rt: HostRuntime) {
+    let (mut bytes, mut words, mut arrays) = ([0u8; 0], [0u128; 0], [[0u8; 0]; 4]);
+    reads(&rt, &&bytes[..]);
+    reads(&rt, &&words[..]);
+    reads(&rt, &&arrays[..]);
+    writes(&rt, &mut &mut bytes[..]);
+    writes(&rt, &mut &mut words[..]);
+    writes(&rt, &mut &mut arrays[..]);
+    let mut others = [[0u8; 0]; 3];
+    assigns_nothing(&rt, &mut &mut bytes[..], &&mut [][..]);
+    assigns_nothing(&rt, &mut &mut arrays[..], &&mut others[..]);
+}
+
+#[test]
+fn vectors(rt: HostRuntime) -> Result<(), Fail> {
+    let mut bytes: Vec<u8> = Vec::new(rt.alloc());
+    let mut arrays: Vec<[u8; 0]> = Vec::new(rt.alloc());
+    for _ in 0..4 {
+        arrays.push([])?;
+    }
+    reads(&rt, &&bytes[..]);
+    reads(&rt, &&arrays[..]);
+    writes(&rt, &mut &mut bytes[..]);
+    writes(&rt, &mut &mut arrays[..]);
+    Ok(())
+}
+
+#[test]
+fn wrapped(rt: HostRuntime) {
+    owned::<Set<[u8; 0]>>(&rt);
+    owned::<Set<[u8; 0], LittleEndian>>(&rt);
+    owned::<Set<[[u8; 0]; 4]>>(&rt);
+    owned::<Set<[[u8; 0]; 4], LittleEndian>>(&rt);
+
+    let (mut bytes, mut arrays) = ([0u8; 0], [[0u8; 0]; 4]);
+    reads(&rt, &Set::from_ref(&bytes));
+    reads(&rt, &Set::from_ref_le(&bytes));
+    reads(&rt, &Set::from_ref(&arrays));
+    reads(&rt, &Set::from_ref_le(&arrays));
+    writes(&rt, &mut Set::from_mut(&mut bytes));
+    writes(&rt, &mut Set::from_mut_le(&mut bytes));
+    writes(&rt, &mut Set::from_mut(&mut arrays));
+    writes(&rt, &mut Set::from_mut_le(&mut arrays));
+}
+
+#[test]
+fn lists(rt: HostRuntime) {
+    listed::<[u8; 0]>(&rt);
+    listed::<[[u8; 0]; 4]>(&rt);
+}
+
+#[test]
+fn comparisons(rt: HostRuntime) -> Result<(), Fail> {
+    let (narrow, nested) = (Set::new([0u8; 0]), Set::new([[0u8; 0]; 4]));
+    let none: [u8; 0] = [];
+    assert!(rt; narrow.eq_bits(&nested));
+    assert!(rt; narrow.eq_bits(&[0u128; 0]));
+    assert!(rt; narrow.eq_bits(&Set::from_ref(&none)));
+    assert_eq!(rt; narrow.cmp_bits(&Set::new(1u8)), Ordering::Less);
+    assert_eq!(rt; nested.cmp_bits(&Set::new(1u8)), Ordering::Less);
+    assert_eq!(rt; format!(in rt.alloc(); "{narrow:?}")?.as_str(), "{}");
+    assert_eq!(rt; format!(in rt.alloc(); "{nested:?}")?.as_str(), "{}");
+    Ok(())
+}
