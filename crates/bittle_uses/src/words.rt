@@ -1,7 +1,7 @@
-//! Walks over one word, in a loop, in chains and from the back.
+//! Walks over one word, in chains and from the back.
 
 ghost use Rattle.std.specs.Int.{w8, cast_unsigned};
-ghost use Rattle.std.specs.Prelude.{◌≡◌, ◌/◌, length, map, count_by, ◌<◌, nat_lt, true, false, IfSome, MatchOption, [], ◌∷◌, ◌++◌, ℕ, List};
+ghost use Rattle.std.specs.Prelude.{◌≡◌, ◌/◌, length, map, count_by, nat_lt, true, false, MatchOption, [], ◌∷◌, ◌++◌, ℕ, List};
 ghost use Rattle.bittle.specs.Digits.{digit_set};
 ghost use Rattle.bittle.specs.Orders.{members};
 ghost use Rattle.bittle.specs.PlainSet.{ascending, complement};
@@ -43,16 +43,4 @@ pub fn greatest_lacking(word: u16) -> Option<u32>
         (λ i. (rest : List ℕ) × (ascending (complement (members true 16 (digit_set 16 word))) ≡ rest ++ i ∷ [])) }
 {
     IterZeros::<u16, LittleEndian>::new(word).rev().next()
-}
-
-/// A member of a byte above a bound, or none.
-pub fn any_above(word: u8, bound: u32) -> Option<u32>
-    ensures { IfSome result (λ i. bound < i) }
-{
-    for member in IterOnes::<u8, LittleEndian>::new(word) {
-        if bound < member {
-            return Some(member);
-        }
-    }
-    None
 }
