@@ -1,9 +1,10 @@
 -- The increasing list of the members: its ends, what is left without one of them, and its length.
-use Rattle.std.proofs.Common.{◌≡◌, ℕ, zero, suc, ◌+◌, ◌-◌, ◌<◌, ◌≤◌, Bool, true, false, not, ◌&&◌, ◌==◌, cond, [], ◌∷◌, ◌++◌, length, length-append, refl, sym, ap, ◌∙◌, arith}
+use Rattle.std.proofs.Common.{◌≡◌, ℕ, zero, suc, ◌+◌, ◌-◌, ◌<◌, ◌≤◌, Bool, true, false, not, ◌&&◌, ◌==◌, cond, List, [], ◌∷◌, ◌++◌, length, get_or, length-append, refl, sym, ap, ◌∙◌, arith}
 use Rattle.std.proofs.Math.Nat.{mod-eq_of_lt}
 use Rattle.std.proofs.lemmas.Bool.{eq-eqb, ne_eqb}
 use Rattle.std.proofs.lemmas.List.{append-nil}
 use Rattle.bittle_bits.specs.PlainSet.{PlainSet, without_index, has_without, count_below, size, ascending_from, ascending, IsLeastMember, IsGreatestMember}
+use Rattle.bittle_bits.specs.Walk.{AreBelow}
 use Rattle.bittle_bits.proofs.PlainSets.{has_without-in}
 use Rattle.bittle_bits.proofs.Sizes.{size-le}
 
@@ -66,6 +67,25 @@ ascending-length s = ascending_from-length s.has s.capacity
 -- no more items than the capacity
 pub ascending-few : (s : PlainSet) → length (ascending s) ≤ s.capacity
 ascending-few s = omega (arith, ascending-length s, size-le s)
+
+-- each of the members is below the end of the range that they come from
+ascending_from-below : (p : ℕ → Bool) (from n k : ℕ) → k < length (ascending_from p from n) → get_or (ascending_from p from n) k 0 < from + n
+unfolding ascending_from
+ascending_from-below p from zero k h = absurd (omega arith)
+ascending_from-below p from (suc n) k h = by (p from) (ascending_from-below p (suc from) n) k h
+  where
+    by : (b : Bool) → ((k : ℕ) → k < length (ascending_from p (suc from) n) → get_or (ascending_from p (suc from) n) k 0 < suc from + n) → (k : ℕ) → k < length (cond b (from ∷ ascending_from p (suc from) n) (ascending_from p (suc from) n)) → get_or (cond b (from ∷ ascending_from p (suc from) n) (ascending_from p (suc from) n)) k 0 < from + suc n
+    by true later zero h = omega arith
+    by true later (suc k) h = let b = later k (omega arith) in omega (arith, b)
+    by false later k h = let b = later k h in omega (arith, b)
+
+-- the items are below the capacity, and there are no more of them
+pub ascending-below : (s : PlainSet) → AreBelow s.capacity (ascending s)
+ascending-below s = (ascending-few s, λ k h. let b = ascending_from-below s.has 0 s.capacity k h in omega (arith, b))
+
+-- the same of a list that is said to be theirs
+pub are_below : (s : PlainSet) (items : List ℕ) → items ≡ ascending s → AreBelow s.capacity items
+are_below s items e = rw e (ascending-below s)
 
 -- no items where there are no members
 pub ascending-none : (s : PlainSet) → ((k : ℕ) → k < s.capacity → s.has k ≡ false) → ascending s ≡ []

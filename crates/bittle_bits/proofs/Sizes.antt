@@ -157,6 +157,9 @@ size-members m w s h whole = rw (whole.1) (count-placed m w whole.0 s.has h)
 pub size-le : (s : PlainSet) → size s ≤ s.capacity
 size-le s = count-le s.capacity s.has
 
+pub size-most : (s : PlainSet) (n : ℕ) → n ≡ size s → n ≤ s.capacity
+size-most s n e = omega (arith, size-le s)
+
 sum_by-all : {X : Type 0} (g : X → ℕ) (v : ℕ) (xs : List X) → ((k : ℕ) (d : X) → k < length xs → g (get_or xs k d) ≡ v) → sum_by g xs ≡ length xs * v
 sum_by-all g v [] h = omega arith
 sum_by-all g v (x ∷ xs) h =

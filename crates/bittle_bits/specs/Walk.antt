@@ -1,5 +1,5 @@
 -- What contracts see of a walk.
-use Rattle.std.specs.Prelude.{◌≡◌, ℕ, ◌+◌, ◌≤◌, Bool, true, false, List, Option, Some, None}
+use Rattle.std.specs.Prelude.{◌≡◌, ℕ, ◌+◌, ◌<◌, ◌≤◌, Bool, true, false, List, length, slice_index, Option, Some, None}
 use Rattle.std.specs.Iterator.{YieldsFirst, YieldsLast}
 use Rattle.std.specs.Iterator.Runs.{YieldsInOrder, YieldsInReverse}
 use Rattle.bittle_bits.specs.PlainSet.{PlainSet, complement}
@@ -8,6 +8,10 @@ use Rattle.bittle_bits.specs.PlainSet.{PlainSet, complement}
 abbrev pub wanted : Bool → PlainSet → PlainSet
 wanted true s = s
 wanted false s = complement s
+
+-- each number of the list is below c, and there are at most c of them
+abbrev pub AreBelow : ℕ → List ℕ → Type 0
+AreBelow c xs = (length xs ≤ c) × ((k : ℕ) → k < length xs → slice_index xs k < c)
 
 -- a walk
 pub record Walk : Type 0 where

@@ -7,7 +7,7 @@ ghost use Rattle.bittle_bits.specs.Orders.{members};
 ghost use Rattle.bittle_bits.specs.PlainSet.{PlainSet, contains, size, ascending, complement};
 ghost use Rattle.bittle_bits.specs.Searches.{IsFirstIn, IsLastIn};
 ghost use Rattle.bittle_bits.specs.Shapes.{Fits};
-ghost use Rattle.bittle_bits.specs.Walk.{IsFresh};
+ghost use Rattle.bittle_bits.specs.Walk.{AreBelow, IsFresh};
 ghost use Rattle.bittle_bits.specs.Words.{word_of};
 
 use crate::endian::{BigEndian, DefaultEndian, Endian, LittleEndian};
@@ -48,7 +48,8 @@ pub trait Bits: Drop + Sealed {
     /// How many members there are, the same in both orders. The shape has to fit. With capacity 0 there are none.
     fn count_ones(&self) -> u32
         requires { Fits indexable (big self.now).capacity }
-        ensures { result ≡ size (big self.now) };
+        ensures value { result ≡ size (big self.now) }
+        ensures at_most { result ≤ (big self.now).capacity };
 
     /// How many numbers below the capacity are no members, the same in both orders. The shape has to fit.
     #[inline]
@@ -185,6 +186,7 @@ pub trait Bits: Drop + Sealed {
         requires { Fits indexable (big self.now).capacity }
         ensures left { result.left ≡ ascending (members E.mirrored width (big self.now)) }
         ensures fresh { IsFresh ((big self.now).capacity / width) result }
+        ensures below { AreBelow (big self.now).capacity result.left }
     {
         IterOnes::new(self)
     }
@@ -200,6 +202,7 @@ pub trait Bits: Drop + Sealed {
         requires { Fits indexable (big self.now).capacity }
         ensures left { result.left ≡ ascending (complement (members E.mirrored width (big self.now))) }
         ensures fresh { IsFresh ((big self.now).capacity / width) result }
+        ensures below { AreBelow (big self.now).capacity result.left }
     {
         IterZeros::new(self)
     }
@@ -212,6 +215,7 @@ pub trait Bits: Drop + Sealed {
         requires { Fits indexable (big self.now).capacity }
         ensures left { result.left ≡ ascending (members Self.Order.mirrored width (big self.now)) }
         ensures fresh { IsFresh ((big self.now).capacity / width) result }
+        ensures below { AreBelow (big self.now).capacity result.left }
     {
         self.iter_ones_in::<Self::Order>()
     }
@@ -224,6 +228,7 @@ pub trait Bits: Drop + Sealed {
         requires { Fits indexable (big self.now).capacity }
         ensures left { result.left ≡ ascending (members ⟦<LittleEndian as Endian>⟧.mirrored width (big self.now)) }
         ensures fresh { IsFresh ((big self.now).capacity / width) result }
+        ensures below { AreBelow (big self.now).capacity result.left }
     {
         self.iter_ones_in::<LittleEndian>()
     }
@@ -236,6 +241,7 @@ pub trait Bits: Drop + Sealed {
         requires { Fits indexable (big self.now).capacity }
         ensures left { result.left ≡ ascending (members ⟦<BigEndian as Endian>⟧.mirrored width (big self.now)) }
         ensures fresh { IsFresh ((big self.now).capacity / width) result }
+        ensures below { AreBelow (big self.now).capacity result.left }
     {
         self.iter_ones_in::<BigEndian>()
     }
@@ -248,6 +254,7 @@ pub trait Bits: Drop + Sealed {
         requires { Fits indexable (big self.now).capacity }
         ensures left { result.left ≡ ascending (complement (members Self.Order.mirrored width (big self.now))) }
         ensures fresh { IsFresh ((big self.now).capacity / width) result }
+        ensures below { AreBelow (big self.now).capacity result.left }
     {
         self.iter_zeros_in::<Self::Order>()
     }
@@ -260,6 +267,7 @@ pub trait Bits: Drop + Sealed {
         requires { Fits indexable (big self.now).capacity }
         ensures left { result.left ≡ ascending (complement (members ⟦<LittleEndian as Endian>⟧.mirrored width (big self.now))) }
         ensures fresh { IsFresh ((big self.now).capacity / width) result }
+        ensures below { AreBelow (big self.now).capacity result.left }
     {
         self.iter_zeros_in::<LittleEndian>()
     }
@@ -272,6 +280,7 @@ pub trait Bits: Drop + Sealed {
         requires { Fits indexable (big self.now).capacity }
         ensures left { result.left ≡ ascending (complement (members ⟦<BigEndian as Endian>⟧.mirrored width (big self.now))) }
         ensures fresh { IsFresh ((big self.now).capacity / width) result }
+        ensures below { AreBelow (big self.now).capacity result.left }
     {
         self.iter_zeros_in::<BigEndian>()
     }
@@ -290,6 +299,7 @@ pub trait Bits: Drop + Sealed {
         I::Item: Drop,
         requires { Fits indexable (big self.now).capacity }
         ensures members { result.mask.left ≡ ascending (members E.mirrored width (big self.now)) }
+        ensures below { AreBelow (big self.now).capacity result.mask.left }
         ensures iter { I.into_iter_gives iter result.iter }
         ensures none_taken { result.taken ≡ 0 }
         ensures goes_on { result.ended ≡ false }
@@ -310,6 +320,7 @@ pub trait Bits: Drop + Sealed {
         I::Item: Drop,
         requires { Fits indexable (big self.now).capacity }
         ensures members { result.mask.left ≡ ascending (members ⟦<DefaultEndian as Endian>⟧.mirrored width (big self.now)) }
+        ensures below { AreBelow (big self.now).capacity result.mask.left }
         ensures iter { I.into_iter_gives iter result.iter }
         ensures none_taken { result.taken ≡ 0 }
         ensures goes_on { result.ended ≡ false }
@@ -330,6 +341,7 @@ pub trait Bits: Drop + Sealed {
         I::Item: Drop,
         requires { Fits indexable (big self.now).capacity }
         ensures members { result.mask.left ≡ ascending (members ⟦<LittleEndian as Endian>⟧.mirrored width (big self.now)) }
+        ensures below { AreBelow (big self.now).capacity result.mask.left }
         ensures iter { I.into_iter_gives iter result.iter }
         ensures none_taken { result.taken ≡ 0 }
         ensures goes_on { result.ended ≡ false }
@@ -350,6 +362,7 @@ pub trait Bits: Drop + Sealed {
         I::Item: Drop,
         requires { Fits indexable (big self.now).capacity }
         ensures members { result.mask.left ≡ ascending (members ⟦<BigEndian as Endian>⟧.mirrored width (big self.now)) }
+        ensures below { AreBelow (big self.now).capacity result.mask.left }
         ensures iter { I.into_iter_gives iter result.iter }
         ensures none_taken { result.taken ≡ 0 }
         ensures goes_on { result.ended ≡ false }

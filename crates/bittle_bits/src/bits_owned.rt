@@ -5,7 +5,7 @@ ghost use Rattle.bittle_bits.specs.Orders.{members};
 ghost use Rattle.bittle_bits.specs.PlainSet.{empty, filled, with_index, without_index, ascending, complement};
 ghost use Rattle.bittle_bits.specs.SetOperations.{union_of, conjunction_of, difference_of, symmetric_difference_of};
 ghost use Rattle.bittle_bits.specs.Shapes.{Fits};
-ghost use Rattle.bittle_bits.specs.Walk.{IsFresh};
+ghost use Rattle.bittle_bits.specs.Walk.{AreBelow, IsFresh};
 
 use crate::bits_mut::BitsMut;
 use crate::endian::{BigEndian, Endian, LittleEndian};
@@ -174,6 +174,7 @@ pub trait BitsOwned: Copy + Eq + BitsMut {
         requires { Fits Self.indexable (Self.big self).capacity }
         ensures left { result.left ≡ ascending (members E.mirrored Self.width (Self.big self)) }
         ensures fresh { IsFresh ((Self.big self).capacity / Self.width) result }
+        ensures below { AreBelow (Self.big self).capacity result.left }
     {
         IntoIterOnes::new(self)
     }
@@ -186,6 +187,7 @@ pub trait BitsOwned: Copy + Eq + BitsMut {
         requires { Fits Self.indexable (Self.big self).capacity }
         ensures left { result.left ≡ ascending (members Self.Order.mirrored Self.width (Self.big self)) }
         ensures fresh { IsFresh ((Self.big self).capacity / Self.width) result }
+        ensures below { AreBelow (Self.big self).capacity result.left }
     {
         self.into_iter_ones_in::<Self::Order>()
     }
@@ -198,6 +200,7 @@ pub trait BitsOwned: Copy + Eq + BitsMut {
         requires { Fits Self.indexable (Self.big self).capacity }
         ensures left { result.left ≡ ascending (members ⟦<LittleEndian as Endian>⟧.mirrored Self.width (Self.big self)) }
         ensures fresh { IsFresh ((Self.big self).capacity / Self.width) result }
+        ensures below { AreBelow (Self.big self).capacity result.left }
     {
         self.into_iter_ones_in::<LittleEndian>()
     }
@@ -210,6 +213,7 @@ pub trait BitsOwned: Copy + Eq + BitsMut {
         requires { Fits Self.indexable (Self.big self).capacity }
         ensures left { result.left ≡ ascending (members ⟦<BigEndian as Endian>⟧.mirrored Self.width (Self.big self)) }
         ensures fresh { IsFresh ((Self.big self).capacity / Self.width) result }
+        ensures below { AreBelow (Self.big self).capacity result.left }
     {
         self.into_iter_ones_in::<BigEndian>()
     }
@@ -223,6 +227,7 @@ pub trait BitsOwned: Copy + Eq + BitsMut {
         requires { Fits Self.indexable (Self.big self).capacity }
         ensures left { result.left ≡ ascending (complement (members E.mirrored Self.width (Self.big self))) }
         ensures fresh { IsFresh ((Self.big self).capacity / Self.width) result }
+        ensures below { AreBelow (Self.big self).capacity result.left }
     {
         IntoIterZeros::new(self)
     }
@@ -235,6 +240,7 @@ pub trait BitsOwned: Copy + Eq + BitsMut {
         requires { Fits Self.indexable (Self.big self).capacity }
         ensures left { result.left ≡ ascending (complement (members Self.Order.mirrored Self.width (Self.big self))) }
         ensures fresh { IsFresh ((Self.big self).capacity / Self.width) result }
+        ensures below { AreBelow (Self.big self).capacity result.left }
     {
         self.into_iter_zeros_in::<Self::Order>()
     }
@@ -247,6 +253,7 @@ pub trait BitsOwned: Copy + Eq + BitsMut {
         requires { Fits Self.indexable (Self.big self).capacity }
         ensures left { result.left ≡ ascending (complement (members ⟦<LittleEndian as Endian>⟧.mirrored Self.width (Self.big self))) }
         ensures fresh { IsFresh ((Self.big self).capacity / Self.width) result }
+        ensures below { AreBelow (Self.big self).capacity result.left }
     {
         self.into_iter_zeros_in::<LittleEndian>()
     }
@@ -259,6 +266,7 @@ pub trait BitsOwned: Copy + Eq + BitsMut {
         requires { Fits Self.indexable (Self.big self).capacity }
         ensures left { result.left ≡ ascending (complement (members ⟦<BigEndian as Endian>⟧.mirrored Self.width (Self.big self))) }
         ensures fresh { IsFresh ((Self.big self).capacity / Self.width) result }
+        ensures below { AreBelow (Self.big self).capacity result.left }
     {
         self.into_iter_zeros_in::<BigEndian>()
     }

@@ -1,6 +1,6 @@
 //! The calls on a row of elements, for arrays and for slices.
 
-ghost use Rattle.std.specs.Prelude.{◌≡◌, ◌==◌, ◌*◌, ◌<◌, Bool, length, IsTrue, MatchOption};
+ghost use Rattle.std.specs.Prelude.{◌≡◌, ◌==◌, ◌*◌, ◌<◌, ◌≤◌, Bool, length, IsTrue, MatchOption};
 ghost use Rattle.bittle_bits.specs.Orders.{members};
 ghost use Rattle.bittle_bits.specs.PlainSet.{contains, with_index, without_index, emptied, size};
 ghost use Rattle.bittle_bits.specs.Rows.{elements_set, GoesTo};
@@ -110,8 +110,9 @@ pub fn combine<T: BitsOwned, O: Operation>(elements: &mut [T], others: &[T])
 
 pub fn count_ones<T: BitsOwned>(elements: &[T]) -> u32
     requires { Fits T.indexable (length elements.now * T.type_capacity) }
-    ensures { result ≡ size
+    ensures value { result ≡ size
         (elements_set (length elements.now) T.type_capacity T.big elements.now) }
+    ensures at_most { result ≤ length elements.now * T.type_capacity }
 {
     let mut total = 0;
     for element in elements {

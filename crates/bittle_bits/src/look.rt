@@ -85,27 +85,27 @@ fn take_last<W: Number, E: Endian>(copy: &mut Option<Copied<W>>, looks: &mut Cou
 ///
 /// Fetching a word is no look. Each call that searches a copy is one look, and gives an item or retires the copy.
 #[derive(Drop)]
-pub struct Copies<B: Bits, E: Endian> {
-    head: Option<Copied<B::LeafWord>>,
-    tail: Option<Copied<B::LeafWord>>,
+pub struct Copies<W: Number, E: Endian> {
+    head: Option<Copied<W>>,
+    tail: Option<Copied<W>>,
     looks: Count,
     order: PhantomData<E>,
 }
 
-impl<B: Bits, E: Endian> Model for Copies<B, E> {
+impl<W: Number, E: Endian> Model for Copies<W, E> {
     ghost use Rattle.bittle_bits.specs.Copies.{Held, copied, IsInReach};
 
     ghost Value = { Held };
 
-    ghost view = { λ c. record { head = copied E.mirrored B.LeafWord.width B.LeafWord.digits c.head; tail = copied E.mirrored B.LeafWord.width B.LeafWord.digits c.tail; looks = c.looks } };
+    ghost view = { λ c. record { head = copied E.mirrored W.width W.digits c.head; tail = copied E.mirrored W.width W.digits c.tail; looks = c.looks } };
 
-    ghost invariant = { λ c. IsInReach B.LeafWord.width c.head × IsInReach B.LeafWord.width c.tail };
+    ghost invariant = { λ c. IsInReach W.width c.head × IsInReach W.width c.tail };
 }
 
-impl<B: Bits, E: Endian> Copies<B, E> {
+impl<W: Number, E: Endian> Copies<W, E> {
     /// No copies, and no looks yet.
     #[inline]
-    pub fn none() -> Copies<B, E>
+    pub fn none() -> Copies<W, E>
         ensures { result ≡ record { head = None; tail = None; looks = 0 } }
     {
         Copies {
@@ -118,7 +118,7 @@ impl<B: Bits, E: Endian> Copies<B, E> {
 
     /// The same copies, with no looks yet.
     #[inline]
-    pub fn again(&self) -> Copies<B, E>
+    pub fn again(&self) -> Copies<W, E>
         ensures { result ≡ record { head = self.now.head; tail = self.now.tail; looks = 0 } }
     {
         Copies {
@@ -139,7 +139,7 @@ impl<B: Bits, E: Endian> Copies<B, E> {
 
     /// Copies word `k` to the head, or where `ONES` is false the digits that it lacks.
     #[inline]
-    pub fn fetch_head<const ONES: bool>(&mut self, bits: &B, k: u32)
+    pub fn fetch_head<B: Bits<LeafWord = W>, const ONES: bool>(&mut self, bits: &B, k: u32)
         requires fits { Fits B.indexable (B.big bits.now).capacity }
         requires within { k * B.width < (B.big bits.now).capacity }
         ensures { self.new ≡ record { head = Some (between (wanted ONES (members E.mirrored B.width (B.big bits.now))) (k * B.width) (k * B.width + B.width)); tail = self.old.tail; looks = self.old.looks } }
@@ -149,7 +149,7 @@ impl<B: Bits, E: Endian> Copies<B, E> {
 
     /// Copies word `k` to the tail, or where `ONES` is false the digits that it lacks.
     #[inline]
-    pub fn fetch_tail<const ONES: bool>(&mut self, bits: &B, k: u32)
+    pub fn fetch_tail<B: Bits<LeafWord = W>, const ONES: bool>(&mut self, bits: &B, k: u32)
         requires fits { Fits B.indexable (B.big bits.now).capacity }
         requires within { k * B.width < (B.big bits.now).capacity }
         ensures { self.new ≡ record { head = self.old.head; tail = Some (between (wanted ONES (members E.mirrored B.width (B.big bits.now))) (k * B.width) (k * B.width + B.width)); looks = self.old.looks } }
@@ -164,7 +164,7 @@ impl<B: Bits, E: Endian> Copies<B, E> {
         ensures looks { self.new.looks ≡ self.old.looks + held self.old.head }
         ensures tail { self.new.tail ≡ self.old.tail }
     {
-        take_first::<B::LeafWord, E>(&mut self.head, &mut self.looks)
+        take_first::<W, E>(&mut self.head, &mut self.looks)
     }
 
     /// Looks at the tail for its first item.
@@ -174,7 +174,7 @@ impl<B: Bits, E: Endian> Copies<B, E> {
         ensures looks { self.new.looks ≡ self.old.looks + held self.old.tail }
         ensures head { self.new.head ≡ self.old.head }
     {
-        take_first::<B::LeafWord, E>(&mut self.tail, &mut self.looks)
+        take_first::<W, E>(&mut self.tail, &mut self.looks)
     }
 
     /// Looks at the head for its last item.
@@ -184,7 +184,7 @@ impl<B: Bits, E: Endian> Copies<B, E> {
         ensures looks { self.new.looks ≡ self.old.looks + held self.old.head }
         ensures tail { self.new.tail ≡ self.old.tail }
     {
-        take_last::<B::LeafWord, E>(&mut self.head, &mut self.looks)
+        take_last::<W, E>(&mut self.head, &mut self.looks)
     }
 
     /// Looks at the tail for its last item.
@@ -194,6 +194,6 @@ impl<B: Bits, E: Endian> Copies<B, E> {
         ensures looks { self.new.looks ≡ self.old.looks + held self.old.tail }
         ensures head { self.new.head ≡ self.old.head }
     {
-        take_last::<B::LeafWord, E>(&mut self.tail, &mut self.looks)
+        take_last::<W, E>(&mut self.tail, &mut self.looks)
     }
 }

@@ -5,7 +5,7 @@ ghost use Rattle.bittle_bits.specs.Orders.{members};
 ghost use Rattle.bittle_bits.specs.PlainSet.{PlainSet, ascending};
 ghost use Rattle.bittle_bits.specs.Shapes.{Fits};
 ghost use Rattle.bittle_bits.specs.Standing.{left_in, walk_of, Retires};
-ghost use Rattle.bittle_bits.specs.Walk.{wanted, IsFresh, ResumesAs, StepsFront, StepsBack};
+ghost use Rattle.bittle_bits.specs.Walk.{wanted, AreBelow, IsFresh, ResumesAs, StepsFront, StepsBack};
 
 use crate::bits::Bits;
 use crate::count::Count;
@@ -16,7 +16,7 @@ use crate::look::Copies;
 /// The copies of a walk, and the range of words between them that are not copied yet.
 #[derive(Drop)]
 pub struct Standing<B: Bits, E: Endian> {
-    pub copies: Copies<B, E>,
+    pub copies: Copies<B::LeafWord, E>,
     pub low: u32,
     pub high: u32,
     pub items: Count,
@@ -29,6 +29,8 @@ pub fn begin<B: Bits, E: Endian, const ONES: bool>(bits: &B) -> Standing<B, E>
     ensures left { left_in (wanted ONES (members E.mirrored B.width (B.big bits.now))) B.width result
         ≡ ascending (wanted ONES (members E.mirrored B.width (B.big bits.now))) }
     ensures fresh { IsFresh ((B.big bits.now).capacity / B.width) (walk_of (wanted ONES (members E.mirrored B.width (B.big bits.now))) B.width result) }
+    ensures below { AreBelow (wanted ONES (members E.mirrored B.width (B.big bits.now))).capacity
+        (left_in (wanted ONES (members E.mirrored B.width (B.big bits.now))) B.width result) }
     ensures retires { Retires ((B.big bits.now).capacity / B.width) result }
 {
     let mut at = Standing {
@@ -40,13 +42,13 @@ pub fn begin<B: Bits, E: Endian, const ONES: bool>(bits: &B) -> Standing<B, E>
     if at.low == at.high {
         return at;
     }
-    at.copies.fetch_head::<ONES>(bits, at.low);
+    at.copies.fetch_head::<B, ONES>(bits, at.low);
     at.low += 1;
     if at.low == at.high {
         return at;
     }
     at.high -= 1;
-    at.copies.fetch_tail::<ONES>(bits, at.high);
+    at.copies.fetch_tail::<B, ONES>(bits, at.high);
     at
 }
 
@@ -83,7 +85,7 @@ pub fn step_front<B: Bits, E: Endian, const ONES: bool>(
         if at.low == at.high {
             break;
         }
-        at.copies.fetch_head::<ONES>(bits, at.low);
+        at.copies.fetch_head::<B, ONES>(bits, at.low);
         at.low += 1;
     }
     let Some(item) = at.copies.first_of_tail() else {
@@ -113,7 +115,7 @@ pub fn step_back<B: Bits, E: Endian, const ONES: bool>(
             break;
         }
         at.high -= 1;
-        at.copies.fetch_tail::<ONES>(bits, at.high);
+        at.copies.fetch_tail::<B, ONES>(bits, at.high);
     }
     let Some(item) = at.copies.last_of_head() else {
         return None;

@@ -7,7 +7,7 @@ ghost use Rattle.std.specs.Iterator.{item_count};
 ghost use Rattle.bittle_bits.specs.Orders.{members};
 ghost use Rattle.bittle_bits.specs.PlainSet.{ascending, complement};
 ghost use Rattle.bittle_bits.specs.Shapes.{Fits};
-ghost use Rattle.bittle_bits.specs.Walk.{IsFresh, ResumesAs, StepsFront, StepsBack};
+ghost use Rattle.bittle_bits.specs.Walk.{AreBelow, IsFresh, ResumesAs, StepsFront, StepsBack};
 
 use crate::bits::Bits;
 use crate::bits_owned::BitsOwned;
@@ -49,6 +49,7 @@ impl<'a, B: Bits, E: Endian> IterOnes<'a, B, E> {
         requires { Fits B.indexable (B.big bits.now).capacity }
         ensures left { result.left ≡ ascending (members E.mirrored B.width (B.big bits.now)) }
         ensures fresh { IsFresh ((B.big bits.now).capacity / B.width) result }
+        ensures below { AreBelow (B.big bits.now).capacity result.left }
     {
         let at = begin::<B, E, true>(bits);
         IterOnes { bits, at }
@@ -138,6 +139,7 @@ impl<'a, B: Bits, E: Endian> IterZeros<'a, B, E> {
         requires { Fits B.indexable (B.big bits.now).capacity }
         ensures left { result.left ≡ ascending (complement (members E.mirrored B.width (B.big bits.now))) }
         ensures fresh { IsFresh ((B.big bits.now).capacity / B.width) result }
+        ensures below { AreBelow (B.big bits.now).capacity result.left }
     {
         let at = begin::<B, E, false>(bits);
         IterZeros { bits, at }
@@ -227,6 +229,7 @@ impl<B: BitsOwned, E: Endian> IntoIterOnes<B, E> {
         requires { Fits B.indexable (B.big bits).capacity }
         ensures left { result.left ≡ ascending (members E.mirrored B.width (B.big bits)) }
         ensures fresh { IsFresh ((B.big bits).capacity / B.width) result }
+        ensures below { AreBelow (B.big bits).capacity result.left }
     {
         let at = begin::<B, E, true>(&bits);
         IntoIterOnes { bits, at }
@@ -316,6 +319,7 @@ impl<B: BitsOwned, E: Endian> IntoIterZeros<B, E> {
         requires { Fits B.indexable (B.big bits).capacity }
         ensures left { result.left ≡ ascending (complement (members E.mirrored B.width (B.big bits))) }
         ensures fresh { IsFresh ((B.big bits).capacity / B.width) result }
+        ensures below { AreBelow (B.big bits).capacity result.left }
     {
         let at = begin::<B, E, false>(&bits);
         IntoIterZeros { bits, at }

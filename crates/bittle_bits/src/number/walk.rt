@@ -2,11 +2,11 @@
 
 ghost use Rattle.std.specs.Iterator.SizeHint.{IsWithinCount};
 ghost use Rattle.std.specs.Iterator.{UpTo, YieldsFirst, YieldsLast, item_count};
-ghost use Rattle.std.specs.Prelude.{◌≡◌, ◌≤◌, length, IfSome, ⊤, Some};
+ghost use Rattle.std.specs.Prelude.{◌≡◌, length, IfSome, ⊤, Some};
 ghost use Rattle.bittle_bits.specs.Digits.{digit_set};
 ghost use Rattle.bittle_bits.specs.Orders.{members};
 ghost use Rattle.bittle_bits.specs.PlainSet.{ascending, complement};
-ghost use Rattle.bittle_bits.specs.Walk.{ListsInOrder, ListsInReverse};
+ghost use Rattle.bittle_bits.specs.Walk.{AreBelow, ListsInOrder, ListsInReverse};
 
 use crate::endian::Endian;
 use crate::hidden::Number;
@@ -38,7 +38,7 @@ impl<T: Number, E: Endian> IterOnes<T, E> {
     #[inline]
     pub fn new(word: T) -> IterOnes<T, E>
         ensures items { result ≡ ascending (members E.mirrored T.width (digit_set T.width (T.digits word))) }
-        ensures few { length result ≤ T.width }
+        ensures below { AreBelow T.width result }
         ensures in_order { ListsInOrder }
         ensures in_reverse { ListsInReverse }
     {
@@ -124,7 +124,7 @@ impl<T: Number, E: Endian> IterZeros<T, E> {
     #[inline]
     pub fn new(word: T) -> IterZeros<T, E>
         ensures items { result ≡ ascending (complement (members E.mirrored T.width (digit_set T.width (T.digits word)))) }
-        ensures few { length result ≤ T.width }
+        ensures below { AreBelow T.width result }
         ensures in_order { ListsInOrder }
         ensures in_reverse { ListsInReverse }
     {

@@ -1,7 +1,7 @@
 //! The calls on one word, for every width at once.
 
 ghost use Rattle.std.specs.Iterator.{YieldsFirst, YieldsLast};
-ghost use Rattle.std.specs.Prelude.{◌≡◌, ◌==◌, Bool, ◌*◌, ◌<◌};
+ghost use Rattle.std.specs.Prelude.{◌≡◌, ◌==◌, Bool, ◌*◌, ◌<◌, ◌≤◌};
 ghost use Rattle.bittle_bits.specs.Digits.{digit_set};
 ghost use Rattle.bittle_bits.specs.Orders.{members};
 ghost use Rattle.bittle_bits.specs.PlainSet.{contains, with_index, without_index, empty, emptied, filled, size, ascending};
@@ -54,7 +54,8 @@ pub fn combine<T: Number, O: Operation>(word: &mut T, other: T)
 
 #[inline]
 pub fn count_ones<T: Number>(word: T) -> u32
-    ensures { result ≡ size (digit_set T.width (T.digits word)) }
+    ensures value { result ≡ size (digit_set T.width (T.digits word)) }
+    ensures at_most { result ≤ T.width }
 {
     word.count_ones()
 }

@@ -9,7 +9,7 @@ returns-in-ClearAll-clause-set g c = rw c.in-ClearAll.is (ap (members g.E.Endian
 pub returns-in-CountOnes-clause-reply : goal.returns-in-CountOnes-clause-reply
 returns-in-CountOnes-clause-reply g c =
     let e = size-members g.E.Endian.mirrored _ (g.B.Bits.big c.args.bits.now) g.met.B.Bits.width_positive (g.met.B.Bits.whole_words c.args.bits.now) in
-    rw (c.in-CountOnes.is, c.count_ones.ensures, e) refl
+    rw (c.in-CountOnes.is, c.count_ones.ensures.value, e) refl
 
 pub returns-in-CountZeros-clause-reply : goal.returns-in-CountZeros-clause-reply
 returns-in-CountZeros-clause-reply g c =

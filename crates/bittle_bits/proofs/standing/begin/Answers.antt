@@ -1,6 +1,7 @@
 use Rattle.std.proofs.Common.{◌≡◌, ℕ, ◌<◌, ◌*◌, ◌/◌, not, ◌==◌, refl, ap, ◌∙◌, arith}
 use Rattle.bittle_bits.specs.Orders.{members}
 use Rattle.bittle_bits.specs.Walk.{wanted}
+use Rattle.bittle_bits.proofs.Ascending.{are_below}
 use Rattle.bittle_bits.proofs.Runs.{is_fresh}
 use Rattle.bittle_bits.proofs.Steps.{begins, head_fetched, tail_fetched, wanted_capacity}
 use Rattle.bittle_bits.proofs.standing.begin.Goals as goal
@@ -55,3 +56,12 @@ pub returns-clause-fresh : goal.returns-clause-fresh
 returns-clause-fresh g c =
     let s = members g.E.Endian.mirrored g.B.Bits.width (g.B.Bits.big c.args.bits.now) in
     is_fresh _ _ (ap (λ h. h.looks) c.fetch_tail.ensures ∙ ap (λ h. h.looks) c.fetch_head.ensures ∙ ap (λ h. h.looks) c.none.ensures) c.new.ensures (ap (λ n. n / g.B.Bits.width) (wanted_capacity (not (g.row.ONES == 0)) s))
+
+pub returns-then-at-clause-below : goal.returns-then-at-clause-below
+returns-then-at-clause-below g c = are_below _ _ (returns-then-at-clause-left g c)
+
+pub returns-then-at-2-clause-below : goal.returns-then-at-2-clause-below
+returns-then-at-2-clause-below g c = are_below _ _ (returns-then-at-2-clause-left g c)
+
+pub returns-clause-below : goal.returns-clause-below
+returns-clause-below g c = are_below _ _ (returns-clause-left g c)

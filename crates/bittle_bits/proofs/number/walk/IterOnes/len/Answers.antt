@@ -5,4 +5,4 @@ use Rattle.bittle_bits.proofs.number.walk.IterOnes.len.Goals as goal
 
 pub returns : goal.returns
 returns g c =
-    rw (← c.self.view_is) (c.count_ones.ensures ∙ sym (ascending-length _ ∙ size-members g.E.Endian.mirrored _ _ g.met.T.Number.width_positive (1, omega arith)))
+    rw (← c.self.view_is) (c.count_ones.ensures.value ∙ sym (ascending-length _ ∙ size-members g.E.Endian.mirrored _ _ g.met.T.Number.width_positive (1, omega arith)))
