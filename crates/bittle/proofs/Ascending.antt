@@ -1,25 +1,12 @@
 -- The increasing list of members: its first item, and how it grows.
 use Rattle.std.proofs.Common.{◌≡◌, ℕ, zero, suc, ◌+◌, ◌<◌, ◌≤◌, ◌⊎◌, Bool, true, false, cond, [], ◌∷◌, length, refl, sym, ◌∙◌, ap, inl, inr, arith}
 use Rattle.std.proofs.lemmas.Bool.{cases_eq, cases_Bool}
-use Rattle.bittle_bits.specs.PlainSet.{PlainSet, ascending, ascending_from}
+use Rattle.bittle_bits.specs.PlainSet.{ascending_from}
+use Rattle.bittle_bits.proofs.Ascending.{ascending-yes, ascending-no, ascending_from-none}
 
 -- no number of those from one on passes the test
 abbrev pub NoneIn : (ℕ → Bool) → ℕ → ℕ → Type 0
 NoneIn s from to = (i : ℕ) → from ≤ i → i < to → s i ≡ false
-
-pub take_yes : (s : ℕ → Bool) (from n : ℕ) → s from ≡ true → ascending_from s from (suc n) ≡ from ∷ ascending_from s (suc from) n
-unfolding ascending_from
-take_yes s from n h = rw h refl
-
-pub take_no : (s : ℕ → Bool) (from n : ℕ) → s from ≡ false → ascending_from s from (suc n) ≡ ascending_from s (suc from) n
-unfolding ascending_from
-take_no s from n h = rw h refl
-
-pub next_none : (s : ℕ → Bool) (from n : ℕ) → NoneIn s from (from + n) → ascending_from s from n ≡ []
-unfolding ascending_from
-next_none s from zero h = refl
-next_none s from (suc n) h =
-    take_no s from n (h from (omega arith) (omega arith)) ∙ next_none s (suc from) n (λ i p q. h i (omega arith) (omega arith))
 
 pub next_some : (s : ℕ → Bool) (from n v m : ℕ) → from ≤ v → from + n ≡ suc v + m → s v ≡ true → NoneIn s from v → ascending_from s from n ≡ v ∷ ascending_from s (suc v) m
 next_some s from zero v m p e t h = absurd (omega arith)
@@ -29,10 +16,10 @@ next_some s from (suc n) v m p e t h =
     by : (from < v → ascending_from s (suc from) n ≡ v ∷ ascending_from s (suc v) m) → (from ≡ v) ⊎ (from ≡ v → ⊥) → ascending_from s from (suc n) ≡ v ∷ ascending_from s (suc v) m
     by k (inl q) =
         let r : n ≡ m = omega arith in
-        take_yes s from n (ap s q ∙ t) ∙ (λ i. q i ∷ ascending_from s (suc (q i)) (r i))
+        ascending-yes s from n (ap s q ∙ t) ∙ (λ i. q i ∷ ascending_from s (suc (q i)) (r i))
     by k (inr q) =
         let l : from < v = omega arith in
-        take_no s from n (h from (omega arith) l) ∙ k l
+        ascending-no s from n (h from (omega arith) l) ∙ k l
 
 -- v is the least number from one on and below another that passes the test
 abbrev pub IsLeastIn : (ℕ → Bool) → ℕ → ℕ → ℕ → Type 0
@@ -58,19 +45,8 @@ look s from (suc n) = by (cases_Bool (s from)) (look s (suc from) n)
 -- past the last member nothing comes
 pub extend : (s : ℕ → Bool) (from n r : ℕ) → n ≤ r → ((i : ℕ) → from + n ≤ i → s i ≡ false) → ascending_from s from r ≡ ascending_from s from n
 unfolding ascending_from
-extend s from zero r p h = next_none s from r (λ i a b. h i (omega arith))
+extend s from zero r p h = ascending_from-none s from r (λ i a b. h i (omega arith))
 extend s from (suc n) zero p h = absurd (omega arith)
 extend s from (suc n) (suc r) p h =
     let e = extend s (suc from) n r (omega arith) (λ i a. h i (omega arith)) in
     λ i. cond (s from) (from ∷ e i) (e i)
-
-length-ascending_from : (s : ℕ → Bool) (from n : ℕ) → length (ascending_from s from n) ≤ n
-unfolding ascending_from
-length-ascending_from s from zero = omega arith
-length-ascending_from s from (suc n) =
-    let rest = length-ascending_from s (suc from) n in
-    elim (cases_Bool (s from)) [ inl h ↦ rw h (omega (arith, rest)) | inr h ↦ rw h (omega (arith, rest)) ]
-
--- there are no more members than the capacity
-pub length-ascending : (s : PlainSet) → length (ascending s) ≤ s.capacity
-length-ascending s = length-ascending_from s.has 0 s.capacity

@@ -18,9 +18,9 @@ use Rattle.bittle_bits.specs.Walk.{Walk, StepsFront, StepsBack}
 use Rattle.bittle_bits.proofs.Sizes as sizes
 use Rattle.std.specs.Ordering.{is_eq}
 use Rattle.bittle_bits.specs.Join.{IsJoin, EndsAt, Join, join_steps, AnswersItemsAtMembers, EndsAfterMembers}
-use Rattle.bittle_bits.proofs.Ascending.{ascending-below as below}
 use Rattle.bittle.specs.Order.{list_cmp, AreSame}
-use Rattle.bittle.proofs.Ascending.{next_none, next_some, look}
+use Rattle.bittle_bits.proofs.Ascending.{ascending-below as below, ascending_from-none}
+use Rattle.bittle.proofs.Ascending.{next_some, look}
 use Rattle.bittle.proofs.Decided.{decided, equal_iff_same}
 use Rattle.bittle.proofs.Walking as walking
 
@@ -98,7 +98,7 @@ ascending-none s e =
 pub ascending-first : (s : PlainSet) (i : ℕ) (rest : List ℕ) → ascending s ≡ i ∷ rest → IsFirstIn s 0 s.capacity (Some i)
 ascending-first s i rest e =
     elim (look s.has 0 s.capacity) [
-      | inl none ↦ let nothing = next_none s.has 0 s.capacity none in absurd (cc)
+      | inl none ↦ let nothing = ascending_from-none s.has 0 s.capacity none in absurd (cc)
       | inr w ↦
           let m = s.capacity - suc w.0 in
           let found = next_some s.has 0 s.capacity w.0 m w.1.0 (omega (arith, w.1.1)) w.1.2 w.1.3 in
@@ -110,6 +110,7 @@ ascending-first s i rest e =
 pub ascending-below : (s : PlainSet) (k : ℕ) → k < length (ascending s) → get_or (ascending s) k 0 < s.capacity
 ascending-below s = (below s).1
 
+-- there are at most as many members as the capacity
 pub ascending-short : (s : PlainSet) → length (ascending s) ≤ s.capacity
 ascending-short s = (below s).0
 

@@ -5,8 +5,9 @@ use Rattle.std.specs.declared.cmp.Ordering.{Ordering}
 use Rattle.std.specs.declared.cmp.Ordering.TheVariants.{Less, Equal, Greater}
 use Rattle.std.specs.Ordering.{MatchOrdering, is_eq}
 use Rattle.bittle_bits.specs.PlainSet.{PlainSet, ascending, ascending_from}
+use Rattle.bittle_bits.proofs.Ascending.{ascending-yes, ascending-no, ascending_from-none}
 use Rattle.bittle.specs.Order.{list_cmp, AreSame, Precedes}
-use Rattle.bittle.proofs.Ascending.{NoneIn, IsLeastIn, take_yes, take_no, next_none, next_some, look, extend}
+use Rattle.bittle.proofs.Ascending.{NoneIn, IsLeastIn, next_some, look, extend}
 
 abbrev SameIn : (ℕ → Bool) → (ℕ → Bool) → ℕ → ℕ → Type 0
 SameIn A B from to = (i : ℕ) → from ≤ i → i < to → A i ≡ B i
@@ -57,34 +58,34 @@ decide A B from (suc n) = by (decide A B (suc from) n) (cases_Bool (A from)) (ca
 
     right : A from ≡ true → B from ≡ false → NoneIn B (suc from) (suc from + n) ⊎ ((v : ℕ) × IsLeastIn B (suc from) (suc from + n) v) → Verdict A B from (from + suc n) (list_cmp (ascending_from A from (suc n)) (ascending_from B from (suc n)))
     right a b (inl none) =
-        let e : list_cmp (ascending_from A from (suc n)) (ascending_from B from (suc n)) ≡ Greater = λ i. list_cmp (take_yes A from n a i) ((take_no B from n b ∙ next_none B (suc from) n none) i) in
+        let e : list_cmp (ascending_from A from (suc n)) (ascending_from B from (suc n)) ≡ Greater = λ i. list_cmp (ascending-yes A from n a i) ((ascending-no B from n b ∙ ascending_from-none B (suc from) n none) i) in
         subst (Verdict A B from (from + suc n)) (sym e) (from, omega arith, omega arith, (λ i p q. absurd (omega arith)), inr (b, a, λ m p q. none m (omega arith) (omega arith)))
     right a b (inr w) =
         let m = suc from + n - suc w.0 in
         let g : suc from + n ≡ suc w.0 + m = omega (arith, w.1.1) in
         let f = next_some B (suc from) n w.0 m w.1.0 g w.1.2 w.1.3 in
-        let e : list_cmp (ascending_from A from (suc n)) (ascending_from B from (suc n)) ≡ Less = (λ i. list_cmp (take_yes A from n a i) ((take_no B from n b ∙ f) i)) ∙ less_head from w.0 (ascending_from A (suc from) n) (ascending_from B (suc w.0) m) (omega (arith, w.1.0)) in
+        let e : list_cmp (ascending_from A from (suc n)) (ascending_from B from (suc n)) ≡ Less = (λ i. list_cmp (ascending-yes A from n a i) ((ascending-no B from n b ∙ f) i)) ∙ less_head from w.0 (ascending_from A (suc from) n) (ascending_from B (suc w.0) m) (omega (arith, w.1.0)) in
         subst (Verdict A B from (from + suc n)) (sym e) (from, omega arith, omega arith, (λ i p q. absurd (omega arith)), inl (a, b, (w.0, omega (arith, w.1.0), w.1.2)))
 
     left : A from ≡ false → B from ≡ true → NoneIn A (suc from) (suc from + n) ⊎ ((v : ℕ) × IsLeastIn A (suc from) (suc from + n) v) → Verdict A B from (from + suc n) (list_cmp (ascending_from A from (suc n)) (ascending_from B from (suc n)))
     left a b (inl none) =
-        let e : list_cmp (ascending_from A from (suc n)) (ascending_from B from (suc n)) ≡ Less = λ i. list_cmp ((take_no A from n a ∙ next_none A (suc from) n none) i) (take_yes B from n b i) in
+        let e : list_cmp (ascending_from A from (suc n)) (ascending_from B from (suc n)) ≡ Less = λ i. list_cmp ((ascending-no A from n a ∙ ascending_from-none A (suc from) n none) i) (ascending-yes B from n b i) in
         subst (Verdict A B from (from + suc n)) (sym e) (from, omega arith, omega arith, (λ i p q. absurd (omega arith)), inr (a, b, λ m p q. none m (omega arith) (omega arith)))
     left a b (inr w) =
         let m = suc from + n - suc w.0 in
         let g : suc from + n ≡ suc w.0 + m = omega (arith, w.1.1) in
         let f = next_some A (suc from) n w.0 m w.1.0 g w.1.2 w.1.3 in
-        let e : list_cmp (ascending_from A from (suc n)) (ascending_from B from (suc n)) ≡ Greater = (λ i. list_cmp ((take_no A from n a ∙ f) i) (take_yes B from n b i)) ∙ more_head w.0 from (ascending_from A (suc w.0) m) (ascending_from B (suc from) n) (omega (arith, w.1.0)) in
+        let e : list_cmp (ascending_from A from (suc n)) (ascending_from B from (suc n)) ≡ Greater = (λ i. list_cmp ((ascending-no A from n a ∙ f) i) (ascending-yes B from n b i)) ∙ more_head w.0 from (ascending_from A (suc w.0) m) (ascending_from B (suc from) n) (omega (arith, w.1.0)) in
         subst (Verdict A B from (from + suc n)) (sym e) (from, omega arith, omega arith, (λ i p q. absurd (omega arith)), inl (b, a, (w.0, omega (arith, w.1.0), w.1.2)))
 
     by : Verdict A B (suc from) (suc from + n) (list_cmp (ascending_from A (suc from) n) (ascending_from B (suc from) n)) → (A from ≡ true) ⊎ (A from ≡ false) → (B from ≡ true) ⊎ (B from ≡ false) → Verdict A B from (from + suc n) (list_cmp (ascending_from A from (suc n)) (ascending_from B from (suc n)))
     by h (inl a) (inl b) =
-        let e : list_cmp (ascending_from A from (suc n)) (ascending_from B from (suc n)) ≡ list_cmp (ascending_from A (suc from) n) (ascending_from B (suc from) n) = (λ i. list_cmp (take_yes A from n a i) (take_yes B from n b i)) ∙ same_head from (ascending_from A (suc from) n) (ascending_from B (suc from) n) in
+        let e : list_cmp (ascending_from A from (suc n)) (ascending_from B from (suc n)) ≡ list_cmp (ascending_from A (suc from) n) (ascending_from B (suc from) n) = (λ i. list_cmp (ascending-yes A from n a i) (ascending-yes B from n b i)) ∙ same_head from (ascending_from A (suc from) n) (ascending_from B (suc from) n) in
         subst (Verdict A B from (from + suc n)) (sym e) (more (omega arith) (list_cmp (ascending_from A (suc from) n) (ascending_from B (suc from) n)) (a ∙ sym b) h)
     by h (inl a) (inr b) = right a b (look B (suc from) n)
     by h (inr a) (inl b) = left a b (look A (suc from) n)
     by h (inr a) (inr b) =
-        let e : list_cmp (ascending_from A from (suc n)) (ascending_from B from (suc n)) ≡ list_cmp (ascending_from A (suc from) n) (ascending_from B (suc from) n) = λ i. list_cmp (take_no A from n a i) (take_no B from n b i) in
+        let e : list_cmp (ascending_from A from (suc n)) (ascending_from B from (suc n)) ≡ list_cmp (ascending_from A (suc from) n) (ascending_from B (suc from) n) = λ i. list_cmp (ascending-no A from n a i) (ascending-no B from n b i) in
         subst (Verdict A B from (from + suc n)) (sym e) (more (omega arith) (list_cmp (ascending_from A (suc from) n) (ascending_from B (suc from) n)) (a ∙ sym b) h)
 
 -- no member lies past the capacity
@@ -112,7 +113,7 @@ decided s t ends_s ends_t =
     let narrow : Verdict s.has t.has 0 to (list_cmp (ascending_from s.has 0 to) (ascending_from t.has 0 to)) = subst (λ n. Verdict s.has t.has 0 n (list_cmp (ascending_from s.has 0 to) (ascending_from t.has 0 to))) (omega arith) (decide s.has t.has 0 to) in
     subst (λ o. MatchOrdering o (Precedes s t) (AreSame s t) (Precedes t s)) e (match_map _ (before_whole s t to past_s) (same_whole s.has t.has to (λ i p. past_s i p ∙ sym (past_t i p))) (before_whole t s to past_t) narrow)
 
-not_both : (s t : PlainSet) → Precedes s t → AreSame s t → ⊥
+pub not_both : (s t : PlainSet) → Precedes s t → AreSame s t → ⊥
 not_both s t w h =
     elim w.2 [
       | inl x ↦ true≢false (sym x.0 ∙ h w.0 ∙ x.1)

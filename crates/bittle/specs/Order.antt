@@ -6,6 +6,7 @@ use Rattle.std.specs.List.{flat_map}
 use Rattle.std.specs.Ordering.{nat_cmp}
 use Rattle.std.specs.declared.cmp.Ordering.{Ordering}
 use Rattle.bittle_bits.specs.PlainSet.{PlainSet}
+use Rattle.bittle_bits.specs.SetOperations.{just_one}
 
 -- the order of two increasing lists, by their first items that differ
 abbrev pub list_cmp : List ℕ → List ℕ → Ordering
@@ -18,6 +19,10 @@ list_eq = pointwise nat_eq
 -- each number is a member of both or of neither
 abbrev pub AreSame : PlainSet → PlainSet → Type 0
 AreSame s t = (i : ℕ) → s.has i ≡ t.has i
+
+-- d is the least number that is in just one
+abbrev pub IsFirstApart : PlainSet → PlainSet → ℕ → Type 0
+IsFirstApart s t d = ((i : ℕ) → i < d → s.has i ≡ t.has i) × (just_one (s.has d) (t.has d) ≡ true)
 
 -- a member lies past the number
 abbrev pub HasPast : PlainSet → ℕ → Type 0

@@ -1,8 +1,7 @@
 //! The macros that make a set of what they list, and the ranges that they expand to.
 
 ghost use Rattle.std.specs.Prelude.{◌≡◌, ◌+◌};
-ghost use Rattle.bittle_bits.specs.Orders.{members};
-ghost use Rattle.bittle_bits.specs.Shapes.{Fits};
+ghost use Rattle.bittle_bits.specs.Values.{set_in, ShapeFits};
 ghost use Rattle.bittle.specs.Ranges.{with_range};
 
 use bittle_bits::bits::Bits;
@@ -103,9 +102,9 @@ macro_rules! put_listed {
 /// The shape has to fit. A range that ends before it starts changes nothing, and neither does any range with capacity 0.
 #[inline]
 pub fn put_until<B: BitsMut>(bits: &mut B, from: u32, to: u32)
-    requires { Fits B.indexable (B.big bits.old).capacity }
-    ensures set { members B.Order.mirrored B.width (B.big bits.new)
-        ≡ with_range (members B.Order.mirrored B.width (B.big bits.old)) from to }
+    requires { ShapeFits B.Bits bits.old }
+    ensures set { set_in B.Bits B.Order.Endian bits.new
+        ≡ with_range (set_in B.Bits B.Order.Endian bits.old) from to }
     ensures stays { B.same_place bits.old bits.new }
 {
     put_until_in::<B, B::Order>(bits, from, to);
@@ -114,9 +113,9 @@ pub fn put_until<B: BitsMut>(bits: &mut B, from: u32, to: u32)
 /// [`put_until`] in the order `E`.
 #[inline]
 pub fn put_until_in<B: BitsMut, E: Endian>(bits: &mut B, from: u32, to: u32)
-    requires { Fits B.indexable (B.big bits.old).capacity }
-    ensures set { members E.mirrored B.width (B.big bits.new)
-        ≡ with_range (members E.mirrored B.width (B.big bits.old)) from to }
+    requires { ShapeFits B.Bits bits.old }
+    ensures set { set_in B.Bits E.Endian bits.new
+        ≡ with_range (set_in B.Bits E.Endian bits.old) from to }
     ensures stays { B.same_place bits.old bits.new }
 {
     if from < to {
@@ -129,9 +128,9 @@ pub fn put_until_in<B: BitsMut, E: Endian>(bits: &mut B, from: u32, to: u32)
 /// The shape has to fit. A range that ends before it starts changes nothing, and neither does any range with capacity 0.
 #[inline]
 pub fn put_through<B: BitsMut>(bits: &mut B, from: u32, to: u32)
-    requires { Fits B.indexable (B.big bits.old).capacity }
-    ensures set { members B.Order.mirrored B.width (B.big bits.new)
-        ≡ with_range (members B.Order.mirrored B.width (B.big bits.old)) from (to + 1) }
+    requires { ShapeFits B.Bits bits.old }
+    ensures set { set_in B.Bits B.Order.Endian bits.new
+        ≡ with_range (set_in B.Bits B.Order.Endian bits.old) from (to + 1) }
     ensures stays { B.same_place bits.old bits.new }
 {
     put_through_in::<B, B::Order>(bits, from, to);
@@ -139,9 +138,9 @@ pub fn put_through<B: BitsMut>(bits: &mut B, from: u32, to: u32)
 
 /// [`put_through`] in the order `E`.
 pub fn put_through_in<B: BitsMut, E: Endian>(bits: &mut B, from: u32, to: u32)
-    requires { Fits B.indexable (B.big bits.old).capacity }
-    ensures set { members E.mirrored B.width (B.big bits.new)
-        ≡ with_range (members E.mirrored B.width (B.big bits.old)) from (to + 1) }
+    requires { ShapeFits B.Bits bits.old }
+    ensures set { set_in B.Bits E.Endian bits.new
+        ≡ with_range (set_in B.Bits E.Endian bits.old) from (to + 1) }
     ensures stays { B.same_place bits.old bits.new }
 {
     if to < from {

@@ -8,9 +8,11 @@ use bittle_bits::bits_mut::BitsMut;
 use bittle_bits::bits_owned::BitsOwned;
 use bittle_bits::endian::{DefaultEndian, Endian, LittleEndian};
 use bittle_bits::hidden::Sealed;
+use bittle_bits::operation::Operation;
 use std::alloc::AllocError;
 use std::marker::PhantomData;
 
+mod apart;
 mod compare;
 mod debug;
 mod hash;
@@ -217,23 +219,8 @@ impl<T: BitsMut, U: Endian> BitsMut for Set<T, U> {
     }
 
     #[inline]
-    fn union_assign(&mut self, other: &Set<T, U>) {
-        self.bits.union_assign(&other.bits);
-    }
-
-    #[inline]
-    fn conjunction_assign(&mut self, other: &Set<T, U>) {
-        self.bits.conjunction_assign(&other.bits);
-    }
-
-    #[inline]
-    fn difference_assign(&mut self, other: &Set<T, U>) {
-        self.bits.difference_assign(&other.bits);
-    }
-
-    #[inline]
-    fn symmetric_difference_assign(&mut self, other: &Set<T, U>) {
-        self.bits.symmetric_difference_assign(&other.bits);
+    fn combine<O: Operation>(&mut self, other: &Set<T, U>) {
+        self.bits.combine::<O>(&other.bits);
     }
 }
 

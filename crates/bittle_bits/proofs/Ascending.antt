@@ -8,11 +8,11 @@ use Rattle.bittle_bits.specs.Walk.{AreBelow}
 use Rattle.bittle_bits.proofs.PlainSets.{has_without-in}
 use Rattle.bittle_bits.proofs.Sizes.{size-le}
 
-ascending-yes : (p : ℕ → Bool) (from n : ℕ) → p from ≡ true → ascending_from p from (suc n) ≡ from ∷ ascending_from p (suc from) n
+pub ascending-yes : (p : ℕ → Bool) (from n : ℕ) → p from ≡ true → ascending_from p from (suc n) ≡ from ∷ ascending_from p (suc from) n
 unfolding ascending_from
 ascending-yes p from n h = rw h refl
 
-ascending-no : (p : ℕ → Bool) (from n : ℕ) → p from ≡ false → ascending_from p from (suc n) ≡ ascending_from p (suc from) n
+pub ascending-no : (p : ℕ → Bool) (from n : ℕ) → p from ≡ false → ascending_from p from (suc n) ≡ ascending_from p (suc from) n
 unfolding ascending_from
 ascending-no p from n h = rw h refl
 

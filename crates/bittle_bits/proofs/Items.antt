@@ -3,32 +3,7 @@ use Rattle.std.proofs.Common.{◌≡◌, ℕ, zero, suc, ◌+◌, ◌-◌, ◌<�
 use Rattle.std.proofs.lemmas.Bool.{cases_eq, eq-eqb, ne_eqb}
 use Rattle.bittle_bits.specs.Copies.{between}
 use Rattle.bittle_bits.specs.PlainSet.{PlainSet, ascending_from, ascending}
-
-pub none_from : (p : ℕ → Bool) (a n : ℕ) → ((k : ℕ) → a ≤ k → k < a + n → p k ≡ false) → ascending_from p a n ≡ []
-unfolding ascending_from
-none_from p a zero h = refl
-none_from p a (suc n) h = rw (h a (omega arith) (omega arith)) (none_from p (suc a) n (λ k lo hi. h k (omega arith) (omega arith)))
-
-pub same_from : (p q : ℕ → Bool) (a n : ℕ) → ((k : ℕ) → a ≤ k → k < a + n → p k ≡ q k) → ascending_from p a n ≡ ascending_from q a n
-unfolding ascending_from
-same_from p q a zero h = refl
-same_from p q a (suc n) h = rw (h a (omega arith) (omega arith), same_from p q (suc a) n (λ k lo hi. h k (omega arith) (omega arith))) refl
-
--- the numbers up to j, and those from j on
-pub split_from : (p : ℕ → Bool) (a m n k j : ℕ) → m + n ≡ k → a + m ≡ j → ascending_from p a k ≡ ascending_from p a m ++ ascending_from p j n
-unfolding ascending_from
-split_from p a zero n k j e f =
-    let k_is : k ≡ n = omega arith in let j_is : j ≡ a = omega arith in
-    rw (k_is, j_is) refl
-split_from p a (suc m) n zero j e f = absurd (omega arith)
-split_from p a (suc m) n (suc k) j e f =
-    let rest = split_from p (suc a) m n k j (omega arith) (omega arith) in
-    elim (p a) as (λ v. cond v (a ∷ ascending_from p (suc a) k) (ascending_from p (suc a) k) ≡ cond v (a ∷ ascending_from p (suc a) m) (ascending_from p (suc a) m) ++ ascending_from p j n)
-    [ true ↦ ap (λ xs. a ∷ xs) rest | false ↦ rest ]
-
-member_from : (p : ℕ → Bool) (i n : ℕ) → p i ≡ true → ascending_from p i (suc n) ≡ i ∷ ascending_from p (suc i) n
-unfolding ascending_from
-member_from p i n is = rw is refl
+use Rattle.bittle_bits.proofs.Ascending.{ascending-yes, ascending_from-add, ascending_from-same, ascending_from-none}
 
 -- one number less
 module _ (p q : ℕ → Bool) (a n i : ℕ) (lo : a ≤ i) (hi : i < a + n) (is : p i ≡ true) (less : (k : ℕ) → a ≤ k → k < a + n → q k ≡ not (k == i) && p k) where
@@ -42,36 +17,36 @@ module _ (p q : ℕ → Bool) (a n i : ℕ) (lo : a ≤ i) (hi : i < a + n) (is 
   kept k l u d = less k l u ∙ ap (λ b. not b && p k) (ne_eqb k i d)
 
   parts : ascending_from p a n ≡ ascending_from p a (i - a) ++ (i ∷ ascending_from p (suc i) rest)
-  parts = split_from p a (i - a) (suc rest) n i (omega arith) (omega arith) ∙ ap (λ xs. ascending_from p a (i - a) ++ xs) (member_from p i rest is)
+  parts = ascending_from-add p a (i - a) (suc rest) n i (omega arith) (omega arith) ∙ ap (λ xs. ascending_from p a (i - a) ++ xs) (ascending-yes p i rest is)
 
   -- where it is the first
   pub first_from : ((k : ℕ) → a ≤ k → k < i → p k ≡ false) → ascending_from p a n ≡ i ∷ ascending_from q a n
   first_from none =
-      let before : ascending_from p a (i - a) ≡ [] = none_from p a (i - a) (λ k l u. none k l (omega arith)) in
-      let up : ascending_from q a (suc i - a) ≡ [] = none_from q a (suc i - a) (λ k l u.
+      let before : ascending_from p a (i - a) ≡ [] = ascending_from-none p a (i - a) (λ k l u. none k l (omega arith)) in
+      let up : ascending_from q a (suc i - a) ≡ [] = ascending_from-none q a (suc i - a) (λ k l u.
       elim (cases_eq k i) [ inl e ↦ rw e gone | inr d ↦ kept k l (omega arith) d ∙ none k l (omega arith) ]) in
-      let after : ascending_from q (suc i) rest ≡ ascending_from p (suc i) rest = same_from q p (suc i) rest (λ k l u. kept k (omega arith) (omega arith) (omega arith)) in
-      let left : ascending_from q a n ≡ ascending_from q (suc i) rest = split_from q a (suc i - a) rest n (suc i) (omega arith) (omega arith) ∙ ap (λ xs. xs ++ ascending_from q (suc i) rest) up in
+      let after : ascending_from q (suc i) rest ≡ ascending_from p (suc i) rest = ascending_from-same q p (suc i) rest (λ k l u. kept k (omega arith) (omega arith) (omega arith)) in
+      let left : ascending_from q a n ≡ ascending_from q (suc i) rest = ascending_from-add q a (suc i - a) rest n (suc i) (omega arith) (omega arith) ∙ ap (λ xs. xs ++ ascending_from q (suc i) rest) up in
       parts ∙ ap (λ xs. xs ++ (i ∷ ascending_from p (suc i) rest)) before ∙ ap (λ xs. i ∷ xs) (sym (left ∙ after))
 
   -- where it is the last
   pub last_from : ((k : ℕ) → i < k → k < a + n → p k ≡ false) → ascending_from p a n ≡ ascending_from q a n ++ i ∷ []
   last_from none =
-      let after : ascending_from p (suc i) rest ≡ [] = none_from p (suc i) rest (λ k l u. none k (omega arith) (omega arith)) in
-      let up : ascending_from q i (suc rest) ≡ [] = none_from q i (suc rest) (λ k l u.
+      let after : ascending_from p (suc i) rest ≡ [] = ascending_from-none p (suc i) rest (λ k l u. none k (omega arith) (omega arith)) in
+      let up : ascending_from q i (suc rest) ≡ [] = ascending_from-none q i (suc rest) (λ k l u.
       elim (cases_eq k i) [ inl e ↦ rw e gone | inr d ↦ kept k (omega arith) (omega arith) d ∙ none k (omega arith) (omega arith) ]) in
-      let before : ascending_from q a (i - a) ≡ ascending_from p a (i - a) = same_from q p a (i - a) (λ k l u. kept k l (omega arith) (omega arith)) in
-      let left : ascending_from q a n ≡ ascending_from q a (i - a) = split_from q a (i - a) (suc rest) n i (omega arith) (omega arith) ∙ ap (λ xs. ascending_from q a (i - a) ++ xs) up ∙ append-nil (ascending_from q a (i - a)) in
+      let before : ascending_from q a (i - a) ≡ ascending_from p a (i - a) = ascending_from-same q p a (i - a) (λ k l u. kept k l (omega arith) (omega arith)) in
+      let left : ascending_from q a n ≡ ascending_from q a (i - a) = ascending_from-add q a (i - a) (suc rest) n i (omega arith) (omega arith) ∙ ap (λ xs. ascending_from q a (i - a) ++ xs) up ∙ append-nil (ascending_from q a (i - a)) in
       parts ∙ ap (λ xs. ascending_from p a (i - a) ++ (i ∷ xs)) after ∙ ap (λ xs. xs ++ i ∷ []) (sym (left ∙ before))
 
 -- between two numbers
 pub between_split : (s : PlainSet) (a m b : ℕ) → a ≤ m → m ≤ b → between s a b ≡ between s a m ++ between s m b
 unfolding between
-between_split s a m b lo hi = split_from s.has a (m - a) (b - m) (b - a) m (omega arith) (omega arith)
+between_split s a m b lo hi = ascending_from-add s.has a (m - a) (b - m) (b - a) m (omega arith) (omega arith)
 
 pub between_empty : (s : PlainSet) (a : ℕ) → between s a a ≡ []
 unfolding between
-between_empty s a = none_from s.has a (a - a) (λ k lo hi. absurd (omega arith))
+between_empty s a = ascending_from-none s.has a (a - a) (λ k lo hi. absurd (omega arith))
 
 pub between_all : (s : PlainSet) (a c : ℕ) → a ≡ 0 → c ≡ s.capacity → between s a c ≡ ascending s
 unfolding between

@@ -1,11 +1,12 @@
 -- The parts of a walk's step: a look that gives an item, a look that retires a copy, and a word that is fetched.
-use Rattle.std.proofs.Common.{◌≡◌, ℕ, Bool, true, false, ◌+◌, ◌-◌, ◌*◌, ◌/◌, ◌<◌, ◌≤◌, List, ◌++◌, Option, Some, None, refl, sym, ap, ◌∙◌, arith, append_assoc, append-nil, le_trans}
+use Rattle.std.proofs.Common.{◌≡◌, ℕ, Bool, true, false, ◌+◌, ◌-◌, ◌*◌, ◌/◌, ◌<◌, ◌≤◌, List, ◌++◌, Option, Some, None, refl, sym, ap, ◌∙◌, subst, arith, append_assoc, append-nil, le_trans}
 use Rattle.std.proofs.Math.Nat.{mul-le-mul_right, mul-div_left, zero-mul}
 use Rattle.bittle_bits.specs.Copies.{Held, between, items_in, held, TakesFirst, TakesLast}
 use Rattle.bittle_bits.specs.PlainSet.{PlainSet, ascending}
 use Rattle.bittle_bits.specs.Standing.{left_in, walk_of, Retires}
-use Rattle.bittle_bits.specs.Walk.{Walk, wanted, IsThrifty, StepsFront, StepsBack}
+use Rattle.bittle_bits.specs.Walk.{Walk, wanted, AreBelow, IsThrifty, StepsFront, StepsBack}
 use Rattle.bittle_bits.specs.declared.standing.Standing.{Standing}
+use Rattle.bittle_bits.proofs.Ascending.{are_below}
 use Rattle.bittle_bits.proofs.Items.{between_split, between_empty, between_all}
 
 -- what a walk keeps while a step has given nothing yet
@@ -34,6 +35,10 @@ back_on u v w (Some x) a b = record { gave = sym a.left ∙ b.gave; items = b.it
 pub wanted_capacity : (ones : Bool) (s : PlainSet) → (wanted ones s).capacity ≡ s.capacity
 wanted_capacity true s = refl
 wanted_capacity false s = refl
+
+-- the list of what a walk gives lies below the capacity of its set
+pub is_below : (ones : Bool) (s : PlainSet) (items : List ℕ) → items ≡ ascending (wanted ones s) → AreBelow s.capacity items
+is_below ones s items e = subst (λ c. AreBelow c items) (wanted_capacity ones s) (are_below (wanted ones s) items e)
 
 module _ {B E O W : Type 0} (s : PlainSet) (w : ℕ) where
   -- the looks are paid by what a walk keeps

@@ -11,7 +11,8 @@ use Rattle.bittle_bits.specs.PlainSet.{PlainSet, ascending_from, IsLeastMember, 
 use Rattle.bittle_bits.specs.Rows.{elements_has, elements_set}
 use Rattle.bittle_bits.specs.Words.{word_has, word_of}
 use Rattle.bittle_bits.proofs.DigitSets.{digit_has-not}
-use Rattle.bittle_bits.proofs.Items.{none_from, same_from, first_from, last_from}
+use Rattle.bittle_bits.proofs.Ascending.{ascending_from-none, ascending_from-same}
+use Rattle.bittle_bits.proofs.Items.{first_from, last_from}
 use Rattle.bittle_bits.proofs.PlaceLemmas.{place_part, place_in_word}
 use Rattle.bittle_bits.proofs.PlainSets.{plain, has_without-in}
 use Rattle.bittle_bits.proofs.RowSets.{elements_has_at, at_element-read}
@@ -81,7 +82,7 @@ module _ (m : Bool) (w k : ℕ) (s : PlainSet) (d : ℕ) (word : 0 < w) where
   unfolding items_of between
   items_of-word is =
       let n : k * w + w - k * w ≡ w = omega arith in
-      rw n (same_from _ _ (k * w) w (λ i lo hi. let e : k * w + (i - k * w) ≡ i = omega arith in digit_at is (i - k * w) (omega arith) ∙ ap (members m w s).has e))
+      rw n (ascending_from-same _ _ (k * w) w (λ i lo hi. let e : k * w + (i - k * w) ≡ i = omega arith in digit_at is (i - k * w) (omega arith) ∙ ap (members m w s).has e))
 
 -- the first and the last item of a word of some set
 module _ (s t : PlainSet) (w base r : ℕ) (wide : s.capacity ≡ w) where
@@ -107,7 +108,7 @@ module _ (s t : PlainSet) (w base r : ℕ) (wide : s.capacity ≡ w) where
       (λ k lo hi. least.none_below (k - base) (omega arith))
 
   pub word_empty : IsLeastMember s r → r ≡ w → ascending_from (λ i. s.has (i - base)) base w ≡ []
-  word_empty least none = none_from (λ i. s.has (i - base)) base w (λ k lo hi. least.none_below (k - base) (omega arith))
+  word_empty least none = ascending_from-none (λ i. s.has (i - base)) base w (λ k lo hi. least.none_below (k - base) (omega arith))
 
 -- the last item of a word
 module _ (s t : PlainSet) (w base r : ℕ) (wide : s.capacity ≡ w) where
@@ -122,7 +123,7 @@ module _ (s t : PlainSet) (w base r : ℕ) (wide : s.capacity ≡ w) where
       (λ k lo hi. let f : k - base ≡ s.capacity - 1 - (s.capacity - 1 - (k - base)) = omega arith in ap s.has f ∙ greatest.none_above (s.capacity - 1 - (k - base)) (omega arith))
 
   pub word_empty_back : IsGreatestMember s r → r ≡ w → ascending_from (λ i. s.has (i - base)) base w ≡ []
-  word_empty_back greatest none = none_from (λ i. s.has (i - base)) base w
+  word_empty_back greatest none = ascending_from-none (λ i. s.has (i - base)) base w
       (λ k lo hi. let f : k - base ≡ s.capacity - 1 - (s.capacity - 1 - (k - base)) = omega arith in ap s.has f ∙ greatest.none_above (s.capacity - 1 - (k - base)) (omega arith))
 
 -- the same of a word of digits

@@ -13,5 +13,6 @@ pub mod Shapes
 pub mod Splits
 pub mod Standing
 pub mod Tally
+pub mod Values
 pub mod Walk
 pub mod Words

@@ -1,8 +1,10 @@
 //! Arrays as sets.
 
-ghost use Rattle.std.specs.Prelude.{◌*◌, ◌&&◌, nat_lt, refl};
+ghost use Rattle.std.specs.Prelude.{◌≡◌, ◌*◌, ◌&&◌, Bool, nat_lt, refl};
 ghost use Rattle.bittle_bits.specs.Laws.{elements_has-past, words_of, second_is_below};
+ghost use Rattle.bittle_bits.specs.Orders.{members};
 ghost use Rattle.bittle_bits.specs.Rows.{elements_set};
+ghost use Rattle.bittle_bits.specs.SetOperations.{combined};
 
 use crate::bits::Bits;
 use crate::bits_mut::BitsMut;
@@ -10,9 +12,26 @@ use crate::bits_owned::BitsOwned;
 use crate::elements;
 use crate::endian::{DefaultEndian, Endian};
 use crate::hidden::Sealed;
-use crate::operation::{Conjunction, Difference, SymmetricDifference, Union};
+use crate::operation::Operation;
 
 impl<T: BitsOwned, const N: usize> Sealed for [T; N] {}
+
+// The operation on two arrays. A short one is copied first: the copy lies elsewhere for certain, so that the machine goes over
+// several words at once.
+#[inline]
+fn combine<T: BitsOwned, O: Operation, const N: usize>(elements: &mut [T; N], others: &[T; N])
+    ensures { (mirrored : Bool) → members mirrored T.width (elements_set N T.type_capacity T.big elements.new)
+        ≡ combined O.decide
+        (members mirrored T.width (elements_set N T.type_capacity T.big elements.old))
+        (members mirrored T.width (elements_set N T.type_capacity T.big others.now)) }
+{
+    if N <= 16 {
+        let others = *others;
+        elements::combine::<T, O>(elements, &others);
+    } else {
+        elements::combine::<T, O>(elements, others);
+    }
+}
 
 impl<T: BitsOwned, const N: usize> Bits for [T; N] {
     type Order = DefaultEndian;
@@ -87,23 +106,8 @@ impl<T: BitsOwned, const N: usize> BitsMut for [T; N] {
     }
 
     #[inline]
-    fn union_assign(&mut self, other: &[T; N]) {
-        elements::combine::<T, Union>(self, other);
-    }
-
-    #[inline]
-    fn conjunction_assign(&mut self, other: &[T; N]) {
-        elements::combine::<T, Conjunction>(self, other);
-    }
-
-    #[inline]
-    fn difference_assign(&mut self, other: &[T; N]) {
-        elements::combine::<T, Difference>(self, other);
-    }
-
-    #[inline]
-    fn symmetric_difference_assign(&mut self, other: &[T; N]) {
-        elements::combine::<T, SymmetricDifference>(self, other);
+    fn combine<O: Operation>(&mut self, other: &[T; N]) {
+        combine::<T, O, N>(self, other);
     }
 }
 

@@ -13,8 +13,9 @@ ghost use Rattle.bittle_bits.specs.Words.{word_of};
 use crate::endian::{BigEndian, DefaultEndian, Endian, LittleEndian};
 use crate::hidden::{Number, Sealed};
 use crate::join::JoinOnes;
+use crate::kind::{Ones, Zeros};
 use crate::search;
-use crate::walk::{IterOnes, IterZeros};
+use crate::walk::{Iter, IterOnes, IterZeros};
 
 /// A set of the numbers below a capacity, one digit each.
 ///
@@ -124,7 +125,7 @@ pub trait Bits: Drop + Sealed {
         requires within { to ≤ (big self.now).capacity }
         ensures { IsFirstIn (members E.mirrored width (big self.now)) from to result }
     {
-        search::first_in::<Self, E, true>(self, from, to)
+        search::first_in::<Self, E, Ones>(self, from, to)
     }
 
     /// The least number that is no member from `from` on and below `to` in the order `E`, or `None` where there is none.
@@ -140,7 +141,7 @@ pub trait Bits: Drop + Sealed {
         requires within { to ≤ (big self.now).capacity }
         ensures { IsFirstIn (complement (members E.mirrored width (big self.now))) from to result }
     {
-        search::first_in::<Self, E, false>(self, from, to)
+        search::first_in::<Self, E, Zeros>(self, from, to)
     }
 
     /// The greatest member from `from` on and below `to` in the order `E`, or `None` where there is none.
@@ -156,7 +157,7 @@ pub trait Bits: Drop + Sealed {
         requires within { to ≤ (big self.now).capacity }
         ensures { IsLastIn (members E.mirrored width (big self.now)) from to result }
     {
-        search::last_in::<Self, E, true>(self, from, to)
+        search::last_in::<Self, E, Ones>(self, from, to)
     }
 
     /// The greatest number that is no member from `from` on and below `to` in the order `E`, or `None` where there is none.
@@ -172,7 +173,7 @@ pub trait Bits: Drop + Sealed {
         requires within { to ≤ (big self.now).capacity }
         ensures { IsLastIn (complement (members E.mirrored width (big self.now))) from to result }
     {
-        search::last_in::<Self, E, false>(self, from, to)
+        search::last_in::<Self, E, Zeros>(self, from, to)
     }
 
     /// The members in increasing order in the order `E`, from both ends. The shape has to fit. With capacity 0 there are
@@ -188,7 +189,7 @@ pub trait Bits: Drop + Sealed {
         ensures fresh { IsFresh ((big self.now).capacity / width) result }
         ensures below { AreBelow (big self.now).capacity result.left }
     {
-        IterOnes::new(self)
+        Iter::new(self)
     }
 
     /// The numbers below the capacity that are no members, in increasing order in the order `E`, from both ends. The shape
@@ -204,7 +205,7 @@ pub trait Bits: Drop + Sealed {
         ensures fresh { IsFresh ((big self.now).capacity / width) result }
         ensures below { AreBelow (big self.now).capacity result.left }
     {
-        IterZeros::new(self)
+        Iter::new(self)
     }
 
     /// [`iter_ones_in`](Bits::iter_ones_in) in the order of the type.

@@ -3,10 +3,11 @@
 ghost use Rattle.std.specs.Prelude.{◌≡◌, Bool, IsTrue};
 ghost use Rattle.bittle_bits.specs.Orders.{members};
 ghost use Rattle.bittle_bits.specs.PlainSet.{with_index, without_index, emptied};
-ghost use Rattle.bittle_bits.specs.SetOperations.{union_of, conjunction_of, difference_of, symmetric_difference_of};
+ghost use Rattle.bittle_bits.specs.SetOperations.{combined, union_of, conjunction_of, difference_of, symmetric_difference_of};
 
 use crate::bits::Bits;
 use crate::endian::{BigEndian, Endian, LittleEndian};
+use crate::operation::{Conjunction, Difference, Operation, SymmetricDifference, Union};
 
 /// A set that can be changed. A change keeps the capacity.
 pub trait BitsMut: Bits {
@@ -38,41 +39,65 @@ pub trait BitsMut: Bits {
         ensures set { Self.big self.new ≡ emptied (Self.big self.old) }
         ensures stays { same_place self.old self.new };
 
+    /// The operation with another set. Where the capacities differ, as of two slices, only what lies below both changes.
+    #[doc(hidden)]
+    fn combine<O: Operation>(&mut self, other: &Self)
+        ensures set { (mirrored : Bool) → members mirrored Self.width (Self.big self.new)
+            ≡ combined O.decide
+            (members mirrored Self.width (Self.big self.old)) (members mirrored Self.width (Self.big other.now)) }
+        ensures stays { same_place self.old self.new };
+
     /// Makes each member of the other set a member.
     ///
     /// Where the capacities differ, as of two slices, only what lies below both changes.
-    fn union_assign(&mut self, other: &Self)
+    #[inline]
+    final fn union_assign(&mut self, other: &Self)
         ensures union { (mirrored : Bool) → members mirrored Self.width (Self.big self.new)
             ≡ union_of
             (members mirrored Self.width (Self.big self.old)) (members mirrored Self.width (Self.big other.now)) }
-        ensures stays { same_place self.old self.new };
+        ensures stays { same_place self.old self.new }
+    {
+        self.combine::<Union>(other);
+    }
 
     /// Keeps the members that are members of the other set too.
     ///
     /// Where the capacities differ, as of two slices, only what lies below both changes; the later members of the longer one stay.
-    fn conjunction_assign(&mut self, other: &Self)
+    #[inline]
+    final fn conjunction_assign(&mut self, other: &Self)
         ensures conjunction { (mirrored : Bool) → members mirrored Self.width (Self.big self.new)
             ≡ conjunction_of
             (members mirrored Self.width (Self.big self.old)) (members mirrored Self.width (Self.big other.now)) }
-        ensures stays { same_place self.old self.new };
+        ensures stays { same_place self.old self.new }
+    {
+        self.combine::<Conjunction>(other);
+    }
 
     /// Takes the members of the other set out.
     ///
     /// Where the capacities differ, as of two slices, only what lies below both changes.
-    fn difference_assign(&mut self, other: &Self)
+    #[inline]
+    final fn difference_assign(&mut self, other: &Self)
         ensures difference { (mirrored : Bool) → members mirrored Self.width (Self.big self.new)
             ≡ difference_of
             (members mirrored Self.width (Self.big self.old)) (members mirrored Self.width (Self.big other.now)) }
-        ensures stays { same_place self.old self.new };
+        ensures stays { same_place self.old self.new }
+    {
+        self.combine::<Difference>(other);
+    }
 
     /// Makes each member of the other set a member, or, where it is one already, takes it out.
     ///
     /// Where the capacities differ, as of two slices, only what lies below both changes.
-    fn symmetric_difference_assign(&mut self, other: &Self)
+    #[inline]
+    final fn symmetric_difference_assign(&mut self, other: &Self)
         ensures symmetric_difference { (mirrored : Bool) → members mirrored Self.width (Self.big self.new)
             ≡ symmetric_difference_of
             (members mirrored Self.width (Self.big self.old)) (members mirrored Self.width (Self.big other.now)) }
-        ensures stays { same_place self.old self.new };
+        ensures stays { same_place self.old self.new }
+    {
+        self.combine::<SymmetricDifference>(other);
+    }
 
     /// [`set_bit_in`](BitsMut::set_bit_in) in the order of the type.
     #[inline]

@@ -9,7 +9,7 @@ ghost use Rattle.bittle_bits.specs.Walk.{AreBelow, IsFresh};
 
 use crate::bits_mut::BitsMut;
 use crate::endian::{BigEndian, Endian, LittleEndian};
-use crate::walk::{IntoIterOnes, IntoIterZeros};
+use crate::walk::{IntoIter, IntoIterOnes, IntoIterZeros};
 
 /// A set that is copied with its value. All values of the type have one capacity.
 pub trait BitsOwned: Copy + Eq + BitsMut {
@@ -176,7 +176,7 @@ pub trait BitsOwned: Copy + Eq + BitsMut {
         ensures fresh { IsFresh ((Self.big self).capacity / Self.width) result }
         ensures below { AreBelow (Self.big self).capacity result.left }
     {
-        IntoIterOnes::new(self)
+        IntoIter::new(self)
     }
 
     /// [`into_iter_ones_in`](BitsOwned::into_iter_ones_in) in the order of the type.
@@ -229,7 +229,7 @@ pub trait BitsOwned: Copy + Eq + BitsMut {
         ensures fresh { IsFresh ((Self.big self).capacity / Self.width) result }
         ensures below { AreBelow (Self.big self).capacity result.left }
     {
-        IntoIterZeros::new(self)
+        IntoIter::new(self)
     }
 
     /// [`into_iter_zeros_in`](BitsOwned::into_iter_zeros_in) in the order of the type.

@@ -40,13 +40,7 @@ fn place_of<T: BitsOwned>(len: usize, index: u32) -> Option<(usize, u32)>
     if each == 0 || len == 0 {
         return None;
     }
-    let element = (index / each) as usize;
-    // Few indexes wrap, and a remainder by a length that is not constant is slow.
-    let element = if element < len {
-        element
-    } else {
-        element % len
-    };
+    let element = (index / each) as usize % len;
     Some((element, index % each))
 }
 
@@ -104,7 +98,7 @@ pub fn combine<T: BitsOwned, O: Operation>(elements: &mut [T], others: &[T])
 {
     let common = elements.len().min(others.len());
     for at in 0..common {
-        O::on_sets::<T>(&mut elements[at], &others[at]);
+        elements[at].combine::<O>(&others[at]);
     }
 }
 

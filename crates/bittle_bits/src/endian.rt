@@ -12,6 +12,11 @@ pub trait Endian: Drop + Sealed {
     // Whether the first index is the digit of greatest weight.
     ghost mirrored: { Bool };
 
+    /// Whether index 0 is the digit of greatest weight.
+    #[doc(hidden)]
+    fn is_mirrored() -> bool
+        ensures { result ≡ mirrored };
+
     /// The word whose one member is the index, which wraps at the width.
     #[doc(hidden)]
     fn mask<T: Number>(index: u32) -> T
@@ -66,6 +71,11 @@ impl Endian for BigEndian {
     ghost mirrored = { false };
 
     #[inline]
+    fn is_mirrored() -> bool {
+        false
+    }
+
+    #[inline]
     fn mask<T: Number>(index: u32) -> T {
         T::one_at(index % T::width())
     }
@@ -102,6 +112,11 @@ impl Endian for BigEndian {
 
 impl Endian for LittleEndian {
     ghost mirrored = { true };
+
+    #[inline]
+    fn is_mirrored() -> bool {
+        true
+    }
 
     #[inline]
     fn mask<T: Number>(index: u32) -> T {

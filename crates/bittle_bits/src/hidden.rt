@@ -34,6 +34,16 @@ pub trait Number: Copy + Eq + Sealed {
     fn zero() -> Self
         ensures { digits result ≡ 0 };
 
+    /// The digits as a number.
+    fn to_digits(self) -> u128
+        ensures digits { result ≡ digits self }
+        ensures range { digits self < 2 ^ width };
+
+    /// The word of these digits.
+    fn from_digits(value: u128) -> Self
+        requires { value < 2 ^ width }
+        ensures { digits result ≡ value };
+
     /// The digits that the word lacks.
     fn not(self) -> Self
         ensures digits { digits result ≡ 2 ^ width - 1 - digits self }

@@ -13,11 +13,13 @@ pub mod endian;
 #[doc(hidden)]
 pub mod hidden;
 pub mod join;
+pub mod kind;
 #[doc(hidden)]
 pub mod laws;
 mod look;
 pub mod number;
-mod operation;
+#[doc(hidden)]
+pub mod operation;
 mod search;
 #[doc(hidden)]
 pub mod set_laws;

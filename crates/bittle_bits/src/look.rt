@@ -10,6 +10,7 @@ use crate::bits::Bits;
 use crate::count::Count;
 use crate::endian::Endian;
 use crate::hidden::Number;
+use crate::kind::Kind;
 use crate::number::word;
 use crate::search;
 use std::marker::{Model, PhantomData};
@@ -23,15 +24,15 @@ struct Copied<W: Copy> {
 
 // Word `k` of a set, or where `ONES` is false the digits that it lacks.
 #[inline]
-fn copy_of<B: Bits, E: Endian, const ONES: bool>(bits: &B, k: u32) -> Copied<B::LeafWord>
+fn copy_of<B: Bits, E: Endian, K: Kind>(bits: &B, k: u32) -> Copied<B::LeafWord>
     requires fits { Fits B.indexable (B.big bits.now).capacity }
     requires within { k * B.width < (B.big bits.now).capacity }
     ensures items { items_of E.mirrored B.LeafWord.width (B.LeafWord.digits result.word) result.base
-        ≡ between (wanted ONES (members E.mirrored B.width (B.big bits.now))) (k * B.width) (k * B.width + B.width) }
+        ≡ between (wanted K.ONES (members E.mirrored B.width (B.big bits.now))) (k * B.width) (k * B.width + B.width) }
     ensures reach { result.base + B.LeafWord.width < 4294967296 }
 {
     Copied {
-        word: search::wanted_word::<B, ONES>(bits, k),
+        word: search::wanted_word::<B, K>(bits, k),
         base: k * <B::LeafWord as Number>::width(),
     }
 }
@@ -139,22 +140,22 @@ impl<W: Number, E: Endian> Copies<W, E> {
 
     /// Copies word `k` to the head, or where `ONES` is false the digits that it lacks.
     #[inline]
-    pub fn fetch_head<B: Bits<LeafWord = W>, const ONES: bool>(&mut self, bits: &B, k: u32)
+    pub fn fetch_head<B: Bits<LeafWord = W>, K: Kind>(&mut self, bits: &B, k: u32)
         requires fits { Fits B.indexable (B.big bits.now).capacity }
         requires within { k * B.width < (B.big bits.now).capacity }
-        ensures { self.new ≡ record { head = Some (between (wanted ONES (members E.mirrored B.width (B.big bits.now))) (k * B.width) (k * B.width + B.width)); tail = self.old.tail; looks = self.old.looks } }
+        ensures { self.new ≡ record { head = Some (between (wanted K.ONES (members E.mirrored B.width (B.big bits.now))) (k * B.width) (k * B.width + B.width)); tail = self.old.tail; looks = self.old.looks } }
     {
-        self.head = Some(copy_of::<B, E, ONES>(bits, k));
+        self.head = Some(copy_of::<B, E, K>(bits, k));
     }
 
     /// Copies word `k` to the tail, or where `ONES` is false the digits that it lacks.
     #[inline]
-    pub fn fetch_tail<B: Bits<LeafWord = W>, const ONES: bool>(&mut self, bits: &B, k: u32)
+    pub fn fetch_tail<B: Bits<LeafWord = W>, K: Kind>(&mut self, bits: &B, k: u32)
         requires fits { Fits B.indexable (B.big bits.now).capacity }
         requires within { k * B.width < (B.big bits.now).capacity }
-        ensures { self.new ≡ record { head = self.old.head; tail = Some (between (wanted ONES (members E.mirrored B.width (B.big bits.now))) (k * B.width) (k * B.width + B.width)); looks = self.old.looks } }
+        ensures { self.new ≡ record { head = self.old.head; tail = Some (between (wanted K.ONES (members E.mirrored B.width (B.big bits.now))) (k * B.width) (k * B.width + B.width)); looks = self.old.looks } }
     {
-        self.tail = Some(copy_of::<B, E, ONES>(bits, k));
+        self.tail = Some(copy_of::<B, E, K>(bits, k));
     }
 
     /// Looks at the head for its first item.

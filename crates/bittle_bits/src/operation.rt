@@ -2,10 +2,8 @@
 
 ghost use Rattle.std.specs.Prelude.{◌≡◌, Bool, ◌||◌, ◌&&◌};
 ghost use Rattle.bittle_bits.specs.Digits.{digit_set};
-ghost use Rattle.bittle_bits.specs.Orders.{members};
 ghost use Rattle.bittle_bits.specs.SetOperations.{combined, first_alone, just_one};
 
-use crate::bits_mut::BitsMut;
 use crate::hidden::Number;
 
 /// An operation on two sets.
@@ -18,12 +16,6 @@ pub trait Operation {
         ensures { digit_set T.width (T.digits result)
             ≡ combined decide
             (digit_set T.width (T.digits word)) (digit_set T.width (T.digits other)) };
-
-    /// The operation on a set, with another one.
-    fn on_sets<T: BitsMut>(set: &mut T, other: &T)
-        ensures { (mirrored : Bool) → members mirrored T.width (T.big set.new)
-            ≡ combined decide
-            (members mirrored T.width (T.big set.old)) (members mirrored T.width (T.big other.now)) };
 }
 
 pub enum Union {}
@@ -41,11 +33,6 @@ impl Operation for Union {
     fn on_words<T: Number>(word: T, other: T) -> T {
         word.or(other)
     }
-
-    #[inline]
-    fn on_sets<T: BitsMut>(set: &mut T, other: &T) {
-        set.union_assign(other);
-    }
 }
 
 impl Operation for Conjunction {
@@ -54,11 +41,6 @@ impl Operation for Conjunction {
     #[inline]
     fn on_words<T: Number>(word: T, other: T) -> T {
         word.and(other)
-    }
-
-    #[inline]
-    fn on_sets<T: BitsMut>(set: &mut T, other: &T) {
-        set.conjunction_assign(other);
     }
 }
 
@@ -69,11 +51,6 @@ impl Operation for Difference {
     fn on_words<T: Number>(word: T, other: T) -> T {
         word.and(other.not())
     }
-
-    #[inline]
-    fn on_sets<T: BitsMut>(set: &mut T, other: &T) {
-        set.difference_assign(other);
-    }
 }
 
 impl Operation for SymmetricDifference {
@@ -82,10 +59,5 @@ impl Operation for SymmetricDifference {
     #[inline]
     fn on_words<T: Number>(word: T, other: T) -> T {
         word.xor(other)
-    }
-
-    #[inline]
-    fn on_sets<T: BitsMut>(set: &mut T, other: &T) {
-        set.symmetric_difference_assign(other);
     }
 }

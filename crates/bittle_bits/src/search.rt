@@ -11,25 +11,26 @@ ghost use Rattle.bittle_bits.specs.Words.{word_of};
 use crate::bits::Bits;
 use crate::endian::Endian;
 use crate::hidden::Number;
+use crate::kind::Kind;
 
 /// Word `k` of a set, or where `ONES` is false the digits that it lacks.
 #[inline]
-pub fn wanted_word<B: Bits, const ONES: bool>(bits: &B, k: u32) -> B::LeafWord
+pub fn wanted_word<B: Bits, K: Kind>(bits: &B, k: u32) -> B::LeafWord
     requires fits { Fits B.indexable (B.big bits.now).capacity }
     requires within { k * B.width < (B.big bits.now).capacity }
-    ensures { digit_set B.width (B.LeafWord.digits result) ≡ word_of B.width (wanted ONES (B.big bits.now)) k }
+    ensures { digit_set B.width (B.LeafWord.digits result) ≡ word_of B.width (wanted K.ONES (B.big bits.now)) k }
 {
     let word = bits.leaf_word(k);
-    if ONES { word } else { word.not() }
+    if K::ONES { word } else { word.not() }
 }
 
 /// The first member, or where `ONES` is false the first number that is none.
 #[inline]
-pub fn first_in<B: Bits, E: Endian, const ONES: bool>(bits: &B, from: u32, to: u32) -> Option<u32>
+pub fn first_in<B: Bits, E: Endian, K: Kind>(bits: &B, from: u32, to: u32) -> Option<u32>
     requires fits { Fits B.indexable (B.big bits.now).capacity }
     requires ordered { from ≤ to }
     requires within { to ≤ (B.big bits.now).capacity }
-    ensures { IsFirstIn (wanted ONES (members E.mirrored B.width (B.big bits.now))) from to result }
+    ensures { IsFirstIn (wanted K.ONES (members E.mirrored B.width (B.big bits.now))) from to result }
 {
     if from == to {
         return None;
@@ -37,7 +38,7 @@ pub fn first_in<B: Bits, E: Endian, const ONES: bool>(bits: &B, from: u32, to: u
     let width = <B::LeafWord as Number>::width();
     let last = (to - 1) / width;
     let mut k = from / width;
-    let mut word = wanted_word::<B, ONES>(bits, k).and(E::from_index::<B::LeafWord>(from % width));
+    let mut word = wanted_word::<B, K>(bits, k).and(E::from_index::<B::LeafWord>(from % width));
     loop {
         let index = E::zeros::<B::LeafWord>(word);
         if index < width {
@@ -48,17 +49,17 @@ pub fn first_in<B: Bits, E: Endian, const ONES: bool>(bits: &B, from: u32, to: u
             return None;
         }
         k += 1;
-        word = wanted_word::<B, ONES>(bits, k);
+        word = wanted_word::<B, K>(bits, k);
     }
 }
 
 /// The last member, or where `ONES` is false the last number that is none.
 #[inline]
-pub fn last_in<B: Bits, E: Endian, const ONES: bool>(bits: &B, from: u32, to: u32) -> Option<u32>
+pub fn last_in<B: Bits, E: Endian, K: Kind>(bits: &B, from: u32, to: u32) -> Option<u32>
     requires fits { Fits B.indexable (B.big bits.now).capacity }
     requires ordered { from ≤ to }
     requires within { to ≤ (B.big bits.now).capacity }
-    ensures { IsLastIn (wanted ONES (members E.mirrored B.width (B.big bits.now))) from to result }
+    ensures { IsLastIn (wanted K.ONES (members E.mirrored B.width (B.big bits.now))) from to result }
 {
     if from == to {
         return None;
@@ -70,7 +71,7 @@ pub fn last_in<B: Bits, E: Endian, const ONES: bool>(bits: &B, from: u32, to: u3
     let up_to = E::from_index::<B::LeafWord>(top)
         .not()
         .or(E::mask::<B::LeafWord>(top));
-    let mut word = wanted_word::<B, ONES>(bits, k).and(up_to);
+    let mut word = wanted_word::<B, K>(bits, k).and(up_to);
     loop {
         let above = E::zeros_rev::<B::LeafWord>(word);
         if above < width {
@@ -81,6 +82,6 @@ pub fn last_in<B: Bits, E: Endian, const ONES: bool>(bits: &B, from: u32, to: u3
             return None;
         }
         k -= 1;
-        word = wanted_word::<B, ONES>(bits, k);
+        word = wanted_word::<B, K>(bits, k);
     }
 }

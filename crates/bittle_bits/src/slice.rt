@@ -11,7 +11,7 @@ use crate::bits_owned::BitsOwned;
 use crate::elements;
 use crate::endian::{DefaultEndian, Endian};
 use crate::hidden::Sealed;
-use crate::operation::{Conjunction, Difference, SymmetricDifference, Union};
+use crate::operation::Operation;
 
 impl<'a, T: BitsOwned> Sealed for &'a [T] {}
 
@@ -140,26 +140,8 @@ impl<'a, T: BitsOwned> BitsMut for &'a mut [T] {
     }
 
     #[inline]
-    fn union_assign(&mut self, other: &&'a mut [T]) {
+    fn combine<O: Operation>(&mut self, other: &&'a mut [T]) {
         let others: &[T] = other;
-        elements::combine::<T, Union>(self, others);
-    }
-
-    #[inline]
-    fn conjunction_assign(&mut self, other: &&'a mut [T]) {
-        let others: &[T] = other;
-        elements::combine::<T, Conjunction>(self, others);
-    }
-
-    #[inline]
-    fn difference_assign(&mut self, other: &&'a mut [T]) {
-        let others: &[T] = other;
-        elements::combine::<T, Difference>(self, others);
-    }
-
-    #[inline]
-    fn symmetric_difference_assign(&mut self, other: &&'a mut [T]) {
-        let others: &[T] = other;
-        elements::combine::<T, SymmetricDifference>(self, others);
+        elements::combine::<T, O>(self, others);
     }
 }

@@ -11,6 +11,7 @@ use crate::bits::Bits;
 use crate::count::Count;
 use crate::endian::Endian;
 use crate::hidden::Number;
+use crate::kind::Kind;
 use crate::look::Copies;
 
 /// The copies of a walk, and the range of words between them that are not copied yet.
@@ -24,13 +25,13 @@ pub struct Standing<B: Bits, E: Endian> {
 
 /// Where a walk begins: the first word is copied to the head, and the last to the tail where there are two or more.
 #[inline]
-pub fn begin<B: Bits, E: Endian, const ONES: bool>(bits: &B) -> Standing<B, E>
+pub fn begin<B: Bits, E: Endian, K: Kind>(bits: &B) -> Standing<B, E>
     requires { Fits B.indexable (B.big bits.now).capacity }
-    ensures left { left_in (wanted ONES (members E.mirrored B.width (B.big bits.now))) B.width result
-        ≡ ascending (wanted ONES (members E.mirrored B.width (B.big bits.now))) }
-    ensures fresh { IsFresh ((B.big bits.now).capacity / B.width) (walk_of (wanted ONES (members E.mirrored B.width (B.big bits.now))) B.width result) }
-    ensures below { AreBelow (wanted ONES (members E.mirrored B.width (B.big bits.now))).capacity
-        (left_in (wanted ONES (members E.mirrored B.width (B.big bits.now))) B.width result) }
+    ensures left { left_in (wanted K.ONES (members E.mirrored B.width (B.big bits.now))) B.width result
+        ≡ ascending (wanted K.ONES (members E.mirrored B.width (B.big bits.now))) }
+    ensures fresh { IsFresh ((B.big bits.now).capacity / B.width) (walk_of (wanted K.ONES (members E.mirrored B.width (B.big bits.now))) B.width result) }
+    ensures below { AreBelow (B.big bits.now).capacity
+        (left_in (wanted K.ONES (members E.mirrored B.width (B.big bits.now))) B.width result) }
     ensures retires { Retires ((B.big bits.now).capacity / B.width) result }
 {
     let mut at = Standing {
@@ -42,13 +43,13 @@ pub fn begin<B: Bits, E: Endian, const ONES: bool>(bits: &B) -> Standing<B, E>
     if at.low == at.high {
         return at;
     }
-    at.copies.fetch_head::<B, ONES>(bits, at.low);
+    at.copies.fetch_head::<B, K>(bits, at.low);
     at.low += 1;
     if at.low == at.high {
         return at;
     }
     at.high -= 1;
-    at.copies.fetch_tail::<B, ONES>(bits, at.high);
+    at.copies.fetch_tail::<B, K>(bits, at.high);
     at
 }
 
@@ -68,13 +69,13 @@ pub fn again<B: Bits, E: Endian>(at: &Standing<B, E>) -> Standing<B, E>
 
 /// Takes the first item that is left.
 #[inline]
-pub fn step_front<B: Bits, E: Endian, const ONES: bool>(
+pub fn step_front<B: Bits, E: Endian, K: Kind>(
     bits: &B,
     at: &mut Standing<B, E>,
 ) -> Option<u32>
     requires fits { Fits B.indexable (B.big bits.now).capacity }
     requires retires { Retires ((B.big bits.now).capacity / B.width) at.old }
-    ensures steps { StepsFront (walk_of (wanted ONES (members E.mirrored B.width (B.big bits.now))) B.width at.old) result (walk_of (wanted ONES (members E.mirrored B.width (B.big bits.now))) B.width at.new) }
+    ensures steps { StepsFront (walk_of (wanted K.ONES (members E.mirrored B.width (B.big bits.now))) B.width at.old) result (walk_of (wanted K.ONES (members E.mirrored B.width (B.big bits.now))) B.width at.new) }
     ensures retires { Retires ((B.big bits.now).capacity / B.width) at.new }
 {
     loop {
@@ -85,7 +86,7 @@ pub fn step_front<B: Bits, E: Endian, const ONES: bool>(
         if at.low == at.high {
             break;
         }
-        at.copies.fetch_head::<B, ONES>(bits, at.low);
+        at.copies.fetch_head::<B, K>(bits, at.low);
         at.low += 1;
     }
     let Some(item) = at.copies.first_of_tail() else {
@@ -97,13 +98,13 @@ pub fn step_front<B: Bits, E: Endian, const ONES: bool>(
 
 /// Takes the last item that is left.
 #[inline]
-pub fn step_back<B: Bits, E: Endian, const ONES: bool>(
+pub fn step_back<B: Bits, E: Endian, K: Kind>(
     bits: &B,
     at: &mut Standing<B, E>,
 ) -> Option<u32>
     requires fits { Fits B.indexable (B.big bits.now).capacity }
     requires retires { Retires ((B.big bits.now).capacity / B.width) at.old }
-    ensures steps { StepsBack (walk_of (wanted ONES (members E.mirrored B.width (B.big bits.now))) B.width at.old) result (walk_of (wanted ONES (members E.mirrored B.width (B.big bits.now))) B.width at.new) }
+    ensures steps { StepsBack (walk_of (wanted K.ONES (members E.mirrored B.width (B.big bits.now))) B.width at.old) result (walk_of (wanted K.ONES (members E.mirrored B.width (B.big bits.now))) B.width at.new) }
     ensures retires { Retires ((B.big bits.now).capacity / B.width) at.new }
 {
     loop {
@@ -115,7 +116,7 @@ pub fn step_back<B: Bits, E: Endian, const ONES: bool>(
             break;
         }
         at.high -= 1;
-        at.copies.fetch_tail::<B, ONES>(bits, at.high);
+        at.copies.fetch_tail::<B, K>(bits, at.high);
     }
     let Some(item) = at.copies.last_of_head() else {
         return None;

@@ -5,148 +5,75 @@
 ghost use Rattle.std.specs.Prelude.{◌≡◌, ◌/◌, ⊤};
 ghost use Rattle.std.specs.Iterator.{item_count};
 ghost use Rattle.bittle_bits.specs.Orders.{members};
-ghost use Rattle.bittle_bits.specs.PlainSet.{ascending, complement};
+ghost use Rattle.bittle_bits.specs.PlainSet.{ascending};
 ghost use Rattle.bittle_bits.specs.Shapes.{Fits};
-ghost use Rattle.bittle_bits.specs.Walk.{AreBelow, IsFresh, ResumesAs, StepsFront, StepsBack};
+ghost use Rattle.bittle_bits.specs.Walk.{wanted, AreBelow, IsFresh, ResumesAs, StepsFront, StepsBack};
 
 use crate::bits::Bits;
 use crate::bits_owned::BitsOwned;
 use crate::count::{Count, Counted};
 use crate::endian::Endian;
+use crate::kind::{Kind, Ones, Zeros};
 use crate::standing::{Standing, again, begin, step_back, step_front};
 use std::alloc::AllocError;
-use std::marker::Model;
+use std::marker::{Model, PhantomData};
 
 /// The members of a set that it borrows, in increasing order in the order `E`.
-///
-/// Each step takes the first or the last item that is left. After its end it answers None on both sides. A clone goes on
-/// from where its source stands.
-#[derive(Drop)]
-pub struct IterOnes<'a, B: Bits, E: Endian> {
-    bits: &'a B,
-    at: Standing<B, E>,
-}
-
-impl<'a, B: Bits, E: Endian> Model for IterOnes<'a, B, E> {
-    ghost use Rattle.bittle_bits.specs.Walk.{Walk};
-
-    ghost Value = { Walk };
-
-    ghost use Rattle.std.specs.Prelude.{◌/◌};
-    ghost use Rattle.bittle_bits.specs.Orders.{members};
-    ghost use Rattle.bittle_bits.specs.PlainSet.{complement};
-    ghost use Rattle.bittle_bits.specs.Shapes.{Fits};
-    ghost use Rattle.bittle_bits.specs.Standing.{walk_of, Retires};
-
-    ghost view = { λ w. walk_of (members E.mirrored B.width (B.big w.bits.now)) B.width w.at };
-
-    ghost invariant = { λ w. Fits B.indexable (B.big w.bits.now).capacity × Retires ((B.big w.bits.now).capacity / B.width) w.at };
-}
-
-impl<'a, B: Bits, E: Endian> IterOnes<'a, B, E> {
-    #[inline]
-    pub(crate) fn new(bits: &'a B) -> IterOnes<'a, B, E>
-        requires { Fits B.indexable (B.big bits.now).capacity }
-        ensures left { result.left ≡ ascending (members E.mirrored B.width (B.big bits.now)) }
-        ensures fresh { IsFresh ((B.big bits.now).capacity / B.width) result }
-        ensures below { AreBelow (B.big bits.now).capacity result.left }
-    {
-        let at = begin::<B, E, true>(bits);
-        IterOnes { bits, at }
-    }
-}
-
-impl<'a, B: Bits, E: Endian> Iterator for IterOnes<'a, B, E> {
-    type Item = u32;
-
-    ghost next_gives = { StepsFront };
-
-    ghost remaining = { item_count (λ w. w.left) };
-
-    #[inline]
-    fn next(&mut self) -> Option<u32> {
-        step_front::<B, E, true>(self.bits, &mut self.at)
-    }
-}
-
-impl<'a, B: Bits, E: Endian> DoubleEndedIterator for IterOnes<'a, B, E> {
-    ghost next_back_gives = { StepsBack };
-
-    #[inline]
-    fn next_back(&mut self) -> Option<u32> {
-        step_back::<B, E, true>(self.bits, &mut self.at)
-    }
-}
-
-impl<'a, B: Bits, E: Endian> Clone for IterOnes<'a, B, E> {
-    ghost is_clone = { ResumesAs };
-
-    ghost is_infallible = { λ _. ⊤ };
-
-    #[inline]
-    fn clone(&self) -> Result<IterOnes<'a, B, E>, AllocError> {
-        Ok(IterOnes {
-            bits: self.bits,
-            at: again(&self.at),
-        })
-    }
-}
-
-impl<'a, B: Bits, E: Endian> Counted for IterOnes<'a, B, E> {
-    ghost walk = { λ w. w };
-
-    ghost can_step = { λ _. (tt, tt) };
-
-    ghost steps_front = { λ _ _ _ h. h };
-
-    ghost steps_back = { λ _ _ _ h. h };
-
-    #[inline]
-    fn looks(&self) -> &Count {
-        self.at.copies.looks()
-    }
-}
+pub type IterOnes<'a, B, E> = Iter<'a, B, E, Ones>;
 
 /// The numbers below the capacity that are no members of a set that it borrows, in increasing order in the order `E`.
+pub type IterZeros<'a, B, E> = Iter<'a, B, E, Zeros>;
+
+/// The members of a set that it owns, in increasing order in the order `E`.
+pub type IntoIterOnes<B, E> = IntoIter<B, E, Ones>;
+
+/// The numbers below the capacity that are no members of a set that it owns, in increasing order in the order `E`.
+pub type IntoIterZeros<B, E> = IntoIter<B, E, Zeros>;
+
+/// A walk over a set that it borrows.
 ///
 /// Each step takes the first or the last item that is left. After its end it answers None on both sides. A clone goes on
 /// from where its source stands.
 #[derive(Drop)]
-pub struct IterZeros<'a, B: Bits, E: Endian> {
+pub struct Iter<'a, B: Bits, E: Endian, K: Kind> {
     bits: &'a B,
     at: Standing<B, E>,
+    kind: PhantomData<K>,
 }
 
-impl<'a, B: Bits, E: Endian> Model for IterZeros<'a, B, E> {
-    ghost use Rattle.bittle_bits.specs.Walk.{Walk};
+impl<'a, B: Bits, E: Endian, K: Kind> Model for Iter<'a, B, E, K> {
+    ghost use Rattle.bittle_bits.specs.Walk.{Walk, wanted};
 
     ghost Value = { Walk };
 
     ghost use Rattle.std.specs.Prelude.{◌/◌};
     ghost use Rattle.bittle_bits.specs.Orders.{members};
-    ghost use Rattle.bittle_bits.specs.PlainSet.{complement};
     ghost use Rattle.bittle_bits.specs.Shapes.{Fits};
     ghost use Rattle.bittle_bits.specs.Standing.{walk_of, Retires};
 
-    ghost view = { λ w. walk_of (complement (members E.mirrored B.width (B.big w.bits.now))) B.width w.at };
+    ghost view = { λ w. walk_of (wanted K.ONES (members E.mirrored B.width (B.big w.bits.now))) B.width w.at };
 
     ghost invariant = { λ w. Fits B.indexable (B.big w.bits.now).capacity × Retires ((B.big w.bits.now).capacity / B.width) w.at };
 }
 
-impl<'a, B: Bits, E: Endian> IterZeros<'a, B, E> {
+impl<'a, B: Bits, E: Endian, K: Kind> Iter<'a, B, E, K> {
     #[inline]
-    pub(crate) fn new(bits: &'a B) -> IterZeros<'a, B, E>
+    pub(crate) fn new(bits: &'a B) -> Self
         requires { Fits B.indexable (B.big bits.now).capacity }
-        ensures left { result.left ≡ ascending (complement (members E.mirrored B.width (B.big bits.now))) }
+        ensures left { result.left ≡ ascending (wanted K.ONES (members E.mirrored B.width (B.big bits.now))) }
         ensures fresh { IsFresh ((B.big bits.now).capacity / B.width) result }
         ensures below { AreBelow (B.big bits.now).capacity result.left }
     {
-        let at = begin::<B, E, false>(bits);
-        IterZeros { bits, at }
+        let at = begin::<B, E, K>(bits);
+        Iter {
+            bits,
+            at,
+            kind: PhantomData,
+        }
     }
 }
 
-impl<'a, B: Bits, E: Endian> Iterator for IterZeros<'a, B, E> {
+impl<'a, B: Bits, E: Endian, K: Kind> Iterator for Iter<'a, B, E, K> {
     type Item = u32;
 
     ghost next_gives = { StepsFront };
@@ -155,34 +82,35 @@ impl<'a, B: Bits, E: Endian> Iterator for IterZeros<'a, B, E> {
 
     #[inline]
     fn next(&mut self) -> Option<u32> {
-        step_front::<B, E, false>(self.bits, &mut self.at)
+        step_front::<B, E, K>(self.bits, &mut self.at)
     }
 }
 
-impl<'a, B: Bits, E: Endian> DoubleEndedIterator for IterZeros<'a, B, E> {
+impl<'a, B: Bits, E: Endian, K: Kind> DoubleEndedIterator for Iter<'a, B, E, K> {
     ghost next_back_gives = { StepsBack };
 
     #[inline]
     fn next_back(&mut self) -> Option<u32> {
-        step_back::<B, E, false>(self.bits, &mut self.at)
+        step_back::<B, E, K>(self.bits, &mut self.at)
     }
 }
 
-impl<'a, B: Bits, E: Endian> Clone for IterZeros<'a, B, E> {
+impl<'a, B: Bits, E: Endian, K: Kind> Clone for Iter<'a, B, E, K> {
     ghost is_clone = { ResumesAs };
 
     ghost is_infallible = { λ _. ⊤ };
 
     #[inline]
-    fn clone(&self) -> Result<IterZeros<'a, B, E>, AllocError> {
-        Ok(IterZeros {
+    fn clone(&self) -> Result<Iter<'a, B, E, K>, AllocError> {
+        Ok(Iter {
             bits: self.bits,
             at: again(&self.at),
+            kind: PhantomData,
         })
     }
 }
 
-impl<'a, B: Bits, E: Endian> Counted for IterZeros<'a, B, E> {
+impl<'a, B: Bits, E: Endian, K: Kind> Counted for Iter<'a, B, E, K> {
     ghost walk = { λ w. w };
 
     ghost can_step = { λ _. (tt, tt) };
@@ -197,46 +125,50 @@ impl<'a, B: Bits, E: Endian> Counted for IterZeros<'a, B, E> {
     }
 }
 
-/// The members of a set that it owns, in increasing order in the order `E`.
+/// A walk over a set that it owns.
 ///
 /// Each step takes the first or the last item that is left. After its end it answers None on both sides. A clone goes on
 /// from where its source stands.
 #[derive(Drop)]
-pub struct IntoIterOnes<B: BitsOwned, E: Endian> {
+pub struct IntoIter<B: BitsOwned, E: Endian, K: Kind> {
     bits: B,
     at: Standing<B, E>,
+    kind: PhantomData<K>,
 }
 
-impl<B: BitsOwned, E: Endian> Model for IntoIterOnes<B, E> {
-    ghost use Rattle.bittle_bits.specs.Walk.{Walk};
+impl<B: BitsOwned, E: Endian, K: Kind> Model for IntoIter<B, E, K> {
+    ghost use Rattle.bittle_bits.specs.Walk.{Walk, wanted};
 
     ghost Value = { Walk };
 
     ghost use Rattle.std.specs.Prelude.{◌/◌};
     ghost use Rattle.bittle_bits.specs.Orders.{members};
-    ghost use Rattle.bittle_bits.specs.PlainSet.{complement};
     ghost use Rattle.bittle_bits.specs.Shapes.{Fits};
     ghost use Rattle.bittle_bits.specs.Standing.{walk_of, Retires};
 
-    ghost view = { λ w. walk_of (members E.mirrored B.width (B.big w.bits)) B.width w.at };
+    ghost view = { λ w. walk_of (wanted K.ONES (members E.mirrored B.width (B.big w.bits))) B.width w.at };
 
     ghost invariant = { λ w. Fits B.indexable (B.big w.bits).capacity × Retires ((B.big w.bits).capacity / B.width) w.at };
 }
 
-impl<B: BitsOwned, E: Endian> IntoIterOnes<B, E> {
+impl<B: BitsOwned, E: Endian, K: Kind> IntoIter<B, E, K> {
     #[inline]
-    pub(crate) fn new(bits: B) -> IntoIterOnes<B, E>
+    pub(crate) fn new(bits: B) -> Self
         requires { Fits B.indexable (B.big bits).capacity }
-        ensures left { result.left ≡ ascending (members E.mirrored B.width (B.big bits)) }
+        ensures left { result.left ≡ ascending (wanted K.ONES (members E.mirrored B.width (B.big bits))) }
         ensures fresh { IsFresh ((B.big bits).capacity / B.width) result }
         ensures below { AreBelow (B.big bits).capacity result.left }
     {
-        let at = begin::<B, E, true>(&bits);
-        IntoIterOnes { bits, at }
+        let at = begin::<B, E, K>(&bits);
+        IntoIter {
+            bits,
+            at,
+            kind: PhantomData,
+        }
     }
 }
 
-impl<B: BitsOwned, E: Endian> Iterator for IntoIterOnes<B, E> {
+impl<B: BitsOwned, E: Endian, K: Kind> Iterator for IntoIter<B, E, K> {
     type Item = u32;
 
     ghost next_gives = { StepsFront };
@@ -245,124 +177,35 @@ impl<B: BitsOwned, E: Endian> Iterator for IntoIterOnes<B, E> {
 
     #[inline]
     fn next(&mut self) -> Option<u32> {
-        step_front::<B, E, true>(&self.bits, &mut self.at)
+        step_front::<B, E, K>(&self.bits, &mut self.at)
     }
 }
 
-impl<B: BitsOwned, E: Endian> DoubleEndedIterator for IntoIterOnes<B, E> {
+impl<B: BitsOwned, E: Endian, K: Kind> DoubleEndedIterator for IntoIter<B, E, K> {
     ghost next_back_gives = { StepsBack };
 
     #[inline]
     fn next_back(&mut self) -> Option<u32> {
-        step_back::<B, E, true>(&self.bits, &mut self.at)
+        step_back::<B, E, K>(&self.bits, &mut self.at)
     }
 }
 
-impl<B: BitsOwned, E: Endian> Clone for IntoIterOnes<B, E> {
+impl<B: BitsOwned, E: Endian, K: Kind> Clone for IntoIter<B, E, K> {
     ghost is_clone = { ResumesAs };
 
     ghost is_infallible = { λ _. ⊤ };
 
     #[inline]
-    fn clone(&self) -> Result<IntoIterOnes<B, E>, AllocError> {
-        Ok(IntoIterOnes {
+    fn clone(&self) -> Result<IntoIter<B, E, K>, AllocError> {
+        Ok(IntoIter {
             bits: self.bits,
             at: again(&self.at),
+            kind: PhantomData,
         })
     }
 }
 
-impl<B: BitsOwned, E: Endian> Counted for IntoIterOnes<B, E> {
-    ghost walk = { λ w. w };
-
-    ghost can_step = { λ _. (tt, tt) };
-
-    ghost steps_front = { λ _ _ _ h. h };
-
-    ghost steps_back = { λ _ _ _ h. h };
-
-    #[inline]
-    fn looks(&self) -> &Count {
-        self.at.copies.looks()
-    }
-}
-
-/// The numbers below the capacity that are no members of a set that it owns, in increasing order in the order `E`.
-///
-/// Each step takes the first or the last item that is left. After its end it answers None on both sides. A clone goes on
-/// from where its source stands.
-#[derive(Drop)]
-pub struct IntoIterZeros<B: BitsOwned, E: Endian> {
-    bits: B,
-    at: Standing<B, E>,
-}
-
-impl<B: BitsOwned, E: Endian> Model for IntoIterZeros<B, E> {
-    ghost use Rattle.bittle_bits.specs.Walk.{Walk};
-
-    ghost Value = { Walk };
-
-    ghost use Rattle.std.specs.Prelude.{◌/◌};
-    ghost use Rattle.bittle_bits.specs.Orders.{members};
-    ghost use Rattle.bittle_bits.specs.PlainSet.{complement};
-    ghost use Rattle.bittle_bits.specs.Shapes.{Fits};
-    ghost use Rattle.bittle_bits.specs.Standing.{walk_of, Retires};
-
-    ghost view = { λ w. walk_of (complement (members E.mirrored B.width (B.big w.bits))) B.width w.at };
-
-    ghost invariant = { λ w. Fits B.indexable (B.big w.bits).capacity × Retires ((B.big w.bits).capacity / B.width) w.at };
-}
-
-impl<B: BitsOwned, E: Endian> IntoIterZeros<B, E> {
-    #[inline]
-    pub(crate) fn new(bits: B) -> IntoIterZeros<B, E>
-        requires { Fits B.indexable (B.big bits).capacity }
-        ensures left { result.left ≡ ascending (complement (members E.mirrored B.width (B.big bits))) }
-        ensures fresh { IsFresh ((B.big bits).capacity / B.width) result }
-        ensures below { AreBelow (B.big bits).capacity result.left }
-    {
-        let at = begin::<B, E, false>(&bits);
-        IntoIterZeros { bits, at }
-    }
-}
-
-impl<B: BitsOwned, E: Endian> Iterator for IntoIterZeros<B, E> {
-    type Item = u32;
-
-    ghost next_gives = { StepsFront };
-
-    ghost remaining = { item_count (λ w. w.left) };
-
-    #[inline]
-    fn next(&mut self) -> Option<u32> {
-        step_front::<B, E, false>(&self.bits, &mut self.at)
-    }
-}
-
-impl<B: BitsOwned, E: Endian> DoubleEndedIterator for IntoIterZeros<B, E> {
-    ghost next_back_gives = { StepsBack };
-
-    #[inline]
-    fn next_back(&mut self) -> Option<u32> {
-        step_back::<B, E, false>(&self.bits, &mut self.at)
-    }
-}
-
-impl<B: BitsOwned, E: Endian> Clone for IntoIterZeros<B, E> {
-    ghost is_clone = { ResumesAs };
-
-    ghost is_infallible = { λ _. ⊤ };
-
-    #[inline]
-    fn clone(&self) -> Result<IntoIterZeros<B, E>, AllocError> {
-        Ok(IntoIterZeros {
-            bits: self.bits,
-            at: again(&self.at),
-        })
-    }
-}
-
-impl<B: BitsOwned, E: Endian> Counted for IntoIterZeros<B, E> {
+impl<B: BitsOwned, E: Endian, K: Kind> Counted for IntoIter<B, E, K> {
     ghost walk = { λ w. w };
 
     ghost can_step = { λ _. (tt, tt) };

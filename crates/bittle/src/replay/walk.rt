@@ -1,10 +1,9 @@
 //! One walk through a list of steps, and the looks that it costs.
 
 ghost use Rattle.std.specs.Prelude.{◌≡◌, ℕ, ◌+◌, ◌/◌, ◌≤◌, ◌∷◌, ◌++◌, [], List, length};
-ghost use Rattle.bittle_bits.specs.Orders.{members};
 ghost use Rattle.bittle_bits.specs.PlainSet.{ascending};
-ghost use Rattle.bittle_bits.specs.Shapes.{Fits};
 ghost use Rattle.bittle_bits.specs.Walk.{wanted, counted, IsThrifty};
+ghost use Rattle.bittle_bits.specs.Values.{set_in, ShapeFits};
 ghost use Rattle.bittle.specs.Ends.{answer_of, left_by, answers_of, AreThrifty, KeepsAll};
 
 use bittle_bits::bits::Bits;
@@ -106,9 +105,9 @@ pub fn replay_walk<B: Bits, E: Endian>(
     steps: &[Step],
     answers: &mut [Option<u32>],
 ) -> Looks
-    requires fits { Fits B.indexable (B.big bits.now).capacity }
+    requires fits { ShapeFits B.Bits bits.now }
     requires places { length answers.old ≡ length steps.now }
-    ensures answers { answers.new ≡ answers_of steps.now (ascending (wanted ones (members E.mirrored B.width (B.big bits.now)))) }
+    ensures answers { answers.new ≡ answers_of steps.now (ascending (wanted ones (set_in B.Bits E.Endian bits.now))) }
     ensures looks { AreThrifty result answers.new ((B.big bits.now).capacity / B.width) }
 {
     if ones {

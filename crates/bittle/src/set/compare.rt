@@ -6,24 +6,39 @@ ghost use Rattle.std.specs.Ordering.{MatchOrdering, on, as_partial_cmp};
 ghost use Rattle.std.specs.Prelude.{◌≡◌, ◌↔◌, IsTrue, refl};
 ghost use Rattle.bittle_bits.specs.Orders.{members};
 ghost use Rattle.bittle_bits.specs.PlainSet.{ascending};
-ghost use Rattle.bittle_bits.specs.Shapes.{Fits};
+ghost use Rattle.bittle_bits.specs.Values.{set_in, ShapeFits};
 ghost use Rattle.bittle.specs.Order.{list_cmp, list_eq, AreSame, Precedes};
 
-use super::Set;
+use super::{Set, apart};
 use bittle_bits::bits::Bits;
 use bittle_bits::endian::Endian;
+use bittle_bits::hidden::Number;
 use std::cmp::Ordering;
 
-// The order of two sets, each read in its own order. Both walk step by step up to their first difference.
+// Whether two sets are read by words of one width in one order.
+#[inline]
+fn are_alike<A: Bits, B: Bits, E: Endian, F: Endian>() -> bool
+    ensures { IsTrue result → (A.width ≡ B.width) × (E.mirrored ≡ F.mirrored) }
+{
+    <A::LeafWord as Number>::width() == <B::LeafWord as Number>::width()
+        && E::is_mirrored() == F::is_mirrored()
+}
+
+// The order of two sets, each read in its own order. Words decide where they are alike, and else both walk step by step, up
+// to their first difference.
 #[inline]
 fn compare<A: Bits, B: Bits, E: Endian, F: Endian>(left: &A, right: &B) -> Ordering
-    requires left_fits { Fits A.indexable (A.big left.now).capacity }
-    requires right_fits { Fits B.indexable (B.big right.now).capacity }
+    requires left_fits { ShapeFits A.Bits left.now }
+    requires right_fits { ShapeFits B.Bits right.now }
     ensures { result
-        ≡ list_cmp (ascending (members E.mirrored A.width (A.big left.now)))
-        (ascending (members F.mirrored B.width (B.big right.now))) }
+        ≡ list_cmp (ascending (set_in A.Bits E.Endian left.now))
+        (ascending (set_in B.Bits F.Endian right.now)) }
 {
-    left.iter_ones_in::<E>().cmp(right.iter_ones_in::<F>())
+    if are_alike::<A, B, E, F>() {
+        apart::compare::<A, B, E>(left, right)
+    } else {
+        left.iter_ones_in::<E>().cmp(right.iter_ones_in::<F>())
+    }
 }
 
 impl<T: Bits, E: Endian> Set<T, E> {
@@ -31,13 +46,13 @@ impl<T: Bits, E: Endian> Set<T, E> {
     ///
     /// Each side is read in its own order: this one in `E`, and the other in `U::Order`.
     pub fn cmp_bits<U: Bits>(&self, other: &U) -> Ordering
-        requires { Fits U.indexable (U.big other.now).capacity }
+        requires { ShapeFits U.Bits other.now }
         ensures value { result
-            ≡ list_cmp (ascending (members E.mirrored T.width (T.big self.now.bits)))
-            (ascending (members U.Order.mirrored U.width (U.big other.now))) }
+            ≡ list_cmp (ascending (set_in T.Bits E.Endian self.now.bits))
+            (ascending (set_in U.Bits U.Order.Endian other.now)) }
         // What decides it.
-        ensures decided { let ours = members E.mirrored T.width (T.big self.now.bits) in
-            let theirs = members U.Order.mirrored U.width (U.big other.now) in
+        ensures decided { let ours = set_in T.Bits E.Endian self.now.bits in
+            let theirs = set_in U.Bits U.Order.Endian other.now in
             MatchOrdering result (Precedes ours theirs) (AreSame ours theirs) (Precedes theirs ours) }
     {
         compare::<T, U, E, U::Order>(&self.bits, other)
@@ -47,31 +62,35 @@ impl<T: Bits, E: Endian> Set<T, E> {
     ///
     /// Each side is read in its own order: this one in `E`, and the other in `U::Order`.
     pub fn eq_bits<U: Bits>(&self, other: &U) -> bool
-        requires { Fits U.indexable (U.big other.now).capacity }
+        requires { ShapeFits U.Bits other.now }
         ensures value { result
-            ≡ list_eq (ascending (members E.mirrored T.width (T.big self.now.bits)))
-            (ascending (members U.Order.mirrored U.width (U.big other.now))) }
+            ≡ list_eq (ascending (set_in T.Bits E.Endian self.now.bits))
+            (ascending (set_in U.Bits U.Order.Endian other.now)) }
         // What decides it.
         ensures decided { IsTrue result
-            ↔ AreSame (members E.mirrored T.width (T.big self.now.bits))
-            (members U.Order.mirrored U.width (U.big other.now)) }
+            ↔ AreSame (set_in T.Bits E.Endian self.now.bits)
+            (set_in U.Bits U.Order.Endian other.now) }
     {
-        self.cmp_bits(other).is_eq()
+        if are_alike::<T, U, E, U::Order>() {
+            apart::first_apart::<T, U, E>(&self.bits, other).is_none()
+        } else {
+            self.cmp_bits(other).is_eq()
+        }
     }
 }
 
 impl<T: Bits, E: Endian> PartialEq for Set<T, E> {
-    ghost eq = { on (λ s. ascending (members E.mirrored T.width (T.big s.bits))) list_eq };
+    ghost eq = { on (λ s. ascending (set_in T.Bits E.Endian s.bits)) list_eq };
 
     ghost laws = { partial_equiv_from_equiv (on_equiv (λ s. ascending (members E.mirrored T.width (T.big s.bits))) nat_list_eq_equiv) };
 
     fn eq(&self, other: &Set<T, E>) -> bool
         ensures value { result
-            ≡ list_eq (ascending (members E.mirrored T.width (T.big self.now.bits)))
-            (ascending (members E.mirrored T.width (T.big other.now.bits))) }
+            ≡ list_eq (ascending (set_in T.Bits E.Endian self.now.bits))
+            (ascending (set_in T.Bits E.Endian other.now.bits)) }
         ensures decided { IsTrue result
-            ↔ AreSame (members E.mirrored T.width (T.big self.now.bits))
-            (members E.mirrored T.width (T.big other.now.bits)) }
+            ↔ AreSame (set_in T.Bits E.Endian self.now.bits)
+            (set_in T.Bits E.Endian other.now.bits) }
     {
         self.eq_bits(other)
     }
@@ -82,7 +101,7 @@ impl<T: Bits, E: Endian> Eq for Set<T, E> {
 }
 
 impl<T: Bits, E: Endian> PartialOrd for Set<T, E> {
-    ghost partial_cmp = { as_partial_cmp (on (λ s. ascending (members E.mirrored T.width (T.big s.bits))) list_cmp) };
+    ghost partial_cmp = { as_partial_cmp (on (λ s. ascending (set_in T.Bits E.Endian s.bits)) list_cmp) };
 
     ghost laws = { partial_order_from_agreeing_total
         (on (λ s. ascending (members E.mirrored T.width (T.big s.bits))) list_cmp)
@@ -96,7 +115,7 @@ impl<T: Bits, E: Endian> PartialOrd for Set<T, E> {
 }
 
 impl<T: Bits, E: Endian> Ord for Set<T, E> {
-    ghost cmp = { on (λ s. ascending (members E.mirrored T.width (T.big s.bits))) list_cmp };
+    ghost cmp = { on (λ s. ascending (set_in T.Bits E.Endian s.bits)) list_cmp };
 
     ghost total = { on_total (λ s. ascending (members E.mirrored T.width (T.big s.bits))) nat_list_cmp_total };
 
@@ -106,10 +125,10 @@ impl<T: Bits, E: Endian> Ord for Set<T, E> {
 
     fn cmp(&self, other: &Set<T, E>) -> Ordering
         ensures value { result
-            ≡ list_cmp (ascending (members E.mirrored T.width (T.big self.now.bits)))
-            (ascending (members E.mirrored T.width (T.big other.now.bits))) }
-        ensures decided { let ours = members E.mirrored T.width (T.big self.now.bits) in
-            let theirs = members E.mirrored T.width (T.big other.now.bits) in
+            ≡ list_cmp (ascending (set_in T.Bits E.Endian self.now.bits))
+            (ascending (set_in T.Bits E.Endian other.now.bits)) }
+        ensures decided { let ours = set_in T.Bits E.Endian self.now.bits in
+            let theirs = set_in T.Bits E.Endian other.now.bits in
             MatchOrdering result (Precedes ours theirs) (AreSame ours theirs) (Precedes theirs ours) }
     {
         self.cmp_bits(other)

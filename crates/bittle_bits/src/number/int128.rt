@@ -12,7 +12,7 @@ use crate::bits_owned::BitsOwned;
 use crate::endian::{DefaultEndian, Endian};
 use crate::hidden::{Number, Sealed};
 use crate::number::word;
-use crate::operation::{Conjunction, Difference, SymmetricDifference, Union};
+use crate::operation::Operation;
 
 impl Sealed for u128 {}
 
@@ -41,6 +41,16 @@ impl Number for u128 {
     #[inline]
     fn zero() -> u128 {
         0
+    }
+
+    #[inline]
+    fn to_digits(self) -> u128 {
+        self
+    }
+
+    #[inline]
+    fn from_digits(value: u128) -> u128 {
+        value
     }
 
     #[inline]
@@ -157,23 +167,8 @@ impl BitsMut for u128 {
     }
 
     #[inline]
-    fn union_assign(&mut self, other: &u128) {
-        word::combine::<u128, Union>(self, *other);
-    }
-
-    #[inline]
-    fn conjunction_assign(&mut self, other: &u128) {
-        word::combine::<u128, Conjunction>(self, *other);
-    }
-
-    #[inline]
-    fn difference_assign(&mut self, other: &u128) {
-        word::combine::<u128, Difference>(self, *other);
-    }
-
-    #[inline]
-    fn symmetric_difference_assign(&mut self, other: &u128) {
-        word::combine::<u128, SymmetricDifference>(self, *other);
+    fn combine<O: Operation>(&mut self, other: &u128) {
+        word::combine::<u128, O>(self, *other);
     }
 }
 
@@ -231,6 +226,16 @@ impl Number for i128 {
     #[inline]
     fn zero() -> i128 {
         0
+    }
+
+    #[inline]
+    fn to_digits(self) -> u128 {
+        self.cast_unsigned()
+    }
+
+    #[inline]
+    fn from_digits(value: u128) -> i128 {
+        value.cast_signed()
     }
 
     #[inline]
@@ -347,23 +352,8 @@ impl BitsMut for i128 {
     }
 
     #[inline]
-    fn union_assign(&mut self, other: &i128) {
-        word::combine::<i128, Union>(self, *other);
-    }
-
-    #[inline]
-    fn conjunction_assign(&mut self, other: &i128) {
-        word::combine::<i128, Conjunction>(self, *other);
-    }
-
-    #[inline]
-    fn difference_assign(&mut self, other: &i128) {
-        word::combine::<i128, Difference>(self, *other);
-    }
-
-    #[inline]
-    fn symmetric_difference_assign(&mut self, other: &i128) {
-        word::combine::<i128, SymmetricDifference>(self, *other);
+    fn combine<O: Operation>(&mut self, other: &i128) {
+        word::combine::<i128, O>(self, *other);
     }
 }
 

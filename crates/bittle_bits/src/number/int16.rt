@@ -12,7 +12,7 @@ use crate::bits_owned::BitsOwned;
 use crate::endian::{DefaultEndian, Endian};
 use crate::hidden::{Number, Sealed};
 use crate::number::word;
-use crate::operation::{Conjunction, Difference, SymmetricDifference, Union};
+use crate::operation::Operation;
 
 impl Sealed for u16 {}
 
@@ -41,6 +41,16 @@ impl Number for u16 {
     #[inline]
     fn zero() -> u16 {
         0
+    }
+
+    #[inline]
+    fn to_digits(self) -> u128 {
+        self as u128
+    }
+
+    #[inline]
+    fn from_digits(value: u128) -> u16 {
+        value as u16
     }
 
     #[inline]
@@ -157,23 +167,8 @@ impl BitsMut for u16 {
     }
 
     #[inline]
-    fn union_assign(&mut self, other: &u16) {
-        word::combine::<u16, Union>(self, *other);
-    }
-
-    #[inline]
-    fn conjunction_assign(&mut self, other: &u16) {
-        word::combine::<u16, Conjunction>(self, *other);
-    }
-
-    #[inline]
-    fn difference_assign(&mut self, other: &u16) {
-        word::combine::<u16, Difference>(self, *other);
-    }
-
-    #[inline]
-    fn symmetric_difference_assign(&mut self, other: &u16) {
-        word::combine::<u16, SymmetricDifference>(self, *other);
+    fn combine<O: Operation>(&mut self, other: &u16) {
+        word::combine::<u16, O>(self, *other);
     }
 }
 
@@ -230,6 +225,16 @@ impl Number for i16 {
     #[inline]
     fn zero() -> i16 {
         0
+    }
+
+    #[inline]
+    fn to_digits(self) -> u128 {
+        self.cast_unsigned() as u128
+    }
+
+    #[inline]
+    fn from_digits(value: u128) -> i16 {
+        (value as u16).cast_signed()
     }
 
     #[inline]
@@ -346,23 +351,8 @@ impl BitsMut for i16 {
     }
 
     #[inline]
-    fn union_assign(&mut self, other: &i16) {
-        word::combine::<i16, Union>(self, *other);
-    }
-
-    #[inline]
-    fn conjunction_assign(&mut self, other: &i16) {
-        word::combine::<i16, Conjunction>(self, *other);
-    }
-
-    #[inline]
-    fn difference_assign(&mut self, other: &i16) {
-        word::combine::<i16, Difference>(self, *other);
-    }
-
-    #[inline]
-    fn symmetric_difference_assign(&mut self, other: &i16) {
-        word::combine::<i16, SymmetricDifference>(self, *other);
+    fn combine<O: Operation>(&mut self, other: &i16) {
+        word::combine::<i16, O>(self, *other);
     }
 }
 

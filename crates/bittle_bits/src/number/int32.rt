@@ -12,7 +12,7 @@ use crate::bits_owned::BitsOwned;
 use crate::endian::{DefaultEndian, Endian};
 use crate::hidden::{Number, Sealed};
 use crate::number::word;
-use crate::operation::{Conjunction, Difference, SymmetricDifference, Union};
+use crate::operation::Operation;
 
 impl Sealed for u32 {}
 
@@ -41,6 +41,16 @@ impl Number for u32 {
     #[inline]
     fn zero() -> u32 {
         0
+    }
+
+    #[inline]
+    fn to_digits(self) -> u128 {
+        self as u128
+    }
+
+    #[inline]
+    fn from_digits(value: u128) -> u32 {
+        value as u32
     }
 
     #[inline]
@@ -157,23 +167,8 @@ impl BitsMut for u32 {
     }
 
     #[inline]
-    fn union_assign(&mut self, other: &u32) {
-        word::combine::<u32, Union>(self, *other);
-    }
-
-    #[inline]
-    fn conjunction_assign(&mut self, other: &u32) {
-        word::combine::<u32, Conjunction>(self, *other);
-    }
-
-    #[inline]
-    fn difference_assign(&mut self, other: &u32) {
-        word::combine::<u32, Difference>(self, *other);
-    }
-
-    #[inline]
-    fn symmetric_difference_assign(&mut self, other: &u32) {
-        word::combine::<u32, SymmetricDifference>(self, *other);
+    fn combine<O: Operation>(&mut self, other: &u32) {
+        word::combine::<u32, O>(self, *other);
     }
 }
 
@@ -230,6 +225,16 @@ impl Number for i32 {
     #[inline]
     fn zero() -> i32 {
         0
+    }
+
+    #[inline]
+    fn to_digits(self) -> u128 {
+        self.cast_unsigned() as u128
+    }
+
+    #[inline]
+    fn from_digits(value: u128) -> i32 {
+        (value as u32).cast_signed()
     }
 
     #[inline]
@@ -346,23 +351,8 @@ impl BitsMut for i32 {
     }
 
     #[inline]
-    fn union_assign(&mut self, other: &i32) {
-        word::combine::<i32, Union>(self, *other);
-    }
-
-    #[inline]
-    fn conjunction_assign(&mut self, other: &i32) {
-        word::combine::<i32, Conjunction>(self, *other);
-    }
-
-    #[inline]
-    fn difference_assign(&mut self, other: &i32) {
-        word::combine::<i32, Difference>(self, *other);
-    }
-
-    #[inline]
-    fn symmetric_difference_assign(&mut self, other: &i32) {
-        word::combine::<i32, SymmetricDifference>(self, *other);
+    fn combine<O: Operation>(&mut self, other: &i32) {
+        word::combine::<i32, O>(self, *other);
     }
 }
 

@@ -12,7 +12,7 @@ use crate::bits_owned::BitsOwned;
 use crate::endian::{DefaultEndian, Endian};
 use crate::hidden::{Number, Sealed};
 use crate::number::word;
-use crate::operation::{Conjunction, Difference, SymmetricDifference, Union};
+use crate::operation::Operation;
 
 impl Sealed for u64 {}
 
@@ -41,6 +41,16 @@ impl Number for u64 {
     #[inline]
     fn zero() -> u64 {
         0
+    }
+
+    #[inline]
+    fn to_digits(self) -> u128 {
+        self as u128
+    }
+
+    #[inline]
+    fn from_digits(value: u128) -> u64 {
+        value as u64
     }
 
     #[inline]
@@ -157,23 +167,8 @@ impl BitsMut for u64 {
     }
 
     #[inline]
-    fn union_assign(&mut self, other: &u64) {
-        word::combine::<u64, Union>(self, *other);
-    }
-
-    #[inline]
-    fn conjunction_assign(&mut self, other: &u64) {
-        word::combine::<u64, Conjunction>(self, *other);
-    }
-
-    #[inline]
-    fn difference_assign(&mut self, other: &u64) {
-        word::combine::<u64, Difference>(self, *other);
-    }
-
-    #[inline]
-    fn symmetric_difference_assign(&mut self, other: &u64) {
-        word::combine::<u64, SymmetricDifference>(self, *other);
+    fn combine<O: Operation>(&mut self, other: &u64) {
+        word::combine::<u64, O>(self, *other);
     }
 }
 
@@ -231,6 +226,16 @@ impl Number for i64 {
     #[inline]
     fn zero() -> i64 {
         0
+    }
+
+    #[inline]
+    fn to_digits(self) -> u128 {
+        self.cast_unsigned() as u128
+    }
+
+    #[inline]
+    fn from_digits(value: u128) -> i64 {
+        (value as u64).cast_signed()
     }
 
     #[inline]
@@ -347,23 +352,8 @@ impl BitsMut for i64 {
     }
 
     #[inline]
-    fn union_assign(&mut self, other: &i64) {
-        word::combine::<i64, Union>(self, *other);
-    }
-
-    #[inline]
-    fn conjunction_assign(&mut self, other: &i64) {
-        word::combine::<i64, Conjunction>(self, *other);
-    }
-
-    #[inline]
-    fn difference_assign(&mut self, other: &i64) {
-        word::combine::<i64, Difference>(self, *other);
-    }
-
-    #[inline]
-    fn symmetric_difference_assign(&mut self, other: &i64) {
-        word::combine::<i64, SymmetricDifference>(self, *other);
+    fn combine<O: Operation>(&mut self, other: &i64) {
+        word::combine::<i64, O>(self, *other);
     }
 }
 

@@ -12,7 +12,7 @@ use crate::bits_owned::BitsOwned;
 use crate::endian::{DefaultEndian, Endian};
 use crate::hidden::{Number, Sealed};
 use crate::number::word;
-use crate::operation::{Conjunction, Difference, SymmetricDifference, Union};
+use crate::operation::Operation;
 
 impl Sealed for u8 {}
 
@@ -41,6 +41,16 @@ impl Number for u8 {
     #[inline]
     fn zero() -> u8 {
         0
+    }
+
+    #[inline]
+    fn to_digits(self) -> u128 {
+        self as u128
+    }
+
+    #[inline]
+    fn from_digits(value: u128) -> u8 {
+        value as u8
     }
 
     #[inline]
@@ -157,23 +167,8 @@ impl BitsMut for u8 {
     }
 
     #[inline]
-    fn union_assign(&mut self, other: &u8) {
-        word::combine::<u8, Union>(self, *other);
-    }
-
-    #[inline]
-    fn conjunction_assign(&mut self, other: &u8) {
-        word::combine::<u8, Conjunction>(self, *other);
-    }
-
-    #[inline]
-    fn difference_assign(&mut self, other: &u8) {
-        word::combine::<u8, Difference>(self, *other);
-    }
-
-    #[inline]
-    fn symmetric_difference_assign(&mut self, other: &u8) {
-        word::combine::<u8, SymmetricDifference>(self, *other);
+    fn combine<O: Operation>(&mut self, other: &u8) {
+        word::combine::<u8, O>(self, *other);
     }
 }
 
@@ -230,6 +225,16 @@ impl Number for i8 {
     #[inline]
     fn zero() -> i8 {
         0
+    }
+
+    #[inline]
+    fn to_digits(self) -> u128 {
+        self.cast_unsigned() as u128
+    }
+
+    #[inline]
+    fn from_digits(value: u128) -> i8 {
+        (value as u8).cast_signed()
     }
 
     #[inline]
@@ -346,23 +351,8 @@ impl BitsMut for i8 {
     }
 
     #[inline]
-    fn union_assign(&mut self, other: &i8) {
-        word::combine::<i8, Union>(self, *other);
-    }
-
-    #[inline]
-    fn conjunction_assign(&mut self, other: &i8) {
-        word::combine::<i8, Conjunction>(self, *other);
-    }
-
-    #[inline]
-    fn difference_assign(&mut self, other: &i8) {
-        word::combine::<i8, Difference>(self, *other);
-    }
-
-    #[inline]
-    fn symmetric_difference_assign(&mut self, other: &i8) {
-        word::combine::<i8, SymmetricDifference>(self, *other);
+    fn combine<O: Operation>(&mut self, other: &i8) {
+        word::combine::<i8, O>(self, *other);
     }
 }
 

@@ -12,7 +12,7 @@ use crate::bits_owned::BitsOwned;
 use crate::endian::{DefaultEndian, Endian};
 use crate::hidden::{Number, Sealed};
 use crate::number::word;
-use crate::operation::{Conjunction, Difference, SymmetricDifference, Union};
+use crate::operation::Operation;
 
 impl Sealed for usize {}
 
@@ -41,6 +41,16 @@ impl Number for usize {
     #[inline]
     fn zero() -> usize {
         0
+    }
+
+    #[inline]
+    fn to_digits(self) -> u128 {
+        self as u128
+    }
+
+    #[inline]
+    fn from_digits(value: u128) -> usize {
+        value as usize
     }
 
     #[inline]
@@ -157,23 +167,8 @@ impl BitsMut for usize {
     }
 
     #[inline]
-    fn union_assign(&mut self, other: &usize) {
-        word::combine::<usize, Union>(self, *other);
-    }
-
-    #[inline]
-    fn conjunction_assign(&mut self, other: &usize) {
-        word::combine::<usize, Conjunction>(self, *other);
-    }
-
-    #[inline]
-    fn difference_assign(&mut self, other: &usize) {
-        word::combine::<usize, Difference>(self, *other);
-    }
-
-    #[inline]
-    fn symmetric_difference_assign(&mut self, other: &usize) {
-        word::combine::<usize, SymmetricDifference>(self, *other);
+    fn combine<O: Operation>(&mut self, other: &usize) {
+        word::combine::<usize, O>(self, *other);
     }
 }
 
@@ -231,6 +226,16 @@ impl Number for isize {
     #[inline]
     fn zero() -> isize {
         0
+    }
+
+    #[inline]
+    fn to_digits(self) -> u128 {
+        self.cast_unsigned() as u128
+    }
+
+    #[inline]
+    fn from_digits(value: u128) -> isize {
+        (value as usize).cast_signed()
     }
 
     #[inline]
@@ -347,23 +352,8 @@ impl BitsMut for isize {
     }
 
     #[inline]
-    fn union_assign(&mut self, other: &isize) {
-        word::combine::<isize, Union>(self, *other);
-    }
-
-    #[inline]
-    fn conjunction_assign(&mut self, other: &isize) {
-        word::combine::<isize, Conjunction>(self, *other);
-    }
-
-    #[inline]
-    fn difference_assign(&mut self, other: &isize) {
-        word::combine::<isize, Difference>(self, *other);
-    }
-
-    #[inline]
-    fn symmetric_difference_assign(&mut self, other: &isize) {
-        word::combine::<isize, SymmetricDifference>(self, *other);
+    fn combine<O: Operation>(&mut self, other: &isize) {
+        word::combine::<isize, O>(self, *other);
     }
 }
 

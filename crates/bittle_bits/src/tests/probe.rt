@@ -12,6 +12,7 @@ use crate::bits_mut::BitsMut;
 use crate::bits_owned::BitsOwned;
 use crate::endian::{DefaultEndian, Endian};
 use crate::hidden::Sealed;
+use crate::operation::Operation;
 use std::cell::Cell;
 use std::test::Fail;
 
@@ -118,24 +119,9 @@ impl<'a> BitsMut for Probe<'a> {
         self.bytes.clear_bits();
     }
 
-    fn union_assign(&mut self, other: &Probe<'a>) {
+    fn combine<O: Operation>(&mut self, other: &Probe<'a>) {
         self.note_other();
-        self.bytes.union_assign(&other.bytes);
-    }
-
-    fn conjunction_assign(&mut self, other: &Probe<'a>) {
-        self.note_other();
-        self.bytes.conjunction_assign(&other.bytes);
-    }
-
-    fn difference_assign(&mut self, other: &Probe<'a>) {
-        self.note_other();
-        self.bytes.difference_assign(&other.bytes);
-    }
-
-    fn symmetric_difference_assign(&mut self, other: &Probe<'a>) {
-        self.note_other();
-        self.bytes.symmetric_difference_assign(&other.bytes);
+        self.bytes.combine::<O>(&other.bytes);
     }
 }
 

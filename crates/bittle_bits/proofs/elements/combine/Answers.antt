@@ -8,8 +8,8 @@ pub loop-at-preserved : goal.loop-at-preserved
 loop-at-preserved g c =
     let f = g.O.Operation.decide in
     let old = c.loop-at.invariant in record {
-      done = more_done f g.T.Bits.big c.args.elements.now c.args.others.now c.loop-at.elements c.loop-at.at c.index-elements-at.result c.index-others-at.result c.on_sets.new.set (omega arith) (omega arith) old.rest (omega arith) c.index-others-at.is (c.on_sets.ensures false) old.done;
-      rest = still_rest f g.T.Bits.big c.args.elements.now c.args.others.now c.loop-at.elements c.loop-at.at c.index-elements-at.result c.index-others-at.result c.on_sets.new.set (omega arith) (omega arith) old.rest;
+      done = more_done f g.T.Bits.big c.args.elements.now c.args.others.now c.loop-at.elements c.loop-at.at c.index-elements-at.result c.index-others-at.result c.combine.new.self (omega arith) (omega arith) old.rest (omega arith) c.index-others-at.is (c.combine.ensures.set false) old.done;
+      rest = still_rest f g.T.Bits.big c.args.elements.now c.args.others.now c.loop-at.elements c.loop-at.at c.index-elements-at.result c.index-others-at.result c.combine.new.self (omega arith) (omega arith) old.rest;
     }
 
 pub returns : goal.returns

@@ -10,7 +10,7 @@ returns-clause-items g c =
     let w = g.B.Bits.width in
     let k = c.args.k in
     let m = g.E.Endian.mirrored in
-    let ones = not (g.row.ONES == 0) in
+    let ones = g.K.Kind.ONES in
     let big = g.B.Bits.big c.args.bits.now in
     let word = g.met.B.Bits.width_positive in
     let leaf = g.met.B.Bits.leaf_width in

@@ -8,7 +8,7 @@ loop-found-init g c =
     let w = g.B.Bits.width in
     let m = g.E.Endian.mirrored in
     let big = g.B.Bits.big c.args.bits.now in
-    let s = wanted (not (g.row.ONES == 0)) big in
+    let s = wanted g.K.Kind.ONES big in
     let word = g.met.B.Bits.width_positive in
     let leaf = g.met.B.Bits.leaf_width in
     let whole = g.met.B.Bits.whole_words c.args.bits.now in
@@ -25,7 +25,7 @@ overflow_add-found g c =
     let w = g.B.Bits.width in
     let m = g.E.Endian.mirrored in
     let big = g.B.Bits.big c.args.bits.now in
-    let s = wanted (not (g.row.ONES == 0)) big in
+    let s = wanted g.K.Kind.ONES big in
     let word = g.met.B.Bits.width_positive in
     let leaf = g.met.B.Bits.leaf_width in
     let whole = g.met.B.Bits.whole_words c.args.bits.now in
@@ -41,12 +41,12 @@ returns-then-found-to g c =
     let w = g.B.Bits.width in
     let m = g.E.Endian.mirrored in
     let big = g.B.Bits.big c.args.bits.now in
-    let s = wanted (not (g.row.ONES == 0)) big in
+    let s = wanted g.K.Kind.ONES big in
     let word = g.met.B.Bits.width_positive in
     let leaf = g.met.B.Bits.leaf_width in
     let whole = g.met.B.Bits.whole_words c.args.bits.now in
     let wide : c.width-width.result ≡ w = c.width-width.ensures ∙ leaf in
-    let in_order = wanted_members (not (g.row.ONES == 0)) m w big word whole in
+    let in_order = wanted_members g.K.Kind.ONES m w big word whole in
     let inv = c.loop-found.invariant in
     let least = rw leaf at c.zeros-index.ensures in
     rw (wide, in_order) (seeks_found m w s word c.args.from c.args.to c.loop-found.k _ c.zeros-index.result inv.2 least (rw wide at c.if-index-width.true) (rw wide at c.if-found-to.true))
@@ -56,12 +56,12 @@ returns-else-found-to g c =
     let w = g.B.Bits.width in
     let m = g.E.Endian.mirrored in
     let big = g.B.Bits.big c.args.bits.now in
-    let s = wanted (not (g.row.ONES == 0)) big in
+    let s = wanted g.K.Kind.ONES big in
     let word = g.met.B.Bits.width_positive in
     let leaf = g.met.B.Bits.leaf_width in
     let whole = g.met.B.Bits.whole_words c.args.bits.now in
     let wide : c.width-width.result ≡ w = c.width-width.ensures ∙ leaf in
-    let in_order = wanted_members (not (g.row.ONES == 0)) m w big word whole in
+    let in_order = wanted_members g.K.Kind.ONES m w big word whole in
     let inv = c.loop-found.invariant in
     let least = rw leaf at c.zeros-index.ensures in
     rw in_order (seeks_past m w s word c.args.from c.args.to c.loop-found.k _ c.zeros-index.result inv.2 least (rw wide at c.if-found-to.false))
@@ -71,12 +71,12 @@ returns-then-k-last g c =
     let w = g.B.Bits.width in
     let m = g.E.Endian.mirrored in
     let big = g.B.Bits.big c.args.bits.now in
-    let s = wanted (not (g.row.ONES == 0)) big in
+    let s = wanted g.K.Kind.ONES big in
     let word = g.met.B.Bits.width_positive in
     let leaf = g.met.B.Bits.leaf_width in
     let whole = g.met.B.Bits.whole_words c.args.bits.now in
     let wide : c.width-width.result ≡ w = c.width-width.ensures ∙ leaf in
-    let in_order = wanted_members (not (g.row.ONES == 0)) m w big word whole in
+    let in_order = wanted_members g.K.Kind.ONES m w big word whole in
     let inv = c.loop-found.invariant in
     let least = rw leaf at c.zeros-index.ensures in
     let some : c.args.from < c.args.to = omega (arith, c.requires.ordered, c.if-from-to.false) in
@@ -90,12 +90,12 @@ loop-found-preserved g c =
     let w = g.B.Bits.width in
     let m = g.E.Endian.mirrored in
     let big = g.B.Bits.big c.args.bits.now in
-    let s = wanted (not (g.row.ONES == 0)) big in
+    let s = wanted g.K.Kind.ONES big in
     let word = g.met.B.Bits.width_positive in
     let leaf = g.met.B.Bits.leaf_width in
     let whole = g.met.B.Bits.whole_words c.args.bits.now in
     let wide : c.width-width.result ≡ w = c.width-width.ensures ∙ leaf in
-    let in_order = wanted_members (not (g.row.ONES == 0)) m w big word whole in
+    let in_order = wanted_members g.K.Kind.ONES m w big word whole in
     let inv = c.loop-found.invariant in
     let least = rw leaf at c.zeros-index.ensures in
     let end : w ≤ c.zeros-index.result = rw wide at c.if-index-width.false in

@@ -8,7 +8,7 @@ loop-found-init g c =
     let w = g.B.Bits.width in
     let m = g.E.Endian.mirrored in
     let big = g.B.Bits.big c.args.bits.now in
-    let s = wanted (not (g.row.ONES == 0)) big in
+    let s = wanted g.K.Kind.ONES big in
     let word = g.met.B.Bits.width_positive in
     let leaf = g.met.B.Bits.leaf_width in
     let whole = g.met.B.Bits.whole_words c.args.bits.now in
@@ -25,12 +25,12 @@ returns-then-from-found g c =
     let w = g.B.Bits.width in
     let m = g.E.Endian.mirrored in
     let big = g.B.Bits.big c.args.bits.now in
-    let s = wanted (not (g.row.ONES == 0)) big in
+    let s = wanted g.K.Kind.ONES big in
     let word = g.met.B.Bits.width_positive in
     let leaf = g.met.B.Bits.leaf_width in
     let whole = g.met.B.Bits.whole_words c.args.bits.now in
     let wide : c.width-width.result ≡ w = c.width-width.ensures ∙ leaf in
-    let in_order = wanted_members (not (g.row.ONES == 0)) m w big word whole in
+    let in_order = wanted_members g.K.Kind.ONES m w big word whole in
     let inv = c.loop-found.invariant in
     let greatest = rw leaf at c.zeros_rev-above.ensures in
     rw (wide, in_order) (seeks_back_found m w s word c.args.from c.args.to c.loop-found.k _ c.zeros_rev-above.result inv.2 greatest (rw wide at c.if-above-width.true) (rw wide at c.if-from-found.true))
@@ -40,12 +40,12 @@ returns-else-from-found g c =
     let w = g.B.Bits.width in
     let m = g.E.Endian.mirrored in
     let big = g.B.Bits.big c.args.bits.now in
-    let s = wanted (not (g.row.ONES == 0)) big in
+    let s = wanted g.K.Kind.ONES big in
     let word = g.met.B.Bits.width_positive in
     let leaf = g.met.B.Bits.leaf_width in
     let whole = g.met.B.Bits.whole_words c.args.bits.now in
     let wide : c.width-width.result ≡ w = c.width-width.ensures ∙ leaf in
-    let in_order = wanted_members (not (g.row.ONES == 0)) m w big word whole in
+    let in_order = wanted_members g.K.Kind.ONES m w big word whole in
     let inv = c.loop-found.invariant in
     let greatest = rw leaf at c.zeros_rev-above.ensures in
     let low : c.zeros_rev-above.result < w = rw wide at c.if-above-width.true in
@@ -57,12 +57,12 @@ returns-then-k-first g c =
     let w = g.B.Bits.width in
     let m = g.E.Endian.mirrored in
     let big = g.B.Bits.big c.args.bits.now in
-    let s = wanted (not (g.row.ONES == 0)) big in
+    let s = wanted g.K.Kind.ONES big in
     let word = g.met.B.Bits.width_positive in
     let leaf = g.met.B.Bits.leaf_width in
     let whole = g.met.B.Bits.whole_words c.args.bits.now in
     let wide : c.width-width.result ≡ w = c.width-width.ensures ∙ leaf in
-    let in_order = wanted_members (not (g.row.ONES == 0)) m w big word whole in
+    let in_order = wanted_members g.K.Kind.ONES m w big word whole in
     let inv = c.loop-found.invariant in
     let greatest = rw leaf at c.zeros_rev-above.ensures in
     let end : w ≤ c.zeros_rev-above.result = rw wide at c.if-above-width.false in
@@ -75,12 +75,12 @@ loop-found-preserved g c =
     let w = g.B.Bits.width in
     let m = g.E.Endian.mirrored in
     let big = g.B.Bits.big c.args.bits.now in
-    let s = wanted (not (g.row.ONES == 0)) big in
+    let s = wanted g.K.Kind.ONES big in
     let word = g.met.B.Bits.width_positive in
     let leaf = g.met.B.Bits.leaf_width in
     let whole = g.met.B.Bits.whole_words c.args.bits.now in
     let wide : c.width-width.result ≡ w = c.width-width.ensures ∙ leaf in
-    let in_order = wanted_members (not (g.row.ONES == 0)) m w big word whole in
+    let in_order = wanted_members g.K.Kind.ONES m w big word whole in
     let inv = c.loop-found.invariant in
     let greatest = rw leaf at c.zeros_rev-above.ensures in
     let end : w ≤ c.zeros_rev-above.result = rw wide at c.if-above-width.false in

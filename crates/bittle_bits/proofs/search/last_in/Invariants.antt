@@ -5,7 +5,7 @@ use Rattle.bittle_bits.proofs.search.last_in.Given as goal
 
 abbrev pub invariant-loop-found : goal.invariant-loop-found
 invariant-loop-found g l =
-    let s = wanted (not (g.row.ONES == 0)) (g.B.Bits.big l.bits) in
+    let s = wanted g.K.Kind.ONES (g.B.Bits.big l.bits) in
     let w = g.B.Bits.width in
     (l.fn.from / w ≤ l.k) × (l.k ≤ (l.fn.to - 1) / w) × SeeksBack g.E.Endian.mirrored w s l.fn.to l.k (g.B.LeafWord.Number.digits l.word)
 

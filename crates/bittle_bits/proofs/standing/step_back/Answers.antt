@@ -6,7 +6,7 @@ use Rattle.bittle_bits.proofs.standing.step_back.Goals as goal
 
 pub loop-item-preserved : goal.loop-item-preserved
 loop-item-preserved g c =
-    let s = wanted (not (g.row.ONES == 0)) (members g.E.Endian.mirrored g.B.Bits.width (g.B.Bits.big c.args.bits.now)) in
+    let s = wanted g.K.Kind.ONES (members g.E.Endian.mirrored g.B.Bits.width (g.B.Bits.big c.args.bits.now)) in
     let w = g.B.Bits.width in
     let t = c.loop-item.at in
     let look = c.in_default.ensures in
@@ -17,7 +17,7 @@ loop-item-preserved g c =
 
 pub returns-in_default-last_of_head-clause-steps : goal.returns-in_default-last_of_head-clause-steps
 returns-in_default-last_of_head-clause-steps g c =
-    let s = wanted (not (g.row.ONES == 0)) (members g.E.Endian.mirrored g.B.Bits.width (g.B.Bits.big c.args.bits.now)) in
+    let s = wanted g.K.Kind.ONES (members g.E.Endian.mirrored g.B.Bits.width (g.B.Bits.big c.args.bits.now)) in
     let w = g.B.Bits.width in
     let t = c.loop-item.at in
     let look = c.in_default.ensures in
@@ -28,7 +28,7 @@ returns-in_default-last_of_head-clause-steps g c =
 
 pub returns-clause-steps : goal.returns-clause-steps
 returns-clause-steps g c =
-    let s = wanted (not (g.row.ONES == 0)) (members g.E.Endian.mirrored g.B.Bits.width (g.B.Bits.big c.args.bits.now)) in
+    let s = wanted g.K.Kind.ONES (members g.E.Endian.mirrored g.B.Bits.width (g.B.Bits.big c.args.bits.now)) in
     let w = g.B.Bits.width in
     let t = c.loop-item.at in
     let look = c.in_default.ensures in

@@ -7,7 +7,7 @@ use Rattle.bittle_bits.proofs.standing.step_back.Given as goal
 
 abbrev pub invariant-loop-item : goal.invariant-loop-item
 invariant-loop-item g l =
-    let s = wanted (not (g.row.ONES == 0)) (members g.E.Endian.mirrored g.B.Bits.width (g.B.Bits.big l.bits)) in
+    let s = wanted g.K.Kind.ONES (members g.E.Endian.mirrored g.B.Bits.width (g.B.Bits.big l.bits)) in
     Seeks (walk_of s g.B.Bits.width l.initial.at) (walk_of s g.B.Bits.width l.at) × Retires (s.capacity / g.B.Bits.width) l.at
 
 abbrev pub decreases-loop-item : goal.decreases-loop-item

@@ -4,9 +4,9 @@ use Rattle.std.specs.Ordering.{nat_cmp}
 use Rattle.bittle.proofs.Walking.{walk_yields}
 use Rattle.bittle.proofs.set.compare.compare.Goals as goal
 
-pub returns : goal.returns
-returns g c =
+pub returns-else-are_alike : goal.returns-else-are_alike
+returns-else-are_alike g c =
     cmp_from_yields_List (λ x y. y ≡ x) _ nat_cmp _ c.cmp.ensures.ran
     (walk_yields c.iter_ones_in.result _ c.iter_ones_in.ensures.left)
-    (λ it e. walk_yields it _ (ap (λ w. w.left) e ∙ c.iter_ones_in-2.ensures.left))
+    (λ it e. walk_yields it _ (ap (λ w. w.left) e ∙ c.iter_ones_in-else-are_alike.ensures.left))
     (λ x y. refl)

@@ -1,6 +1,0 @@
-use Rattle.std.proofs.Common.{false}
-use Rattle.bittle.proofs.Fitting.{still_fits}
-use Rattle.bittle.proofs.set.SetBitsMut.difference_assign.Goals as goal
-
-pub invariant_of-self : goal.invariant_of-self
-invariant_of-self g c = record { fits = still_fits _ g.T.Bits.width _ _ (c.difference_assign.ensures.difference false) c.args.self.now.fits }

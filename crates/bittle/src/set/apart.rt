@@ -1,0 +1,107 @@
+//! Where two sets of words of one width, read in one order, are apart: found word by word.
+
+ghost use Rattle.std.specs.Prelude.{◌≡◌, ◌+◌, ◌*◌, ◌<◌, ◌⊎◌, true, MatchOption, MatchBool};
+ghost use Rattle.bittle_bits.specs.Digits.{digit_set};
+ghost use Rattle.bittle_bits.specs.Orders.{members};
+ghost use Rattle.bittle_bits.specs.PlainSet.{ascending};
+ghost use Rattle.bittle_bits.specs.SetOperations.{combined, just_one};
+ghost use Rattle.bittle_bits.specs.Shapes.{Fits};
+ghost use Rattle.bittle_bits.specs.Words.{word_of};
+ghost use Rattle.bittle.specs.Order.{list_cmp, AreSame, HasPast, HasNonePast, IsFirstApart};
+
+use bittle_bits::bits::Bits;
+use bittle_bits::endian::Endian;
+use bittle_bits::hidden::Number;
+use std::cmp::Ordering;
+
+/// The digits of word `k` that are in just one of two sets.
+#[inline]
+fn word_apart<A: Bits, B: Bits>(left: &A, right: &B, k: u32) -> A::LeafWord
+    requires width { A.width ≡ B.width }
+    requires left_fits { Fits A.indexable (A.big left.now).capacity }
+    requires right_fits { Fits B.indexable (B.big right.now).capacity }
+    requires in_left { k * A.width < (A.big left.now).capacity }
+    requires in_right { k * B.width < (B.big right.now).capacity }
+    ensures { digit_set A.width (A.LeafWord.digits result)
+        ≡ combined just_one (word_of A.width (A.big left.now) k) (word_of A.width (B.big right.now) k) }
+{
+    let theirs = right.leaf_word(k).to_digits();
+    left.leaf_word(k)
+        .xor(<A::LeafWord as Number>::from_digits(theirs))
+}
+
+/// The least index that is in just one of two sets, or `None` where they have the same members.
+pub fn first_apart<A: Bits, B: Bits, E: Endian>(left: &A, right: &B) -> Option<u32>
+    requires width { A.width ≡ B.width }
+    requires left_fits { Fits A.indexable (A.big left.now).capacity }
+    requires right_fits { Fits B.indexable (B.big right.now).capacity }
+    ensures { let ours = members E.mirrored A.width (A.big left.now) in
+        let theirs = members E.mirrored B.width (B.big right.now) in
+        MatchOption result (AreSame ours theirs) (λ d. IsFirstApart ours theirs d) }
+{
+    let width = <A::LeafWord as Number>::width();
+    let words = left.bits_capacity() / width;
+    let others = right.bits_capacity() / width;
+    let common = words.min(others);
+    for k in 0..common {
+        let apart = word_apart::<A, B>(left, right, k);
+        if !apart.is_zero() {
+            return Some(k * width + E::zeros::<A::LeafWord>(apart));
+        }
+    }
+    // Past the common words just one of them can have members.
+    if words < others {
+        right.first_one_in::<E>(common * width, others * width)
+    } else {
+        left.first_one_in::<E>(common * width, words * width)
+    }
+}
+
+/// Whether an index is a member. It does not wrap.
+#[inline]
+fn has<B: Bits, E: Endian>(bits: &B, index: u32) -> bool
+    requires { Fits B.indexable (B.big bits.now).capacity }
+    ensures { result ≡ (members E.mirrored B.width (B.big bits.now)).has index }
+{
+    index < bits.bits_capacity() && bits.test_bit_in::<E>(index)
+}
+
+/// Whether a member lies past an index.
+#[inline]
+fn has_past<B: Bits, E: Endian>(bits: &B, index: u32) -> bool
+    requires { Fits B.indexable (B.big bits.now).capacity }
+    ensures { MatchBool result
+        (HasPast (members E.mirrored B.width (B.big bits.now)) index)
+        (HasNonePast (members E.mirrored B.width (B.big bits.now)) index) }
+{
+    let to = bits.bits_capacity();
+    index < to && bits.first_one_in::<E>(index + 1, to).is_some()
+}
+
+/// The order of two sets by their words.
+pub fn compare<A: Bits, B: Bits, E: Endian>(left: &A, right: &B) -> Ordering
+    requires width { A.width ≡ B.width }
+    requires left_fits { Fits A.indexable (A.big left.now).capacity }
+    requires right_fits { Fits B.indexable (B.big right.now).capacity }
+    ensures { result
+        ≡ list_cmp (ascending (members E.mirrored A.width (A.big left.now)))
+        (ascending (members E.mirrored B.width (B.big right.now))) }
+{
+    match first_apart::<A, B, E>(left, right) {
+        None => Ordering::Equal,
+        Some(index) => {
+            // The side that has the index comes first exactly where the other side goes on past it.
+            if has::<A, E>(left, index) {
+                if has_past::<B, E>(right, index) {
+                    Ordering::Less
+                } else {
+                    Ordering::Greater
+                }
+            } else if has_past::<A, E>(left, index) {
+                Ordering::Greater
+            } else {
+                Ordering::Less
+            }
+        }
+    }
+}
