@@ -7,8 +7,6 @@ pub mod prelude;
 pub mod replay;
 #[doc(hidden)]
 pub mod set;
-#[cfg(test)]
-mod tests;
 
 pub use bittle_bits::bits::Bits;
 pub use bittle_bits::bits_mut::BitsMut;

@@ -8,8 +8,6 @@ use bittle_bits::bits::Bits;
 use bittle_bits::bits_mut::BitsMut;
 use bittle_bits::endian::Endian;
 
-#[cfg(test)]
-mod tests;
 mod uses;
 
 /// Makes a set of what is listed, in the order of its type.

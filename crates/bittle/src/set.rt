@@ -21,8 +21,6 @@ mod iteration;
 #[doc(hidden)]
 pub mod laws;
 mod operators;
-#[cfg(test)]
-mod tests;
 
 /// A set that remembers the order in which its digits are read.
 ///

@@ -25,8 +25,6 @@ mod search;
 pub mod set_laws;
 mod slice;
 mod standing;
-#[cfg(test)]
-mod tests;
 pub mod walk;
 #[doc(hidden)]
 pub mod walk_laws;

@@ -3,8 +3,8 @@
 ghost use Rattle.std.specs.Prelude.{IsTrue};
 ghost use Rattle.bittle_bits.specs.Shapes.{Fits};
 
-use crate::prelude::*;
-use crate::{BigEndian, LittleEndian, Set, set, set_be, set_le};
+use bittle::prelude::*;
+use bittle::{BigEndian, LittleEndian, Set, set, set_be, set_le};
 use std::cmp::Ordering;
 use std::process::Abort;
 use std::test::Fail;

@@ -7,12 +7,9 @@ ghost use Rattle.bittle_bits.specs.Laws.{elements_has-past, digit_has-past, word
 ghost use Rattle.bittle_bits.specs.Rows.{elements_set};
 ghost use Rattle.bittle_bits.specs.Shapes.{Fits};
 
-use crate::bits::Bits;
-use crate::bits_mut::BitsMut;
-use crate::bits_owned::BitsOwned;
-use crate::endian::{DefaultEndian, Endian};
-use crate::hidden::Sealed;
-use crate::operation::Operation;
+use bittle::{Bits, BitsMut, BitsOwned, DefaultEndian, Endian};
+use bittle_bits::hidden::Sealed;
+use bittle_bits::operation::Operation;
 use std::cell::Cell;
 use std::test::Fail;
 

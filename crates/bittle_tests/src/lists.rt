@@ -1,7 +1,7 @@
 //! Lists, and the sets that they make.
 
-use crate::prelude::*;
-use crate::{LittleEndian, Set, set, set_be, set_le};
+use bittle::prelude::*;
+use bittle::{LittleEndian, Set, set, set_be, set_le};
 
 #[test]
 fn words_of_lists(rt: HostRuntime) {

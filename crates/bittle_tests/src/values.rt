@@ -2,12 +2,10 @@
 
 ghost use Rattle.std.specs.Prelude.{◌<◌, IsTrue};
 
-use crate::bits::Bits;
-use crate::bits_mut::BitsMut;
-use crate::bits_owned::BitsOwned;
-use crate::endian::{BigEndian, Endian, LittleEndian};
-use crate::hidden::Number;
-use crate::number::{IterOnes, IterZeros};
+use bittle::number::{IterOnes, IterZeros};
+use bittle::prelude::*;
+use bittle::{BigEndian, Endian, LittleEndian};
+use bittle_bits::hidden::Number;
 use std::process::Abort;
 
 // How many ones the numbers from 0 to 15 have.

@@ -8,11 +8,8 @@ ghost use Rattle.bittle_bits.specs.PlainSet.{ascending, complement};
 ghost use Rattle.bittle_bits.specs.Rows.{elements_set};
 ghost use Rattle.bittle_bits.specs.Shapes.{Fits};
 
-use crate::bits::Bits;
-use crate::bits_owned::BitsOwned;
-use crate::endian::{Endian, LittleEndian};
-use crate::hidden::Number;
-use crate::number;
+use bittle::{Bits, BitsOwned, Endian, LittleEndian, number};
+use bittle_bits::hidden::Number;
 use std::alloc::{AllocError, Global};
 
 /// A `for` over the members of any set.

@@ -2,8 +2,7 @@
 
 ghost use Rattle.bittle_bits.specs.Shapes.{Fits};
 
-use super::Set;
-use crate::{BigEndian, Bits, BitsMut, BitsOwned, Endian, LittleEndian};
+use bittle::{BigEndian, Bits, BitsMut, BitsOwned, Endian, LittleEndian, Set};
 use std::cmp::Ordering;
 use std::hash::{Hash, Hasher};
 use std::marker::Model;

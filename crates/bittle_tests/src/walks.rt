@@ -3,10 +3,8 @@
 ghost use Rattle.std.specs.Iterator.{IsFinite};
 ghost use Rattle.bittle_bits.specs.Shapes.{Fits};
 
-use crate::bits::Bits;
-use crate::bits_mut::BitsMut;
-use crate::bits_owned::BitsOwned;
-use crate::endian::{BigEndian, LittleEndian};
+use bittle::prelude::*;
+use bittle::{BigEndian, LittleEndian};
 use std::alloc::AllocError;
 use std::test::Fail;
 

@@ -1,12 +1,11 @@
 //! Words of all widths, at their borders.
 
 ghost use Rattle.std.specs.Prelude.{◌<◌};
+ghost use Rattle.bittle_bits.specs.Shapes.{Fits};
 
-use crate::bits::Bits;
-use crate::bits_mut::BitsMut;
-use crate::endian::{BigEndian, Endian, LittleEndian};
-use crate::hidden::Number;
-use crate::number::{IterOnes, IterZeros, word};
+use bittle::number::{IterOnes, IterZeros};
+use bittle::{BigEndian, Bits, BitsMut, Endian, LittleEndian};
+use bittle_bits::hidden::Number;
 use std::process::Abort;
 
 #[test]
@@ -119,16 +118,13 @@ fn every_type_at_its_borders(rt: HostRuntime) {
 }
 
 // The word without a digit, with all, with its greatest alone, which is the least signed value, and with its least alone.
-fn at_borders<T: Number>(rt: &impl Abort, width: u32, none: T, all: T, top: T, least: T)
-    requires { 0 < width }
+fn at_borders<T: Number + Bits>(rt: &impl Abort, width: u32, none: T, all: T, top: T, least: T)
+    requires positive { 0 < width }
+    requires none_fits { Fits T.indexable (T.big none).capacity }
+    requires all_fits { Fits T.indexable (T.big all).capacity }
 {
-    assert!(rt; word::count_ones(none) == 0 && word::count_ones(all) == width);
-    assert!(rt;
-        word::all_zeros(none)
-            && !word::all_ones(none)
-            && word::all_ones(all)
-            && !word::all_zeros(all)
-    );
+    assert!(rt; Bits::count_ones(&none) == 0 && Bits::count_ones(&all) == width);
+    assert!(rt; none.all_zeros() && !none.all_ones() && all.all_ones() && !all.all_zeros());
     walks_alone::<T, BigEndian>(rt, all, 0, width);
     walks_alone::<T, LittleEndian>(rt, all, 0, width);
     walks_alone::<T, BigEndian>(rt, none, 0, 0);

@@ -1,8 +1,8 @@
 //! Sets from lists, with what they answer, each worked out by hand.
 
-use crate::prelude::*;
-use crate::replay::{Call, Reply, Step, replay, replay_walk};
-use crate::{BigEndian, LittleEndian, Set, set};
+use bittle::prelude::*;
+use bittle::replay::{Call, Reply, Step, replay, replay_walk};
+use bittle::{BigEndian, LittleEndian, Set, set};
 use std::test::Fail;
 
 #[test]

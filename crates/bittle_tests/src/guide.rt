@@ -1,6 +1,6 @@
 //! The examples of the README's guide.
 
-use crate::{BigEndian, Bits, BitsMut, BitsOwned, LittleEndian, Set};
+use bittle::{BigEndian, Bits, BitsMut, BitsOwned, LittleEndian, Set};
 use std::test::Fail;
 
 #[test]
@@ -33,18 +33,18 @@ fn arrays_and_slices(rt: HostRuntime) {
 
 #[test]
 fn lists(rt: HostRuntime) {
-    let mask: u8 = crate::set![0, 2..=3, 6..];
+    let mask: u8 = bittle::set![0, 2..=3, 6..];
     assert_eq!(rt; mask, 0b1100_1101);
-    let left: u8 = crate::set_le![0, 1, 3];
+    let left: u8 = bittle::set_le![0, 1, 3];
     assert_eq!(rt; left, 0b1101_0000);
-    let few: u128 = crate::set![31, 67];
-    let other: u128 = crate::set![31, 62];
-    assert_eq!(rt; few.conjunction(other), crate::set![31]);
+    let few: u128 = bittle::set![31, 67];
+    let other: u128 = bittle::set![31, 62];
+    assert_eq!(rt; few.conjunction(other), bittle::set![31]);
 }
 
 #[test]
 fn walks(rt: HostRuntime) -> Result<(), Fail> {
-    let row: [u32; 4] = crate::set![4, 67, 71, 127];
+    let row: [u32; 4] = bittle::set![4, 67, 71, 127];
     let found: Vec<u32> = row.iter_ones().collect(rt.alloc())?;
     assert_eq!(rt; found.as_slice(), [4, 67, 71, 127].as_slice());
     let mut walk = row.iter_ones();
@@ -69,7 +69,7 @@ fn wrapped(rt: HostRuntime) -> Result<(), Fail> {
 
 #[test]
 fn joins(rt: HostRuntime) -> Result<(), Fail> {
-    let mask: u8 = crate::set![0, 2, 5];
+    let mask: u8 = bittle::set![0, 2, 5];
     let picked: Vec<u32> = mask.join_ones([10, 20, 30]).collect(rt.alloc())?;
     assert_eq!(rt; picked.as_slice(), [10, 30].as_slice());
     Ok(())

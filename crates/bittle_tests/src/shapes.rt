@@ -2,8 +2,8 @@
 
 ghost use Rattle.bittle_bits.specs.Shapes.{Fits};
 
-use crate::replay::{Call, Reply, replay};
-use crate::{BigEndian, BitsMut, Endian, LittleEndian};
+use bittle::replay::{Call, Reply, replay};
+use bittle::{BigEndian, BitsMut, Endian, LittleEndian};
 use std::process::Abort;
 
 #[test]

@@ -1,8 +1,6 @@
 //! Arrays and slices.
 
-use crate::bits::Bits;
-use crate::bits_mut::BitsMut;
-use crate::bits_owned::BitsOwned;
+use bittle::prelude::*;
 
 #[test]
 fn indexes_wrap(rt: HostRuntime) {

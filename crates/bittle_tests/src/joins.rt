@@ -3,9 +3,7 @@
 ghost use Rattle.std.specs.Prelude.{◌-◌};
 ghost use Rattle.std.specs.Iterator.{at_most};
 
-use crate::bits::Bits;
-use crate::bits_mut::BitsMut;
-use crate::bits_owned::BitsOwned;
+use bittle::prelude::*;
 
 /// Gives how often it was asked, but `None` where it is asked for the second time.
 #[derive(Drop)]

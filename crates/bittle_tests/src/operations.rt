@@ -1,9 +1,7 @@
 //! Operations on two sets, and changes of owned sets, with values worked out by hand.
 
-use crate::bits::Bits;
-use crate::bits_mut::BitsMut;
-use crate::bits_owned::BitsOwned;
-use crate::endian::{BigEndian, Endian, LittleEndian};
+use bittle::prelude::*;
+use bittle::{BigEndian, Endian, LittleEndian};
 
 #[test]
 fn slices_change_their_common_beginning_alone(rt: HostRuntime) {
