@@ -3,25 +3,42 @@
 use bittle::prelude::*;
 
 #[test]
-fn indexes_wrap(rt: HostRuntime) {
-    let mut bytes = [0u8; 3];
-    bytes.set_bit(u32::MAX);
-    assert!(rt; bytes == [0, 128, 0]);
-
-    let mut bytes = [0u8; 3];
-    bytes.set_bit_le(u32::MAX);
-    assert!(rt; bytes == [0, 1, 0]);
-
+fn an_index_goes_to_one_element(rt: HostRuntime) {
     let mut bytes = [0u8; 2];
     bytes.set_bit_le(8);
-    assert!(rt; bytes == [0, 128]);
+    assert_eq!(rt; bytes, [0, 128]);
 
     let mut words = [0u32; 4];
     let mut slice = words.as_mut_slice();
     for index in [32, 65, 96, 97] {
         slice.set_bit(index);
     }
-    assert!(rt; words == [0, 1, 2, 3]);
+    assert_eq!(rt; words, [0, 1, 2, 3]);
+}
+
+#[test]
+fn the_greatest_index_wraps(rt: HostRuntime) {
+    let mut bytes = [0u8; 3];
+    bytes.set_bit(u32::MAX);
+    assert_eq!(rt; bytes, [0, 128, 0]);
+    bytes = [0; 3];
+    bytes.set_bit_le(u32::MAX);
+    assert_eq!(rt; bytes, [0, 1, 0]);
+
+    let mut bytes = [0u8; 7];
+    bytes.set_bit(u32::MAX);
+    assert_eq!(rt; bytes, [0, 0, 0, 128, 0, 0, 0]);
+    bytes = [0; 7];
+    bytes.set_bit_le(u32::MAX);
+    assert_eq!(rt; bytes, [0, 0, 0, 1, 0, 0, 0]);
+
+    let mut arrays = [[0u8; 3]; 2];
+    arrays.set_bit(u32::MAX);
+    assert_eq!(rt; arrays, [[0, 128, 0], [0, 0, 0]]);
+
+    let mut word = 0i128;
+    word.set_bit_le(u32::MAX);
+    assert_eq!(rt; word, 1);
 }
 
 #[test]

@@ -4,6 +4,7 @@ ghost use Rattle.std.specs.Prelude.{◌-◌};
 ghost use Rattle.std.specs.Iterator.{at_most};
 
 use bittle::prelude::*;
+use bittle::{set, set_le};
 
 /// Gives how often it was asked, but `None` where it is asked for the second time.
 #[derive(Drop)]
@@ -31,10 +32,10 @@ impl Iterator for Stutter {
 
 #[test]
 fn gives_the_items_at_the_members(rt: HostRuntime) {
-    let mask = 0u8.with_bit(0).with_bit(2).with_bit(5);
-    let mut join = mask.join_ones([10u8, 20, 30].iter());
+    let mask: u8 = set![0, 2, 5];
+    let mut join = mask.join_ones([10u8, 20, 30]);
     for expected in [Some(10), Some(30), None, None] {
-        assert_eq!(rt; join.next().copied(), expected);
+        assert_eq!(rt; join.next(), expected);
     }
 }
 
@@ -53,7 +54,7 @@ fn reads_its_mask_in_the_order_that_is_named(rt: HostRuntime) {
 }
 
 #[test]
-fn joins_masks_of_every_shape(rt: HostRuntime) {
+fn joins_a_mask_of_a_wide_word(rt: HostRuntime) {
     let mut mask = 0u128;
     mask.set_bit(0);
     mask.set_bit(2);
@@ -61,7 +62,10 @@ fn joins_masks_of_every_shape(rt: HostRuntime) {
     for expected in [Some(10), Some(101), None] {
         assert_eq!(rt; join.next().copied(), expected);
     }
+}
 
+#[test]
+fn joins_a_mask_of_a_nested_array(rt: HostRuntime) {
     let mask = [[16u8, 0], [0, 0x81]];
     let mut join = mask.join_ones(100..132);
     for expected in [Some(104), Some(124), Some(131), None] {
@@ -74,7 +78,7 @@ fn takes_nothing_past_the_greatest_member(rt: HostRuntime) {
     let items = [10u8, 48, 101, 7, 8];
     let mut iter = items.iter();
     {
-        let mask = 0u8.with_bit(0).with_bit(2);
+        let mask: u8 = set![0, 2];
         let mut join = mask.join_ones(&mut iter);
         for expected in [Some(10), Some(101), None, None] {
             assert_eq!(rt; join.next().copied(), expected);
@@ -84,7 +88,7 @@ fn takes_nothing_past_the_greatest_member(rt: HostRuntime) {
 }
 
 #[test]
-fn takes_as_much_as_there_are_members(rt: HostRuntime) {
+fn takes_nothing_where_there_are_no_members(rt: HostRuntime) {
     let items = [10u8, 20];
     let mut iter = items.iter();
     {
@@ -92,7 +96,10 @@ fn takes_as_much_as_there_are_members(rt: HostRuntime) {
         assert_eq!(rt; join.next().copied(), None);
     }
     assert_eq!(rt; iter.as_slice(), [10, 20].as_slice());
+}
 
+#[test]
+fn takes_an_item_for_each_index_of_a_full_mask(rt: HostRuntime) {
     let mut iter = 0u32..200;
     {
         let mut join = u128::MAX.join_ones(&mut iter);
@@ -105,10 +112,18 @@ fn takes_as_much_as_there_are_members(rt: HostRuntime) {
 }
 
 #[test]
-fn ends_with_its_iterator_and_asks_no_more(rt: HostRuntime) {
+fn ends_with_its_iterator(rt: HostRuntime) {
     let mut join = u8::MAX.join_ones([0u8; 0].iter());
     assert_eq!(rt; join.next().copied(), None);
 
+    let mut join = 0xFFu8.join_ones(["a", "b"]);
+    for expected in [Some("a"), Some("b"), None, None] {
+        assert_eq!(rt; join.next(), expected);
+    }
+}
+
+#[test]
+fn asks_no_more_after_the_end_of_its_iterator(rt: HostRuntime) {
     let mut stutter = Stutter { asked: 0 };
     {
         let mut join = u8::MAX.join_ones(&mut stutter);
@@ -117,10 +132,13 @@ fn ends_with_its_iterator_and_asks_no_more(rt: HostRuntime) {
         }
     }
     assert_eq!(rt; stutter.asked, 2);
+}
 
+#[test]
+fn asks_no_more_after_the_last_member(rt: HostRuntime) {
     let mut stutter = Stutter { asked: 2 };
     {
-        let mask = 0u8.with_bit_le(1).with_bit_le(3);
+        let mask: u8 = set_le![1, 3];
         let mut join = mask.join_ones_le(&mut stutter);
         for expected in [Some(4), Some(6), None, None] {
             assert_eq!(rt; join.next(), expected);

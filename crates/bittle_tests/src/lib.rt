@@ -8,6 +8,8 @@ mod callers;
 #[cfg(test)]
 mod capacities;
 #[cfg(test)]
+mod comparisons;
+#[cfg(test)]
 mod guide;
 #[cfg(test)]
 mod joins;
@@ -23,6 +25,8 @@ mod runs;
 mod sets;
 #[cfg(test)]
 mod shapes;
+#[cfg(test)]
+mod texts;
 #[cfg(test)]
 mod values;
 #[cfg(test)]

@@ -1,10 +1,10 @@
 //! Operations on two sets, and changes of owned sets, with values worked out by hand.
 
 use bittle::prelude::*;
-use bittle::{BigEndian, Endian, LittleEndian};
+use bittle::{LittleEndian, set, set_le};
 
 #[test]
-fn slices_change_their_common_beginning_alone(rt: HostRuntime) {
+fn conjunction_and_difference_change_the_common_beginning_alone(rt: HostRuntime) {
     let mut long = [255u8, 255];
     let mut short = [15u8];
     {
@@ -22,7 +22,10 @@ fn slices_change_their_common_beginning_alone(rt: HostRuntime) {
         set.difference_assign(&other);
     }
     assert_eq!(rt; long, [0x0A, 0xFF]);
+}
 
+#[test]
+fn unions_change_the_common_beginning_alone(rt: HostRuntime) {
     let mut short = [1u8];
     let mut long = [2u8, 4];
     {
@@ -43,26 +46,18 @@ fn slices_change_their_common_beginning_alone(rt: HostRuntime) {
     assert_eq!(rt; short, [0x0F, 0x00]);
 }
 
-/// The numbers below 128 that are members.
-fn with_each<E: Endian>(first: u32, second: u32) -> u128 {
-    0u128.with_bit_in::<E>(first).with_bit_in::<E>(second)
+#[test]
+fn operations_on_words(rt: HostRuntime) {
+    let (a, b): (u128, u128) = (set![31, 67], set![31, 62]);
+    assert_eq!(rt; a.union(b), set![31, 62, 67]);
+    assert_eq!(rt; a.conjunction(b), set![31]);
+    assert_eq!(rt; a.difference(b), set![67]);
+    assert_eq!(rt; a.symmetric_difference(b), set![62, 67]);
 }
 
 #[test]
-fn operations_on_words_in_both_orders(rt: HostRuntime) {
-    let (a, b) = (
-        with_each::<BigEndian>(31, 67),
-        with_each::<BigEndian>(31, 62),
-    );
-    assert_eq!(rt; a.union(b), 1 << 31 | 1 << 62 | 1 << 67);
-    assert_eq!(rt; a.conjunction(b), 1 << 31);
-    assert_eq!(rt; a.difference(b), 1 << 67);
-    assert_eq!(rt; a.symmetric_difference(b), 1 << 62 | 1 << 67);
-
-    let (a, b) = (
-        with_each::<LittleEndian>(31, 67),
-        with_each::<LittleEndian>(31, 62),
-    );
+fn operations_on_words_in_little_endian_order(rt: HostRuntime) {
+    let (a, b): (u128, u128) = (set_le![31, 67], set_le![31, 62]);
     assert_eq!(rt; a.union(b), 1 << 96 | 1 << 65 | 1 << 60);
     assert_eq!(rt; a.conjunction(b), 1 << 96);
     assert_eq!(rt; a.difference(b), 1 << 60);
@@ -70,48 +65,43 @@ fn operations_on_words_in_both_orders(rt: HostRuntime) {
 }
 
 #[test]
-fn operations_on_signed_words_and_nested_arrays(rt: HostRuntime) {
+fn operations_on_signed_words(rt: HostRuntime) {
     let (a, b) = (-128i8, -127i8);
     assert_eq!(rt; a.union(b), -127);
     assert_eq!(rt; a.conjunction(b), -128);
     assert_eq!(rt; b.difference(a), 1);
     assert_eq!(rt; a.symmetric_difference(b), 1);
+}
 
+#[test]
+fn operations_on_nested_arrays(rt: HostRuntime) {
     let (a, b) = ([[1u8, 2], [4, 0xF0]], [[3u8, 0], [4, 0x0F]]);
     assert_eq!(rt; a.union(b), [[3, 2], [4, 0xFF]]);
     assert_eq!(rt; a.conjunction(b), [[1, 0], [4, 0]]);
     assert_eq!(rt; a.difference(b), [[0, 2], [0, 0xF0]]);
     assert_eq!(rt; a.symmetric_difference(b), [[2, 2], [0, 0xFF]]);
-
-    let mut changed = [0u16; 2];
-    changed.set_bit(15);
-    changed.union_assign(&[0u16; 2].with_bit(31).with_bit(7));
-    changed.clear_bit(31);
-    assert_eq!(rt; changed, [0x8080, 0]);
 }
 
 #[test]
-fn owned_sets_with_and_without_an_index(rt: HostRuntime) {
+fn words_with_and_without_an_index(rt: HostRuntime) {
     assert_eq!(rt; u8::ones().without_bit_le(2), 223);
     assert_eq!(rt; 0u8.with_bit(9), 2);
     assert_eq!(rt; u8::ones().without_bit_be(2), 251);
     assert_eq!(rt; u8::ones().without_bit(10), 251);
     assert_eq!(rt; u8::ones().without_bit_in::<LittleEndian>(2), 223);
+    assert_eq!(rt; 0u8.with_bit_in::<LittleEndian>(2), 32);
     assert_eq!(rt; 0i8.with_bit_le(0), i8::MIN);
-    assert_eq!(rt;
-        <[u8; 2]>::ones().without_bit_be(2).without_bit_be(10),
-        [251, 251]
-    );
-    assert_eq!(rt;
-        u128::zeros().with_bit_le(8).with_bit_le(12),
-        1 << 119 | 1 << 115
-    );
+    assert_eq!(rt; 0i128.with_bit_le(u32::MAX), 1);
+}
+
+#[test]
+fn arrays_with_and_without_an_index(rt: HostRuntime) {
     assert_eq!(rt;
         [[0u8; 2]; 2].with_bit_be(13).with_bit_le(16),
         [[0, 0x20], [0x80, 0]]
     );
-    assert_eq!(rt;
-        [[0u8; 0]; 4].with_bit(7).without_bit_le(9).all_zeros(),
-        true
-    );
+    assert_eq!(rt; [0u8; 7].with_bit(u32::MAX), [0, 0, 0, 128, 0, 0, 0]);
+    assert_eq!(rt; [0u8; 7].with_bit_le(u32::MAX), [0, 0, 0, 1, 0, 0, 0]);
+    assert_eq!(rt; [[0u8; 3]; 2].with_bit(u32::MAX), [[0, 128, 0], [0, 0, 0]]);
+    assert!(rt; [[0u8; 0]; 4].with_bit(7).without_bit_le(9).all_zeros());
 }

@@ -71,13 +71,21 @@ fn at_index<T: BitsOwned, E: Endian>(
     assert!(rt; without == changed.1);
 }
 
-// The walks and the searches of a word whose members in the order are the ones of the byte.
+// The searches and the walks of a word whose members in the order are the ones of the byte.
 fn walks<T: Number, E: Endian>(rt: &impl Abort, word: T, members: u8) {
+    searches::<T, E>(rt, word, members);
+    walks_from_the_front::<T, E>(rt, word, members);
+    walks_from_the_back::<T, E>(rt, word, members);
+}
+
+fn searches<T: Number, E: Endian>(rt: &impl Abort, word: T, members: u8) {
     let (least, below_greatest) = (members.trailing_zeros(), members.leading_zeros());
     assert!(rt; E::zeros(word) == least && E::zeros_rev(word) == below_greatest);
     let (least, below_greatest) = (members.trailing_ones(), members.leading_ones());
     assert!(rt; E::ones(word) == least && E::ones_rev(word) == below_greatest);
+}
 
+fn walks_from_the_front<T: Number, E: Endian>(rt: &impl Abort, word: T, members: u8) {
     let (mut ones, mut zeros) = (IterOnes::<T, E>::new(word), IterZeros::<T, E>::new(word));
     for index in 0..8 {
         if (members >> index) % 2 == 1 {
@@ -87,7 +95,9 @@ fn walks<T: Number, E: Endian>(rt: &impl Abort, word: T, members: u8) {
         }
     }
     assert!(rt; ones.next().is_none() && zeros.next().is_none());
+}
 
+fn walks_from_the_back<T: Number, E: Endian>(rt: &impl Abort, word: T, members: u8) {
     let (mut ones, mut zeros) = (IterOnes::<T, E>::new(word), IterZeros::<T, E>::new(word));
     for index in (0..8).rev() {
         if (members >> index) % 2 == 1 {

@@ -4,7 +4,7 @@ ghost use Rattle.std.specs.Iterator.{IsFinite};
 ghost use Rattle.bittle_bits.specs.Shapes.{Fits};
 
 use bittle::prelude::*;
-use bittle::{BigEndian, LittleEndian};
+use bittle::{BigEndian, LittleEndian, set};
 use std::alloc::AllocError;
 use std::test::Fail;
 
@@ -154,37 +154,39 @@ fn each_form_at_a_nested_array(rt: HostRuntime) -> Result<(), Fail> {
     Ok(())
 }
 
-#[test]
-fn worked_walks_of_ones(rt: HostRuntime) -> Result<(), Fail> {
-    assert!(rt; gives([0u32, 1, 2, 3].into_iter_ones(), &[32, 65, 96, 97])?);
-    let mut wide = [0u32; 4];
-    for index in [4, 63, 71, 127] {
-        wide.set_bit_in::<BigEndian>(index);
+// Whether a walk tells nothing of how many items are left, before its first step and after it.
+fn tells_nothing<W: DoubleEndedIterator<Item = u32>>(mut walk: W) -> bool
+    requires front { (w : W) → W.can_next w }
+{
+    if walk.size_hint() != (0, None) {
+        return false;
     }
-    assert!(rt; gives(wide.into_iter_ones(), &[4, 63, 71, 127])?);
-    Ok(())
+    walk.next();
+    walk.size_hint() == (0, None)
 }
 
 #[test]
-fn worked_walk_of_a_nested_array(rt: HostRuntime) -> Result<(), Fail> {
-    let bits = [[16u8, 0, 0, 0], [0, 0, 1, 0]];
-    assert!(rt; gives(bits.iter_ones(), &[4, 48])?);
-    Ok(())
+fn no_walk_tells_how_many_items_are_left(rt: HostRuntime) {
+    assert!(rt; tells_nothing(0b1101_0000u8.iter_ones()));
+    assert!(rt; tells_nothing([1u16, 2].iter_zeros()));
+    assert!(rt; tells_nothing([[7u8; 2]; 2].into_iter_ones_le()));
+    assert!(rt; tells_nothing((-2i8).into_iter_zeros()));
 }
 
 #[test]
-fn worked_walks_of_zeros(rt: HostRuntime) -> Result<(), Fail> {
-    let mut pair = [0u8; 2];
-    for index in [3, 7, 13, 14, 15] {
-        pair.set_bit_in::<BigEndian>(index);
-    }
-    assert!(rt;
-        gives(
-            pair.into_iter_zeros(),
-            &[0, 1, 2, 4, 5, 6, 8, 9, 10, 11, 12]
-        )?
-    );
-    assert!(rt; gives([0u8; 0].into_iter_zeros(), &[])?);
+fn a_clone_taken_midway(rt: HostRuntime) -> Result<(), Fail> {
+    let row: [u32; 4] = set![4, 67, 71, 127];
+    let mut walk = row.iter_ones();
+    assert_eq!(rt; walk.next(), Some(4));
+    let mut other = walk.clone()?;
+    assert_eq!(rt; walk.next_back(), Some(127));
+    assert_eq!(rt; walk.next(), Some(67));
+    assert_eq!(rt; walk.next(), Some(71));
+    assert_eq!(rt; walk.next(), None);
+    assert_eq!(rt; other.next(), Some(67));
+    assert_eq!(rt; other.next_back(), Some(127));
+    assert_eq!(rt; other.next(), Some(71));
+    assert_eq!(rt; other.next(), None);
     Ok(())
 }
 
@@ -215,6 +217,11 @@ fn worked_searches(rt: HostRuntime) {
     assert_eq!(rt; bits.first_zero_in::<BigEndian>(4, 16), Some(5));
     assert_eq!(rt; bits.last_zero_in::<BigEndian>(0, 9), Some(7));
     assert_eq!(rt; bits.first_one_in::<BigEndian>(4, 4), None);
+}
+
+#[test]
+fn searches_in_little_endian_order(rt: HostRuntime) {
+    let bits = [0x10u8, 0x01];
     assert_eq!(rt; bits.first_one_in::<LittleEndian>(4, 16), Some(15));
     assert_eq!(rt; bits.last_one_in::<LittleEndian>(0, 15), Some(3));
     assert_eq!(rt; bits.first_zero_in::<LittleEndian>(3, 16), Some(4));

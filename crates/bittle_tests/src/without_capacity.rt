@@ -5,6 +5,7 @@ ghost use Rattle.bittle_bits.specs.Shapes.{Fits};
 
 use bittle::prelude::*;
 use bittle::{BigEndian, LittleEndian, Set, set, set_be, set_le};
+use std::alloc::{AllocError, Global};
 use std::cmp::Ordering;
 use std::process::Abort;
 use std::test::Fail;
@@ -21,7 +22,8 @@ fn reads<B: Bits>(rt: &impl Abort, bits: &B) {
     for index in INDEXES {
         tests_false(rt, bits, index);
     }
-    walks_nothing(rt, bits);
+    yields_no_ones(rt, bits);
+    yields_no_zeros(rt, bits);
     joins_nothing(rt, bits);
 }
 
@@ -35,17 +37,30 @@ fn tests_false<B: Bits>(rt: &impl Abort, bits: &B, index: u32)
     assert!(rt; !bits.test_bit_be(index));
 }
 
-fn walks_nothing<B: Bits>(rt: &impl Abort, bits: &B)
+// Whether a walk has no item, at either end.
+fn is_over<W: DoubleEndedIterator<Item = u32>>(mut walk: W) -> bool
+    requires front { (w : W) → W.can_next w }
+    requires back { (w : W) → W.can_next_back w }
+{
+    walk.next().is_none() && walk.next_back().is_none()
+}
+
+fn yields_no_ones<B: Bits>(rt: &impl Abort, bits: &B)
     requires { Fits B.indexable (B.big bits.now).capacity }
 {
-    assert_eq!(rt; bits.iter_ones().next(), None);
-    assert_eq!(rt; bits.iter_ones_le().next(), None);
-    assert_eq!(rt; bits.iter_ones_be().next(), None);
-    assert_eq!(rt; bits.iter_zeros().next(), None);
-    assert_eq!(rt; bits.iter_zeros_le().next(), None);
-    assert_eq!(rt; bits.iter_zeros_be().next(), None);
-    assert_eq!(rt; bits.iter_ones().rev().next(), None);
-    assert_eq!(rt; bits.iter_zeros().rev().next(), None);
+    assert!(rt; is_over(bits.iter_ones()));
+    assert!(rt; is_over(bits.iter_ones_le()));
+    assert!(rt; is_over(bits.iter_ones_be()));
+    assert!(rt; is_over(bits.iter_ones().rev()));
+}
+
+fn yields_no_zeros<B: Bits>(rt: &impl Abort, bits: &B)
+    requires { Fits B.indexable (B.big bits.now).capacity }
+{
+    assert!(rt; is_over(bits.iter_zeros()));
+    assert!(rt; is_over(bits.iter_zeros_le()));
+    assert!(rt; is_over(bits.iter_zeros_be()));
+    assert!(rt; is_over(bits.iter_zeros().rev()));
 }
 
 fn joins_nothing<B: Bits>(rt: &impl Abort, bits: &B)
@@ -122,8 +137,10 @@ fn owned<B: BitsOwned>(rt: &impl Abort) {
     reads(rt, &zeros.conjunction(ones));
     reads(rt, &zeros.difference(ones));
     reads(rt, &zeros.symmetric_difference(ones));
-    gives_nothing(rt, zeros);
-    gives_nothing(rt, ones);
+    yields_no_owned_ones(rt, zeros);
+    yields_no_owned_zeros(rt, zeros);
+    yields_no_owned_ones(rt, ones);
+    yields_no_owned_zeros(rt, ones);
 }
 
 fn makes_nothing_with<B: BitsOwned>(rt: &impl Abort, bits: B, index: u32)
@@ -146,17 +163,22 @@ fn makes_nothing_without<B: BitsOwned>(rt: &impl Abort, bits: B, index: u32)
     reads(rt, &bits.without_bit_be(index));
 }
 
-fn gives_nothing<B: BitsOwned>(rt: &impl Abort, bits: B)
+fn yields_no_owned_ones<B: BitsOwned>(rt: &impl Abort, bits: B)
     requires { IsTrue B.indexable }
 {
-    assert_eq!(rt; bits.into_iter_ones().next(), None);
-    assert_eq!(rt; bits.into_iter_ones_le().next(), None);
-    assert_eq!(rt; bits.into_iter_ones_be().next(), None);
-    assert_eq!(rt; bits.into_iter_zeros().next(), None);
-    assert_eq!(rt; bits.into_iter_zeros_le().next(), None);
-    assert_eq!(rt; bits.into_iter_zeros_be().next(), None);
-    assert_eq!(rt; bits.into_iter_ones().rev().next(), None);
-    assert_eq!(rt; bits.into_iter_zeros().rev().next(), None);
+    assert!(rt; is_over(bits.into_iter_ones()));
+    assert!(rt; is_over(bits.into_iter_ones_le()));
+    assert!(rt; is_over(bits.into_iter_ones_be()));
+    assert!(rt; is_over(bits.into_iter_ones().rev()));
+}
+
+fn yields_no_owned_zeros<B: BitsOwned>(rt: &impl Abort, bits: B)
+    requires { IsTrue B.indexable }
+{
+    assert!(rt; is_over(bits.into_iter_zeros()));
+    assert!(rt; is_over(bits.into_iter_zeros_le()));
+    assert!(rt; is_over(bits.into_iter_zeros_be()));
+    assert!(rt; is_over(bits.into_iter_zeros().rev()));
 }
 
 // What each macro makes of any list.
@@ -180,31 +202,39 @@ fn arrays(rt: HostRuntime) {
     owned::<[[[u8; 0]; 4]; 4]>(&rt);
 }
 
+// What each call of a slice answers, shared and lent, and what is left by operations with another slice.
+fn slice<'a, T: BitsOwned>(rt: &impl Abort, mut slice: &'a mut [T], other: &'a mut [T]) {
+    reads(rt, &&slice[..]);
+    writes(rt, &mut slice);
+    assigns_nothing(rt, &mut slice, &other);
+}
+
 #[test]
 fn slices(rt: HostRuntime) {
-    let (mut bytes, mut words, mut arrays) = ([0u8; 0], [0u128; 0], [[0u8; 0]; 4]);
-    reads(&rt, &&bytes[..]);
-    reads(&rt, &&words[..]);
-    reads(&rt, &&arrays[..]);
-    writes(&rt, &mut &mut bytes[..]);
-    writes(&rt, &mut &mut words[..]);
-    writes(&rt, &mut &mut arrays[..]);
-    let mut others = [[0u8; 0]; 3];
-    assigns_nothing(&rt, &mut &mut bytes[..], &&mut [][..]);
-    assigns_nothing(&rt, &mut &mut arrays[..], &&mut others[..]);
+    slice::<u8>(&rt, &mut [], &mut []);
+    slice::<u128>(&rt, &mut [], &mut []);
+    slice::<[u8; 0]>(&rt, &mut [[]; 4], &mut [[]; 4]);
+    slice::<[u8; 0]>(&rt, &mut [[]; 4], &mut [[]; 3]);
+}
+
+// A vector of four arrays without elements.
+fn four_arrays(alloc: Global) -> Result<Vec<[u8; 0]>, AllocError> {
+    let mut arrays: Vec<[u8; 0]> = Vec::new(alloc);
+    for _ in 0..4 {
+        arrays.push([])?;
+    }
+    Ok(arrays)
 }
 
 #[test]
 fn vectors(rt: HostRuntime) -> Result<(), Fail> {
     let mut bytes: Vec<u8> = Vec::new(rt.alloc());
-    let mut arrays: Vec<[u8; 0]> = Vec::new(rt.alloc());
-    for _ in 0..4 {
-        arrays.push([])?;
-    }
-    reads(&rt, &&bytes[..]);
-    reads(&rt, &&arrays[..]);
-    writes(&rt, &mut &mut bytes[..]);
-    writes(&rt, &mut &mut arrays[..]);
+    let mut others: Vec<u8> = Vec::new(rt.alloc());
+    slice::<u8>(&rt, &mut bytes[..], &mut others[..]);
+    let mut arrays = four_arrays(rt.alloc())?;
+    let mut others = four_arrays(rt.alloc())?;
+    assert_eq!(rt; (arrays.len(), others.len()), (4, 4));
+    slice::<[u8; 0]>(&rt, &mut arrays[..], &mut others[..]);
     Ok(())
 }
 
@@ -227,9 +257,16 @@ fn wrapped(rt: HostRuntime) {
 }
 
 #[test]
-fn lists(rt: HostRuntime) {
+fn lists(rt: HostRuntime) -> Result<(), Fail> {
     listed::<[u8; 0]>(&rt);
     listed::<[[u8; 0]; 4]>(&rt);
+    let bytes: [u8; 0] = set![0, 7, 100, 0..10, 0..=10, 0..];
+    let set = Set::new(bytes);
+    assert_eq!(rt; format!(in rt.alloc(); "{set:?}")?.as_str(), "{}");
+    let arrays: [[u8; 0]; 4] = set![0, 7, 100, 0..10, 0..=10, 0..];
+    let set = Set::new(arrays);
+    assert_eq!(rt; format!(in rt.alloc(); "{set:?}")?.as_str(), "{}");
+    Ok(())
 }
 
 #[test]

@@ -1,0 +1,78 @@
+//! The debug text of sets.
+
+use bittle::{Set, set};
+use std::fmt;
+use std::fmt::Write;
+use std::test::Fail;
+
+#[test]
+fn the_text_of_a_set_is_one_line(rt: HostRuntime) -> Result<(), Fail> {
+    let set = Set::new(0x4002u16);
+    assert_eq!(rt; format!(in rt.alloc(); "{set:?}")?.as_str(), "{1, 14}");
+    assert_eq!(rt; format!(in rt.alloc(); "{set:#?}")?.as_str(), "{1, 14}");
+    assert_eq!(rt; format!(in rt.alloc(); "{set:12?}")?.as_str(), "{1, 14}");
+    assert_eq!(rt; format!(in rt.alloc(); "{set:>+08?}")?.as_str(), "{1, 14}");
+    let set = Set::new_le(0b0000_1001u8);
+    assert_eq!(rt; format!(in rt.alloc(); "{set:?}")?.as_str(), "{4, 7}");
+    Ok(())
+}
+
+#[test]
+fn a_text_names_each_member(rt: HostRuntime) -> Result<(), Fail> {
+    let set: Set<[u32; 4]> = set![100, 99, 9, 10, 127];
+    assert_eq!(rt;
+        format!(in rt.alloc(); "{set:?}")?.as_str(),
+        "{9, 10, 99, 100, 127}"
+    );
+    Ok(())
+}
+
+#[test]
+fn the_text_of_a_full_set(rt: HostRuntime) -> Result<(), Fail> {
+    let mut expected = format!(in rt.alloc(); "{{0")?;
+    for index in 1..128u32 {
+        write!(expected, ", {index}")?;
+    }
+    write!(expected, "}}")?;
+    let set: Set<[u64; 2]> = set![0..];
+    assert_eq!(rt;
+        format!(in rt.alloc(); "{set:?}")?.as_str(),
+        expected.as_str()
+    );
+    Ok(())
+}
+
+// Takes some texts, and then fails.
+#[derive(Drop)]
+struct Short {
+    left: u32,
+}
+
+impl Write for Short {
+    fn write_str(&mut self, _text: &str) -> fmt::Result {
+        if self.left == 0 {
+            return Err(fmt::Error);
+        }
+        self.left -= 1;
+        Ok(())
+    }
+}
+
+#[test]
+fn a_text_that_was_cut_off_is_an_error(rt: HostRuntime) {
+    // The two braces, the two members and what stands between them.
+    let set: Set<u16> = set![1, 14];
+    for left in 0..5 {
+        let mut short = Short { left };
+        assert!(rt; write!(short, "{set:?}").is_err(), "{left}");
+    }
+    let mut whole = Short { left: 5 };
+    assert!(rt; write!(whole, "{set:?}").is_ok());
+    assert_eq!(rt; whole.left, 0);
+
+    let set: Set<u16> = set![];
+    for left in 0..2 {
+        let mut short = Short { left };
+        assert!(rt; write!(short, "{set:?}").is_err(), "{left}");
+    }
+}
