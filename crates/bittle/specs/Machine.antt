@@ -1,5 +1,6 @@
 -- The plain-set machine: its state is a plain set, and each call has a reply and a next state. No word, order or element occurs in it.
-use Rattle.std.specs.Prelude.{◌-◌, ◌==◌, List, [], ◌∷◌}
+use Rattle.std.specs.Prelude.{◌-◌, ◌==◌, List}
+use Rattle.std.specs.List.{fold, scan}
 use Rattle.bittle_bits.specs.PlainSet.{PlainSet, contains, with_index, without_index, emptied, size}
 use Rattle.bittle.specs.declared.replay.Call.{Call}
 use Rattle.bittle.specs.declared.replay.Call.TheVariants.{Test, Put, Clear, ClearAll, CountOnes, CountZeros, AllZeros, AllOnes, Capacity}
@@ -32,10 +33,8 @@ set_after s Capacity = s
 
 -- the replies to a list of calls
 unfoldable pub replies_of : PlainSet → List Call → List Reply
-replies_of s [] = []
-replies_of s (call ∷ calls) = reply_to s call ∷ replies_of (set_after s call) calls
+replies_of s calls = scan set_after reply_to s calls
 
 -- the set after a list of calls
 unfoldable pub final_set : PlainSet → List Call → PlainSet
-final_set s [] = s
-final_set s (call ∷ calls) = final_set (set_after s call) calls
+final_set s calls = fold set_after s calls

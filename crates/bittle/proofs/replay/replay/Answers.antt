@@ -1,7 +1,8 @@
 use Rattle.std.proofs.Common.{refl, ◌<◌, length, subst, arith}
 use Rattle.bittle_bits.specs.Shapes.{Fits}
-use Rattle.bittle.specs.Machine.{replies_of, final_set}
-use Rattle.bittle.proofs.Runs.{replies_step, set_step, run-capacity}
+use Rattle.bittle.specs.Machine.{reply_to, set_after, replies_of, final_set}
+use Rattle.bittle.proofs.Replies.{state_step, replies_step}
+use Rattle.bittle.proofs.Runs.{run-capacity}
 use Rattle.bittle.proofs.replay.replay.Goals as goal
 
 pub loop-i-init : goal.loop-i-init
@@ -12,13 +13,14 @@ pub answer-requires : goal.answer-requires
 answer-requires g c = subst (Fits g.B.Bits.indexable) (run-capacity _ _ _ c.loop-i.invariant.set) c.requires.fits
 
 pub loop-i-preserved : goal.loop-i-preserved
+unfolding replies_of final_set
 loop-i-preserved g c =
     let t = c.loop-i.invariant in
     let a = c.answer.ensures in
     let in_calls : c.loop-i.i < length c.args.calls.now = omega arith in
     let in_replies : c.loop-i.i < length c.loop-i.replies = omega arith in
     record {
-      replies = replies_step _ _ c.args.calls.now c.loop-i.i _ in_calls t.set c.loop-i.replies c.answer.result in_replies t.replies a.reply;
-      set = set_step _ _ c.args.calls.now c.loop-i.i _ in_calls t.set _ a.set;
+      replies = replies_step set_after _ _ c.args.calls.now c.loop-i.i _ in_calls t.set reply_to c.loop-i.replies c.answer.result in_replies t.replies a.reply;
+      set = state_step set_after _ _ c.args.calls.now c.loop-i.i _ in_calls t.set _ a.set;
       stays = g.met.B.BitsMut.same_place_on _ _ _ t.stays a.stays;
     }
