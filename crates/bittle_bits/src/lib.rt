@@ -25,6 +25,8 @@ mod search;
 pub mod set_laws;
 mod slice;
 mod standing;
+#[doc(hidden)]
+pub mod type_orders;
 pub mod walk;
 #[doc(hidden)]
 pub mod walk_laws;

@@ -1,6 +1,16 @@
-//! Laws of comparison. Each function does nothing: its contract is the law.
+//! Laws of sets that remember an order, and of their comparison. Each function does nothing: its contract is the law.
 
+ghost use Rattle.std.specs.Prelude.{◌≡◌};
 ghost use Rattle.bittle.specs.SetLaws.{OrderIsTotal, OrderAgreesWithEquality, OrderReverses, EqualityIsSymmetric, EqualSetsFeedAlike};
+
+use super::Set;
+use bittle_bits::bits::Bits;
+use bittle_bits::endian::Endian;
+
+/// Calls that name no order read a set in the one that it remembers.
+pub fn sets_remember_their_order<T: Bits, U: Endian>()
+    ensures { ⟦<<Set<T, U> as Bits>::Order as Endian>⟧.mirrored ≡ U.mirrored }
+{}
 
 /// The order of sets is total.
 pub fn order_is_total()

@@ -1,0 +1,41 @@
+//! The order of each type, for calls that name none. Each function makes no calls, and its contract is the law.
+
+ghost use Rattle.std.specs.Prelude.{◌≡◌, true, false};
+
+use crate::bits::Bits;
+use crate::bits_owned::BitsOwned;
+use crate::endian::{BigEndian, DefaultEndian, Endian, LittleEndian};
+
+/// The first index is the digit of greatest weight in little-endian order, and not in big-endian order, the default.
+pub fn the_default_order_is_big_endian()
+    ensures little { ⟦<LittleEndian as Endian>⟧.mirrored ≡ true }
+    ensures big { ⟦<BigEndian as Endian>⟧.mirrored ≡ false }
+    ensures default { ⟦<DefaultEndian as Endian>⟧.mirrored ≡ false }
+{}
+
+/// Each integer is read in big-endian order.
+pub fn integers_are_big_endian()
+    ensures of_u8 { ⟦<<u8 as Bits>::Order as Endian>⟧.mirrored ≡ false }
+    ensures of_i8 { ⟦<<i8 as Bits>::Order as Endian>⟧.mirrored ≡ false }
+    ensures of_u16 { ⟦<<u16 as Bits>::Order as Endian>⟧.mirrored ≡ false }
+    ensures of_i16 { ⟦<<i16 as Bits>::Order as Endian>⟧.mirrored ≡ false }
+    ensures of_u32 { ⟦<<u32 as Bits>::Order as Endian>⟧.mirrored ≡ false }
+    ensures of_i32 { ⟦<<i32 as Bits>::Order as Endian>⟧.mirrored ≡ false }
+    ensures of_u64 { ⟦<<u64 as Bits>::Order as Endian>⟧.mirrored ≡ false }
+    ensures of_i64 { ⟦<<i64 as Bits>::Order as Endian>⟧.mirrored ≡ false }
+    ensures of_u128 { ⟦<<u128 as Bits>::Order as Endian>⟧.mirrored ≡ false }
+    ensures of_i128 { ⟦<<i128 as Bits>::Order as Endian>⟧.mirrored ≡ false }
+    ensures of_usize { ⟦<<usize as Bits>::Order as Endian>⟧.mirrored ≡ false }
+    ensures of_isize { ⟦<<isize as Bits>::Order as Endian>⟧.mirrored ≡ false }
+{}
+
+/// Each array is read in big-endian order, whatever the order of its elements.
+pub fn arrays_are_big_endian<T: BitsOwned, const N: usize>()
+    ensures { ⟦<<[T; N] as Bits>::Order as Endian>⟧.mirrored ≡ false }
+{}
+
+/// Each slice, shared or lent, is read in big-endian order, whatever the order of its elements.
+pub fn slices_are_big_endian<'a, T: BitsOwned + 'a>()
+    ensures shared { ⟦<<&'a [T] as Bits>::Order as Endian>⟧.mirrored ≡ false }
+    ensures lent { ⟦<<&'a mut [T] as Bits>::Order as Endian>⟧.mirrored ≡ false }
+{}
