@@ -1,0 +1,123 @@
+//! How many members there are, counted, added and narrowed, and the places of items in a walk.
+
+ghost use Rattle.bittle.specs.Values.{ShapeFits};
+
+use bittle::{Bits, BitsOwned, LittleEndian, Set};
+
+/// Counts the members of a word by its walk.
+pub fn count_of_word(mask: u64) -> usize {
+    mask.iter_ones().count()
+}
+
+/// Counts the members of four bytes by their walk.
+pub fn count_of_bytes(mask: [u8; 4]) -> usize {
+    mask.iter_ones().count()
+}
+
+/// Counts the numbers below the capacity of two bytes that are no members, by a walk that owns them.
+pub fn count_of_free(mask: [u8; 2]) -> usize {
+    mask.into_iter_zeros_be().count()
+}
+
+/// Counts the members of a set in little-endian order by its walk.
+pub fn count_of_set(set: Set<u16, LittleEndian>) -> usize {
+    set.iter_ones().count()
+}
+
+/// Counts the members of a set by its iteration.
+pub fn count_of_iterated_set(set: Set<u64>) -> usize {
+    set.into_iter().count()
+}
+
+/// Counts the members of any set by its walk.
+pub fn count_of_any<B: BitsOwned>(set: B) -> usize
+    requires { ShapeFits B.Bits set }
+{
+    set.iter_ones().count()
+}
+
+/// Counts the entries of a row that stand at members.
+pub fn count_of_joined(mask: u64, row: &[u32; 64]) -> usize {
+    mask.join_ones(row.iter()).count()
+}
+
+/// Returns the place of a member in the increasing list, or `None` where it is no member.
+pub fn place_of_member(mask: u64, wanted: u32) -> Option<usize> {
+    mask.iter_ones().position(|index| index == wanted)
+}
+
+/// Returns the place of a member in the increasing list of any set, or `None` where it is none.
+pub fn place_of_member_of_any<B: BitsOwned>(set: B, wanted: u32) -> Option<usize>
+    requires { ShapeFits B.Bits set }
+{
+    set.iter_ones().position(|index| index == wanted)
+}
+
+/// Returns the place of an index among those of any set that are no members, counted from the left.
+pub fn place_of_free_of_any<B: BitsOwned>(set: B, wanted: u32) -> Option<usize>
+    requires { ShapeFits B.Bits set }
+{
+    set.into_iter_zeros_le().position(|index| index == wanted)
+}
+
+/// Combines the entries at the last member and at its place, or returns 0.
+pub fn entries_at_place_and_member(mask: u64, row: &[u32; 64]) -> u32 {
+    let mut last = 0;
+    for (place, index) in mask.iter_ones().enumerate() {
+        last = row[place] ^ row[index as usize];
+    }
+    last
+}
+
+/// Returns the place of the last member of any set, or 0.
+pub fn last_place_of_any<B: BitsOwned>(set: B) -> usize
+    requires { ShapeFits B.Bits set }
+{
+    let mut last = 0;
+    for (place, _index) in set.iter_ones().enumerate() {
+        last = place;
+    }
+    last
+}
+
+/// Adds the counts of two bytes.
+pub fn count_of_both(one: u8, other: u8) -> u32 {
+    Bits::count_ones(&one) + Bits::count_ones(&other)
+}
+
+/// Adds the counts of what two bytes lack.
+pub fn free_of_both(one: u8, other: u8) -> u32 {
+    one.count_zeros() + Bits::count_zeros(&other)
+}
+
+/// Narrows the count of four words to 16 digits.
+pub fn narrow_count(board: &[u64; 4]) -> u16 {
+    board.count_ones() as u16
+}
+
+/// Narrows the count of a set to a byte.
+pub fn narrow_count_of_set(set: Set<u64>) -> u8 {
+    set.count_ones() as u8
+}
+
+/// Subtracts the count of a word from its capacity.
+pub fn free_of_word(board: u64) -> u32 {
+    64 - Bits::count_ones(&board)
+}
+
+/// Adds the counts of any two sets of one type.
+pub fn count_of_any_both<B: BitsOwned>(one: B, other: B) -> u64
+    requires one_fits { ShapeFits B.Bits one }
+    requires other_fits { ShapeFits B.Bits other }
+{
+    one.count_ones() as u64 + other.count_ones() as u64
+}
+
+/// Adds the members from the greatest on, wrapping.
+pub fn wrapping_sum(mask: u32) -> u64 {
+    let mut total = 0u64;
+    for index in mask.iter_ones().rev() {
+        total = total.wrapping_add(index as u64);
+    }
+    total
+}

@@ -1,0 +1,128 @@
+//! Walks over slices of words: shared, lent to be changed, and of any element. The fit is asked by a
+//! clause, or tested by `bits_capacity() < u32::MAX`.
+
+ghost use Rattle.std.specs.Prelude.{◌≤◌, ◌<◌, ◌*◌, length};
+ghost use Rattle.bittle.specs.Shapes.{Fits};
+
+use bittle::{BigEndian, Bits, BitsOwned, Endian, LittleEndian, Set};
+
+/// Returns the entry at the greatest member of a slice, or 0.
+pub fn entry_at_greatest(mask: &[u64], row: &[u32]) -> u32
+    requires fits { length mask.now * 64 < 4294967295 }
+    requires long { length mask.now * 64 ≤ length row.now }
+{
+    let mut last = 0;
+    for index in mask.iter_ones() {
+        last = row[index as usize];
+    }
+    last
+}
+
+/// Returns the least member of a slice, or `None` where there is none.
+pub fn least_member(mask: &[u64]) -> Option<u32>
+    requires { length mask.now * 64 < 4294967295 }
+{
+    mask.iter_ones().next()
+}
+
+/// Returns the least member of a slice, or `None` where there is none or the slice does not fit.
+pub fn least_member_if_it_fits(mask: &[u64]) -> Option<u32> {
+    if mask.bits_capacity() < u32::MAX {
+        return mask.iter_ones().next();
+    }
+    None
+}
+
+/// Returns the greatest member of a slice, counted from the left, or 0.
+pub fn greatest_from_the_left(mask: &[u64]) -> u32
+    requires { length mask.now * 64 < 4294967295 }
+{
+    let mut last = 0;
+    for index in mask.iter_ones_le() {
+        last = index;
+    }
+    last
+}
+
+/// Returns the greatest index that is no member of a slice, counted from the right, or 0.
+pub fn greatest_free_from_the_right(mask: &[u64]) -> u32
+    requires { length mask.now * 64 < 4294967295 }
+{
+    let mut last = 0;
+    for index in mask.iter_zeros_be() {
+        last = index;
+    }
+    last
+}
+
+/// Returns the least index that is no member of triples of bytes, from the back, or 0.
+pub fn least_free_of_triples(mask: &[[u8; 3]]) -> u32
+    requires { length mask.now * 24 < 4294967295 }
+{
+    let mut last = 0;
+    for index in mask.iter_zeros_in::<LittleEndian>().rev() {
+        last = index;
+    }
+    last
+}
+
+/// Counts the members of triples of bytes by their walk.
+pub fn count_of_triples(mask: &[[u8; 3]]) -> usize
+    requires { length mask.now * 24 < 4294967295 }
+{
+    mask.iter_ones_in::<BigEndian>().count()
+}
+
+/// Returns the greatest member of a slice that is lent to be changed, or 0.
+pub fn greatest_of_lent(mask: &mut [u64]) -> u32
+    requires { length mask.old * 64 < 4294967295 }
+{
+    let mut last = 0;
+    for index in mask.iter_ones() {
+        last = index;
+    }
+    last
+}
+
+/// Returns both ends of a slice's members in any order, or `None` where it does not fit.
+pub fn ends_of_members<T: BitsOwned, E: Endian>(mask: &[T]) -> Option<(u32, u32)> {
+    if mask.bits_capacity() == u32::MAX {
+        return None;
+    }
+    let mut walk = mask.iter_ones_in::<E>();
+    let least = walk.next()?;
+    Some((least, walk.next_back().unwrap_or(least)))
+}
+
+/// Returns the greatest index that is no member of a slice of any sets, in any order, or 0.
+pub fn greatest_free_of_any<T: BitsOwned, E: Endian>(mask: &[T]) -> u32
+    requires { Fits T.indexable (length mask.now * T.type_capacity) }
+{
+    let mut last = 0;
+    for index in mask.iter_zeros_in::<E>() {
+        last = index;
+    }
+    last
+}
+
+/// Returns the greatest member of a slice of any sets, or 0.
+pub fn greatest_of_any<T: BitsOwned>(mask: &[T]) -> u32
+    requires { Fits T.indexable (length mask.now * T.type_capacity) }
+{
+    let mut last = 0;
+    for index in mask.iter_ones() {
+        last = index;
+    }
+    last
+}
+
+/// Returns the greatest member of a slice as a set in little-endian order, or 0.
+pub fn greatest_of_wrapped(mask: &[u64]) -> u32
+    requires { length mask.now * 64 < 4294967295 }
+{
+    let mut last = 0;
+    for index in &Set::from_ref_le(mask) {
+        last = index;
+    }
+    last
+}

@@ -1,0 +1,197 @@
+//! A row with an entry for each number, read at the members of a set: each item is an index.
+
+ghost use Rattle.std.specs.Prelude.{◌≤◌, length};
+ghost use Rattle.bittle.specs.Values.{ShapeFits};
+
+use bittle::number::IterOnes;
+use bittle::{BigEndian, Bits, BitsOwned, LittleEndian, Set};
+
+/// Returns the entry at the greatest member, or 0 where there is none.
+pub fn entry_at_greatest(mask: u64, row: &[u32; 64]) -> u32 {
+    let mut last = 0;
+    for index in mask.iter_ones() {
+        last = row[index as usize];
+    }
+    last
+}
+
+/// Returns the entry at the greatest member of four words, or 0 where there is none.
+pub fn entry_at_greatest_of_words(mask: &[u64; 4], row: &[u32; 256]) -> u32 {
+    let mut last = 0;
+    for index in mask.iter_ones() {
+        last = row[index as usize];
+    }
+    last
+}
+
+/// Returns the entry at the greatest index, counted from the left, that is no member, or 0.
+pub fn entry_at_greatest_free(mask: u64, row: &[u32; 64]) -> u32 {
+    let mut last = 0;
+    for index in mask.iter_zeros_le() {
+        last = row[index as usize];
+    }
+    last
+}
+
+/// Returns the entry at the greatest member of an array that the walk owns, or 0.
+pub fn entry_at_greatest_of_owned(mask: [u16; 4], row: &[u32; 64]) -> u32 {
+    let mut last = 0;
+    for index in mask.into_iter_ones() {
+        last = row[index as usize];
+    }
+    last
+}
+
+/// Returns the entry at the least member, or 0, by a walk from the back.
+pub fn entry_at_least(mask: u64, row: &[u32; 64]) -> u32 {
+    let mut last = 0;
+    for index in mask.iter_ones().rev() {
+        last = row[index as usize];
+    }
+    last
+}
+
+/// Returns the entry at the greatest member of a set in its own order, or 0.
+pub fn entry_at_greatest_of_set(mask: Set<u64, LittleEndian>, row: &[u32; 64]) -> u32 {
+    let mut last = 0;
+    for index in mask {
+        last = row[index as usize];
+    }
+    last
+}
+
+/// Returns the entry at the greatest member of a set that is lent, or 0.
+pub fn entry_at_greatest_of_lent_set(mask: &Set<[u64; 4]>, row: &[u32; 256]) -> u32 {
+    let mut last = 0;
+    for index in mask {
+        last = row[index as usize];
+    }
+    last
+}
+
+/// Returns the entry at the greatest member of a set that is walked by name, or 0.
+pub fn entry_at_greatest_of_walked_set(mask: Set<u64>, row: &[u32; 64]) -> u32 {
+    let mut last = 0;
+    for index in mask.iter_ones() {
+        last = row[index as usize];
+    }
+    last
+}
+
+/// Returns the entry at the greatest member of any set, or 0. The row is as long as its capacity.
+pub fn entry_at_greatest_of_any<B: BitsOwned>(mask: B, row: &[u32]) -> u32
+    requires fits { ShapeFits B.Bits mask }
+    requires long { (B.big mask).capacity ≤ length row.now }
+{
+    let mut last = 0;
+    for index in mask.iter_ones() {
+        last = row[index as usize];
+    }
+    last
+}
+
+/// Returns the entry at the greatest member, or 0, by the walk of one word.
+pub fn entry_at_greatest_of_word(mask: u64, row: &[u32; 64]) -> u32 {
+    let mut last = 0;
+    for index in IterOnes::<u64, BigEndian>::new(mask) {
+        last = row[index as usize];
+    }
+    last
+}
+
+/// Marks each member in a row.
+pub fn mark_members(mask: u64, row: &mut [bool; 64]) {
+    for index in mask.iter_ones() {
+        row[index as usize] = true;
+    }
+}
+
+/// Returns the word again, put together from its members.
+pub fn word_of_members(mask: u64) -> u64 {
+    let mut word = 0;
+    for index in mask.iter_ones() {
+        word ^= 1u64 << index;
+    }
+    word
+}
+
+/// Combines the cells of a board of eight rows and eight columns that are members.
+pub fn combine_cells(board: u64, cells: &[[u8; 8]; 8]) -> u8 {
+    let mut all = 0;
+    for cell in board.iter_ones() {
+        all ^= cells[cell as usize / 8][cell as usize % 8];
+    }
+    all
+}
+
+/// Returns the greatest member of four words, which is a byte, or 0 where there is none.
+pub fn greatest_as_byte(mask: &[u64; 4]) -> u8 {
+    let mut last = 0;
+    for index in mask.iter_ones() {
+        last = index as u8;
+    }
+    last
+}
+
+/// Returns the entry at the first item of a walk, or 0.
+pub fn entry_at_first(mask: u64, row: &[u32; 64]) -> u32 {
+    match mask.iter_ones().next() {
+        Some(index) => row[index as usize],
+        None => 0,
+    }
+}
+
+/// Returns the entry at the least index that is no member, or 0 where each is one.
+pub fn entry_at_first_free(mask: u64, row: &[u32; 64]) -> u32 {
+    match mask.iter_zeros().next() {
+        Some(index) => row[index as usize],
+        None => 0,
+    }
+}
+
+/// Returns the entry at the least member that a bounded search finds, or 0.
+pub fn entry_at_found(mask: u64, row: &[u32; 64]) -> u32 {
+    match mask.first_one_in::<BigEndian>(0, 64) {
+        Some(index) => row[index as usize],
+        None => 0,
+    }
+}
+
+/// Returns the entry at the greatest item of a walk, or 0.
+pub fn entry_at_maximum(mask: u64, row: &[u32; 64]) -> u32 {
+    match mask.iter_ones().max() {
+        Some(index) => row[index as usize],
+        None => 0,
+    }
+}
+
+/// Returns the entry at the greatest member, or 0, by steps of the walk.
+pub fn entry_at_last_step(mask: u64, row: &[u32; 64]) -> u32 {
+    let mut last = 0;
+    let mut walk = mask.iter_ones();
+    while let Some(index) = walk.next() {
+        last = row[index as usize];
+    }
+    last
+}
+
+/// Returns the entry at the last of at most three members, without 7 and the first, or 0.
+pub fn entry_at_chosen(mask: u64, row: &[u32; 64]) -> u32 {
+    let mut last = 0;
+    for index in mask.iter_ones().filter(|index| *index != 7).skip(1).take(3) {
+        last = row[index as usize];
+    }
+    last
+}
+
+/// Returns the entry at the greatest member, or 0, by a clone of the walk.
+pub fn entry_at_greatest_of_clone(mask: u64, row: &[u32; 64]) -> u32 {
+    let walk = mask.iter_ones();
+    let mut last = 0;
+    if let Ok(again) = walk.clone() {
+        for index in again {
+            last = row[index as usize];
+        }
+    }
+    last
+}
