@@ -1,0 +1,157 @@
+//! An allocator of pages over any owned set.
+#![tactic(auto)]
+
+ghost use Rattle.std.specs.Prelude.{◌≡◌, ◌↔◌, length, IsTrue, IsOk};
+ghost use Rattle.bittle.specs.Order.{AreSame};
+ghost use Rattle.bittle.specs.PlainSet.{empty, size};
+ghost use Rattle.bittle.specs.Shapes.{Fits};
+ghost use Rattle.bittle.specs.Values.{set_in};
+ghost use Rattle.bit_pages.specs.Pages.{is_taken, least_free, answer_to, state_after};
+ghost use Rattle.bit_pages.specs.Pages.{answers_to, final_state};
+
+#[doc(hidden)]
+pub mod laws;
+#[cfg(test)]
+mod tests;
+
+use bittle::{BitsOwned, Set};
+use std::error::Error;
+use std::fmt;
+
+/// A request to an allocator.
+#[derive(Clone, Copy, Debug, PartialEq, Eq)]
+pub enum Request {
+    /// Asks for a page: answered by [`Answer::Page`] or [`Answer::Full`].
+    Take,
+    /// Gives a page back: answered by [`Answer::Given`] or [`Answer::NotTaken`].
+    GiveBack(u32),
+}
+
+/// The answer to a request.
+#[derive(Clone, Copy, Debug, PartialEq, Eq)]
+pub enum Answer {
+    /// The page that was taken.
+    Page(u32),
+    /// All pages are taken.
+    Full,
+    /// The page is free again.
+    Given,
+    /// The page was not taken.
+    NotTaken,
+}
+
+/// The page that was given back was not taken.
+#[derive(Clone, Copy, Debug, PartialEq, Eq)]
+pub struct NotTaken;
+
+impl fmt::Display for NotTaken {
+    fn fmt<W: fmt::Write>(&self, f: &mut fmt::Formatter<W>) -> fmt::Result {
+        f.write_str("the page is not taken")
+    }
+}
+
+impl Error for NotTaken {}
+
+/// The pages of an allocator, numbered from 0. There are as many as a `B` has numbers.
+///
+/// The type keeps that it fits: `B::bits()` is below `u32::MAX`.
+#[derive(Drop)]
+pub struct Pages<B: BitsOwned> {
+    // Its members, in the order of the type, are the pages that are taken.
+    map: B,
+    pub ghost fits: { Fits B.indexable B.type_capacity },
+}
+
+impl<B: BitsOwned> Pages<B> {
+    /// Returns an allocator of which no page is taken. The type has to fit: `B::bits() < u32::MAX`
+    /// tells. With capacity 0 it has no page.
+    pub fn new() -> Pages<B>
+        requires { Fits B.indexable B.type_capacity }
+        ensures { set_in B.Bits B.Order.Endian result.map ≡ empty B.type_capacity }
+    {
+        Pages { map: B::zeros() }
+    }
+
+    /// Takes the least page that is free, or changes nothing and returns `None` where all are
+    /// taken, as with capacity 0.
+    pub fn take(&mut self) -> Option<u32>
+        ensures page { result ≡ least_free (set_in B.Bits B.Order.Endian self.old.map) }
+        ensures pages { set_in B.Bits B.Order.Endian self.new.map
+            ≡ state_after (set_in B.Bits B.Order.Endian self.old.map) Request.Take }
+    {
+        let page = self.map.iter_zeros().next()?;
+        self.map.set_bit(page);
+        Some(page)
+    }
+
+    /// Makes a page free again, or changes nothing where it is not taken. A number past the last
+    /// page is no page, and does not wrap.
+    pub fn give_back(&mut self, page: u32) -> Result<(), NotTaken>
+        ensures taken { IsOk result
+            ↔ IsTrue (is_taken (set_in B.Bits B.Order.Endian self.old.map) page) }
+        ensures pages { set_in B.Bits B.Order.Endian self.new.map
+            ≡ state_after (set_in B.Bits B.Order.Endian self.old.map) (Request.GiveBack page) }
+    {
+        if !self.is_taken(page) {
+            return Err(NotTaken);
+        }
+        self.map.clear_bit(page);
+        Ok(())
+    }
+
+    /// Returns how many pages are taken.
+    pub fn taken(&self) -> u32
+        ensures { result ≡ size (set_in B.Bits B.Order.Endian self.now.map) }
+    {
+        self.map.count_ones()
+    }
+
+    /// Returns whether both have the same pages taken. One may have more pages than the other.
+    pub fn same_pages<C: BitsOwned>(&self, other: &Pages<C>) -> bool
+        ensures { IsTrue result ↔ AreSame
+            (set_in B.Bits B.Order.Endian self.now.map)
+            (set_in C.Bits C.Order.Endian other.now.map) }
+    {
+        Set::<B, B::Order>::new_in(self.map).eq_bits(&other.map)
+    }
+
+    // Returns whether the number is a page, and taken. The map would take a number past the last
+    // page for another.
+    fn is_taken(&self, page: u32) -> bool
+        ensures { result ≡ is_taken (set_in B.Bits B.Order.Endian self.now.map) page }
+    {
+        page < B::bits() && self.map.test_bit(page)
+    }
+
+    // Answers one request.
+    fn answer(&mut self, request: Request) -> Answer
+        ensures answer { result ≡ answer_to (set_in B.Bits B.Order.Endian self.old.map) request }
+        ensures pages { set_in B.Bits B.Order.Endian self.new.map
+            ≡ state_after (set_in B.Bits B.Order.Endian self.old.map) request }
+    {
+        match request {
+            Request::Take => match self.take() {
+                Some(page) => Answer::Page(page),
+                None => Answer::Full,
+            },
+            Request::GiveBack(page) => match self.give_back(page) {
+                Ok(()) => Answer::Given,
+                Err(NotTaken) => Answer::NotTaken,
+            },
+        }
+    }
+
+    /// Serves the requests in turn, and writes an answer to each. There is one place for each
+    /// answer.
+    pub fn serve(&mut self, requests: &[Request], answers: &mut [Answer])
+        requires { length answers.old ≡ length requests.now }
+        ensures answers { answers.new
+            ≡ answers_to (set_in B.Bits B.Order.Endian self.old.map) requests.now }
+        ensures pages { set_in B.Bits B.Order.Endian self.new.map
+            ≡ final_state (set_in B.Bits B.Order.Endian self.old.map) requests.now }
+    {
+        for i in 0..requests.len() {
+            answers[i] = self.answer(requests[i]);
+        }
+    }
+}

@@ -1,0 +1,195 @@
+//! Runs of requests with the answers that they give.
+
+ghost use Rattle.bittle.specs.Shapes.{Fits};
+
+use crate::{Answer, NotTaken, Pages, Request};
+use bittle::{BitsOwned, LittleEndian, Set};
+use std::test::Fail;
+
+// Serves requests of which some give back what is not taken, and returns the answers with the
+// number of pages that are taken then.
+fn serve_some<B: BitsOwned>() -> ([Answer; 7], u32)
+    requires { Fits B.indexable B.type_capacity }
+{
+    let mut pages = Pages::<B>::new();
+    let mut answers = [Answer::Full; 7];
+    let requests = [
+        Request::Take,
+        Request::Take,
+        Request::GiveBack(0),
+        Request::GiveBack(0),
+        Request::GiveBack(9),
+        Request::Take,
+        Request::Take,
+    ];
+    pages.serve(&requests, &mut answers);
+    (answers, pages.taken())
+}
+
+// Returns what has to be answered, whatever the type, as long as it has three pages.
+fn answers_to_some() -> ([Answer; 7], u32) {
+    let answers = [
+        Answer::Page(0),
+        Answer::Page(1),
+        Answer::Given,
+        Answer::NotTaken,
+        Answer::NotTaken,
+        Answer::Page(0),
+        Answer::Page(2),
+    ];
+    (answers, 3)
+}
+
+#[test]
+fn pages_of_an_integer(rt: HostRuntime) {
+    assert!(rt; serve_some::<u8>() == answers_to_some());
+    assert!(rt; serve_some::<i128>() == answers_to_some());
+}
+
+#[test]
+fn pages_of_an_array(rt: HostRuntime) {
+    assert!(rt; serve_some::<[u8; 1]>() == answers_to_some());
+    assert!(rt; serve_some::<[u16; 3]>() == answers_to_some());
+}
+
+#[test]
+fn pages_of_a_nested_array(rt: HostRuntime) {
+    assert!(rt; serve_some::<[[u8; 1]; 1]>() == answers_to_some());
+    assert!(rt; serve_some::<[[u16; 2]; 3]>() == answers_to_some());
+}
+
+#[test]
+fn pages_of_a_set_of_the_other_order(rt: HostRuntime) {
+    assert!(rt; serve_some::<Set<u8, LittleEndian>>() == answers_to_some());
+    assert!(rt; serve_some::<Set<[[u8; 2]; 2], LittleEndian>>() == answers_to_some());
+}
+
+#[test]
+fn no_pages_at_all(rt: HostRuntime) {
+    let mut pages = Pages::<[u8; 0]>::new();
+    let mut answers = [Answer::Given; 2];
+    pages.serve(&[Request::Take, Request::GiveBack(0)], &mut answers);
+    assert!(rt; answers == [Answer::Full, Answer::NotTaken]);
+    assert_eq!(rt; pages.taken(), 0);
+}
+
+// Takes one page more than eight, gives page 3 back and takes again.
+fn serve_past_the_last<B: BitsOwned>() -> ([Answer; 11], u32)
+    requires { Fits B.indexable B.type_capacity }
+{
+    let mut pages = Pages::<B>::new();
+    let mut answers = [Answer::Given; 11];
+    let mut requests = [Request::Take; 11];
+    requests[9] = Request::GiveBack(3);
+    pages.serve(&requests, &mut answers);
+    (answers, pages.taken())
+}
+
+// Returns what has to be answered where there are eight pages.
+fn answers_of_eight() -> ([Answer; 11], u32) {
+    let answers = [
+        Answer::Page(0),
+        Answer::Page(1),
+        Answer::Page(2),
+        Answer::Page(3),
+        Answer::Page(4),
+        Answer::Page(5),
+        Answer::Page(6),
+        Answer::Page(7),
+        Answer::Full,
+        Answer::Given,
+        Answer::Page(3),
+    ];
+    (answers, 8)
+}
+
+#[test]
+fn all_pages_taken(rt: HostRuntime) {
+    assert!(rt; serve_past_the_last::<[u8; 1]>() == answers_of_eight());
+    assert!(rt; serve_past_the_last::<u8>() == answers_of_eight());
+    assert!(rt; serve_past_the_last::<[[u8; 1]; 1]>() == answers_of_eight());
+    assert!(rt; serve_past_the_last::<Set<i8, LittleEndian>>() == answers_of_eight());
+}
+
+#[test]
+fn numbers_past_the_last_page(rt: HostRuntime) {
+    let mut pages = Pages::<Set<u8, LittleEndian>>::new();
+    let mut answers = [Answer::Full; 5];
+    let requests = [
+        Request::Take,
+        Request::GiveBack(4_294_967_295),
+        Request::GiveBack(8),
+        Request::GiveBack(0),
+        Request::Take,
+    ];
+    pages.serve(&requests, &mut answers);
+    let expected = [
+        Answer::Page(0),
+        Answer::NotTaken,
+        Answer::NotTaken,
+        Answer::Given,
+        Answer::Page(0),
+    ];
+    assert!(rt; answers == expected);
+    assert_eq!(rt; pages.taken(), 1);
+}
+
+// Returns an allocator of which two pages were taken and page 0 was given back.
+fn with_page_1<B: BitsOwned>() -> Pages<B>
+    requires { Fits B.indexable B.type_capacity }
+{
+    let mut pages = Pages::<B>::new();
+    let mut answers = [Answer::Full; 3];
+    let requests = [Request::Take, Request::Take, Request::GiveBack(0)];
+    pages.serve(&requests, &mut answers);
+    pages
+}
+
+// Returns whether two allocators with page 1 have the same pages, and whether they have after one
+// more page is taken of the first.
+fn same_and_not<B: BitsOwned, C: BitsOwned>() -> (bool, bool)
+    requires first { Fits B.indexable B.type_capacity }
+    requires second { Fits C.indexable C.type_capacity }
+{
+    let (mut first, second) = (with_page_1::<B>(), with_page_1::<C>());
+    let same = first.same_pages(&second);
+    first.take();
+    (same, first.same_pages(&second))
+}
+
+#[test]
+fn the_same_pages_in_two_orders(rt: HostRuntime) {
+    let answers = same_and_not::<u16, Set<[u8; 2], LittleEndian>>();
+    assert_eq!(rt; answers, (true, false));
+    let turned = same_and_not::<Set<[u8; 2], LittleEndian>, u16>();
+    assert_eq!(rt; turned, (true, false));
+}
+
+#[test]
+fn the_same_pages_of_fewer_and_more(rt: HostRuntime) {
+    let mut few = Pages::<u8>::new();
+    let mut many = Pages::<[u8; 4]>::new();
+    assert!(rt; few.same_pages(&many));
+    for page in 0..8 {
+        assert_eq!(rt; (few.take(), many.take()), (Some(page), Some(page)));
+    }
+    assert!(rt; few.same_pages(&many) && many.same_pages(&few));
+    assert_eq!(rt; (few.take(), many.take()), (None, Some(8)));
+    assert!(rt; !few.same_pages(&many));
+}
+
+#[test]
+fn what_is_not_taken(rt: HostRuntime) -> Result<(), Fail> {
+    let mut pages = Pages::<u8>::new();
+    assert!(rt; pages.give_back(0) == Err(NotTaken));
+    assert_eq!(rt; pages.take(), Some(0));
+
+    // Page 8 is none, and does not wrap to page 0.
+    assert!(rt; pages.give_back(8) == Err(NotTaken));
+    assert_eq!(rt; pages.taken(), 1);
+    assert!(rt; pages.give_back(0) == Ok(()));
+    assert_eq!(rt; pages.taken(), 0);
+    let text = format!(in rt.alloc(); "{NotTaken}")?;
+    assert_eq!(rt; text.as_str(), "the page is not taken");
+    Ok(())
+}
