@@ -14,7 +14,7 @@ use Rattle.bittle_bits.specs.Words.{word_has, word_of}
 use Rattle.bittle_bits.proofs.Combined.{combined_below}
 use Rattle.bittle_bits.proofs.DigitSets.{digit_has-zero, digit_has-below, some_digit}
 use Rattle.bittle_bits.proofs.PlaceLemmas.{place_part, place_in_word, place-place}
-use Rattle.bittle_bits.proofs.WordItems.{word_has-at}
+use Rattle.bittle_bits.proofs.Words.{word_has-at}
 use Rattle.bittle.specs.Order.{list_cmp, AreSame, HasPast, HasNonePast, Precedes, IsFirstApart}
 use Rattle.bittle.proofs.Decided.{EndsAtCapacity, decided, equal_iff_same, not_both}
 

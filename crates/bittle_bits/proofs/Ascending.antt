@@ -1,5 +1,5 @@
 -- The increasing list of the members: its ends, what is left without one of them, and its length.
-use Rattle.std.proofs.Common.{◌≡◌, ℕ, zero, suc, ◌+◌, ◌-◌, ◌<◌, ◌≤◌, Bool, true, false, not, ◌&&◌, ◌==◌, cond, List, [], ◌∷◌, ◌++◌, length, get_or, length-append, refl, sym, ap, ◌∙◌, arith}
+use Rattle.std.proofs.Common.{◌≡◌, ℕ, zero, suc, ◌+◌, ◌-◌, ◌<◌, ◌≤◌, Bool, true, false, not, ◌&&◌, ◌==◌, cond, List, [], ◌∷◌, ◌++◌, length, map, get_or, length-append, refl, sym, ap, ◌∙◌, arith}
 use Rattle.std.proofs.Math.Nat.{mod-eq_of_lt}
 use Rattle.std.proofs.lemmas.Bool.{eq-eqb, ne_eqb}
 use Rattle.std.proofs.lemmas.List.{append-nil}
@@ -39,6 +39,17 @@ unfolding ascending_from
 ascending_from-same p q from zero h = refl
 ascending_from-same p q from (suc n) h =
     rw (h from (omega arith) (omega arith), ascending_from-same p q (suc from) n (λ k lo hi. h k (omega arith) (omega arith))) refl
+
+-- a list moved by a base is that of the test moved by it
+pub ascending_from-moved : (p q : ℕ → Bool) (base from start n : ℕ) → start ≡ base + from → ((k : ℕ) → from ≤ k → k < from + n → q (base + k) ≡ p k) →
+    map (λ k. base + k) (ascending_from p from n) ≡ ascending_from q start n
+unfolding ascending_from
+ascending_from-moved p q base from start zero e h = refl
+ascending_from-moved p q base from start (suc n) e h =
+    let rest = ascending_from-moved p q base (suc from) (suc start) n (omega arith) (λ k lo hi. h k (omega arith) (omega arith)) in
+    let same : q start ≡ p from = ap q e ∙ h from (omega arith) (omega arith) in
+    rw same (elim (p from) as (λ v. map (λ k. base + k) (cond v (from ∷ ascending_from p (suc from) n) (ascending_from p (suc from) n)) ≡ cond v (start ∷ ascending_from q (suc start) n) (ascending_from q (suc start) n))
+    [ true ↦ ap (λ xs. (base + from) ∷ xs) rest ∙ ap (λ k. k ∷ ascending_from q (suc start) n) (sym e) | false ↦ rest ])
 
 -- nothing over a range where nothing passes
 pub ascending_from-none : (p : ℕ → Bool) (from n : ℕ) → ((k : ℕ) → from ≤ k → k < from + n → p k ≡ false) → ascending_from p from n ≡ []

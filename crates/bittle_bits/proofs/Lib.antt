@@ -15,5 +15,6 @@ pub mod Signed
 pub mod Sizes
 pub mod SplitSets
 pub mod Steps
+pub mod Wanted
 pub mod WordCalls
-pub mod WordItems
+pub mod Words

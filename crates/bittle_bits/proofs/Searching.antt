@@ -7,18 +7,11 @@ use Rattle.bittle_bits.specs.Digits.{digit_has, digit_set}
 use Rattle.bittle_bits.specs.Orders.{place, members}
 use Rattle.bittle_bits.specs.PlainSet.{PlainSet, filled_from, with_index, empty, lacks, IsLeastMember, IsGreatestMember}
 use Rattle.bittle_bits.specs.Searches.{NoneIn, IsFirstIn, IsLastIn}
-use Rattle.bittle_bits.specs.Walk.{wanted}
 use Rattle.bittle_bits.specs.Words.{word_of}
 use Rattle.bittle_bits.proofs.DigitSets.{digit_has-and, digit_has-or, digit_has-not}
-use Rattle.bittle_bits.proofs.PlainSets.{complement-members}
 use Rattle.bittle_bits.proofs.PlaceLemmas.{place_in_word}
 use Rattle.bittle_bits.proofs.WordCalls.{at_mask}
-use Rattle.bittle_bits.proofs.WordItems.{digit_at, word_ends}
-
--- the wanted numbers in an order
-pub wanted_members : (ones m : Bool) (w : ℕ) (s : PlainSet) → 0 < w → (words : ℕ) × (s.capacity ≡ words * w) → wanted ones (members m w s) ≡ members m w (wanted ones s)
-wanted_members true m w s word whole = refl
-wanted_members false m w s word whole = complement-members m w s word whole
+use Rattle.bittle_bits.proofs.Words.{digit_at, word_ends}
 
 -- no member was found up to word k, whose digits d have the members from one number on
 pub record Seeks (m : Bool) (w : ℕ) (s : PlainSet) (from k d : ℕ) : Type 0 where

@@ -1,12 +1,11 @@
 -- The parts of a walk's step: a look that gives an item, a look that retires a copy, and a word that is fetched.
-use Rattle.std.proofs.Common.{◌≡◌, ℕ, Bool, true, false, ◌+◌, ◌-◌, ◌*◌, ◌/◌, ◌<◌, ◌≤◌, List, ◌++◌, Option, Some, None, refl, sym, ap, ◌∙◌, subst, arith, append_assoc, append-nil, le_trans}
+use Rattle.std.proofs.Common.{◌≡◌, ℕ, ◌+◌, ◌-◌, ◌*◌, ◌/◌, ◌<◌, ◌≤◌, List, ◌++◌, Option, Some, None, refl, sym, ap, ◌∙◌, arith, append_assoc, append-nil, le_trans}
 use Rattle.std.proofs.Math.Nat.{mul-le-mul_right, mul-div_left, zero-mul}
 use Rattle.bittle_bits.specs.Copies.{Held, between, items_in, held, TakesFirst, TakesLast}
 use Rattle.bittle_bits.specs.PlainSet.{PlainSet, ascending}
 use Rattle.bittle_bits.specs.Standing.{left_in, walk_of, Retires}
-use Rattle.bittle_bits.specs.Walk.{Walk, wanted, AreBelow, IsThrifty, StepsFront, StepsBack}
+use Rattle.bittle_bits.specs.Walk.{Walk, IsThrifty, StepsFront, StepsBack}
 use Rattle.bittle_bits.specs.declared.standing.Standing.{Standing}
-use Rattle.bittle_bits.proofs.Ascending.{are_below}
 use Rattle.bittle_bits.proofs.Items.{between_split, between_empty, between_all}
 
 -- what a walk keeps while a step has given nothing yet
@@ -15,9 +14,6 @@ pub record Seeks (before after : Walk) : Type 0 where
   pub items : after.items ≡ before.items
   pub looks : before.looks ≤ after.looks
   pub words : after.words ≡ before.words
-
-pub seeks_still : (w : Walk) → Seeks w w
-seeks_still w = record { left = refl; items = refl; looks = omega arith; words = refl }
 
 pub seeks_on : (u v w : Walk) → Seeks u v → Seeks v w → Seeks u w
 seeks_on u v w a b = record { left = b.left ∙ a.left; items = b.items ∙ a.items; looks = le_trans a.looks b.looks; words = b.words ∙ a.words }
@@ -30,15 +26,6 @@ front_on u v w (Some x) a b = record { gave = sym a.left ∙ b.gave; items = b.i
 pub back_on : (u v w : Walk) (r : Option ℕ) → Seeks u v → StepsBack v r w → StepsBack u r w
 back_on u v w None a b = record { gave = (sym a.left ∙ b.gave.0, b.gave.1); items = b.items ∙ a.items; looks = le_trans a.looks b.looks; words = b.words ∙ a.words; thrifty = b.thrifty }
 back_on u v w (Some x) a b = record { gave = sym a.left ∙ b.gave; items = b.items ∙ ap (λ n. n + 1) a.items; looks = le_trans a.looks b.looks; words = b.words ∙ a.words; thrifty = b.thrifty }
-
--- a walk of ones and one of zeros go over sets of one capacity
-pub wanted_capacity : (ones : Bool) (s : PlainSet) → (wanted ones s).capacity ≡ s.capacity
-wanted_capacity true s = refl
-wanted_capacity false s = refl
-
--- the list of what a walk gives lies below the capacity of its set
-pub is_below : (ones : Bool) (s : PlainSet) (items : List ℕ) → items ≡ ascending (wanted ones s) → AreBelow s.capacity items
-is_below ones s items e = subst (λ c. AreBelow c items) (wanted_capacity ones s) (are_below (wanted ones s) items e)
 
 module _ {B E O W : Type 0} (s : PlainSet) (w : ℕ) where
   -- the looks are paid by what a walk keeps
@@ -67,16 +54,7 @@ module _ {B E O W : Type 0} (s : PlainSet) (w : ℕ) where
   retires_met : (t : Standing B E O W) (c : Held) (a b : ℕ) → Retires (s.capacity / w) t → c.looks ≡ t.copies.looks + (a + b) → held c.head + a ≡ held t.copies.head → held c.tail + b ≡ held t.copies.tail → Retires (s.capacity / w) (let u : Standing B E O W = record { copies = c; low = t.low; high = t.high; items = t.items } in u)
   retires_met t c a b r l h e = record { ordered = r.ordered; within = omega (arith, r.within); at_least = omega (arith, r.at_least); at_most = omega (arith, r.at_most) }
 
-  -- ---- a look that gave an item, from the front
-
-  pub head_gave : (t : Standing B E O W) (c : Held) (i x : ℕ) → Retires (s.capacity / w) t → TakesFirst t.copies.head (Some x) c.head → c.looks ≡ t.copies.looks + held t.copies.head → c.tail ≡ t.copies.tail → i ≡ t.items + 1 →
-      let u : Standing B E O W = record { copies = c; low = t.low; high = t.high; items = i } in
-      StepsFront (walk_of s w t) (Some x) (walk_of s w u) × Retires (s.capacity / w) u
-  head_gave t c i x r f l e n =
-      let before : held t.copies.head ≡ 1 = ap held f.1 in
-      let after : held c.head ≡ 1 = ap held f.2 in
-      let kept = retires_gave t c i r (omega arith) (omega arith) (ap held e) n in
-      (record { gave = rw (f.1, f.2, e) refl; items = n; looks = omega arith; words = refl; thrifty = thrifty _ kept }, kept)
+  -- ---- from the front
 
   pub head_retired : (t : Standing B E O W) (c : Held) → Retires (s.capacity / w) t → TakesFirst t.copies.head None c.head → c.looks ≡ t.copies.looks + held t.copies.head → c.tail ≡ t.copies.tail →
       let u : Standing B E O W = record { copies = c; low = t.low; high = t.high; items = t.items } in
@@ -124,15 +102,6 @@ module _ {B E O W : Type 0} (s : PlainSet) (w : ℕ) where
       (record { gave = (rw (z, f.0, b, between_empty s (t.high * w)) refl, rw (e, z, f.1, b, between_empty s (t.high * w)) refl); items = refl; looks = omega arith; words = refl; thrifty = thrifty _ kept }, kept)
 
   -- ---- the same from the back
-
-  pub tail_gave_back : (t : Standing B E O W) (c : Held) (i x : ℕ) → Retires (s.capacity / w) t → TakesLast t.copies.tail (Some x) c.tail → c.looks ≡ t.copies.looks + held t.copies.tail → c.head ≡ t.copies.head → i ≡ t.items + 1 →
-      let u : Standing B E O W = record { copies = c; low = t.low; high = t.high; items = i } in
-      StepsBack (walk_of s w t) (Some x) (walk_of s w u) × Retires (s.capacity / w) u
-  tail_gave_back t c i x r f l e n =
-      let before : held t.copies.tail ≡ 1 = ap held f.1 in
-      let after : held c.tail ≡ 1 = ap held f.2 in
-      let kept = retires_gave t c i r (omega arith) (ap held e) (omega arith) n in
-      (record { gave = rw (e, f.1, f.2) (simp append_assoc); items = n; looks = omega arith; words = refl; thrifty = thrifty _ kept }, kept)
 
   pub tail_retired : (t : Standing B E O W) (c : Held) → Retires (s.capacity / w) t → TakesLast t.copies.tail None c.tail → c.looks ≡ t.copies.looks + held t.copies.tail → c.head ≡ t.copies.head →
       let u : Standing B E O W = record { copies = c; low = t.low; high = t.high; items = t.items } in

@@ -1,17 +1,17 @@
 -- Copied words: what is left in each, and what a look takes.
-use Rattle.std.specs.Prelude.{◌≡◌, ℕ, ◌+◌, ◌-◌, ◌<◌, Bool, List, [], ◌∷◌, ◌++◌, Option, Some, None, MatchOption}
+use Rattle.std.specs.Prelude.{◌≡◌, ℕ, ◌+◌, ◌-◌, ◌<◌, Bool, List, [], ◌∷◌, ◌++◌, map, Option, Some, None, MatchOption}
 use Rattle.bittle_bits.specs.Digits.{digit_set}
 use Rattle.bittle_bits.specs.Orders.{members}
-use Rattle.bittle_bits.specs.PlainSet.{PlainSet, ascending_from}
+use Rattle.bittle_bits.specs.PlainSet.{PlainSet, ascending_from, ascending}
 use Rattle.bittle_bits.specs.declared.look.Copied.{Copied}
 
 -- the members of a set from one number on and below another, in increasing order
 unfoldable pub between : PlainSet → ℕ → ℕ → List ℕ
 between s from to = ascending_from s.has from (to - from)
 
--- the members of a word of w digits, as indexes of the set that it was copied from, where its first digit has the index base
-unfoldable pub items_of : Bool → ℕ → ℕ → ℕ → List ℕ
-items_of mirrored w digits base = ascending_from (λ i. (members mirrored w (digit_set w digits)).has (i - base)) base w
+-- the members of a word of w digits, moved by a base: indexes of the set that it was copied from, where its first digit has the index base
+abbrev pub items_of : Bool → ℕ → ℕ → ℕ → List ℕ
+items_of mirrored w digits base = map (λ i. base + i) (ascending (members mirrored w (digit_set w digits)))
 
 -- the items of a copy, if there is one
 abbrev pub copied : {W : Type 0} → Bool → ℕ → (W → ℕ) → Option (Copied W) → Option (List ℕ)

@@ -10,9 +10,8 @@ use crate::bits::Bits;
 use crate::count::Count;
 use crate::endian::Endian;
 use crate::hidden::Number;
-use crate::kind::Kind;
+use crate::kind::{Kind, wanted_word};
 use crate::number::word;
-use crate::search;
 use std::marker::{Model, PhantomData};
 
 // A copied word, and the index in its set of the first digit.
@@ -22,7 +21,7 @@ struct Copied<W: Copy> {
     base: u32,
 }
 
-// Word `k` of a set, or where `ONES` is false the digits that it lacks.
+// Word `k` of a set, with the bits that the kind wants.
 #[inline]
 fn copy_of<B: Bits, E: Endian, K: Kind>(bits: &B, k: u32) -> Copied<B::LeafWord>
     requires fits { Fits B.indexable (B.big bits.now).capacity }
@@ -32,7 +31,7 @@ fn copy_of<B: Bits, E: Endian, K: Kind>(bits: &B, k: u32) -> Copied<B::LeafWord>
     ensures reach { result.base + B.LeafWord.width < 4294967296 }
 {
     Copied {
-        word: search::wanted_word::<B, K>(bits, k),
+        word: wanted_word::<B, K>(bits, k),
         base: k * <B::LeafWord as Number>::width(),
     }
 }
@@ -49,12 +48,10 @@ fn take_first<W: Number, E: Endian>(copy: &mut Option<Copied<W>>, looks: &mut Co
         return None;
     };
     looks.raise();
-    let index = E::zeros::<W>(held.word);
-    if index == W::width() {
+    let Some(index) = word::take_first::<W, E>(&mut held.word) else {
         *copy = None;
         return None;
-    }
-    word::clear_bit::<W, E>(&mut held.word, index);
+    };
     *copy = Some(held);
     Some(held.base + index)
 }
@@ -71,18 +68,15 @@ fn take_last<W: Number, E: Endian>(copy: &mut Option<Copied<W>>, looks: &mut Cou
         return None;
     };
     looks.raise();
-    let above = E::zeros_rev::<W>(held.word);
-    if above == W::width() {
+    let Some(index) = word::take_last::<W, E>(&mut held.word) else {
         *copy = None;
         return None;
-    }
-    let index = W::width() - 1 - above;
-    word::clear_bit::<W, E>(&mut held.word, index);
+    };
     *copy = Some(held);
     Some(held.base + index)
 }
 
-/// The two words that a walk has copied: for a walk of zeros, the digits that they lack.
+/// The two words that a walk has copied: for a walk of zeros, with each bit flipped.
 ///
 /// Fetching a word is no look. Each call that searches a copy is one look, and gives an item or retires the copy.
 #[derive(Drop)]
@@ -138,7 +132,7 @@ impl<W: Number, E: Endian> Copies<W, E> {
         &self.looks
     }
 
-    /// Copies word `k` to the head, or where `ONES` is false the digits that it lacks.
+    /// Copies word `k` to the head, with the bits that the kind wants.
     #[inline]
     pub fn fetch_head<B: Bits<LeafWord = W>, K: Kind>(&mut self, bits: &B, k: u32)
         requires fits { Fits B.indexable (B.big bits.now).capacity }
@@ -148,7 +142,7 @@ impl<W: Number, E: Endian> Copies<W, E> {
         self.head = Some(copy_of::<B, E, K>(bits, k));
     }
 
-    /// Copies word `k` to the tail, or where `ONES` is false the digits that it lacks.
+    /// Copies word `k` to the tail, with the bits that the kind wants.
     #[inline]
     pub fn fetch_tail<B: Bits<LeafWord = W>, K: Kind>(&mut self, bits: &B, k: u32)
         requires fits { Fits B.indexable (B.big bits.now).capacity }

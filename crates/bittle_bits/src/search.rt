@@ -1,30 +1,17 @@
 //! The first and the last member between two numbers, found word by word.
 
-ghost use Rattle.std.specs.Prelude.{◌≡◌, ◌*◌, ◌<◌, ◌≤◌};
-ghost use Rattle.bittle_bits.specs.Digits.{digit_set};
+ghost use Rattle.std.specs.Prelude.{◌≤◌};
 ghost use Rattle.bittle_bits.specs.Orders.{members};
 ghost use Rattle.bittle_bits.specs.Searches.{IsFirstIn, IsLastIn};
 ghost use Rattle.bittle_bits.specs.Shapes.{Fits};
 ghost use Rattle.bittle_bits.specs.Walk.{wanted};
-ghost use Rattle.bittle_bits.specs.Words.{word_of};
 
 use crate::bits::Bits;
 use crate::endian::Endian;
 use crate::hidden::Number;
-use crate::kind::Kind;
+use crate::kind::{Kind, wanted_word};
 
-/// Word `k` of a set, or where `ONES` is false the digits that it lacks.
-#[inline]
-pub fn wanted_word<B: Bits, K: Kind>(bits: &B, k: u32) -> B::LeafWord
-    requires fits { Fits B.indexable (B.big bits.now).capacity }
-    requires within { k * B.width < (B.big bits.now).capacity }
-    ensures { digit_set B.width (B.LeafWord.digits result) ≡ word_of B.width (wanted K.ONES (B.big bits.now)) k }
-{
-    let word = bits.leaf_word(k);
-    if K::ONES { word } else { word.not() }
-}
-
-/// The first member, or where `ONES` is false the first number that is none.
+/// The first index from `from` on and below `to` that the kind wants.
 #[inline]
 pub fn first_in<B: Bits, E: Endian, K: Kind>(bits: &B, from: u32, to: u32) -> Option<u32>
     requires fits { Fits B.indexable (B.big bits.now).capacity }
@@ -53,7 +40,7 @@ pub fn first_in<B: Bits, E: Endian, K: Kind>(bits: &B, from: u32, to: u32) -> Op
     }
 }
 
-/// The last member, or where `ONES` is false the last number that is none.
+/// The last index from `from` on and below `to` that the kind wants.
 #[inline]
 pub fn last_in<B: Bits, E: Endian, K: Kind>(bits: &B, from: u32, to: u32) -> Option<u32>
     requires fits { Fits B.indexable (B.big bits.now).capacity }

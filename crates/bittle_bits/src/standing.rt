@@ -69,10 +69,7 @@ pub fn again<B: Bits, E: Endian>(at: &Standing<B, E>) -> Standing<B, E>
 
 /// Takes the first item that is left.
 #[inline]
-pub fn step_front<B: Bits, E: Endian, K: Kind>(
-    bits: &B,
-    at: &mut Standing<B, E>,
-) -> Option<u32>
+pub fn step_front<B: Bits, E: Endian, K: Kind>(bits: &B, at: &mut Standing<B, E>) -> Option<u32>
     requires fits { Fits B.indexable (B.big bits.now).capacity }
     requires retires { Retires ((B.big bits.now).capacity / B.width) at.old }
     ensures steps { StepsFront (walk_of (wanted K.ONES (members E.mirrored B.width (B.big bits.now))) B.width at.old) result (walk_of (wanted K.ONES (members E.mirrored B.width (B.big bits.now))) B.width at.new) }
@@ -98,10 +95,7 @@ pub fn step_front<B: Bits, E: Endian, K: Kind>(
 
 /// Takes the last item that is left.
 #[inline]
-pub fn step_back<B: Bits, E: Endian, K: Kind>(
-    bits: &B,
-    at: &mut Standing<B, E>,
-) -> Option<u32>
+pub fn step_back<B: Bits, E: Endian, K: Kind>(bits: &B, at: &mut Standing<B, E>) -> Option<u32>
     requires fits { Fits B.indexable (B.big bits.now).capacity }
     requires retires { Retires ((B.big bits.now).capacity / B.width) at.old }
     ensures steps { StepsBack (walk_of (wanted K.ONES (members E.mirrored B.width (B.big bits.now))) B.width at.old) result (walk_of (wanted K.ONES (members E.mirrored B.width (B.big bits.now))) B.width at.new) }

@@ -5,24 +5,32 @@ ghost use Rattle.std.specs.Iterator.{UpTo, YieldsFirst, YieldsLast, item_count};
 ghost use Rattle.std.specs.Prelude.{◌≡◌, length, IfSome, ⊤, Some};
 ghost use Rattle.bittle_bits.specs.Digits.{digit_set};
 ghost use Rattle.bittle_bits.specs.Orders.{members};
-ghost use Rattle.bittle_bits.specs.PlainSet.{ascending, complement};
-ghost use Rattle.bittle_bits.specs.Walk.{AreBelow, ListsInOrder, ListsInReverse};
+ghost use Rattle.bittle_bits.specs.PlainSet.{ascending};
+ghost use Rattle.bittle_bits.specs.Walk.{wanted, AreBelow, ListsInOrder, ListsInReverse};
 
 use crate::endian::Endian;
 use crate::hidden::Number;
+use crate::kind::{Kind, Ones, Zeros, wanted_in};
 use crate::number::word;
 use std::alloc::AllocError;
 use std::marker::{Model, PhantomData};
 
-/// The members of one word in the order `E`, in increasing order. After its end it answers None on both sides.
+/// The members of one word, in increasing order in the order `E`.
+pub type IterOnes<T, E> = Iter<T, E, Ones>;
+
+/// The indexes below the width that are no members of one word, in increasing order in the order `E`.
+pub type IterZeros<T, E> = Iter<T, E, Zeros>;
+
+/// A walk over one word. After its end it returns None on both sides.
 #[derive(Drop)]
-pub struct IterOnes<T: Number, E: Endian> {
-    // The members that are left.
+pub struct Iter<T: Number, E: Endian, K: Kind> {
+    // Its ones are the items that are left.
     left: T,
     order: PhantomData<E>,
+    kind: PhantomData<K>,
 }
 
-impl<T: Number, E: Endian> Model for IterOnes<T, E> {
+impl<T: Number, E: Endian, K: Kind> Model for Iter<T, E, K> {
     ghost use Rattle.std.specs.Prelude.{ℕ, List};
     ghost use Rattle.bittle_bits.specs.Digits.{digit_set};
     ghost use Rattle.bittle_bits.specs.Orders.{members};
@@ -33,22 +41,24 @@ impl<T: Number, E: Endian> Model for IterOnes<T, E> {
     ghost view = { λ w. ascending (members E.mirrored T.width (digit_set T.width (T.digits w.left))) };
 }
 
-impl<T: Number, E: Endian> IterOnes<T, E> {
-    /// A walk over the members of the word.
+impl<T: Number, E: Endian, K: Kind> Iter<T, E, K> {
+    /// Makes a walk over the word: of ones over its members, of zeros over the other indexes.
     #[inline]
-    pub fn new(word: T) -> IterOnes<T, E>
-        ensures items { result ≡ ascending (members E.mirrored T.width (digit_set T.width (T.digits word))) }
+    pub fn new(word: T) -> Iter<T, E, K>
+        ensures items { result
+            ≡ ascending (wanted K.ONES (members E.mirrored T.width (digit_set T.width (T.digits word)))) }
         ensures below { AreBelow T.width result }
         ensures in_order { ListsInOrder }
         ensures in_reverse { ListsInReverse }
     {
-        IterOnes {
-            left: word,
+        Iter {
+            left: wanted_in::<T, K>(word),
             order: PhantomData,
+            kind: PhantomData,
         }
     }
 
-    /// How many items are left.
+    /// Returns how many items are left.
     #[inline]
     pub fn len(&self) -> usize
         ensures { result ≡ length self.now }
@@ -57,7 +67,7 @@ impl<T: Number, E: Endian> IterOnes<T, E> {
     }
 }
 
-impl<T: Number, E: Endian> Iterator for IterOnes<T, E> {
+impl<T: Number, E: Endian, K: Kind> Iterator for Iter<T, E, K> {
     type Item = u32;
 
     ghost next_gives = { YieldsFirst (λ left. left) };
@@ -80,7 +90,7 @@ impl<T: Number, E: Endian> Iterator for IterOnes<T, E> {
     }
 }
 
-impl<T: Number, E: Endian> DoubleEndedIterator for IterOnes<T, E> {
+impl<T: Number, E: Endian, K: Kind> DoubleEndedIterator for Iter<T, E, K> {
     ghost next_back_gives = { YieldsLast (λ left. left) };
 
     #[inline]
@@ -89,99 +99,17 @@ impl<T: Number, E: Endian> DoubleEndedIterator for IterOnes<T, E> {
     }
 }
 
-impl<T: Number, E: Endian> Clone for IterOnes<T, E> {
+impl<T: Number, E: Endian, K: Kind> Clone for Iter<T, E, K> {
     ghost is_clone = { λ source clone. clone ≡ source };
 
     ghost is_infallible = { λ _. ⊤ };
 
     #[inline]
-    fn clone(&self) -> Result<IterOnes<T, E>, AllocError> {
-        Ok(IterOnes {
+    fn clone(&self) -> Result<Iter<T, E, K>, AllocError> {
+        Ok(Iter {
             left: self.left,
             order: PhantomData,
-        })
-    }
-}
-
-/// The indexes below the width that are no members of one word, in the order `E`, in increasing order. After its end it
-/// answers None on both sides.
-#[derive(Drop)]
-pub struct IterZeros<T: Number, E: Endian> {
-    // The ones of the word that has just the other digits.
-    others: IterOnes<T, E>,
-}
-
-impl<T: Number, E: Endian> Model for IterZeros<T, E> {
-    ghost use Rattle.std.specs.Prelude.{ℕ, List};
-
-    ghost Value = { List ℕ };
-
-    ghost view = { λ w. w.others };
-}
-
-impl<T: Number, E: Endian> IterZeros<T, E> {
-    /// A walk over the indexes below the width that are no members of the word.
-    #[inline]
-    pub fn new(word: T) -> IterZeros<T, E>
-        ensures items { result ≡ ascending (complement (members E.mirrored T.width (digit_set T.width (T.digits word)))) }
-        ensures below { AreBelow T.width result }
-        ensures in_order { ListsInOrder }
-        ensures in_reverse { ListsInReverse }
-    {
-        IterZeros {
-            others: IterOnes::new(word.not()),
-        }
-    }
-
-    /// How many items are left.
-    #[inline]
-    pub fn len(&self) -> usize
-        ensures { result ≡ length self.now }
-    {
-        self.others.len()
-    }
-}
-
-impl<T: Number, E: Endian> Iterator for IterZeros<T, E> {
-    type Item = u32;
-
-    ghost next_gives = { YieldsFirst (λ left. left) };
-
-    ghost remaining = { item_count (λ left. left) };
-
-    #[inline]
-    fn next(&mut self) -> Option<u32> {
-        self.others.next()
-    }
-
-    #[inline]
-    fn size_hint(&self) -> (usize, Option<usize>)
-        ensures lower { IsWithinCount result.0 (item_count (λ left. left) self.now) }
-        ensures upper { IfSome result.1 (UpTo (item_count (λ left. left) self.now)) }
-        ensures exact { result ≡ (length self.now, Some (length self.now)) }
-    {
-        self.others.size_hint()
-    }
-}
-
-impl<T: Number, E: Endian> DoubleEndedIterator for IterZeros<T, E> {
-    ghost next_back_gives = { YieldsLast (λ left. left) };
-
-    #[inline]
-    fn next_back(&mut self) -> Option<u32> {
-        self.others.next_back()
-    }
-}
-
-impl<T: Number, E: Endian> Clone for IterZeros<T, E> {
-    ghost is_clone = { λ source clone. clone ≡ source };
-
-    ghost is_infallible = { λ _. ⊤ };
-
-    #[inline]
-    fn clone(&self) -> Result<IterZeros<T, E>, AllocError> {
-        Ok(IterZeros {
-            others: self.others.clone()?,
+            kind: PhantomData,
         })
     }
 }

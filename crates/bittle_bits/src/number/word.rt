@@ -1,7 +1,7 @@
 //! The calls on one word, for every width at once.
 
 ghost use Rattle.std.specs.Iterator.{YieldsFirst, YieldsLast};
-ghost use Rattle.std.specs.Prelude.{◌≡◌, ◌==◌, Bool, ◌*◌, ◌<◌, ◌≤◌};
+ghost use Rattle.std.specs.Prelude.{◌≡◌, ◌==◌, Bool, ◌*◌, ◌<◌, ◌≤◌, IfSome};
 ghost use Rattle.bittle_bits.specs.Digits.{digit_set};
 ghost use Rattle.bittle_bits.specs.Orders.{members};
 ghost use Rattle.bittle_bits.specs.PlainSet.{contains, with_index, without_index, empty, emptied, filled, size, ascending};
@@ -91,9 +91,10 @@ pub fn ones<T: Number>() -> T
 /// Takes the least member out of the word.
 #[inline]
 pub fn take_first<T: Number, E: Endian>(word: &mut T) -> Option<u32>
-    ensures { YieldsFirst
+    ensures found { YieldsFirst
         (λ w. ascending (members E.mirrored T.width (digit_set T.width (T.digits w))))
         word.old result word.new }
+    ensures below { IfSome result (λ index. index < T.width) }
 {
     let index = E::zeros::<T>(*word);
     if index == T::width() {
@@ -106,9 +107,10 @@ pub fn take_first<T: Number, E: Endian>(word: &mut T) -> Option<u32>
 /// Takes the greatest member out of the word.
 #[inline]
 pub fn take_last<T: Number, E: Endian>(word: &mut T) -> Option<u32>
-    ensures { YieldsLast
+    ensures found { YieldsLast
         (λ w. ascending (members E.mirrored T.width (digit_set T.width (T.digits w))))
         word.old result word.new }
+    ensures below { IfSome result (λ index. index < T.width) }
 {
     let below_last = E::zeros_rev::<T>(*word);
     if below_last == T::width() {

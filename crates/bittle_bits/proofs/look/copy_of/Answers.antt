@@ -1,8 +1,9 @@
-use Rattle.std.proofs.Common.{◌≡◌, ◌+◌, ◌*◌, not, ◌==◌, sym, ap, ◌∙◌, arith}
+use Rattle.std.proofs.Common.{◌≡◌, ◌+◌, ◌*◌, sym, ap, ◌∙◌, arith}
 use Rattle.bittle_bits.specs.Copies.{between}
 use Rattle.bittle_bits.specs.Walk.{wanted}
-use Rattle.bittle_bits.proofs.Searching.{wanted_members}
-use Rattle.bittle_bits.proofs.WordItems.{items_of-word, word_ends}
+use Rattle.bittle_bits.proofs.Items.{items_of-word}
+use Rattle.bittle_bits.proofs.Wanted.{wanted_members}
+use Rattle.bittle_bits.proofs.Words.{word_ends}
 use Rattle.bittle_bits.proofs.look.copy_of.Goals as goal
 
 pub returns-clause-items : goal.returns-clause-items

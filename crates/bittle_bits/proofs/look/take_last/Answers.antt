@@ -1,20 +1,19 @@
-use Rattle.std.proofs.Common.{refl, sym, ap, ◌∙◌, Some}
+use Rattle.std.proofs.Common.{ℕ, List, refl, ap, ◌∙◌, ◌+◌, map, Some}
+use Rattle.std.proofs.lemmas.List.{map-append}
 use Rattle.bittle_bits.specs.Copies.{copied, items_in}
-use Rattle.bittle_bits.proofs.WordItems.{last_item, no_last}
 use Rattle.bittle_bits.proofs.look.take_last.Goals as goal
 
-pub returns-then-above-width-clause-found : goal.returns-then-above-width-clause-found
-returns-then-above-width-clause-found g c = (
+pub returns-in_default-take_last-clause-found : goal.returns-in_default-take_last-clause-found
+returns-in_default-take_last-clause-found g c = (
   ap (λ x. items_in (copied g.E.Endian.mirrored g.W.Number.width g.W.Number.digits x)) c.in-Some.is
-      ∙ no_last g.E.Endian.mirrored g.W.Number.width _ c.in-Some.held.base c.zeros_rev-above.result (c.if-above-width.true ∙ c.width.ensures) c.zeros_rev-above.ensures,
+      ∙ ap (map (λ i. c.in-Some.held.base + i)) c.in_default-take_last.ensures.found.0,
   refl,
 )
 
 pub returns-clause-found : goal.returns-clause-found
 returns-clause-found g c =
-    rw c.width-2.ensures (
+    let moved = λ (items : List ℕ). map (λ i. c.in-Some.held.base + i) items in (
       _,
-      ap (copied g.E.Endian.mirrored g.W.Number.width g.W.Number.digits) c.in-Some.is
-          ∙ ap Some (last_item g.E.Endian.mirrored g.W.Number.width _ (g.W.Number.digits c.clear_bit.new.word) c.in-Some.held.base c.zeros_rev-above.result c.zeros_rev-above.ensures (λ e. c.if-above-width.false (e ∙ sym c.width.ensures)) (rw c.width-2.ensures at c.clear_bit.ensures)),
+      ap (copied g.E.Endian.mirrored g.W.Number.width g.W.Number.digits) c.in-Some.is ∙ ap Some (ap moved c.in-Some-take_last.ensures.found ∙ map-append _ _ _),
       refl,
     )

@@ -1,4 +1,4 @@
-use Rattle.std.proofs.Common.{not, ◌-◌, ◌/◌, ◌≤◌, ◌==◌}
+use Rattle.std.proofs.Common.{◌-◌, ◌/◌, ◌≤◌}
 use Rattle.bittle_bits.specs.Walk.{wanted}
 use Rattle.bittle_bits.proofs.Searching.{Seeks}
 use Rattle.bittle_bits.proofs.search.first_in.Given as goal

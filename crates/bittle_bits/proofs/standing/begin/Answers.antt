@@ -1,8 +1,9 @@
-use Rattle.std.proofs.Common.{◌≡◌, ℕ, ◌<◌, ◌*◌, ◌/◌, not, ◌==◌, refl, ap, ◌∙◌, arith}
+use Rattle.std.proofs.Common.{◌≡◌, ℕ, ◌<◌, ◌*◌, ◌/◌, refl, ap, ◌∙◌, arith}
 use Rattle.bittle_bits.specs.Orders.{members}
 use Rattle.bittle_bits.specs.Walk.{wanted}
 use Rattle.bittle_bits.proofs.Runs.{is_fresh}
-use Rattle.bittle_bits.proofs.Steps.{begins, head_fetched, tail_fetched, wanted_capacity, is_below}
+use Rattle.bittle_bits.proofs.Steps.{begins, head_fetched, tail_fetched}
+use Rattle.bittle_bits.proofs.Wanted.{wanted_capacity, wanted_below}
 use Rattle.bittle_bits.proofs.standing.begin.Goals as goal
 
 pub returns-then-at-clause-left : goal.returns-then-at-clause-left
@@ -57,10 +58,10 @@ returns-clause-fresh g c =
     is_fresh _ _ (ap (λ h. h.looks) c.fetch_tail.ensures ∙ ap (λ h. h.looks) c.fetch_head.ensures ∙ ap (λ h. h.looks) c.none.ensures) c.new.ensures (ap (λ n. n / g.B.Bits.width) (wanted_capacity g.K.Kind.ONES s))
 
 pub returns-then-at-clause-below : goal.returns-then-at-clause-below
-returns-then-at-clause-below g c = is_below g.K.Kind.ONES (members g.E.Endian.mirrored g.B.Bits.width (g.B.Bits.big c.args.bits.now)) _ (returns-then-at-clause-left g c)
+returns-then-at-clause-below g c = wanted_below g.K.Kind.ONES (members g.E.Endian.mirrored g.B.Bits.width (g.B.Bits.big c.args.bits.now)) _ (returns-then-at-clause-left g c)
 
 pub returns-then-at-2-clause-below : goal.returns-then-at-2-clause-below
-returns-then-at-2-clause-below g c = is_below g.K.Kind.ONES (members g.E.Endian.mirrored g.B.Bits.width (g.B.Bits.big c.args.bits.now)) _ (returns-then-at-2-clause-left g c)
+returns-then-at-2-clause-below g c = wanted_below g.K.Kind.ONES (members g.E.Endian.mirrored g.B.Bits.width (g.B.Bits.big c.args.bits.now)) _ (returns-then-at-2-clause-left g c)
 
 pub returns-clause-below : goal.returns-clause-below
-returns-clause-below g c = is_below g.K.Kind.ONES (members g.E.Endian.mirrored g.B.Bits.width (g.B.Bits.big c.args.bits.now)) _ (returns-clause-left g c)
+returns-clause-below g c = wanted_below g.K.Kind.ONES (members g.E.Endian.mirrored g.B.Bits.width (g.B.Bits.big c.args.bits.now)) _ (returns-clause-left g c)

@@ -1,4 +1,4 @@
-use Rattle.std.proofs.Common.{◌<◌, not, ◌==◌, refl, arith}
+use Rattle.std.proofs.Common.{◌<◌, refl, arith}
 use Rattle.bittle_bits.specs.Orders.{members}
 use Rattle.bittle_bits.specs.Walk.{wanted}
 use Rattle.bittle_bits.proofs.Steps.{seeks_on, back_on, tail_retired, tail_fetched, head_gave_back, back_ended}

@@ -1,4 +1,4 @@
-use Rattle.std.proofs.Common.{not, ◌-◌, ◌/◌, ◌==◌}
+use Rattle.std.proofs.Common.{◌-◌, ◌/◌}
 use Rattle.bittle_bits.specs.Orders.{members}
 use Rattle.bittle_bits.specs.Standing.{walk_of, Retires}
 use Rattle.bittle_bits.specs.Walk.{wanted}

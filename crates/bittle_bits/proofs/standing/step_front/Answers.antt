@@ -1,4 +1,4 @@
-use Rattle.std.proofs.Common.{◌<◌, not, ◌==◌, refl, arith}
+use Rattle.std.proofs.Common.{◌<◌, refl, arith}
 use Rattle.bittle_bits.specs.Orders.{members}
 use Rattle.bittle_bits.specs.Walk.{wanted}
 use Rattle.bittle_bits.proofs.Steps.{seeks_on, front_on, head_retired, head_fetched, tail_gave, front_ended}

@@ -1,4 +1,4 @@
-use Rattle.bittle_bits.proofs.WordItems.{word_of-digits}
+use Rattle.bittle_bits.proofs.Words.{word_of-digits}
 use Rattle.bittle_bits.proofs.number.word.leaf_word.Goals as goal
 
 pub returns : goal.returns

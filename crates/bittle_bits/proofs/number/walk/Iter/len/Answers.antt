@@ -1,7 +1,7 @@
 use Rattle.std.proofs.Common.{sym, ◌∙◌, arith}
 use Rattle.bittle_bits.proofs.Ascending.{ascending-length}
 use Rattle.bittle_bits.proofs.Sizes.{size-members}
-use Rattle.bittle_bits.proofs.number.walk.IterOnes.len.Goals as goal
+use Rattle.bittle_bits.proofs.number.walk.Iter.len.Goals as goal
 
 pub returns : goal.returns
 returns g c =
