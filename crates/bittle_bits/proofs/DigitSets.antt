@@ -8,7 +8,8 @@ use Rattle.std.proofs.lemmas.Nat.Bits.{and_pow, bit_at_or, bit_at_and, bit_at-po
 use Rattle.std.proofs.lemmas.Bool.{cases_eq, cases_lt, eq-eqb, ne_eqb, lt-ltb, le-ltb, ltb-true, and_parts, and_right}
 use Rattle.bittle_bits.specs.Digits.{digit_has, digit_set}
 use Rattle.bittle_bits.specs.PlainSet.{lacks, empty, filled}
-use Rattle.bittle_bits.proofs.PlainSets.{plain}
+use Rattle.bittle_bits.specs.Orders.{members}
+use Rattle.bittle_bits.proofs.PlainSets.{plain, filled_in_each_order}
 
 pub two : (x : ℕ) → x < 2 → (x ≡ 0) ⊎ (x ≡ 1)
 two x h = elim (cases_eq x 0) [ inl e ↦ inl e | inr n ↦ inr (omega arith) ]
@@ -84,6 +85,10 @@ all_digits w z d none fits is =
     true_right : (t : Bool) → t && true ≡ t
     true_right true = refl
     true_right false = refl
+
+-- a word with all its digits has each number below the width in each order
+pub filled_word : (w d : ℕ) → 0 < w → digit_set w d ≡ filled w → (m : Bool) → members m w (digit_set w d) ≡ filled w
+filled_word w d word = filled_in_each_order w w (digit_set w d) word (1, omega arith)
 
 pub top_digit : (k d : ℕ) → 2 ^ k ≤ d → d < 2 ^ suc k → bit_at d k ≡ 1
 top_digit k d lo hi =

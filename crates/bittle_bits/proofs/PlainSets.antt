@@ -5,7 +5,7 @@ use Rattle.std.proofs.Math.Nat.{mod-eq_of_lt}
 use Rattle.std.proofs.lemmas.Bool.{lt-ltb}
 use Rattle.std.proofs.lemmas.Nat.{mod_below}
 use Rattle.bittle_bits.specs.Orders.{place, members}
-use Rattle.bittle_bits.specs.PlainSet.{PlainSet, contains, has_with, with_index, has_without, without_index, lacks, complement}
+use Rattle.bittle_bits.specs.PlainSet.{PlainSet, contains, has_with, with_index, has_without, without_index, filled, lacks, complement}
 use Rattle.bittle_bits.proofs.PlaceLemmas.{place_past, place_inside}
 
 -- the set of a capacity with this test
@@ -67,3 +67,8 @@ module _ (m : Bool) (w : ℕ) (s : PlainSet) (word : 0 < w) (whole : (words : �
   complement-members =
       ap (plain s.capacity) (fun_ext λ k.
       ap (λ b. b && not (s.has (place m w k))) (ap (nat_lt k) (whole.1) ∙ sym (place_inside m w whole.0 k word) ∙ ap (nat_lt (place m w k)) (sym (whole.1))))
+
+-- each number below a capacity of whole words is below it in each order
+pub filled_in_each_order : (w c : ℕ) (s : PlainSet) → 0 < w → (words : ℕ) × (c ≡ words * w) → s ≡ filled c → (m : Bool) → members m w s ≡ filled c
+filled_in_each_order w c s word whole is m =
+    ap (members m w) is ∙ rw (whole.1) (ap (plain (whole.0 * w)) (fun_ext λ k. place_inside m w whole.0 k word))

@@ -154,6 +154,10 @@ word_full w d e fits low is =
 pub size-members : (m : Bool) (w : ℕ) (s : PlainSet) → 0 < w → (words : ℕ) × (s.capacity ≡ words * w) → size (members m w s) ≡ size s
 size-members m w s h whole = rw (whole.1) (count-placed m w whole.0 s.has h)
 
+-- what is known of the size in big-endian order is known of it in each order
+pub size_in_each_order : {A : Type 0} (w : ℕ) (s : PlainSet) (f : ℕ → A) (r : A) → 0 < w → (words : ℕ) × (s.capacity ≡ words * w) → r ≡ f (size s) → (m : Bool) → r ≡ f (size (members m w s))
+size_in_each_order w s f r h whole is m = is ∙ ap f (sym (size-members m w s h whole))
+
 pub size-le : (s : PlainSet) → size s ≤ s.capacity
 size-le s = count-le s.capacity s.has
 

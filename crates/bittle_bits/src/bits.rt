@@ -50,24 +50,32 @@ pub trait Bits: Drop + Sealed {
     fn count_ones(&self) -> u32
         requires { Fits indexable (big self.now).capacity }
         ensures value { result ≡ size (big self.now) }
+        ensures in_each_order { (mirrored : Bool) →
+            result ≡ size (members mirrored width (big self.now)) }
         ensures at_most { result ≤ (big self.now).capacity };
 
     /// How many numbers below the capacity are no members, the same in both orders. The shape has to fit.
     #[inline]
     final fn count_zeros(&self) -> u32
         requires { Fits indexable (big self.now).capacity }
-        ensures { result ≡ (big self.now).capacity - size (big self.now) }
+        ensures value { result ≡ (big self.now).capacity - size (big self.now) }
+        ensures in_each_order { (mirrored : Bool) →
+            result ≡ (big self.now).capacity - size (members mirrored width (big self.now)) }
     {
         self.bits_capacity() - self.count_ones()
     }
 
     /// Whether there are no members. With capacity 0 it is so. It has no condition.
     fn all_zeros(&self) -> bool
-        ensures { result ≡ (size (big self.now) == 0) };
+        ensures value { result ≡ (size (big self.now) == 0) }
+        ensures in_each_order { (mirrored : Bool) →
+            result ≡ (size (members mirrored width (big self.now)) == 0) };
 
     /// Whether each number below the capacity is a member. With capacity 0 it is so. It has no condition.
     fn all_ones(&self) -> bool
-        ensures { result ≡ (size (big self.now) == (big self.now).capacity) };
+        ensures value { result ≡ (size (big self.now) == (big self.now).capacity) }
+        ensures in_each_order { (mirrored : Bool) →
+            result ≡ (size (members mirrored width (big self.now)) == (big self.now).capacity) };
 
     /// Whether the index, which wraps at the capacity, is a member in the order `E`. With capacity 0 it is not.
     ///

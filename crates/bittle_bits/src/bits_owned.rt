@@ -24,12 +24,16 @@ pub trait BitsOwned: Copy + Eq + BitsMut {
     /// The set with no members. The type has to fit.
     fn zeros() -> Self
         requires { IsTrue Self.indexable }
-        ensures { Self.big result ≡ empty type_capacity };
+        ensures value { Self.big result ≡ empty type_capacity }
+        ensures in_each_order { (mirrored : Bool) →
+            members mirrored Self.width (Self.big result) ≡ empty type_capacity };
 
     /// The set with each number below the capacity, which is empty with capacity 0. The type has to fit.
     fn ones() -> Self
         requires { IsTrue Self.indexable }
-        ensures { Self.big result ≡ filled type_capacity };
+        ensures value { Self.big result ≡ filled type_capacity }
+        ensures in_each_order { (mirrored : Bool) →
+            members mirrored Self.width (Self.big result) ≡ filled type_capacity };
 
     /// The set with the index, which wraps at the capacity, in the order `E`. With capacity 0 it is the set itself. The
     /// type has to fit.

@@ -106,6 +106,8 @@ pub fn count_ones<T: BitsOwned>(elements: &[T]) -> u32
     requires { Fits T.indexable (length elements.now * T.type_capacity) }
     ensures value { result ≡ size
         (elements_set (length elements.now) T.type_capacity T.big elements.now) }
+    ensures in_each_order { (mirrored : Bool) → result ≡ size (members mirrored T.width
+        (elements_set (length elements.now) T.type_capacity T.big elements.now)) }
     ensures at_most { result ≤ length elements.now * T.type_capacity }
 {
     let mut total = 0;
@@ -116,8 +118,10 @@ pub fn count_ones<T: BitsOwned>(elements: &[T]) -> u32
 }
 
 pub fn all_zeros<T: BitsOwned>(elements: &[T]) -> bool
-    ensures { result ≡ (size
+    ensures value { result ≡ (size
         (elements_set (length elements.now) T.type_capacity T.big elements.now) == 0) }
+    ensures in_each_order { (mirrored : Bool) → result ≡ (size (members mirrored T.width
+        (elements_set (length elements.now) T.type_capacity T.big elements.now)) == 0) }
 {
     for element in elements {
         if !element.all_zeros() {
@@ -128,8 +132,11 @@ pub fn all_zeros<T: BitsOwned>(elements: &[T]) -> bool
 }
 
 pub fn all_ones<T: BitsOwned>(elements: &[T]) -> bool
-    ensures { result ≡ (size
+    ensures value { result ≡ (size
         (elements_set (length elements.now) T.type_capacity T.big elements.now)
+        == length elements.now * T.type_capacity) }
+    ensures in_each_order { (mirrored : Bool) → result ≡ (size (members mirrored T.width
+        (elements_set (length elements.now) T.type_capacity T.big elements.now))
         == length elements.now * T.type_capacity) }
 {
     for element in elements {

@@ -55,6 +55,8 @@ pub fn combine<T: Number, O: Operation>(word: &mut T, other: T)
 #[inline]
 pub fn count_ones<T: Number>(word: T) -> u32
     ensures value { result ≡ size (digit_set T.width (T.digits word)) }
+    ensures in_each_order { (mirrored : Bool) →
+        result ≡ size (members mirrored T.width (digit_set T.width (T.digits word))) }
     ensures at_most { result ≤ T.width }
 {
     word.count_ones()
@@ -62,28 +64,36 @@ pub fn count_ones<T: Number>(word: T) -> u32
 
 #[inline]
 pub fn all_zeros<T: Number>(word: T) -> bool
-    ensures { result ≡ (size (digit_set T.width (T.digits word)) == 0) }
+    ensures value { result ≡ (size (digit_set T.width (T.digits word)) == 0) }
+    ensures in_each_order { (mirrored : Bool) →
+        result ≡ (size (members mirrored T.width (digit_set T.width (T.digits word))) == 0) }
 {
     word.is_zero()
 }
 
 #[inline]
 pub fn all_ones<T: Number>(word: T) -> bool
-    ensures { result ≡ (size (digit_set T.width (T.digits word)) == T.width) }
+    ensures value { result ≡ (size (digit_set T.width (T.digits word)) == T.width) }
+    ensures in_each_order { (mirrored : Bool) →
+        result ≡ (size (members mirrored T.width (digit_set T.width (T.digits word))) == T.width) }
 {
     word.not().is_zero()
 }
 
 #[inline]
 pub fn zeros<T: Number>() -> T
-    ensures { digit_set T.width (T.digits result) ≡ empty T.width }
+    ensures value { digit_set T.width (T.digits result) ≡ empty T.width }
+    ensures in_each_order { (mirrored : Bool) →
+        members mirrored T.width (digit_set T.width (T.digits result)) ≡ empty T.width }
 {
     T::zero()
 }
 
 #[inline]
 pub fn ones<T: Number>() -> T
-    ensures { digit_set T.width (T.digits result) ≡ filled T.width }
+    ensures value { digit_set T.width (T.digits result) ≡ filled T.width }
+    ensures in_each_order { (mirrored : Bool) →
+        members mirrored T.width (digit_set T.width (T.digits result)) ≡ filled T.width }
 {
     T::zero().not()
 }
