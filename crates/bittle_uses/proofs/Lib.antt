@@ -1,1 +1,4 @@
+pub mod Kept
+pub mod Members
 pub mod RoleOrder
+pub mod Subsets

@@ -2,13 +2,20 @@
 #![tactic(auto)]
 
 pub mod board;
+pub mod changes;
 pub mod counts;
 pub mod entities;
+pub mod free_runs;
 pub mod permissions;
+pub mod ranks;
+pub mod relations;
 pub mod scheduler;
+pub mod searches;
 pub mod shared_slices;
+pub mod sieve;
 pub mod slices;
 pub mod slots;
+pub mod sums;
 pub mod tables;
 pub mod words;
 pub mod wrapped_slices;

@@ -1,0 +1,16 @@
+use Rattle.std.proofs.Common.{◌≡◌, ℕ, ◌-◌, ◌<◌, ◌≤◌}
+use Rattle.bittle.specs.Orders.{members}
+use Rattle.bittle_uses.specs.FreeRuns.{IsFreeRun}
+use Rattle.bittle_uses.proofs.free_runs.first_free_run.Given as goal
+
+abbrev pub invariant-loop-from : goal.invariant-loop-from
+invariant-loop-from g l =
+    let taken = members g.B.Order.Endian.mirrored g.B.Bits.width (g.B.Bits.big l.set) in
+    record {
+      within : l.from ≤ l.end;
+      end : l.end ≡ taken.capacity;
+      none_before : (k : ℕ) → k < l.from → IsFreeRun taken l.length k → ⊥;
+    }
+
+abbrev pub decreases-loop-from : goal.decreases-loop-from
+decreases-loop-from g l = l.end - l.from

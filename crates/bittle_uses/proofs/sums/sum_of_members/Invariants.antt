@@ -1,0 +1,6 @@
+use Rattle.std.proofs.Common.{◌≡◌}
+use Rattle.std.specs.Prelude.{sum}
+use Rattle.bittle_uses.proofs.sums.sum_of_members.Given as goal
+
+abbrev pub invariant-loop-member : goal.invariant-loop-member
+invariant-loop-member g l = l.total ≡ sum l.yielded

@@ -1,0 +1,47 @@
+//! Changes of one or two indexes that tell what was there before.
+
+ghost use Rattle.std.specs.Prelude.{◌≡◌, not, IsTrue, if◌then◌else◌};
+ghost use Rattle.bittle.specs.PlainSet.{contains, with_index, without_index};
+ghost use Rattle.bittle.specs.Values.{set_in};
+
+use bittle::BitsMut;
+
+/// Makes the index a member, and answers whether it was none before.
+pub fn insert<B: BitsMut>(set: &mut B, index: u32) -> bool
+    requires { IsTrue B.indexable }
+    ensures was_none { result ≡ not (contains (set_in B.Bits B.Order.Endian set.old) index) }
+    ensures set { set_in B.Bits B.Order.Endian set.new
+        ≡ with_index (set_in B.Bits B.Order.Endian set.old) index }
+    ensures stays { B.same_place set.old set.new }
+{
+    let was_none = !set.test_bit(index);
+    set.set_bit(index);
+    was_none
+}
+
+/// Makes the index no member, and answers whether it was one before.
+pub fn remove<B: BitsMut>(set: &mut B, index: u32) -> bool
+    requires { IsTrue B.indexable }
+    ensures was_member { result ≡ contains (set_in B.Bits B.Order.Endian set.old) index }
+    ensures set { set_in B.Bits B.Order.Endian set.new
+        ≡ without_index (set_in B.Bits B.Order.Endian set.old) index }
+    ensures stays { B.same_place set.old set.new }
+{
+    let was_member = set.test_bit(index);
+    set.clear_bit(index);
+    was_member
+}
+
+/// Makes one index a member in the place of another, and does nothing where that one is none.
+pub fn move_bit<B: BitsMut>(set: &mut B, from: u32, to: u32)
+    requires { IsTrue B.indexable }
+    ensures set { let before = set_in B.Bits B.Order.Endian set.old in
+        set_in B.Bits B.Order.Endian set.new
+        ≡ (if contains before from then with_index (without_index before from) to else before) }
+    ensures stays { B.same_place set.old set.new }
+{
+    if set.test_bit(from) {
+        set.clear_bit(from);
+        set.set_bit(to);
+    }
+}

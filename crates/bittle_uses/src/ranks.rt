@@ -1,0 +1,32 @@
+//! How many members lie below an index, or from it on.
+
+ghost use Rattle.std.specs.Prelude.{◌≡◌, ◌==◌, nat_le, position, count_by};
+ghost use Rattle.bittle.specs.PlainSet.{ascending};
+ghost use Rattle.bittle.specs.Values.{set_in, ShapeFits};
+
+use bittle::Bits;
+
+/// Returns how many members are a bound or above it, counted from the greatest on.
+pub fn how_many_from<B: Bits>(set: &B, bound: u32) -> u32
+    requires { ShapeFits B.Bits set.now }
+    ensures { result
+        ≡ count_by (λ i. nat_le bound i) (ascending (set_in B.Bits B.Order.Endian set.now)) }
+{
+    let mut count = 0;
+    let mut walk = set.iter_ones();
+    while let Some(member) = walk.next_back() {
+        if member >= bound {
+            count += 1;
+        }
+    }
+    count
+}
+
+/// Returns how many members lie below one, or `None` where it is no member.
+pub fn rank_of<B: Bits>(set: &B, index: u32) -> Option<usize>
+    requires { ShapeFits B.Bits set.now }
+    ensures { result
+        ≡ position (λ i. i == index) (ascending (set_in B.Bits B.Order.Endian set.now)) }
+{
+    set.iter_ones().position(|member| member == index)
+}

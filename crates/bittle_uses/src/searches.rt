@@ -1,0 +1,53 @@
+//! Questions about all members of a set, answered by a walk.
+
+ghost use Rattle.std.specs.List.{list_any, list_all, zip};
+ghost use Rattle.std.specs.Prelude.{◌≡◌, ◌≤◌, nat_lt, nat_le, length, slice_index};
+ghost use Rattle.std.specs.Prelude.{EachIndex, IfOk, MatchOption};
+ghost use Rattle.bittle.specs.PlainSet.{ascending};
+ghost use Rattle.bittle.specs.Values.{set_in, ShapeFits};
+
+use bittle::Bits;
+use std::alloc::{AllocError, Global};
+
+/// Returns whether some member is above a bound.
+pub fn has_any_above<B: Bits>(set: &B, bound: u32) -> bool
+    requires { ShapeFits B.Bits set.now }
+    ensures { result
+        ≡ list_any (λ i. nat_lt bound i) (ascending (set_in B.Bits B.Order.Endian set.now)) }
+{
+    set.iter_ones().any(|member| bound < member)
+}
+
+/// Returns the greatest member, or `None` where there is none.
+pub fn greatest<B: Bits>(set: &B) -> Option<u32>
+    requires { ShapeFits B.Bits set.now }
+    ensures { let all = ascending (set_in B.Bits B.Order.Endian set.now) in
+        MatchOption result
+        (length all ≡ 0) (λ most. EachIndex all (λ k. slice_index all k ≤ most)) }
+{
+    set.iter_ones().max()
+}
+
+/// Returns the members, as a vector in increasing order.
+pub fn list_members<B: Bits>(alloc: Global, set: &B) -> Result<Vec<u32>, AllocError>
+    requires { ShapeFits B.Bits set.now }
+    ensures { IfOk result
+        (λ list. list.items ≡ ascending (set_in B.Bits B.Order.Endian set.now)) }
+{
+    set.iter_ones().collect(alloc)
+}
+
+/// Returns whether each member is at most the member of another set at the same place, as far as
+/// both sets go.
+pub fn is_pairwise_below<A: Bits, B: Bits>(first: &A, second: &B) -> bool
+    requires first_fits { ShapeFits A.Bits first.now }
+    requires second_fits { ShapeFits B.Bits second.now }
+    ensures { result ≡ list_all (λ pair. nat_le pair.0 pair.1)
+        (zip (ascending (set_in A.Bits A.Order.Endian first.now))
+        (ascending (set_in B.Bits B.Order.Endian second.now))) }
+{
+    first
+        .iter_ones()
+        .zip(second.iter_ones())
+        .all(|(one, other)| one <= other)
+}

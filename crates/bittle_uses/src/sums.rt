@@ -1,0 +1,38 @@
+//! Sums of the members of a set.
+
+ghost use Rattle.std.specs.Prelude.{◌≡◌, sum};
+ghost use Rattle.bittle.specs.PlainSet.{ascending};
+ghost use Rattle.bittle.specs.Values.{set_in, ShapeFits};
+
+use bittle::Bits;
+
+/// Returns the sum of the members.
+pub fn sum_of_members<B: Bits>(set: &B) -> u64
+    requires { ShapeFits B.Bits set.now }
+    ensures { result ≡ sum (ascending (set_in B.Bits B.Order.Endian set.now)) }
+{
+    let mut total = 0;
+    for member in set.iter_ones() {
+        total += u64::from(member);
+    }
+    total
+}
+
+/// Returns the sum of the members of a word, from the greatest on.
+pub fn sum_from_greatest(mask: u32) -> u64 {
+    let mut total = 0u64;
+    let mut walk = mask.iter_ones();
+    while let Some(index) = walk.next_back() {
+        total += index as u64;
+    }
+    total
+}
+
+/// Returns the sum of the members of a word, from the greatest on, by the reversed walk.
+pub fn sum_in_reverse(mask: u32) -> u64 {
+    let mut total = 0u64;
+    for index in mask.iter_ones().rev() {
+        total += index as u64;
+    }
+    total
+}
