@@ -1,5 +1,9 @@
 //! The text of a set.
 
+ghost use Rattle.std.specs.Prelude.{Some};
+ghost use Rattle.bittle_bits.specs.Orders.{members};
+ghost use Rattle.bittle.specs.Text.{set_text};
+
 use super::Set;
 use bittle_bits::bits::Bits;
 use bittle_bits::endian::Endian;
@@ -7,6 +11,8 @@ use std::fmt;
 
 /// The members in increasing order between braces, as `{1, 14}`. Flags of the format change nothing.
 impl<T: Bits, E: Endian> fmt::Debug for Set<T, E> {
+    ghost debug_output = { λ s. Some (set_text (members E.mirrored T.width (T.big s.bits))) };
+
     fn fmt<W: fmt::Write>(&self, f: &mut fmt::Formatter<W>) -> fmt::Result {
         f.write_str("{")?;
         let mut first = true;
