@@ -1,8 +1,0 @@
--- What is printed of an input that is refused whole.
-use Rattle.std.specs.Prelude.{ℕ, List, codes}
-use Rattle.bittle_run.specs.declared.reading.Refusal.{Refusal}
-use Rattle.bittle_run.specs.declared.reading.Refusal.TheVariants.{TooLong, ReadFailed}
-
-abbrev pub message_of : Refusal → List ℕ
-message_of TooLong = codes "input too long\n"
-message_of ReadFailed = codes "read failed\n"

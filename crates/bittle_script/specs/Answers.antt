@@ -1,0 +1,88 @@
+-- The answers to a script: those of a plain set of numbers, line by line.
+use Rattle.std.specs.Prelude.{◌≡◌, ℕ, List, [], ◌∷◌, ◌++◌, Option, None, Some, length, drop, codes, ◌==◌, if◌then◌else◌, Result, MatchResult}
+use Rattle.std.specs.List.{enumerate_from, join_by}
+use Rattle.std.specs.Fmt.{decimal}
+use Rattle.std.specs.Io.KnownBytes.{Appends}
+use Rattle.bittle.specs.PlainSet.{PlainSet, empty, ascending}
+use Rattle.bittle.specs.Machine.{reply_to, set_after}
+use Rattle.bittle.specs.declared.replay.Call.TheVariants.{Test as Test_call, Put, Clear as Clear_call, CountOnes}
+use Rattle.bittle.specs.declared.replay.Reply.{Reply}
+use Rattle.bittle.specs.declared.replay.Reply.TheVariants.{Done, Bit, Number}
+use Rattle.bittle_script.specs.declared.command.Command.{Command}
+use Rattle.bittle_script.specs.declared.command.Command.TheVariants.{Set, Clear, Test, Count, Ones}
+use Rattle.bittle_script.specs.declared.header.Header.{Header}
+use Rattle.bittle_script.specs.declared.answering.Outcome.{Outcome}
+use Rattle.bittle_script.specs.declared.answering.Outcome.TheVariants.{Answered, Refused}
+use Rattle.bittle_script.specs.Beginnings.{AppendsBeginning}
+use Rattle.bittle_script.specs.Commands.{command_of}
+use Rattle.bittle_script.specs.Headers.{header_of, capacity_of}
+use Rattle.bittle_script.specs.Texts.{script_lines}
+
+-- what is printed of a reply
+abbrev pub text_of : Reply → List ℕ
+text_of Done = []
+text_of (Bit b) = if b then codes "true\n" else codes "false\n"
+text_of (Number n) = decimal n ++ codes "\n"
+
+-- the members on a line, in increasing order and with one space between
+abbrev pub line_of_members : PlainSet → List ℕ
+line_of_members s = join_by decimal (codes " ") (ascending s) ++ codes "\n"
+
+-- what is printed at a command
+abbrev pub printed : PlainSet → Command → List ℕ
+printed s (Set i) = text_of (reply_to s (Put i))
+printed s (Clear i) = text_of (reply_to s (Clear_call i))
+printed s (Test i) = text_of (reply_to s (Test_call i))
+printed s Count = text_of (reply_to s CountOnes)
+printed s Ones = line_of_members s
+
+-- the set after a command
+abbrev pub after_command : PlainSet → Command → PlainSet
+after_command s (Set i) = set_after s (Put i)
+after_command s (Clear i) = set_after s (Clear_call i)
+after_command s (Test i) = set_after s (Test_call i)
+after_command s Count = set_after s CountOnes
+after_command s Ones = s
+
+-- what is printed of a line that is not understood
+abbrev pub refusal_of : ℕ → List ℕ
+refusal_of number = codes "line " ++ decimal number ++ codes ": not understood\n"
+
+-- what is printed, and how the run ends
+pub record Answers : Type 0 where
+  pub text : List ℕ
+  pub outcome : Outcome
+
+abbrev pub refused_at : ℕ → Answers
+refused_at number = record { text = refusal_of number; outcome = Refused }
+
+abbrev pub prepend : List ℕ → Answers → Answers
+prepend text rest = record { text = text ++ rest.text; outcome = rest.outcome }
+
+-- a line that is no command is refused; else what `rest` answers from the set after the command follows
+abbrev pub answers_from : PlainSet → ℕ → Option Command → (PlainSet → Answers) → Answers
+answers_from s number None rest = refused_at number
+answers_from s number (Some command) rest = prepend (printed s command) (rest (after_command s command))
+
+-- the answers of a set to lines with their numbers, of which the empty ones are passed over
+abbrev pub answers : PlainSet → List (ℕ × List ℕ) → Answers
+answers s [] = record { text = []; outcome = Answered }
+answers s (line ∷ lines) = if length line.1 == 0 then answers s lines else answers_from s line.0 (command_of line.1) (λ t. answers t lines)
+
+-- what the first line says
+abbrev pub header_in : List (ℕ × List ℕ) → Option Header
+header_in [] = None
+header_in (line ∷ lines) = header_of line.1
+
+-- the answers to the lines after the first, of a set that begins empty
+abbrev pub answers_in : Option Header → List (ℕ × List ℕ) → Answers
+answers_in None lines = refused_at 1
+answers_in (Some header) lines = answers (empty (capacity_of header.shape)) lines
+
+-- the answers to a script
+abbrev pub answers_to : List ℕ → Answers
+answers_to text = let lines = enumerate_from 1 (script_lines text) in answers_in (header_in lines) (drop 1 lines)
+
+-- an output got the answers whole, or failed after a beginning of them
+abbrev pub IsGiven : {E : Type 0} → Option (List ℕ) → Option (List ℕ) → Result Outcome E → Answers → Type 0
+IsGiven old new r given = MatchResult r (λ outcome. (outcome ≡ given.outcome) × Appends old new given.text) (λ _. AppendsBeginning old new given.text)

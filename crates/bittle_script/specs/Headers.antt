@@ -1,0 +1,35 @@
+-- What a first line says.
+use Rattle.std.specs.Prelude.{ℕ, List, Option, Some, None, codes, drop, if◌then◌else◌}
+use Rattle.std.specs.Option.{option_map}
+use Rattle.bittle_script.specs.declared.header.Header.{Header}
+use Rattle.bittle_script.specs.declared.header.Order.{Order}
+use Rattle.bittle_script.specs.declared.header.Order.TheVariants.{Big, Little}
+use Rattle.bittle_script.specs.declared.header.Shape.{Shape}
+use Rattle.bittle_script.specs.declared.header.Shape.TheVariants.{U8, U8x4, U8x2x2, U16x2, I32}
+use Rattle.bittle_script.specs.Words.{is_word, begins_with}
+
+-- the shape with this name
+abbrev pub shape_of : List ℕ → Option Shape
+shape_of name =
+    if is_word name (codes "u8") then Some U8
+    else (if is_word name (codes "u8x4") then Some U8x4
+    else (if is_word name (codes "u8x2x2") then Some U8x2x2
+    else (if is_word name (codes "u16x2") then Some U16x2
+    else (if is_word name (codes "i32") then Some I32 else None))))
+
+abbrev pub in_order : Order → Shape → Header
+in_order order shape = record { order = order; shape = shape }
+
+-- the order and the shape that a first line names
+abbrev pub header_of : List ℕ → Option Header
+header_of line =
+    if begins_with line (codes "be ") then option_map (in_order Big) (shape_of (drop 3 line))
+    else (if begins_with line (codes "le ") then option_map (in_order Little) (shape_of (drop 3 line)) else None)
+
+-- how many numbers a set of the shape can hold
+abbrev pub capacity_of : Shape → ℕ
+capacity_of U8 = 8
+capacity_of U8x4 = 32
+capacity_of U8x2x2 = 32
+capacity_of U16x2 = 32
+capacity_of I32 = 32

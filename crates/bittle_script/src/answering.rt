@@ -1,0 +1,206 @@
+//! The answers to a script.
+ghost use Rattle.std.specs.Prelude.{◌≡◌, ◌≤◌, length, drop, OnSome, IsTrue};
+ghost use Rattle.bittle.specs.Orders.{members};
+ghost use Rattle.bittle.specs.PlainSet.{empty};
+ghost use Rattle.bittle.specs.Machine.{reply_to, set_after};
+ghost use Rattle.bittle_script.specs.Answers.{answers, answers_to, answers_in, header_in, text_of, line_of_members, printed, after_command, refused_at, IsGiven};
+ghost use Rattle.bittle_script.specs.Beginnings.{Writes};
+ghost use Rattle.bittle_script.specs.Headers.{capacity_of};
+ghost use Rattle.bittle_script.specs.Numbering.{lines_left};
+ghost use Rattle.bittle_script.specs.declared.reading.TheConstants.{MOST_BYTES};
+
+use crate::command::Command;
+use crate::header::{Header, Order, Shape};
+use crate::lines::Lines;
+use crate::writing::{Output, WriteFailed};
+use bittle::replay::{Call, Reply, replay};
+use bittle::{BigEndian, Bits, BitsOwned, Endian, LittleEndian, Set, set};
+use std::io::Write;
+
+/// How a run ended whose output did not fail.
+#[derive(Clone, Copy)]
+pub enum Outcome {
+    Answered = 0,
+    Refused = 2,
+}
+
+impl Outcome {
+    ghost use Rattle.bittle_script.specs.Runs.{status_of};
+
+    /// The status that the program ends with.
+    pub fn status(self) -> u8
+        ensures known { result ≡ status_of self }
+        ensures bound { result ≤ 2 }
+    {
+        self as u8
+    }
+}
+
+/// Writes the answers to the lines of `text`, up to the first that is not understood.
+pub fn answer<W: Write>(text: &[u8], output: &mut Output<'_, W>) -> Result<Outcome, WriteFailed>
+    requires { length text.now ≤ MOST_BYTES }
+    ensures same_writer { output.new.writer.ghost_name ≡ output.old.writer.ghost_name }
+    ensures answers { IsGiven (W.contents output.old.writer.now) (W.contents output.new.writer.now) result
+        (answers_to text.now) }
+{
+    let mut lines = Lines::new(text);
+    match take_header(&mut lines) {
+        Some(header) => answer_in_order(header, lines, output),
+        None => refuse(1, output),
+    }
+}
+
+/// What the first line says.
+fn take_header(lines: &mut Lines<'_>) -> Option<Header>
+    ensures header { result ≡ header_in (lines_left lines.old) }
+    ensures rest { OnSome result (lines_left lines.new ≡ drop 1 (lines_left lines.old)) }
+{
+    Header::parse(lines.next()?.text)
+}
+
+/// Answers the lines in the order that the header names.
+fn answer_in_order<W: Write>(
+    header: Header,
+    lines: Lines<'_>,
+    output: &mut Output<'_, W>,
+) -> Result<Outcome, WriteFailed>
+    ensures same_writer { output.new.writer.ghost_name ≡ output.old.writer.ghost_name }
+    ensures answers { IsGiven (W.contents output.old.writer.now) (W.contents output.new.writer.now) result
+        (answers (empty (capacity_of header.shape)) (lines_left lines.entry)) }
+{
+    match header.order {
+        Order::Big => answer_shape::<BigEndian, W>(header.shape, lines, output),
+        Order::Little => answer_shape::<LittleEndian, W>(header.shape, lines, output),
+    }
+}
+
+/// Answers the lines by a value of the shape.
+fn answer_shape<E: Endian, W: Write>(
+    shape: Shape,
+    lines: Lines<'_>,
+    output: &mut Output<'_, W>,
+) -> Result<Outcome, WriteFailed>
+    ensures same_writer { output.new.writer.ghost_name ≡ output.old.writer.ghost_name }
+    ensures answers { IsGiven (W.contents output.old.writer.now) (W.contents output.new.writer.now) result
+        (answers (empty (capacity_of shape)) (lines_left lines.entry)) }
+{
+    match shape {
+        Shape::U8 => answer_lines::<u8, E, W>(lines, output),
+        Shape::U8x4 => answer_lines::<[u8; 4], E, W>(lines, output),
+        Shape::U8x2x2 => answer_lines::<[[u8; 2]; 2], E, W>(lines, output),
+        Shape::U16x2 => answer_lines::<[u16; 2], E, W>(lines, output),
+        Shape::I32 => answer_lines::<i32, E, W>(lines, output),
+    }
+}
+
+/// Answers the lines by a value of one type, which begins empty and is read in one order.
+fn answer_lines<B: BitsOwned, E: Endian, W: Write>(
+    lines: Lines<'_>,
+    output: &mut Output<'_, W>,
+) -> Result<Outcome, WriteFailed>
+    requires { IsTrue B.indexable }
+    ensures same_writer { output.new.writer.ghost_name ≡ output.old.writer.ghost_name }
+    ensures answers { IsGiven (W.contents output.old.writer.now) (W.contents output.new.writer.now) result
+        (answers (empty B.type_capacity) (lines_left lines.entry)) }
+{
+    let mut bits = empty_value::<B>();
+    for line in lines {
+        if line.text.is_empty() {
+            continue;
+        }
+        let Some(command) = Command::parse(line.text) else {
+            return refuse(line.number, output);
+        };
+        obey::<B, E, W>(command, &mut bits, output)?;
+    }
+    Ok(Outcome::Answered)
+}
+
+/// The value that is the empty set.
+fn empty_value<B: BitsOwned>() -> B
+    requires { IsTrue B.indexable }
+    ensures { B.big result ≡ empty B.type_capacity }
+{
+    set![]
+}
+
+/// Does what a command asks for, and prints the reply.
+fn obey<B: BitsOwned, E: Endian, W: Write>(
+    command: Command,
+    bits: &mut B,
+    output: &mut Output<'_, W>,
+) -> Result<(), WriteFailed>
+    requires { IsTrue B.indexable }
+    ensures same_writer { output.new.writer.ghost_name ≡ output.old.writer.ghost_name }
+    ensures set { members E.mirrored B.width (B.big bits.new)
+        ≡ after_command (members E.mirrored B.width (B.big bits.old)) command }
+    ensures prints { Writes (W.contents output.old.writer.now) (W.contents output.new.writer.now) result
+        (printed (members E.mirrored B.width (B.big bits.old)) command) }
+{
+    let call = match command {
+        Command::Set(index) => Call::Put(index),
+        Command::Clear(index) => Call::Clear(index),
+        Command::Test(index) => Call::Test(index),
+        Command::Count => Call::CountOnes,
+        Command::Ones => return print_members::<B, E, W>(&Set::new_in(*bits), output),
+    };
+    print(ask::<B, E>(bits, call), output)
+}
+
+/// The reply to one call.
+fn ask<B: BitsOwned, E: Endian>(bits: &mut B, call: Call) -> Reply
+    requires { IsTrue B.indexable }
+    ensures reply { result ≡ reply_to (members E.mirrored B.width (B.big bits.old)) call }
+    ensures set { members E.mirrored B.width (B.big bits.new)
+        ≡ set_after (members E.mirrored B.width (B.big bits.old)) call }
+{
+    let mut replies = [Reply::Done];
+    replay::<B, E>(bits, &[call], &mut replies);
+    replies[0]
+}
+
+/// Prints a reply on a line, if it says anything.
+fn print<W: Write>(reply: Reply, output: &mut Output<'_, W>) -> Result<(), WriteFailed>
+    ensures same_writer { output.new.writer.ghost_name ≡ output.old.writer.ghost_name }
+    ensures prints { Writes (W.contents output.old.writer.now) (W.contents output.new.writer.now) result
+        (text_of reply) }
+{
+    match reply {
+        Reply::Done => Ok(()),
+        Reply::Bit(true) => output.put(b"true\n"),
+        Reply::Bit(false) => output.put(b"false\n"),
+        Reply::Number(number) => {
+            output.put_number(number)?;
+            output.put(b"\n")
+        }
+    }
+}
+
+/// Prints the members of a set, in increasing order and with one space between, on a line.
+fn print_members<B: BitsOwned, E: Endian, W: Write>(
+    set: &Set<B, E>,
+    output: &mut Output<'_, W>,
+) -> Result<(), WriteFailed>
+    ensures same_writer { output.new.writer.ghost_name ≡ output.old.writer.ghost_name }
+    ensures prints { Writes (W.contents output.old.writer.now) (W.contents output.new.writer.now) result
+        (line_of_members (members E.mirrored B.width (B.big set.now.bits))) }
+{
+    let mut space: &[u8] = b"";
+    for member in set.iter_ones() {
+        output.put_after(space, member)?;
+        space = b" ";
+    }
+    output.put(b"\n")
+}
+
+/// Says that the line with this number is not understood.
+fn refuse<W: Write>(number: u32, output: &mut Output<'_, W>) -> Result<Outcome, WriteFailed>
+    ensures same_writer { output.new.writer.ghost_name ≡ output.old.writer.ghost_name }
+    ensures refused { IsGiven (W.contents output.old.writer.now) (W.contents output.new.writer.now) result
+        (refused_at number) }
+{
+    output.put(b"line ")?;
+    output.put_number(number)?;
+    output.put(b": not understood\n")?;
+    Ok(Outcome::Refused)
+}

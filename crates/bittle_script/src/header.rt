@@ -1,0 +1,75 @@
+//! What the first line says of the set.
+ghost use Rattle.std.specs.Prelude.{◌≡◌};
+
+/// The order in which the digits of each word are read.
+#[derive(Clone, Copy)]
+pub enum Order {
+    /// `be`: the first index is the digit of least weight.
+    Big,
+    /// `le`: the first index is the digit of greatest weight.
+    Little,
+}
+
+/// The type of the value that is the set.
+#[derive(Clone, Copy)]
+pub enum Shape {
+    /// `u8`
+    U8,
+    /// `[u8; 4]`
+    U8x4,
+    /// `[[u8; 2]; 2]`
+    U8x2x2,
+    /// `[u16; 2]`
+    U16x2,
+    /// `i32`
+    I32,
+}
+
+impl Shape {
+    ghost use Rattle.bittle_script.specs.Headers.{shape_of};
+
+    /// The shape with this name.
+    fn parse(name: &[u8]) -> Option<Shape>
+        ensures { result ≡ shape_of name.now }
+    {
+        if name == b"u8".as_slice() {
+            Some(Shape::U8)
+        } else if name == b"u8x4".as_slice() {
+            Some(Shape::U8x4)
+        } else if name == b"u8x2x2".as_slice() {
+            Some(Shape::U8x2x2)
+        } else if name == b"u16x2".as_slice() {
+            Some(Shape::U16x2)
+        } else if name == b"i32".as_slice() {
+            Some(Shape::I32)
+        } else {
+            None
+        }
+    }
+}
+
+/// What the first line says.
+#[derive(Clone, Copy)]
+pub struct Header {
+    /// The order in which the set is read.
+    pub order: Order,
+    /// The type of its value.
+    pub shape: Shape,
+}
+
+impl Header {
+    ghost use Rattle.bittle_script.specs.Headers.{header_of};
+
+    /// The order and the shape that a first line names.
+    pub fn parse(line: &[u8]) -> Option<Header>
+        ensures { result ≡ header_of line.now }
+    {
+        let (order, name) = if let Some(name) = line.strip_prefix(b"be ") {
+            (Order::Big, name)
+        } else {
+            (Order::Little, line.strip_prefix(b"le ")?)
+        };
+        let shape = Shape::parse(name)?;
+        Some(Header { order, shape })
+    }
+}

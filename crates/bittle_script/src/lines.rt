@@ -1,0 +1,91 @@
+//! The lines of a text.
+ghost use Rattle.std.specs.Prelude.{◌≤◌, ◌<◌, ◌+◌, ◌≡◌, ◌∷◌, ◌==◌, length, position};
+ghost use Rattle.bittle_script.specs.Texts.{script_lines, without_return};
+ghost use Rattle.bittle_script.specs.declared.reading.TheConstants.{MOST_BYTES};
+
+use crate::reading::MOST_BYTES;
+
+/// A line, and its number, counted from 1.
+#[derive(Clone, Copy)]
+pub struct Line<'a> {
+    /// Its number.
+    pub number: u32,
+    /// The line without its end.
+    pub text: &'a [u8],
+}
+
+/// The lines of a text.
+#[derive(Drop)]
+pub struct Lines<'a> {
+    rest: &'a [u8],
+    taken: u32,
+    ghost fits: { taken + length rest.now ≤ MOST_BYTES },
+}
+
+impl<'a> Lines<'a> {
+    ghost use Rattle.std.specs.List.{enumerate_from};
+    ghost use Rattle.bittle_script.specs.Numbering.{lines_left};
+
+    /// The lines of a text that is no longer than an input may be.
+    pub fn new(text: &'a [u8]) -> Self
+        requires { length text.now ≤ MOST_BYTES }
+        ensures { lines_left result ≡ enumerate_from 1 (script_lines text.now) }
+    {
+        Lines {
+            rest: text,
+            taken: 0,
+        }
+    }
+}
+
+impl<'a> Iterator for Lines<'a> {
+    ghost use Rattle.std.specs.Prelude.{length};
+    ghost use Rattle.std.specs.Iterator.{at_most, YieldsFirstBy};
+    ghost use Rattle.bittle_script.specs.Numbering.{numbered, lines_left};
+
+    type Item = Line<'a>;
+
+    ghost next_gives = { YieldsFirstBy numbered lines_left };
+
+    ghost remaining = { λ s. at_most (length s.rest.now) };
+
+    fn next(&mut self) -> Option<Line<'a>> {
+        if self.rest.is_empty() {
+            return None;
+        }
+        let (text, rest) = first_line(self.rest);
+        self.rest = rest;
+        self.taken += 1;
+        Some(Line {
+            number: self.taken,
+            text,
+        })
+    }
+}
+
+#[tactic(auto, using(crate::proofs::FirstLine::first_script_line, crate::proofs::FirstLine::only_script_line))]
+/// The first line of a text that has one, without its end, and what comes after it.
+fn first_line(text: &[u8]) -> (&[u8], &[u8])
+    requires { 0 < length text.now }
+    ensures lines { script_lines text.now ≡ result.0.now ∷ script_lines result.1.now }
+    ensures shorter { length result.1.now < length text.now }
+{
+    match end_of_line(text) {
+        Some(end) => (without_return(&text[..end]), &text[end + 1..]),
+        None => (without_return(text), &[]),
+    }
+}
+
+// Where the first line ends at a byte 10.
+fn end_of_line(text: &[u8]) -> Option<usize>
+    ensures { result ≡ position (λ b. b == 10) text.now }
+{
+    text.iter().position(|byte| *byte == b'\n')
+}
+
+// The line without one byte 13 at its end.
+fn without_return(line: &[u8]) -> &[u8]
+    ensures { result.now ≡ without_return line.now }
+{
+    line.strip_suffix(b"\r").unwrap_or(line)
+}

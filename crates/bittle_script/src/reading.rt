@@ -1,0 +1,67 @@
+//! Reads the whole input into one array.
+ghost use Rattle.std.specs.Prelude.{◌≤◌, ◌<◌, ◌≡◌, take, length, IfOk, IfSome, IsTrue, ◌↔◌, MatchResult};
+ghost use Rattle.std.specs.IoError.{error_kind};
+ghost use Rattle.std.specs.Io.KnownBytes.{Consumes, IsAtEnd};
+
+use std::io::{Error, ErrorKind, Read};
+
+/// The most bytes that an input may have.
+pub const MOST_BYTES: usize = 4096;
+
+/// One more byte than an input may have, so that a longer one is noticed.
+pub const ROOM: usize = 4097;
+
+/// The most calls of `read` in a run.
+const MOST_READS: u32 = 8192;
+
+/// Why the input is refused.
+#[derive(Clone, Copy)]
+pub enum Refusal {
+    /// It has more than 4,096 bytes.
+    TooLong,
+    /// A read failed, or the end did not come in 8,192 calls.
+    ReadFailed,
+}
+
+impl Refusal {
+    ghost use Rattle.bittle_script.specs.Refusals.{message_of};
+
+    /// The line that is printed.
+    pub fn message(&self) -> &'static [u8]
+        ensures { result.now ≡ message_of self.now }
+    {
+        match self {
+            Refusal::TooLong => b"input too long\n",
+            Refusal::ReadFailed => b"read failed\n",
+        }
+    }
+}
+
+/// Reads all there is to the start of `bytes`, and answers how many bytes there are.
+pub fn read_all<R: Read>(input: &mut R, bytes: &mut [u8; ROOM]) -> Result<usize, Refusal>
+    ensures fits { IfOk result (λ len. len ≤ MOST_BYTES) }
+    ensures all { IfOk result (λ len. IfSome (R.remaining input.old) (λ text. take len bytes.new ≡ text)) }
+    ensures longer { result ≡ Err Refusal.TooLong → IfSome (R.remaining input.old) (λ text. MOST_BYTES < length text) }
+{
+    let mut filled = 0;
+    for _ in 0..MOST_READS {
+        match input.read(&mut bytes[filled..]) {
+            Ok(0) => return Ok(filled),
+            Ok(count) if filled + count > MOST_BYTES => return Err(Refusal::TooLong),
+            Ok(count) => filled += count,
+            Err(error) => {
+                if !is_interrupted(&error) {
+                    return Err(Refusal::ReadFailed);
+                }
+            }
+        }
+    }
+    Err(Refusal::ReadFailed)
+}
+
+/// Whether a signal cut the call short, so that it may be made again.
+pub fn is_interrupted(error: &Error) -> bool
+    ensures { IsTrue result ↔ (error_kind error.now ≡ ErrorKind.Interrupted) }
+{
+    error.kind() == ErrorKind::Interrupted
+}

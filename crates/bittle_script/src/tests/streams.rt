@@ -1,0 +1,141 @@
+//! Readers and writers that fail in the ways that a test asks for.
+ghost use Rattle.std.specs.Prelude.{◌≤◌, length};
+
+use std::cmp::min;
+use std::io;
+use std::io::{Error, ErrorKind, Read, Write};
+
+/// Is interrupted some times, then gives its bytes, and then ends or fails.
+#[derive(Drop)]
+pub struct Source<'a> {
+    bytes: &'a [u8],
+    /// How often it is interrupted.
+    pub interruptions: u32,
+    /// The most bytes that it gives at once.
+    pub most: usize,
+    /// The error that it ends with, or none.
+    pub end: Option<ErrorKind>,
+    /// How often it was called.
+    pub calls: u32,
+}
+
+impl<'a> Source<'a> {
+    pub fn new(bytes: &'a [u8]) -> Self {
+        Source {
+            bytes,
+            interruptions: 0,
+            most: usize::MAX,
+            end: None,
+            calls: 0,
+        }
+    }
+}
+
+impl Read for Source<'_> {
+    fn read(&mut self, buf: &mut [u8]) -> io::Result<usize> {
+        self.calls = self.calls.saturating_add(1);
+        if self.interruptions > 0 {
+            self.interruptions -= 1;
+            return Err(Error::from(ErrorKind::Interrupted));
+        }
+        if self.bytes.is_empty() {
+            if let Some(kind) = self.end {
+                return Err(Error::from(kind));
+            }
+        }
+        let room = min(self.most, buf.len());
+        self.bytes.read(&mut buf[..room])
+    }
+}
+
+/// How many bytes a `Sink` holds.
+const ROOM: usize = 64;
+
+/// Is interrupted some times, takes some bytes, is interrupted again, and then takes bytes or fails.
+#[derive(Drop)]
+pub struct Sink {
+    bytes: [u8; ROOM],
+    taken: usize,
+    /// How often it is interrupted before it takes a byte.
+    pub interruptions: u32,
+    /// How many bytes it takes before it is interrupted again.
+    pub sound: usize,
+    /// How often it is interrupted then.
+    pub later_interruptions: u32,
+    /// The most bytes that it takes at once.
+    pub most: usize,
+    /// The error of each write from then on, or none.
+    pub write_fault: Option<ErrorKind>,
+    /// The error of each flush, or none.
+    pub flush_fault: Option<ErrorKind>,
+    /// How often it was written to.
+    pub writes: u32,
+    /// How often it was flushed.
+    pub flushes: u32,
+    /// Whether the last call was a flush.
+    pub is_flushed: bool,
+}
+
+impl Sink {
+    pub fn new() -> Self {
+        Sink {
+            bytes: [0; ROOM],
+            taken: 0,
+            interruptions: 0,
+            sound: 0,
+            later_interruptions: 0,
+            most: usize::MAX,
+            write_fault: None,
+            flush_fault: None,
+            writes: 0,
+            flushes: 0,
+            is_flushed: false,
+        }
+    }
+
+    /// What was written.
+    pub fn text(&self) -> &[u8] {
+        &self.bytes[..min(self.taken, ROOM)]
+    }
+
+    fn take(&mut self, buf: &[u8]) -> usize
+        ensures { result ≤ length buf.now }
+    {
+        let start = min(self.taken, ROOM);
+        let count = min(min(self.most, buf.len()), ROOM - start);
+        self.bytes[start..start + count].copy_from_slice(&buf[..count]);
+        self.taken = start + count;
+        count
+    }
+}
+
+impl Write for Sink {
+    fn write(&mut self, buf: &[u8]) -> io::Result<usize> {
+        self.writes = self.writes.saturating_add(1);
+        self.is_flushed = false;
+        if self.interruptions > 0 {
+            self.interruptions -= 1;
+            return Err(Error::from(ErrorKind::Interrupted));
+        }
+        if self.taken < self.sound {
+            return Ok(self.take(buf));
+        }
+        if self.later_interruptions > 0 {
+            self.later_interruptions -= 1;
+            return Err(Error::from(ErrorKind::Interrupted));
+        }
+        match self.write_fault {
+            Some(kind) => Err(Error::from(kind)),
+            None => Ok(self.take(buf)),
+        }
+    }
+
+    fn flush(&mut self) -> io::Result<()> {
+        self.flushes = self.flushes.saturating_add(1);
+        self.is_flushed = true;
+        match self.flush_fault {
+            Some(kind) => Err(Error::from(kind)),
+            None => Ok(()),
+        }
+    }
+}
