@@ -1,4 +1,4 @@
-//! The program once more, run on a script that is refused: a program has one run that is stored.
+//! The program once more, beside a script that it refuses: one run is stored with each program.
 #![tactic(auto)]
 
 use bittle_script::{RunStatus, run_program};

@@ -1,4 +1,4 @@
-//! Runs a script: keeps a small set as the lines of an input say, and writes its answers to an output.
+//! Runs scripts: keeps a small set as the lines of an input say, and writes the answers.
 #![tactic(auto)]
 
 mod answering;
@@ -36,7 +36,8 @@ pub fn run<R: Read, W: Write>(input: &mut R, output: &mut W) -> u8
     }
 }
 
-/// The status of a run. Only a run makes one, so a `main` that returns it ends as its run did.
+/// The status of a run. Only [`run_program`] makes one, so that a `main` which returns it ends as a
+/// run did.
 #[derive(Drop)]
 pub struct RunStatus(u8);
 
@@ -48,10 +49,11 @@ impl Termination for RunStatus {
     }
 }
 
-/// Makes the [`run`] that a program is, and returns its status as what `main` returns.
+/// Runs a script as [`run`] does, and returns the status in the form that a `main` returns.
 pub fn run_program<R: Read, W: Write>(input: &mut R, output: &mut W) -> RunStatus
     ensures status { result.0 ≤ 2 }
-    ensures answered { IsRun (R.remaining input.old) (W.contents output.old) (W.contents output.new) result.0 }
+    ensures answered { IsRun (R.remaining input.old)
+        (W.contents output.old) (W.contents output.new) result.0 }
 {
     RunStatus(run(input, output))
 }

@@ -36,7 +36,9 @@ impl<'a, W: Write> Output<'a, W> {
         }
     }
 
-    /// Writes all of `bytes`, or fails after a beginning of them. The count of interrupted writes never falls.
+    /// Writes all of `bytes`, or fails after a beginning of them.
+    ///
+    /// The count of interrupted writes never falls.
     pub fn put(&mut self, bytes: &[u8]) -> Result<(), WriteFailed>
         ensures same_writer { self.new.writer.ghost_name ≡ self.old.writer.ghost_name }
         ensures bytes { Writes (W.contents self.old.writer.now) (W.contents self.new.writer.now) result bytes.now }

@@ -51,7 +51,7 @@ impl Read for Source<'_> {
 /// How many bytes a `Sink` holds.
 const ROOM: usize = 64;
 
-/// Is interrupted some times, takes some bytes, is interrupted again, and then takes bytes or fails.
+/// Is interrupted some times, takes some bytes, is interrupted again, and then takes more or fails.
 #[derive(Drop)]
 pub struct Sink {
     bytes: [u8; ROOM],
