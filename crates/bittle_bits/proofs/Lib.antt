@@ -1,4 +1,5 @@
 pub mod Ascending
+pub mod Begins
 pub mod Combined
 pub mod DigitSets
 pub mod Ends

@@ -1,74 +1,64 @@
 -- The parts of a walk's step: a look that gives an item, a look that retires a copy, and a word that is fetched.
-use Rattle.std.proofs.Common.{◌≡◌, ℕ, ◌+◌, ◌-◌, ◌*◌, ◌/◌, ◌<◌, ◌≤◌, List, ◌++◌, Option, Some, None, refl, sym, ap, ◌∙◌, arith, append_assoc, append-nil, le_trans}
-use Rattle.std.proofs.Math.Nat.{mul-le-mul_right, mul-div_left, zero-mul}
+use Rattle.std.proofs.Common.{◌≡◌, ℕ, ◌+◌, ◌-◌, ◌*◌, ◌<◌, ◌≤◌, List, ◌++◌, Option, Some, None, refl, sym, ap, ◌∙◌, arith, append_assoc, append-nil, le_trans}
+use Rattle.std.proofs.Math.Nat.{mul-le-mul_right}
 use Rattle.bittle_bits.specs.Copies.{Held, between, items_in, held, TakesFirst, TakesLast}
-use Rattle.bittle_bits.specs.PlainSet.{PlainSet, ascending}
-use Rattle.bittle_bits.specs.Standing.{left_in, walk_of, Retires}
+use Rattle.bittle_bits.specs.PlainSet.{PlainSet}
+use Rattle.bittle_bits.specs.Standing.{walk_of, Retires}
 use Rattle.bittle_bits.specs.Walk.{Walk, IsThrifty, StepsFront, StepsBack}
 use Rattle.bittle_bits.specs.declared.standing.Standing.{Standing}
-use Rattle.bittle_bits.proofs.Items.{between_split, between_empty, between_all}
+use Rattle.bittle_bits.proofs.Items.{between_split, between_empty}
 
 -- what a walk keeps while a step has given nothing yet
 pub record Seeks (before after : Walk) : Type 0 where
   pub left : after.left ≡ before.left
   pub items : after.items ≡ before.items
   pub looks : before.looks ≤ after.looks
+  pub fetches : before.fetches ≤ after.fetches
+  pub unread : after.fetches + after.unread ≡ before.fetches + before.unread
   pub words : after.words ≡ before.words
 
 pub seeks_on : (u v w : Walk) → Seeks u v → Seeks v w → Seeks u w
-seeks_on u v w a b = record { left = b.left ∙ a.left; items = b.items ∙ a.items; looks = le_trans a.looks b.looks; words = b.words ∙ a.words }
+seeks_on u v w a b = record { left = b.left ∙ a.left; items = b.items ∙ a.items; looks = le_trans a.looks b.looks; fetches = le_trans a.fetches b.fetches; unread = b.unread ∙ a.unread; words = b.words ∙ a.words }
 
 -- a step after looks that gave nothing
 pub front_on : (u v w : Walk) (r : Option ℕ) → Seeks u v → StepsFront v r w → StepsFront u r w
-front_on u v w None a b = record { gave = (sym a.left ∙ b.gave.0, b.gave.1); items = b.items ∙ a.items; looks = le_trans a.looks b.looks; words = b.words ∙ a.words; thrifty = b.thrifty }
-front_on u v w (Some x) a b = record { gave = sym a.left ∙ b.gave; items = b.items ∙ ap (λ n. n + 1) a.items; looks = le_trans a.looks b.looks; words = b.words ∙ a.words; thrifty = b.thrifty }
+front_on u v w None a b = record { gave = (sym a.left ∙ b.gave.0, b.gave.1); items = b.items ∙ a.items; looks = le_trans a.looks b.looks; fetches = le_trans a.fetches b.fetches; unread = b.unread ∙ a.unread; words = b.words ∙ a.words; thrifty = b.thrifty }
+front_on u v w (Some x) a b = record { gave = sym a.left ∙ b.gave; items = b.items ∙ ap (λ n. n + 1) a.items; looks = le_trans a.looks b.looks; fetches = le_trans a.fetches b.fetches; unread = b.unread ∙ a.unread; words = b.words ∙ a.words; thrifty = b.thrifty }
 
 pub back_on : (u v w : Walk) (r : Option ℕ) → Seeks u v → StepsBack v r w → StepsBack u r w
-back_on u v w None a b = record { gave = (sym a.left ∙ b.gave.0, b.gave.1); items = b.items ∙ a.items; looks = le_trans a.looks b.looks; words = b.words ∙ a.words; thrifty = b.thrifty }
-back_on u v w (Some x) a b = record { gave = sym a.left ∙ b.gave; items = b.items ∙ ap (λ n. n + 1) a.items; looks = le_trans a.looks b.looks; words = b.words ∙ a.words; thrifty = b.thrifty }
+back_on u v w None a b = record { gave = (sym a.left ∙ b.gave.0, b.gave.1); items = b.items ∙ a.items; looks = le_trans a.looks b.looks; fetches = le_trans a.fetches b.fetches; unread = b.unread ∙ a.unread; words = b.words ∙ a.words; thrifty = b.thrifty }
+back_on u v w (Some x) a b = record { gave = sym a.left ∙ b.gave; items = b.items ∙ ap (λ n. n + 1) a.items; looks = le_trans a.looks b.looks; fetches = le_trans a.fetches b.fetches; unread = b.unread ∙ a.unread; words = b.words ∙ a.words; thrifty = b.thrifty }
 
-module _ {B E O W : Type 0} (s : PlainSet) (w : ℕ) where
+module _ {B E O W : Type 0} (s : PlainSet) (words w : ℕ) where
   -- the looks are paid by what a walk keeps
-  pub thrifty : (t : Standing B E O W) → Retires (s.capacity / w) t → IsThrifty (walk_of s w t)
-  thrifty t r = record { at_least = r.at_least; at_most = omega (arith, r.at_most) }
-
-  -- where a walk begins all items are left
-  pub begins : (t : Standing B E O W) → 0 < w → (n : ℕ) × (s.capacity ≡ n * w) → t.copies.head ≡ None → t.copies.tail ≡ None → t.copies.looks ≡ 0 → t.low ≡ 0 → t.high ≡ s.capacity / w → t.items ≡ 0 → (left_in s w t ≡ ascending s) × Retires (s.capacity / w) t
-  begins t word whole h l n a b i =
-      let first : t.low * w ≡ 0 = ap (λ k. k * w) a ∙ zero-mul w in
-      let count : s.capacity / w ≡ whole.0 = ap (λ c. c / w) whole.1 ∙ mul-div_left whole.0 word in
-      let last : t.high * w ≡ s.capacity = ap (λ k. k * w) (b ∙ count) ∙ sym whole.1 in
-      let one : held t.copies.head ≡ 0 = ap held h in
-      let two : held t.copies.tail ≡ 0 = ap held l in (
-        rw (h, l) (append-nil _ ∙ between_all s (t.low * w) (t.high * w) first last),
-        record { ordered = omega arith; within = omega arith; at_least = omega arith; at_most = omega arith },
-      )
+  pub thrifty : (t : Standing B E O W) → Retires words t → IsThrifty (walk_of s words w t)
+  thrifty t r = record { at_least = r.at_least; at_most = omega (arith, r.at_most); once = r.once }
 
   -- ---- the looks
 
   -- a look that gave an item
-  retires_gave : (t : Standing B E O W) (c : Held) (i : ℕ) → Retires (s.capacity / w) t → c.looks ≡ t.copies.looks + 1 → held c.head ≡ held t.copies.head → held c.tail ≡ held t.copies.tail → i ≡ t.items + 1 → Retires (s.capacity / w) (let u : Standing B E O W = record { copies = c; low = t.low; high = t.high; items = i } in u)
-  retires_gave t c i r l h e n = record { ordered = r.ordered; within = omega (arith, r.within); at_least = omega (arith, r.at_least); at_most = omega (arith, r.at_most) }
+  retires_gave : (t : Standing B E O W) (c : Held) (i : ℕ) → Retires words t → c.looks ≡ t.copies.looks + 1 → held c.head ≡ held t.copies.head → held c.tail ≡ held t.copies.tail → c.fetches ≡ t.copies.fetches → i ≡ t.items + 1 → Retires words (let u : Standing B E O W = record { copies = c; low = t.low; high = t.high; items = i } in u)
+  retires_gave t c i r l h e q n = record { ordered = r.ordered; within = omega (arith, r.within); at_least = omega (arith, r.at_least); at_most = omega (arith, r.at_most); once = omega (arith, r.once) }
 
   -- a look that retired a copy, or met none
-  retires_met : (t : Standing B E O W) (c : Held) (a b : ℕ) → Retires (s.capacity / w) t → c.looks ≡ t.copies.looks + (a + b) → held c.head + a ≡ held t.copies.head → held c.tail + b ≡ held t.copies.tail → Retires (s.capacity / w) (let u : Standing B E O W = record { copies = c; low = t.low; high = t.high; items = t.items } in u)
-  retires_met t c a b r l h e = record { ordered = r.ordered; within = omega (arith, r.within); at_least = omega (arith, r.at_least); at_most = omega (arith, r.at_most) }
+  retires_met : (t : Standing B E O W) (c : Held) (a b : ℕ) → Retires words t → c.looks ≡ t.copies.looks + (a + b) → held c.head + a ≡ held t.copies.head → held c.tail + b ≡ held t.copies.tail → c.fetches ≡ t.copies.fetches → Retires words (let u : Standing B E O W = record { copies = c; low = t.low; high = t.high; items = t.items } in u)
+  retires_met t c a b r l h e q = record { ordered = r.ordered; within = omega (arith, r.within); at_least = omega (arith, r.at_least); at_most = omega (arith, r.at_most); once = omega (arith, r.once) }
 
   -- ---- from the front
 
-  pub head_retired : (t : Standing B E O W) (c : Held) → Retires (s.capacity / w) t → TakesFirst t.copies.head None c.head → c.looks ≡ t.copies.looks + held t.copies.head → c.tail ≡ t.copies.tail →
+  pub head_retired : (t : Standing B E O W) (c : Held) → Retires words t → TakesFirst t.copies.head None c.head → c.looks ≡ t.copies.looks + held t.copies.head → c.tail ≡ t.copies.tail → c.fetches ≡ t.copies.fetches →
       let u : Standing B E O W = record { copies = c; low = t.low; high = t.high; items = t.items } in
-      Seeks (walk_of s w t) (walk_of s w u) × Retires (s.capacity / w) u
-  head_retired t c r f l e =
+      Seeks (walk_of s words w t) (walk_of s words w u) × Retires words u
+  head_retired t c r f l e q =
       let after : held c.head ≡ 0 = ap held f.1 in (
-        record { left = rw (f.0, f.1, e) refl; items = refl; looks = omega arith; words = refl },
-        retires_met t c (held t.copies.head) 0 r (omega arith) (omega arith) (omega (arith, ap held e)),
+        record { left = rw (f.0, f.1, e) refl; items = refl; looks = omega arith; fetches = omega arith; unread = ap (λ n. n + (t.high - t.low)) q; words = refl },
+        retires_met t c (held t.copies.head) 0 r (omega arith) (omega arith) (omega (arith, ap held e)) q,
       )
 
   -- the next word between is copied to the head
-  pub head_fetched : (t : Standing B E O W) (xs : List ℕ) → Retires (s.capacity / w) t → t.copies.head ≡ None → t.low < t.high → xs ≡ between s (t.low * w) (t.low * w + w) →
-      let u : Standing B E O W = record { copies = record { head = Some xs; tail = t.copies.tail; looks = t.copies.looks }; low = t.low + 1; high = t.high; items = t.items } in
-      Seeks (walk_of s w t) (walk_of s w u) × Retires (s.capacity / w) u
+  pub head_fetched : (t : Standing B E O W) (xs : List ℕ) → Retires words t → t.copies.head ≡ None → t.low < t.high → xs ≡ between s (t.low * w) (t.low * w + w) →
+      let u : Standing B E O W = record { copies = record { head = Some xs; tail = t.copies.tail; looks = t.copies.looks; fetches = t.copies.fetches + 1 }; low = t.low + 1; high = t.high; items = t.items } in
+      Seeks (walk_of s words w t) (walk_of s words w u) × Retires words u
   head_fetched t xs r f b e =
       let next : (t.low + 1) * w ≡ t.low * w + w = omega arith in
       let up : t.low * w + w ≤ t.high * w = rw (← next) (mul-le-mul_right w (omega arith)) in
@@ -78,44 +68,46 @@ module _ {B E O W : Type 0} (s : PlainSet) (w : ℕ) where
           left = rw (f, e, next) (sym (append_assoc (between s (t.low * w) (t.low * w + w)) (between s (t.low * w + w) (t.high * w)) rest) ∙ ap (λ xs. xs ++ rest) (sym (between_split s (t.low * w) (t.low * w + w) (t.high * w) (omega arith) up)));
           items = refl;
           looks = omega arith;
+          fetches = omega arith;
+          unread = omega arith;
           words = refl;
         },
-        record { ordered = omega arith; within = r.within; at_least = r.at_least; at_most = omega (arith, r.at_most) },
+        record { ordered = omega arith; within = r.within; at_least = r.at_least; at_most = omega (arith, r.at_most); once = omega (arith, r.once) },
       )
 
   -- no word is left between, and the tail gives
-  pub tail_gave : (t : Standing B E O W) (c : Held) (i x : ℕ) → Retires (s.capacity / w) t → t.copies.head ≡ None → t.low ≡ t.high → TakesFirst t.copies.tail (Some x) c.tail → c.looks ≡ t.copies.looks + held t.copies.tail → c.head ≡ t.copies.head → i ≡ t.items + 1 →
+  pub tail_gave : (t : Standing B E O W) (c : Held) (i x : ℕ) → Retires words t → t.copies.head ≡ None → t.low ≡ t.high → TakesFirst t.copies.tail (Some x) c.tail → c.looks ≡ t.copies.looks + held t.copies.tail → c.head ≡ t.copies.head → c.fetches ≡ t.copies.fetches → i ≡ t.items + 1 →
       let u : Standing B E O W = record { copies = c; low = t.low; high = t.high; items = i } in
-      StepsFront (walk_of s w t) (Some x) (walk_of s w u) × Retires (s.capacity / w) u
-  tail_gave t c i x r z b f l e n =
+      StepsFront (walk_of s words w t) (Some x) (walk_of s words w u) × Retires words u
+  tail_gave t c i x r z b f l e q n =
       let before : held t.copies.tail ≡ 1 = ap held f.1 in
       let after : held c.tail ≡ 1 = ap held f.2 in
-      let kept = retires_gave t c i r (omega arith) (ap held e) (omega arith) n in
-      (record { gave = rw (e, z, f.1, f.2, b, between_empty s (t.high * w)) refl; items = n; looks = omega arith; words = refl; thrifty = thrifty _ kept }, kept)
+      let kept = retires_gave t c i r (omega arith) (ap held e) (omega arith) q n in
+      (record { gave = rw (e, z, f.1, f.2, b, between_empty s (t.high * w)) refl; items = n; looks = omega arith; fetches = omega arith; unread = ap (λ n. n + (t.high - t.low)) q; words = refl; thrifty = thrifty _ kept }, kept)
 
-  pub front_ended : (t : Standing B E O W) (c : Held) → Retires (s.capacity / w) t → t.copies.head ≡ None → t.low ≡ t.high → TakesFirst t.copies.tail None c.tail → c.looks ≡ t.copies.looks + held t.copies.tail → c.head ≡ t.copies.head →
+  pub front_ended : (t : Standing B E O W) (c : Held) → Retires words t → t.copies.head ≡ None → t.low ≡ t.high → TakesFirst t.copies.tail None c.tail → c.looks ≡ t.copies.looks + held t.copies.tail → c.head ≡ t.copies.head → c.fetches ≡ t.copies.fetches →
       let u : Standing B E O W = record { copies = c; low = t.low; high = t.high; items = t.items } in
-      StepsFront (walk_of s w t) None (walk_of s w u) × Retires (s.capacity / w) u
-  front_ended t c r z b f l e =
+      StepsFront (walk_of s words w t) None (walk_of s words w u) × Retires words u
+  front_ended t c r z b f l e q =
       let after : held c.tail ≡ 0 = ap held f.1 in
-      let kept = retires_met t c 0 (held t.copies.tail) r (omega arith) (omega (arith, ap held e)) (omega arith) in
-      (record { gave = (rw (z, f.0, b, between_empty s (t.high * w)) refl, rw (e, z, f.1, b, between_empty s (t.high * w)) refl); items = refl; looks = omega arith; words = refl; thrifty = thrifty _ kept }, kept)
+      let kept = retires_met t c 0 (held t.copies.tail) r (omega arith) (omega (arith, ap held e)) (omega arith) q in
+      (record { gave = (rw (z, f.0, b, between_empty s (t.high * w)) refl, rw (e, z, f.1, b, between_empty s (t.high * w)) refl); items = refl; looks = omega arith; fetches = omega arith; unread = ap (λ n. n + (t.high - t.low)) q; words = refl; thrifty = thrifty _ kept }, kept)
 
   -- ---- the same from the back
 
-  pub tail_retired : (t : Standing B E O W) (c : Held) → Retires (s.capacity / w) t → TakesLast t.copies.tail None c.tail → c.looks ≡ t.copies.looks + held t.copies.tail → c.head ≡ t.copies.head →
+  pub tail_retired : (t : Standing B E O W) (c : Held) → Retires words t → TakesLast t.copies.tail None c.tail → c.looks ≡ t.copies.looks + held t.copies.tail → c.head ≡ t.copies.head → c.fetches ≡ t.copies.fetches →
       let u : Standing B E O W = record { copies = c; low = t.low; high = t.high; items = t.items } in
-      Seeks (walk_of s w t) (walk_of s w u) × Retires (s.capacity / w) u
-  tail_retired t c r f l e =
+      Seeks (walk_of s words w t) (walk_of s words w u) × Retires words u
+  tail_retired t c r f l e q =
       let after : held c.tail ≡ 0 = ap held f.1 in (
-        record { left = rw (f.0, f.1, e) refl; items = refl; looks = omega arith; words = refl },
-        retires_met t c 0 (held t.copies.tail) r (omega arith) (omega (arith, ap held e)) (omega arith),
+        record { left = rw (f.0, f.1, e) refl; items = refl; looks = omega arith; fetches = omega arith; unread = ap (λ n. n + (t.high - t.low)) q; words = refl },
+        retires_met t c 0 (held t.copies.tail) r (omega arith) (omega (arith, ap held e)) (omega arith) q,
       )
 
   -- the last word between is copied to the tail
-  pub tail_fetched : (t : Standing B E O W) (xs : List ℕ) → Retires (s.capacity / w) t → t.copies.tail ≡ None → t.low < t.high → xs ≡ between s ((t.high - 1) * w) ((t.high - 1) * w + w) →
-      let u : Standing B E O W = record { copies = record { head = t.copies.head; tail = Some xs; looks = t.copies.looks }; low = t.low; high = t.high - 1; items = t.items } in
-      Seeks (walk_of s w t) (walk_of s w u) × Retires (s.capacity / w) u
+  pub tail_fetched : (t : Standing B E O W) (xs : List ℕ) → Retires words t → t.copies.tail ≡ None → t.low < t.high → xs ≡ between s ((t.high - 1) * w) ((t.high - 1) * w + w) →
+      let u : Standing B E O W = record { copies = record { head = t.copies.head; tail = Some xs; looks = t.copies.looks; fetches = t.copies.fetches + 1 }; low = t.low; high = t.high - 1; items = t.items } in
+      Seeks (walk_of s words w t) (walk_of s words w u) × Retires words u
   tail_fetched t xs r f b e =
       let one_less : (t.high - 1) + 1 ≡ t.high = omega arith in
       let next : t.high * w ≡ (t.high - 1) * w + w = ap (λ n. n * w) (sym one_less) ∙ omega arith in
@@ -125,25 +117,27 @@ module _ {B E O W : Type 0} (s : PlainSet) (w : ℕ) where
           left = rw (f, e, next) (ap (λ xs. items_in t.copies.head ++ xs) (sym (between_split s (t.low * w) ((t.high - 1) * w) ((t.high - 1) * w + w) up (omega arith)) ∙ sym (append-nil (between s (t.low * w) ((t.high - 1) * w + w)))));
           items = refl;
           looks = omega arith;
+          fetches = omega arith;
+          unread = omega arith;
           words = refl;
         },
-        record { ordered = omega arith; within = omega (arith, r.within); at_least = r.at_least; at_most = omega (arith, r.at_most) },
+        record { ordered = omega arith; within = omega (arith, r.within); at_least = r.at_least; at_most = omega (arith, r.at_most); once = omega (arith, r.once) },
       )
 
   -- no word is left between, and the head gives
-  pub head_gave_back : (t : Standing B E O W) (c : Held) (i x : ℕ) → Retires (s.capacity / w) t → t.copies.tail ≡ None → t.low ≡ t.high → TakesLast t.copies.head (Some x) c.head → c.looks ≡ t.copies.looks + held t.copies.head → c.tail ≡ t.copies.tail → i ≡ t.items + 1 →
+  pub head_gave_back : (t : Standing B E O W) (c : Held) (i x : ℕ) → Retires words t → t.copies.tail ≡ None → t.low ≡ t.high → TakesLast t.copies.head (Some x) c.head → c.looks ≡ t.copies.looks + held t.copies.head → c.tail ≡ t.copies.tail → c.fetches ≡ t.copies.fetches → i ≡ t.items + 1 →
       let u : Standing B E O W = record { copies = c; low = t.low; high = t.high; items = i } in
-      StepsBack (walk_of s w t) (Some x) (walk_of s w u) × Retires (s.capacity / w) u
-  head_gave_back t c i x r z b f l e n =
+      StepsBack (walk_of s words w t) (Some x) (walk_of s words w u) × Retires words u
+  head_gave_back t c i x r z b f l e q n =
       let before : held t.copies.head ≡ 1 = ap held f.1 in
       let after : held c.head ≡ 1 = ap held f.2 in
-      let kept = retires_gave t c i r (omega arith) (omega arith) (ap held e) n in
-      (record { gave = rw (e, z, f.1, f.2, b, between_empty s (t.high * w)) (simp append-nil); items = n; looks = omega arith; words = refl; thrifty = thrifty _ kept }, kept)
+      let kept = retires_gave t c i r (omega arith) (omega arith) (ap held e) q n in
+      (record { gave = rw (e, z, f.1, f.2, b, between_empty s (t.high * w)) (simp append-nil); items = n; looks = omega arith; fetches = omega arith; unread = ap (λ n. n + (t.high - t.low)) q; words = refl; thrifty = thrifty _ kept }, kept)
 
-  pub back_ended : (t : Standing B E O W) (c : Held) → Retires (s.capacity / w) t → t.copies.tail ≡ None → t.low ≡ t.high → TakesLast t.copies.head None c.head → c.looks ≡ t.copies.looks + held t.copies.head → c.tail ≡ t.copies.tail →
+  pub back_ended : (t : Standing B E O W) (c : Held) → Retires words t → t.copies.tail ≡ None → t.low ≡ t.high → TakesLast t.copies.head None c.head → c.looks ≡ t.copies.looks + held t.copies.head → c.tail ≡ t.copies.tail → c.fetches ≡ t.copies.fetches →
       let u : Standing B E O W = record { copies = c; low = t.low; high = t.high; items = t.items } in
-      StepsBack (walk_of s w t) None (walk_of s w u) × Retires (s.capacity / w) u
-  back_ended t c r z b f l e =
+      StepsBack (walk_of s words w t) None (walk_of s words w u) × Retires words u
+  back_ended t c r z b f l e q =
       let after : held c.head ≡ 0 = ap held f.1 in
-      let kept = retires_met t c (held t.copies.head) 0 r (omega arith) (omega arith) (omega (arith, ap held e)) in
-      (record { gave = (rw (z, f.0, b, between_empty s (t.high * w)) refl, rw (e, z, f.1, b, between_empty s (t.high * w)) refl); items = refl; looks = omega arith; words = refl; thrifty = thrifty _ kept }, kept)
+      let kept = retires_met t c (held t.copies.head) 0 r (omega arith) (omega arith) (omega (arith, ap held e)) q in
+      (record { gave = (rw (z, f.0, b, between_empty s (t.high * w)) refl, rw (e, z, f.1, b, between_empty s (t.high * w)) refl); items = refl; looks = omega arith; fetches = omega arith; unread = ap (λ n. n + (t.high - t.low)) q; words = refl; thrifty = thrifty _ kept }, kept)

@@ -23,11 +23,12 @@ abbrev pub IsInReach : {W : Type 0} → ℕ → Option (Copied W) → Type 0
 IsInReach w None = Unit {0}
 IsInReach w (Some c) = c.base + w < 4294967296
 
--- two copies, by the items that each has left, and the looks at them
+-- two copies, by the items that each has left, the looks at them, and the fetches of words
 pub record Held : Type 0 where
   pub head : Option (List ℕ)
   pub tail : Option (List ℕ)
   pub looks : ℕ
+  pub fetches : ℕ
 
 -- the items of a copy, and none where there is no copy
 abbrev pub items_in : Option (List ℕ) → List ℕ

@@ -1,5 +1,5 @@
 -- Where a walk stands: two copies, and the words between them.
-use Rattle.std.specs.Prelude.{ℕ, ◌+◌, ◌-◌, ◌*◌, ◌/◌, ◌≤◌, List, ◌++◌}
+use Rattle.std.specs.Prelude.{ℕ, ◌+◌, ◌-◌, ◌*◌, ◌≤◌, List, ◌++◌}
 use Rattle.bittle_bits.specs.Copies.{between, items_in, held}
 use Rattle.bittle_bits.specs.PlainSet.{PlainSet}
 use Rattle.bittle_bits.specs.Walk.{Walk}
@@ -11,13 +11,21 @@ module _ {B E O W : Type 0} where
   abbrev pub left_in : PlainSet → ℕ → Standing B E O W → List ℕ
   left_in s w at = items_in at.copies.head ++ (between s (at.low * w) (at.high * w) ++ items_in at.copies.tail)
 
-  -- the walk over a set of words of w digits
-  abbrev pub walk_of : PlainSet → ℕ → Standing B E O W → Walk
-  walk_of s w at = record { left = left_in s w at; looks = at.copies.looks; items = at.items; words = s.capacity / w }
+  -- the walk over a set that has so many words of w digits
+  abbrev pub walk_of : PlainSet → ℕ → ℕ → Standing B E O W → Walk
+  walk_of s words w at = record {
+    left = left_in s w at;
+    looks = at.copies.looks;
+    items = at.items;
+    fetches = at.copies.fetches;
+    unread = at.high - at.low;
+    words = words;
+  }
 
--- each look gave an item or retired one of the words
+-- each look gave an item or retired one of the words, and each word was fetched once or is between the copies
 pub record Retires {B E O W : Type 0} (words : ℕ) (at : Standing B E O W) : Type 0 where
   pub ordered : at.low ≤ at.high
   pub within : at.high + held at.copies.tail ≤ words
   pub at_least : at.items ≤ at.copies.looks
   pub at_most : at.copies.looks + held at.copies.head + (at.high - at.low) + held at.copies.tail ≤ at.items + words
+  pub once : at.copies.fetches + (at.high - at.low) ≤ words

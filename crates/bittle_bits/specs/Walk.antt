@@ -20,47 +20,58 @@ pub record Walk : Type 0 where
   -- how many looks at words it has made, and how many items it has given
   pub looks : ℕ
   pub items : ℕ
+  -- how many words it has fetched, and how many it has not fetched yet
+  pub fetches : ℕ
+  pub unread : ℕ
   -- how many words its set has
   pub words : ℕ
 
--- the looks are at least the items given, and at most these and the words
+-- the looks are at least the items given, and at most these and the words; the words fetched and the unread are at most the words
 pub record IsThrifty (w : Walk) : Type 0 where
   pub at_least : w.items ≤ w.looks
   pub at_most : w.looks ≤ w.items + w.words
+  pub once : w.fetches + w.unread ≤ w.words
 
 -- one more where a step gave an item
 abbrev pub counted : ℕ → Option ℕ → ℕ
 counted n None = n
 counted n (Some item) = n + 1
 
--- a step from the front: it gave the first item that was left, or None where none was
+-- a step from the front: it gave the first item that was left, or None where none was, and each word that it fetched was unread
 pub record StepsFront (before : Walk) (r : Option ℕ) (after : Walk) : Type 0 where
   pub gave : YieldsFirst (λ w. w.left) before r after
   pub items : after.items ≡ counted before.items r
   pub looks : before.looks ≤ after.looks
+  pub fetches : before.fetches ≤ after.fetches
+  pub unread : after.fetches + after.unread ≡ before.fetches + before.unread
   pub words : after.words ≡ before.words
   pub thrifty : IsThrifty after
 
--- a step from the back: it gave the last item that was left, or None where none was
+-- a step from the back: it gave the last item that was left, or None where none was, and each word that it fetched was unread
 pub record StepsBack (before : Walk) (r : Option ℕ) (after : Walk) : Type 0 where
   pub gave : YieldsLast (λ w. w.left) before r after
   pub items : after.items ≡ counted before.items r
   pub looks : before.looks ≤ after.looks
+  pub fetches : before.fetches ≤ after.fetches
+  pub unread : after.fetches + after.unread ≡ before.fetches + before.unread
   pub words : after.words ≡ before.words
   pub thrifty : IsThrifty after
 
--- a walk that has not stepped yet, and what runs of its steps give
+-- a walk that has not stepped yet: it has fetched a word for each end at most; and what runs of its steps give
 pub record IsFresh (words : ℕ) (w : Walk) : Type 0 where
   pub looks : w.looks ≡ 0
   pub items : w.items ≡ 0
+  pub fetches : w.fetches ≤ 2
   pub words_are : w.words ≡ words
   pub thrifty : IsThrifty w
   pub in_order : YieldsInOrder StepsFront (λ s. s.left)
   pub in_reverse : YieldsInReverse StepsBack (λ s. s.left)
 
--- a clone has what its source has left, and has counted nothing
+-- a clone has what its source has left, items and unread words, and has counted nothing
 pub record ResumesAs (source clone : Walk) : Type 0 where
   pub left : clone.left ≡ source.left
+  pub unread : clone.unread ≡ source.unread
+  pub fetches : clone.fetches ≡ 0
   pub fresh : IsFresh source.words clone
 
 -- runs of steps over a list of numbers give it from its first item on, and from its last

@@ -14,6 +14,7 @@ use crate::endian::{BigEndian, DefaultEndian, Endian, LittleEndian};
 use crate::hidden::{Number, Sealed};
 use crate::join::JoinOnes;
 use crate::kind::{Ones, Zeros};
+use crate::look::Source;
 use crate::search;
 use crate::walk::{Iter, IterOnes, IterZeros};
 
@@ -197,7 +198,7 @@ pub trait Bits: Drop + Sealed {
         ensures fresh { IsFresh ((big self.now).capacity / width) result }
         ensures below { AreBelow (big self.now).capacity result.left }
     {
-        Iter::new(self)
+        Iter::new(Source::new(self))
     }
 
     /// The numbers below the capacity that are no members, in increasing order in the order `E`, from both ends. The shape
@@ -213,7 +214,7 @@ pub trait Bits: Drop + Sealed {
         ensures fresh { IsFresh ((big self.now).capacity / width) result }
         ensures below { AreBelow (big self.now).capacity result.left }
     {
-        Iter::new(self)
+        Iter::new(Source::new(self))
     }
 
     /// [`iter_ones_in`](Bits::iter_ones_in) in the order of the type.

@@ -9,6 +9,7 @@ ghost use Rattle.bittle_bits.specs.Walk.{AreBelow, IsFresh};
 
 use crate::bits_mut::BitsMut;
 use crate::endian::{BigEndian, Endian, LittleEndian};
+use crate::look::OwnedSource;
 use crate::walk::{IntoIter, IntoIterOnes, IntoIterZeros};
 
 /// A set that is copied with its value. All values of the type have one capacity.
@@ -180,7 +181,7 @@ pub trait BitsOwned: Copy + Eq + BitsMut {
         ensures fresh { IsFresh ((Self.big self).capacity / Self.width) result }
         ensures below { AreBelow (Self.big self).capacity result.left }
     {
-        IntoIter::new(self)
+        IntoIter::new(OwnedSource::new(self))
     }
 
     /// [`into_iter_ones_in`](BitsOwned::into_iter_ones_in) in the order of the type.
@@ -233,7 +234,7 @@ pub trait BitsOwned: Copy + Eq + BitsMut {
         ensures fresh { IsFresh ((Self.big self).capacity / Self.width) result }
         ensures below { AreBelow (Self.big self).capacity result.left }
     {
-        IntoIter::new(self)
+        IntoIter::new(OwnedSource::new(self))
     }
 
     /// [`into_iter_zeros_in`](BitsOwned::into_iter_zeros_in) in the order of the type.

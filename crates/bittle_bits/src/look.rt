@@ -1,12 +1,14 @@
-//! The looks of walks: a walk reads its set through copies of words, and each search of a copy is counted.
+//! The looks and the fetches of walks: a walk reads its set through copies of words alone, and each fetch of a word and each
+//! search of a copy is counted.
 
-ghost use Rattle.std.specs.Prelude.{◌≡◌, ◌+◌, ◌*◌, ◌<◌, Some, None};
+ghost use Rattle.std.specs.Prelude.{◌≡◌, ◌+◌, ◌*◌, ◌/◌, ◌<◌, Some, None};
 ghost use Rattle.bittle_bits.specs.Copies.{between, copied, held, items_of, IsInReach, TakesFirst, TakesLast};
 ghost use Rattle.bittle_bits.specs.Orders.{members};
 ghost use Rattle.bittle_bits.specs.Shapes.{Fits};
 ghost use Rattle.bittle_bits.specs.Walk.{wanted};
 
 use crate::bits::Bits;
+use crate::bits_owned::BitsOwned;
 use crate::count::Count;
 use crate::endian::Endian;
 use crate::hidden::Number;
@@ -21,17 +23,88 @@ struct Copied<W: Copy> {
     base: u32,
 }
 
-// Word `k` of a set, with the bits that the kind wants.
+/// A set that a walk borrows: its words can be counted and fetched, and nothing else can be asked of it.
+#[derive(Drop)]
+pub struct Source<'a, B: Bits> {
+    set: &'a B,
+}
+
+impl<'a, B: Bits> Source<'a, B> {
+    /// Lends the words of a set.
+    #[inline]
+    pub fn new(set: &'a B) -> Source<'a, B>
+        ensures { result.set.now ≡ set.now }
+    {
+        Source { set }
+    }
+
+    /// Lends the words of the same set.
+    #[inline]
+    pub fn again(&self) -> Source<'a, B>
+        ensures { result.set ≡ self.now.set }
+    {
+        Source { set: self.set }
+    }
+
+    /// Returns how many words the set has.
+    #[inline]
+    pub fn words(&self) -> u32
+        requires { Fits B.indexable (B.big self.now.set.now).capacity }
+        ensures { result ≡ (B.big self.now.set.now).capacity / B.width }
+    {
+        self.set.bits_capacity() / <B::LeafWord as Number>::width()
+    }
+}
+
+/// A set that a walk owns: all it can do is to lend its words.
+#[derive(Drop)]
+pub struct OwnedSource<B: BitsOwned> {
+    set: B,
+}
+
+impl<B: BitsOwned> OwnedSource<B> {
+    /// Takes the set.
+    #[inline]
+    pub fn new(set: B) -> OwnedSource<B>
+        ensures { result.set ≡ set }
+    {
+        OwnedSource { set }
+    }
+
+    /// Lends the words of the set.
+    #[inline]
+    pub fn lend(&self) -> Source<'_, B>
+        ensures { result.set.now ≡ self.now.set }
+    {
+        Source { set: &self.set }
+    }
+
+    /// Returns the same set.
+    #[inline]
+    pub fn again(&self) -> OwnedSource<B>
+        ensures { result.set ≡ self.now.set }
+    {
+        OwnedSource { set: self.set }
+    }
+}
+
+// Fetches word `k`, with the bits that the kind wants.
 #[inline]
-fn copy_of<B: Bits, E: Endian, K: Kind>(bits: &B, k: u32) -> Copied<B::LeafWord>
-    requires fits { Fits B.indexable (B.big bits.now).capacity }
-    requires within { k * B.width < (B.big bits.now).capacity }
+fn fetch<B: Bits, E: Endian, K: Kind>(
+    source: &Source<'_, B>,
+    k: u32,
+    fetches: &mut Count,
+) -> Copied<B::LeafWord>
+    requires fits { Fits B.indexable (B.big source.now.set.now).capacity }
+    requires within { k * B.width < (B.big source.now.set.now).capacity }
     ensures items { items_of E.mirrored B.LeafWord.width (B.LeafWord.digits result.word) result.base
-        ≡ between (wanted K.ONES (members E.mirrored B.width (B.big bits.now))) (k * B.width) (k * B.width + B.width) }
+        ≡ between (wanted K.ONES (members E.mirrored B.width (B.big source.now.set.now))) (k * B.width) (k * B.width + B.width) }
     ensures reach { result.base + B.LeafWord.width < 4294967296 }
+    ensures fetches { fetches.new ≡ fetches.old + 1 }
 {
+    fetches.raise();
     Copied {
-        word: wanted_word::<B, K>(bits, k),
+        word: wanted_word::<B, K>(source.set, k),
         base: k * <B::LeafWord as Number>::width(),
     }
 }
@@ -78,12 +151,14 @@ fn take_last<W: Number, E: Endian>(copy: &mut Option<Copied<W>>, looks: &mut Cou
 
 /// The two words that a walk has copied: for a walk of zeros, with each bit flipped.
 ///
-/// Fetching a word is no look. Each call that searches a copy is one look, and gives an item or retires the copy.
+/// Each fetch of a word is counted, and is no look. Each call that searches a copy is one look, and gives an item or retires
+/// the copy.
 #[derive(Drop)]
 pub struct Copies<W: Number, E: Endian> {
     head: Option<Copied<W>>,
     tail: Option<Copied<W>>,
     looks: Count,
+    fetches: Count,
     order: PhantomData<E>,
 }
 
@@ -92,39 +167,41 @@ impl<W: Number, E: Endian> Model for Copies<W, E> {
 
     ghost Value = { Held };
 
-    ghost view = { λ c. record { head = copied E.mirrored W.width W.digits c.head; tail = copied E.mirrored W.width W.digits c.tail; looks = c.looks } };
+    ghost view = { λ c. record { head = copied E.mirrored W.width W.digits c.head; tail = copied E.mirrored W.width W.digits c.tail; looks = c.looks; fetches = c.fetches } };
 
     ghost invariant = { λ c. IsInReach W.width c.head × IsInReach W.width c.tail };
 }
 
 impl<W: Number, E: Endian> Copies<W, E> {
-    /// No copies, and no looks yet.
+    /// Makes no copies, with no looks and no fetches yet.
     #[inline]
     pub fn none() -> Copies<W, E>
-        ensures { result ≡ record { head = None; tail = None; looks = 0 } }
+        ensures { result ≡ record { head = None; tail = None; looks = 0; fetches = 0 } }
     {
         Copies {
             head: None,
             tail: None,
             looks: Count::new(),
+            fetches: Count::new(),
             order: PhantomData,
         }
     }
 
-    /// The same copies, with no looks yet.
+    /// Returns the same copies, with no looks and no fetches yet.
     #[inline]
     pub fn again(&self) -> Copies<W, E>
-        ensures { result ≡ record { head = self.now.head; tail = self.now.tail; looks = 0 } }
+        ensures { result ≡ record { head = self.now.head; tail = self.now.tail; looks = 0; fetches = 0 } }
     {
         Copies {
             head: self.head,
             tail: self.tail,
             looks: Count::new(),
+            fetches: Count::new(),
             order: PhantomData,
         }
     }
 
-    /// How many looks there were.
+    /// Returns how many looks there were.
     #[inline]
     pub fn looks(&self) -> &Count
         ensures { result.now ≡ self.now.looks }
@@ -132,24 +209,36 @@ impl<W: Number, E: Endian> Copies<W, E> {
         &self.looks
     }
 
-    /// Copies word `k` to the head, with the bits that the kind wants.
+    /// Fetches word `k` to the head, with the bits that the kind wants.
     #[inline]
-    pub fn fetch_head<B: Bits<LeafWord = W>, K: Kind>(&mut self, bits: &B, k: u32)
-        requires fits { Fits B.indexable (B.big bits.now).capacity }
-        requires within { k * B.width < (B.big bits.now).capacity }
-        ensures { self.new ≡ record { head = Some (between (wanted K.ONES (members E.mirrored B.width (B.big bits.now))) (k * B.width) (k * B.width + B.width)); tail = self.old.tail; looks = self.old.looks } }
+    pub fn fetch_head<B: Bits<LeafWord = W>, K: Kind>(&mut self, source: &Source<'_, B>, k: u32)
+        requires fits { Fits B.indexable (B.big source.now.set.now).capacity }
+        requires within { k * B.width < (B.big source.now.set.now).capacity }
+        ensures { self.new ≡ record {
+          head = Some (between (wanted K.ONES (members E.mirrored B.width (B.big source.now.set.now)))
+              (k * B.width) (k * B.width + B.width));
+          tail = self.old.tail;
+          looks = self.old.looks;
+          fetches = self.old.fetches + 1;
+        } }
     {
-        self.head = Some(copy_of::<B, E, K>(bits, k));
+        self.head = Some(fetch::<B, E, K>(source, k, &mut self.fetches));
     }
 
-    /// Copies word `k` to the tail, with the bits that the kind wants.
+    /// Fetches word `k` to the tail, with the bits that the kind wants.
     #[inline]
-    pub fn fetch_tail<B: Bits<LeafWord = W>, K: Kind>(&mut self, bits: &B, k: u32)
-        requires fits { Fits B.indexable (B.big bits.now).capacity }
-        requires within { k * B.width < (B.big bits.now).capacity }
-        ensures { self.new ≡ record { head = self.old.head; tail = Some (between (wanted K.ONES (members E.mirrored B.width (B.big bits.now))) (k * B.width) (k * B.width + B.width)); looks = self.old.looks } }
+    pub fn fetch_tail<B: Bits<LeafWord = W>, K: Kind>(&mut self, source: &Source<'_, B>, k: u32)
+        requires fits { Fits B.indexable (B.big source.now.set.now).capacity }
+        requires within { k * B.width < (B.big source.now.set.now).capacity }
+        ensures { self.new ≡ record {
+          head = self.old.head;
+          tail = Some (between (wanted K.ONES (members E.mirrored B.width (B.big source.now.set.now)))
+              (k * B.width) (k * B.width + B.width));
+          looks = self.old.looks;
+          fetches = self.old.fetches + 1;
+        } }
     {
-        self.tail = Some(copy_of::<B, E, K>(bits, k));
+        self.tail = Some(fetch::<B, E, K>(source, k, &mut self.fetches));
     }
 
     /// Looks at the head for its first item.
@@ -158,6 +247,7 @@ impl<W: Number, E: Endian> Copies<W, E> {
         ensures found { TakesFirst self.old.head result self.new.head }
         ensures looks { self.new.looks ≡ self.old.looks + held self.old.head }
         ensures tail { self.new.tail ≡ self.old.tail }
+        ensures fetches { self.new.fetches ≡ self.old.fetches }
     {
         take_first::<W, E>(&mut self.head, &mut self.looks)
     }
@@ -168,6 +258,7 @@ impl<W: Number, E: Endian> Copies<W, E> {
         ensures found { TakesFirst self.old.tail result self.new.tail }
         ensures looks { self.new.looks ≡ self.old.looks + held self.old.tail }
         ensures head { self.new.head ≡ self.old.head }
+        ensures fetches { self.new.fetches ≡ self.old.fetches }
     {
         take_first::<W, E>(&mut self.tail, &mut self.looks)
     }
@@ -178,6 +269,7 @@ impl<W: Number, E: Endian> Copies<W, E> {
         ensures found { TakesLast self.old.head result self.new.head }
         ensures looks { self.new.looks ≡ self.old.looks + held self.old.head }
         ensures tail { self.new.tail ≡ self.old.tail }
+        ensures fetches { self.new.fetches ≡ self.old.fetches }
     {
         take_last::<W, E>(&mut self.head, &mut self.looks)
     }
@@ -188,6 +280,7 @@ impl<W: Number, E: Endian> Copies<W, E> {
         ensures found { TakesLast self.old.tail result self.new.tail }
         ensures looks { self.new.looks ≡ self.old.looks + held self.old.tail }
         ensures head { self.new.head ≡ self.old.head }
+        ensures fetches { self.new.fetches ≡ self.old.fetches }
     {
         take_last::<W, E>(&mut self.tail, &mut self.looks)
     }

@@ -10,9 +10,8 @@ ghost use Rattle.bittle_bits.specs.Walk.{wanted, AreBelow, IsFresh, ResumesAs, S
 use crate::bits::Bits;
 use crate::count::Count;
 use crate::endian::Endian;
-use crate::hidden::Number;
 use crate::kind::Kind;
-use crate::look::Copies;
+use crate::look::{Copies, Source};
 
 /// The copies of a walk, and the range of words between them that are not copied yet.
 #[derive(Drop)]
@@ -25,39 +24,41 @@ pub struct Standing<B: Bits, E: Endian> {
 
 /// Where a walk begins: the first word is copied to the head, and the last to the tail where there are two or more.
 #[inline]
-pub fn begin<B: Bits, E: Endian, K: Kind>(bits: &B) -> Standing<B, E>
-    requires { Fits B.indexable (B.big bits.now).capacity }
-    ensures left { left_in (wanted K.ONES (members E.mirrored B.width (B.big bits.now))) B.width result
-        ≡ ascending (wanted K.ONES (members E.mirrored B.width (B.big bits.now))) }
-    ensures fresh { IsFresh ((B.big bits.now).capacity / B.width) (walk_of (wanted K.ONES (members E.mirrored B.width (B.big bits.now))) B.width result) }
-    ensures below { AreBelow (B.big bits.now).capacity
-        (left_in (wanted K.ONES (members E.mirrored B.width (B.big bits.now))) B.width result) }
-    ensures retires { Retires ((B.big bits.now).capacity / B.width) result }
+pub fn begin<B: Bits, E: Endian, K: Kind>(source: &Source<'_, B>) -> Standing<B, E>
+    requires { Fits B.indexable (B.big source.now.set.now).capacity }
+    ensures left { left_in (wanted K.ONES (members E.mirrored B.width (B.big source.now.set.now))) B.width result
+        ≡ ascending (wanted K.ONES (members E.mirrored B.width (B.big source.now.set.now))) }
+    ensures fresh { IsFresh ((B.big source.now.set.now).capacity / B.width) (walk_of (wanted K.ONES (members E.mirrored B.width (B.big source.now.set.now)))
+        ((B.big source.now.set.now).capacity / B.width) B.width result) }
+    ensures below { AreBelow (B.big source.now.set.now).capacity
+        (left_in (wanted K.ONES (members E.mirrored B.width (B.big source.now.set.now))) B.width result) }
+    ensures retires { Retires ((B.big source.now.set.now).capacity / B.width) result }
 {
     let mut at = Standing {
         copies: Copies::none(),
         low: 0,
-        high: bits.bits_capacity() / <B::LeafWord as Number>::width(),
+        high: source.words(),
         items: Count::new(),
     };
     if at.low == at.high {
         return at;
     }
-    at.copies.fetch_head::<B, K>(bits, at.low);
+    at.copies.fetch_head::<B, K>(source, at.low);
     at.low += 1;
     if at.low == at.high {
         return at;
     }
     at.high -= 1;
-    at.copies.fetch_tail::<B, K>(bits, at.high);
+    at.copies.fetch_tail::<B, K>(source, at.high);
     at
 }
 
 /// The same place, where nothing is counted yet.
 #[inline]
 pub fn again<B: Bits, E: Endian>(at: &Standing<B, E>) -> Standing<B, E>
-    ensures resumes { (s : PlainSet) (w : ℕ) → ResumesAs (walk_of s w at.now) (walk_of s w result) }
-    ensures same { result ≡ record { copies = record { head = at.now.copies.head; tail = at.now.copies.tail; looks = 0 }; low = at.now.low; high = at.now.high; items = 0 } }
+    ensures resumes { (s : PlainSet) (words w : ℕ) → Retires words at.now
+        → ResumesAs (walk_of s words w at.now) (walk_of s words w result) }
+    ensures same { result ≡ record { copies = record { head = at.now.copies.head; tail = at.now.copies.tail; looks = 0; fetches = 0 }; low = at.now.low; high = at.now.high; items = 0 } }
 {
     Standing {
         copies: at.copies.again(),
@@ -69,11 +70,16 @@ pub fn again<B: Bits, E: Endian>(at: &Standing<B, E>) -> Standing<B, E>
 
 /// Takes the first item that is left.
 #[inline]
-pub fn step_front<B: Bits, E: Endian, K: Kind>(bits: &B, at: &mut Standing<B, E>) -> Option<u32>
-    requires fits { Fits B.indexable (B.big bits.now).capacity }
-    requires retires { Retires ((B.big bits.now).capacity / B.width) at.old }
-    ensures steps { StepsFront (walk_of (wanted K.ONES (members E.mirrored B.width (B.big bits.now))) B.width at.old) result (walk_of (wanted K.ONES (members E.mirrored B.width (B.big bits.now))) B.width at.new) }
-    ensures retires { Retires ((B.big bits.now).capacity / B.width) at.new }
+pub fn step_front<B: Bits, E: Endian, K: Kind>(
+    source: &Source<'_, B>,
+    at: &mut Standing<B, E>,
+) -> Option<u32>
+    requires fits { Fits B.indexable (B.big source.now.set.now).capacity }
+    requires retires { Retires ((B.big source.now.set.now).capacity / B.width) at.old }
+    ensures steps { StepsFront (walk_of (wanted K.ONES (members E.mirrored B.width (B.big source.now.set.now)))
+        ((B.big source.now.set.now).capacity / B.width) B.width at.old) result (walk_of (wanted K.ONES (members E.mirrored B.width (B.big source.now.set.now)))
+        ((B.big source.now.set.now).capacity / B.width) B.width at.new) }
+    ensures retires { Retires ((B.big source.now.set.now).capacity / B.width) at.new }
 {
     loop {
         if let Some(item) = at.copies.first_of_head() {
@@ -83,7 +89,7 @@ pub fn step_front<B: Bits, E: Endian, K: Kind>(bits: &B, at: &mut Standing<B, E>
         if at.low == at.high {
             break;
         }
-        at.copies.fetch_head::<B, K>(bits, at.low);
+        at.copies.fetch_head::<B, K>(source, at.low);
         at.low += 1;
     }
     let Some(item) = at.copies.first_of_tail() else {
@@ -95,11 +101,16 @@ pub fn step_front<B: Bits, E: Endian, K: Kind>(bits: &B, at: &mut Standing<B, E>
 
 /// Takes the last item that is left.
 #[inline]
-pub fn step_back<B: Bits, E: Endian, K: Kind>(bits: &B, at: &mut Standing<B, E>) -> Option<u32>
-    requires fits { Fits B.indexable (B.big bits.now).capacity }
-    requires retires { Retires ((B.big bits.now).capacity / B.width) at.old }
-    ensures steps { StepsBack (walk_of (wanted K.ONES (members E.mirrored B.width (B.big bits.now))) B.width at.old) result (walk_of (wanted K.ONES (members E.mirrored B.width (B.big bits.now))) B.width at.new) }
-    ensures retires { Retires ((B.big bits.now).capacity / B.width) at.new }
+pub fn step_back<B: Bits, E: Endian, K: Kind>(
+    source: &Source<'_, B>,
+    at: &mut Standing<B, E>,
+) -> Option<u32>
+    requires fits { Fits B.indexable (B.big source.now.set.now).capacity }
+    requires retires { Retires ((B.big source.now.set.now).capacity / B.width) at.old }
+    ensures steps { StepsBack (walk_of (wanted K.ONES (members E.mirrored B.width (B.big source.now.set.now)))
+        ((B.big source.now.set.now).capacity / B.width) B.width at.old) result (walk_of (wanted K.ONES (members E.mirrored B.width (B.big source.now.set.now)))
+        ((B.big source.now.set.now).capacity / B.width) B.width at.new) }
+    ensures retires { Retires ((B.big source.now.set.now).capacity / B.width) at.new }
 {
     loop {
         if let Some(item) = at.copies.last_of_tail() {
@@ -110,7 +121,7 @@ pub fn step_back<B: Bits, E: Endian, K: Kind>(bits: &B, at: &mut Standing<B, E>)
             break;
         }
         at.high -= 1;
-        at.copies.fetch_tail::<B, K>(bits, at.high);
+        at.copies.fetch_tail::<B, K>(source, at.high);
     }
     let Some(item) = at.copies.last_of_head() else {
         return None;

@@ -14,6 +14,7 @@ use crate::bits_owned::BitsOwned;
 use crate::count::{Count, Counted};
 use crate::endian::Endian;
 use crate::kind::{Kind, Ones, Zeros};
+use crate::look::{OwnedSource, Source};
 use crate::standing::{Standing, again, begin, step_back, step_front};
 use std::alloc::AllocError;
 use std::marker::{Model, PhantomData};
@@ -36,7 +37,7 @@ pub type IntoIterZeros<B, E> = IntoIter<B, E, Zeros>;
 /// from where its source stands.
 #[derive(Drop)]
 pub struct Iter<'a, B: Bits, E: Endian, K: Kind> {
-    bits: &'a B,
+    source: Source<'a, B>,
     at: Standing<B, E>,
     kind: PhantomData<K>,
 }
@@ -51,22 +52,24 @@ impl<'a, B: Bits, E: Endian, K: Kind> Model for Iter<'a, B, E, K> {
     ghost use Rattle.bittle_bits.specs.Shapes.{Fits};
     ghost use Rattle.bittle_bits.specs.Standing.{walk_of, Retires};
 
-    ghost view = { λ w. walk_of (wanted K.ONES (members E.mirrored B.width (B.big w.bits.now))) B.width w.at };
+    ghost view = { λ w. walk_of (wanted K.ONES (members E.mirrored B.width (B.big w.source.set.now)))
+        ((B.big w.source.set.now).capacity / B.width) B.width w.at };
 
-    ghost invariant = { λ w. Fits B.indexable (B.big w.bits.now).capacity × Retires ((B.big w.bits.now).capacity / B.width) w.at };
+    ghost invariant = { λ w. Fits B.indexable (B.big w.source.set.now).capacity × Retires ((B.big w.source.set.now).capacity / B.width) w.at };
 }
 
 impl<'a, B: Bits, E: Endian, K: Kind> Iter<'a, B, E, K> {
     #[inline]
-    pub(crate) fn new(bits: &'a B) -> Self
-        requires { Fits B.indexable (B.big bits.now).capacity }
-        ensures left { result.left ≡ ascending (wanted K.ONES (members E.mirrored B.width (B.big bits.now))) }
-        ensures fresh { IsFresh ((B.big bits.now).capacity / B.width) result }
-        ensures below { AreBelow (B.big bits.now).capacity result.left }
+    pub(crate) fn new(source: Source<'a, B>) -> Self
+        requires { Fits B.indexable (B.big source.set.now).capacity }
+        ensures left { result.left
+            ≡ ascending (wanted K.ONES (members E.mirrored B.width (B.big source.entry.set.now))) }
+        ensures fresh { IsFresh ((B.big source.entry.set.now).capacity / B.width) result }
+        ensures below { AreBelow (B.big source.entry.set.now).capacity result.left }
     {
-        let at = begin::<B, E, K>(bits);
+        let at = begin::<B, E, K>(&source);
         Iter {
-            bits,
+            source,
             at,
             kind: PhantomData,
         }
@@ -82,7 +85,7 @@ impl<'a, B: Bits, E: Endian, K: Kind> Iterator for Iter<'a, B, E, K> {
 
     #[inline]
     fn next(&mut self) -> Option<u32> {
-        step_front::<B, E, K>(self.bits, &mut self.at)
+        step_front::<B, E, K>(&self.source, &mut self.at)
     }
 }
 
@@ -91,7 +94,7 @@ impl<'a, B: Bits, E: Endian, K: Kind> DoubleEndedIterator for Iter<'a, B, E, K> 
 
     #[inline]
     fn next_back(&mut self) -> Option<u32> {
-        step_back::<B, E, K>(self.bits, &mut self.at)
+        step_back::<B, E, K>(&self.source, &mut self.at)
     }
 }
 
@@ -103,7 +106,7 @@ impl<'a, B: Bits, E: Endian, K: Kind> Clone for Iter<'a, B, E, K> {
     #[inline]
     fn clone(&self) -> Result<Iter<'a, B, E, K>, AllocError> {
         Ok(Iter {
-            bits: self.bits,
+            source: self.source.again(),
             at: again(&self.at),
             kind: PhantomData,
         })
@@ -131,7 +134,7 @@ impl<'a, B: Bits, E: Endian, K: Kind> Counted for Iter<'a, B, E, K> {
 /// from where its source stands.
 #[derive(Drop)]
 pub struct IntoIter<B: BitsOwned, E: Endian, K: Kind> {
-    bits: B,
+    source: OwnedSource<B>,
     at: Standing<B, E>,
     kind: PhantomData<K>,
 }
@@ -146,22 +149,24 @@ impl<B: BitsOwned, E: Endian, K: Kind> Model for IntoIter<B, E, K> {
     ghost use Rattle.bittle_bits.specs.Shapes.{Fits};
     ghost use Rattle.bittle_bits.specs.Standing.{walk_of, Retires};
 
-    ghost view = { λ w. walk_of (wanted K.ONES (members E.mirrored B.width (B.big w.bits))) B.width w.at };
+    ghost view = { λ w. walk_of (wanted K.ONES (members E.mirrored B.width (B.big w.source.set)))
+        ((B.big w.source.set).capacity / B.width) B.width w.at };
 
-    ghost invariant = { λ w. Fits B.indexable (B.big w.bits).capacity × Retires ((B.big w.bits).capacity / B.width) w.at };
+    ghost invariant = { λ w. Fits B.indexable (B.big w.source.set).capacity × Retires ((B.big w.source.set).capacity / B.width) w.at };
 }
 
 impl<B: BitsOwned, E: Endian, K: Kind> IntoIter<B, E, K> {
     #[inline]
-    pub(crate) fn new(bits: B) -> Self
-        requires { Fits B.indexable (B.big bits).capacity }
-        ensures left { result.left ≡ ascending (wanted K.ONES (members E.mirrored B.width (B.big bits))) }
-        ensures fresh { IsFresh ((B.big bits).capacity / B.width) result }
-        ensures below { AreBelow (B.big bits).capacity result.left }
+    pub(crate) fn new(source: OwnedSource<B>) -> Self
+        requires { Fits B.indexable (B.big source.set).capacity }
+        ensures left { result.left
+            ≡ ascending (wanted K.ONES (members E.mirrored B.width (B.big source.set))) }
+        ensures fresh { IsFresh ((B.big source.set).capacity / B.width) result }
+        ensures below { AreBelow (B.big source.set).capacity result.left }
     {
-        let at = begin::<B, E, K>(&bits);
+        let at = begin::<B, E, K>(&source.lend());
         IntoIter {
-            bits,
+            source,
             at,
             kind: PhantomData,
         }
@@ -177,7 +182,7 @@ impl<B: BitsOwned, E: Endian, K: Kind> Iterator for IntoIter<B, E, K> {
 
     #[inline]
     fn next(&mut self) -> Option<u32> {
-        step_front::<B, E, K>(&self.bits, &mut self.at)
+        step_front::<B, E, K>(&self.source.lend(), &mut self.at)
     }
 }
 
@@ -186,7 +191,7 @@ impl<B: BitsOwned, E: Endian, K: Kind> DoubleEndedIterator for IntoIter<B, E, K>
 
     #[inline]
     fn next_back(&mut self) -> Option<u32> {
-        step_back::<B, E, K>(&self.bits, &mut self.at)
+        step_back::<B, E, K>(&self.source.lend(), &mut self.at)
     }
 }
 
@@ -198,7 +203,7 @@ impl<B: BitsOwned, E: Endian, K: Kind> Clone for IntoIter<B, E, K> {
     #[inline]
     fn clone(&self) -> Result<IntoIter<B, E, K>, AllocError> {
         Ok(IntoIter {
-            bits: self.bits,
+            source: self.source.again(),
             at: again(&self.at),
             kind: PhantomData,
         })

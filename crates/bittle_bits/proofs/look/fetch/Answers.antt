@@ -4,7 +4,7 @@ use Rattle.bittle_bits.specs.Walk.{wanted}
 use Rattle.bittle_bits.proofs.Items.{items_of-word}
 use Rattle.bittle_bits.proofs.Wanted.{wanted_members}
 use Rattle.bittle_bits.proofs.Words.{word_ends}
-use Rattle.bittle_bits.proofs.look.copy_of.Goals as goal
+use Rattle.bittle_bits.proofs.look.fetch.Goals as goal
 
 pub returns-clause-items : goal.returns-clause-items
 returns-clause-items g c =
@@ -12,14 +12,14 @@ returns-clause-items g c =
     let k = c.args.k in
     let m = g.E.Endian.mirrored in
     let ones = g.K.Kind.ONES in
-    let big = g.B.Bits.big c.args.bits.now in
+    let big = g.B.Bits.big c.args.source.now.set.now in
     let word = g.met.B.Bits.width_positive in
     let leaf = g.met.B.Bits.leaf_width in
     let wide : c.width.result ≡ w = c.width.ensures ∙ leaf in
     rw (wide, leaf) (items_of-word m w k (wanted ones big) _ word c.wanted_word.ensures
-    ∙ ap (λ s. between s (k * w) (k * w + w)) (sym (wanted_members ones m w big word (g.met.B.Bits.whole_words c.args.bits.now))))
+    ∙ ap (λ s. between s (k * w) (k * w + w)) (sym (wanted_members ones m w big word (g.met.B.Bits.whole_words c.args.source.now.set.now))))
 
 pub returns-clause-reach : goal.returns-clause-reach
 returns-clause-reach g c =
-    let e = word_ends g.B.Bits.width c.args.k _ (g.met.B.Bits.whole_words c.args.bits.now) c.requires.within in
+    let e = word_ends g.B.Bits.width c.args.k _ (g.met.B.Bits.whole_words c.args.source.now.set.now) c.requires.within in
     omega (arith, e, c.width.ensures, g.met.B.Bits.leaf_width, ap (λ t. c.args.k * t) (c.width.ensures ∙ g.met.B.Bits.leaf_width), c.requires.fits.1)
