@@ -6,7 +6,8 @@ ghost use Rattle.bittle.specs.Values.{set_in};
 
 use bittle::BitsMut;
 
-/// Makes the index a member, and answers whether it was none before.
+/// Makes the index, which wraps, a member, and returns whether it was none before. With capacity 0
+/// it was none, and nothing changes.
 pub fn insert<B: BitsMut>(set: &mut B, index: u32) -> bool
     requires { IsTrue B.indexable }
     ensures was_none { result ≡ not (contains (set_in B.Bits B.Order.Endian set.old) index) }
@@ -19,7 +20,8 @@ pub fn insert<B: BitsMut>(set: &mut B, index: u32) -> bool
     was_none
 }
 
-/// Makes the index no member, and answers whether it was one before.
+/// Makes the index, which wraps, no member, and returns whether it was one before. With capacity 0
+/// it was none.
 pub fn remove<B: BitsMut>(set: &mut B, index: u32) -> bool
     requires { IsTrue B.indexable }
     ensures was_member { result ≡ contains (set_in B.Bits B.Order.Endian set.old) index }
@@ -32,7 +34,8 @@ pub fn remove<B: BitsMut>(set: &mut B, index: u32) -> bool
     was_member
 }
 
-/// Makes one index a member in the place of another, and does nothing where that one is none.
+/// Makes one index a member in the place of another, and does nothing where that one is none. Both
+/// wrap.
 pub fn move_bit<B: BitsMut>(set: &mut B, from: u32, to: u32)
     requires { IsTrue B.indexable }
     ensures set { let before = set_in B.Bits B.Order.Endian set.old in

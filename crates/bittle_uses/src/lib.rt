@@ -17,5 +17,7 @@ pub mod slices;
 pub mod slots;
 pub mod sums;
 pub mod tables;
+#[cfg(test)]
+mod tests;
 pub mod words;
 pub mod wrapped_slices;

@@ -5,14 +5,14 @@ ghost use Rattle.bittle_uses.specs.Relations.{IsSubset, AreDisjoint};
 
 use bittle::{Bits, BitsOwned};
 
-/// Whether each member of the first set is one of the second.
+/// Returns whether each member of the first set is one of the second.
 pub fn is_subset<B: BitsOwned>(first: B, second: B) -> bool
     ensures { IsTrue result ↔ IsSubset (B.big first) (B.big second) }
 {
     first.difference(second).all_zeros()
 }
 
-/// Whether the sets have no member in common.
+/// Returns whether the sets have no member in common.
 pub fn is_disjoint<B: BitsOwned>(first: B, second: B) -> bool
     ensures { IsTrue result ↔ AreDisjoint (B.big first) (B.big second) }
 {
