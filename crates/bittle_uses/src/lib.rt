@@ -6,6 +6,7 @@ pub mod changes;
 pub mod counts;
 pub mod entities;
 pub mod free_runs;
+pub mod nested;
 pub mod permissions;
 pub mod ranks;
 pub mod relations;

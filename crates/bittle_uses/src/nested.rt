@@ -1,0 +1,37 @@
+//! Walks over nested arrays. A walk that owns one is made in a generic function, since the borrow
+//! checker covers no function that makes it at a type of so many levels. One that borrows goes a level
+//! deeper.
+
+ghost use Rattle.bittle.specs.Values.{ShapeFits};
+
+use bittle::{Bits, BitsOwned, Set};
+
+/// Returns the greatest member of any set, by a walk that owns it, or 0.
+pub fn greatest_of_owned<B: BitsOwned>(set: B) -> u32
+    requires { ShapeFits B.Bits set }
+{
+    let mut last = 0;
+    for index in set.into_iter_ones() {
+        last = index;
+    }
+    last
+}
+
+/// Returns the greatest member of a table of four rows, or 0.
+pub fn greatest_of_table(table: [[u32; 4]; 4]) -> u32 {
+    greatest_of_owned(table)
+}
+
+/// Returns the greatest member of a table of four rows as a set, or 0.
+pub fn greatest_of_table_as_set(table: Set<[[u32; 4]; 4]>) -> u32 {
+    greatest_of_owned(table)
+}
+
+/// Returns the greatest member of a table of four rows, by a walk that borrows it, or 0.
+pub fn greatest_of_lent_table(table: &[[u32; 4]; 4]) -> u32 {
+    let mut last = 0;
+    for index in table.iter_ones() {
+        last = index;
+    }
+    last
+}
