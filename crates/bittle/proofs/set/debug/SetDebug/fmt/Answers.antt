@@ -1,6 +1,8 @@
 use Rattle.std.proofs.Common.{rules, ◌≡◌, Bool, true, false, ℕ, List, [], ◌∷◌, ◌++◌, codes, sym, ap, ◌∙◌, append_assoc, append-nil, refl}
 use Rattle.std.specs.Fmt.{HasWritten, decimal}
 use Rattle.std.proofs.Output.{has_written_append, has_written_of_eq}
+use Rattle.bittle_bits.specs.Orders.{members}
+use Rattle.bittle_bits.specs.PlainSet.{ascending}
 use Rattle.bittle.proofs.set.debug.SetDebug.fmt.Invariants.{others_text, rest_text}
 use Rattle.bittle.proofs.set.debug.SetDebug.fmt.Goals as goal
 use Rattle.bittle.proofs.set.debug.SetDebug.fmt.Goals.{then-not-first+in_ok-write_str-2, else-not-first}
@@ -15,7 +17,9 @@ rest_text-none true = refl
 rest_text-none false = refl
 
 pub loop-index-init : goal.loop-index-init
-loop-index-init g c = λ plain. (codes "{", search rules, search rules)
+loop-index-init g c = λ plain.
+    let all : c.into_iter-index-iterator.result.left ≡ ascending (members g.E.Endian.mirrored g.T.Bits.width (g.T.Bits.big c.args.self.now.bits)) = search rules in
+    (codes "{", c.in_ok-write_str.ensures.writes plain refl, ap (λ xs. codes "{" ++ (rest_text true xs ++ codes "}")) all)
 
 pub loop-index-preserved : goal.loop-index-preserved
 loop-index-preserved g c = λ plain.
