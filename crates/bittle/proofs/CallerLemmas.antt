@@ -1,5 +1,5 @@
 -- Facts of the definitions that callers cite, of sets, of their increasing lists and of joins of slices.
-use Rattle.std.proofs.Common.{◌≡◌, ℕ, zero, suc, ◌+◌, ◌-◌, ◌*◌, ◌<◌, ◌≤◌, Bool, true, false, not, cond, ◌&&◌, ◌||◌, ◌==◌, List, [], ◌∷◌, ◌++◌, length, drop, map, get_or, Option, Some, None, Bor, inl, inr, refl, sym, ap, ◌∙◌, subst, arith, IsTrue, ◌↔◌}
+use Rattle.std.proofs.Common.{◌≡◌, ℕ, zero, suc, ◌+◌, ◌-◌, ◌*◌, ◌<◌, ◌≤◌, Bool, false, not, ◌&&◌, ◌||◌, ◌==◌, List, [], ◌∷◌, ◌++◌, length, drop, map, get_or, Option, Some, None, Bor, inl, inr, refl, sym, ap, ◌∙◌, subst, arith, IsTrue, ◌↔◌}
 use Rattle.std.proofs.Math.Nat.{mod-eq_of_lt}
 use Rattle.std.specs.Prelude.{slice_get, slice_index}
 use Rattle.std.specs.Iterator.{Yields}
@@ -14,13 +14,13 @@ use Rattle.bittle_bits.specs.Orders.{members}
 use Rattle.bittle_bits.specs.PlainSet.{PlainSet, contains, with_index, has_with, without_index, has_without, complement, lacks, count_below, size, ascending}
 use Rattle.bittle_bits.specs.Searches.{NoneIn, IsFirstIn}
 use Rattle.bittle_bits.specs.SetOperations.{combined, has_combined}
-use Rattle.bittle_bits.specs.Walk.{Walk, StepsFront, StepsBack}
+use Rattle.bittle_bits.specs.Walk.{Walk, StepsFront}
 use Rattle.bittle_bits.proofs.Sizes as sizes
 use Rattle.std.specs.Ordering.{is_eq}
 use Rattle.bittle_bits.specs.Join.{IsJoin, EndsAt, Join, join_steps, AnswersItemsAtMembers, EndsAfterMembers}
 use Rattle.bittle.specs.Order.{list_cmp, AreSame}
 use Rattle.bittle_bits.proofs.Ascending.{ascending-below as below, ascending_from-none}
-use Rattle.bittle.proofs.Ascending.{next_some, look}
+use Rattle.bittle_bits.proofs.FirstItems.{ascending_from-least as next_some, least_or_none as look}
 use Rattle.bittle.proofs.Decided.{decided, equal_iff_same}
 use Rattle.bittle.proofs.Walking as walking
 

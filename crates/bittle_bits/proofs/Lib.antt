@@ -3,6 +3,7 @@ pub mod Begins
 pub mod Combined
 pub mod DigitSets
 pub mod Ends
+pub mod FirstItems
 pub mod FromIndex
 pub mod Items
 pub mod Joined
