@@ -7,17 +7,56 @@ ghost use Rattle.bittle_bits.specs.Laws.{elements_has-past, digit_has-past, word
 ghost use Rattle.bittle_bits.specs.Rows.{elements_set};
 ghost use Rattle.bittle_bits.specs.Shapes.{Fits};
 
-use bittle::{Bits, BitsMut, BitsOwned, DefaultEndian, Endian};
+use bittle::replay::Step;
+use bittle::{BigEndian, Bits, BitsMut, BitsOwned, DefaultEndian, Endian, LittleEndian, Set};
 use bittle_bits::hidden::Sealed;
 use bittle_bits::operation::Operation;
+use std::alloc::AllocError;
 use std::cell::Cell;
+use std::cmp::Ordering;
 use std::test::Fail;
 
-// How often words were fetched, and how often anything else was asked but the capacity.
+// Which words were fetched and how often, and how often anything else was asked but the capacity.
 #[derive(Drop)]
 struct Asked {
+    // The digit of weight `2 ^ k` for word `k`.
     words: Cell<u32>,
+    fetches: Cell<u32>,
     other: Cell<u32>,
+}
+
+impl Asked {
+    fn new() -> Asked {
+        Asked {
+            words: Cell::new(0),
+            fetches: Cell::new(0),
+            other: Cell::new(0),
+        }
+    }
+
+    fn note_word(&self, k: u32) {
+        self.words.set(self.words.get() | 1u32.wrapping_shl(k));
+        self.fetches.set(self.fetches.get().wrapping_add(1));
+    }
+
+    fn note_other(&self) {
+        self.other.set(self.other.get().wrapping_add(1));
+    }
+
+    // Whether at most so many words were fetched, and nothing else was asked.
+    fn is_at_most(&self, words: u32) -> bool {
+        self.fetches.get() <= words && self.other.get() == 0
+    }
+
+    // The words that were fetched, or `None` where one was fetched twice or anything else was asked.
+    fn words_once(&self) -> Option<u32> {
+        let words = self.words.get();
+        if self.is_at_most(words.count_ones()) {
+            Some(words)
+        } else {
+            None
+        }
+    }
 }
 
 // Four bytes that are a set, and the counts of the calls that reach it.
@@ -30,15 +69,22 @@ struct Probe<'a> {
 }
 
 impl<'a> Probe<'a> {
-    fn note_word(&self) {
+    fn of(bytes: [u8; 4], asked: &'a Asked) -> Probe<'a> {
+        Probe {
+            bytes,
+            asked: Some(asked),
+        }
+    }
+
+    fn note_word(&self, k: u32) {
         if let Some(asked) = self.asked {
-            asked.words.set(asked.words.get().wrapping_add(1));
+            asked.note_word(k);
         }
     }
 
     fn note_other(&self) {
         if let Some(asked) = self.asked {
-            asked.other.set(asked.other.get().wrapping_add(1));
+            asked.note_other();
         }
     }
 }
@@ -89,7 +135,7 @@ impl<'a> Bits for Probe<'a> {
     }
 
     fn leaf_word(&self, k: u32) -> u8 {
-        self.note_word();
+        self.note_word(k);
         self.bytes.leaf_word(k)
     }
 }
@@ -153,87 +199,260 @@ impl<'a> BitsOwned for Probe<'a> {
     }
 }
 
-// Whether the four steps next, next_back, next, next answer these items and then `None`, and fetch at most 2, 2, 4, 4 words, and
-// nothing else is asked.
+// A step, what it answers, and how many words were fetched at most after it.
+type Stepped = (Step, Option<u32>, u32);
+
+// Whether a walk answers steps as wanted, fetches no more words than that, and asks nothing else.
 fn is_frugal<W: DoubleEndedIterator<Item = u32>>(
     mut walk: W,
     asked: &Asked,
-    first: u32,
-    last: u32,
+    steps: [Stepped; 4],
 ) -> bool
     requires front { (w : W) → W.can_next w }
     requires back { (w : W) → W.can_next_back w }
 {
-    let mut good = walk.next() == Some(first) && asked.words.get() <= 2;
-    good = good && walk.next_back() == Some(last) && asked.words.get() <= 2;
-    good = good && walk.next().is_none() && asked.words.get() <= 4;
-    good = good && walk.next().is_none() && asked.words.get() <= 4;
-    good && asked.other.get() == 0
+    for (step, item, words) in steps {
+        let found = match step {
+            Step::Front => walk.next(),
+            Step::Back => walk.next_back(),
+        };
+        if found != item || !asked.is_at_most(words) {
+            return false;
+        }
+    }
+    true
 }
 
-fn fresh() -> Asked {
-    Asked {
-        words: Cell::new(0),
-        other: Cell::new(0),
+// The steps of a walk with one item in its first word and one in its last of four, to its end from either end.
+fn each_way(first: u32, last: u32) -> [[Stepped; 4]; 4] {
+    let (first, last) = (Some(first), Some(last));
+    [
+        [
+            (Step::Front, first, 2),
+            (Step::Back, last, 2),
+            (Step::Front, None, 4),
+            (Step::Front, None, 4),
+        ],
+        [
+            (Step::Back, last, 2),
+            (Step::Front, first, 2),
+            (Step::Back, None, 4),
+            (Step::Back, None, 4),
+        ],
+        [
+            (Step::Front, first, 2),
+            (Step::Front, last, 4),
+            (Step::Front, None, 4),
+            (Step::Back, None, 4),
+        ],
+        [
+            (Step::Back, last, 2),
+            (Step::Back, first, 4),
+            (Step::Back, None, 4),
+            (Step::Front, None, 4),
+        ],
+    ]
+}
+
+// Whether a walk of this form over these bytes is frugal.
+macro_rules! walks_frugally {
+    ($form:ident, $bytes:expr, $steps:expr) => {{
+        let asked = Asked::new();
+        let probe = Probe::of($bytes, &asked);
+        is_frugal(probe.$form(), &asked, $steps)
+    }};
+}
+
+// The members are 0 and 31, and in little-endian order 7 and 24.
+const ONES: [u8; 4] = [1, 0, 0, 128];
+
+// These are no members, and all others are.
+const ZEROS: [u8; 4] = [254, 255, 255, 127];
+
+#[test]
+fn walks_of_ones_fetch_each_word_once(rt: HostRuntime) {
+    for steps in each_way(0, 31) {
+        assert!(rt; walks_frugally!(iter_ones_be, ONES, steps));
+    }
+    for steps in each_way(7, 24) {
+        assert!(rt; walks_frugally!(iter_ones_le, ONES, steps));
     }
 }
 
 #[test]
-fn walks_of_ones_fetch_each_word_once(rt: HostRuntime) -> Result<(), Fail> {
-    let bytes = [1u8, 0, 0, 128];
-    let asked = fresh();
-    let probe = Probe {
-        bytes,
-        asked: Some(&asked),
-    };
-    assert!(rt; is_frugal(probe.iter_ones_be(), &asked, 0, 31));
-    let asked = fresh();
-    let probe = Probe {
-        bytes,
-        asked: Some(&asked),
-    };
-    assert!(rt; is_frugal(probe.iter_ones_le(), &asked, 7, 24));
-    let asked = fresh();
-    let probe = Probe {
-        bytes,
-        asked: Some(&asked),
-    };
-    assert!(rt; is_frugal(probe.into_iter_ones_be(), &asked, 0, 31));
-    let asked = fresh();
-    let probe = Probe {
-        bytes,
-        asked: Some(&asked),
-    };
-    assert!(rt; is_frugal(probe.into_iter_ones_le(), &asked, 7, 24));
-    Ok(())
+fn owned_walks_of_ones_fetch_each_word_once(rt: HostRuntime) {
+    for steps in each_way(0, 31) {
+        assert!(rt; walks_frugally!(into_iter_ones_be, ONES, steps));
+    }
+    for steps in each_way(7, 24) {
+        assert!(rt; walks_frugally!(into_iter_ones_le, ONES, steps));
+    }
 }
 
 #[test]
-fn walks_of_zeros_fetch_each_word_once(rt: HostRuntime) -> Result<(), Fail> {
-    let bytes = [254u8, 255, 255, 127];
-    let asked = fresh();
-    let probe = Probe {
-        bytes,
-        asked: Some(&asked),
-    };
-    assert!(rt; is_frugal(probe.iter_zeros_be(), &asked, 0, 31));
-    let asked = fresh();
-    let probe = Probe {
-        bytes,
-        asked: Some(&asked),
-    };
-    assert!(rt; is_frugal(probe.iter_zeros_le(), &asked, 7, 24));
-    let asked = fresh();
-    let probe = Probe {
-        bytes,
-        asked: Some(&asked),
-    };
-    assert!(rt; is_frugal(probe.into_iter_zeros_be(), &asked, 0, 31));
-    let asked = fresh();
-    let probe = Probe {
-        bytes,
-        asked: Some(&asked),
-    };
-    assert!(rt; is_frugal(probe.into_iter_zeros_le(), &asked, 7, 24));
+fn walks_of_zeros_fetch_each_word_once(rt: HostRuntime) {
+    for steps in each_way(0, 31) {
+        assert!(rt; walks_frugally!(iter_zeros_be, ZEROS, steps));
+    }
+    for steps in each_way(7, 24) {
+        assert!(rt; walks_frugally!(iter_zeros_le, ZEROS, steps));
+    }
+}
+
+#[test]
+fn owned_walks_of_zeros_fetch_each_word_once(rt: HostRuntime) {
+    for steps in each_way(0, 31) {
+        assert!(rt; walks_frugally!(into_iter_zeros_be, ZEROS, steps));
+    }
+    for steps in each_way(7, 24) {
+        assert!(rt; walks_frugally!(into_iter_zeros_le, ZEROS, steps));
+    }
+}
+
+// Whether a clone, taken after the first step, fetches nothing, and then no more than its source has left.
+fn clones_frugally<W: DoubleEndedIterator<Item = u32> + Clone>(
+    mut walk: W,
+    asked: &Asked,
+) -> Result<bool, AllocError>
+    requires front { (w : W) → W.can_next w }
+    requires back { (w : W) → W.can_next_back w }
+{
+    let mut good = walk.next() == Some(0) && asked.is_at_most(2);
+    let mut other = walk.clone()?;
+    good = good && asked.is_at_most(2);
+    good = good && other.next_back() == Some(31) && asked.is_at_most(2);
+    good = good && other.next().is_none() && other.next_back().is_none();
+    good = good && asked.is_at_most(4);
+    good = good && walk.next() == Some(31) && walk.next_back().is_none();
+    Ok(good && walk.next().is_none() && asked.is_at_most(6))
+}
+
+#[test]
+fn clones_fetch_what_their_source_has_left(rt: HostRuntime) -> Result<(), Fail> {
+    let asked = Asked::new();
+    assert!(rt; clones_frugally(Probe::of(ONES, &asked).iter_ones_be(), &asked)?);
+    let asked = Asked::new();
+    assert!(rt; clones_frugally(Probe::of(ZEROS, &asked).iter_zeros_be(), &asked)?);
+    let asked = Asked::new();
+    assert!(rt; clones_frugally(Probe::of(ONES, &asked).into_iter_ones_be(), &asked)?);
+    let asked = Asked::new();
+    assert!(rt; clones_frugally(Probe::of(ZEROS, &asked).into_iter_zeros_be(), &asked)?);
     Ok(())
+}
+
+// What a search of these bytes answers, and the words that it fetched, or `None` where it fetched one twice or asked anything
+// else.
+macro_rules! search_of {
+    ($bytes:expr, $search:ident::<$order:ident>($from:literal, $to:literal)) => {{
+        let asked = Asked::new();
+        let probe = Probe::of($bytes, &asked);
+        let found = probe.$search::<$order>($from, $to);
+        (found, asked.words_once())
+    }};
+}
+
+// The members are 4, 8 and 31, and in little-endian order 3, 15 and 24.
+const FEW: [u8; 4] = [0x10, 0x01, 0, 0x80];
+
+// These are no members, and all others are.
+const MOST: [u8; 4] = [0xEF, 0xFE, 0xFF, 0x7F];
+
+#[test]
+fn searches_of_the_first_one_fetch_up_to_it(rt: HostRuntime) {
+    let found = search_of!(FEW, first_one_in::<BigEndian>(5, 32));
+    assert_eq!(rt; found, (Some(8), Some(0b0011)));
+    let found = search_of!(FEW, first_one_in::<BigEndian>(9, 24));
+    assert_eq!(rt; found, (None, Some(0b0110)));
+    let found = search_of!(FEW, first_one_in::<LittleEndian>(4, 32));
+    assert_eq!(rt; found, (Some(15), Some(0b0011)));
+    let found = search_of!(FEW, first_one_in::<LittleEndian>(4, 4));
+    assert_eq!(rt; found, (None, Some(0)));
+}
+
+#[test]
+fn searches_of_the_last_one_fetch_down_to_it(rt: HostRuntime) {
+    let found = search_of!(FEW, last_one_in::<BigEndian>(0, 31));
+    assert_eq!(rt; found, (Some(8), Some(0b1110)));
+    let found = search_of!(FEW, last_one_in::<BigEndian>(9, 24));
+    assert_eq!(rt; found, (None, Some(0b0110)));
+    let found = search_of!(FEW, last_one_in::<LittleEndian>(0, 24));
+    assert_eq!(rt; found, (Some(15), Some(0b0110)));
+    let found = search_of!(FEW, last_one_in::<LittleEndian>(15, 15));
+    assert_eq!(rt; found, (None, Some(0)));
+}
+
+#[test]
+fn searches_of_the_first_zero_fetch_up_to_it(rt: HostRuntime) {
+    let found = search_of!(MOST, first_zero_in::<BigEndian>(5, 32));
+    assert_eq!(rt; found, (Some(8), Some(0b0011)));
+    let found = search_of!(MOST, first_zero_in::<BigEndian>(9, 24));
+    assert_eq!(rt; found, (None, Some(0b0110)));
+    let found = search_of!(MOST, first_zero_in::<LittleEndian>(4, 32));
+    assert_eq!(rt; found, (Some(15), Some(0b0011)));
+    let found = search_of!(MOST, first_zero_in::<LittleEndian>(4, 4));
+    assert_eq!(rt; found, (None, Some(0)));
+}
+
+#[test]
+fn searches_of_the_last_zero_fetch_down_to_it(rt: HostRuntime) {
+    let found = search_of!(MOST, last_zero_in::<BigEndian>(0, 31));
+    assert_eq!(rt; found, (Some(8), Some(0b1110)));
+    let found = search_of!(MOST, last_zero_in::<BigEndian>(9, 24));
+    assert_eq!(rt; found, (None, Some(0b0110)));
+    let found = search_of!(MOST, last_zero_in::<LittleEndian>(0, 24));
+    assert_eq!(rt; found, (Some(15), Some(0b0110)));
+    let found = search_of!(MOST, last_zero_in::<LittleEndian>(15, 15));
+    assert_eq!(rt; found, (None, Some(0)));
+}
+
+#[test]
+fn joins_fetch_each_word_of_their_mask_once(rt: HostRuntime) {
+    let asked = Asked::new();
+    let probe = Probe::of(ONES, &asked);
+    let mut join = probe.join_ones(100..140);
+    for (item, words) in [(Some(100), 2), (Some(131), 4), (None, 4), (None, 4)] {
+        assert_eq!(rt; join.next(), item);
+        assert!(rt; asked.is_at_most(words));
+    }
+}
+
+#[test]
+fn joins_fetch_nothing_after_the_end_of_their_iterator(rt: HostRuntime) {
+    let asked = Asked::new();
+    let probe = Probe::of([3, 0, 0, 128], &asked);
+    let mut join = probe.join_ones(100..101);
+    for item in [Some(100), None, None, None] {
+        assert_eq!(rt; join.next(), item);
+        assert!(rt; asked.is_at_most(2));
+    }
+}
+
+#[test]
+fn equality_fetches_each_word_once(rt: HostRuntime) {
+    let (left, right) = (Asked::new(), Asked::new());
+    let set = Set::new(Probe::of(ONES, &left));
+    assert!(rt; set.eq_bits(&Set::new(Probe::of(ONES, &right))));
+    assert!(rt; left.is_at_most(4) && right.is_at_most(4));
+
+    // Each side in an order of its own.
+    let (left, right) = (Asked::new(), Asked::new());
+    let set = Set::new(Probe::of(ONES, &left));
+    assert!(rt; set.eq_bits(&Set::new_le(Probe::of([128, 0, 0, 1], &right))));
+    assert!(rt; left.is_at_most(4) && right.is_at_most(4));
+}
+
+#[test]
+fn comparisons_end_with_the_first_difference(rt: HostRuntime) {
+    let (left, right) = (Asked::new(), Asked::new());
+    let set = Set::new(Probe::of(ONES, &left));
+    assert!(rt; !set.eq_bits(&Probe::of([1, 2, 0, 128], &right)));
+    assert!(rt; left.is_at_most(2) && right.is_at_most(2));
+
+    // The index 9 is in one of them: each is asked for it or for a member past it.
+    let (left, right) = (Asked::new(), Asked::new());
+    let set = Set::new(Probe::of(ONES, &left));
+    let order = set.cmp_bits(&Probe::of([1, 2, 0, 128], &right));
+    assert_eq!(rt; order, Ordering::Greater);
+    assert!(rt; left.fetches.get() <= 5 && left.other.get() <= 1);
+    assert!(rt; right.fetches.get() <= 5 && right.other.get() <= 1);
 }

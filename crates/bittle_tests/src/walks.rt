@@ -166,10 +166,14 @@ fn tells_nothing<W: DoubleEndedIterator<Item = u32>>(mut walk: W) -> bool
 }
 
 #[test]
-fn no_walk_tells_how_many_items_are_left(rt: HostRuntime) {
+fn walks_tell_not_how_many_items_are_left(rt: HostRuntime) {
     assert!(rt; tells_nothing(0b1101_0000u8.iter_ones()));
-    assert!(rt; tells_nothing([1u16, 2].iter_zeros()));
-    assert!(rt; tells_nothing([[7u8; 2]; 2].into_iter_ones_le()));
+    assert!(rt; tells_nothing((-2i8).iter_zeros()));
+}
+
+#[test]
+fn owned_walks_tell_not_how_many_items_are_left(rt: HostRuntime) {
+    assert!(rt; tells_nothing(0b1101_0000u8.into_iter_ones()));
     assert!(rt; tells_nothing((-2i8).into_iter_zeros()));
 }
 
