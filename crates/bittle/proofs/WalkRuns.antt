@@ -15,6 +15,7 @@ pub record IsReplayed (k : ℕ) (steps : List Step) (all : List ℕ) (words : �
   pub items : walk.items ≡ given (take k answers)
   pub words_are : walk.words ≡ words
   pub below : (j : ℕ) → j < length looks → slice_index looks j ≤ walk.looks
+  pub last : (j : ℕ) → length looks ≡ j + 1 → slice_index looks j ≡ walk.looks
   pub thrifty : AreThrifty looks (take k answers) words
 
 given-append : (xs ys : List (Option ℕ)) → given (xs ++ ys) ≡ given xs + given ys
@@ -63,6 +64,7 @@ replayed_more k steps all words walk next answers looks d answer h len r a l i o
       items = rw front (sym count);
       words_are = w ∙ r.words_are;
       below = push_each (λ j v. v ≤ next.looks) looks next.looks (λ j b. le_trans (r.below j b) o) (omega arith);
+      last = λ j e. let at : j ≡ length looks = omega (arith, e, length-append looks (next.looks ∷ [])) in rw at (get_or-append_seam looks next.looks [] 0);
       thrifty = rw front (thrifty_push looks (take k answers) words next.looks answer r.thrifty (λ j b. le_trans (r.below j b) o) (rw count t.at_least) (rw (count, ← r.words_are, ← w) t.at_most));
     }
 
@@ -72,13 +74,14 @@ replayed_start steps all words walk answers l i w = record {
   items = i;
   words_are = w;
   below = λ j b. absurd (omega arith);
+  last = λ j e. absurd (omega arith);
   thrifty = record { each = refl; rise = λ k b. absurd (omega arith); at_least = λ k b. absurd (omega arith); at_most = λ k b. absurd (omega arith) };
 }
 
 pub replayed_end : (k : ℕ) (steps : List Step) (all : List ℕ) (words : ℕ) (walk : Walk) (answers : List (Option ℕ)) (looks : List ℕ) → length steps ≤ k → length answers ≡ length steps → IsReplayed k steps all words walk answers looks →
-    (answers ≡ answers_of steps all) × AreThrifty looks answers words
+    (answers ≡ answers_of steps all) × AreThrifty looks answers words × ((j : ℕ) → length steps ≡ j + 1 → slice_index looks j ≡ walk.looks)
 replayed_end k steps all words walk answers looks h len r =
     let e : take k answers ≡ answers = take_all k answers (omega arith) in
     let f : drop k steps ≡ [] = drop_all k steps h in
     let told : take k answers ++ answers_of (drop k steps) walk.left ≡ answers_of steps all = r.told in
-    (sym (append-nil answers) ∙ (rw (e, f) at told), rw e at r.thrifty)
+    (sym (append-nil answers) ∙ (rw (e, f) at told), rw e at r.thrifty, λ j s. r.last j (omega (arith, r.thrifty.each, ap length e)))

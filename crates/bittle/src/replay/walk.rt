@@ -1,6 +1,6 @@
 //! One walk through a list of steps, and the looks that it costs.
 
-ghost use Rattle.std.specs.Prelude.{◌≡◌, ℕ, ◌+◌, ◌/◌, ◌≤◌, ◌∷◌, ◌++◌, [], List, length};
+ghost use Rattle.std.specs.Prelude.{◌≡◌, ℕ, ◌+◌, ◌/◌, ◌≤◌, ◌∷◌, ◌++◌, [], List, length, slice_index};
 ghost use Rattle.bittle_bits.specs.PlainSet.{ascending};
 ghost use Rattle.bittle_bits.specs.Walk.{wanted, counted, IsThrifty};
 ghost use Rattle.bittle_bits.specs.Values.{set_in, ShapeFits};
@@ -80,16 +80,18 @@ fn take_step<W: Counted>(walk: &mut W, step: Step) -> Option<u32>
     }
 }
 
-// Takes a walk that has given nothing yet through the steps.
-fn run<W: Counted>(mut walk: W, steps: &[Step], answers: &mut [Option<u32>]) -> Looks
+// Takes a walk that has given nothing yet through the steps. The last number is the walk's own count of looks.
+fn run<W: Counted>(walk: &mut W, steps: &[Step], answers: &mut [Option<u32>]) -> Looks
     requires places { length answers.old ≡ length steps.now }
-    requires fresh { (W.walk walk).items ≡ 0 }
-    ensures answers { answers.new ≡ answers_of steps.now (W.walk walk).left }
-    ensures looks { AreThrifty result answers.new (W.walk walk).words }
+    requires fresh { (W.walk walk.old).items ≡ 0 }
+    ensures answers { answers.new ≡ answers_of steps.now (W.walk walk.old).left }
+    ensures looks { AreThrifty result answers.new (W.walk walk.old).words }
+    ensures own { (k : ℕ) → length steps.now ≡ k + 1
+        → slice_index result k ≡ (W.walk walk.new).looks }
 {
     let mut looks = Looks::new();
     for (k, step) in steps.iter().enumerate() {
-        answers[k] = take_step(&mut walk, *step);
+        answers[k] = take_step(walk, *step);
         looks.push(walk.looks());
     }
     looks
@@ -111,9 +113,11 @@ pub fn replay_walk<B: Bits, E: Endian>(
     ensures looks { AreThrifty result answers.new ((B.big bits.now).capacity / B.width) }
 {
     if ones {
-        run(bits.iter_ones_in::<E>(), steps, answers)
+        let mut walk = bits.iter_ones_in::<E>();
+        run(&mut walk, steps, answers)
     } else {
-        run(bits.iter_zeros_in::<E>(), steps, answers)
+        let mut walk = bits.iter_zeros_in::<E>();
+        run(&mut walk, steps, answers)
     }
 }
 

@@ -15,3 +15,6 @@ returns-clause-answers g c = (replayed_end _ _ _ _ _ _ _ c.loop-k-test.false (om
 
 pub returns-clause-looks : goal.returns-clause-looks
 returns-clause-looks g c = (replayed_end _ _ _ _ _ _ _ c.loop-k-test.false (omega arith) c.loop-k.invariant).1
+
+pub returns-clause-own : goal.returns-clause-own
+returns-clause-own g c = (replayed_end _ _ _ _ _ _ _ c.loop-k-test.false (omega arith) c.loop-k.invariant).2
