@@ -22,10 +22,17 @@ mod iteration;
 pub mod laws;
 mod operators;
 
-/// A set that remembers the order in which its digits are read.
+/// A set that remembers the order in which its bits are indexed.
 ///
-/// Calls that name no order use the remembered one, and so do iteration, comparison, hashing and debug text. What a set
-/// wraps always fits: its capacity, and that of every array type within it, is below `u32::MAX`.
+/// Calls that name no order use the remembered one, and so do iteration, comparison, hashing and
+/// debug text. What a set wraps always fits: its capacity, and that of every array type within it,
+/// is below `u32::MAX`. So its calls have no condition.
+///
+/// ```
+/// let set = Set::new_le(0b1101_0000u8);
+/// set.test_bit(3);                                    // true
+/// set.iter_ones();                                    // yields 0, 1, 3
+/// ```
 #[derive(Drop)]
 pub struct Set<T: Bits, E: Endian = DefaultEndian> {
     bits: T,
@@ -34,7 +41,11 @@ pub struct Set<T: Bits, E: Endian = DefaultEndian> {
 }
 
 impl<T: Bits> Set<T> {
-    /// The set of `bits`, read in [`DefaultEndian`] order. The shape has to fit.
+    /// Wraps `bits`, to be read in [`DefaultEndian`] order. The shape has to fit.
+    ///
+    /// ```
+    /// Set::new(0b1101_0000u8).iter_ones();                // yields 4, 6, 7
+    /// ```
     #[inline]
     pub fn new(bits: T) -> Set<T>
         requires { Fits T.indexable (T.big bits).capacity }
@@ -45,7 +56,11 @@ impl<T: Bits> Set<T> {
 }
 
 impl<T: Bits> Set<T, LittleEndian> {
-    /// The set of `bits`, read in [`LittleEndian`] order. The shape has to fit.
+    /// Wraps `bits`, to be read in [`LittleEndian`] order. The shape has to fit.
+    ///
+    /// ```
+    /// Set::new_le(0b1101_0000u8).iter_ones();             // yields 0, 1, 3
+    /// ```
     #[inline]
     pub fn new_le(bits: T) -> Set<T, LittleEndian>
         requires { Fits T.indexable (T.big bits).capacity }
@@ -56,7 +71,11 @@ impl<T: Bits> Set<T, LittleEndian> {
 }
 
 impl<T: Bits, E: Endian> Set<T, E> {
-    /// The set of `bits`, read in the order `E`. The shape has to fit.
+    /// Wraps `bits`, to be read in the order `E`. The shape has to fit.
+    ///
+    /// ```
+    /// Set::<u8, LittleEndian>::new_in(0x80).iter_ones();  // yields 0
+    /// ```
     #[inline]
     pub fn new_in(bits: T) -> Set<T, E>
         requires { Fits T.indexable (T.big bits).capacity }
@@ -68,7 +87,11 @@ impl<T: Bits, E: Endian> Set<T, E> {
         }
     }
 
-    /// The wrapped value.
+    /// Returns the wrapped value.
+    ///
+    /// ```
+    /// Set::new_le(0x80u8).into_bits();                    // 0x80
+    /// ```
     #[inline]
     pub fn into_bits(self) -> T
         ensures value { result ≡ self.bits }
@@ -79,7 +102,11 @@ impl<T: Bits, E: Endian> Set<T, E> {
 }
 
 impl<'a, U: BitsOwned> Set<&'a [U]> {
-    /// The set of a slice, read in [`DefaultEndian`] order. The shape has to fit.
+    /// Wraps a slice, to be read in [`DefaultEndian`] order. The shape has to fit.
+    ///
+    /// ```
+    /// Set::from_ref(&[1u8, 16]).iter_ones();              // yields 0, 12
+    /// ```
     #[inline]
     pub fn from_ref(bits: &'a [U]) -> Set<&'a [U]>
         requires { Fits U.indexable (length bits.now * U.type_capacity) }
@@ -90,7 +117,11 @@ impl<'a, U: BitsOwned> Set<&'a [U]> {
 }
 
 impl<'a, U: BitsOwned> Set<&'a [U], LittleEndian> {
-    /// The set of a slice, read in [`LittleEndian`] order. The shape has to fit.
+    /// Wraps a slice, to be read in [`LittleEndian`] order. The shape has to fit.
+    ///
+    /// ```
+    /// Set::from_ref_le(&[1u8, 16]).iter_ones();           // yields 7, 11
+    /// ```
     #[inline]
     pub fn from_ref_le(bits: &'a [U]) -> Set<&'a [U], LittleEndian>
         requires { Fits U.indexable (length bits.now * U.type_capacity) }
@@ -101,7 +132,13 @@ impl<'a, U: BitsOwned> Set<&'a [U], LittleEndian> {
 }
 
 impl<'a, U: BitsOwned> Set<&'a mut [U]> {
-    /// The set of a slice that is lent, read in [`DefaultEndian`] order. Changes reach the slice. The shape has to fit.
+    /// Wraps a lent slice, to be read in [`DefaultEndian`] order. Changes reach the caller's slice.
+    /// The shape has to fit.
+    ///
+    /// ```
+    /// let mut words = [0u8; 2];
+    /// Set::from_mut(&mut words).set_bit(12);              // words is [0, 16]
+    /// ```
     #[inline]
     pub fn from_mut(bits: &'a mut [U]) -> Set<&'a mut [U]>
         requires { Fits U.indexable (length bits.old * U.type_capacity) }
@@ -113,7 +150,13 @@ impl<'a, U: BitsOwned> Set<&'a mut [U]> {
 }
 
 impl<'a, U: BitsOwned> Set<&'a mut [U], LittleEndian> {
-    /// The set of a slice that is lent, read in [`LittleEndian`] order. Changes reach the slice. The shape has to fit.
+    /// Wraps a lent slice, to be read in [`LittleEndian`] order. Changes reach the caller's slice.
+    /// The shape has to fit.
+    ///
+    /// ```
+    /// let mut words = [0u8; 2];
+    /// Set::from_mut_le(&mut words).set_bit(12);           // words is [0, 8]
+    /// ```
     #[inline]
     pub fn from_mut_le(bits: &'a mut [U]) -> Set<&'a mut [U], LittleEndian>
         requires { Fits U.indexable (length bits.old * U.type_capacity) }

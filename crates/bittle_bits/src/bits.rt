@@ -18,18 +18,21 @@ use crate::look::Source;
 use crate::search;
 use crate::walk::{Iter, IterOnes, IterZeros};
 
-/// A set of the numbers below a capacity, one digit each.
+/// A set of bits, each named by a `u32` index below the capacity.
 ///
-/// The integers are sets, and so are arrays of sets, nested to any depth, and slices. An index past the capacity wraps.
+/// The twelve integers are sets, and so are arrays of sets, nested to any depth, and slices. An
+/// index at or past the capacity wraps: it means the index modulo the capacity. With capacity 0 no
+/// bit is set, and no call changes anything.
 ///
-/// A shape fits where its capacity, and that of each array type within it, is below `u32::MAX`, which
-/// `bits_capacity() < u32::MAX` tells. What counts, walks, joins or searches asks for that. A call on one index asks of a
-/// slice only that the element type fits, so it works at any length.
+/// A shape *fits* if its capacity, and that of each array type within it, is below `u32::MAX`;
+/// `bits_capacity() < u32::MAX` tells. Calls that count, iterate, join or search ask for that. A
+/// call on one index asks of a slice only that its element type fits, so it works at any length.
 pub trait Bits: Drop + Sealed {
-    /// The order of the calls that name none.
+    /// The order of the calls that name none: [`DefaultEndian`], but of a `Set` the one it
+    /// remembers.
     type Order: Endian;
 
-    /// The integer that the set is made of.
+    /// The integer type that the set is made of.
     #[doc(hidden)]
     type LeafWord: Number;
 
@@ -42,12 +45,21 @@ pub trait Bits: Drop + Sealed {
     // The set in big-endian order.
     ghost big: { Self → PlainSet };
 
-    /// How many numbers the set can hold, or `u32::MAX` where the shape does not fit. It has no condition.
+    /// Returns how many bits the set has, or `u32::MAX` if its shape does not fit. Always callable.
+    ///
+    /// ```
+    /// [0u16; 2].bits_capacity();                          // 32
+    /// ```
     fn bits_capacity(&self) -> u32
         ensures value { Fits indexable (big self.now).capacity → result ≡ (big self.now).capacity }
         ensures fits { result < 4294967295 → Fits indexable (big self.now).capacity };
 
-    /// How many members there are, the same in both orders. The shape has to fit. With capacity 0 there are none.
+    /// Returns how many bits are set, the same in both orders. The shape has to fit. With capacity
+    /// 0 it returns 0.
+    ///
+    /// ```
+    /// [0b0001_0000u8, 0b0100_1000].count_ones();          // 3
+    /// ```
     fn count_ones(&self) -> u32
         requires { Fits indexable (big self.now).capacity }
         ensures value { result ≡ size (big self.now) }
@@ -55,7 +67,12 @@ pub trait Bits: Drop + Sealed {
             result ≡ size (members mirrored width (big self.now)) }
         ensures at_most { result ≤ (big self.now).capacity };
 
-    /// How many numbers below the capacity are no members, the same in both orders. The shape has to fit.
+    /// Returns how many bits are unset, the same in both orders. The shape has to fit. With
+    /// capacity 0 it returns 0.
+    ///
+    /// ```
+    /// [0b0001_0000u8, 0b0100_1000].count_zeros();         // 13
+    /// ```
     #[inline]
     final fn count_zeros(&self) -> u32
         requires { Fits indexable (big self.now).capacity }
@@ -66,33 +83,51 @@ pub trait Bits: Drop + Sealed {
         self.bits_capacity() - self.count_ones()
     }
 
-    /// Whether there are no members. With capacity 0 it is so. It has no condition.
+    /// Returns `true` if no bit is set, also with capacity 0. Always callable.
+    ///
+    /// ```
+    /// [0u8; 4].all_zeros();                               // true
+    /// ```
     fn all_zeros(&self) -> bool
         ensures value { result ≡ (size (big self.now) == 0) }
         ensures in_each_order { (mirrored : Bool) →
             result ≡ (size (members mirrored width (big self.now)) == 0) };
 
-    /// Whether each number below the capacity is a member. With capacity 0 it is so. It has no condition.
+    /// Returns `true` if each bit is set, also with capacity 0. Always callable.
+    ///
+    /// ```
+    /// [255u8; 4].all_ones();                              // true
+    /// ```
     fn all_ones(&self) -> bool
         ensures value { result ≡ (size (big self.now) == (big self.now).capacity) }
         ensures in_each_order { (mirrored : Bool) →
             result ≡ (size (members mirrored width (big self.now)) == (big self.now).capacity) };
 
-    /// Whether the index, which wraps at the capacity, is a member in the order `E`. With capacity 0 it is not.
+    /// Returns `true` if the bit at `index` is set, in the order `E`. An index past the capacity
+    /// wraps. With capacity 0 it returns `false`.
     ///
-    /// Of a slice the element type has to fit, of any other type the type itself.
+    /// The type has to fit; of a slice its element type.
+    ///
+    /// ```
+    /// 0b1000_0000u8.test_bit_in::<LittleEndian>(0);       // true
+    /// ```
     fn test_bit_in<E: Endian>(&self, index: u32) -> bool
         requires { IsTrue indexable }
         ensures { result ≡ contains (members E.mirrored width (big self.now)) index };
 
-    /// Word `k` of the set: the members from `k` times the width on.
+    /// Returns word `k` of the set: its bits are those from `k` times the width on.
     #[doc(hidden)]
     fn leaf_word(&self, k: u32) -> Self::LeafWord
         requires fits { Fits indexable (big self.now).capacity }
         requires within { k * width < (big self.now).capacity }
         ensures { digit_set width (Self.LeafWord.digits result) ≡ word_of width (big self.now) k };
 
-    /// [`test_bit_in`](Bits::test_bit_in) in the order of the type.
+    /// Tests a bit in the order of the type, as [`test_bit_in`](Bits::test_bit_in) does.
+    ///
+    /// ```
+    /// 0b0010u8.test_bit(1);                               // true
+    /// 0b0010u8.test_bit(9);                               // true: 9 wraps to 1
+    /// ```
     #[inline]
     final fn test_bit(&self, index: u32) -> bool
         requires { IsTrue indexable }
@@ -101,7 +136,11 @@ pub trait Bits: Drop + Sealed {
         self.test_bit_in::<Self::Order>(index)
     }
 
-    /// [`test_bit_in`](Bits::test_bit_in) in [`LittleEndian`] order.
+    /// Tests a bit in [`LittleEndian`] order, as [`test_bit_in`](Bits::test_bit_in) does.
+    ///
+    /// ```
+    /// 0b1000_0000u8.test_bit_le(0);                       // true
+    /// ```
     #[inline]
     final fn test_bit_le(&self, index: u32) -> bool
         requires { IsTrue indexable }
@@ -111,7 +150,11 @@ pub trait Bits: Drop + Sealed {
         self.test_bit_in::<LittleEndian>(index)
     }
 
-    /// [`test_bit_in`](Bits::test_bit_in) in [`BigEndian`] order.
+    /// Tests a bit in [`BigEndian`] order, as [`test_bit_in`](Bits::test_bit_in) does.
+    ///
+    /// ```
+    /// 0b1000_0000u8.test_bit_be(7);                       // true
+    /// ```
     #[inline]
     final fn test_bit_be(&self, index: u32) -> bool
         requires { IsTrue indexable }
@@ -121,10 +164,15 @@ pub trait Bits: Drop + Sealed {
         self.test_bit_in::<BigEndian>(index)
     }
 
-    /// The least member from `from` on and below `to` in the order `E`, or `None` where there is none.
+    /// Returns the least index of a set bit in `from..to`, in the order `E`, or `None` if there is
+    /// none.
     ///
-    /// The shape has to fit, and `from` is at most `to`, which is at most the capacity: nothing wraps. It reads the words of
-    /// the range alone, and stops at the answer.
+    /// The shape has to fit, and `from <= to <= capacity`: nothing wraps. Only the words of the
+    /// range are read, up to the answer. With capacity 0 it returns `None`.
+    ///
+    /// ```
+    /// [0x10u8, 0x01].first_one_in::<BigEndian>(5, 16);    // Some(8)
+    /// ```
     #[inline]
     final fn first_one_in<E: Endian>(&self, from: u32, to: u32) -> Option<u32>
     where
@@ -137,10 +185,15 @@ pub trait Bits: Drop + Sealed {
         search::first_in::<Self, E, Ones>(self, from, to)
     }
 
-    /// The least number that is no member from `from` on and below `to` in the order `E`, or `None` where there is none.
+    /// Returns the least index of an unset bit in `from..to`, in the order `E`, or `None` if there
+    /// is none.
     ///
-    /// The shape has to fit, and `from` is at most `to`, which is at most the capacity: nothing wraps. It reads the words of
-    /// the range alone, and stops at the answer.
+    /// The shape has to fit, and `from <= to <= capacity`: nothing wraps. Only the words of the
+    /// range are read, up to the answer. With capacity 0 it returns `None`.
+    ///
+    /// ```
+    /// [0x10u8, 0x01].first_zero_in::<BigEndian>(4, 16);   // Some(5)
+    /// ```
     #[inline]
     final fn first_zero_in<E: Endian>(&self, from: u32, to: u32) -> Option<u32>
     where
@@ -153,10 +206,15 @@ pub trait Bits: Drop + Sealed {
         search::first_in::<Self, E, Zeros>(self, from, to)
     }
 
-    /// The greatest member from `from` on and below `to` in the order `E`, or `None` where there is none.
+    /// Returns the greatest index of a set bit in `from..to`, in the order `E`, or `None` if there
+    /// is none.
     ///
-    /// The shape has to fit, and `from` is at most `to`, which is at most the capacity: nothing wraps. It reads the words of
-    /// the range alone, and stops at the answer.
+    /// The shape has to fit, and `from <= to <= capacity`: nothing wraps. Only the words of the
+    /// range are read, up to the answer. With capacity 0 it returns `None`.
+    ///
+    /// ```
+    /// [0x10u8, 0x01].last_one_in::<BigEndian>(0, 8);      // Some(4)
+    /// ```
     #[inline]
     final fn last_one_in<E: Endian>(&self, from: u32, to: u32) -> Option<u32>
     where
@@ -169,10 +227,15 @@ pub trait Bits: Drop + Sealed {
         search::last_in::<Self, E, Ones>(self, from, to)
     }
 
-    /// The greatest number that is no member from `from` on and below `to` in the order `E`, or `None` where there is none.
+    /// Returns the greatest index of an unset bit in `from..to`, in the order `E`, or `None` if
+    /// there is none.
     ///
-    /// The shape has to fit, and `from` is at most `to`, which is at most the capacity: nothing wraps. It reads the words of
-    /// the range alone, and stops at the answer.
+    /// The shape has to fit, and `from <= to <= capacity`: nothing wraps. Only the words of the
+    /// range are read, up to the answer. With capacity 0 it returns `None`.
+    ///
+    /// ```
+    /// [0x10u8, 0x01].last_zero_in::<BigEndian>(0, 9);     // Some(7)
+    /// ```
     #[inline]
     final fn last_zero_in<E: Endian>(&self, from: u32, to: u32) -> Option<u32>
     where
@@ -185,10 +248,15 @@ pub trait Bits: Drop + Sealed {
         search::last_in::<Self, E, Zeros>(self, from, to)
     }
 
-    /// The members in increasing order in the order `E`, from both ends. The shape has to fit. With capacity 0 there are
-    /// none.
+    /// Returns an iterator over the indexes of the set bits in the order `E`, increasing, from both
+    /// ends. The shape has to fit. With capacity 0 it yields nothing.
     ///
-    /// The walk borrows the set, of a slice the slice reference, which is kept in a variable.
+    /// The iterator borrows the set; of a slice it borrows the slice reference, which has to be
+    /// kept in a variable.
+    ///
+    /// ```
+    /// 0b1101_0000u8.iter_ones_in::<LittleEndian>();       // yields 0, 1, 3
+    /// ```
     #[inline]
     final fn iter_ones_in<E: Endian>(&self) -> IterOnes<'_, Self, E>
     where
@@ -201,10 +269,15 @@ pub trait Bits: Drop + Sealed {
         Iter::new(Source::new(self))
     }
 
-    /// The numbers below the capacity that are no members, in increasing order in the order `E`, from both ends. The shape
-    /// has to fit. With capacity 0 there are none.
+    /// Returns an iterator over the indexes of the unset bits below the capacity in the order `E`,
+    /// increasing, from both ends. The shape has to fit. With capacity 0 it yields nothing.
     ///
-    /// The walk borrows the set, of a slice the slice reference, which is kept in a variable.
+    /// The iterator borrows the set; of a slice it borrows the slice reference, which has to be
+    /// kept in a variable.
+    ///
+    /// ```
+    /// 0b1101_0000u8.iter_zeros_in::<LittleEndian>();      // yields 2, 4, 5, 6, 7
+    /// ```
     #[inline]
     final fn iter_zeros_in<E: Endian>(&self) -> IterZeros<'_, Self, E>
     where
@@ -217,7 +290,13 @@ pub trait Bits: Drop + Sealed {
         Iter::new(Source::new(self))
     }
 
-    /// [`iter_ones_in`](Bits::iter_ones_in) in the order of the type.
+    /// Iterates over the set bits in the order of the type, as [`iter_ones_in`](Bits::iter_ones_in)
+    /// does.
+    ///
+    /// ```
+    /// [0u32, 1, 2, 3].iter_ones();                        // yields 32, 65, 96, 97
+    /// [0u32, 1, 2, 3].iter_ones().rev();                  // yields 97, 96, 65, 32
+    /// ```
     #[inline]
     final fn iter_ones(&self) -> IterOnes<'_, Self, Self::Order>
     where
@@ -230,7 +309,12 @@ pub trait Bits: Drop + Sealed {
         self.iter_ones_in::<Self::Order>()
     }
 
-    /// [`iter_ones_in`](Bits::iter_ones_in) in [`LittleEndian`] order.
+    /// Iterates over the set bits in [`LittleEndian`] order, as
+    /// [`iter_ones_in`](Bits::iter_ones_in) does.
+    ///
+    /// ```
+    /// 0b1101_0000u8.iter_ones_le();                       // yields 0, 1, 3
+    /// ```
     #[inline]
     final fn iter_ones_le(&self) -> IterOnes<'_, Self, LittleEndian>
     where
@@ -243,7 +327,12 @@ pub trait Bits: Drop + Sealed {
         self.iter_ones_in::<LittleEndian>()
     }
 
-    /// [`iter_ones_in`](Bits::iter_ones_in) in [`BigEndian`] order.
+    /// Iterates over the set bits in [`BigEndian`] order, as [`iter_ones_in`](Bits::iter_ones_in)
+    /// does.
+    ///
+    /// ```
+    /// 0b1101_0000u8.iter_ones_be();                       // yields 4, 6, 7
+    /// ```
     #[inline]
     final fn iter_ones_be(&self) -> IterOnes<'_, Self, BigEndian>
     where
@@ -256,7 +345,12 @@ pub trait Bits: Drop + Sealed {
         self.iter_ones_in::<BigEndian>()
     }
 
-    /// [`iter_zeros_in`](Bits::iter_zeros_in) in the order of the type.
+    /// Iterates over the unset bits in the order of the type, as
+    /// [`iter_zeros_in`](Bits::iter_zeros_in) does.
+    ///
+    /// ```
+    /// 0b1101u8.iter_zeros();                              // yields 1, 4, 5, 6, 7
+    /// ```
     #[inline]
     final fn iter_zeros(&self) -> IterZeros<'_, Self, Self::Order>
     where
@@ -269,7 +363,12 @@ pub trait Bits: Drop + Sealed {
         self.iter_zeros_in::<Self::Order>()
     }
 
-    /// [`iter_zeros_in`](Bits::iter_zeros_in) in [`LittleEndian`] order.
+    /// Iterates over the unset bits in [`LittleEndian`] order, as
+    /// [`iter_zeros_in`](Bits::iter_zeros_in) does.
+    ///
+    /// ```
+    /// 0b1101_0000u8.iter_zeros_le();                      // yields 2, 4, 5, 6, 7
+    /// ```
     #[inline]
     final fn iter_zeros_le(&self) -> IterZeros<'_, Self, LittleEndian>
     where
@@ -282,7 +381,12 @@ pub trait Bits: Drop + Sealed {
         self.iter_zeros_in::<LittleEndian>()
     }
 
-    /// [`iter_zeros_in`](Bits::iter_zeros_in) in [`BigEndian`] order.
+    /// Iterates over the unset bits in [`BigEndian`] order, as
+    /// [`iter_zeros_in`](Bits::iter_zeros_in) does.
+    ///
+    /// ```
+    /// 0b1101_0000u8.iter_zeros_be();                      // yields 0, 1, 2, 3, 5
+    /// ```
     #[inline]
     final fn iter_zeros_be(&self) -> IterZeros<'_, Self, BigEndian>
     where
@@ -295,10 +399,15 @@ pub trait Bits: Drop + Sealed {
         self.iter_zeros_in::<BigEndian>()
     }
 
-    /// The items of an iterator at the members in the order `E`: for each member, in increasing order, the item at that
-    /// position. The shape has to fit. With capacity 0 there are none.
+    /// Returns an iterator over the items of `iter` at the set bits: for each set bit in the order
+    /// `E`, in increasing order, the item at that position. The shape has to fit. With capacity 0
+    /// it yields nothing.
     ///
-    /// [`JoinOnes`] says what is taken from the iterator, and where the join ends.
+    /// [`JoinOnes`] says what is taken from `iter`, and where the join ends.
+    ///
+    /// ```
+    /// 0b1010_0000u8.join_ones_in::<_, LittleEndian>([10, 20, 30]);    // yields 10, 30
+    /// ```
     #[inline]
     final fn join_ones_in<I: IntoIterator, E: Endian>(
         &self,
@@ -319,7 +428,12 @@ pub trait Bits: Drop + Sealed {
         JoinOnes::new(self.iter_ones_in::<E>(), iter.into_iter())
     }
 
-    /// [`join_ones_in`](Bits::join_ones_in) in [`DefaultEndian`] order, whatever the order of the type.
+    /// Joins in [`DefaultEndian`] order, whatever the order of the type, as
+    /// [`join_ones_in`](Bits::join_ones_in) does.
+    ///
+    /// ```
+    /// 0b0010_0101u8.join_ones([10, 20, 30]);              // yields 10, 30
+    /// ```
     #[inline]
     final fn join_ones<I: IntoIterator>(
         &self,
@@ -340,7 +454,11 @@ pub trait Bits: Drop + Sealed {
         self.join_ones_in::<I, DefaultEndian>(iter)
     }
 
-    /// [`join_ones_in`](Bits::join_ones_in) in [`LittleEndian`] order.
+    /// Joins in [`LittleEndian`] order, as [`join_ones_in`](Bits::join_ones_in) does.
+    ///
+    /// ```
+    /// 0b1010_0000u8.join_ones_le([10, 20, 30]);           // yields 10, 30
+    /// ```
     #[inline]
     final fn join_ones_le<I: IntoIterator>(
         &self,
@@ -361,7 +479,11 @@ pub trait Bits: Drop + Sealed {
         self.join_ones_in::<I, LittleEndian>(iter)
     }
 
-    /// [`join_ones_in`](Bits::join_ones_in) in [`BigEndian`] order.
+    /// Joins in [`BigEndian`] order, as [`join_ones_in`](Bits::join_ones_in) does.
+    ///
+    /// ```
+    /// 0b0000_0101u8.join_ones_be([10, 20, 30]);           // yields 10, 30
+    /// ```
     #[inline]
     final fn join_ones_be<I: IntoIterator>(
         &self,

@@ -9,37 +9,53 @@ use crate::bits::Bits;
 use crate::endian::{BigEndian, Endian, LittleEndian};
 use crate::operation::{Conjunction, Difference, Operation, SymmetricDifference, Union};
 
-/// A set that can be changed. A change keeps the capacity.
+/// A set that can be changed. No change alters the capacity.
 pub trait BitsMut: Bits {
     // How the values before and after a change stand to each other: of a slice that is lent, that it is the same slice.
     ghost same_place: { Self → Self → Type 0 };
 
-    /// Makes the index, which wraps at the capacity, a member in the order `E`, and changes no other. With capacity 0
-    /// nothing changes.
+    /// Sets the bit at `index` in the order `E`. No other bit changes. An index past the capacity
+    /// wraps. With capacity 0 nothing changes.
     ///
-    /// Of a slice the element type has to fit, of any other type the type itself.
+    /// The type has to fit; of a slice its element type.
+    ///
+    /// ```
+    /// let mut word = 0u8;
+    /// word.set_bit_in::<LittleEndian>(0);                 // word is 0b1000_0000
+    /// ```
     fn set_bit_in<E: Endian>(&mut self, index: u32)
         requires { IsTrue Self.indexable }
         ensures set { members E.mirrored Self.width (Self.big self.new)
             ≡ with_index (members E.mirrored Self.width (Self.big self.old)) index }
         ensures stays { same_place self.old self.new };
 
-    /// Makes the index, which wraps at the capacity, no member in the order `E`, and changes no other. With capacity 0
-    /// nothing changes.
+    /// Clears the bit at `index` in the order `E`: it is unset then. No other bit changes. An index
+    /// past the capacity wraps. With capacity 0 nothing changes.
     ///
-    /// Of a slice the element type has to fit, of any other type the type itself.
+    /// The type has to fit; of a slice its element type.
+    ///
+    /// ```
+    /// let mut word = 0b1000_0001u8;
+    /// word.clear_bit_in::<LittleEndian>(0);               // word is 0b0000_0001
+    /// ```
     fn clear_bit_in<E: Endian>(&mut self, index: u32)
         requires { IsTrue Self.indexable }
         ensures set { members E.mirrored Self.width (Self.big self.new)
             ≡ without_index (members E.mirrored Self.width (Self.big self.old)) index }
         ensures stays { same_place self.old self.new };
 
-    /// Leaves no members. It has no condition.
+    /// Clears every bit. Always callable.
+    ///
+    /// ```
+    /// let mut row = [7u8, 9];
+    /// row.clear_bits();                                   // row is [0, 0]
+    /// ```
     fn clear_bits(&mut self)
         ensures set { Self.big self.new ≡ emptied (Self.big self.old) }
         ensures stays { same_place self.old self.new };
 
-    /// The operation with another set. Where the capacities differ, as of two slices, only what lies below both changes.
+    /// Combines the set with another one by an operation. Between two slices of unequal length only
+    /// the elements of the common beginning change.
     #[doc(hidden)]
     fn combine<O: Operation>(&mut self, other: &Self)
         ensures set { (mirrored : Bool) → members mirrored Self.width (Self.big self.new)
@@ -47,9 +63,13 @@ pub trait BitsMut: Bits {
             (members mirrored Self.width (Self.big self.old)) (members mirrored Self.width (Self.big other.now)) }
         ensures stays { same_place self.old self.new };
 
-    /// Makes each member of the other set a member.
+    /// Sets each bit that is set in `other`. Always callable. Between two slices of unequal length
+    /// only the elements of the common beginning change.
     ///
-    /// Where the capacities differ, as of two slices, only what lies below both changes.
+    /// ```
+    /// let mut word = 0b0011u8;
+    /// word.union_assign(&0b0101);                         // word is 0b0111
+    /// ```
     #[inline]
     final fn union_assign(&mut self, other: &Self)
         ensures union { (mirrored : Bool) → members mirrored Self.width (Self.big self.new)
@@ -60,9 +80,14 @@ pub trait BitsMut: Bits {
         self.combine::<Union>(other);
     }
 
-    /// Keeps the members that are members of the other set too.
+    /// Clears each bit that is unset in `other`. Always callable. Between two slices of unequal
+    /// length only the elements of the common beginning change: the later elements of the longer
+    /// one stay.
     ///
-    /// Where the capacities differ, as of two slices, only what lies below both changes; the later members of the longer one stay.
+    /// ```
+    /// let mut word = 0b0011u8;
+    /// word.conjunction_assign(&0b0101);                   // word is 0b0001
+    /// ```
     #[inline]
     final fn conjunction_assign(&mut self, other: &Self)
         ensures conjunction { (mirrored : Bool) → members mirrored Self.width (Self.big self.new)
@@ -73,9 +98,13 @@ pub trait BitsMut: Bits {
         self.combine::<Conjunction>(other);
     }
 
-    /// Takes the members of the other set out.
+    /// Clears each bit that is set in `other`. Always callable. Between two slices of unequal
+    /// length only the elements of the common beginning change.
     ///
-    /// Where the capacities differ, as of two slices, only what lies below both changes.
+    /// ```
+    /// let mut word = 0b0011u8;
+    /// word.difference_assign(&0b0101);                    // word is 0b0010
+    /// ```
     #[inline]
     final fn difference_assign(&mut self, other: &Self)
         ensures difference { (mirrored : Bool) → members mirrored Self.width (Self.big self.new)
@@ -86,9 +115,13 @@ pub trait BitsMut: Bits {
         self.combine::<Difference>(other);
     }
 
-    /// Makes each member of the other set a member, or, where it is one already, takes it out.
+    /// Flips each bit that is set in `other`. Always callable. Between two slices of unequal length
+    /// only the elements of the common beginning change.
     ///
-    /// Where the capacities differ, as of two slices, only what lies below both changes.
+    /// ```
+    /// let mut word = 0b0011u8;
+    /// word.symmetric_difference_assign(&0b0101);          // word is 0b0110
+    /// ```
     #[inline]
     final fn symmetric_difference_assign(&mut self, other: &Self)
         ensures symmetric_difference { (mirrored : Bool) → members mirrored Self.width (Self.big self.new)
@@ -99,7 +132,12 @@ pub trait BitsMut: Bits {
         self.combine::<SymmetricDifference>(other);
     }
 
-    /// [`set_bit_in`](BitsMut::set_bit_in) in the order of the type.
+    /// Sets a bit in the order of the type, as [`set_bit_in`](BitsMut::set_bit_in) does.
+    ///
+    /// ```
+    /// let mut row = [0u16; 2];
+    /// row.set_bit(31);                                    // row is [0, 0x8000]
+    /// ```
     #[inline]
     final fn set_bit(&mut self, index: u32)
         requires { IsTrue Self.indexable }
@@ -110,7 +148,12 @@ pub trait BitsMut: Bits {
         self.set_bit_in::<Self::Order>(index);
     }
 
-    /// [`set_bit_in`](BitsMut::set_bit_in) in [`LittleEndian`] order.
+    /// Sets a bit in [`LittleEndian`] order, as [`set_bit_in`](BitsMut::set_bit_in) does.
+    ///
+    /// ```
+    /// let mut row = [0u16; 2];
+    /// row.set_bit_le(31);                                 // row is [0, 1]
+    /// ```
     #[inline]
     final fn set_bit_le(&mut self, index: u32)
         requires { IsTrue Self.indexable }
@@ -122,7 +165,12 @@ pub trait BitsMut: Bits {
         self.set_bit_in::<LittleEndian>(index);
     }
 
-    /// [`set_bit_in`](BitsMut::set_bit_in) in [`BigEndian`] order.
+    /// Sets a bit in [`BigEndian`] order, as [`set_bit_in`](BitsMut::set_bit_in) does.
+    ///
+    /// ```
+    /// let mut row = [0u16; 2];
+    /// row.set_bit_be(32);                                 // row is [1, 0]: 32 wraps to 0
+    /// ```
     #[inline]
     final fn set_bit_be(&mut self, index: u32)
         requires { IsTrue Self.indexable }
@@ -134,7 +182,12 @@ pub trait BitsMut: Bits {
         self.set_bit_in::<BigEndian>(index);
     }
 
-    /// [`clear_bit_in`](BitsMut::clear_bit_in) in the order of the type.
+    /// Clears a bit in the order of the type, as [`clear_bit_in`](BitsMut::clear_bit_in) does.
+    ///
+    /// ```
+    /// let mut row = [0xFFFFu16; 2];
+    /// row.clear_bit(31);                                  // row is [0xFFFF, 0x7FFF]
+    /// ```
     #[inline]
     final fn clear_bit(&mut self, index: u32)
         requires { IsTrue Self.indexable }
@@ -145,7 +198,12 @@ pub trait BitsMut: Bits {
         self.clear_bit_in::<Self::Order>(index);
     }
 
-    /// [`clear_bit_in`](BitsMut::clear_bit_in) in [`LittleEndian`] order.
+    /// Clears a bit in [`LittleEndian`] order, as [`clear_bit_in`](BitsMut::clear_bit_in) does.
+    ///
+    /// ```
+    /// let mut row = [0xFFFFu16; 2];
+    /// row.clear_bit_le(31);                               // row is [0xFFFF, 0xFFFE]
+    /// ```
     #[inline]
     final fn clear_bit_le(&mut self, index: u32)
         requires { IsTrue Self.indexable }
@@ -157,7 +215,12 @@ pub trait BitsMut: Bits {
         self.clear_bit_in::<LittleEndian>(index);
     }
 
-    /// [`clear_bit_in`](BitsMut::clear_bit_in) in [`BigEndian`] order.
+    /// Clears a bit in [`BigEndian`] order, as [`clear_bit_in`](BitsMut::clear_bit_in) does.
+    ///
+    /// ```
+    /// let mut row = [0xFFFFu16; 2];
+    /// row.clear_bit_be(31);                               // row is [0xFFFF, 0x7FFF]
+    /// ```
     #[inline]
     final fn clear_bit_be(&mut self, index: u32)
         requires { IsTrue Self.indexable }

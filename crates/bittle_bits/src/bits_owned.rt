@@ -17,27 +17,45 @@ pub trait BitsOwned: Copy + Eq + BitsMut {
     // The capacity of each value.
     ghost type_capacity: { ℕ };
 
-    /// How many numbers a set of the type can hold, or `u32::MAX` where the type does not fit. It has no condition.
+    /// Returns how many bits a set of the type has, or `u32::MAX` if the type does not fit. Always
+    /// callable.
+    ///
+    /// ```
+    /// <[u32; 4]>::bits();                                 // 128
+    /// ```
     fn bits() -> u32
         ensures value { Fits Self.indexable type_capacity → result ≡ type_capacity }
         ensures fits { result < 4294967295 → Fits Self.indexable type_capacity };
 
-    /// The set with no members. The type has to fit.
+    /// Returns the set in which no bit is set. The type has to fit.
+    ///
+    /// ```
+    /// <[u8; 2]>::zeros();                                 // [0, 0]
+    /// ```
     fn zeros() -> Self
         requires { IsTrue Self.indexable }
         ensures value { Self.big result ≡ empty type_capacity }
         ensures in_each_order { (mirrored : Bool) →
             members mirrored Self.width (Self.big result) ≡ empty type_capacity };
 
-    /// The set with each number below the capacity, which is empty with capacity 0. The type has to fit.
+    /// Returns the set in which each bit is set; with capacity 0 it is empty too. The type has to
+    /// fit.
+    ///
+    /// ```
+    /// <[u8; 2]>::ones();                                  // [255, 255]
+    /// ```
     fn ones() -> Self
         requires { IsTrue Self.indexable }
         ensures value { Self.big result ≡ filled type_capacity }
         ensures in_each_order { (mirrored : Bool) →
             members mirrored Self.width (Self.big result) ≡ filled type_capacity };
 
-    /// The set with the index, which wraps at the capacity, in the order `E`. With capacity 0 it is the set itself. The
-    /// type has to fit.
+    /// Returns the set with the bit at `bit` set, in the order `E`. An index past the capacity
+    /// wraps. With capacity 0 it returns the set itself. The type has to fit.
+    ///
+    /// ```
+    /// 0u8.with_bit_in::<LittleEndian>(0);                 // 0b1000_0000
+    /// ```
     #[inline]
     final fn with_bit_in<E: Endian>(self, bit: u32) -> Self
         requires { IsTrue Self.indexable }
@@ -49,7 +67,12 @@ pub trait BitsOwned: Copy + Eq + BitsMut {
         set
     }
 
-    /// [`with_bit_in`](BitsOwned::with_bit_in) in the order of the type.
+    /// Returns the set with a bit set in the order of the type, as
+    /// [`with_bit_in`](BitsOwned::with_bit_in) does.
+    ///
+    /// ```
+    /// 0u8.with_bit(9);                                    // 2: 9 wraps to 1
+    /// ```
     #[inline]
     final fn with_bit(self, bit: u32) -> Self
         requires { IsTrue Self.indexable }
@@ -59,7 +82,12 @@ pub trait BitsOwned: Copy + Eq + BitsMut {
         self.with_bit_in::<Self::Order>(bit)
     }
 
-    /// [`with_bit_in`](BitsOwned::with_bit_in) in [`LittleEndian`] order.
+    /// Returns the set with a bit set in [`LittleEndian`] order, as
+    /// [`with_bit_in`](BitsOwned::with_bit_in) does.
+    ///
+    /// ```
+    /// 0u8.with_bit_le(1);                                 // 0b0100_0000
+    /// ```
     #[inline]
     final fn with_bit_le(self, bit: u32) -> Self
         requires { IsTrue Self.indexable }
@@ -69,7 +97,12 @@ pub trait BitsOwned: Copy + Eq + BitsMut {
         self.with_bit_in::<LittleEndian>(bit)
     }
 
-    /// [`with_bit_in`](BitsOwned::with_bit_in) in [`BigEndian`] order.
+    /// Returns the set with a bit set in [`BigEndian`] order, as
+    /// [`with_bit_in`](BitsOwned::with_bit_in) does.
+    ///
+    /// ```
+    /// 0u8.with_bit_be(1);                                 // 0b0000_0010
+    /// ```
     #[inline]
     final fn with_bit_be(self, bit: u32) -> Self
         requires { IsTrue Self.indexable }
@@ -79,8 +112,12 @@ pub trait BitsOwned: Copy + Eq + BitsMut {
         self.with_bit_in::<BigEndian>(bit)
     }
 
-    /// The set without the index, which wraps at the capacity, in the order `E`. With capacity 0 it is the set itself. The
-    /// type has to fit.
+    /// Returns the set with the bit at `bit` unset, in the order `E`. An index past the capacity
+    /// wraps. With capacity 0 it returns the set itself. The type has to fit.
+    ///
+    /// ```
+    /// 255u8.without_bit_in::<LittleEndian>(0);            // 0b0111_1111
+    /// ```
     #[inline]
     final fn without_bit_in<E: Endian>(self, bit: u32) -> Self
         requires { IsTrue Self.indexable }
@@ -92,7 +129,12 @@ pub trait BitsOwned: Copy + Eq + BitsMut {
         set
     }
 
-    /// [`without_bit_in`](BitsOwned::without_bit_in) in the order of the type.
+    /// Returns the set with a bit unset in the order of the type, as
+    /// [`without_bit_in`](BitsOwned::without_bit_in) does.
+    ///
+    /// ```
+    /// 255u8.without_bit(2);                               // 0b1111_1011
+    /// ```
     #[inline]
     final fn without_bit(self, bit: u32) -> Self
         requires { IsTrue Self.indexable }
@@ -102,7 +144,12 @@ pub trait BitsOwned: Copy + Eq + BitsMut {
         self.without_bit_in::<Self::Order>(bit)
     }
 
-    /// [`without_bit_in`](BitsOwned::without_bit_in) in [`LittleEndian`] order.
+    /// Returns the set with a bit unset in [`LittleEndian`] order, as
+    /// [`without_bit_in`](BitsOwned::without_bit_in) does.
+    ///
+    /// ```
+    /// 255u8.without_bit_le(2);                            // 0b1101_1111
+    /// ```
     #[inline]
     final fn without_bit_le(self, bit: u32) -> Self
         requires { IsTrue Self.indexable }
@@ -112,7 +159,12 @@ pub trait BitsOwned: Copy + Eq + BitsMut {
         self.without_bit_in::<LittleEndian>(bit)
     }
 
-    /// [`without_bit_in`](BitsOwned::without_bit_in) in [`BigEndian`] order.
+    /// Returns the set with a bit unset in [`BigEndian`] order, as
+    /// [`without_bit_in`](BitsOwned::without_bit_in) does.
+    ///
+    /// ```
+    /// 255u8.without_bit_be(2);                            // 0b1111_1011
+    /// ```
     #[inline]
     final fn without_bit_be(self, bit: u32) -> Self
         requires { IsTrue Self.indexable }
@@ -122,7 +174,11 @@ pub trait BitsOwned: Copy + Eq + BitsMut {
         self.without_bit_in::<BigEndian>(bit)
     }
 
-    /// The members of either set. It has no condition.
+    /// Returns the bits that are set in either set. Always callable.
+    ///
+    /// ```
+    /// 0b0011u8.union(0b0101);                             // 0b0111
+    /// ```
     #[inline]
     final fn union(self, other: Self) -> Self
         ensures { (mirrored : Bool) → members mirrored Self.width (Self.big result)
@@ -134,7 +190,11 @@ pub trait BitsOwned: Copy + Eq + BitsMut {
         set
     }
 
-    /// The members of both sets. It has no condition.
+    /// Returns the bits that are set in both sets. Always callable.
+    ///
+    /// ```
+    /// 0b0011u8.conjunction(0b0101);                       // 0b0001
+    /// ```
     #[inline]
     final fn conjunction(self, other: Self) -> Self
         ensures { (mirrored : Bool) → members mirrored Self.width (Self.big result)
@@ -146,7 +206,11 @@ pub trait BitsOwned: Copy + Eq + BitsMut {
         set
     }
 
-    /// The members that are none of the other set. It has no condition.
+    /// Returns the bits that are set in this set and unset in the other. Always callable.
+    ///
+    /// ```
+    /// 0b0011u8.difference(0b0101);                        // 0b0010
+    /// ```
     #[inline]
     final fn difference(self, other: Self) -> Self
         ensures { (mirrored : Bool) → members mirrored Self.width (Self.big result)
@@ -158,7 +222,11 @@ pub trait BitsOwned: Copy + Eq + BitsMut {
         set
     }
 
-    /// The members of just one of the sets. It has no condition.
+    /// Returns the bits that are set in just one of the sets. Always callable.
+    ///
+    /// ```
+    /// 0b0011u8.symmetric_difference(0b0101);              // 0b0110
+    /// ```
     #[inline]
     final fn symmetric_difference(self, other: Self) -> Self
         ensures { (mirrored : Bool) → members mirrored Self.width (Self.big result)
@@ -170,8 +238,12 @@ pub trait BitsOwned: Copy + Eq + BitsMut {
         set
     }
 
-    /// The members in increasing order in the order `E`, from both ends, of a set that the walk owns. The type has to fit.
-    /// With capacity 0 there are none.
+    /// Returns an iterator that owns the set, over the indexes of its set bits in the order `E`,
+    /// increasing, from both ends. The type has to fit. With capacity 0 it yields nothing.
+    ///
+    /// ```
+    /// 0b1101_0000u8.into_iter_ones_in::<LittleEndian>();  // yields 0, 1, 3
+    /// ```
     #[inline]
     final fn into_iter_ones_in<E: Endian>(self) -> IntoIterOnes<Self, E>
     where
@@ -184,7 +256,12 @@ pub trait BitsOwned: Copy + Eq + BitsMut {
         IntoIter::new(OwnedSource::new(self))
     }
 
-    /// [`into_iter_ones_in`](BitsOwned::into_iter_ones_in) in the order of the type.
+    /// Iterates over the set bits of an owned set in the order of the type, as
+    /// [`into_iter_ones_in`](BitsOwned::into_iter_ones_in) does.
+    ///
+    /// ```
+    /// [8u8, 1].into_iter_ones();                          // yields 3, 8
+    /// ```
     #[inline]
     final fn into_iter_ones(self) -> IntoIterOnes<Self, Self::Order>
     where
@@ -197,7 +274,12 @@ pub trait BitsOwned: Copy + Eq + BitsMut {
         self.into_iter_ones_in::<Self::Order>()
     }
 
-    /// [`into_iter_ones_in`](BitsOwned::into_iter_ones_in) in [`LittleEndian`] order.
+    /// Iterates over the set bits of an owned set in [`LittleEndian`] order, as
+    /// [`into_iter_ones_in`](BitsOwned::into_iter_ones_in) does.
+    ///
+    /// ```
+    /// [8u8, 1].into_iter_ones_le();                       // yields 4, 15
+    /// ```
     #[inline]
     final fn into_iter_ones_le(self) -> IntoIterOnes<Self, LittleEndian>
     where
@@ -210,7 +292,12 @@ pub trait BitsOwned: Copy + Eq + BitsMut {
         self.into_iter_ones_in::<LittleEndian>()
     }
 
-    /// [`into_iter_ones_in`](BitsOwned::into_iter_ones_in) in [`BigEndian`] order.
+    /// Iterates over the set bits of an owned set in [`BigEndian`] order, as
+    /// [`into_iter_ones_in`](BitsOwned::into_iter_ones_in) does.
+    ///
+    /// ```
+    /// [8u8, 1].into_iter_ones_be();                       // yields 3, 8
+    /// ```
     #[inline]
     final fn into_iter_ones_be(self) -> IntoIterOnes<Self, BigEndian>
     where
@@ -223,8 +310,13 @@ pub trait BitsOwned: Copy + Eq + BitsMut {
         self.into_iter_ones_in::<BigEndian>()
     }
 
-    /// The numbers below the capacity that are no members, in increasing order in the order `E`, from both ends, of a set
-    /// that the walk owns. The type has to fit. With capacity 0 there are none.
+    /// Returns an iterator that owns the set, over the indexes of its unset bits below the capacity
+    /// in the order `E`, increasing, from both ends. The type has to fit. With capacity 0 it yields
+    /// nothing.
+    ///
+    /// ```
+    /// 0b1101_0000u8.into_iter_zeros_in::<LittleEndian>(); // yields 2, 4, 5, 6, 7
+    /// ```
     #[inline]
     final fn into_iter_zeros_in<E: Endian>(self) -> IntoIterZeros<Self, E>
     where
@@ -237,7 +329,12 @@ pub trait BitsOwned: Copy + Eq + BitsMut {
         IntoIter::new(OwnedSource::new(self))
     }
 
-    /// [`into_iter_zeros_in`](BitsOwned::into_iter_zeros_in) in the order of the type.
+    /// Iterates over the unset bits of an owned set in the order of the type, as
+    /// [`into_iter_zeros_in`](BitsOwned::into_iter_zeros_in) does.
+    ///
+    /// ```
+    /// 0xF9u8.into_iter_zeros();                           // yields 1, 2
+    /// ```
     #[inline]
     final fn into_iter_zeros(self) -> IntoIterZeros<Self, Self::Order>
     where
@@ -250,7 +347,12 @@ pub trait BitsOwned: Copy + Eq + BitsMut {
         self.into_iter_zeros_in::<Self::Order>()
     }
 
-    /// [`into_iter_zeros_in`](BitsOwned::into_iter_zeros_in) in [`LittleEndian`] order.
+    /// Iterates over the unset bits of an owned set in [`LittleEndian`] order, as
+    /// [`into_iter_zeros_in`](BitsOwned::into_iter_zeros_in) does.
+    ///
+    /// ```
+    /// 0xF9u8.into_iter_zeros_le();                        // yields 5, 6
+    /// ```
     #[inline]
     final fn into_iter_zeros_le(self) -> IntoIterZeros<Self, LittleEndian>
     where
@@ -263,7 +365,12 @@ pub trait BitsOwned: Copy + Eq + BitsMut {
         self.into_iter_zeros_in::<LittleEndian>()
     }
 
-    /// [`into_iter_zeros_in`](BitsOwned::into_iter_zeros_in) in [`BigEndian`] order.
+    /// Iterates over the unset bits of an owned set in [`BigEndian`] order, as
+    /// [`into_iter_zeros_in`](BitsOwned::into_iter_zeros_in) does.
+    ///
+    /// ```
+    /// 0xF9u8.into_iter_zeros_be();                        // yields 1, 2
+    /// ```
     #[inline]
     final fn into_iter_zeros_be(self) -> IntoIterZeros<Self, BigEndian>
     where

@@ -7,60 +7,83 @@ ghost use Rattle.bittle_bits.specs.PlainSet.{empty, filled_from, with_index, com
 
 use crate::hidden::{Number, Sealed};
 
-/// An order in which the digits of each word are read: [`BigEndian`] or [`LittleEndian`].
+/// An order in which the bits of each word are indexed: [`BigEndian`] or [`LittleEndian`].
 pub trait Endian: Drop + Sealed {
     // Whether the first index is the digit of greatest weight.
     ghost mirrored: { Bool };
 
-    /// Whether index 0 is the digit of greatest weight.
+    /// Returns `true` if index 0 is the bit of greatest weight.
     #[doc(hidden)]
     fn is_mirrored() -> bool
         ensures { result ≡ mirrored };
 
-    /// The word whose one member is the index, which wraps at the width.
+    /// Returns the word in which the bit at `index` alone is set; the index wraps at the width.
+    ///
+    /// ```
+    /// LittleEndian::mask::<u8>(9);                        // 0b0100_0000
+    /// ```
     #[doc(hidden)]
     fn mask<T: Number>(index: u32) -> T
         ensures { members mirrored T.width (digit_set T.width (T.digits result))
             ≡ with_index (empty T.width) index };
 
-    /// The word whose members are the indexes from one on.
+    /// Returns the word in which each bit from `index` on is set.
     #[doc(hidden)]
     fn from_index<T: Number>(index: u32) -> T
         requires { index < T.width }
         ensures { members mirrored T.width (digit_set T.width (T.digits result)) ≡ filled_from T.width index };
 
-    /// The least member, or the width where there is none.
+    /// Returns the least index of a set bit, or the width if there is none.
+    ///
+    /// ```
+    /// BigEndian::zeros(0b0001_0000u8);                    // 4
+    /// ```
     #[doc(hidden)]
     fn zeros<T: Number>(value: T) -> u32
         ensures { IsLeastMember (members mirrored T.width (digit_set T.width (T.digits value))) result };
 
-    /// The least index that is no member, or the width where there is none.
+    /// Returns the least index of an unset bit, or the width if there is none.
+    ///
+    /// ```
+    /// BigEndian::ones(0b0000_0111u8);                     // 3
+    /// ```
     #[doc(hidden)]
     fn ones<T: Number>(value: T) -> u32
         ensures { IsLeastMember
             (complement (members mirrored T.width (digit_set T.width (T.digits value)))) result };
 
-    /// How far the greatest member lies below the last index, or the width where there is none.
+    /// Returns how far the greatest set bit lies below the last index, or the width if no bit is
+    /// set.
+    ///
+    /// ```
+    /// LittleEndian::zeros_rev(0b0001_0000u8);             // 4
+    /// ```
     #[doc(hidden)]
     fn zeros_rev<T: Number>(value: T) -> u32
         ensures { IsGreatestMember (members mirrored T.width (digit_set T.width (T.digits value))) result };
 
-    /// How far the greatest index that is no member lies below the last index, or the width where there is none.
+    /// Returns how far the greatest unset bit lies below the last index, or the width if every bit
+    /// is set.
+    ///
+    /// ```
+    /// BigEndian::ones_rev(0b1110_0000u8);                 // 3
+    /// ```
     #[doc(hidden)]
     fn ones_rev<T: Number>(value: T) -> u32
         ensures { IsGreatestMember
             (complement (members mirrored T.width (digit_set T.width (T.digits value)))) result };
 }
 
-/// Index 0 is the digit of least weight, the rightmost one as a number is written. The order of calls that name none.
+/// Counts from the bit of least weight, the rightmost one as a number is written. The default
+/// order.
 #[derive(Drop)]
 pub enum BigEndian {}
 
-/// Index 0 is the digit of greatest weight, the leftmost one as a number is written.
+/// Counts from the bit of greatest weight, the leftmost one as a number is written.
 #[derive(Drop)]
 pub enum LittleEndian {}
 
-/// The order of calls that name none, [`BigEndian`].
+/// The order of calls that name none: [`BigEndian`].
 pub type DefaultEndian = BigEndian;
 
 impl Sealed for BigEndian {}

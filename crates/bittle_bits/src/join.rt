@@ -9,12 +9,12 @@ use crate::endian::Endian;
 use crate::walk::IterOnes;
 use std::marker::Model;
 
-/// The items of an iterator at the members of a set, which is its mask.
+/// Yields the items of an iterator at the set bits of a mask.
 ///
-/// For each member in turn it moves the iterator on to the item at that position, counted from the iterator's first
-/// item, and gives it. Nothing past the greatest member is taken. At the first member that is not before the
-/// iterator's end it answers `None`, as after the last member, and from then on it asks neither its mask nor its
-/// iterator again.
+/// For each set bit in turn the join moves its iterator on to the item at that position, counted
+/// from the iterator's first item, and yields it. It takes nothing past the greatest set bit. It
+/// returns `None` after the last set bit, or at the first one that is not before the iterator's
+/// end; from then on it asks neither its mask nor its iterator again.
 #[derive(Drop)]
 pub struct JoinOnes<'a, A: Bits, E: Endian, I> {
     mask: IterOnes<'a, A, E>,

@@ -10,6 +10,8 @@ mod capacities;
 #[cfg(test)]
 mod comparisons;
 #[cfg(test)]
+mod examples;
+#[cfg(test)]
 mod guide;
 #[cfg(test)]
 mod joins;

@@ -42,9 +42,13 @@ fn compare<A: Bits, B: Bits, E: Endian, F: Endian>(left: &A, right: &B) -> Order
 }
 
 impl<T: Bits, E: Endian> Set<T, E> {
-    /// The order of this set and another of any shape, which has to fit, by their increasing members.
+    /// Compares this set with another one of any shape that fits, as increasing lists of indexes.
     ///
-    /// Each side is read in its own order: this one in `E`, and the other in `U::Order`.
+    /// Each side is read in its own order: this one in `E`, the other in `U::Order`.
+    ///
+    /// ```
+    /// Set::new(1u8).cmp_bits(&3u16);                      // Less
+    /// ```
     pub fn cmp_bits<U: Bits>(&self, other: &U) -> Ordering
         requires { ShapeFits U.Bits other.now }
         ensures value { result
@@ -58,9 +62,13 @@ impl<T: Bits, E: Endian> Set<T, E> {
         compare::<T, U, E, U::Order>(&self.bits, other)
     }
 
-    /// Whether this set and another of any shape, which has to fit, have the same members.
+    /// Returns `true` if this set and another one of any shape that fits have the same bits set.
     ///
-    /// Each side is read in its own order: this one in `E`, and the other in `U::Order`.
+    /// Each side is read in its own order: this one in `E`, the other in `U::Order`.
+    ///
+    /// ```
+    /// Set::new_le(0x80u8).eq_bits(&1u16);                 // true: each has the one index 0
+    /// ```
     pub fn eq_bits<U: Bits>(&self, other: &U) -> bool
         requires { ShapeFits U.Bits other.now }
         ensures value { result

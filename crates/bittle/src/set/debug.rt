@@ -9,7 +9,8 @@ use bittle_bits::bits::Bits;
 use bittle_bits::endian::Endian;
 use std::fmt;
 
-/// The members in increasing order between braces, as `{1, 14}`. Flags of the format change nothing.
+/// Prints the indexes of the set bits in increasing order between braces, as `{1, 14}`. The flags
+/// of the format change nothing.
 impl<T: Bits, E: Endian> fmt::Debug for Set<T, E> {
     ghost debug_output = { λ s. Some (set_text (members E.mirrored T.width (T.big s.bits))) };
 

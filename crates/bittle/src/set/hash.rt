@@ -11,8 +11,8 @@ use bittle_bits::bits::Bits;
 use bittle_bits::endian::Endian;
 use std::hash::{Hash, Hasher};
 
-/// The hasher is fed each member in increasing order and then how many there are, each as a `u32`. So equal sets are fed
-/// alike, whatever the slices that they lie over.
+/// Feeds the hasher the index of each set bit in increasing order and then their number, each as a
+/// `u32`. So equal sets are fed alike, whatever the slices that they wrap.
 impl<T: Bits, E: Endian> Hash for Set<T, E> {
     ghost hash_input = { λ s. feed (ascending (members E.mirrored T.width (T.big s.bits))) };
 

@@ -1,0 +1,288 @@
+//! The examples in the documentation of the public calls.
+
+use bittle::{BigEndian, Bits, BitsMut, BitsOwned, Endian, LittleEndian, Set};
+use std::cmp::Ordering;
+
+#[test]
+fn orders_mask(rt: HostRuntime) {
+    assert_eq!(rt; LittleEndian::mask::<u8>(9), 0b0100_0000);
+}
+
+#[test]
+fn orders_zeros(rt: HostRuntime) {
+    assert_eq!(rt; BigEndian::zeros(0b0001_0000u8), 4);
+}
+
+#[test]
+fn orders_ones(rt: HostRuntime) {
+    assert_eq!(rt; BigEndian::ones(0b0000_0111u8), 3);
+}
+
+#[test]
+fn orders_zeros_rev(rt: HostRuntime) {
+    assert_eq!(rt; LittleEndian::zeros_rev(0b0001_0000u8), 4);
+}
+
+#[test]
+fn orders_ones_rev(rt: HostRuntime) {
+    assert_eq!(rt; BigEndian::ones_rev(0b1110_0000u8), 3);
+}
+
+#[test]
+fn reading_bits_capacity(rt: HostRuntime) {
+    assert_eq!(rt; [0u16; 2].bits_capacity(), 32);
+}
+
+#[test]
+fn reading_count_ones(rt: HostRuntime) {
+    assert_eq!(rt; [0b0001_0000u8, 0b0100_1000].count_ones(), 3);
+}
+
+#[test]
+fn reading_count_zeros(rt: HostRuntime) {
+    assert_eq!(rt; [0b0001_0000u8, 0b0100_1000].count_zeros(), 13);
+}
+
+#[test]
+fn reading_all_zeros(rt: HostRuntime) {
+    assert!(rt; [0u8; 4].all_zeros());
+}
+
+#[test]
+fn reading_all_ones(rt: HostRuntime) {
+    assert!(rt; [255u8; 4].all_ones());
+}
+
+#[test]
+fn reading_test_bit(rt: HostRuntime) {
+    assert!(rt; 0b1000_0000u8.test_bit_in::<LittleEndian>(0));
+    assert!(rt; 0b0010u8.test_bit(1));
+    assert!(rt; 0b0010u8.test_bit(9));
+    assert!(rt; 0b1000_0000u8.test_bit_le(0));
+    assert!(rt; 0b1000_0000u8.test_bit_be(7));
+}
+
+#[test]
+fn reading_first_one(rt: HostRuntime) {
+    assert_eq!(rt; [0x10u8, 0x01].first_one_in::<BigEndian>(5, 16), Some(8));
+}
+
+#[test]
+fn reading_first_zero(rt: HostRuntime) {
+    assert_eq!(rt; [0x10u8, 0x01].first_zero_in::<BigEndian>(4, 16), Some(5));
+}
+
+#[test]
+fn reading_last_one(rt: HostRuntime) {
+    assert_eq!(rt; [0x10u8, 0x01].last_one_in::<BigEndian>(0, 8), Some(4));
+}
+
+#[test]
+fn reading_last_zero(rt: HostRuntime) {
+    assert_eq!(rt; [0x10u8, 0x01].last_zero_in::<BigEndian>(0, 9), Some(7));
+}
+
+#[test]
+fn reading_iter_ones(rt: HostRuntime) {
+    assert!(rt; 0b1101_0000u8.iter_ones_in::<LittleEndian>().eq([0, 1, 3]));
+    assert!(rt; [0u32, 1, 2, 3].iter_ones().eq([32, 65, 96, 97]));
+    assert!(rt; [0u32, 1, 2, 3].iter_ones().rev().eq([97, 96, 65, 32]));
+    assert!(rt; 0b1101_0000u8.iter_ones_le().eq([0, 1, 3]));
+    assert!(rt; 0b1101_0000u8.iter_ones_be().eq([4, 6, 7]));
+}
+
+#[test]
+fn reading_iter_zeros(rt: HostRuntime) {
+    assert!(rt; 0b1101_0000u8.iter_zeros_in::<LittleEndian>().eq([2, 4, 5, 6, 7]));
+    assert!(rt; 0b1101u8.iter_zeros().eq([1, 4, 5, 6, 7]));
+    assert!(rt; 0b1101_0000u8.iter_zeros_le().eq([2, 4, 5, 6, 7]));
+    assert!(rt; 0b1101_0000u8.iter_zeros_be().eq([0, 1, 2, 3, 5]));
+}
+
+#[test]
+fn reading_join_ones(rt: HostRuntime) {
+    assert!(rt; 0b1010_0000u8.join_ones_in::<_, LittleEndian>([10, 20, 30]).eq([10, 30]));
+    assert!(rt; 0b0010_0101u8.join_ones([10, 20, 30]).eq([10, 30]));
+    assert!(rt; 0b1010_0000u8.join_ones_le([10, 20, 30]).eq([10, 30]));
+    assert!(rt; 0b0000_0101u8.join_ones_be([10, 20, 30]).eq([10, 30]));
+}
+
+#[test]
+fn changing_set_bit(rt: HostRuntime) {
+    let mut word = 0u8;
+    word.set_bit_in::<LittleEndian>(0);
+    assert_eq!(rt; word, 0b1000_0000);
+    let mut row = [0u16; 2];
+    row.set_bit(31);
+    assert_eq!(rt; row, [0, 0x8000]);
+    let mut row = [0u16; 2];
+    row.set_bit_le(31);
+    assert_eq!(rt; row, [0, 1]);
+    let mut row = [0u16; 2];
+    row.set_bit_be(32);
+    assert_eq!(rt; row, [1, 0]);
+}
+
+#[test]
+fn changing_clear_bit(rt: HostRuntime) {
+    let mut word = 0b1000_0001u8;
+    word.clear_bit_in::<LittleEndian>(0);
+    assert_eq!(rt; word, 0b0000_0001);
+    let mut row = [0xFFFFu16; 2];
+    row.clear_bit(31);
+    assert_eq!(rt; row, [0xFFFF, 0x7FFF]);
+    let mut row = [0xFFFFu16; 2];
+    row.clear_bit_le(31);
+    assert_eq!(rt; row, [0xFFFF, 0xFFFE]);
+    let mut row = [0xFFFFu16; 2];
+    row.clear_bit_be(31);
+    assert_eq!(rt; row, [0xFFFF, 0x7FFF]);
+}
+
+#[test]
+fn changing_clear_bits(rt: HostRuntime) {
+    let mut row = [7u8, 9];
+    row.clear_bits();
+    assert_eq!(rt; row, [0, 0]);
+}
+
+#[test]
+fn changing_union_assign(rt: HostRuntime) {
+    let mut word = 0b0011u8;
+    word.union_assign(&0b0101);
+    assert_eq!(rt; word, 0b0111);
+}
+
+#[test]
+fn changing_conjunction_assign(rt: HostRuntime) {
+    let mut word = 0b0011u8;
+    word.conjunction_assign(&0b0101);
+    assert_eq!(rt; word, 0b0001);
+}
+
+#[test]
+fn changing_difference_assign(rt: HostRuntime) {
+    let mut word = 0b0011u8;
+    word.difference_assign(&0b0101);
+    assert_eq!(rt; word, 0b0010);
+}
+
+#[test]
+fn changing_symmetric_difference_assign(rt: HostRuntime) {
+    let mut word = 0b0011u8;
+    word.symmetric_difference_assign(&0b0101);
+    assert_eq!(rt; word, 0b0110);
+}
+
+#[test]
+fn owned_bits(rt: HostRuntime) {
+    assert_eq!(rt; <[u32; 4]>::bits(), 128);
+}
+
+#[test]
+fn owned_zeros(rt: HostRuntime) {
+    assert_eq!(rt; <[u8; 2]>::zeros(), [0, 0]);
+}
+
+#[test]
+fn owned_ones(rt: HostRuntime) {
+    assert_eq!(rt; <[u8; 2]>::ones(), [255, 255]);
+}
+
+#[test]
+fn owned_with_bit(rt: HostRuntime) {
+    assert_eq!(rt; 0u8.with_bit_in::<LittleEndian>(0), 0b1000_0000);
+    assert_eq!(rt; 0u8.with_bit(9), 2);
+    assert_eq!(rt; 0u8.with_bit_le(1), 0b0100_0000);
+    assert_eq!(rt; 0u8.with_bit_be(1), 0b0000_0010);
+}
+
+#[test]
+fn owned_without_bit(rt: HostRuntime) {
+    assert_eq!(rt; 255u8.without_bit_in::<LittleEndian>(0), 0b0111_1111);
+    assert_eq!(rt; 255u8.without_bit(2), 0b1111_1011);
+    assert_eq!(rt; 255u8.without_bit_le(2), 0b1101_1111);
+    assert_eq!(rt; 255u8.without_bit_be(2), 0b1111_1011);
+}
+
+#[test]
+fn owned_union(rt: HostRuntime) {
+    assert_eq!(rt; 0b0011u8.union(0b0101), 0b0111);
+}
+
+#[test]
+fn owned_conjunction(rt: HostRuntime) {
+    assert_eq!(rt; 0b0011u8.conjunction(0b0101), 0b0001);
+}
+
+#[test]
+fn owned_difference(rt: HostRuntime) {
+    assert_eq!(rt; 0b0011u8.difference(0b0101), 0b0010);
+}
+
+#[test]
+fn owned_symmetric_difference(rt: HostRuntime) {
+    assert_eq!(rt; 0b0011u8.symmetric_difference(0b0101), 0b0110);
+}
+
+#[test]
+fn owned_into_iter_ones(rt: HostRuntime) {
+    assert!(rt; 0b1101_0000u8.into_iter_ones_in::<LittleEndian>().eq([0, 1, 3]));
+    assert!(rt; [8u8, 1].into_iter_ones().eq([3, 8]));
+    assert!(rt; [8u8, 1].into_iter_ones_le().eq([4, 15]));
+    assert!(rt; [8u8, 1].into_iter_ones_be().eq([3, 8]));
+}
+
+#[test]
+fn owned_into_iter_zeros(rt: HostRuntime) {
+    assert!(rt; 0b1101_0000u8.into_iter_zeros_in::<LittleEndian>().eq([2, 4, 5, 6, 7]));
+    assert!(rt; 0xF9u8.into_iter_zeros().eq([1, 2]));
+    assert!(rt; 0xF9u8.into_iter_zeros_le().eq([5, 6]));
+    assert!(rt; 0xF9u8.into_iter_zeros_be().eq([1, 2]));
+}
+
+#[test]
+fn wrapped_set(rt: HostRuntime) {
+    let set = Set::new_le(0b1101_0000u8);
+    assert!(rt; set.test_bit(3));
+    assert!(rt; set.iter_ones().eq([0, 1, 3]));
+}
+
+#[test]
+fn wrapped_new(rt: HostRuntime) {
+    assert!(rt; Set::new(0b1101_0000u8).iter_ones().eq([4, 6, 7]));
+    assert!(rt; Set::new_le(0b1101_0000u8).iter_ones().eq([0, 1, 3]));
+    assert!(rt; Set::<u8, LittleEndian>::new_in(0x80).iter_ones().eq([0]));
+}
+
+#[test]
+fn wrapped_into_bits(rt: HostRuntime) {
+    assert_eq!(rt; Set::new_le(0x80u8).into_bits(), 0x80);
+}
+
+#[test]
+fn wrapped_from_ref(rt: HostRuntime) {
+    assert!(rt; Set::from_ref(&[1u8, 16]).iter_ones().eq([0, 12]));
+    assert!(rt; Set::from_ref_le(&[1u8, 16]).iter_ones().eq([7, 11]));
+}
+
+#[test]
+fn wrapped_from_mut(rt: HostRuntime) {
+    let mut words = [0u8; 2];
+    Set::from_mut(&mut words).set_bit(12);
+    assert_eq!(rt; words, [0, 16]);
+    let mut words = [0u8; 2];
+    Set::from_mut_le(&mut words).set_bit(12);
+    assert_eq!(rt; words, [0, 8]);
+}
+
+#[test]
+fn compared_cmp_bits(rt: HostRuntime) {
+    assert_eq!(rt; Set::new(1u8).cmp_bits(&3u16), Ordering::Less);
+}
+
+#[test]
+fn compared_eq_bits(rt: HostRuntime) {
+    assert!(rt; Set::new_le(0x80u8).eq_bits(&1u16));
+}
+
