@@ -13,4 +13,6 @@ pub use bittle_bits::bits_mut::BitsMut;
 pub use bittle_bits::bits_owned::BitsOwned;
 pub use bittle_bits::endian::{BigEndian, DefaultEndian, Endian, LittleEndian};
 pub use bittle_bits::{join, number, walk};
+#[doc(hidden)]
+pub use bittle_bits::{laws, set_laws, walk_laws};
 pub use set::Set;

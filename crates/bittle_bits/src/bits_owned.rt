@@ -47,6 +47,7 @@ pub trait BitsOwned: Copy + Eq + BitsMut {
     fn ones() -> Self
         requires { IsTrue Self.indexable }
         ensures value { Self.big result ≡ filled type_capacity }
+        ensures in_own_order { members Self.Order.mirrored Self.width (Self.big result) ≡ filled type_capacity }
         ensures in_each_order { (mirrored : Bool) →
             members mirrored Self.width (Self.big result) ≡ filled type_capacity };
 

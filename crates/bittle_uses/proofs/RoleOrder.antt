@@ -13,7 +13,7 @@ use Rattle.std.specs.declared.cmp.Ordering.{Ordering}
 use Rattle.bittle.specs.Digits.{digit_has}
 use Rattle.bittle.specs.Order.{list_cmp, AreSame}
 use Rattle.bittle.specs.PlainSet.{ascending}
-use Rattle.bittle.proofs.CallerLemmas.{equal_iff_same_members}
+use Rattle.bittle.proofs.CallerLists.{equal_iff_same_members}
 use Rattle.bittle_uses.specs.Permissions.{granted}
 
 none_past : (role i : ℕ) → 32 ≤ i → digit_has 32 role i ≡ false

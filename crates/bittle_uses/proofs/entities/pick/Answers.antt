@@ -3,7 +3,8 @@ use Rattle.std.proofs.lemmas.List.{take_more_set, map-append, length-append, len
 use Rattle.std.specs.Prelude.{slice_index}
 use Rattle.bittle.specs.PlainSet.{ascending}
 use Rattle.bittle_uses.specs.Entities.{entities}
-use Rattle.bittle.proofs.CallerLemmas.{answers_below, all_joined, ascending-below}
+use Rattle.bittle.proofs.CallerJoins.{answers_below, all_joined}
+use Rattle.bittle.proofs.CallerLists.{ascending_below}
 use Rattle.bittle_uses.proofs.entities.pick.Goals as goal
 
 pub bounds-row-count : goal.bounds-row-count
@@ -38,7 +39,7 @@ returns-clause-picked c =
     let start = c.into_iter-component-iterator.ensures.into_iter_gives in
     let items : join.result.iter.rest.now ≡ c.args.components.now = ap (λ i. i.rest.now) join.ensures.iter ∙ c.iter.ensures.rest in
     let bound : (k : ℕ) → k < length join.result.mask.left → get_or join.result.mask.left k 0 < length join.result.iter.rest.now =
-    λ k h. omega (arith, ascending-below (entities c.args.mask) k (omega (arith, h, ap length join.ensures.members)), ap (λ xs. get_or xs k 0) join.ensures.members, ap length items, c.told-components) in
+    λ k h. omega (arith, ascending_below (entities c.args.mask) k (omega (arith, h, ap length join.ensures.members)), ap (λ xs. get_or xs k 0) join.ensures.members, ap length items, c.told-components) in
     let all = all_joined (λ i. i.rest.now) join.result c.loop-component.component-iterator c.next.new.self c.loop-component.yielded join.ensures.end join.ensures.none_taken bound (rw start at c.loop-component.yielded_by) c.in-None.ensures.steps in
     c.loop-component.invariant.picked ∙ all ∙ ap (λ xs. map (λ n. slice_index xs n) join.result.mask.left) items ∙ ap (map (λ n. slice_index c.args.components.now n)) join.ensures.members
 

@@ -8,3 +8,6 @@ returns-clause-value g c = elements_set-full _ _ g.T.Bits.big _ c.ones.ensures.v
 
 pub returns-clause-in_each_order : goal.returns-clause-in_each_order
 returns-clause-in_each_order g c = filled_in_each_order _ _ _ g.met.T.Bits.width_positive (words_of _ _ _ g.met.T.BitsOwned.type_whole_words) (returns-clause-value g c)
+
+pub returns-clause-in_own_order : goal.returns-clause-in_own_order
+returns-clause-in_own_order g c = returns-clause-value g c

@@ -1,122 +1,16 @@
--- Facts of the definitions that callers cite, of sets, of their increasing lists and of joins of slices.
-use Rattle.std.proofs.Common.{◌≡◌, ℕ, zero, suc, ◌+◌, ◌-◌, ◌*◌, ◌<◌, ◌≤◌, Bool, false, not, ◌&&◌, ◌||◌, ◌==◌, List, [], ◌∷◌, ◌++◌, length, drop, map, get_or, Option, Some, None, Bor, inl, inr, refl, sym, ap, ◌∙◌, subst, arith, IsTrue, ◌↔◌}
-use Rattle.std.proofs.Math.Nat.{mod-eq_of_lt}
+-- Facts of joins of slices that callers cite.
+use Rattle.std.proofs.Common.{◌≡◌, ℕ, suc, ◌+◌, ◌-◌, ◌<◌, List, [], ◌∷◌, ◌++◌, length, drop, map, get_or, Option, Some, None, Bor, inl, inr, refl, sym, ap, ◌∙◌, subst, arith}
 use Rattle.std.specs.Prelude.{slice_get, slice_index}
 use Rattle.std.specs.Iterator.{Yields}
 use Rattle.std.specs.Option.{option_map, MatchOption}
 use Rattle.std.proofs.Math.Seq.{drop-cons}
-use Rattle.std.proofs.lemmas.Bool.{cases_Bool, cases_lt, lt-ltb}
+use Rattle.std.proofs.lemmas.Bool.{cases_lt}
 use Rattle.std.proofs.lemmas.Grind.{same_number_lists}
-use Rattle.std.proofs.lemmas.Iterator.{YieldsList}
 use Rattle.std.proofs.lemmas.List.{drop_all, length-append, length-map, get_or-map, get_or_append_left}
 use Rattle.std.proofs.lemmas.Option.{slice_get-map, slice_get-get_or, slice_get_within, get_or_from_slice_get}
-use Rattle.bittle_bits.specs.Orders.{members}
-use Rattle.bittle_bits.specs.PlainSet.{PlainSet, contains, with_index, has_with, without_index, has_without, complement, lacks, count_below, size, ascending}
-use Rattle.bittle_bits.specs.Searches.{NoneIn, IsFirstIn}
-use Rattle.bittle_bits.specs.SetOperations.{combined, has_combined}
-use Rattle.bittle_bits.specs.Walk.{Walk, StepsFront}
-use Rattle.bittle_bits.proofs.Sizes as sizes
-use Rattle.std.specs.Ordering.{is_eq}
 use Rattle.bittle_bits.specs.Join.{IsJoin, EndsAt, Join, join_steps, AnswersItemsAtMembers, EndsAfterMembers}
-use Rattle.bittle.specs.Order.{list_cmp, AreSame}
-use Rattle.bittle_bits.proofs.Ascending.{ascending-below as below, ascending_from-none}
-use Rattle.bittle_bits.proofs.FirstItems.{ascending_from-least as next_some, least_or_none as look}
-use Rattle.bittle.proofs.Decided.{decided, equal_iff_same}
-use Rattle.bittle.proofs.Walking as walking
-
--- below the capacity no index wraps
-pub contains-within : (s : PlainSet) (i : ℕ) → i < s.capacity → contains s i ≡ s.has i
-unfolding contains
-contains-within s i h =
-    let some = lt-ltb 0 s.capacity (omega arith) in
-    let same = mod-eq_of_lt h in
-    rw (some, same) refl
-
--- a set with an index below the capacity has that number and its own members
-pub with_index-within : (s : PlainSet) (i : ℕ) → i < s.capacity → with_index s i ≡ record { capacity = s.capacity; has = λ k. (k == i) || s.has k }
-unfolding has_with
-with_index-within s i h =
-    let some = lt-ltb 0 s.capacity (omega arith) in
-    let same = mod-eq_of_lt h in
-    let each : (k : ℕ) → has_with s i k ≡ ((k == i) || s.has k) = λ k. rw (some, same) refl in
-    λ j. record { capacity = s.capacity; has = λ k. each k j }
-
--- a set without an index below the capacity has its members but that number
-pub without_index-within : (s : PlainSet) (i : ℕ) → i < s.capacity → without_index s i ≡ record { capacity = s.capacity; has = λ k. not (k == i) && s.has k }
-unfolding has_without
-without_index-within s i h =
-    let some = lt-ltb 0 s.capacity (omega arith) in
-    let same = mod-eq_of_lt h in
-    let each : (k : ℕ) → has_without s i k ≡ (not (k == i) && s.has k) = λ k. rw (some, same) refl in
-    λ j. record { capacity = s.capacity; has = λ k. each k j }
-
--- below the capacity a number is in the complement where it is no member
-pub lacks-within : (s : PlainSet) (i : ℕ) → i < s.capacity → (complement s).has i ≡ not (s.has i)
-unfolding lacks
-lacks-within s i h = let inside = lt-ltb i s.capacity h in rw inside refl
-
--- there are as many members in one order as in the other
-pub size-members : (mirrored : Bool) (w : ℕ) (s : PlainSet) → 0 < w → (words : ℕ) × (s.capacity ≡ words * w) → size (members mirrored w s) ≡ size s
-size-members = sizes.size-members
-
--- an operation decides a number below both capacities
-pub combined-within : (decide : Bool → Bool → Bool) (s t : PlainSet) (i : ℕ) → i < s.capacity → i < t.capacity → (combined decide s t).has i ≡ decide (s.has i) (t.has i)
-unfolding has_combined
-combined-within decide s t i h k = let one = lt-ltb i s.capacity h in let other = lt-ltb i t.capacity k in rw (one, other) refl
-
--- a set of size 0 has no members, and one with no members has size 0
-pub size-none : (s : PlainSet) → size s ≡ 0 → NoneIn s 0 s.capacity
-size-none s e k p q =
-    elim (cases_Bool (s.has k)) [
-      | inl here ↦ let some = sizes.count-some s.capacity k s.has q here in absurd (omega arith)
-      | inr none ↦ none
-    ]
-
-count-never : (c : ℕ) → count_below c (λ _. false) ≡ 0
-unfolding count_below
-count-never zero = refl
-count-never (suc c) = ap (λ n. n + 0) (count-never c) ∙ omega arith
-
-pub size-zero : (s : PlainSet) → NoneIn s 0 s.capacity → size s ≡ 0
-size-zero s none = sizes.count-same s.capacity s.has (λ _. false) (λ k h. none k (omega arith) h) ∙ count-never s.capacity
-
--- a walk gives what it has left
-pub walk_yields : (w : Walk) (items : List ℕ) → w.left ≡ items → YieldsList StepsFront (λ x. x) w items
-walk_yields = walking.walk_yields
-
--- where the increasing list is empty there is no member, and else its first item is the least one
-pub ascending-none : (s : PlainSet) → ascending s ≡ [] → NoneIn s 0 s.capacity
-ascending-none s e =
-    elim (look s.has 0 s.capacity) [
-      | inl none ↦ λ k p q. none k p (omega arith)
-      | inr w ↦
-          let m = s.capacity - suc w.0 in
-          let found = next_some s.has 0 s.capacity w.0 m w.1.0 (omega (arith, w.1.1)) w.1.2 w.1.3 in
-          absurd (cc)
-    ]
-
-pub ascending-first : (s : PlainSet) (i : ℕ) (rest : List ℕ) → ascending s ≡ i ∷ rest → IsFirstIn s 0 s.capacity (Some i)
-ascending-first s i rest e =
-    elim (look s.has 0 s.capacity) [
-      | inl none ↦ let nothing = ascending_from-none s.has 0 s.capacity none in absurd (cc)
-      | inr w ↦
-          let m = s.capacity - suc w.0 in
-          let found = next_some s.has 0 s.capacity w.0 m w.1.0 (omega (arith, w.1.1)) w.1.2 w.1.3 in
-          let same : w.0 ≡ i = cc in
-          subst (λ (k : ℕ). IsFirstIn s 0 s.capacity (Some k)) same (w.1.0, omega (arith, w.1.1), w.1.2, w.1.3)
-    ]
-
--- each of the members is below the capacity, and there are at most as many
-pub ascending-below : (s : PlainSet) (k : ℕ) → k < length (ascending s) → get_or (ascending s) k 0 < s.capacity
-ascending-below s = (below s).1
-
--- there are at most as many members as the capacity
-pub ascending-short : (s : PlainSet) → length (ascending s) ≤ s.capacity
-ascending-short s = (below s).0
-
--- two increasing lists are equal in their order exactly where the sets have the same members
-pub equal_iff_same_members : (a b : PlainSet) → ((i : ℕ) → a.capacity ≤ i → a.has i ≡ false) → ((i : ℕ) → b.capacity ≤ i → b.has i ≡ false) → IsTrue (is_eq (list_cmp (ascending a) (ascending b))) ↔ AreSame a b
-equal_iff_same_members a b none_a none_b = equal_iff_same a b (list_cmp (ascending a) (ascending b)) (decided a b none_a none_b)
+use Rattle.bittle_bits.specs.PlainSet.{PlainSet, ascending}
+use Rattle.bittle.proofs.CallerLists.{ascending_short}
 
 -- what a join of a slice gives: the elements at the members of the mask
 module _ {S : Type 0} (rest : S → List ℕ) where
@@ -186,4 +80,4 @@ module _ {S : Type 0} (rest : S → List ℕ) where
 -- one more answer of a join whose mask is this set: there were fewer answers than its capacity
 pub answers_below : {S : Type 0} (rest : S → List ℕ) (s now next : Join S) (answers : List (Bor ℕ)) (x : Bor ℕ) (set : PlainSet) (count : ℕ) → s.mask.left ≡ ascending set → count ≡ length answers → AnswersItemsAtMembers (taking rest) s → Yields (join_steps (taking rest)) s answers now → join_steps (taking rest) now (Some x) next → count < set.capacity
 answers_below rest s now next answers x set count left long clause y e =
-    omega (arith, one_more rest s now next answers x clause y e, ap length left, ascending-short set, long)
+    omega (arith, one_more rest s now next answers x clause y e, ap length left, ascending_short set, long)

@@ -1,0 +1,90 @@
+-- Facts of sets that callers cite: changes and tests of an index that does not wrap, sizes, operations.
+use Rattle.std.proofs.Common.{◌≡◌, ℕ, zero, suc, ◌+◌, ◌*◌, ◌<◌, ◌≤◌, Bool, true, false, not, ◌&&◌, ◌||◌, ◌==◌, inl, inr, sym, ap, ◌∙◌, refl, arith}
+use Rattle.std.proofs.Math.Nat.{mod-eq_of_lt}
+use Rattle.std.proofs.lemmas.Bool.{cases_Bool, lt-ltb}
+use Rattle.bittle_bits.specs.Orders.{members}
+use Rattle.bittle_bits.specs.PlainSet.{PlainSet, contains, with_index, has_with, without_index, has_without, complement, lacks, filled, count_below, size}
+use Rattle.bittle_bits.specs.Searches.{NoneIn}
+use Rattle.bittle_bits.specs.SetOperations.{combined, has_combined}
+use Rattle.bittle_bits.proofs.PlainSets.{filled_in_each_order}
+use Rattle.bittle_bits.proofs.Sizes as sizes
+
+-- below the capacity no index wraps
+pub contains_within : (s : PlainSet) (i : ℕ) → i < s.capacity → contains s i ≡ s.has i
+unfolding contains
+contains_within s i h =
+    let some = lt-ltb 0 s.capacity (omega arith) in
+    let same = mod-eq_of_lt h in
+    rw (some, same) refl
+
+-- a set with an index below the capacity has that number and its own members
+pub with_index_within : (s : PlainSet) (i : ℕ) → i < s.capacity → with_index s i ≡ record { capacity = s.capacity; has = λ k. (k == i) || s.has k }
+unfolding has_with
+with_index_within s i h =
+    let some = lt-ltb 0 s.capacity (omega arith) in
+    let same = mod-eq_of_lt h in
+    let each : (k : ℕ) → has_with s i k ≡ ((k == i) || s.has k) = λ k. rw (some, same) refl in
+    λ j. record { capacity = s.capacity; has = λ k. each k j }
+
+-- a set without an index below the capacity has its members but that number
+pub without_index_within : (s : PlainSet) (i : ℕ) → i < s.capacity → without_index s i ≡ record { capacity = s.capacity; has = λ k. not (k == i) && s.has k }
+unfolding has_without
+without_index_within s i h =
+    let some = lt-ltb 0 s.capacity (omega arith) in
+    let same = mod-eq_of_lt h in
+    let each : (k : ℕ) → has_without s i k ≡ (not (k == i) && s.has k) = λ k. rw (some, same) refl in
+    λ j. record { capacity = s.capacity; has = λ k. each k j }
+
+-- below the capacity a number is in the complement where it is no member
+pub complement_within : (s : PlainSet) (i : ℕ) → i < s.capacity → (complement s).has i ≡ not (s.has i)
+unfolding lacks
+complement_within s i h = let inside = lt-ltb i s.capacity h in rw inside refl
+
+-- an operation decides a number below both capacities
+pub combined_within : (decide : Bool → Bool → Bool) (s t : PlainSet) (i : ℕ) → i < s.capacity → i < t.capacity → (combined decide s t).has i ≡ decide (s.has i) (t.has i)
+unfolding has_combined
+combined_within decide s t i h k = let one = lt-ltb i s.capacity h in let other = lt-ltb i t.capacity k in rw (one, other) refl
+
+-- there are as many members in one order as in the other
+pub size_members : (mirrored : Bool) (w : ℕ) (s : PlainSet) → 0 < w → (words : ℕ) × (s.capacity ≡ words * w) → size (members mirrored w s) ≡ size s
+size_members = sizes.size-members
+
+-- the set of all numbers below a capacity of whole words is that set in each order
+pub filled_members : (w c : ℕ) (s : PlainSet) → 0 < w → (words : ℕ) × (c ≡ words * w) → s ≡ filled c → (mirrored : Bool) → members mirrored w s ≡ filled c
+filled_members = filled_in_each_order
+
+-- there are at most as many members as the capacity
+pub size_at_most : (s : PlainSet) → size s ≤ s.capacity
+size_at_most = sizes.size-le
+
+-- a set of size 0 has no members
+pub size_none : (s : PlainSet) → size s ≡ 0 → NoneIn s 0 s.capacity
+size_none s e k p q =
+    elim (cases_Bool (s.has k)) [
+      | inl here ↦ let some = sizes.count-some s.capacity k s.has q here in absurd (omega arith)
+      | inr none ↦ none
+    ]
+
+count_never : (c : ℕ) → count_below c (λ _. false) ≡ 0
+unfolding count_below
+count_never zero = refl
+count_never (suc c) = ap (λ n. n + 0) (count_never c) ∙ omega arith
+
+-- a set with no members has size 0
+pub size_zero : (s : PlainSet) → NoneIn s 0 s.capacity → size s ≡ 0
+size_zero s none = sizes.count-same s.capacity s.has (λ _. false) (λ k h. none k (omega arith) h) ∙ count_never s.capacity
+
+-- a set whose size is its capacity has each number below it
+pub size_full : (s : PlainSet) → size s ≡ s.capacity → (k : ℕ) → k < s.capacity → s.has k ≡ true
+size_full s e k h =
+    let none = size_none (complement s) (omega (arith, sizes.size-complement s)) k (omega arith) h in
+    elim (cases_Bool (s.has k)) [
+      | inl here ↦ here
+      | inr gone ↦ let no : true ≡ false = sym (complement_within s k h ∙ ap not gone) ∙ none in absurd (cc)
+    ]
+
+-- a set that has each number below its capacity has that size
+pub size_whole : (s : PlainSet) → ((k : ℕ) → k < s.capacity → s.has k ≡ true) → size s ≡ s.capacity
+size_whole s all =
+    let none = size_zero (complement s) (λ k p q. complement_within s k q ∙ ap not (all k q)) in
+    omega (arith, none, sizes.size-complement s)
