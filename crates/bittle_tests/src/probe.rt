@@ -2,6 +2,7 @@
 
 ghost use Rattle.std.specs.Prelude.{◌≡◌, ◌*◌, ◌<◌, true, refl};
 ghost use Rattle.std.proofs.Common.{lit<};
+ghost use Rattle.std.specs.Iterator.{IsFinite};
 ghost use Rattle.bittle_bits.specs.Digits.{digit_set};
 ghost use Rattle.bittle_bits.specs.Laws.{elements_has-past, digit_has-past, words_of, one_word};
 ghost use Rattle.bittle_bits.specs.Rows.{elements_set};
@@ -210,6 +211,7 @@ fn is_frugal<W: DoubleEndedIterator<Item = u32>>(
 ) -> bool
     requires front { (w : W) → W.can_next w }
     requires back { (w : W) → W.can_next_back w }
+    requires ends { (w : W) → IsFinite (W.remaining w) }
 {
     for (step, item, words) in steps {
         let found = match step {
