@@ -1,4 +1,3 @@
 pub mod Kept
-pub mod Members
 pub mod RoleOrder
 pub mod Subsets
