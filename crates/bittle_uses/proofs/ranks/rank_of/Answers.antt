@@ -1,6 +1,6 @@
 use Rattle.std.proofs.Common.{◌==◌, rules}
 use Rattle.std.proofs.lemmas.Iterator.Search.{position_from_yields_List}
-use Rattle.bittle.proofs.CallerLemmas.{walk_yields}
+use Rattle.bittle.proofs.CallerWalks.{walk_yields}
 use Rattle.bittle_uses.proofs.ranks.rank_of.Goals as goal
 
 pub returns : goal.returns

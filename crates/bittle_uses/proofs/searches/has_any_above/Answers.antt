@@ -1,6 +1,6 @@
 use Rattle.std.proofs.Common.{nat_lt, rules}
 use Rattle.std.proofs.lemmas.Iterator.Search.{any_from_yields_List}
-use Rattle.bittle.proofs.CallerLemmas.{walk_yields}
+use Rattle.bittle.proofs.CallerWalks.{walk_yields}
 use Rattle.bittle_uses.proofs.searches.has_any_above.Goals as goal
 
 pub returns : goal.returns

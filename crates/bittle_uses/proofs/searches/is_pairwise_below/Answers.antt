@@ -1,7 +1,7 @@
 use Rattle.std.proofs.Common.{ℕ, nat_le, ap, ◌∙◌, rules}
 use Rattle.std.proofs.lemmas.Iterator.{YieldsList-from_zip}
 use Rattle.std.proofs.lemmas.Iterator.Search.{all_from_yields_List}
-use Rattle.bittle.proofs.CallerLemmas.{walk_yields}
+use Rattle.bittle.proofs.CallerWalks.{walk_yields}
 use Rattle.bittle_uses.proofs.searches.is_pairwise_below.Goals as goal
 
 pub returns : goal.returns
