@@ -33,7 +33,7 @@ loop-index-preserved g c = λ plain.
       | then-not-first+in_ok-write_str-2 w ↦ (codes ", ", has_written_append _ _ _ _ _ _ so_far.1 (rw w.f-is (w.in_ok-write_str-2.ensures.writes so_far.1.plain refl)), rw w.if-not-first.true refl)
       | else-not-first w ↦ ([], rw (append-nil, w.f-is) so_far.1, rw w.if-not-first.false refl)
     ] in
-    let number : HasWritten g.W.Write.write_str_gives c.if-not-first.f (decimal at) c.write.new.self = c.in_ok-write.ensures.writes comma.1.plain refl in (
+    let number : HasWritten g.W.Write.write_str_gives c.if-not-first.f (decimal at) c.write.new.self = search rules in (
       (so_far.0 ++ comma.0) ++ decimal at,
       has_written_append _ _ _ _ _ _ comma.1 number,
       regroup so_far.0 comma.0 (decimal at) (others_text left) (codes "}")
