@@ -2,7 +2,6 @@
 
 ghost use Rattle.std.specs.Prelude.{◌≡◌, ◌*◌, ◌<◌, true, refl};
 ghost use Rattle.std.proofs.Common.{lit<};
-ghost use Rattle.std.specs.Iterator.{IsFinite};
 ghost use Rattle.bittle_bits.specs.Digits.{digit_set};
 ghost use Rattle.bittle_bits.specs.Laws.{elements_has-past, digit_has-past, words_of, one_word};
 ghost use Rattle.bittle_bits.specs.Rows.{elements_set};
@@ -203,7 +202,24 @@ impl<'a> BitsOwned for Probe<'a> {
 // A step, what it answers, and how many words were fetched at most after it.
 type Stepped = (Step, Option<u32>, u32);
 
-// Whether a walk answers steps as wanted, fetches no more words than that, and asks nothing else.
+// Whether a walk answers a step as wanted, has fetched no more words than that, and asked nothing else.
+fn answers<W: DoubleEndedIterator<Item = u32>>(
+    walk: &mut W,
+    asked: &Asked,
+    stepped: Stepped,
+) -> bool
+    requires front { (w : W) → W.can_next w }
+    requires back { (w : W) → W.can_next_back w }
+{
+    let (step, item, words) = stepped;
+    let found = match step {
+        Step::Front => walk.next(),
+        Step::Back => walk.next_back(),
+    };
+    found == item && asked.is_at_most(words)
+}
+
+// Whether a walk answers each step so.
 fn is_frugal<W: DoubleEndedIterator<Item = u32>>(
     mut walk: W,
     asked: &Asked,
@@ -211,18 +227,12 @@ fn is_frugal<W: DoubleEndedIterator<Item = u32>>(
 ) -> bool
     requires front { (w : W) → W.can_next w }
     requires back { (w : W) → W.can_next_back w }
-    requires ends { (w : W) → IsFinite (W.remaining w) }
 {
-    for (step, item, words) in steps {
-        let found = match step {
-            Step::Front => walk.next(),
-            Step::Back => walk.next_back(),
-        };
-        if found != item || !asked.is_at_most(words) {
-            return false;
-        }
-    }
-    true
+    let [first, second, third, fourth] = steps;
+    answers(&mut walk, asked, first)
+        && answers(&mut walk, asked, second)
+        && answers(&mut walk, asked, third)
+        && answers(&mut walk, asked, fourth)
 }
 
 // The steps of a walk with one item in its first word and one in its last of four, to its end from either end.
