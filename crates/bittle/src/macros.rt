@@ -12,9 +12,10 @@ mod uses;
 
 /// Makes a set of what is listed, in the order of its type.
 ///
-/// A list has indexes, which are expressions of the type `u32`, and ranges `a..=b`, `a..b` and `a..` whose bounds are
-/// literals; `a..` ends at the capacity. An index past the capacity wraps. A range that ends before it starts adds
-/// nothing, and with capacity 0 the set is empty. The type, which the place of use names, has to fit.
+/// A list has indexes, which are expressions of the type `u32`, and ranges `a..=b`, `a..b` and `a..`
+/// whose bounds are literals; `a..` ends at the capacity. An index past the capacity wraps. A range
+/// that ends before it starts sets nothing, and with capacity 0 the set is empty. The type, which the
+/// place of use names, has to fit.
 ///
 /// ```
 /// let mask: u8 = bittle::set![0, 2..=3, 6..];
@@ -95,9 +96,10 @@ macro_rules! put_listed {
     };
 }
 
-/// Makes each index of `from..to`, which wraps at the capacity, a member in the order of the type.
+/// Sets the bits at the indexes `from..to`, each modulo the capacity, in the order of the type.
 ///
-/// The shape has to fit. A range that ends before it starts changes nothing, and neither does any range with capacity 0.
+/// The shape has to fit. A range that ends before it starts changes nothing, and neither does any
+/// range with capacity 0.
 #[inline]
 pub fn put_until<B: BitsMut>(bits: &mut B, from: u32, to: u32)
     requires { ShapeFits B.Bits bits.old }
@@ -108,7 +110,7 @@ pub fn put_until<B: BitsMut>(bits: &mut B, from: u32, to: u32)
     put_until_in::<B, B::Order>(bits, from, to);
 }
 
-/// [`put_until`] in the order `E`.
+/// Sets the bits as [`put_until`] does, in the order `E`.
 #[inline]
 pub fn put_until_in<B: BitsMut, E: Endian>(bits: &mut B, from: u32, to: u32)
     requires { ShapeFits B.Bits bits.old }
@@ -121,9 +123,10 @@ pub fn put_until_in<B: BitsMut, E: Endian>(bits: &mut B, from: u32, to: u32)
     }
 }
 
-/// Makes each index of `from..=to`, which wraps at the capacity, a member in the order of the type.
+/// Sets the bits at the indexes `from..=to`, each modulo the capacity, in the order of the type.
 ///
-/// The shape has to fit. A range that ends before it starts changes nothing, and neither does any range with capacity 0.
+/// The shape has to fit. A range that ends before it starts changes nothing, and neither does any
+/// range with capacity 0.
 #[inline]
 pub fn put_through<B: BitsMut>(bits: &mut B, from: u32, to: u32)
     requires { ShapeFits B.Bits bits.old }
@@ -134,7 +137,7 @@ pub fn put_through<B: BitsMut>(bits: &mut B, from: u32, to: u32)
     put_through_in::<B, B::Order>(bits, from, to);
 }
 
-/// [`put_through`] in the order `E`.
+/// Sets the bits as [`put_through`] does, in the order `E`.
 pub fn put_through_in<B: BitsMut, E: Endian>(bits: &mut B, from: u32, to: u32)
     requires { ShapeFits B.Bits bits.old }
     ensures set { set_in B.Bits E.Endian bits.new

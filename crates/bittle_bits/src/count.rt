@@ -31,7 +31,7 @@ impl Model for Count {
 }
 
 impl Count {
-    /// The count of nothing.
+    /// Returns a count of zero.
     pub fn new() -> Count
         ensures { result ≡ 0 }
     {

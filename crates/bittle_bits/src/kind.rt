@@ -1,4 +1,4 @@
-//! What a walk or a search is for: the ones of a set, or its zeros.
+//! What an iterator or a search is for: the ones of a set, or its zeros.
 
 ghost use Rattle.std.specs.Prelude.{◌≡◌, ◌*◌, ◌<◌, Bool, true, false};
 ghost use Rattle.bittle_bits.specs.Digits.{digit_set};
@@ -9,18 +9,18 @@ ghost use Rattle.bittle_bits.specs.Words.{word_of};
 use crate::bits::Bits;
 use crate::hidden::Number;
 
-/// Which numbers a walk gives: the [`Ones`] or the [`Zeros`] of its set.
+/// Names the bits that an iterator yields: the [`Ones`] or the [`Zeros`] of its set.
 pub trait Kind: Drop {
     ghost ONES: { Bool };
 
     const ONES: bool;
 }
 
-/// The members.
+/// The set bits.
 #[derive(Drop)]
 pub enum Ones {}
 
-/// The numbers below the capacity that are no members.
+/// The unset bits below the capacity.
 #[derive(Drop)]
 pub enum Zeros {}
 

@@ -53,7 +53,7 @@ pub fn begin<B: Bits, E: Endian, K: Kind>(source: &Source<'_, B>) -> Standing<B,
     at
 }
 
-/// The same place, where nothing is counted yet.
+/// Returns the same place with its counters at zero, for `clone`.
 #[inline]
 pub fn again<B: Bits, E: Endian>(at: &Standing<B, E>) -> Standing<B, E>
     ensures resumes { (s : PlainSet) (words w : ℕ) → Retires words at.now

@@ -1,9 +1,11 @@
-//! Walks over the members of a set, and over the numbers that are no members, from both ends.
+//! Iterators over the set bits of a set, and over its unset bits, from both ends.
 //!
-//! A walk reads its set word by word, and looks at each word once for each item in it and once more when the word is done.
+//! An iterator fetches each word at most once, and searches it once for each item in it and once
+//! more when the word is done.
 
-ghost use Rattle.std.specs.Prelude.{◌≡◌, ◌/◌, ⊤};
-ghost use Rattle.std.specs.Iterator.{item_count};
+ghost use Rattle.std.specs.Prelude.{◌≡◌, ◌/◌, ⊤, None, IfSome};
+ghost use Rattle.std.specs.Iterator.{item_count, UpTo};
+ghost use Rattle.std.specs.Iterator.SizeHint.{IsWithinCount};
 ghost use Rattle.bittle_bits.specs.Orders.{members};
 ghost use Rattle.bittle_bits.specs.PlainSet.{ascending};
 ghost use Rattle.bittle_bits.specs.Shapes.{Fits};
@@ -19,22 +21,24 @@ use crate::standing::{Standing, again, begin, step_back, step_front};
 use std::alloc::AllocError;
 use std::marker::{Model, PhantomData};
 
-/// The members of a set that it borrows, in increasing order in the order `E`.
+/// Yields the indexes of the set bits of a set that it borrows, increasing, in the order `E`.
 pub type IterOnes<'a, B, E> = Iter<'a, B, E, Ones>;
 
-/// The numbers below the capacity that are no members of a set that it borrows, in increasing order in the order `E`.
+/// Yields the indexes of the unset bits below the capacity of a set that it borrows, increasing, in
+/// the order `E`.
 pub type IterZeros<'a, B, E> = Iter<'a, B, E, Zeros>;
 
-/// The members of a set that it owns, in increasing order in the order `E`.
+/// Yields the indexes of the set bits of a set that it owns, increasing, in the order `E`.
 pub type IntoIterOnes<B, E> = IntoIter<B, E, Ones>;
 
-/// The numbers below the capacity that are no members of a set that it owns, in increasing order in the order `E`.
+/// Yields the indexes of the unset bits below the capacity of a set that it owns, increasing, in the
+/// order `E`.
 pub type IntoIterZeros<B, E> = IntoIter<B, E, Zeros>;
 
-/// A walk over a set that it borrows.
+/// Iterates over a set that it borrows, for the bits that `K` names.
 ///
-/// Each step takes the first or the last item that is left. After its end it answers None on both sides. A clone goes on
-/// from where its source stands.
+/// Each step yields the first or the last item that is left. After its end it returns `None` on both
+/// sides. A clone goes on from where its source is.
 #[derive(Drop)]
 pub struct Iter<'a, B: Bits, E: Endian, K: Kind> {
     source: Source<'a, B>,
@@ -87,6 +91,15 @@ impl<'a, B: Bits, E: Endian, K: Kind> Iterator for Iter<'a, B, E, K> {
     fn next(&mut self) -> Option<u32> {
         step_front::<B, E, K>(&self.source, &mut self.at)
     }
+
+    #[inline]
+    fn size_hint(&self) -> (usize, Option<usize>)
+        ensures lower { IsWithinCount result.0 (item_count (λ w. w.left) self.now) }
+        ensures upper { IfSome result.1 (UpTo (item_count (λ w. w.left) self.now)) }
+        ensures nothing { result ≡ (0, None) }
+    {
+        (0, None)
+    }
 }
 
 impl<'a, B: Bits, E: Endian, K: Kind> DoubleEndedIterator for Iter<'a, B, E, K> {
@@ -128,10 +141,10 @@ impl<'a, B: Bits, E: Endian, K: Kind> Counted for Iter<'a, B, E, K> {
     }
 }
 
-/// A walk over a set that it owns.
+/// Iterates over a set that it owns, for the bits that `K` names.
 ///
-/// Each step takes the first or the last item that is left. After its end it answers None on both sides. A clone goes on
-/// from where its source stands.
+/// Each step yields the first or the last item that is left. After its end it returns `None` on both
+/// sides. A clone goes on from where its source is.
 #[derive(Drop)]
 pub struct IntoIter<B: BitsOwned, E: Endian, K: Kind> {
     source: OwnedSource<B>,
@@ -183,6 +196,15 @@ impl<B: BitsOwned, E: Endian, K: Kind> Iterator for IntoIter<B, E, K> {
     #[inline]
     fn next(&mut self) -> Option<u32> {
         step_front::<B, E, K>(&self.source.lend(), &mut self.at)
+    }
+
+    #[inline]
+    fn size_hint(&self) -> (usize, Option<usize>)
+        ensures lower { IsWithinCount result.0 (item_count (λ w. w.left) self.now) }
+        ensures upper { IfSome result.1 (UpTo (item_count (λ w. w.left) self.now)) }
+        ensures nothing { result ≡ (0, None) }
+    {
+        (0, None)
     }
 }
 

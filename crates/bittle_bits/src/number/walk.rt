@@ -15,13 +15,14 @@ use crate::number::word;
 use std::alloc::AllocError;
 use std::marker::{Model, PhantomData};
 
-/// The members of one word, in increasing order in the order `E`.
+/// Yields the indexes of the set bits of one word, increasing, in the order `E`.
 pub type IterOnes<T, E> = Iter<T, E, Ones>;
 
-/// The indexes below the width that are no members of one word, in increasing order in the order `E`.
+/// Yields the indexes of the unset bits of one word, increasing, in the order `E`.
 pub type IterZeros<T, E> = Iter<T, E, Zeros>;
 
-/// A walk over one word. After its end it returns None on both sides.
+/// Iterates over one word, for the bits that `K` names. After its end it returns `None` on both
+/// sides.
 #[derive(Drop)]
 pub struct Iter<T: Number, E: Endian, K: Kind> {
     // Its ones are the items that are left.
@@ -42,7 +43,11 @@ impl<T: Number, E: Endian, K: Kind> Model for Iter<T, E, K> {
 }
 
 impl<T: Number, E: Endian, K: Kind> Iter<T, E, K> {
-    /// Makes a walk over the word: of ones over its members, of zeros over the other indexes.
+    /// Makes an iterator over the set bits of the word, or over its unset bits.
+    ///
+    /// ```
+    /// number::IterOnes::<u8, LittleEndian>::new(0xD0);    // yields 0, 1, 3
+    /// ```
     #[inline]
     pub fn new(word: T) -> Iter<T, E, K>
         ensures items { result
