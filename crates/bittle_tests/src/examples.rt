@@ -93,7 +93,11 @@ fn reading_iter_ones(rt: HostRuntime) {
 
 #[test]
 fn reading_iter_zeros(rt: HostRuntime) {
-    assert!(rt; 0b1101_0000u8.iter_zeros_in::<LittleEndian>().eq([2, 4, 5, 6, 7]));
+    assert!(rt;
+        0b1101_0000u8
+            .iter_zeros_in::<LittleEndian>()
+            .eq([2, 4, 5, 6, 7])
+    );
     assert!(rt; 0b1101u8.iter_zeros().eq([1, 4, 5, 6, 7]));
     assert!(rt; 0b1101_0000u8.iter_zeros_le().eq([2, 4, 5, 6, 7]));
     assert!(rt; 0b1101_0000u8.iter_zeros_be().eq([0, 1, 2, 3, 5]));
@@ -101,7 +105,11 @@ fn reading_iter_zeros(rt: HostRuntime) {
 
 #[test]
 fn reading_join_ones(rt: HostRuntime) {
-    assert!(rt; 0b1010_0000u8.join_ones_in::<_, LittleEndian>([10, 20, 30]).eq([10, 30]));
+    assert!(rt;
+        0b1010_0000u8
+            .join_ones_in::<_, LittleEndian>([10, 20, 30])
+            .eq([10, 30])
+    );
     assert!(rt; 0b0010_0101u8.join_ones([10, 20, 30]).eq([10, 30]));
     assert!(rt; 0b1010_0000u8.join_ones_le([10, 20, 30]).eq([10, 30]));
     assert!(rt; 0b0000_0101u8.join_ones_be([10, 20, 30]).eq([10, 30]));
@@ -227,7 +235,11 @@ fn owned_symmetric_difference(rt: HostRuntime) {
 
 #[test]
 fn owned_into_iter_ones(rt: HostRuntime) {
-    assert!(rt; 0b1101_0000u8.into_iter_ones_in::<LittleEndian>().eq([0, 1, 3]));
+    assert!(rt;
+        0b1101_0000u8
+            .into_iter_ones_in::<LittleEndian>()
+            .eq([0, 1, 3])
+    );
     assert!(rt; [8u8, 1].into_iter_ones().eq([3, 8]));
     assert!(rt; [8u8, 1].into_iter_ones_le().eq([4, 15]));
     assert!(rt; [8u8, 1].into_iter_ones_be().eq([3, 8]));
@@ -235,7 +247,11 @@ fn owned_into_iter_ones(rt: HostRuntime) {
 
 #[test]
 fn owned_into_iter_zeros(rt: HostRuntime) {
-    assert!(rt; 0b1101_0000u8.into_iter_zeros_in::<LittleEndian>().eq([2, 4, 5, 6, 7]));
+    assert!(rt;
+        0b1101_0000u8
+            .into_iter_zeros_in::<LittleEndian>()
+            .eq([2, 4, 5, 6, 7])
+    );
     assert!(rt; 0xF9u8.into_iter_zeros().eq([1, 2]));
     assert!(rt; 0xF9u8.into_iter_zeros_le().eq([5, 6]));
     assert!(rt; 0xF9u8.into_iter_zeros_be().eq([1, 2]));
@@ -285,4 +301,3 @@ fn compared_cmp_bits(rt: HostRuntime) {
 fn compared_eq_bits(rt: HostRuntime) {
     assert!(rt; Set::new_le(0x80u8).eq_bits(&1u16));
 }
-
