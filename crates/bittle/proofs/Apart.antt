@@ -102,6 +102,7 @@ turned true false = refl
 turned false true = refl
 turned false false = refl
 
+-- the second set has none from a number on, and the first one ends at another
 pub past_second : (s t : PlainSet) (from to : ℕ) (r : Option ℕ) → SameBelow s t from → ((i : ℕ) → from ≤ i → t.has i ≡ false) → ((i : ℕ) → to ≤ i → s.has i ≡ false) → IsFirstIn s from to r → MatchOption r (AreSame s t) (λ d. IsFirstApart s t d)
 past_second s t from to r same none past h = back r (past_first t s from to r (λ i p. sym (same i p)) none past h)
   where
@@ -133,15 +134,19 @@ second_only true b h e = absurd (true≢false e)
 
 -- the first index in just one, by the side that has it
 module _ (s t : PlainSet) (d : ℕ) (at : IsFirstApart s t d) where
+  -- the first set has that index and the second has a member past it: the first precedes
   pub ours_first : s.has d ≡ true → HasPast t d → Precedes s t
   ours_first a p = (d, at.0, inl (a, first_only _ _ at.1 a, p))
 
+  -- the first set has that index and the second has none past it: the second precedes
   pub ours_last : s.has d ≡ true → HasNonePast t d → Precedes t s
   ours_last a p = (d, (λ i l. sym (at.0 i l)), inr (first_only _ _ at.1 a, a, p))
 
+  -- the second set has that index and the first has a member past it: the second precedes
   pub theirs_first : s.has d ≡ false → HasPast s d → Precedes t s
   theirs_first a p = (d, (λ i l. sym (at.0 i l)), inl (second_only _ _ at.1 a, a, p))
 
+  -- the second set has that index and the first has none past it: the first precedes
   pub theirs_last : s.has d ≡ false → HasNonePast s d → Precedes s t
   theirs_last a p = (d, at.0, inr (a, second_only _ _ at.1 a, p))
 
@@ -186,12 +191,15 @@ module _ (s t : PlainSet) (ends_s : EndsAtCapacity s) (ends_t : EndsAtCapacity t
   is_greater Equal p h = absurd (not_both t s p (λ i. sym (h i)))
   is_greater Greater p h = refl
 
+  -- a set that precedes the other has the lesser list
   pub cmp_less : Precedes s t → Less ≡ list_cmp (ascending s) (ascending t)
   cmp_less p = sym (is_less _ p (decided s t ends_s ends_t))
 
+  -- sets of the same members have equal lists
   pub cmp_equal : AreSame s t → Equal ≡ list_cmp (ascending s) (ascending t)
   cmp_equal p = sym (is_equal _ p (decided s t ends_s ends_t))
 
+  -- a set that the other precedes has the greater list
   pub cmp_greater : Precedes t s → Greater ≡ list_cmp (ascending s) (ascending t)
   cmp_greater p = sym (is_greater _ p (decided s t ends_s ends_t))
 
@@ -199,10 +207,12 @@ module _ (s t : PlainSet) (ends_s : EndsAtCapacity s) (ends_t : EndsAtCapacity t
   not_true true h = absurd (h refl)
   not_true false h = refl
 
+  -- the lists are equal exactly where no index is in just one set
   pub none_equal : (r : Option ℕ) → MatchOption r (AreSame s t) (λ d. IsFirstApart s t d) → is_none r ≡ is_eq (list_cmp (ascending s) (ascending t))
   none_equal None h = ap is_eq (cmp_equal h)
   none_equal (Some d) h = not_true _ (λ e. differ _ _ h.1 ((equal_iff_same s t _ (decided s t ends_s ends_t)).0 e d))
 
+-- a test that fails exactly where there is an index holds exactly where there is none
 pub none_is : (r : Option ℕ) (b : Bool) → is_some r ≡ not b → b ≡ is_none r
 none_is r true e = sym (ap not e)
 none_is r false e = sym (ap not e)

@@ -113,6 +113,7 @@ decided s t ends_s ends_t =
     let narrow : Verdict s.has t.has 0 to (list_cmp (ascending_from s.has 0 to) (ascending_from t.has 0 to)) = subst (λ n. Verdict s.has t.has 0 n (list_cmp (ascending_from s.has 0 to) (ascending_from t.has 0 to))) (omega arith) (decide s.has t.has 0 to) in
     subst (λ o. MatchOrdering o (Precedes s t) (AreSame s t) (Precedes t s)) e (match_map _ (before_whole s t to past_s) (same_whole s.has t.has to (λ i p. past_s i p ∙ sym (past_t i p))) (before_whole t s to past_t) narrow)
 
+-- no set precedes one of the same members
 pub not_both : (s t : PlainSet) → Precedes s t → AreSame s t → ⊥
 not_both s t w h =
     elim w.2 [

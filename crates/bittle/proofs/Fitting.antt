@@ -6,6 +6,7 @@ use Rattle.bittle_bits.specs.Orders.{members}
 use Rattle.bittle_bits.specs.PlainSet.{PlainSet}
 use Rattle.bittle_bits.specs.Shapes.{Fits}
 
+-- any two proofs that a shape fits are the same
 pub fits_one : (indexable : Bool) (c : ℕ) → IsProp (Fits indexable c)
 fits_one indexable c = hlevel (Bool-set, le_prop)
 

@@ -21,6 +21,7 @@ last_and_rest xs =
     ∙ sym (reverse-append (item_in (first_of (reverse xs))) (rest_of (reverse xs)))
     ∙ ap reverse (first_and_rest (reverse xs)) ∙ reverse-reverse xs
 
+-- what steps give from each end, and what remains between, are the whole list
 pub keeps_all : (steps : List Step) (xs : List ℕ) → KeepsAll steps xs
 keeps_all [] xs = append-nil xs
 keeps_all (Front ∷ steps) xs =

@@ -68,6 +68,7 @@ replayed_more k steps all words walk next answers looks d answer h len r a l i o
       thrifty = rw front (thrifty_push looks (take k answers) words next.looks answer r.thrifty (λ j b. le_trans (r.below j b) o) (rw count t.at_least) (rw (count, ← r.words_are, ← w) t.at_most));
     }
 
+-- a walk that has its whole list left and has given nothing is replayed through no steps
 pub replayed_start : (steps : List Step) (all : List ℕ) (words : ℕ) (walk : Walk) (answers : List (Option ℕ)) → walk.left ≡ all → walk.items ≡ 0 → walk.words ≡ words → IsReplayed 0 steps all words walk answers []
 replayed_start steps all words walk answers l i w = record {
   told = ap (answers_of steps) l;
@@ -78,6 +79,7 @@ replayed_start steps all words walk answers l i w = record {
   thrifty = record { each = refl; rise = λ k b. absurd (omega arith); at_least = λ k b. absurd (omega arith); at_most = λ k b. absurd (omega arith) };
 }
 
+-- after the last step: the list's answers, thrifty looks, and the last of them the walk's
 pub replayed_end : (k : ℕ) (steps : List Step) (all : List ℕ) (words : ℕ) (walk : Walk) (answers : List (Option ℕ)) (looks : List ℕ) → length steps ≤ k → length answers ≡ length steps → IsReplayed k steps all words walk answers looks →
     (answers ≡ answers_of steps all) × AreThrifty looks answers words × ((j : ℕ) → length steps ≡ j + 1 → slice_index looks j ≡ walk.looks)
 replayed_end k steps all words walk answers looks h len r =

@@ -8,6 +8,7 @@ abbrev pub first_of : List ℕ → Option ℕ
 first_of [] = None
 first_of (x ∷ xs) = Some x
 
+-- the list without its first item
 abbrev pub rest_of : List ℕ → List ℕ
 rest_of [] = []
 rest_of (x ∷ xs) = xs
@@ -17,6 +18,7 @@ abbrev pub answer_of : Step → List ℕ → Option ℕ
 answer_of Front xs = first_of xs
 answer_of Back xs = first_of (reverse xs)
 
+-- the list without the item that one step takes
 abbrev pub left_by : Step → List ℕ → List ℕ
 left_by Front xs = rest_of xs
 left_by Back xs = reverse (rest_of (reverse xs))
@@ -26,6 +28,7 @@ abbrev pub answers_of : List Step → List ℕ → List (Option ℕ)
 answers_of [] xs = []
 answers_of (step ∷ steps) xs = answer_of step xs ∷ answers_of steps (left_by step xs)
 
+-- the list that remains after all the steps
 abbrev pub remains_of : List Step → List ℕ → List ℕ
 remains_of [] xs = xs
 remains_of (step ∷ steps) xs = remains_of steps (left_by step xs)
@@ -41,6 +44,7 @@ from_front [] xs = []
 from_front (Front ∷ steps) xs = item_in (first_of xs) ++ from_front steps (left_by Front xs)
 from_front (Back ∷ steps) xs = from_front steps (left_by Back xs)
 
+-- the items that the steps from the back give, in turn
 abbrev pub from_back : List Step → List ℕ → List ℕ
 from_back [] xs = []
 from_back (Front ∷ steps) xs = from_back steps (left_by Front xs)

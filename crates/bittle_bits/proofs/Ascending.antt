@@ -8,14 +8,17 @@ use Rattle.bittle_bits.specs.Walk.{AreBelow}
 use Rattle.bittle_bits.proofs.PlainSets.{has_without-in}
 use Rattle.bittle_bits.proofs.Sizes.{size-le}
 
+-- where the first number of the range passes, the list begins with it
 pub ascending-yes : (p : ℕ → Bool) (from n : ℕ) → p from ≡ true → ascending_from p from (suc n) ≡ from ∷ ascending_from p (suc from) n
 unfolding ascending_from
 ascending-yes p from n h = rw h refl
 
+-- where the first number of the range fails, the list is that of the numbers after it
 pub ascending-no : (p : ℕ → Bool) (from n : ℕ) → p from ≡ false → ascending_from p from (suc n) ≡ ascending_from p (suc from) n
 unfolding ascending_from
 ascending-no p from n h = rw h refl
 
+-- the list over no numbers is empty
 pub ascending_from-zero : (p : ℕ → Bool) (from : ℕ) → ascending_from p from 0 ≡ []
 unfolding ascending_from
 ascending_from-zero p from = refl
@@ -62,6 +65,7 @@ one_more : (p : ℕ → Bool) (n : ℕ) → length (ascending_from p n 1) ≡ co
 unfolding ascending_from
 one_more p n = elim (p n) as (λ v. length (cond v (n ∷ []) []) ≡ cond v 1 0) [ true ↦ refl | false ↦ refl ]
 
+-- the list has as many items as numbers of the range pass
 pub ascending_from-length : (p : ℕ → Bool) (n : ℕ) → length (ascending_from p 0 n) ≡ count_below n p
 unfolding count_below
 ascending_from-length p zero = ap length (ascending_from-zero p 0)
@@ -161,6 +165,7 @@ ascending-last s r v greatest inside is =
 pub least-none : (s : PlainSet) (r : ℕ) → IsLeastMember s r → s.capacity ≤ r → ascending s ≡ []
 least-none s r least past = ascending-none s (λ k h. least.none_below k (omega arith))
 
+-- a search from the back that passes every number found no member
 pub greatest-none : (s : PlainSet) (r : ℕ) → IsGreatestMember s r → s.capacity ≤ r → ascending s ≡ []
 greatest-none s r greatest past =
     ascending-none s (λ k h. ap s.has (omega arith) ∙ greatest.none_above (s.capacity - 1 - k) (omega arith))
@@ -169,5 +174,6 @@ greatest-none s r greatest past =
 pub taken_first : (s t : PlainSet) (r : ℕ) → IsLeastMember s r → r < s.capacity → t ≡ without_index s r → ascending s ≡ r ∷ ascending t
 taken_first s t r least inside is = rw is (ascending-first s r least inside)
 
+-- the greatest member is the last item, after those of any set that has just the others
 pub taken_last : (s t : PlainSet) (r v : ℕ) → IsGreatestMember s r → r < s.capacity → v ≡ s.capacity - 1 - r → t ≡ without_index s v → ascending s ≡ ascending t ++ v ∷ []
 taken_last s t r v greatest inside is left = rw left (ascending-last s r v greatest inside is)

@@ -32,6 +32,7 @@ combined_past f s t k h = rw (le-ltb k t.capacity h) (by (nat_lt k s.capacity))
     by true = refl
     by false = refl
 
+-- a number from the first set's capacity on stays as it was
 pub combined_outside : (f : Bool → Bool → Bool) (s t : PlainSet) (k : ℕ) → s.capacity ≤ k → has_combined f s t k ≡ s.has k
 unfolding has_combined
 combined_outside f s t k h = rw (le-ltb k s.capacity h) refl
@@ -48,6 +49,7 @@ members-combined f m w s t word whole also =
 
 -- words: an operation on each digit
 module _ (f : Bool → Bool → Bool) (w a b r : ℕ) where
+  -- a word whose every digit is decided by those of two words has their combined set
   pub digits_combined : ((k : ℕ) → k < w → digit_has w r k ≡ f (digit_has w a k) (digit_has w b k)) → digit_set w r ≡ combined f (digit_set w a) (digit_set w b)
   digits_combined h =
       ap (plain w) (fun_ext λ k.
@@ -56,17 +58,21 @@ module _ (f : Bool → Bool → Bool) (w a b r : ℕ) where
         | inr g ↦ digit_has-past w r k g ∙ sym (combined_outside f (digit_set w a) (digit_set w b) k g ∙ digit_has-past w a k g)
       ])
 
+  -- words combined in big-endian order are combined in each order
   pub word_combined : (m : Bool) → 0 < w → digit_set w r ≡ combined f (digit_set w a) (digit_set w b) → members m w (digit_set w r) ≡ combined f (members m w (digit_set w a)) (members m w (digit_set w b))
   word_combined m word is =
       let one : (words : ℕ) × (w ≡ words * w) = (1, omega arith) in
       ap (members m w) is ∙ members-combined f m w (digit_set w a) (digit_set w b) word one one
 
+-- the or of two words has the digits of either
 pub digits_either : (w a b : ℕ) → digit_set w (bit_or a b) ≡ combined ◌||◌ (digit_set w a) (digit_set w b)
 digits_either w a b = digits_combined ◌||◌ w a b (bit_or a b) (λ k h. ap (λ p. p k) (digit_has-or w a b))
 
+-- the and of two words has the digits of both
 pub digits_both : (w a b : ℕ) → digit_set w (bit_and a b) ≡ combined ◌&&◌ (digit_set w a) (digit_set w b)
 digits_both w a b = digits_combined ◌&&◌ w a b (bit_and a b) (λ k h. ap (λ p. p k) (digit_has-and w a b))
 
+-- the and with the inverted second word has the digits of the first word alone
 pub digits_first_alone : (w a b rest : ℕ) → b < 2 ^ w → rest ≡ 2 ^ w - 1 - b → digit_set w (bit_and a rest) ≡ combined first_alone (digit_set w a) (digit_set w b)
 unfolding lacks
 digits_first_alone w a b rest fits is =
@@ -76,6 +82,7 @@ digits_first_alone w a b rest fits is =
 one_of : (x y : ℕ) → x < 2 → y < 2 → ((x + y) % 2 == 1) ≡ just_one (x == 1) (y == 1)
 one_of x y p q = elim (two x p) [ inl e ↦ elim (two y q) [ inl f ↦ rw (e, f) refl | inr f ↦ rw (e, f) refl ] | inr e ↦ elim (two y q) [ inl f ↦ rw (e, f) refl | inr f ↦ rw (e, f) refl ] ]
 
+-- the exclusive or of two words has the digits of just one
 pub digits_just_one : (w a b : ℕ) → digit_set w (bit_xor a b) ≡ combined just_one (digit_set w a) (digit_set w b)
 digits_just_one w a b = digits_combined just_one w a b (bit_xor a b) (λ k h.
     digit_has-at w (bit_xor a b) k h ∙ ap (λ t. t == 1) (bit_at_xor a b k) ∙ one_of (bit_at a k) (bit_at b k) (bit_at-lt a k) (bit_at-lt b k)
@@ -86,6 +93,7 @@ some_of : {X : Type 0} (xs : List X) (n : ℕ) → n < length xs → X
 some_of [] n h = absurd (omega arith)
 some_of (x ∷ xs) n h = x
 
+-- the test at a place within the row is that of the element read there
 pub at_element-get : {X : Type 0} (p : X → Bool) (xs : List X) (n : ℕ) (d : X) → n < length xs → at_element p xs n ≡ p (get_or xs n d)
 unfolding at_element
 at_element-get p [] n d h = absurd (omega arith)
@@ -134,6 +142,7 @@ module _ {X : Type 0} (f : Bool → Bool → Bool) (c : ℕ) (big : X → PlainS
         read (length xs) zs q r d (omega arith) a b ∙
         elim (cases_lt q (length ys)) [ inl l ↦ decided q r d a l b | inr g ↦ stays q r d a g b ]
 
+    -- a row whose elements are combined, and whose later ones stay, is the combined row
     pub row_combined : elements_set (length zs) c big zs ≡ combined f before other
     row_combined = rw same (ap (plain (length xs * c)) (fun_ext λ k.
         elim (cases_lt k (length xs * c)) [
@@ -148,6 +157,7 @@ get_or-any (x ∷ xs) (suc n) d e h = get_or-any xs n d e (omega arith)
 
 -- one more element of a row: of the row xs, now zs, the elements below i are done and the later ones as they were
 module _ {X : Type 0} (f : Bool → Bool → Bool) (big : X → PlainSet) (xs ys zs : List X) (i : ℕ) (x y z : X) (same : length zs ≡ length xs) (within : i < length xs) (rest : (k : ℕ) (d : X) → i ≤ k → get_or zs k d ≡ get_or xs k d) where
+  -- once element i is combined, it and the elements before it are done
   pub more_done : i < length ys → y ≡ get_or ys i y → big z ≡ combined f (big (get_or zs i x)) (big y) → ((k : ℕ) (d : X) → k < i → big (get_or zs k d) ≡ combined f (big (get_or xs k d)) (big (get_or ys k d))) → (k : ℕ) (d : X) → k < i + 1 → big (get_or (set zs i z) k d) ≡ combined f (big (get_or xs k d)) (big (get_or ys k d))
   more_done also beside is done k d h =
       elim (cases_eq k i) [
@@ -158,5 +168,6 @@ module _ {X : Type 0} (f : Bool → Bool → Bool) (big : X → PlainSet) (xs ys
         | inr n ↦ ap big (get_or-set_other zs i k z d n) ∙ done k d (omega arith)
       ]
 
+  -- the elements past it are as they were
   pub still_rest : (k : ℕ) (d : X) → i + 1 ≤ k → get_or (set zs i z) k d ≡ get_or xs k d
   still_rest k d h = get_or-set_other zs i k z d (λ e. omega arith) ∙ rest k d (omega arith)

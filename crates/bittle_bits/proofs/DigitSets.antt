@@ -11,6 +11,7 @@ use Rattle.bittle_bits.specs.PlainSet.{lacks, empty, filled}
 use Rattle.bittle_bits.specs.Orders.{members}
 use Rattle.bittle_bits.proofs.PlainSets.{plain, filled_in_each_order}
 
+-- a number below 2 is 0 or 1
 pub two : (x : ℕ) → x < 2 → (x ≡ 0) ⊎ (x ≡ 1)
 two x h = elim (cases_eq x 0) [ inl e ↦ inl e | inr n ↦ inr (omega arith) ]
 
@@ -38,14 +39,17 @@ bit_at-complement w d k h l =
     let p = pow_below k w l in
     one_of_two _ _ (2 ^ k) (pow_pos k) (bit_at-lt _ k) (bit_at-lt d k) (rw (← and_pow (2 ^ w - 1 - d) k, ← and_pow d k) (and-not w d (2 ^ k) h p))
 
+-- the or of two words has a digit exactly where either has it
 pub digit_has-or : (w a b : ℕ) → digit_has w (bit_or a b) ≡ (λ k. digit_has w a k || digit_has w b k)
 unfolding digit_has
 digit_has-or w a b = fun_ext λ k. rw (bit_at_or a b k) (either (nat_lt k w) (bit_at a k) (bit_at b k) (bit_at-lt a k) (bit_at-lt b k))
 
+-- the and of two words has a digit exactly where both have it
 pub digit_has-and : (w a b : ℕ) → digit_has w (bit_and a b) ≡ (λ k. digit_has w a k && digit_has w b k)
 unfolding digit_has
 digit_has-and w a b = fun_ext λ k. rw (bit_at_and a b k) (both (nat_lt k w) (bit_at a k) (bit_at b k) (bit_at-lt a k) (bit_at-lt b k))
 
+-- the inverted word has the digits that the word lacks
 pub digit_has-not : (w d : ℕ) → d < 2 ^ w → digit_has w (2 ^ w - 1 - d) ≡ lacks (digit_set w d)
 unfolding digit_has lacks
 digit_has-not w d h = fun_ext λ k.
@@ -54,6 +58,7 @@ digit_has-not w d h = fun_ext λ k.
       | inr g ↦ rw (le-ltb k w g) refl
     ]
 
+-- a power of two has one digit, that of its exponent
 pub digit_has-pow : (w p : ℕ) → p < w → digit_has w (2 ^ p) ≡ (λ k. k == p)
 unfolding digit_has
 digit_has-pow w p h = fun_ext λ k.
@@ -62,21 +67,26 @@ digit_has-pow w p h = fun_ext λ k.
       | inr n ↦ rw (bit_at-pow_other p k n) (and_right (nat_lt k w) (0 == 1) refl ∙ sym (ne_eqb k p n))
     ]
 
+-- the word 0 has no digit
 pub digit_has-zero : (w d : ℕ) → d ≡ 0 → digit_has w d ≡ (λ _. false)
 unfolding digit_has
 digit_has-zero w d is = fun_ext λ k. rw is (ap (λ t. nat_lt k w && (t == 1)) (bit_at-zero k) ∙ and_right (nat_lt k w) false refl)
 
+-- below the width, a digit is the bit at its index
 pub digit_has-at : (w d k : ℕ) → k < w → digit_has w d k ≡ (bit_at d k == 1)
 unfolding digit_has
 digit_has-at w d k h = ap (λ t. t && (bit_at d k == 1)) (lt-ltb k w h)
 
+-- a digit that a word has is below the width
 pub digit_has-below : (w d k : ℕ) → digit_has w d k ≡ true → k < w
 unfolding digit_has
 digit_has-below w d k h = ltb-true k w (and_parts (nat_lt k w) (bit_at d k == 1) h).0
 
+-- the set of the word 0 is empty
 pub no_digits : (w d : ℕ) → d ≡ 0 → digit_set w d ≡ empty w
 no_digits w d is = ap (plain w) (digit_has-zero w d is)
 
+-- the set of the inverted word 0 is filled
 pub all_digits : (w z d : ℕ) → z ≡ 0 → z < 2 ^ w → d ≡ 2 ^ w - 1 - z → digit_set w d ≡ filled w
 unfolding lacks
 all_digits w z d none fits is =
@@ -90,6 +100,7 @@ all_digits w z d none fits is =
 pub filled_word : (w d : ℕ) → 0 < w → digit_set w d ≡ filled w → (m : Bool) → members m w (digit_set w d) ≡ filled w
 filled_word w d word = filled_in_each_order w w (digit_set w d) word (1, omega arith)
 
+-- a number from a power of two up to the next has the digit of that power
 pub top_digit : (k d : ℕ) → 2 ^ k ≤ d → d < 2 ^ suc k → bit_at d k ≡ 1
 top_digit k d lo hi =
     let a : 1 ≤ d / 2 ^ k = le-div 1 d (2 ^ k) (pow_pos k) (omega arith) in

@@ -32,6 +32,7 @@ lowest (suc k) d = by (lowest k (d / 2)) (cases_eq (d % 2) 0)
         let e : d % 2 ≡ 1 = omega (arith, mod_below d 2 (omega arith)) in
         rw e (record { below = λ i h. absurd (omega arith); there = λ h. bit_at_lowest d ∙ e })
 
+-- the trailing zeros of a word are the index of its least digit
 pub least_digit : (w d : ℕ) → IsLeastMember (digit_set w d) (count_trailing_zeros w d)
 least_digit w d =
     let r = count_trailing_zeros w d in
@@ -42,6 +43,7 @@ least_digit w d =
       is_member = λ h. digit_has-at w d r h ∙ eq-eqb (bit_at d r) 1 (at.there h);
     }
 
+-- the leading zeros of a word are how far its greatest digit lies below the last
 pub greatest_digit : (w d : ℕ) → d < 2 ^ w → IsGreatestMember (digit_set w d) (count_leading_zeros w d)
 greatest_digit w d fits = by (cases_eq d 0)
   where
@@ -66,6 +68,7 @@ greatest_digit w d fits = by (cases_eq d 0)
 
 -- within one word the mirrored set has the ends the other way round
 module _ (w r : ℕ) (p : ℕ → Bool) where
+  -- how far the greatest member lies below the last number is the least one mirrored
   pub mirrored_least : IsGreatestMember (plain w p) r → IsLeastMember (members true w (plain w p)) r
   mirrored_least h = record {
     within = h.within;
@@ -73,6 +76,7 @@ module _ (w r : ℕ) (p : ℕ → Bool) where
     is_member = λ l. ap p (mirror_in_word w r l) ∙ h.is_member l;
   }
 
+  -- the least member is how far the greatest one mirrored lies below the last number
   pub mirrored_greatest : IsLeastMember (plain w p) r → IsGreatestMember (members true w (plain w p)) r
   mirrored_greatest h = record {
     within = h.within;

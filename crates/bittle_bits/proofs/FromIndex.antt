@@ -32,11 +32,13 @@ digit_has-low w i h = fun_ext λ k.
     and_false true = refl
     and_false false = refl
 
+-- in big-endian order, the word that lacks just the digits below the index
 pub big_from : (w i d e : ℕ) → i < w → d ≡ 2 ^ i - 1 → d < 2 ^ w → e ≡ 2 ^ w - 1 - d → members false w (digit_set w e) ≡ filled_from w i
 unfolding lacks
 big_from w i d e h low fits is =
     ap (plain w) (ap (digit_has w) is ∙ digit_has-not w d fits ∙ fun_ext λ k. ap (λ p. nat_lt k w && not (p k)) (ap (digit_has w) low ∙ digit_has-low w i (omega arith)))
 
+-- in little-endian order, the word of the digit at the index's place and of those below it
 pub little_from : (w i p d e f : ℕ) → i < w → p ≡ w - 1 - i → d ≡ 2 ^ p - 1 → e ≡ 2 ^ p → f ≡ bit_or d e → members true w (digit_set w f) ≡ filled_from w i
 little_from w i p d e f h at low one is =
     let in_word : p < w = omega arith in

@@ -83,6 +83,7 @@ module _ {I A : Type 0} (steps : I → Option A → I → Type 0) where
   still_ahead s j y [] ahead step = absurd (cc (step.0))
   still_ahead s j y (m ∷ ms) ahead step = subst (λ l. IsAscendingFrom j.taken l) (sym step.0) (subst (λ n. IsAscendingFrom n ms) (sym step.1) ahead.1)
 
+  -- the answers of a join before its end are the iterator's items at the mask's members
   pub joined : (s : Join I) (ys : List A) (t : Join I) → IsAscendingFrom s.taken s.mask.left → s.ended ≡ false → Yields (join_steps steps) s ys t → Joined s s.mask.left ys t
   joined s [] t ahead goes h = ([], ap (λ j. j.iter) h, joined_none s.taken s.mask.left, ap (λ j. j.mask.left) (sym h), omega (arith, ap (λ j. j.taken) h), ap (λ j. j.ended) (sym h) ∙ goes)
   joined s (y ∷ ys) t ahead goes (j, step, rest) =
@@ -98,6 +99,7 @@ module _ {I A : Type 0} (steps : I → Option A → I → Type 0) where
   at_end s u t taken (m ∷ ms) ran many ahead (left, next, (last, (v, before, end), count)) =
       (last, (v, Yields-both steps taken last s.iter u.iter v ran before, end), omega (arith, ahead.0, count, many, length-append taken last))
 
+  -- a join comes to its end after the last member, or at one that the iterator does not reach
   pub ended : (s : Join I) (ys : List A) (t : Join I) → IsAscendingFrom s.taken s.mask.left → s.ended ≡ false → YieldsThen (join_steps steps) s ys None t
       → (taken : List A) × IsJoin s.taken s.mask.left taken ys × EndsAt steps s taken (drop (length ys) s.mask.left) t
   ended s ys t before goes (u, calls, step) =

@@ -14,21 +14,26 @@ plain c p = record { capacity = c; has = p }
 
 -- the calls on a set of some capacity
 module _ (s : PlainSet) (c i : ℕ) (of : s.capacity ≡ c) (some : 0 < c) where
+  -- an index is tested modulo the capacity
   pub contains_in : contains s i ≡ s.has (i % c)
   unfolding contains
   contains_in = rw (of, lt-ltb 0 c some) refl
 
+  -- with an index, a number is a member that was one or is the index modulo the capacity
   pub has_with-in : has_with s i ≡ (λ k. (k == i % c) || s.has k)
   unfolding has_with
   has_with-in = fun_ext λ k. rw (of, lt-ltb 0 c some) refl
 
+  -- without an index, a number is a member that was one and is not the index so wrapped
   pub has_without-in : has_without s i ≡ (λ k. not (k == i % c) && s.has k)
   unfolding has_without
   has_without-in = fun_ext λ k. rw (of, lt-ltb 0 c some) refl
 
+  -- the set with an index has its members, and the index modulo the capacity
   pub with_in : with_index s i ≡ plain c (λ k. (k == i % c) || s.has k)
   with_in = λ j. plain (of j) (has_with-in j)
 
+  -- the set without an index has its members but the index modulo the capacity
   pub without_in : without_index s i ≡ plain c (λ k. not (k == i % c) && s.has k)
   without_in = λ j. plain (of j) (has_without-in j)
 
@@ -41,14 +46,17 @@ contains-wraps s i some =
 
 -- no index is below a capacity of zero
 module _ (s : PlainSet) (i : ℕ) (none : s.capacity ≡ 0) where
+  -- at capacity 0 no index is a member
   pub contains-none : contains s i ≡ false
   unfolding contains
   contains-none = rw none refl
 
+  -- at capacity 0 the set with an index is the set itself
   pub with-none : with_index s i ≡ s
   unfolding has_with
   with-none = ap (plain s.capacity) (fun_ext λ k. rw none refl)
 
+  -- at capacity 0 the set without an index is the set itself
   pub without-none : without_index s i ≡ s
   unfolding has_without
   without-none = ap (plain s.capacity) (fun_ext λ k. rw none refl)

@@ -12,18 +12,21 @@ use Rattle.bittle_bits.specs.Rows.{at_element, elements_has, elements_set, GoesT
 use Rattle.bittle_bits.proofs.PlaceLemmas.{place_part, place_below, place_past}
 use Rattle.bittle_bits.proofs.PlainSets.{plain, contains_in, with_in, without_in}
 
+-- the test at a place of the row is that of the element read there
 pub at_element-read : {X : Type 0} (p : X → Bool) (xs : List X) (n : ℕ) (x : X) → n < length xs → x ≡ get_or xs n x → at_element p xs n ≡ p x
 unfolding at_element
 at_element-read p [] n x h e = absurd (omega arith)
 at_element-read p (y ∷ xs) zero x h e = ap p (sym e)
 at_element-read p (y ∷ xs) (suc n) x h e = at_element-read p xs n x (omega arith) e
 
+-- the test at the place of a write is that of the element written
 pub at_element-set_same : {X : Type 0} (p : X → Bool) (xs : List X) (n : ℕ) (y : X) → n < length xs → at_element p (set xs n y) n ≡ p y
 unfolding at_element
 at_element-set_same p [] n y h = absurd (omega arith)
 at_element-set_same p (x ∷ xs) zero y h = refl
 at_element-set_same p (x ∷ xs) (suc n) y h = at_element-set_same p xs n y (omega arith)
 
+-- the test at any other place than that of a write stays as it was
 pub at_element-set_other : {X : Type 0} (p : X → Bool) (xs : List X) (n k : ℕ) (y : X) → k ≢ n → at_element p (set xs n y) k ≡ at_element p xs k
 unfolding at_element
 at_element-set_other p [] n k y h = refl
@@ -32,6 +35,7 @@ at_element-set_other p (x ∷ xs) zero (suc k) y h = refl
 at_element-set_other p (x ∷ xs) (suc n) zero y h = refl
 at_element-set_other p (x ∷ xs) (suc n) (suc k) y h = at_element-set_other p xs n k y (λ e. h (ap suc e))
 
+-- an index of the row is a member exactly where it is one of its element
 pub elements_has_at : {X : Type 0} (n c : ℕ) (f : X → ℕ → Bool) (xs : List X) (q r : ℕ) → q < n → r < c → elements_has n c f xs (q * c + r) ≡ at_element (λ x. f x r) xs q
 unfolding elements_has
 elements_has_at n c f xs q r h l =
@@ -77,6 +81,7 @@ wraps_at n c i h l =
     let e : i ≡ i / c / n * (n * c) + (i / c % n * c + i % c) = sym (div-add-mod' i c) ∙ ap (λ t. t * c + i % c) (sym (div-add-mod' (i / c) n)) ∙ omega arith in
     ap (λ t. t % (n * c)) e ∙ mod-mul-add (i / c / n) (n * c) (i / c % n * c + i % c) low
 
+-- two indexes of one element are the same in the row exactly where they are in the element
 pub same_place_eq : (e c r t : ℕ) → (e * c + t == e * c + r) ≡ (t == r)
 same_place_eq e c r t =
     elim (cases_eq t r) [
@@ -86,6 +91,7 @@ same_place_eq e c r t =
 
 -- a change of one index of one element is a change of one index of the row
 module _ {X : Type 0} (n c e r : ℕ) (f : X → ℕ → Bool) (h : Bool → Bool → Bool) (xs : List X) (x y : X) where
+  -- an element changed at one index changes the row at that index alone
   pub elements_has-set : e < n → n ≡ length xs → r < c → ((b : Bool) → h false b ≡ b) → x ≡ get_or xs e x → f y ≡ (λ t. h (t == r) (f x t)) → elements_has n c f (set xs e y) ≡ (λ k. h (k == e * c + r) (elements_has n c f xs k))
   elements_has-set le all lr none at is = fun_ext λ k.
       elim (cases_lt k (n * c)) [
@@ -117,6 +123,7 @@ module _ {X : Type 0} (m : Bool) (w c n i q r : ℕ) (big : X → PlainSet) (xs 
   placed : (ys : List X) → (members m w (elements_set n c big ys)).has ≡ elements_has n c test ys
   placed ys = elements_placed m w whole.0 c n word whole.1 (λ x. (big x).has) ys
 
+  -- the test of the index in its element is that of the index in the row
   pub row_tested : (b : Bool) → b ≡ contains (members m w (big x)) r → b ≡ contains (members m w (elements_set n c big xs)) i
   row_tested b is =
       is ∙ contains_in (members m w (big x)) c r owned some ∙ ap (test x) (mod-eq_of_lt goes.within)
@@ -130,9 +137,11 @@ module _ {X : Type 0} (m : Bool) (w c n i q r : ℕ) (big : X → PlainSet) (xs 
       ∙ ap (λ p. (λ k. h (k == p) (elements_has n c test xs k))) (sym goes.at)
       ∙ ap (λ p k. h (k == i % (n * c)) (p k)) (sym (placed xs)))
 
+  -- the element with the index set makes the row with the index set
   pub row_set : (y : X) → members m w (big y) ≡ with_index (members m w (big x)) r → members m w (elements_set n c big (set xs q y)) ≡ with_index (members m w (elements_set n c big xs)) i
   row_set y is = changed ◌||◌ y (λ _. refl) (is ∙ with_in (members m w (big x)) c r owned some) ∙ sym (with_in (members m w (elements_set n c big xs)) (n * c) i refl there)
 
+  -- the element with the index cleared makes the row with the index cleared
   pub row_cleared : (y : X) → members m w (big y) ≡ without_index (members m w (big x)) r → members m w (elements_set n c big (set xs q y)) ≡ without_index (members m w (elements_set n c big xs)) i
   row_cleared y is = changed (λ t u. not t && u) y (λ _. refl) (is ∙ without_in (members m w (big x)) c r owned some) ∙ sym (without_in (members m w (elements_set n c big xs)) (n * c) i refl there)
 
@@ -156,12 +165,15 @@ unfolding elements_has
 elements_has-none n c f xs h = fun_ext λ i.
     ap (λ t. nat_lt i (n * c) && t) (at_element-none (λ x. f x (i % c)) xs (i / c) (λ k d l. ap (λ s. s (i % c)) (h k d l))) ∙ and_right (nat_lt i (n * c)) false refl
 
+-- a row whose elements have no members is the emptied row
 pub elements_emptied : {X : Type 0} (n old c : ℕ) (big : X → PlainSet) (xs ys : List X) → n ≡ old → ((k : ℕ) (d : X) → k < length xs → (big (get_or xs k d)).has ≡ (λ _. false)) → elements_set n c big xs ≡ emptied (elements_set old c big ys)
 elements_emptied n old c big xs ys e h = rw e (ap (plain (old * c)) (elements_has-none old c (λ x. (big x).has) xs h))
 
+-- a row of empty elements is empty
 pub elements_set-replicate : {X : Type 0} (n c : ℕ) (big : X → PlainSet) (x : X) → big x ≡ empty c → elements_set n c big (replicate n x) ≡ empty (n * c)
 elements_set-replicate n c big x e = ap (plain (n * c)) (elements_has-none n c (λ x. (big x).has) (replicate n x) (λ k d l. ap (λ y. (big y).has) (get_or-replicate n k x d (let y = length-replicate n x in omega arith)) ∙ ap (λ s. s.has) e))
 
+-- a row of filled elements is filled
 pub elements_set-full : {X : Type 0} (n c : ℕ) (big : X → PlainSet) (x : X) → big x ≡ filled c → elements_set n c big (replicate n x) ≡ filled (n * c)
 elements_set-full n c big x e =
     ap (plain (n * c)) (fun_ext λ k.

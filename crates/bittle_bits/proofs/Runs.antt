@@ -31,5 +31,6 @@ resumes_as source clone left u n l i f b = record { left = left; unread = u; fet
 pub list_in_order : ListsInOrder
 list_in_order p seen = as_is p p.from (from_front (YieldsFirst (λ (left : List ℕ). left)) (λ x. x) (λ left. left) (λ s t h. ap length h.0) (λ s x t h. h) p seen)
 
+-- runs of steps from the back of a list of numbers give its items in reverse
 pub list_in_reverse : ListsInReverse
 list_in_reverse p seen = as_is_back p p.from (from_back (YieldsLast (λ (left : List ℕ). left)) (λ x. x) (λ left. left) (λ s t h. ap length h.0) (λ s x t h. h) p seen)

@@ -39,6 +39,7 @@ module _ (m : Bool) (w : ℕ) (s : PlainSet) (word : 0 < w) where
 
   -- ---- from the front
 
+  -- a search begins at the word that holds `from`, masked from there on
   pub seeks_start : (from k d e : ℕ) → k ≡ from / w → digit_set w d ≡ word_of w s k → members m w (digit_set w e) ≡ filled_from w (from % w) → Seeks m w s from k (bit_and d e)
   seeks_start from k d e at is mask =
       let split : from ≡ k * w + from % w = rw at (sym (div-add-mod' from w)) in
@@ -69,6 +70,7 @@ module _ (m : Bool) (w : ℕ) (s : PlainSet) (word : 0 < w) where
             kept_by (not (nat_lt j from)) (t.has j) here (ap not (le-ltb j from lo))
       ]
 
+  -- where the word has no member that is sought, the search goes on at the next word
   pub seeks_next : (from k d r d' : ℕ) → from / w ≤ k → Seeks m w s from k d → IsLeastMember (members m w (digit_set w d)) r → w ≤ r → digit_set w d' ≡ word_of w s (k + 1) → Seeks m w s from (k + 1) d'
   seeks_next from k d r d' past h least end is =
       let next : (k + 1) * w ≡ k * w + w = omega arith in
@@ -79,6 +81,7 @@ module _ (m : Bool) (w : ℕ) (s : PlainSet) (word : 0 < w) where
             ∙ sym (ap (λ b. not b && t.has ((k + 1) * w + i)) (le-ltb ((k + 1) * w + i) from (omega (arith, div-add-mod' from w, mod_below from w word))));
       }
 
+  -- the least member of the word, where it is below `to`, is the first of the range
   pub seeks_found : (from to k d r : ℕ) → Seeks m w s from k d → IsLeastMember (members m w (digit_set w d)) r → r < w → k * w + r < to → IsFirstIn t from to (Some (k * w + r))
   seeks_found from to k d r h least low below =
       let both = and_parts (not (nat_lt (k * w + r) from)) (t.has (k * w + r)) (sym (h.has r low) ∙ least.is_member low) in
@@ -88,11 +91,13 @@ module _ (m : Bool) (w : ℕ) (s : PlainSet) (word : 0 < w) where
       from_on (inl l) e = absurd (true≢false (sym (sym (ap not (lt-ltb (k * w + r) from l)) ∙ e)))
       from_on (inr g) e = g
 
+  -- where the least member of the word is not below `to`, the range has none
   pub seeks_past : (from to k d r : ℕ) → Seeks m w s from k d → IsLeastMember (members m w (digit_set w d)) r → to ≤ k * w + r → IsFirstIn t from to None
   seeks_past from to k d r h least past j lo hi = none_up_to from k d r h least.within least.none_below j lo (omega arith)
 
   -- ---- from the back
 
+  -- a search from the back begins at the word that holds the number below `to`, masked there
   pub seeks_back_start : (to k d e n o top : ℕ) → 0 < to → k ≡ (to - 1) / w → top ≡ (to - 1) % w → digit_set w d ≡ word_of w s k → members m w (digit_set w e) ≡ filled_from w top → e < 2 ^ w → n ≡ 2 ^ w - 1 - e → members m w (digit_set w o) ≡ with_index (empty w) top → SeeksBack m w s to k (bit_and d (bit_or n o))
   unfolding lacks
   seeks_back_start to k d e n o top some at rest is from fits other one =
@@ -140,6 +145,7 @@ module _ (m : Bool) (w : ℕ) (s : PlainSet) (word : 0 < w) where
       let turned : w - 1 - (w - 1 - i) ≡ i = omega arith in
       rw turned at (greatest.none_above (w - 1 - i) (omega arith)))
 
+  -- where the word has no member that is sought, the search goes back to the word before
   pub seeks_back_next : (to k d r d' : ℕ) → 0 < k → k ≤ (to - 1) / w → SeeksBack m w s to k d → IsGreatestMember (members m w (digit_set w d)) r → w ≤ r → digit_set w d' ≡ word_of w s (k - 1) → SeeksBack m w s to (k - 1) d'
   seeks_back_next to k d r d' some past h greatest end is =
       let one_less : (k - 1) + 1 ≡ k = omega arith in
@@ -153,12 +159,14 @@ module _ (m : Bool) (w : ℕ) (s : PlainSet) (word : 0 < w) where
             ∙ sym (ap (λ b. b && t.has ((k - 1) * w + i)) (lt-ltb ((k - 1) * w + i) to (omega (arith, before, div-add-mod' (to - 1) w, up))));
       }
 
+  -- the greatest member of the word, where it is not below `from`, is the last of the range
   pub seeks_back_found : (from to k d r : ℕ) → SeeksBack m w s to k d → IsGreatestMember (members m w (digit_set w d)) r → r < w → from ≤ k * w + (w - 1 - r) → IsLastIn t from to (Some (k * w + (w - 1 - r)))
   seeks_back_found from to k d r h greatest low above =
       let both = and_parts (nat_lt (k * w + (w - 1 - r)) to) (t.has (k * w + (w - 1 - r))) (sym (h.has (w - 1 - r) (omega arith)) ∙ greatest.is_member low) in
       let next : k * w + (w - r) ≡ k * w + (w - 1 - r) + 1 = omega arith in
       (above, ltb-true (k * w + (w - 1 - r)) to both.0, both.1, rw next at (none_above_greatest to k d r h greatest))
 
+  -- where the greatest member of the word is below `from`, the range has none
   pub seeks_back_past : (from to k d r : ℕ) → SeeksBack m w s to k d → IsGreatestMember (members m w (digit_set w d)) r → k * w + (w - r) ≤ from → IsLastIn t from to None
   seeks_back_past from to k d r h greatest past j lo hi = none_above_greatest to k d r h greatest j (omega arith) hi
 
@@ -173,9 +181,11 @@ index_below w k to c r whole some in_set at low =
 pub last_word : (w to : ℕ) → 0 < w → 0 < to → to ≤ (to - 1) / w * w + w
 last_word w to word some = omega (arith, div-add-mod' (to - 1) w, mod_below (to - 1) w word)
 
+-- the word that holds a number begins at or before it
 pub first_word : (w from : ℕ) → from / w * w ≤ from
 first_word w from = omega (arith, div-add-mod' from w)
 
+-- the word that holds `from` is not past the one that holds the number below `to`
 pub words_ordered : (w from to : ℕ) → 0 < w → from < to → from / w ≤ (to - 1) / w
 words_ordered w from to word h =
     let up : from / w * w < ((to - 1) / w + 1) * w = omega (arith, div-add-mod' from w, div-add-mod' (to - 1) w, mod_below (to - 1) w word) in

@@ -14,6 +14,7 @@ unfolding has_combined
 decided f c s t k d e = rw (d, e) (ap (λ b. cond b (f (s.has k) (t.has k)) (s.has k)) (and_self (nat_lt k c)))
 
 module _ (f : Bool → Bool → Bool) where
+  -- an operation commutes where its test of one number does
   pub commutes : ((a b : Bool) → f a b ≡ f b a) → Commutes (combined f)
   commutes law c s t p q = λ j. plain ((p.has_capacity ∙ sym q.has_capacity) j) (fun_ext each j)
     where
@@ -25,6 +26,7 @@ module _ (f : Bool → Bool → Bool) where
             | inr g ↦ rw (le-ltb k c g) (p.none_past k g ∙ sym (q.none_past k g))
           ] ∙ sym (decided f c t s k q.has_capacity p.has_capacity)
 
+  -- an operation associates where its test of one number does
   pub associates : ((a b d : Bool) → f (f a b) d ≡ f a (f b d)) → Associates (combined f)
   associates law c s t u p q r = ap (plain s.capacity) (fun_ext λ k.
       decided f c (combined f s t) u k p.has_capacity r.has_capacity
@@ -36,6 +38,7 @@ module _ (f : Bool → Bool → Bool) where
       by true x y z = law x y z
       by false x y z = refl
 
+  -- an operation is idempotent where its test of one number is
   pub idempotent : ((a : Bool) → f a a ≡ a) → IsIdempotent (combined f)
   idempotent law s = ap (plain s.capacity) (fun_ext λ k. decided f s.capacity s s k refl refl ∙ by (nat_lt k s.capacity) (s.has k))
     where
@@ -43,6 +46,7 @@ module _ (f : Bool → Bool → Bool) where
       by true x = law x
       by false x = refl
 
+  -- an operation undoes itself where its test of one number does
   pub undoes : ((a b : Bool) → f (f a b) b ≡ a) → UndoesItself (combined f)
   undoes law c s t p q = ap (plain s.capacity) (fun_ext λ k.
       decided f c (combined f s t) t k p.has_capacity q.has_capacity
@@ -53,6 +57,7 @@ module _ (f : Bool → Bool → Bool) where
       by true x y = law x y
       by false x y = refl
 
+-- an operation distributes over another where its test of one number does
 pub distributes : (f g : Bool → Bool → Bool) → ((a b d : Bool) → f a (g b d) ≡ g (f a b) (f a d)) → DistributesOver (combined g) (combined f)
 distributes f g law c s t u p q r = ap (plain s.capacity) (fun_ext λ k.
     decided f c s (combined g t u) k p.has_capacity q.has_capacity
@@ -66,6 +71,7 @@ distributes f g law c s t u p q r = ap (plain s.capacity) (fun_ext λ k.
     by true x y z = law x y z
     by false x y z = refl
 
+-- membership in just one of two undoes itself
 pub just_one-undoes : (a b : Bool) → just_one (just_one a b) b ≡ a
 just_one-undoes true true = refl
 just_one-undoes true false = refl

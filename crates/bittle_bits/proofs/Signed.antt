@@ -10,9 +10,11 @@ use Rattle.bittle_bits.specs.Orders.{members}
 use Rattle.bittle_bits.specs.PlainSet.{filled}
 use mir.Val.{bits}
 
+-- the or of two signed words has the or of their digits
 pub signed_or : (w : Width) (a b : ℤ) → FitsSigned w a → FitsSigned w b → cast_unsigned w (cast_signed w (bit_or (cast_unsigned w a) (cast_unsigned w b))) ≡ bit_or (cast_unsigned w a) (cast_unsigned w b)
 signed_or w a b f g = of_z-to_z w _ (or_lt (bits w) _ _ (Fits-of_z f).fits (Fits-of_z g).fits)
 
+-- the exclusive or of two signed words has the exclusive or of their digits
 pub signed_xor : (w : Width) (a b : ℤ) → FitsSigned w a → FitsSigned w b → cast_unsigned w (cast_signed w (bit_xor (cast_unsigned w a) (cast_unsigned w b))) ≡ bit_xor (cast_unsigned w a) (cast_unsigned w b)
 signed_xor w a b f g = of_z-to_z w _ (xor_lt (bits w) _ _ (Fits-of_z f).fits (Fits-of_z g).fits)
 

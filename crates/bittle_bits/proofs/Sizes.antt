@@ -18,6 +18,7 @@ use Rattle.bittle_bits.proofs.DigitSets.{digit_has-zero, digit_has-not, digit_ha
 use Rattle.bittle_bits.proofs.PlaceLemmas.{place_part}
 use Rattle.bittle_bits.proofs.RowSets.{elements_has_at, by_place}
 
+-- tests that agree on the numbers below c count as many of them
 pub count-same : (c : ℕ) (s t : ℕ → Bool) → ((k : ℕ) → k < c → s k ≡ t k) → count_below c s ≡ count_below c t
 unfolding count_below
 count-same zero s t h = refl
@@ -27,11 +28,13 @@ one_at_most : (b : Bool) → cond b 1 0 ≤ 1
 one_at_most true = omega arith
 one_at_most false = omega arith
 
+-- no more than c numbers below c pass a test
 pub count-le : (c : ℕ) (s : ℕ → Bool) → count_below c s ≤ c
 unfolding count_below
 count-le zero s = omega arith
 count-le (suc c) s = omega (arith, count-le c s, one_at_most (s c))
 
+-- the count below a sum is that of the numbers of its first part and that of the others
 pub count-add : (a b : ℕ) (s : ℕ → Bool) → count_below (a + b) s ≡ count_below a s + count_below b (λ k. s (a + k))
 unfolding count_below
 count-add a zero s = rw add-zero (sym (add-zero (count_below a s)))
@@ -103,11 +106,13 @@ low_digits (suc k) d =
     let e : d % 2 ^ suc k ≡ bit_at d k * 2 ^ k + d % 2 ^ k = rw o at (mod-pow-add d 1 k) in
     ap (λ n. n + cond (bit_at d k == 1) 1 0) (low_digits k d) ∙ sym (ap ones e ∙ ones_cat k (bit_at d k) (d % 2 ^ k) (mod_below d (2 ^ k) (pow_pos k)) ∙ ap (λ n. n + ones (d % 2 ^ k)) (one_digit (bit_at d k) (bit_at-lt d k)) ∙ add_comm _ _)
 
+-- the count of the ones of a word is that of the digits that it has
 pub size-digit_set : (w d n : ℕ) → n ≡ ones d → d < 2 ^ w → n ≡ count_below w (digit_has w d)
 unfolding digit_has
 size-digit_set w d n is h =
     is ∙ sym (count-same w _ _ (λ k l. ap (λ t. t && (bit_at d k == 1)) (lt-ltb k w l)) ∙ low_digits w d ∙ ap ones (mod-eq_of_lt h))
 
+-- where a number below c passes, the count is not 0
 pub count-some : (c k : ℕ) (s : ℕ → Bool) → k < c → s k ≡ true → 0 < count_below c s
 unfolding count_below
 count-some zero k s h t = absurd (omega arith)
@@ -141,6 +146,7 @@ word_empty w d fits =
       | inr n ↦ let k = some_digit w d fits n in let m = count-some w k.0 (digit_has w d) (digit_has-below w d k.0 k.1) k.1 in ne_eqb d 0 n ∙ sym (ne_eqb _ 0 (λ z. omega arith))
     ]
 
+-- the inverted word is 0 exactly where the size of the word's set is its width
 pub word_full : (w d e : ℕ) → d < 2 ^ w → e < 2 ^ w → e ≡ 2 ^ w - 1 - d → (e == 0) ≡ (size (digit_set w d) == w)
 word_full w d e fits low is =
     let rest : size (digit_set w e) ≡ size (complement (digit_set w d)) = ap (count_below w) (ap (digit_has w) is ∙ digit_has-not w d fits) in
@@ -158,9 +164,11 @@ size-members m w s h whole = rw (whole.1) (count-placed m w whole.0 s.has h)
 pub size_in_each_order : {A : Type 0} (w : ℕ) (s : PlainSet) (f : ℕ → A) (r : A) → 0 < w → (words : ℕ) × (s.capacity ≡ words * w) → r ≡ f (size s) → (m : Bool) → r ≡ f (size (members m w s))
 size_in_each_order w s f r h whole is m = is ∙ ap f (sym (size-members m w s h whole))
 
+-- a set has no more members than its capacity
 pub size-le : (s : PlainSet) → size s ≤ s.capacity
 size-le s = count-le s.capacity s.has
 
+-- a number that is the size is no more than the capacity
 pub size-most : (s : PlainSet) (n : ℕ) → n ≡ size s → n ≤ s.capacity
 size-most s n e = omega (arith, size-le s)
 
@@ -191,22 +199,27 @@ module _ {X : Type 0} (c : ℕ) (big : X → PlainSet) (xs : List X) (owned : (x
   row_total : size (elements_set (length xs) c big xs) ≡ sum_by (λ x. size (big x)) xs
   row_total = size-elements c (λ x. (big x).has) xs ∙ ap (λ f. sum_by f xs) (fun_ext λ x. sym (each-is x))
 
+  -- the members of the elements so far, and of one more, fit the capacity of the row
   pub row_count_fits : (i total more : ℕ) (x : X) → more ≡ size (big x) → x ≡ get_or xs i x → i < length xs → total ≡ sum_by (λ x. size (big x)) (take i xs) → total + more ≤ length xs * c
   row_count_fits i total more x m at l t =
       let e : more ≡ size (big (get_or xs i x)) = m ∙ ap (λ y. size (big y)) at in
       omega (arith, e, t, sum_by_more_le (λ x. size (big x)) xs i x l, row_total, size-le (elements_set (length xs) c big xs))
 
+  -- after the last element the count is the size of the row
   pub row_count_all : (i total : ℕ) → length xs ≤ i → total ≡ sum_by (λ x. size (big x)) (take i xs) → total ≡ size (elements_set (length xs) c big xs)
   row_count_all i total l t = t ∙ ap (sum_by (λ x. size (big x))) (take_all i xs l) ∙ sym row_total
 
+  -- a row whose elements all have one size has it once for each element
   pub row_each : (v : ℕ) → ((k : ℕ) (d : X) → k < length xs → size (big (get_or xs k d)) ≡ v) → size (elements_set (length xs) c big xs) ≡ length xs * v
   row_each v h = row_total ∙ sum_by-all (λ x. size (big x)) v xs h
 
+  -- a row has a member where one of its elements has one
   pub row_some : (i : ℕ) (x : X) → x ≡ get_or xs i x → i < length xs → size (big x) ≢ 0 → size (elements_set (length xs) c big xs) ≢ 0
   row_some i x at l n z =
       let e : size (big x) ≡ size (big (get_or xs i x)) = ap (λ y. size (big y)) at in
       n (omega (arith, e, sum_by_more_le (λ x. size (big x)) xs i x l, row_total))
 
+  -- a row is not full where one of its elements is not
   pub row_lacks : (i : ℕ) (x : X) → x ≡ get_or xs i x → i < length xs → size (big x) ≢ (big x).capacity → size (elements_set (length xs) c big xs) ≢ length xs * c
   row_lacks i x at l n z =
       let e : size (big x) ≡ size (big (get_or xs i x)) = ap (λ y. size (big y)) at in

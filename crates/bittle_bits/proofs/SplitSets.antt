@@ -55,6 +55,7 @@ listed p a (suc n) k lo hi = elim (cases_eq a k) [
       [ true ↦ rw (ne_eqb a k d) rest | false ↦ rest ]
 ]
 
+-- of every set, the ones and the zeros split the numbers below the capacity
 pub splits : OnesAndZerosSplit
 unfolding lacks
 splits s =

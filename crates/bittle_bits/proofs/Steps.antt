@@ -17,6 +17,7 @@ pub record Seeks (before after : Walk) : Type 0 where
   pub unread : after.fetches + after.unread ≡ before.fetches + before.unread
   pub words : after.words ≡ before.words
 
+-- looks that gave nothing, and others after them, are together looks that gave nothing
 pub seeks_on : (u v w : Walk) → Seeks u v → Seeks v w → Seeks u w
 seeks_on u v w a b = record { left = b.left ∙ a.left; items = b.items ∙ a.items; looks = le_trans a.looks b.looks; fetches = le_trans a.fetches b.fetches; unread = b.unread ∙ a.unread; words = b.words ∙ a.words }
 
@@ -25,6 +26,7 @@ pub front_on : (u v w : Walk) (r : Option ℕ) → Seeks u v → StepsFront v r 
 front_on u v w None a b = record { gave = (sym a.left ∙ b.gave.0, b.gave.1); items = b.items ∙ a.items; looks = le_trans a.looks b.looks; fetches = le_trans a.fetches b.fetches; unread = b.unread ∙ a.unread; words = b.words ∙ a.words; thrifty = b.thrifty }
 front_on u v w (Some x) a b = record { gave = sym a.left ∙ b.gave; items = b.items ∙ ap (λ n. n + 1) a.items; looks = le_trans a.looks b.looks; fetches = le_trans a.fetches b.fetches; unread = b.unread ∙ a.unread; words = b.words ∙ a.words; thrifty = b.thrifty }
 
+-- a step from the back after looks that gave nothing
 pub back_on : (u v w : Walk) (r : Option ℕ) → Seeks u v → StepsBack v r w → StepsBack u r w
 back_on u v w None a b = record { gave = (sym a.left ∙ b.gave.0, b.gave.1); items = b.items ∙ a.items; looks = le_trans a.looks b.looks; fetches = le_trans a.fetches b.fetches; unread = b.unread ∙ a.unread; words = b.words ∙ a.words; thrifty = b.thrifty }
 back_on u v w (Some x) a b = record { gave = sym a.left ∙ b.gave; items = b.items ∙ ap (λ n. n + 1) a.items; looks = le_trans a.looks b.looks; fetches = le_trans a.fetches b.fetches; unread = b.unread ∙ a.unread; words = b.words ∙ a.words; thrifty = b.thrifty }
@@ -46,6 +48,7 @@ module _ {B E O W : Type 0} (s : PlainSet) (words w : ℕ) where
 
   -- ---- from the front
 
+  -- a look at the head that finds nothing retires the copy, if there is one
   pub head_retired : (t : Standing B E O W) (c : Held) → Retires words t → TakesFirst t.copies.head None c.head → c.looks ≡ t.copies.looks + held t.copies.head → c.tail ≡ t.copies.tail → c.fetches ≡ t.copies.fetches →
       let u : Standing B E O W = record { copies = c; low = t.low; high = t.high; items = t.items } in
       Seeks (walk_of s words w t) (walk_of s words w u) × Retires words u
@@ -85,6 +88,7 @@ module _ {B E O W : Type 0} (s : PlainSet) (words w : ℕ) where
       let kept = retires_gave t c i r (omega arith) (ap held e) (omega arith) q n in
       (record { gave = rw (e, z, f.1, f.2, b, between_empty s (t.high * w)) refl; items = n; looks = omega arith; fetches = omega arith; unread = ap (λ n. n + (t.high - t.low)) q; words = refl; thrifty = thrifty _ kept }, kept)
 
+  -- with no head and no word between, a look at the tail that finds nothing ends the walk
   pub front_ended : (t : Standing B E O W) (c : Held) → Retires words t → t.copies.head ≡ None → t.low ≡ t.high → TakesFirst t.copies.tail None c.tail → c.looks ≡ t.copies.looks + held t.copies.tail → c.head ≡ t.copies.head → c.fetches ≡ t.copies.fetches →
       let u : Standing B E O W = record { copies = c; low = t.low; high = t.high; items = t.items } in
       StepsFront (walk_of s words w t) None (walk_of s words w u) × Retires words u
@@ -95,6 +99,7 @@ module _ {B E O W : Type 0} (s : PlainSet) (words w : ℕ) where
 
   -- ---- the same from the back
 
+  -- a look at the tail that finds nothing retires the copy, if there is one
   pub tail_retired : (t : Standing B E O W) (c : Held) → Retires words t → TakesLast t.copies.tail None c.tail → c.looks ≡ t.copies.looks + held t.copies.tail → c.head ≡ t.copies.head → c.fetches ≡ t.copies.fetches →
       let u : Standing B E O W = record { copies = c; low = t.low; high = t.high; items = t.items } in
       Seeks (walk_of s words w t) (walk_of s words w u) × Retires words u
@@ -134,6 +139,7 @@ module _ {B E O W : Type 0} (s : PlainSet) (words w : ℕ) where
       let kept = retires_gave t c i r (omega arith) (omega arith) (ap held e) q n in
       (record { gave = rw (e, z, f.1, f.2, b, between_empty s (t.high * w)) (simp append-nil); items = n; looks = omega arith; fetches = omega arith; unread = ap (λ n. n + (t.high - t.low)) q; words = refl; thrifty = thrifty _ kept }, kept)
 
+  -- with no tail and no word between, a look at the head that finds nothing ends the walk
   pub back_ended : (t : Standing B E O W) (c : Held) → Retires words t → t.copies.tail ≡ None → t.low ≡ t.high → TakesLast t.copies.head None c.head → c.looks ≡ t.copies.looks + held t.copies.head → c.tail ≡ t.copies.tail → c.fetches ≡ t.copies.fetches →
       let u : Standing B E O W = record { copies = c; low = t.low; high = t.high; items = t.items } in
       StepsBack (walk_of s words w t) None (walk_of s words w u) × Retires words u

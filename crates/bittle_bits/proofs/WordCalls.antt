@@ -21,6 +21,7 @@ mask_set m w i d h is =
     ∙ fun_ext λ k. place_eq m w k (i % w) h ∙ sym (or_false (k == i % w)))
     ∙ sym (with_in (empty w) w i refl h))
 
+-- in little-endian order the mask's digit stands at the mirrored place of the index
 pub mirrored_mask : (w i d : ℕ) → 0 < w → d ≡ 2 ^ (w - 1 - i % w) → members true w (digit_set w d) ≡ with_index (empty w) i
 mirrored_mask w i d h is = mask_set true w i d h (is ∙ ap (λ p. 2 ^ p) (sym (mirror_in_word w (i % w) (mod_below i w h))))
 
@@ -29,6 +30,7 @@ module _ (m : Bool) (w d e i : ℕ) (h : 0 < w) (one : members m w (digit_set w 
   mask_has : ◌≡◌ {A = ℕ → Bool} (λ k. digit_has w e (place m w k)) (λ k. k == i % w)
   mask_has = ap (λ s. s.has) one ∙ has_with-in (empty w) w i refl h ∙ fun_ext λ k. or_false (k == i % w)
 
+  -- the mask has a digit at the place of the index, and at no other
   pub at_mask : (k : ℕ) → digit_has w e (place m w k) ≡ (k == i % w)
   at_mask k = ap (λ p. p k) mask_has
 
@@ -38,6 +40,7 @@ module _ (m : Bool) (w d e i : ℕ) (h : 0 < w) (one : members m w (digit_set w 
   swapped false true = refl
   swapped false false = refl
 
+  -- the or with the mask sets the index
   pub word_set : members m w (digit_set w (bit_or d e)) ≡ with_index (members m w (digit_set w d)) i
   word_set =
       ap (plain w) (ap (λ p k. p (place m w k)) (digit_has-or w d e) ∙ fun_ext λ k. ap (λ b. digit_has w d (place m w k) || b) (at_mask k) ∙ swapped (digit_has w d (place m w k)) (k == i % w))
@@ -51,6 +54,7 @@ module _ (m : Bool) (w d e i : ℕ) (h : 0 < w) (one : members m w (digit_set w 
   outside false x true = refl
   outside false x false = refl
 
+  -- the and with the inverted mask clears the index
   pub word_cleared : (mask : ℕ) → e < 2 ^ w → mask ≡ 2 ^ w - 1 - e → members m w (digit_set w (bit_and d mask)) ≡ without_index (members m w (digit_set w d)) i
   unfolding digit_has lacks
   word_cleared mask fits is =
@@ -68,6 +72,7 @@ module _ (m : Bool) (w d e i : ℕ) (h : 0 < w) (one : members m w (digit_set w 
   here : digit_has w (bit_and d e) (place m w (i % w)) ≡ digit_has w d (place m w (i % w))
   here = shared (i % w) ∙ ap (λ b. digit_has w d (place m w (i % w)) && b) (eq-eqb (i % w) (i % w) refl) ∙ and_true _
 
+  -- the and with the mask is not 0 exactly where the index is a member
   pub word_tested : bit_and d e < 2 ^ w → not (bit_and d e == 0) ≡ contains (members m w (digit_set w d)) i
   word_tested fits = by (cases_eq (bit_and d e) 0) ∙ sym (contains_in (members m w (digit_set w d)) w i refl h)
     where

@@ -36,15 +36,19 @@ module _ {X : Type 0} (n c w d k : ℕ) (big : X → PlainSet) (xs : List X) (wo
   in_row : k < n * d
   in_row = let h : k * w < n * d * w = omega (arith, whole, ap (λ t. n * t) whole, mul_assoc n d w) in lt_of_mul-lt-mul_right w h
 
+  -- an element has at least one word
   pub some_words : 0 < d
   some_words = elim (cases_eq d 0) [ inl z ↦ absurd (let h : k < n * 0 = rw z at in_row in omega arith) | inr p ↦ omega arith ]
 
+  -- the word lies in an element of the row
   pub word_element : k / d < n
   word_element = div_below k d n some_words in_row
 
+  -- the word begins below the capacity of its element
   pub word_within : k % d * w < c
   word_within = let h : k % d * w < d * w = mul-lt-mul_of_pos_right (mod_below k d some_words) word in omega (arith, whole)
 
+  -- the word of the row is that of the element it lies in
   pub row_word : (x : X) → n ≡ length xs → x ≡ get_or xs (k / d) x → word_of w (big x) (k % d) ≡ word_of w (elements_set n c big xs) k
   unfolding word_has
   row_word x all at =

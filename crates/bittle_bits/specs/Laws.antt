@@ -10,6 +10,7 @@ pub digit_has-past : (w d i : ℕ) → w ≤ i → digit_has w d i ≡ false
 unfolding digit_has
 digit_has-past w d i h = rw (le-ltb i w h)
 
+-- a word is made of whole words, namely one
 pub one_word : (w : ℕ) → (words : ℕ) × (w ≡ words * w)
 one_word w = (1, omega arith)
 
@@ -22,5 +23,6 @@ elements_has-past n c f xs i h = rw (le-ltb i (n * c) h)
 pub words_of : (n c w : ℕ) → (words : ℕ) × (c ≡ words * w) → (words : ℕ) × (n * c ≡ words * w)
 words_of n c w h = (n * h.0, ap (λ t. n * t) h.1 ∙ sym (mul_assoc n h.0 w))
 
+-- a number tested to be below another, with some test before it, is below it
 pub second_is_below : (a : Bool) (m n : ℕ) → IsTrue (a && nat_lt m n) → m < n
 second_is_below a m n h = ltb-true m n (and_parts a (nat_lt m n) h).1

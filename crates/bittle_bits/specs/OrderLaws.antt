@@ -19,6 +19,7 @@ PlacesMirror one other = (w i : ℕ) → 0 < w → place one w i ≡ place other
 abbrev pub MembersMirror : Bool → Bool → ℕ → PlainSet → Type 0
 MembersMirror one other w s = (i : ℕ) → (members one w s).has i ≡ (members other w s).has (mirror w i)
 
+-- mirroring an index twice gives it back
 abbrev pub MirroringTwiceIsNothing : Type 0
 MirroringTwiceIsNothing = (w i : ℕ) → 0 < w → mirror w (mirror w i) ≡ i
 

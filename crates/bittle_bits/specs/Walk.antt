@@ -78,5 +78,6 @@ pub record ResumesAs (source clone : Walk) : Type 0 where
 abbrev pub ListsInOrder : Type 0
 ListsInOrder = YieldsInOrder (YieldsFirst (λ (left : List ℕ). left)) (λ left. left)
 
+-- runs of steps from the back of a list of numbers give its items in reverse
 abbrev pub ListsInReverse : Type 0
 ListsInReverse = YieldsInReverse (YieldsLast (λ (left : List ℕ). left)) (λ left. left)

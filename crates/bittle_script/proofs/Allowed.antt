@@ -10,6 +10,7 @@ use Rattle.bittle_script.specs.Runs.{MayBeAnswered, refusal_answers, answers_to_
 too_long : (text : List ℕ) → 4096 < length text → refusal_answers TooLong ≡ answers_to_input text
 too_long text long = rw (lt-ltb 4096 (length text) long) refl
 
+-- a refusal is allowed, and that of a text too long where the text is that long
 pub refusal_allowed : (remaining : Option (List ℕ)) (refusal : Refusal) → (refusal ≡ TooLong → IfSome remaining (λ text. 4096 < length text)) → MayBeAnswered remaining (refusal_answers refusal)
 refusal_allowed remaining ReadFailed long = inr refl
 refusal_allowed None TooLong long = inl (replicate 4097 0, tt, too_long (replicate 4097 0) (omega (arith, length-replicate {A = ℕ} 4097 0)))

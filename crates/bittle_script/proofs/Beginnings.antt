@@ -6,6 +6,7 @@ use Rattle.std.specs.Io.KnownBytes.{Appends}
 use Rattle.std.proofs.KnownBytes.{Appends-nil, Appends-trans}
 use Rattle.bittle_script.specs.Beginnings.{AppendsBeginning, Writes}
 
+-- bytes written whole are a beginning of themselves
 pub begins-whole : (a b : Option (List ℕ)) (bytes : List ℕ) → Appends a b bytes → AppendsBeginning a b bytes
 begins-whole a b bytes h = record { front = bytes; rest = []; split = sym (append-nil bytes); appends = h }
 
@@ -22,6 +23,7 @@ pub writes-after : {T E : Type 0} (a b c : Option (List ℕ)) (r : Result T E) (
 writes-after a b c (Ok x) xs ys h k = Appends-trans a b c xs ys h k
 writes-after a b c (Err e) xs ys h k = begins-after a b c xs ys h k
 
+-- a write that failed may have written just a beginning of the bytes
 pub writes-failed : {T E : Type 0} (a b : Option (List ℕ)) (r : Result T E) (bytes : List ℕ) → IsErr r → AppendsBeginning a b bytes → Writes a b r bytes
 writes-failed a b r bytes failed h = MatchResult-from_err r (λ _. Appends a b bytes) (λ _. AppendsBeginning a b bytes) failed (λ _. h)
 
@@ -31,9 +33,11 @@ pub record HasBegun (a b : Option (List ℕ)) (all left : List ℕ) : Type 0 whe
   pub appends : Appends a b done
   pub split : all ≡ done ++ left
 
+-- at first nothing is written, and all the bytes are left
 pub begun-nothing : (a : Option (List ℕ)) (all left : List ℕ) → all ≡ left → HasBegun a a all left
 begun-nothing a all left e = record { done = []; appends = Appends-nil a; split = e }
 
+-- once the next bytes are written, the rest of them are left
 pub begun-more : (a b c : Option (List ℕ)) (all left next rest : List ℕ) → HasBegun a b all left → left ≡ next ++ rest → Appends b c next → HasBegun a c all rest
 begun-more a b c all left next rest h is k = record {
   done = h.done ++ next;
@@ -41,12 +45,15 @@ begun-more a b c all left next rest h is k = record {
   split = h.split ∙ ap (λ l. h.done ++ l) is ∙ sym (append_assoc h.done next rest);
 }
 
+-- once the bytes that are left are written whole, all of them are
 pub begun-whole : (a b c : Option (List ℕ)) (all left : List ℕ) → HasBegun a b all left → Appends b c left → Appends a c all
 begun-whole a b c all left h k = subst (Appends a c) (sym h.split) (Appends-trans a b c h.done left h.appends k)
 
+-- once a beginning of the bytes that are left is written, one of all of them is
 pub begun-failed : (a b c : Option (List ℕ)) (all left : List ℕ) → HasBegun a b all left → AppendsBeginning b c left → AppendsBeginning a c all
 begun-failed a b c all left h k = subst (AppendsBeginning a c) (sym h.split) (begins-after a b c h.done left h.appends k)
 
+-- a write of the bytes that are left, whole or failed, is such a write of all of them
 pub begun-written : {T E : Type 0} (a b c : Option (List ℕ)) (r : Result T E) (all left : List ℕ) → HasBegun a b all left → Writes b c r left → Writes a c r all
 begun-written a b c (Ok x) all left h k = begun-whole a b c all left h k
 begun-written a b c (Err e) all left h k = begun-failed a b c all left h k

@@ -27,14 +27,17 @@ by_tests (Err e) n v l b h digits = by_refusal (nat_lt 0 n) (nat_lt v l) b v dig
   by_refusal true false true v digits no' = refl
   by_refusal true true true v digits no' = absurd (no' refl refl)
 
+-- of digits the parser gives the number that they say, or an error where none fits
 pub number_parsed : {E : Type 0} (bs : List ℕ) (r : Result ℕ E) → ParsesUnsigned 32 10 bs r → list_all is_ascii_digit bs ≡ true → result_ok r ≡ number_of bs
 number_parsed bs r h digits = by_tests r (length bs) (digits_value 10 bs) 4294967296 (list_all is_ascii_digit bs) (parse_digits own 32 bs r h digits) digits
 
+-- digits are ASCII
 pub ascii_from_digits : (bs : List ℕ) → list_all is_ascii_digit bs ≡ true → IsAscii bs
 ascii_from_digits [] digits = IsAscii-nil
 ascii_from_digits (b ∷ bs) digits =
     let h = own_test.parts b bs digits in
     IsAscii-cons b bs (omega arith) (ascii_from_digits bs h.1)
 
+-- digits are UTF-8
 pub text_from_digits : (bs : List ℕ) → list_all is_ascii_digit bs ≡ true → IsUtf8 bs
 text_from_digits bs digits = IsUtf8-from_ascii bs (ascii_from_digits bs digits)

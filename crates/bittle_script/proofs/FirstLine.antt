@@ -5,6 +5,7 @@ use Rattle.std.specs.Prelude.{◌==◌, not, position, if◌then◌else◌, nat_
 use Rattle.std.specs.List.{position_or_len}
 use Rattle.bittle_script.specs.Texts.{lines_of, onto_first, without_return, script_lines}
 
+-- the place of the first byte 10, or the length where there is none
 abbrev pub end_of_line : List ℕ → ℕ
 end_of_line text = position_or_len (λ b. b == 10) text
 
@@ -21,6 +22,7 @@ by_first_byte true b bytes h = refl
 by_first_byte false b [] h = refl
 by_first_byte false b (d ∷ ds) h = ap (onto_first b) (h (omega arith)) ∙ shift (end_of_line (d ∷ ds)) b (d ∷ ds)
 
+-- the lines of a text are the one up to the first byte 10, and those of what follows it
 pub lines_by_first : (text : List ℕ) → 0 < length text → lines_of text ≡ take (end_of_line text) text ∷ lines_of (drop (end_of_line text + 1) text)
 lines_by_first [] some = absurd (omega arith)
 lines_by_first (b ∷ bytes) some = by_first_byte (b == 10) b bytes (lines_by_first bytes)
@@ -33,12 +35,14 @@ none_by_test : (t : Bool) (n : ℕ) → cond t (Some n) None ≡ None → t ≡ 
 none_by_test true n e = absurd (cc e)
 none_by_test false n e = refl
 
+-- a text with a byte 10 has the line before it first, and the lines of what follows it
 pub first_script_line : (text : List ℕ) (k : ℕ) → 0 < length text → position (λ b. b == 10) text ≡ Some k
     → script_lines text ≡ without_return (take k text) ∷ script_lines (drop (k + 1) text)
 first_script_line text k some e =
     let here : end_of_line text ≡ k = place_by_test (nat_lt (end_of_line text) (length text)) (end_of_line text) k e in
     ap (map without_return) (lines_by_first text some) ∙ ap (λ n. without_return (take n text) ∷ script_lines (drop (n + 1) text)) here
 
+-- a text with no byte 10 is one line
 pub only_script_line : (text : List ℕ) → 0 < length text → position (λ b. b == 10) text ≡ None → script_lines text ≡ without_return text ∷ []
 only_script_line text some e =
     let n = end_of_line text in

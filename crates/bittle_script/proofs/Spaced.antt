@@ -4,6 +4,7 @@ use Rattle.std.specs.Prelude.{codes}
 use Rattle.std.specs.Fmt.{decimal}
 use Rattle.std.specs.List.{join_by, flat_map}
 
+-- a number in digits, after a space
 abbrev pub spaced : ℕ → List ℕ
 spaced n = codes " " ++ decimal n
 
@@ -12,6 +13,7 @@ abbrev pub spaced_after : List ℕ → List ℕ → List ℕ
 spaced_after before [] = []
 spaced_after before (n ∷ ns) = (before ++ decimal n) ++ flat_map spaced ns
 
+-- numbers with one space between are the first one, and each other one after a space
 pub spaced_whole : (ns : List ℕ) → join_by decimal (codes " ") ns ≡ spaced_after [] ns
 spaced_whole [] = refl
 spaced_whole (n ∷ ns) = refl

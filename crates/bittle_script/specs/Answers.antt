@@ -53,9 +53,11 @@ pub record Answers : Type 0 where
   pub text : List ℕ
   pub outcome : Outcome
 
+-- the refusal of a line that is not understood
 abbrev pub refused_at : ℕ → Answers
 refused_at number = record { text = refusal_of number; outcome = Refused }
 
+-- a text, and then the answers
 abbrev pub prepend : List ℕ → Answers → Answers
 prepend text rest = record { text = text ++ rest.text; outcome = rest.outcome }
 

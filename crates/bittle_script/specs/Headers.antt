@@ -17,6 +17,7 @@ shape_of name =
     else (if is_word name (codes "u16x2") then Some U16x2
     else (if is_word name (codes "i32") then Some I32 else None))))
 
+-- the header of an order and a shape
 abbrev pub in_order : Order → Shape → Header
 in_order order shape = record { order = order; shape = shape }
 

@@ -9,6 +9,7 @@ use Rattle.bittle_script.specs.Answers.{Answers, answers_to, IsGiven}
 use Rattle.bittle_script.specs.Beginnings.{AppendsBeginning}
 use Rattle.bittle_script.specs.Refusals.{message_of}
 
+-- the answers to an input that is refused whole
 abbrev pub refusal_answers : Refusal → Answers
 refusal_answers refusal = record { text = message_of refusal; outcome = Refused }
 
@@ -24,6 +25,7 @@ MayBeAnswered remaining given = ((text : List ℕ) × IfSome remaining (λ all. 
 abbrev pub IsAnswered : {E : Type 0} → Option (List ℕ) → Option (List ℕ) → Option (List ℕ) → Result Outcome E → Type 0
 IsAnswered remaining old new r = (given : Answers) × MayBeAnswered remaining given × IsGiven old new r given
 
+-- the exit status of an outcome
 abbrev pub status_of : Outcome → ℕ
 status_of Answered = 0
 status_of Refused = 2

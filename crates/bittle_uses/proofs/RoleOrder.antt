@@ -37,6 +37,7 @@ module _ {X : Type 0} (bits : X → ℕ) (wanted : ℕ) where
       let t : is_eq (order x) ≡ true = (equal_iff_granted (bits x) wanted).1 same in
       true≢false (sym t ∙ ap is_eq e ∙ f)
 
+  -- the search gives a place whose role grants just what is wanted, or None where no role does
   pub search_found : (xs : List X) (r : Result ℕ ℕ) → IsSortedBy (λ a b. is_lt (list_cmp (ascending (granted (bits a))) (ascending (granted (bits b))))) xs → IsBinarySearchResult order xs r → MatchOption (result_ok r) (All (λ x. GrantsJust x → ⊥) xs) (λ place. HoldsAt GrantsJust xs place)
   search_found xs (Ok i) sorted h = λ d. (equal_iff_granted (bits (slice_index_or xs i d)) wanted).0 (ap is_eq (h d))
   search_found xs (Err i) sorted h =
