@@ -3,7 +3,7 @@ use Rattle.std.specs.Prelude.{◌≡◌, ℕ, ◌+◌, ◌<◌, ◌≤◌, Optio
 use Rattle.bittle.specs.declared.replay.walk.Step.{Step}
 use Rattle.bittle.specs.declared.replay.walk.Step.TheVariants.{Front, Back}
 
--- the first item, and what follows it
+-- the first item
 abbrev pub first_of : List ℕ → Option ℕ
 first_of [] = None
 first_of (x ∷ xs) = Some x
@@ -13,7 +13,7 @@ abbrev pub rest_of : List ℕ → List ℕ
 rest_of [] = []
 rest_of (x ∷ xs) = xs
 
--- the answer of one step, and the list that it leaves: the empty list answers None and stays
+-- the answer of one step: the empty list answers None
 abbrev pub answer_of : Step → List ℕ → Option ℕ
 answer_of Front xs = first_of xs
 answer_of Back xs = first_of (reverse xs)
@@ -23,7 +23,7 @@ abbrev pub left_by : Step → List ℕ → List ℕ
 left_by Front xs = rest_of xs
 left_by Back xs = reverse (rest_of (reverse xs))
 
--- the answers of a list of steps, and the list that remains
+-- the answers of a list of steps
 abbrev pub answers_of : List Step → List ℕ → List (Option ℕ)
 answers_of [] xs = []
 answers_of (step ∷ steps) xs = answer_of step xs ∷ answers_of steps (left_by step xs)
@@ -38,7 +38,7 @@ abbrev pub item_in : Option ℕ → List ℕ
 item_in None = []
 item_in (Some x) = x ∷ []
 
--- the items that the steps from the front give, in turn, and those that the steps from the back give
+-- the items that the steps from the front give, in turn
 abbrev pub from_front : List Step → List ℕ → List ℕ
 from_front [] xs = []
 from_front (Front ∷ steps) xs = item_in (first_of xs) ++ from_front steps (left_by Front xs)

@@ -74,7 +74,7 @@ pub record ResumesAs (source clone : Walk) : Type 0 where
   pub fetches : clone.fetches ≡ 0
   pub fresh : IsFresh source.words clone
 
--- runs of steps over a list of numbers give it from its first item on, and from its last
+-- runs of steps over a list of numbers give it from its first item on
 abbrev pub ListsInOrder : Type 0
 ListsInOrder = YieldsInOrder (YieldsFirst (λ (left : List ℕ). left)) (λ left. left)
 
