@@ -2,6 +2,7 @@
 
 ghost use Rattle.std.specs.Prelude.{◌≡◌, ◌*◌, ◌<◌, length, IsTrue};
 ghost use Rattle.bittle_bits.specs.Shapes.{Fits};
+ghost use Rattle.bittle.specs.EqualityLaws.{equal_sets};
 
 use bittle_bits::bits::Bits;
 use bittle_bits::bits_mut::BitsMut;
@@ -273,6 +274,11 @@ impl<T: BitsOwned, U: Endian> BitsOwned for Set<T, U> {
     ghost type_whole_words = { T.type_whole_words };
 
     ghost type_fits = { T.type_fits };
+
+    ghost eq_is_same = { λ s t.
+        equal_sets U.mirrored T.width T.type_capacity T.width_positive T.type_whole_words
+        (T.big s.bits) (T.big t.bits) (T.one_capacity s.bits) (T.one_capacity t.bits)
+        (T.none_past s.bits) (T.none_past t.bits) };
 
     #[inline]
     fn bits() -> u32 {

@@ -1,7 +1,7 @@
 -- The increasing list of the members: its ends, what is left without one of them, and its length.
-use Rattle.std.proofs.Common.{◌≡◌, ℕ, zero, suc, ◌+◌, ◌-◌, ◌<◌, ◌≤◌, Bool, true, false, not, ◌&&◌, ◌==◌, cond, List, [], ◌∷◌, ◌++◌, length, map, get_or, length-append, refl, sym, ap, ◌∙◌, arith}
+use Rattle.std.proofs.Common.{◌≡◌, ℕ, zero, suc, ◌+◌, ◌-◌, ◌<◌, ◌≤◌, Bool, true, false, not, ◌&&◌, ◌==◌, cond, List, [], ◌∷◌, ◌++◌, length, map, get_or, length-append, ◌⊎◌, inl, inr, refl, sym, ap, ◌∙◌, arith}
 use Rattle.std.proofs.Math.Nat.{mod-eq_of_lt}
-use Rattle.std.proofs.lemmas.Bool.{eq-eqb, ne_eqb}
+use Rattle.std.proofs.lemmas.Bool.{eq-eqb, ne_eqb, cases_Bool, cases_eq}
 use Rattle.std.proofs.lemmas.List.{append-nil}
 use Rattle.bittle_bits.specs.PlainSet.{PlainSet, without_index, has_without, count_below, size, ascending_from, ascending, IsLeastMember, IsGreatestMember}
 use Rattle.bittle_bits.specs.Walk.{AreBelow}
@@ -42,6 +42,32 @@ unfolding ascending_from
 ascending_from-same p q from zero h = refl
 ascending_from-same p q from (suc n) h =
     rw (h from (omega arith) (omega arith), ascending_from-same p q (suc from) n (λ k lo hi. h k (omega arith) (omega arith))) refl
+
+late_head : (p : ℕ → Bool) (from n k : ℕ) (rest : List ℕ) → k < from → ascending_from p from n ≡ k ∷ rest → ⊥
+late_head p from zero k rest h e = let none = ascending_from-zero p from in cc
+late_head p from (suc n) k rest h e =
+    elim (cases_Bool (p from)) [
+      | inl yes_here ↦ let split = ascending-yes p from n yes_here in let same : from ≡ k = cc in absurd (omega (arith, same))
+      | inr not_here ↦ late_head p (suc from) n k rest (omega arith) (sym (ascending-no p from n not_here) ∙ e)
+    ]
+
+-- tests that give one list over the range agree there
+pub ascending_from-agree : (p q : ℕ → Bool) (from n : ℕ) → ascending_from p from n ≡ ascending_from q from n → (k : ℕ) → from ≤ k → k < from + n → p k ≡ q k
+ascending_from-agree p q from zero e k lo hi = absurd (omega arith)
+ascending_from-agree p q from (suc n) e k lo hi = by (ascending_from-agree p q (suc from) n) (cases_Bool (p from)) (cases_Bool (q from))
+  where
+    on : (ascending_from p (suc from) n ≡ ascending_from q (suc from) n → (k : ℕ) → suc from ≤ k → k < suc from + n → p k ≡ q k) → ascending_from p (suc from) n ≡ ascending_from q (suc from) n → p from ≡ q from → p k ≡ q k
+    on later rest here =
+        elim (cases_eq k from) [
+          | inl same ↦ ap p same ∙ here ∙ ap q (sym same)
+          | inr other ↦ later rest k (omega (arith, other)) (omega arith)
+        ]
+
+    by : (ascending_from p (suc from) n ≡ ascending_from q (suc from) n → (k : ℕ) → suc from ≤ k → k < suc from + n → p k ≡ q k) → (p from ≡ true) ⊎ (p from ≡ false) → (q from ≡ true) ⊎ (q from ≡ false) → p k ≡ q k
+    by later (inl a) (inl b) = let x = ascending-yes p from n a in let y = ascending-yes q from n b in on later (cc) (a ∙ sym b)
+    by later (inl a) (inr b) = absurd (late_head q (suc from) n from (ascending_from p (suc from) n) (omega arith) (sym (ascending-no q from n b) ∙ sym e ∙ ascending-yes p from n a))
+    by later (inr a) (inl b) = absurd (late_head p (suc from) n from (ascending_from q (suc from) n) (omega arith) (sym (ascending-no p from n a) ∙ e ∙ ascending-yes q from n b))
+    by later (inr a) (inr b) = on later (sym (ascending-no p from n a) ∙ e ∙ ascending-no q from n b) (a ∙ sym b)
 
 -- a list moved by a base is that of the test moved by it
 pub ascending_from-moved : (p q : ℕ → Bool) (base from start n : ℕ) → start ≡ base + from → ((k : ℕ) → from ≤ k → k < from + n → q (base + k) ≡ p k) →

@@ -1,7 +1,7 @@
 //! Arrays as sets.
 
 ghost use Rattle.std.specs.Prelude.{◌≡◌, ◌*◌, ◌&&◌, Bool, nat_lt, refl};
-ghost use Rattle.bittle_bits.specs.Laws.{elements_has-past, words_of, second_is_below};
+ghost use Rattle.bittle_bits.specs.Laws.{elements_has-past, words_of, second_is_below, equal_rows};
 ghost use Rattle.bittle_bits.specs.Orders.{members};
 ghost use Rattle.bittle_bits.specs.Rows.{elements_set};
 ghost use Rattle.bittle_bits.specs.SetOperations.{combined};
@@ -119,6 +119,8 @@ impl<T: BitsOwned, const N: usize> BitsOwned for [T; N] {
     ghost type_whole_words = { words_of N _ _ T.type_whole_words };
 
     ghost type_fits = { λ h. second_is_below T.indexable (N * T.type_capacity) 4294967295 h };
+
+    ghost eq_is_same = { equal_rows N T.type_capacity T.big T.eq_is_same };
 
     #[inline]
     fn bits() -> u32 {

@@ -390,4 +390,7 @@ pub trait BitsOwned: Copy + Eq + BitsMut {
 
     // An owned type that is indexable fits.
     ghost type_fits: { IsTrue Self.indexable → type_capacity < 4294967295 };
+
+    // Values that `==` finds equal are one set.
+    ghost eq_is_same: { (u v : Self) → IsTrue (Self.eq u v) → Self.big u ≡ Self.big v };
 }

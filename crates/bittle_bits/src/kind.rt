@@ -7,10 +7,10 @@ ghost use Rattle.bittle_bits.specs.Walk.{wanted};
 ghost use Rattle.bittle_bits.specs.Words.{word_of};
 
 use crate::bits::Bits;
-use crate::hidden::Number;
+use crate::hidden::{Number, Sealed};
 
 /// Names the bits that an iterator yields: the [`Ones`] or the [`Zeros`] of its set.
-pub trait Kind: Drop {
+pub trait Kind: Drop + Sealed {
     ghost ONES: { Bool };
 
     const ONES: bool;
@@ -23,6 +23,10 @@ pub enum Ones {}
 /// The unset bits below the capacity.
 #[derive(Drop)]
 pub enum Zeros {}
+
+impl Sealed for Ones {}
+
+impl Sealed for Zeros {}
 
 impl Kind for Ones {
     ghost ONES = { true };

@@ -3,7 +3,7 @@
 ghost use Rattle.std.specs.Prelude.{◌≡◌, ◌*◌, ◌<◌, true, refl};
 ghost use Rattle.std.proofs.Common.{lit<};
 ghost use Rattle.bittle_bits.specs.Digits.{digit_set};
-ghost use Rattle.bittle_bits.specs.Laws.{elements_has-past, digit_has-past, words_of, one_word};
+ghost use Rattle.bittle_bits.specs.Laws.{elements_has-past, digit_has-past, words_of, one_word, equal_words, equal_rows};
 ghost use Rattle.bittle_bits.specs.Rows.{elements_set};
 ghost use Rattle.bittle_bits.specs.Shapes.{Fits};
 
@@ -176,6 +176,8 @@ impl<'a> BitsOwned for Probe<'a> {
     ghost type_whole_words = { words_of 4 8 8 (one_word 8) };
 
     ghost type_fits = { λ _. lit< tt };
+
+    ghost eq_is_same = { λ u v. equal_rows 4 8 (digit_set 8) (equal_words 8) u.bytes v.bytes };
 
     fn bits() -> u32
         ensures value { Fits true (4 * 8) → result ≡ 4 * 8 }

@@ -4,7 +4,7 @@ ghost use Rattle.std.specs.Prelude.{true, refl};
 ghost use Rattle.std.specs.Int.{w128, cast_unsigned};
 ghost use Rattle.std.proofs.Common.{lit<};
 ghost use Rattle.bittle_bits.specs.Digits.{digit_set};
-ghost use Rattle.bittle_bits.specs.Laws.{digit_has-past, one_word};
+ghost use Rattle.bittle_bits.specs.Laws.{digit_has-past, one_word, equal_words, equal_signed_words};
 
 use crate::bits::Bits;
 use crate::bits_mut::BitsMut;
@@ -180,6 +180,8 @@ impl BitsOwned for u128 {
     ghost type_whole_words = { one_word 128 };
 
     ghost type_fits = { λ _. lit< tt };
+
+    ghost eq_is_same = { equal_words 128 };
 
     #[inline]
     fn bits() -> u32 {
@@ -365,6 +367,8 @@ impl BitsOwned for i128 {
     ghost type_whole_words = { one_word 128 };
 
     ghost type_fits = { λ _. lit< tt };
+
+    ghost eq_is_same = { equal_signed_words 128 (cast_unsigned w128) };
 
     #[inline]
     fn bits() -> u32 {
