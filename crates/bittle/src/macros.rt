@@ -12,10 +12,10 @@ mod uses;
 
 /// Makes a set of what is listed, in the order of its type.
 ///
-/// A list has indexes, which are expressions of the type `u32`, and ranges `a..=b`, `a..b` and `a..`
-/// whose bounds are literals; `a..` ends at the capacity. An index past the capacity wraps. A range
-/// that ends before it starts sets nothing, and with capacity 0 the set is empty. The type, which the
-/// place of use names, has to fit.
+/// A list has indexes, which are expressions of the type `u32`, and ranges `a..=b`, `a..b` and
+/// `a..` whose bounds are literals; `a..` ends at the capacity. An index past the capacity wraps. A
+/// range that ends before it starts sets nothing, and with capacity 0 the set is empty. The type,
+/// which the place of use names, has to fit.
 ///
 /// ```
 /// let mask: u8 = bittle::set![0, 2..=3, 6..];
@@ -68,7 +68,8 @@ macro_rules! set_of_listed {
     }};
 }
 
-// Puts what is listed, one after another. A bare range is also an expression, so the ranges stand first.
+// Puts what is listed, one after another. A bare range is also an expression, so the ranges stand
+// first.
 #[doc(hidden)]
 #[macro_export]
 macro_rules! put_listed {

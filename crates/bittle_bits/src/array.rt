@@ -16,11 +16,12 @@ use crate::operation::Operation;
 
 impl<T: BitsOwned, const N: usize> Sealed for [T; N] {}
 
-// The operation on two arrays. A short one is copied first: the copy lies elsewhere for certain, so that the machine goes over
-// several words at once.
+// The operation on two arrays. A short one is copied first: the copy lies elsewhere for certain, so
+// that the machine goes over several words at once.
 #[inline]
 fn combine<T: BitsOwned, O: Operation, const N: usize>(elements: &mut [T; N], others: &[T; N])
-    ensures { (mirrored : Bool) → members mirrored T.width (elements_set N T.type_capacity T.big elements.new)
+    ensures { (mirrored : Bool)
+        → members mirrored T.width (elements_set N T.type_capacity T.big elements.new)
         ≡ combined O.decide
         (members mirrored T.width (elements_set N T.type_capacity T.big elements.old))
         (members mirrored T.width (elements_set N T.type_capacity T.big others.now)) }

@@ -283,7 +283,8 @@ pub trait Bits: Drop + Sealed {
     where
         Self: Sized,
         requires { Fits indexable (big self.now).capacity }
-        ensures left { result.left ≡ ascending (complement (members E.mirrored width (big self.now))) }
+        ensures left { result.left
+            ≡ ascending (complement (members E.mirrored width (big self.now))) }
         ensures fresh { IsFresh ((big self.now).capacity / width) result }
         ensures below { AreBelow (big self.now).capacity result.left }
     {
@@ -320,7 +321,8 @@ pub trait Bits: Drop + Sealed {
     where
         Self: Sized,
         requires { Fits indexable (big self.now).capacity }
-        ensures left { result.left ≡ ascending (members ⟦<LittleEndian as Endian>⟧.mirrored width (big self.now)) }
+        ensures left { result.left
+            ≡ ascending (members ⟦<LittleEndian as Endian>⟧.mirrored width (big self.now)) }
         ensures fresh { IsFresh ((big self.now).capacity / width) result }
         ensures below { AreBelow (big self.now).capacity result.left }
     {
@@ -338,7 +340,8 @@ pub trait Bits: Drop + Sealed {
     where
         Self: Sized,
         requires { Fits indexable (big self.now).capacity }
-        ensures left { result.left ≡ ascending (members ⟦<BigEndian as Endian>⟧.mirrored width (big self.now)) }
+        ensures left { result.left
+            ≡ ascending (members ⟦<BigEndian as Endian>⟧.mirrored width (big self.now)) }
         ensures fresh { IsFresh ((big self.now).capacity / width) result }
         ensures below { AreBelow (big self.now).capacity result.left }
     {
@@ -356,7 +359,8 @@ pub trait Bits: Drop + Sealed {
     where
         Self: Sized,
         requires { Fits indexable (big self.now).capacity }
-        ensures left { result.left ≡ ascending (complement (members Self.Order.mirrored width (big self.now))) }
+        ensures left { result.left
+            ≡ ascending (complement (members Self.Order.mirrored width (big self.now))) }
         ensures fresh { IsFresh ((big self.now).capacity / width) result }
         ensures below { AreBelow (big self.now).capacity result.left }
     {
@@ -374,7 +378,9 @@ pub trait Bits: Drop + Sealed {
     where
         Self: Sized,
         requires { Fits indexable (big self.now).capacity }
-        ensures left { result.left ≡ ascending (complement (members ⟦<LittleEndian as Endian>⟧.mirrored width (big self.now))) }
+        ensures left { result.left
+            ≡ ascending (complement
+            (members ⟦<LittleEndian as Endian>⟧.mirrored width (big self.now))) }
         ensures fresh { IsFresh ((big self.now).capacity / width) result }
         ensures below { AreBelow (big self.now).capacity result.left }
     {
@@ -392,7 +398,9 @@ pub trait Bits: Drop + Sealed {
     where
         Self: Sized,
         requires { Fits indexable (big self.now).capacity }
-        ensures left { result.left ≡ ascending (complement (members ⟦<BigEndian as Endian>⟧.mirrored width (big self.now))) }
+        ensures left { result.left
+            ≡ ascending (complement
+            (members ⟦<BigEndian as Endian>⟧.mirrored width (big self.now))) }
         ensures fresh { IsFresh ((big self.now).capacity / width) result }
         ensures below { AreBelow (big self.now).capacity result.left }
     {
@@ -443,7 +451,8 @@ pub trait Bits: Drop + Sealed {
         Self: Sized,
         I::Item: Drop,
         requires { Fits indexable (big self.now).capacity }
-        ensures members { result.mask.left ≡ ascending (members ⟦<DefaultEndian as Endian>⟧.mirrored width (big self.now)) }
+        ensures members { result.mask.left
+            ≡ ascending (members ⟦<DefaultEndian as Endian>⟧.mirrored width (big self.now)) }
         ensures below { AreBelow (big self.now).capacity result.mask.left }
         ensures iter { I.into_iter_gives iter result.iter }
         ensures none_taken { result.taken ≡ 0 }
@@ -468,7 +477,8 @@ pub trait Bits: Drop + Sealed {
         Self: Sized,
         I::Item: Drop,
         requires { Fits indexable (big self.now).capacity }
-        ensures members { result.mask.left ≡ ascending (members ⟦<LittleEndian as Endian>⟧.mirrored width (big self.now)) }
+        ensures members { result.mask.left
+            ≡ ascending (members ⟦<LittleEndian as Endian>⟧.mirrored width (big self.now)) }
         ensures below { AreBelow (big self.now).capacity result.mask.left }
         ensures iter { I.into_iter_gives iter result.iter }
         ensures none_taken { result.taken ≡ 0 }
@@ -493,7 +503,8 @@ pub trait Bits: Drop + Sealed {
         Self: Sized,
         I::Item: Drop,
         requires { Fits indexable (big self.now).capacity }
-        ensures members { result.mask.left ≡ ascending (members ⟦<BigEndian as Endian>⟧.mirrored width (big self.now)) }
+        ensures members { result.mask.left
+            ≡ ascending (members ⟦<BigEndian as Endian>⟧.mirrored width (big self.now)) }
         ensures below { AreBelow (big self.now).capacity result.mask.left }
         ensures iter { I.into_iter_gives iter result.iter }
         ensures none_taken { result.taken ≡ 0 }

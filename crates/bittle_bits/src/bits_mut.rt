@@ -11,7 +11,8 @@ use crate::operation::{Conjunction, Difference, Operation, SymmetricDifference, 
 
 /// A set that can be changed. No change alters the capacity.
 pub trait BitsMut: Bits {
-    // How the values before and after a change stand to each other: of a slice that is lent, that it is the same slice.
+    // How the values before and after a change stand to each other: of a slice that is lent, that
+    // it is the same slice.
     ghost same_place: { Self → Self → Type 0 };
 
     /// Sets the bit at `index` in the order `E`. No other bit changes. An index past the capacity
@@ -60,7 +61,8 @@ pub trait BitsMut: Bits {
     fn combine<O: Operation>(&mut self, other: &Self)
         ensures set { (mirrored : Bool) → members mirrored Self.width (Self.big self.new)
             ≡ combined O.decide
-            (members mirrored Self.width (Self.big self.old)) (members mirrored Self.width (Self.big other.now)) }
+            (members mirrored Self.width (Self.big self.old))
+            (members mirrored Self.width (Self.big other.now)) }
         ensures stays { same_place self.old self.new };
 
     /// Sets each bit that is set in `other`. Always callable. Between two slices of unequal length
@@ -74,7 +76,8 @@ pub trait BitsMut: Bits {
     final fn union_assign(&mut self, other: &Self)
         ensures union { (mirrored : Bool) → members mirrored Self.width (Self.big self.new)
             ≡ union_of
-            (members mirrored Self.width (Self.big self.old)) (members mirrored Self.width (Self.big other.now)) }
+            (members mirrored Self.width (Self.big self.old))
+            (members mirrored Self.width (Self.big other.now)) }
         ensures stays { same_place self.old self.new }
     {
         self.combine::<Union>(other);
@@ -92,7 +95,8 @@ pub trait BitsMut: Bits {
     final fn conjunction_assign(&mut self, other: &Self)
         ensures conjunction { (mirrored : Bool) → members mirrored Self.width (Self.big self.new)
             ≡ conjunction_of
-            (members mirrored Self.width (Self.big self.old)) (members mirrored Self.width (Self.big other.now)) }
+            (members mirrored Self.width (Self.big self.old))
+            (members mirrored Self.width (Self.big other.now)) }
         ensures stays { same_place self.old self.new }
     {
         self.combine::<Conjunction>(other);
@@ -109,7 +113,8 @@ pub trait BitsMut: Bits {
     final fn difference_assign(&mut self, other: &Self)
         ensures difference { (mirrored : Bool) → members mirrored Self.width (Self.big self.new)
             ≡ difference_of
-            (members mirrored Self.width (Self.big self.old)) (members mirrored Self.width (Self.big other.now)) }
+            (members mirrored Self.width (Self.big self.old))
+            (members mirrored Self.width (Self.big other.now)) }
         ensures stays { same_place self.old self.new }
     {
         self.combine::<Difference>(other);
@@ -124,9 +129,11 @@ pub trait BitsMut: Bits {
     /// ```
     #[inline]
     final fn symmetric_difference_assign(&mut self, other: &Self)
-        ensures symmetric_difference { (mirrored : Bool) → members mirrored Self.width (Self.big self.new)
+        ensures symmetric_difference { (mirrored : Bool)
+            → members mirrored Self.width (Self.big self.new)
             ≡ symmetric_difference_of
-            (members mirrored Self.width (Self.big self.old)) (members mirrored Self.width (Self.big other.now)) }
+            (members mirrored Self.width (Self.big self.old))
+            (members mirrored Self.width (Self.big other.now)) }
         ensures stays { same_place self.old self.new }
     {
         self.combine::<SymmetricDifference>(other);

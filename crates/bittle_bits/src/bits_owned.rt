@@ -47,7 +47,8 @@ pub trait BitsOwned: Copy + Eq + BitsMut {
     fn ones() -> Self
         requires { IsTrue Self.indexable }
         ensures value { Self.big result ≡ filled type_capacity }
-        ensures in_own_order { members Self.Order.mirrored Self.width (Self.big result) ≡ filled type_capacity }
+        ensures in_own_order { members Self.Order.mirrored Self.width (Self.big result)
+            ≡ filled type_capacity }
         ensures in_each_order { (mirrored : Bool) →
             members mirrored Self.width (Self.big result) ≡ filled type_capacity };
 
@@ -93,7 +94,8 @@ pub trait BitsOwned: Copy + Eq + BitsMut {
     final fn with_bit_le(self, bit: u32) -> Self
         requires { IsTrue Self.indexable }
         ensures { members ⟦<LittleEndian as Endian>⟧.mirrored Self.width (Self.big result)
-            ≡ with_index (members ⟦<LittleEndian as Endian>⟧.mirrored Self.width (Self.big self)) bit }
+            ≡ with_index (members ⟦<LittleEndian as Endian>⟧.mirrored Self.width (Self.big self))
+            bit }
     {
         self.with_bit_in::<LittleEndian>(bit)
     }
@@ -155,7 +157,8 @@ pub trait BitsOwned: Copy + Eq + BitsMut {
     final fn without_bit_le(self, bit: u32) -> Self
         requires { IsTrue Self.indexable }
         ensures { members ⟦<LittleEndian as Endian>⟧.mirrored Self.width (Self.big result)
-            ≡ without_index (members ⟦<LittleEndian as Endian>⟧.mirrored Self.width (Self.big self)) bit }
+            ≡ without_index
+            (members ⟦<LittleEndian as Endian>⟧.mirrored Self.width (Self.big self)) bit }
     {
         self.without_bit_in::<LittleEndian>(bit)
     }
@@ -170,7 +173,8 @@ pub trait BitsOwned: Copy + Eq + BitsMut {
     final fn without_bit_be(self, bit: u32) -> Self
         requires { IsTrue Self.indexable }
         ensures { members ⟦<BigEndian as Endian>⟧.mirrored Self.width (Self.big result)
-            ≡ without_index (members ⟦<BigEndian as Endian>⟧.mirrored Self.width (Self.big self)) bit }
+            ≡ without_index
+            (members ⟦<BigEndian as Endian>⟧.mirrored Self.width (Self.big self)) bit }
     {
         self.without_bit_in::<BigEndian>(bit)
     }
@@ -184,7 +188,8 @@ pub trait BitsOwned: Copy + Eq + BitsMut {
     final fn union(self, other: Self) -> Self
         ensures { (mirrored : Bool) → members mirrored Self.width (Self.big result)
             ≡ union_of
-            (members mirrored Self.width (Self.big self)) (members mirrored Self.width (Self.big other)) }
+            (members mirrored Self.width (Self.big self))
+            (members mirrored Self.width (Self.big other)) }
     {
         let mut set = self;
         set.union_assign(&other);
@@ -200,7 +205,8 @@ pub trait BitsOwned: Copy + Eq + BitsMut {
     final fn conjunction(self, other: Self) -> Self
         ensures { (mirrored : Bool) → members mirrored Self.width (Self.big result)
             ≡ conjunction_of
-            (members mirrored Self.width (Self.big self)) (members mirrored Self.width (Self.big other)) }
+            (members mirrored Self.width (Self.big self))
+            (members mirrored Self.width (Self.big other)) }
     {
         let mut set = self;
         set.conjunction_assign(&other);
@@ -216,7 +222,8 @@ pub trait BitsOwned: Copy + Eq + BitsMut {
     final fn difference(self, other: Self) -> Self
         ensures { (mirrored : Bool) → members mirrored Self.width (Self.big result)
             ≡ difference_of
-            (members mirrored Self.width (Self.big self)) (members mirrored Self.width (Self.big other)) }
+            (members mirrored Self.width (Self.big self))
+            (members mirrored Self.width (Self.big other)) }
     {
         let mut set = self;
         set.difference_assign(&other);
@@ -232,7 +239,8 @@ pub trait BitsOwned: Copy + Eq + BitsMut {
     final fn symmetric_difference(self, other: Self) -> Self
         ensures { (mirrored : Bool) → members mirrored Self.width (Self.big result)
             ≡ symmetric_difference_of
-            (members mirrored Self.width (Self.big self)) (members mirrored Self.width (Self.big other)) }
+            (members mirrored Self.width (Self.big self))
+            (members mirrored Self.width (Self.big other)) }
     {
         let mut set = self;
         set.symmetric_difference_assign(&other);
@@ -268,7 +276,8 @@ pub trait BitsOwned: Copy + Eq + BitsMut {
     where
         Self: Sized,
         requires { Fits Self.indexable (Self.big self).capacity }
-        ensures left { result.left ≡ ascending (members Self.Order.mirrored Self.width (Self.big self)) }
+        ensures left { result.left
+            ≡ ascending (members Self.Order.mirrored Self.width (Self.big self)) }
         ensures fresh { IsFresh ((Self.big self).capacity / Self.width) result }
         ensures below { AreBelow (Self.big self).capacity result.left }
     {
@@ -286,7 +295,8 @@ pub trait BitsOwned: Copy + Eq + BitsMut {
     where
         Self: Sized,
         requires { Fits Self.indexable (Self.big self).capacity }
-        ensures left { result.left ≡ ascending (members ⟦<LittleEndian as Endian>⟧.mirrored Self.width (Self.big self)) }
+        ensures left { result.left
+            ≡ ascending (members ⟦<LittleEndian as Endian>⟧.mirrored Self.width (Self.big self)) }
         ensures fresh { IsFresh ((Self.big self).capacity / Self.width) result }
         ensures below { AreBelow (Self.big self).capacity result.left }
     {
@@ -304,7 +314,8 @@ pub trait BitsOwned: Copy + Eq + BitsMut {
     where
         Self: Sized,
         requires { Fits Self.indexable (Self.big self).capacity }
-        ensures left { result.left ≡ ascending (members ⟦<BigEndian as Endian>⟧.mirrored Self.width (Self.big self)) }
+        ensures left { result.left
+            ≡ ascending (members ⟦<BigEndian as Endian>⟧.mirrored Self.width (Self.big self)) }
         ensures fresh { IsFresh ((Self.big self).capacity / Self.width) result }
         ensures below { AreBelow (Self.big self).capacity result.left }
     {
@@ -323,7 +334,8 @@ pub trait BitsOwned: Copy + Eq + BitsMut {
     where
         Self: Sized,
         requires { Fits Self.indexable (Self.big self).capacity }
-        ensures left { result.left ≡ ascending (complement (members E.mirrored Self.width (Self.big self))) }
+        ensures left { result.left
+            ≡ ascending (complement (members E.mirrored Self.width (Self.big self))) }
         ensures fresh { IsFresh ((Self.big self).capacity / Self.width) result }
         ensures below { AreBelow (Self.big self).capacity result.left }
     {
@@ -341,7 +353,8 @@ pub trait BitsOwned: Copy + Eq + BitsMut {
     where
         Self: Sized,
         requires { Fits Self.indexable (Self.big self).capacity }
-        ensures left { result.left ≡ ascending (complement (members Self.Order.mirrored Self.width (Self.big self))) }
+        ensures left { result.left
+            ≡ ascending (complement (members Self.Order.mirrored Self.width (Self.big self))) }
         ensures fresh { IsFresh ((Self.big self).capacity / Self.width) result }
         ensures below { AreBelow (Self.big self).capacity result.left }
     {
@@ -359,7 +372,9 @@ pub trait BitsOwned: Copy + Eq + BitsMut {
     where
         Self: Sized,
         requires { Fits Self.indexable (Self.big self).capacity }
-        ensures left { result.left ≡ ascending (complement (members ⟦<LittleEndian as Endian>⟧.mirrored Self.width (Self.big self))) }
+        ensures left { result.left
+            ≡ ascending (complement
+            (members ⟦<LittleEndian as Endian>⟧.mirrored Self.width (Self.big self))) }
         ensures fresh { IsFresh ((Self.big self).capacity / Self.width) result }
         ensures below { AreBelow (Self.big self).capacity result.left }
     {
@@ -377,7 +392,9 @@ pub trait BitsOwned: Copy + Eq + BitsMut {
     where
         Self: Sized,
         requires { Fits Self.indexable (Self.big self).capacity }
-        ensures left { result.left ≡ ascending (complement (members ⟦<BigEndian as Endian>⟧.mirrored Self.width (Self.big self))) }
+        ensures left { result.left
+            ≡ ascending (complement
+            (members ⟦<BigEndian as Endian>⟧.mirrored Self.width (Self.big self))) }
         ensures fresh { IsFresh ((Self.big self).capacity / Self.width) result }
         ensures below { AreBelow (Self.big self).capacity result.left }
     {

@@ -63,7 +63,9 @@ pub trait Counted: DoubleEndedIterator<Item = u32> {
     // It can be stepped from either end at any time.
     ghost can_step: { (s : Self) → Self.can_next s × Self.can_next_back s };
 
-    ghost steps_front: { (before : Self) (r : Option ℕ) (after : Self) → Self.next_gives before r after → StepsFront (walk before) r (walk after) };
+    ghost steps_front: { (before : Self) (r : Option ℕ) (after : Self)
+        → Self.next_gives before r after → StepsFront (walk before) r (walk after) };
 
-    ghost steps_back: { (before : Self) (r : Option ℕ) (after : Self) → Self.next_back_gives before r after → StepsBack (walk before) r (walk after) };
+    ghost steps_back: { (before : Self) (r : Option ℕ) (after : Self)
+        → Self.next_back_gives before r after → StepsBack (walk before) r (walk after) };
 }

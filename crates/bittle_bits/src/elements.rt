@@ -34,7 +34,8 @@ pub fn bits_capacity<T: BitsOwned>(len: usize) -> u32
 #[inline]
 fn place_of<T: BitsOwned>(len: usize, index: u32) -> Option<(usize, u32)>
     requires { IsTrue T.indexable }
-    ensures { MatchOption result (len * T.type_capacity ≡ 0) (λ at. GoesTo len T.type_capacity index at.0 at.1) }
+    ensures { MatchOption result (len * T.type_capacity
+        ≡ 0) (λ at. GoesTo len T.type_capacity index at.0 at.1) }
 {
     let each = T::bits();
     if each == 0 || len == 0 {
@@ -48,7 +49,8 @@ fn place_of<T: BitsOwned>(len: usize, index: u32) -> Option<(usize, u32)>
 pub fn test_bit<T: BitsOwned, E: Endian>(elements: &[T], index: u32) -> bool
     requires { IsTrue T.indexable }
     ensures { result ≡ contains
-        (members E.mirrored T.width (elements_set (length elements.now) T.type_capacity T.big elements.now)) index }
+        (members E.mirrored T.width
+        (elements_set (length elements.now) T.type_capacity T.big elements.now)) index }
 {
     match place_of::<T>(elements.len(), index) {
         Some((element, at)) => elements[element].test_bit_in::<E>(at),
@@ -59,9 +61,11 @@ pub fn test_bit<T: BitsOwned, E: Endian>(elements: &[T], index: u32) -> bool
 #[inline]
 pub fn set_bit<T: BitsOwned, E: Endian>(elements: &mut [T], index: u32)
     requires { IsTrue T.indexable }
-    ensures { members E.mirrored T.width (elements_set (length elements.new) T.type_capacity T.big elements.new)
+    ensures { members E.mirrored T.width
+        (elements_set (length elements.new) T.type_capacity T.big elements.new)
         ≡ with_index
-        (members E.mirrored T.width (elements_set (length elements.old) T.type_capacity T.big elements.old)) index }
+        (members E.mirrored T.width
+        (elements_set (length elements.old) T.type_capacity T.big elements.old)) index }
 {
     if let Some((element, at)) = place_of::<T>(elements.len(), index) {
         elements[element].set_bit_in::<E>(at);
@@ -71,9 +75,11 @@ pub fn set_bit<T: BitsOwned, E: Endian>(elements: &mut [T], index: u32)
 #[inline]
 pub fn clear_bit<T: BitsOwned, E: Endian>(elements: &mut [T], index: u32)
     requires { IsTrue T.indexable }
-    ensures { members E.mirrored T.width (elements_set (length elements.new) T.type_capacity T.big elements.new)
+    ensures { members E.mirrored T.width
+        (elements_set (length elements.new) T.type_capacity T.big elements.new)
         ≡ without_index
-        (members E.mirrored T.width (elements_set (length elements.old) T.type_capacity T.big elements.old)) index }
+        (members E.mirrored T.width
+        (elements_set (length elements.old) T.type_capacity T.big elements.old)) index }
 {
     if let Some((element, at)) = place_of::<T>(elements.len(), index) {
         elements[element].clear_bit_in::<E>(at);
@@ -91,10 +97,14 @@ pub fn clear_bits<T: BitsOwned>(elements: &mut [T])
 
 /// The operation on the elements of the common beginning.
 pub fn combine<T: BitsOwned, O: Operation>(elements: &mut [T], others: &[T])
-    ensures { (mirrored : Bool) → members mirrored T.width (elements_set (length elements.new) T.type_capacity T.big elements.new)
+    ensures { (mirrored : Bool)
+        → members mirrored T.width
+        (elements_set (length elements.new) T.type_capacity T.big elements.new)
         ≡ combined O.decide
-        (members mirrored T.width (elements_set (length elements.old) T.type_capacity T.big elements.old))
-        (members mirrored T.width (elements_set (length others.now) T.type_capacity T.big others.now)) }
+        (members mirrored T.width
+        (elements_set (length elements.old) T.type_capacity T.big elements.old))
+        (members mirrored T.width
+        (elements_set (length others.now) T.type_capacity T.big others.now)) }
 {
     let common = elements.len().min(others.len());
     for at in 0..common {
@@ -153,7 +163,8 @@ pub fn leaf_word<T: BitsOwned>(elements: &[T], k: u32) -> T::LeafWord
     requires fits { Fits T.indexable (length elements.now * T.type_capacity) }
     requires within { k * T.width < length elements.now * T.type_capacity }
     ensures { digit_set T.width (T.LeafWord.digits result)
-        ≡ word_of T.width (elements_set (length elements.now) T.type_capacity T.big elements.now) k }
+        ≡ word_of T.width
+        (elements_set (length elements.now) T.type_capacity T.big elements.now) k }
 {
     let each = T::bits() / <T::LeafWord as Number>::width();
     elements[(k / each) as usize].leaf_word(k % each)

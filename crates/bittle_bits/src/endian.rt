@@ -31,7 +31,8 @@ pub trait Endian: Drop + Sealed {
     #[doc(hidden)]
     fn from_index<T: Number>(index: u32) -> T
         requires { index < T.width }
-        ensures { members mirrored T.width (digit_set T.width (T.digits result)) ≡ filled_from T.width index };
+        ensures { members mirrored T.width (digit_set T.width (T.digits result))
+            ≡ filled_from T.width index };
 
     /// Returns the least index of a set bit, or the width if there is none.
     ///
@@ -40,7 +41,8 @@ pub trait Endian: Drop + Sealed {
     /// ```
     #[doc(hidden)]
     fn zeros<T: Number>(value: T) -> u32
-        ensures { IsLeastMember (members mirrored T.width (digit_set T.width (T.digits value))) result };
+        ensures { IsLeastMember
+            (members mirrored T.width (digit_set T.width (T.digits value))) result };
 
     /// Returns the least index of an unset bit, or the width if there is none.
     ///
@@ -60,7 +62,8 @@ pub trait Endian: Drop + Sealed {
     /// ```
     #[doc(hidden)]
     fn zeros_rev<T: Number>(value: T) -> u32
-        ensures { IsGreatestMember (members mirrored T.width (digit_set T.width (T.digits value))) result };
+        ensures { IsGreatestMember
+            (members mirrored T.width (digit_set T.width (T.digits value))) result };
 
     /// Returns how far the greatest unset bit lies below the last index, or the width if every bit
     /// is set.

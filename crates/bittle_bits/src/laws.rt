@@ -1,4 +1,5 @@
-//! What holds of the two orders and of every set: each function makes no calls, and its contract is the law.
+//! What holds of the two orders and of every set: each function makes no calls, and its contract is
+//! the law.
 
 ghost use Rattle.bittle_bits.specs.OrderLaws.{PlacesAreInTheWord, PlacesAreApart, PlacesMirror, MembersMirror, MirroringTwiceIsNothing, MirroringStaysBelow, MirroringReachesAll, TestingWraps};
 ghost use Rattle.bittle_bits.specs.Orders.{members};
@@ -14,8 +15,10 @@ pub fn each_index_has_its_place<E: Endian>()
 
 /// The two orders mirror each other within each word.
 pub fn orders_mirror_each_other()
-    ensures little { PlacesMirror ⟦<LittleEndian as Endian>⟧.mirrored ⟦<BigEndian as Endian>⟧.mirrored }
-    ensures big { PlacesMirror ⟦<BigEndian as Endian>⟧.mirrored ⟦<LittleEndian as Endian>⟧.mirrored }
+    ensures little { PlacesMirror ⟦<LittleEndian as Endian>⟧.mirrored
+        ⟦<BigEndian as Endian>⟧.mirrored }
+    ensures big { PlacesMirror ⟦<BigEndian as Endian>⟧.mirrored
+        ⟦<LittleEndian as Endian>⟧.mirrored }
 {}
 
 /// Mirroring maps the indexes below a capacity of whole words onto themselves, and undoes itself.

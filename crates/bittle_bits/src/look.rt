@@ -1,5 +1,5 @@
-//! The looks and the fetches of walks: a walk reads its set through copies of words alone, and each fetch of a word and each
-//! search of a copy is counted.
+//! The looks and the fetches of walks: a walk reads its set through copies of words alone, and each
+//! fetch of a word and each search of a copy is counted.
 
 ghost use Rattle.std.specs.Prelude.{◌≡◌, ◌+◌, ◌*◌, ◌/◌, ◌<◌, Some, None};
 ghost use Rattle.bittle_bits.specs.Copies.{between, copied, held, items_of, IsInReach, TakesFirst, TakesLast};
@@ -23,7 +23,8 @@ struct Copied<W: Copy> {
     base: u32,
 }
 
-/// A set that a walk borrows: its words can be counted and fetched, and nothing else can be asked of it.
+/// A set that a walk borrows: its words can be counted and fetched, and nothing else can be asked
+/// of it.
 #[derive(Drop)]
 pub struct Source<'a, B: Bits> {
     set: &'a B,
@@ -98,7 +99,8 @@ fn fetch<B: Bits, E: Endian, K: Kind>(
     requires fits { Fits B.indexable (B.big source.now.set.now).capacity }
     requires within { k * B.width < (B.big source.now.set.now).capacity }
     ensures items { items_of E.mirrored B.LeafWord.width (B.LeafWord.digits result.word) result.base
-        ≡ between (wanted K.ONES (members E.mirrored B.width (B.big source.now.set.now))) (k * B.width) (k * B.width + B.width) }
+        ≡ between (wanted K.ONES (members E.mirrored B.width (B.big source.now.set.now)))
+        (k * B.width) (k * B.width + B.width) }
     ensures reach { result.base + B.LeafWord.width < 4294967296 }
     ensures fetches { fetches.new ≡ fetches.old + 1 }
 {
@@ -113,7 +115,8 @@ fn fetch<B: Bits, E: Endian, K: Kind>(
 #[inline]
 fn take_first<W: Number, E: Endian>(copy: &mut Option<Copied<W>>, looks: &mut Count) -> Option<u32>
     requires { IsInReach W.width copy.old }
-    ensures found { TakesFirst (copied E.mirrored W.width W.digits copy.old) result (copied E.mirrored W.width W.digits copy.new) }
+    ensures found { TakesFirst (copied E.mirrored W.width W.digits copy.old) result
+        (copied E.mirrored W.width W.digits copy.new) }
     ensures looks { looks.new ≡ looks.old + held (copied E.mirrored W.width W.digits copy.old) }
     ensures reach { IsInReach W.width copy.new }
 {
@@ -133,7 +136,8 @@ fn take_first<W: Number, E: Endian>(copy: &mut Option<Copied<W>>, looks: &mut Co
 #[inline]
 fn take_last<W: Number, E: Endian>(copy: &mut Option<Copied<W>>, looks: &mut Count) -> Option<u32>
     requires { IsInReach W.width copy.old }
-    ensures found { TakesLast (copied E.mirrored W.width W.digits copy.old) result (copied E.mirrored W.width W.digits copy.new) }
+    ensures found { TakesLast (copied E.mirrored W.width W.digits copy.old) result
+        (copied E.mirrored W.width W.digits copy.new) }
     ensures looks { looks.new ≡ looks.old + held (copied E.mirrored W.width W.digits copy.old) }
     ensures reach { IsInReach W.width copy.new }
 {
@@ -151,8 +155,8 @@ fn take_last<W: Number, E: Endian>(copy: &mut Option<Copied<W>>, looks: &mut Cou
 
 /// The two words that a walk has copied: for a walk of zeros, with each bit flipped.
 ///
-/// Each fetch of a word is counted, and is no look. Each call that searches a copy is one look, and gives an item or retires
-/// the copy.
+/// Each fetch of a word is counted, and is no look. Each call that searches a copy is one look, and
+/// gives an item or retires the copy.
 #[derive(Drop)]
 pub struct Copies<W: Number, E: Endian> {
     head: Option<Copied<W>>,
@@ -167,7 +171,12 @@ impl<W: Number, E: Endian> Model for Copies<W, E> {
 
     ghost Value = { Held };
 
-    ghost view = { λ c. record { head = copied E.mirrored W.width W.digits c.head; tail = copied E.mirrored W.width W.digits c.tail; looks = c.looks; fetches = c.fetches } };
+    ghost view = { λ c. record {
+      head = copied E.mirrored W.width W.digits c.head;
+      tail = copied E.mirrored W.width W.digits c.tail;
+      looks = c.looks;
+      fetches = c.fetches;
+    } };
 
     ghost invariant = { λ c. IsInReach W.width c.head × IsInReach W.width c.tail };
 }
@@ -190,7 +199,8 @@ impl<W: Number, E: Endian> Copies<W, E> {
     /// Returns the same copies, with no looks and no fetches yet.
     #[inline]
     pub fn again(&self) -> Copies<W, E>
-        ensures { result ≡ record { head = self.now.head; tail = self.now.tail; looks = 0; fetches = 0 } }
+        ensures { result
+            ≡ record { head = self.now.head; tail = self.now.tail; looks = 0; fetches = 0 } }
     {
         Copies {
             head: self.head,
@@ -215,7 +225,8 @@ impl<W: Number, E: Endian> Copies<W, E> {
         requires fits { Fits B.indexable (B.big source.now.set.now).capacity }
         requires within { k * B.width < (B.big source.now.set.now).capacity }
         ensures { self.new ≡ record {
-          head = Some (between (wanted K.ONES (members E.mirrored B.width (B.big source.now.set.now)))
+          head = Some (between
+              (wanted K.ONES (members E.mirrored B.width (B.big source.now.set.now)))
               (k * B.width) (k * B.width + B.width));
           tail = self.old.tail;
           looks = self.old.looks;
@@ -232,7 +243,8 @@ impl<W: Number, E: Endian> Copies<W, E> {
         requires within { k * B.width < (B.big source.now.set.now).capacity }
         ensures { self.new ≡ record {
           head = self.old.head;
-          tail = Some (between (wanted K.ONES (members E.mirrored B.width (B.big source.now.set.now)))
+          tail = Some (between
+              (wanted K.ONES (members E.mirrored B.width (B.big source.now.set.now)))
               (k * B.width) (k * B.width + B.width));
           looks = self.old.looks;
           fetches = self.old.fetches + 1;

@@ -17,7 +17,8 @@ pub fn first_in<B: Bits, E: Endian, K: Kind>(bits: &B, from: u32, to: u32) -> Op
     requires fits { Fits B.indexable (B.big bits.now).capacity }
     requires ordered { from ≤ to }
     requires within { to ≤ (B.big bits.now).capacity }
-    ensures { IsFirstIn (wanted K.ONES (members E.mirrored B.width (B.big bits.now))) from to result }
+    ensures { IsFirstIn
+        (wanted K.ONES (members E.mirrored B.width (B.big bits.now))) from to result }
 {
     if from == to {
         return None;
@@ -46,7 +47,8 @@ pub fn last_in<B: Bits, E: Endian, K: Kind>(bits: &B, from: u32, to: u32) -> Opt
     requires fits { Fits B.indexable (B.big bits.now).capacity }
     requires ordered { from ≤ to }
     requires within { to ≤ (B.big bits.now).capacity }
-    ensures { IsLastIn (wanted K.ONES (members E.mirrored B.width (B.big bits.now))) from to result }
+    ensures { IsLastIn
+        (wanted K.ONES (members E.mirrored B.width (B.big bits.now))) from to result }
 {
     if from == to {
         return None;

@@ -1,6 +1,7 @@
 //! The laws of the operations on two sets.
 //!
-//! They hold of all plain sets of one capacity, so by the contracts of the calls they hold of the values of an owned type.
+//! They hold of all plain sets of one capacity, so by the contracts of the calls they hold of the
+//! values of an owned type.
 
 ghost use Rattle.bittle_bits.specs.SetAlgebra.{Commutes, Associates, IsIdempotent, DistributesOver, UndoesItself};
 ghost use Rattle.bittle_bits.specs.SetOperations.{union_of, conjunction_of, symmetric_difference_of};

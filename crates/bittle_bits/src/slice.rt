@@ -32,7 +32,8 @@ impl<'a, T: BitsOwned> Bits for &'a [T] {
 
     ghost whole_words = { λ v. words_of (length v.now) _ _ T.type_whole_words };
 
-    ghost none_past = { λ v i h. elements_has-past (length v.now) T.type_capacity (λ x. (T.big x).has) v.now i h };
+    ghost none_past = { λ v i h. elements_has-past (length v.now) T.type_capacity
+        (λ x. (T.big x).has) v.now i h };
 
     #[inline]
     fn bits_capacity(&self) -> u32 {
@@ -84,7 +85,8 @@ impl<'a, T: BitsOwned> Bits for &'a mut [T] {
 
     ghost whole_words = { λ v. words_of (length v.now) _ _ T.type_whole_words };
 
-    ghost none_past = { λ v i h. elements_has-past (length v.now) T.type_capacity (λ x. (T.big x).has) v.now i h };
+    ghost none_past = { λ v i h. elements_has-past (length v.now) T.type_capacity
+        (λ x. (T.big x).has) v.now i h };
 
     #[inline]
     fn bits_capacity(&self) -> u32 {

@@ -1,4 +1,5 @@
-//! Where a walk stands, and its steps: one core for the walks of ones and of zeros, borrowed and owned.
+//! Where a walk stands, and its steps: one core for the walks of ones and of zeros, borrowed and
+//! owned.
 
 ghost use Rattle.std.specs.Prelude.{◌≡◌, ℕ, ◌/◌};
 ghost use Rattle.bittle_bits.specs.Orders.{members};
@@ -22,16 +23,20 @@ pub struct Standing<B: Bits, E: Endian> {
     pub items: Count,
 }
 
-/// Where a walk begins: the first word is copied to the head, and the last to the tail where there are two or more.
+/// Where a walk begins: the first word is copied to the head, and the last to the tail where there
+/// are two or more.
 #[inline]
 pub fn begin<B: Bits, E: Endian, K: Kind>(source: &Source<'_, B>) -> Standing<B, E>
     requires { Fits B.indexable (B.big source.now.set.now).capacity }
-    ensures left { left_in (wanted K.ONES (members E.mirrored B.width (B.big source.now.set.now))) B.width result
+    ensures left { left_in
+        (wanted K.ONES (members E.mirrored B.width (B.big source.now.set.now))) B.width result
         ≡ ascending (wanted K.ONES (members E.mirrored B.width (B.big source.now.set.now))) }
-    ensures fresh { IsFresh ((B.big source.now.set.now).capacity / B.width) (walk_of (wanted K.ONES (members E.mirrored B.width (B.big source.now.set.now)))
+    ensures fresh { IsFresh ((B.big source.now.set.now).capacity / B.width)
+        (walk_of (wanted K.ONES (members E.mirrored B.width (B.big source.now.set.now)))
         ((B.big source.now.set.now).capacity / B.width) B.width result) }
     ensures below { AreBelow (B.big source.now.set.now).capacity
-        (left_in (wanted K.ONES (members E.mirrored B.width (B.big source.now.set.now))) B.width result) }
+        (left_in (wanted K.ONES (members E.mirrored B.width (B.big source.now.set.now))) B.width
+        result) }
     ensures retires { Retires ((B.big source.now.set.now).capacity / B.width) result }
 {
     let mut at = Standing {
@@ -58,7 +63,18 @@ pub fn begin<B: Bits, E: Endian, K: Kind>(source: &Source<'_, B>) -> Standing<B,
 pub fn again<B: Bits, E: Endian>(at: &Standing<B, E>) -> Standing<B, E>
     ensures resumes { (s : PlainSet) (words w : ℕ) → Retires words at.now
         → ResumesAs (walk_of s words w at.now) (walk_of s words w result) }
-    ensures same { result ≡ record { copies = record { head = at.now.copies.head; tail = at.now.copies.tail; looks = 0; fetches = 0 }; low = at.now.low; high = at.now.high; items = 0 } }
+    ensures same { result
+        ≡ record {
+          copies = record {
+            head = at.now.copies.head;
+            tail = at.now.copies.tail;
+            looks = 0;
+            fetches = 0;
+          };
+          low = at.now.low;
+          high = at.now.high;
+          items = 0;
+        } }
 {
     Standing {
         copies: at.copies.again(),
@@ -76,8 +92,10 @@ pub fn step_front<B: Bits, E: Endian, K: Kind>(
 ) -> Option<u32>
     requires fits { Fits B.indexable (B.big source.now.set.now).capacity }
     requires retires { Retires ((B.big source.now.set.now).capacity / B.width) at.old }
-    ensures steps { StepsFront (walk_of (wanted K.ONES (members E.mirrored B.width (B.big source.now.set.now)))
-        ((B.big source.now.set.now).capacity / B.width) B.width at.old) result (walk_of (wanted K.ONES (members E.mirrored B.width (B.big source.now.set.now)))
+    ensures steps { StepsFront
+        (walk_of (wanted K.ONES (members E.mirrored B.width (B.big source.now.set.now)))
+        ((B.big source.now.set.now).capacity / B.width) B.width at.old) result
+        (walk_of (wanted K.ONES (members E.mirrored B.width (B.big source.now.set.now)))
         ((B.big source.now.set.now).capacity / B.width) B.width at.new) }
     ensures retires { Retires ((B.big source.now.set.now).capacity / B.width) at.new }
 {
@@ -107,8 +125,10 @@ pub fn step_back<B: Bits, E: Endian, K: Kind>(
 ) -> Option<u32>
     requires fits { Fits B.indexable (B.big source.now.set.now).capacity }
     requires retires { Retires ((B.big source.now.set.now).capacity / B.width) at.old }
-    ensures steps { StepsBack (walk_of (wanted K.ONES (members E.mirrored B.width (B.big source.now.set.now)))
-        ((B.big source.now.set.now).capacity / B.width) B.width at.old) result (walk_of (wanted K.ONES (members E.mirrored B.width (B.big source.now.set.now)))
+    ensures steps { StepsBack
+        (walk_of (wanted K.ONES (members E.mirrored B.width (B.big source.now.set.now)))
+        ((B.big source.now.set.now).capacity / B.width) B.width at.old) result
+        (walk_of (wanted K.ONES (members E.mirrored B.width (B.big source.now.set.now)))
         ((B.big source.now.set.now).capacity / B.width) B.width at.new) }
     ensures retires { Retires ((B.big source.now.set.now).capacity / B.width) at.new }
 {

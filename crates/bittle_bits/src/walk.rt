@@ -31,14 +31,14 @@ pub type IterZeros<'a, B, E> = Iter<'a, B, E, Zeros>;
 /// Yields the indexes of the set bits of a set that it owns, increasing, in the order `E`.
 pub type IntoIterOnes<B, E> = IntoIter<B, E, Ones>;
 
-/// Yields the indexes of the unset bits below the capacity of a set that it owns, increasing, in the
-/// order `E`.
+/// Yields the indexes of the unset bits below the capacity of a set that it owns, increasing, in
+/// the order `E`.
 pub type IntoIterZeros<B, E> = IntoIter<B, E, Zeros>;
 
 /// Iterates over a set that it borrows, for the bits that `K` names.
 ///
-/// Each step yields the first or the last item that is left. After its end it returns `None` on both
-/// sides. A clone goes on from where its source is.
+/// Each step yields the first or the last item that is left. After its end it returns `None` on
+/// both sides. A clone goes on from where its source is.
 #[derive(Drop)]
 pub struct Iter<'a, B: Bits, E: Endian, K: Kind> {
     source: Source<'a, B>,
@@ -56,10 +56,12 @@ impl<'a, B: Bits, E: Endian, K: Kind> Model for Iter<'a, B, E, K> {
     ghost use Rattle.bittle_bits.specs.Shapes.{Fits};
     ghost use Rattle.bittle_bits.specs.Standing.{walk_of, Retires};
 
-    ghost view = { λ w. walk_of (wanted K.ONES (members E.mirrored B.width (B.big w.source.set.now)))
+    ghost view = { λ w. walk_of
+        (wanted K.ONES (members E.mirrored B.width (B.big w.source.set.now)))
         ((B.big w.source.set.now).capacity / B.width) B.width w.at };
 
-    ghost invariant = { λ w. Fits B.indexable (B.big w.source.set.now).capacity × Retires ((B.big w.source.set.now).capacity / B.width) w.at };
+    ghost invariant = { λ w. Fits B.indexable (B.big w.source.set.now).capacity
+        × Retires ((B.big w.source.set.now).capacity / B.width) w.at };
 }
 
 impl<'a, B: Bits, E: Endian, K: Kind> Iter<'a, B, E, K> {
@@ -143,8 +145,8 @@ impl<'a, B: Bits, E: Endian, K: Kind> Counted for Iter<'a, B, E, K> {
 
 /// Iterates over a set that it owns, for the bits that `K` names.
 ///
-/// Each step yields the first or the last item that is left. After its end it returns `None` on both
-/// sides. A clone goes on from where its source is.
+/// Each step yields the first or the last item that is left. After its end it returns `None` on
+/// both sides. A clone goes on from where its source is.
 #[derive(Drop)]
 pub struct IntoIter<B: BitsOwned, E: Endian, K: Kind> {
     source: OwnedSource<B>,
@@ -165,7 +167,8 @@ impl<B: BitsOwned, E: Endian, K: Kind> Model for IntoIter<B, E, K> {
     ghost view = { λ w. walk_of (wanted K.ONES (members E.mirrored B.width (B.big w.source.set)))
         ((B.big w.source.set).capacity / B.width) B.width w.at };
 
-    ghost invariant = { λ w. Fits B.indexable (B.big w.source.set).capacity × Retires ((B.big w.source.set).capacity / B.width) w.at };
+    ghost invariant = { λ w. Fits B.indexable (B.big w.source.set).capacity
+        × Retires ((B.big w.source.set).capacity / B.width) w.at };
 }
 
 impl<B: BitsOwned, E: Endian, K: Kind> IntoIter<B, E, K> {

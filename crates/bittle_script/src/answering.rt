@@ -40,7 +40,8 @@ impl Outcome {
 pub fn answer<W: Write>(text: &[u8], output: &mut Output<'_, W>) -> Result<Outcome, WriteFailed>
     requires { length text.now ≤ MOST_BYTES }
     ensures same_writer { output.new.writer.ghost_name ≡ output.old.writer.ghost_name }
-    ensures answers { IsGiven (W.contents output.old.writer.now) (W.contents output.new.writer.now) result
+    ensures answers { IsGiven (W.contents output.old.writer.now)
+        (W.contents output.new.writer.now) result
         (answers_to text.now) }
 {
     let mut lines = Lines::new(text);
@@ -65,7 +66,8 @@ fn answer_in_order<W: Write>(
     output: &mut Output<'_, W>,
 ) -> Result<Outcome, WriteFailed>
     ensures same_writer { output.new.writer.ghost_name ≡ output.old.writer.ghost_name }
-    ensures answers { IsGiven (W.contents output.old.writer.now) (W.contents output.new.writer.now) result
+    ensures answers { IsGiven (W.contents output.old.writer.now)
+        (W.contents output.new.writer.now) result
         (answers (empty (capacity_of header.shape)) (lines_left lines.entry)) }
 {
     match header.order {
@@ -81,7 +83,8 @@ fn answer_shape<E: Endian, W: Write>(
     output: &mut Output<'_, W>,
 ) -> Result<Outcome, WriteFailed>
     ensures same_writer { output.new.writer.ghost_name ≡ output.old.writer.ghost_name }
-    ensures answers { IsGiven (W.contents output.old.writer.now) (W.contents output.new.writer.now) result
+    ensures answers { IsGiven (W.contents output.old.writer.now)
+        (W.contents output.new.writer.now) result
         (answers (empty (capacity_of shape)) (lines_left lines.entry)) }
 {
     match shape {
@@ -100,7 +103,8 @@ fn answer_lines<B: BitsOwned, E: Endian, W: Write>(
 ) -> Result<Outcome, WriteFailed>
     requires { IsTrue B.indexable }
     ensures same_writer { output.new.writer.ghost_name ≡ output.old.writer.ghost_name }
-    ensures answers { IsGiven (W.contents output.old.writer.now) (W.contents output.new.writer.now) result
+    ensures answers { IsGiven (W.contents output.old.writer.now)
+        (W.contents output.new.writer.now) result
         (answers (empty B.type_capacity) (lines_left lines.entry)) }
 {
     let mut bits = empty_value::<B>();
@@ -134,7 +138,8 @@ fn obey<B: BitsOwned, E: Endian, W: Write>(
     ensures same_writer { output.new.writer.ghost_name ≡ output.old.writer.ghost_name }
     ensures set { members E.mirrored B.width (B.big bits.new)
         ≡ after_command (members E.mirrored B.width (B.big bits.old)) command }
-    ensures prints { Writes (W.contents output.old.writer.now) (W.contents output.new.writer.now) result
+    ensures prints { Writes (W.contents output.old.writer.now)
+        (W.contents output.new.writer.now) result
         (printed (members E.mirrored B.width (B.big bits.old)) command) }
 {
     let call = match command {
@@ -162,7 +167,8 @@ fn ask<B: BitsOwned, E: Endian>(bits: &mut B, call: Call) -> Reply
 /// Prints a reply on a line, if it says anything.
 fn print<W: Write>(reply: Reply, output: &mut Output<'_, W>) -> Result<(), WriteFailed>
     ensures same_writer { output.new.writer.ghost_name ≡ output.old.writer.ghost_name }
-    ensures prints { Writes (W.contents output.old.writer.now) (W.contents output.new.writer.now) result
+    ensures prints { Writes (W.contents output.old.writer.now)
+        (W.contents output.new.writer.now) result
         (text_of reply) }
 {
     match reply {
@@ -182,7 +188,8 @@ fn print_members<B: BitsOwned, E: Endian, W: Write>(
     output: &mut Output<'_, W>,
 ) -> Result<(), WriteFailed>
     ensures same_writer { output.new.writer.ghost_name ≡ output.old.writer.ghost_name }
-    ensures prints { Writes (W.contents output.old.writer.now) (W.contents output.new.writer.now) result
+    ensures prints { Writes (W.contents output.old.writer.now)
+        (W.contents output.new.writer.now) result
         (line_of_members (members E.mirrored B.width (B.big set.now.bits))) }
 {
     let mut space: &[u8] = b"";
@@ -196,7 +203,8 @@ fn print_members<B: BitsOwned, E: Endian, W: Write>(
 /// Says that the line with this number is not understood.
 fn refuse<W: Write>(number: u32, output: &mut Output<'_, W>) -> Result<Outcome, WriteFailed>
     ensures same_writer { output.new.writer.ghost_name ≡ output.old.writer.ghost_name }
-    ensures refused { IsGiven (W.contents output.old.writer.now) (W.contents output.new.writer.now) result
+    ensures refused { IsGiven (W.contents output.old.writer.now)
+        (W.contents output.new.writer.now) result
         (refused_at number) }
 {
     output.put(b"line ")?;

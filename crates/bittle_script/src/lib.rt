@@ -23,11 +23,12 @@ use writing::{Output, WriteFailed};
 /// The status of a run whose output failed.
 const OUTPUT_FAILED: u8 = 1;
 
-/// Reads a script, writes the answers to it, and answers the status that the program ends with: 0, or 2 where the input
-/// is refused, or 1 where the output failed.
+/// Reads a script, writes the answers to it, and answers the status that the program ends with: 0,
+/// or 2 where the input is refused, or 1 where the output failed.
 pub fn run<R: Read, W: Write>(input: &mut R, output: &mut W) -> u8
     ensures status { result ≤ 2 }
-    ensures answered { IsRun (R.remaining input.old) (W.contents output.old) (W.contents output.new) result }
+    ensures answered { IsRun (R.remaining input.old) (W.contents output.old)
+        (W.contents output.new) result }
 {
     let mut output = Output::new(output);
     match answer_and_flush(input, &mut output) {

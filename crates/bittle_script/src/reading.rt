@@ -40,8 +40,10 @@ impl Refusal {
 /// Reads all there is to the start of `bytes`, and answers how many bytes there are.
 pub fn read_all<R: Read>(input: &mut R, bytes: &mut [u8; ROOM]) -> Result<usize, Refusal>
     ensures fits { IfOk result (λ len. len ≤ MOST_BYTES) }
-    ensures all { IfOk result (λ len. IfSome (R.remaining input.old) (λ text. take len bytes.new ≡ text)) }
-    ensures longer { result ≡ Err Refusal.TooLong → IfSome (R.remaining input.old) (λ text. MOST_BYTES < length text) }
+    ensures all { IfOk result
+        (λ len. IfSome (R.remaining input.old) (λ text. take len bytes.new ≡ text)) }
+    ensures longer { result ≡ Err Refusal.TooLong
+        → IfSome (R.remaining input.old) (λ text. MOST_BYTES < length text) }
 {
     let mut filled = 0;
     for _ in 0..MOST_READS {

@@ -41,7 +41,8 @@ impl<'a, W: Write> Output<'a, W> {
     /// The count of interrupted writes never falls.
     pub fn put(&mut self, bytes: &[u8]) -> Result<(), WriteFailed>
         ensures same_writer { self.new.writer.ghost_name ≡ self.old.writer.ghost_name }
-        ensures bytes { Writes (W.contents self.old.writer.now) (W.contents self.new.writer.now) result bytes.now }
+        ensures bytes { Writes (W.contents self.old.writer.now)
+            (W.contents self.new.writer.now) result bytes.now }
         ensures interrupted { self.old.interrupted ≤ self.new.interrupted }
     {
         let mut rest = bytes;
@@ -63,7 +64,8 @@ impl<'a, W: Write> Output<'a, W> {
     /// Writes a number in digits, or fails after some of them.
     pub fn put_number(&mut self, number: u32) -> Result<(), WriteFailed>
         ensures same_writer { self.new.writer.ghost_name ≡ self.old.writer.ghost_name }
-        ensures digits { Writes (W.contents self.old.writer.now) (W.contents self.new.writer.now) result
+        ensures digits { Writes (W.contents self.old.writer.now)
+            (W.contents self.new.writer.now) result
             (decimal number) }
         ensures interrupted { self.old.interrupted ≤ self.new.interrupted }
     {
@@ -76,7 +78,8 @@ impl<'a, W: Write> Output<'a, W> {
     /// Writes `before`, and then a number in digits.
     pub fn put_after(&mut self, before: &[u8], number: u32) -> Result<(), WriteFailed>
         ensures same_writer { self.new.writer.ghost_name ≡ self.old.writer.ghost_name }
-        ensures both { Writes (W.contents self.old.writer.now) (W.contents self.new.writer.now) result
+        ensures both { Writes (W.contents self.old.writer.now)
+            (W.contents self.new.writer.now) result
             (before.now ++ decimal number) }
         ensures interrupted { self.old.interrupted ≤ self.new.interrupted }
     {

@@ -27,8 +27,13 @@ fn each_member<B: Bits, E: Endian>(bits: &B) -> u64
 
 /// A `for` over the other numbers of an array.
 fn each_other(bits: &[[u8; 2]; 2]) -> u32
-    requires { length (ascending (complement (members false 8 (elements_set 2 16 (elements_set 2 8 (digit_set 8)) bits.now)))) < 100 }
-    ensures { result ≡ length (ascending (complement (members false 8 (elements_set 2 16 (elements_set 2 8 (digit_set 8)) bits.now)))) }
+    requires { length
+        (ascending (complement
+        (members false 8 (elements_set 2 16 (elements_set 2 8 (digit_set 8)) bits.now)))) < 100 }
+    ensures { result
+        ≡ length (ascending
+        (complement (members false 8
+        (elements_set 2 16 (elements_set 2 8 (digit_set 8)) bits.now)))) }
 {
     let mut total = 0;
     for _index in bits.iter_zeros() {
@@ -75,21 +80,24 @@ fn counted<B: BitsOwned, E: Endian>(bits: B) -> usize
 /// The members of a set in an order, from the last on.
 fn reversed<B: Bits, E: Endian>(alloc: Global, bits: &B) -> Result<Vec<u32>, AllocError>
     requires { Fits B.indexable (B.big bits.now).capacity }
-    ensures { IfOk result (λ v. v.items ≡ reverse (ascending (members E.mirrored B.width (B.big bits.now)))) }
+    ensures { IfOk result (λ v. v.items
+        ≡ reverse (ascending (members E.mirrored B.width (B.big bits.now)))) }
 {
     bits.iter_ones_in::<E>().rev().collect(alloc)
 }
 
 /// The members of a word, from the last on.
 fn word_reversed(alloc: Global, word: i16) -> Result<Vec<u32>, AllocError>
-    ensures { IfOk result (λ v. v.items ≡ reverse (ascending (members false 16 (digit_set 16 (cast_unsigned w16 word))))) }
+    ensures { IfOk result (λ v. v.items
+        ≡ reverse (ascending (members false 16 (digit_set 16 (cast_unsigned w16 word))))) }
 {
     word.into_iter_ones_be().rev().collect(alloc)
 }
 
 /// Half of each number that a word lacks.
 fn halves(alloc: Global, word: u8) -> Result<Vec<u32>, AllocError>
-    ensures { IfOk result (λ v. v.items ≡ map (λ i. i / 2) (ascending (complement (members true 8 (digit_set 8 word))))) }
+    ensures { IfOk result (λ v. v.items
+        ≡ map (λ i. i / 2) (ascending (complement (members true 8 (digit_set 8 word))))) }
 {
     word.into_iter_zeros_le()
         .map(|index| index / 2)
@@ -99,7 +107,8 @@ fn halves(alloc: Global, word: u8) -> Result<Vec<u32>, AllocError>
 /// A `for` over the members of one word of any type.
 fn each_digit<T: Number, E: Endian>(word: T) -> u64
     requires { T.width < 1000 }
-    ensures { result ≡ length (ascending (members E.mirrored T.width (digit_set T.width (T.digits word)))) }
+    ensures { result
+        ≡ length (ascending (members E.mirrored T.width (digit_set T.width (T.digits word)))) }
 {
     let mut total: u64 = 0;
     for _index in number::IterOnes::<T, E>::new(word) {
@@ -110,7 +119,8 @@ fn each_digit<T: Number, E: Endian>(word: T) -> u64
 
 /// The numbers that one word lacks, from the last on.
 fn lacking_reversed(alloc: Global, word: u32) -> Result<Vec<u32>, AllocError>
-    ensures { IfOk result (λ v. v.items ≡ reverse (ascending (complement (members true 32 (digit_set 32 word))))) }
+    ensures { IfOk result (λ v. v.items
+        ≡ reverse (ascending (complement (members true 32 (digit_set 32 word))))) }
 {
     number::IterZeros::<u32, LittleEndian>::new(word)
         .rev()

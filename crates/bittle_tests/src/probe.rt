@@ -48,7 +48,8 @@ impl Asked {
         self.fetches.get() <= words && self.other.get() == 0
     }
 
-    // The words that were fetched, or `None` where one was fetched twice or anything else was asked.
+    // The words that were fetched, or `None` where one was fetched twice or anything else was
+    // asked.
     fn words_once(&self) -> Option<u32> {
         let words = self.words.get();
         if self.is_at_most(words.count_ones()) {
@@ -204,7 +205,8 @@ impl<'a> BitsOwned for Probe<'a> {
 // A step, what it answers, and how many words were fetched at most after it.
 type Stepped = (Step, Option<u32>, u32);
 
-// Whether a walk answers a step as wanted, has fetched no more words than that, and asked nothing else.
+// Whether a walk answers a step as wanted, has fetched no more words than that, and asked nothing
+// else.
 fn answers<W: DoubleEndedIterator<Item = u32>>(
     walk: &mut W,
     asked: &Asked,
@@ -237,7 +239,8 @@ fn is_frugal<W: DoubleEndedIterator<Item = u32>>(
         && answers(&mut walk, asked, fourth)
 }
 
-// The steps of a walk with one item in its first word and one in its last of four, to its end from either end.
+// The steps of a walk with one item in its first word and one in its last of four, to its end from
+// either end.
 fn each_way(first: u32, last: u32) -> [[Stepped; 4]; 4] {
     let (first, last) = (Some(first), Some(last));
     [
@@ -323,7 +326,8 @@ fn owned_walks_of_zeros_fetch_each_word_once(rt: HostRuntime) {
     }
 }
 
-// Whether a clone, taken after the first step, fetches nothing, and then no more than its source has left.
+// Whether a clone, taken after the first step, fetches nothing, and then no more than its source
+// has left.
 fn clones_frugally<W: DoubleEndedIterator<Item = u32> + Clone>(
     mut walk: W,
     asked: &Asked,
@@ -354,8 +358,8 @@ fn clones_fetch_what_their_source_has_left(rt: HostRuntime) -> Result<(), Fail> 
     Ok(())
 }
 
-// What a search of these bytes answers, and the words that it fetched, or `None` where it fetched one twice or asked anything
-// else.
+// What a search of these bytes answers, and the words that it fetched, or `None` where it fetched
+// one twice or asked anything else.
 macro_rules! search_of {
     ($bytes:expr, $search:ident::<$order:ident>($from:literal, $to:literal)) => {{
         let asked = Asked::new();

@@ -68,7 +68,8 @@ fn no_words<E: Endian>(rt: &impl Abort) {
     assert!(rt; replies == expected);
 }
 
-// Puts an index into an empty set: it is tested, counted, and alone among as many numbers as the capacity.
+// Puts an index into an empty set: it is tested, counted, and alone among as many numbers as the
+// capacity.
 fn put_and_ask<B: BitsMut, E: Endian>(rt: &impl Abort, bits: &mut B, index: u32, capacity: u32)
     requires { Fits B.indexable (B.big bits.old).capacity }
 {

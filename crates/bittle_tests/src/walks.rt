@@ -8,7 +8,8 @@ use bittle::{BigEndian, LittleEndian, set};
 use std::alloc::AllocError;
 use std::test::Fail;
 
-// Whether a walk gives these items from the front, from the back and from both ends in turn, and then `None` at both ends for good.
+// Whether a walk gives these items from the front, from the back and from both ends in turn, and
+// then `None` at both ends for good.
 fn gives<W: DoubleEndedIterator<Item = u32> + Clone>(
     mut walk: W,
     items: &[u32],

@@ -202,7 +202,8 @@ fn arrays(rt: HostRuntime) {
     owned::<[[[u8; 0]; 4]; 4]>(&rt);
 }
 
-// What each call of a slice answers, shared and lent, and what is left by operations with another slice.
+// What each call of a slice answers, shared and lent, and what is left by operations with another
+// slice.
 fn slice<'a, T: BitsOwned>(rt: &impl Abort, mut slice: &'a mut [T], other: &'a mut [T]) {
     reads(rt, &&slice[..]);
     writes(rt, &mut slice);

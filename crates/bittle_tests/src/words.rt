@@ -117,7 +117,8 @@ fn every_type_at_its_borders(rt: HostRuntime) {
     at_borders(&rt, 64, 0isize, -1, isize::MIN, 1);
 }
 
-// The word without a digit, with all, with its greatest alone, which is the least signed value, and with its least alone.
+// The word without a digit, with all, with its greatest alone, which is the least signed value, and
+// with its least alone.
 fn at_borders<T: Number + Bits>(rt: &impl Abort, width: u32, none: T, all: T, top: T, least: T)
     requires positive { 0 < width }
     requires none_fits { Fits T.indexable (T.big none).capacity }
@@ -134,8 +135,8 @@ fn at_borders<T: Number + Bits>(rt: &impl Abort, width: u32, none: T, all: T, to
     walks_alone::<T, LittleEndian>(rt, least, width - 1, width);
 }
 
-// The members are the indexes from one on and below another: from the front, and from the back of what the other word
-// lacks.
+// The members are the indexes from one on and below another: from the front, and from the back of
+// what the other word lacks.
 fn walks_alone<T: Number, E: Endian>(rt: &impl Abort, word: T, from: u32, to: u32) {
     let mut ones = IterOnes::<T, E>::new(word);
     let mut zeros = IterZeros::<T, E>::new(word.not());

@@ -14,7 +14,8 @@ pub fn count_of_bytes(mask: [u8; 4]) -> usize {
     mask.iter_ones().count()
 }
 
-/// Counts the numbers below the capacity of two bytes that are no members, by a walk that owns them.
+/// Counts the numbers below the capacity of two bytes that are no members, by a walk that owns
+/// them.
 pub fn count_of_free(mask: [u8; 2]) -> usize {
     mask.into_iter_zeros_be().count()
 }

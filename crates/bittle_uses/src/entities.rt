@@ -1,4 +1,5 @@
-//! Entities that have components: for each kind of component a mask, whose members are the entities that have one.
+//! Entities that have components: for each kind of component a mask, whose members are the entities
+//! that have one.
 
 ghost use Rattle.std.specs.Prelude.{◌≡◌, length, map, take, slice_index};
 ghost use Rattle.bittle.specs.PlainSet.{ascending};
@@ -14,7 +15,8 @@ pub fn with_both(one: u64, other: u64) -> u64
     one.conjunction(other)
 }
 
-/// Picks the components of the entities of a mask into a row, in the order of the entities, and answers how many.
+/// Picks the components of the entities of a mask into a row, in the order of the entities, and
+/// answers how many.
 pub fn pick(mask: u64, components: &[u32; 64], row: &mut [u32; 64]) -> usize
     ensures count { result ≡ length (ascending (entities mask)) }
     ensures picked { take result row.new

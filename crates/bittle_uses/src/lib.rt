@@ -1,4 +1,5 @@
-//! What callers of `bittle` can say and prove of their own values, from the library's contracts alone.
+//! What callers of `bittle` can say and prove of their own values, from the library's contracts
+//! alone.
 #![tactic(auto)]
 
 pub mod board;

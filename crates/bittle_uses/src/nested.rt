@@ -1,6 +1,6 @@
 //! Walks over nested arrays. A walk that owns one is made in a generic function, since the borrow
-//! checker covers no function that makes it at a type of so many levels. One that borrows goes a level
-//! deeper.
+//! checker covers no function that makes it at a type of so many levels. One that borrows goes a
+//! level deeper.
 
 ghost use Rattle.bittle.specs.Values.{ShapeFits};
 

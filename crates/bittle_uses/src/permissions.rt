@@ -37,7 +37,8 @@ pub fn find(roles: &[Set<u32>], wanted: Set<u32>) -> Option<usize>
     requires { IsSorted ⟦<Set<u32> as Ord>⟧.cmp roles.now }
     ensures { MatchOption result
         (All (λ role. AreSame (granted role.bits) (granted wanted.bits) → ⊥) roles.now)
-        (λ place. HoldsAt (λ role. AreSame (granted role.bits) (granted wanted.bits)) roles.now place) }
+        (λ place. HoldsAt
+        (λ role. AreSame (granted role.bits) (granted wanted.bits)) roles.now place) }
 {
     roles.binary_search(&wanted).ok()
 }

@@ -1,4 +1,5 @@
-//! The mask of a scheduler, whose members are the priorities that are ready. The least of them runs first.
+//! The mask of a scheduler, whose members are the priorities that are ready. The least of them runs
+//! first.
 
 ghost use Rattle.std.specs.Prelude.{◌≡◌, ◌<◌, MatchOption};
 ghost use Rattle.bittle.specs.PlainSet.{with_index, without_index};
@@ -20,7 +21,8 @@ pub fn take(mask: &mut [u64; 4]) -> Option<u32>
     ensures priority { MatchOption result
         (HasNoMember (ready mask.old)) (λ priority. IsLeastOf (ready mask.old) priority) }
     ensures mask { MatchOption result
-        (mask.new ≡ mask.old) (λ priority. ready mask.new ≡ without_index (ready mask.old) priority) }
+        (mask.new ≡ mask.old) (λ priority. ready mask.new
+        ≡ without_index (ready mask.old) priority) }
 {
     let end = mask.bits_capacity();
     let priority = mask.first_one_in::<BigEndian>(0, end)?;

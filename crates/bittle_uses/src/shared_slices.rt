@@ -1,5 +1,5 @@
-//! Walks over slices of words: shared, lent to be changed, and of any element. The fit is asked by a
-//! clause, or tested by `bits_capacity() < u32::MAX`.
+//! Walks over slices of words: shared, lent to be changed, and of any element. The fit is asked by
+//! a clause, or tested by `bits_capacity() < u32::MAX`.
 
 ghost use Rattle.std.specs.Prelude.{◌≤◌, ◌<◌, ◌*◌, length};
 ghost use Rattle.bittle.specs.Shapes.{Fits};

@@ -35,7 +35,8 @@ pub fn replay_on_words(words: &mut [u16], calls: &[Call], replies: &mut [Reply])
     requires fits { length words.old * 16 < 4294967295 }
     requires room { length replies.old ≡ length calls.now }
     ensures { members true 16 (elements_set (length words.new) 16 (digit_set 16) words.new)
-        ≡ final_set (members true 16 (elements_set (length words.old) 16 (digit_set 16) words.old)) calls.now }
+        ≡ final_set (members true 16 (elements_set (length words.old) 16 (digit_set 16) words.old))
+        calls.now }
 {
     replay_on_slice::<u16, LittleEndian>(words, calls, replies);
 }
@@ -44,9 +45,11 @@ pub fn replay_on_words(words: &mut [u16], calls: &[Call], replies: &mut [Reply])
 pub fn replay_on_pairs(pairs: &mut [[u8; 2]], calls: &[Call], replies: &mut [Reply])
     requires fits { length pairs.old * 16 < 4294967295 }
     requires room { length replies.old ≡ length calls.now }
-    ensures { members false 8 (elements_set (length pairs.new) 16 (elements_set 2 8 (digit_set 8)) pairs.new)
+    ensures { members false 8
+        (elements_set (length pairs.new) 16 (elements_set 2 8 (digit_set 8)) pairs.new)
         ≡ final_set
-        (members false 8 (elements_set (length pairs.old) 16 (elements_set 2 8 (digit_set 8)) pairs.old)) calls.now }
+        (members false 8
+        (elements_set (length pairs.old) 16 (elements_set 2 8 (digit_set 8)) pairs.old)) calls.now }
 {
     replay_on_slice::<[u8; 2], BigEndian>(pairs, calls, replies);
 }

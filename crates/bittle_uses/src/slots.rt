@@ -30,11 +30,13 @@ impl<'a> Slots<'a> {
         self.words.test_bit(slot)
     }
 
-    /// Takes the least slot that is free, or changes nothing and answers `None` where all are taken.
+    /// Takes the least slot that is free, or changes nothing and answers `None` where all are
+    /// taken.
     pub fn take(&mut self) -> Option<u32>
         requires { (taken self.old.words.now).capacity < 4294967295 }
         ensures slot { MatchOption result
-            (HasNoMember (free self.old.words.now)) (λ slot. IsLeastOf (free self.old.words.now) slot) }
+            (HasNoMember (free self.old.words.now))
+            (λ slot. IsLeastOf (free self.old.words.now) slot) }
         ensures table { MatchOption result
             (self.new.words.now ≡ self.old.words.now)
             (λ slot. taken self.new.words.now ≡ with_index (taken self.old.words.now) slot) }

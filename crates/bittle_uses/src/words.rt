@@ -40,7 +40,8 @@ pub fn halves_above(word: i8, bound: u32) -> usize
 /// The greatest index that a word of 16 digits lacks.
 pub fn greatest_lacking(word: u16) -> Option<u32>
     ensures { MatchOption result (ascending (complement (members true 16 (digit_set 16 word))) ≡ [])
-        (λ i. (rest : List ℕ) × (ascending (complement (members true 16 (digit_set 16 word))) ≡ rest ++ i ∷ [])) }
+        (λ i. (rest : List ℕ)
+        × (ascending (complement (members true 16 (digit_set 16 word))) ≡ rest ++ i ∷ [])) }
 {
     IterZeros::<u16, LittleEndian>::new(word).rev().next()
 }

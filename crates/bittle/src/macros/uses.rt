@@ -1,6 +1,7 @@
 //! Uses of each macro, on any type: the check refuses a macro that lists otherwise.
 //!
-//! Each kind of item stands before another, first and last, and ranges begin at 0, in the first word and past it.
+//! Each kind of item stands before another, first and last, and ranges begin at 0, in the first
+//! word and past it.
 
 ghost use Rattle.std.specs.Prelude.{◌≡◌, IsTrue};
 ghost use Rattle.bittle_bits.specs.Orders.{members};
@@ -34,7 +35,8 @@ fn listed_be<B: BitsOwned>(index: u32) -> B
 
 fn listed_open<B: BitsOwned>(index: u32) -> B
     requires { IsTrue B.indexable }
-    ensures { members B.Order.mirrored B.width (B.big result) ≡ listed_open_set B.type_capacity index }
+    ensures { members B.Order.mirrored B.width (B.big result)
+        ≡ listed_open_set B.type_capacity index }
 {
     crate::set![100.., 2..=3, 70..75, 9, index]
 }

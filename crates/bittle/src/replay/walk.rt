@@ -29,7 +29,8 @@ enum Trail {
     And(Snapshot<Trail>, Snapshot<Count>),
 }
 
-/// One number for each step of a walk, the looks made up to it. Contracts alone see them, and they take no bytes.
+/// One number for each step of a walk, the looks made up to it. Contracts alone see them, and they
+/// take no bytes.
 #[derive(Drop)]
 pub struct Looks {
     trail: Snapshot<Trail>,
@@ -80,7 +81,8 @@ fn take_step<W: Counted>(walk: &mut W, step: Step) -> Option<u32>
     }
 }
 
-// Takes a walk that has given nothing yet through the steps. The last number is the walk's own count of looks.
+// Takes a walk that has given nothing yet through the steps. The last number is the walk's own
+// count of looks.
 fn run<W: Counted>(walk: &mut W, steps: &[Step], answers: &mut [Option<u32>]) -> Looks
     requires places { length answers.old ≡ length steps.now }
     requires fresh { (W.walk walk.old).items ≡ 0 }
@@ -97,10 +99,12 @@ fn run<W: Counted>(walk: &mut W, steps: &[Step], answers: &mut [Option<u32>]) ->
     looks
 }
 
-/// Takes one walk of a set in the order `E`, of its ones or of its zeros, through the steps, and answers each.
+/// Takes one walk of a set in the order `E`, of its ones or of its zeros, through the steps, and
+/// answers each.
 ///
-/// The answers are the items of the increasing list from its two ends, and `None` once none is left. There is a place for the
-/// answer of each step, and the shape fits. Contracts see in the result the looks made up to each step.
+/// The answers are the items of the increasing list from its two ends, and `None` once none is
+/// left. There is a place for the answer of each step, and the shape fits. Contracts see in the
+/// result the looks made up to each step.
 pub fn replay_walk<B: Bits, E: Endian>(
     bits: &B,
     ones: bool,
@@ -109,7 +113,8 @@ pub fn replay_walk<B: Bits, E: Endian>(
 ) -> Looks
     requires fits { ShapeFits B.Bits bits.now }
     requires places { length answers.old ≡ length steps.now }
-    ensures answers { answers.new ≡ answers_of steps.now (ascending (wanted ones (set_in B.Bits E.Endian bits.now))) }
+    ensures answers { answers.new
+        ≡ answers_of steps.now (ascending (wanted ones (set_in B.Bits E.Endian bits.now))) }
     ensures looks { AreThrifty result answers.new ((B.big bits.now).capacity / B.width) }
 {
     if ones {
@@ -121,7 +126,8 @@ pub fn replay_walk<B: Bits, E: Endian>(
     }
 }
 
-/// At every moment the items from the front, what remains, and the items from the back in reverse are the whole list.
+/// At every moment the items from the front, what remains, and the items from the back in reverse
+/// are the whole list.
 #[doc(hidden)]
 pub fn ends_keep_all()
     ensures { (steps : List Step) (xs : List ℕ) → KeepsAll steps xs }

@@ -23,7 +23,8 @@ fn word_apart<A: Bits, B: Bits>(left: &A, right: &B, k: u32) -> A::LeafWord
     requires in_left { k * A.width < (A.big left.now).capacity }
     requires in_right { k * B.width < (B.big right.now).capacity }
     ensures { digit_set A.width (A.LeafWord.digits result)
-        ≡ combined just_one (word_of A.width (A.big left.now) k) (word_of A.width (B.big right.now) k) }
+        ≡ combined just_one (word_of A.width (A.big left.now) k)
+        (word_of A.width (B.big right.now) k) }
 {
     let theirs = right.leaf_word(k).to_digits();
     left.leaf_word(k)

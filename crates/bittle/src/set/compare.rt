@@ -24,8 +24,8 @@ fn are_alike<A: Bits, B: Bits, E: Endian, F: Endian>() -> bool
         && E::is_mirrored() == F::is_mirrored()
 }
 
-// The order of two sets, each read in its own order. Words decide where they are alike, and else both walk step by step, up
-// to their first difference.
+// The order of two sets, each read in its own order. Words decide where they are alike, and else
+// both walk step by step, up to their first difference.
 #[inline]
 fn compare<A: Bits, B: Bits, E: Endian, F: Endian>(left: &A, right: &B) -> Ordering
     requires left_fits { ShapeFits A.Bits left.now }
@@ -57,7 +57,8 @@ impl<T: Bits, E: Endian> Set<T, E> {
         // What decides it.
         ensures decided { let ours = set_in T.Bits E.Endian self.now.bits in
             let theirs = set_in U.Bits U.Order.Endian other.now in
-            MatchOrdering result (Precedes ours theirs) (AreSame ours theirs) (Precedes theirs ours) }
+            MatchOrdering result (Precedes ours theirs) (AreSame ours theirs)
+            (Precedes theirs ours) }
     {
         compare::<T, U, E, U::Order>(&self.bits, other)
     }
@@ -90,7 +91,8 @@ impl<T: Bits, E: Endian> Set<T, E> {
 impl<T: Bits, E: Endian> PartialEq for Set<T, E> {
     ghost eq = { on (λ s. ascending (set_in T.Bits E.Endian s.bits)) list_eq };
 
-    ghost laws = { partial_equiv_from_equiv (on_equiv (λ s. ascending (members E.mirrored T.width (T.big s.bits))) nat_list_eq_equiv) };
+    ghost laws = { partial_equiv_from_equiv
+        (on_equiv (λ s. ascending (members E.mirrored T.width (T.big s.bits))) nat_list_eq_equiv) };
 
     fn eq(&self, other: &Set<T, E>) -> bool
         ensures value { result
@@ -105,17 +107,20 @@ impl<T: Bits, E: Endian> PartialEq for Set<T, E> {
 }
 
 impl<T: Bits, E: Endian> Eq for Set<T, E> {
-    ghost laws = { on_equiv (λ s. ascending (members E.mirrored T.width (T.big s.bits))) nat_list_eq_equiv };
+    ghost laws = { on_equiv
+        (λ s. ascending (members E.mirrored T.width (T.big s.bits))) nat_list_eq_equiv };
 }
 
 impl<T: Bits, E: Endian> PartialOrd for Set<T, E> {
-    ghost partial_cmp = { as_partial_cmp (on (λ s. ascending (set_in T.Bits E.Endian s.bits)) list_cmp) };
+    ghost partial_cmp = { as_partial_cmp
+        (on (λ s. ascending (set_in T.Bits E.Endian s.bits)) list_cmp) };
 
     ghost laws = { partial_order_from_agreeing_total
         (on (λ s. ascending (members E.mirrored T.width (T.big s.bits))) list_cmp)
         (on_total (λ s. ascending (members E.mirrored T.width (T.big s.bits))) nat_list_cmp_total)
         (λ a b. refl)
-        (λ a b. texts_ties (ascending (members E.mirrored T.width (T.big a.bits))) (ascending (members E.mirrored T.width (T.big b.bits)))) };
+        (λ a b. texts_ties (ascending (members E.mirrored T.width (T.big a.bits)))
+        (ascending (members E.mirrored T.width (T.big b.bits)))) };
 
     fn partial_cmp(&self, other: &Set<T, E>) -> Option<Ordering> {
         Some(self.cmp(other))
@@ -125,11 +130,13 @@ impl<T: Bits, E: Endian> PartialOrd for Set<T, E> {
 impl<T: Bits, E: Endian> Ord for Set<T, E> {
     ghost cmp = { on (λ s. ascending (set_in T.Bits E.Endian s.bits)) list_cmp };
 
-    ghost total = { on_total (λ s. ascending (members E.mirrored T.width (T.big s.bits))) nat_list_cmp_total };
+    ghost total = { on_total
+        (λ s. ascending (members E.mirrored T.width (T.big s.bits))) nat_list_cmp_total };
 
     ghost matches_partial_cmp = { λ a b. refl };
 
-    ghost matches_eq = { λ a b. texts_ties (ascending (members E.mirrored T.width (T.big a.bits))) (ascending (members E.mirrored T.width (T.big b.bits))) };
+    ghost matches_eq = { λ a b. texts_ties (ascending (members E.mirrored T.width (T.big a.bits)))
+        (ascending (members E.mirrored T.width (T.big b.bits))) };
 
     fn cmp(&self, other: &Set<T, E>) -> Ordering
         ensures value { result
@@ -137,7 +144,8 @@ impl<T: Bits, E: Endian> Ord for Set<T, E> {
             (ascending (set_in T.Bits E.Endian other.now.bits)) }
         ensures decided { let ours = set_in T.Bits E.Endian self.now.bits in
             let theirs = set_in T.Bits E.Endian other.now.bits in
-            MatchOrdering result (Precedes ours theirs) (AreSame ours theirs) (Precedes theirs ours) }
+            MatchOrdering result (Precedes ours theirs) (AreSame ours theirs)
+            (Precedes theirs ours) }
     {
         self.cmp_bits(other)
     }

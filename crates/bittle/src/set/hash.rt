@@ -16,7 +16,8 @@ use std::hash::{Hash, Hasher};
 impl<T: Bits, E: Endian> Hash for Set<T, E> {
     ghost hash_input = { λ s. feed (ascending (members E.mirrored T.width (T.big s.bits))) };
 
-    ghost respects_eq = { (on_Alike (λ s. ascending (members E.mirrored T.width (T.big s.bits))) (same_Alike feed bytes_decides)).fed };
+    ghost respects_eq = { (on_Alike (λ s. ascending (members E.mirrored T.width (T.big s.bits)))
+        (same_Alike feed bytes_decides)).fed };
 
     fn hash<H: Hasher>(&self, state: &mut H) {
         let mut count = 0;

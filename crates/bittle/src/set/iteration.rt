@@ -17,7 +17,9 @@ impl<T: BitsOwned, E: Endian> IntoIterator for Set<T, E> {
 
     type IntoIter = IntoIterOnes<Set<T, E>, E>;
 
-    ghost into_iter_gives = { λ s w. (w.left ≡ ascending (members E.mirrored T.width (T.big s.bits))) × IsFresh ((T.big s.bits).capacity / T.width) w × AreBelow (T.big s.bits).capacity w.left };
+    ghost into_iter_gives = { λ s w. (w.left
+        ≡ ascending (members E.mirrored T.width (T.big s.bits)))
+        × IsFresh ((T.big s.bits).capacity / T.width) w × AreBelow (T.big s.bits).capacity w.left };
 
     #[inline]
     fn into_iter(self) -> IntoIterOnes<Set<T, E>, E> {
@@ -31,7 +33,10 @@ impl<'a, T: Bits, E: Endian> IntoIterator for &'a Set<T, E> {
 
     type IntoIter = IterOnes<'a, Set<T, E>, E>;
 
-    ghost into_iter_gives = { λ s w. (w.left ≡ ascending (members E.mirrored T.width (T.big s.now.bits))) × IsFresh ((T.big s.now.bits).capacity / T.width) w × AreBelow (T.big s.now.bits).capacity w.left };
+    ghost into_iter_gives = { λ s w. (w.left
+        ≡ ascending (members E.mirrored T.width (T.big s.now.bits)))
+        × IsFresh ((T.big s.now.bits).capacity / T.width) w
+        × AreBelow (T.big s.now.bits).capacity w.left };
 
     #[inline]
     fn into_iter(self) -> IterOnes<'a, Set<T, E>, E> {

@@ -1,4 +1,5 @@
-//! Laws of sets that remember an order, and of their comparison. Each function does nothing: its contract is the law.
+//! Laws of sets that remember an order, and of their comparison. Each function does nothing: its
+//! contract is the law.
 
 ghost use Rattle.std.specs.Prelude.{◌≡◌};
 ghost use Rattle.bittle.specs.SetLaws.{OrderIsTotal, OrderAgreesWithEquality, OrderReverses, EqualityIsSymmetric, EqualSetsFeedAlike};

@@ -39,7 +39,8 @@ impl<T: Number, E: Endian, K: Kind> Model for Iter<T, E, K> {
 
     ghost Value = { List ℕ };
 
-    ghost view = { λ w. ascending (members E.mirrored T.width (digit_set T.width (T.digits w.left))) };
+    ghost view = { λ w. ascending
+        (members E.mirrored T.width (digit_set T.width (T.digits w.left))) };
 }
 
 impl<T: Number, E: Endian, K: Kind> Iter<T, E, K> {
@@ -51,7 +52,8 @@ impl<T: Number, E: Endian, K: Kind> Iter<T, E, K> {
     #[inline]
     pub fn new(word: T) -> Iter<T, E, K>
         ensures items { result
-            ≡ ascending (wanted K.ONES (members E.mirrored T.width (digit_set T.width (T.digits word)))) }
+            ≡ ascending (wanted K.ONES
+            (members E.mirrored T.width (digit_set T.width (T.digits word)))) }
         ensures below { AreBelow T.width result }
         ensures in_order { ListsInOrder }
         ensures in_reverse { ListsInReverse }

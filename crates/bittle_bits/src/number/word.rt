@@ -14,7 +14,8 @@ use crate::operation::Operation;
 
 #[inline]
 pub fn test_bit<T: Number, E: Endian>(word: T, index: u32) -> bool
-    ensures { result ≡ contains (members E.mirrored T.width (digit_set T.width (T.digits word))) index }
+    ensures { result
+        ≡ contains (members E.mirrored T.width (digit_set T.width (T.digits word))) index }
 {
     !word.and(E::mask::<T>(index)).is_zero()
 }
@@ -47,7 +48,8 @@ pub fn clear_bits<T: Number>(word: &mut T)
 pub fn combine<T: Number, O: Operation>(word: &mut T, other: T)
     ensures { (mirrored : Bool) → members mirrored T.width (digit_set T.width (T.digits word.new))
         ≡ combined O.decide
-        (members mirrored T.width (digit_set T.width (T.digits word.old))) (members mirrored T.width (digit_set T.width (T.digits other))) }
+        (members mirrored T.width (digit_set T.width (T.digits word.old)))
+        (members mirrored T.width (digit_set T.width (T.digits other))) }
 {
     *word = O::on_words::<T>(*word, other);
 }
@@ -135,7 +137,8 @@ pub fn take_last<T: Number, E: Endian>(word: &mut T) -> Option<u32>
 #[inline]
 pub fn leaf_word<T: Number>(word: T, k: u32) -> T
     requires { k * T.width < T.width }
-    ensures { digit_set T.width (T.digits result) ≡ word_of T.width (digit_set T.width (T.digits word)) k }
+    ensures { digit_set T.width (T.digits result)
+        ≡ word_of T.width (digit_set T.width (T.digits word)) k }
 {
     let _ = k;
     word

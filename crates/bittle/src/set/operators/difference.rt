@@ -13,7 +13,8 @@ use std::ops::{Sub, SubAssign};
 impl<T: BitsOwned, E: Endian> Sub<Set<T, E>> for Set<T, E> {
     type Output = Set<T, E>;
 
-    ghost sub_gives = { λ a b r. IsInBothOrders difference_of T.width (T.big a.bits) (T.big b.bits) (T.big r.bits) };
+    ghost sub_gives = { λ a b r. IsInBothOrders difference_of T.width (T.big a.bits) (T.big b.bits)
+        (T.big r.bits) };
 
     #[inline]
     fn sub(self, rhs: Set<T, E>) -> Set<T, E> {
@@ -24,7 +25,8 @@ impl<T: BitsOwned, E: Endian> Sub<Set<T, E>> for Set<T, E> {
 impl<'b, T: BitsOwned, E: Endian> Sub<&'b Set<T, E>> for Set<T, E> {
     type Output = Set<T, E>;
 
-    ghost sub_gives = { λ a b r. IsInBothOrders difference_of T.width (T.big a.bits) (T.big b.now.bits) (T.big r.bits) };
+    ghost sub_gives = { λ a b r. IsInBothOrders difference_of T.width (T.big a.bits)
+        (T.big b.now.bits) (T.big r.bits) };
 
     #[inline]
     fn sub(self, rhs: &'b Set<T, E>) -> Set<T, E> {
@@ -37,7 +39,8 @@ impl<'b, T: BitsOwned, E: Endian> Sub<&'b Set<T, E>> for Set<T, E> {
 impl<'a, T: BitsOwned, E: Endian> Sub<Set<T, E>> for &'a Set<T, E> {
     type Output = Set<T, E>;
 
-    ghost sub_gives = { λ a b r. IsInBothOrders difference_of T.width (T.big a.now.bits) (T.big b.bits) (T.big r.bits) };
+    ghost sub_gives = { λ a b r. IsInBothOrders difference_of T.width (T.big a.now.bits)
+        (T.big b.bits) (T.big r.bits) };
 
     #[inline]
     fn sub(self, rhs: Set<T, E>) -> Set<T, E> {
@@ -50,7 +53,8 @@ impl<'a, T: BitsOwned, E: Endian> Sub<Set<T, E>> for &'a Set<T, E> {
 impl<'a, 'b, T: BitsOwned, E: Endian> Sub<&'b Set<T, E>> for &'a Set<T, E> {
     type Output = Set<T, E>;
 
-    ghost sub_gives = { λ a b r. IsInBothOrders difference_of T.width (T.big a.now.bits) (T.big b.now.bits) (T.big r.bits) };
+    ghost sub_gives = { λ a b r. IsInBothOrders difference_of T.width (T.big a.now.bits)
+        (T.big b.now.bits) (T.big r.bits) };
 
     #[inline]
     fn sub(self, rhs: &'b Set<T, E>) -> Set<T, E> {
@@ -60,9 +64,11 @@ impl<'a, 'b, T: BitsOwned, E: Endian> Sub<&'b Set<T, E>> for &'a Set<T, E> {
     }
 }
 
-/// `-=` takes the members of the other set out. Of two slices only what lies below both capacities changes.
+/// `-=` takes the members of the other set out. Of two slices only what lies below both capacities
+/// changes.
 impl<T: BitsMut, E: Endian> SubAssign<Set<T, E>> for Set<T, E> {
-    ghost sub_assign_gives = { λ a b r. IsInBothOrders difference_of T.width (T.big a.bits) (T.big b.bits) (T.big r.bits) × T.same_place a.bits r.bits };
+    ghost sub_assign_gives = { λ a b r. IsInBothOrders difference_of T.width (T.big a.bits)
+        (T.big b.bits) (T.big r.bits) × T.same_place a.bits r.bits };
 
     #[inline]
     fn sub_assign(&mut self, rhs: Set<T, E>) {
@@ -71,7 +77,8 @@ impl<T: BitsMut, E: Endian> SubAssign<Set<T, E>> for Set<T, E> {
 }
 
 impl<'b, T: BitsMut, E: Endian> SubAssign<&'b Set<T, E>> for Set<T, E> {
-    ghost sub_assign_gives = { λ a b r. IsInBothOrders difference_of T.width (T.big a.bits) (T.big b.now.bits) (T.big r.bits) × T.same_place a.bits r.bits };
+    ghost sub_assign_gives = { λ a b r. IsInBothOrders difference_of T.width (T.big a.bits)
+        (T.big b.now.bits) (T.big r.bits) × T.same_place a.bits r.bits };
 
     #[inline]
     fn sub_assign(&mut self, rhs: &'b Set<T, E>) {
