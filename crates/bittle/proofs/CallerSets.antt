@@ -3,7 +3,7 @@ use Rattle.std.proofs.Common.{◌≡◌, ℕ, zero, suc, ◌+◌, ◌*◌, ◌<�
 use Rattle.std.proofs.Math.Nat.{mod-eq_of_lt}
 use Rattle.std.proofs.lemmas.Bool.{cases_Bool, lt-ltb}
 use Rattle.bittle_bits.specs.Orders.{members}
-use Rattle.bittle_bits.specs.PlainSet.{PlainSet, contains, with_index, has_with, without_index, has_without, complement, lacks, filled, count_below, size}
+use Rattle.bittle_bits.specs.PlainSet.{PlainSet, contains, with_index, has_with, without_index, has_without, complement, lacks, empty, filled, count_below, size}
 use Rattle.bittle_bits.specs.Searches.{NoneIn}
 use Rattle.bittle_bits.specs.SetOperations.{combined, has_combined}
 use Rattle.bittle_bits.proofs.PlainSets.{filled_in_each_order}
@@ -65,14 +65,15 @@ size_none s e k p q =
       | inr none ↦ none
     ]
 
-count_never : (c : ℕ) → count_below c (λ _. false) ≡ 0
+-- the empty set has size 0
+pub size_empty : (c : ℕ) → size (empty c) ≡ 0
 unfolding count_below
-count_never zero = refl
-count_never (suc c) = ap (λ n. n + 0) (count_never c) ∙ omega arith
+size_empty zero = refl
+size_empty (suc c) = ap (λ n. n + 0) (size_empty c) ∙ omega arith
 
 -- a set with no members has size 0
 pub size_zero : (s : PlainSet) → NoneIn s 0 s.capacity → size s ≡ 0
-size_zero s none = sizes.count-same s.capacity s.has (λ _. false) (λ k h. none k (omega arith) h) ∙ count_never s.capacity
+size_zero s none = sizes.count-same s.capacity s.has (λ _. false) (λ k h. none k (omega arith) h) ∙ size_empty s.capacity
 
 -- a set whose size is its capacity has each number below it
 pub size_full : (s : PlainSet) → size s ≡ s.capacity → (k : ℕ) → k < s.capacity → s.has k ≡ true
