@@ -3,7 +3,7 @@ use Rattle.bittle_bits.specs.Orders.{members}
 use Rattle.bittle_bits.specs.PlainSet.{PlainSet}
 use Rattle.bittle_bits.specs.Shapes.{Fits}
 use Rattle.bittle_bits.specs.declared.bits.Bits as bits
-use Rattle.bittle_bits.specs.declared.endian.Endian as endian
+use Rattle.bittle_words.specs.declared.endian.Endian as endian
 
 -- the set of a value, read in an order
 abbrev pub set_in : {V O W E : Type 0} → bits.Ghosts V O W → endian.Ghosts E → V → PlainSet

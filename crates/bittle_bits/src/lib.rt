@@ -9,17 +9,14 @@ pub mod bits_mut;
 pub mod bits_owned;
 mod count;
 mod elements;
-pub mod endian;
 #[doc(hidden)]
 pub mod hidden;
+mod integers;
 pub mod join;
 pub mod kind;
 #[doc(hidden)]
 pub mod laws;
 mod look;
-pub mod number;
-#[doc(hidden)]
-pub mod operation;
 mod search;
 #[doc(hidden)]
 pub mod set_laws;
@@ -30,3 +27,7 @@ pub mod type_orders;
 pub mod walk;
 #[doc(hidden)]
 pub mod walk_laws;
+
+#[doc(hidden)]
+pub use bittle_words::operation;
+pub use bittle_words::{endian, number};

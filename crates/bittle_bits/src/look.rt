@@ -13,7 +13,7 @@ use crate::count::Count;
 use crate::endian::Endian;
 use crate::hidden::Number;
 use crate::kind::{Kind, wanted_word};
-use crate::number::word;
+use bittle_words::word;
 use std::marker::{Model, PhantomData};
 
 // A copied word, and the index in its set of the first digit.

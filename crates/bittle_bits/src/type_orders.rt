@@ -1,19 +1,11 @@
 //! The order of each type, for calls that name none. Each function makes no calls, and its contract
 //! is the law.
 
-ghost use Rattle.std.specs.Prelude.{◌≡◌, true, false};
+ghost use Rattle.std.specs.Prelude.{◌≡◌, false};
 
 use crate::bits::Bits;
 use crate::bits_owned::BitsOwned;
-use crate::endian::{BigEndian, DefaultEndian, Endian, LittleEndian};
-
-/// The first index is the digit of greatest weight in little-endian order, and not in big-endian
-/// order, the default.
-pub fn the_default_order_is_big_endian()
-    ensures little { ⟦<LittleEndian as Endian>⟧.mirrored ≡ true }
-    ensures big { ⟦<BigEndian as Endian>⟧.mirrored ≡ false }
-    ensures default { ⟦<DefaultEndian as Endian>⟧.mirrored ≡ false }
-{}
+use crate::endian::Endian;
 
 /// Each integer is read in big-endian order.
 pub fn integers_are_big_endian()

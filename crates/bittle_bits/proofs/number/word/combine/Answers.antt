@@ -1,5 +1,0 @@
-use Rattle.bittle_bits.proofs.Combined.{word_combined}
-use Rattle.bittle_bits.proofs.number.word.combine.Goals as goal
-
-pub returns : goal.returns
-returns g c mirrored = word_combined g.O.Operation.decide _ _ _ _ mirrored g.met.T.Number.width_positive c.on_words.ensures

@@ -1,0 +1,91 @@
+-- The least and the greatest digit of a word.
+use Rattle.std.proofs.Common.{◌≡◌, ℕ, zero, suc, ◌-◌, ◌*◌, ◌/◌, ◌%◌, ◌^◌, ◌<◌, ◌⊎◌, Bool, true, ◌==◌, inl, inr, sym, ap, ◌∙◌, arith, subst}
+use Rattle.std.specs.Int.{bit_at}
+use Rattle.std.specs.Int.Count.{count_leading_zeros, count_trailing_zeros, leading_of_zero}
+use Rattle.std.proofs.lemmas.Nat.{trailing_le, leading_le, leading_top, mod_below}
+use Rattle.std.proofs.lemmas.Nat.Bits.{bit_at-suc, bit_at_lowest, bit_at_above, bit_at-zero}
+use Rattle.std.proofs.lemmas.Bool.{cases_eq, eq-eqb}
+use Rattle.bittle_words.specs.Digits.{digit_has, digit_set}
+use Rattle.bittle_words.specs.Orders.{members}
+use Rattle.bittle_words.specs.PlainSet.{PlainSet, complement, IsLeastMember, IsGreatestMember}
+use Rattle.bittle_words.proofs.DigitSets.{digit_has-at, digit_has-not, top_digit}
+use Rattle.bittle_words.proofs.PlaceLemmas.{mirror_in_word}
+use Rattle.bittle_words.proofs.PlainSets.{plain, complement-members}
+
+-- the digits below the least one are 0, and it is 1
+record Lowest (k d r : ℕ) : Type 0 where
+  below : (i : ℕ) → i < r → bit_at d i ≡ 0
+  there : r < k → bit_at d r ≡ 1
+
+lowest : (k d : ℕ) → Lowest k d (count_trailing_zeros k d)
+unfolding count_trailing_zeros
+lowest zero d = record { below = λ i h. absurd (omega arith); there = λ h. absurd (omega arith) }
+lowest (suc k) d = by (lowest k (d / 2)) (cases_eq (d % 2) 0)
+  where
+    up : Lowest k (d / 2) (count_trailing_zeros k (d / 2)) → (i : ℕ) → d % 2 ≡ 0 → i < suc (count_trailing_zeros k (d / 2)) → bit_at d i ≡ 0
+    up rest zero z h = bit_at_lowest d ∙ z
+    up rest (suc i) z h = bit_at-suc d i ∙ rest.below i (omega arith)
+
+    by : Lowest k (d / 2) (count_trailing_zeros k (d / 2)) → (d % 2 ≡ 0) ⊎ (d % 2 ≡ 0 → ⊥) → Lowest (suc k) d (count_trailing_zeros (suc k) d)
+    by rest (inl z) = rw z (record { below = λ i h. up rest i z h; there = λ h. bit_at-suc d (count_trailing_zeros k (d / 2)) ∙ rest.there (omega arith) })
+    by rest (inr n) =
+        let e : d % 2 ≡ 1 = omega (arith, mod_below d 2 (omega arith)) in
+        rw e (record { below = λ i h. absurd (omega arith); there = λ h. bit_at_lowest d ∙ e })
+
+-- the trailing zeros of a word are the index of its least digit
+pub least_digit : (w d : ℕ) → IsLeastMember (digit_set w d) (count_trailing_zeros w d)
+least_digit w d =
+    let r = count_trailing_zeros w d in
+    let low = trailing_le w d in
+    let at = lowest w d in record {
+      within = low;
+      none_below = λ k h. digit_has-at w d k (omega arith) ∙ ap (λ b. b == 1) (at.below k h);
+      is_member = λ h. digit_has-at w d r h ∙ eq-eqb (bit_at d r) 1 (at.there h);
+    }
+
+-- the leading zeros of a word are how far its greatest digit lies below the last
+pub greatest_digit : (w d : ℕ) → d < 2 ^ w → IsGreatestMember (digit_set w d) (count_leading_zeros w d)
+greatest_digit w d fits = by (cases_eq d 0)
+  where
+    r : ℕ
+    r = count_leading_zeros w d
+
+    by : (d ≡ 0) ⊎ (d ≡ 0 → ⊥) → IsGreatestMember (digit_set w d) (count_leading_zeros w d)
+    by (inl z) =
+        let all : count_leading_zeros w d ≡ w = ap (count_leading_zeros w) z ∙ leading_of_zero w in record {
+          within = omega arith;
+          none_above = λ k h. digit_has-at w d (w - 1 - k) (omega arith) ∙ ap (λ b. b == 1) (ap (λ x. bit_at x (w - 1 - k)) z ∙ bit_at-zero (w - 1 - k));
+          is_member = λ h. absurd (omega arith);
+        }
+    by (inr n) =
+        let t = leading_top w d (omega arith) fits in
+        let j = t.0 in
+        let e : w - 1 - r ≡ j = omega (arith, t.1) in record {
+          within = leading_le w d;
+          none_above = λ k h. digit_has-at w d (w - 1 - k) (omega (arith, t.1)) ∙ ap (λ b. b == 1) (bit_at_above d (suc j) (w - 1 - k) t.3 (omega (arith, t.1)));
+          is_member = λ h. rw e (digit_has-at w d j (omega (arith, t.1)) ∙ eq-eqb (bit_at d j) 1 (top_digit j d t.2 t.3));
+        }
+
+-- within one word the mirrored set has the ends the other way round
+module _ (w r : ℕ) (p : ℕ → Bool) where
+  -- how far the greatest member lies below the last number is the least one mirrored
+  pub mirrored_least : IsGreatestMember (plain w p) r → IsLeastMember (members true w (plain w p)) r
+  mirrored_least h = record {
+    within = h.within;
+    none_below = λ k l. let low = h.within in ap p (mirror_in_word w k (omega arith)) ∙ h.none_above k l;
+    is_member = λ l. ap p (mirror_in_word w r l) ∙ h.is_member l;
+  }
+
+  -- the least member is how far the greatest one mirrored lies below the last number
+  pub mirrored_greatest : IsLeastMember (plain w p) r → IsGreatestMember (members true w (plain w p)) r
+  mirrored_greatest h = record {
+    within = h.within;
+    none_above = λ k l. let low = h.within in ap p (mirror_in_word w (w - 1 - k) (omega arith) ∙ omega arith) ∙ h.none_below k l;
+    is_member = λ l. ap p (mirror_in_word w (w - 1 - r) (omega arith) ∙ omega arith) ∙ h.is_member l;
+  }
+
+-- the ends of what a word lacks, in an order
+pub ends_of_rest : (m : Bool) (w d e : ℕ) (P : PlainSet → Type 0) → 0 < w → d < 2 ^ w → e ≡ 2 ^ w - 1 - d → P (members m w (digit_set w e)) → P (complement (members m w (digit_set w d)))
+ends_of_rest m w d e P h fits is got =
+    let one : (words : ℕ) × (w ≡ words * w) = (1, omega arith) in
+    subst P (sym (complement-members m w (digit_set w d) h one ∙ ap (λ p. members m w (plain w p)) (sym (ap (digit_has w) is ∙ digit_has-not w d fits)))) got

@@ -1,0 +1,8 @@
+pub mod Digits
+pub mod Laws
+pub mod Orders
+pub mod PlainSet
+pub mod Rows
+pub mod SetOperations
+pub mod Walk
+pub mod Words

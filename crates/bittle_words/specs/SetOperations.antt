@@ -1,0 +1,36 @@
+-- The operations on two sets.
+use Rattle.std.specs.Prelude.{ℕ, Bool, true, false, cond, not, ◌&&◌, ◌||◌, nat_lt}
+use Rattle.bittle_words.specs.PlainSet.{PlainSet}
+
+-- whether a number is a member after an operation with another set: one below both capacities is decided by whether it is a member of either, and any other stays as it was
+unfoldable pub has_combined : (Bool → Bool → Bool) → PlainSet → PlainSet → ℕ → Bool
+has_combined decide s t k = cond (nat_lt k s.capacity && nat_lt k t.capacity) (decide (s.has k) (t.has k)) (s.has k)
+
+-- the first set after an operation with the second one
+abbrev pub combined : (Bool → Bool → Bool) → PlainSet → PlainSet → PlainSet
+combined decide s t = record { capacity = s.capacity; has = has_combined decide s t }
+
+-- in the first and not in the second
+abbrev pub first_alone : Bool → Bool → Bool
+first_alone a b = a && not b
+
+-- in just one of both
+abbrev pub just_one : Bool → Bool → Bool
+just_one true b = not b
+just_one false b = b
+
+-- the members of either set
+abbrev pub union_of : PlainSet → PlainSet → PlainSet
+union_of s t = combined ◌||◌ s t
+
+-- the members of both sets
+abbrev pub conjunction_of : PlainSet → PlainSet → PlainSet
+conjunction_of s t = combined ◌&&◌ s t
+
+-- the members of the first set that are none of the second
+abbrev pub difference_of : PlainSet → PlainSet → PlainSet
+difference_of s t = combined first_alone s t
+
+-- the members of just one of the sets
+abbrev pub symmetric_difference_of : PlainSet → PlainSet → PlainSet
+symmetric_difference_of s t = combined just_one s t

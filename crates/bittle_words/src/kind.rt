@@ -1,0 +1,48 @@
+//! What an iterator or a search is for: the ones of a set, or its zeros.
+
+ghost use Rattle.std.specs.Prelude.{◌≡◌, Bool, true, false};
+ghost use Rattle.bittle_words.specs.Digits.{digit_set};
+ghost use Rattle.bittle_words.specs.Walk.{wanted};
+
+use crate::hidden::{Number, Sealed};
+
+/// Names the bits that an iterator yields: the [`Ones`] or the [`Zeros`] of its set.
+pub trait Kind: Drop + Sealed {
+    ghost ONES: { Bool };
+
+    const ONES: bool;
+}
+
+/// The set bits.
+#[derive(Drop)]
+pub enum Ones {}
+
+/// The unset bits below the capacity.
+#[derive(Drop)]
+pub enum Zeros {}
+
+impl Sealed for Ones {}
+
+impl Sealed for Zeros {}
+
+impl Kind for Ones {
+    ghost ONES = { true };
+
+    const ONES: bool = true;
+}
+
+impl Kind for Zeros {
+    ghost ONES = { false };
+
+    const ONES: bool = false;
+}
+
+/// A word whose ones are the bits that the kind wants: for zeros, each bit flipped.
+#[doc(hidden)]
+#[inline]
+pub fn wanted_in<T: Number, K: Kind>(word: T) -> T
+    ensures { digit_set T.width (T.digits result)
+        ≡ wanted K.ONES (digit_set T.width (T.digits word)) }
+{
+    if K::ONES { word } else { word.not() }
+}

@@ -1,0 +1,168 @@
+//! The words of 64 digits: `u64` and `i64`.
+
+ghost use Rattle.std.specs.Int.{w64, cast_unsigned};
+ghost use Rattle.std.proofs.Common.{lit<};
+
+use crate::hidden::{Number, Sealed};
+
+impl Sealed for u64 {}
+
+impl Number for u64 {
+    ghost width = { 64 };
+
+    ghost digits = { λ x. x };
+
+    ghost width_positive = { lit< tt };
+
+    #[inline]
+    fn width() -> u32 {
+        u64::BITS
+    }
+
+    #[inline]
+    fn one_at(index: u32) -> u64 {
+        1 << index
+    }
+
+    #[inline]
+    fn low(index: u32) -> u64 {
+        (1 << index) - 1
+    }
+
+    #[inline]
+    fn zero() -> u64 {
+        0
+    }
+
+    #[inline]
+    fn to_digits(self) -> u128 {
+        self as u128
+    }
+
+    #[inline]
+    fn from_digits(value: u128) -> u64 {
+        value as u64
+    }
+
+    #[inline]
+    fn not(self) -> u64 {
+        !self
+    }
+
+    #[inline]
+    fn and(self, other: u64) -> u64 {
+        self & other
+    }
+
+    #[inline]
+    fn or(self, other: u64) -> u64 {
+        self | other
+    }
+
+    #[inline]
+    fn xor(self, other: u64) -> u64 {
+        self ^ other
+    }
+
+    #[inline]
+    fn is_zero(self) -> bool {
+        self == 0
+    }
+
+    #[inline]
+    fn count_ones(self) -> u32 {
+        self.count_ones()
+    }
+
+    #[inline]
+    fn trailing_zeros(self) -> u32 {
+        self.trailing_zeros()
+    }
+
+    #[inline]
+    fn leading_zeros(self) -> u32 {
+        self.leading_zeros()
+    }
+}
+
+impl Sealed for i64 {}
+
+#[tactic(auto, using(crate::proofs::Signed::signed_or, crate::proofs::Signed::signed_xor))]
+impl Number for i64 {
+    ghost width = { 64 };
+
+    ghost digits = { cast_unsigned w64 };
+
+    ghost width_positive = { lit< tt };
+
+    #[inline]
+    fn width() -> u32 {
+        i64::BITS
+    }
+
+    #[inline]
+    fn one_at(index: u32) -> i64 {
+        1 << index
+    }
+
+    #[inline]
+    fn low(index: u32) -> i64 {
+        let low: u64 = (1 << index) - 1;
+        low as i64
+    }
+
+    #[inline]
+    fn zero() -> i64 {
+        0
+    }
+
+    #[inline]
+    fn to_digits(self) -> u128 {
+        self.cast_unsigned() as u128
+    }
+
+    #[inline]
+    fn from_digits(value: u128) -> i64 {
+        (value as u64).cast_signed()
+    }
+
+    #[inline]
+    fn not(self) -> i64 {
+        !self
+    }
+
+    #[inline]
+    fn and(self, other: i64) -> i64 {
+        self & other
+    }
+
+    #[inline]
+    fn or(self, other: i64) -> i64 {
+        self | other
+    }
+
+    #[inline]
+    fn xor(self, other: i64) -> i64 {
+        self ^ other
+    }
+
+    #[inline]
+    fn is_zero(self) -> bool {
+        self == 0
+    }
+
+    #[inline]
+    fn count_ones(self) -> u32 {
+        self.count_ones()
+    }
+
+    #[inline]
+    fn trailing_zeros(self) -> u32 {
+        self.trailing_zeros()
+    }
+
+    #[inline]
+    fn leading_zeros(self) -> u32 {
+        self.leading_zeros()
+    }
+}

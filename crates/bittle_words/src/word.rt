@@ -1,0 +1,145 @@
+//! The calls on one word, for every width at once.
+
+ghost use Rattle.std.specs.Iterator.{YieldsFirst, YieldsLast};
+ghost use Rattle.std.specs.Prelude.{◌≡◌, ◌==◌, Bool, ◌*◌, ◌<◌, ◌≤◌, IfSome};
+ghost use Rattle.bittle_words.specs.Digits.{digit_set};
+ghost use Rattle.bittle_words.specs.Orders.{members};
+ghost use Rattle.bittle_words.specs.PlainSet.{contains, with_index, without_index, empty, emptied, filled, size, ascending};
+ghost use Rattle.bittle_words.specs.SetOperations.{combined};
+ghost use Rattle.bittle_words.specs.Words.{word_of};
+
+use crate::endian::Endian;
+use crate::hidden::Number;
+use crate::operation::Operation;
+
+#[inline]
+pub fn test_bit<T: Number, E: Endian>(word: T, index: u32) -> bool
+    ensures { result
+        ≡ contains (members E.mirrored T.width (digit_set T.width (T.digits word))) index }
+{
+    !word.and(E::mask::<T>(index)).is_zero()
+}
+
+#[inline]
+pub fn set_bit<T: Number, E: Endian>(word: &mut T, index: u32)
+    ensures { members E.mirrored T.width (digit_set T.width (T.digits word.new))
+        ≡ with_index (members E.mirrored T.width (digit_set T.width (T.digits word.old))) index }
+{
+    *word = word.or(E::mask::<T>(index));
+}
+
+#[inline]
+pub fn clear_bit<T: Number, E: Endian>(word: &mut T, index: u32)
+    ensures { members E.mirrored T.width (digit_set T.width (T.digits word.new))
+        ≡ without_index (members E.mirrored T.width (digit_set T.width (T.digits word.old))) index }
+{
+    *word = word.and(E::mask::<T>(index).not());
+}
+
+#[inline]
+pub fn clear_bits<T: Number>(word: &mut T)
+    ensures { digit_set T.width (T.digits word.new)
+        ≡ emptied (digit_set T.width (T.digits word.old)) }
+{
+    *word = T::zero();
+}
+
+#[inline]
+pub fn combine<T: Number, O: Operation>(word: &mut T, other: T)
+    ensures { (mirrored : Bool) → members mirrored T.width (digit_set T.width (T.digits word.new))
+        ≡ combined O.decide
+        (members mirrored T.width (digit_set T.width (T.digits word.old)))
+        (members mirrored T.width (digit_set T.width (T.digits other))) }
+{
+    *word = O::on_words::<T>(*word, other);
+}
+
+#[inline]
+pub fn count_ones<T: Number>(word: T) -> u32
+    ensures value { result ≡ size (digit_set T.width (T.digits word)) }
+    ensures in_each_order { (mirrored : Bool) →
+        result ≡ size (members mirrored T.width (digit_set T.width (T.digits word))) }
+    ensures at_most { result ≤ T.width }
+{
+    word.count_ones()
+}
+
+#[inline]
+pub fn all_zeros<T: Number>(word: T) -> bool
+    ensures value { result ≡ (size (digit_set T.width (T.digits word)) == 0) }
+    ensures in_each_order { (mirrored : Bool) →
+        result ≡ (size (members mirrored T.width (digit_set T.width (T.digits word))) == 0) }
+{
+    word.is_zero()
+}
+
+#[inline]
+pub fn all_ones<T: Number>(word: T) -> bool
+    ensures value { result ≡ (size (digit_set T.width (T.digits word)) == T.width) }
+    ensures in_each_order { (mirrored : Bool) →
+        result ≡ (size (members mirrored T.width (digit_set T.width (T.digits word))) == T.width) }
+{
+    word.not().is_zero()
+}
+
+#[inline]
+pub fn zeros<T: Number>() -> T
+    ensures value { digit_set T.width (T.digits result) ≡ empty T.width }
+    ensures in_each_order { (mirrored : Bool) →
+        members mirrored T.width (digit_set T.width (T.digits result)) ≡ empty T.width }
+{
+    T::zero()
+}
+
+#[inline]
+pub fn ones<T: Number>() -> T
+    ensures value { digit_set T.width (T.digits result) ≡ filled T.width }
+    ensures in_each_order { (mirrored : Bool) →
+        members mirrored T.width (digit_set T.width (T.digits result)) ≡ filled T.width }
+{
+    T::zero().not()
+}
+
+/// Takes the least member out of the word.
+#[inline]
+pub fn take_first<T: Number, E: Endian>(word: &mut T) -> Option<u32>
+    ensures found { YieldsFirst
+        (λ w. ascending (members E.mirrored T.width (digit_set T.width (T.digits w))))
+        word.old result word.new }
+    ensures below { IfSome result (λ index. index < T.width) }
+{
+    let index = E::zeros::<T>(*word);
+    if index == T::width() {
+        return None;
+    }
+    clear_bit::<T, E>(word, index);
+    Some(index)
+}
+
+/// Takes the greatest member out of the word.
+#[inline]
+pub fn take_last<T: Number, E: Endian>(word: &mut T) -> Option<u32>
+    ensures found { YieldsLast
+        (λ w. ascending (members E.mirrored T.width (digit_set T.width (T.digits w))))
+        word.old result word.new }
+    ensures below { IfSome result (λ index. index < T.width) }
+{
+    let below_last = E::zeros_rev::<T>(*word);
+    if below_last == T::width() {
+        return None;
+    }
+    let index = T::width() - 1 - below_last;
+    clear_bit::<T, E>(word, index);
+    Some(index)
+}
+
+/// Word `k` of a word, which is its only one.
+#[inline]
+pub fn leaf_word<T: Number>(word: T, k: u32) -> T
+    requires { k * T.width < T.width }
+    ensures { digit_set T.width (T.digits result)
+        ≡ word_of T.width (digit_set T.width (T.digits word)) k }
+{
+    let _ = k;
+    word
+}
