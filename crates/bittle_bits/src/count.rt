@@ -14,7 +14,7 @@ enum Chain {
     Next(Snapshot<Chain>),
 }
 
-/// A number that contracts alone see. It takes no bytes.
+/// Counts in contracts alone. It takes no bytes.
 #[derive(Drop)]
 pub struct Count {
     chain: Snapshot<Chain>,
@@ -51,12 +51,12 @@ impl Count {
 
 const _: () = prove!(size_of::<Count>() == 0);
 
-/// A walk whose looks are counted.
+/// Tells how many looks a walk has made.
 pub trait Counted: DoubleEndedIterator<Item = u32> {
     // What contracts see of the walk.
     ghost walk: { Self → Walk };
 
-    /// How many looks it has made.
+    /// Returns how many looks it has made.
     fn looks(&self) -> &Count
         ensures { result.now ≡ (walk self.now).looks };
 

@@ -14,7 +14,7 @@ use crate::endian::Endian;
 use crate::hidden::Number;
 use crate::operation::Operation;
 
-/// The capacity of this many elements, or `u32::MAX` where they do not fit.
+/// Returns the capacity of this many elements, or `u32::MAX` where they do not fit.
 #[inline]
 pub fn bits_capacity<T: BitsOwned>(len: usize) -> u32
     ensures value { Fits T.indexable (len * T.type_capacity) → result ≡ len * T.type_capacity }
@@ -30,7 +30,7 @@ pub fn bits_capacity<T: BitsOwned>(len: usize) -> u32
     }
 }
 
-/// The element that an index goes to, and the index there. There is none where the capacity is 0.
+/// Returns the element that an index goes to, and the index there, or `None` with capacity 0.
 #[inline]
 fn place_of<T: BitsOwned>(len: usize, index: u32) -> Option<(usize, u32)>
     requires { IsTrue T.indexable }
@@ -45,6 +45,7 @@ fn place_of<T: BitsOwned>(len: usize, index: u32) -> Option<(usize, u32)>
     Some((element, index % each))
 }
 
+/// Tests the bit at an index, which wraps. With capacity 0 it returns `false`.
 #[inline]
 pub fn test_bit<T: BitsOwned, E: Endian>(elements: &[T], index: u32) -> bool
     requires { IsTrue T.indexable }
@@ -58,6 +59,7 @@ pub fn test_bit<T: BitsOwned, E: Endian>(elements: &[T], index: u32) -> bool
     }
 }
 
+/// Sets the bit at an index, which wraps. With capacity 0 it changes nothing.
 #[inline]
 pub fn set_bit<T: BitsOwned, E: Endian>(elements: &mut [T], index: u32)
     requires { IsTrue T.indexable }
@@ -72,6 +74,7 @@ pub fn set_bit<T: BitsOwned, E: Endian>(elements: &mut [T], index: u32)
     }
 }
 
+/// Clears the bit at an index, which wraps. With capacity 0 it changes nothing.
 #[inline]
 pub fn clear_bit<T: BitsOwned, E: Endian>(elements: &mut [T], index: u32)
     requires { IsTrue T.indexable }
@@ -86,6 +89,7 @@ pub fn clear_bit<T: BitsOwned, E: Endian>(elements: &mut [T], index: u32)
     }
 }
 
+/// Clears every bit.
 pub fn clear_bits<T: BitsOwned>(elements: &mut [T])
     ensures { elements_set (length elements.new) T.type_capacity T.big elements.new
         ≡ emptied (elements_set (length elements.old) T.type_capacity T.big elements.old) }
@@ -95,7 +99,7 @@ pub fn clear_bits<T: BitsOwned>(elements: &mut [T])
     }
 }
 
-/// The operation on the elements of the common beginning.
+/// Combines the elements of the common beginning, each with its counterpart.
 pub fn combine<T: BitsOwned, O: Operation>(elements: &mut [T], others: &[T])
     ensures { (mirrored : Bool)
         → members mirrored T.width
@@ -112,6 +116,7 @@ pub fn combine<T: BitsOwned, O: Operation>(elements: &mut [T], others: &[T])
     }
 }
 
+/// Counts the set bits.
 pub fn count_ones<T: BitsOwned>(elements: &[T]) -> u32
     requires { Fits T.indexable (length elements.now * T.type_capacity) }
     ensures value { result ≡ size
@@ -127,6 +132,7 @@ pub fn count_ones<T: BitsOwned>(elements: &[T]) -> u32
     total
 }
 
+/// Returns whether no bit is set, up to the first element with one that is.
 pub fn all_zeros<T: BitsOwned>(elements: &[T]) -> bool
     ensures value { result ≡ (size
         (elements_set (length elements.now) T.type_capacity T.big elements.now) == 0) }
@@ -141,6 +147,7 @@ pub fn all_zeros<T: BitsOwned>(elements: &[T]) -> bool
     true
 }
 
+/// Returns whether every bit is set, up to the first element with one that is not.
 pub fn all_ones<T: BitsOwned>(elements: &[T]) -> bool
     ensures value { result ≡ (size
         (elements_set (length elements.now) T.type_capacity T.big elements.now)
@@ -157,7 +164,7 @@ pub fn all_ones<T: BitsOwned>(elements: &[T]) -> bool
     true
 }
 
-/// Word `k` of the row, which lies in one element.
+/// Returns word `k` of the row, which lies in one element.
 #[inline]
 pub fn leaf_word<T: BitsOwned>(elements: &[T], k: u32) -> T::LeafWord
     requires fits { Fits T.indexable (length elements.now * T.type_capacity) }

@@ -37,6 +37,7 @@ impl<'a, A: Bits, E: Endian, I: Iterator> JoinOnes<'a, A, E, I>
 where
     I::Item: Drop,
 {
+    /// Joins a walk over a mask with an iterator.
     #[inline]
     pub(crate) fn new(mask: IterOnes<'a, A, E>, iter: I) -> Self
         requires { IsAscendingFrom 0 mask.left }

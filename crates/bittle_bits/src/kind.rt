@@ -11,7 +11,7 @@ use bittle_words::kind::wanted_in;
 
 pub use bittle_words::kind::{Kind, Ones, Zeros};
 
-/// Word `k` of a set, with the bits that the kind wants.
+/// Returns word `k` of a set, as a word whose ones are the bits of the kind.
 #[inline]
 pub(crate) fn wanted_word<B: Bits, K: Kind>(bits: &B, k: u32) -> B::LeafWord
     requires fits { Fits B.indexable (B.big bits.now).capacity }

@@ -7,13 +7,13 @@ ghost use Rattle.bittle_bits.specs.Orders.{members};
 use crate::bits::Bits;
 use crate::endian::{BigEndian, Endian, LittleEndian};
 
-/// Each index below the width of a word has one place in the word, and each place has one index.
+/// States that each index below the width has one place in its word, and each place one index.
 pub fn each_index_has_its_place<E: Endian>()
     ensures inside { PlacesAreInTheWord E.mirrored }
     ensures apart { PlacesAreApart E.mirrored }
 {}
 
-/// The two orders mirror each other within each word.
+/// States that the two orders mirror each other within each word.
 pub fn orders_mirror_each_other()
     ensures little { PlacesMirror ⟦<LittleEndian as Endian>⟧.mirrored
         ⟦<BigEndian as Endian>⟧.mirrored }
@@ -21,20 +21,22 @@ pub fn orders_mirror_each_other()
         ⟦<LittleEndian as Endian>⟧.mirrored }
 {}
 
-/// Mirroring maps the indexes below a capacity of whole words onto themselves, and undoes itself.
+/// States that mirroring maps the indexes below a capacity of whole words onto themselves, and
+/// undoes itself.
 pub fn mirroring_undoes_itself()
     ensures twice { MirroringTwiceIsNothing }
     ensures below { MirroringStaysBelow }
     ensures onto { MirroringReachesAll }
 {}
 
-/// An index is in the little-endian set exactly if the mirrored index is in the big-endian one.
+/// States that an index is in the little-endian set exactly if the mirrored index is in the
+/// big-endian one.
 pub fn sets_mirror_each_other<B: Bits>(bits: &B)
     ensures { MembersMirror ⟦<LittleEndian as Endian>⟧.mirrored ⟦<BigEndian as Endian>⟧.mirrored
         B.width (B.big bits.now) }
 {}
 
-/// Testing an index is testing it modulo the capacity.
+/// States that testing an index is testing it modulo the capacity.
 pub fn testing_wraps<B: Bits, E: Endian>(bits: &B)
     ensures { TestingWraps (members E.mirrored B.width (B.big bits.now)) }
 {}

@@ -11,7 +11,7 @@ use crate::endian::Endian;
 use crate::hidden::Number;
 use crate::kind::{Kind, wanted_word};
 
-/// The first index from `from` on and below `to` that the kind wants.
+/// Returns the first index from `from` on and below `to` whose bit is of the kind, or `None`.
 #[inline]
 pub fn first_in<B: Bits, E: Endian, K: Kind>(bits: &B, from: u32, to: u32) -> Option<u32>
     requires fits { Fits B.indexable (B.big bits.now).capacity }
@@ -41,7 +41,7 @@ pub fn first_in<B: Bits, E: Endian, K: Kind>(bits: &B, from: u32, to: u32) -> Op
     }
 }
 
-/// The last index from `from` on and below `to` that the kind wants.
+/// Returns the last index from `from` on and below `to` whose bit is of the kind, or `None`.
 #[inline]
 pub fn last_in<B: Bits, E: Endian, K: Kind>(bits: &B, from: u32, to: u32) -> Option<u32>
     requires fits { Fits B.indexable (B.big bits.now).capacity }

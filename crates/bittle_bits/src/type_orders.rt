@@ -7,7 +7,7 @@ use crate::bits::Bits;
 use crate::bits_owned::BitsOwned;
 use crate::endian::Endian;
 
-/// Each integer is read in big-endian order.
+/// States that each integer is read in big-endian order.
 pub fn integers_are_big_endian()
     ensures of_u8 { ⟦<<u8 as Bits>::Order as Endian>⟧.mirrored ≡ false }
     ensures of_i8 { ⟦<<i8 as Bits>::Order as Endian>⟧.mirrored ≡ false }
@@ -23,12 +23,13 @@ pub fn integers_are_big_endian()
     ensures of_isize { ⟦<<isize as Bits>::Order as Endian>⟧.mirrored ≡ false }
 {}
 
-/// Each array is read in big-endian order, whatever the order of its elements.
+/// States that each array is read in big-endian order, whatever the order of its elements.
 pub fn arrays_are_big_endian<T: BitsOwned, const N: usize>()
     ensures { ⟦<<[T; N] as Bits>::Order as Endian>⟧.mirrored ≡ false }
 {}
 
-/// Each slice, shared or lent, is read in big-endian order, whatever the order of its elements.
+/// States that each slice, shared or lent, is read in big-endian order, whatever the order of its
+/// elements.
 pub fn slices_are_big_endian<'a, T: BitsOwned + 'a>()
     ensures shared { ⟦<<&'a [T] as Bits>::Order as Endian>⟧.mirrored ≡ false }
     ensures lent { ⟦<<&'a mut [T] as Bits>::Order as Endian>⟧.mirrored ≡ false }

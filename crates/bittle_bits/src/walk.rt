@@ -65,6 +65,7 @@ impl<'a, B: Bits, E: Endian, K: Kind> Model for Iter<'a, B, E, K> {
 }
 
 impl<'a, B: Bits, E: Endian, K: Kind> Iter<'a, B, E, K> {
+    /// Begins an iterator over all of its set.
     #[inline]
     pub(crate) fn new(source: Source<'a, B>) -> Self
         requires { Fits B.indexable (B.big source.set.now).capacity }
@@ -172,6 +173,7 @@ impl<B: BitsOwned, E: Endian, K: Kind> Model for IntoIter<B, E, K> {
 }
 
 impl<B: BitsOwned, E: Endian, K: Kind> IntoIter<B, E, K> {
+    /// Begins an iterator over all of its set.
     #[inline]
     pub(crate) fn new(source: OwnedSource<B>) -> Self
         requires { Fits B.indexable (B.big source.set).capacity }

@@ -2,7 +2,7 @@
 
 ghost use Rattle.bittle_bits.specs.Splits.{OnesAndZerosSplit};
 
-/// The members and the numbers that are none split the numbers below the capacity.
+/// States that every number below the capacity is a one or a zero of the set, and not both.
 pub fn ones_and_zeros_split()
     ensures { OnesAndZerosSplit }
 {}

@@ -27,7 +27,7 @@ pub enum Outcome {
 impl Outcome {
     ghost use Rattle.bittle_script.specs.Runs.{status_of};
 
-    /// The status that the program ends with.
+    /// Returns the status that the program ends with.
     pub fn status(self) -> u8
         ensures known { result ≡ status_of self }
         ensures bound { result ≤ 2 }
@@ -51,7 +51,7 @@ pub fn answer<W: Write>(text: &[u8], output: &mut Output<'_, W>) -> Result<Outco
     }
 }
 
-/// What the first line says.
+/// Takes the first line, and returns what it says, or `None` where it is not understood.
 fn take_header(lines: &mut Lines<'_>) -> Option<Header>
     ensures header { result ≡ header_in (lines_left lines.old) }
     ensures rest { OnSome result (lines_left lines.new ≡ drop 1 (lines_left lines.old)) }
@@ -120,7 +120,7 @@ fn answer_lines<B: BitsOwned, E: Endian, W: Write>(
     Ok(Outcome::Answered)
 }
 
-/// The value that is the empty set.
+/// Returns the value that is the empty set.
 fn empty_value<B: BitsOwned>() -> B
     requires { IsTrue B.indexable }
     ensures { B.big result ≡ empty B.type_capacity }
@@ -152,7 +152,7 @@ fn obey<B: BitsOwned, E: Endian, W: Write>(
     print(ask::<B, E>(bits, call), output)
 }
 
-/// The reply to one call.
+/// Makes one call, and returns its reply.
 fn ask<B: BitsOwned, E: Endian>(bits: &mut B, call: Call) -> Reply
     requires { IsTrue B.indexable }
     ensures reply { result ≡ reply_to (members E.mirrored B.width (B.big bits.old)) call }

@@ -6,22 +6,22 @@ use crate::decimal;
 /// What a line asks for.
 #[derive(Clone, Copy)]
 pub enum Command {
-    /// That an index become a member.
+    /// Sets the bit at an index.
     Set(u32),
-    /// That an index become no member.
+    /// Clears the bit at an index.
     Clear(u32),
-    /// Whether an index is a member.
+    /// Tests the bit at an index.
     Test(u32),
-    /// How many members there are.
+    /// Counts the set bits.
     Count,
-    /// Which numbers are members.
+    /// Lists the set bits.
     Ones,
 }
 
 impl Command {
     ghost use Rattle.bittle_script.specs.Commands.{command_of, indexed_command_of};
 
-    /// The command that a line says.
+    /// Returns the command that a line says, or `None` where it says none.
     pub fn parse(line: &[u8]) -> Option<Command>
         ensures { result ≡ command_of line.now }
     {
@@ -32,7 +32,7 @@ impl Command {
         }
     }
 
-    /// The command that a line says by a word and an index.
+    /// Returns the command that a line says by a word and an index, or `None`.
     fn parse_indexed(line: &[u8]) -> Option<Command>
         ensures { result ≡ indexed_command_of line.now }
     {

@@ -6,7 +6,7 @@ ghost use Rattle.bittle_script.specs.Numbers.{number_of};
 
 use std::str::from_utf8;
 
-/// The number that one or more digits say, if it fits.
+/// Returns the number that one or more digits say, or `None` where it does not fit.
 pub fn parse(digits: &[u8]) -> Option<u32>
     ensures { result ≡ number_of digits.now }
 {

@@ -28,7 +28,7 @@ pub enum Shape {
 impl Shape {
     ghost use Rattle.bittle_script.specs.Headers.{shape_of};
 
-    /// The shape with this name.
+    /// Returns the shape with this name, or `None` where none has it.
     fn parse(name: &[u8]) -> Option<Shape>
         ensures { result ≡ shape_of name.now }
     {
@@ -60,7 +60,7 @@ pub struct Header {
 impl Header {
     ghost use Rattle.bittle_script.specs.Headers.{header_of};
 
-    /// The order and the shape that a first line names.
+    /// Returns the order and the shape that a first line names, or `None`.
     pub fn parse(line: &[u8]) -> Option<Header>
         ensures { result ≡ header_of line.now }
     {

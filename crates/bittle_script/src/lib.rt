@@ -23,7 +23,7 @@ use writing::{Output, WriteFailed};
 /// The status of a run whose output failed.
 const OUTPUT_FAILED: u8 = 1;
 
-/// Reads a script, writes the answers to it, and answers the status that the program ends with: 0,
+/// Reads a script, writes the answers to it, and returns the status that the program ends with: 0,
 /// or 2 where the input is refused, or 1 where the output failed.
 pub fn run<R: Read, W: Write>(input: &mut R, output: &mut W) -> u8
     ensures status { result ≤ 2 }

@@ -26,7 +26,7 @@ impl<'a> Lines<'a> {
     ghost use Rattle.std.specs.List.{enumerate_from};
     ghost use Rattle.bittle_script.specs.Numbering.{lines_left};
 
-    /// The lines of a text that is no longer than an input may be.
+    /// Returns the lines of a text that is no longer than an input may be.
     pub fn new(text: &'a [u8]) -> Self
         requires { length text.now ≤ MOST_BYTES }
         ensures { lines_left result ≡ enumerate_from 1 (script_lines text.now) }
@@ -64,7 +64,7 @@ impl<'a> Iterator for Lines<'a> {
 }
 
 #[tactic(auto, using(crate::proofs::FirstLine::first_script_line, crate::proofs::FirstLine::only_script_line))]
-/// The first line of a text that has one, without its end, and what comes after it.
+/// Returns the first line of a text that has one, without its end, and what comes after it.
 fn first_line(text: &[u8]) -> (&[u8], &[u8])
     requires { 0 < length text.now }
     ensures lines { script_lines text.now ≡ result.0.now ∷ script_lines result.1.now }

@@ -26,7 +26,7 @@ pub enum Refusal {
 impl Refusal {
     ghost use Rattle.bittle_script.specs.Refusals.{message_of};
 
-    /// The line that is printed.
+    /// Returns the line that is printed.
     pub fn message(&self) -> &'static [u8]
         ensures { result.now ≡ message_of self.now }
     {
@@ -37,7 +37,7 @@ impl Refusal {
     }
 }
 
-/// Reads all there is to the start of `bytes`, and answers how many bytes there are.
+/// Reads all there is to the start of `bytes`, and returns how many bytes there are.
 pub fn read_all<R: Read>(input: &mut R, bytes: &mut [u8; ROOM]) -> Result<usize, Refusal>
     ensures fits { IfOk result (λ len. len ≤ MOST_BYTES) }
     ensures all { IfOk result
@@ -61,7 +61,7 @@ pub fn read_all<R: Read>(input: &mut R, bytes: &mut [u8; ROOM]) -> Result<usize,
     Err(Refusal::ReadFailed)
 }
 
-/// Whether a signal cut the call short, so that it may be made again.
+/// Returns whether a signal cut the call short, so that it may be made again.
 pub fn is_interrupted(error: &Error) -> bool
     ensures { IsTrue result ↔ (error_kind error.now ≡ ErrorKind.Interrupted) }
 {

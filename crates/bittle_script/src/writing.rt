@@ -24,7 +24,7 @@ pub struct Output<'a, W> {
 }
 
 impl<'a, W: Write> Output<'a, W> {
-    /// The output to a writer, of which no write was interrupted yet.
+    /// Returns the output to a writer, of which no write was interrupted yet.
     pub fn new(writer: &'a mut W) -> Self
         ensures same_writer { result.writer.ghost_name ≡ writer.entry.ghost_name }
         ensures contents { result.writer.now ≡ writer.old }
@@ -87,7 +87,7 @@ impl<'a, W: Write> Output<'a, W> {
         self.put_number(number)
     }
 
-    /// Flushes. A flush that was interrupted has failed.
+    /// Flushes the writer. A flush that was interrupted has failed.
     pub fn flush(&mut self) -> Result<(), WriteFailed>
         ensures same_writer { self.new.writer.ghost_name ≡ self.old.writer.ghost_name }
         ensures keeps { Keeps (W.contents self.old.writer.now) (W.contents self.new.writer.now) }

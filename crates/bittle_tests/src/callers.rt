@@ -12,7 +12,7 @@ use bittle::{Bits, BitsOwned, Endian, LittleEndian, number};
 use bittle_bits::hidden::Number;
 use std::alloc::{AllocError, Global};
 
-/// A `for` over the members of any set.
+/// Walks the members of any set by a `for`.
 fn each_member<B: Bits, E: Endian>(bits: &B) -> u64
     requires fits { Fits B.indexable (B.big bits.now).capacity }
     requires few { length (ascending (members E.mirrored B.width (B.big bits.now))) < 100 }
@@ -25,7 +25,7 @@ fn each_member<B: Bits, E: Endian>(bits: &B) -> u64
     total
 }
 
-/// A `for` over the other numbers of an array.
+/// Walks the zeros of an array by a `for`.
 fn each_other(bits: &[[u8; 2]; 2]) -> u32
     requires { length
         (ascending (complement
@@ -42,7 +42,7 @@ fn each_other(bits: &[[u8; 2]; 2]) -> u32
     total
 }
 
-/// A `for` over the members of an owned set.
+/// Walks the members of an owned set by a `for`.
 fn each_owned_member<B: BitsOwned, E: Endian>(bits: B) -> u64
     requires fits { Fits B.indexable (B.big bits).capacity }
     requires few { length (ascending (members E.mirrored B.width (B.big bits))) < 100 }
@@ -55,7 +55,7 @@ fn each_owned_member<B: BitsOwned, E: Endian>(bits: B) -> u64
     total
 }
 
-/// A `for` over the other numbers of an owned set.
+/// Walks the zeros of an owned set by a `for`.
 fn each_owned_other<B: BitsOwned, E: Endian>(bits: B) -> u64
     requires fits { Fits B.indexable (B.big bits).capacity }
     requires few { length (ascending (complement (members E.mirrored B.width (B.big bits)))) < 100 }
@@ -68,7 +68,7 @@ fn each_owned_other<B: BitsOwned, E: Endian>(bits: B) -> u64
     total
 }
 
-/// How many members an owned set has, by its walk.
+/// Counts the members of an owned set by its walk.
 fn counted<B: BitsOwned, E: Endian>(bits: B) -> usize
     requires fits { Fits B.indexable (B.big bits).capacity }
     requires few { length (ascending (members E.mirrored B.width (B.big bits))) < 2 ^ 64 }
@@ -77,7 +77,7 @@ fn counted<B: BitsOwned, E: Endian>(bits: B) -> usize
     bits.into_iter_ones_in::<E>().count()
 }
 
-/// The members of a set in an order, from the last on.
+/// Lists the members of a set in an order, from the last on.
 fn reversed<B: Bits, E: Endian>(alloc: Global, bits: &B) -> Result<Vec<u32>, AllocError>
     requires { Fits B.indexable (B.big bits.now).capacity }
     ensures { IfOk result (λ v. v.items
@@ -86,7 +86,7 @@ fn reversed<B: Bits, E: Endian>(alloc: Global, bits: &B) -> Result<Vec<u32>, All
     bits.iter_ones_in::<E>().rev().collect(alloc)
 }
 
-/// The members of a word, from the last on.
+/// Lists the members of a word, from the last on.
 fn word_reversed(alloc: Global, word: i16) -> Result<Vec<u32>, AllocError>
     ensures { IfOk result (λ v. v.items
         ≡ reverse (ascending (members false 16 (digit_set 16 (cast_unsigned w16 word))))) }
@@ -94,7 +94,7 @@ fn word_reversed(alloc: Global, word: i16) -> Result<Vec<u32>, AllocError>
     word.into_iter_ones_be().rev().collect(alloc)
 }
 
-/// Half of each number that a word lacks.
+/// Lists half of each zero of a word.
 fn halves(alloc: Global, word: u8) -> Result<Vec<u32>, AllocError>
     ensures { IfOk result (λ v. v.items
         ≡ map (λ i. i / 2) (ascending (complement (members true 8 (digit_set 8 word))))) }
@@ -104,7 +104,7 @@ fn halves(alloc: Global, word: u8) -> Result<Vec<u32>, AllocError>
         .collect(alloc)
 }
 
-/// A `for` over the members of one word of any type.
+/// Walks the members of one word of any type by a `for`.
 fn each_digit<T: Number, E: Endian>(word: T) -> u64
     requires { T.width < 1000 }
     ensures { result
@@ -117,7 +117,7 @@ fn each_digit<T: Number, E: Endian>(word: T) -> u64
     total
 }
 
-/// The numbers that one word lacks, from the last on.
+/// Lists the zeros of one word, from the last on.
 fn lacking_reversed(alloc: Global, word: u32) -> Result<Vec<u32>, AllocError>
     ensures { IfOk result (λ v. v.items
         ≡ reverse (ascending (complement (members true 32 (digit_set 32 word))))) }

@@ -9,14 +9,14 @@ ghost use Rattle.bittle.specs.PlainSet.{ascending, complement};
 use bittle::number::{IterOnes, IterZeros};
 use bittle::{BigEndian, LittleEndian};
 
-/// How many members a word of 32 digits has.
+/// Counts the members of a word of 32 bits.
 pub fn how_many(word: u32) -> usize
     ensures { result ≡ length (ascending (members true 32 (digit_set 32 word))) }
 {
     IterOnes::<u32, LittleEndian>::new(word).count()
 }
 
-/// How many indexes below a bound a word of 64 digits lacks.
+/// Counts the zeros of a word of 64 bits below a bound.
 pub fn how_many_lacking(word: u64, bound: u32) -> usize
     ensures { result ≡ count_by (λ i. nat_lt i bound)
         (ascending (complement (members false 64 (digit_set 64 word)))) }
@@ -26,7 +26,7 @@ pub fn how_many_lacking(word: u64, bound: u32) -> usize
         .count()
 }
 
-/// How many members of a byte have a half above a bound.
+/// Counts the members of a byte whose half lies above a bound.
 pub fn halves_above(word: i8, bound: u32) -> usize
     ensures { result ≡ count_by (λ i. nat_lt bound i)
         (map (λ i. i / 2) (ascending (members false 8 (digit_set 8 (cast_unsigned w8 word))))) }
@@ -37,7 +37,7 @@ pub fn halves_above(word: i8, bound: u32) -> usize
         .count()
 }
 
-/// The greatest index that a word of 16 digits lacks.
+/// Returns the greatest zero of a word of 16 bits, or `None` where it has none.
 pub fn greatest_lacking(word: u16) -> Option<u32>
     ensures { MatchOption result (ascending (complement (members true 16 (digit_set 16 word))) ≡ [])
         (λ i. (rest : List ℕ)

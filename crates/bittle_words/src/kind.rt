@@ -13,11 +13,11 @@ pub trait Kind: Drop + Sealed {
     const ONES: bool;
 }
 
-/// The set bits.
+/// Names the set bits.
 #[derive(Drop)]
 pub enum Ones {}
 
-/// The unset bits below the capacity.
+/// Names the unset bits below the capacity.
 #[derive(Drop)]
 pub enum Zeros {}
 
@@ -37,7 +37,7 @@ impl Kind for Zeros {
     const ONES: bool = false;
 }
 
-/// A word whose ones are the bits that the kind wants: for zeros, each bit flipped.
+/// Returns a word whose ones are the bits of the kind: for zeros, each bit flipped.
 #[doc(hidden)]
 #[inline]
 pub fn wanted_in<T: Number, K: Kind>(word: T) -> T

@@ -4,8 +4,8 @@ ghost use Rattle.std.specs.Prelude.{◌≡◌, true, false};
 
 use crate::endian::{BigEndian, DefaultEndian, Endian, LittleEndian};
 
-/// The first index is the digit of greatest weight in little-endian order, and not in big-endian
-/// order, the default.
+/// States that the first index is the bit of greatest weight in little-endian order, and not in
+/// big-endian order, the default.
 pub fn the_default_order_is_big_endian()
     ensures little { ⟦<LittleEndian as Endian>⟧.mirrored ≡ true }
     ensures big { ⟦<BigEndian as Endian>⟧.mirrored ≡ false }

@@ -12,6 +12,7 @@ use crate::endian::Endian;
 use crate::hidden::Number;
 use crate::operation::Operation;
 
+/// Tests the bit at an index, which wraps.
 #[inline]
 pub fn test_bit<T: Number, E: Endian>(word: T, index: u32) -> bool
     ensures { result
@@ -20,6 +21,7 @@ pub fn test_bit<T: Number, E: Endian>(word: T, index: u32) -> bool
     !word.and(E::mask::<T>(index)).is_zero()
 }
 
+/// Sets the bit at an index, which wraps.
 #[inline]
 pub fn set_bit<T: Number, E: Endian>(word: &mut T, index: u32)
     ensures { members E.mirrored T.width (digit_set T.width (T.digits word.new))
@@ -28,6 +30,7 @@ pub fn set_bit<T: Number, E: Endian>(word: &mut T, index: u32)
     *word = word.or(E::mask::<T>(index));
 }
 
+/// Clears the bit at an index, which wraps.
 #[inline]
 pub fn clear_bit<T: Number, E: Endian>(word: &mut T, index: u32)
     ensures { members E.mirrored T.width (digit_set T.width (T.digits word.new))
@@ -36,6 +39,7 @@ pub fn clear_bit<T: Number, E: Endian>(word: &mut T, index: u32)
     *word = word.and(E::mask::<T>(index).not());
 }
 
+/// Clears every bit.
 #[inline]
 pub fn clear_bits<T: Number>(word: &mut T)
     ensures { digit_set T.width (T.digits word.new)
@@ -44,6 +48,7 @@ pub fn clear_bits<T: Number>(word: &mut T)
     *word = T::zero();
 }
 
+/// Combines a word with another, bit by bit.
 #[inline]
 pub fn combine<T: Number, O: Operation>(word: &mut T, other: T)
     ensures { (mirrored : Bool) → members mirrored T.width (digit_set T.width (T.digits word.new))
@@ -54,6 +59,7 @@ pub fn combine<T: Number, O: Operation>(word: &mut T, other: T)
     *word = O::on_words::<T>(*word, other);
 }
 
+/// Counts the set bits.
 #[inline]
 pub fn count_ones<T: Number>(word: T) -> u32
     ensures value { result ≡ size (digit_set T.width (T.digits word)) }
@@ -64,6 +70,7 @@ pub fn count_ones<T: Number>(word: T) -> u32
     word.count_ones()
 }
 
+/// Returns whether no bit is set.
 #[inline]
 pub fn all_zeros<T: Number>(word: T) -> bool
     ensures value { result ≡ (size (digit_set T.width (T.digits word)) == 0) }
@@ -73,6 +80,7 @@ pub fn all_zeros<T: Number>(word: T) -> bool
     word.is_zero()
 }
 
+/// Returns whether every bit is set.
 #[inline]
 pub fn all_ones<T: Number>(word: T) -> bool
     ensures value { result ≡ (size (digit_set T.width (T.digits word)) == T.width) }
@@ -82,6 +90,7 @@ pub fn all_ones<T: Number>(word: T) -> bool
     word.not().is_zero()
 }
 
+/// Returns the word with no bit set.
 #[inline]
 pub fn zeros<T: Number>() -> T
     ensures value { digit_set T.width (T.digits result) ≡ empty T.width }
@@ -91,6 +100,7 @@ pub fn zeros<T: Number>() -> T
     T::zero()
 }
 
+/// Returns the word with every bit set.
 #[inline]
 pub fn ones<T: Number>() -> T
     ensures value { digit_set T.width (T.digits result) ≡ filled T.width }

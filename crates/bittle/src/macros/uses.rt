@@ -10,6 +10,7 @@ ghost use Rattle.bittle.specs.Listed.{listed_set, listed_open_set, listed_whole_
 use bittle_bits::bits_owned::BitsOwned;
 use bittle_bits::endian::{BigEndian, Endian, LittleEndian};
 
+/// Lists an index first, then ranges.
 fn listed<B: BitsOwned>(index: u32) -> B
     requires { IsTrue B.indexable }
     ensures { members B.Order.mirrored B.width (B.big result) ≡ listed_set B.type_capacity index }
@@ -17,6 +18,7 @@ fn listed<B: BitsOwned>(index: u32) -> B
     crate::set![index, 2..=3, 5..7, 9..4, 14..]
 }
 
+/// Lists as [`listed`] does, in little-endian order.
 fn listed_le<B: BitsOwned>(index: u32) -> B
     requires { IsTrue B.indexable }
     ensures { members ⟦<LittleEndian as Endian>⟧.mirrored B.width (B.big result)
@@ -25,6 +27,7 @@ fn listed_le<B: BitsOwned>(index: u32) -> B
     crate::set_le![index, 2..=3, 5..7, 9..4, 14..]
 }
 
+/// Lists as [`listed`] does, in big-endian order.
 fn listed_be<B: BitsOwned>(index: u32) -> B
     requires { IsTrue B.indexable }
     ensures { members ⟦<BigEndian as Endian>⟧.mirrored B.width (B.big result)
@@ -33,6 +36,7 @@ fn listed_be<B: BitsOwned>(index: u32) -> B
     crate::set_be![index, 2..=3, 5..7, 9..4, 14..]
 }
 
+/// Lists an open range first, and an index last.
 fn listed_open<B: BitsOwned>(index: u32) -> B
     requires { IsTrue B.indexable }
     ensures { members B.Order.mirrored B.width (B.big result)
@@ -41,6 +45,7 @@ fn listed_open<B: BitsOwned>(index: u32) -> B
     crate::set![100.., 2..=3, 70..75, 9, index]
 }
 
+/// Lists as [`listed_open`] does, in little-endian order.
 fn listed_open_le<B: BitsOwned>(index: u32) -> B
     requires { IsTrue B.indexable }
     ensures { members ⟦<LittleEndian as Endian>⟧.mirrored B.width (B.big result)
@@ -49,6 +54,7 @@ fn listed_open_le<B: BitsOwned>(index: u32) -> B
     crate::set_le![100.., 2..=3, 70..75, 9, index]
 }
 
+/// Lists as [`listed_open`] does, in big-endian order.
 fn listed_open_be<B: BitsOwned>(index: u32) -> B
     requires { IsTrue B.indexable }
     ensures { members ⟦<BigEndian as Endian>⟧.mirrored B.width (B.big result)
@@ -57,6 +63,7 @@ fn listed_open_be<B: BitsOwned>(index: u32) -> B
     crate::set_be![100.., 2..=3, 70..75, 9, index]
 }
 
+/// Lists every index by an open range.
 fn listed_whole<B: BitsOwned>() -> B
     requires { IsTrue B.indexable }
     ensures { members B.Order.mirrored B.width (B.big result) ≡ listed_whole_set B.type_capacity }
@@ -64,6 +71,7 @@ fn listed_whole<B: BitsOwned>() -> B
     crate::set![0..]
 }
 
+/// Lists as [`listed_whole`] does, in little-endian order.
 fn listed_whole_le<B: BitsOwned>() -> B
     requires { IsTrue B.indexable }
     ensures { members ⟦<LittleEndian as Endian>⟧.mirrored B.width (B.big result)
@@ -72,6 +80,7 @@ fn listed_whole_le<B: BitsOwned>() -> B
     crate::set_le![0..]
 }
 
+/// Lists as [`listed_whole`] does, in big-endian order.
 fn listed_whole_be<B: BitsOwned>() -> B
     requires { IsTrue B.indexable }
     ensures { members ⟦<BigEndian as Endian>⟧.mirrored B.width (B.big result)

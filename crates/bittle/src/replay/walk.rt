@@ -47,6 +47,7 @@ impl Model for Looks {
 }
 
 impl Looks {
+    /// Returns an empty log.
     fn new() -> Looks
         ensures { result ≡ [] }
     {
@@ -55,6 +56,7 @@ impl Looks {
         }
     }
 
+    /// Adds the count that a walk has reached.
     fn push(&mut self, count: &Count)
         ensures { self.new ≡ self.old ++ count.now ∷ [] }
     {
@@ -126,8 +128,8 @@ pub fn replay_walk<B: Bits, E: Endian>(
     }
 }
 
-/// At every moment the items from the front, what remains, and the items from the back in reverse
-/// are the whole list.
+/// States that at every moment the items from the front, what remains, and the items from the back
+/// in reverse are the whole list.
 #[doc(hidden)]
 pub fn ends_keep_all()
     ensures { (steps : List Step) (xs : List ℕ) → KeepsAll steps xs }

@@ -14,7 +14,7 @@ use bittle_bits::endian::Endian;
 use bittle_bits::hidden::Number;
 use std::cmp::Ordering;
 
-/// The digits of word `k` that are in just one of two sets.
+/// Returns the bits of word `k` that are set in just one of two sets.
 #[inline]
 fn word_apart<A: Bits, B: Bits>(left: &A, right: &B, k: u32) -> A::LeafWord
     requires width { A.width ≡ B.width }
@@ -31,7 +31,8 @@ fn word_apart<A: Bits, B: Bits>(left: &A, right: &B, k: u32) -> A::LeafWord
         .xor(<A::LeafWord as Number>::from_digits(theirs))
 }
 
-/// The least index that is in just one of two sets, or `None` where they have the same members.
+/// Returns the least index that is in just one of two sets, or `None` where they have the same
+/// members.
 pub fn first_apart<A: Bits, B: Bits, E: Endian>(left: &A, right: &B) -> Option<u32>
     requires width { A.width ≡ B.width }
     requires left_fits { Fits A.indexable (A.big left.now).capacity }
@@ -58,7 +59,7 @@ pub fn first_apart<A: Bits, B: Bits, E: Endian>(left: &A, right: &B) -> Option<u
     }
 }
 
-/// Whether an index is a member. It does not wrap.
+/// Returns whether an index is a member. It does not wrap.
 #[inline]
 fn has<B: Bits, E: Endian>(bits: &B, index: u32) -> bool
     requires { Fits B.indexable (B.big bits.now).capacity }
@@ -67,7 +68,7 @@ fn has<B: Bits, E: Endian>(bits: &B, index: u32) -> bool
     index < bits.bits_capacity() && bits.test_bit_in::<E>(index)
 }
 
-/// Whether a member lies past an index.
+/// Returns whether a member lies past an index.
 #[inline]
 fn has_past<B: Bits, E: Endian>(bits: &B, index: u32) -> bool
     requires { Fits B.indexable (B.big bits.now).capacity }
@@ -79,7 +80,7 @@ fn has_past<B: Bits, E: Endian>(bits: &B, index: u32) -> bool
     index < to && bits.first_one_in::<E>(index + 1, to).is_some()
 }
 
-/// The order of two sets by their words.
+/// Compares two sets by their words.
 pub fn compare<A: Bits, B: Bits, E: Endian>(left: &A, right: &B) -> Ordering
     requires width { A.width ≡ B.width }
     requires left_fits { Fits A.indexable (A.big left.now).capacity }

@@ -8,32 +8,32 @@ use super::Set;
 use bittle_bits::bits::Bits;
 use bittle_bits::endian::Endian;
 
-/// Calls that name no order read a set in the one that it remembers.
+/// States that calls which name no order read a set in the one that it remembers.
 pub fn sets_remember_their_order<T: Bits, U: Endian>()
     ensures { ⟦<<Set<T, U> as Bits>::Order as Endian>⟧.mirrored ≡ U.mirrored }
 {}
 
-/// The order of sets is total.
+/// States that the order of sets is total.
 pub fn order_is_total()
     ensures { OrderIsTotal }
 {}
 
-/// Two sets are equal exactly where the order says so.
+/// States that two sets are equal exactly where the order says so.
 pub fn order_agrees_with_equality()
     ensures { OrderAgreesWithEquality }
 {}
 
-/// The order of two sets, of any two shapes, reverses with its sides.
+/// States that the order of two sets, of any two shapes, reverses with its sides.
 pub fn order_reverses()
     ensures { OrderReverses }
 {}
 
-/// Whether two sets, of any two shapes, are equal is the same from both sides.
+/// States that whether two sets, of any two shapes, are equal is the same from both sides.
 pub fn equality_is_symmetric()
     ensures { EqualityIsSymmetric }
 {}
 
-/// Equal sets feed a hasher alike.
+/// States that equal sets feed a hasher alike.
 pub fn equal_sets_feed_alike()
     ensures { EqualSetsFeedAlike }
 {}
