@@ -4,7 +4,7 @@ use Rattle.std.specs.List.{list_any}
 use Rattle.std.proofs.lemmas.Bool.{cases_eq, eq-eqb, ne_eqb, lt-ltb}
 use Rattle.bittle_bits.specs.PlainSet.{ascending_from, complement, count_below, size, lacks}
 use Rattle.bittle_bits.specs.Splits.{OnesAndZerosSplit}
-use Rattle.bittle_bits.proofs.Sizes.{count-same, count-add}
+use Rattle.bittle_bits.proofs.Counts.{count-same, count-add}
 
 other_and_it : (b : Bool) → cond b 1 0 + cond (not b) 1 0 ≡ 1
 other_and_it true = refl

@@ -2,13 +2,14 @@ pub use Rattle.bittle_words.specs.Digits
 pub use Rattle.bittle_words.specs.Laws
 pub use Rattle.bittle_words.specs.Orders
 pub use Rattle.bittle_words.specs.PlainSet
-pub use Rattle.bittle_words.specs.Rows
 pub use Rattle.bittle_words.specs.SetOperations
 pub use Rattle.bittle_words.specs.Walk
 pub use Rattle.bittle_words.specs.Words
 pub mod Copies
 pub mod Join
 pub mod OrderLaws
+pub mod RowLaws
+pub mod Rows
 pub mod Searches
 pub mod SetAlgebra
 pub mod Shapes

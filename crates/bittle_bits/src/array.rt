@@ -1,7 +1,7 @@
 //! Arrays as sets.
 
 ghost use Rattle.std.specs.Prelude.{◌≡◌, ◌*◌, ◌&&◌, Bool, nat_lt, refl};
-ghost use Rattle.bittle_bits.specs.Laws.{elements_has-past, words_of, second_is_below, equal_rows};
+ghost use Rattle.bittle_bits.specs.RowLaws.{elements_has-past, words_of, second_is_below, equal_rows};
 ghost use Rattle.bittle_bits.specs.Orders.{members};
 ghost use Rattle.bittle_bits.specs.Rows.{elements_set};
 ghost use Rattle.bittle_bits.specs.SetOperations.{combined};

@@ -2,7 +2,7 @@
 
 ghost use Rattle.std.specs.Prelude.{◌≡◌, length};
 ghost use Rattle.std.proofs.Common.{rules, ◌∙◌};
-ghost use Rattle.bittle_bits.specs.Laws.{elements_has-past, words_of};
+ghost use Rattle.bittle_bits.specs.RowLaws.{elements_has-past, words_of};
 ghost use Rattle.bittle_bits.specs.Rows.{elements_set};
 
 use crate::bits::Bits;

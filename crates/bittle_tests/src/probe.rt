@@ -3,7 +3,8 @@
 ghost use Rattle.std.specs.Prelude.{◌≡◌, ◌*◌, ◌<◌, true, refl};
 ghost use Rattle.std.proofs.Common.{lit<};
 ghost use Rattle.bittle_bits.specs.Digits.{digit_set};
-ghost use Rattle.bittle_bits.specs.Laws.{elements_has-past, digit_has-past, words_of, one_word, equal_words, equal_rows};
+ghost use Rattle.bittle_bits.specs.RowLaws.{elements_has-past, words_of, equal_rows};
+ghost use Rattle.bittle_bits.specs.Laws.{digit_has-past, one_word, equal_words};
 ghost use Rattle.bittle_bits.specs.Rows.{elements_set};
 ghost use Rattle.bittle_bits.specs.Shapes.{Fits};
 

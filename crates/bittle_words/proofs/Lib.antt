@@ -1,14 +1,16 @@
 pub mod Ascending
 pub mod Combined
+pub mod Counts
 pub mod DigitSets
 pub mod Ends
 pub mod FromIndex
 pub mod PlaceLemmas
 pub mod PlainSets
-pub mod RowSets
 pub mod Runs
 pub mod Signed
 pub mod Sizes
 pub mod Wanted
 pub mod WordCalls
+pub mod WordCombinations
+pub mod WordSizes
 pub mod Words

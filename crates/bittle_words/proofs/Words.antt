@@ -7,11 +7,9 @@ use Rattle.std.proofs.lemmas.Bool.{cases_eq, cases_lt, lt-ltb, le-ltb}
 use Rattle.bittle_words.specs.Digits.{digit_has, digit_set}
 use Rattle.bittle_words.specs.Orders.{place, members}
 use Rattle.bittle_words.specs.PlainSet.{PlainSet}
-use Rattle.bittle_words.specs.Rows.{elements_has, elements_set}
 use Rattle.bittle_words.specs.Words.{word_has, word_of}
 use Rattle.bittle_words.proofs.PlaceLemmas.{place_part, place_in_word}
 use Rattle.bittle_words.proofs.PlainSets.{plain}
-use Rattle.bittle_words.proofs.RowSets.{elements_has_at, at_element-read}
 
 -- the members of word k, counted from its first place
 pub word_has-at : (w : ℕ) (s : PlainSet) (k i : ℕ) → i < w → word_has w s k i ≡ s.has (k * w + i)
@@ -31,38 +29,6 @@ word_of-digits w d k h =
       | inr g ↦ rw (le-ltb i w g) refl
     ])
 
--- word k of a row of elements of d words is a word of one element
-module _ {X : Type 0} (n c w d k : ℕ) (big : X → PlainSet) (xs : List X) (word : 0 < w) (whole : c ≡ d * w) (within : k * w < n * c) where
-  in_row : k < n * d
-  in_row = let h : k * w < n * d * w = omega (arith, whole, ap (λ t. n * t) whole, mul_assoc n d w) in lt_of_mul-lt-mul_right w h
-
-  -- an element has at least one word
-  pub some_words : 0 < d
-  some_words = elim (cases_eq d 0) [ inl z ↦ absurd (let h : k < n * 0 = rw z at in_row in omega arith) | inr p ↦ omega arith ]
-
-  -- the word lies in an element of the row
-  pub word_element : k / d < n
-  word_element = div_below k d n some_words in_row
-
-  -- the word begins below the capacity of its element
-  pub word_within : k % d * w < c
-  word_within = let h : k % d * w < d * w = mul-lt-mul_of_pos_right (mod_below k d some_words) word in omega (arith, whole)
-
-  -- the word of the row is that of the element it lies in
-  pub row_word : (x : X) → n ≡ length xs → x ≡ get_or xs (k / d) x → word_of w (big x) (k % d) ≡ word_of w (elements_set n c big xs) k
-  unfolding word_has
-  row_word x all at =
-      ap (plain w) (fun_ext λ i. elim (cases_lt i w) [
-        | inl l ↦
-            let low : k % d * w + i < d * w = omega (arith, mul-add-lt (k % d) w i d (mod_below k d some_words) l) in
-            let inside : k % d * w + i < c = omega (arith, whole) in
-            let split : k * w ≡ k / d * d * w + k % d * w = ap (λ t. t * w) (sym (div-add-mod' k d)) ∙ omega arith in
-            let place_is : k * w + i ≡ k / d * c + (k % d * w + i) = omega (arith, split, ap (λ t. k / d * t) whole, mul_assoc (k / d) d w) in
-            ap (λ b. nat_lt i w && b) (sym (ap (elements_has n c (λ x. (big x).has) xs) place_is ∙ elements_has_at n c (λ x. (big x).has) xs (k / d) (k % d * w + i) word_element inside
-            ∙ at_element-read (λ x. (big x).has (k % d * w + i)) xs (k / d) x (omega (arith, word_element)) at))
-        | inr g ↦ rw (le-ltb i w g) refl
-      ])
-
 -- the members of word k in an order are those of the set from k * w on
 module _ (m : Bool) (w k : ℕ) (s : PlainSet) (d : ℕ) (word : 0 < w) where
   member_at : (i : ℕ) → i < w → (members m w s).has (k * w + i) ≡ s.has (k * w + place m w i)
@@ -75,10 +41,6 @@ module _ (m : Bool) (w k : ℕ) (s : PlainSet) (d : ℕ) (word : 0 < w) where
   -- the digits of word k in an order
   pub digit_at : digit_set w d ≡ word_of w s k → (i : ℕ) → i < w → (members m w (digit_set w d)).has i ≡ (members m w s).has (k * w + i)
   digit_at is i h = ap (λ t. t.has (place m w i)) is ∙ word_has-at w s k (place m w i) (place_in_word m w i h) ∙ sym (member_at i h)
-
--- how many words an element of a capacity has
-pub words_each : (bits wide c w leaf d : ℕ) → 0 < w → bits ≡ c → wide ≡ leaf → leaf ≡ w → c ≡ d * w → bits / wide ≡ d
-words_each bits wide c w leaf d word b v same whole = rw (b, v, same, whole) (mul-div_left d word)
 
 -- a word that begins below a capacity of whole words ends below it
 pub word_ends : (w k c : ℕ) → (words : ℕ) × (c ≡ words * w) → k * w < c → k * w + w ≤ c

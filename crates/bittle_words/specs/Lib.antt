@@ -2,7 +2,6 @@ pub mod Digits
 pub mod Laws
 pub mod Orders
 pub mod PlainSet
-pub mod Rows
 pub mod SetOperations
 pub mod Walk
 pub mod Words

@@ -1,7 +1,8 @@
 use Rattle.std.proofs.Common.{false, length, ap, ◌∙◌, arith}
-use Rattle.bittle_bits.specs.Laws.{words_of}
+use Rattle.bittle_bits.specs.RowLaws.{words_of}
 use Rattle.bittle_bits.specs.Orders.{members}
-use Rattle.bittle_bits.proofs.Combined.{row_combined, members-combined, more_done, still_rest}
+use Rattle.bittle_bits.proofs.RowCombinations.{row_combined, more_done, still_rest}
+use Rattle.bittle_bits.proofs.Combined.{members-combined}
 use Rattle.bittle_bits.proofs.elements.combine.Goals as goal
 
 pub loop-at-preserved : goal.loop-at-preserved

@@ -1,5 +1,5 @@
 use Rattle.std.proofs.Common.{refl, ◌∙◌, arith, length}
-use Rattle.bittle_bits.proofs.Words.{word_element, word_within, row_word, words_each}
+use Rattle.bittle_bits.proofs.RowWords.{word_element, word_within, row_word, words_each}
 use Rattle.bittle_bits.proofs.elements.leaf_word.Goals as goal
 
 pub offset_bounds-elements-k : goal.offset_bounds-elements-k

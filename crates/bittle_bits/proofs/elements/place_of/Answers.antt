@@ -1,5 +1,5 @@
 use Rattle.std.proofs.Common.{refl, arith}
-use Rattle.bittle_bits.proofs.RowSets.{goes_to}
+use Rattle.bittle_bits.proofs.RowCalls.{goes_to}
 use Rattle.bittle_bits.proofs.elements.place_of.Goals as goal
 
 pub returns : goal.returns

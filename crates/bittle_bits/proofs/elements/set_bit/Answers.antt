@@ -1,6 +1,6 @@
 use Rattle.std.proofs.Common.{refl, sym, ap, get_or, length, length-set}
 use Rattle.bittle_bits.proofs.PlainSets.{with-none}
-use Rattle.bittle_bits.proofs.RowSets.{row_set}
+use Rattle.bittle_bits.proofs.RowCalls.{row_set}
 use Rattle.bittle_bits.proofs.elements.set_bit.Goals as goal
 
 pub returns-in-Some : goal.returns-in-Some

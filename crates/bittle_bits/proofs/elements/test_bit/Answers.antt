@@ -1,6 +1,6 @@
 use Rattle.std.proofs.Common.{refl, sym, length}
 use Rattle.bittle_bits.proofs.PlainSets.{contains-none}
-use Rattle.bittle_bits.proofs.RowSets.{row_tested}
+use Rattle.bittle_bits.proofs.RowCalls.{row_tested}
 use Rattle.bittle_bits.proofs.elements.test_bit.Goals as goal
 
 pub returns-in-Some : goal.returns-in-Some

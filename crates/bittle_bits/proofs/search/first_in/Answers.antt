@@ -1,6 +1,7 @@
 use Rattle.std.proofs.Common.{◌≡◌, ◌-◌, ◌/◌, ◌<◌, ◌≤◌, refl, ◌∙◌, arith}
 use Rattle.bittle_bits.specs.Walk.{wanted}
-use Rattle.bittle_bits.proofs.Searching.{seeks_start, seeks_next, seeks_found, seeks_past, index_below, last_word, words_ordered}
+use Rattle.bittle_bits.proofs.Searching.{seeks_start, seeks_next, seeks_found, seeks_past}
+use Rattle.bittle_bits.proofs.SearchBounds.{index_below, last_word, words_ordered}
 use Rattle.bittle_bits.proofs.Wanted.{wanted_members}
 use Rattle.bittle_bits.proofs.search.first_in.Goals as goal
 

@@ -1,6 +1,7 @@
 use Rattle.std.proofs.Common.{◌≡◌, ◌-◌, ◌/◌, ◌%◌, ◌<◌, ◌≤◌, refl, ◌∙◌, arith}
 use Rattle.bittle_bits.specs.Walk.{wanted}
-use Rattle.bittle_bits.proofs.Searching.{seeks_back_start, seeks_back_next, seeks_back_found, seeks_back_past, first_word, words_ordered}
+use Rattle.bittle_bits.proofs.Searching.{seeks_back_start, seeks_back_next, seeks_back_found, seeks_back_past}
+use Rattle.bittle_bits.proofs.SearchBounds.{first_word, words_ordered}
 use Rattle.bittle_bits.proofs.Wanted.{wanted_members}
 use Rattle.bittle_bits.proofs.search.last_in.Goals as goal
 

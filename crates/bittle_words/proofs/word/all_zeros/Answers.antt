@@ -1,6 +1,7 @@
 use Rattle.std.proofs.Common.{◌∙◌, ◌==◌}
 use Rattle.bittle_words.specs.Laws.{one_word}
-use Rattle.bittle_words.proofs.Sizes.{word_empty, size_in_each_order}
+use Rattle.bittle_words.proofs.WordSizes.{word_empty}
+use Rattle.bittle_words.proofs.Sizes.{size_in_each_order}
 use Rattle.bittle_words.proofs.word.all_zeros.Goals as goal
 
 pub returns-clause-value : goal.returns-clause-value

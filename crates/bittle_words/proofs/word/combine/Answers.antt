@@ -1,4 +1,4 @@
-use Rattle.bittle_words.proofs.Combined.{word_combined}
+use Rattle.bittle_words.proofs.WordCombinations.{word_combined}
 use Rattle.bittle_words.proofs.word.combine.Goals as goal
 
 pub returns : goal.returns

@@ -1,5 +1,6 @@
 use Rattle.bittle_words.specs.Laws.{one_word}
-use Rattle.bittle_words.proofs.Sizes.{size-digit_set, size-most, size_in_each_order}
+use Rattle.bittle_words.proofs.WordSizes.{size-digit_set}
+use Rattle.bittle_words.proofs.Sizes.{size-most, size_in_each_order}
 use Rattle.bittle_words.proofs.word.count_ones.Goals as goal
 
 pub returns-clause-value : goal.returns-clause-value

@@ -2,7 +2,7 @@ use Rattle.std.proofs.Common.{◌≡◌, sym, ap, subst, ◌∙◌}
 use Rattle.bittle_bits.specs.Digits.{digit_set}
 use Rattle.bittle_bits.specs.SetOperations.{combined, just_one}
 use Rattle.bittle_bits.specs.Words.{word_of}
-use Rattle.bittle_bits.proofs.Combined.{digits_just_one}
+use Rattle.bittle_bits.proofs.WordCombinations.{digits_just_one}
 use Rattle.bittle.proofs.set.apart.word_apart.Goals as goal
 
 pub returns : goal.returns

@@ -1,4 +1,4 @@
-use Rattle.bittle_bits.specs.Laws.{words_of}
+use Rattle.bittle_bits.specs.RowLaws.{words_of}
 use Rattle.bittle_bits.proofs.PlainSets.{filled_in_each_order}
 use Rattle.bittle_bits.proofs.RowSets.{elements_set-full}
 use Rattle.bittle_bits.proofs.array.ArrayBitsOwned.ones.Goals as goal
