@@ -7,9 +7,11 @@ use Rattle.bittle_bits.specs.Digits.{digit_has, digit_set}
 use Rattle.bittle_bits.specs.Orders.{place, members}
 use Rattle.bittle_bits.specs.PlainSet.{PlainSet, filled_from, with_index, empty, lacks, IsLeastMember, IsGreatestMember}
 use Rattle.bittle_bits.specs.Searches.{NoneIn, IsFirstIn, IsLastIn}
+use Rattle.bittle_bits.specs.Walk.{wanted}
 use Rattle.bittle_bits.specs.Words.{word_of}
 use Rattle.bittle_bits.proofs.DigitSets.{digit_has-and, digit_has-or, digit_has-not}
 use Rattle.bittle_bits.proofs.PlaceLemmas.{place_in_word}
+use Rattle.bittle_bits.proofs.Wanted.{wanted_members}
 use Rattle.bittle_bits.proofs.WordCalls.{at_mask}
 use Rattle.bittle_bits.proofs.Words.{digit_at, word_ends}
 
@@ -169,3 +171,30 @@ module _ (m : Bool) (w : ℕ) (s : PlainSet) (word : 0 < w) where
   -- where the greatest member of the word is below `from`, the range has none
   pub seeks_back_past : (from to k d r : ℕ) → SeeksBack m w s to k d → IsGreatestMember (members m w (digit_set w d)) r → k * w + (w - r) ≤ from → IsLastIn t from to None
   seeks_back_past from to k d r h greatest past j lo hi = none_above_greatest to k d r h greatest j (omega arith) hi
+
+-- a search for the bits of a kind, in a set in an order
+module _ (ones m : Bool) (w : ℕ) (big : PlainSet) (word : 0 < w) (whole : (words : ℕ) × (big.capacity ≡ words * w)) where
+  abbrev of_kind : PlainSet
+  of_kind = wanted ones big
+
+  abbrev sought : PlainSet
+  sought = wanted ones (members m w big)
+
+  in_order : sought ≡ members m w of_kind
+  in_order = wanted_members ones m w big word whole
+
+  -- the least member of the word, where it is below `to`, is the first that is sought
+  pub first_found : (from to k d r : ℕ) → Seeks m w of_kind from k d → IsLeastMember (members m w (digit_set w d)) r → r < w → k * w + r < to → IsFirstIn sought from to (Some (k * w + r))
+  first_found from to k d r h least low below = rw in_order (seeks_found m w of_kind word from to k d r h least low below)
+
+  -- where the least member of the word is not below `to`, nothing that is sought is there
+  pub first_past : (from to k d r : ℕ) → Seeks m w of_kind from k d → IsLeastMember (members m w (digit_set w d)) r → to ≤ k * w + r → IsFirstIn sought from to None
+  first_past from to k d r h least past = rw in_order (seeks_past m w of_kind word from to k d r h least past)
+
+  -- the greatest member of the word, where it is not below `from`, is the last that is sought
+  pub last_found : (from to k d r : ℕ) → SeeksBack m w of_kind to k d → IsGreatestMember (members m w (digit_set w d)) r → r < w → from ≤ k * w + (w - 1 - r) → IsLastIn sought from to (Some (k * w + (w - 1 - r)))
+  last_found from to k d r h greatest low above = rw in_order (seeks_back_found m w of_kind word from to k d r h greatest low above)
+
+  -- where the greatest member of the word is below `from`, nothing that is sought is there
+  pub last_past : (from to k d r : ℕ) → SeeksBack m w of_kind to k d → IsGreatestMember (members m w (digit_set w d)) r → k * w + (w - r) ≤ from → IsLastIn sought from to None
+  last_past from to k d r h greatest past = rw in_order (seeks_back_past m w of_kind word from to k d r h greatest past)
