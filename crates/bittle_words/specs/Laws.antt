@@ -24,16 +24,3 @@ equal_words w u v h = ap (digit_set w) (eqb-true u v h)
 -- equal signed words are one set, whatever digits each has
 pub equal_signed_words : (w : ℕ) (digits : ℤ → ℕ) (u v : ℤ) → IsTrue (int_eq u v) → digit_set w (digits u) ≡ digit_set w (digits v)
 equal_signed_words w digits u v h = ap (λ x. digit_set w (digits x)) ((signed_Decides u v).0 h)
-
-module _ {X : Type 0} {eq : X → X → Bool} (c : ℕ) (big : X → PlainSet) (each : (x y : X) → IsTrue (eq x y) → big x ≡ big y) where
-  equal_elements : (xs ys : List X) (q r : ℕ) → IsTrue (pointwise eq xs ys) → at_element (λ x. (big x).has r) xs q ≡ at_element (λ x. (big x).has r) ys q
-  unfolding at_element
-  equal_elements [] [] q r h = refl
-  equal_elements [] (y ∷ ys) q r h = absurd (true≢false (sym h))
-  equal_elements (x ∷ xs) [] q r h = absurd (true≢false (sym h))
-  equal_elements (x ∷ xs) (y ∷ ys) zero r h = ap (λ s. s.has r) (each x y (and_parts (eq x y) (pointwise eq xs ys) h).0)
-  equal_elements (x ∷ xs) (y ∷ ys) (suc q) r h = equal_elements xs ys q r (and_parts (eq x y) (pointwise eq xs ys) h).1
-
-  same_test : (n : ℕ) (xs ys : List X) → IsTrue (pointwise eq xs ys) → (i : ℕ) → elements_has n c (λ x. (big x).has) xs i ≡ elements_has n c (λ x. (big x).has) ys i
-  unfolding elements_has
-  same_test n xs ys h i = ap (λ b. nat_lt i (n * c) && b) (equal_elements xs ys (i / c) (i % c) h)
