@@ -8,7 +8,6 @@ ghost use Rattle.bittle_bits.specs.Words.{word_of};
 
 use crate::bits::Bits;
 use bittle_words::kind::wanted_in;
-
 pub use bittle_words::kind::{Kind, Ones, Zeros};
 
 /// Returns word `k` of a set, as a word whose ones are the bits of the kind.

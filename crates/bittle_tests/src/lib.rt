@@ -6,16 +6,6 @@
 #[cfg(test)]
 mod callers;
 #[cfg(test)]
-mod capacities;
-#[cfg(test)]
-mod comparisons;
-#[cfg(test)]
-mod examples;
-#[cfg(test)]
-mod guide;
-#[cfg(test)]
-mod joins;
-#[cfg(test)]
 mod lists;
 #[cfg(test)]
 mod operations;
@@ -24,20 +14,6 @@ mod probe;
 #[cfg(test)]
 mod runs;
 #[cfg(test)]
-mod sets;
-#[cfg(test)]
-mod shapes;
-#[cfg(test)]
-mod texts;
-#[cfg(test)]
 mod values;
-#[cfg(test)]
-mod vectors;
-#[cfg(test)]
-mod walk_runs;
-#[cfg(test)]
-mod walks;
-#[cfg(test)]
-mod without_capacity;
 #[cfg(test)]
 mod words;

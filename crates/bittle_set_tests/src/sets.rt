@@ -1,6 +1,6 @@
 //! Sets and what they answer, with values worked out by hand.
 
-ghost use Rattle.bittle_bits.specs.Shapes.{Fits};
+ghost use Rattle.bittle.specs.Shapes.{Fits};
 
 use bittle::prelude::*;
 use bittle::{BigEndian, Endian, LittleEndian, Set, set};

@@ -1,6 +1,6 @@
 //! One list of calls on shapes of every nesting, and on slices of the caller.
 
-ghost use Rattle.bittle_bits.specs.Shapes.{Fits};
+ghost use Rattle.bittle.specs.Shapes.{Fits};
 
 use bittle::replay::{Call, Reply, replay};
 use bittle::{BigEndian, BitsMut, Endian, LittleEndian};

@@ -1,7 +1,7 @@
 //! Walks of each form, and the bounded searches, against values worked out by hand.
 
 ghost use Rattle.std.specs.Iterator.{IsFinite};
-ghost use Rattle.bittle_bits.specs.Shapes.{Fits};
+ghost use Rattle.bittle.specs.Shapes.{Fits};
 
 use bittle::prelude::*;
 use bittle::{BigEndian, LittleEndian, set};

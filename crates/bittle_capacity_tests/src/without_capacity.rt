@@ -1,7 +1,7 @@
 //! Shapes without capacity: each call answers, and nothing is held.
 
 ghost use Rattle.std.specs.Prelude.{IsTrue};
-ghost use Rattle.bittle_bits.specs.Shapes.{Fits};
+ghost use Rattle.bittle.specs.Shapes.{Fits};
 
 use bittle::prelude::*;
 use bittle::{BigEndian, LittleEndian, Set, set, set_be, set_le};

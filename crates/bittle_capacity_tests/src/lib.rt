@@ -1,0 +1,9 @@
+//! Tests of capacities: without any, at the bound, and shapes that do not fit.
+#![tactic(auto)]
+
+#[cfg(test)]
+mod capacities;
+#[cfg(test)]
+mod shapes;
+#[cfg(test)]
+mod without_capacity;

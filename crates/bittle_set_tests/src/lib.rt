@@ -1,0 +1,9 @@
+//! Tests of `Set`: its calls, its comparisons and its text, each from outside the library.
+#![tactic(auto)]
+
+#[cfg(test)]
+mod comparisons;
+#[cfg(test)]
+mod sets;
+#[cfg(test)]
+mod texts;
