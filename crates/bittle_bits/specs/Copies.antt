@@ -1,5 +1,5 @@
 -- Copied words: what is left in each, and what a look takes.
-use Rattle.std.specs.Prelude.{◌≡◌, ℕ, ◌+◌, ◌-◌, ◌<◌, Bool, List, [], ◌∷◌, ◌++◌, map, Option, Some, None, MatchOption}
+use Rattle.std.specs.Prelude.{◌≡◌, ℕ, ◌+◌, ◌-◌, ◌<◌, Bool, true, false, cond, List, [], ◌∷◌, ◌++◌, map, Option, Some, None, MatchOption}
 use Rattle.bittle_bits.specs.Digits.{digit_set}
 use Rattle.bittle_bits.specs.Orders.{members}
 use Rattle.bittle_bits.specs.PlainSet.{PlainSet, ascending_from, ascending}
@@ -13,15 +13,13 @@ between s from to = ascending_from s.has from (to - from)
 abbrev pub items_of : Bool → ℕ → ℕ → ℕ → List ℕ
 items_of mirrored w digits base = map (λ i. base + i) (ascending (members mirrored w (digit_set w digits)))
 
--- the items of a copy, if there is one
-abbrev pub copied : {W : Type 0} → Bool → ℕ → (W → ℕ) → Option (Copied W) → Option (List ℕ)
-copied mirrored w digits None = None
-copied mirrored w digits (Some c) = Some (items_of mirrored w (digits c.word) c.base)
+-- the items of a copy, if it is held
+abbrev pub copied : {W : Type 0} → Bool → ℕ → (W → ℕ) → Copied W → Option (List ℕ)
+copied mirrored w digits c = cond c.held (Some (items_of mirrored w (digits c.word) c.base)) None
 
--- the indexes of a copied word, if there is one, are numbers of 32 bits
-abbrev pub IsInReach : {W : Type 0} → ℕ → Option (Copied W) → Type 0
-IsInReach w None = Unit {0}
-IsInReach w (Some c) = c.base + w < 4294967296
+-- the indexes of a copy that is held are numbers of 32 bits, and one that is not held has no items
+abbrev pub IsSound : {W : Type 0} → Bool → ℕ → (W → ℕ) → Copied W → Type 0
+IsSound mirrored w digits c = (c.held ≡ true → c.base + w < 4294967296) × (c.held ≡ false → items_of mirrored w (digits c.word) c.base ≡ [])
 
 -- two copies, by the items that each has left, the looks at them, and the fetches of words
 pub record Held : Type 0 where

@@ -1,8 +1,8 @@
 //! The looks and the fetches of walks: a walk reads its set through copies of words alone, and each
 //! fetch of a word and each search of a copy is counted.
 
-ghost use Rattle.std.specs.Prelude.{◌≡◌, ◌+◌, ◌*◌, ◌/◌, ◌<◌, Some, None};
-ghost use Rattle.bittle_bits.specs.Copies.{between, copied, held, items_of, IsInReach, TakesFirst, TakesLast};
+ghost use Rattle.std.specs.Prelude.{◌≡◌, ◌+◌, ◌*◌, ◌/◌, ◌<◌, Some, None, true};
+ghost use Rattle.bittle_bits.specs.Copies.{between, copied, held, items_of, IsSound, TakesFirst, TakesLast};
 ghost use Rattle.bittle_bits.specs.Orders.{members};
 ghost use Rattle.bittle_bits.specs.Shapes.{Fits};
 ghost use Rattle.bittle_bits.specs.Walk.{wanted};
@@ -16,11 +16,13 @@ use crate::kind::{Kind, wanted_word};
 use bittle_words::word;
 use std::marker::{Model, PhantomData};
 
-// A copied word, and the index in its set of the first digit.
+// A copied word, and the index in its set of the first digit. Where there is no copy, or it is
+// retired, the word has no digit, so that a step tests the word alone; the flag serves the count.
 #[derive(Clone, Copy)]
 struct Copied<W: Copy> {
     word: W,
     base: u32,
+    held: bool,
 }
 
 /// A set that a walk borrows: its words can be counted and fetched, and nothing else can be asked
@@ -102,55 +104,55 @@ fn fetch<B: Bits, E: Endian, K: Kind>(
         ≡ between (wanted K.ONES (members E.mirrored B.width (B.big source.now.set.now)))
         (k * B.width) (k * B.width + B.width) }
     ensures reach { result.base + B.LeafWord.width < 4294967296 }
+    ensures held { result.held ≡ true }
     ensures fetches { fetches.new ≡ fetches.old + 1 }
 {
     fetches.raise();
     Copied {
         word: wanted_word::<B, K>(source.set, k),
         base: k * <B::LeafWord as Number>::width(),
+        held: true,
     }
 }
 
 // Looks at a copy for its first item.
 #[inline]
-fn take_first<W: Number, E: Endian>(copy: &mut Option<Copied<W>>, looks: &mut Count) -> Option<u32>
-    requires { IsInReach W.width copy.old }
+fn take_first<W: Number, E: Endian>(copy: &mut Copied<W>, looks: &mut Count) -> Option<u32>
+    requires { IsSound E.mirrored W.width W.digits copy.old }
     ensures found { TakesFirst (copied E.mirrored W.width W.digits copy.old) result
         (copied E.mirrored W.width W.digits copy.new) }
     ensures looks { looks.new ≡ looks.old + held (copied E.mirrored W.width W.digits copy.old) }
-    ensures reach { IsInReach W.width copy.new }
+    ensures sound { IsSound E.mirrored W.width W.digits copy.new }
 {
-    let Some(mut held) = *copy else {
+    let Some(index) = word::take_first::<W, E>(&mut copy.word) else {
+        if copy.held {
+            looks.raise();
+            copy.held = false;
+        }
         return None;
     };
     looks.raise();
-    let Some(index) = word::take_first::<W, E>(&mut held.word) else {
-        *copy = None;
-        return None;
-    };
-    *copy = Some(held);
-    Some(held.base + index)
+    Some(copy.base + index)
 }
 
 // Looks at a copy for its last item.
 #[inline]
-fn take_last<W: Number, E: Endian>(copy: &mut Option<Copied<W>>, looks: &mut Count) -> Option<u32>
-    requires { IsInReach W.width copy.old }
+fn take_last<W: Number, E: Endian>(copy: &mut Copied<W>, looks: &mut Count) -> Option<u32>
+    requires { IsSound E.mirrored W.width W.digits copy.old }
     ensures found { TakesLast (copied E.mirrored W.width W.digits copy.old) result
         (copied E.mirrored W.width W.digits copy.new) }
     ensures looks { looks.new ≡ looks.old + held (copied E.mirrored W.width W.digits copy.old) }
-    ensures reach { IsInReach W.width copy.new }
+    ensures sound { IsSound E.mirrored W.width W.digits copy.new }
 {
-    let Some(mut held) = *copy else {
+    let Some(index) = word::take_last::<W, E>(&mut copy.word) else {
+        if copy.held {
+            looks.raise();
+            copy.held = false;
+        }
         return None;
     };
     looks.raise();
-    let Some(index) = word::take_last::<W, E>(&mut held.word) else {
-        *copy = None;
-        return None;
-    };
-    *copy = Some(held);
-    Some(held.base + index)
+    Some(copy.base + index)
 }
 
 /// The two words that a walk has copied: for a walk of zeros, with each bit flipped.
@@ -159,15 +161,15 @@ fn take_last<W: Number, E: Endian>(copy: &mut Option<Copied<W>>, looks: &mut Cou
 /// gives an item or retires the copy.
 #[derive(Drop)]
 pub struct Copies<W: Number, E: Endian> {
-    head: Option<Copied<W>>,
-    tail: Option<Copied<W>>,
+    head: Copied<W>,
+    tail: Copied<W>,
     looks: Count,
     fetches: Count,
     order: PhantomData<E>,
 }
 
 impl<W: Number, E: Endian> Model for Copies<W, E> {
-    ghost use Rattle.bittle_bits.specs.Copies.{Held, copied, IsInReach};
+    ghost use Rattle.bittle_bits.specs.Copies.{Held, copied, IsSound};
 
     ghost Value = { Held };
 
@@ -178,7 +180,8 @@ impl<W: Number, E: Endian> Model for Copies<W, E> {
       fetches = c.fetches;
     } };
 
-    ghost invariant = { λ c. IsInReach W.width c.head × IsInReach W.width c.tail };
+    ghost invariant = { λ c. IsSound E.mirrored W.width W.digits c.head
+        × IsSound E.mirrored W.width W.digits c.tail };
 }
 
 impl<W: Number, E: Endian> Copies<W, E> {
@@ -187,9 +190,14 @@ impl<W: Number, E: Endian> Copies<W, E> {
     pub fn none() -> Copies<W, E>
         ensures { result ≡ record { head = None; tail = None; looks = 0; fetches = 0 } }
     {
+        let none = Copied {
+            word: W::zero(),
+            base: 0,
+            held: false,
+        };
         Copies {
-            head: None,
-            tail: None,
+            head: none,
+            tail: none,
             looks: Count::new(),
             fetches: Count::new(),
             order: PhantomData,
@@ -233,7 +241,7 @@ impl<W: Number, E: Endian> Copies<W, E> {
           fetches = self.old.fetches + 1;
         } }
     {
-        self.head = Some(fetch::<B, E, K>(source, k, &mut self.fetches));
+        self.head = fetch::<B, E, K>(source, k, &mut self.fetches);
     }
 
     /// Fetches word `k` to the tail, with the bits that the kind wants.
@@ -250,7 +258,7 @@ impl<W: Number, E: Endian> Copies<W, E> {
           fetches = self.old.fetches + 1;
         } }
     {
-        self.tail = Some(fetch::<B, E, K>(source, k, &mut self.fetches));
+        self.tail = fetch::<B, E, K>(source, k, &mut self.fetches);
     }
 
     /// Looks at the head for its first item.
