@@ -148,14 +148,22 @@ pub fn put_through_in<B: BitsMut, E: Endian>(bits: &mut B, from: u32, to: u32)
     if to < from {
         return;
     }
-    // As many neighbours as the capacity are all of them, so no range makes more changes.
     let capacity = bits.bits_capacity();
+    if capacity == 0 {
+        return;
+    }
+    // As many neighbours as the capacity are all of them, so no range has more to set.
     let count = if to - from < capacity {
         to - from + 1
     } else {
         capacity
     };
-    for past in 0..count {
-        bits.set_bit_in::<E>(from + past);
+    let start = from % capacity;
+    let room = capacity - start;
+    if count <= room {
+        bits.fill_in::<E>(start, start + count);
+    } else {
+        bits.fill_in::<E>(start, capacity);
+        bits.fill_in::<E>(0, count - room);
     }
 }

@@ -261,6 +261,11 @@ impl<T: BitsMut, U: Endian> BitsMut for Set<T, U> {
     }
 
     #[inline]
+    fn fill_in<E: Endian>(&mut self, from: u32, to: u32) {
+        self.bits.fill_in::<E>(from, to);
+    }
+
+    #[inline]
     fn combine<O: Operation>(&mut self, other: &Set<T, U>) {
         self.bits.combine::<O>(&other.bits);
     }

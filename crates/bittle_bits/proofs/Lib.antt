@@ -9,6 +9,7 @@ pub use Rattle.bittle_words.proofs.PlainSets
 pub use Rattle.bittle_words.proofs.Runs
 pub use Rattle.bittle_words.proofs.Signed
 pub use Rattle.bittle_words.proofs.Sizes
+pub use Rattle.bittle_words.proofs.Spans
 pub use Rattle.bittle_words.proofs.Wanted
 pub use Rattle.bittle_words.proofs.WordCalls
 pub use Rattle.bittle_words.proofs.WordCombinations
@@ -26,5 +27,6 @@ pub mod RowWords
 pub mod SearchBounds
 pub mod Searching
 pub mod SetLaws
+pub mod RowSpans
 pub mod SplitSets
 pub mod Steps

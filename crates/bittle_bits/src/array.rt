@@ -107,6 +107,11 @@ impl<T: BitsOwned, const N: usize> BitsMut for [T; N] {
     }
 
     #[inline]
+    fn fill_in<E: Endian>(&mut self, from: u32, to: u32) {
+        elements::fill::<T, E>(self, from, to);
+    }
+
+    #[inline]
     fn combine<O: Operation>(&mut self, other: &[T; N]) {
         combine::<T, O, N>(self, other);
     }

@@ -1,9 +1,10 @@
 //! Changing a set.
 
-ghost use Rattle.std.specs.Prelude.{◌≡◌, Bool, IsTrue};
+ghost use Rattle.std.specs.Prelude.{◌≡◌, ◌≤◌, Bool, IsTrue};
 ghost use Rattle.bittle_bits.specs.Orders.{members};
-ghost use Rattle.bittle_bits.specs.PlainSet.{with_index, without_index, emptied};
+ghost use Rattle.bittle_bits.specs.PlainSet.{with_index, with_span, without_index, emptied};
 ghost use Rattle.bittle_bits.specs.SetOperations.{combined, union_of, conjunction_of, difference_of, symmetric_difference_of};
+ghost use Rattle.bittle_bits.specs.Shapes.{Fits};
 
 use crate::bits::Bits;
 use crate::endian::{BigEndian, Endian, LittleEndian};
@@ -53,6 +54,17 @@ pub trait BitsMut: Bits {
     /// ```
     fn clear_bits(&mut self)
         ensures set { Self.big self.new ≡ emptied (Self.big self.old) }
+        ensures stays { same_place self.old self.new };
+
+    /// Sets the bit at each index from `from` on and before `to`, in the order `E`. No other bit
+    /// changes.
+    #[doc(hidden)]
+    fn fill_in<E: Endian>(&mut self, from: u32, to: u32)
+        requires fits { Fits Self.indexable (Self.big self.old).capacity }
+        requires ordered { from ≤ to }
+        requires within { to ≤ (Self.big self.old).capacity }
+        ensures set { members E.mirrored Self.width (Self.big self.new)
+            ≡ with_span (members E.mirrored Self.width (Self.big self.old)) from to }
         ensures stays { same_place self.old self.new };
 
     /// Combines the set with another one by an operation. Between two slices of unequal length only

@@ -2,7 +2,7 @@
 
 ghost use Rattle.std.specs.Prelude.{◌≡◌, ◌==◌, ◌*◌, ◌<◌, ◌≤◌, Bool, length, IsTrue, MatchOption};
 ghost use Rattle.bittle_bits.specs.Orders.{members};
-ghost use Rattle.bittle_bits.specs.PlainSet.{contains, with_index, without_index, emptied, size};
+ghost use Rattle.bittle_bits.specs.PlainSet.{contains, with_index, with_span, without_index, emptied, size};
 ghost use Rattle.bittle_bits.specs.Rows.{elements_set, GoesTo};
 ghost use Rattle.bittle_bits.specs.SetOperations.{combined};
 ghost use Rattle.bittle_bits.specs.Shapes.{Fits};
@@ -96,6 +96,28 @@ pub fn clear_bits<T: BitsOwned>(elements: &mut [T])
 {
     for element in elements.iter_mut() {
         element.clear_bits();
+    }
+}
+
+/// Sets each index from `from` on and before `to`, of each element those that lie in it.
+pub fn fill<T: BitsOwned, E: Endian>(elements: &mut [T], from: u32, to: u32)
+    requires fits { Fits T.indexable (length elements.old * T.type_capacity) }
+    requires ordered { from ≤ to }
+    requires within { to ≤ length elements.old * T.type_capacity }
+    ensures { members E.mirrored T.width
+        (elements_set (length elements.new) T.type_capacity T.big elements.new)
+        ≡ with_span
+        (members E.mirrored T.width
+        (elements_set (length elements.old) T.type_capacity T.big elements.old)) from to }
+{
+    if from == to {
+        return;
+    }
+    let each = T::bits();
+    for at in from / each..(to - 1) / each + 1 {
+        let start = at * each;
+        let end = each.min(to - start);
+        elements[at as usize].fill_in::<E>(from.saturating_sub(start), end);
     }
 }
 

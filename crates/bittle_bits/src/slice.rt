@@ -142,6 +142,11 @@ impl<'a, T: BitsOwned> BitsMut for &'a mut [T] {
     }
 
     #[inline]
+    fn fill_in<E: Endian>(&mut self, from: u32, to: u32) {
+        elements::fill::<T, E>(self, from, to);
+    }
+
+    #[inline]
     fn combine<O: Operation>(&mut self, other: &&'a mut [T]) {
         let others: &[T] = other;
         elements::combine::<T, O>(self, others);

@@ -12,6 +12,8 @@ mod operations;
 #[cfg(test)]
 mod probe;
 #[cfg(test)]
+mod ranges;
+#[cfg(test)]
 mod runs;
 #[cfg(test)]
 mod values;

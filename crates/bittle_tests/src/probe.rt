@@ -9,7 +9,9 @@ ghost use Rattle.bittle_bits.specs.Rows.{elements_set};
 ghost use Rattle.bittle_bits.specs.Shapes.{Fits};
 
 use bittle::replay::Step;
-use bittle::{BigEndian, Bits, BitsMut, BitsOwned, DefaultEndian, Endian, LittleEndian, Set};
+use bittle::{
+    BigEndian, Bits, BitsMut, BitsOwned, DefaultEndian, Endian, LittleEndian, Set, macros,
+};
 use bittle_bits::hidden::Sealed;
 use bittle_bits::operation::Operation;
 use std::alloc::AllocError;
@@ -162,6 +164,11 @@ impl<'a> BitsMut for Probe<'a> {
     fn clear_bits(&mut self) {
         self.note_other();
         self.bytes.clear_bits();
+    }
+
+    fn fill_in<E: Endian>(&mut self, from: u32, to: u32) {
+        self.note_other();
+        self.bytes.fill_in::<E>(from, to);
     }
 
     fn combine<O: Operation>(&mut self, other: &Probe<'a>) {
@@ -474,4 +481,16 @@ fn comparisons_end_with_the_first_difference(rt: HostRuntime) {
     assert_eq!(rt; order, Ordering::Greater);
     assert!(rt; left.fetches.get() <= 5 && left.other.get() <= 1);
     assert!(rt; right.fetches.get() <= 5 && right.other.get() <= 1);
+}
+
+#[test]
+fn a_range_is_one_call_or_two(rt: HostRuntime) {
+    let asked = Asked::new();
+    let mut probe = Probe::of([0; 4], &asked);
+    macros::put_until_in::<Probe, BigEndian>(&mut probe, 5, 30);
+    assert_eq!(rt; probe.bytes, [0xE0, 0xFF, 0xFF, 0x3F]);
+    assert!(rt; asked.fetches.get() == 0 && asked.other.get() == 1);
+    macros::put_through_in::<Probe, BigEndian>(&mut probe, 31, 32);
+    assert_eq!(rt; probe.bytes, [0xE1, 0xFF, 0xFF, 0xBF]);
+    assert!(rt; asked.fetches.get() == 0 && asked.other.get() == 3);
 }

@@ -10,6 +10,7 @@ pub mod Runs
 pub mod Signed
 pub mod Sizes
 pub mod Wanted
+pub mod Spans
 pub mod WordCalls
 pub mod WordCombinations
 pub mod WordSizes

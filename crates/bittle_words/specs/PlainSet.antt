@@ -1,5 +1,5 @@
 -- Plain sets of numbers below a capacity: what a value stands for, whatever its words are.
-use Rattle.std.specs.Prelude.{◌≡◌, ℕ, zero, suc, ◌+◌, ◌-◌, ◌%◌, ◌<◌, ◌≤◌, Bool, true, false, cond, ◌&&◌, ◌||◌, not, nat_lt, ◌==◌, List, [], ◌∷◌}
+use Rattle.std.specs.Prelude.{◌≡◌, ℕ, zero, suc, ◌+◌, ◌-◌, ◌%◌, ◌<◌, ◌≤◌, Bool, true, false, cond, ◌&&◌, ◌||◌, not, nat_lt, nat_le, ◌==◌, List, [], ◌∷◌}
 
 -- a set of numbers below a capacity, by the test of each number
 pub record PlainSet : Type 0 where
@@ -17,6 +17,14 @@ has_with s i k = (nat_lt 0 s.capacity && (k == i % s.capacity)) || s.has k
 -- the set with the index, which wraps at the capacity
 abbrev pub with_index : PlainSet → ℕ → PlainSet
 with_index s i = record { capacity = s.capacity; has = has_with s i }
+
+-- whether a number is a member, or lies from one index on and before an end
+unfoldable pub has_with_span : PlainSet → ℕ → ℕ → ℕ → Bool
+has_with_span s from end k = (nat_le from k && nat_lt k end) || s.has k
+
+-- the set with each index from one on and before an end, of which none is past the capacity
+abbrev pub with_span : PlainSet → ℕ → ℕ → PlainSet
+with_span s from end = record { capacity = s.capacity; has = has_with_span s from end }
 
 -- whether a number is a member, and is not the index, which wraps at the capacity
 unfoldable pub has_without : PlainSet → ℕ → ℕ → Bool

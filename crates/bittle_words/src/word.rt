@@ -4,7 +4,7 @@ ghost use Rattle.std.specs.Iterator.{YieldsFirst, YieldsLast};
 ghost use Rattle.std.specs.Prelude.{◌≡◌, ◌==◌, Bool, ◌*◌, ◌<◌, ◌≤◌, IfSome};
 ghost use Rattle.bittle_words.specs.Digits.{digit_set};
 ghost use Rattle.bittle_words.specs.Orders.{members};
-ghost use Rattle.bittle_words.specs.PlainSet.{contains, with_index, without_index, empty, emptied, filled, size, ascending};
+ghost use Rattle.bittle_words.specs.PlainSet.{contains, with_index, with_span, without_index, empty, emptied, filled, size, ascending};
 ghost use Rattle.bittle_words.specs.SetOperations.{combined};
 ghost use Rattle.bittle_words.specs.Words.{word_of};
 
@@ -37,6 +37,25 @@ pub fn clear_bit<T: Number, E: Endian>(word: &mut T, index: u32)
         ≡ without_index (members E.mirrored T.width (digit_set T.width (T.digits word.old))) index }
 {
     *word = word.and(E::mask::<T>(index).not());
+}
+
+/// Sets each index from `from` on and before `to`, by the word of those from `from` on, without
+/// those from `to` on.
+#[inline]
+pub fn fill<T: Number, E: Endian>(word: &mut T, from: u32, to: u32)
+    requires ordered { from ≤ to }
+    requires within { to ≤ T.width }
+    ensures { members E.mirrored T.width (digit_set T.width (T.digits word.new))
+        ≡ with_span (members E.mirrored T.width (digit_set T.width (T.digits word.old))) from to }
+{
+    if from == to {
+        return;
+    }
+    let mut span = E::from_index::<T>(from);
+    if to < T::width() {
+        span = span.and(E::from_index::<T>(to).not());
+    }
+    *word = word.or(span);
 }
 
 /// Clears every bit.

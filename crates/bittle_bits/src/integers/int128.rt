@@ -89,6 +89,11 @@ impl BitsMut for u128 {
     }
 
     #[inline]
+    fn fill_in<E: Endian>(&mut self, from: u32, to: u32) {
+        word::fill::<u128, E>(self, from, to);
+    }
+
+    #[inline]
     fn combine<O: Operation>(&mut self, other: &u128) {
         word::combine::<u128, O>(self, *other);
     }
@@ -193,6 +198,11 @@ impl BitsMut for i128 {
     #[inline]
     fn clear_bits(&mut self) {
         word::clear_bits::<i128>(self);
+    }
+
+    #[inline]
+    fn fill_in<E: Endian>(&mut self, from: u32, to: u32) {
+        word::fill::<i128, E>(self, from, to);
     }
 
     #[inline]

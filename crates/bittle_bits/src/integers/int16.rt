@@ -89,6 +89,11 @@ impl BitsMut for u16 {
     }
 
     #[inline]
+    fn fill_in<E: Endian>(&mut self, from: u32, to: u32) {
+        word::fill::<u16, E>(self, from, to);
+    }
+
+    #[inline]
     fn combine<O: Operation>(&mut self, other: &u16) {
         word::combine::<u16, O>(self, *other);
     }
@@ -193,6 +198,11 @@ impl BitsMut for i16 {
     #[inline]
     fn clear_bits(&mut self) {
         word::clear_bits::<i16>(self);
+    }
+
+    #[inline]
+    fn fill_in<E: Endian>(&mut self, from: u32, to: u32) {
+        word::fill::<i16, E>(self, from, to);
     }
 
     #[inline]

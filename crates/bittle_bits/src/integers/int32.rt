@@ -89,6 +89,11 @@ impl BitsMut for u32 {
     }
 
     #[inline]
+    fn fill_in<E: Endian>(&mut self, from: u32, to: u32) {
+        word::fill::<u32, E>(self, from, to);
+    }
+
+    #[inline]
     fn combine<O: Operation>(&mut self, other: &u32) {
         word::combine::<u32, O>(self, *other);
     }
@@ -193,6 +198,11 @@ impl BitsMut for i32 {
     #[inline]
     fn clear_bits(&mut self) {
         word::clear_bits::<i32>(self);
+    }
+
+    #[inline]
+    fn fill_in<E: Endian>(&mut self, from: u32, to: u32) {
+        word::fill::<i32, E>(self, from, to);
     }
 
     #[inline]

@@ -89,6 +89,11 @@ impl BitsMut for u64 {
     }
 
     #[inline]
+    fn fill_in<E: Endian>(&mut self, from: u32, to: u32) {
+        word::fill::<u64, E>(self, from, to);
+    }
+
+    #[inline]
     fn combine<O: Operation>(&mut self, other: &u64) {
         word::combine::<u64, O>(self, *other);
     }
@@ -193,6 +198,11 @@ impl BitsMut for i64 {
     #[inline]
     fn clear_bits(&mut self) {
         word::clear_bits::<i64>(self);
+    }
+
+    #[inline]
+    fn fill_in<E: Endian>(&mut self, from: u32, to: u32) {
+        word::fill::<i64, E>(self, from, to);
     }
 
     #[inline]

@@ -89,6 +89,11 @@ impl BitsMut for u8 {
     }
 
     #[inline]
+    fn fill_in<E: Endian>(&mut self, from: u32, to: u32) {
+        word::fill::<u8, E>(self, from, to);
+    }
+
+    #[inline]
     fn combine<O: Operation>(&mut self, other: &u8) {
         word::combine::<u8, O>(self, *other);
     }
@@ -193,6 +198,11 @@ impl BitsMut for i8 {
     #[inline]
     fn clear_bits(&mut self) {
         word::clear_bits::<i8>(self);
+    }
+
+    #[inline]
+    fn fill_in<E: Endian>(&mut self, from: u32, to: u32) {
+        word::fill::<i8, E>(self, from, to);
     }
 
     #[inline]

@@ -89,6 +89,11 @@ impl BitsMut for usize {
     }
 
     #[inline]
+    fn fill_in<E: Endian>(&mut self, from: u32, to: u32) {
+        word::fill::<usize, E>(self, from, to);
+    }
+
+    #[inline]
     fn combine<O: Operation>(&mut self, other: &usize) {
         word::combine::<usize, O>(self, *other);
     }
@@ -193,6 +198,11 @@ impl BitsMut for isize {
     #[inline]
     fn clear_bits(&mut self) {
         word::clear_bits::<isize>(self);
+    }
+
+    #[inline]
+    fn fill_in<E: Endian>(&mut self, from: u32, to: u32) {
+        word::fill::<isize, E>(self, from, to);
     }
 
     #[inline]

@@ -1,0 +1,162 @@
+//! Ranges that macros list, and those that are set in a slice.
+
+use bittle::prelude::*;
+use bittle::{BigEndian, LittleEndian, Set, macros, set, set_be, set_le};
+
+#[test]
+fn ranges_in_one_word(rt: HostRuntime) {
+    let words: [(u8, u8); 6] = [
+        (set![1..7], 0b0111_1110),
+        (set![0..8], 255),
+        (set![7..8], 128),
+        (set_le![7..8], 1),
+        (set_le![1..4], 0b0111_0000),
+        (set![0..0], 0),
+    ];
+    for (word, want) in words {
+        assert_eq!(rt; word, want);
+    }
+}
+
+#[test]
+fn ranges_in_signed_words(rt: HostRuntime) {
+    let words: [(i8, i8); 4] = [
+        (set![7..8], i8::MIN),
+        (set![0..8], -1),
+        (set_le![0..7], -2),
+        (set_le![0..1], i8::MIN),
+    ];
+    for (word, want) in words {
+        assert_eq!(rt; word, want);
+    }
+    let wide: i128 = set![127..128];
+    assert_eq!(rt; wide, i128::MIN);
+    let wide: i128 = set_le![0..127];
+    assert_eq!(rt; wide, -2);
+    let wide: u128 = set![64..128];
+    assert_eq!(rt; wide, 0xFFFF_FFFF_FFFF_FFFF_0000_0000_0000_0000);
+}
+
+#[test]
+fn ranges_in_three_words(rt: HostRuntime) {
+    let rows: [([u8; 3], [u8; 3]); 8] = [
+        (set![3..6], [0x38, 0, 0]),
+        (set![5..18], [0xE0, 0xFF, 0x03]),
+        (set![0..8], [0xFF, 0, 0]),
+        (set![8..16], [0, 0xFF, 0]),
+        (set![7..9], [0x80, 1, 0]),
+        (set![16..24], [0, 0, 0xFF]),
+        (set![23..=23], [0, 0, 0x80]),
+        (set![8..8], [0, 0, 0]),
+    ];
+    for (row, want) in rows {
+        assert_eq!(rt; row, want);
+    }
+}
+
+#[test]
+fn ranges_in_three_words_mirrored(rt: HostRuntime) {
+    let rows: [([u8; 3], [u8; 3]); 6] = [
+        (set_le![3..6], [0x1C, 0, 0]),
+        (set_le![5..18], [0x07, 0xFF, 0xC0]),
+        (set_le![8..16], [0, 0xFF, 0]),
+        (set_le![7..9], [1, 0x80, 0]),
+        (set_le![23..=23], [0, 0, 1]),
+        (set_be![5..18], [0xE0, 0xFF, 0x03]),
+    ];
+    for (row, want) in rows {
+        assert_eq!(rt; row, want);
+    }
+}
+
+#[test]
+fn ranges_that_wrap(rt: HostRuntime) {
+    let rows: [([u8; 2], [u8; 2]); 5] = [
+        (set![12..20], [0x0F, 0xF0]),
+        (set![28..36], [0x0F, 0xF0]),
+        (set_le![12..20], [0xF0, 0x0F]),
+        (set![15..=16], [1, 0x80]),
+        (set![4294967290..=4294967295], [0, 0xFC]),
+    ];
+    for (row, want) in rows {
+        assert_eq!(rt; row, want);
+    }
+    let row: [u8; 3] = set![20..28];
+    assert_eq!(rt; row, [0x0F, 0, 0xF0]);
+    let row: [u8; 3] = set![4294967290..=4294967295];
+    assert_eq!(rt; row, [0, 0xFC, 0]);
+}
+
+#[test]
+fn ranges_as_long_as_the_capacity(rt: HostRuntime) {
+    let rows: [([u8; 2], [u8; 2]); 7] = [
+        (set![5..50], [255, 255]),
+        (set![5..21], [255, 255]),
+        (set![0..16], [255, 255]),
+        (set![5..20], [0xEF, 0xFF]),
+        (set_le![5..20], [0xF7, 0xFF]),
+        (set![0..=4294967295], [255, 255]),
+        (set![1..16], [0xFE, 0xFF]),
+    ];
+    for (row, want) in rows {
+        assert_eq!(rt; row, want);
+    }
+}
+
+#[test]
+fn ranges_in_long_rows(rt: HostRuntime) {
+    let words: [u64; 64] = set![0..4096];
+    assert_eq!(rt; words, [u64::MAX; 64]);
+    let words: [u64; 64] = set![1..4095];
+    assert_eq!(rt; words[0], u64::MAX - 1);
+    assert_eq!(rt; words[63], u64::MAX >> 1);
+    assert_eq!(rt; words.count_zeros(), 2);
+    let words: [u64; 2] = set![63..65];
+    assert_eq!(rt; words, [0x8000_0000_0000_0000, 1]);
+}
+
+#[test]
+fn ranges_in_nested_rows(rt: HostRuntime) {
+    let rows: [([[u8; 2]; 2], [[u8; 2]; 2]); 5] = [
+        (set![6..20], [[0xC0, 0xFF], [0x0F, 0]]),
+        (set_le![6..20], [[0x03, 0xFF], [0xF0, 0]]),
+        (set![28..36], [[0x0F, 0], [0, 0xF0]]),
+        (set![16..32], [[0, 0], [0xFF, 0xFF]]),
+        (set![9..11], [[0, 0x06], [0, 0]]),
+    ];
+    for (row, want) in rows {
+        assert_eq!(rt; row, want);
+    }
+}
+
+#[test]
+fn ranges_beside_members(rt: HostRuntime) {
+    let row: [u8; 2] = set![0, 9, 4..12];
+    assert_eq!(rt; row, [0xF1, 0x0F]);
+    let row: [u8; 2] = set![2..5, 3..12, 15];
+    assert_eq!(rt; row, [0xFC, 0x8F]);
+    let remembered: Set<[u8; 2], LittleEndian> = set![4..12];
+    assert_eq!(rt; remembered.into_bits(), [0x0F, 0xF0]);
+}
+
+#[test]
+fn ranges_without_capacity(rt: HostRuntime) {
+    let none: [u8; 0] = set![0..9, 3..=3, 0..=4294967295, 1..];
+    assert_eq!(rt; none, []);
+    let none: [u8; 0] = set_le![7..8];
+    assert_eq!(rt; none, []);
+    let none: [[u32; 0]; 3] = set![5..70];
+    assert_eq!(rt; none, [[], [], []]);
+}
+
+#[test]
+fn ranges_in_slices(rt: HostRuntime) {
+    let mut bytes = [0u8; 4];
+    let mut lent = &mut bytes[1..];
+    macros::put_until_in::<&mut [u8], BigEndian>(&mut lent, 5, 18);
+    assert_eq!(rt; bytes, [0, 0xE0, 0xFF, 0x03]);
+    let mut bytes = [0u8; 4];
+    let mut lent = &mut bytes[..3];
+    macros::put_through_in::<&mut [u8], LittleEndian>(&mut lent, 20, 27);
+    assert_eq!(rt; bytes, [0xF0, 0, 0x0F, 0]);
+}
