@@ -1,5 +1,5 @@
 -- Ranges that grow by one index, and ranges that reach each index below the capacity.
-use Rattle.std.proofs.Common.{◌≡◌, ℕ, zero, suc, ◌+◌, ◌-◌, ◌*◌, ◌/◌, ◌%◌, ◌<◌, ◌≤◌, Bool, true, false, ◌&&◌, ◌||◌, ◌==◌, nat_lt, nat_le, inl, inr, refl, sym, ap, ◌∙◌, subst, add-one, arith}
+use Rattle.std.proofs.Common.{◌≡◌, ℕ, zero, suc, ◌+◌, ◌-◌, ◌/◌, ◌%◌, ◌<◌, ◌≤◌, Bool, true, false, ◌&&◌, ◌||◌, ◌==◌, nat_lt, nat_le, inl, inr, refl, sym, ap, ◌∙◌, subst, add-one, arith}
 use Rattle.std.proofs.Math.Nat.{add-mod-mod, div-add-mod'}
 use Rattle.std.proofs.Math.Path.{fun_ext}
 use Rattle.std.proofs.lemmas.Bool.{ltb-true, leb-true, le-leb, and_from, and_parts, and_right, or_cases, or_left, or_right, false_from_ne_true, cases_lt}
@@ -57,12 +57,12 @@ module _ (s : PlainSet) (from : ℕ) where
           omega (arith, leb-true from f.0 a.0, f.1))
 
   -- one more index
-  pub with_range-more : (end : ℕ) → from ≤ end → with_range s from (end + 1) ≡ with_index (with_range s from end) end
+  with_range-more : (end : ℕ) → from ≤ end → with_range s from (end + 1) ≡ with_index (with_range s from end) end
   unfolding has_with_range has_with some_below
   with_range-more end h = ap (plain s.capacity) (fun_ext λ k. rw (add-one, le-leb from end h) (spread (nat_lt 0 s.capacity) (some_below end (reaches k)) (k == end % s.capacity) (s.has k)))
 
   -- as many neighbours as the capacity are all of them
-  pub with_range-all : (last end : ℕ) → from + s.capacity ≤ last → last ≤ end → with_range s from last ≡ with_range s from end
+  with_range-all : (last end : ℕ) → from + s.capacity ≤ last → last ≤ end → with_range s from last ≡ with_range s from end
   unfolding has_with_range
   with_range-all last end many h = ap (plain s.capacity) (fun_ext λ k. ap (λ b. b || s.has k) (alike k))
     where
@@ -89,7 +89,7 @@ module _ (s : PlainSet) (from : ℕ) where
           and_from z (some_below last (reaches k)) a.0 (sooner k f.0 (ltb-true 0 s.capacity a.0) f.2))
 
   -- neighbours that do not wrap are a span
-  pub range_span : (start count : ℕ) → 0 < s.capacity → start ≡ from % s.capacity → start + count ≤ s.capacity → with_range s from (from + count) ≡ with_span s start (start + count)
+  range_span : (start count : ℕ) → 0 < s.capacity → start ≡ from % s.capacity → start + count ≤ s.capacity → with_range s from (from + count) ≡ with_span s start (start + count)
   range_span start zero some at le = with_range-none (from + 0) (omega arith) ∙ sym (with_span-none s start (start + 0) (omega arith))
   range_span start (suc count) some at le =
       let next : (from + count) % s.capacity ≡ start + count = ap (λ t. t % s.capacity) (omega (arith, div-add-mod' from s.capacity)) ∙ mod-mul-add (from / s.capacity) s.capacity (start + count) (omega arith) in
@@ -99,7 +99,7 @@ module _ (s : PlainSet) (from : ℕ) where
       ∙ ap (with_span s start) (omega arith)
 
   -- as many neighbours as the range has indexes, or as many as the capacity
-  pub range_whole : (count end : ℕ) (now : PlainSet) → from + count ≤ end → (from + count < end → count ≡ s.capacity) → now ≡ with_range s from (from + count) → now ≡ with_range s from end
+  range_whole : (count end : ℕ) (now : PlainSet) → from + count ≤ end → (from + count < end → count ≡ s.capacity) → now ≡ with_range s from (from + count) → now ≡ with_range s from end
   range_whole count end now le short e =
       elim (cases_lt (from + count) end) [
         | inl l ↦ e ∙ with_range-all (from + count) end (omega (arith, short l)) le
@@ -128,7 +128,7 @@ two_spans s from start room count end now next some at rest more le in_range sho
     let around : 0 ≡ (from + room) % c = sym (ap (λ t. t % c) (omega (arith, div-add-mod' from c)) ∙ mod-mul-add (from / c + 1) c 0 some) in
     let begins : now ≡ t = first ∙ ap (with_span s start) (omega arith) ∙ sym (range_span s from start room some at (omega arith)) in
     let ends : next ≡ with_range t (from + room) (from + room + (count - room)) =
-    second ∙ ap (λ (u : PlainSet). with_span u 0 (count - room)) begins ∙ sym (range_span t (from + room) 0 (count - room) some around (omega arith)) in
+    second ∙ ap (λ (u : PlainSet). with_span u 0 (count - room)) begins ∙ ap (with_span t 0) (omega arith) ∙ sym (range_span t (from + room) 0 (count - room) some around (omega arith)) in
     range_whole s from count end next in_range short (ends ∙ range_on s from (from + room) (count - room) (omega arith) ∙ ap (with_range s from) (omega arith))
 
 -- with capacity 0 a range adds nothing
