@@ -1,9 +1,4 @@
 pub mod Board
-pub mod Entities
 pub mod FreeRuns
-pub mod Least
-pub mod Permissions
 pub mod Primes
 pub mod Relations
-pub mod Scheduler
-pub mod Slots

@@ -1,32 +1,34 @@
 //! A board of eight rows of eight cells, whose members are the cells that are taken.
 
-ghost use Rattle.std.specs.Prelude.{◌≡◌, reverse, IfOk};
-ghost use Rattle.bittle.specs.PlainSet.{empty};
+ghost use Rattle.std.specs.Prelude.{◌≡◌, IfOk, reverse};
+ghost use Rattle.bittle.specs.Digits.{digit_set};
+ghost use Rattle.bittle.specs.PlainSet.{ascending, complement, empty};
 ghost use Rattle.bittle.specs.Ranges.{with_range};
-ghost use Rattle.bittle_uses.specs.Board.{taken, free_cells, AreEnds};
+ghost use Rattle.bittle_uses.specs.Board.{AreEnds};
 
 use bittle::{Bits, set};
 use std::alloc::{AllocError, Global};
 
-/// The board at the start: the two first rows and the two last ones are taken.
+/// Returns the board at the start: the two first rows and the two last ones are taken.
 pub fn start() -> u64
-    ensures { taken result ≡ with_range (with_range (empty 64) 0 16) 48 64 }
+    ensures { digit_set 64 result ≡ with_range (with_range (empty 64) 0 16) 48 64 }
 {
     set![0..16, 48..]
 }
 
-/// The first free cell, and the last of the others.
+/// Returns the first free cell, and the last of the others.
 pub fn outer_cells(board: u64) -> (Option<u32>, Option<u32>)
-    ensures { AreEnds (free_cells board) result.0 result.1 }
+    ensures { AreEnds (ascending (complement (digit_set 64 board))) result.0 result.1 }
 {
     let mut free = board.iter_zeros();
     let first = free.next();
     (first, free.next_back())
 }
 
-/// The free cells, the last of them first.
+/// Returns the free cells, the last of them first.
 pub fn cells_from_last(alloc: Global, board: u64) -> Result<Vec<u32>, AllocError>
-    ensures { IfOk result (λ cells. cells.items ≡ reverse (free_cells board)) }
+    ensures { IfOk result
+        (λ cells. cells.items ≡ reverse (ascending (complement (digit_set 64 board)))) }
 {
     board.iter_zeros().rev().collect(alloc)
 }

@@ -11,6 +11,7 @@ pub mod nested;
 pub mod permissions;
 pub mod ranks;
 pub mod relations;
+pub mod rows;
 pub mod scheduler;
 pub mod searches;
 pub mod shared_slices;
@@ -21,5 +22,6 @@ pub mod sums;
 pub mod tables;
 #[cfg(test)]
 mod tests;
+pub mod totals;
 pub mod words;
 pub mod wrapped_slices;

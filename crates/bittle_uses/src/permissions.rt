@@ -2,24 +2,29 @@
 
 ghost use Rattle.std.specs.List.Sorted.{IsPermutation, IsSorted};
 ghost use Rattle.std.specs.List.{All, HoldsAt};
-ghost use Rattle.std.specs.Prelude.{◌≡◌, ◌↔◌, IsTrue, MatchOption};
+ghost use Rattle.std.specs.Prelude.{◌≡◌, ◌↔◌, Bool, IsTrue, MatchOption};
+ghost use Rattle.bittle.specs.Digits.{digit_set};
 ghost use Rattle.bittle.specs.Order.{AreSame};
+ghost use Rattle.bittle.specs.Orders.{members};
 ghost use Rattle.bittle.specs.SetOperations.{union_of};
-ghost use Rattle.bittle_uses.specs.Permissions.{granted};
 
 use bittle::Set;
 
-/// What two roles grant together.
+/// Returns what two roles grant together, in whichever order they are read.
 pub fn together(one: Set<u32>, other: Set<u32>) -> Set<u32>
-    ensures { granted result.bits ≡ union_of (granted one.bits) (granted other.bits) }
+    ensures { (mirrored : Bool) → members mirrored 32 (digit_set 32 result.bits)
+        ≡ union_of (members mirrored 32 (digit_set 32 one.bits))
+        (members mirrored 32 (digit_set 32 other.bits)) }
 {
     one | other
 }
 
-/// Whether a role grants all that is asked, so that together they grant no more than the role.
+/// Returns whether a role grants all that is asked, so that together they grant no more than the
+/// role.
 pub fn allows(role: Set<u32>, asked: Set<u32>) -> bool
     ensures { IsTrue result
-        ↔ AreSame (union_of (granted role.bits) (granted asked.bits)) (granted role.bits) }
+        ↔ AreSame (union_of (digit_set 32 role.bits) (digit_set 32 asked.bits))
+        (digit_set 32 role.bits) }
 {
     role | asked == role
 }
@@ -32,13 +37,14 @@ pub fn sort(roles: &mut [Set<u32>])
     roles.sort_unstable();
 }
 
-/// The place in a sorted table of a role that grants just this, or `None` where no role does.
+/// Returns the place in a sorted table of a role that grants just this, or `None` where no role
+/// does.
 pub fn find(roles: &[Set<u32>], wanted: Set<u32>) -> Option<usize>
     requires { IsSorted ⟦<Set<u32> as Ord>⟧.cmp roles.now }
-    ensures { MatchOption result
-        (All (λ role. AreSame (granted role.bits) (granted wanted.bits) → ⊥) roles.now)
-        (λ place. HoldsAt
-        (λ role. AreSame (granted role.bits) (granted wanted.bits)) roles.now place) }
+    ensures { let asked = digit_set 32 wanted.bits in
+        MatchOption result
+        (All (λ role. AreSame (digit_set 32 role.bits) asked → ⊥) roles.now)
+        (λ place. HoldsAt (λ role. AreSame (digit_set 32 role.bits) asked) roles.now place) }
 {
     roles.binary_search(&wanted).ok()
 }

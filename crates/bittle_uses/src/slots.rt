@@ -1,9 +1,10 @@
 //! A table of slots over words that a caller lends, whose members are the slots that are taken.
 
-ghost use Rattle.std.specs.Prelude.{◌≡◌, ◌<◌, MatchOption};
-ghost use Rattle.bittle.specs.PlainSet.{with_index, without_index};
-ghost use Rattle.bittle_uses.specs.Least.{HasNoMember, IsLeastOf};
-ghost use Rattle.bittle_uses.specs.Slots.{taken, free};
+ghost use Rattle.std.specs.Prelude.{◌≡◌, ◌*◌, ◌<◌, length, MatchOption};
+ghost use Rattle.bittle.specs.Digits.{digit_set};
+ghost use Rattle.bittle.specs.PlainSet.{complement, contains, with_index, without_index};
+ghost use Rattle.bittle.specs.Rows.{elements_set};
+ghost use Rattle.bittle.specs.Searches.{IsFirstIn};
 
 use bittle::{BigEndian, Bits, BitsMut};
 
@@ -14,7 +15,7 @@ pub struct Slots<'a> {
 }
 
 impl<'a> Slots<'a> {
-    /// The table over these words.
+    /// Makes the table over these words.
     pub fn over(words: &'a mut [u64]) -> Slots<'a>
         ensures same_words { result.words.ghost_name ≡ words.entry.ghost_name }
         ensures value { result.words.now ≡ words.old }
@@ -22,27 +23,30 @@ impl<'a> Slots<'a> {
         Slots { words }
     }
 
-    /// Whether the slot is taken.
+    /// Returns whether the slot is taken.
     pub fn is_taken(&self, slot: u32) -> bool
-        requires { slot < (taken self.now.words.now).capacity }
-        ensures { result ≡ (taken self.now.words.now).has slot }
+        requires { slot < length self.now.words.now * 64 }
+        ensures { let words = self.now.words.now in
+            result ≡ contains (elements_set (length words) 64 (digit_set 64) words) slot }
     {
         self.words.test_bit(slot)
     }
 
-    /// Takes the least slot that is free, or changes nothing and answers `None` where all are
+    /// Takes the least slot that is free, or changes nothing and returns `None` where all are
     /// taken.
     pub fn take(&mut self) -> Option<u32>
-        requires { (taken self.old.words.now).capacity < 4294967295 }
-        ensures slot { MatchOption result
-            (HasNoMember (free self.old.words.now))
-            (λ slot. IsLeastOf (free self.old.words.now) slot) }
-        ensures table { MatchOption result
-            (self.new.words.now ≡ self.old.words.now)
-            (λ slot. taken self.new.words.now ≡ with_index (taken self.old.words.now) slot) }
+        requires { length self.old.words.now * 64 < 4294967295 }
+        ensures least { let words = self.old.words.now in
+            IsFirstIn (complement (elements_set (length words) 64 (digit_set 64) words))
+            0 (length words * 64) result }
+        ensures table { let before = self.old.words.now in let after = self.new.words.now in
+            MatchOption result
+            (after ≡ before)
+            (λ slot. elements_set (length after) 64 (digit_set 64) after
+            ≡ with_index (elements_set (length before) 64 (digit_set 64) before) slot) }
         ensures same_words { self.new.words.ghost_name ≡ self.old.words.ghost_name }
     {
-        let end = self.words.bits_capacity();
+        let end = self.words.len() as u32 * 64;
         let slot = self.words.first_zero_in::<BigEndian>(0, end)?;
         self.words.set_bit(slot);
         Some(slot)
@@ -50,8 +54,10 @@ impl<'a> Slots<'a> {
 
     /// Gives a slot back.
     pub fn give_back(&mut self, slot: u32)
-        requires { slot < (taken self.old.words.now).capacity }
-        ensures table { taken self.new.words.now ≡ without_index (taken self.old.words.now) slot }
+        requires { slot < length self.old.words.now * 64 }
+        ensures table { let before = self.old.words.now in let after = self.new.words.now in
+            elements_set (length after) 64 (digit_set 64) after
+            ≡ without_index (elements_set (length before) 64 (digit_set 64) before) slot }
         ensures same_words { self.new.words.ghost_name ≡ self.old.words.ghost_name }
     {
         self.words.clear_bit(slot);
@@ -60,8 +66,9 @@ impl<'a> Slots<'a> {
 
 /// Gives a slot back to the table over a caller's words.
 pub fn give_back_to(words: &mut [u64], slot: u32)
-    requires { slot < (taken words.old).capacity }
-    ensures { taken words.new ≡ without_index (taken words.old) slot }
+    requires { slot < length words.old * 64 }
+    ensures { elements_set (length words.new) 64 (digit_set 64) words.new
+        ≡ without_index (elements_set (length words.old) 64 (digit_set 64) words.old) slot }
 {
     let mut slots = Slots::over(words);
     slots.give_back(slot);

@@ -18,16 +18,6 @@ pub fn sum_of_members<B: Bits>(set: &B) -> u64
     total
 }
 
-/// Returns the sum of the members of a word, from the greatest on.
-pub fn sum_from_greatest(mask: u32) -> u64 {
-    let mut total = 0u64;
-    let mut walk = mask.iter_ones();
-    while let Some(index) = walk.next_back() {
-        total += index as u64;
-    }
-    total
-}
-
 /// Returns the sum of the members of a word, from the greatest on, by the reversed walk.
 pub fn sum_in_reverse(mask: u32) -> u64 {
     let mut total = 0u64;

@@ -6,15 +6,6 @@ ghost use Rattle.bittle.specs.Values.{ShapeFits};
 use bittle::number::IterOnes;
 use bittle::{BigEndian, Bits, BitsOwned, LittleEndian, Set};
 
-/// Returns the entry at the greatest member, or 0 where there is none.
-pub fn entry_at_greatest(mask: u64, row: &[u32; 64]) -> u32 {
-    let mut last = 0;
-    for index in mask.iter_ones() {
-        last = row[index as usize];
-    }
-    last
-}
-
 /// Returns the entry at the greatest member of four words, or 0 where there is none.
 pub fn entry_at_greatest_of_words(mask: &[u64; 4], row: &[u32; 256]) -> u32 {
     let mut last = 0;

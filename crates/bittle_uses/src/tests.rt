@@ -6,7 +6,8 @@ use crate::ranks::{how_many_from, rank_of};
 use crate::relations::{is_disjoint, is_subset};
 use crate::searches::{greatest, has_any_above, is_pairwise_below, list_members};
 use crate::sieve::primes;
-use crate::sums::{sum_from_greatest, sum_in_reverse, sum_of_members};
+use crate::sums::{sum_in_reverse, sum_of_members};
+use crate::totals::sum_from_greatest;
 use bittle::Bits;
 use std::test::Fail;
 

@@ -1,5 +1,5 @@
 use Rattle.std.proofs.Common.{◌+◌, ◌≤◌, ◌*◌, length}
-use Rattle.bittle_uses.proofs.sums.sum_from_greatest.Given as goal
+use Rattle.bittle_uses.proofs.totals.sum_from_greatest.Given as goal
 
 abbrev pub invariant-loop-index : goal.invariant-loop-index
 invariant-loop-index l = l.total + length l.walk.left * 4294967296 ≤ 32 * 4294967296

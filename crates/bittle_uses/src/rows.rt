@@ -1,0 +1,38 @@
+//! Walks whose items are places of a row, and counts.
+
+ghost use Rattle.std.specs.Prelude.{◌≡◌, ◌+◌, length};
+ghost use Rattle.bittle.specs.Digits.{digit_set};
+ghost use Rattle.bittle.specs.PlainSet.{ascending, size};
+
+use bittle::Bits;
+
+/// Returns the entry at the greatest member, or 0 where there is none.
+pub fn entry_at_greatest(mask: u64, row: &[u32; 64]) -> u32 {
+    let mut last = 0;
+    for index in mask.iter_ones() {
+        last = row[index as usize];
+    }
+    last
+}
+
+/// Returns the greatest member of a slice of words, or `None` where it has none or is too long.
+pub fn greatest_of_slice(words: &[u64]) -> Option<u32> {
+    if words.bits_capacity() == u32::MAX {
+        return None;
+    }
+    words.iter_ones().next_back()
+}
+
+/// Returns how many members there are, by a walk.
+pub fn how_many(mask: u64) -> usize
+    ensures { result ≡ length (ascending (digit_set 64 mask)) }
+{
+    mask.iter_ones().count()
+}
+
+/// Returns how many members two words have, each counted for itself.
+pub fn how_many_in_both(one: u64, other: u64) -> u32
+    ensures { result ≡ size (digit_set 64 one) + size (digit_set 64 other) }
+{
+    Bits::count_ones(&one) + Bits::count_ones(&other)
+}
