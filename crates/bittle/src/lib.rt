@@ -1,4 +1,122 @@
 //! Sets of small numbers over native integers, arrays of them and slices, proved.
+//!
+//! An integer, an array of integers nested to any depth, or a slice is a set of `u32` indexes, one
+//! bit each. Each function is proved to do what its contract says.
+//!
+//! ```text
+//!      0b0010_0010u8                    0b0010_0010u8
+//!          ^    ^                           ^    ^
+//!          5    1   BigEndian               2    6   LittleEndian
+//!               (index 0 is the rightmost bit)   (index 0 is the leftmost bit)
+//! ```
+//!
+//! README.md says how to add it to a project and what is proved; CALLING.md is for whoever ports a
+//! program from the Rust crate `bittle`, or proves one. The examples below begin with
+//!
+//! ```rust
+//! use bittle::{BigEndian, Bits, BitsMut, BitsOwned, LittleEndian, Set};
+//! ```
+//!
+//! # Words and orders
+//!
+//! An index names a bit. In [`BigEndian`], the default, index 0 is the rightmost bit of a word as
+//! it is written; in [`LittleEndian`] it is the leftmost. An index past the capacity wraps.
+//!
+//! ```rust
+//! let mut word = 0b0010_0010u8;     // bits 1 and 5 are set
+//! word.set_bit(0);                  // 0b0010_0011
+//! word.clear_bit(9);                // 9 wraps to 1: 0b0010_0001
+//! word.test_bit(5);                 // true
+//! word.test_bit_le(2);              // true: the same bit, counted from the left
+//! ```
+//!
+//! # Arrays and slices
+//!
+//! An array of sets is a set, to any depth.
+//!
+//! ```rust
+//! let mut row = [0u16; 2];          // capacity 32
+//! row.set_bit(31);                  // [0, 0x8000]
+//! row.count_ones();                 // 1
+//!
+//! let mut nested = [[0u8; 2]; 2];
+//! nested.set_bit_le(17);            // [[0, 0], [0x40, 0]]
+//!
+//! <[u32; 4]>::bits();               // 128
+//! Bits::count_zeros(&u8::ones());   // 0: an integer has a method of the name too
+//! ```
+//!
+//! So is a slice: `&[T]` is read, and through `&mut [T]` the caller's words are changed. The slice
+//! reference is kept in a variable. A `Vec` is a set through its slice.
+//!
+//! ```rust
+//! let mut words = [0u32; 4];
+//! let mut lent = words.as_mut_slice();
+//! lent.set_bit(65);                 // words is [0, 0, 2, 0]
+//!
+//! let mut pages: Vec<u64> = Vec::new(alloc);
+//! pages.push(0)?;
+//! let mut lent = pages.as_mut_slice();
+//! lent.set_bit(3);                  // pages is [8]
+//!
+//! fn take(mut words: &mut [u64], slot: u32) {
+//!     words.set_bit(slot);          // a slice that is passed in is declared `mut`
+//! }
+//! ```
+//!
+//! # Macros
+//!
+//! [`set!`], [`set_le!`] and [`set_be!`] make a set of what they list, in the order of its type or
+//! in a named one.
+//!
+//! ```rust
+//! let mask: u8 = bittle::set![0, 2..=3, 6..];       // 0b1100_1101
+//! let left: u8 = bittle::set_le![0, 1, 3];          // 0b1101_0000
+//! let few: u128 = bittle::set![31, 67];
+//! few.conjunction(bittle::set![31, 62]);            // the set of 31
+//! ```
+//!
+//! # Iterators and joins
+//!
+//! An iterator goes over the set bits, or over the unset ones below the capacity, from both ends.
+//!
+//! ```rust
+//! let row: [u32; 4] = bittle::set![4, 67, 71, 127];
+//! let mut mixed = 0;
+//! for index in row.iter_ones() {
+//!     mixed ^= index;                               // 4, 67, 71, 127
+//! }
+//! let mut walk = row.iter_ones();
+//! walk.next();                                      // Some(4)
+//! walk.next_back();                                 // Some(127)
+//! 0b1101u8.iter_zeros().next();                     // Some(1)
+//! row.first_one_in::<BigEndian>(5, 128);            // Some(67)
+//! ```
+//!
+//! A set is a mask over the items of an iterator.
+//!
+//! ```rust
+//! let mask: u8 = bittle::set![0, 2, 5];
+//! mask.join_ones([10, 20, 30]);                     // yields 10, 30
+//! ```
+//!
+//! # A set that remembers its order
+//!
+//! [`Set`] remembers its order, is compared and hashed by its indexes, and prints them.
+//!
+//! ```rust
+//! let set = Set::new_le(0b1101_0000u8);
+//! set.test_bit(3);                                  // true
+//! println!(rt; "{set:?}")?;                         // {0, 1, 3}
+//! set.eq_bits(&Set::new(0b1011u16));                // true: each side is read in its own order
+//! ```
+//!
+//! # Names
+//!
+//! A call that ends in `_in` names its order, as `test_bit_in::<LittleEndian>(3)`; `_le` and `_be`
+//! are its short forms; without an ending it is the order of the type, which is [`BigEndian`] but
+//! for a [`Set`] that remembers the other. A set is asked `all_zeros`, `all_ones`, `count_ones`,
+//! `bits_capacity`, and not `is_empty` or `len`, so that no name of a slice is hidden.
 #![tactic(auto)]
 
 #[doc(hidden)]

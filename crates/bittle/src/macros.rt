@@ -18,7 +18,7 @@ mod uses;
 /// which the place of use names, has to fit.
 ///
 /// ```
-/// let mask: u8 = bittle::set![0, 2..=3, 6..];
+/// let mask: u8 = bittle::set![0, 2..=3, 6..];         // 0b1100_1101
 /// let empty: [u16; 4] = bittle::set![];
 /// ```
 #[macro_export]
@@ -32,6 +32,10 @@ macro_rules! set {
 }
 
 /// Makes a set of what is listed, as [`set!`] does, in [`LittleEndian`](crate::LittleEndian) order.
+///
+/// ```
+/// let mask: u8 = bittle::set_le![0, 2..=3, 6..];      // 0b1011_0011
+/// ```
 #[macro_export]
 macro_rules! set_le {
     ($($list:tt)*) => {
@@ -45,6 +49,10 @@ macro_rules! set_le {
 }
 
 /// Makes a set of what is listed, as [`set!`] does, in [`BigEndian`](crate::BigEndian) order.
+///
+/// ```
+/// let mask: u8 = bittle::set_be![0, 2..=3, 6..];      // 0b1100_1101
+/// ```
 #[macro_export]
 macro_rules! set_be {
     ($($list:tt)*) => {

@@ -34,6 +34,19 @@ mod operators;
 /// set.test_bit(3);                                    // true
 /// set.iter_ones();                                    // yields 0, 1, 3
 /// ```
+///
+/// The operators `|`, `&`, `^` and `-` and their assigning forms are the operations on sets. A set
+/// is made of an integer by `from`, and without members by `default`.
+///
+/// ```
+/// let one: Set<u8> = Set::from(0b0011);
+/// let other = Set::new(0b0101);
+/// one | other;                                        // the set of 0, 1, 2
+/// one & other;                                        // the set of 0
+/// one ^ other;                                        // the set of 1, 2
+/// one - other;                                        // the set of 1
+/// Set::<u8>::default().all_zeros();                   // true
+/// ```
 #[derive(Drop)]
 pub struct Set<T: Bits, E: Endian = DefaultEndian> {
     bits: T,

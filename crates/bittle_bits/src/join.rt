@@ -15,6 +15,14 @@ use std::marker::Model;
 /// from the iterator's first item, and yields it. It takes nothing past the greatest set bit. It
 /// returns `None` after the last set bit, or at the first one that is not before the iterator's
 /// end; from then on it asks neither its mask nor its iterator again.
+///
+/// ```
+/// let mask = 0b0101u8;
+/// let mut join = mask.join_ones([10, 20, 30, 40]);
+/// join.next();                                        // Some(10)
+/// join.next();                                        // Some(30)
+/// join.next();                                        // None
+/// ```
 #[derive(Drop)]
 pub struct JoinOnes<'a, A: Bits, E: Endian, I> {
     mask: IterOnes<'a, A, E>,

@@ -22,17 +22,34 @@ use std::alloc::AllocError;
 use std::marker::{Model, PhantomData};
 
 /// Yields the indexes of the set bits of a set that it borrows, increasing, in the order `E`.
+///
+/// ```
+/// [8u8, 3].iter_ones();                               // yields 3, 8, 9
+/// [8u8, 3].iter_ones().next_back();                   // Some(9)
+/// ```
 pub type IterOnes<'a, B, E> = Iter<'a, B, E, Ones>;
 
 /// Yields the indexes of the unset bits below the capacity of a set that it borrows, increasing, in
 /// the order `E`.
+///
+/// ```
+/// 0xF9u8.iter_zeros();                                // yields 1, 2
+/// ```
 pub type IterZeros<'a, B, E> = Iter<'a, B, E, Zeros>;
 
 /// Yields the indexes of the set bits of a set that it owns, increasing, in the order `E`.
+///
+/// ```
+/// [8u8, 3].into_iter_ones();                          // yields 3, 8, 9
+/// ```
 pub type IntoIterOnes<B, E> = IntoIter<B, E, Ones>;
 
 /// Yields the indexes of the unset bits below the capacity of a set that it owns, increasing, in
 /// the order `E`.
+///
+/// ```
+/// 0xF9u8.into_iter_zeros().rev();                     // yields 2, 1
+/// ```
 pub type IntoIterZeros<B, E> = IntoIter<B, E, Zeros>;
 
 /// Iterates over a set that it borrows, for the bits that `K` names.

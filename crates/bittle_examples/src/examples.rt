@@ -1,6 +1,7 @@
 //! The examples in the documentation of the public calls.
 
-use bittle::{BigEndian, Bits, BitsMut, BitsOwned, Endian, LittleEndian, Set};
+use bittle::replay::{Call, Reply, Side, Step, replay, replay_mixed, replay_pair, replay_walk};
+use bittle::{BigEndian, Bits, BitsMut, BitsOwned, Endian, LittleEndian, Set, number};
 use std::cmp::Ordering;
 
 #[test]
@@ -26,6 +27,12 @@ fn orders_zeros_rev(rt: HostRuntime) {
 #[test]
 fn orders_ones_rev(rt: HostRuntime) {
     assert_eq!(rt; BigEndian::ones_rev(0b1110_0000u8), 3);
+}
+
+#[test]
+fn orders_by_name(rt: HostRuntime) {
+    assert!(rt; 0b0010_0010u8.iter_ones_in::<BigEndian>().eq([1, 5]));
+    assert!(rt; 0b0010_0010u8.iter_ones_in::<LittleEndian>().eq([2, 6]));
 }
 
 #[test]
@@ -300,4 +307,122 @@ fn compared_cmp_bits(rt: HostRuntime) {
 #[test]
 fn compared_eq_bits(rt: HostRuntime) {
     assert!(rt; Set::new_le(0x80u8).eq_bits(&1u16));
+}
+
+#[test]
+fn wrapped_operators(rt: HostRuntime) {
+    let one: Set<u8> = Set::from(0b0011);
+    let other = Set::new(0b0101);
+    assert!(rt; (one | other).iter_ones().eq([0, 1, 2]));
+    assert!(rt; (one & other).iter_ones().eq([0]));
+    assert!(rt; (one ^ other).iter_ones().eq([1, 2]));
+    assert!(rt; (one - other).iter_ones().eq([1]));
+}
+
+#[test]
+fn wrapped_default(rt: HostRuntime) {
+    assert!(rt; Set::<u8>::default().all_zeros());
+}
+
+#[test]
+fn walked_iter_ones(rt: HostRuntime) {
+    assert!(rt; [8u8, 3].iter_ones().eq([3, 8, 9]));
+    assert_eq!(rt; [8u8, 3].iter_ones().next_back(), Some(9));
+}
+
+#[test]
+fn walked_iter_zeros(rt: HostRuntime) {
+    assert!(rt; 0xF9u8.iter_zeros().eq([1, 2]));
+}
+
+#[test]
+fn walked_into_iter_ones(rt: HostRuntime) {
+    assert!(rt; [8u8, 3].into_iter_ones().eq([3, 8, 9]));
+}
+
+#[test]
+fn walked_into_iter_zeros(rt: HostRuntime) {
+    assert!(rt; 0xF9u8.into_iter_zeros().rev().eq([2, 1]));
+}
+
+#[test]
+fn word_iter_ones(rt: HostRuntime) {
+    let mut ones = number::IterOnes::<u8, BigEndian>::new(0b1101);
+    assert_eq!(rt; (ones.next(), ones.next_back()), (Some(0), Some(3)));
+}
+
+#[test]
+fn word_iter_zeros(rt: HostRuntime) {
+    assert!(rt; number::IterZeros::<u8, BigEndian>::new(0xF9).eq([1, 2]));
+}
+
+#[test]
+fn word_new_and_len(rt: HostRuntime) {
+    assert!(rt; number::IterOnes::<u8, LittleEndian>::new(0xD0).eq([0, 1, 3]));
+    assert_eq!(rt; number::IterOnes::<u8, LittleEndian>::new(0xD0).len(), 3);
+}
+
+#[test]
+fn joined_steps(rt: HostRuntime) {
+    let mask = 0b0101u8;
+    let mut join = mask.join_ones([10, 20, 30, 40]);
+    assert_eq!(rt; join.next(), Some(10));
+    assert_eq!(rt; join.next(), Some(30));
+    assert_eq!(rt; join.next(), None);
+}
+
+#[test]
+fn listed_set(rt: HostRuntime) {
+    let mask: u8 = bittle::set![0, 2..=3, 6..];
+    assert_eq!(rt; mask, 0b1100_1101);
+    let empty: [u16; 4] = bittle::set![];
+    assert_eq!(rt; empty, [0, 0, 0, 0]);
+}
+
+#[test]
+fn listed_set_le(rt: HostRuntime) {
+    let mask: u8 = bittle::set_le![0, 2..=3, 6..];
+    assert_eq!(rt; mask, 0b1011_0011);
+}
+
+#[test]
+fn listed_set_be(rt: HostRuntime) {
+    let mask: u8 = bittle::set_be![0, 2..=3, 6..];
+    assert_eq!(rt; mask, 0b1100_1101);
+}
+
+#[test]
+fn replayed_calls(rt: HostRuntime) {
+    let mut word = 0u8;
+    let mut replies = [Reply::Done; 2];
+    replay::<_, BigEndian>(&mut word, &[Call::Put(9), Call::Test(1)], &mut replies);
+    assert!(rt; replies == [Reply::Done, Reply::Bit(true)]);
+    assert_eq!(rt; word, 2);
+}
+
+#[test]
+fn replayed_pair(rt: HostRuntime) {
+    let (mut word, mut row) = (0u16, [0u8; 2]);
+    let (mut left, mut right) = ([Reply::Done; 2], [Reply::Done; 2]);
+    let calls = [Call::Put(9), Call::CountOnes];
+    replay_pair::<_, _, BigEndian, BigEndian>(&mut word, &mut row, &calls, &mut left, &mut right);
+    assert!(rt; left == right);
+    assert!(rt; left == [Reply::Done, Reply::Number(1)]);
+}
+
+#[test]
+fn replayed_mixed(rt: HostRuntime) {
+    let mut word = 0u8;
+    let mut replies = [Reply::Done; 2];
+    let calls = [(Side::Little, Call::Put(0)), (Side::Big, Call::Test(7))];
+    replay_mixed(&mut word, &calls, &mut replies);
+    assert!(rt; replies == [Reply::Done, Reply::Bit(true)]);
+}
+
+#[test]
+fn replayed_walk(rt: HostRuntime) {
+    let mut answers = [None; 3];
+    let steps = [Step::Front, Step::Back, Step::Front];
+    let _looks = replay_walk::<_, BigEndian>(&0b1101u8, true, &steps, &mut answers);
+    assert_eq!(rt; answers, [Some(0), Some(3), Some(2)]);
 }

@@ -79,10 +79,18 @@ pub trait Endian: Drop + Sealed {
 
 /// Counts from the bit of least weight, the rightmost one as a number is written. The default
 /// order.
+///
+/// ```
+/// 0b0010_0010u8.iter_ones_in::<BigEndian>();          // yields 1, 5
+/// ```
 #[derive(Drop)]
 pub enum BigEndian {}
 
 /// Counts from the bit of greatest weight, the leftmost one as a number is written.
+///
+/// ```
+/// 0b0010_0010u8.iter_ones_in::<LittleEndian>();       // yields 2, 6
+/// ```
 #[derive(Drop)]
 pub enum LittleEndian {}
 

@@ -107,6 +107,13 @@ fn run<W: Counted>(walk: &mut W, steps: &[Step], answers: &mut [Option<u32>]) ->
 /// The answers are the items of the increasing list from its two ends, and `None` once none is
 /// left. There is a place for the answer of each step, and the shape fits. Contracts see in the
 /// result the looks made up to each step.
+///
+/// ```
+/// let mut answers = [None; 3];
+/// let steps = [Step::Front, Step::Back, Step::Front];
+/// let _looks = replay_walk::<_, BigEndian>(&0b1101u8, true, &steps, &mut answers);
+/// answers;                                            // [Some(0), Some(3), Some(2)]
+/// ```
 pub fn replay_walk<B: Bits, E: Endian>(
     bits: &B,
     ones: bool,

@@ -16,9 +16,18 @@ use std::alloc::AllocError;
 use std::marker::{Model, PhantomData};
 
 /// Yields the indexes of the set bits of one word, increasing, in the order `E`.
+///
+/// ```
+/// let mut ones = number::IterOnes::<u8, BigEndian>::new(0b1101);
+/// (ones.next(), ones.next_back());                    // (Some(0), Some(3))
+/// ```
 pub type IterOnes<T, E> = Iter<T, E, Ones>;
 
 /// Yields the indexes of the unset bits of one word, increasing, in the order `E`.
+///
+/// ```
+/// number::IterZeros::<u8, BigEndian>::new(0xF9);      // yields 1, 2
+/// ```
 pub type IterZeros<T, E> = Iter<T, E, Zeros>;
 
 /// Iterates over one word, for the bits that `K` names. After its end it returns `None` on both
@@ -66,6 +75,10 @@ impl<T: Number, E: Endian, K: Kind> Iter<T, E, K> {
     }
 
     /// Returns how many items are left.
+    ///
+    /// ```
+    /// number::IterOnes::<u8, LittleEndian>::new(0xD0).len();    // 3
+    /// ```
     #[inline]
     pub fn len(&self) -> usize
         ensures { result ≡ length self.now }
