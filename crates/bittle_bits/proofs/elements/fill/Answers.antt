@@ -17,20 +17,21 @@ loop-at-init g c =
     let from = c.args.from in
     let some = some_each c.args.to (length c.args.elements.now) e (omega arith) c.requires.within in
     let row = members g.E.Endian.mirrored g.T.Bits.width (elements_set (length c.args.elements.now) e g.T.Bits.big c.args.elements.now) in
-    let none : row ≡ with_span row from (reached from c.args.to (from / e * e)) = sym (with_span-none row from (reached from c.args.to (from / e * e)) (omega (arith, first_word e from))) in
-    rw each (record { begun = before_end from e some; set = none })
+    rw each (record { begun = omega (arith, before_end from e some); set = sym (with_span-none row from _ (omega (arith, first_word e from))) })
 
 pub offset_bounds-elements-at : goal.offset_bounds-elements-at
 offset_bounds-elements-at g c =
     let each = c.bits-each.ensures.value (c.requires.fits.0, g.met.T.BitsOwned.type_fits c.requires.fits.0) in
-    let in_row = begins_before c.args.to (length c.args.elements.now) g.T.BitsOwned.type_capacity c.loop-at.at (omega arith) c.requires.within (rw each at c.loop-at-test.true) in
-    let low : c.loop-at.at < length c.loop-at.elements = omega (arith, in_row.1) in
+    let low : c.loop-at.at < length c.loop-at.elements =
+    let below : c.loop-at.at < (c.args.to - 1) / g.T.BitsOwned.type_capacity + 1 = rw (sym each) (omega arith) in
+    omega (arith, (begins_before c.args.to (length c.args.elements.now) g.T.BitsOwned.type_capacity c.loop-at.at (omega arith) c.requires.within below).1) in
     grind (arith, low)
 
 pub fill_in-requires-clause-ordered : goal.fill_in-requires-clause-ordered
 fill_in-requires-clause-ordered g c =
     let each = c.bits-each.ensures.value (c.requires.fits.0, g.met.T.BitsOwned.type_fits c.requires.fits.0) in
-    let in_row = begins_before c.args.to (length c.args.elements.now) g.T.BitsOwned.type_capacity c.loop-at.at (omega arith) c.requires.within (rw each at c.loop-at-test.true) in
+    let below : c.loop-at.at < (c.args.to - 1) / g.T.BitsOwned.type_capacity + 1 = rw (sym each) (omega arith) in
+    let in_row = begins_before c.args.to (length c.args.elements.now) g.T.BitsOwned.type_capacity c.loop-at.at (omega arith) c.requires.within below in
     omega (arith, in_row.0, (rw each at c.saturating_sub.ensures), (rw each at c.min-end.ensures), c.loop-at.invariant.begun)
 
 pub loop-at-preserved : goal.loop-at-preserved
@@ -46,7 +47,8 @@ loop-at-preserved g c =
     let at = c.loop-at.at in
     let xs = c.loop-at.elements in
     let x = get_or xs at c.index-elements-at.result in
-    let in_row = begins_before to n e at (omega arith) c.requires.within (rw each at c.loop-at-test.true) in
+    let below : at < (to - 1) / e + 1 = rw (sym each) (omega arith) in
+    let in_row = begins_before to n e at (omega arith) c.requires.within below in
     let inv = c.loop-at.invariant in
     let first : c.saturating_sub.result ≡ from - at * e = rw each at c.saturating_sub.ensures in
     let end : c.min-end.result ≡ min e (to - at * e) = rw each at c.min-end.ensures in
