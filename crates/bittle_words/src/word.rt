@@ -4,7 +4,7 @@ ghost use Rattle.std.specs.Iterator.{YieldsFirst, YieldsLast};
 ghost use Rattle.std.specs.Prelude.{◌≡◌, ◌==◌, Bool, ◌*◌, ◌<◌, ◌≤◌, IfSome};
 ghost use Rattle.bittle_words.specs.Digits.{digit_set};
 ghost use Rattle.bittle_words.specs.Orders.{members};
-ghost use Rattle.bittle_words.specs.PlainSet.{contains, with_index, with_span, without_index, empty, emptied, filled, size, ascending};
+ghost use Rattle.bittle_words.specs.PlainSet.{contains, with_index, with_span, without_index, empty, emptied, filled, size, ascending, IsLeastMember};
 ghost use Rattle.bittle_words.specs.SetOperations.{combined};
 ghost use Rattle.bittle_words.specs.Words.{word_of};
 
@@ -129,6 +129,23 @@ pub fn ones<T: Number>() -> T
     T::zero().not()
 }
 
+// Clears the least member. Where it is the least digit, the word less one lacks it, and below it
+// has digits that the word lacks: a step waits for that alone, and not for the index.
+#[inline]
+fn clear_first<T: Number, E: Endian>(word: &mut T, index: u32)
+    requires least { IsLeastMember
+        (members E.mirrored T.width (digit_set T.width (T.digits word.old))) index }
+    requires within { index < T.width }
+    ensures { members E.mirrored T.width (digit_set T.width (T.digits word.new))
+        ≡ without_index (members E.mirrored T.width (digit_set T.width (T.digits word.old))) index }
+{
+    if E::is_mirrored() {
+        clear_bit::<T, E>(word, index);
+    } else {
+        *word = word.and(T::from_digits(word.to_digits() - 1));
+    }
+}
+
 /// Takes the least member out of the word.
 #[inline]
 pub fn take_first<T: Number, E: Endian>(word: &mut T) -> Option<u32>
@@ -141,7 +158,7 @@ pub fn take_first<T: Number, E: Endian>(word: &mut T) -> Option<u32>
     if index == T::width() {
         return None;
     }
-    clear_bit::<T, E>(word, index);
+    clear_first::<T, E>(word, index);
     Some(index)
 }
 

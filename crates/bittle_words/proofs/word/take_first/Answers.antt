@@ -10,4 +10,4 @@ returns-then-index-width-clause-found g c =
 pub returns-clause-found : goal.returns-clause-found
 returns-clause-found g c =
     let least = c.zeros-index.ensures in
-    taken_first _ _ _ least (omega (arith, least.within)) c.clear_bit.ensures
+    taken_first _ _ _ least (omega (arith, least.within)) c.clear_first.ensures
