@@ -129,6 +129,7 @@ fn take_first<W: Number, E: Endian>(copy: &mut Copied<W>, looks: &mut Count) -> 
             looks.raise();
             copy.held = false;
         }
+        copy.base = 0;
         return None;
     };
     looks.raise();
@@ -149,6 +150,7 @@ fn take_last<W: Number, E: Endian>(copy: &mut Copied<W>, looks: &mut Count) -> O
             looks.raise();
             copy.held = false;
         }
+        copy.base = 0;
         return None;
     };
     looks.raise();
