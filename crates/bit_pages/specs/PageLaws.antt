@@ -1,7 +1,7 @@
 -- What the page machine keeps, whatever is asked of it.
 use Rattle.std.specs.Prelude.{◌≡◌, ℕ, ◌<◌, true, false, Some, List, slice_get}
 use Rattle.bittle.specs.PlainSet.{PlainSet}
-use Rattle.bit_pages.specs.Pages.{answer_to, answers_to}
+use Rattle.bit_pages.specs.Pages.{answer_to, request_answers}
 use Rattle.bit_pages.specs.declared.Request.{Request}
 use Rattle.bit_pages.specs.declared.Request.TheVariants.{GiveBack}
 use Rattle.bit_pages.specs.declared.Answer.TheVariants.{Page, Full, Given}
@@ -31,13 +31,13 @@ abbrev pub IsGivenBetween : PlainSet → List Request → ℕ → ℕ → ℕ �
 IsGivenBetween s requests page i j =
     (k : ℕ) × (i < k) × (k < j)
     × (slice_get requests k ≡ Some (GiveBack page))
-    × (slice_get (answers_to s requests) k ≡ Some Given)
+    × (slice_get (request_answers s requests) k ≡ Some Given)
 
 -- between two answers of one page that page was given back
 abbrev pub PagesAreGivenBetween : Type 0
 PagesAreGivenBetween =
     (s : PlainSet) (requests : List Request) (page i j : ℕ)
     → i < j
-    → slice_get (answers_to s requests) i ≡ Some (Page page)
-    → slice_get (answers_to s requests) j ≡ Some (Page page)
+    → slice_get (request_answers s requests) i ≡ Some (Page page)
+    → slice_get (request_answers s requests) j ≡ Some (Page page)
     → IsGivenBetween s requests page i j

@@ -2,12 +2,12 @@
 #![tactic(auto)]
 
 ghost use Rattle.std.specs.Prelude.{◌≡◌, ◌↔◌, length, IsTrue, IsOk};
-ghost use Rattle.bittle.specs.Order.{AreSame};
-ghost use Rattle.bittle.specs.PlainSet.{empty, size};
+ghost use Rattle.bittle.specs.Comparison.{AreSame};
+ghost use Rattle.bittle.specs.PlainSet.{empty_set, size};
 ghost use Rattle.bittle.specs.Shapes.{Fits};
 ghost use Rattle.bittle.specs.Values.{set_in};
 ghost use Rattle.bit_pages.specs.Pages.{is_taken, least_free, answer_to, state_after};
-ghost use Rattle.bit_pages.specs.Pages.{answers_to, final_state};
+ghost use Rattle.bit_pages.specs.Pages.{request_answers, final_state};
 
 #[doc(hidden)]
 pub mod laws;
@@ -67,7 +67,7 @@ impl<B: BitsOwned> Pages<B> {
     /// tells. With capacity 0 it has no page.
     pub fn new() -> Pages<B>
         requires { Fits B.indexable B.type_capacity }
-        ensures { set_in B.Bits B.Order.Endian result.map ≡ empty B.type_capacity }
+        ensures { set_in B.Bits B.Order.Endian result.map ≡ empty_set B.type_capacity }
     {
         Pages { map: B::zeros() }
     }
@@ -146,7 +146,7 @@ impl<B: BitsOwned> Pages<B> {
     pub fn serve(&mut self, requests: &[Request], answers: &mut [Answer])
         requires { length answers.old ≡ length requests.now }
         ensures answers { answers.new
-            ≡ answers_to (set_in B.Bits B.Order.Endian self.old.map) requests.now }
+            ≡ request_answers (set_in B.Bits B.Order.Endian self.old.map) requests.now }
         ensures pages { set_in B.Bits B.Order.Endian self.new.map
             ≡ final_state (set_in B.Bits B.Order.Endian self.old.map) requests.now }
     {

@@ -1,5 +1,7 @@
 -- Facts of the increasing list of a set's members that callers cite.
-use Rattle.std.proofs.Common.{◌≡◌, ℕ, zero, suc, ◌+◌, ◌-◌, ◌<◌, ◌≤◌, Bool, true, false, cond, List, [], ◌∷◌, ◌++◌, length, length-append, get_or, Some, inl, inr, refl, sym, ap, ◌∙◌, subst, arith, IsTrue, ◌↔◌}
+use Rattle.std.proofs.Common.{◌≡◌, ℕ, zero, suc, ◌+◌, ◌-◌, ◌<◌, ◌≤◌, Bool, true, false, cond, List,
+    [], ◌∷◌, ◌++◌, length, length-append, get_or, Some, inl, inr, refl, sym, ap, ◌∙◌, subst, arith,
+    IsTrue, ◌↔◌}
 use Rattle.std.specs.List.{Contains}
 use Rattle.std.specs.Ordering.{is_eq}
 use Rattle.std.proofs.lemmas.Bool.{cases_Bool, cases_eq, true≢false}
@@ -7,10 +9,11 @@ use Rattle.std.proofs.lemmas.List.{get_or_push, get_or_append_left}
 use Rattle.std.proofs.lemmas.List.Elements.{Contains-append_left, Contains-push, at_from_Contains}
 use Rattle.bittle_bits.specs.PlainSet.{PlainSet, ascending, ascending_from}
 use Rattle.bittle_bits.specs.Searches.{NoneIn, IsFirstIn, IsLastIn}
-use Rattle.bittle_bits.proofs.Ascending.{ascending-below as below, ascending-at, ascending_from-none}
-use Rattle.bittle.specs.Order.{list_cmp, AreSame}
+use Rattle.bittle_bits.proofs.AscendingLists.{ascending-below as below, ascending-at,
+    ascending_from-none}
+use Rattle.bittle.specs.Comparison.{list_cmp, AreSame}
 use Rattle.bittle_bits.proofs.FirstItems.{ascending_from-least, least_or_none}
-use Rattle.bittle.proofs.Decided.{decided, equal_iff_same}
+use Rattle.bittle.proofs.ListComparison.{list_cmp-precedes, equal_iff_same}
 
 -- where the increasing list is empty there is no member
 pub ascending_none : (s : PlainSet) → ascending s ≡ [] → NoneIn s 0 s.capacity
@@ -19,73 +22,103 @@ ascending_none s e =
       | inl none ↦ λ k p q. none k p (omega arith)
       | inr w ↦
           let m = s.capacity - suc w.0 in
-          let found = ascending_from-least s.has 0 s.capacity w.0 m w.1.0 (omega (arith, w.1.1)) w.1.2 w.1.3 in
+          let found = ascending_from-least s.has 0 s.capacity w.0 m w.1.0
+              (omega (arith, w.1.1)) w.1.2 w.1.3 in
           absurd (cc)
     ]
 
 -- the first item is the least member
-pub ascending_first : (s : PlainSet) (i : ℕ) (rest : List ℕ) → ascending s ≡ i ∷ rest → IsFirstIn s 0 s.capacity (Some i)
+pub ascending_first : (s : PlainSet) (i : ℕ) (rest : List ℕ) → ascending s ≡ i ∷ rest →
+    IsFirstIn s 0 s.capacity (Some i)
 ascending_first s i rest e =
     elim (least_or_none s.has 0 s.capacity) [
       | inl none ↦ let nothing = ascending_from-none s.has 0 s.capacity none in absurd (cc)
       | inr w ↦
           let m = s.capacity - suc w.0 in
-          let found = ascending_from-least s.has 0 s.capacity w.0 m w.1.0 (omega (arith, w.1.1)) w.1.2 w.1.3 in
+          let found = ascending_from-least s.has 0 s.capacity w.0 m w.1.0
+              (omega (arith, w.1.1)) w.1.2 w.1.3 in
           let same : w.0 ≡ i = cc in
-          subst (λ (k : ℕ). IsFirstIn s 0 s.capacity (Some k)) same (w.1.0, omega (arith, w.1.1), w.1.2, w.1.3)
+          subst (λ (k : ℕ). IsFirstIn s 0 s.capacity (Some k)) same
+              (w.1.0, omega (arith, w.1.1), w.1.2, w.1.3)
     ]
 
 -- each of the members is below the capacity
-pub ascending_below : (s : PlainSet) (k : ℕ) → k < length (ascending s) → get_or (ascending s) k 0 < s.capacity
+pub ascending_below : (s : PlainSet) (k : ℕ) → k < length (ascending s) →
+    get_or (ascending s) k 0 < s.capacity
 ascending_below s = (below s).1
 
 -- there are at most as many members as the capacity
 pub ascending_short : (s : PlainSet) → length (ascending s) ≤ s.capacity
 ascending_short s = (below s).0
 
-item_passes : (p : ℕ → Bool) (from n k : ℕ) → k < length (ascending_from p from n) → p (get_or (ascending_from p from n) k 0) ≡ true
+item_passes : (p : ℕ → Bool) (from n k : ℕ) → k < length (ascending_from p from n) →
+    p (get_or (ascending_from p from n) k 0) ≡ true
 unfolding ascending_from
 item_passes p from zero k h = absurd (omega arith)
 item_passes p from (suc n) k h =
-    elim (p from) as (λ b. p from ≡ b → k < length (cond b (from ∷ ascending_from p (suc from) n) (ascending_from p (suc from) n)) → p (get_or (cond b (from ∷ ascending_from p (suc from) n) (ascending_from p (suc from) n)) k 0) ≡ true)
-    [ true ↦ λ is l. first (item_passes p (suc from) n) is k l | false ↦ λ is l. item_passes p (suc from) n k l ] refl h
+    elim (p from) as (λ b. p from ≡ b → k < length
+        (cond b (from ∷ ascending_from p (suc from) n) (ascending_from p (suc from) n)) →
+        p (get_or (cond b (from ∷ ascending_from p (suc from) n) (ascending_from p (suc from) n)) k
+        0) ≡ true)
+    [ true ↦ λ is l. first (item_passes p (suc from) n) is k l | false ↦
+        λ is l. item_passes p (suc from) n k l ] refl h
   where
-    first : ((k : ℕ) → k < length (ascending_from p (suc from) n) → p (get_or (ascending_from p (suc from) n) k 0) ≡ true) → p from ≡ true → (k : ℕ) → k < length (from ∷ ascending_from p (suc from) n) → p (get_or (from ∷ ascending_from p (suc from) n) k 0) ≡ true
+    first : ((k : ℕ) → k < length (ascending_from p (suc from) n) →
+        p (get_or (ascending_from p (suc from) n) k 0) ≡ true) → p from ≡ true → (k : ℕ) →
+        k < length (from ∷ ascending_from p (suc from) n) →
+        p (get_or (from ∷ ascending_from p (suc from) n) k 0) ≡ true
     first later is zero l = is
     first later is (suc k) l = later k (omega arith)
 
-item_from : (p : ℕ → Bool) (from n k : ℕ) → k < length (ascending_from p from n) → from ≤ get_or (ascending_from p from n) k 0
+item_from : (p : ℕ → Bool) (from n k : ℕ) → k < length (ascending_from p from n) →
+    from ≤ get_or (ascending_from p from n) k 0
 unfolding ascending_from
 item_from p from zero k h = absurd (omega arith)
 item_from p from (suc n) k h = by (p from) (item_from p (suc from) n) k h
   where
-    by : (b : Bool) → ((k : ℕ) → k < length (ascending_from p (suc from) n) → suc from ≤ get_or (ascending_from p (suc from) n) k 0) → (k : ℕ) → k < length (cond b (from ∷ ascending_from p (suc from) n) (ascending_from p (suc from) n)) → from ≤ get_or (cond b (from ∷ ascending_from p (suc from) n) (ascending_from p (suc from) n)) k 0
+    by : (b : Bool) → ((k : ℕ) → k < length (ascending_from p (suc from) n) →
+        suc from ≤ get_or (ascending_from p (suc from) n) k 0) → (k : ℕ) →
+        k < length (cond b (from ∷ ascending_from p (suc from) n) (ascending_from p (suc from) n)) →
+        from ≤ get_or (cond b (from ∷ ascending_from p (suc from) n)
+        (ascending_from p (suc from) n)) k 0
     by true later zero l = omega arith
     by true later (suc k) l = let b = later k (omega arith) in omega (arith, b)
     by false later k l = let b = later k l in omega (arith, b)
 
-items_rise : (p : ℕ → Bool) (from n j k : ℕ) → j < k → k < length (ascending_from p from n) → get_or (ascending_from p from n) j 0 < get_or (ascending_from p from n) k 0
+items_rise : (p : ℕ → Bool) (from n j k : ℕ) → j < k → k < length (ascending_from p from n) →
+    get_or (ascending_from p from n) j 0 < get_or (ascending_from p from n) k 0
 unfolding ascending_from
 items_rise p from zero j k o h = absurd (omega arith)
-items_rise p from (suc n) j k o h = by (p from) (item_from p (suc from) n) (items_rise p (suc from) n) j k o h
+items_rise p from (suc n) j k o h = by (p from) (item_from p (suc from) n)
+    (items_rise p (suc from) n) j k o h
   where
-    by : (b : Bool) → ((k : ℕ) → k < length (ascending_from p (suc from) n) → suc from ≤ get_or (ascending_from p (suc from) n) k 0) → ((j k : ℕ) → j < k → k < length (ascending_from p (suc from) n) → get_or (ascending_from p (suc from) n) j 0 < get_or (ascending_from p (suc from) n) k 0) → (j k : ℕ) → j < k → k < length (cond b (from ∷ ascending_from p (suc from) n) (ascending_from p (suc from) n)) → get_or (cond b (from ∷ ascending_from p (suc from) n) (ascending_from p (suc from) n)) j 0 < get_or (cond b (from ∷ ascending_from p (suc from) n) (ascending_from p (suc from) n)) k 0
+    by : (b : Bool) → ((k : ℕ) → k < length (ascending_from p (suc from) n) →
+        suc from ≤ get_or (ascending_from p (suc from) n) k 0) →
+        ((j k : ℕ) → j < k → k < length (ascending_from p (suc from) n) →
+        get_or (ascending_from p (suc from) n) j 0 < get_or (ascending_from p (suc from) n) k 0) →
+        (j k : ℕ) → j < k → k < length (cond b (from ∷ ascending_from p (suc from) n)
+        (ascending_from p (suc from) n)) →
+        get_or (cond b (from ∷ ascending_from p (suc from) n) (ascending_from p (suc from) n)) j 0 <
+        get_or (cond b (from ∷ ascending_from p (suc from) n) (ascending_from p (suc from) n)) k 0
     by true on up j zero o l = absurd (omega arith)
     by true on up zero (suc k) o l = let b = on k (omega arith) in omega (arith, b)
     by true on up (suc j) (suc k) o l = up j k (omega arith) (omega arith)
     by false on up j k o l = up j k o l
 
 -- each item is a member
-pub ascending_member : (s : PlainSet) (k : ℕ) → k < length (ascending s) → s.has (get_or (ascending s) k 0) ≡ true
+pub ascending_member : (s : PlainSet) (k : ℕ) → k < length (ascending s) →
+    s.has (get_or (ascending s) k 0) ≡ true
 ascending_member s = item_passes s.has 0 s.capacity
 
 -- a later item is greater
-pub ascending_rises : (s : PlainSet) (j k : ℕ) → j < k → k < length (ascending s) → get_or (ascending s) j 0 < get_or (ascending s) k 0
+pub ascending_rises : (s : PlainSet) (j k : ℕ) → j < k → k < length (ascending s) →
+    get_or (ascending s) j 0 < get_or (ascending s) k 0
 ascending_rises s = items_rise s.has 0 s.capacity
 
 listed : (s : PlainSet) (i : ℕ) → i < s.capacity → s.has i ≡ true → Contains (ascending s) i
 listed s i inside here =
-    subst (λ xs. Contains xs i) (sym (ascending-at s i inside here)) (Contains-append_left _ _ i (Contains-push (ascending_from s.has 0 i) i))
+    subst (λ xs. Contains xs i) (sym (ascending-at s i inside here))
+        (Contains-append_left _ _ i (Contains-push (ascending_from s.has 0 i) i))
 
 unlisted : (s : PlainSet) (i : ℕ) → Contains (ascending s) i → (i < s.capacity) × (s.has i ≡ true)
 unlisted s i c =
@@ -95,15 +128,18 @@ unlisted s i c =
     (subst (λ n. n < s.capacity) e low, ap s.has (sym e) ∙ ascending_member s at.0 at.1)
 
 -- a number is in the list exactly if it is below the capacity and a member
-pub ascending_contains : (s : PlainSet) (i : ℕ) → Contains (ascending s) i ↔ ((i < s.capacity) × (s.has i ≡ true))
+pub ascending_contains : (s : PlainSet) (i : ℕ) →
+    Contains (ascending s) i ↔ ((i < s.capacity) × (s.has i ≡ true))
 ascending_contains s i = (unlisted s i, λ h. listed s i h.0 h.1)
 
 -- the last item is the greatest member
-pub ascending_last : (s : PlainSet) (i : ℕ) (front : List ℕ) → ascending s ≡ front ++ i ∷ [] → IsLastIn s 0 s.capacity (Some i)
+pub ascending_last : (s : PlainSet) (i : ℕ) (front : List ℕ) → ascending s ≡ front ++ i ∷ [] →
+    IsLastIn s 0 s.capacity (Some i)
 ascending_last s i front e =
     let n = length front in
     let long : length (ascending s) ≡ n + 1 = ap length e ∙ length-append front (i ∷ []) in
-    let at : get_or (ascending s) n 0 ≡ i = ap (λ xs. get_or xs n 0) e ∙ get_or_push front i 0 n refl in
+    let at : get_or (ascending s) n 0 ≡ i = ap (λ xs. get_or xs n 0) e
+        ∙ get_or_push front i 0 n refl in
     let mine = unlisted s i (subst (λ xs. Contains xs i) (sym e) (Contains-push front i)) in
     let none : NoneIn s (i + 1) s.capacity = λ k p q.
     elim (cases_Bool (s.has k)) [
@@ -112,13 +148,18 @@ ascending_last s i front e =
           let there = c.2 0 in
           let up = ascending_rises s c.0 n in
           elim (cases_eq c.0 n) [
-            | inl same ↦ let it = ap (λ t. get_or (ascending s) t 0) same in absurd (omega (arith, it, there, at))
-            | inr other ↦ let before = up (omega (arith, c.1)) (omega arith) in absurd (omega (arith, before, there, at))
+            | inl same ↦ let it = ap (λ t. get_or (ascending s) t 0) same in
+                absurd (omega (arith, it, there, at))
+            | inr other ↦ let before = up (omega (arith, c.1)) (omega arith) in
+                absurd (omega (arith, before, there, at))
           ]
       | inr gone ↦ gone
     ] in
     (omega arith, mine.0, mine.1, none)
 
 -- two increasing lists are equal in their order exactly where the sets have the same members
-pub equal_iff_same_members : (a b : PlainSet) → ((i : ℕ) → a.capacity ≤ i → a.has i ≡ false) → ((i : ℕ) → b.capacity ≤ i → b.has i ≡ false) → IsTrue (is_eq (list_cmp (ascending a) (ascending b))) ↔ AreSame a b
-equal_iff_same_members a b none_a none_b = equal_iff_same a b (list_cmp (ascending a) (ascending b)) (decided a b none_a none_b)
+pub equal_iff_same_members : (a b : PlainSet) → ((i : ℕ) → a.capacity ≤ i → a.has i ≡ false) →
+    ((i : ℕ) → b.capacity ≤ i → b.has i ≡ false) →
+    IsTrue (is_eq (list_cmp (ascending a) (ascending b))) ↔ AreSame a b
+equal_iff_same_members a b none_a none_b = equal_iff_same a b (list_cmp (ascending a) (ascending b))
+    (list_cmp-precedes a b none_a none_b)

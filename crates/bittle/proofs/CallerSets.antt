@@ -1,12 +1,15 @@
--- Facts of sets that callers cite: changes and tests of an index that does not wrap, sizes, operations.
-use Rattle.std.proofs.Common.{◌≡◌, ℕ, zero, suc, ◌+◌, ◌*◌, ◌<◌, ◌≤◌, Bool, true, false, not, ◌&&◌, ◌||◌, ◌==◌, inl, inr, sym, ap, ◌∙◌, refl, arith}
+-- Facts of sets that callers cite: changes and tests of an index that does not wrap, sizes,
+-- operations.
+use Rattle.std.proofs.Common.{◌≡◌, ℕ, zero, suc, ◌+◌, ◌*◌, ◌<◌, ◌≤◌, Bool, true, false, not, ◌&&◌,
+    ◌||◌, ◌==◌, inl, inr, sym, ap, ◌∙◌, refl, arith}
 use Rattle.std.proofs.Math.Nat.{mod-eq_of_lt}
 use Rattle.std.proofs.lemmas.Bool.{cases_Bool, lt-ltb}
 use Rattle.bittle_bits.specs.Orders.{members}
-use Rattle.bittle_bits.specs.PlainSet.{PlainSet, contains, with_index, has_with, without_index, has_without, complement, lacks, empty, filled, count_below, size}
+use Rattle.bittle_bits.specs.PlainSet.{PlainSet, contains, with_index, has_with, without_index,
+    has_without, complement, lacks, empty_set, full_set, count_below, size}
 use Rattle.bittle_bits.specs.Searches.{NoneIn}
-use Rattle.bittle_bits.specs.SetOperations.{combined, has_combined}
-use Rattle.bittle_bits.proofs.PlainSets.{filled_in_each_order}
+use Rattle.bittle_bits.specs.SetOperations.{combination_of, combination_has}
+use Rattle.bittle_bits.proofs.PlainSets.{full_set_in_each_order}
 use Rattle.bittle_bits.proofs.Sizes as sizes
 
 -- below the capacity no index wraps
@@ -18,7 +21,8 @@ contains_within s i h =
     rw (some, same) refl
 
 -- a set with an index below the capacity has that number and its own members
-pub with_index_within : (s : PlainSet) (i : ℕ) → i < s.capacity → with_index s i ≡ record { capacity = s.capacity; has = λ k. (k == i) || s.has k }
+pub with_index_within : (s : PlainSet) (i : ℕ) → i < s.capacity →
+    with_index s i ≡ record { capacity = s.capacity; has = λ k. (k == i) || s.has k }
 unfolding has_with
 with_index_within s i h =
     let some = lt-ltb 0 s.capacity (omega arith) in
@@ -27,31 +31,38 @@ with_index_within s i h =
     λ j. record { capacity = s.capacity; has = λ k. each k j }
 
 -- a set without an index below the capacity has its members but that number
-pub without_index_within : (s : PlainSet) (i : ℕ) → i < s.capacity → without_index s i ≡ record { capacity = s.capacity; has = λ k. not (k == i) && s.has k }
+pub without_index_within : (s : PlainSet) (i : ℕ) → i < s.capacity →
+    without_index s i ≡ record { capacity = s.capacity; has = λ k. not (k == i) && s.has k }
 unfolding has_without
 without_index_within s i h =
     let some = lt-ltb 0 s.capacity (omega arith) in
     let same = mod-eq_of_lt h in
-    let each : (k : ℕ) → has_without s i k ≡ (not (k == i) && s.has k) = λ k. rw (some, same) refl in
+    let each : (k : ℕ) → has_without s i k
+        ≡ (not (k == i) && s.has k) = λ k. rw (some, same) refl in
     λ j. record { capacity = s.capacity; has = λ k. each k j }
 
 -- below the capacity a number is in the complement where it is no member
-pub complement_within : (s : PlainSet) (i : ℕ) → i < s.capacity → (complement s).has i ≡ not (s.has i)
+pub complement_within : (s : PlainSet) (i : ℕ) → i < s.capacity →
+    (complement s).has i ≡ not (s.has i)
 unfolding lacks
 complement_within s i h = let inside = lt-ltb i s.capacity h in rw inside refl
 
 -- an operation decides a number below both capacities
-pub combined_within : (decide : Bool → Bool → Bool) (s t : PlainSet) (i : ℕ) → i < s.capacity → i < t.capacity → (combined decide s t).has i ≡ decide (s.has i) (t.has i)
-unfolding has_combined
-combined_within decide s t i h k = let one = lt-ltb i s.capacity h in let other = lt-ltb i t.capacity k in rw (one, other) refl
+pub combination_within : (decide : Bool → Bool → Bool) (s t : PlainSet) (i : ℕ) → i < s.capacity →
+    i < t.capacity → (combination_of decide s t).has i ≡ decide (s.has i) (t.has i)
+unfolding combination_has
+combination_within decide s t i h k = let one = lt-ltb i s.capacity h in
+    let other = lt-ltb i t.capacity k in rw (one, other) refl
 
 -- there are as many members in one order as in the other
-pub size_members : (mirrored : Bool) (w : ℕ) (s : PlainSet) → 0 < w → (words : ℕ) × (s.capacity ≡ words * w) → size (members mirrored w s) ≡ size s
+pub size_members : (mirrored : Bool) (w : ℕ) (s : PlainSet) → 0 < w →
+    (words : ℕ) × (s.capacity ≡ words * w) → size (members mirrored w s) ≡ size s
 size_members = sizes.size-members
 
 -- the set of all numbers below a capacity of whole words is that set in each order
-pub filled_members : (w c : ℕ) (s : PlainSet) → 0 < w → (words : ℕ) × (c ≡ words * w) → s ≡ filled c → (mirrored : Bool) → members mirrored w s ≡ filled c
-filled_members = filled_in_each_order
+pub full_set_members : (w c : ℕ) (s : PlainSet) → 0 < w → (words : ℕ) × (c ≡ words * w) →
+    s ≡ full_set c → (mirrored : Bool) → members mirrored w s ≡ full_set c
+full_set_members = full_set_in_each_order
 
 -- there are at most as many members as the capacity
 pub size_at_most : (s : PlainSet) → size s ≤ s.capacity
@@ -66,22 +77,25 @@ size_none s e k p q =
     ]
 
 -- the empty set has size 0
-pub size_empty : (c : ℕ) → size (empty c) ≡ 0
+pub size_empty : (c : ℕ) → size (empty_set c) ≡ 0
 unfolding count_below
 size_empty zero = refl
 size_empty (suc c) = ap (λ n. n + 0) (size_empty c) ∙ omega arith
 
 -- a set with no members has size 0
 pub size_zero : (s : PlainSet) → NoneIn s 0 s.capacity → size s ≡ 0
-size_zero s none = sizes.count-same s.capacity s.has (λ _. false) (λ k h. none k (omega arith) h) ∙ size_empty s.capacity
+size_zero s none = sizes.count-same s.capacity s.has (λ _. false) (λ k h. none k (omega arith) h)
+    ∙ size_empty s.capacity
 
 -- a set whose size is its capacity has each number below it
 pub size_full : (s : PlainSet) → size s ≡ s.capacity → (k : ℕ) → k < s.capacity → s.has k ≡ true
 size_full s e k h =
-    let none = size_none (complement s) (omega (arith, sizes.size-complement s)) k (omega arith) h in
+    let none = size_none (complement s) (omega (arith, sizes.size-complement s)) k
+        (omega arith) h in
     elim (cases_Bool (s.has k)) [
       | inl here ↦ here
-      | inr gone ↦ let no : true ≡ false = sym (complement_within s k h ∙ ap not gone) ∙ none in absurd (cc)
+      | inr gone ↦ let no : true ≡ false = sym (complement_within s k h ∙ ap not gone) ∙ none in
+          absurd (cc)
     ]
 
 -- a set that has each number below its capacity has that size

@@ -1,29 +1,38 @@
 -- Facts of walks that callers cite: what a run gave, and what is left.
-use Rattle.std.proofs.Common.{◌≡◌, ℕ, List, [], ◌∷◌, ◌++◌, length, reverse, sym, ap, ◌∙◌, subst, append_assoc, append-nil}
+use Rattle.std.proofs.Common.{◌≡◌, ℕ, List, [], ◌∷◌, ◌++◌, length, reverse, sym, ap, ◌∙◌, subst,
+    append_assoc, append-nil}
 use Rattle.std.specs.Iterator.{Yields}
 use Rattle.std.proofs.lemmas.Iterator.{YieldsList}
 use Rattle.std.proofs.lemmas.Iterator.Consumers.{YieldsList-from_shown}
 use Rattle.std.proofs.lemmas.List.{reverse-append}
 use Rattle.bittle_bits.specs.Walk.{Walk, StepsFront, StepsBack}
-use Rattle.bittle.proofs.Walking as walking
+use Rattle.bittle.proofs.WalkYields as walking
 
 -- a walk gives what it has left
-pub walk_yields : (w : Walk) (items : List ℕ) → w.left ≡ items → YieldsList StepsFront (λ x. x) w items
-walk_yields = walking.walk_yields
+pub walk_yields : (w : Walk) (items : List ℕ) → w.left ≡ items →
+    YieldsList StepsFront (λ x. x) w items
+walk_yields = walking.steps_yield
 
 -- from the back a walk gives what it has left in reverse
-pub walk_yields_back : (w : Walk) (items : List ℕ) → w.left ≡ items → YieldsList StepsBack (λ x. x) w (reverse items)
+pub walk_yields_back : (w : Walk) (items : List ℕ) → w.left ≡ items →
+    YieldsList StepsBack (λ x. x) w (reverse items)
 walk_yields_back w items e =
-    subst (λ xs. YieldsList StepsBack (λ x. x) w (reverse xs)) e (YieldsList-from_shown StepsBack (λ x. x) (λ v. reverse v.left) (λ s t h. ap (λ xs. length (reverse xs)) h.gave.0) (λ s x t h. ap reverse h.gave ∙ reverse-append t.left (x ∷ [])) w)
+    subst (λ xs. YieldsList StepsBack (λ x. x) w (reverse xs)) e
+        (YieldsList-from_shown StepsBack (λ x. x) (λ v. reverse v.left)
+        (λ s t h. ap (λ xs. length (reverse xs)) h.gave.0)
+        (λ s x t h. ap reverse h.gave ∙ reverse-append t.left (x ∷ [])) w)
 
 -- what a run from the front gave, and what is left, are what was left before
-pub given_and_left : (s t : Walk) (items : List ℕ) → Yields StepsFront s items t → s.left ≡ items ++ t.left
+pub given_and_left : (s t : Walk) (items : List ℕ) → Yields StepsFront s items t →
+    s.left ≡ items ++ t.left
 given_and_left s t [] y = ap (λ w. w.left) y
 given_and_left s t (x ∷ items) y = y.1.gave ∙ ap (λ r. x ∷ r) (given_and_left y.0 t items y.2)
 
 -- what is left after a run from the back, and what it gave in reverse, are what was left before
-pub left_and_given : (s t : Walk) (items : List ℕ) → Yields StepsBack s items t → s.left ≡ t.left ++ reverse items
+pub left_and_given : (s t : Walk) (items : List ℕ) → Yields StepsBack s items t →
+    s.left ≡ t.left ++ reverse items
 left_and_given s t [] y = ap (λ w. w.left) y ∙ sym (append-nil t.left)
 left_and_given s t (x ∷ items) y =
-    y.1.gave ∙ ap (λ r. r ++ x ∷ []) (left_and_given y.0 t items y.2) ∙ append_assoc t.left (reverse items) (x ∷ [])
+    y.1.gave ∙ ap (λ r. r ++ x ∷ []) (left_and_given y.0 t items y.2)
+        ∙ append_assoc t.left (reverse items) (x ∷ [])
     ∙ ap (λ r. t.left ++ r) (sym (reverse-append (x ∷ []) items))

@@ -1,11 +1,13 @@
 -- Ranges that grow by one index, and ranges that reach each index below the capacity.
-use Rattle.std.proofs.Common.{◌≡◌, ℕ, zero, suc, ◌+◌, ◌-◌, ◌/◌, ◌%◌, ◌<◌, ◌≤◌, Bool, true, false, ◌&&◌, ◌||◌, ◌==◌, nat_lt, nat_le, inl, inr, refl, sym, ap, ◌∙◌, subst, add-one, arith}
+use Rattle.std.proofs.Common.{◌≡◌, ℕ, zero, suc, ◌+◌, ◌-◌, ◌/◌, ◌%◌, ◌<◌, ◌≤◌, Bool, true, false,
+    ◌&&◌, ◌||◌, ◌==◌, nat_lt, nat_le, inl, inr, refl, sym, ap, ◌∙◌, subst, add-one, arith}
 use Rattle.std.proofs.Math.Nat.{add-mod-mod, div-add-mod'}
 use Rattle.std.proofs.Math.Path.{fun_ext}
-use Rattle.std.proofs.lemmas.Bool.{ltb-true, leb-true, le-leb, and_from, and_parts, and_right, or_cases, or_left, or_right, false_from_ne_true, cases_lt}
+use Rattle.std.proofs.lemmas.Bool.{ltb-true, leb-true, le-leb, and_from, and_parts, and_right,
+    or_cases, or_left, or_right, false_from_ne_true, cases_lt}
 use Rattle.std.proofs.lemmas.Nat.{mod_below, mod-mul-add}
 use Rattle.bittle_bits.specs.PlainSet.{PlainSet, has_with, with_index, with_span}
-use Rattle.bittle_bits.proofs.PlainSets.{plain}
+use Rattle.bittle_bits.proofs.PlainSets.{plain_set}
 use Rattle.bittle_bits.proofs.Spans.{with_span-none, with_span-more}
 use Rattle.bittle.specs.Ranges.{some_below, has_with_range, with_range}
 
@@ -29,7 +31,8 @@ some_below-from zero p i h e = absurd (omega arith)
 some_below-from (suc n) p i h e =
     elim (cases_lt i n) [
       | inl l ↦ or_left (some_below n p) (p n) (some_below-from n p i l e)
-      | inr g ↦ let t : i ≡ n = omega arith in or_right (some_below n p) (p n) (subst (λ x. p x ≡ true) t e)
+      | inr g ↦ let t : i ≡ n = omega arith in
+          or_right (some_below n p) (p n) (subst (λ x. p x ≡ true) t e)
     ]
 
 -- one more number that may pass
@@ -47,7 +50,9 @@ module _ (s : PlainSet) (from : ℕ) where
   -- a range whose end is not past its start
   pub with_range-none : (end : ℕ) → end ≤ from → with_range s from end ≡ s
   unfolding has_with_range
-  with_range-none end h = ap (plain s.capacity) (fun_ext λ k. ap (λ b. b || s.has k) (and_right (nat_lt 0 s.capacity) (some_below end (reaches k)) (none k)))
+  with_range-none end h = ap (plain_set s.capacity)
+      (fun_ext λ k. ap (λ b. b || s.has k)
+      (and_right (nat_lt 0 s.capacity) (some_below end (reaches k)) (none k)))
     where
       none : (k : ℕ) → some_below end (reaches k) ≡ false
       none k =
@@ -57,14 +62,19 @@ module _ (s : PlainSet) (from : ℕ) where
           omega (arith, leb-true from f.0 a.0, f.1))
 
   -- one more index
-  with_range-more : (end : ℕ) → from ≤ end → with_range s from (end + 1) ≡ with_index (with_range s from end) end
+  with_range-more : (end : ℕ) → from ≤ end →
+      with_range s from (end + 1) ≡ with_index (with_range s from end) end
   unfolding has_with_range has_with some_below
-  with_range-more end h = ap (plain s.capacity) (fun_ext λ k. rw (add-one, le-leb from end h) (spread (nat_lt 0 s.capacity) (some_below end (reaches k)) (k == end % s.capacity) (s.has k)))
+  with_range-more end h = ap (plain_set s.capacity)
+      (fun_ext λ k. rw (add-one, le-leb from end h)
+      (spread (nat_lt 0 s.capacity) (some_below end (reaches k)) (k == end % s.capacity) (s.has k)))
 
   -- as many neighbours as the capacity are all of them
-  with_range-all : (last end : ℕ) → from + s.capacity ≤ last → last ≤ end → with_range s from last ≡ with_range s from end
+  with_range-all : (last end : ℕ) → from + s.capacity ≤ last → last ≤ end →
+      with_range s from last ≡ with_range s from end
   unfolding has_with_range
-  with_range-all last end many h = ap (plain s.capacity) (fun_ext λ k. ap (λ b. b || s.has k) (alike k))
+  with_range-all last end many h = ap (plain_set s.capacity)
+      (fun_ext λ k. ap (λ b. b || s.has k) (alike k))
     where
       sooner : (k i : ℕ) → 0 < s.capacity → reaches k i ≡ true → some_below last (reaches k) ≡ true
       sooner k i some e =
@@ -72,34 +82,48 @@ module _ (s : PlainSet) (from : ℕ) where
           let a = and_parts (nat_le from i) (k == i % c) e in
           let g = leb-true from i a.0 in
           let m = mod_below (i - from) c some in
-          let f : (from + (i - from) % c) % c ≡ i % c = add-mod-mod from (i - from) c ∙ ap (λ x. x % c) (omega arith) in
-          some_below-from last (reaches k) (from + (i - from) % c) (omega arith) (and_from (nat_le from (from + (i - from) % c)) (k == (from + (i - from) % c) % c) (le-leb from (from + (i - from) % c) (omega arith)) (ap (λ x. k == x) f ∙ a.1))
+          let f : (from + (i - from) % c) % c ≡ i % c = add-mod-mod from (i - from) c
+              ∙ ap (λ x. x % c) (omega arith) in
+          some_below-from last (reaches k) (from + (i - from) % c) (omega arith)
+              (and_from (nat_le from (from + (i - from) % c)) (k == (from + (i - from) % c) % c)
+              (le-leb from (from + (i - from) % c) (omega arith)) (ap (λ x. k == x) f ∙ a.1))
 
-      alike : (k : ℕ) → (nat_lt 0 s.capacity && some_below last (reaches k)) ≡ (nat_lt 0 s.capacity && some_below end (reaches k))
+      alike : (k : ℕ) → (nat_lt 0 s.capacity && some_below last (reaches k))
+          ≡ (nat_lt 0 s.capacity && some_below end (reaches k))
       alike k =
           let z = nat_lt 0 s.capacity in
           same_answer (z && some_below last (reaches k)) (z && some_below end (reaches k))
           (λ e.
           let a = and_parts z (some_below last (reaches k)) e in
           let f = some_below-found last (reaches k) a.1 in
-          and_from z (some_below end (reaches k)) a.0 (some_below-from end (reaches k) f.0 (omega (arith, f.1)) f.2))
+          and_from z (some_below end (reaches k)) a.0
+              (some_below-from end (reaches k) f.0 (omega (arith, f.1)) f.2))
           (λ e.
           let a = and_parts z (some_below end (reaches k)) e in
           let f = some_below-found end (reaches k) a.1 in
-          and_from z (some_below last (reaches k)) a.0 (sooner k f.0 (ltb-true 0 s.capacity a.0) f.2))
+          and_from z (some_below last (reaches k)) a.0
+              (sooner k f.0 (ltb-true 0 s.capacity a.0) f.2))
 
   -- neighbours that do not wrap are a span
-  range_span : (start count : ℕ) → 0 < s.capacity → start ≡ from % s.capacity → start + count ≤ s.capacity → with_range s from (from + count) ≡ with_span s start (start + count)
-  range_span start zero some at le = with_range-none (from + 0) (omega arith) ∙ sym (with_span-none s start (start + 0) (omega arith))
+  range_span : (start count : ℕ) → 0 < s.capacity → start ≡ from % s.capacity →
+      start + count ≤ s.capacity → with_range s from (from + count)
+      ≡ with_span s start (start + count)
+  range_span start zero some at le = with_range-none (from + 0) (omega arith)
+      ∙ sym (with_span-none s start (start + 0) (omega arith))
   range_span start (suc count) some at le =
-      let next : (from + count) % s.capacity ≡ start + count = ap (λ t. t % s.capacity) (omega (arith, div-add-mod' from s.capacity)) ∙ mod-mul-add (from / s.capacity) s.capacity (start + count) (omega arith) in
+      let next : (from + count) % s.capacity ≡ start + count = ap (λ t. t % s.capacity)
+          (omega (arith, div-add-mod' from s.capacity)) ∙ mod-mul-add (from / s.capacity) s.capacity
+          (start + count) (omega arith) in
       ap (with_range s from) (omega arith) ∙ with_range-more (from + count) (omega arith)
-      ∙ ap (λ (u : PlainSet). with_index u (from + count)) (range_span start count some at (omega arith))
+      ∙ ap (λ (u : PlainSet). with_index u (from + count))
+          (range_span start count some at (omega arith))
       ∙ with_span-more s start (start + count) (from + count) some next (omega arith)
       ∙ ap (with_span s start) (omega arith)
 
   -- as many neighbours as the range has indexes, or as many as the capacity
-  range_whole : (count end : ℕ) (now : PlainSet) → from + count ≤ end → (from + count < end → count ≡ s.capacity) → now ≡ with_range s from (from + count) → now ≡ with_range s from end
+  range_whole : (count end : ℕ) (now : PlainSet) → from + count ≤ end →
+      (from + count < end → count ≡ s.capacity) → now ≡ with_range s from (from + count) →
+      now ≡ with_range s from end
   range_whole count end now le short e =
       elim (cases_lt (from + count) end) [
         | inl l ↦ e ∙ with_range-all (from + count) end (omega (arith, short l)) le
@@ -107,31 +131,48 @@ module _ (s : PlainSet) (from : ℕ) where
       ]
 
   -- a range that does not wrap, or that ends at the capacity, is one span
-  pub one_span : (start count end : ℕ) (next : PlainSet) → 0 < s.capacity → start ≡ from % s.capacity → start + count ≤ s.capacity → from + count ≤ end → (from + count < end → count ≡ s.capacity) → next ≡ with_span s start (start + count) → next ≡ with_range s from end
+  pub one_span : (start count end : ℕ) (next : PlainSet) → 0 < s.capacity →
+      start ≡ from % s.capacity → start + count ≤ s.capacity → from + count ≤ end →
+      (from + count < end → count ≡ s.capacity) → next ≡ with_span s start (start + count) →
+      next ≡ with_range s from end
   one_span start count end next some at le in_range short is =
       range_whole count end next in_range short (is ∙ sym (range_span start count some at le))
 
 -- two ranges, of which the second begins where the first ends, are one
-range_on : (s : PlainSet) (from mid more : ℕ) → from ≤ mid → with_range (with_range s from mid) mid (mid + more) ≡ with_range s from (mid + more)
-range_on s from mid zero h = with_range-none (with_range s from mid) mid (mid + 0) (omega arith) ∙ ap (with_range s from) (omega arith)
+range_on : (s : PlainSet) (from mid more : ℕ) → from ≤ mid →
+    with_range (with_range s from mid) mid (mid + more) ≡ with_range s from (mid + more)
+range_on s from mid zero h = with_range-none (with_range s from mid) mid (mid + 0) (omega arith)
+    ∙ ap (with_range s from) (omega arith)
 range_on s from mid (suc more) h =
-    ap (with_range (with_range s from mid) mid) (omega arith) ∙ with_range-more (with_range s from mid) mid (mid + more) (omega arith)
+    ap (with_range (with_range s from mid) mid) (omega arith)
+        ∙ with_range-more (with_range s from mid) mid (mid + more) (omega arith)
     ∙ ap (λ (u : PlainSet). with_index u (mid + more)) (range_on s from mid more h)
     ∙ sym (with_range-more s from (mid + more) (omega arith)) ∙ ap (with_range s from) (omega arith)
 
 -- a range that wraps is the span up to the capacity and the span of the rest
-pub two_spans : (s : PlainSet) (from start room count end : ℕ) (now next : PlainSet) → 0 < s.capacity → start ≡ from % s.capacity → room ≡ s.capacity - start → room ≤ count → count ≤ s.capacity → from + count ≤ end → (from + count < end → count ≡ s.capacity) → now ≡ with_span s start s.capacity → next ≡ with_span now 0 (count - room) → next ≡ with_range s from end
+pub two_spans : (s : PlainSet) (from start room count end : ℕ) (now next : PlainSet) →
+    0 < s.capacity → start ≡ from % s.capacity → room ≡ s.capacity - start → room ≤ count →
+    count ≤ s.capacity → from + count ≤ end → (from + count < end → count ≡ s.capacity) →
+    now ≡ with_span s start s.capacity → next ≡ with_span now 0 (count - room) →
+    next ≡ with_range s from end
 two_spans s from start room count end now next some at rest more le in_range short first second =
     let c = s.capacity in
     let low = mod_below from c some in
     let t = with_range s from (from + room) in
-    let around : 0 ≡ (from + room) % c = sym (ap (λ t. t % c) (omega (arith, div-add-mod' from c)) ∙ mod-mul-add (from / c + 1) c 0 some) in
-    let begins : now ≡ t = first ∙ ap (with_span s start) (omega arith) ∙ sym (range_span s from start room some at (omega arith)) in
+    let around : 0 ≡ (from + room) % c = sym
+        (ap (λ t. t % c) (omega (arith, div-add-mod' from c)) ∙ mod-mul-add (from / c + 1) c 0 some)
+        in
+    let begins : now ≡ t = first ∙ ap (with_span s start) (omega arith)
+        ∙ sym (range_span s from start room some at (omega arith)) in
     let ends : next ≡ with_range t (from + room) (from + room + (count - room)) =
-    second ∙ ap (λ (u : PlainSet). with_span u 0 (count - room)) begins ∙ ap (with_span t 0) (omega arith) ∙ sym (range_span t (from + room) 0 (count - room) some around (omega arith)) in
-    range_whole s from count end next in_range short (ends ∙ range_on s from (from + room) (count - room) (omega arith) ∙ ap (with_range s from) (omega arith))
+    second ∙ ap (λ (u : PlainSet). with_span u 0 (count - room)) begins
+        ∙ ap (with_span t 0) (omega arith)
+        ∙ sym (range_span t (from + room) 0 (count - room) some around (omega arith)) in
+    range_whole s from count end next in_range short
+        (ends ∙ range_on s from (from + room) (count - room) (omega arith)
+        ∙ ap (with_range s from) (omega arith))
 
 -- with capacity 0 a range adds nothing
 pub no_range : (s : PlainSet) (from end : ℕ) → s.capacity ≡ 0 → with_range s from end ≡ s
 unfolding has_with_range
-no_range s from end none = ap (plain s.capacity) (fun_ext λ k. rw none refl)
+no_range s from end none = ap (plain_set s.capacity) (fun_ext λ k. rw none refl)

@@ -1,9 +1,12 @@
--- The plain-set machine: its state is a plain set, and each call has a reply and a next state. No word, order or element occurs in it.
+-- The plain-set machine: its state is a plain set, and each call has a reply and a next state. No
+-- word, order or element occurs in it.
 use Rattle.std.specs.Prelude.{◌-◌, ◌==◌, List}
 use Rattle.std.specs.List.{fold, scan}
-use Rattle.bittle_bits.specs.PlainSet.{PlainSet, contains, with_index, without_index, emptied, size}
+use Rattle.bittle_bits.specs.PlainSet.{PlainSet, contains, with_index, without_index,
+    without_members, size}
 use Rattle.bittle.specs.declared.replay.Call.{Call}
-use Rattle.bittle.specs.declared.replay.Call.TheVariants.{Test, Put, Clear, ClearAll, CountOnes, CountZeros, AllZeros, AllOnes, Capacity}
+use Rattle.bittle.specs.declared.replay.Call.TheVariants.{Test, Put, Clear, ClearAll, CountOnes,
+    CountZeros, AllZeros, AllOnes, Capacity}
 use Rattle.bittle.specs.declared.replay.Reply.{Reply}
 use Rattle.bittle.specs.declared.replay.Reply.TheVariants.{Done, Bit, Number}
 
@@ -24,7 +27,7 @@ abbrev pub set_after : PlainSet → Call → PlainSet
 set_after s (Test i) = s
 set_after s (Put i) = with_index s i
 set_after s (Clear i) = without_index s i
-set_after s ClearAll = emptied s
+set_after s ClearAll = without_members s
 set_after s CountOnes = s
 set_after s CountZeros = s
 set_after s AllZeros = s

@@ -132,5 +132,5 @@ pub use bittle_bits::bits_owned::BitsOwned;
 pub use bittle_bits::endian::{BigEndian, DefaultEndian, Endian, LittleEndian};
 pub use bittle_bits::{join, number, walk};
 #[doc(hidden)]
-pub use bittle_bits::{laws, set_laws, walk_laws};
+pub use bittle_bits::laws;
 pub use set::Set;

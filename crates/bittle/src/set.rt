@@ -2,13 +2,13 @@
 
 ghost use Rattle.std.specs.Prelude.{◌≡◌, ◌*◌, ◌<◌, length, IsTrue};
 ghost use Rattle.bittle_bits.specs.Shapes.{Fits};
-ghost use Rattle.bittle.specs.EqualityLaws.{equal_sets};
+ghost use Rattle.bittle.specs.EqualityProof.{equal_sets};
 
 use bittle_bits::bits::Bits;
 use bittle_bits::bits_mut::BitsMut;
 use bittle_bits::bits_owned::BitsOwned;
 use bittle_bits::endian::{DefaultEndian, Endian, LittleEndian};
-use bittle_bits::hidden::Sealed;
+use bittle_bits::internal::sealed::Sealed;
 use bittle_bits::operation::Operation;
 use std::alloc::AllocError;
 use std::marker::PhantomData;

@@ -1,20 +1,24 @@
 -- The first item of the increasing list, and what stands past its last.
-use Rattle.std.proofs.Common.{◌≡◌, ℕ, zero, suc, ◌+◌, ◌<◌, ◌≤◌, ◌⊎◌, Bool, true, false, cond, ◌∷◌, sym, ◌∙◌, ap, inl, inr, arith}
+use Rattle.std.proofs.Common.{◌≡◌, ℕ, zero, suc, ◌+◌, ◌<◌, ◌≤◌, ◌⊎◌, Bool, true, false, cond, ◌∷◌,
+    sym, ◌∙◌, ap, inl, inr, arith}
 use Rattle.std.proofs.lemmas.Bool.{cases_eq, cases_Bool}
 use Rattle.bittle_bits.specs.PlainSet.{ascending_from}
-use Rattle.bittle_bits.proofs.Ascending.{ascending-yes, ascending-no, ascending_from-none}
+use Rattle.bittle_bits.proofs.AscendingLists.{ascending-yes, ascending-no, ascending_from-none}
 
 -- no number from one on and below another passes the test
 abbrev pub NonePasses : (ℕ → Bool) → ℕ → ℕ → Type 0
 NonePasses s from to = (i : ℕ) → from ≤ i → i < to → s i ≡ false
 
 -- the list from one number on begins with the least that passes, and goes on past it
-pub ascending_from-least : (s : ℕ → Bool) (from n v m : ℕ) → from ≤ v → from + n ≡ suc v + m → s v ≡ true → NonePasses s from v → ascending_from s from n ≡ v ∷ ascending_from s (suc v) m
+pub ascending_from-least : (s : ℕ → Bool) (from n v m : ℕ) → from ≤ v → from + n ≡ suc v + m →
+    s v ≡ true → NonePasses s from v → ascending_from s from n ≡ v ∷ ascending_from s (suc v) m
 ascending_from-least s from zero v m p e t h = absurd (omega arith)
 ascending_from-least s from (suc n) v m p e t h =
-    by (λ l. ascending_from-least s (suc from) n v m (omega arith) (omega arith) t (λ i a b. h i (omega arith) b)) (cases_eq from v)
+    by (λ l. ascending_from-least s (suc from) n v m (omega arith) (omega arith) t
+        (λ i a b. h i (omega arith) b)) (cases_eq from v)
   where
-    by : (from < v → ascending_from s (suc from) n ≡ v ∷ ascending_from s (suc v) m) → (from ≡ v) ⊎ (from ≡ v → ⊥) → ascending_from s from (suc n) ≡ v ∷ ascending_from s (suc v) m
+    by : (from < v → ascending_from s (suc from) n ≡ v ∷ ascending_from s (suc v) m) →
+        (from ≡ v) ⊎ (from ≡ v → ⊥) → ascending_from s from (suc n) ≡ v ∷ ascending_from s (suc v) m
     by k (inl q) =
         let r : n ≡ m = omega arith in
         ascending-yes s from n (ap s q ∙ t) ∙ (λ i. q i ∷ ascending_from s (suc (q i)) (r i))
@@ -27,7 +31,8 @@ abbrev pub IsLeastPassing : (ℕ → Bool) → ℕ → ℕ → ℕ → Type 0
 IsLeastPassing s from to v = (from ≤ v) × (v < to) × (s v ≡ true) × NonePasses s from v
 
 -- the least of n numbers that passes the test, or none
-pub least_or_none : (s : ℕ → Bool) (from n : ℕ) → NonePasses s from (from + n) ⊎ ((v : ℕ) × IsLeastPassing s from (from + n) v)
+pub least_or_none : (s : ℕ → Bool) (from n : ℕ) →
+    NonePasses s from (from + n) ⊎ ((v : ℕ) × IsLeastPassing s from (from + n) v)
 least_or_none s from zero = inl (λ i p q. absurd (omega arith))
 least_or_none s from (suc n) = by (cases_Bool (s from)) (least_or_none s (suc from) n)
   where
@@ -38,13 +43,18 @@ least_or_none s from (suc n) = by (cases_Bool (s from)) (least_or_none s (suc fr
         at (inl e) = ap s (sym e) ∙ h
         at (inr e) = g i (omega arith) q
 
-    by : (s from ≡ true) ⊎ (s from ≡ false) → NonePasses s (suc from) (suc from + n) ⊎ ((v : ℕ) × IsLeastPassing s (suc from) (suc from + n) v) → NonePasses s from (from + suc n) ⊎ ((v : ℕ) × IsLeastPassing s from (from + suc n) v)
+    by : (s from ≡ true) ⊎ (s from ≡ false) →
+        NonePasses s (suc from) (suc from + n)
+        ⊎ ((v : ℕ) × IsLeastPassing s (suc from) (suc from + n) v) →
+        NonePasses s from (from + suc n) ⊎ ((v : ℕ) × IsLeastPassing s from (from + suc n) v)
     by (inl t) r = inr (from, (omega arith, omega arith, t, λ i p q. absurd (omega arith)))
     by (inr f) (inl r) = inl (λ i p q. grow f (suc from + n) r i p (omega arith))
-    by (inr f) (inr r) = inr (r.0, (omega (arith, r.1.0), omega (arith, r.1.1), r.1.2, grow f r.0 r.1.3))
+    by (inr f) (inr r) = inr (r.0, (omega (arith, r.1.0), omega (arith, r.1.1), r.1.2,
+        grow f r.0 r.1.3))
 
 -- past the last number that passes nothing comes
-pub ascending_from-past : (s : ℕ → Bool) (from n r : ℕ) → n ≤ r → ((i : ℕ) → from + n ≤ i → s i ≡ false) → ascending_from s from r ≡ ascending_from s from n
+pub ascending_from-past : (s : ℕ → Bool) (from n r : ℕ) → n ≤ r →
+    ((i : ℕ) → from + n ≤ i → s i ≡ false) → ascending_from s from r ≡ ascending_from s from n
 unfolding ascending_from
 ascending_from-past s from zero r p h = ascending_from-none s from r (λ i a b. h i (omega arith))
 ascending_from-past s from (suc n) zero p h = absurd (omega arith)

@@ -1,35 +1,43 @@
 -- The members of a set between two numbers, and the items of a copied word, as lists.
-use Rattle.std.proofs.Common.{◌≡◌, ℕ, ◌+◌, ◌-◌, ◌*◌, ◌<◌, ◌≤◌, Bool, false, [], ◌++◌, map, refl, sym, ap, ◌∙◌, arith}
-use Rattle.bittle_bits.specs.Copies.{between, items_of}
+use Rattle.std.proofs.Common.{◌≡◌, ℕ, ◌+◌, ◌-◌, ◌*◌, ◌<◌, ◌≤◌, Bool, false, [], ◌++◌, map, refl,
+    sym, ap, ◌∙◌, arith}
+use Rattle.bittle_bits.specs.Copies.{members_between, items_of}
 use Rattle.bittle_bits.specs.Digits.{digit_set}
 use Rattle.bittle_bits.specs.Orders.{members}
 use Rattle.bittle_bits.specs.PlainSet.{PlainSet, ascending}
 use Rattle.bittle_bits.specs.Words.{word_of}
-use Rattle.bittle_bits.proofs.Ascending.{ascending_from-add, ascending_from-none, ascending_from-moved}
+use Rattle.bittle_bits.proofs.AscendingLists.{ascending_from-add, ascending_from-none,
+    ascending_from-moved}
 use Rattle.bittle_bits.proofs.DigitSets.{no_digits}
 use Rattle.bittle_bits.proofs.Words.{digit_at}
 
 -- those between two numbers are those up to a third and those from it on
-pub between_split : (s : PlainSet) (a m b : ℕ) → a ≤ m → m ≤ b → between s a b ≡ between s a m ++ between s m b
-unfolding between
-between_split s a m b lo hi = ascending_from-add s.has a (m - a) (b - m) (b - a) m (omega arith) (omega arith)
+pub members_between-split : (s : PlainSet) (a m b : ℕ) → a ≤ m → m ≤ b →
+    members_between s a b ≡ members_between s a m ++ members_between s m b
+unfolding members_between
+members_between-split s a m b lo hi = ascending_from-add s.has a (m - a) (b - m) (b - a) m
+    (omega arith) (omega arith)
 
 -- none lies between a number and itself
-pub between_empty : (s : PlainSet) (a : ℕ) → between s a a ≡ []
-unfolding between
-between_empty s a = ascending_from-none s.has a (a - a) (λ k lo hi. absurd (omega arith))
+pub members_between-empty : (s : PlainSet) (a : ℕ) → members_between s a a ≡ []
+unfolding members_between
+members_between-empty s a = ascending_from-none s.has a (a - a) (λ k lo hi. absurd (omega arith))
 
 -- those between 0 and the capacity are all members
-pub between_all : (s : PlainSet) (a c : ℕ) → a ≡ 0 → c ≡ s.capacity → between s a c ≡ ascending s
-unfolding between
-between_all s a c none is = let e : c - a ≡ s.capacity = omega arith in rw (e, none) refl
+pub members_between-all : (s : PlainSet) (a c : ℕ) → a ≡ 0 → c ≡ s.capacity →
+    members_between s a c ≡ ascending s
+unfolding members_between
+members_between-all s a c none is = let e : c - a ≡ s.capacity = omega arith in rw (e, none) refl
 
 -- the items of word k are the members of the set from k * w on
-pub items_of-word : (m : Bool) (w k : ℕ) (s : PlainSet) (d : ℕ) → 0 < w → digit_set w d ≡ word_of w s k → items_of m w d (k * w) ≡ between (members m w s) (k * w) (k * w + w)
-unfolding between
+pub items_of-word : (m : Bool) (w k : ℕ) (s : PlainSet) (d : ℕ) → 0 < w →
+    digit_set w d ≡ word_of w s k → items_of m w d (k * w) ≡ members_between (members m w s) (k * w)
+    (k * w + w)
+unfolding members_between
 items_of-word m w k s d word is =
     let n : k * w + w - k * w ≡ w = omega arith in
-    rw n (ascending_from-moved (members m w (digit_set w d)).has (members m w s).has (k * w) 0 (k * w) w (omega arith) (λ i lo hi. sym (digit_at m w k s d word is i (omega arith))))
+    rw n (ascending_from-moved (members m w (digit_set w d)).has (members m w s).has (k * w) 0
+        (k * w) w (omega arith) (λ i lo hi. sym (digit_at m w k s d word is i (omega arith))))
 
 -- the word 0 has no items
 pub items_of-none : (m : Bool) (w d base : ℕ) → d ≡ 0 → items_of m w d base ≡ []

@@ -1,42 +1,51 @@
 -- The set of a row of elements.
-use Rattle.std.proofs.Common.{◌≡◌, ◌≢◌, ℕ, zero, suc, ◌+◌, ◌*◌, ◌/◌, ◌%◌, ◌<◌, ◌≤◌, Bool, true, false, not, ◌&&◌, ◌||◌, ◌==◌, nat_lt, inl, inr, refl, sym, ap, ◌∙◌, arith, List, [], ◌∷◌, length, get_or, set, replicate}
+use Rattle.std.proofs.Common.{◌≡◌, ◌≢◌, ℕ, zero, suc, ◌+◌, ◌*◌, ◌/◌, ◌%◌, ◌<◌, ◌≤◌, Bool, true,
+    false, not, ◌&&◌, ◌||◌, ◌==◌, nat_lt, inl, inr, refl, sym, ap, ◌∙◌, arith, List, [], ◌∷◌,
+    length, get_or, set, replicate}
 use Rattle.std.proofs.Math.Path.{fun_ext}
 use Rattle.std.proofs.Math.Nat.{div-add-mod', mod-eq_of_lt, mul_assoc}
-use Rattle.std.proofs.lemmas.Nat.{mod-mul-add, div-mul-add, mod_below, div_below, mul-add-lt, same_from_place}
+use Rattle.std.proofs.lemmas.Nat.{mod-mul-add, div-mul-add, mod_below, div_below, mul-add-lt,
+    same_from_place}
 use Rattle.std.proofs.lemmas.List.{get_or-replicate, length-replicate}
 use Rattle.std.proofs.lemmas.Bool.{eq-eqb, ne_eqb, cases_eq, cases_lt, lt-ltb, le-ltb, and_right}
-use Rattle.bittle_bits.specs.RowLaws.{elements_has-past}
+use Rattle.bittle_bits.specs.RowLawProofs.{elements_has-past}
 use Rattle.bittle_words.specs.Orders.{place, members}
-use Rattle.bittle_words.specs.PlainSet.{PlainSet, contains, with_index, without_index, empty, emptied, filled}
+use Rattle.bittle_words.specs.PlainSet.{PlainSet, contains, with_index, without_index, empty_set,
+    without_members, full_set}
 use Rattle.bittle_bits.specs.Rows.{at_element, elements_has, elements_set, GoesTo}
 use Rattle.bittle_words.proofs.PlaceLemmas.{place_part, place_below, place_past}
-use Rattle.bittle_words.proofs.PlainSets.{plain, contains_in, with_in, without_in}
+use Rattle.bittle_words.proofs.PlainSets.{plain_set, contains_in, with_in, without_in}
 
 -- the test at a place of the row is that of the element read there
-pub at_element-read : {X : Type 0} (p : X → Bool) (xs : List X) (n : ℕ) (x : X) → n < length xs → x ≡ get_or xs n x → at_element p xs n ≡ p x
+pub at_element-read : {X : Type 0} (p : X → Bool) (xs : List X) (n : ℕ) (x : X) → n < length xs →
+    x ≡ get_or xs n x → at_element p xs n ≡ p x
 unfolding at_element
 at_element-read p [] n x h e = absurd (omega arith)
 at_element-read p (y ∷ xs) zero x h e = ap p (sym e)
 at_element-read p (y ∷ xs) (suc n) x h e = at_element-read p xs n x (omega arith) e
 
 -- the test at the place of a write is that of the element written
-pub at_element-set_same : {X : Type 0} (p : X → Bool) (xs : List X) (n : ℕ) (y : X) → n < length xs → at_element p (set xs n y) n ≡ p y
+pub at_element-set_same : {X : Type 0} (p : X → Bool) (xs : List X) (n : ℕ) (y : X) →
+    n < length xs → at_element p (set xs n y) n ≡ p y
 unfolding at_element
 at_element-set_same p [] n y h = absurd (omega arith)
 at_element-set_same p (x ∷ xs) zero y h = refl
 at_element-set_same p (x ∷ xs) (suc n) y h = at_element-set_same p xs n y (omega arith)
 
 -- the test at any other place than that of a write stays as it was
-pub at_element-set_other : {X : Type 0} (p : X → Bool) (xs : List X) (n k : ℕ) (y : X) → k ≢ n → at_element p (set xs n y) k ≡ at_element p xs k
+pub at_element-set_other : {X : Type 0} (p : X → Bool) (xs : List X) (n k : ℕ) (y : X) → k ≢ n →
+    at_element p (set xs n y) k ≡ at_element p xs k
 unfolding at_element
 at_element-set_other p [] n k y h = refl
 at_element-set_other p (x ∷ xs) zero zero y h = absurd (h refl)
 at_element-set_other p (x ∷ xs) zero (suc k) y h = refl
 at_element-set_other p (x ∷ xs) (suc n) zero y h = refl
-at_element-set_other p (x ∷ xs) (suc n) (suc k) y h = at_element-set_other p xs n k y (λ e. h (ap suc e))
+at_element-set_other p (x ∷ xs) (suc n) (suc k) y h = at_element-set_other p xs n k y
+    (λ e. h (ap suc e))
 
 -- an index of the row is a member exactly where it is one of its element
-pub elements_has_at : {X : Type 0} (n c : ℕ) (f : X → ℕ → Bool) (xs : List X) (q r : ℕ) → q < n → r < c → elements_has n c f xs (q * c + r) ≡ at_element (λ x. f x r) xs q
+pub elements_has_at : {X : Type 0} (n c : ℕ) (f : X → ℕ → Bool) (xs : List X) (q r : ℕ) → q < n →
+    r < c → elements_has n c f xs (q * c + r) ≡ at_element (λ x. f x r) xs q
 unfolding elements_has
 elements_has_at n c f xs q r h l =
     let b = mul-add-lt q c r n h l in
@@ -44,10 +53,12 @@ elements_has_at n c f xs q r h l =
     rw (t, mod-mul-add q c r l, div-mul-add q c r l)
 
 -- each number below the capacity, by its element and its index there
-pub by_place : (n c : ℕ) (P : ℕ → Type 0) → ((q r : ℕ) → q < n → r < c → P (q * c + r)) → (k : ℕ) → k < n * c → P k
+pub by_place : (n c : ℕ) (P : ℕ → Type 0) → ((q r : ℕ) → q < n → r < c → P (q * c + r)) → (k : ℕ) →
+    k < n * c → P k
 by_place n c P f k h =
     let e = div-add-mod' k c in
-    let pos : 0 < c = elim (cases_eq c 0) [ inl z ↦ absurd (let t : k < n * 0 = rw z at h in omega arith) | inr s ↦ omega arith ] in
+    let pos : 0 < c = elim (cases_eq c 0)
+        [ inl z ↦ absurd (let t : k < n * 0 = rw z at h in omega arith) | inr s ↦ omega arith ] in
     rw e at (f (k / c) (k % c) (div_below k c n pos h) (mod_below k c pos))
 
 module _ (m : Bool) (w d c n : ℕ) (word : 0 < w) (whole : c ≡ d * w) where
@@ -64,41 +75,64 @@ module _ (m : Bool) (w d c n : ℕ) (word : 0 < w) (whole : c ≡ d * w) where
       omega (arith, place_past m w (n * d) k word b)
 
   -- the members of a row are those of its elements
-  pub elements_placed : {X : Type 0} (f : X → ℕ → Bool) (xs : List X) → (λ k. elements_has n c f xs (place m w k)) ≡ elements_has n c (λ x k. f x (place m w k)) xs
+  pub elements_placed : {X : Type 0} (f : X → ℕ → Bool) (xs : List X) →
+      (λ k. elements_has n c f xs (place m w k)) ≡ elements_has n c (λ x k. f x (place m w k)) xs
   elements_placed f xs = fun_ext λ k.
       elim (cases_lt k (n * c)) [
-        | inl l ↦ by_place n c (λ t. elements_has n c f xs (place m w t) ≡ elements_has n c (λ x k. f x (place m w k)) xs t)
-            (λ q r a b. rw (place_at q r b) (elements_has_at n c f xs q (place m w r) a (place_within r b) ∙ sym (elements_has_at n c (λ x k. f x (place m w k)) xs q r a b))) k l
-        | inr g ↦ elements_has-past n c f xs (place m w k) (row_past k g) ∙ sym (elements_has-past n c (λ x k. f x (place m w k)) xs k g)
+        | inl l ↦ by_place n c (λ t. elements_has n c f xs (place m w t)
+            ≡ elements_has n c (λ x k. f x (place m w k)) xs t)
+            (λ q r a b. rw (place_at q r b)
+                (elements_has_at n c f xs q (place m w r) a (place_within r b)
+                ∙ sym (elements_has_at n c (λ x k. f x (place m w k)) xs q r a b))) k l
+        | inr g ↦ elements_has-past n c f xs (place m w k) (row_past k g)
+            ∙ sym (elements_has-past n c (λ x k. f x (place m w k)) xs k g)
       ]
 
-at_element-none : {X : Type 0} (p : X → Bool) (xs : List X) (n : ℕ) → ((k : ℕ) (d : X) → k < length xs → p (get_or xs k d) ≡ false) → at_element p xs n ≡ false
+at_element-none : {X : Type 0} (p : X → Bool) (xs : List X) (n : ℕ) →
+    ((k : ℕ) (d : X) → k < length xs → p (get_or xs k d) ≡ false) → at_element p xs n ≡ false
 unfolding at_element
 at_element-none p [] n h = refl
 at_element-none p (x ∷ xs) zero h = h 0 x (omega arith)
 at_element-none p (x ∷ xs) (suc n) h = at_element-none p xs n (λ k d l. h (suc k) d (omega arith))
 
-elements_has-none : {X : Type 0} (n c : ℕ) (f : X → ℕ → Bool) (xs : List X) → ((k : ℕ) (d : X) → k < length xs → f (get_or xs k d) ≡ (λ _. false)) → elements_has n c f xs ≡ (λ _. false)
+elements_has-none : {X : Type 0} (n c : ℕ) (f : X → ℕ → Bool) (xs : List X) →
+    ((k : ℕ) (d : X) → k < length xs → f (get_or xs k d) ≡ (λ _. false)) →
+    elements_has n c f xs ≡ (λ _. false)
 unfolding elements_has
 elements_has-none n c f xs h = fun_ext λ i.
-    ap (λ t. nat_lt i (n * c) && t) (at_element-none (λ x. f x (i % c)) xs (i / c) (λ k d l. ap (λ s. s (i % c)) (h k d l))) ∙ and_right (nat_lt i (n * c)) false refl
+    ap (λ t. nat_lt i (n * c) && t) (at_element-none (λ x. f x (i % c)) xs (i / c)
+        (λ k d l. ap (λ s. s (i % c)) (h k d l))) ∙ and_right (nat_lt i (n * c)) false refl
 
 -- a row whose elements have no members is the emptied row
-pub elements_emptied : {X : Type 0} (n old c : ℕ) (big : X → PlainSet) (xs ys : List X) → n ≡ old → ((k : ℕ) (d : X) → k < length xs → (big (get_or xs k d)).has ≡ (λ _. false)) → elements_set n c big xs ≡ emptied (elements_set old c big ys)
-elements_emptied n old c big xs ys e h = rw e (ap (plain (old * c)) (elements_has-none old c (λ x. (big x).has) xs h))
+pub elements_without_members : {X : Type 0} (n old c : ℕ) (big : X → PlainSet) (xs ys : List X) →
+    n ≡ old → ((k : ℕ) (d : X) → k < length xs → (big (get_or xs k d)).has ≡ (λ _. false)) →
+    elements_set n c big xs ≡ without_members (elements_set old c big ys)
+elements_without_members n old c big xs ys e h = rw e
+    (ap (plain_set (old * c)) (elements_has-none old c (λ x. (big x).has) xs h))
 
 -- a row of empty elements is empty
-pub elements_set-replicate : {X : Type 0} (n c : ℕ) (big : X → PlainSet) (x : X) → big x ≡ empty c → elements_set n c big (replicate n x) ≡ empty (n * c)
-elements_set-replicate n c big x e = ap (plain (n * c)) (elements_has-none n c (λ x. (big x).has) (replicate n x) (λ k d l. ap (λ y. (big y).has) (get_or-replicate n k x d (let y = length-replicate n x in omega arith)) ∙ ap (λ s. s.has) e))
+pub elements_set-replicate : {X : Type 0} (n c : ℕ) (big : X → PlainSet) (x : X) →
+    big x ≡ empty_set c → elements_set n c big (replicate n x) ≡ empty_set (n * c)
+elements_set-replicate n c big x e = ap (plain_set (n * c))
+    (elements_has-none n c (λ x. (big x).has) (replicate n x)
+    (λ k d l. ap (λ y. (big y).has) (get_or-replicate n k x d (let y = length-replicate n x in
+    omega arith)) ∙ ap (λ s. s.has) e))
 
 -- a row of filled elements is filled
-pub elements_set-full : {X : Type 0} (n c : ℕ) (big : X → PlainSet) (x : X) → big x ≡ filled c → elements_set n c big (replicate n x) ≡ filled (n * c)
+pub elements_set-full : {X : Type 0} (n c : ℕ) (big : X → PlainSet) (x : X) → big x ≡ full_set c →
+    elements_set n c big (replicate n x) ≡ full_set (n * c)
 elements_set-full n c big x e =
-    ap (plain (n * c)) (fun_ext λ k.
+    ap (plain_set (n * c)) (fun_ext λ k.
     elim (cases_lt k (n * c)) [
-      | inl l ↦ by_place n c (λ k. elements_has n c (λ x. (big x).has) (replicate n x) k ≡ nat_lt k (n * c)) (λ q r a b.
+      | inl l ↦ by_place n c (λ k. elements_has n c (λ x. (big x).has) (replicate n x) k
+          ≡ nat_lt k (n * c)) (λ q r a b.
           elements_has_at n c (λ x. (big x).has) (replicate n x) q r a b
-          ∙ at_element-read (λ x. (big x).has r) (replicate n x) q x (let y = length-replicate n x in omega arith) (sym (get_or-replicate n q x x (let y = length-replicate n x in omega arith)))
-          ∙ ap (λ s. s.has r) e ∙ lt-ltb r c b ∙ sym (lt-ltb (q * c + r) (n * c) (let t = mul-add-lt q c r n a b in omega arith))) k l
-      | inr g ↦ elements_has-past n c (λ x. (big x).has) (replicate n x) k g ∙ sym (le-ltb k (n * c) g)
+          ∙ at_element-read (λ x. (big x).has r) (replicate n x) q x
+              (let y = length-replicate n x in omega arith)
+              (sym (get_or-replicate n q x x (let y = length-replicate n x in omega arith)))
+          ∙ ap (λ s. s.has r) e ∙ lt-ltb r c b
+              ∙ sym (lt-ltb (q * c + r) (n * c) (let t = mul-add-lt q c r n a b in omega arith))) k
+              l
+      | inr g ↦ elements_has-past n c (λ x. (big x).has) (replicate n x) k g
+          ∙ sym (le-ltb k (n * c) g)
     ])

@@ -1,5 +1,7 @@
 -- How many members a row of elements has.
-use Rattle.std.proofs.Common.{◌≡◌, ◌≢◌, ℕ, zero, suc, ◌+◌, ◌-◌, ◌*◌, ◌%◌, ◌^◌, ◌<◌, ◌≤◌, Bool, true, false, not, ◌&&◌, ◌==◌, cond, inl, inr, refl, sym, ap, ◌∙◌, arith, List, [], ◌∷◌, length, get_or, take, add-zero, add_assoc, add_comm, subst}
+use Rattle.std.proofs.Common.{◌≡◌, ◌≢◌, ℕ, zero, suc, ◌+◌, ◌-◌, ◌*◌, ◌%◌, ◌^◌, ◌<◌, ◌≤◌, Bool, true,
+    false, not, ◌&&◌, ◌==◌, cond, inl, inr, refl, sym, ap, ◌∙◌, arith, List, [], ◌∷◌, length,
+    get_or, take, add-zero, add_assoc, add_comm, subst}
 use Rattle.std.proofs.Math.Path.{fun_ext}
 use Rattle.std.proofs.Math.Nat.{mod-eq_of_lt, zero-mul, one-mul, add-suc}
 use Rattle.std.specs.List.{sum_by}
@@ -14,43 +16,56 @@ use Rattle.bittle_words.specs.Digits.{digit_has, digit_set}
 use Rattle.bittle_words.specs.Orders.{place, mirror, members}
 use Rattle.bittle_words.specs.PlainSet.{PlainSet, count_below, size, lacks, complement}
 use Rattle.bittle_bits.specs.Rows.{at_element, elements_has, elements_set}
-use Rattle.bittle_words.proofs.DigitSets.{digit_has-zero, digit_has-not, digit_has-below, some_digit}
+use Rattle.bittle_words.proofs.DigitSets.{digit_has-zero, digit_has-not, digit_has-below,
+    some_digit}
 use Rattle.bittle_words.proofs.PlaceLemmas.{place_part}
 use Rattle.bittle_bits.proofs.RowSets.{elements_has_at, by_place}
 use Rattle.bittle_words.proofs.Counts.{count-same, count-le, count-add, count-none}
 use Rattle.bittle_words.proofs.Sizes.{size-le}
 
 -- a row has the members of its elements
-pub size-elements : {X : Type 0} (c : ℕ) (f : X → ℕ → Bool) (xs : List X) → count_below (length xs * c) (elements_has (length xs) c f xs) ≡ sum_by (λ x. count_below c (f x)) xs
+pub size-elements : {X : Type 0} (c : ℕ) (f : X → ℕ → Bool) (xs : List X) →
+    count_below (length xs * c) (elements_has (length xs) c f xs)
+    ≡ sum_by (λ x. count_below c (f x)) xs
 unfolding at_element
 size-elements c f [] = rw zero-mul (count-none _)
 size-elements c f (x ∷ xs) =
     let n = length xs in
     let g = elements_has (suc n) c f (x ∷ xs) in
-    let first : count_below c g ≡ count_below c (f x) = count-same c _ _ (λ k l. subst (λ t. g t ≡ f x k) (omega arith) (elements_has_at (suc n) c f (x ∷ xs) 0 k (omega arith) l)) in
+    let first : count_below c g ≡ count_below c (f x) = count-same c _ _
+        (λ k l. subst (λ t. g t ≡ f x k) (omega arith)
+        (elements_has_at (suc n) c f (x ∷ xs) 0 k (omega arith) l)) in
     let rest : count_below (n * c) (λ k. g (c + k)) ≡ count_below (n * c) (elements_has n c f xs) =
-    count-same (n * c) _ _ (by_place n c (λ k. g (c + k) ≡ elements_has n c f xs k) (λ q r a b. ap g (omega arith) ∙ elements_has_at (suc n) c f (x ∷ xs) (suc q) r (omega arith) b ∙ sym (elements_has_at n c f xs q r a b))) in
+    count-same (n * c) _ _ (by_place n c (λ k. g (c + k) ≡ elements_has n c f xs k)
+        (λ q r a b. ap g (omega arith) ∙ elements_has_at (suc n) c f (x ∷ xs) (suc q) r
+        (omega arith) b ∙ sym (elements_has_at n c f xs q r a b))) in
     let e : suc n * c ≡ c + n * c = omega arith in
-    rw e (omega (arith, count-add c (n * c) g, first, rest, size-elements c f xs, sum_by-cons (λ y. count_below c (f y)) x xs))
+    rw e (omega (arith, count-add c (n * c) g, first, rest, size-elements c f xs,
+        sum_by-cons (λ y. count_below c (f y)) x xs))
 
-sum_by-all : {X : Type 0} (g : X → ℕ) (v : ℕ) (xs : List X) → ((k : ℕ) (d : X) → k < length xs → g (get_or xs k d) ≡ v) → sum_by g xs ≡ length xs * v
+sum_by-all : {X : Type 0} (g : X → ℕ) (v : ℕ) (xs : List X) →
+    ((k : ℕ) (d : X) → k < length xs → g (get_or xs k d) ≡ v) → sum_by g xs ≡ length xs * v
 sum_by-all g v [] h = omega arith
 sum_by-all g v (x ∷ xs) h =
     let first = h 0 x (omega arith) in
     let rest = sum_by-all g v xs (λ k d l. h (suc k) d (omega arith)) in
     omega (arith, sum_by-cons g x xs, first, rest)
 
-sum_by-most : {X : Type 0} (g : X → ℕ) (v : ℕ) (xs : List X) → ((x : X) → g x ≤ v) → sum_by g xs ≤ length xs * v
+sum_by-most : {X : Type 0} (g : X → ℕ) (v : ℕ) (xs : List X) → ((x : X) → g x ≤ v) →
+    sum_by g xs ≤ length xs * v
 sum_by-most g v [] h = omega arith
 sum_by-most g v (x ∷ xs) h = omega (arith, sum_by-cons g x xs, h x, sum_by-most g v xs h)
 
-sum_by-short : {X : Type 0} (g : X → ℕ) (v : ℕ) (xs : List X) (i : ℕ) (d : X) → ((x : X) → g x ≤ v) → i < length xs → g (get_or xs i d) < v → sum_by g xs < length xs * v
+sum_by-short : {X : Type 0} (g : X → ℕ) (v : ℕ) (xs : List X) (i : ℕ) (d : X) →
+    ((x : X) → g x ≤ v) → i < length xs → g (get_or xs i d) < v → sum_by g xs < length xs * v
 sum_by-short g v [] i d h l b = absurd (omega arith)
 sum_by-short g v (x ∷ xs) zero d h l b = omega (arith, sum_by-cons g x xs, sum_by-most g v xs h)
-sum_by-short g v (x ∷ xs) (suc i) d h l b = omega (arith, sum_by-cons g x xs, h x, sum_by-short g v xs i d h (omega arith) b)
+sum_by-short g v (x ∷ xs) (suc i) d h l b = omega
+    (arith, sum_by-cons g x xs, h x, sum_by-short g v xs i d h (omega arith) b)
 
 -- counts of a row of elements of one capacity
-module _ {X : Type 0} (c : ℕ) (big : X → PlainSet) (xs : List X) (owned : (x : X) → (big x).capacity ≡ c) where
+module _ {X : Type 0} (c : ℕ) (big : X → PlainSet) (xs : List X) (owned : (x : X) →
+    (big x).capacity ≡ c) where
   each-is : (x : X) → size (big x) ≡ count_below c (big x).has
   each-is x = ap (λ k. count_below k (big x).has) (owned x)
 
@@ -58,30 +73,38 @@ module _ {X : Type 0} (c : ℕ) (big : X → PlainSet) (xs : List X) (owned : (x
   each-le x = rw (each-is x) (count-le c (big x).has)
 
   row_total : size (elements_set (length xs) c big xs) ≡ sum_by (λ x. size (big x)) xs
-  row_total = size-elements c (λ x. (big x).has) xs ∙ ap (λ f. sum_by f xs) (fun_ext λ x. sym (each-is x))
+  row_total = size-elements c (λ x. (big x).has) xs
+      ∙ ap (λ f. sum_by f xs) (fun_ext λ x. sym (each-is x))
 
   -- the members of the elements so far, and of one more, fit the capacity of the row
-  pub row_count_fits : (i total more : ℕ) (x : X) → more ≡ size (big x) → x ≡ get_or xs i x → i < length xs → total ≡ sum_by (λ x. size (big x)) (take i xs) → total + more ≤ length xs * c
+  pub row_count_fits : (i total more : ℕ) (x : X) → more ≡ size (big x) → x ≡ get_or xs i x →
+      i < length xs → total ≡ sum_by (λ x. size (big x)) (take i xs) → total + more ≤ length xs * c
   row_count_fits i total more x m at l t =
       let e : more ≡ size (big (get_or xs i x)) = m ∙ ap (λ y. size (big y)) at in
-      omega (arith, e, t, sum_by_more_le (λ x. size (big x)) xs i x l, row_total, size-le (elements_set (length xs) c big xs))
+      omega (arith, e, t, sum_by_more_le (λ x. size (big x)) xs i x l, row_total,
+          size-le (elements_set (length xs) c big xs))
 
   -- after the last element the count is the size of the row
-  pub row_count_all : (i total : ℕ) → length xs ≤ i → total ≡ sum_by (λ x. size (big x)) (take i xs) → total ≡ size (elements_set (length xs) c big xs)
+  pub row_count_all : (i total : ℕ) → length xs ≤ i →
+      total ≡ sum_by (λ x. size (big x)) (take i xs) →
+      total ≡ size (elements_set (length xs) c big xs)
   row_count_all i total l t = t ∙ ap (sum_by (λ x. size (big x))) (take_all i xs l) ∙ sym row_total
 
   -- a row whose elements all have one size has it once for each element
-  pub row_each : (v : ℕ) → ((k : ℕ) (d : X) → k < length xs → size (big (get_or xs k d)) ≡ v) → size (elements_set (length xs) c big xs) ≡ length xs * v
+  pub row_each : (v : ℕ) → ((k : ℕ) (d : X) → k < length xs → size (big (get_or xs k d)) ≡ v) →
+      size (elements_set (length xs) c big xs) ≡ length xs * v
   row_each v h = row_total ∙ sum_by-all (λ x. size (big x)) v xs h
 
   -- a row has a member where one of its elements has one
-  pub row_some : (i : ℕ) (x : X) → x ≡ get_or xs i x → i < length xs → size (big x) ≢ 0 → size (elements_set (length xs) c big xs) ≢ 0
+  pub row_some : (i : ℕ) (x : X) → x ≡ get_or xs i x → i < length xs → size (big x) ≢ 0 →
+      size (elements_set (length xs) c big xs) ≢ 0
   row_some i x at l n z =
       let e : size (big x) ≡ size (big (get_or xs i x)) = ap (λ y. size (big y)) at in
       n (omega (arith, e, sum_by_more_le (λ x. size (big x)) xs i x l, row_total))
 
   -- a row is not full where one of its elements is not
-  pub row_lacks : (i : ℕ) (x : X) → x ≡ get_or xs i x → i < length xs → size (big x) ≢ (big x).capacity → size (elements_set (length xs) c big xs) ≢ length xs * c
+  pub row_lacks : (i : ℕ) (x : X) → x ≡ get_or xs i x → i < length xs →
+      size (big x) ≢ (big x).capacity → size (elements_set (length xs) c big xs) ≢ length xs * c
   row_lacks i x at l n z =
       let e : size (big x) ≡ size (big (get_or xs i x)) = ap (λ y. size (big y)) at in
       let b : size (big (get_or xs i x)) < c = omega (arith, e, owned x, each-le (get_or xs i x)) in

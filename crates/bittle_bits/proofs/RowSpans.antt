@@ -1,23 +1,30 @@
 -- Rows of elements with each index of a span.
-use Rattle.std.proofs.Common.{◌≡◌, ℕ, ◌+◌, ◌-◌, ◌*◌, ◌/◌, ◌%◌, ◌^◌, ◌<◌, ◌≤◌, ◌≢◌, ◌⊎◌, Bool, true, false, not, ◌&&◌, ◌||◌, ◌==◌, nat_lt, nat_le, inl, inr, refl, sym, ap, ◌∙◌, arith, List, length, get_or, set, min, max, bit_and, bit_or}
+use Rattle.std.proofs.Common.{◌≡◌, ℕ, ◌+◌, ◌-◌, ◌*◌, ◌/◌, ◌%◌, ◌^◌, ◌<◌, ◌≤◌, ◌≢◌, ◌⊎◌, Bool, true,
+    false, not, ◌&&◌, ◌||◌, ◌==◌, nat_lt, nat_le, inl, inr, refl, sym, ap, ◌∙◌, arith, List, length,
+    get_or, set, min, max, bit_and, bit_or}
 use Rattle.std.proofs.Math.Path.{fun_ext}
 use Rattle.std.proofs.Math.Nat.{div-add-mod', mul-le-mul_right}
 use Rattle.std.proofs.lemmas.Nat.{mul-add-lt, mod_below}
-use Rattle.std.proofs.lemmas.Bool.{cases_eq, cases_lt, eq-eqb, ne_eqb, lt-ltb, le-ltb, le-leb, lt-leb, and_right}
+use Rattle.std.proofs.lemmas.Bool.{cases_eq, cases_lt, eq-eqb, ne_eqb, lt-ltb, le-ltb, le-leb,
+    lt-leb, and_right}
 use Rattle.bittle_bits.specs.Digits.{digit_set}
-use Rattle.bittle_bits.specs.RowLaws.{elements_has-past}
+use Rattle.bittle_bits.specs.RowLawProofs.{elements_has-past}
 use Rattle.bittle_bits.specs.Orders.{place, members}
-use Rattle.bittle_bits.specs.PlainSet.{PlainSet, with_index, has_with_span, with_span, filled_from}
+use Rattle.bittle_bits.specs.PlainSet.{PlainSet, with_index, has_with_span, with_span,
+    full_set_from}
 use Rattle.bittle_bits.specs.Rows.{elements_has, elements_set}
-use Rattle.bittle_bits.specs.SetOperations.{combined, first_alone}
-use Rattle.bittle_bits.proofs.Combined.{combined_below, combined_outside}
-use Rattle.bittle_bits.proofs.WordCombinations.{digits_either, digits_first_alone, word_combined}
-use Rattle.bittle_bits.proofs.PlainSets.{plain, with_in}
-use Rattle.bittle_bits.proofs.RowSets.{at_element-read, at_element-set_same, at_element-set_other, elements_has_at, elements_placed, by_place}
+use Rattle.bittle_bits.specs.SetOperations.{combination_of, first_alone}
+use Rattle.bittle_bits.proofs.SetOperations.{combination-below, combination-outside}
+use Rattle.bittle_bits.proofs.WordOperations.{digits_either, digits_first_alone, word_combined}
+use Rattle.bittle_bits.proofs.PlainSets.{plain_set, with_in}
+use Rattle.bittle_bits.proofs.RowSets.{at_element-read, at_element-set_same, at_element-set_other,
+    elements_has_at, elements_placed, by_place}
 use Rattle.bittle_words.proofs.Spans.{outside_span, inside_span, with_span-on}
 
 -- rows: a span within one element
-module _ {X : Type 0} (m : Bool) (w c n q : ℕ) (big : X → PlainSet) (xs : List X) (x y : X) (word : 0 < w) (whole : (d : ℕ) × (c ≡ d * w)) (le : q < n) (all : n ≡ length xs) (at : x ≡ get_or xs q x) where
+module _ {X : Type 0} (m : Bool) (w c n q : ℕ) (big : X → PlainSet) (xs : List X) (x y : X)
+    (word : 0 < w) (whole : (d : ℕ) × (c ≡ d * w)) (le : q < n) (all : n ≡ length xs)
+    (at : x ≡ get_or xs q x) where
   -- the test of an element in the order
   abbrev test : X → ℕ → Bool
   test y k = (big y).has (place m w k)
@@ -33,70 +40,96 @@ module _ {X : Type 0} (m : Bool) (w c n q : ℕ) (big : X → PlainSet) (xs : Li
   spanned from end = with_span (row xs) (q * c + from) (q * c + end)
 
   -- an index of the element
-  here : (from end t : ℕ) → members m w (big y) ≡ with_span (members m w (big x)) from end → t < c → elements_has n c test (set xs q y) (q * c + t) ≡ (spanned from end).has (q * c + t)
+  here : (from end t : ℕ) → members m w (big y) ≡ with_span (members m w (big x)) from end → t < c →
+      elements_has n c test (set xs q y) (q * c + t) ≡ (spanned from end).has (q * c + t)
   here from end t is b =
-      elements_has_at n c test (set xs q y) q t le b ∙ at_element-set_same (λ x. test x t) xs q y (omega arith) ∙ ap (λ s. s.has t) is
+      elements_has_at n c test (set xs q y) q t le b ∙ at_element-set_same (λ x. test x t) xs q y
+          (omega arith) ∙ ap (λ s. s.has t) is
       ∙ elim (cases_lt t from) [
-        | inl l ↦ outside_span (members m w (big x)) from end t (inl l) ∙ old ∙ sym (outside_span (row xs) (q * c + from) (q * c + end) (q * c + t) (inl (omega arith)))
+        | inl l ↦ outside_span (members m w (big x)) from end t (inl l) ∙ old
+            ∙ sym (outside_span (row xs) (q * c + from) (q * c + end) (q * c + t)
+            (inl (omega arith)))
         | inr g ↦ elim (cases_lt t end) [
-          | inl l ↦ inside_span (members m w (big x)) from end t g l ∙ sym (inside_span (row xs) (q * c + from) (q * c + end) (q * c + t) (omega arith) (omega arith))
-          | inr e ↦ outside_span (members m w (big x)) from end t (inr e) ∙ old ∙ sym (outside_span (row xs) (q * c + from) (q * c + end) (q * c + t) (inr (omega arith)))
+          | inl l ↦ inside_span (members m w (big x)) from end t g l
+              ∙ sym (inside_span (row xs) (q * c + from) (q * c + end) (q * c + t) (omega arith)
+              (omega arith))
+          | inr e ↦ outside_span (members m w (big x)) from end t (inr e) ∙ old
+              ∙ sym (outside_span (row xs) (q * c + from) (q * c + end) (q * c + t)
+              (inr (omega arith)))
         ]
       ]
     where
       old : test x t ≡ (row xs).has (q * c + t)
-      old = sym (ap (λ p. p (q * c + t)) (placed xs) ∙ elements_has_at n c test xs q t le b ∙ at_element-read (λ x. test x t) xs q x (omega arith) at)
+      old = sym (ap (λ p. p (q * c + t)) (placed xs) ∙ elements_has_at n c test xs q t le b
+          ∙ at_element-read (λ x. test x t) xs q x (omega arith) at)
 
   -- an index of any other element
-  elsewhere : (from end p t : ℕ) → end ≤ c → p ≢ q → p < n → t < c → elements_has n c test (set xs q y) (p * c + t) ≡ (spanned from end).has (p * c + t)
+  elsewhere : (from end p t : ℕ) → end ≤ c → p ≢ q → p < n → t < c →
+      elements_has n c test (set xs q y) (p * c + t) ≡ (spanned from end).has (p * c + t)
   elsewhere from end p t h other a b =
-      elements_has_at n c test (set xs q y) p t a b ∙ at_element-set_other (λ x. test x t) xs q p y other
-      ∙ sym (outside_span (row xs) (q * c + from) (q * c + end) (p * c + t) apart ∙ ap (λ f. f (p * c + t)) (placed xs) ∙ elements_has_at n c test xs p t a b)
+      elements_has_at n c test (set xs q y) p t a b
+          ∙ at_element-set_other (λ x. test x t) xs q p y other
+      ∙ sym (outside_span (row xs) (q * c + from) (q * c + end) (p * c + t) apart
+          ∙ ap (λ f. f (p * c + t)) (placed xs) ∙ elements_has_at n c test xs p t a b)
     where
       apart : (p * c + t < q * c + from) ⊎ (q * c + end ≤ p * c + t)
       apart = elim (cases_lt p q) [
         | inl l ↦ let z = mul-add-lt p c t q l b in inl (omega arith)
-        | inr g ↦ let z : (q + 1) * c ≤ p * c = mul-le-mul_right c (omega arith) in inr (omega arith)
+        | inr g ↦ let z : (q + 1) * c ≤ p * c = mul-le-mul_right c (omega arith) in
+            inr (omega arith)
       ]
 
   -- the element with a span makes the row with it
-  pub row_filled : (from end : ℕ) → end ≤ c → members m w (big y) ≡ with_span (members m w (big x)) from end → row (set xs q y) ≡ spanned from end
+  pub row_filled : (from end : ℕ) → end ≤ c →
+      members m w (big y) ≡ with_span (members m w (big x)) from end →
+      row (set xs q y) ≡ spanned from end
   row_filled from end h is =
-      ap (plain (n * c)) (placed (set xs q y) ∙ fun_ext λ k.
+      ap (plain_set (n * c)) (placed (set xs q y) ∙ fun_ext λ k.
       elim (cases_lt k (n * c)) [
-        | inl l ↦ by_place n c (λ k. elements_has n c test (set xs q y) k ≡ (spanned from end).has k) (λ p t a b. elim (cases_eq p q) [
+        | inl l ↦ by_place n c (λ k. elements_has n c test (set xs q y) k
+            ≡ (spanned from end).has k) (λ p t a b. elim (cases_eq p q) [
           | inl same ↦ rw same (here from end t is b)
           | inr other ↦ elsewhere from end p t h other a b
         ]) k l
         | inr g ↦
             let z : (q + 1) * c ≤ n * c = mul-le-mul_right c (omega arith) in
-            elements_has-past n c test (set xs q y) k g ∙ sym (outside_span (row xs) (q * c + from) (q * c + end) k (inr (omega arith)) ∙ ap (λ f. f k) (placed xs) ∙ elements_has-past n c test xs k g)
+            elements_has-past n c test (set xs q y) k g
+                ∙ sym (outside_span (row xs) (q * c + from) (q * c + end) k (inr (omega arith))
+                ∙ ap (λ f. f k) (placed xs) ∙ elements_has-past n c test xs k g)
       ])
 
 -- where the span stands before an element: at its start, or nowhere past the span
-abbrev pub reached : ℕ → ℕ → ℕ → ℕ
-reached from to start = max from (min to start)
+abbrev pub span_end_at : ℕ → ℕ → ℕ → ℕ
+span_end_at from to start = max from (min to start)
 
 -- one more element
-pub span_reaches : (s now next : PlainSet) (from to c q : ℕ) → from < to → q * c < to → from < q * c + c → now ≡ with_span s from (reached from to (q * c)) → next ≡ with_span now (q * c + (from - q * c)) (q * c + min c (to - q * c)) → next ≡ with_span s from (reached from to ((q + 1) * c))
+pub span_reaches : (s now next : PlainSet) (from to c q : ℕ) → from < to → q * c < to →
+    from < q * c + c → now ≡ with_span s from (span_end_at from to (q * c)) →
+    next ≡ with_span now (q * c + (from - q * c)) (q * c + min c (to - q * c)) →
+    next ≡ with_span s from (span_end_at from to ((q + 1) * c))
 span_reaches s now next from to c q h l b so_far is =
     let start = q * c in
     let at : max from (min to start) ≡ start + (from - start) = omega arith in
     let on : start + min c (to - start) ≡ max from (min to ((q + 1) * c)) = omega arith in
-    is ∙ ap (λ u. with_span u (start + (from - start)) (start + min c (to - start))) (so_far ∙ ap (with_span s from) at)
-    ∙ with_span-on s from (start + (from - start)) (start + min c (to - start)) (omega arith) (omega arith)
+    is ∙ ap (λ u. with_span u (start + (from - start)) (start + min c (to - start)))
+        (so_far ∙ ap (with_span s from) at)
+    ∙ with_span-on s from (start + (from - start)) (start + min c (to - start)) (omega arith)
+        (omega arith)
     ∙ ap (with_span s from) on
 
 -- a row that holds some index has elements that hold one
 pub some_each : (to n c : ℕ) → 0 < to → to ≤ n * c → 0 < c
-some_each to n c h l = elim (cases_eq c 0) [ inl z ↦ absurd (let t : to ≤ n * 0 = rw z at l in omega arith) | inr s ↦ omega arith ]
+some_each to n c h l = elim (cases_eq c 0)
+    [ inl z ↦ absurd (let t : to ≤ n * 0 = rw z at l in omega arith) | inr s ↦ omega arith ]
 
 -- the elements of a span begin before its end, and are elements of the row
-pub begins_before : (to n c q : ℕ) → 0 < to → to ≤ n * c → q < (to - 1) / c + 1 → (q * c < to) × (q < n)
+pub begins_before : (to n c q : ℕ) → 0 < to → to ≤ n * c → q < (to - 1) / c + 1 →
+    (q * c < to) × (q < n)
 begins_before to n c q h l b =
     let low : q * c ≤ (to - 1) / c * c = mul-le-mul_right c (omega arith) in
     let first : q * c < to = omega (arith, low, div-add-mod' (to - 1) c) in
-    (first, elim (cases_lt q n) [ inl e ↦ e | inr g ↦ absurd (let t : n * c ≤ q * c = mul-le-mul_right c g in omega arith) ])
+    (first, elim (cases_lt q n) [ inl e ↦ e | inr g ↦
+        absurd (let t : n * c ≤ q * c = mul-le-mul_right c g in omega arith) ])
 
 -- an index lies before the end of its element
 pub before_end : (i c : ℕ) → 0 < c → i < i / c * c + c

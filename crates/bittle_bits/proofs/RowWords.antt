@@ -1,7 +1,9 @@
 -- Word k of a row of elements, which lies in one of them.
-use Rattle.std.proofs.Common.{◌≡◌, ℕ, suc, ◌+◌, ◌*◌, ◌/◌, ◌%◌, ◌<◌, ◌≤◌, Bool, ◌&&◌, nat_lt, inl, inr, List, length, get_or, refl, sym, ap, ◌∙◌, arith}
+use Rattle.std.proofs.Common.{◌≡◌, ℕ, suc, ◌+◌, ◌*◌, ◌/◌, ◌%◌, ◌<◌, ◌≤◌, Bool, ◌&&◌, nat_lt, inl,
+    inr, List, length, get_or, refl, sym, ap, ◌∙◌, arith}
 use Rattle.std.proofs.Math.Path.{fun_ext}
-use Rattle.std.proofs.Math.Nat.{mul-div_left, div-add-mod', mul_assoc, zero-mul, lt_of_mul-lt-mul_right, mul-lt-mul_of_pos_right, mul-le-mul_right}
+use Rattle.std.proofs.Math.Nat.{mul-div_left, div-add-mod', mul_assoc, zero-mul,
+    lt_of_mul-lt-mul_right, mul-lt-mul_of_pos_right, mul-le-mul_right}
 use Rattle.std.proofs.lemmas.Nat.{mod_below, div_below, mul-add-lt}
 use Rattle.std.proofs.lemmas.Bool.{cases_eq, cases_lt, lt-ltb, le-ltb}
 use Rattle.bittle_words.specs.Digits.{digit_has, digit_set}
@@ -10,17 +12,20 @@ use Rattle.bittle_words.specs.PlainSet.{PlainSet}
 use Rattle.bittle_bits.specs.Rows.{elements_has, elements_set}
 use Rattle.bittle_words.specs.Words.{word_has, word_of}
 use Rattle.bittle_words.proofs.PlaceLemmas.{place_part, place_in_word}
-use Rattle.bittle_words.proofs.PlainSets.{plain}
+use Rattle.bittle_words.proofs.PlainSets.{plain_set}
 use Rattle.bittle_bits.proofs.RowSets.{elements_has_at, at_element-read}
 
 -- word k of a row of elements of d words is a word of one element
-module _ {X : Type 0} (n c w d k : ℕ) (big : X → PlainSet) (xs : List X) (word : 0 < w) (whole : c ≡ d * w) (within : k * w < n * c) where
+module _ {X : Type 0} (n c w d k : ℕ) (big : X → PlainSet) (xs : List X) (word : 0 < w)
+    (whole : c ≡ d * w) (within : k * w < n * c) where
   in_row : k < n * d
-  in_row = let h : k * w < n * d * w = omega (arith, whole, ap (λ t. n * t) whole, mul_assoc n d w) in lt_of_mul-lt-mul_right w h
+  in_row = let h : k * w < n * d * w = omega (arith, whole, ap (λ t. n * t) whole, mul_assoc n d w)
+      in lt_of_mul-lt-mul_right w h
 
   -- an element has at least one word
   pub some_words : 0 < d
-  some_words = elim (cases_eq d 0) [ inl z ↦ absurd (let h : k < n * 0 = rw z at in_row in omega arith) | inr p ↦ omega arith ]
+  some_words = elim (cases_eq d 0) [ inl z ↦
+      absurd (let h : k < n * 0 = rw z at in_row in omega arith) | inr p ↦ omega arith ]
 
   -- the word lies in an element of the row
   pub word_element : k / d < n
@@ -28,23 +33,33 @@ module _ {X : Type 0} (n c w d k : ℕ) (big : X → PlainSet) (xs : List X) (wo
 
   -- the word begins below the capacity of its element
   pub word_within : k % d * w < c
-  word_within = let h : k % d * w < d * w = mul-lt-mul_of_pos_right (mod_below k d some_words) word in omega (arith, whole)
+  word_within = let h : k % d * w < d * w = mul-lt-mul_of_pos_right (mod_below k d some_words) word
+      in omega (arith, whole)
 
   -- the word of the row is that of the element it lies in
-  pub row_word : (x : X) → n ≡ length xs → x ≡ get_or xs (k / d) x → word_of w (big x) (k % d) ≡ word_of w (elements_set n c big xs) k
+  pub row_word : (x : X) → n ≡ length xs → x ≡ get_or xs (k / d) x →
+      word_of w (big x) (k % d) ≡ word_of w (elements_set n c big xs) k
   unfolding word_has
   row_word x all at =
-      ap (plain w) (fun_ext λ i. elim (cases_lt i w) [
+      ap (plain_set w) (fun_ext λ i. elim (cases_lt i w) [
         | inl l ↦
-            let low : k % d * w + i < d * w = omega (arith, mul-add-lt (k % d) w i d (mod_below k d some_words) l) in
+            let low : k % d * w + i < d * w = omega
+                (arith, mul-add-lt (k % d) w i d (mod_below k d some_words) l) in
             let inside : k % d * w + i < c = omega (arith, whole) in
-            let split : k * w ≡ k / d * d * w + k % d * w = ap (λ t. t * w) (sym (div-add-mod' k d)) ∙ omega arith in
-            let place_is : k * w + i ≡ k / d * c + (k % d * w + i) = omega (arith, split, ap (λ t. k / d * t) whole, mul_assoc (k / d) d w) in
-            ap (λ b. nat_lt i w && b) (sym (ap (elements_has n c (λ x. (big x).has) xs) place_is ∙ elements_has_at n c (λ x. (big x).has) xs (k / d) (k % d * w + i) word_element inside
-            ∙ at_element-read (λ x. (big x).has (k % d * w + i)) xs (k / d) x (omega (arith, word_element)) at))
+            let split : k * w ≡ k / d * d * w + k % d * w = ap (λ t. t * w) (sym (div-add-mod' k d))
+                ∙ omega arith in
+            let place_is : k * w + i ≡ k / d * c + (k % d * w + i) = omega
+                (arith, split, ap (λ t. k / d * t) whole, mul_assoc (k / d) d w) in
+            ap (λ b. nat_lt i w && b) (sym
+                (ap (elements_has n c (λ x. (big x).has) xs) place_is
+                ∙ elements_has_at n c (λ x. (big x).has) xs (k / d)
+                (k % d * w + i) word_element inside
+            ∙ at_element-read (λ x. (big x).has (k % d * w + i)) xs (k / d) x
+                (omega (arith, word_element)) at))
         | inr g ↦ rw (le-ltb i w g) refl
       ])
 
 -- how many words an element of a capacity has
-pub words_each : (bits wide c w leaf d : ℕ) → 0 < w → bits ≡ c → wide ≡ leaf → leaf ≡ w → c ≡ d * w → bits / wide ≡ d
+pub words_each : (bits wide c w leaf d : ℕ) → 0 < w → bits ≡ c → wide ≡ leaf → leaf ≡ w →
+    c ≡ d * w → bits / wide ≡ d
 words_each bits wide c w leaf d word b v same whole = rw (b, v, same, whole) (mul-div_left d word)

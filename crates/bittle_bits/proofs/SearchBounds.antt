@@ -1,11 +1,16 @@
 -- Which words a search between two numbers goes through.
-use Rattle.std.proofs.Common.{◌≡◌, ℕ, ◌+◌, ◌-◌, ◌*◌, ◌/◌, ◌%◌, ◌^◌, ◌<◌, ◌≤◌, ◌⊎◌, Bool, true, false, not, ◌&&◌, ◌||◌, ◌==◌, nat_lt, inl, inr, Some, None, refl, sym, ap, ◌∙◌, arith, bit_and, bit_or}
-use Rattle.std.proofs.Math.Nat.{div-add-mod', mul-le-mul_right, mod-eq_of_lt, lt_of_mul-lt-mul_right}
+use Rattle.std.proofs.Common.{◌≡◌, ℕ, ◌+◌, ◌-◌, ◌*◌, ◌/◌, ◌%◌, ◌^◌, ◌<◌, ◌≤◌, ◌⊎◌, Bool, true,
+    false, not, ◌&&◌, ◌||◌, ◌==◌, nat_lt, inl, inr, Some, None, refl, sym, ap, ◌∙◌, arith, bit_and,
+    bit_or}
+use Rattle.std.proofs.Math.Nat.{div-add-mod', mul-le-mul_right, mod-eq_of_lt,
+    lt_of_mul-lt-mul_right}
 use Rattle.std.proofs.lemmas.Nat.{mod_below}
-use Rattle.std.proofs.lemmas.Bool.{cases_lt, cases_eq, eq-eqb, ne_eqb, lt-ltb, le-ltb, ltb-true, and_parts, true≢false}
+use Rattle.std.proofs.lemmas.Bool.{cases_lt, cases_eq, eq-eqb, ne_eqb, lt-ltb, le-ltb, ltb-true,
+    and_parts, true≢false}
 use Rattle.bittle_bits.specs.Digits.{digit_has, digit_set}
 use Rattle.bittle_bits.specs.Orders.{place, members}
-use Rattle.bittle_bits.specs.PlainSet.{PlainSet, filled_from, with_index, empty, lacks, IsLeastMember, IsGreatestMember}
+use Rattle.bittle_bits.specs.PlainSet.{PlainSet, full_set_from, with_index, empty_set, lacks,
+    IsLeastMember, IsGreatestMember}
 use Rattle.bittle_bits.specs.Searches.{NoneIn, IsFirstIn, IsLastIn}
 use Rattle.bittle_bits.specs.Words.{word_of}
 use Rattle.bittle_bits.proofs.DigitSets.{digit_has-and, digit_has-or, digit_has-not}
@@ -14,7 +19,8 @@ use Rattle.bittle_bits.proofs.WordCalls.{at_mask}
 use Rattle.bittle_bits.proofs.Words.{digit_at, word_ends}
 
 -- an index of a word that begins below `to` is below the capacity
-pub index_below : (w k to c r : ℕ) → (words : ℕ) × (c ≡ words * w) → 0 < to → to ≤ c → k ≤ (to - 1) / w → r < w → k * w + r < c
+pub index_below : (w k to c r : ℕ) → (words : ℕ) × (c ≡ words * w) → 0 < to → to ≤ c →
+    k ≤ (to - 1) / w → r < w → k * w + r < c
 index_below w k to c r whole some in_set at low =
     let up : k * w ≤ (to - 1) / w * w = mul-le-mul_right w at in
     let begins : k * w < c = omega (arith, div-add-mod' (to - 1) w, up) in
@@ -31,6 +37,7 @@ first_word w from = omega (arith, div-add-mod' from w)
 -- the word that holds `from` is not past the one that holds the number below `to`
 pub words_ordered : (w from to : ℕ) → 0 < w → from < to → from / w ≤ (to - 1) / w
 words_ordered w from to word h =
-    let up : from / w * w < ((to - 1) / w + 1) * w = omega (arith, div-add-mod' from w, div-add-mod' (to - 1) w, mod_below (to - 1) w word) in
+    let up : from / w * w < ((to - 1) / w + 1) * w = omega
+        (arith, div-add-mod' from w, div-add-mod' (to - 1) w, mod_below (to - 1) w word) in
     let low : from / w < (to - 1) / w + 1 = lt_of_mul-lt-mul_right w up in
     omega arith

@@ -1,5 +1,5 @@
 pub use Rattle.bittle_words.specs.Digits
-pub use Rattle.bittle_words.specs.Laws
+pub use Rattle.bittle_words.specs.LawProofs
 pub use Rattle.bittle_words.specs.Orders
 pub use Rattle.bittle_words.specs.PlainSet
 pub use Rattle.bittle_words.specs.SetOperations
@@ -8,12 +8,12 @@ pub use Rattle.bittle_words.specs.Words
 pub mod Copies
 pub mod Join
 pub mod OrderLaws
-pub mod RowLaws
+pub mod RowLawProofs
 pub mod Rows
 pub mod Searches
-pub mod SetAlgebra
+pub mod AlgebraLaws
 pub mod Shapes
-pub mod Splits
-pub mod Standing
-pub mod Tally
+pub mod CountLaws
+pub mod Cursor
+pub mod Count
 pub mod Values

@@ -17,7 +17,8 @@ PlacesMirror one other = (w i : ℕ) → 0 < w → place one w i ≡ place other
 
 -- an index is a member in one order exactly if the mirrored index is one in the other
 abbrev pub MembersMirror : Bool → Bool → ℕ → PlainSet → Type 0
-MembersMirror one other w s = (i : ℕ) → (members one w s).has i ≡ (members other w s).has (mirror w i)
+MembersMirror one other w s = (i : ℕ) → (members one w s).has i
+    ≡ (members other w s).has (mirror w i)
 
 -- mirroring an index twice gives it back
 abbrev pub MirroringTwiceIsNothing : Type 0
@@ -29,7 +30,8 @@ MirroringStaysBelow = (w words i : ℕ) → 0 < w → i < words * w → mirror w
 
 -- each index below a capacity of whole words is the mirrored index of one below it
 abbrev pub MirroringReachesAll : Type 0
-MirroringReachesAll = (w words i : ℕ) → 0 < w → i < words * w → (j : ℕ) × (j < words * w) × (mirror w j ≡ i)
+MirroringReachesAll = (w words i : ℕ) → 0 < w → i < words * w →
+    (j : ℕ) × (j < words * w) × (mirror w j ≡ i)
 
 -- testing an index is testing it modulo the capacity
 abbrev pub TestingWraps : PlainSet → Type 0

@@ -1,17 +1,17 @@
 //! Arrays as sets.
 
 ghost use Rattle.std.specs.Prelude.{◌≡◌, ◌*◌, ◌&&◌, Bool, nat_lt, refl};
-ghost use Rattle.bittle_bits.specs.RowLaws.{elements_has-past, words_of, second_is_below, equal_rows};
+ghost use Rattle.bittle_bits.specs.RowLawProofs.{elements_has-past, words_of, second_is_below, equal_rows};
 ghost use Rattle.bittle_bits.specs.Orders.{members};
 ghost use Rattle.bittle_bits.specs.Rows.{elements_set};
-ghost use Rattle.bittle_bits.specs.SetOperations.{combined};
+ghost use Rattle.bittle_bits.specs.SetOperations.{combination_of};
 
 use crate::bits::Bits;
 use crate::bits_mut::BitsMut;
 use crate::bits_owned::BitsOwned;
-use crate::elements;
+use crate::internal::row;
 use crate::endian::{DefaultEndian, Endian};
-use crate::hidden::Sealed;
+use crate::internal::sealed::Sealed;
 use crate::operation::Operation;
 
 impl<T: BitsOwned, const N: usize> Sealed for [T; N] {}
@@ -22,15 +22,15 @@ impl<T: BitsOwned, const N: usize> Sealed for [T; N] {}
 fn combine<T: BitsOwned, O: Operation, const N: usize>(elements: &mut [T; N], others: &[T; N])
     ensures { (mirrored : Bool)
         → members mirrored T.width (elements_set N T.type_capacity T.big elements.new)
-        ≡ combined O.decide
+        ≡ combination_of O.decide
         (members mirrored T.width (elements_set N T.type_capacity T.big elements.old))
         (members mirrored T.width (elements_set N T.type_capacity T.big others.now)) }
 {
     if N <= 16 {
         let others = *others;
-        elements::combine::<T, O>(elements, &others);
+        row::combine::<T, O>(elements, &others);
     } else {
-        elements::combine::<T, O>(elements, others);
+        row::combine::<T, O>(elements, others);
     }
 }
 
@@ -55,32 +55,32 @@ impl<T: BitsOwned, const N: usize> Bits for [T; N] {
 
     #[inline]
     fn bits_capacity(&self) -> u32 {
-        elements::bits_capacity::<T>(self.len())
+        row::bits_capacity::<T>(self.len())
     }
 
     #[inline]
     fn count_ones(&self) -> u32 {
-        elements::count_ones::<T>(self)
+        row::count_ones::<T>(self)
     }
 
     #[inline]
     fn all_zeros(&self) -> bool {
-        elements::all_zeros::<T>(self)
+        row::all_zeros::<T>(self)
     }
 
     #[inline]
     fn all_ones(&self) -> bool {
-        elements::all_ones::<T>(self)
+        row::all_ones::<T>(self)
     }
 
     #[inline]
     fn test_bit_in<E: Endian>(&self, index: u32) -> bool {
-        elements::test_bit::<T, E>(self, index)
+        row::test_bit::<T, E>(self, index)
     }
 
     #[inline]
     fn leaf_word(&self, k: u32) -> T::LeafWord {
-        elements::leaf_word::<T>(self, k)
+        row::leaf_word::<T>(self, k)
     }
 }
 
@@ -93,22 +93,22 @@ impl<T: BitsOwned, const N: usize> BitsMut for [T; N] {
 
     #[inline]
     fn set_bit_in<E: Endian>(&mut self, index: u32) {
-        elements::set_bit::<T, E>(self, index);
+        row::set_bit::<T, E>(self, index);
     }
 
     #[inline]
     fn clear_bit_in<E: Endian>(&mut self, index: u32) {
-        elements::clear_bit::<T, E>(self, index);
+        row::clear_bit::<T, E>(self, index);
     }
 
     #[inline]
     fn clear_bits(&mut self) {
-        elements::clear_bits::<T>(self);
+        row::clear_bits::<T>(self);
     }
 
     #[inline]
     fn fill_in<E: Endian>(&mut self, from: u32, to: u32) {
-        elements::fill::<T, E>(self, from, to);
+        row::fill::<T, E>(self, from, to);
     }
 
     #[inline]
@@ -130,7 +130,7 @@ impl<T: BitsOwned, const N: usize> BitsOwned for [T; N] {
 
     #[inline]
     fn bits() -> u32 {
-        elements::bits_capacity::<T>(N)
+        row::bits_capacity::<T>(N)
     }
 
     #[inline]

@@ -2,8 +2,8 @@
 
 ghost use Rattle.std.specs.Prelude.{◌≡◌, ◌≤◌, Bool, IsTrue};
 ghost use Rattle.bittle_bits.specs.Orders.{members};
-ghost use Rattle.bittle_bits.specs.PlainSet.{with_index, with_span, without_index, emptied};
-ghost use Rattle.bittle_bits.specs.SetOperations.{combined, union_of, conjunction_of, difference_of, symmetric_difference_of};
+ghost use Rattle.bittle_bits.specs.PlainSet.{with_index, with_span, without_index, without_members};
+ghost use Rattle.bittle_bits.specs.SetOperations.{combination_of, union_of, conjunction_of, difference_of, symmetric_difference_of};
 ghost use Rattle.bittle_bits.specs.Shapes.{Fits};
 
 use crate::bits::Bits;
@@ -53,7 +53,7 @@ pub trait BitsMut: Bits {
     /// row.clear_bits();                                   // row is [0, 0]
     /// ```
     fn clear_bits(&mut self)
-        ensures set { Self.big self.new ≡ emptied (Self.big self.old) }
+        ensures set { Self.big self.new ≡ without_members (Self.big self.old) }
         ensures stays { same_place self.old self.new };
 
     /// Sets the bit at each index from `from` on and before `to`, in the order `E`. No other bit
@@ -72,7 +72,7 @@ pub trait BitsMut: Bits {
     #[doc(hidden)]
     fn combine<O: Operation>(&mut self, other: &Self)
         ensures set { (mirrored : Bool) → members mirrored Self.width (Self.big self.new)
-            ≡ combined O.decide
+            ≡ combination_of O.decide
             (members mirrored Self.width (Self.big self.old))
             (members mirrored Self.width (Self.big other.now)) }
         ensures stays { same_place self.old self.new };

@@ -2,14 +2,14 @@
 
 ghost use Rattle.std.specs.Prelude.{◌≡◌, ℕ, ◌*◌, ◌<◌, Bool, IsTrue, ◌/◌};
 ghost use Rattle.bittle_bits.specs.Orders.{members};
-ghost use Rattle.bittle_bits.specs.PlainSet.{empty, filled, with_index, without_index, ascending, complement};
+ghost use Rattle.bittle_bits.specs.PlainSet.{empty_set, full_set, with_index, without_index, ascending, complement};
 ghost use Rattle.bittle_bits.specs.SetOperations.{union_of, conjunction_of, difference_of, symmetric_difference_of};
 ghost use Rattle.bittle_bits.specs.Shapes.{Fits};
 ghost use Rattle.bittle_bits.specs.Walk.{AreBelow, IsFresh};
 
 use crate::bits_mut::BitsMut;
 use crate::endian::{BigEndian, Endian, LittleEndian};
-use crate::look::OwnedSource;
+use crate::internal::look::OwnedSource;
 use crate::walk::{IntoIter, IntoIterOnes, IntoIterZeros};
 
 /// A set that is copied with its value. All values of the type have one capacity.
@@ -34,9 +34,9 @@ pub trait BitsOwned: Copy + Eq + BitsMut {
     /// ```
     fn zeros() -> Self
         requires { IsTrue Self.indexable }
-        ensures value { Self.big result ≡ empty type_capacity }
+        ensures value { Self.big result ≡ empty_set type_capacity }
         ensures in_each_order { (mirrored : Bool) →
-            members mirrored Self.width (Self.big result) ≡ empty type_capacity };
+            members mirrored Self.width (Self.big result) ≡ empty_set type_capacity };
 
     /// Returns the set in which each bit is set; with capacity 0 it is empty too. The type has to
     /// fit.
@@ -46,11 +46,11 @@ pub trait BitsOwned: Copy + Eq + BitsMut {
     /// ```
     fn ones() -> Self
         requires { IsTrue Self.indexable }
-        ensures value { Self.big result ≡ filled type_capacity }
+        ensures value { Self.big result ≡ full_set type_capacity }
         ensures in_own_order { members Self.Order.mirrored Self.width (Self.big result)
-            ≡ filled type_capacity }
+            ≡ full_set type_capacity }
         ensures in_each_order { (mirrored : Bool) →
-            members mirrored Self.width (Self.big result) ≡ filled type_capacity };
+            members mirrored Self.width (Self.big result) ≡ full_set type_capacity };
 
     /// Returns the set with the bit at `bit` set, in the order `E`. An index past the capacity
     /// wraps. With capacity 0 it returns the set itself. The type has to fit.

@@ -1,42 +1,6 @@
-//! What holds of the two orders and of every set: each function makes no calls, and its contract is
-//! the law.
+//! Laws, each the contract of a function that does nothing.
 
-ghost use Rattle.bittle_bits.specs.OrderLaws.{PlacesAreInTheWord, PlacesAreApart, PlacesMirror, MembersMirror, MirroringTwiceIsNothing, MirroringStaysBelow, MirroringReachesAll, TestingWraps};
-ghost use Rattle.bittle_bits.specs.Orders.{members};
-
-use crate::bits::Bits;
-use crate::endian::{BigEndian, Endian, LittleEndian};
-
-/// States that each index below the width has one place in its word, and each place one index.
-pub fn each_index_has_its_place<E: Endian>()
-    ensures inside { PlacesAreInTheWord E.mirrored }
-    ensures apart { PlacesAreApart E.mirrored }
-{}
-
-/// States that the two orders mirror each other within each word.
-pub fn orders_mirror_each_other()
-    ensures little { PlacesMirror ⟦<LittleEndian as Endian>⟧.mirrored
-        ⟦<BigEndian as Endian>⟧.mirrored }
-    ensures big { PlacesMirror ⟦<BigEndian as Endian>⟧.mirrored
-        ⟦<LittleEndian as Endian>⟧.mirrored }
-{}
-
-/// States that mirroring maps the indexes below a capacity of whole words onto themselves, and
-/// undoes itself.
-pub fn mirroring_undoes_itself()
-    ensures twice { MirroringTwiceIsNothing }
-    ensures below { MirroringStaysBelow }
-    ensures onto { MirroringReachesAll }
-{}
-
-/// States that an index is in the little-endian set exactly if the mirrored index is in the
-/// big-endian one.
-pub fn sets_mirror_each_other<B: Bits>(bits: &B)
-    ensures { MembersMirror ⟦<LittleEndian as Endian>⟧.mirrored ⟦<BigEndian as Endian>⟧.mirrored
-        B.width (B.big bits.now) }
-{}
-
-/// States that testing an index is testing it modulo the capacity.
-pub fn testing_wraps<B: Bits, E: Endian>(bits: &B)
-    ensures { TestingWraps (members E.mirrored B.width (B.big bits.now)) }
-{}
+pub mod algebra;
+pub mod counts;
+pub mod orders;
+pub mod types;

@@ -7,26 +7,14 @@ mod array;
 pub mod bits;
 pub mod bits_mut;
 pub mod bits_owned;
-mod count;
-mod elements;
-#[doc(hidden)]
-pub mod hidden;
 mod integers;
+#[doc(hidden)]
+pub mod internal;
 pub mod join;
-pub mod kind;
 #[doc(hidden)]
 pub mod laws;
-mod look;
-mod search;
-#[doc(hidden)]
-pub mod set_laws;
 mod slice;
-mod standing;
-#[doc(hidden)]
-pub mod type_orders;
 pub mod walk;
-#[doc(hidden)]
-pub mod walk_laws;
 
 #[doc(hidden)]
 pub use bittle_words::operation;

@@ -2,15 +2,15 @@
 
 ghost use Rattle.std.specs.Prelude.{◌≡◌, length};
 ghost use Rattle.std.proofs.Common.{rules, ◌∙◌};
-ghost use Rattle.bittle_bits.specs.RowLaws.{elements_has-past, words_of};
+ghost use Rattle.bittle_bits.specs.RowLawProofs.{elements_has-past, words_of};
 ghost use Rattle.bittle_bits.specs.Rows.{elements_set};
 
 use crate::bits::Bits;
 use crate::bits_mut::BitsMut;
 use crate::bits_owned::BitsOwned;
-use crate::elements;
+use crate::internal::row;
 use crate::endian::{DefaultEndian, Endian};
-use crate::hidden::Sealed;
+use crate::internal::sealed::Sealed;
 use crate::operation::Operation;
 
 impl<'a, T: BitsOwned> Sealed for &'a [T] {}
@@ -37,32 +37,32 @@ impl<'a, T: BitsOwned> Bits for &'a [T] {
 
     #[inline]
     fn bits_capacity(&self) -> u32 {
-        elements::bits_capacity::<T>(self.len())
+        row::bits_capacity::<T>(self.len())
     }
 
     #[inline]
     fn count_ones(&self) -> u32 {
-        elements::count_ones::<T>(self)
+        row::count_ones::<T>(self)
     }
 
     #[inline]
     fn all_zeros(&self) -> bool {
-        elements::all_zeros::<T>(self)
+        row::all_zeros::<T>(self)
     }
 
     #[inline]
     fn all_ones(&self) -> bool {
-        elements::all_ones::<T>(self)
+        row::all_ones::<T>(self)
     }
 
     #[inline]
     fn test_bit_in<E: Endian>(&self, index: u32) -> bool {
-        elements::test_bit::<T, E>(self, index)
+        row::test_bit::<T, E>(self, index)
     }
 
     #[inline]
     fn leaf_word(&self, k: u32) -> T::LeafWord {
-        elements::leaf_word::<T>(self, k)
+        row::leaf_word::<T>(self, k)
     }
 }
 
@@ -90,32 +90,32 @@ impl<'a, T: BitsOwned> Bits for &'a mut [T] {
 
     #[inline]
     fn bits_capacity(&self) -> u32 {
-        elements::bits_capacity::<T>(self.len())
+        row::bits_capacity::<T>(self.len())
     }
 
     #[inline]
     fn count_ones(&self) -> u32 {
-        elements::count_ones::<T>(self)
+        row::count_ones::<T>(self)
     }
 
     #[inline]
     fn all_zeros(&self) -> bool {
-        elements::all_zeros::<T>(self)
+        row::all_zeros::<T>(self)
     }
 
     #[inline]
     fn all_ones(&self) -> bool {
-        elements::all_ones::<T>(self)
+        row::all_ones::<T>(self)
     }
 
     #[inline]
     fn test_bit_in<E: Endian>(&self, index: u32) -> bool {
-        elements::test_bit::<T, E>(self, index)
+        row::test_bit::<T, E>(self, index)
     }
 
     #[inline]
     fn leaf_word(&self, k: u32) -> T::LeafWord {
-        elements::leaf_word::<T>(self, k)
+        row::leaf_word::<T>(self, k)
     }
 }
 
@@ -128,27 +128,27 @@ impl<'a, T: BitsOwned> BitsMut for &'a mut [T] {
 
     #[inline]
     fn set_bit_in<E: Endian>(&mut self, index: u32) {
-        elements::set_bit::<T, E>(self, index);
+        row::set_bit::<T, E>(self, index);
     }
 
     #[inline]
     fn clear_bit_in<E: Endian>(&mut self, index: u32) {
-        elements::clear_bit::<T, E>(self, index);
+        row::clear_bit::<T, E>(self, index);
     }
 
     #[inline]
     fn clear_bits(&mut self) {
-        elements::clear_bits::<T>(self);
+        row::clear_bits::<T>(self);
     }
 
     #[inline]
     fn fill_in<E: Endian>(&mut self, from: u32, to: u32) {
-        elements::fill::<T, E>(self, from, to);
+        row::fill::<T, E>(self, from, to);
     }
 
     #[inline]
     fn combine<O: Operation>(&mut self, other: &&'a mut [T]) {
         let others: &[T] = other;
-        elements::combine::<T, O>(self, others);
+        row::combine::<T, O>(self, others);
     }
 }

@@ -9,15 +9,15 @@ ghost use Rattle.std.specs.Iterator.SizeHint.{IsWithinCount};
 ghost use Rattle.bittle_bits.specs.Orders.{members};
 ghost use Rattle.bittle_bits.specs.PlainSet.{ascending};
 ghost use Rattle.bittle_bits.specs.Shapes.{Fits};
-ghost use Rattle.bittle_bits.specs.Walk.{wanted, AreBelow, IsFresh, ResumesAs, StepsFront, StepsBack};
+ghost use Rattle.bittle_bits.specs.Walk.{ones_or_zeros, AreBelow, IsFresh, ResumesAs, StepsFront, StepsBack};
 
 use crate::bits::Bits;
 use crate::bits_owned::BitsOwned;
-use crate::count::{Count, Counted};
+use crate::internal::ghost_count::{Count, Counted};
 use crate::endian::Endian;
-use crate::kind::{Kind, Ones, Zeros};
-use crate::look::{OwnedSource, Source};
-use crate::standing::{Standing, again, begin, step_back, step_front};
+use crate::internal::kind::{Kind, Ones, Zeros};
+use crate::internal::look::{OwnedSource, Source};
+use crate::internal::cursor::{Cursor, duplicate, begin, step_back, step_front};
 use std::alloc::AllocError;
 use std::marker::{Model, PhantomData};
 
@@ -59,22 +59,22 @@ pub type IntoIterZeros<B, E> = IntoIter<B, E, Zeros>;
 #[derive(Drop)]
 pub struct Iter<'a, B: Bits, E: Endian, K: Kind> {
     source: Source<'a, B>,
-    at: Standing<B, E>,
+    at: Cursor<B, E>,
     kind: PhantomData<K>,
 }
 
 impl<'a, B: Bits, E: Endian, K: Kind> Model for Iter<'a, B, E, K> {
-    ghost use Rattle.bittle_bits.specs.Walk.{Walk, wanted};
+    ghost use Rattle.bittle_bits.specs.Walk.{Walk, ones_or_zeros};
 
     ghost Value = { Walk };
 
     ghost use Rattle.std.specs.Prelude.{◌/◌};
     ghost use Rattle.bittle_bits.specs.Orders.{members};
     ghost use Rattle.bittle_bits.specs.Shapes.{Fits};
-    ghost use Rattle.bittle_bits.specs.Standing.{walk_of, Retires};
+    ghost use Rattle.bittle_bits.specs.Cursor.{walk_of, Retires};
 
     ghost view = { λ w. walk_of
-        (wanted K.ONES (members E.mirrored B.width (B.big w.source.set.now)))
+        (ones_or_zeros K.ONES (members E.mirrored B.width (B.big w.source.set.now)))
         ((B.big w.source.set.now).capacity / B.width) B.width w.at };
 
     ghost invariant = { λ w. Fits B.indexable (B.big w.source.set.now).capacity
@@ -87,7 +87,8 @@ impl<'a, B: Bits, E: Endian, K: Kind> Iter<'a, B, E, K> {
     pub(crate) fn new(source: Source<'a, B>) -> Self
         requires { Fits B.indexable (B.big source.set.now).capacity }
         ensures left { result.left
-            ≡ ascending (wanted K.ONES (members E.mirrored B.width (B.big source.entry.set.now))) }
+            ≡ ascending (ones_or_zeros K.ONES
+            (members E.mirrored B.width (B.big source.entry.set.now))) }
         ensures fresh { IsFresh ((B.big source.entry.set.now).capacity / B.width) result }
         ensures below { AreBelow (B.big source.entry.set.now).capacity result.left }
     {
@@ -139,8 +140,8 @@ impl<'a, B: Bits, E: Endian, K: Kind> Clone for Iter<'a, B, E, K> {
     #[inline]
     fn clone(&self) -> Result<Iter<'a, B, E, K>, AllocError> {
         Ok(Iter {
-            source: self.source.again(),
-            at: again(&self.at),
+            source: self.source.duplicate(),
+            at: duplicate(&self.at),
             kind: PhantomData,
         })
     }
@@ -168,21 +169,22 @@ impl<'a, B: Bits, E: Endian, K: Kind> Counted for Iter<'a, B, E, K> {
 #[derive(Drop)]
 pub struct IntoIter<B: BitsOwned, E: Endian, K: Kind> {
     source: OwnedSource<B>,
-    at: Standing<B, E>,
+    at: Cursor<B, E>,
     kind: PhantomData<K>,
 }
 
 impl<B: BitsOwned, E: Endian, K: Kind> Model for IntoIter<B, E, K> {
-    ghost use Rattle.bittle_bits.specs.Walk.{Walk, wanted};
+    ghost use Rattle.bittle_bits.specs.Walk.{Walk, ones_or_zeros};
 
     ghost Value = { Walk };
 
     ghost use Rattle.std.specs.Prelude.{◌/◌};
     ghost use Rattle.bittle_bits.specs.Orders.{members};
     ghost use Rattle.bittle_bits.specs.Shapes.{Fits};
-    ghost use Rattle.bittle_bits.specs.Standing.{walk_of, Retires};
+    ghost use Rattle.bittle_bits.specs.Cursor.{walk_of, Retires};
 
-    ghost view = { λ w. walk_of (wanted K.ONES (members E.mirrored B.width (B.big w.source.set)))
+    ghost view = { λ w. walk_of
+        (ones_or_zeros K.ONES (members E.mirrored B.width (B.big w.source.set)))
         ((B.big w.source.set).capacity / B.width) B.width w.at };
 
     ghost invariant = { λ w. Fits B.indexable (B.big w.source.set).capacity
@@ -195,7 +197,7 @@ impl<B: BitsOwned, E: Endian, K: Kind> IntoIter<B, E, K> {
     pub(crate) fn new(source: OwnedSource<B>) -> Self
         requires { Fits B.indexable (B.big source.set).capacity }
         ensures left { result.left
-            ≡ ascending (wanted K.ONES (members E.mirrored B.width (B.big source.set))) }
+            ≡ ascending (ones_or_zeros K.ONES (members E.mirrored B.width (B.big source.set))) }
         ensures fresh { IsFresh ((B.big source.set).capacity / B.width) result }
         ensures below { AreBelow (B.big source.set).capacity result.left }
     {
@@ -247,8 +249,8 @@ impl<B: BitsOwned, E: Endian, K: Kind> Clone for IntoIter<B, E, K> {
     #[inline]
     fn clone(&self) -> Result<IntoIter<B, E, K>, AllocError> {
         Ok(IntoIter {
-            source: self.source.again(),
-            at: again(&self.at),
+            source: self.source.duplicate(),
+            at: duplicate(&self.at),
             kind: PhantomData,
         })
     }

@@ -1,6 +1,6 @@
 pub mod FirstLine
-pub mod Digits
+pub mod DecimalDigits
 pub mod Beginnings
-pub mod Given
-pub mod Allowed
-pub mod Spaced
+pub mod AnswerWriting
+pub mod ProgramRuns
+pub mod MemberLines

@@ -1,11 +1,13 @@
 -- The answers to a script: those of a plain set of numbers, line by line.
-use Rattle.std.specs.Prelude.{◌≡◌, ℕ, List, [], ◌∷◌, ◌++◌, Option, None, Some, length, drop, codes, ◌==◌, if◌then◌else◌, Result, MatchResult}
+use Rattle.std.specs.Prelude.{◌≡◌, ℕ, List, [], ◌∷◌, ◌++◌, Option, None, Some, length, drop, codes,
+    ◌==◌, if◌then◌else◌, Result, MatchResult}
 use Rattle.std.specs.List.{enumerate_from, join_by}
 use Rattle.std.specs.Fmt.{decimal}
 use Rattle.std.specs.Io.KnownBytes.{Appends}
-use Rattle.bittle.specs.PlainSet.{PlainSet, empty, ascending}
+use Rattle.bittle.specs.PlainSet.{PlainSet, empty_set, ascending}
 use Rattle.bittle.specs.Machine.{reply_to, set_after}
-use Rattle.bittle.specs.declared.replay.Call.TheVariants.{Test as Test_call, Put, Clear as Clear_call, CountOnes}
+use Rattle.bittle.specs.declared.replay.Call.TheVariants.{Test as Test_call, Put,
+    Clear as Clear_call, CountOnes}
 use Rattle.bittle.specs.declared.replay.Reply.{Reply}
 use Rattle.bittle.specs.declared.replay.Reply.TheVariants.{Done, Bit, Number}
 use Rattle.bittle_script.specs.declared.command.Command.{Command}
@@ -29,12 +31,12 @@ abbrev pub line_of_members : PlainSet → List ℕ
 line_of_members s = join_by decimal (codes " ") (ascending s) ++ codes "\n"
 
 -- what is printed at a command
-abbrev pub printed : PlainSet → Command → List ℕ
-printed s (Set i) = text_of (reply_to s (Put i))
-printed s (Clear i) = text_of (reply_to s (Clear_call i))
-printed s (Test i) = text_of (reply_to s (Test_call i))
-printed s Count = text_of (reply_to s CountOnes)
-printed s Ones = line_of_members s
+abbrev pub command_text : PlainSet → Command → List ℕ
+command_text s (Set i) = text_of (reply_to s (Put i))
+command_text s (Clear i) = text_of (reply_to s (Clear_call i))
+command_text s (Test i) = text_of (reply_to s (Test_call i))
+command_text s Count = text_of (reply_to s CountOnes)
+command_text s Ones = line_of_members s
 
 -- the set after a command
 abbrev pub after_command : PlainSet → Command → PlainSet
@@ -54,22 +56,25 @@ pub record Answers : Type 0 where
   pub outcome : Outcome
 
 -- the refusal of a line that is not understood
-abbrev pub refused_at : ℕ → Answers
-refused_at number = record { text = refusal_of number; outcome = Refused }
+abbrev pub refusal_at : ℕ → Answers
+refusal_at number = record { text = refusal_of number; outcome = Refused }
 
 -- a text, and then the answers
 abbrev pub prepend : List ℕ → Answers → Answers
 prepend text rest = record { text = text ++ rest.text; outcome = rest.outcome }
 
--- a line that is no command is refused; else what `rest` answers from the set after the command follows
-abbrev pub answers_from : PlainSet → ℕ → Option Command → (PlainSet → Answers) → Answers
-answers_from s number None rest = refused_at number
-answers_from s number (Some command) rest = prepend (printed s command) (rest (after_command s command))
+-- a line that is no command is refused; else what `rest` answers from the set after the command
+-- follows
+abbrev pub command_answers : PlainSet → ℕ → Option Command → (PlainSet → Answers) → Answers
+command_answers s number None rest = refusal_at number
+command_answers s number (Some command) rest = prepend (command_text s command)
+    (rest (after_command s command))
 
 -- the answers of a set to lines with their numbers, of which the empty ones are passed over
-abbrev pub answers : PlainSet → List (ℕ × List ℕ) → Answers
-answers s [] = record { text = []; outcome = Answered }
-answers s (line ∷ lines) = if length line.1 == 0 then answers s lines else answers_from s line.0 (command_of line.1) (λ t. answers t lines)
+abbrev pub line_answers : PlainSet → List (ℕ × List ℕ) → Answers
+line_answers s [] = record { text = []; outcome = Answered }
+line_answers s (line ∷ lines) = if length line.1 == 0 then line_answers s lines else command_answers
+    s line.0 (command_of line.1) (λ t. line_answers t lines)
 
 -- what the first line says
 abbrev pub header_in : List (ℕ × List ℕ) → Option Header
@@ -77,14 +82,17 @@ header_in [] = None
 header_in (line ∷ lines) = header_of line.1
 
 -- the answers to the lines after the first, of a set that begins empty
-abbrev pub answers_in : Option Header → List (ℕ × List ℕ) → Answers
-answers_in None lines = refused_at 1
-answers_in (Some header) lines = answers (empty (capacity_of header.shape)) lines
+abbrev pub header_answers : Option Header → List (ℕ × List ℕ) → Answers
+header_answers None lines = refusal_at 1
+header_answers (Some header) lines = line_answers (empty_set (capacity_of header.shape)) lines
 
 -- the answers to a script
-abbrev pub answers_to : List ℕ → Answers
-answers_to text = let lines = enumerate_from 1 (script_lines text) in answers_in (header_in lines) (drop 1 lines)
+abbrev pub script_answers : List ℕ → Answers
+script_answers text = let lines = enumerate_from 1 (script_lines text) in
+    header_answers (header_in lines) (drop 1 lines)
 
 -- an output got the answers whole, or failed after a beginning of them
-abbrev pub IsGiven : {E : Type 0} → Option (List ℕ) → Option (List ℕ) → Result Outcome E → Answers → Type 0
-IsGiven old new r given = MatchResult r (λ outcome. (outcome ≡ given.outcome) × Appends old new given.text) (λ _. AppendsBeginning old new given.text)
+abbrev pub IsGiven : {E : Type 0} → Option (List ℕ) → Option (List ℕ) → Result Outcome E → Answers →
+    Type 0
+IsGiven old new r given = MatchResult r (λ outcome. (outcome ≡ given.outcome)
+    × Appends old new given.text) (λ _. AppendsBeginning old new given.text)

@@ -10,5 +10,7 @@ pub record AppendsBeginning (old new : Option (List ℕ)) (bytes : List ℕ) : T
   pub appends : Appends old new front
 
 -- known bytes grew by `bytes`, or at `Err` by a beginning of them
-abbrev pub Writes : {T E : Type 0} → Option (List ℕ) → Option (List ℕ) → Result T E → List ℕ → Type 0
-Writes old new r bytes = MatchResult r (λ _. Appends old new bytes) (λ _. AppendsBeginning old new bytes)
+abbrev pub Writes : {T E : Type 0} → Option (List ℕ) → Option (List ℕ) → Result T E → List ℕ →
+    Type 0
+Writes old new r bytes = MatchResult r (λ _. Appends old new bytes)
+    (λ _. AppendsBeginning old new bytes)

@@ -4,14 +4,15 @@ use Rattle.std.specs.Option.{option_map}
 use Rattle.bittle_script.specs.declared.command.Command.{Command}
 use Rattle.bittle_script.specs.declared.command.Command.TheVariants.{Set, Clear, Test, Count, Ones}
 use Rattle.bittle_script.specs.Numbers.{number_of}
-use Rattle.bittle_script.specs.Words.{is_word, begins_with}
+use Rattle.bittle_script.specs.CommandWords.{is_word, begins_with}
 
 -- the command that a line says by a word, one space and an index
 abbrev pub indexed_command_of : List ℕ → Option Command
 indexed_command_of line =
     if begins_with line (codes "set ") then option_map Set (number_of (drop 4 line))
     else (if begins_with line (codes "clear ") then option_map Clear (number_of (drop 6 line))
-    else (if begins_with line (codes "test ") then option_map Test (number_of (drop 5 line)) else None))
+    else (if begins_with line (codes "test ") then option_map Test (number_of (drop 5 line)) else
+        None))
 
 -- the command that a line says
 abbrev pub command_of : List ℕ → Option Command

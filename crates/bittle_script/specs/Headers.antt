@@ -6,7 +6,7 @@ use Rattle.bittle_script.specs.declared.header.Order.{Order}
 use Rattle.bittle_script.specs.declared.header.Order.TheVariants.{Big, Little}
 use Rattle.bittle_script.specs.declared.header.Shape.{Shape}
 use Rattle.bittle_script.specs.declared.header.Shape.TheVariants.{U8, U8x4, U8x2x2, U16x2, I32}
-use Rattle.bittle_script.specs.Words.{is_word, begins_with}
+use Rattle.bittle_script.specs.CommandWords.{is_word, begins_with}
 
 -- the shape with this name
 abbrev pub shape_of : List ℕ → Option Shape
@@ -18,14 +18,15 @@ shape_of name =
     else (if is_word name (codes "i32") then Some I32 else None))))
 
 -- the header of an order and a shape
-abbrev pub in_order : Order → Shape → Header
-in_order order shape = record { order = order; shape = shape }
+abbrev pub header_in_order : Order → Shape → Header
+header_in_order order shape = record { order = order; shape = shape }
 
 -- the order and the shape that a first line names
 abbrev pub header_of : List ℕ → Option Header
 header_of line =
-    if begins_with line (codes "be ") then option_map (in_order Big) (shape_of (drop 3 line))
-    else (if begins_with line (codes "le ") then option_map (in_order Little) (shape_of (drop 3 line)) else None)
+    if begins_with line (codes "be ") then option_map (header_in_order Big) (shape_of (drop 3 line))
+    else (if begins_with line (codes "le ") then option_map (header_in_order Little)
+        (shape_of (drop 3 line)) else None)
 
 -- how many numbers a set of the shape can hold
 abbrev pub capacity_of : Shape → ℕ

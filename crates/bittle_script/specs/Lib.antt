@@ -1,10 +1,10 @@
 pub mod Numbers
-pub mod Words
+pub mod CommandWords
 pub mod Commands
 pub mod Headers
 pub mod Texts
-pub mod Numbering
+pub mod Lines
 pub mod Beginnings
 pub mod Answers
 pub mod Refusals
-pub mod Runs
+pub mod ProgramRuns

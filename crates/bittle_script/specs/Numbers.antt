@@ -1,12 +1,14 @@
 -- Numbers in digits.
-use Rattle.std.specs.Prelude.{ℕ, List, Bool, Option, Some, None, ◌&&◌, nat_lt, length, if◌then◌else◌}
+use Rattle.std.specs.Prelude.{ℕ, List, Bool, Option, Some, None, ◌&&◌, nat_lt, length,
+    if◌then◌else◌}
 use Rattle.std.specs.Char.{is_ascii_digit}
 use Rattle.std.specs.List.{list_all}
 use Rattle.std.specs.Str.Parse.{digits_value}
 
 -- one digit or more, and nothing else, of a number below 2 ^ 32
 abbrev pub is_number : List ℕ → Bool
-is_number text = nat_lt 0 (length text) && list_all is_ascii_digit text && nat_lt (digits_value 10 text) 4294967296
+is_number text = nat_lt 0 (length text) && list_all is_ascii_digit text
+    && nat_lt (digits_value 10 text) 4294967296
 
 -- the number that one or more digits say, where it fits
 abbrev pub number_of : List ℕ → Option ℕ

@@ -1,12 +1,12 @@
 //! The answers to a script.
 ghost use Rattle.std.specs.Prelude.{◌≡◌, ◌≤◌, length, drop, OnSome, IsTrue};
 ghost use Rattle.bittle.specs.Orders.{members};
-ghost use Rattle.bittle.specs.PlainSet.{empty};
+ghost use Rattle.bittle.specs.PlainSet.{empty_set};
 ghost use Rattle.bittle.specs.Machine.{reply_to, set_after};
-ghost use Rattle.bittle_script.specs.Answers.{answers, answers_to, answers_in, header_in, text_of, line_of_members, printed, after_command, refused_at, IsGiven};
+ghost use Rattle.bittle_script.specs.Answers.{line_answers, script_answers, header_answers, header_in, text_of, line_of_members, command_text, after_command, refusal_at, IsGiven};
 ghost use Rattle.bittle_script.specs.Beginnings.{Writes};
 ghost use Rattle.bittle_script.specs.Headers.{capacity_of};
-ghost use Rattle.bittle_script.specs.Numbering.{lines_left};
+ghost use Rattle.bittle_script.specs.Lines.{lines_left};
 ghost use Rattle.bittle_script.specs.declared.reading.TheConstants.{MOST_BYTES};
 
 use crate::command::Command;
@@ -25,7 +25,7 @@ pub enum Outcome {
 }
 
 impl Outcome {
-    ghost use Rattle.bittle_script.specs.Runs.{status_of};
+    ghost use Rattle.bittle_script.specs.ProgramRuns.{status_of};
 
     /// Returns the status that the program ends with.
     pub fn status(self) -> u8
@@ -42,7 +42,7 @@ pub fn answer<W: Write>(text: &[u8], output: &mut Output<'_, W>) -> Result<Outco
     ensures same_writer { output.new.writer.ghost_name ≡ output.old.writer.ghost_name }
     ensures answers { IsGiven (W.contents output.old.writer.now)
         (W.contents output.new.writer.now) result
-        (answers_to text.now) }
+        (script_answers text.now) }
 {
     let mut lines = Lines::new(text);
     match take_header(&mut lines) {
@@ -68,7 +68,7 @@ fn answer_in_order<W: Write>(
     ensures same_writer { output.new.writer.ghost_name ≡ output.old.writer.ghost_name }
     ensures answers { IsGiven (W.contents output.old.writer.now)
         (W.contents output.new.writer.now) result
-        (answers (empty (capacity_of header.shape)) (lines_left lines.entry)) }
+        (line_answers (empty_set (capacity_of header.shape)) (lines_left lines.entry)) }
 {
     match header.order {
         Order::Big => answer_shape::<BigEndian, W>(header.shape, lines, output),
@@ -85,7 +85,7 @@ fn answer_shape<E: Endian, W: Write>(
     ensures same_writer { output.new.writer.ghost_name ≡ output.old.writer.ghost_name }
     ensures answers { IsGiven (W.contents output.old.writer.now)
         (W.contents output.new.writer.now) result
-        (answers (empty (capacity_of shape)) (lines_left lines.entry)) }
+        (line_answers (empty_set (capacity_of shape)) (lines_left lines.entry)) }
 {
     match shape {
         Shape::U8 => answer_lines::<u8, E, W>(lines, output),
@@ -105,7 +105,7 @@ fn answer_lines<B: BitsOwned, E: Endian, W: Write>(
     ensures same_writer { output.new.writer.ghost_name ≡ output.old.writer.ghost_name }
     ensures answers { IsGiven (W.contents output.old.writer.now)
         (W.contents output.new.writer.now) result
-        (answers (empty B.type_capacity) (lines_left lines.entry)) }
+        (line_answers (empty_set B.type_capacity) (lines_left lines.entry)) }
 {
     let mut bits = empty_value::<B>();
     for line in lines {
@@ -123,7 +123,7 @@ fn answer_lines<B: BitsOwned, E: Endian, W: Write>(
 /// Returns the value that is the empty set.
 fn empty_value<B: BitsOwned>() -> B
     requires { IsTrue B.indexable }
-    ensures { B.big result ≡ empty B.type_capacity }
+    ensures { B.big result ≡ empty_set B.type_capacity }
 {
     set![]
 }
@@ -140,7 +140,7 @@ fn obey<B: BitsOwned, E: Endian, W: Write>(
         ≡ after_command (members E.mirrored B.width (B.big bits.old)) command }
     ensures prints { Writes (W.contents output.old.writer.now)
         (W.contents output.new.writer.now) result
-        (printed (members E.mirrored B.width (B.big bits.old)) command) }
+        (command_text (members E.mirrored B.width (B.big bits.old)) command) }
 {
     let call = match command {
         Command::Set(index) => Call::Put(index),
@@ -205,7 +205,7 @@ fn refuse<W: Write>(number: u32, output: &mut Output<'_, W>) -> Result<Outcome, 
     ensures same_writer { output.new.writer.ghost_name ≡ output.old.writer.ghost_name }
     ensures refused { IsGiven (W.contents output.old.writer.now)
         (W.contents output.new.writer.now) result
-        (refused_at number) }
+        (refusal_at number) }
 {
     output.put(b"line ")?;
     output.put_number(number)?;

@@ -13,7 +13,7 @@ mod writing;
 
 ghost use Rattle.std.specs.Prelude.{◌≡◌, ◌≤◌};
 ghost use Rattle.std.specs.Process.{exit_status};
-ghost use Rattle.bittle_script.specs.Runs.{IsRun, IsAnswered};
+ghost use Rattle.bittle_script.specs.ProgramRuns.{IsRun, IsAnswered};
 
 use answering::Outcome;
 use std::io::{Eprint, Read, Write};

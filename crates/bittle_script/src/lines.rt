@@ -24,7 +24,7 @@ pub struct Lines<'a> {
 
 impl<'a> Lines<'a> {
     ghost use Rattle.std.specs.List.{enumerate_from};
-    ghost use Rattle.bittle_script.specs.Numbering.{lines_left};
+    ghost use Rattle.bittle_script.specs.Lines.{lines_left};
 
     /// Returns the lines of a text that is no longer than an input may be.
     pub fn new(text: &'a [u8]) -> Self
@@ -41,11 +41,11 @@ impl<'a> Lines<'a> {
 impl<'a> Iterator for Lines<'a> {
     ghost use Rattle.std.specs.Prelude.{length};
     ghost use Rattle.std.specs.Iterator.{at_most, YieldsFirstBy};
-    ghost use Rattle.bittle_script.specs.Numbering.{numbered, lines_left};
+    ghost use Rattle.bittle_script.specs.Lines.{numbered_line, lines_left};
 
     type Item = Line<'a>;
 
-    ghost next_gives = { YieldsFirstBy numbered lines_left };
+    ghost next_gives = { YieldsFirstBy numbered_line lines_left };
 
     ghost remaining = { λ s. at_most (length s.rest.now) };
 

@@ -9,7 +9,7 @@ ghost use Rattle.bittle_bits.specs.Rows.{elements_set};
 ghost use Rattle.bittle_bits.specs.Shapes.{Fits};
 
 use bittle::{Bits, BitsOwned, Endian, LittleEndian, number};
-use bittle_bits::hidden::Number;
+use bittle_bits::internal::sealed::Number;
 use std::alloc::{AllocError, Global};
 
 /// Walks the members of any set by a `for`.

@@ -3,8 +3,8 @@
 ghost use Rattle.std.specs.Prelude.{◌≡◌, ◌*◌, ◌<◌, true, refl};
 ghost use Rattle.std.proofs.Common.{lit<};
 ghost use Rattle.bittle_bits.specs.Digits.{digit_set};
-ghost use Rattle.bittle_bits.specs.RowLaws.{elements_has-past, words_of, equal_rows};
-ghost use Rattle.bittle_bits.specs.Laws.{digit_has-past, one_word, equal_words};
+ghost use Rattle.bittle_bits.specs.RowLawProofs.{elements_has-past, words_of, equal_rows};
+ghost use Rattle.bittle_bits.specs.LawProofs.{digit_has-past, one_word, equal_words};
 ghost use Rattle.bittle_bits.specs.Rows.{elements_set};
 ghost use Rattle.bittle_bits.specs.Shapes.{Fits};
 
@@ -12,7 +12,7 @@ use bittle::replay::Step;
 use bittle::{
     BigEndian, Bits, BitsMut, BitsOwned, DefaultEndian, Endian, LittleEndian, Set, macros,
 };
-use bittle_bits::hidden::Sealed;
+use bittle_bits::internal::sealed::Sealed;
 use bittle_bits::operation::Operation;
 use std::alloc::AllocError;
 use std::cell::Cell;

@@ -5,7 +5,7 @@ ghost use Rattle.std.specs.Prelude.{◌<◌, IsTrue};
 use bittle::number::{IterOnes, IterZeros};
 use bittle::prelude::*;
 use bittle::{BigEndian, Endian, LittleEndian};
-use bittle_bits::hidden::Number;
+use bittle_bits::internal::sealed::Number;
 use std::process::Abort;
 
 // How many ones the numbers from 0 to 15 have.

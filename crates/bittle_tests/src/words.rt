@@ -5,7 +5,7 @@ ghost use Rattle.bittle_bits.specs.Shapes.{Fits};
 
 use bittle::number::{IterOnes, IterZeros};
 use bittle::{BigEndian, Bits, BitsMut, Endian, LittleEndian};
-use bittle_bits::hidden::Number;
+use bittle_bits::internal::sealed::Number;
 use std::process::Abort;
 
 #[test]

@@ -1,3 +1,3 @@
-pub mod Kept
+pub mod SieveSteps
 pub mod RoleOrder
 pub mod Subsets

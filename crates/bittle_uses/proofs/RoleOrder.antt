@@ -1,5 +1,6 @@
 -- What the order of two roles says of what they grant.
-use Rattle.std.proofs.Common.{◌≡◌, ℕ, ◌≤◌, true, false, IsTrue, ◌↔◌, List, Result, Ok, Err, MatchOption, inl, inr, refl, sym, ap, ◌∙◌, arith}
+use Rattle.std.proofs.Common.{◌≡◌, ℕ, ◌≤◌, true, false, IsTrue, ◌↔◌, List, Result, Ok, Err,
+    MatchOption, inl, inr, refl, sym, ap, ◌∙◌, arith}
 use Rattle.std.proofs.lemmas.Bool.{le-ltb, cases_lt, true≢false}
 use Rattle.std.proofs.lemmas.List.Sorted.{searchable_from_sorted}
 use Rattle.std.specs.Cmp.Lexicographic.{nat_list_cmp_total}
@@ -11,7 +12,7 @@ use Rattle.std.specs.Result.{result_ok}
 use Rattle.std.specs.declared.cmp.Ordering.TheVariants.{Less, Greater}
 use Rattle.std.specs.declared.cmp.Ordering.{Ordering}
 use Rattle.bittle.specs.Digits.{digit_has, digit_set}
-use Rattle.bittle.specs.Order.{list_cmp, AreSame}
+use Rattle.bittle.specs.Comparison.{list_cmp, AreSame}
 use Rattle.bittle.specs.PlainSet.{ascending}
 use Rattle.bittle.proofs.CallerLists.{equal_iff_same_members}
 
@@ -20,8 +21,11 @@ unfolding digit_has
 none_past role i h = rw (le-ltb i 32 h)
 
 -- two roles are equal in the order exactly where they grant the same
-pub equal_iff_granted : (m n : ℕ) → IsTrue (is_eq (list_cmp (ascending (digit_set 32 m)) (ascending (digit_set 32 n)))) ↔ AreSame (digit_set 32 m) (digit_set 32 n)
-equal_iff_granted m n = equal_iff_same_members (digit_set 32 m) (digit_set 32 n) (none_past m) (none_past n)
+pub equal_iff_granted : (m n : ℕ) → IsTrue
+    (is_eq (list_cmp (ascending (digit_set 32 m)) (ascending (digit_set 32 n))))
+    ↔ AreSame (digit_set 32 m) (digit_set 32 n)
+equal_iff_granted m n = equal_iff_same_members (digit_set 32 m) (digit_set 32 n) (none_past m)
+    (none_past n)
 
 -- a search of a sorted table, whose roles are read by `bits`
 module _ {X : Type 0} (bits : X → ℕ) (wanted : ℕ) where
@@ -37,10 +41,16 @@ module _ {X : Type 0} (bits : X → ℕ) (wanted : ℕ) where
       true≢false (sym t ∙ ap is_eq e ∙ f)
 
   -- the search gives a place whose role grants just what is wanted, or None where no role does
-  pub search_found : (xs : List X) (r : Result ℕ ℕ) → IsSortedBy (λ a b. is_lt (list_cmp (ascending (digit_set 32 (bits a))) (ascending (digit_set 32 (bits b))))) xs → IsBinarySearchResult order xs r → MatchOption (result_ok r) (All (λ x. GrantsJust x → ⊥) xs) (λ place. HoldsAt GrantsJust xs place)
-  search_found xs (Ok i) sorted h = λ d. (equal_iff_granted (bits (slice_index_or xs i d)) wanted).0 (ap is_eq (h d))
+  pub search_found : (xs : List X) (r : Result ℕ ℕ) →
+      IsSortedBy (λ a b. is_lt (list_cmp (ascending (digit_set 32 (bits a)))
+      (ascending (digit_set 32 (bits b))))) xs → IsBinarySearchResult order xs r →
+      MatchOption (result_ok r) (All (λ x. GrantsJust x → ⊥) xs)
+      (λ place. HoldsAt GrantsJust xs place)
+  search_found xs (Ok i) sorted h = λ d. (equal_iff_granted (bits (slice_index_or xs i d)) wanted).0
+      (ap is_eq (h d))
   search_found xs (Err i) sorted h =
-      let between = h (searchable_from_sorted nat_list_cmp_total (λ x. ascending (digit_set 32 (bits x))) xs (ascending (digit_set 32 wanted)) sorted) in
+      let between = h (searchable_from_sorted nat_list_cmp_total
+          (λ x. ascending (digit_set 32 (bits x))) xs (ascending (digit_set 32 wanted)) sorted) in
       λ k d l. elim (cases_lt k i) [
         | inl a ↦ not_equal (slice_index_or xs k d) Less (between.0 k d (omega arith) a) refl
         | inr b ↦ not_equal (slice_index_or xs k d) Greater (between.1 k d b l) refl

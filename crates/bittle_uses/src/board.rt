@@ -2,7 +2,7 @@
 
 ghost use Rattle.std.specs.Prelude.{◌≡◌, IfOk, reverse};
 ghost use Rattle.bittle.specs.Digits.{digit_set};
-ghost use Rattle.bittle.specs.PlainSet.{ascending, complement, empty};
+ghost use Rattle.bittle.specs.PlainSet.{ascending, complement, empty_set};
 ghost use Rattle.bittle.specs.Ranges.{with_range};
 ghost use Rattle.bittle_uses.specs.Board.{AreEnds};
 
@@ -11,7 +11,7 @@ use std::alloc::{AllocError, Global};
 
 /// Returns the board at the start: the two first rows and the two last ones are taken.
 pub fn start() -> u64
-    ensures { digit_set 64 result ≡ with_range (with_range (empty 64) 0 16) 48 64 }
+    ensures { digit_set 64 result ≡ with_range (with_range (empty_set 64) 0 16) 48 64 }
 {
     set![0..16, 48..]
 }

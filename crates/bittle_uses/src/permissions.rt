@@ -4,7 +4,7 @@ ghost use Rattle.std.specs.List.Sorted.{IsPermutation, IsSorted};
 ghost use Rattle.std.specs.List.{All, HoldsAt};
 ghost use Rattle.std.specs.Prelude.{◌≡◌, ◌↔◌, Bool, IsTrue, MatchOption};
 ghost use Rattle.bittle.specs.Digits.{digit_set};
-ghost use Rattle.bittle.specs.Order.{AreSame};
+ghost use Rattle.bittle.specs.Comparison.{AreSame};
 ghost use Rattle.bittle.specs.Orders.{members};
 ghost use Rattle.bittle.specs.SetOperations.{union_of};
 

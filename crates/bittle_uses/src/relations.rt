@@ -1,7 +1,7 @@
 //! How two sets of one type stand to each other.
 
 ghost use Rattle.std.specs.Prelude.{◌↔◌, IsTrue};
-ghost use Rattle.bittle.specs.Order.{AreSame};
+ghost use Rattle.bittle.specs.Comparison.{AreSame};
 ghost use Rattle.bittle_uses.specs.Relations.{IsSubset, AreDisjoint};
 
 use bittle::{Bits, BitsOwned};

@@ -1,5 +1,27 @@
 -- The two orders: a place in the word for each index, one to one, mirroring each other.
-use Rattle.std.proofs.Common.{◌≡◌, ℕ, ◌+◌, ◌-◌, ◌*◌, ◌/◌, ◌%◌, ◌<◌, ◌≤◌, Bool, true, false, ◌==◌, nat_lt, inl, inr, refl, sym, ap, ◌∙◌, arith}
+use Rattle.std.proofs.Common.{
+  ◌≡◌,
+  ℕ,
+  ◌+◌,
+  ◌-◌,
+  ◌*◌,
+  ◌/◌,
+  ◌%◌,
+  ◌<◌,
+  ◌≤◌,
+  Bool,
+  true,
+  false,
+  ◌==◌,
+  nat_lt,
+  inl,
+  inr,
+  refl,
+  sym,
+  ap,
+  ◌∙◌,
+  arith,
+}
 use Rattle.std.proofs.Math.Nat.{div-add-mod', mod-eq_of_lt}
 use Rattle.std.proofs.lemmas.Nat.{mod-mul-add, mod_below, div_below, mul-add-lt}
 use Rattle.std.proofs.lemmas.Bool.{eq-eqb, ne_eqb, cases_eq, cases_lt, lt-ltb, le-ltb}
@@ -20,7 +42,8 @@ pub mirror-mirror : (w i : ℕ) → 0 < w → mirror w (mirror w i) ≡ i
 mirror-mirror w i h =
     let b = mod_below i w h in
     let lt : w - 1 - i % w < w = omega arith in
-    ap (mirror w) (mirror_is w i h) ∙ mirror_at w (i / w) (w - 1 - i % w) lt ∙ omega (arith, div-add-mod' i w)
+    ap (mirror w) (mirror_is w i h) ∙ mirror_at w (i / w) (w - 1 - i % w) lt
+    ∙ omega (arith, div-add-mod' i w)
 
 -- the place of an index's place is the index
 pub place-place : (m : Bool) (w i : ℕ) → 0 < w → place m w (place m w i) ≡ i
@@ -28,13 +51,16 @@ place-place false w i h = refl
 place-place true w i h = mirror-mirror w i h
 
 -- an index stays in its word, and in each part that is made of whole words
-pub mirror_part : (w d q r : ℕ) → 0 < w → r < d * w → mirror w (q * (d * w) + r) ≡ q * (d * w) + mirror w r
+pub mirror_part : (w d q r : ℕ) → 0 < w → r < d * w →
+    mirror w (q * (d * w) + r) ≡ q * (d * w) + mirror w r
 mirror_part w d q r h b =
     let low = mod_below r w h in
-    ap (mirror w) (omega (arith, div-add-mod' r w)) ∙ mirror_at w (q * d + r / w) (r % w) low ∙ omega (arith, mirror_is w r h)
+    ap (mirror w) (omega (arith, div-add-mod' r w)) ∙ mirror_at w (q * d + r / w) (r % w) low
+    ∙ omega (arith, mirror_is w r h)
 
 -- an index of a part of whole words has its place in that part
-pub place_part : (m : Bool) (w d q r : ℕ) → 0 < w → r < d * w → place m w (q * (d * w) + r) ≡ q * (d * w) + place m w r
+pub place_part : (m : Bool) (w d q r : ℕ) → 0 < w → r < d * w →
+    place m w (q * (d * w) + r) ≡ q * (d * w) + place m w r
 place_part false w d q r h b = refl
 place_part true w d q r h b = mirror_part w d q r h b
 
@@ -51,14 +77,16 @@ pub place_eq : (m : Bool) (w i j : ℕ) → 0 < w → (place m w i == place m w 
 place_eq m w i j h =
     elim (cases_eq i j) [
       | inl e ↦ rw e (eq-eqb _ _ refl ∙ sym (eq-eqb _ _ refl))
-      | inr n ↦ ne_eqb _ _ (λ e. n (sym (place-place m w i h) ∙ ap (place m w) e ∙ place-place m w j h)) ∙ sym (ne_eqb _ _ n)
+      | inr n ↦ ne_eqb _ _ (λ e. n (sym (place-place m w i h) ∙ ap (place m w) e
+          ∙ place-place m w j h)) ∙ sym (ne_eqb _ _ n)
     ]
 
 -- an index below a capacity of whole words goes to a place below it, and no other does
 pub place_past : (m : Bool) (w d i : ℕ) → 0 < w → d * w ≤ i → d * w ≤ place m w i
 place_past m w d i h b =
     elim (cases_lt (place m w i) (d * w)) [
-      | inl l ↦ absurd (let t = place_below m w d (place m w i) h l in omega (arith, place-place m w i h))
+      | inl l ↦ absurd (let t = place_below m w d (place m w i) h l in
+          omega (arith, place-place m w i h))
       | inr g ↦ g
     ]
 

@@ -1,5 +1,5 @@
 pub mod Digits
-pub mod Laws
+pub mod LawProofs
 pub mod Orders
 pub mod PlainSet
 pub mod SetOperations

@@ -1,12 +1,36 @@
 -- Plain sets of numbers below a capacity: what a value stands for, whatever its words are.
-use Rattle.std.specs.Prelude.{◌≡◌, ℕ, zero, suc, ◌+◌, ◌-◌, ◌%◌, ◌<◌, ◌≤◌, Bool, true, false, cond, ◌&&◌, ◌||◌, not, nat_lt, nat_le, ◌==◌, List, [], ◌∷◌}
+use Rattle.std.specs.Prelude.{
+  ◌≡◌,
+  ℕ,
+  zero,
+  suc,
+  ◌+◌,
+  ◌-◌,
+  ◌%◌,
+  ◌<◌,
+  ◌≤◌,
+  Bool,
+  true,
+  false,
+  cond,
+  ◌&&◌,
+  ◌||◌,
+  not,
+  nat_lt,
+  nat_le,
+  ◌==◌,
+  List,
+  [],
+  ◌∷◌,
+}
 
 -- a set of numbers below a capacity, by the test of each number
 pub record PlainSet : Type 0 where
   pub capacity : ℕ
   pub has : ℕ → Bool
 
--- whether the index, which wraps at the capacity, is a member; nothing is a member where the capacity is 0
+-- whether the index, which wraps at the capacity, is a member; nothing is a member where the
+-- capacity is 0
 unfoldable pub contains : PlainSet → ℕ → Bool
 contains s i = nat_lt 0 s.capacity && s.has (i % s.capacity)
 
@@ -35,20 +59,20 @@ abbrev pub without_index : PlainSet → ℕ → PlainSet
 without_index s i = record { capacity = s.capacity; has = has_without s i }
 
 -- the set of a capacity that has no members
-abbrev pub empty : ℕ → PlainSet
-empty c = record { capacity = c; has = λ _. false }
+abbrev pub empty_set : ℕ → PlainSet
+empty_set c = record { capacity = c; has = λ _. false }
 
 -- the set of a capacity that has each number below it
-abbrev pub filled : ℕ → PlainSet
-filled c = record { capacity = c; has = λ k. nat_lt k c }
+abbrev pub full_set : ℕ → PlainSet
+full_set c = record { capacity = c; has = λ k. nat_lt k c }
 
 -- the set of a capacity that has each number below it from one number on
-abbrev pub filled_from : ℕ → ℕ → PlainSet
-filled_from c i = record { capacity = c; has = λ k. nat_lt k c && not (nat_lt k i) }
+abbrev pub full_set_from : ℕ → ℕ → PlainSet
+full_set_from c i = record { capacity = c; has = λ k. nat_lt k c && not (nat_lt k i) }
 
 -- the set of the same capacity that has no members
-abbrev pub emptied : PlainSet → PlainSet
-emptied s = empty s.capacity
+abbrev pub without_members : PlainSet → PlainSet
+without_members s = empty_set s.capacity
 
 -- whether a number below the capacity is no member
 unfoldable pub lacks : PlainSet → ℕ → Bool
@@ -70,7 +94,8 @@ size s = count_below s.capacity s.has
 -- those of the n numbers from one on that pass the test, in increasing order
 unfoldable pub ascending_from : (ℕ → Bool) → ℕ → ℕ → List ℕ
 ascending_from p from zero = []
-ascending_from p from (suc n) = cond (p from) (from ∷ ascending_from p (suc from) n) (ascending_from p (suc from) n)
+ascending_from p from (suc n) = cond (p from) (from ∷ ascending_from p (suc from) n)
+    (ascending_from p (suc from) n)
 
 -- the members in increasing order
 abbrev pub ascending : PlainSet → List ℕ

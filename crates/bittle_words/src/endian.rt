@@ -3,9 +3,9 @@
 ghost use Rattle.std.specs.Prelude.{◌≡◌, ◌<◌, Bool, true, false};
 ghost use Rattle.bittle_words.specs.Digits.{digit_set};
 ghost use Rattle.bittle_words.specs.Orders.{members};
-ghost use Rattle.bittle_words.specs.PlainSet.{empty, filled_from, with_index, complement, IsLeastMember, IsGreatestMember};
+ghost use Rattle.bittle_words.specs.PlainSet.{empty_set, full_set_from, with_index, complement, IsLeastMember, IsGreatestMember};
 
-use crate::hidden::{Number, Sealed};
+use crate::sealed::{Number, Sealed};
 
 /// An order in which the bits of each word are indexed: [`BigEndian`] or [`LittleEndian`].
 pub trait Endian: Drop + Sealed {
@@ -25,14 +25,14 @@ pub trait Endian: Drop + Sealed {
     #[doc(hidden)]
     fn mask<T: Number>(index: u32) -> T
         ensures { members mirrored T.width (digit_set T.width (T.digits result))
-            ≡ with_index (empty T.width) index };
+            ≡ with_index (empty_set T.width) index };
 
     /// Returns the word in which each bit from `index` on is set.
     #[doc(hidden)]
     fn from_index<T: Number>(index: u32) -> T
         requires { index < T.width }
         ensures { members mirrored T.width (digit_set T.width (T.digits result))
-            ≡ filled_from T.width index };
+            ≡ full_set_from T.width index };
 
     /// Returns the least index of a set bit, or the width if there is none.
     ///

@@ -2,9 +2,9 @@
 
 ghost use Rattle.std.specs.Prelude.{◌≡◌, Bool, true, false};
 ghost use Rattle.bittle_words.specs.Digits.{digit_set};
-ghost use Rattle.bittle_words.specs.Walk.{wanted};
+ghost use Rattle.bittle_words.specs.Walk.{ones_or_zeros};
 
-use crate::hidden::{Number, Sealed};
+use crate::sealed::{Number, Sealed};
 
 /// Names the bits that an iterator yields: the [`Ones`] or the [`Zeros`] of its set.
 pub trait Kind: Drop + Sealed {
@@ -42,7 +42,7 @@ impl Kind for Zeros {
 #[inline]
 pub fn wanted_in<T: Number, K: Kind>(word: T) -> T
     ensures { digit_set T.width (T.digits result)
-        ≡ wanted K.ONES (digit_set T.width (T.digits word)) }
+        ≡ ones_or_zeros K.ONES (digit_set T.width (T.digits word)) }
 {
     if K::ONES { word } else { word.not() }
 }

@@ -5,13 +5,13 @@
 #![tactic(auto)]
 
 pub mod endian;
-#[doc(hidden)]
-pub mod hidden;
 pub mod kind;
+#[doc(hidden)]
+pub mod laws;
 pub mod number;
 #[doc(hidden)]
 pub mod operation;
 #[doc(hidden)]
-pub mod type_orders;
+pub mod sealed;
 #[doc(hidden)]
 pub mod word;

@@ -2,9 +2,9 @@
 
 ghost use Rattle.std.specs.Prelude.{◌≡◌, Bool, ◌||◌, ◌&&◌};
 ghost use Rattle.bittle_words.specs.Digits.{digit_set};
-ghost use Rattle.bittle_words.specs.SetOperations.{combined, first_alone, just_one};
+ghost use Rattle.bittle_words.specs.SetOperations.{combination_of, first_alone, just_one};
 
-use crate::hidden::Number;
+use crate::sealed::Number;
 
 /// An operation on two sets.
 pub trait Operation {
@@ -14,7 +14,7 @@ pub trait Operation {
     /// The operation on the digits of two words.
     fn on_words<T: Number>(word: T, other: T) -> T
         ensures { digit_set T.width (T.digits result)
-            ≡ combined decide
+            ≡ combination_of decide
             (digit_set T.width (T.digits word)) (digit_set T.width (T.digits other)) };
 }
 

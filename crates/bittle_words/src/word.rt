@@ -4,13 +4,13 @@ ghost use Rattle.std.specs.Iterator.{YieldsFirst, YieldsLast};
 ghost use Rattle.std.specs.Prelude.{◌≡◌, ◌==◌, Bool, ◌*◌, ◌<◌, ◌≤◌, IfSome};
 ghost use Rattle.bittle_words.specs.Digits.{digit_set};
 ghost use Rattle.bittle_words.specs.Orders.{members};
-ghost use Rattle.bittle_words.specs.PlainSet.{contains, with_index, with_span, without_index, empty, emptied, filled, size, ascending, IsLeastMember};
-ghost use Rattle.bittle_words.specs.SetOperations.{combined};
+ghost use Rattle.bittle_words.specs.PlainSet.{contains, with_index, with_span, without_index, empty_set, without_members, full_set, size, ascending, IsLeastMember};
+ghost use Rattle.bittle_words.specs.SetOperations.{combination_of};
 ghost use Rattle.bittle_words.specs.Words.{word_of};
 
 use crate::endian::Endian;
-use crate::hidden::Number;
 use crate::operation::Operation;
+use crate::sealed::Number;
 
 /// Tests the bit at an index, which wraps.
 #[inline]
@@ -62,7 +62,7 @@ pub fn fill<T: Number, E: Endian>(word: &mut T, from: u32, to: u32)
 #[inline]
 pub fn clear_bits<T: Number>(word: &mut T)
     ensures { digit_set T.width (T.digits word.new)
-        ≡ emptied (digit_set T.width (T.digits word.old)) }
+        ≡ without_members (digit_set T.width (T.digits word.old)) }
 {
     *word = T::zero();
 }
@@ -71,7 +71,7 @@ pub fn clear_bits<T: Number>(word: &mut T)
 #[inline]
 pub fn combine<T: Number, O: Operation>(word: &mut T, other: T)
     ensures { (mirrored : Bool) → members mirrored T.width (digit_set T.width (T.digits word.new))
-        ≡ combined O.decide
+        ≡ combination_of O.decide
         (members mirrored T.width (digit_set T.width (T.digits word.old)))
         (members mirrored T.width (digit_set T.width (T.digits other))) }
 {
@@ -112,9 +112,9 @@ pub fn all_ones<T: Number>(word: T) -> bool
 /// Returns the word with no bit set.
 #[inline]
 pub fn zeros<T: Number>() -> T
-    ensures value { digit_set T.width (T.digits result) ≡ empty T.width }
+    ensures value { digit_set T.width (T.digits result) ≡ empty_set T.width }
     ensures in_each_order { (mirrored : Bool) →
-        members mirrored T.width (digit_set T.width (T.digits result)) ≡ empty T.width }
+        members mirrored T.width (digit_set T.width (T.digits result)) ≡ empty_set T.width }
 {
     T::zero()
 }
@@ -122,9 +122,9 @@ pub fn zeros<T: Number>() -> T
 /// Returns the word with every bit set.
 #[inline]
 pub fn ones<T: Number>() -> T
-    ensures value { digit_set T.width (T.digits result) ≡ filled T.width }
+    ensures value { digit_set T.width (T.digits result) ≡ full_set T.width }
     ensures in_each_order { (mirrored : Bool) →
-        members mirrored T.width (digit_set T.width (T.digits result)) ≡ filled T.width }
+        members mirrored T.width (digit_set T.width (T.digits result)) ≡ full_set T.width }
 {
     T::zero().not()
 }

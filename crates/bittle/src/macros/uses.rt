@@ -5,7 +5,7 @@
 
 ghost use Rattle.std.specs.Prelude.{◌≡◌, IsTrue};
 ghost use Rattle.bittle_bits.specs.Orders.{members};
-ghost use Rattle.bittle.specs.Listed.{listed_set, listed_open_set, listed_whole_set};
+ghost use Rattle.bittle.specs.MacroLists.{listed_set, listed_open_set, listed_whole_set};
 
 use bittle_bits::bits_owned::BitsOwned;
 use bittle_bits::endian::{BigEndian, Endian, LittleEndian};

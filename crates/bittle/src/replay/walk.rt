@@ -2,13 +2,13 @@
 
 ghost use Rattle.std.specs.Prelude.{◌≡◌, ℕ, ◌+◌, ◌/◌, ◌≤◌, ◌∷◌, ◌++◌, [], List, length, slice_index};
 ghost use Rattle.bittle_bits.specs.PlainSet.{ascending};
-ghost use Rattle.bittle_bits.specs.Walk.{wanted, counted, IsThrifty};
+ghost use Rattle.bittle_bits.specs.Walk.{ones_or_zeros, count_after, IsThrifty};
 ghost use Rattle.bittle_bits.specs.Values.{set_in, ShapeFits};
-ghost use Rattle.bittle.specs.Ends.{answer_of, left_by, answers_of, AreThrifty, KeepsAll};
+ghost use Rattle.bittle.specs.ListEnds.{answer_of, items_left_by, answers_of, AreThrifty, KeepsAll};
 
 use bittle_bits::bits::Bits;
 use bittle_bits::endian::Endian;
-use bittle_bits::hidden::{Count, Counted};
+use bittle_bits::internal::sealed::{Count, Counted};
 use std::marker::Model;
 use std::mem::replace;
 use std::snapshot::Snapshot;
@@ -41,7 +41,7 @@ impl Model for Looks {
 
     ghost Value = { List ℕ };
 
-    ghost use Rattle.bittle.specs.Trail.{numbers_of};
+    ghost use Rattle.bittle.specs.Looks.{numbers_of};
 
     ghost view = { λ c. numbers_of c.trail.value };
 }
@@ -71,8 +71,8 @@ const _: () = prove!(size_of::<Looks>() == 0);
 #[inline]
 fn take_step<W: Counted>(walk: &mut W, step: Step) -> Option<u32>
     ensures answer { result ≡ answer_of step (W.walk walk.old).left }
-    ensures left { (W.walk walk.new).left ≡ left_by step (W.walk walk.old).left }
-    ensures items { (W.walk walk.new).items ≡ counted (W.walk walk.old).items result }
+    ensures left { (W.walk walk.new).left ≡ items_left_by step (W.walk walk.old).left }
+    ensures items { (W.walk walk.new).items ≡ count_after (W.walk walk.old).items result }
     ensures looks { (W.walk walk.old).looks ≤ (W.walk walk.new).looks }
     ensures words { (W.walk walk.new).words ≡ (W.walk walk.old).words }
     ensures thrifty { IsThrifty (W.walk walk.new) }
@@ -123,7 +123,7 @@ pub fn replay_walk<B: Bits, E: Endian>(
     requires fits { ShapeFits B.Bits bits.now }
     requires places { length answers.old ≡ length steps.now }
     ensures answers { answers.new
-        ≡ answers_of steps.now (ascending (wanted ones (set_in B.Bits E.Endian bits.now))) }
+        ≡ answers_of steps.now (ascending (ones_or_zeros ones (set_in B.Bits E.Endian bits.now))) }
     ensures looks { AreThrifty result answers.new ((B.big bits.now).capacity / B.width) }
 {
     if ones {

@@ -4,14 +4,14 @@ ghost use Rattle.std.specs.Prelude.{◌≡◌, ◌+◌, ◌*◌, ◌<◌, ◌⊎
 ghost use Rattle.bittle_bits.specs.Digits.{digit_set};
 ghost use Rattle.bittle_bits.specs.Orders.{members};
 ghost use Rattle.bittle_bits.specs.PlainSet.{ascending};
-ghost use Rattle.bittle_bits.specs.SetOperations.{combined, just_one};
+ghost use Rattle.bittle_bits.specs.SetOperations.{combination_of, just_one};
 ghost use Rattle.bittle_bits.specs.Shapes.{Fits};
 ghost use Rattle.bittle_bits.specs.Words.{word_of};
-ghost use Rattle.bittle.specs.Order.{list_cmp, AreSame, HasPast, HasNonePast, IsFirstApart};
+ghost use Rattle.bittle.specs.Comparison.{list_cmp, AreSame, HasPast, HasNonePast, IsFirstApart};
 
 use bittle_bits::bits::Bits;
 use bittle_bits::endian::Endian;
-use bittle_bits::hidden::Number;
+use bittle_bits::internal::sealed::Number;
 use std::cmp::Ordering;
 
 /// Returns the bits of word `k` that are set in just one of two sets.
@@ -23,7 +23,7 @@ fn word_apart<A: Bits, B: Bits>(left: &A, right: &B, k: u32) -> A::LeafWord
     requires in_left { k * A.width < (A.big left.now).capacity }
     requires in_right { k * B.width < (B.big right.now).capacity }
     ensures { digit_set A.width (A.LeafWord.digits result)
-        ≡ combined just_one (word_of A.width (A.big left.now) k)
+        ≡ combination_of just_one (word_of A.width (A.big left.now) k)
         (word_of A.width (B.big right.now) k) }
 {
     let theirs = right.leaf_word(k).to_digits();

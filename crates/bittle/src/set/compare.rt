@@ -7,12 +7,12 @@ ghost use Rattle.std.specs.Prelude.{◌≡◌, ◌↔◌, IsTrue, refl};
 ghost use Rattle.bittle_bits.specs.Orders.{members};
 ghost use Rattle.bittle_bits.specs.PlainSet.{ascending};
 ghost use Rattle.bittle_bits.specs.Values.{set_in, ShapeFits};
-ghost use Rattle.bittle.specs.Order.{list_cmp, list_eq, AreSame, Precedes};
+ghost use Rattle.bittle.specs.Comparison.{list_cmp, list_eq, AreSame, Precedes};
 
 use super::{Set, apart};
 use bittle_bits::bits::Bits;
 use bittle_bits::endian::Endian;
-use bittle_bits::hidden::Number;
+use bittle_bits::internal::sealed::Number;
 use std::cmp::Ordering;
 
 // Whether two sets are read by words of one width in one order.

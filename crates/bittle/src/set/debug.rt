@@ -2,7 +2,7 @@
 
 ghost use Rattle.std.specs.Prelude.{Some};
 ghost use Rattle.bittle_bits.specs.Orders.{members};
-ghost use Rattle.bittle.specs.Text.{set_text};
+ghost use Rattle.bittle.specs.DebugText.{set_text};
 
 use super::Set;
 use bittle_bits::bits::Bits;

@@ -4,7 +4,7 @@ ghost use Rattle.std.specs.Cmp.Lexicographic.{bytes_decides};
 ghost use Rattle.std.specs.Hash.{on_Alike, same_Alike};
 ghost use Rattle.bittle_bits.specs.Orders.{members};
 ghost use Rattle.bittle_bits.specs.PlainSet.{ascending};
-ghost use Rattle.bittle.specs.Order.{feed};
+ghost use Rattle.bittle.specs.Comparison.{feed};
 
 use super::Set;
 use bittle_bits::bits::Bits;

@@ -3,7 +3,7 @@
 ghost use Rattle.std.specs.Prelude.{◌≡◌, Bool, refl};
 ghost use Rattle.std.proofs.Common.{lit<};
 ghost use Rattle.bittle_bits.specs.Orders.{members};
-ghost use Rattle.bittle_bits.specs.PlainSet.{empty, size};
+ghost use Rattle.bittle_bits.specs.PlainSet.{empty_set, size};
 ghost use Rattle.bittle_bits.specs.Shapes.{Fits};
 
 use super::Set;
@@ -74,8 +74,8 @@ impl<T: Word, E: Endian> From<T> for Set<T, E> {
 }
 
 impl<T: Word, E: Endian> Default for Set<T, E> {
-    ghost is_default = { λ s. (T.big s.bits ≡ empty T.type_capacity)
-        × ((mirrored : Bool) → members mirrored T.width (T.big s.bits) ≡ empty T.type_capacity)
+    ghost is_default = { λ s. (T.big s.bits ≡ empty_set T.type_capacity)
+        × ((mirrored : Bool) → members mirrored T.width (T.big s.bits) ≡ empty_set T.type_capacity)
         × (size (T.big s.bits) ≡ 0) };
 
     #[inline]

@@ -2,7 +2,7 @@
 //! contract is the law.
 
 ghost use Rattle.std.specs.Prelude.{◌≡◌};
-ghost use Rattle.bittle.specs.SetLaws.{OrderIsTotal, OrderAgreesWithEquality, OrderReverses, EqualityIsSymmetric, EqualSetsFeedAlike};
+ghost use Rattle.bittle.specs.ComparisonLaws.{OrderIsTotal, OrderAgreesWithEquality, OrderReverses, EqualityIsSymmetric, EqualSetsFeedAlike};
 
 use super::Set;
 use bittle_bits::bits::Bits;

@@ -4,13 +4,13 @@ ghost use Rattle.std.specs.Prelude.{true, refl};
 ghost use Rattle.std.specs.Int.{w64, cast_unsigned};
 ghost use Rattle.std.proofs.Common.{lit<};
 ghost use Rattle.bittle_bits.specs.Digits.{digit_set};
-ghost use Rattle.bittle_bits.specs.Laws.{digit_has-past, one_word, equal_words, equal_signed_words};
+ghost use Rattle.bittle_bits.specs.LawProofs.{digit_has-past, one_word, equal_words, equal_signed_words};
 
 use crate::bits::Bits;
 use crate::bits_mut::BitsMut;
 use crate::bits_owned::BitsOwned;
 use crate::endian::{DefaultEndian, Endian};
-use crate::hidden::Sealed;
+use crate::internal::sealed::Sealed;
 use crate::operation::Operation;
 use bittle_words::word;
 

@@ -3,7 +3,7 @@
 ghost use Rattle.std.specs.Int.{w128, cast_unsigned};
 ghost use Rattle.std.proofs.Common.{lit<};
 
-use crate::hidden::{Number, Sealed};
+use crate::sealed::{Number, Sealed};
 
 impl Sealed for u128 {}
 
@@ -87,7 +87,7 @@ impl Number for u128 {
 
 impl Sealed for i128 {}
 
-#[tactic(auto, using(crate::proofs::Signed::signed_or, crate::proofs::Signed::signed_xor))]
+#[tactic(auto, using(crate::proofs::SignedBits::signed_or, crate::proofs::SignedBits::signed_xor))]
 impl Number for i128 {
     ghost width = { 128 };
 

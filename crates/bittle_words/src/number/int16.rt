@@ -3,7 +3,7 @@
 ghost use Rattle.std.specs.Int.{w16, cast_unsigned};
 ghost use Rattle.std.proofs.Common.{lit<};
 
-use crate::hidden::{Number, Sealed};
+use crate::sealed::{Number, Sealed};
 
 impl Sealed for u16 {}
 

@@ -3,7 +3,7 @@
 ghost use Rattle.std.specs.Int.{w64, cast_unsigned};
 ghost use Rattle.std.proofs.Common.{lit<};
 
-use crate::hidden::{Number, Sealed};
+use crate::sealed::{Number, Sealed};
 
 impl Sealed for u64 {}
 
@@ -87,7 +87,7 @@ impl Number for u64 {
 
 impl Sealed for i64 {}
 
-#[tactic(auto, using(crate::proofs::Signed::signed_or, crate::proofs::Signed::signed_xor))]
+#[tactic(auto, using(crate::proofs::SignedBits::signed_or, crate::proofs::SignedBits::signed_xor))]
 impl Number for i64 {
     ghost width = { 64 };
 

@@ -3,7 +3,7 @@
 ghost use Rattle.std.specs.Int.{w64, cast_unsigned};
 ghost use Rattle.std.proofs.Common.{lit<};
 
-use crate::hidden::{Number, Sealed};
+use crate::sealed::{Number, Sealed};
 
 impl Sealed for usize {}
 
@@ -87,7 +87,7 @@ impl Number for usize {
 
 impl Sealed for isize {}
 
-#[tactic(auto, using(crate::proofs::Signed::signed_or, crate::proofs::Signed::signed_xor))]
+#[tactic(auto, using(crate::proofs::SignedBits::signed_or, crate::proofs::SignedBits::signed_xor))]
 impl Number for isize {
     ghost width = { 64 };
 

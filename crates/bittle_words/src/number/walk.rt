@@ -6,11 +6,11 @@ ghost use Rattle.std.specs.Prelude.{◌≡◌, length, IfSome, ⊤, Some};
 ghost use Rattle.bittle_words.specs.Digits.{digit_set};
 ghost use Rattle.bittle_words.specs.Orders.{members};
 ghost use Rattle.bittle_words.specs.PlainSet.{ascending};
-ghost use Rattle.bittle_words.specs.Walk.{wanted, AreBelow, ListsInOrder, ListsInReverse};
+ghost use Rattle.bittle_words.specs.Walk.{ones_or_zeros, AreBelow, ListsInOrder, ListsInReverse};
 
 use crate::endian::Endian;
-use crate::hidden::Number;
 use crate::kind::{Kind, Ones, Zeros, wanted_in};
+use crate::sealed::Number;
 use crate::word;
 use std::alloc::AllocError;
 use std::marker::{Model, PhantomData};
@@ -61,7 +61,7 @@ impl<T: Number, E: Endian, K: Kind> Iter<T, E, K> {
     #[inline]
     pub fn new(word: T) -> Iter<T, E, K>
         ensures items { result
-            ≡ ascending (wanted K.ONES
+            ≡ ascending (ones_or_zeros K.ONES
             (members E.mirrored T.width (digit_set T.width (T.digits word)))) }
         ensures below { AreBelow T.width result }
         ensures in_order { ListsInOrder }

@@ -8,6 +8,7 @@ invariant-loop-i g l =
     let s = members g.E.Endian.mirrored g.B.Bits.width (g.B.Bits.big l.initial.bits) in
     record {
       replies : take l.i l.replies ≡ replies_of s (take l.i l.calls);
-      set : members g.E.Endian.mirrored g.B.Bits.width (g.B.Bits.big l.bits) ≡ final_set s (take l.i l.calls);
+      set : members g.E.Endian.mirrored g.B.Bits.width (g.B.Bits.big l.bits)
+          ≡ final_set s (take l.i l.calls);
       stays : g.B.BitsMut.same_place l.initial.bits l.bits;
     }

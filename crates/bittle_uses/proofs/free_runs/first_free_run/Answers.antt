@@ -12,7 +12,8 @@ loop-from-preserved g c =
       none_before = λ k h run.
           elim (cases_lt k c.loop-from.from) [
             | inl before ↦ t.none_before k before run
-            | inr from_on ↦ true≢false (sym e.2 ∙ run.1 c.in-Some.last (omega arith) (omega (arith, e.1)))
+            | inr from_on ↦ true≢false (sym e.2 ∙ run.1 c.in-Some.last (omega arith)
+                (omega (arith, e.1)))
           ];
     }
 

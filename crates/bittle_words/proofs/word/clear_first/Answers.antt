@@ -1,5 +1,5 @@
 use Rattle.std.proofs.Common.{◌≡◌, false, sym, ◌∙◌}
-use Rattle.bittle_words.proofs.Ends.{some_word, less_least}
+use Rattle.bittle_words.proofs.WordEnds.{some_word, less_least}
 use Rattle.bittle_words.proofs.word.clear_first.Goals as goal
 
 pub overflow_sub-to_digits : goal.overflow_sub-to_digits
@@ -10,4 +10,5 @@ overflow_sub-to_digits g c =
 pub returns-else-is_mirrored : goal.returns-else-is_mirrored
 returns-else-is_mirrored g c =
     let e : g.E.Endian.mirrored ≡ false = sym c.is_mirrored.ensures ∙ c.if-is_mirrored.false in
-    rw (e, c.and.ensures, c.from_digits.ensures, c.to_digits.ensures.digits) (less_least _ _ _ (rw e at c.requires.least) c.requires.within)
+    rw (e, c.and.ensures, c.from_digits.ensures, c.to_digits.ensures.digits)
+    (less_least _ _ _ (rw e at c.requires.least) c.requires.within)

@@ -1,8 +1,8 @@
 use Rattle.std.proofs.Common.{◌≡◌, sym, ap, ◌∙◌, nat_le, nat_lt, ◌&&◌, arith}
 use Rattle.bittle_words.specs.Digits.{digit_set}
 use Rattle.bittle_words.specs.Orders.{members}
-use Rattle.bittle_words.specs.PlainSet.{filled_from}
-use Rattle.bittle_words.proofs.PlainSets.{plain}
+use Rattle.bittle_words.specs.PlainSet.{full_set_from}
+use Rattle.bittle_words.proofs.PlainSets.{plain_set}
 use Rattle.bittle_words.proofs.Spans.{with_span-none, span_word, span_to_width, word_filled}
 use Rattle.bittle_words.proofs.word.fill.Goals as goal
 use Rattle.bittle_words.proofs.word.fill.Goals.{then-to-width, else-to-width}
@@ -17,9 +17,15 @@ returns g c =
     let word = g.met.T.Number.width_positive in
     let from = c.args.from in
     let to = c.args.to in
-    let span : members m w (digit_set w (g.T.Number.digits c.if-to-width.span)) ≡ plain w (λ k. nat_le from k && nat_lt k to) =
+    let span : members m w (digit_set w (g.T.Number.digits c.if-to-width.span))
+    ≡ plain_set w (λ k. nat_le from k && nat_lt k to) =
     elim c.if-to-width.branch [
-      | then-to-width t ↦ rw (t.span-is) (span_word m w word from to _ _ _ _ (omega arith) (omega (arith, t.if-to-width.true, c.width.ensures)) c.from_index-span.ensures (t.from_index.ensures ∙ ap (filled_from w) (omega arith)) t.not.ensures.range t.not.ensures.digits t.and-span.ensures)
-      | else-to-width t ↦ let all : to ≡ w = omega (arith, t.if-to-width.false, c.width.ensures) in rw (t.span-is, all) (span_to_width m w word from _ c.from_index-span.ensures)
+      | then-to-width t ↦ rw (t.span-is)
+          (span_word m w word from to _ _ _ _ (omega arith)
+          (omega (arith, t.if-to-width.true, c.width.ensures)) c.from_index-span.ensures
+          (t.from_index.ensures ∙ ap (full_set_from w) (omega arith)) t.not.ensures.range
+          t.not.ensures.digits t.and-span.ensures)
+      | else-to-width t ↦ let all : to ≡ w = omega (arith, t.if-to-width.false, c.width.ensures) in
+          rw (t.span-is, all) (span_to_width m w word from _ c.from_index-span.ensures)
     ] in
     word_filled m w word from to _ _ _ (omega arith) span c.or.ensures

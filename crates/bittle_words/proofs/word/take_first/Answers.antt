@@ -1,5 +1,5 @@
 use Rattle.std.proofs.Common.{arith}
-use Rattle.bittle_words.proofs.Ascending.{taken_first, least-none}
+use Rattle.bittle_words.proofs.AscendingLists.{taken_first, least-none}
 use Rattle.bittle_words.proofs.word.take_first.Goals as goal
 
 pub returns-then-index-width-clause-found : goal.returns-then-index-width-clause-found

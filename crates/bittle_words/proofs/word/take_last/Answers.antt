@@ -1,5 +1,5 @@
 use Rattle.std.proofs.Common.{arith}
-use Rattle.bittle_words.proofs.Ascending.{taken_last, greatest-none}
+use Rattle.bittle_words.proofs.AscendingLists.{taken_last, greatest-none}
 use Rattle.bittle_words.proofs.word.take_last.Goals as goal
 
 pub returns-then-below_last-width-clause-found : goal.returns-then-below_last-width-clause-found

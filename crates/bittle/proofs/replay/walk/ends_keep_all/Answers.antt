@@ -1,4 +1,4 @@
-use Rattle.bittle.proofs.WalkEnds.{keeps_all}
+use Rattle.bittle.proofs.ListEnds.{keeps_all}
 use Rattle.bittle.proofs.replay.walk.ends_keep_all.Goals as goal
 
 pub returns : goal.returns

@@ -8,13 +8,18 @@ loop-k-init g c = rw c.new-looks.ensures (replayed_start _ _ _ _ _ refl c.requir
 pub loop-k-preserved : goal.loop-k-preserved
 loop-k-preserved g c =
     let e = c.take_step.ensures in
-    rw (c.push.ensures, c.looks.ensures) (replayed_more _ _ _ _ _ _ _ _ _ _ c.loop-k-test.true (omega arith) c.loop-k.invariant e.answer e.left e.items e.looks e.words e.thrifty)
+    rw (c.push.ensures, c.looks.ensures)
+        (replayed_more _ _ _ _ _ _ _ _ _ _ c.loop-k-test.true (omega arith) c.loop-k.invariant
+        e.answer e.left e.items e.looks e.words e.thrifty)
 
 pub returns-clause-answers : goal.returns-clause-answers
-returns-clause-answers g c = (replayed_end _ _ _ _ _ _ _ c.loop-k-test.false (omega arith) c.loop-k.invariant).0
+returns-clause-answers g c = (replayed_end _ _ _ _ _ _ _ c.loop-k-test.false
+    (omega arith) c.loop-k.invariant).0
 
 pub returns-clause-looks : goal.returns-clause-looks
-returns-clause-looks g c = (replayed_end _ _ _ _ _ _ _ c.loop-k-test.false (omega arith) c.loop-k.invariant).1
+returns-clause-looks g c = (replayed_end _ _ _ _ _ _ _ c.loop-k-test.false
+    (omega arith) c.loop-k.invariant).1
 
 pub returns-clause-own : goal.returns-clause-own
-returns-clause-own g c = (replayed_end _ _ _ _ _ _ _ c.loop-k-test.false (omega arith) c.loop-k.invariant).2
+returns-clause-own g c = (replayed_end _ _ _ _ _ _ _ c.loop-k-test.false
+    (omega arith) c.loop-k.invariant).2

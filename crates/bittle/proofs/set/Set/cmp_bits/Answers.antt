@@ -2,8 +2,8 @@ use Rattle.std.proofs.Common.{sym, subst}
 use Rattle.std.specs.Ordering.{MatchOrdering}
 use Rattle.bittle_bits.specs.Orders.{members}
 use Rattle.bittle_bits.proofs.PlainSets.{members-past}
-use Rattle.bittle.specs.Order.{AreSame, Precedes}
-use Rattle.bittle.proofs.Decided.{decided}
+use Rattle.bittle.specs.Comparison.{AreSame, Precedes}
+use Rattle.bittle.proofs.ListComparison.{list_cmp-precedes}
 use Rattle.bittle.proofs.set.Set.cmp_bits.Goals as goal
 
 pub returns-clause-decided : goal.returns-clause-decided
@@ -14,5 +14,9 @@ returns-clause-decided g c =
     let u = g.met.U.Bits in
     let ours = members g.E.Endian.mirrored g.T.Bits.width (g.T.Bits.big x) in
     let theirs = members g.U.Order.Endian.mirrored g.U.Bits.width (g.U.Bits.big y) in
-    let d = decided ours theirs (members-past g.E.Endian.mirrored _ _ t.width_positive (t.whole_words x) (t.none_past x)) (members-past g.U.Order.Endian.mirrored _ _ u.width_positive (u.whole_words y) (u.none_past y)) in
-    subst (λ o. MatchOrdering o (Precedes ours theirs) (AreSame ours theirs) (Precedes theirs ours)) (sym c.compare.ensures) d
+    let d = list_cmp-precedes ours theirs
+        (members-past g.E.Endian.mirrored _ _ t.width_positive (t.whole_words x) (t.none_past x))
+        (members-past g.U.Order.Endian.mirrored _ _ u.width_positive (u.whole_words y)
+        (u.none_past y)) in
+    subst (λ o. MatchOrdering o (Precedes ours theirs) (AreSame ours theirs) (Precedes theirs ours))
+        (sym c.compare.ensures) d

@@ -3,7 +3,8 @@ use Rattle.bittle_bits.specs.Orders.{members}
 use Rattle.bittle.proofs.set.SetBitsOwned.ones.Goals as goal
 
 pub returns-clause-in_each_order : goal.returns-clause-in_each_order
-returns-clause-in_each_order g c m = ap (λ v. members m g.T.Bits.width (g.T.Bits.big v)) c.new_in.ensures ∙ c.ones.ensures.in_each_order m
+returns-clause-in_each_order g c m = ap (λ v. members m g.T.Bits.width (g.T.Bits.big v))
+    c.new_in.ensures ∙ c.ones.ensures.in_each_order m
 
 pub returns-clause-in_own_order : goal.returns-clause-in_own_order
 returns-clause-in_own_order g c = returns-clause-in_each_order g c _

@@ -1,7 +1,7 @@
 use Rattle.std.proofs.Common.{ap}
 use Rattle.std.specs.Cmp.Lexicographic.{bytes_decides}
 use Rattle.bittle_bits.specs.PlainSet.{ascending}
-use Rattle.bittle.specs.Order.{feed}
+use Rattle.bittle.specs.Comparison.{feed}
 use Rattle.bittle.proofs.set.laws.equal_sets_feed_alike.Goals as goal
 
 pub returns : goal.returns

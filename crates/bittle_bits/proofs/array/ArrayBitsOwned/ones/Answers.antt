@@ -1,5 +1,5 @@
-use Rattle.bittle_bits.specs.RowLaws.{words_of}
-use Rattle.bittle_bits.proofs.PlainSets.{filled_in_each_order}
+use Rattle.bittle_bits.specs.RowLawProofs.{words_of}
+use Rattle.bittle_bits.proofs.PlainSets.{full_set_in_each_order}
 use Rattle.bittle_bits.proofs.RowSets.{elements_set-full}
 use Rattle.bittle_bits.proofs.array.ArrayBitsOwned.ones.Goals as goal
 
@@ -7,7 +7,8 @@ pub returns-clause-value : goal.returns-clause-value
 returns-clause-value g c = elements_set-full _ _ g.T.Bits.big _ c.ones.ensures.value
 
 pub returns-clause-in_each_order : goal.returns-clause-in_each_order
-returns-clause-in_each_order g c = filled_in_each_order _ _ _ g.met.T.Bits.width_positive (words_of _ _ _ g.met.T.BitsOwned.type_whole_words) (returns-clause-value g c)
+returns-clause-in_each_order g c = full_set_in_each_order _ _ _ g.met.T.Bits.width_positive
+    (words_of _ _ _ g.met.T.BitsOwned.type_whole_words) (returns-clause-value g c)
 
 pub returns-clause-in_own_order : goal.returns-clause-in_own_order
 returns-clause-in_own_order g c = returns-clause-value g c

@@ -1,4 +1,4 @@
-use Rattle.bittle_bits.proofs.Joined.{ascending-ascends}
+use Rattle.bittle_bits.proofs.Joins.{ascending-ascends}
 use Rattle.bittle_bits.proofs.bits.Bits.join_ones_in.Goals as goal
 
 pub new-requires : goal.new-requires

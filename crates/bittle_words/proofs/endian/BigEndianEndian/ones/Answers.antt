@@ -1,9 +1,11 @@
 use Rattle.std.proofs.Common.{false, sym, subst}
 use Rattle.bittle_words.specs.PlainSet.{IsLeastMember}
-use Rattle.bittle_words.proofs.Ends.{least_digit, ends_of_rest}
+use Rattle.bittle_words.proofs.WordEnds.{least_digit, ends_of_rest}
 use Rattle.bittle_words.proofs.endian.BigEndianEndian.ones.Goals as goal
 
 pub returns : goal.returns
 returns g c =
-    ends_of_rest false g.T.Number.width (g.T.Number.digits c.args.value) (g.T.Number.digits c.not.result) (λ s. IsLeastMember s c.trailing_zeros.result) g.met.T.Number.width_positive c.not.ensures.range c.not.ensures.digits
+    ends_of_rest false g.T.Number.width (g.T.Number.digits c.args.value)
+    (g.T.Number.digits c.not.result) (λ s. IsLeastMember s c.trailing_zeros.result)
+    g.met.T.Number.width_positive c.not.ensures.range c.not.ensures.digits
     (subst (IsLeastMember _) (sym c.trailing_zeros.ensures.count) (least_digit _ _))

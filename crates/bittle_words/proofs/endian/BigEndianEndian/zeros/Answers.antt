@@ -1,6 +1,6 @@
 use Rattle.std.proofs.Common.{sym, subst}
 use Rattle.bittle_words.specs.PlainSet.{IsLeastMember}
-use Rattle.bittle_words.proofs.Ends.{least_digit}
+use Rattle.bittle_words.proofs.WordEnds.{least_digit}
 use Rattle.bittle_words.proofs.endian.BigEndianEndian.zeros.Goals as goal
 
 pub returns : goal.returns

@@ -1,9 +1,12 @@
 use Rattle.std.proofs.Common.{true, sym, subst}
 use Rattle.bittle_words.specs.PlainSet.{IsGreatestMember}
-use Rattle.bittle_words.proofs.Ends.{least_digit, mirrored_greatest, ends_of_rest}
+use Rattle.bittle_words.proofs.WordEnds.{least_digit, mirrored_greatest, ends_of_rest}
 use Rattle.bittle_words.proofs.endian.LittleEndianEndian.ones_rev.Goals as goal
 
 pub returns : goal.returns
 returns g c =
-    ends_of_rest true g.T.Number.width (g.T.Number.digits c.args.value) (g.T.Number.digits c.not.result) (λ s. IsGreatestMember s c.trailing_zeros.result) g.met.T.Number.width_positive c.not.ensures.range c.not.ensures.digits
-    (subst (IsGreatestMember _) (sym c.trailing_zeros.ensures.count) (mirrored_greatest _ _ _ (least_digit _ _)))
+    ends_of_rest true g.T.Number.width (g.T.Number.digits c.args.value)
+    (g.T.Number.digits c.not.result) (λ s. IsGreatestMember s c.trailing_zeros.result)
+    g.met.T.Number.width_positive c.not.ensures.range c.not.ensures.digits
+    (subst (IsGreatestMember _) (sym c.trailing_zeros.ensures.count)
+    (mirrored_greatest _ _ _ (least_digit _ _)))

@@ -1,4 +1,4 @@
-use Rattle.bittle_words.proofs.WordCombinations.{digits_both}
+use Rattle.bittle_words.proofs.WordOperations.{digits_both}
 use Rattle.bittle_words.proofs.operation.ConjunctionOperation.on_words.Goals as goal
 
 pub returns : goal.returns

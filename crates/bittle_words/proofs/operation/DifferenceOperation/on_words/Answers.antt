@@ -1,4 +1,4 @@
-use Rattle.bittle_words.proofs.WordCombinations.{digits_first_alone}
+use Rattle.bittle_words.proofs.WordOperations.{digits_first_alone}
 use Rattle.bittle_words.proofs.operation.DifferenceOperation.on_words.Goals as goal
 
 pub returns : goal.returns

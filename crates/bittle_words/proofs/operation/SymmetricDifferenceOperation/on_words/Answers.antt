@@ -1,4 +1,4 @@
-use Rattle.bittle_words.proofs.WordCombinations.{digits_just_one}
+use Rattle.bittle_words.proofs.WordOperations.{digits_just_one}
 use Rattle.bittle_words.proofs.operation.SymmetricDifferenceOperation.on_words.Goals as goal
 
 pub returns : goal.returns

@@ -1,4 +1,4 @@
-use Rattle.bittle_words.proofs.WordCombinations.{digits_either}
+use Rattle.bittle_words.proofs.WordOperations.{digits_either}
 use Rattle.bittle_words.proofs.operation.UnionOperation.on_words.Goals as goal
 
 pub returns : goal.returns

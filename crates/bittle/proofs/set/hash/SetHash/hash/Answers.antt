@@ -1,6 +1,6 @@
 use Rattle.std.proofs.Common.{ap, arith, length}
 use Rattle.bittle_bits.specs.Orders.{members}
-use Rattle.bittle_bits.proofs.Ascending.{ascending-few}
+use Rattle.bittle_bits.proofs.AscendingLists.{ascending-few}
 use Rattle.bittle.proofs.set.hash.SetHash.hash.Goals as goal
 
 pub overflow_add-count : goal.overflow_add-count

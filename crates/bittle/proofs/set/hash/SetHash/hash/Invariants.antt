@@ -12,5 +12,6 @@ invariant-loop-index g l =
     let write = g.H.Hasher.write in
     record {
       count : l.count + length l.index-iterator.left ≡ length all;
-      fed : fold write l.initial.state (flat_map fed.u32 all) ≡ fold write l.state (flat_map fed.u32 l.index-iterator.left);
+      fed : fold write l.initial.state (flat_map fed.u32 all)
+          ≡ fold write l.state (flat_map fed.u32 l.index-iterator.left);
     }

@@ -2,8 +2,8 @@ use Rattle.std.proofs.Common.{sym, ap, ◌∙◌, arith}
 use Rattle.bittle_words.specs.Digits.{digit_set}
 use Rattle.bittle_words.specs.Orders.{members}
 use Rattle.bittle_words.specs.PlainSet.{ascending}
-use Rattle.bittle_words.proofs.Runs.{list_in_order, list_in_reverse}
-use Rattle.bittle_words.proofs.Wanted.{wanted_members, wanted_below}
+use Rattle.bittle_words.proofs.IteratorRuns.{list_in_order, list_in_reverse}
+use Rattle.bittle_words.proofs.OnesOrZeros.{ones_or_zeros-members, ones_or_zeros-below}
 use Rattle.bittle_words.proofs.number.walk.Iter.new.Goals as goal
 
 pub returns-clause-items : goal.returns-clause-items
@@ -11,10 +11,14 @@ returns-clause-items g c =
     let m = g.E.Endian.mirrored in
     let w = g.T.Number.width in
     ap (λ s. ascending (members m w s)) c.wanted_in.ensures
-    ∙ ap ascending (sym (wanted_members g.K.Kind.ONES m w (digit_set w (g.T.Number.digits c.args.word)) g.met.T.Number.width_positive (1, omega arith)))
+    ∙ ap ascending (sym (ones_or_zeros-members g.K.Kind.ONES m w
+    (digit_set w (g.T.Number.digits c.args.word)) g.met.T.Number.width_positive
+    (1, omega arith)))
 
 pub returns-clause-below : goal.returns-clause-below
-returns-clause-below g c = wanted_below g.K.Kind.ONES (members g.E.Endian.mirrored g.T.Number.width (digit_set g.T.Number.width (g.T.Number.digits c.args.word))) _ (returns-clause-items g c)
+returns-clause-below g c = ones_or_zeros-below g.K.Kind.ONES
+    (members g.E.Endian.mirrored g.T.Number.width
+    (digit_set g.T.Number.width (g.T.Number.digits c.args.word))) _ (returns-clause-items g c)
 
 pub returns-clause-in_order : goal.returns-clause-in_order
 returns-clause-in_order g c = list_in_order

@@ -1,0 +1,117 @@
+-- The least free page, and how a walk over the free pages finds it.
+use Rattle.std.proofs.Common.{◌≡◌, ℕ, zero, suc, ◌+◌, ◌<◌, ◌≤◌, ◌⊎◌, Bool, true, false, not, ◌&&◌,
+    cond, nat_lt, Option, Some, None, inl, inr, refl, sym, ap, ◌∙◌, arith}
+use Rattle.std.proofs.lemmas.Bool.{cases_eq, cases_Bool, cases_lt, lt-ltb, ltb-true, and_parts,
+    true≢false}
+use Rattle.std.specs.Prelude.{MatchOption}
+use Rattle.bittle.specs.PlainSet.{PlainSet, complement, contains}
+use Rattle.bittle.specs.Searches.{NoneIn, IsFirstIn}
+use Rattle.bittle.proofs.CallerSets.{contains_within, complement_within}
+use Rattle.bit_pages.specs.PageLaws.{IsLeastFree}
+use Rattle.bit_pages.specs.Pages.{is_taken, least_free_from, least_free}
+
+-- each of the n pages from one on is taken
+abbrev AllTakenFrom : (ℕ → Bool) → ℕ → ℕ → Type 0
+AllTakenFrom taken from n = (k : ℕ) → from ≤ k → k < from + n → taken k ≡ true
+
+-- p is the least of the n pages from one on that is free
+record IsFoundFrom (taken : ℕ → Bool) (from n p : ℕ) : Type 0 where
+  from_one_on : from ≤ p
+  within : p < from + n
+  is_free : taken p ≡ false
+  taken_below : (k : ℕ) → from ≤ k → k < p → taken k ≡ true
+
+from_here : (taken : ℕ → Bool) (from end : ℕ) → taken from ≡ true →
+    ((k : ℕ) → suc from ≤ k → k < end → taken k ≡ true) → (k : ℕ) → from ≤ k → k < end →
+    taken k ≡ true
+from_here taken from end here later k p q =
+    elim (cases_eq from k) [ inl e ↦ ap taken (sym e) ∙ here | inr n ↦ later k (omega arith) q ]
+
+least_free_from-is : (taken : ℕ → Bool) (from n : ℕ) →
+    MatchOption (least_free_from taken from n) (AllTakenFrom taken from n)
+    (IsFoundFrom taken from n)
+unfolding least_free_from
+least_free_from-is taken from zero = λ k p q. absurd (omega arith)
+least_free_from-is taken from (suc n) = by (cases_Bool (taken from))
+    (least_free_from taken (suc from) n) (least_free_from-is taken (suc from) n)
+  where
+    by : (taken from ≡ true) ⊎ (taken from ≡ false) → (o : Option ℕ) →
+        MatchOption o (AllTakenFrom taken (suc from) n) (IsFoundFrom taken (suc from) n) →
+        MatchOption (cond (taken from) o (Some from)) (AllTakenFrom taken from (suc n))
+        (IsFoundFrom taken from (suc n))
+    by (inl here) None all = rw here (from_here taken from (from + suc n) here
+        (λ k p q. all k p (omega arith)))
+    by (inl here) (Some p) found =
+        rw here (record { from_one_on = omega (arith, found.from_one_on);
+            within = omega (arith, found.within); is_free = found.is_free;
+            taken_below = from_here taken from p here found.taken_below })
+    by (inr here) o rest =
+        rw here (record { from_one_on = omega arith; within = omega arith; is_free = here;
+            taken_below = λ k p q. absurd (omega arith) })
+
+-- the least free page, or that all are taken
+pub least_free-is : (s : PlainSet) → MatchOption (least_free s) ((k : ℕ) → k < s.capacity →
+    s.has k ≡ true) (IsLeastFree s)
+least_free-is s = by (least_free s) (least_free_from-is s.has 0 s.capacity)
+  where
+    by : (o : Option ℕ) → MatchOption o (AllTakenFrom s.has 0 s.capacity)
+        (IsFoundFrom s.has 0 s.capacity) →
+        MatchOption o ((k : ℕ) → k < s.capacity → s.has k ≡ true) (IsLeastFree s)
+    by None all = λ k h. all k (omega arith) (omega arith)
+    by (Some p) found = record { within = omega (arith, found.within); is_free = found.is_free;
+        taken_below = λ k h. found.taken_below k (omega arith) h }
+
+-- there is just one least free page
+one_least : (s : PlainSet) (p q : ℕ) → IsLeastFree s p → IsLeastFree s q → p ≡ q
+one_least s p q a b =
+    elim (cases_lt p q) [
+      | inl l ↦ absurd (true≢false (sym (b.taken_below p l) ∙ a.is_free))
+      | inr g ↦ elim (cases_lt q p) [ inl l ↦
+          absurd (true≢false (sym (a.taken_below q l) ∙ b.is_free)) | inr h ↦ omega arith ]
+    ]
+
+free_is : (b : Bool) → not b ≡ true → b ≡ false
+free_is true e = sym e
+free_is false e = refl
+
+taken_is : (b : Bool) → not b ≡ false → b ≡ true
+taken_is true e = refl
+taken_is false e = sym e
+
+-- the first of the free pages is the least one
+pub least_free-first : (s : PlainSet) (p : ℕ) → IsFirstIn (complement s) 0 s.capacity (Some p) →
+    least_free s ≡ Some p
+least_free-first s p first = by (least_free s) (least_free-is s)
+  where
+    found : IsLeastFree s p
+    found = record {
+      within = first.1;
+      is_free = free_is (s.has p) (sym (complement_within s p first.1) ∙ first.2);
+      taken_below = λ k h. taken_is (s.has k)
+          (sym (complement_within s k (omega (arith, first.1))) ∙ first.3 k (omega arith) h);
+    }
+
+    by : (o : Option ℕ) → MatchOption o ((k : ℕ) → k < s.capacity → s.has k ≡ true)
+        (IsLeastFree s) → o ≡ Some p
+    by None all = absurd (true≢false (sym (all p found.within) ∙ found.is_free))
+    by (Some q) least = ap Some (one_least s q p least found)
+
+-- where no page is free there is no least one
+pub least_free-none : (s : PlainSet) → NoneIn (complement s) 0 s.capacity → least_free s ≡ None
+least_free-none s none = by (least_free s) (least_free-is s)
+  where
+    by : (o : Option ℕ) → MatchOption o ((k : ℕ) → k < s.capacity → s.has k ≡ true)
+        (IsLeastFree s) → o ≡ None
+    by None all = refl
+    by (Some q) least =
+        absurd (true≢false (sym (taken_is (s.has q)
+            (sym (complement_within s q least.within) ∙ none q (omega arith) least.within))
+            ∙ least.is_free))
+
+-- of a page a test of the map tells whether it is taken
+pub is_taken-within : (s : PlainSet) (p : ℕ) → p < s.capacity → is_taken s p ≡ contains s p
+is_taken-within s p h = ap (λ b. b && s.has p) (lt-ltb p s.capacity h) ∙ sym (contains_within s p h)
+
+-- what is taken is a page
+pub taken-within : (s : PlainSet) (p : ℕ) → is_taken s p ≡ true → p < s.capacity
+taken-within s p h = ltb-true p s.capacity (and_parts (nat_lt p s.capacity) (s.has p) h).0

@@ -1,0 +1,259 @@
+-- Where two sets of words of one width, in one order, are apart, and what that decides.
+use Rattle.std.proofs.Common.{◌≡◌, ℕ, ◌+◌, ◌-◌, ◌*◌, ◌/◌, ◌^◌, ◌<◌, ◌≤◌, ◌⊎◌, ◌↔◌, Bool, true,
+    false, not, IsTrue, inl, inr, Option, Some, None, is_none, is_some, MatchOption, MatchBool,
+    refl, sym, ap, ◌∙◌, arith}
+use Rattle.std.proofs.Math.Nat.{mul-div_left}
+use Rattle.std.proofs.lemmas.Bool.{cases_eq, cases_lt, true≢false}
+use Rattle.std.specs.declared.cmp.Ordering.{Ordering}
+use Rattle.std.specs.declared.cmp.Ordering.TheVariants.{Less, Equal, Greater}
+use Rattle.std.specs.Ordering.{MatchOrdering, is_eq}
+use Rattle.bittle_bits.specs.Digits.{digit_has, digit_set}
+use Rattle.bittle_bits.specs.Orders.{place, members}
+use Rattle.bittle_bits.specs.PlainSet.{PlainSet, ascending, IsLeastMember}
+use Rattle.bittle_bits.specs.Searches.{IsFirstIn}
+use Rattle.bittle_bits.specs.SetOperations.{combination_of, just_one}
+use Rattle.bittle_bits.specs.Words.{word_has, word_of}
+use Rattle.bittle_bits.proofs.SetOperations.{combination-below}
+use Rattle.bittle_bits.proofs.DigitSets.{digit_has-zero, digit_has-below, some_digit}
+use Rattle.bittle_bits.proofs.PlaceLemmas.{place_part, place_in_word, place-place}
+use Rattle.bittle_bits.proofs.Words.{word_has-at}
+use Rattle.bittle.specs.Comparison.{list_cmp, AreSame, HasPast, HasNonePast, Precedes, IsFirstApart}
+use Rattle.bittle.proofs.ListComparison.{EndsAtCapacity, list_cmp-precedes, equal_iff_same,
+    not_both}
+
+-- both have the same members below a number
+abbrev pub SameBelow : PlainSet → PlainSet → ℕ → Type 0
+SameBelow s t n = (i : ℕ) → i < n → s.has i ≡ t.has i
+
+alike : (a b : Bool) → just_one a b ≡ false → a ≡ b
+alike true true h = refl
+alike true false h = absurd (true≢false h)
+alike false true h = absurd (true≢false h)
+alike false false h = refl
+
+-- ---- word by word
+
+module _ (m : Bool) (w : ℕ) (s t : PlainSet) (word : 0 < w) where
+  member_at : (u : PlainSet) (k i : ℕ) → i < w →
+      u.has (k * w + place m w i) ≡ (members m w u).has (k * w + i)
+  member_at u k i h =
+      let one : k * (1 * w) ≡ k * w = omega arith in
+      let b : i < 1 * w = omega arith in
+      let e : place m w (k * w + i) ≡ k * w + place m w i = rw one at (place_part m w 1 k i word b)
+          in
+      sym (ap u.has e)
+
+  -- the word x has the digits of word k that are in just one
+  module _ (k x : ℕ) (is : digit_set w x ≡ combination_of just_one (word_of w s k) (word_of w t k))
+      where
+    apart_at : (i : ℕ) → i < w → (members m w (digit_set w x)).has i
+        ≡ just_one ((members m w s).has (k * w + i)) ((members m w t).has (k * w + i))
+    apart_at i h =
+        let p = place m w i in
+        let low = place_in_word m w i h in
+        ap (λ u. u.has p) is
+        ∙ combination-below just_one (word_of w s k) (word_of w t k) p low low
+        ∙ ap (λ b. just_one b (word_has w t k p)) (word_has-at w s k p low ∙ member_at s k i h)
+        ∙ ap (just_one ((members m w s).has (k * w + i)))
+            (word_has-at w t k p low ∙ member_at t k i h)
+
+    -- below a place of word k
+    same_up_to : (r : ℕ) → SameBelow (members m w s) (members m w t) (k * w) → r ≤ w →
+        ((i : ℕ) → i < r → (members m w (digit_set w x)).has i ≡ false) →
+        SameBelow (members m w s) (members m w t) (k * w + r)
+    same_up_to r before low none i h =
+        elim (cases_lt i (k * w)) [
+          | inl l ↦ before i l
+          | inr g ↦
+              let j = i - k * w in
+              let back : k * w + j ≡ i = omega arith in
+              let e : just_one ((members m w s).has i) ((members m w t).has i)
+                  ≡ false = rw back at (sym (apart_at j (omega arith)) ∙ none j (omega arith)) in
+              alike _ _ e
+        ]
+
+    -- it has none, so the word is the same in both
+    pub same_word : SameBelow (members m w s) (members m w t) (k * w) → x ≡ 0 →
+        SameBelow (members m w s) (members m w t) ((k + 1) * w)
+    same_word before zero i h = same_up_to w before (omega arith)
+        (λ j l. ap (λ p. p (place m w j)) (digit_has-zero w x zero)) i (omega arith)
+
+    -- its least one
+    pub first_in_word : (r : ℕ) → SameBelow (members m w s) (members m w t) (k * w) →
+        IsLeastMember (members m w (digit_set w x)) r → r < w →
+        IsFirstApart (members m w s) (members m w t) (k * w + r)
+    first_in_word r before least low = (same_up_to r before least.within least.none_below,
+        sym (apart_at r low) ∙ least.is_member low)
+
+-- a word that is not 0 has a least digit
+pub some_least : (m : Bool) (w x r : ℕ) → 0 < w → x < 2 ^ w → (x ≡ 0 → ⊥) →
+    IsLeastMember (members m w (digit_set w x)) r → r < w
+some_least m w x r word fits some least =
+    elim (cases_lt r w) [
+      | inl l ↦ l
+      | inr g ↦
+          let t = some_digit w x fits some in
+          let i = place m w t.0 in
+          let low : i < w = place_in_word m w t.0 (digit_has-below w x t.0 t.1) in
+          absurd (true≢false (sym t.1 ∙ ap (digit_has w x) (sym (place-place m w t.0 word))
+              ∙ least.none_below i (omega arith)))
+    ]
+
+-- ---- past the words of one side
+
+-- the words of a capacity of whole words make it up
+pub all_words : (bits wide w c : ℕ) → 0 < w → bits ≡ c → wide ≡ w → (words : ℕ) × (c ≡ words * w) →
+    bits / wide * wide ≡ c
+all_words bits wide w c word b v h = rw (b, v, h.1) (ap (λ n. n * w) (mul-div_left h.0 word))
+
+-- the first set has none from a number on, and the second one ends at another
+pub past_first : (s t : PlainSet) (from to : ℕ) (r : Option ℕ) → SameBelow s t from →
+    ((i : ℕ) → from ≤ i → s.has i ≡ false) → ((i : ℕ) → to ≤ i → t.has i ≡ false) →
+    IsFirstIn t from to r → MatchOption r (AreSame s t) (λ d. IsFirstApart s t d)
+past_first s t from to None same none past h = λ i.
+    elim (cases_lt i from) [
+      | inl l ↦ same i l
+      | inr g ↦ none i g ∙ sym (elim (cases_lt i to) [ inl b ↦ h i g b | inr q ↦ past i q ])
+    ]
+past_first s t from to (Some d) same none past
+    h = ((λ i p. elim (cases_lt i from) [ inl l ↦ same i l | inr g ↦ none i g ∙ sym (h.3 i g p) ]),
+    rw (none d h.0, h.2) refl)
+
+turned : (a b : Bool) → just_one a b ≡ just_one b a
+turned true true = refl
+turned true false = refl
+turned false true = refl
+turned false false = refl
+
+-- the second set has none from a number on, and the first one ends at another
+pub past_second : (s t : PlainSet) (from to : ℕ) (r : Option ℕ) → SameBelow s t from →
+    ((i : ℕ) → from ≤ i → t.has i ≡ false) → ((i : ℕ) → to ≤ i → s.has i ≡ false) →
+    IsFirstIn s from to r → MatchOption r (AreSame s t) (λ d. IsFirstApart s t d)
+past_second s t from to r same none past h = back r
+    (past_first t s from to r (λ i p. sym (same i p)) none past h)
+  where
+    back : (r : Option ℕ) → MatchOption r (AreSame t s) (λ d. IsFirstApart t s d) →
+        MatchOption r (AreSame s t) (λ d. IsFirstApart s t d)
+    back None e = λ i. sym (e i)
+    back (Some d) e = ((λ i p. sym (e.0 i p)), turned (s.has d) (t.has d) ∙ e.1)
+
+-- a search past a number
+pub past_found : (s : PlainSet) (d to : ℕ) (r : Option ℕ) → ((i : ℕ) → to ≤ i → s.has i ≡ false) →
+    IsFirstIn s (d + 1) to r → MatchBool (is_some r) (HasPast s d) (HasNonePast s d)
+past_found s d to None past h = λ m p. elim (cases_lt m to)
+    [ inl l ↦ h m (omega arith) l | inr g ↦ past m g ]
+past_found s d to (Some m) past h = (m, omega (arith, h.0), h.2)
+
+-- ---- what it decides
+
+differ : (a b : Bool) → just_one a b ≡ true → a ≡ b → ⊥
+differ true true h e = true≢false (sym h)
+differ true false h e = true≢false e
+differ false true h e = true≢false (sym e)
+differ false false h e = true≢false (sym h)
+
+first_only : (a b : Bool) → just_one a b ≡ true → a ≡ true → b ≡ false
+first_only true true h e = sym h
+first_only true false h e = refl
+first_only false b h e = absurd (true≢false (sym e))
+
+second_only : (a b : Bool) → just_one a b ≡ true → a ≡ false → b ≡ true
+second_only false b h e = h
+second_only true b h e = absurd (true≢false e)
+
+-- the first index in just one, by the side that has it
+module _ (s t : PlainSet) (d : ℕ) (at : IsFirstApart s t d) where
+  -- the first set has that index and the second has a member past it: the first precedes
+  pub ours_first : s.has d ≡ true → HasPast t d → Precedes s t
+  ours_first a p = (d, at.0, inl (a, first_only _ _ at.1 a, p))
+
+  -- the first set has that index and the second has none past it: the second precedes
+  pub ours_last : s.has d ≡ true → HasNonePast t d → Precedes t s
+  ours_last a p = (d, (λ i l. sym (at.0 i l)), inr (first_only _ _ at.1 a, a, p))
+
+  -- the second set has that index and the first has a member past it: the second precedes
+  pub theirs_first : s.has d ≡ false → HasPast s d → Precedes t s
+  theirs_first a p = (d, (λ i l. sym (at.0 i l)), inl (second_only _ _ at.1 a, a, p))
+
+  -- the second set has that index and the first has none past it: the first precedes
+  pub theirs_last : s.has d ≡ false → HasNonePast s d → Precedes s t
+  theirs_last a p = (d, at.0, inr (a, second_only _ _ at.1 a, p))
+
+-- no two sets precede each other
+abbrev Decides : PlainSet → PlainSet → ℕ → Type 0
+Decides s t d = ((s.has d ≡ true) × (t.has d ≡ false) × HasPast t d)
+    ⊎ ((s.has d ≡ false) × (t.has d ≡ true) × HasNonePast s d)
+
+unlike : (s t : PlainSet) (d : ℕ) → Decides s t d → s.has d ≡ t.has d → ⊥
+unlike s t d (inl x) e = true≢false (sym x.0 ∙ e ∙ x.1)
+unlike s t d (inr x) e = true≢false (sym x.1 ∙ sym e ∙ x.0)
+
+clash : (s t : PlainSet) (d : ℕ) → Decides s t d → Decides t s d → ⊥
+clash s t d (inl x) (inl y) = true≢false (sym x.0 ∙ y.1)
+clash s t d (inl x) (inr y) = true≢false (sym x.2.2 ∙ y.2 x.2.0 x.2.1)
+clash s t d (inr x) (inl y) = true≢false (sym y.2.2 ∙ x.2 y.2.0 y.2.1)
+clash s t d (inr x) (inr y) = true≢false (sym x.1 ∙ y.0)
+
+one_way : (s t : PlainSet) → Precedes s t → Precedes t s → ⊥
+one_way s t p q = by (cases_eq p.0 q.0)
+  where
+    by : (p.0 ≡ q.0) ⊎ (p.0 ≡ q.0 → ⊥) → ⊥
+    by (inl e) = clash s t q.0 (rw e at p.2) q.2
+    by (inr n) = elim (cases_lt p.0 q.0) [
+      | inl l ↦ unlike s t p.0 p.2 (sym (q.1 p.0 l))
+      | inr g ↦ unlike t s q.0 q.2 (sym (p.1 q.0 (omega arith)))
+    ]
+
+-- the order of the lists, by what decides it
+module _ (s t : PlainSet) (ends_s : EndsAtCapacity s) (ends_t : EndsAtCapacity t) where
+  is_less : (o : Ordering) → Precedes s t →
+      MatchOrdering o (Precedes s t) (AreSame s t) (Precedes t s) → o ≡ Less
+  is_less Less p h = refl
+  is_less Equal p h = absurd (not_both s t p h)
+  is_less Greater p h = absurd (one_way s t p h)
+
+  is_equal : (o : Ordering) → AreSame s t →
+      MatchOrdering o (Precedes s t) (AreSame s t) (Precedes t s) → o ≡ Equal
+  is_equal Less p h = absurd (not_both s t h p)
+  is_equal Equal p h = refl
+  is_equal Greater p h = absurd (not_both t s h (λ i. sym (p i)))
+
+  is_greater : (o : Ordering) → Precedes t s →
+      MatchOrdering o (Precedes s t) (AreSame s t) (Precedes t s) → o ≡ Greater
+  is_greater Less p h = absurd (one_way s t h p)
+  is_greater Equal p h = absurd (not_both t s p (λ i. sym (h i)))
+  is_greater Greater p h = refl
+
+  -- a set that precedes the other has the lesser list
+  pub cmp_less : Precedes s t → Less ≡ list_cmp (ascending s) (ascending t)
+  cmp_less p = sym (is_less _ p (list_cmp-precedes s t ends_s ends_t))
+
+  -- sets of the same members have equal lists
+  pub cmp_equal : AreSame s t → Equal ≡ list_cmp (ascending s) (ascending t)
+  cmp_equal p = sym (is_equal _ p (list_cmp-precedes s t ends_s ends_t))
+
+  -- a set that the other precedes has the greater list
+  pub cmp_greater : Precedes t s → Greater ≡ list_cmp (ascending s) (ascending t)
+  cmp_greater p = sym (is_greater _ p (list_cmp-precedes s t ends_s ends_t))
+
+  not_true : (b : Bool) → (IsTrue b → ⊥) → false ≡ b
+  not_true true h = absurd (h refl)
+  not_true false h = refl
+
+  -- the lists are equal exactly where no index is in just one set
+  pub none_equal : (r : Option ℕ) → MatchOption r (AreSame s t) (λ d. IsFirstApart s t d) →
+      is_none r ≡ is_eq (list_cmp (ascending s) (ascending t))
+  none_equal None h = ap is_eq (cmp_equal h)
+  none_equal (Some d) h = not_true _ (λ e. differ _ _ h.1
+      ((equal_iff_same s t _ (list_cmp-precedes s t ends_s ends_t)).0 e d))
+
+-- a test that fails exactly where there is an index holds exactly where there is none
+pub none_is : (r : Option ℕ) (b : Bool) → is_some r ≡ not b → b ≡ is_none r
+none_is r true e = sym (ap not e)
+none_is r false e = sym (ap not e)
+
+-- there is no such index exactly where the two are the same
+pub none_decides : (s t : PlainSet) (r : Option ℕ) →
+    MatchOption r (AreSame s t) (λ d. IsFirstApart s t d) → IsTrue (is_none r) ↔ AreSame s t
+none_decides s t None h = (λ x. h, λ y. refl)
+none_decides s t (Some d) h = (λ x. absurd (true≢false (sym x)), λ y. absurd (differ _ _ h.1 (y d)))

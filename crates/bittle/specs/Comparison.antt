@@ -1,0 +1,45 @@
+-- How two sets compare, and what a hasher is fed of one: by their increasing lists of members.
+use Rattle.std.specs.Prelude.{◌≡◌, ℕ, ◌<◌, ◌⊎◌, Bool, true, false, nat_eq, List, ◌++◌, length}
+use Rattle.std.specs.Cmp.Lexicographic.{slice_cmp, pointwise}
+use Rattle.std.specs.Hash as fed
+use Rattle.std.specs.List.{flat_map}
+use Rattle.std.specs.Ordering.{nat_cmp}
+use Rattle.std.specs.declared.cmp.Ordering.{Ordering}
+use Rattle.bittle_bits.specs.PlainSet.{PlainSet}
+use Rattle.bittle_bits.specs.SetOperations.{just_one}
+
+-- the order of two increasing lists, by their first items that differ
+abbrev pub list_cmp : List ℕ → List ℕ → Ordering
+list_cmp = slice_cmp nat_cmp
+
+-- whether two lists have the same items
+abbrev pub list_eq : List ℕ → List ℕ → Bool
+list_eq = pointwise nat_eq
+
+-- each number is a member of both or of neither
+abbrev pub AreSame : PlainSet → PlainSet → Type 0
+AreSame s t = (i : ℕ) → s.has i ≡ t.has i
+
+-- d is the least number that is in just one
+abbrev pub IsFirstApart : PlainSet → PlainSet → ℕ → Type 0
+IsFirstApart s t d = ((i : ℕ) → i < d → s.has i ≡ t.has i) × (just_one (s.has d) (t.has d) ≡ true)
+
+-- a member lies past the number
+abbrev pub HasPast : PlainSet → ℕ → Type 0
+HasPast s d = (m : ℕ) × (d < m) × (s.has m ≡ true)
+
+-- no member lies past the number
+abbrev pub HasNonePast : PlainSet → ℕ → Type 0
+HasNonePast s d = (m : ℕ) → d < m → s.has m ≡ false
+
+-- with d the least number that is in just one: it is in s and t has a member past it, or it is in t
+-- and s has none past it
+abbrev pub Precedes : PlainSet → PlainSet → Type 0
+Precedes s t =
+    (d : ℕ) × ((i : ℕ) → i < d → s.has i ≡ t.has i)
+        × (((s.has d ≡ true) × (t.has d ≡ false) × HasPast t d)
+        ⊎ ((s.has d ≡ false) × (t.has d ≡ true) × HasNonePast s d))
+
+-- what a hasher is fed of a list: each item, and then how many there are
+abbrev pub feed : List ℕ → List (List ℕ)
+feed xs = flat_map fed.u32 xs ++ fed.u32 (length xs)

@@ -1,0 +1,73 @@
+-- Steps that take the items of a list from its two ends, and the looks that they may cost.
+use Rattle.std.specs.Prelude.{◌≡◌, ℕ, ◌+◌, ◌<◌, ◌≤◌, Option, Some, None, List, [], ◌∷◌, ◌++◌,
+    length, take, slice_index, is_some, count_by, reverse}
+use Rattle.bittle.specs.declared.replay.walk.Step.{Step}
+use Rattle.bittle.specs.declared.replay.walk.Step.TheVariants.{Front, Back}
+
+-- the first item
+abbrev pub first_of : List ℕ → Option ℕ
+first_of [] = None
+first_of (x ∷ xs) = Some x
+
+-- the list without its first item
+abbrev pub rest_of : List ℕ → List ℕ
+rest_of [] = []
+rest_of (x ∷ xs) = xs
+
+-- the answer of one step: the empty list answers None
+abbrev pub answer_of : Step → List ℕ → Option ℕ
+answer_of Front xs = first_of xs
+answer_of Back xs = first_of (reverse xs)
+
+-- the list without the item that one step takes
+abbrev pub items_left_by : Step → List ℕ → List ℕ
+items_left_by Front xs = rest_of xs
+items_left_by Back xs = reverse (rest_of (reverse xs))
+
+-- the answers of a list of steps
+abbrev pub answers_of : List Step → List ℕ → List (Option ℕ)
+answers_of [] xs = []
+answers_of (step ∷ steps) xs = answer_of step xs ∷ answers_of steps (items_left_by step xs)
+
+-- the list that remains after all the steps
+abbrev pub remains_of : List Step → List ℕ → List ℕ
+remains_of [] xs = xs
+remains_of (step ∷ steps) xs = remains_of steps (items_left_by step xs)
+
+-- an item as a list, and None as the empty one
+abbrev pub item_in : Option ℕ → List ℕ
+item_in None = []
+item_in (Some x) = x ∷ []
+
+-- the items that the steps from the front give, in turn
+abbrev pub items_from_front : List Step → List ℕ → List ℕ
+items_from_front [] xs = []
+items_from_front (Front ∷ steps) xs = item_in (first_of xs)
+    ++ items_from_front steps (items_left_by Front xs)
+items_from_front (Back ∷ steps) xs = items_from_front steps (items_left_by Back xs)
+
+-- the items that the steps from the back give, in turn
+abbrev pub items_from_back : List Step → List ℕ → List ℕ
+items_from_back [] xs = []
+items_from_back (Front ∷ steps) xs = items_from_back steps (items_left_by Front xs)
+items_from_back (Back ∷ steps) xs = item_in (first_of (reverse xs))
+    ++ items_from_back steps (items_left_by Back xs)
+
+-- the items from the front, what remains, and the items from the back in reverse are the whole list
+abbrev pub KeepsAll : List Step → List ℕ → Type 0
+KeepsAll steps xs = items_from_front steps xs
+    ++ (remains_of steps xs ++ reverse (items_from_back steps xs)) ≡ xs
+
+-- how many answers are items
+abbrev pub items_given : List (Option ℕ) → ℕ
+items_given answers = count_by is_some answers
+
+-- looks, one number for each answer, never fall, and each is at least the items given so far and at
+-- most these and the words
+pub record AreThrifty (looks : List ℕ) (answers : List (Option ℕ)) (words : ℕ) : Type 0 where
+  pub each : length looks ≡ length answers
+  pub rise : (k : ℕ) → k + 1 < length looks → slice_index looks k ≤ slice_index looks (k + 1)
+  pub at_least : (k : ℕ) → k < length looks →
+      items_given (take (k + 1) answers) ≤ slice_index looks k
+  pub at_most : (k : ℕ) → k < length looks →
+      slice_index looks k ≤ items_given (take (k + 1) answers) + words

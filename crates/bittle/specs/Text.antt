@@ -1,9 +1,0 @@
--- The debug text of a set, as the bytes that are written.
-use Rattle.std.specs.Prelude.{ℕ, List, ◌++◌, codes}
-use Rattle.std.specs.Fmt.{decimal}
-use Rattle.std.specs.List.{join_by}
-use Rattle.bittle_bits.specs.PlainSet.{PlainSet, ascending}
-
--- the members in increasing order in decimal digits, with a comma and a space between two, all in braces
-abbrev pub set_text : PlainSet → List ℕ
-set_text s = codes "{" ++ (join_by decimal (codes ", ") (ascending s) ++ codes "}")

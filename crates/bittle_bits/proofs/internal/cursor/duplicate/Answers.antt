@@ -1,0 +1,7 @@
+use Rattle.std.proofs.Common.{refl, arith}
+use Rattle.bittle_bits.proofs.IteratorRuns.{resumes_as}
+use Rattle.bittle_bits.proofs.internal.cursor.duplicate.Goals as goal
+
+pub returns-clause-resumes : goal.returns-clause-resumes
+returns-clause-resumes g c = λ s words w retires. rw (c.duplicate.ensures, c.new.ensures)
+    (resumes_as _ _ refl refl refl refl refl refl (omega (arith, retires.once)))

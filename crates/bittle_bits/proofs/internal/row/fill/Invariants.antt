@@ -1,0 +1,18 @@
+use Rattle.std.proofs.Common.{◌≡◌, ◌+◌, ◌*◌, ◌<◌, length}
+use Rattle.bittle_bits.specs.Orders.{members}
+use Rattle.bittle_bits.specs.PlainSet.{with_span}
+use Rattle.bittle_bits.specs.Rows.{elements_set}
+use Rattle.bittle_bits.proofs.RowSpans.{span_end_at}
+use Rattle.bittle_bits.proofs.internal.row.fill.Given as goal
+
+abbrev pub invariant-loop-at : goal.invariant-loop-at
+invariant-loop-at g l =
+    let m = g.E.Endian.mirrored in
+    let w = g.T.Bits.width in
+    let c = g.T.BitsOwned.type_capacity in
+    record {
+      begun : l.fn.from < l.at * c + c;
+      set : members m w (elements_set (length l.elements) c g.T.Bits.big l.elements)
+          ≡ with_span (members m w (elements_set (length l.fn.elements) c g.T.Bits.big
+          l.fn.elements)) l.fn.from (span_end_at l.fn.from l.fn.to (l.at * c));
+    }

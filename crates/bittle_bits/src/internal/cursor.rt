@@ -1,0 +1,153 @@
+//! Where a walk stands, and its steps: one core for the walks of ones and of zeros, borrowed and
+//! owned.
+
+ghost use Rattle.std.specs.Prelude.{◌≡◌, ℕ, ◌/◌};
+ghost use Rattle.bittle_bits.specs.Orders.{members};
+ghost use Rattle.bittle_bits.specs.PlainSet.{PlainSet, ascending};
+ghost use Rattle.bittle_bits.specs.Shapes.{Fits};
+ghost use Rattle.bittle_bits.specs.Cursor.{items_left_in, walk_of, Retires};
+ghost use Rattle.bittle_bits.specs.Walk.{ones_or_zeros, AreBelow, IsFresh, ResumesAs, StepsFront, StepsBack};
+
+use crate::bits::Bits;
+use crate::internal::ghost_count::Count;
+use crate::endian::Endian;
+use crate::internal::kind::Kind;
+use crate::internal::look::{Copies, Source};
+
+/// The copies of a walk, and the range of words between them that are not copied yet.
+#[derive(Drop)]
+pub struct Cursor<B: Bits, E: Endian> {
+    pub copies: Copies<B::LeafWord, E>,
+    pub low: u32,
+    pub high: u32,
+    pub items: Count,
+}
+
+/// Where a walk begins: the first word is copied to the head, and the last to the tail where there
+/// are two or more.
+#[inline]
+pub fn begin<B: Bits, E: Endian, K: Kind>(source: &Source<'_, B>) -> Cursor<B, E>
+    requires { Fits B.indexable (B.big source.now.set.now).capacity }
+    ensures left { items_left_in
+        (ones_or_zeros K.ONES (members E.mirrored B.width (B.big source.now.set.now))) B.width
+        result
+        ≡ ascending (ones_or_zeros K.ONES (members E.mirrored B.width (B.big source.now.set.now))) }
+    ensures fresh { IsFresh ((B.big source.now.set.now).capacity / B.width)
+        (walk_of (ones_or_zeros K.ONES (members E.mirrored B.width (B.big source.now.set.now)))
+        ((B.big source.now.set.now).capacity / B.width) B.width result) }
+    ensures below { AreBelow (B.big source.now.set.now).capacity
+        (items_left_in
+        (ones_or_zeros K.ONES (members E.mirrored B.width (B.big source.now.set.now))) B.width
+        result) }
+    ensures retires { Retires ((B.big source.now.set.now).capacity / B.width) result }
+{
+    let mut at = Cursor {
+        copies: Copies::none(),
+        low: 0,
+        high: source.words(),
+        items: Count::new(),
+    };
+    if at.low == at.high {
+        return at;
+    }
+    at.copies.fetch_head::<B, K>(source, at.low);
+    at.low += 1;
+    if at.low == at.high {
+        return at;
+    }
+    at.high -= 1;
+    at.copies.fetch_tail::<B, K>(source, at.high);
+    at
+}
+
+/// Returns the same place with its counters at zero, for `clone`.
+#[inline]
+pub fn duplicate<B: Bits, E: Endian>(at: &Cursor<B, E>) -> Cursor<B, E>
+    ensures resumes { (s : PlainSet) (words w : ℕ) → Retires words at.now
+        → ResumesAs (walk_of s words w at.now) (walk_of s words w result) }
+    ensures same { result
+        ≡ record {
+          copies = record {
+            head = at.now.copies.head;
+            tail = at.now.copies.tail;
+            looks = 0;
+            fetches = 0;
+          };
+          low = at.now.low;
+          high = at.now.high;
+          items = 0;
+        } }
+{
+    Cursor {
+        copies: at.copies.duplicate(),
+        low: at.low,
+        high: at.high,
+        items: Count::new(),
+    }
+}
+
+/// Takes the first item that is left.
+#[inline]
+pub fn step_front<B: Bits, E: Endian, K: Kind>(
+    source: &Source<'_, B>,
+    at: &mut Cursor<B, E>,
+) -> Option<u32>
+    requires fits { Fits B.indexable (B.big source.now.set.now).capacity }
+    requires retires { Retires ((B.big source.now.set.now).capacity / B.width) at.old }
+    ensures steps { StepsFront
+        (walk_of (ones_or_zeros K.ONES (members E.mirrored B.width (B.big source.now.set.now)))
+        ((B.big source.now.set.now).capacity / B.width) B.width at.old) result
+        (walk_of (ones_or_zeros K.ONES (members E.mirrored B.width (B.big source.now.set.now)))
+        ((B.big source.now.set.now).capacity / B.width) B.width at.new) }
+    ensures retires { Retires ((B.big source.now.set.now).capacity / B.width) at.new }
+{
+    loop {
+        if let Some(item) = at.copies.first_of_head() {
+            at.items.raise();
+            return Some(item);
+        }
+        if at.low == at.high {
+            break;
+        }
+        at.copies.fetch_head::<B, K>(source, at.low);
+        at.low += 1;
+    }
+    let Some(item) = at.copies.first_of_tail() else {
+        return None;
+    };
+    at.items.raise();
+    Some(item)
+}
+
+/// Takes the last item that is left.
+#[inline]
+pub fn step_back<B: Bits, E: Endian, K: Kind>(
+    source: &Source<'_, B>,
+    at: &mut Cursor<B, E>,
+) -> Option<u32>
+    requires fits { Fits B.indexable (B.big source.now.set.now).capacity }
+    requires retires { Retires ((B.big source.now.set.now).capacity / B.width) at.old }
+    ensures steps { StepsBack
+        (walk_of (ones_or_zeros K.ONES (members E.mirrored B.width (B.big source.now.set.now)))
+        ((B.big source.now.set.now).capacity / B.width) B.width at.old) result
+        (walk_of (ones_or_zeros K.ONES (members E.mirrored B.width (B.big source.now.set.now)))
+        ((B.big source.now.set.now).capacity / B.width) B.width at.new) }
+    ensures retires { Retires ((B.big source.now.set.now).capacity / B.width) at.new }
+{
+    loop {
+        if let Some(item) = at.copies.last_of_tail() {
+            at.items.raise();
+            return Some(item);
+        }
+        if at.low == at.high {
+            break;
+        }
+        at.high -= 1;
+        at.copies.fetch_tail::<B, K>(source, at.high);
+    }
+    let Some(item) = at.copies.last_of_head() else {
+        return None;
+    };
+    at.items.raise();
+    Some(item)
+}

@@ -1,0 +1,200 @@
+//! The calls on a row of elements, for arrays and for slices.
+
+ghost use Rattle.std.specs.Prelude.{◌≡◌, ◌==◌, ◌*◌, ◌<◌, ◌≤◌, Bool, length, IsTrue, MatchOption};
+ghost use Rattle.bittle_bits.specs.Orders.{members};
+ghost use Rattle.bittle_bits.specs.PlainSet.{contains, with_index, with_span, without_index, without_members, size};
+ghost use Rattle.bittle_bits.specs.Rows.{elements_set, GoesTo};
+ghost use Rattle.bittle_bits.specs.SetOperations.{combination_of};
+ghost use Rattle.bittle_bits.specs.Shapes.{Fits};
+ghost use Rattle.bittle_bits.specs.Digits.{digit_set};
+ghost use Rattle.bittle_bits.specs.Words.{word_of};
+
+use crate::bits_owned::BitsOwned;
+use crate::endian::Endian;
+use crate::internal::sealed::Number;
+use crate::operation::Operation;
+
+/// Returns the capacity of this many elements, or `u32::MAX` where they do not fit.
+#[inline]
+pub fn bits_capacity<T: BitsOwned>(len: usize) -> u32
+    ensures value { Fits T.indexable (len * T.type_capacity) → result ≡ len * T.type_capacity }
+    ensures fits { result < 4294967295 → Fits T.indexable (len * T.type_capacity) }
+{
+    let each = T::bits();
+    if each == u32::MAX {
+        return u32::MAX;
+    }
+    match u32::try_from(len) {
+        Ok(len) => each.saturating_mul(len),
+        Err(_) => if each == 0 { 0 } else { u32::MAX },
+    }
+}
+
+/// Returns the element that an index goes to, and the index there, or `None` with capacity 0.
+#[inline]
+fn place_of<T: BitsOwned>(len: usize, index: u32) -> Option<(usize, u32)>
+    requires { IsTrue T.indexable }
+    ensures { MatchOption result (len * T.type_capacity
+        ≡ 0) (λ at. GoesTo len T.type_capacity index at.0 at.1) }
+{
+    let each = T::bits();
+    if each == 0 || len == 0 {
+        return None;
+    }
+    let element = (index / each) as usize % len;
+    Some((element, index % each))
+}
+
+/// Tests the bit at an index, which wraps. With capacity 0 it returns `false`.
+#[inline]
+pub fn test_bit<T: BitsOwned, E: Endian>(elements: &[T], index: u32) -> bool
+    requires { IsTrue T.indexable }
+    ensures { result ≡ contains
+        (members E.mirrored T.width
+        (elements_set (length elements.now) T.type_capacity T.big elements.now)) index }
+{
+    match place_of::<T>(elements.len(), index) {
+        Some((element, at)) => elements[element].test_bit_in::<E>(at),
+        None => false,
+    }
+}
+
+/// Sets the bit at an index, which wraps. With capacity 0 it changes nothing.
+#[inline]
+pub fn set_bit<T: BitsOwned, E: Endian>(elements: &mut [T], index: u32)
+    requires { IsTrue T.indexable }
+    ensures { members E.mirrored T.width
+        (elements_set (length elements.new) T.type_capacity T.big elements.new)
+        ≡ with_index
+        (members E.mirrored T.width
+        (elements_set (length elements.old) T.type_capacity T.big elements.old)) index }
+{
+    if let Some((element, at)) = place_of::<T>(elements.len(), index) {
+        elements[element].set_bit_in::<E>(at);
+    }
+}
+
+/// Clears the bit at an index, which wraps. With capacity 0 it changes nothing.
+#[inline]
+pub fn clear_bit<T: BitsOwned, E: Endian>(elements: &mut [T], index: u32)
+    requires { IsTrue T.indexable }
+    ensures { members E.mirrored T.width
+        (elements_set (length elements.new) T.type_capacity T.big elements.new)
+        ≡ without_index
+        (members E.mirrored T.width
+        (elements_set (length elements.old) T.type_capacity T.big elements.old)) index }
+{
+    if let Some((element, at)) = place_of::<T>(elements.len(), index) {
+        elements[element].clear_bit_in::<E>(at);
+    }
+}
+
+/// Clears every bit.
+pub fn clear_bits<T: BitsOwned>(elements: &mut [T])
+    ensures { elements_set (length elements.new) T.type_capacity T.big elements.new
+        ≡ without_members (elements_set (length elements.old) T.type_capacity T.big elements.old) }
+{
+    for element in elements.iter_mut() {
+        element.clear_bits();
+    }
+}
+
+/// Sets each index from `from` on and before `to`, of each element those that lie in it.
+pub fn fill<T: BitsOwned, E: Endian>(elements: &mut [T], from: u32, to: u32)
+    requires fits { Fits T.indexable (length elements.old * T.type_capacity) }
+    requires ordered { from ≤ to }
+    requires within { to ≤ length elements.old * T.type_capacity }
+    ensures { members E.mirrored T.width
+        (elements_set (length elements.new) T.type_capacity T.big elements.new)
+        ≡ with_span
+        (members E.mirrored T.width
+        (elements_set (length elements.old) T.type_capacity T.big elements.old)) from to }
+{
+    if from == to {
+        return;
+    }
+    let each = T::bits();
+    for at in from / each..(to - 1) / each + 1 {
+        let start = at * each;
+        let end = each.min(to - start);
+        elements[at as usize].fill_in::<E>(from.saturating_sub(start), end);
+    }
+}
+
+/// Combines the elements of the common beginning, each with its counterpart.
+pub fn combine<T: BitsOwned, O: Operation>(elements: &mut [T], others: &[T])
+    ensures { (mirrored : Bool)
+        → members mirrored T.width
+        (elements_set (length elements.new) T.type_capacity T.big elements.new)
+        ≡ combination_of O.decide
+        (members mirrored T.width
+        (elements_set (length elements.old) T.type_capacity T.big elements.old))
+        (members mirrored T.width
+        (elements_set (length others.now) T.type_capacity T.big others.now)) }
+{
+    let common = elements.len().min(others.len());
+    for at in 0..common {
+        elements[at].combine::<O>(&others[at]);
+    }
+}
+
+/// Counts the set bits.
+pub fn count_ones<T: BitsOwned>(elements: &[T]) -> u32
+    requires { Fits T.indexable (length elements.now * T.type_capacity) }
+    ensures value { result ≡ size
+        (elements_set (length elements.now) T.type_capacity T.big elements.now) }
+    ensures in_each_order { (mirrored : Bool) → result ≡ size (members mirrored T.width
+        (elements_set (length elements.now) T.type_capacity T.big elements.now)) }
+    ensures at_most { result ≤ length elements.now * T.type_capacity }
+{
+    let mut total = 0;
+    for element in elements {
+        total += element.count_ones();
+    }
+    total
+}
+
+/// Returns whether no bit is set, up to the first element with one that is.
+pub fn all_zeros<T: BitsOwned>(elements: &[T]) -> bool
+    ensures value { result ≡ (size
+        (elements_set (length elements.now) T.type_capacity T.big elements.now) == 0) }
+    ensures in_each_order { (mirrored : Bool) → result ≡ (size (members mirrored T.width
+        (elements_set (length elements.now) T.type_capacity T.big elements.now)) == 0) }
+{
+    for element in elements {
+        if !element.all_zeros() {
+            return false;
+        }
+    }
+    true
+}
+
+/// Returns whether every bit is set, up to the first element with one that is not.
+pub fn all_ones<T: BitsOwned>(elements: &[T]) -> bool
+    ensures value { result ≡ (size
+        (elements_set (length elements.now) T.type_capacity T.big elements.now)
+        == length elements.now * T.type_capacity) }
+    ensures in_each_order { (mirrored : Bool) → result ≡ (size (members mirrored T.width
+        (elements_set (length elements.now) T.type_capacity T.big elements.now))
+        == length elements.now * T.type_capacity) }
+{
+    for element in elements {
+        if !element.all_ones() {
+            return false;
+        }
+    }
+    true
+}
+
+/// Returns word `k` of the row, which lies in one element.
+#[inline]
+pub fn leaf_word<T: BitsOwned>(elements: &[T], k: u32) -> T::LeafWord
+    requires fits { Fits T.indexable (length elements.now * T.type_capacity) }
+    requires within { k * T.width < length elements.now * T.type_capacity }
+    ensures { digit_set T.width (T.LeafWord.digits result)
+        ≡ word_of T.width
+        (elements_set (length elements.now) T.type_capacity T.big elements.now) k }
+{
+    let each = T::bits() / <T::LeafWord as Number>::width();
+    elements[(k / each) as usize].leaf_word(k % each)
+}

@@ -1,0 +1,7 @@
+//! Sealed traits and ghost types that the public signatures mention; not part of the API.
+
+pub use crate::internal::ghost_count::{Count, Counted};
+pub use bittle_words::sealed::Number;
+
+/// Holds of the types of this project alone, so that nobody else can implement the traits above it.
+pub trait Sealed {}

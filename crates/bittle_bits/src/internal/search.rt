@@ -1,0 +1,76 @@
+//! The first and the last member between two numbers, found word by word.
+
+ghost use Rattle.std.specs.Prelude.{◌≤◌};
+ghost use Rattle.bittle_bits.specs.Orders.{members};
+ghost use Rattle.bittle_bits.specs.Searches.{IsFirstIn, IsLastIn};
+ghost use Rattle.bittle_bits.specs.Shapes.{Fits};
+ghost use Rattle.bittle_bits.specs.Walk.{ones_or_zeros};
+
+use crate::bits::Bits;
+use crate::endian::Endian;
+use crate::internal::sealed::Number;
+use crate::internal::kind::{Kind, wanted_word};
+
+/// Returns the first index from `from` on and below `to` whose bit is of the kind, or `None`.
+#[inline]
+pub fn first_in<B: Bits, E: Endian, K: Kind>(bits: &B, from: u32, to: u32) -> Option<u32>
+    requires fits { Fits B.indexable (B.big bits.now).capacity }
+    requires ordered { from ≤ to }
+    requires within { to ≤ (B.big bits.now).capacity }
+    ensures { IsFirstIn
+        (ones_or_zeros K.ONES (members E.mirrored B.width (B.big bits.now))) from to result }
+{
+    if from == to {
+        return None;
+    }
+    let width = <B::LeafWord as Number>::width();
+    let last = (to - 1) / width;
+    let mut k = from / width;
+    let mut word = wanted_word::<B, K>(bits, k).and(E::from_index::<B::LeafWord>(from % width));
+    loop {
+        let index = E::zeros::<B::LeafWord>(word);
+        if index < width {
+            let found = k * width + index;
+            return if found < to { Some(found) } else { None };
+        }
+        if k == last {
+            return None;
+        }
+        k += 1;
+        word = wanted_word::<B, K>(bits, k);
+    }
+}
+
+/// Returns the last index from `from` on and below `to` whose bit is of the kind, or `None`.
+#[inline]
+pub fn last_in<B: Bits, E: Endian, K: Kind>(bits: &B, from: u32, to: u32) -> Option<u32>
+    requires fits { Fits B.indexable (B.big bits.now).capacity }
+    requires ordered { from ≤ to }
+    requires within { to ≤ (B.big bits.now).capacity }
+    ensures { IsLastIn
+        (ones_or_zeros K.ONES (members E.mirrored B.width (B.big bits.now))) from to result }
+{
+    if from == to {
+        return None;
+    }
+    let width = <B::LeafWord as Number>::width();
+    let first = from / width;
+    let top = (to - 1) % width;
+    let mut k = (to - 1) / width;
+    let up_to = E::from_index::<B::LeafWord>(top)
+        .not()
+        .or(E::mask::<B::LeafWord>(top));
+    let mut word = wanted_word::<B, K>(bits, k).and(up_to);
+    loop {
+        let above = E::zeros_rev::<B::LeafWord>(word);
+        if above < width {
+            let found = k * width + (width - 1 - above);
+            return if from <= found { Some(found) } else { None };
+        }
+        if k == first {
+            return None;
+        }
+        k -= 1;
+        word = wanted_word::<B, K>(bits, k);
+    }
+}

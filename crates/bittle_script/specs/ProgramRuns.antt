@@ -1,0 +1,44 @@
+-- What a run writes, of what it reads.
+use Rattle.std.specs.Prelude.{◌≡◌, ℕ, List, Option, Result, ◌⊎◌, IfSome, nat_lt, length,
+    if◌then◌else◌}
+use Rattle.std.specs.Io.KnownBytes.{Appends}
+use Rattle.bittle_script.specs.declared.answering.Outcome.{Outcome}
+use Rattle.bittle_script.specs.declared.answering.Outcome.TheVariants.{Answered, Refused}
+use Rattle.bittle_script.specs.declared.reading.Refusal.{Refusal}
+use Rattle.bittle_script.specs.declared.reading.Refusal.TheVariants.{TooLong, ReadFailed}
+use Rattle.bittle_script.specs.Answers.{Answers, script_answers, IsGiven}
+use Rattle.bittle_script.specs.Beginnings.{AppendsBeginning}
+use Rattle.bittle_script.specs.Refusals.{message_of}
+
+-- the answers to an input that is refused whole
+abbrev pub refusal_answers : Refusal → Answers
+refusal_answers refusal = record { text = message_of refusal; outcome = Refused }
+
+-- the answers to an input
+abbrev pub input_answers : List ℕ → Answers
+input_answers text = if nat_lt 4096 (length text) then refusal_answers TooLong else script_answers
+    text
+
+-- the answers to what the reader has left, or that it could not be read
+abbrev pub MayBeAnswered : Option (List ℕ) → Answers → Type 0
+MayBeAnswered remaining given = ((text : List ℕ) × IfSome remaining (λ all. text ≡ all)
+    × (given ≡ input_answers text)) ⊎ (given ≡ refusal_answers ReadFailed)
+
+-- an output got what may be answered, or failed after a beginning of it
+abbrev pub IsAnswered : {E : Type 0} → Option (List ℕ) → Option (List ℕ) → Option (List ℕ) →
+    Result Outcome E → Type 0
+IsAnswered remaining old new r = (given : Answers) × MayBeAnswered remaining given
+    × IsGiven old new r given
+
+-- the exit status of an outcome
+abbrev pub status_of : Outcome → ℕ
+status_of Answered = 0
+status_of Refused = 2
+
+-- the answers were written whole, and the status says which they are; or a beginning of them was,
+-- and it is 1
+pub record IsRun (remaining old new : Option (List ℕ)) (status : ℕ) : Type 0 where
+  pub given : Answers
+  pub allowed : MayBeAnswered remaining given
+  pub written : ((status ≡ status_of given.outcome) × Appends old new given.text)
+      ⊎ ((status ≡ 1) × AppendsBeginning old new given.text)

@@ -1,0 +1,98 @@
+-- The operations on two sets, in each order.
+use Rattle.std.proofs.Common.{
+  ◌≡◌,
+  ℕ,
+  zero,
+  suc,
+  ◌+◌,
+  ◌-◌,
+  ◌*◌,
+  ◌%◌,
+  ◌^◌,
+  ◌<◌,
+  ◌≤◌,
+  Bool,
+  true,
+  false,
+  cond,
+  not,
+  ◌&&◌,
+  ◌||◌,
+  ◌==◌,
+  nat_lt,
+  inl,
+  inr,
+  refl,
+  sym,
+  ap,
+  ◌∙◌,
+  arith,
+  List,
+  [],
+  ◌∷◌,
+  length,
+  get_or,
+  set,
+  bit_and,
+  bit_or,
+  bit_xor,
+}
+use Rattle.std.proofs.Math.Path.{fun_ext}
+use Rattle.std.specs.Int.{bit_at}
+use Rattle.std.proofs.Math.Nat.{mul-le-mul_right}
+use Rattle.std.proofs.lemmas.List.{get_or-set_same, get_or-set_other}
+use Rattle.std.proofs.lemmas.Nat.{mul-add-lt}
+use Rattle.std.proofs.lemmas.Nat.Bits.{bit_at_xor, bit_at-lt}
+use Rattle.std.proofs.lemmas.Bool.{cases_eq, cases_lt, lt-ltb, le-ltb}
+use Rattle.bittle_words.specs.Digits.{digit_has, digit_set}
+use Rattle.bittle_words.specs.LawProofs.{digit_has-past}
+use Rattle.bittle_words.specs.Orders.{place, members}
+use Rattle.bittle_words.specs.PlainSet.{PlainSet, lacks}
+use Rattle.bittle_words.specs.SetOperations.{combination_has, combination_of, first_alone, just_one}
+use Rattle.bittle_words.proofs.DigitSets.{
+  zero_or_one,
+  digit_has-and,
+  digit_has-or,
+  digit_has-not,
+  digit_has-at,
+}
+use Rattle.bittle_words.proofs.PlaceLemmas.{place_inside}
+use Rattle.bittle_words.proofs.PlainSets.{plain_set}
+
+-- a number below both capacities is decided
+pub combination-below : (f : Bool → Bool → Bool) (s t : PlainSet) (k : ℕ) → k < s.capacity →
+    k < t.capacity → combination_has f s t k ≡ f (s.has k) (t.has k)
+unfolding combination_has
+combination-below f s t k h l = rw (lt-ltb k s.capacity h, lt-ltb k t.capacity l) refl
+
+-- any other stays as it was
+pub combination-past : (f : Bool → Bool → Bool) (s t : PlainSet) (k : ℕ) → t.capacity ≤ k →
+    combination_has f s t k ≡ s.has k
+unfolding combination_has
+combination-past f s t k h = rw (le-ltb k t.capacity h) (by (nat_lt k s.capacity))
+  where
+    by : (b : Bool) → cond (b && false) (f (s.has k) (t.has k)) (s.has k) ≡ s.has k
+    by true = refl
+    by false = refl
+
+-- a number from the first set's capacity on stays as it was
+pub combination-outside : (f : Bool → Bool → Bool) (s t : PlainSet) (k : ℕ) → s.capacity ≤ k →
+    combination_has f s t k ≡ s.has k
+unfolding combination_has
+combination-outside f s t k h = rw (le-ltb k s.capacity h) refl
+
+-- an operation on sets of whole words is the same in each order
+pub members-combination : (f : Bool → Bool → Bool) (m : Bool) (w : ℕ) (s t : PlainSet) → 0 < w →
+    (words : ℕ) × (s.capacity ≡ words * w) → (words : ℕ) × (t.capacity ≡ words * w) →
+    members m w (combination_of f s t) ≡ combination_of f (members m w s) (members m w t)
+unfolding combination_has
+members-combination f m w s t word whole also =
+    ap (plain_set s.capacity) (fun_ext λ k.
+    ap (λ b. cond b (f (s.has (place m w k)) (t.has (place m w k))) (s.has (place m w k)))
+    (ap (λ b. b && nat_lt (place m w k) t.capacity) (inside s whole k)
+    ∙ ap (λ b. nat_lt k s.capacity && b) (inside t also k)))
+  where
+    inside : (u : PlainSet) → (words : ℕ) × (u.capacity ≡ words * w) → (k : ℕ) →
+        nat_lt (place m w k) u.capacity ≡ nat_lt k u.capacity
+    inside u h k = ap (nat_lt (place m w k)) (h.1) ∙ place_inside m w h.0 k word
+        ∙ ap (nat_lt k) (sym (h.1))
