@@ -4,8 +4,13 @@ use Rattle.std.proofs.Math.Bool.{and_self}
 use Rattle.std.proofs.Math.Path.{fun_ext}
 use Rattle.std.proofs.lemmas.Bool.{cases_lt, lt-ltb, le-ltb}
 use Rattle.bittle_bits.specs.PlainSet.{PlainSet}
-use Rattle.bittle_bits.specs.AlgebraLaws.{Commutes, Associates, IsIdempotent, DistributesOver,
-    UndoesItself}
+use Rattle.bittle_bits.specs.AlgebraLaws.{
+  Commutes,
+  Associates,
+  IsIdempotent,
+  DistributesOver,
+  UndoesItself,
+}
 use Rattle.bittle_bits.specs.SetOperations.{combination_has, combination_of, just_one}
 use Rattle.bittle_bits.proofs.PlainSets.{plain_set}
 
@@ -34,11 +39,11 @@ module _ (f : Bool → Bool → Bool) where
   associates law c s t u p q r = ap (plain_set s.capacity) (fun_ext λ k.
       decided f c (combination_of f s t) u k p.has_capacity r.has_capacity
       ∙ ap (λ b. cond (nat_lt k c) (f b (u.has k)) b)
-          (decided f c s t k p.has_capacity q.has_capacity)
+      (decided f c s t k p.has_capacity q.has_capacity)
       ∙ by (nat_lt k c) (s.has k) (t.has k) (u.has k)
       ∙ sym (decided f c s (combination_of f t u) k p.has_capacity q.has_capacity
-          ∙ ap (λ b. cond (nat_lt k c) (f (s.has k) b) (s.has k))
-          (decided f c t u k q.has_capacity r.has_capacity)))
+      ∙ ap (λ b. cond (nat_lt k c) (f (s.has k) b) (s.has k))
+      (decided f c t u k q.has_capacity r.has_capacity)))
     where
       by : (b x y z : Bool) → cond b (f (cond b (f x y) x) z) (cond b (f x y) x)
           ≡ cond b (f x (cond b (f y z) y)) x
@@ -59,7 +64,7 @@ module _ (f : Bool → Bool → Bool) where
   undoes law c s t p q = ap (plain_set s.capacity) (fun_ext λ k.
       decided f c (combination_of f s t) t k p.has_capacity q.has_capacity
       ∙ ap (λ b. cond (nat_lt k c) (f b (t.has k)) b)
-          (decided f c s t k p.has_capacity q.has_capacity)
+      (decided f c s t k p.has_capacity q.has_capacity)
       ∙ by (nat_lt k c) (s.has k) (t.has k))
     where
       by : (b x y : Bool) → cond b (f (cond b (f x y) x) y) (cond b (f x y) x) ≡ x
@@ -72,14 +77,14 @@ pub distributes : (f g : Bool → Bool → Bool) → ((a b d : Bool) → f a (g 
 distributes f g law c s t u p q r = ap (plain_set s.capacity) (fun_ext λ k.
     decided f c s (combination_of g t u) k p.has_capacity q.has_capacity
     ∙ ap (λ b. cond (nat_lt k c) (f (s.has k) b) (s.has k))
-        (decided g c t u k q.has_capacity r.has_capacity)
+    (decided g c t u k q.has_capacity r.has_capacity)
     ∙ by (nat_lt k c) (s.has k) (t.has k) (u.has k)
     ∙ sym (decided g c (combination_of f s t) (combination_of f s u) k p.has_capacity p.has_capacity
     ∙ ap (λ b. cond (nat_lt k c) (g b ((combination_of f s u).has k)) b)
-        (decided f c s t k p.has_capacity q.has_capacity)
+    (decided f c s t k p.has_capacity q.has_capacity)
     ∙ ap (λ b. cond (nat_lt k c) (g (cond (nat_lt k c) (f (s.has k) (t.has k)) (s.has k)) b)
-        (cond (nat_lt k c) (f (s.has k) (t.has k)) (s.has k)))
-        (decided f c s u k p.has_capacity r.has_capacity)))
+    (cond (nat_lt k c) (f (s.has k) (t.has k)) (s.has k)))
+    (decided f c s u k p.has_capacity r.has_capacity)))
   where
     by : (b x y z : Bool) → cond b (f x (cond b (g y z) y)) x
         ≡ cond b (g (cond b (f x y) x) (cond b (f x z) x)) (cond b (f x y) x)

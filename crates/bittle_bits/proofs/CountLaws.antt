@@ -1,6 +1,29 @@
 -- The members and the other numbers of a set split the numbers below its capacity.
-use Rattle.std.proofs.Common.{◌≡◌, ℕ, zero, suc, ◌+◌, ◌<◌, ◌≤◌, Bool, true, false, not, ◌&&◌, ◌==◌,
-    cond, inl, inr, ◌∷◌, length, refl, sym, ap, ◌∙◌, arith}
+use Rattle.std.proofs.Common.{
+  ◌≡◌,
+  ℕ,
+  zero,
+  suc,
+  ◌+◌,
+  ◌<◌,
+  ◌≤◌,
+  Bool,
+  true,
+  false,
+  not,
+  ◌&&◌,
+  ◌==◌,
+  cond,
+  inl,
+  inr,
+  ◌∷◌,
+  length,
+  refl,
+  sym,
+  ap,
+  ◌∙◌,
+  arith,
+}
 use Rattle.std.specs.List.{list_any}
 use Rattle.std.proofs.lemmas.Bool.{cases_eq, eq-eqb, ne_eqb, lt-ltb}
 use Rattle.bittle_bits.specs.PlainSet.{ascending_from, complement, count_below, size, lacks}
@@ -28,17 +51,17 @@ length_of p a zero = refl
 length_of p a (suc n) =
     let here : p (a + 0) ≡ p a = ap p (omega arith) in
     let next : count_below n (λ k. p (suc a + k))
-        ≡ count_below n (λ k. p (a + (1 + k))) = count-same n _ _ (λ k h. ap p (omega arith)) in
+    ≡ count_below n (λ k. p (a + (1 + k))) = count-same n _ _ (λ k h. ap p (omega arith)) in
     let whole : count_below (1 + n) (λ k. p (a + k))
-        ≡ cond (p a) 1 0 + length (ascending_from p (suc a) n) = count-first (λ k. p (a + k)) n
-        ∙ ap (λ b. cond b 1 0 + count_below n (λ k. p (a + (1 + k)))) here
-        ∙ ap (λ t. cond (p a) 1 0 + t) (sym next ∙ sym (length_of p (suc a) n)) in
+    ≡ cond (p a) 1 0 + length (ascending_from p (suc a) n) = count-first (λ k. p (a + k)) n
+    ∙ ap (λ b. cond b 1 0 + count_below n (λ k. p (a + (1 + k)))) here
+    ∙ ap (λ t. cond (p a) 1 0 + t) (sym next ∙ sym (length_of p (suc a) n)) in
     let one : 1 + n ≡ suc n = omega arith in
     let rest = rw one at whole in
     elim (p a) as (λ b. count_below (suc n) (λ k. p (a + k))
-        ≡ cond b 1 0 + length (ascending_from p (suc a) n) →
-        length (cond b (a ∷ ascending_from p (suc a) n) (ascending_from p (suc a) n))
-        ≡ count_below (suc n) (λ k. p (a + k)))
+    ≡ cond b 1 0 + length (ascending_from p (suc a) n) →
+    length (cond b (a ∷ ascending_from p (suc a) n) (ascending_from p (suc a) n))
+    ≡ count_below (suc n) (λ k. p (a + k)))
     [ true ↦ λ e. omega (arith, e) | false ↦ λ e. omega (arith, e) ] rest
 
 not_before : (p : ℕ → Bool) (a n k : ℕ) → k < a →
@@ -49,7 +72,7 @@ not_before p a (suc n) k h =
     let rest = not_before p (suc a) n k (omega arith) in
     let other = ne_eqb a k (λ e. absurd (omega arith)) in
     elim (p a) as (λ b. list_any (λ i. i == k)
-        (cond b (a ∷ ascending_from p (suc a) n) (ascending_from p (suc a) n)) ≡ false)
+    (cond b (a ∷ ascending_from p (suc a) n) (ascending_from p (suc a) n)) ≡ false)
     [ true ↦ rw (other, rest) refl | false ↦ rest ]
 
 -- a number of the range is in the list just if it passes the test
@@ -61,13 +84,13 @@ listed p a (suc n) k lo hi = elim (cases_eq a k) [
   | inl e ↦
       let rest = not_before p (suc a) n k (omega arith) in
       elim (p a) as (λ b. p a ≡ b → list_any (λ i. i == k)
-          (cond b (a ∷ ascending_from p (suc a) n) (ascending_from p (suc a) n)) ≡ p k)
+      (cond b (a ∷ ascending_from p (suc a) n) (ascending_from p (suc a) n)) ≡ p k)
       [ true ↦ λ is. rw (eq-eqb a k e) (sym is ∙ ap p e) | false ↦ λ is. rest ∙ sym is ∙ ap p e ]
-          refl
+      refl
   | inr d ↦
       let rest = listed p (suc a) n k (omega arith) (omega arith) in
       elim (p a) as (λ b. list_any (λ i. i == k)
-          (cond b (a ∷ ascending_from p (suc a) n) (ascending_from p (suc a) n)) ≡ p k)
+      (cond b (a ∷ ascending_from p (suc a) n) (ascending_from p (suc a) n)) ≡ p k)
       [ true ↦ rw (ne_eqb a k d) rest | false ↦ rest ]
 ]
 
@@ -76,7 +99,7 @@ pub splits : OnesAndZerosSplit
 unfolding lacks
 splits s =
     let others : size (complement s) ≡ count_below s.capacity (λ k. not (s.has k)) = count-same
-        s.capacity _ _ (λ k h. ap (λ b. b && not (s.has k)) (lt-ltb k s.capacity h)) in
+    s.capacity _ _ (λ k h. ap (λ b. b && not (s.has k)) (lt-ltb k s.capacity h)) in
     record {
       total = omega (arith, others, count-both s.capacity s.has);
       ones_listed = length_of s.has 0 s.capacity

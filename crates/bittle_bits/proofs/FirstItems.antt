@@ -1,6 +1,25 @@
 -- The first item of the increasing list, and what stands past its last.
-use Rattle.std.proofs.Common.{◌≡◌, ℕ, zero, suc, ◌+◌, ◌<◌, ◌≤◌, ◌⊎◌, Bool, true, false, cond, ◌∷◌,
-    sym, ◌∙◌, ap, inl, inr, arith}
+use Rattle.std.proofs.Common.{
+  ◌≡◌,
+  ℕ,
+  zero,
+  suc,
+  ◌+◌,
+  ◌<◌,
+  ◌≤◌,
+  ◌⊎◌,
+  Bool,
+  true,
+  false,
+  cond,
+  ◌∷◌,
+  sym,
+  ◌∙◌,
+  ap,
+  inl,
+  inr,
+  arith,
+}
 use Rattle.std.proofs.lemmas.Bool.{cases_eq, cases_Bool}
 use Rattle.bittle_bits.specs.PlainSet.{ascending_from}
 use Rattle.bittle_bits.proofs.AscendingLists.{ascending-yes, ascending-no, ascending_from-none}
@@ -15,7 +34,7 @@ pub ascending_from-least : (s : ℕ → Bool) (from n v m : ℕ) → from ≤ v 
 ascending_from-least s from zero v m p e t h = absurd (omega arith)
 ascending_from-least s from (suc n) v m p e t h =
     by (λ l. ascending_from-least s (suc from) n v m (omega arith) (omega arith) t
-        (λ i a b. h i (omega arith) b)) (cases_eq from v)
+    (λ i a b. h i (omega arith) b)) (cases_eq from v)
   where
     by : (from < v → ascending_from s (suc from) n ≡ v ∷ ascending_from s (suc v) m) →
         (from ≡ v) ⊎ (from ≡ v → ⊥) → ascending_from s from (suc n) ≡ v ∷ ascending_from s (suc v) m
@@ -49,8 +68,15 @@ least_or_none s from (suc n) = by (cases_Bool (s from)) (least_or_none s (suc fr
         NonePasses s from (from + suc n) ⊎ ((v : ℕ) × IsLeastPassing s from (from + suc n) v)
     by (inl t) r = inr (from, (omega arith, omega arith, t, λ i p q. absurd (omega arith)))
     by (inr f) (inl r) = inl (λ i p q. grow f (suc from + n) r i p (omega arith))
-    by (inr f) (inr r) = inr (r.0, (omega (arith, r.1.0), omega (arith, r.1.1), r.1.2,
-        grow f r.0 r.1.3))
+    by (inr f) (inr r) = inr (
+      r.0,
+      (
+        omega (arith, r.1.0),
+        omega (arith, r.1.1),
+        r.1.2,
+        grow f r.0 r.1.3,
+      ),
+    )
 
 -- past the last number that passes nothing comes
 pub ascending_from-past : (s : ℕ → Bool) (from n r : ℕ) → n ≤ r →

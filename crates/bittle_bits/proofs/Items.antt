@@ -1,13 +1,33 @@
 -- The members of a set between two numbers, and the items of a copied word, as lists.
-use Rattle.std.proofs.Common.{◌≡◌, ℕ, ◌+◌, ◌-◌, ◌*◌, ◌<◌, ◌≤◌, Bool, false, [], ◌++◌, map, refl,
-    sym, ap, ◌∙◌, arith}
+use Rattle.std.proofs.Common.{
+  ◌≡◌,
+  ℕ,
+  ◌+◌,
+  ◌-◌,
+  ◌*◌,
+  ◌<◌,
+  ◌≤◌,
+  Bool,
+  false,
+  [],
+  ◌++◌,
+  map,
+  refl,
+  sym,
+  ap,
+  ◌∙◌,
+  arith,
+}
 use Rattle.bittle_bits.specs.Copies.{members_between, items_of}
 use Rattle.bittle_bits.specs.Digits.{digit_set}
 use Rattle.bittle_bits.specs.Orders.{members}
 use Rattle.bittle_bits.specs.PlainSet.{PlainSet, ascending}
 use Rattle.bittle_bits.specs.Words.{word_of}
-use Rattle.bittle_bits.proofs.AscendingLists.{ascending_from-add, ascending_from-none,
-    ascending_from-moved}
+use Rattle.bittle_bits.proofs.AscendingLists.{
+  ascending_from-add,
+  ascending_from-none,
+  ascending_from-moved,
+}
 use Rattle.bittle_bits.proofs.DigitSets.{no_digits}
 use Rattle.bittle_bits.proofs.Words.{digit_at}
 
@@ -37,7 +57,7 @@ unfolding members_between
 items_of-word m w k s d word is =
     let n : k * w + w - k * w ≡ w = omega arith in
     rw n (ascending_from-moved (members m w (digit_set w d)).has (members m w s).has (k * w) 0
-        (k * w) w (omega arith) (λ i lo hi. sym (digit_at m w k s d word is i (omega arith))))
+    (k * w) w (omega arith) (λ i lo hi. sym (digit_at m w k s d word is i (omega arith))))
 
 -- the word 0 has no items
 pub items_of-none : (m : Bool) (w d base : ℕ) → d ≡ 0 → items_of m w d base ≡ []

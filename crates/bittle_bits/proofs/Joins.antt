@@ -1,7 +1,35 @@
 -- What any number of calls of a join give.
-use Rattle.std.proofs.Common.{◌≡◌, ℕ, suc, zero, ◌+◌, ◌-◌, ◌<◌, ◌≤◌, Bool, true, false, cond, List,
-    [], ◌∷◌, ◌++◌, Some, None, length, drop, slice_index, sym, ap, ◌∙◌, subst, arith, zero-add,
-    length-append, add-one}
+use Rattle.std.proofs.Common.{
+  ◌≡◌,
+  ℕ,
+  suc,
+  zero,
+  ◌+◌,
+  ◌-◌,
+  ◌<◌,
+  ◌≤◌,
+  Bool,
+  true,
+  false,
+  cond,
+  List,
+  [],
+  ◌∷◌,
+  ◌++◌,
+  Some,
+  None,
+  length,
+  drop,
+  slice_index,
+  sym,
+  ap,
+  ◌∙◌,
+  subst,
+  arith,
+  zero-add,
+  length-append,
+  add-one,
+}
 use Rattle.std.specs.Prelude.{Option, slice_get}
 use Rattle.std.specs.Iterator.{Yields, YieldsThen}
 use Rattle.std.proofs.iter.runs.Lists.{Yields-both}
@@ -26,7 +54,7 @@ unfolding ascending_from
 ascending-ascends p from zero = tt
 ascending-ascends p from (suc n) =
     let rest : IsAscendingFrom (from + 1) (ascending_from p (suc from) n) = rw add-one
-        (ascending-ascends p (suc from) n) in
+    (ascending-ascends p (suc from) n) in
     by (p from) rest
   where
     by : (b : Bool) → IsAscendingFrom (from + 1) (ascending_from p (suc from) n) →
@@ -44,14 +72,20 @@ place_of_member from (m ∷ ms) (suc k) h below =
     omega (arith, h.0, place_of_member (m + 1) ms k h.1 (omega arith))
 
 joined_none : {A : Type 0} (from : ℕ) (ms : List ℕ) → IsJoin {A = A} from ms [] []
-joined_none from [] = record { among = omega arith; given = λ k h. absurd (omega arith);
-    long = omega arith }
-joined_none from (m ∷ ms) = record { among = omega arith; given = λ k h. absurd (omega arith);
-    long = omega arith }
+joined_none from [] = record {
+  among = omega arith;
+  given = λ k h. absurd (omega arith);
+  long = omega arith;
+}
+joined_none from (m ∷ ms) = record {
+  among = omega arith;
+  given = λ k h. absurd (omega arith);
+  long = omega arith;
+}
 
 joined_more : {A : Type 0} (from m : ℕ) (ms : List ℕ) (passed rest : List A) (y : A) (ys : List A)
     → from + length passed ≡ m → IsAscendingFrom (m + 1) ms → IsJoin (m + 1) ms rest ys →
-        IsJoin from (m ∷ ms) (passed ++ y ∷ rest) (y ∷ ys)
+    IsJoin from (m ∷ ms) (passed ++ y ∷ rest) (y ∷ ys)
 joined_more {A} from m ms passed rest y ys at above h = record {
   among = omega (arith, h.among);
   given = given;
@@ -71,7 +105,7 @@ joined_more {A} from m ms passed rest y ys at above h = record {
         let past : m + 1 ≤ p = place_of_member (m + 1) ms k above (omega (arith, h.among)) in
         let e : length passed + suc (p - (m + 1)) ≡ p - from = omega (arith, at, past) in
         h.given k (omega arith) ∙ sym (slice_get-append-add passed (y ∷ rest) (suc (p - (m + 1))))
-            ∙ ap (slice_get all) e
+        ∙ ap (slice_get all) e
 
 module _ {I A : Type 0} (steps : I → Option A → I → Type 0) where
   -- what calls from a join with these members left give, from its next place on
@@ -87,7 +121,7 @@ module _ {I A : Type 0} (steps : I → Option A → I → Type 0) where
       (taken, ran, join, rest, many, goes) =
       let at : s.taken + length passed ≡ m = omega (arith, ahead.0, count) in
       let join' : IsJoin (m + 1) ms taken ys = subst (λ n. IsJoin n ms taken ys) next
-          (subst (λ l. IsJoin j.taken l taken ys) left join) in (
+      (subst (λ l. IsJoin j.taken l taken ys) left join) in (
         passed ++ y ∷ taken,
         Yields-both steps passed (y ∷ taken) s.iter u t.iter before (j.iter, last, ran),
         joined_more s.taken m ms passed taken y ys at ahead.1 join',
@@ -106,12 +140,18 @@ module _ {I A : Type 0} (steps : I → Option A → I → Type 0) where
   -- the answers of a join before its end are the iterator's items at the mask's members
   pub join_answers : (s : Join I) (ys : List A) (t : Join I) → IsAscendingFrom s.taken s.mask.left →
       s.ended ≡ false → Yields (join_steps steps) s ys t → JoinsTo s s.mask.left ys t
-  join_answers s [] t ahead goes h = ([], ap (λ j. j.iter) h, joined_none s.taken s.mask.left,
-      ap (λ j. j.mask.left) (sym h), omega (arith, ap (λ j. j.taken) h), ap (λ j. j.ended) (sym h)
-      ∙ goes)
+  join_answers s [] t ahead goes h = (
+    [],
+    ap (λ j. j.iter) h,
+    joined_none s.taken s.mask.left,
+    ap (λ j. j.mask.left) (sym h),
+    omega (arith, ap (λ j. j.taken) h),
+    ap (λ j. j.ended) (sym h)
+        ∙ goes,
+  )
   join_answers s (y ∷ ys) t ahead goes (j, step, rest) =
       one_more s j t y ys s.mask.left ahead (step.2 goes)
-          (join_answers j ys t (still_ahead s j y s.mask.left ahead (step.2 goes)) step.0 rest)
+      (join_answers j ys t (still_ahead s j y s.mask.left ahead (step.2 goes)) step.0 rest)
 
   -- the members stay ahead however many items were given
   ahead_after : (s : Join I) (ys : List A) (t : Join I) → IsAscendingFrom s.taken s.mask.left →
@@ -124,20 +164,22 @@ module _ {I A : Type 0} (steps : I → Option A → I → Type 0) where
       u.taken ≡ s.taken + length taken → IsAscendingFrom u.taken ms → JoinsNext steps ms u None t →
       EndsAt steps s taken ms t
   at_end s u t taken [] ran many ahead step = subst (Yields steps s.iter taken) (sym step.2) ran
-  at_end s u t taken (m ∷ ms) ran many ahead (left, next, (last, (v, before, end), count)) =
-      (last, (v, Yields-both steps taken last s.iter u.iter v ran before, end),
-          omega (arith, ahead.0, count, many, length-append taken last))
+  at_end s u t taken (m ∷ ms) ran many ahead (left, next, (last, (v, before, end), count)) = (
+    last,
+    (v, Yields-both steps taken last s.iter u.iter v ran before, end),
+    omega (arith, ahead.0, count, many, length-append taken last),
+  )
 
   -- a join comes to its end after the last member, or at one that the iterator does not reach
   pub join_end : (s : Join I) (ys : List A) (t : Join I) → IsAscendingFrom s.taken s.mask.left →
       s.ended ≡ false → YieldsThen (join_steps steps) s ys None t
       → (taken : List A) × IsJoin s.taken s.mask.left taken ys
-          × EndsAt steps s taken (drop (length ys) s.mask.left) t
+      × EndsAt steps s taken (drop (length ys) s.mask.left) t
   join_end s ys t before goes (u, calls, step) =
       let (taken, ran, join, left, many, goes') = join_answers s ys u before goes calls in
       let ms = drop (length ys) s.mask.left in
       let ahead : IsAscendingFrom u.taken ms = subst (IsAscendingFrom u.taken) left
-          (ahead_after s ys u before goes calls) in
+      (ahead_after s ys u before goes calls) in
       let next : JoinsNext steps ms u None t = subst (λ l. JoinsNext steps l u None t) left
-          (step.2 goes') in
+      (step.2 goes') in
       (taken, join, at_end s u t taken ms ran many ahead next)

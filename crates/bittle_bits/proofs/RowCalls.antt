@@ -1,22 +1,73 @@
 -- A call on one index of a row, by the call on the element that the index goes to.
-use Rattle.std.proofs.Common.{◌≡◌, ◌≢◌, ℕ, zero, suc, ◌+◌, ◌*◌, ◌/◌, ◌%◌, ◌<◌, ◌≤◌, Bool, true,
-    false, not, ◌&&◌, ◌||◌, ◌==◌, nat_lt, inl, inr, refl, sym, ap, ◌∙◌, arith, List, [], ◌∷◌,
-    length, get_or, set, replicate}
+use Rattle.std.proofs.Common.{
+  ◌≡◌,
+  ◌≢◌,
+  ℕ,
+  zero,
+  suc,
+  ◌+◌,
+  ◌*◌,
+  ◌/◌,
+  ◌%◌,
+  ◌<◌,
+  ◌≤◌,
+  Bool,
+  true,
+  false,
+  not,
+  ◌&&◌,
+  ◌||◌,
+  ◌==◌,
+  nat_lt,
+  inl,
+  inr,
+  refl,
+  sym,
+  ap,
+  ◌∙◌,
+  arith,
+  List,
+  [],
+  ◌∷◌,
+  length,
+  get_or,
+  set,
+  replicate,
+}
 use Rattle.std.proofs.Math.Path.{fun_ext}
 use Rattle.std.proofs.Math.Nat.{div-add-mod', mod-eq_of_lt, mul_assoc}
-use Rattle.std.proofs.lemmas.Nat.{mod-mul-add, div-mul-add, mod_below, div_below, mul-add-lt,
-    same_from_place}
+use Rattle.std.proofs.lemmas.Nat.{
+  mod-mul-add,
+  div-mul-add,
+  mod_below,
+  div_below,
+  mul-add-lt,
+  same_from_place,
+}
 use Rattle.std.proofs.lemmas.List.{get_or-replicate, length-replicate}
 use Rattle.std.proofs.lemmas.Bool.{eq-eqb, ne_eqb, cases_eq, cases_lt, lt-ltb, le-ltb, and_right}
 use Rattle.bittle_bits.specs.RowLawProofs.{elements_has-past}
 use Rattle.bittle_words.specs.Orders.{place, members}
-use Rattle.bittle_words.specs.PlainSet.{PlainSet, contains, with_index, without_index, empty_set,
-    without_members, full_set}
+use Rattle.bittle_words.specs.PlainSet.{
+  PlainSet,
+  contains,
+  with_index,
+  without_index,
+  empty_set,
+  without_members,
+  full_set,
+}
 use Rattle.bittle_bits.specs.Rows.{at_element, elements_has, elements_set, GoesTo}
 use Rattle.bittle_words.proofs.PlaceLemmas.{place_part, place_below, place_past}
 use Rattle.bittle_words.proofs.PlainSets.{plain_set, contains_in, with_in, without_in}
-use Rattle.bittle_bits.proofs.RowSets.{at_element-read, at_element-set_same, at_element-set_other,
-    elements_has_at, by_place, elements_placed}
+use Rattle.bittle_bits.proofs.RowSets.{
+  at_element-read,
+  at_element-set_same,
+  at_element-set_other,
+  elements_has_at,
+  by_place,
+  elements_placed,
+}
 
 -- the place of an index that wraps
 pub wraps_at : (n c i : ℕ) → 0 < n → 0 < c → i % (n * c) ≡ i / c % n * c + i % c
@@ -24,9 +75,9 @@ wraps_at n c i h l =
     let a = mod_below (i / c) n h in
     let b = mod_below i c l in
     let low : i / c % n * c + i % c < n * c = omega (arith, mul-add-lt (i / c % n) c (i % c) n a b)
-        in
+    in
     let e : i ≡ i / c / n * (n * c) + (i / c % n * c + i % c) = sym (div-add-mod' i c)
-        ∙ ap (λ t. t * c + i % c) (sym (div-add-mod' (i / c) n)) ∙ omega arith in
+    ∙ ap (λ t. t * c + i % c) (sym (div-add-mod' (i / c) n)) ∙ omega arith in
     ap (λ t. t % (n * c)) e ∙ mod-mul-add (i / c / n) (n * c) (i / c % n * c + i % c) low
 
 -- two indexes of one element are the same in the row exactly where they are in the element
@@ -52,21 +103,21 @@ module _ {X : Type 0} (n c e r : ℕ) (f : X → ℕ → Bool) (h : Bool → Boo
             elim (cases_eq q e) [
               | inl same ↦
                   rw same (at_element-set_same (λ x. f x t) xs e y (omega arith) ∙ ap (λ g. g t) is
-                      ∙ sym (ap (λ s. h s (elements_has n c f xs (e * c + t)))
-                      (same_place_eq e c r t)
-                      ∙ ap (h (t == r)) (elements_has_at n c f xs e t le b
-                      ∙ at_element-read (λ x. f x t) xs e x (omega arith) at)))
+                  ∙ sym (ap (λ s. h s (elements_has n c f xs (e * c + t)))
+                  (same_place_eq e c r t)
+                  ∙ ap (h (t == r)) (elements_has_at n c f xs e t le b
+                  ∙ at_element-read (λ x. f x t) xs e x (omega arith) at)))
               | inr other ↦
                   at_element-set_other (λ x. f x t) xs e q y other
-                      ∙ sym (ap (λ s. h s (elements_has n c f xs (q * c + t)))
-                      (ne_eqb _ _ (λ z. other (same_from_place q t e r c b lr z).0)) ∙ none _
-                      ∙ elements_has_at n c f xs q t a b)
+                  ∙ sym (ap (λ s. h s (elements_has n c f xs (q * c + t)))
+                  (ne_eqb _ _ (λ z. other (same_from_place q t e r c b lr z).0)) ∙ none _
+                  ∙ elements_has_at n c f xs q t a b)
             ]) k l
         | inr g ↦
             let low = mul-add-lt e c r n le lr in
             elements_has-past n c f (set xs e y) k g
-                ∙ sym (ap (λ s. h s (elements_has n c f xs k))
-                (ne_eqb k (e * c + r) (λ z. omega arith)) ∙ none _ ∙ elements_has-past n c f xs k g)
+            ∙ sym (ap (λ s. h s (elements_has n c f xs k))
+            (ne_eqb k (e * c + r) (λ z. omega arith)) ∙ none _ ∙ elements_has-past n c f xs k g)
       ]
 
 -- the three calls on a row, by the call on the element that the index goes to
@@ -92,9 +143,9 @@ module _ {X : Type 0} (m : Bool) (w c n i q r : ℕ) (big : X → PlainSet) (xs 
   row_tested b is =
       is ∙ contains_in (members m w (big x)) c r owned some ∙ ap (test x) (mod-eq_of_lt goes.within)
       ∙ sym (contains_in (members m w (elements_set n c big xs)) (n * c) i refl there
-          ∙ ap (λ p. p (i % (n * c))) (placed xs) ∙ ap (elements_has n c test xs) goes.at
-          ∙ elements_has_at n c test xs q r goes.is_element goes.within
-          ∙ at_element-read (λ x. test x r) xs q x (let l = goes.is_element in omega arith) at)
+      ∙ ap (λ p. p (i % (n * c))) (placed xs) ∙ ap (elements_has n c test xs) goes.at
+      ∙ elements_has_at n c test xs q r goes.is_element goes.within
+      ∙ at_element-read (λ x. test x r) xs q x (let l = goes.is_element in omega arith) at)
 
   -- a change of one index of the element
   changed : (h : Bool → Bool → Bool) (y : X) → ((b : Bool) → h false b ≡ b) →
@@ -105,7 +156,7 @@ module _ {X : Type 0} (m : Bool) (w c n i q r : ℕ) (big : X → PlainSet) (xs 
   changed h y none is =
       ap (plain_set (n * c)) (placed (set xs q y)
       ∙ elements_has-set n c q r test h xs x y goes.is_element all goes.within none at
-          (ap (λ s. s.has) is ∙ ap (λ p. (λ t. h (t == p) (test x t))) (mod-eq_of_lt goes.within))
+      (ap (λ s. s.has) is ∙ ap (λ p. (λ t. h (t == p) (test x t))) (mod-eq_of_lt goes.within))
       ∙ ap (λ p. (λ k. h (k == p) (elements_has n c test xs k))) (sym goes.at)
       ∙ ap (λ p k. h (k == i % (n * c)) (p k)) (sym (placed xs)))
 

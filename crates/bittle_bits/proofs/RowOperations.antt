@@ -1,7 +1,42 @@
 -- The operations on two rows of elements.
-use Rattle.std.proofs.Common.{◌≡◌, ℕ, zero, suc, ◌+◌, ◌-◌, ◌*◌, ◌%◌, ◌^◌, ◌<◌, ◌≤◌, Bool, true,
-    false, cond, not, ◌&&◌, ◌||◌, ◌==◌, nat_lt, inl, inr, refl, sym, ap, ◌∙◌, arith, List, [], ◌∷◌,
-    length, get_or, set, bit_and, bit_or, bit_xor}
+use Rattle.std.proofs.Common.{
+  ◌≡◌,
+  ℕ,
+  zero,
+  suc,
+  ◌+◌,
+  ◌-◌,
+  ◌*◌,
+  ◌%◌,
+  ◌^◌,
+  ◌<◌,
+  ◌≤◌,
+  Bool,
+  true,
+  false,
+  cond,
+  not,
+  ◌&&◌,
+  ◌||◌,
+  ◌==◌,
+  nat_lt,
+  inl,
+  inr,
+  refl,
+  sym,
+  ap,
+  ◌∙◌,
+  arith,
+  List,
+  [],
+  ◌∷◌,
+  length,
+  get_or,
+  set,
+  bit_and,
+  bit_or,
+  bit_xor,
+}
 use Rattle.std.proofs.Math.Path.{fun_ext}
 use Rattle.std.specs.Int.{bit_at}
 use Rattle.std.proofs.Math.Nat.{mul-le-mul_right}
@@ -16,13 +51,21 @@ use Rattle.bittle_words.specs.Orders.{place, members}
 use Rattle.bittle_words.specs.PlainSet.{PlainSet, lacks}
 use Rattle.bittle_bits.specs.Rows.{at_element, elements_has, elements_set}
 use Rattle.bittle_words.specs.SetOperations.{combination_has, combination_of, first_alone, just_one}
-use Rattle.bittle_words.proofs.DigitSets.{zero_or_one, digit_has-and, digit_has-or, digit_has-not,
-    digit_has-at}
+use Rattle.bittle_words.proofs.DigitSets.{
+  zero_or_one,
+  digit_has-and,
+  digit_has-or,
+  digit_has-not,
+  digit_has-at,
+}
 use Rattle.bittle_words.proofs.PlaceLemmas.{place_inside}
 use Rattle.bittle_words.proofs.PlainSets.{plain_set}
 use Rattle.bittle_bits.proofs.RowSets.{elements_has_at, by_place}
-use Rattle.bittle_words.proofs.SetOperations.{combination-below, combination-past,
-    combination-outside}
+use Rattle.bittle_words.proofs.SetOperations.{
+  combination-below,
+  combination-past,
+  combination-outside,
+}
 
 -- some element of a row that has one
 some_of : {X : Type 0} (xs : List X) (n : ℕ) → n < length xs → X
@@ -71,11 +114,11 @@ module _ {X : Type 0} (f : Bool → Bool → Bool) (c : ℕ) (big : X → PlainS
     decided q r d a l b =
         ap (λ s. s.has r) (each q d a l)
         ∙ combination-below f (big (get_or xs q d)) (big (get_or ys q d)) r
-            (omega (arith, owned (get_or xs q d))) (omega (arith, owned (get_or ys q d)))
+        (omega (arith, owned (get_or xs q d))) (omega (arith, owned (get_or ys q d)))
         ∙ sym (combination-below f before other (q * c + r) (inside (length xs) q r a b)
-            (inside (length ys) q r l b)
+        (inside (length ys) q r l b)
         ∙ ap (λ t. f t (elements_has (length ys) c has ys (q * c + r)))
-            (read (length xs) xs q r d (omega arith) a b)
+        (read (length xs) xs q r d (omega arith) a b)
         ∙ ap (f (has (get_or xs q d) r)) (read (length ys) ys q r d (omega arith) l b))
 
     stays : (q r : ℕ) (d : X) → q < length xs → length ys ≤ q → r < c →
@@ -83,7 +126,7 @@ module _ {X : Type 0} (f : Bool → Bool → Bool) (c : ℕ) (big : X → PlainS
     stays q r d a g b =
         ap (λ x. has x r) (later q d g)
         ∙ sym (combination-past f before other (q * c + r) (beyond (length ys) q r g)
-            ∙ read (length xs) xs q r d (omega arith) a b)
+        ∙ read (length xs) xs q r d (omega arith) a b)
 
     placed : (q r : ℕ) (d : X) → q < length xs → r < c →
         after (q * c + r) ≡ combination_has f before other (q * c + r)
@@ -123,11 +166,11 @@ module _ {X : Type 0} (f : Bool → Bool → Bool) (big : X → PlainSet) (xs ys
       elim (cases_eq k i) [
         | inl e ↦
             let first : get_or zs i x ≡ get_or xs i d = get_or-any zs i x d (omega arith)
-                ∙ rest i d (omega arith) in
+            ∙ rest i d (omega arith) in
             let second : y ≡ get_or ys i d = beside ∙ get_or-any ys i y d also in
             rw e (ap big (get_or-set_same zs i z d (omega arith)) ∙ is
-                ∙ ap (λ u. combination_of f (big u) (big y)) first
-                ∙ ap (λ u. combination_of f (big (get_or xs i d)) (big u)) second)
+            ∙ ap (λ u. combination_of f (big u) (big y)) first
+            ∙ ap (λ u. combination_of f (big (get_or xs i d)) (big u)) second)
         | inr n ↦ ap big (get_or-set_other zs i k z d n) ∙ done k d (omega arith)
       ]
 

@@ -1,17 +1,62 @@
 -- The set of a row of elements.
-use Rattle.std.proofs.Common.{◌≡◌, ◌≢◌, ℕ, zero, suc, ◌+◌, ◌*◌, ◌/◌, ◌%◌, ◌<◌, ◌≤◌, Bool, true,
-    false, not, ◌&&◌, ◌||◌, ◌==◌, nat_lt, inl, inr, refl, sym, ap, ◌∙◌, arith, List, [], ◌∷◌,
-    length, get_or, set, replicate}
+use Rattle.std.proofs.Common.{
+  ◌≡◌,
+  ◌≢◌,
+  ℕ,
+  zero,
+  suc,
+  ◌+◌,
+  ◌*◌,
+  ◌/◌,
+  ◌%◌,
+  ◌<◌,
+  ◌≤◌,
+  Bool,
+  true,
+  false,
+  not,
+  ◌&&◌,
+  ◌||◌,
+  ◌==◌,
+  nat_lt,
+  inl,
+  inr,
+  refl,
+  sym,
+  ap,
+  ◌∙◌,
+  arith,
+  List,
+  [],
+  ◌∷◌,
+  length,
+  get_or,
+  set,
+  replicate,
+}
 use Rattle.std.proofs.Math.Path.{fun_ext}
 use Rattle.std.proofs.Math.Nat.{div-add-mod', mod-eq_of_lt, mul_assoc}
-use Rattle.std.proofs.lemmas.Nat.{mod-mul-add, div-mul-add, mod_below, div_below, mul-add-lt,
-    same_from_place}
+use Rattle.std.proofs.lemmas.Nat.{
+  mod-mul-add,
+  div-mul-add,
+  mod_below,
+  div_below,
+  mul-add-lt,
+  same_from_place,
+}
 use Rattle.std.proofs.lemmas.List.{get_or-replicate, length-replicate}
 use Rattle.std.proofs.lemmas.Bool.{eq-eqb, ne_eqb, cases_eq, cases_lt, lt-ltb, le-ltb, and_right}
 use Rattle.bittle_bits.specs.RowLawProofs.{elements_has-past}
 use Rattle.bittle_words.specs.Orders.{place, members}
-use Rattle.bittle_words.specs.PlainSet.{PlainSet, contains, with_index, without_index, empty_set,
-    without_members, full_set}
+use Rattle.bittle_words.specs.PlainSet.{
+  PlainSet,
+  contains,
+  with_index,
+  without_index,
+  empty_set,
+  without_members,
+  full_set,
+}
 use Rattle.bittle_bits.specs.Rows.{at_element, elements_has, elements_set, GoesTo}
 use Rattle.bittle_words.proofs.PlaceLemmas.{place_part, place_below, place_past}
 use Rattle.bittle_words.proofs.PlainSets.{plain_set, contains_in, with_in, without_in}
@@ -58,7 +103,7 @@ pub by_place : (n c : ℕ) (P : ℕ → Type 0) → ((q r : ℕ) → q < n → r
 by_place n c P f k h =
     let e = div-add-mod' k c in
     let pos : 0 < c = elim (cases_eq c 0)
-        [ inl z ↦ absurd (let t : k < n * 0 = rw z at h in omega arith) | inr s ↦ omega arith ] in
+    [ inl z ↦ absurd (let t : k < n * 0 = rw z at h in omega arith) | inr s ↦ omega arith ] in
     rw e at (f (k / c) (k % c) (div_below k c n pos h) (mod_below k c pos))
 
 module _ (m : Bool) (w d c n : ℕ) (word : 0 < w) (whole : c ≡ d * w) where
@@ -82,8 +127,8 @@ module _ (m : Bool) (w d c n : ℕ) (word : 0 < w) (whole : c ≡ d * w) where
         | inl l ↦ by_place n c (λ t. elements_has n c f xs (place m w t)
             ≡ elements_has n c (λ x k. f x (place m w k)) xs t)
             (λ q r a b. rw (place_at q r b)
-                (elements_has_at n c f xs q (place m w r) a (place_within r b)
-                ∙ sym (elements_has_at n c (λ x k. f x (place m w k)) xs q r a b))) k l
+            (elements_has_at n c f xs q (place m w r) a (place_within r b)
+            ∙ sym (elements_has_at n c (λ x k. f x (place m w k)) xs q r a b))) k l
         | inr g ↦ elements_has-past n c f xs (place m w k) (row_past k g)
             ∙ sym (elements_has-past n c (λ x k. f x (place m w k)) xs k g)
       ]
@@ -101,7 +146,7 @@ elements_has-none : {X : Type 0} (n c : ℕ) (f : X → ℕ → Bool) (xs : List
 unfolding elements_has
 elements_has-none n c f xs h = fun_ext λ i.
     ap (λ t. nat_lt i (n * c) && t) (at_element-none (λ x. f x (i % c)) xs (i / c)
-        (λ k d l. ap (λ s. s (i % c)) (h k d l))) ∙ and_right (nat_lt i (n * c)) false refl
+    (λ k d l. ap (λ s. s (i % c)) (h k d l))) ∙ and_right (nat_lt i (n * c)) false refl
 
 -- a row whose elements have no members is the emptied row
 pub elements_without_members : {X : Type 0} (n old c : ℕ) (big : X → PlainSet) (xs ys : List X) →
@@ -128,11 +173,11 @@ elements_set-full n c big x e =
           ≡ nat_lt k (n * c)) (λ q r a b.
           elements_has_at n c (λ x. (big x).has) (replicate n x) q r a b
           ∙ at_element-read (λ x. (big x).has r) (replicate n x) q x
-              (let y = length-replicate n x in omega arith)
-              (sym (get_or-replicate n q x x (let y = length-replicate n x in omega arith)))
+          (let y = length-replicate n x in omega arith)
+          (sym (get_or-replicate n q x x (let y = length-replicate n x in omega arith)))
           ∙ ap (λ s. s.has r) e ∙ lt-ltb r c b
-              ∙ sym (lt-ltb (q * c + r) (n * c) (let t = mul-add-lt q c r n a b in omega arith))) k
-              l
+          ∙ sym (lt-ltb (q * c + r) (n * c) (let t = mul-add-lt q c r n a b in omega arith))) k
+          l
       | inr g ↦ elements_has-past n c (λ x. (big x).has) (replicate n x) k g
           ∙ sym (le-ltb k (n * c) g)
     ])

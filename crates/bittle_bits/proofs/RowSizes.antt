@@ -1,7 +1,42 @@
 -- How many members a row of elements has.
-use Rattle.std.proofs.Common.{◌≡◌, ◌≢◌, ℕ, zero, suc, ◌+◌, ◌-◌, ◌*◌, ◌%◌, ◌^◌, ◌<◌, ◌≤◌, Bool, true,
-    false, not, ◌&&◌, ◌==◌, cond, inl, inr, refl, sym, ap, ◌∙◌, arith, List, [], ◌∷◌, length,
-    get_or, take, add-zero, add_assoc, add_comm, subst}
+use Rattle.std.proofs.Common.{
+  ◌≡◌,
+  ◌≢◌,
+  ℕ,
+  zero,
+  suc,
+  ◌+◌,
+  ◌-◌,
+  ◌*◌,
+  ◌%◌,
+  ◌^◌,
+  ◌<◌,
+  ◌≤◌,
+  Bool,
+  true,
+  false,
+  not,
+  ◌&&◌,
+  ◌==◌,
+  cond,
+  inl,
+  inr,
+  refl,
+  sym,
+  ap,
+  ◌∙◌,
+  arith,
+  List,
+  [],
+  ◌∷◌,
+  length,
+  get_or,
+  take,
+  add-zero,
+  add_assoc,
+  add_comm,
+  subst,
+}
 use Rattle.std.proofs.Math.Path.{fun_ext}
 use Rattle.std.proofs.Math.Nat.{mod-eq_of_lt, zero-mul, one-mul, add-suc}
 use Rattle.std.specs.List.{sum_by}
@@ -16,8 +51,12 @@ use Rattle.bittle_words.specs.Digits.{digit_has, digit_set}
 use Rattle.bittle_words.specs.Orders.{place, mirror, members}
 use Rattle.bittle_words.specs.PlainSet.{PlainSet, count_below, size, lacks, complement}
 use Rattle.bittle_bits.specs.Rows.{at_element, elements_has, elements_set}
-use Rattle.bittle_words.proofs.DigitSets.{digit_has-zero, digit_has-not, digit_has-below,
-    some_digit}
+use Rattle.bittle_words.proofs.DigitSets.{
+  digit_has-zero,
+  digit_has-not,
+  digit_has-below,
+  some_digit,
+}
 use Rattle.bittle_words.proofs.PlaceLemmas.{place_part}
 use Rattle.bittle_bits.proofs.RowSets.{elements_has_at, by_place}
 use Rattle.bittle_words.proofs.Counts.{count-same, count-le, count-add, count-none}
@@ -33,15 +72,21 @@ size-elements c f (x ∷ xs) =
     let n = length xs in
     let g = elements_has (suc n) c f (x ∷ xs) in
     let first : count_below c g ≡ count_below c (f x) = count-same c _ _
-        (λ k l. subst (λ t. g t ≡ f x k) (omega arith)
-        (elements_has_at (suc n) c f (x ∷ xs) 0 k (omega arith) l)) in
+    (λ k l. subst (λ t. g t ≡ f x k) (omega arith)
+    (elements_has_at (suc n) c f (x ∷ xs) 0 k (omega arith) l)) in
     let rest : count_below (n * c) (λ k. g (c + k)) ≡ count_below (n * c) (elements_has n c f xs) =
     count-same (n * c) _ _ (by_place n c (λ k. g (c + k) ≡ elements_has n c f xs k)
-        (λ q r a b. ap g (omega arith) ∙ elements_has_at (suc n) c f (x ∷ xs) (suc q) r
-        (omega arith) b ∙ sym (elements_has_at n c f xs q r a b))) in
+    (λ q r a b. ap g (omega arith) ∙ elements_has_at (suc n) c f (x ∷ xs) (suc q) r
+    (omega arith) b ∙ sym (elements_has_at n c f xs q r a b))) in
     let e : suc n * c ≡ c + n * c = omega arith in
-    rw e (omega (arith, count-add c (n * c) g, first, rest, size-elements c f xs,
-        sum_by-cons (λ y. count_below c (f y)) x xs))
+    rw e (omega (
+      arith,
+      count-add c (n * c) g,
+      first,
+      rest,
+      size-elements c f xs,
+      sum_by-cons (λ y. count_below c (f y)) x xs,
+    ))
 
 sum_by-all : {X : Type 0} (g : X → ℕ) (v : ℕ) (xs : List X) →
     ((k : ℕ) (d : X) → k < length xs → g (get_or xs k d) ≡ v) → sum_by g xs ≡ length xs * v
@@ -81,8 +126,14 @@ module _ {X : Type 0} (c : ℕ) (big : X → PlainSet) (xs : List X) (owned : (x
       i < length xs → total ≡ sum_by (λ x. size (big x)) (take i xs) → total + more ≤ length xs * c
   row_count_fits i total more x m at l t =
       let e : more ≡ size (big (get_or xs i x)) = m ∙ ap (λ y. size (big y)) at in
-      omega (arith, e, t, sum_by_more_le (λ x. size (big x)) xs i x l, row_total,
-          size-le (elements_set (length xs) c big xs))
+      omega (
+        arith,
+        e,
+        t,
+        sum_by_more_le (λ x. size (big x)) xs i x l,
+        row_total,
+        size-le (elements_set (length xs) c big xs),
+      )
 
   -- after the last element the count is the size of the row
   pub row_count_all : (i total : ℕ) → length xs ≤ i →

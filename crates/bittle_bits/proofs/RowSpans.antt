@@ -1,24 +1,79 @@
 -- Rows of elements with each index of a span.
-use Rattle.std.proofs.Common.{◌≡◌, ℕ, ◌+◌, ◌-◌, ◌*◌, ◌/◌, ◌%◌, ◌^◌, ◌<◌, ◌≤◌, ◌≢◌, ◌⊎◌, Bool, true,
-    false, not, ◌&&◌, ◌||◌, ◌==◌, nat_lt, nat_le, inl, inr, refl, sym, ap, ◌∙◌, arith, List, length,
-    get_or, set, min, max, bit_and, bit_or}
+use Rattle.std.proofs.Common.{
+  ◌≡◌,
+  ℕ,
+  ◌+◌,
+  ◌-◌,
+  ◌*◌,
+  ◌/◌,
+  ◌%◌,
+  ◌^◌,
+  ◌<◌,
+  ◌≤◌,
+  ◌≢◌,
+  ◌⊎◌,
+  Bool,
+  true,
+  false,
+  not,
+  ◌&&◌,
+  ◌||◌,
+  ◌==◌,
+  nat_lt,
+  nat_le,
+  inl,
+  inr,
+  refl,
+  sym,
+  ap,
+  ◌∙◌,
+  arith,
+  List,
+  length,
+  get_or,
+  set,
+  min,
+  max,
+  bit_and,
+  bit_or,
+}
 use Rattle.std.proofs.Math.Path.{fun_ext}
 use Rattle.std.proofs.Math.Nat.{div-add-mod', mul-le-mul_right}
 use Rattle.std.proofs.lemmas.Nat.{mul-add-lt, mod_below}
-use Rattle.std.proofs.lemmas.Bool.{cases_eq, cases_lt, eq-eqb, ne_eqb, lt-ltb, le-ltb, le-leb,
-    lt-leb, and_right}
+use Rattle.std.proofs.lemmas.Bool.{
+  cases_eq,
+  cases_lt,
+  eq-eqb,
+  ne_eqb,
+  lt-ltb,
+  le-ltb,
+  le-leb,
+  lt-leb,
+  and_right,
+}
 use Rattle.bittle_bits.specs.Digits.{digit_set}
 use Rattle.bittle_bits.specs.RowLawProofs.{elements_has-past}
 use Rattle.bittle_bits.specs.Orders.{place, members}
-use Rattle.bittle_bits.specs.PlainSet.{PlainSet, with_index, has_with_span, with_span,
-    full_set_from}
+use Rattle.bittle_bits.specs.PlainSet.{
+  PlainSet,
+  with_index,
+  has_with_span,
+  with_span,
+  full_set_from,
+}
 use Rattle.bittle_bits.specs.Rows.{elements_has, elements_set}
 use Rattle.bittle_bits.specs.SetOperations.{combination_of, first_alone}
 use Rattle.bittle_bits.proofs.SetOperations.{combination-below, combination-outside}
 use Rattle.bittle_bits.proofs.WordOperations.{digits_either, digits_first_alone, word_combined}
 use Rattle.bittle_bits.proofs.PlainSets.{plain_set, with_in}
-use Rattle.bittle_bits.proofs.RowSets.{at_element-read, at_element-set_same, at_element-set_other,
-    elements_has_at, elements_placed, by_place}
+use Rattle.bittle_bits.proofs.RowSets.{
+  at_element-read,
+  at_element-set_same,
+  at_element-set_other,
+  elements_has_at,
+  elements_placed,
+  by_place,
+}
 use Rattle.bittle_words.proofs.Spans.{outside_span, inside_span, with_span-on}
 
 -- rows: a span within one element
@@ -44,7 +99,7 @@ module _ {X : Type 0} (m : Bool) (w c n q : ℕ) (big : X → PlainSet) (xs : Li
       elements_has n c test (set xs q y) (q * c + t) ≡ (spanned from end).has (q * c + t)
   here from end t is b =
       elements_has_at n c test (set xs q y) q t le b ∙ at_element-set_same (λ x. test x t) xs q y
-          (omega arith) ∙ ap (λ s. s.has t) is
+      (omega arith) ∙ ap (λ s. s.has t) is
       ∙ elim (cases_lt t from) [
         | inl l ↦ outside_span (members m w (big x)) from end t (inl l) ∙ old
             ∙ sym (outside_span (row xs) (q * c + from) (q * c + end) (q * c + t)
@@ -68,9 +123,9 @@ module _ {X : Type 0} (m : Bool) (w c n q : ℕ) (big : X → PlainSet) (xs : Li
       elements_has n c test (set xs q y) (p * c + t) ≡ (spanned from end).has (p * c + t)
   elsewhere from end p t h other a b =
       elements_has_at n c test (set xs q y) p t a b
-          ∙ at_element-set_other (λ x. test x t) xs q p y other
+      ∙ at_element-set_other (λ x. test x t) xs q p y other
       ∙ sym (outside_span (row xs) (q * c + from) (q * c + end) (p * c + t) apart
-          ∙ ap (λ f. f (p * c + t)) (placed xs) ∙ elements_has_at n c test xs p t a b)
+      ∙ ap (λ f. f (p * c + t)) (placed xs) ∙ elements_has_at n c test xs p t a b)
     where
       apart : (p * c + t < q * c + from) ⊎ (q * c + end ≤ p * c + t)
       apart = elim (cases_lt p q) [
@@ -88,14 +143,14 @@ module _ {X : Type 0} (m : Bool) (w c n q : ℕ) (big : X → PlainSet) (xs : Li
       elim (cases_lt k (n * c)) [
         | inl l ↦ by_place n c (λ k. elements_has n c test (set xs q y) k
             ≡ (spanned from end).has k) (λ p t a b. elim (cases_eq p q) [
-          | inl same ↦ rw same (here from end t is b)
-          | inr other ↦ elsewhere from end p t h other a b
-        ]) k l
+              | inl same ↦ rw same (here from end t is b)
+              | inr other ↦ elsewhere from end p t h other a b
+            ]) k l
         | inr g ↦
             let z : (q + 1) * c ≤ n * c = mul-le-mul_right c (omega arith) in
             elements_has-past n c test (set xs q y) k g
-                ∙ sym (outside_span (row xs) (q * c + from) (q * c + end) k (inr (omega arith))
-                ∙ ap (λ f. f k) (placed xs) ∙ elements_has-past n c test xs k g)
+            ∙ sym (outside_span (row xs) (q * c + from) (q * c + end) k (inr (omega arith))
+            ∙ ap (λ f. f k) (placed xs) ∙ elements_has-past n c test xs k g)
       ])
 
 -- where the span stands before an element: at its start, or nowhere past the span
@@ -112,9 +167,9 @@ span_reaches s now next from to c q h l b so_far is =
     let at : max from (min to start) ≡ start + (from - start) = omega arith in
     let on : start + min c (to - start) ≡ max from (min to ((q + 1) * c)) = omega arith in
     is ∙ ap (λ u. with_span u (start + (from - start)) (start + min c (to - start)))
-        (so_far ∙ ap (with_span s from) at)
+    (so_far ∙ ap (with_span s from) at)
     ∙ with_span-on s from (start + (from - start)) (start + min c (to - start)) (omega arith)
-        (omega arith)
+    (omega arith)
     ∙ ap (with_span s from) on
 
 -- a row that holds some index has elements that hold one
@@ -127,9 +182,14 @@ pub begins_before : (to n c q : ℕ) → 0 < to → to ≤ n * c → q < (to - 1
     (q * c < to) × (q < n)
 begins_before to n c q h l b =
     let low : q * c ≤ (to - 1) / c * c = mul-le-mul_right c (omega arith) in
-    let first : q * c < to = omega (arith, low, div-add-mod' (to - 1) c) in
-    (first, elim (cases_lt q n) [ inl e ↦ e | inr g ↦
-        absurd (let t : n * c ≤ q * c = mul-le-mul_right c g in omega arith) ])
+    let first : q * c < to = omega (arith, low, div-add-mod' (to - 1) c) in (
+      first,
+      elim (cases_lt q n) [
+        | inl e ↦ e
+        | inr g ↦
+            absurd (let t : n * c ≤ q * c = mul-le-mul_right c g in omega arith)
+      ],
+    )
 
 -- an index lies before the end of its element
 pub before_end : (i c : ℕ) → 0 < c → i < i / c * c + c

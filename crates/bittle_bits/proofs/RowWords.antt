@@ -1,9 +1,38 @@
 -- Word k of a row of elements, which lies in one of them.
-use Rattle.std.proofs.Common.{◌≡◌, ℕ, suc, ◌+◌, ◌*◌, ◌/◌, ◌%◌, ◌<◌, ◌≤◌, Bool, ◌&&◌, nat_lt, inl,
-    inr, List, length, get_or, refl, sym, ap, ◌∙◌, arith}
+use Rattle.std.proofs.Common.{
+  ◌≡◌,
+  ℕ,
+  suc,
+  ◌+◌,
+  ◌*◌,
+  ◌/◌,
+  ◌%◌,
+  ◌<◌,
+  ◌≤◌,
+  Bool,
+  ◌&&◌,
+  nat_lt,
+  inl,
+  inr,
+  List,
+  length,
+  get_or,
+  refl,
+  sym,
+  ap,
+  ◌∙◌,
+  arith,
+}
 use Rattle.std.proofs.Math.Path.{fun_ext}
-use Rattle.std.proofs.Math.Nat.{mul-div_left, div-add-mod', mul_assoc, zero-mul,
-    lt_of_mul-lt-mul_right, mul-lt-mul_of_pos_right, mul-le-mul_right}
+use Rattle.std.proofs.Math.Nat.{
+  mul-div_left,
+  div-add-mod',
+  mul_assoc,
+  zero-mul,
+  lt_of_mul-lt-mul_right,
+  mul-lt-mul_of_pos_right,
+  mul-le-mul_right,
+}
 use Rattle.std.proofs.lemmas.Nat.{mod_below, div_below, mul-add-lt}
 use Rattle.std.proofs.lemmas.Bool.{cases_eq, cases_lt, lt-ltb, le-ltb}
 use Rattle.bittle_words.specs.Digits.{digit_has, digit_set}
@@ -24,8 +53,11 @@ module _ {X : Type 0} (n c w d k : ℕ) (big : X → PlainSet) (xs : List X) (wo
 
   -- an element has at least one word
   pub some_words : 0 < d
-  some_words = elim (cases_eq d 0) [ inl z ↦
-      absurd (let h : k < n * 0 = rw z at in_row in omega arith) | inr p ↦ omega arith ]
+  some_words = elim (cases_eq d 0) [
+    | inl z ↦
+        absurd (let h : k < n * 0 = rw z at in_row in omega arith)
+    | inr p ↦ omega arith
+  ]
 
   -- the word lies in an element of the row
   pub word_element : k / d < n
@@ -44,18 +76,18 @@ module _ {X : Type 0} (n c w d k : ℕ) (big : X → PlainSet) (xs : List X) (wo
       ap (plain_set w) (fun_ext λ i. elim (cases_lt i w) [
         | inl l ↦
             let low : k % d * w + i < d * w = omega
-                (arith, mul-add-lt (k % d) w i d (mod_below k d some_words) l) in
+            (arith, mul-add-lt (k % d) w i d (mod_below k d some_words) l) in
             let inside : k % d * w + i < c = omega (arith, whole) in
             let split : k * w ≡ k / d * d * w + k % d * w = ap (λ t. t * w) (sym (div-add-mod' k d))
-                ∙ omega arith in
+            ∙ omega arith in
             let place_is : k * w + i ≡ k / d * c + (k % d * w + i) = omega
-                (arith, split, ap (λ t. k / d * t) whole, mul_assoc (k / d) d w) in
+            (arith, split, ap (λ t. k / d * t) whole, mul_assoc (k / d) d w) in
             ap (λ b. nat_lt i w && b) (sym
-                (ap (elements_has n c (λ x. (big x).has) xs) place_is
-                ∙ elements_has_at n c (λ x. (big x).has) xs (k / d)
-                (k % d * w + i) word_element inside
+            (ap (elements_has n c (λ x. (big x).has) xs) place_is
+            ∙ elements_has_at n c (λ x. (big x).has) xs (k / d)
+            (k % d * w + i) word_element inside
             ∙ at_element-read (λ x. (big x).has (k % d * w + i)) xs (k / d) x
-                (omega (arith, word_element)) at))
+            (omega (arith, word_element)) at))
         | inr g ↦ rw (le-ltb i w g) refl
       ])
 

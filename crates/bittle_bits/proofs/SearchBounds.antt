@@ -1,16 +1,65 @@
 -- Which words a search between two numbers goes through.
-use Rattle.std.proofs.Common.{◌≡◌, ℕ, ◌+◌, ◌-◌, ◌*◌, ◌/◌, ◌%◌, ◌^◌, ◌<◌, ◌≤◌, ◌⊎◌, Bool, true,
-    false, not, ◌&&◌, ◌||◌, ◌==◌, nat_lt, inl, inr, Some, None, refl, sym, ap, ◌∙◌, arith, bit_and,
-    bit_or}
-use Rattle.std.proofs.Math.Nat.{div-add-mod', mul-le-mul_right, mod-eq_of_lt,
-    lt_of_mul-lt-mul_right}
+use Rattle.std.proofs.Common.{
+  ◌≡◌,
+  ℕ,
+  ◌+◌,
+  ◌-◌,
+  ◌*◌,
+  ◌/◌,
+  ◌%◌,
+  ◌^◌,
+  ◌<◌,
+  ◌≤◌,
+  ◌⊎◌,
+  Bool,
+  true,
+  false,
+  not,
+  ◌&&◌,
+  ◌||◌,
+  ◌==◌,
+  nat_lt,
+  inl,
+  inr,
+  Some,
+  None,
+  refl,
+  sym,
+  ap,
+  ◌∙◌,
+  arith,
+  bit_and,
+  bit_or,
+}
+use Rattle.std.proofs.Math.Nat.{
+  div-add-mod',
+  mul-le-mul_right,
+  mod-eq_of_lt,
+  lt_of_mul-lt-mul_right,
+}
 use Rattle.std.proofs.lemmas.Nat.{mod_below}
-use Rattle.std.proofs.lemmas.Bool.{cases_lt, cases_eq, eq-eqb, ne_eqb, lt-ltb, le-ltb, ltb-true,
-    and_parts, true≢false}
+use Rattle.std.proofs.lemmas.Bool.{
+  cases_lt,
+  cases_eq,
+  eq-eqb,
+  ne_eqb,
+  lt-ltb,
+  le-ltb,
+  ltb-true,
+  and_parts,
+  true≢false,
+}
 use Rattle.bittle_bits.specs.Digits.{digit_has, digit_set}
 use Rattle.bittle_bits.specs.Orders.{place, members}
-use Rattle.bittle_bits.specs.PlainSet.{PlainSet, full_set_from, with_index, empty_set, lacks,
-    IsLeastMember, IsGreatestMember}
+use Rattle.bittle_bits.specs.PlainSet.{
+  PlainSet,
+  full_set_from,
+  with_index,
+  empty_set,
+  lacks,
+  IsLeastMember,
+  IsGreatestMember,
+}
 use Rattle.bittle_bits.specs.Searches.{NoneIn, IsFirstIn, IsLastIn}
 use Rattle.bittle_bits.specs.Words.{word_of}
 use Rattle.bittle_bits.proofs.DigitSets.{digit_has-and, digit_has-or, digit_has-not}
@@ -38,6 +87,6 @@ first_word w from = omega (arith, div-add-mod' from w)
 pub words_ordered : (w from to : ℕ) → 0 < w → from < to → from / w ≤ (to - 1) / w
 words_ordered w from to word h =
     let up : from / w * w < ((to - 1) / w + 1) * w = omega
-        (arith, div-add-mod' from w, div-add-mod' (to - 1) w, mod_below (to - 1) w word) in
+    (arith, div-add-mod' from w, div-add-mod' (to - 1) w, mod_below (to - 1) w word) in
     let low : from / w < (to - 1) / w + 1 = lt_of_mul-lt-mul_right w up in
     omega arith

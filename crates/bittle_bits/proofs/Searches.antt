@@ -1,16 +1,65 @@
 -- A search for the first or the last member between two numbers, word by word.
-use Rattle.std.proofs.Common.{◌≡◌, ℕ, ◌+◌, ◌-◌, ◌*◌, ◌/◌, ◌%◌, ◌^◌, ◌<◌, ◌≤◌, ◌⊎◌, Bool, true,
-    false, not, ◌&&◌, ◌||◌, ◌==◌, nat_lt, inl, inr, Some, None, refl, sym, ap, ◌∙◌, arith, bit_and,
-    bit_or}
-use Rattle.std.proofs.Math.Nat.{div-add-mod', mul-le-mul_right, mod-eq_of_lt,
-    lt_of_mul-lt-mul_right}
+use Rattle.std.proofs.Common.{
+  ◌≡◌,
+  ℕ,
+  ◌+◌,
+  ◌-◌,
+  ◌*◌,
+  ◌/◌,
+  ◌%◌,
+  ◌^◌,
+  ◌<◌,
+  ◌≤◌,
+  ◌⊎◌,
+  Bool,
+  true,
+  false,
+  not,
+  ◌&&◌,
+  ◌||◌,
+  ◌==◌,
+  nat_lt,
+  inl,
+  inr,
+  Some,
+  None,
+  refl,
+  sym,
+  ap,
+  ◌∙◌,
+  arith,
+  bit_and,
+  bit_or,
+}
+use Rattle.std.proofs.Math.Nat.{
+  div-add-mod',
+  mul-le-mul_right,
+  mod-eq_of_lt,
+  lt_of_mul-lt-mul_right,
+}
 use Rattle.std.proofs.lemmas.Nat.{mod_below}
-use Rattle.std.proofs.lemmas.Bool.{cases_lt, cases_eq, eq-eqb, ne_eqb, lt-ltb, le-ltb, ltb-true,
-    and_parts, true≢false}
+use Rattle.std.proofs.lemmas.Bool.{
+  cases_lt,
+  cases_eq,
+  eq-eqb,
+  ne_eqb,
+  lt-ltb,
+  le-ltb,
+  ltb-true,
+  and_parts,
+  true≢false,
+}
 use Rattle.bittle_bits.specs.Digits.{digit_has, digit_set}
 use Rattle.bittle_bits.specs.Orders.{place, members}
-use Rattle.bittle_bits.specs.PlainSet.{PlainSet, full_set_from, with_index, empty_set, lacks,
-    IsLeastMember, IsGreatestMember}
+use Rattle.bittle_bits.specs.PlainSet.{
+  PlainSet,
+  full_set_from,
+  with_index,
+  empty_set,
+  lacks,
+  IsLeastMember,
+  IsGreatestMember,
+}
 use Rattle.bittle_bits.specs.Searches.{NoneIn, IsFirstIn, IsLastIn}
 use Rattle.bittle_bits.specs.Walk.{ones_or_zeros}
 use Rattle.bittle_bits.specs.Words.{word_of}
@@ -81,7 +130,7 @@ module _ (m : Bool) (w : ℕ) (s : PlainSet) (word : 0 < w) where
             let i = j - k * w in
             let back : k * w + i ≡ j = omega arith in
             let here : not (nat_lt j from) && t.has j
-                ≡ false = rw back at (sym (h.has i (omega arith)) ∙ none i (omega arith)) in
+            ≡ false = rw back at (sym (h.has i (omega arith)) ∙ none i (omega arith)) in
             kept_by (not (nat_lt j from)) (t.has j) here (ap not (le-ltb j from lo))
       ]
 
@@ -97,8 +146,8 @@ module _ (m : Bool) (w : ℕ) (s : PlainSet) (word : 0 < w) where
             (λ i l. least.none_below i (omega arith)));
         has = λ i l. digit_at m w (k + 1) s d' word is i l
             ∙ sym (ap (λ b. not b && t.has ((k + 1) * w + i))
-                (le-ltb ((k + 1) * w + i) from
-                (omega (arith, div-add-mod' from w, mod_below from w word))));
+            (le-ltb ((k + 1) * w + i) from
+            (omega (arith, div-add-mod' from w, mod_below from w word))));
       }
 
   -- the least member of the word, where it is below `to`, is the first of the range
@@ -107,9 +156,12 @@ module _ (m : Bool) (w : ℕ) (s : PlainSet) (word : 0 < w) where
       IsFirstIn t from to (Some (k * w + r))
   search_end from to k d r h least low below =
       let both = and_parts (not (nat_lt (k * w + r) from)) (t.has (k * w + r))
-          (sym (h.has r low) ∙ least.is_member low) in
-      (from_on (cases_lt (k * w + r) from) both.0, below, both.1,
-          none_up_to from k d r h least.within least.none_below)
+      (sym (h.has r low) ∙ least.is_member low) in (
+        from_on (cases_lt (k * w + r) from) both.0,
+        below,
+        both.1,
+        none_up_to from k d r h least.within least.none_below,
+      )
     where
       from_on : (k * w + r < from) ⊎ (from ≤ k * w + r) → not (nat_lt (k * w + r) from) ≡ true →
           from ≤ k * w + r
@@ -140,15 +192,15 @@ module _ (m : Bool) (w : ℕ) (s : PlainSet) (word : 0 < w) where
             ∙ ap (λ b. b && digit_has w (bit_or n o) (place m w i)) (digit_at m w k s d word is i h)
             ∙ ap (λ p. t.has (k * w + i) && p (place m w i)) (digit_has-or w n o)
             ∙ ap (λ p. t.has (k * w + i) && (p (place m w i) || digit_has w o (place m w i)))
-                (ap (digit_has w) other ∙ digit_has-not w e fits)
+            (ap (digit_has w) other ∙ digit_has-not w e fits)
             ∙ ap (λ b. t.has (k * w + i)
-                && ((b && not (digit_has w e (place m w i))) || digit_has w o (place m w i)))
-                (lt-ltb (place m w i) w (place_in_word m w i h))
+            && ((b && not (digit_has w e (place m w i))) || digit_has w o (place m w i)))
+            (lt-ltb (place m w i) w (place_in_word m w i h))
             ∙ ap (λ u. t.has (k * w + i) && (not (u.has i) || digit_has w o (place m w i))) from
             ∙ ap (λ b. t.has (k * w + i)
-                && (not (b && not (nat_lt i top)) || digit_has w o (place m w i))) (lt-ltb i w h)
+            && (not (b && not (nat_lt i top)) || digit_has w o (place m w i))) (lt-ltb i w h)
             ∙ ap (λ b. t.has (k * w + i) && (not (not (nat_lt i top)) || b))
-                (at_mask m w d o top word one i ∙ ap (λ j. i == j) (mod-eq_of_lt low))
+            (at_mask m w d o top word one i ∙ ap (λ j. i == j) (mod-eq_of_lt low))
             ∙ swapped (t.has (k * w + i)) (not (not (nat_lt i top)) || (i == top))
             ∙ ap (λ b. b && t.has (k * w + i)) (same i (cases_lt i top) split);
       }
@@ -171,8 +223,8 @@ module _ (m : Bool) (w : ℕ) (s : PlainSet) (word : 0 < w) where
             let i = j - k * w in
             let back : k * w + i ≡ j = omega arith in
             let here : nat_lt j to && t.has j
-                ≡ false = rw back at (sym (h.has i (omega arith))
-                ∙ none i (omega arith) (omega arith)) in
+            ≡ false = rw back at (sym (h.has i (omega arith))
+            ∙ none i (omega arith) (omega arith)) in
             kept_by (nat_lt j to) (t.has j) here (lt-ltb j to hi)
         | inr g ↦ h.none j g hi
       ]
@@ -200,7 +252,7 @@ module _ (m : Bool) (w : ℕ) (s : PlainSet) (word : 0 < w) where
         none = rw whole at (none_above_greatest to k d r h greatest);
         has = λ i l. digit_at m w (k - 1) s d' word is i l
             ∙ sym (ap (λ b. b && t.has ((k - 1) * w + i))
-                (lt-ltb ((k - 1) * w + i) to (omega (arith, before, div-add-mod' (to - 1) w, up))));
+            (lt-ltb ((k - 1) * w + i) to (omega (arith, before, div-add-mod' (to - 1) w, up))));
       }
 
   -- the greatest member of the word, where it is not below `from`, is the last of the range
@@ -209,10 +261,13 @@ module _ (m : Bool) (w : ℕ) (s : PlainSet) (word : 0 < w) where
       IsLastIn t from to (Some (k * w + (w - 1 - r)))
   search_back_end from to k d r h greatest low above =
       let both = and_parts (nat_lt (k * w + (w - 1 - r)) to) (t.has (k * w + (w - 1 - r)))
-          (sym (h.has (w - 1 - r) (omega arith)) ∙ greatest.is_member low) in
-      let next : k * w + (w - r) ≡ k * w + (w - 1 - r) + 1 = omega arith in
-      (above, ltb-true (k * w + (w - 1 - r)) to both.0, both.1,
-          rw next at (none_above_greatest to k d r h greatest))
+      (sym (h.has (w - 1 - r) (omega arith)) ∙ greatest.is_member low) in
+      let next : k * w + (w - r) ≡ k * w + (w - 1 - r) + 1 = omega arith in (
+        above,
+        ltb-true (k * w + (w - 1 - r)) to both.0,
+        both.1,
+        rw next at (none_above_greatest to k d r h greatest),
+      )
 
   -- where the greatest member of the word is below `from`, the range has none
   pub search_back_past : (from to k d r : ℕ) → SearchesBackward m w s to k d →

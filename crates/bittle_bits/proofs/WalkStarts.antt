@@ -1,6 +1,22 @@
 -- Where a walk begins: with no copy, then with the first word copied, then with the last one too.
-use Rattle.std.proofs.Common.{◌≡◌, ℕ, ◌+◌, ◌-◌, ◌*◌, ◌/◌, ◌<◌, List, Some, None, refl, sym, ap, ◌∙◌,
-    arith, append-nil}
+use Rattle.std.proofs.Common.{
+  ◌≡◌,
+  ℕ,
+  ◌+◌,
+  ◌-◌,
+  ◌*◌,
+  ◌/◌,
+  ◌<◌,
+  List,
+  Some,
+  None,
+  refl,
+  sym,
+  ap,
+  ◌∙◌,
+  arith,
+  append-nil,
+}
 use Rattle.std.proofs.Math.Nat.{mul-div_left, zero-mul}
 use Rattle.bittle_bits.specs.Copies.{CopyPair, members_between}
 use Rattle.bittle_bits.specs.PlainSet.{PlainSet, ascending}
@@ -27,13 +43,18 @@ module _ {B E O W : Type 0} (s : PlainSet) (words w : ℕ) where
       IsWalkStart s words w t
   walk_start c high i h word is whole count none all items =
       let last : high * w ≡ s.capacity = ap (λ k. k * w)
-          (all ∙ count ∙ ap (λ c. c / w) whole.1 ∙ mul-div_left whole.0 word) ∙ sym whole.1
-          ∙ sym is in
+      (all ∙ count ∙ ap (λ c. c / w) whole.1 ∙ mul-div_left whole.0 word) ∙ sym whole.1
+      ∙ sym is in
       rw none (record {
         left = append-nil _ ∙ members_between-all s (0 * w) (high * w) (zero-mul w) last;
         fresh = is_fresh words _ refl items (omega arith) refl (omega arith);
-        retires = record { ordered = omega arith; within = omega arith; at_least = omega arith;
-            at_most = omega arith; once = omega arith };
+        retires = record {
+          ordered = omega arith;
+          within = omega arith;
+          at_least = omega arith;
+          at_most = omega arith;
+          once = omega arith;
+        };
       })
 
   -- with the first word copied
@@ -41,27 +62,31 @@ module _ {B E O W : Type 0} (s : PlainSet) (words w : ℕ) where
       let t : Cursor B E O W = record { copies = h; low = 0; high = high; items = i } in
       let u : Cursor B E O W = record { copies = h'; low = 1; high = high; items = i } in
       IsWalkStart s words w t → h.head ≡ None → h.fetches ≡ 0 → 0 < high →
-          xs ≡ members_between s (0 * w) (0 * w + w) →
-          h' ≡ record { head = Some xs; tail = h.tail; looks = h.looks; fetches = h.fetches + 1 } →
-          IsWalkStart s words w u
+      xs ≡ members_between s (0 * w) (0 * w + w) →
+      h' ≡ record { head = Some xs; tail = h.tail; looks = h.looks; fetches = h.fetches + 1 } →
+      IsWalkStart s words w u
   walk_start_head high i h h' xs at none unread some items is =
       let t : Cursor B E O W = record { copies = h; low = 0; high = high; items = i } in
       let one = head_fetched s words w t xs at.retires none some items in
-      rw is (record { left = one.0.left ∙ at.left;
-          fresh = is_fresh words _ at.fresh.looks at.fresh.items (omega arith) refl one.1.once;
-          retires = one.1 })
+      rw is (record {
+        left = one.0.left ∙ at.left;
+        fresh = is_fresh words _ at.fresh.looks at.fresh.items (omega arith) refl one.1.once;
+        retires = one.1;
+      })
 
   -- with the last word copied too
   pub walk_start_tail : (high i : ℕ) (h h' : CopyPair) (xs : List ℕ) →
       let t : Cursor B E O W = record { copies = h; low = 1; high = high; items = i } in
       let u : Cursor B E O W = record { copies = h'; low = 1; high = high - 1; items = i } in
       IsWalkStart s words w t → h.tail ≡ None → h.fetches ≡ 1 → 1 < high →
-          xs ≡ members_between s ((high - 1) * w) ((high - 1) * w + w) →
-          h' ≡ record { head = h.head; tail = Some xs; looks = h.looks; fetches = h.fetches + 1 } →
-          IsWalkStart s words w u
+      xs ≡ members_between s ((high - 1) * w) ((high - 1) * w + w) →
+      h' ≡ record { head = h.head; tail = Some xs; looks = h.looks; fetches = h.fetches + 1 } →
+      IsWalkStart s words w u
   walk_start_tail high i h h' xs at none one more items is =
       let t : Cursor B E O W = record { copies = h; low = 1; high = high; items = i } in
       let two = tail_fetched s words w t xs at.retires none more items in
-      rw is (record { left = two.0.left ∙ at.left;
-          fresh = is_fresh words _ at.fresh.looks at.fresh.items (omega arith) refl two.1.once;
-          retires = two.1 })
+      rw is (record {
+        left = two.0.left ∙ at.left;
+        fresh = is_fresh words _ at.fresh.looks at.fresh.items (omega arith) refl two.1.once;
+        retires = two.1;
+      })

@@ -1,6 +1,28 @@
 -- What a join gives: the items of an iterator at the members of a mask.
-use Rattle.std.specs.Prelude.{◌≡◌, ℕ, ◌+◌, ◌-◌, ◌<◌, ◌≤◌, Bool, true, false, List, [], ◌∷◌, ◌++◌,
-    length, take, drop, Option, None, MatchOption, slice_get, slice_index, ⊤}
+use Rattle.std.specs.Prelude.{
+  ◌≡◌,
+  ℕ,
+  ◌+◌,
+  ◌-◌,
+  ◌<◌,
+  ◌≤◌,
+  Bool,
+  true,
+  false,
+  List,
+  [],
+  ◌∷◌,
+  ◌++◌,
+  length,
+  take,
+  drop,
+  Option,
+  None,
+  MatchOption,
+  slice_get,
+  slice_index,
+  ⊤,
+}
 use Rattle.std.specs.Iterator.{SkipsThenYields, Yields, YieldsThen}
 use Rattle.bittle_bits.specs.Walk.{Walk}
 
@@ -54,9 +76,9 @@ module _ {I A : Type 0} (steps : I → Option A → I → Type 0) (s : Join I) w
   abbrev pub AnswersItemsAtMembers : Type 0
   AnswersItemsAtMembers = (answers : List A) (t : Join I) → Yields (join_steps steps) s answers t
       → (taken : List A) × Yields steps s.iter taken t.iter
-          × IsJoin s.taken s.mask.left taken answers
+      × IsJoin s.taken s.mask.left taken answers
       × (t.mask.left ≡ drop (length answers) s.mask.left) × (t.taken ≡ s.taken + length taken)
-          × (t.ended ≡ false)
+      × (t.ended ≡ false)
 
   -- With no member left nothing further was taken; else the iterator came to its end at or before
   -- the next member.
@@ -71,4 +93,4 @@ module _ {I A : Type 0} (steps : I → Option A → I → Type 0) (s : Join I) w
   EndsAfterMembers = (answers : List A) (t : Join I) →
       YieldsThen (join_steps steps) s answers None t
       → (taken : List A) × IsJoin s.taken s.mask.left taken answers
-          × EndsAt taken (drop (length answers) s.mask.left) t
+      × EndsAt taken (drop (length answers) s.mask.left) t

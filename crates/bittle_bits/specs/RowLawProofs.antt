@@ -1,6 +1,30 @@
 -- Proofs of the laws that the impls for rows of elements give.
-use Rattle.std.proofs.Common.{◌≡◌, ℕ, zero, suc, ◌*◌, ◌/◌, ◌%◌, ◌<◌, ◌≤◌, ℤ, Bool, false, ◌&&◌,
-    nat_lt, nat_eq, IsTrue, List, [], ◌∷◌, refl, sym, ap, ◌∙◌, arith}
+use Rattle.std.proofs.Common.{
+  ◌≡◌,
+  ℕ,
+  zero,
+  suc,
+  ◌*◌,
+  ◌/◌,
+  ◌%◌,
+  ◌<◌,
+  ◌≤◌,
+  ℤ,
+  Bool,
+  false,
+  ◌&&◌,
+  nat_lt,
+  nat_eq,
+  IsTrue,
+  List,
+  [],
+  ◌∷◌,
+  refl,
+  sym,
+  ap,
+  ◌∙◌,
+  arith,
+}
 use Rattle.std.proofs.Math.Nat.{mul_assoc}
 use Rattle.std.proofs.lemmas.Bool.{le-ltb, ltb-true, eqb-true, and_parts, true≢false}
 use Rattle.std.specs.Cmp.{signed_Decides}
@@ -46,6 +70,6 @@ module _ {X : Type 0} {eq : X → X → Bool} (c : ℕ) (big : X → PlainSet) (
 pub equal_rows : {X : Type 0} {eq : X → X → Bool} (n c : ℕ) (big : X → PlainSet) →
     ((x y : X) → IsTrue (eq x y) → big x ≡ big y) →
     (xs ys : List X) → IsTrue (pointwise eq xs ys) →
-        elements_set n c big xs ≡ elements_set n c big ys
+    elements_set n c big xs ≡ elements_set n c big ys
 equal_rows n c big each xs ys h = λ k. record
     { capacity = n * c; has = λ i. same_test c big each n xs ys h i k }

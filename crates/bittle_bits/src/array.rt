@@ -9,8 +9,8 @@ ghost use Rattle.bittle_bits.specs.SetOperations.{combination_of};
 use crate::bits::Bits;
 use crate::bits_mut::BitsMut;
 use crate::bits_owned::BitsOwned;
-use crate::internal::row;
 use crate::endian::{DefaultEndian, Endian};
+use crate::internal::row;
 use crate::internal::sealed::Sealed;
 use crate::operation::Operation;
 

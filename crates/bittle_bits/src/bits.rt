@@ -11,11 +11,11 @@ ghost use Rattle.bittle_bits.specs.Walk.{AreBelow, IsFresh};
 ghost use Rattle.bittle_bits.specs.Words.{word_of};
 
 use crate::endian::{BigEndian, DefaultEndian, Endian, LittleEndian};
-use crate::internal::sealed::{Number, Sealed};
-use crate::join::JoinOnes;
 use crate::internal::kind::{Ones, Zeros};
 use crate::internal::look::Source;
+use crate::internal::sealed::{Number, Sealed};
 use crate::internal::search;
+use crate::join::JoinOnes;
 use crate::walk::{Iter, IterOnes, IterZeros};
 
 /// A set of bits, each named by a `u32` index below the capacity.

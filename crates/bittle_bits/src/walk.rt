@@ -13,11 +13,11 @@ ghost use Rattle.bittle_bits.specs.Walk.{ones_or_zeros, AreBelow, IsFresh, Resum
 
 use crate::bits::Bits;
 use crate::bits_owned::BitsOwned;
-use crate::internal::ghost_count::{Count, Counted};
 use crate::endian::Endian;
+use crate::internal::cursor::{Cursor, begin, duplicate, step_back, step_front};
+use crate::internal::ghost_count::{Count, Counted};
 use crate::internal::kind::{Kind, Ones, Zeros};
 use crate::internal::look::{OwnedSource, Source};
-use crate::internal::cursor::{Cursor, duplicate, begin, step_back, step_front};
 use std::alloc::AllocError;
 use std::marker::{Model, PhantomData};
 

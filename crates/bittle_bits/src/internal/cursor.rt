@@ -9,8 +9,8 @@ ghost use Rattle.bittle_bits.specs.Cursor.{items_left_in, walk_of, Retires};
 ghost use Rattle.bittle_bits.specs.Walk.{ones_or_zeros, AreBelow, IsFresh, ResumesAs, StepsFront, StepsBack};
 
 use crate::bits::Bits;
-use crate::internal::ghost_count::Count;
 use crate::endian::Endian;
+use crate::internal::ghost_count::Count;
 use crate::internal::kind::Kind;
 use crate::internal::look::{Copies, Source};
 

@@ -9,10 +9,10 @@ ghost use Rattle.bittle_bits.specs.Walk.{ones_or_zeros};
 
 use crate::bits::Bits;
 use crate::bits_owned::BitsOwned;
-use crate::internal::ghost_count::Count;
 use crate::endian::Endian;
-use crate::internal::sealed::Number;
+use crate::internal::ghost_count::Count;
 use crate::internal::kind::{Kind, wanted_word};
+use crate::internal::sealed::Number;
 use bittle_words::word;
 use std::marker::{Model, PhantomData};
 

@@ -8,8 +8,8 @@ ghost use Rattle.bittle_bits.specs.Walk.{ones_or_zeros};
 
 use crate::bits::Bits;
 use crate::endian::Endian;
-use crate::internal::sealed::Number;
 use crate::internal::kind::{Kind, wanted_word};
+use crate::internal::sealed::Number;
 
 /// Returns the first index from `from` on and below `to` whose bit is of the kind, or `None`.
 #[inline]

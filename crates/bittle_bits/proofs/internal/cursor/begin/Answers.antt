@@ -11,11 +11,11 @@ returns-then-at-clause-left g c =
     let s = ones_or_zeros g.K.Kind.ONES (members g.E.Endian.mirrored g.B.Bits.width big) in
     let w = g.B.Bits.width in
     let none = walk_start {B = g.row.B.Denot} {E = g.row.E.Denot} {O = g.row.B-Order.Denot}
-        {W = g.row.B-LeafWord.Denot} s (big.capacity / w) w big.capacity _ _ _
-        g.met.B.Bits.width_positive
-        (ones_or_zeros-capacity g.K.Kind.ONES (members g.E.Endian.mirrored w big))
-        (g.met.B.Bits.whole_words c.args.source.now.set.now) refl c.none.ensures c.words.ensures
-        c.new.ensures in
+    {W = g.row.B-LeafWord.Denot} s (big.capacity / w) w big.capacity _ _ _
+    g.met.B.Bits.width_positive
+    (ones_or_zeros-capacity g.K.Kind.ONES (members g.E.Endian.mirrored w big))
+    (g.met.B.Bits.whole_words c.args.source.now.set.now) refl c.none.ensures c.words.ensures
+    c.new.ensures in
     none.left
 
 pub returns-then-at-clause-fresh : goal.returns-then-at-clause-fresh
@@ -24,11 +24,11 @@ returns-then-at-clause-fresh g c =
     let s = ones_or_zeros g.K.Kind.ONES (members g.E.Endian.mirrored g.B.Bits.width big) in
     let w = g.B.Bits.width in
     let none = walk_start {B = g.row.B.Denot} {E = g.row.E.Denot} {O = g.row.B-Order.Denot}
-        {W = g.row.B-LeafWord.Denot} s (big.capacity / w) w big.capacity _ _ _
-        g.met.B.Bits.width_positive
-        (ones_or_zeros-capacity g.K.Kind.ONES (members g.E.Endian.mirrored w big))
-        (g.met.B.Bits.whole_words c.args.source.now.set.now) refl c.none.ensures c.words.ensures
-        c.new.ensures in
+    {W = g.row.B-LeafWord.Denot} s (big.capacity / w) w big.capacity _ _ _
+    g.met.B.Bits.width_positive
+    (ones_or_zeros-capacity g.K.Kind.ONES (members g.E.Endian.mirrored w big))
+    (g.met.B.Bits.whole_words c.args.source.now.set.now) refl c.none.ensures c.words.ensures
+    c.new.ensures in
     none.fresh
 
 pub returns-then-at-clause-below : goal.returns-then-at-clause-below
@@ -42,15 +42,15 @@ returns-then-at-2-clause-left g c =
     let s = ones_or_zeros g.K.Kind.ONES (members g.E.Endian.mirrored g.B.Bits.width big) in
     let w = g.B.Bits.width in
     let none = walk_start {B = g.row.B.Denot} {E = g.row.E.Denot} {O = g.row.B-Order.Denot}
-        {W = g.row.B-LeafWord.Denot} s (big.capacity / w) w big.capacity _ _ _
-        g.met.B.Bits.width_positive
-        (ones_or_zeros-capacity g.K.Kind.ONES (members g.E.Endian.mirrored w big))
-        (g.met.B.Bits.whole_words c.args.source.now.set.now) refl c.none.ensures c.words.ensures
-        c.new.ensures in
+    {W = g.row.B-LeafWord.Denot} s (big.capacity / w) w big.capacity _ _ _
+    g.met.B.Bits.width_positive
+    (ones_or_zeros-capacity g.K.Kind.ONES (members g.E.Endian.mirrored w big))
+    (g.met.B.Bits.whole_words c.args.source.now.set.now) refl c.none.ensures c.words.ensures
+    c.new.ensures in
     let one = walk_start_head {B = g.row.B.Denot} {E = g.row.E.Denot} {O = g.row.B-Order.Denot}
-        {W = g.row.B-LeafWord.Denot} s (big.capacity / w) w _ _ _ _ _ none
-        (ap (λ h. h.head) c.none.ensures) (ap (λ h. h.fetches) c.none.ensures)
-        (omega arith) refl c.fetch_head.ensures in
+    {W = g.row.B-LeafWord.Denot} s (big.capacity / w) w _ _ _ _ _ none
+    (ap (λ h. h.head) c.none.ensures) (ap (λ h. h.fetches) c.none.ensures)
+    (omega arith) refl c.fetch_head.ensures in
     one.left
 
 pub returns-then-at-2-clause-fresh : goal.returns-then-at-2-clause-fresh
@@ -59,15 +59,15 @@ returns-then-at-2-clause-fresh g c =
     let s = ones_or_zeros g.K.Kind.ONES (members g.E.Endian.mirrored g.B.Bits.width big) in
     let w = g.B.Bits.width in
     let none = walk_start {B = g.row.B.Denot} {E = g.row.E.Denot} {O = g.row.B-Order.Denot}
-        {W = g.row.B-LeafWord.Denot} s (big.capacity / w) w big.capacity _ _ _
-        g.met.B.Bits.width_positive
-        (ones_or_zeros-capacity g.K.Kind.ONES (members g.E.Endian.mirrored w big))
-        (g.met.B.Bits.whole_words c.args.source.now.set.now) refl c.none.ensures c.words.ensures
-        c.new.ensures in
+    {W = g.row.B-LeafWord.Denot} s (big.capacity / w) w big.capacity _ _ _
+    g.met.B.Bits.width_positive
+    (ones_or_zeros-capacity g.K.Kind.ONES (members g.E.Endian.mirrored w big))
+    (g.met.B.Bits.whole_words c.args.source.now.set.now) refl c.none.ensures c.words.ensures
+    c.new.ensures in
     let one = walk_start_head {B = g.row.B.Denot} {E = g.row.E.Denot} {O = g.row.B-Order.Denot}
-        {W = g.row.B-LeafWord.Denot} s (big.capacity / w) w _ _ _ _ _ none
-        (ap (λ h. h.head) c.none.ensures) (ap (λ h. h.fetches) c.none.ensures)
-        (omega arith) refl c.fetch_head.ensures in
+    {W = g.row.B-LeafWord.Denot} s (big.capacity / w) w _ _ _ _ _ none
+    (ap (λ h. h.head) c.none.ensures) (ap (λ h. h.fetches) c.none.ensures)
+    (omega arith) refl c.fetch_head.ensures in
     one.fresh
 
 pub returns-then-at-2-clause-below : goal.returns-then-at-2-clause-below
@@ -81,20 +81,20 @@ returns-clause-left g c =
     let s = ones_or_zeros g.K.Kind.ONES (members g.E.Endian.mirrored g.B.Bits.width big) in
     let w = g.B.Bits.width in
     let none = walk_start {B = g.row.B.Denot} {E = g.row.E.Denot} {O = g.row.B-Order.Denot}
-        {W = g.row.B-LeafWord.Denot} s (big.capacity / w) w big.capacity _ _ _
-        g.met.B.Bits.width_positive
-        (ones_or_zeros-capacity g.K.Kind.ONES (members g.E.Endian.mirrored w big))
-        (g.met.B.Bits.whole_words c.args.source.now.set.now) refl c.none.ensures c.words.ensures
-        c.new.ensures in
+    {W = g.row.B-LeafWord.Denot} s (big.capacity / w) w big.capacity _ _ _
+    g.met.B.Bits.width_positive
+    (ones_or_zeros-capacity g.K.Kind.ONES (members g.E.Endian.mirrored w big))
+    (g.met.B.Bits.whole_words c.args.source.now.set.now) refl c.none.ensures c.words.ensures
+    c.new.ensures in
     let one = walk_start_head {B = g.row.B.Denot} {E = g.row.E.Denot} {O = g.row.B-Order.Denot}
-        {W = g.row.B-LeafWord.Denot} s (big.capacity / w) w _ _ _ _ _ none
-        (ap (λ h. h.head) c.none.ensures) (ap (λ h. h.fetches) c.none.ensures)
-        (omega arith) refl c.fetch_head.ensures in
+    {W = g.row.B-LeafWord.Denot} s (big.capacity / w) w _ _ _ _ _ none
+    (ap (λ h. h.head) c.none.ensures) (ap (λ h. h.fetches) c.none.ensures)
+    (omega arith) refl c.fetch_head.ensures in
     let two = walk_start_tail {B = g.row.B.Denot} {E = g.row.E.Denot} {O = g.row.B-Order.Denot}
-        {W = g.row.B-LeafWord.Denot} s (big.capacity / w) w _ _ _ _ _ one
-        (ap (λ h. h.tail) c.fetch_head.ensures ∙ ap (λ h. h.tail) c.none.ensures)
-        (ap (λ h. h.fetches) c.fetch_head.ensures ∙ ap (λ h. h.fetches + 1) c.none.ensures)
-        (omega arith) refl c.fetch_tail.ensures in
+    {W = g.row.B-LeafWord.Denot} s (big.capacity / w) w _ _ _ _ _ one
+    (ap (λ h. h.tail) c.fetch_head.ensures ∙ ap (λ h. h.tail) c.none.ensures)
+    (ap (λ h. h.fetches) c.fetch_head.ensures ∙ ap (λ h. h.fetches + 1) c.none.ensures)
+    (omega arith) refl c.fetch_tail.ensures in
     two.left
 
 pub returns-clause-fresh : goal.returns-clause-fresh
@@ -103,20 +103,20 @@ returns-clause-fresh g c =
     let s = ones_or_zeros g.K.Kind.ONES (members g.E.Endian.mirrored g.B.Bits.width big) in
     let w = g.B.Bits.width in
     let none = walk_start {B = g.row.B.Denot} {E = g.row.E.Denot} {O = g.row.B-Order.Denot}
-        {W = g.row.B-LeafWord.Denot} s (big.capacity / w) w big.capacity _ _ _
-        g.met.B.Bits.width_positive
-        (ones_or_zeros-capacity g.K.Kind.ONES (members g.E.Endian.mirrored w big))
-        (g.met.B.Bits.whole_words c.args.source.now.set.now) refl c.none.ensures c.words.ensures
-        c.new.ensures in
+    {W = g.row.B-LeafWord.Denot} s (big.capacity / w) w big.capacity _ _ _
+    g.met.B.Bits.width_positive
+    (ones_or_zeros-capacity g.K.Kind.ONES (members g.E.Endian.mirrored w big))
+    (g.met.B.Bits.whole_words c.args.source.now.set.now) refl c.none.ensures c.words.ensures
+    c.new.ensures in
     let one = walk_start_head {B = g.row.B.Denot} {E = g.row.E.Denot} {O = g.row.B-Order.Denot}
-        {W = g.row.B-LeafWord.Denot} s (big.capacity / w) w _ _ _ _ _ none
-        (ap (λ h. h.head) c.none.ensures) (ap (λ h. h.fetches) c.none.ensures)
-        (omega arith) refl c.fetch_head.ensures in
+    {W = g.row.B-LeafWord.Denot} s (big.capacity / w) w _ _ _ _ _ none
+    (ap (λ h. h.head) c.none.ensures) (ap (λ h. h.fetches) c.none.ensures)
+    (omega arith) refl c.fetch_head.ensures in
     let two = walk_start_tail {B = g.row.B.Denot} {E = g.row.E.Denot} {O = g.row.B-Order.Denot}
-        {W = g.row.B-LeafWord.Denot} s (big.capacity / w) w _ _ _ _ _ one
-        (ap (λ h. h.tail) c.fetch_head.ensures ∙ ap (λ h. h.tail) c.none.ensures)
-        (ap (λ h. h.fetches) c.fetch_head.ensures ∙ ap (λ h. h.fetches + 1) c.none.ensures)
-        (omega arith) refl c.fetch_tail.ensures in
+    {W = g.row.B-LeafWord.Denot} s (big.capacity / w) w _ _ _ _ _ one
+    (ap (λ h. h.tail) c.fetch_head.ensures ∙ ap (λ h. h.tail) c.none.ensures)
+    (ap (λ h. h.fetches) c.fetch_head.ensures ∙ ap (λ h. h.fetches + 1) c.none.ensures)
+    (omega arith) refl c.fetch_tail.ensures in
     two.fresh
 
 pub returns-clause-below : goal.returns-clause-below

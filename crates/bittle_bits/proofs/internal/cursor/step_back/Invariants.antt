@@ -8,10 +8,10 @@ use Rattle.bittle_bits.proofs.internal.cursor.step_back.Given as goal
 abbrev pub invariant-loop-item : goal.invariant-loop-item
 invariant-loop-item g l =
     let s = ones_or_zeros g.K.Kind.ONES (members g.E.Endian.mirrored g.B.Bits.width
-        (g.B.Bits.big l.source.set.now)) in
+    (g.B.Bits.big l.source.set.now)) in
     let words = (g.B.Bits.big l.source.set.now).capacity / g.B.Bits.width in
     Seeks (walk_of s words g.B.Bits.width l.initial.at) (walk_of s words g.B.Bits.width l.at)
-        × Retires words l.at
+    × Retires words l.at
 
 abbrev pub decreases-loop-item : goal.decreases-loop-item
 decreases-loop-item g l = l.at.high - l.at.low

@@ -12,5 +12,5 @@ returns g c =
     (rw g.met.B.Bits.leaf_width at c.wanted_in.ensures)
     ∙ ap (ones_or_zeros ones) c.leaf_word.ensures
     ∙ ones_or_zeros-word_of ones w c.args.k s
-        (word_ends w c.args.k s.capacity (g.met.B.Bits.whole_words c.args.bits.now)
-        c.requires.within)
+    (word_ends w c.args.k s.capacity (g.met.B.Bits.whole_words c.args.bits.now)
+    c.requires.within)

@@ -18,12 +18,18 @@ returns-clause-items g c =
     let wide : c.width.result ≡ w = c.width.ensures ∙ leaf in
     rw (wide, leaf) (items_of-word m w k (ones_or_zeros ones big) _ word c.wanted_word.ensures
     ∙ ap (λ s. members_between s (k * w) (k * w + w))
-        (sym (ones_or_zeros-members ones m w big word
-        (g.met.B.Bits.whole_words c.args.source.now.set.now))))
+    (sym (ones_or_zeros-members ones m w big word
+    (g.met.B.Bits.whole_words c.args.source.now.set.now))))
 
 pub returns-clause-reach : goal.returns-clause-reach
 returns-clause-reach g c =
     let e = word_ends g.B.Bits.width c.args.k _ (g.met.B.Bits.whole_words c.args.source.now.set.now)
-        c.requires.within in
-    omega (arith, e, c.width.ensures, g.met.B.Bits.leaf_width,
-        ap (λ t. c.args.k * t) (c.width.ensures ∙ g.met.B.Bits.leaf_width), c.requires.fits.1)
+    c.requires.within in
+    omega (
+      arith,
+      e,
+      c.width.ensures,
+      g.met.B.Bits.leaf_width,
+      ap (λ t. c.args.k * t) (c.width.ensures ∙ g.met.B.Bits.leaf_width),
+      c.requires.fits.1,
+    )

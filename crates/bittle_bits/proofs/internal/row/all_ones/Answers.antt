@@ -9,8 +9,8 @@ pub returns-then-not-all_ones-clause-value : goal.returns-then-not-all_ones-clau
 returns-then-not-all_ones-clause-value g c =
     let x = c.element-item.result in
     sym (ne_eqb _ _ (row_lacks g.T.BitsOwned.type_capacity g.T.Bits.big c.args.elements.now
-        g.met.T.BitsOwned.one_capacity c.loop-element.element-index x c.element-item.is
-        (omega arith) (eqb-false _ _ (sym c.all_ones.ensures.value ∙ c.if-not-all_ones.true))))
+    g.met.T.BitsOwned.one_capacity c.loop-element.element-index x c.element-item.is
+    (omega arith) (eqb-false _ _ (sym c.all_ones.ensures.value ∙ c.if-not-all_ones.true))))
 
 pub returns-clause-value : goal.returns-clause-value
 returns-clause-value g c = sym (eq-eqb _ _

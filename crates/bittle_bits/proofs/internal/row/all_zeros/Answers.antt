@@ -10,8 +10,8 @@ pub returns-then-not-all_zeros-clause-value : goal.returns-then-not-all_zeros-cl
 returns-then-not-all_zeros-clause-value g c =
     let x = c.element-item.result in
     sym (ne_eqb _ _ (row_some g.T.BitsOwned.type_capacity g.T.Bits.big c.args.elements.now
-        g.met.T.BitsOwned.one_capacity c.loop-element.element-index x c.element-item.is
-        (omega arith) (eqb-false _ _ (sym c.all_zeros.ensures.value ∙ c.if-not-all_zeros.true))))
+    g.met.T.BitsOwned.one_capacity c.loop-element.element-index x c.element-item.is
+    (omega arith) (eqb-false _ _ (sym c.all_zeros.ensures.value ∙ c.if-not-all_zeros.true))))
 
 pub returns-clause-value : goal.returns-clause-value
 returns-clause-value g c = sym (eq-eqb _ _

@@ -6,7 +6,7 @@ use Rattle.bittle_bits.proofs.internal.row.clear_bits.Goals as goal
 pub loop-element-preserved : goal.loop-element-preserved
 loop-element-preserved g c =
     let e : (g.T.Bits.big c.clear_bits.new.self).has
-        ≡ (λ _. false) = ap (λ s. s.has) c.clear_bits.ensures.set in
+    ≡ (λ _. false) = ap (λ s. s.has) c.clear_bits.ensures.set in
     λ k d h. grind (arith, common_steps, e, c.loop-element.invariant k d)
 
 pub returns : goal.returns

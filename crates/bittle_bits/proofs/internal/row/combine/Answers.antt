@@ -24,10 +24,10 @@ returns g c mirrored =
     let done = c.loop-at.invariant in
     let whole = T.BitsOwned.type_whole_words in
     let all = row_combined g.O.Operation.decide g.T.BitsOwned.type_capacity g.T.Bits.big
-        c.args.elements.now c.args.others.now c.loop-at.elements T.BitsOwned.one_capacity
-        (omega arith) (λ k d a b. done.done k d (omega arith))
-        (λ k d b. done.rest k d (omega arith)) in
+    c.args.elements.now c.args.others.now c.loop-at.elements T.BitsOwned.one_capacity
+    (omega arith) (λ k d a b. done.done k d (omega arith))
+    (λ k d b. done.rest k d (omega arith)) in
     ap (members mirrored g.T.Bits.width) all
-        ∙ members-combination _ mirrored _ _ _ T.Bits.width_positive
-        (words_of (length c.args.elements.now) _ _ whole)
-        (words_of (length c.args.others.now) _ _ whole)
+    ∙ members-combination _ mirrored _ _ _ T.Bits.width_positive
+    (words_of (length c.args.elements.now) _ _ whole)
+    (words_of (length c.args.others.now) _ _ whole)

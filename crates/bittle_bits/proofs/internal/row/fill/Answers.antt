@@ -1,9 +1,32 @@
-use Rattle.std.proofs.Common.{◌≡◌, ◌+◌, ◌-◌, ◌*◌, ◌/◌, ◌<◌, ◌≤◌, length, length-set, arith, min,
-    sym, ap, ◌∙◌, refl, get_or, set}
+use Rattle.std.proofs.Common.{
+  ◌≡◌,
+  ◌+◌,
+  ◌-◌,
+  ◌*◌,
+  ◌/◌,
+  ◌<◌,
+  ◌≤◌,
+  length,
+  length-set,
+  arith,
+  min,
+  sym,
+  ap,
+  ◌∙◌,
+  refl,
+  get_or,
+  set,
+}
 use Rattle.bittle_bits.proofs.SearchBounds.{first_word, words_ordered}
 use Rattle.bittle_bits.proofs.Spans.{with_span-none}
-use Rattle.bittle_bits.proofs.RowSpans.{span_reaches, row_filled, span_end_at, some_each,
-    begins_before, before_end}
+use Rattle.bittle_bits.proofs.RowSpans.{
+  span_reaches,
+  row_filled,
+  span_end_at,
+  some_each,
+  begins_before,
+  before_end,
+}
 use Rattle.bittle_bits.specs.Orders.{members}
 use Rattle.bittle_bits.specs.PlainSet.{with_span}
 use Rattle.bittle_bits.specs.Rows.{elements_set}
@@ -15,41 +38,51 @@ returns-then-from-to g c = sym (with_span-none _ c.args.from c.args.to (omega ar
 pub loop-at-init : goal.loop-at-init
 loop-at-init g c =
     let each = c.bits-each.ensures.value
-        (c.requires.fits.0, g.met.T.BitsOwned.type_fits c.requires.fits.0) in
+    (c.requires.fits.0, g.met.T.BitsOwned.type_fits c.requires.fits.0) in
     let e = g.T.BitsOwned.type_capacity in
     let from = c.args.from in
     let some = some_each c.args.to (length c.args.elements.now) e (omega arith) c.requires.within in
     let row = members g.E.Endian.mirrored g.T.Bits.width
-        (elements_set (length c.args.elements.now) e g.T.Bits.big c.args.elements.now) in
-    rw each (record { begun = omega (arith, before_end from e some);
-        set = sym (with_span-none row from _ (omega (arith, first_word e from))) })
+    (elements_set (length c.args.elements.now) e g.T.Bits.big c.args.elements.now) in
+    rw each (record {
+      begun = omega (arith, before_end from e some);
+      set = sym (with_span-none row from _ (omega (arith, first_word e from)));
+    })
 
 pub offset_bounds-elements-at : goal.offset_bounds-elements-at
 offset_bounds-elements-at g c =
     let each = c.bits-each.ensures.value
-        (c.requires.fits.0, g.met.T.BitsOwned.type_fits c.requires.fits.0) in
+    (c.requires.fits.0, g.met.T.BitsOwned.type_fits c.requires.fits.0) in
     let low : c.loop-at.at < length c.loop-at.elements =
     let below : c.loop-at.at < (c.args.to - 1) / g.T.BitsOwned.type_capacity + 1 = rw (sym each)
-        (omega arith) in
-    omega (arith, (begins_before c.args.to (length c.args.elements.now) g.T.BitsOwned.type_capacity
-        c.loop-at.at (omega arith) c.requires.within below).1) in
+    (omega arith) in
+    omega (
+      arith,
+      (begins_before c.args.to (length c.args.elements.now) g.T.BitsOwned.type_capacity
+          c.loop-at.at (omega arith) c.requires.within below).1,
+    ) in
     grind (arith, low)
 
 pub fill_in-requires-clause-ordered : goal.fill_in-requires-clause-ordered
 fill_in-requires-clause-ordered g c =
     let each = c.bits-each.ensures.value
-        (c.requires.fits.0, g.met.T.BitsOwned.type_fits c.requires.fits.0) in
+    (c.requires.fits.0, g.met.T.BitsOwned.type_fits c.requires.fits.0) in
     let below : c.loop-at.at < (c.args.to - 1) / g.T.BitsOwned.type_capacity + 1 = rw (sym each)
-        (omega arith) in
+    (omega arith) in
     let in_row = begins_before c.args.to (length c.args.elements.now) g.T.BitsOwned.type_capacity
-        c.loop-at.at (omega arith) c.requires.within below in
-    omega (arith, in_row.0, (rw each at c.saturating_sub.ensures), (rw each at c.min-end.ensures),
-        c.loop-at.invariant.begun)
+    c.loop-at.at (omega arith) c.requires.within below in
+    omega (
+      arith,
+      in_row.0,
+      (rw each at c.saturating_sub.ensures),
+      (rw each at c.min-end.ensures),
+      c.loop-at.invariant.begun,
+    )
 
 pub loop-at-preserved : goal.loop-at-preserved
 loop-at-preserved g c =
     let each = c.bits-each.ensures.value
-        (c.requires.fits.0, g.met.T.BitsOwned.type_fits c.requires.fits.0) in
+    (c.requires.fits.0, g.met.T.BitsOwned.type_fits c.requires.fits.0) in
     let m = g.E.Endian.mirrored in
     let w = g.T.Bits.width in
     let e = g.T.BitsOwned.type_capacity in
@@ -66,11 +99,11 @@ loop-at-preserved g c =
     let first : c.saturating_sub.result ≡ from - at * e = rw each at c.saturating_sub.ensures in
     let end : c.min-end.result ≡ min e (to - at * e) = rw each at c.min-end.ensures in
     let one : members m w (big c.fill_in.new.self) ≡ with_span (members m w (big x)) (from - at * e)
-        (min e (to - at * e)) = rw (first, end) at c.fill_in.ensures.set in
+    (min e (to - at * e)) = rw (first, end) at c.fill_in.ensures.set in
     let row = row_filled m w e (length xs) at big xs x c.fill_in.new.self
-        g.met.T.Bits.width_positive g.met.T.BitsOwned.type_whole_words
-        (omega (arith, in_row.1)) refl (ap (λ (d : g.row.T.Denot). get_or xs at d)
-        c.index-elements-at.is) (from - at * e) (min e (to - at * e)) (omega arith) one in
+    g.met.T.Bits.width_positive g.met.T.BitsOwned.type_whole_words
+    (omega (arith, in_row.1)) refl (ap (λ (d : g.row.T.Denot). get_or xs at d)
+    c.index-elements-at.is) (from - at * e) (min e (to - at * e)) (omega arith) one in
     let before = members m w (elements_set n e big c.args.elements.now) in
     let now = members m w (elements_set (length xs) e big xs) in
     let next = members m w (elements_set (length xs) e big (set xs at c.fill_in.new.self)) in
@@ -83,16 +116,16 @@ loop-at-preserved g c =
 pub returns : goal.returns
 returns g c =
     let each = c.bits-each.ensures.value
-        (c.requires.fits.0, g.met.T.BitsOwned.type_fits c.requires.fits.0) in
+    (c.requires.fits.0, g.met.T.BitsOwned.type_fits c.requires.fits.0) in
     let e = g.T.BitsOwned.type_capacity in
     let to = c.args.to in
     let at = c.loop-at.at in
     let some = some_each to (length c.args.elements.now) e (omega arith) c.requires.within in
     let ordered : c.args.from / c.bits-each.result ≤ (to - 1) / c.bits-each.result = rw each
-        (words_ordered e c.args.from to some (omega arith)) in
+    (words_ordered e c.args.from to some (omega arith)) in
     let last : at ≡ (to - 1) / e + 1 = rw (sym each) (omega (arith, ordered)) in
     let whole : span_end_at c.args.from to (at * e)
-        ≡ to = rw last (omega (arith, before_end (to - 1) e some)) in
+    ≡ to = rw last (omega (arith, before_end (to - 1) e some)) in
     let row = members g.E.Endian.mirrored g.T.Bits.width
-        (elements_set (length c.args.elements.now) e g.T.Bits.big c.args.elements.now) in
+    (elements_set (length c.args.elements.now) e g.T.Bits.big c.args.elements.now) in
     c.loop-at.invariant.set ∙ ap (with_span row c.args.from) whole

@@ -6,40 +6,40 @@ pub offset_bounds-elements-k : goal.offset_bounds-elements-k
 offset_bounds-elements-k g c =
     let w = g.met.T.BitsOwned.type_whole_words in
     let each = words_each _ _ _ _ _ _ g.met.T.Bits.width_positive
-        (c.bits.ensures.value (c.requires.fits.0, g.met.T.BitsOwned.type_fits c.requires.fits.0))
-        c.width.ensures g.met.T.Bits.leaf_width w.1 in
+    (c.bits.ensures.value (c.requires.fits.0, g.met.T.BitsOwned.type_fits c.requires.fits.0))
+    c.width.ensures g.met.T.Bits.leaf_width w.1 in
     let low = word_element (length c.args.elements.now) g.T.BitsOwned.type_capacity g.T.Bits.width
-        w.0 c.args.k g.T.Bits.big c.args.elements.now g.met.T.Bits.width_positive w.1
-        c.requires.within in
+    w.0 c.args.k g.T.Bits.big c.args.elements.now g.met.T.Bits.width_positive w.1
+    c.requires.within in
     rw each (omega (arith, low))
 
 pub bounds-elements-k : goal.bounds-elements-k
 bounds-elements-k g c =
     let w = g.met.T.BitsOwned.type_whole_words in
     let each = words_each _ _ _ _ _ _ g.met.T.Bits.width_positive
-        (c.bits.ensures.value (c.requires.fits.0, g.met.T.BitsOwned.type_fits c.requires.fits.0))
-        c.width.ensures g.met.T.Bits.leaf_width w.1 in
+    (c.bits.ensures.value (c.requires.fits.0, g.met.T.BitsOwned.type_fits c.requires.fits.0))
+    c.width.ensures g.met.T.Bits.leaf_width w.1 in
     rw each (word_element (length c.args.elements.now) g.T.BitsOwned.type_capacity g.T.Bits.width
-        w.0 c.args.k g.T.Bits.big c.args.elements.now g.met.T.Bits.width_positive w.1
-        c.requires.within)
+    w.0 c.args.k g.T.Bits.big c.args.elements.now g.met.T.Bits.width_positive w.1
+    c.requires.within)
 
 pub leaf_word-requires-clause-within : goal.leaf_word-requires-clause-within
 leaf_word-requires-clause-within g c =
     let w = g.met.T.BitsOwned.type_whole_words in
     let each = words_each _ _ _ _ _ _ g.met.T.Bits.width_positive
-        (c.bits.ensures.value (c.requires.fits.0, g.met.T.BitsOwned.type_fits c.requires.fits.0))
-        c.width.ensures g.met.T.Bits.leaf_width w.1 in
+    (c.bits.ensures.value (c.requires.fits.0, g.met.T.BitsOwned.type_fits c.requires.fits.0))
+    c.width.ensures g.met.T.Bits.leaf_width w.1 in
     rw (each, g.met.T.BitsOwned.one_capacity c.index-elements-k.result)
-        (word_within (length c.args.elements.now) g.T.BitsOwned.type_capacity g.T.Bits.width w.0
-        c.args.k g.T.Bits.big c.args.elements.now g.met.T.Bits.width_positive w.1 c.requires.within)
+    (word_within (length c.args.elements.now) g.T.BitsOwned.type_capacity g.T.Bits.width w.0
+    c.args.k g.T.Bits.big c.args.elements.now g.met.T.Bits.width_positive w.1 c.requires.within)
 
 pub returns : goal.returns
 returns g c =
     let w = g.met.T.BitsOwned.type_whole_words in
     let each = words_each _ _ _ _ _ _ g.met.T.Bits.width_positive
-        (c.bits.ensures.value (c.requires.fits.0, g.met.T.BitsOwned.type_fits c.requires.fits.0))
-        c.width.ensures g.met.T.Bits.leaf_width w.1 in
+    (c.bits.ensures.value (c.requires.fits.0, g.met.T.BitsOwned.type_fits c.requires.fits.0))
+    c.width.ensures g.met.T.Bits.leaf_width w.1 in
     (rw each at c.leaf_word.ensures) ∙ row_word
-        (length c.args.elements.now) g.T.BitsOwned.type_capacity g.T.Bits.width w.0 c.args.k
-        g.T.Bits.big c.args.elements.now g.met.T.Bits.width_positive w.1 c.requires.within
-        c.index-elements-k.result refl (rw each at c.index-elements-k.is)
+    (length c.args.elements.now) g.T.BitsOwned.type_capacity g.T.Bits.width w.0 c.args.k
+    g.T.Bits.big c.args.elements.now g.met.T.Bits.width_positive w.1 c.requires.within
+    c.index-elements-k.result refl (rw each at c.index-elements-k.is)

@@ -7,10 +7,10 @@ pub returns-in-Some : goal.returns-in-Some
 returns-in-Some g c =
     let at = λ (d : g.row.T.Denot). get_or c.args.elements.now c.in-Some.element d in
     rw length-set (row_set g.E.Endian.mirrored g.T.Bits.width g.T.BitsOwned.type_capacity
-        (length c.args.elements.now) c.args.index _ _ g.T.Bits.big c.args.elements.now _
-        g.met.T.Bits.width_positive g.met.T.BitsOwned.type_whole_words c.in-Some.ensures
-        (g.met.T.BitsOwned.one_capacity _) refl (ap at c.index-elements-element.is) _
-        c.set_bit_in.ensures.set)
+    (length c.args.elements.now) c.args.index _ _ g.T.Bits.big c.args.elements.now _
+    g.met.T.Bits.width_positive g.met.T.BitsOwned.type_whole_words c.in-Some.ensures
+    (g.met.T.BitsOwned.one_capacity _) refl (ap at c.index-elements-element.is) _
+    c.set_bit_in.ensures.set)
 
 pub returns-in_default : goal.returns-in_default
 returns-in_default g c = sym (with-none _ _ c.in_default.ensures)

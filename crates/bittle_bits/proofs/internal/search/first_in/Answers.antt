@@ -7,7 +7,7 @@ pub loop-found-init : goal.loop-found-init
 loop-found-init g c =
     let leaf = g.met.B.Bits.leaf_width in
     let wide : c.width-width.result ≡ g.B.Bits.width = c.width-width.ensures
-        ∙ g.met.B.Bits.leaf_width in
+    ∙ g.met.B.Bits.leaf_width in
     let some : c.args.from < c.args.to = omega (arith, c.requires.ordered, c.if-from-to.false) in
     rw (wide, c.and-word.ensures) (
       omega arith,
@@ -19,7 +19,7 @@ loop-found-init g c =
 pub overflow_add-found : goal.overflow_add-found
 overflow_add-found g c =
     let wide : c.width-width.result ≡ g.B.Bits.width = c.width-width.ensures
-        ∙ g.met.B.Bits.leaf_width in
+    ∙ g.met.B.Bits.leaf_width in
     let some : c.args.from < c.args.to = omega (arith, c.requires.ordered, c.if-from-to.false) in
     let whole = g.met.B.Bits.whole_words c.args.bits.now in
     let below = index_below _ c.loop-found.k c.args.to _ c.zeros-index.result whole (omega arith)
@@ -30,9 +30,9 @@ pub returns-then-found-to : goal.returns-then-found-to
 returns-then-found-to g c =
     let leaf = g.met.B.Bits.leaf_width in
     let wide : c.width-width.result ≡ g.B.Bits.width = c.width-width.ensures
-        ∙ g.met.B.Bits.leaf_width in
+    ∙ g.met.B.Bits.leaf_width in
     rw wide (first_found _ _ _ _ g.met.B.Bits.width_positive
-        (g.met.B.Bits.whole_words _) c.args.from c.args.to c.loop-found.k _ c.zeros-index.result
+    (g.met.B.Bits.whole_words _) c.args.from c.args.to c.loop-found.k _ c.zeros-index.result
     c.loop-found.invariant.2 (rw leaf at c.zeros-index.ensures)
     (rw wide at c.if-index-width.true) (rw wide at c.if-found-to.true))
 
@@ -40,29 +40,29 @@ pub returns-else-found-to : goal.returns-else-found-to
 returns-else-found-to g c =
     let leaf = g.met.B.Bits.leaf_width in
     let wide : c.width-width.result ≡ g.B.Bits.width = c.width-width.ensures
-        ∙ g.met.B.Bits.leaf_width in
+    ∙ g.met.B.Bits.leaf_width in
     first_past _ _ _ _ g.met.B.Bits.width_positive (g.met.B.Bits.whole_words _) c.args.from
-        c.args.to c.loop-found.k _ c.zeros-index.result
+    c.args.to c.loop-found.k _ c.zeros-index.result
     c.loop-found.invariant.2 (rw leaf at c.zeros-index.ensures) (rw wide at c.if-found-to.false)
 
 pub returns-then-k-last : goal.returns-then-k-last
 returns-then-k-last g c =
     let leaf = g.met.B.Bits.leaf_width in
     let wide : c.width-width.result ≡ g.B.Bits.width = c.width-width.ensures
-        ∙ g.met.B.Bits.leaf_width in
+    ∙ g.met.B.Bits.leaf_width in
     let some : c.args.from < c.args.to = omega (arith, c.requires.ordered, c.if-from-to.false) in
     let end : g.B.Bits.width ≤ c.zeros-index.result = rw wide at c.if-index-width.false in
     let last : c.loop-found.k ≡ (c.args.to - 1) / g.B.Bits.width = rw wide at c.if-k-last.true in
     let up = last_word _ c.args.to g.met.B.Bits.width_positive (omega arith) in
     first_past _ _ _ _ g.met.B.Bits.width_positive (g.met.B.Bits.whole_words _) c.args.from
-        c.args.to c.loop-found.k _ c.zeros-index.result
+    c.args.to c.loop-found.k _ c.zeros-index.result
     c.loop-found.invariant.2 (rw leaf at c.zeros-index.ensures) (rw last (omega arith))
 
 pub loop-found-preserved : goal.loop-found-preserved
 loop-found-preserved g c =
     let leaf = g.met.B.Bits.leaf_width in
     let wide : c.width-width.result ≡ g.B.Bits.width = c.width-width.ensures
-        ∙ g.met.B.Bits.leaf_width in
+    ∙ g.met.B.Bits.leaf_width in
     let inv = c.loop-found.invariant in
     let end : g.B.Bits.width ≤ c.zeros-index.result = rw wide at c.if-index-width.false in
     let more = rw wide at c.if-k-last.false in (
