@@ -1,8 +1,40 @@
 -- The least free page, and how a walk over the free pages finds it.
-use Rattle.std.proofs.Common.{◌≡◌, ℕ, zero, suc, ◌+◌, ◌<◌, ◌≤◌, ◌⊎◌, Bool, true, false, not, ◌&&◌,
-    cond, nat_lt, Option, Some, None, inl, inr, refl, sym, ap, ◌∙◌, arith}
-use Rattle.std.proofs.lemmas.Bool.{cases_eq, cases_Bool, cases_lt, lt-ltb, ltb-true, and_parts,
-    true≢false}
+use Rattle.std.proofs.Common.{
+  ◌≡◌,
+  ℕ,
+  zero,
+  suc,
+  ◌+◌,
+  ◌<◌,
+  ◌≤◌,
+  ◌⊎◌,
+  Bool,
+  true,
+  false,
+  not,
+  ◌&&◌,
+  cond,
+  nat_lt,
+  Option,
+  Some,
+  None,
+  inl,
+  inr,
+  refl,
+  sym,
+  ap,
+  ◌∙◌,
+  arith,
+}
+use Rattle.std.proofs.lemmas.Bool.{
+  cases_eq,
+  cases_Bool,
+  cases_lt,
+  lt-ltb,
+  ltb-true,
+  and_parts,
+  true≢false,
+}
 use Rattle.std.specs.Prelude.{MatchOption}
 use Rattle.bittle.specs.PlainSet.{PlainSet, complement, contains}
 use Rattle.bittle.specs.Searches.{NoneIn, IsFirstIn}
@@ -42,12 +74,19 @@ least_free_from-is taken from (suc n) = by (cases_Bool (taken from))
     by (inl here) None all = rw here (from_here taken from (from + suc n) here
         (λ k p q. all k p (omega arith)))
     by (inl here) (Some p) found =
-        rw here (record { from_one_on = omega (arith, found.from_one_on);
-            within = omega (arith, found.within); is_free = found.is_free;
-            taken_below = from_here taken from p here found.taken_below })
+        rw here (record {
+          from_one_on = omega (arith, found.from_one_on);
+          within = omega (arith, found.within);
+          is_free = found.is_free;
+          taken_below = from_here taken from p here found.taken_below;
+        })
     by (inr here) o rest =
-        rw here (record { from_one_on = omega arith; within = omega arith; is_free = here;
-            taken_below = λ k p q. absurd (omega arith) })
+        rw here (record {
+          from_one_on = omega arith;
+          within = omega arith;
+          is_free = here;
+          taken_below = λ k p q. absurd (omega arith);
+        })
 
 -- the least free page, or that all are taken
 pub least_free-is : (s : PlainSet) → MatchOption (least_free s) ((k : ℕ) → k < s.capacity →
@@ -58,16 +97,22 @@ least_free-is s = by (least_free s) (least_free_from-is s.has 0 s.capacity)
         (IsFoundFrom s.has 0 s.capacity) →
         MatchOption o ((k : ℕ) → k < s.capacity → s.has k ≡ true) (IsLeastFree s)
     by None all = λ k h. all k (omega arith) (omega arith)
-    by (Some p) found = record { within = omega (arith, found.within); is_free = found.is_free;
-        taken_below = λ k h. found.taken_below k (omega arith) h }
+    by (Some p) found = record {
+      within = omega (arith, found.within);
+      is_free = found.is_free;
+      taken_below = λ k h. found.taken_below k (omega arith) h;
+    }
 
 -- there is just one least free page
 one_least : (s : PlainSet) (p q : ℕ) → IsLeastFree s p → IsLeastFree s q → p ≡ q
 one_least s p q a b =
     elim (cases_lt p q) [
       | inl l ↦ absurd (true≢false (sym (b.taken_below p l) ∙ a.is_free))
-      | inr g ↦ elim (cases_lt q p) [ inl l ↦
-          absurd (true≢false (sym (a.taken_below q l) ∙ b.is_free)) | inr h ↦ omega arith ]
+      | inr g ↦ elim (cases_lt q p) [
+        | inl l ↦
+            absurd (true≢false (sym (a.taken_below q l) ∙ b.is_free))
+        | inr h ↦ omega arith
+      ]
     ]
 
 free_is : (b : Bool) → not b ≡ true → b ≡ false
@@ -105,8 +150,8 @@ least_free-none s none = by (least_free s) (least_free-is s)
     by None all = refl
     by (Some q) least =
         absurd (true≢false (sym (taken_is (s.has q)
-            (sym (complement_within s q least.within) ∙ none q (omega arith) least.within))
-            ∙ least.is_free))
+        (sym (complement_within s q least.within) ∙ none q (omega arith) least.within))
+        ∙ least.is_free))
 
 -- of a page a test of the map tells whether it is taken
 pub is_taken-within : (s : PlainSet) (p : ℕ) → p < s.capacity → is_taken s p ≡ contains s p

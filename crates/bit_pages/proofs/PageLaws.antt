@@ -1,12 +1,46 @@
 -- What follows from the page machine for every run.
-use Rattle.std.proofs.Common.{◌≡◌, ℕ, zero, suc, ◌<◌, ◌⊎◌, Bool, true, false, not, cond, ◌&&◌, ◌||◌,
-    ◌==◌, Option, Some, None, List, [], ◌∷◌, inl, inr, refl, sym, ap, ◌∙◌, arith}
+use Rattle.std.proofs.Common.{
+  ◌≡◌,
+  ℕ,
+  zero,
+  suc,
+  ◌<◌,
+  ◌⊎◌,
+  Bool,
+  true,
+  false,
+  not,
+  cond,
+  ◌&&◌,
+  ◌||◌,
+  ◌==◌,
+  Option,
+  Some,
+  None,
+  List,
+  [],
+  ◌∷◌,
+  inl,
+  inr,
+  refl,
+  sym,
+  ap,
+  ◌∙◌,
+  arith,
+}
 use Rattle.std.proofs.lemmas.Bool.{cases_eq, cases_Bool, eq-eqb, ne_eqb, true≢false}
 use Rattle.std.specs.Prelude.{MatchOption, slice_get}
 use Rattle.bittle.specs.PlainSet.{PlainSet}
 use Rattle.bit_pages.specs.PageLaws.{IsLeastFree}
-use Rattle.bit_pages.specs.Pages.{is_taken, least_free, page_or_full, with_found, answer_to,
-    state_after, request_answers}
+use Rattle.bit_pages.specs.Pages.{
+  is_taken,
+  least_free,
+  page_or_full,
+  with_found,
+  answer_to,
+  state_after,
+  request_answers,
+}
 use Rattle.bit_pages.specs.declared.Answer.TheVariants as answer
 use Rattle.bit_pages.specs.declared.Request.{Request}
 use Rattle.bit_pages.specs.declared.Request.TheVariants.{Take, GiveBack}
@@ -115,7 +149,7 @@ given_between s [] page i (suc j) h a b = absurd (cc)
 given_between s (request ∷ requests) page zero (suc j) h a b =
     let is : answer_to s request ≡ answer.Page page = cc in
     let later = given_before (state_after s request) requests page j
-        (page_is_taken s request page is) b in
+    (page_is_taken s request page is) b in
     (suc later.0, omega arith, omega (arith, later.1), later.2, later.3)
 given_between s (request ∷ requests) page (suc i) (suc j) h a b =
     let later = given_between (state_after s request) requests page i j (omega arith) a b in

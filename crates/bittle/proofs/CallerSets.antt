@@ -10,6 +10,7 @@ use Rattle.bittle_bits.specs.PlainSet.{PlainSet, contains, with_index, has_with,
 use Rattle.bittle_bits.specs.Searches.{NoneIn}
 use Rattle.bittle_bits.specs.SetOperations.{combination_of, combination_has}
 use Rattle.bittle_bits.proofs.PlainSets.{full_set_in_each_order}
+use Rattle.bittle_bits.proofs.Counts as counts
 use Rattle.bittle_bits.proofs.Sizes as sizes
 
 -- below the capacity no index wraps
@@ -72,7 +73,7 @@ size_at_most = sizes.size-le
 pub size_none : (s : PlainSet) → size s ≡ 0 → NoneIn s 0 s.capacity
 size_none s e k p q =
     elim (cases_Bool (s.has k)) [
-      | inl here ↦ let some = sizes.count-some s.capacity k s.has q here in absurd (omega arith)
+      | inl here ↦ let some = counts.count-some s.capacity k s.has q here in absurd (omega arith)
       | inr none ↦ none
     ]
 
@@ -84,7 +85,7 @@ size_empty (suc c) = ap (λ n. n + 0) (size_empty c) ∙ omega arith
 
 -- a set with no members has size 0
 pub size_zero : (s : PlainSet) → NoneIn s 0 s.capacity → size s ≡ 0
-size_zero s none = sizes.count-same s.capacity s.has (λ _. false) (λ k h. none k (omega arith) h)
+size_zero s none = counts.count-same s.capacity s.has (λ _. false) (λ k h. none k (omega arith) h)
     ∙ size_empty s.capacity
 
 -- a set whose size is its capacity has each number below it

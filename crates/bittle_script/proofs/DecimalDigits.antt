@@ -1,6 +1,24 @@
 -- What the parser of integers reads of digits.
-use Rattle.std.proofs.Common.{◌≡◌, ℕ, ◌<◌, Bool, true, false, List, [], ◌∷◌, length, refl, arith,
-    rules, Result, Ok, Err, Some, None}
+use Rattle.std.proofs.Common.{
+  ◌≡◌,
+  ℕ,
+  ◌<◌,
+  Bool,
+  true,
+  false,
+  List,
+  [],
+  ◌∷◌,
+  length,
+  refl,
+  arith,
+  rules,
+  Result,
+  Ok,
+  Err,
+  Some,
+  None,
+}
 use Rattle.std.specs.Prelude.{nat_lt, ◌&&◌, if◌then◌else◌}
 use Rattle.std.specs.Char.{is_ascii_digit}
 use Rattle.std.specs.List.{list_all}
@@ -10,8 +28,12 @@ use Rattle.std.specs.Str.Parse.{digits_value, ParsesUnsigned}
 use Rattle.std.proofs.lemmas.Bool.{lt-ltb, ltb-true}
 use Rattle.std.proofs.lemmas.Str.{IsUtf8-from_ascii}
 use Rattle.std.proofs.lemmas.Str.Ascii.{IsAscii-nil, IsAscii-cons}
-use Rattle.std.proofs.lemmas.Str.Parse.{IsNumeralModel, IsDigitsTest, numerals_by_value,
-    parse_digits}
+use Rattle.std.proofs.lemmas.Str.Parse.{
+  IsNumeralModel,
+  IsDigitsTest,
+  numerals_by_value,
+  parse_digits,
+}
 use Rattle.bittle_script.specs.Numbers.{number_of}
 
 own_test : IsDigitsTest (λ ds. list_all is_ascii_digit ds ≡ true)
@@ -25,12 +47,12 @@ by_tests : {E : Type 0} (r : Result ℕ E) (n v l : ℕ) (b : Bool) → OkIff r 
 by_tests (Ok x) n v l b h digits = rw (lt-ltb 0 n h.0.0, digits, lt-ltb v l h.0.1, h.1) refl
 by_tests (Err e) n v l b h digits = by_refusal (nat_lt 0 n) (nat_lt v l) b v digits
     (λ s f. h (ltb-true 0 n s, ltb-true v l f)) where
-  by_refusal : (s f b : Bool) (v : ℕ) → b ≡ true → (s ≡ true → f ≡ true → ⊥) →
-      None ≡ (if s && b && f then Some v else None)
-  by_refusal false f b v digits no' = refl
-  by_refusal true f false v digits no' = refl
-  by_refusal true false true v digits no' = refl
-  by_refusal true true true v digits no' = absurd (no' refl refl)
+      by_refusal : (s f b : Bool) (v : ℕ) → b ≡ true → (s ≡ true → f ≡ true → ⊥) →
+          None ≡ (if s && b && f then Some v else None)
+      by_refusal false f b v digits no' = refl
+      by_refusal true f false v digits no' = refl
+      by_refusal true false true v digits no' = refl
+      by_refusal true true true v digits no' = absurd (no' refl refl)
 
 -- of digits the parser gives the number that they say, or an error where none fits
 pub number_parsed : {E : Type 0} (bs : List ℕ) (r : Result ℕ E) → ParsesUnsigned 32 10 bs r →

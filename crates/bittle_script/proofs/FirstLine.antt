@@ -1,6 +1,32 @@
 -- The first line of a text.
-use Rattle.std.proofs.Common.{◌≡◌, ℕ, suc, ◌+◌, ◌<◌, ◌≤◌, Bool, List, [], ◌∷◌, length, take, drop,
-    refl, arith, true, false, Some, None, ap, ◌∙◌, sym, map, cond, take_all, drop_of_length-le}
+use Rattle.std.proofs.Common.{
+  ◌≡◌,
+  ℕ,
+  suc,
+  ◌+◌,
+  ◌<◌,
+  ◌≤◌,
+  Bool,
+  List,
+  [],
+  ◌∷◌,
+  length,
+  take,
+  drop,
+  refl,
+  arith,
+  true,
+  false,
+  Some,
+  None,
+  ap,
+  ◌∙◌,
+  sym,
+  map,
+  cond,
+  take_all,
+  drop_of_length-le,
+}
 use borrow.Author.Tests.{ltb-false}
 use Rattle.std.specs.Prelude.{◌==◌, not, position, if◌then◌else◌, nat_lt}
 use Rattle.std.specs.List.{position_or_len}
@@ -16,14 +42,14 @@ shift n b bytes =
     let e : 1 + n ≡ suc n = omega arith in
     let f : 1 + n + 1 ≡ suc (n + 1) = omega arith in
     sym (ap (λ m. take m (b ∷ bytes) ∷ lines_of (drop (1 + n + 1) (b ∷ bytes))) e
-        ∙ ap (λ m. take (suc n) (b ∷ bytes) ∷ lines_of (drop m (b ∷ bytes))) f)
+    ∙ ap (λ m. take (suc n) (b ∷ bytes) ∷ lines_of (drop m (b ∷ bytes))) f)
 
 by_first_byte : (t : Bool) (b : ℕ) (bytes : List ℕ) →
     (0 < length bytes → lines_of bytes ≡ take (end_of_line bytes) bytes ∷ lines_of
     (drop (end_of_line bytes + 1) bytes))
     → (if t then [] ∷ lines_of bytes else onto_first b (lines_of bytes))
     ≡ take (cond (not t) (1 + end_of_line bytes) 0) (b ∷ bytes) ∷ lines_of
-        (drop (cond (not t) (1 + end_of_line bytes) 0 + 1) (b ∷ bytes))
+    (drop (cond (not t) (1 + end_of_line bytes) 0 + 1) (b ∷ bytes))
 by_first_byte true b bytes h = refl
 by_first_byte false b [] h = refl
 by_first_byte false b (d ∷ ds) h = ap (onto_first b) (h (omega arith))
@@ -49,9 +75,9 @@ pub first_script_line : (text : List ℕ) (k : ℕ) → 0 < length text →
     → script_lines text ≡ without_return (take k text) ∷ script_lines (drop (k + 1) text)
 first_script_line text k some e =
     let here : end_of_line text ≡ k = place_by_test (nat_lt (end_of_line text) (length text))
-        (end_of_line text) k e in
+    (end_of_line text) k e in
     ap (map without_return) (lines_by_first text some)
-        ∙ ap (λ n. without_return (take n text) ∷ script_lines (drop (n + 1) text)) here
+    ∙ ap (λ n. without_return (take n text) ∷ script_lines (drop (n + 1) text)) here
 
 -- a text with no byte 10 is one line
 pub only_script_line : (text : List ℕ) → 0 < length text → position (λ b. b == 10) text ≡ None →
@@ -59,7 +85,7 @@ pub only_script_line : (text : List ℕ) → 0 < length text → position (λ b.
 only_script_line text some e =
     let n = end_of_line text in
     let past : length text ≤ n = ltb-false n (length text)
-        (none_by_test (nat_lt n (length text)) n e) in
+    (none_by_test (nat_lt n (length text)) n e) in
     ap (map without_return) (lines_by_first text some)
     ∙ ap (λ l. without_return l ∷ script_lines (drop (n + 1) text)) (take_all n text past)
     ∙ ap (λ l. without_return text ∷ script_lines l) (drop_of_length-le text (omega arith))

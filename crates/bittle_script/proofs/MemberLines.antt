@@ -25,7 +25,7 @@ spaced_numbers-next (n ∷ ns) = refl
 -- the rest of a line begins with the first number that is left
 pub spaced_numbers-more : (before left end : List ℕ) (n : ℕ) (rest : List ℕ) → left ≡ n ∷ rest
     → spaced_numbers before left ++ end ≡ (before ++ decimal n)
-        ++ (spaced_numbers (codes " ") rest ++ end)
+    ++ (spaced_numbers (codes " ") rest ++ end)
 spaced_numbers-more before left end n rest is =
     ap (λ l. spaced_numbers before l ++ end) is
     ∙ ap (λ l. ((before ++ decimal n) ++ l) ++ end) (spaced_numbers-next rest)

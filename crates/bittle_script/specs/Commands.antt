@@ -12,7 +12,7 @@ indexed_command_of line =
     if begins_with line (codes "set ") then option_map Set (number_of (drop 4 line))
     else (if begins_with line (codes "clear ") then option_map Clear (number_of (drop 6 line))
     else (if begins_with line (codes "test ") then option_map Test (number_of (drop 5 line)) else
-        None))
+    None))
 
 -- the command that a line says
 abbrev pub command_of : List ℕ → Option Command

@@ -26,7 +26,7 @@ abbrev pub header_of : List ℕ → Option Header
 header_of line =
     if begins_with line (codes "be ") then option_map (header_in_order Big) (shape_of (drop 3 line))
     else (if begins_with line (codes "le ") then option_map (header_in_order Little)
-        (shape_of (drop 3 line)) else None)
+    (shape_of (drop 3 line)) else None)
 
 -- how many numbers a set of the shape can hold
 abbrev pub capacity_of : Shape → ℕ

@@ -1,6 +1,25 @@
 -- What the order of two roles says of what they grant.
-use Rattle.std.proofs.Common.{◌≡◌, ℕ, ◌≤◌, true, false, IsTrue, ◌↔◌, List, Result, Ok, Err,
-    MatchOption, inl, inr, refl, sym, ap, ◌∙◌, arith}
+use Rattle.std.proofs.Common.{
+  ◌≡◌,
+  ℕ,
+  ◌≤◌,
+  true,
+  false,
+  IsTrue,
+  ◌↔◌,
+  List,
+  Result,
+  Ok,
+  Err,
+  MatchOption,
+  inl,
+  inr,
+  refl,
+  sym,
+  ap,
+  ◌∙◌,
+  arith,
+}
 use Rattle.std.proofs.lemmas.Bool.{le-ltb, cases_lt, true≢false}
 use Rattle.std.proofs.lemmas.List.Sorted.{searchable_from_sorted}
 use Rattle.std.specs.Cmp.Lexicographic.{nat_list_cmp_total}
@@ -50,7 +69,7 @@ module _ {X : Type 0} (bits : X → ℕ) (wanted : ℕ) where
       (ap is_eq (h d))
   search_found xs (Err i) sorted h =
       let between = h (searchable_from_sorted nat_list_cmp_total
-          (λ x. ascending (digit_set 32 (bits x))) xs (ascending (digit_set 32 wanted)) sorted) in
+      (λ x. ascending (digit_set 32 (bits x))) xs (ascending (digit_set 32 wanted)) sorted) in
       λ k d l. elim (cases_lt k i) [
         | inl a ↦ not_equal (slice_index_or xs k d) Less (between.0 k d (omega arith) a) refl
         | inr b ↦ not_equal (slice_index_or xs k d) Greater (between.1 k d b l) refl

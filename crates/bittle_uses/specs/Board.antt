@@ -5,5 +5,5 @@ use Rattle.std.specs.Prelude.{◌≡◌, List, [], ◌∷◌, ◌++◌, Option, 
 abbrev pub AreEnds : List ℕ → Option ℕ → Option ℕ → Type 0
 AreEnds items first last =
     MatchOption first ((items ≡ []) × (last ≡ None))
-        (λ a. MatchOption last (items ≡ a ∷ [])
-        (λ b. (between : List ℕ) × (items ≡ a ∷ (between ++ b ∷ []))))
+    (λ a. MatchOption last (items ≡ a ∷ [])
+    (λ b. (between : List ℕ) × (items ≡ a ∷ (between ++ b ∷ []))))

@@ -7,6 +7,7 @@ pub mod changes;
 pub mod counts;
 pub mod entities;
 pub mod free_runs;
+pub mod lent;
 pub mod nested;
 pub mod permissions;
 pub mod ranks;

@@ -1,6 +1,15 @@
-//! A loop over a walk that is written by hand.
+//! Loops over a walk that add up: by a `for`, and written by hand.
 
 use bittle::Bits;
+
+/// Returns the sum of the members of a word.
+pub fn sum(mask: u64) -> u64 {
+    let mut total = 0u64;
+    for index in mask.iter_ones() {
+        total += index as u64;
+    }
+    total
+}
 
 /// Returns the sum of the members of a word, from the greatest on.
 pub fn sum_from_greatest(mask: u32) -> u64 {

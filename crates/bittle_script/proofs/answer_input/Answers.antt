@@ -10,7 +10,7 @@ pub returns-in_err-put-in-Err-clause-answered : goal.returns-in_err-put-in-Err-c
 returns-in_err-put-in-Err-clause-answered g c =
     let given = refusal_answers c.in-Err.refusal in
     let written = subst (AppendsBeginning _ _) c.message.ensures c.in_err-put-in-Err.ensures.bytes
-        in (
+    in (
       given,
       refusal_allowed _ c.in-Err.refusal (λ e. c.in-Err.ensures.longer (ap Err e)),
       IsGiven-failed _ _ c.from_residual.result given c.from_residual.ensures.0 written,

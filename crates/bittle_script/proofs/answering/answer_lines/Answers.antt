@@ -1,7 +1,13 @@
 use Rattle.std.proofs.Common.{rules, refl, sym, subst, ◌∙◌}
 use Rattle.bittle_script.specs.Answers.{IsGiven}
-use Rattle.bittle_script.proofs.AnswerWriting.{answers_step, answers_refused, IsGiven-after,
-    IsGiven-failed_at, under_way-after, under_way-begins}
+use Rattle.bittle_script.proofs.AnswerWriting.{
+  answers_step,
+  answers_refused,
+  IsGiven-after,
+  IsGiven-failed_at,
+  under_way-after,
+  under_way-begins,
+}
 use Rattle.bittle_script.proofs.answering.answer_lines.Goals as goal
 
 pub loop-line-init : goal.loop-line-init
@@ -15,15 +21,15 @@ pub returns-in_default-clause-answers : goal.returns-in_default-clause-answers
 returns-in_default-clause-answers g c =
     let some = sym c.is_empty.ensures ∙ c.if-is_empty.false in
     let refused = answers_refused _ _ _ _ _ c.in-Some.ensures.steps some
-        (sym c.in_default.ensures) in
+    (sym c.in_default.ensures) in
     IsGiven-after _ _ _ c.refuse.result _ _ c.loop-line.invariant.under_way
-        (subst (IsGiven _ _ c.refuse.result) (sym refused) c.refuse.ensures.refused)
+    (subst (IsGiven _ _ c.refuse.result) (sym refused) c.refuse.ensures.refused)
 
 pub loop-line-preserved : goal.loop-line-preserved
 loop-line-preserved g c =
     let some = sym c.is_empty.ensures ∙ c.if-is_empty.false in
     let step = answers_step _ _ _ _ _ _ c.in-Some-parse.command c.in-Some.ensures.steps some
-        (sym c.in-Some-parse.ensures) c.in_ok-obey.ensures.set in
+    (sym c.in-Some-parse.ensures) c.in_ok-obey.ensures.set in
     record {
       same_writer = search rules;
       under_way = under_way-after _ _ _ _ _ _ _ c.loop-line.invariant.under_way step
@@ -34,7 +40,7 @@ pub returns-in_err-obey-clause-answers : goal.returns-in_err-obey-clause-answers
 returns-in_err-obey-clause-answers g c =
     let some = sym c.is_empty.ensures ∙ c.if-is_empty.false in
     let step = answers_step _ _ _ _ _ _ c.in-Some-parse.command c.in-Some.ensures.steps some
-        (sym c.in-Some-parse.ensures) c.in_err-obey.ensures.set in
+    (sym c.in-Some-parse.ensures) c.in_err-obey.ensures.set in
     let failed = IsGiven-failed_at _ _ c.from_residual.result _ _ _ c.from_residual.ensures.0 step
-        c.in_err-obey.ensures.prints in
+    c.in_err-obey.ensures.prints in
     IsGiven-after _ _ _ c.from_residual.result _ _ c.loop-line.invariant.under_way failed

@@ -13,5 +13,5 @@ invariant-loop-line g l = record {
       (g.W.Write.contents l.output.writer.now)
       (line_answers (empty_set g.B.BitsOwned.type_capacity) (lines_left l.fn.lines))
       (line_answers (members g.E.Endian.mirrored g.B.Bits.width (g.B.Bits.big l.bits))
-          (lines_left l.line-iterator));
+      (lines_left l.line-iterator));
 }

@@ -12,4 +12,4 @@ pub returns-in_ok-put_number-in-Number-clause-prints :
     goal.returns-in_ok-put_number-in-Number-clause-prints
 returns-in_ok-put_number-in-Number-clause-prints g c =
     rw c.in-Number.is (writes-after _ _ _ c.put-in-Number.result _ _
-        c.in_ok-put_number-in-Number.ensures.digits c.put-in-Number.ensures.bytes)
+    c.in_ok-put_number-in-Number.ensures.digits c.put-in-Number.ensures.bytes)

@@ -10,4 +10,4 @@ pub returns : goal.returns
 returns c =
     let parsed = rw c.in-Ok.ensures.cases.0 at c.parse.ensures.value.0 in
     c.ok.ensures.value ∙ number_parsed c.args.digits.now c.parse.result parsed
-        (sym c.if-not-are_digits.ensures)
+    (sym c.if-not-are_digits.ensures)

@@ -1,7 +1,28 @@
-use Rattle.std.proofs.Common.{◌≡◌, ◌<◌, ℕ, Bor, ◌∷◌, [], ◌++◌, map, length, get_or, sym, ap, ◌∙◌,
-    arith, rules}
-use Rattle.std.proofs.lemmas.List.{take_more_set, map-append, length-append, length-map, length-set,
-    length-take}
+use Rattle.std.proofs.Common.{
+  ◌≡◌,
+  ◌<◌,
+  ℕ,
+  Bor,
+  ◌∷◌,
+  [],
+  ◌++◌,
+  map,
+  length,
+  get_or,
+  sym,
+  ap,
+  ◌∙◌,
+  arith,
+  rules,
+}
+use Rattle.std.proofs.lemmas.List.{
+  take_more_set,
+  map-append,
+  length-append,
+  length-map,
+  length-set,
+  length-take,
+}
 use Rattle.std.specs.Prelude.{slice_index}
 use Rattle.bittle.specs.Digits.{digit_set}
 use Rattle.bittle.specs.PlainSet.{ascending}
@@ -14,10 +35,10 @@ bounds-row-count c =
     let join = c.join_ones-component-items in
     let start = c.into_iter-component-iterator.ensures.into_iter_gives in
     let b : c.loop-component.count < 64 = answers_below (λ i. i.rest.now) join.result
-        c.loop-component.component-iterator c.next.new.self c.loop-component.yielded
-        c.in-Some.component (digit_set 64 c.args.mask) c.loop-component.count join.ensures.members
-        c.loop-component.invariant.count join.ensures.answers
-        (rw start at c.loop-component.yielded_by) c.in-Some.ensures.steps in
+    c.loop-component.component-iterator c.next.new.self c.loop-component.yielded
+    c.in-Some.component (digit_set 64 c.args.mask) c.loop-component.count join.ensures.members
+    c.loop-component.invariant.count join.ensures.answers
+    (rw start at c.loop-component.yielded_by) c.in-Some.ensures.steps in
     b
 
 pub offset_bounds-row-count : goal.offset_bounds-row-count
@@ -25,10 +46,10 @@ offset_bounds-row-count c =
     let join = c.join_ones-component-items in
     let start = c.into_iter-component-iterator.ensures.into_iter_gives in
     let b : c.loop-component.count < 64 = answers_below (λ i. i.rest.now) join.result
-        c.loop-component.component-iterator c.next.new.self c.loop-component.yielded
-        c.in-Some.component (digit_set 64 c.args.mask) c.loop-component.count join.ensures.members
-        c.loop-component.invariant.count join.ensures.answers
-        (rw start at c.loop-component.yielded_by) c.in-Some.ensures.steps in
+    c.loop-component.component-iterator c.next.new.self c.loop-component.yielded
+    c.in-Some.component (digit_set 64 c.args.mask) c.loop-component.count join.ensures.members
+    c.loop-component.invariant.count join.ensures.answers
+    (rw start at c.loop-component.yielded_by) c.in-Some.ensures.steps in
     search rules
 
 pub loop-component-preserved : goal.loop-component-preserved
@@ -40,8 +61,12 @@ loop-component-preserved c =
       room = omega (arith, b);
       places = length-set c.loop-component.row c.loop-component.count c.in-Some.component.now
           ∙ t.places;
-      count = omega (arith, t.count, length-append c.loop-component.yielded
-          (c.in-Some.component ∷ []));
+      count = omega (
+        arith,
+        t.count,
+        length-append c.loop-component.yielded
+            (c.in-Some.component ∷ []),
+      );
       picked = take_more_set c.loop-component.row c.loop-component.count c.in-Some.component.now
           (omega (arith, t.places)) ∙ ap (λ xs. xs ++ c.in-Some.component.now ∷ []) t.picked
           ∙ sym (map-append now c.loop-component.yielded (c.in-Some.component ∷ []));
@@ -52,24 +77,29 @@ returns-clause-picked c =
     let join = c.join_ones-component-items in
     let start = c.into_iter-component-iterator.ensures.into_iter_gives in
     let items : join.result.iter.rest.now
-        ≡ c.args.components.now = ap (λ i. i.rest.now) join.ensures.iter ∙ c.iter.ensures.rest in
+    ≡ c.args.components.now = ap (λ i. i.rest.now) join.ensures.iter ∙ c.iter.ensures.rest in
     let bound : (k : ℕ) → k < length join.result.mask.left →
-        get_or join.result.mask.left k 0 < length join.result.iter.rest.now =
-    λ k h. omega (arith, ascending_below (digit_set 64 c.args.mask) k
-        (omega (arith, h, ap length join.ensures.members)),
-        ap (λ xs. get_or xs k 0) join.ensures.members, ap length items, c.told-components) in
+    get_or join.result.mask.left k 0 < length join.result.iter.rest.now =
+    λ k h. omega (
+      arith,
+      ascending_below (digit_set 64 c.args.mask) k
+          (omega (arith, h, ap length join.ensures.members)),
+      ap (λ xs. get_or xs k 0) join.ensures.members,
+      ap length items,
+      c.told-components,
+    ) in
     let all = all_answers_at_members (λ i. i.rest.now) join.result
-        c.loop-component.component-iterator c.next.new.self c.loop-component.yielded
-        join.ensures.end join.ensures.none_taken bound (rw start at c.loop-component.yielded_by)
-        c.in-None.ensures.steps in
+    c.loop-component.component-iterator c.next.new.self c.loop-component.yielded
+    join.ensures.end join.ensures.none_taken bound (rw start at c.loop-component.yielded_by)
+    c.in-None.ensures.steps in
     c.loop-component.invariant.picked ∙ all
-        ∙ ap (λ xs. map (λ n. slice_index xs n) join.result.mask.left) items
-        ∙ ap (map (λ n. slice_index c.args.components.now n)) join.ensures.members
+    ∙ ap (λ xs. map (λ n. slice_index xs n) join.result.mask.left) items
+    ∙ ap (map (λ n. slice_index c.args.components.now n)) join.ensures.members
 
 pub returns-clause-count : goal.returns-clause-count
 returns-clause-count c =
     let t = c.loop-component.invariant in
     let a = ap length (returns-clause-picked c) in
     let b = length-map (ascending (digit_set 64 c.args.mask))
-        (λ n. slice_index c.args.components.now n) in
+    (λ n. slice_index c.args.components.now n) in
     omega (arith, a, b, length-take c.loop-component.count c.loop-component.row, t.places, t.room)

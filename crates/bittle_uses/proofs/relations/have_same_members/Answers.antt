@@ -5,9 +5,11 @@ use Rattle.bittle_uses.proofs.relations.have_same_members.Goals as goal
 pub returns-else-eq : goal.returns-else-eq
 returns-else-eq g c =
     let one = g.met.B.BitsOwned.one_capacity c.args.first
-        ∙ sym (g.met.B.BitsOwned.one_capacity c.args.second) in
+    ∙ sym (g.met.B.BitsOwned.one_capacity c.args.second) in
     let past = g.met.B.Bits.none_past c.args.first in
-    let is = c.symmetric_difference.ensures false in
-    (λ e. same_if_empty _ _ _ one past (g.met.B.Bits.none_past c.args.second) is
-        (sym c.all_zeros.ensures.value ∙ e), λ h. c.all_zeros.ensures.value
-        ∙ empty_if_same _ _ _ one past is h)
+    let is = c.symmetric_difference.ensures false in (
+      λ e. same_if_empty _ _ _ one past (g.met.B.Bits.none_past c.args.second) is
+          (sym c.all_zeros.ensures.value ∙ e),
+      λ h. c.all_zeros.ensures.value
+          ∙ empty_if_same _ _ _ one past is h,
+    )

@@ -1,5 +1,18 @@
-use Rattle.std.proofs.Common.{◌≡◌, ℕ, ◌-◌, List, ◌++◌, length, take, drop, sym, ap, ◌∙◌,
-    append_assoc, take-append-drop}
+use Rattle.std.proofs.Common.{
+  ◌≡◌,
+  ℕ,
+  ◌-◌,
+  List,
+  ◌++◌,
+  length,
+  take,
+  drop,
+  sym,
+  ap,
+  ◌∙◌,
+  append_assoc,
+  take-append-drop,
+}
 use Rattle.std.proofs.lemmas.List.{take_rest}
 use Rattle.std.proofs.KnownBytes.{Appends-trans}
 use Rattle.bittle_script.proofs.writing.Output.put.Goals as goal
@@ -8,13 +21,17 @@ moves_front : (all done rest : List ℕ) (n : ℕ) → all ≡ done ++ rest →
     all ≡ (done ++ take n rest) ++ take (length rest - n) (drop n rest)
 moves_front all done rest n e =
     e ∙ ap (λ l. done ++ l) (sym (take-append-drop n rest))
-        ∙ sym (append_assoc done (take n rest) (drop n rest)) ∙ ap (λ l. (done ++ take n rest) ++ l)
-        (sym (take_rest rest n))
+    ∙ sym (append_assoc done (take n rest) (drop n rest)) ∙ ap (λ l. (done ++ take n rest) ++ l)
+    (sym (take_rest rest n))
 
 pub loop-rest-preserved-in-Ok : goal.loop-rest-preserved-in-Ok
 loop-rest-preserved-in-Ok g c =
     let (counts, same, done, split, appended) = c.loop-rest.invariant in
     let rest = c.loop-rest.rest.now in
-    let n = c.in-Ok.count in
-    (counts, same, done ++ take n rest, moves_front _ done rest n split,
-        Appends-trans _ _ _ _ _ appended c.in-Ok.ensures.bytes)
+    let n = c.in-Ok.count in (
+      counts,
+      same,
+      done ++ take n rest,
+      moves_front _ done rest n split,
+      Appends-trans _ _ _ _ _ appended c.in-Ok.ensures.bytes,
+    )

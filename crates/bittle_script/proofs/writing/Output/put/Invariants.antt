@@ -7,7 +7,7 @@ invariant-loop-rest g l = (l.initial.self.interrupted ≤ l.self.interrupted)
     × (l.self.writer.ghost_name ≡ l.initial.self.writer.ghost_name)
     × (done : List ℕ) × (l.initial.rest ≡ done ++ l.rest)
     × Appends (g.W.Write.contents l.initial.self.writer.now) (g.W.Write.contents l.self.writer.now)
-        done
+    done
 
 abbrev pub decreases-loop-rest : goal.decreases-loop-rest
 decreases-loop-rest g l = length l.rest + (8192 - l.self.interrupted)

@@ -1,0 +1,56 @@
+//! Contracts that say what a lent slice, or any set, holds after a change.
+
+ghost use Rattle.std.specs.Prelude.{◌≡◌, ◌*◌, ◌<◌, length, MatchOption, slice_get};
+ghost use Rattle.bittle.specs.Digits.{digit_set};
+ghost use Rattle.bittle.specs.PlainSet.{ascending, complement, with_index, without_index};
+ghost use Rattle.bittle.specs.Rows.{elements_set};
+ghost use Rattle.bittle.specs.Values.{set_in, ShapeFits};
+
+use bittle::{Bits, BitsMut, Endian, Set};
+
+/// Sets a bit of a slice that fits.
+pub fn set_in_slice(words: &mut [u64], index: u32)
+    requires { length words.old * 64 < 4294967295 }
+    ensures { elements_set (length words.new) 64 (digit_set 64) words.new
+        ≡ with_index (elements_set (length words.old) 64 (digit_set 64) words.old) index }
+{
+    let mut set = Set::from_mut(words);
+    set.set_bit(index);
+}
+
+/// Clears a bit of a slice of any length.
+pub fn clear_in_slice(words: &mut [u64], index: u32)
+    ensures { elements_set (length words.new) 64 (digit_set 64) words.new
+        ≡ without_index (elements_set (length words.old) 64 (digit_set 64) words.old) index }
+{
+    let mut held = (words,);
+    let lent = &mut held;
+    lent.0.clear_bit(index);
+}
+
+/// Takes the least index of a slice that is free, or changes nothing and returns `None` where none
+/// is.
+pub fn take_least(words: &mut [u64]) -> Option<u32>
+    requires { length words.old * 64 < 4294967295 }
+    ensures least { result ≡ slice_get (ascending (complement
+        (elements_set (length words.old) 64 (digit_set 64) words.old))) 0 }
+    ensures taken { MatchOption result
+        (words.new ≡ words.old)
+        (λ index. elements_set (length words.new) 64 (digit_set 64) words.new
+        ≡ with_index (elements_set (length words.old) 64 (digit_set 64) words.old) index) }
+{
+    let mut held = (words,);
+    let lent = &mut held;
+    let index = lent.0.iter_zeros().next()?;
+    lent.0.set_bit(index);
+    Some(index)
+}
+
+/// Sets a bit of any set, read in any order.
+pub fn set_in_any<B: BitsMut, E: Endian>(bits: &mut B, index: u32)
+    requires { ShapeFits B.Bits bits.old }
+    ensures { set_in B.Bits E.Endian bits.new
+        ≡ with_index (set_in B.Bits E.Endian bits.old) index }
+{
+    bits.set_bit_in::<E>(index);
+}
