@@ -21,12 +21,14 @@ returns-then-count-room-clause-set g c =
     let from = c.args.from in
     let end = c.args.to + 1 in
     let count = c.if-to-from-2.count in
+    let start = from % c.bits_capacity-capacity.result in
     let facts : (from + count ≤ end) × (from + count < end → count ≡ old.capacity) =
     elim c.if-to-from-2.branch [ then-to-from-2 w ↦
         (omega (arith, w.count-is), λ l. omega (arith, w.count-is)) | else-to-from-2 w ↦
         (omega (arith, w.count-is, w.if-to-from-2.false), λ l. omega (arith, w.count-is, is)) ] in
     one_span old from _ count end _ (omega (arith, is)) (ap (λ t. from % t) is)
-        (omega (arith, is)) facts.0 facts.1 c.fill_in.ensures.set
+        (omega (arith, is)) facts.0 facts.1
+        (c.fill_in.ensures.set ∙ ap (λ t. with_span old t (start + count)) (omega arith))
 
 pub returns-else-count-room-clause-set : goal.returns-else-count-room-clause-set
 returns-else-count-room-clause-set g c =
