@@ -1,7 +1,5 @@
 -- Facts of the increasing list of a set's members that callers cite.
-use Rattle.std.proofs.Common.{◌≡◌, ℕ, zero, suc, ◌+◌, ◌-◌, ◌<◌, ◌≤◌, Bool, true, false, cond, List,
-    [], ◌∷◌, ◌++◌, length, length-append, get_or, Some, inl, inr, refl, sym, ap, ◌∙◌, subst, arith,
-    IsTrue, ◌↔◌}
+use Rattle.std.proofs.Common.{◌≡◌, ℕ, zero, suc, ◌+◌, ◌-◌, ◌<◌, ◌≤◌, Bool, true, false, cond, List, [], ◌∷◌, ◌++◌, length, length-append, get_or, Some, inl, inr, refl, sym, ap, ◌∙◌, subst, arith, IsTrue, ◌↔◌}
 use Rattle.std.specs.List.{Contains}
 use Rattle.std.specs.Ordering.{is_eq}
 use Rattle.std.proofs.lemmas.Bool.{cases_Bool, cases_eq, true≢false}
@@ -9,8 +7,7 @@ use Rattle.std.proofs.lemmas.List.{get_or_push, get_or_append_left}
 use Rattle.std.proofs.lemmas.List.Elements.{Contains-append_left, Contains-push, at_from_Contains}
 use Rattle.bittle_bits.specs.PlainSet.{PlainSet, ascending, ascending_from}
 use Rattle.bittle_bits.specs.Searches.{NoneIn, IsFirstIn, IsLastIn}
-use Rattle.bittle_bits.proofs.AscendingLists.{ascending-below as below, ascending-at,
-    ascending_from-none}
+use Rattle.bittle_bits.proofs.AscendingLists.{ascending-below as below, ascending-at, ascending_from-none}
 use Rattle.bittle.specs.Comparison.{list_cmp, AreSame}
 use Rattle.bittle_bits.proofs.FirstItems.{ascending_from-least, least_or_none}
 use Rattle.bittle.proofs.ListComparison.{list_cmp-precedes, equal_iff_same}

@@ -1,7 +1,5 @@
 -- Where two sets of words of one width, in one order, are apart, and what that decides.
-use Rattle.std.proofs.Common.{◌≡◌, ℕ, ◌+◌, ◌-◌, ◌*◌, ◌/◌, ◌^◌, ◌<◌, ◌≤◌, ◌⊎◌, ◌↔◌, Bool, true,
-    false, not, IsTrue, inl, inr, Option, Some, None, is_none, is_some, MatchOption, MatchBool,
-    refl, sym, ap, ◌∙◌, arith}
+use Rattle.std.proofs.Common.{◌≡◌, ℕ, ◌+◌, ◌-◌, ◌*◌, ◌/◌, ◌^◌, ◌<◌, ◌≤◌, ◌⊎◌, ◌↔◌, Bool, true, false, not, IsTrue, inl, inr, Option, Some, None, is_none, is_some, MatchOption, MatchBool, refl, sym, ap, ◌∙◌, arith}
 use Rattle.std.proofs.Math.Nat.{mul-div_left}
 use Rattle.std.proofs.lemmas.Bool.{cases_eq, cases_lt, true≢false}
 use Rattle.std.specs.declared.cmp.Ordering.{Ordering}
@@ -18,8 +16,7 @@ use Rattle.bittle_bits.proofs.DigitSets.{digit_has-zero, digit_has-below, some_d
 use Rattle.bittle_bits.proofs.PlaceLemmas.{place_part, place_in_word, place-place}
 use Rattle.bittle_bits.proofs.Words.{word_has-at}
 use Rattle.bittle.specs.Comparison.{list_cmp, AreSame, HasPast, HasNonePast, Precedes, IsFirstApart}
-use Rattle.bittle.proofs.ListComparison.{EndsAtCapacity, list_cmp-precedes, equal_iff_same,
-    not_both}
+use Rattle.bittle.proofs.ListComparison.{EndsAtCapacity, list_cmp-precedes, equal_iff_same, not_both}
 
 -- both have the same members below a number
 abbrev pub SameBelow : PlainSet → PlainSet → ℕ → Type 0

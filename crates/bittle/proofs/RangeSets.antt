@@ -1,10 +1,8 @@
 -- Ranges that grow by one index, and ranges that reach each index below the capacity.
-use Rattle.std.proofs.Common.{◌≡◌, ℕ, zero, suc, ◌+◌, ◌-◌, ◌/◌, ◌%◌, ◌<◌, ◌≤◌, Bool, true, false,
-    ◌&&◌, ◌||◌, ◌==◌, nat_lt, nat_le, inl, inr, refl, sym, ap, ◌∙◌, subst, add-one, arith}
+use Rattle.std.proofs.Common.{◌≡◌, ℕ, zero, suc, ◌+◌, ◌-◌, ◌/◌, ◌%◌, ◌<◌, ◌≤◌, Bool, true, false, ◌&&◌, ◌||◌, ◌==◌, nat_lt, nat_le, inl, inr, refl, sym, ap, ◌∙◌, subst, add-one, arith}
 use Rattle.std.proofs.Math.Nat.{add-mod-mod, div-add-mod'}
 use Rattle.std.proofs.Math.Path.{fun_ext}
-use Rattle.std.proofs.lemmas.Bool.{ltb-true, leb-true, le-leb, and_from, and_parts, and_right,
-    or_cases, or_left, or_right, false_from_ne_true, cases_lt}
+use Rattle.std.proofs.lemmas.Bool.{ltb-true, leb-true, le-leb, and_from, and_parts, and_right, or_cases, or_left, or_right, false_from_ne_true, cases_lt}
 use Rattle.std.proofs.lemmas.Nat.{mod_below, mod-mul-add}
 use Rattle.bittle_bits.specs.PlainSet.{PlainSet, has_with, with_index, with_span}
 use Rattle.bittle_bits.proofs.PlainSets.{plain_set}

@@ -1,6 +1,5 @@
 -- Proof of the law of equality that the impl of sets gives.
-use Rattle.std.proofs.Common.{◌≡◌, ℕ, ◌*◌, ◌<◌, ◌≤◌, Bool, false, IsTrue, inl, inr, sym, ap, ◌∙◌,
-    subst, arith}
+use Rattle.std.proofs.Common.{◌≡◌, ℕ, ◌*◌, ◌<◌, ◌≤◌, Bool, false, IsTrue, inl, inr, sym, ap, ◌∙◌, subst, arith}
 use Rattle.std.proofs.lemmas.Bool.{cases_lt}
 use Rattle.std.specs.Cmp.Lexicographic.{same_text}
 use Rattle.bittle_words.proofs.AscendingLists.{ascending_from-agree}

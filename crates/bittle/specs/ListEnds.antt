@@ -1,6 +1,5 @@
 -- Steps that take the items of a list from its two ends, and the looks that they may cost.
-use Rattle.std.specs.Prelude.{◌≡◌, ℕ, ◌+◌, ◌<◌, ◌≤◌, Option, Some, None, List, [], ◌∷◌, ◌++◌,
-    length, take, slice_index, is_some, count_by, reverse}
+use Rattle.std.specs.Prelude.{◌≡◌, ℕ, ◌+◌, ◌<◌, ◌≤◌, Option, Some, None, List, [], ◌∷◌, ◌++◌, length, take, slice_index, is_some, count_by, reverse}
 use Rattle.bittle.specs.declared.replay.walk.Step.{Step}
 use Rattle.bittle.specs.declared.replay.walk.Step.TheVariants.{Front, Back}
 

@@ -1,33 +1,11 @@
 -- The members of a set between two numbers, and the items of a copied word, as lists.
-use Rattle.std.proofs.Common.{
-  ◌≡◌,
-  ℕ,
-  ◌+◌,
-  ◌-◌,
-  ◌*◌,
-  ◌<◌,
-  ◌≤◌,
-  Bool,
-  false,
-  [],
-  ◌++◌,
-  map,
-  refl,
-  sym,
-  ap,
-  ◌∙◌,
-  arith,
-}
+use Rattle.std.proofs.Common.{◌≡◌, ℕ, ◌+◌, ◌-◌, ◌*◌, ◌<◌, ◌≤◌, Bool, false, [], ◌++◌, map, refl, sym, ap, ◌∙◌, arith}
 use Rattle.bittle_bits.specs.Copies.{members_between, items_of}
 use Rattle.bittle_bits.specs.Digits.{digit_set}
 use Rattle.bittle_bits.specs.Orders.{members}
 use Rattle.bittle_bits.specs.PlainSet.{PlainSet, ascending}
 use Rattle.bittle_bits.specs.Words.{word_of}
-use Rattle.bittle_bits.proofs.AscendingLists.{
-  ascending_from-add,
-  ascending_from-none,
-  ascending_from-moved,
-}
+use Rattle.bittle_bits.proofs.AscendingLists.{ascending_from-add, ascending_from-none, ascending_from-moved}
 use Rattle.bittle_bits.proofs.DigitSets.{no_digits}
 use Rattle.bittle_bits.proofs.Words.{digit_at}
 

@@ -1,35 +1,5 @@
 -- What any number of calls of a join give.
-use Rattle.std.proofs.Common.{
-  ◌≡◌,
-  ℕ,
-  suc,
-  zero,
-  ◌+◌,
-  ◌-◌,
-  ◌<◌,
-  ◌≤◌,
-  Bool,
-  true,
-  false,
-  cond,
-  List,
-  [],
-  ◌∷◌,
-  ◌++◌,
-  Some,
-  None,
-  length,
-  drop,
-  slice_index,
-  sym,
-  ap,
-  ◌∙◌,
-  subst,
-  arith,
-  zero-add,
-  length-append,
-  add-one,
-}
+use Rattle.std.proofs.Common.{◌≡◌, ℕ, suc, zero, ◌+◌, ◌-◌, ◌<◌, ◌≤◌, Bool, true, false, cond, List, [], ◌∷◌, ◌++◌, Some, None, length, drop, slice_index, sym, ap, ◌∙◌, subst, arith, zero-add, length-append, add-one}
 use Rattle.std.specs.Prelude.{Option, slice_get}
 use Rattle.std.specs.Iterator.{Yields, YieldsThen}
 use Rattle.std.proofs.iter.runs.Lists.{Yields-both}

@@ -1,73 +1,15 @@
 -- A call on one index of a row, by the call on the element that the index goes to.
-use Rattle.std.proofs.Common.{
-  ◌≡◌,
-  ◌≢◌,
-  ℕ,
-  zero,
-  suc,
-  ◌+◌,
-  ◌*◌,
-  ◌/◌,
-  ◌%◌,
-  ◌<◌,
-  ◌≤◌,
-  Bool,
-  true,
-  false,
-  not,
-  ◌&&◌,
-  ◌||◌,
-  ◌==◌,
-  nat_lt,
-  inl,
-  inr,
-  refl,
-  sym,
-  ap,
-  ◌∙◌,
-  arith,
-  List,
-  [],
-  ◌∷◌,
-  length,
-  get_or,
-  set,
-  replicate,
-}
+use Rattle.std.proofs.Common.{◌≡◌, ◌≢◌, ℕ, zero, suc, ◌+◌, ◌*◌, ◌/◌, ◌%◌, ◌<◌, ◌≤◌, Bool, true, false, not, ◌&&◌, ◌||◌, ◌==◌, nat_lt, inl, inr, refl, sym, ap, ◌∙◌, arith, List, [], ◌∷◌, length, get_or, set, replicate}
 use Rattle.std.proofs.Math.Path.{fun_ext}
-use Rattle.std.proofs.Math.Nat.{div-add-mod', mod-eq_of_lt, mul_assoc}
-use Rattle.std.proofs.lemmas.Nat.{
-  mod-mul-add,
-  div-mul-add,
-  mod_below,
-  div_below,
-  mul-add-lt,
-  same_from_place,
-}
-use Rattle.std.proofs.lemmas.List.{get_or-replicate, length-replicate}
-use Rattle.std.proofs.lemmas.Bool.{eq-eqb, ne_eqb, cases_eq, cases_lt, lt-ltb, le-ltb, and_right}
+use Rattle.std.proofs.Math.Nat.{div-add-mod', mod-eq_of_lt}
+use Rattle.std.proofs.lemmas.Nat.{mod-mul-add, mod_below, mul-add-lt, same_from_place}
+use Rattle.std.proofs.lemmas.Bool.{eq-eqb, ne_eqb, cases_eq, cases_lt}
 use Rattle.bittle_bits.specs.RowLawProofs.{elements_has-past}
 use Rattle.bittle_words.specs.Orders.{place, members}
-use Rattle.bittle_words.specs.PlainSet.{
-  PlainSet,
-  contains,
-  with_index,
-  without_index,
-  empty_set,
-  without_members,
-  full_set,
-}
-use Rattle.bittle_bits.specs.Rows.{at_element, elements_has, elements_set, GoesTo}
-use Rattle.bittle_words.proofs.PlaceLemmas.{place_part, place_below, place_past}
+use Rattle.bittle_words.specs.PlainSet.{PlainSet, contains, with_index, without_index}
+use Rattle.bittle_bits.specs.Rows.{elements_has, elements_set, GoesTo}
 use Rattle.bittle_words.proofs.PlainSets.{plain_set, contains_in, with_in, without_in}
-use Rattle.bittle_bits.proofs.RowSets.{
-  at_element-read,
-  at_element-set_same,
-  at_element-set_other,
-  elements_has_at,
-  by_place,
-  elements_placed,
-}
+use Rattle.bittle_bits.proofs.RowSets.{at_element-read, at_element-set_same, at_element-set_other, elements_has_at, by_place, elements_placed}
 
 -- the place of an index that wraps
 pub wraps_at : (n c i : ℕ) → 0 < n → 0 < c → i % (n * c) ≡ i / c % n * c + i % c

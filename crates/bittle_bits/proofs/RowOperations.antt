@@ -1,71 +1,18 @@
 -- The operations on two rows of elements.
-use Rattle.std.proofs.Common.{
-  ◌≡◌,
-  ℕ,
-  zero,
-  suc,
-  ◌+◌,
-  ◌-◌,
-  ◌*◌,
-  ◌%◌,
-  ◌^◌,
-  ◌<◌,
-  ◌≤◌,
-  Bool,
-  true,
-  false,
-  cond,
-  not,
-  ◌&&◌,
-  ◌||◌,
-  ◌==◌,
-  nat_lt,
-  inl,
-  inr,
-  refl,
-  sym,
-  ap,
-  ◌∙◌,
-  arith,
-  List,
-  [],
-  ◌∷◌,
-  length,
-  get_or,
-  set,
-  bit_and,
-  bit_or,
-  bit_xor,
-}
+use Rattle.std.proofs.Common.{◌≡◌, ℕ, zero, suc, ◌+◌, ◌-◌, ◌*◌, ◌%◌, ◌^◌, ◌<◌, ◌≤◌, Bool, true, false, cond, not, ◌&&◌, ◌||◌, ◌==◌, nat_lt, inl, inr, refl, sym, ap, ◌∙◌, arith, List, [], ◌∷◌, length, get_or, set, bit_and, bit_or, bit_xor}
 use Rattle.std.proofs.Math.Path.{fun_ext}
-use Rattle.std.specs.Int.{bit_at}
 use Rattle.std.proofs.Math.Nat.{mul-le-mul_right}
 use Rattle.std.proofs.lemmas.List.{get_or-set_same, get_or-set_other}
 use Rattle.std.proofs.lemmas.Nat.{mul-add-lt}
-use Rattle.std.proofs.lemmas.Nat.Bits.{bit_at_xor, bit_at-lt}
-use Rattle.std.proofs.lemmas.Bool.{cases_eq, cases_lt, lt-ltb, le-ltb}
-use Rattle.bittle_words.specs.Digits.{digit_has, digit_set}
-use Rattle.bittle_words.specs.LawProofs.{digit_has-past}
+use Rattle.std.proofs.lemmas.Bool.{cases_eq, cases_lt}
 use Rattle.bittle_bits.specs.RowLawProofs.{elements_has-past}
-use Rattle.bittle_words.specs.Orders.{place, members}
-use Rattle.bittle_words.specs.PlainSet.{PlainSet, lacks}
+use Rattle.bittle_words.specs.Orders.{place}
+use Rattle.bittle_words.specs.PlainSet.{PlainSet}
 use Rattle.bittle_bits.specs.Rows.{at_element, elements_has, elements_set}
-use Rattle.bittle_words.specs.SetOperations.{combination_has, combination_of, first_alone, just_one}
-use Rattle.bittle_words.proofs.DigitSets.{
-  zero_or_one,
-  digit_has-and,
-  digit_has-or,
-  digit_has-not,
-  digit_has-at,
-}
-use Rattle.bittle_words.proofs.PlaceLemmas.{place_inside}
+use Rattle.bittle_words.specs.SetOperations.{combination_has, combination_of}
 use Rattle.bittle_words.proofs.PlainSets.{plain_set}
 use Rattle.bittle_bits.proofs.RowSets.{elements_has_at, by_place}
-use Rattle.bittle_words.proofs.SetOperations.{
-  combination-below,
-  combination-past,
-  combination-outside,
-}
+use Rattle.bittle_words.proofs.SetOperations.{combination-below, combination-past, combination-outside}
 
 -- some element of a row that has one
 some_of : {X : Type 0} (xs : List X) (n : ℕ) → n < length xs → X

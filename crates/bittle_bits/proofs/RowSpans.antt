@@ -1,79 +1,15 @@
 -- Rows of elements with each index of a span.
-use Rattle.std.proofs.Common.{
-  ◌≡◌,
-  ℕ,
-  ◌+◌,
-  ◌-◌,
-  ◌*◌,
-  ◌/◌,
-  ◌%◌,
-  ◌^◌,
-  ◌<◌,
-  ◌≤◌,
-  ◌≢◌,
-  ◌⊎◌,
-  Bool,
-  true,
-  false,
-  not,
-  ◌&&◌,
-  ◌||◌,
-  ◌==◌,
-  nat_lt,
-  nat_le,
-  inl,
-  inr,
-  refl,
-  sym,
-  ap,
-  ◌∙◌,
-  arith,
-  List,
-  length,
-  get_or,
-  set,
-  min,
-  max,
-  bit_and,
-  bit_or,
-}
+use Rattle.std.proofs.Common.{◌≡◌, ℕ, ◌+◌, ◌-◌, ◌*◌, ◌/◌, ◌%◌, ◌^◌, ◌<◌, ◌≤◌, ◌≢◌, ◌⊎◌, Bool, true, false, not, ◌&&◌, ◌||◌, ◌==◌, nat_lt, nat_le, inl, inr, refl, sym, ap, ◌∙◌, arith, List, length, get_or, set, min, max, bit_and, bit_or}
 use Rattle.std.proofs.Math.Path.{fun_ext}
 use Rattle.std.proofs.Math.Nat.{div-add-mod', mul-le-mul_right}
 use Rattle.std.proofs.lemmas.Nat.{mul-add-lt, mod_below}
-use Rattle.std.proofs.lemmas.Bool.{
-  cases_eq,
-  cases_lt,
-  eq-eqb,
-  ne_eqb,
-  lt-ltb,
-  le-ltb,
-  le-leb,
-  lt-leb,
-  and_right,
-}
-use Rattle.bittle_bits.specs.Digits.{digit_set}
+use Rattle.std.proofs.lemmas.Bool.{cases_eq, cases_lt}
 use Rattle.bittle_bits.specs.RowLawProofs.{elements_has-past}
 use Rattle.bittle_bits.specs.Orders.{place, members}
-use Rattle.bittle_bits.specs.PlainSet.{
-  PlainSet,
-  with_index,
-  has_with_span,
-  with_span,
-  full_set_from,
-}
+use Rattle.bittle_bits.specs.PlainSet.{PlainSet, with_span}
 use Rattle.bittle_bits.specs.Rows.{elements_has, elements_set}
-use Rattle.bittle_bits.specs.SetOperations.{combination_of, first_alone}
-use Rattle.bittle_bits.proofs.SetOperations.{combination-below, combination-outside}
-use Rattle.bittle_bits.proofs.WordOperations.{digits_either, digits_first_alone, word_combined}
-use Rattle.bittle_bits.proofs.PlainSets.{plain_set, with_in}
-use Rattle.bittle_bits.proofs.RowSets.{
-  at_element-read,
-  at_element-set_same,
-  at_element-set_other,
-  elements_has_at,
-  elements_placed,
-  by_place,
-}
+use Rattle.bittle_bits.proofs.PlainSets.{plain_set}
+use Rattle.bittle_bits.proofs.RowSets.{at_element-read, at_element-set_same, at_element-set_other, elements_has_at, elements_placed, by_place}
 use Rattle.bittle_words.proofs.Spans.{outside_span, inside_span, with_span-on}
 
 -- rows: a span within one element

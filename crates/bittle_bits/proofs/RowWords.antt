@@ -1,46 +1,12 @@
 -- Word k of a row of elements, which lies in one of them.
-use Rattle.std.proofs.Common.{
-  ◌≡◌,
-  ℕ,
-  suc,
-  ◌+◌,
-  ◌*◌,
-  ◌/◌,
-  ◌%◌,
-  ◌<◌,
-  ◌≤◌,
-  Bool,
-  ◌&&◌,
-  nat_lt,
-  inl,
-  inr,
-  List,
-  length,
-  get_or,
-  refl,
-  sym,
-  ap,
-  ◌∙◌,
-  arith,
-}
+use Rattle.std.proofs.Common.{◌≡◌, ℕ, suc, ◌+◌, ◌*◌, ◌/◌, ◌%◌, ◌<◌, ◌≤◌, Bool, ◌&&◌, nat_lt, inl, inr, List, length, get_or, refl, sym, ap, ◌∙◌, arith}
 use Rattle.std.proofs.Math.Path.{fun_ext}
-use Rattle.std.proofs.Math.Nat.{
-  mul-div_left,
-  div-add-mod',
-  mul_assoc,
-  zero-mul,
-  lt_of_mul-lt-mul_right,
-  mul-lt-mul_of_pos_right,
-  mul-le-mul_right,
-}
+use Rattle.std.proofs.Math.Nat.{mul-div_left, div-add-mod', mul_assoc, lt_of_mul-lt-mul_right, mul-lt-mul_of_pos_right}
 use Rattle.std.proofs.lemmas.Nat.{mod_below, div_below, mul-add-lt}
-use Rattle.std.proofs.lemmas.Bool.{cases_eq, cases_lt, lt-ltb, le-ltb}
-use Rattle.bittle_words.specs.Digits.{digit_has, digit_set}
-use Rattle.bittle_words.specs.Orders.{place, members}
+use Rattle.std.proofs.lemmas.Bool.{cases_eq, cases_lt, le-ltb}
 use Rattle.bittle_words.specs.PlainSet.{PlainSet}
 use Rattle.bittle_bits.specs.Rows.{elements_has, elements_set}
 use Rattle.bittle_words.specs.Words.{word_has, word_of}
-use Rattle.bittle_words.proofs.PlaceLemmas.{place_part, place_in_word}
 use Rattle.bittle_words.proofs.PlainSets.{plain_set}
 use Rattle.bittle_bits.proofs.RowSets.{elements_has_at, at_element-read}
 

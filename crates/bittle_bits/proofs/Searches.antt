@@ -1,65 +1,11 @@
 -- A search for the first or the last member between two numbers, word by word.
-use Rattle.std.proofs.Common.{
-  ◌≡◌,
-  ℕ,
-  ◌+◌,
-  ◌-◌,
-  ◌*◌,
-  ◌/◌,
-  ◌%◌,
-  ◌^◌,
-  ◌<◌,
-  ◌≤◌,
-  ◌⊎◌,
-  Bool,
-  true,
-  false,
-  not,
-  ◌&&◌,
-  ◌||◌,
-  ◌==◌,
-  nat_lt,
-  inl,
-  inr,
-  Some,
-  None,
-  refl,
-  sym,
-  ap,
-  ◌∙◌,
-  arith,
-  bit_and,
-  bit_or,
-}
-use Rattle.std.proofs.Math.Nat.{
-  div-add-mod',
-  mul-le-mul_right,
-  mod-eq_of_lt,
-  lt_of_mul-lt-mul_right,
-}
+use Rattle.std.proofs.Common.{◌≡◌, ℕ, ◌+◌, ◌-◌, ◌*◌, ◌/◌, ◌%◌, ◌^◌, ◌<◌, ◌≤◌, ◌⊎◌, Bool, true, false, not, ◌&&◌, ◌||◌, ◌==◌, nat_lt, inl, inr, Some, None, refl, sym, ap, ◌∙◌, arith, bit_and, bit_or}
+use Rattle.std.proofs.Math.Nat.{div-add-mod', mul-le-mul_right, mod-eq_of_lt}
 use Rattle.std.proofs.lemmas.Nat.{mod_below}
-use Rattle.std.proofs.lemmas.Bool.{
-  cases_lt,
-  cases_eq,
-  eq-eqb,
-  ne_eqb,
-  lt-ltb,
-  le-ltb,
-  ltb-true,
-  and_parts,
-  true≢false,
-}
+use Rattle.std.proofs.lemmas.Bool.{cases_lt, cases_eq, eq-eqb, ne_eqb, lt-ltb, le-ltb, ltb-true, and_parts, true≢false}
 use Rattle.bittle_bits.specs.Digits.{digit_has, digit_set}
 use Rattle.bittle_bits.specs.Orders.{place, members}
-use Rattle.bittle_bits.specs.PlainSet.{
-  PlainSet,
-  full_set_from,
-  with_index,
-  empty_set,
-  lacks,
-  IsLeastMember,
-  IsGreatestMember,
-}
+use Rattle.bittle_bits.specs.PlainSet.{PlainSet, full_set_from, with_index, empty_set, lacks, IsLeastMember, IsGreatestMember}
 use Rattle.bittle_bits.specs.Searches.{NoneIn, IsFirstIn, IsLastIn}
 use Rattle.bittle_bits.specs.Walk.{ones_or_zeros}
 use Rattle.bittle_bits.specs.Words.{word_of}
@@ -67,7 +13,7 @@ use Rattle.bittle_bits.proofs.DigitSets.{digit_has-and, digit_has-or, digit_has-
 use Rattle.bittle_bits.proofs.PlaceLemmas.{place_in_word}
 use Rattle.bittle_bits.proofs.OnesOrZeros.{ones_or_zeros-members}
 use Rattle.bittle_bits.proofs.WordCalls.{at_mask}
-use Rattle.bittle_bits.proofs.Words.{digit_at, word_ends}
+use Rattle.bittle_bits.proofs.Words.{digit_at}
 
 -- no member was found up to word k, whose digits d have the members from one number on
 pub record SearchesForward (m : Bool) (w : ℕ) (s : PlainSet) (from k d : ℕ) : Type 0 where

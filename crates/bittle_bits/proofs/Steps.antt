@@ -1,36 +1,8 @@
 -- The parts of a walk's step: a look that gives an item, a look that retires a copy, and a word
 -- that is fetched.
-use Rattle.std.proofs.Common.{
-  ◌≡◌,
-  ℕ,
-  ◌+◌,
-  ◌-◌,
-  ◌*◌,
-  ◌<◌,
-  ◌≤◌,
-  List,
-  ◌++◌,
-  Option,
-  Some,
-  None,
-  refl,
-  sym,
-  ap,
-  ◌∙◌,
-  arith,
-  append_assoc,
-  append-nil,
-  le_trans,
-}
+use Rattle.std.proofs.Common.{◌≡◌, ℕ, ◌+◌, ◌-◌, ◌*◌, ◌<◌, ◌≤◌, List, ◌++◌, Option, Some, None, refl, sym, ap, ◌∙◌, arith, append_assoc, append-nil, le_trans}
 use Rattle.std.proofs.Math.Nat.{mul-le-mul_right}
-use Rattle.bittle_bits.specs.Copies.{
-  CopyPair,
-  members_between,
-  items_in,
-  copy_count,
-  TakesFirst,
-  TakesLast,
-}
+use Rattle.bittle_bits.specs.Copies.{CopyPair, members_between, items_in, copy_count, TakesFirst, TakesLast}
 use Rattle.bittle_bits.specs.PlainSet.{PlainSet}
 use Rattle.bittle_bits.specs.Cursor.{walk_of, Retires}
 use Rattle.bittle_bits.specs.Walk.{Walk, IsThrifty, StepsFront, StepsBack}

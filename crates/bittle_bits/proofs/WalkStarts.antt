@@ -1,22 +1,5 @@
 -- Where a walk begins: with no copy, then with the first word copied, then with the last one too.
-use Rattle.std.proofs.Common.{
-  ◌≡◌,
-  ℕ,
-  ◌+◌,
-  ◌-◌,
-  ◌*◌,
-  ◌/◌,
-  ◌<◌,
-  List,
-  Some,
-  None,
-  refl,
-  sym,
-  ap,
-  ◌∙◌,
-  arith,
-  append-nil,
-}
+use Rattle.std.proofs.Common.{◌≡◌, ℕ, ◌+◌, ◌-◌, ◌*◌, ◌/◌, ◌<◌, List, Some, None, refl, sym, ap, ◌∙◌, arith, append-nil}
 use Rattle.std.proofs.Math.Nat.{mul-div_left, zero-mul}
 use Rattle.bittle_bits.specs.Copies.{CopyPair, members_between}
 use Rattle.bittle_bits.specs.PlainSet.{PlainSet, ascending}

@@ -1,28 +1,5 @@
 -- What a join gives: the items of an iterator at the members of a mask.
-use Rattle.std.specs.Prelude.{
-  ◌≡◌,
-  ℕ,
-  ◌+◌,
-  ◌-◌,
-  ◌<◌,
-  ◌≤◌,
-  Bool,
-  true,
-  false,
-  List,
-  [],
-  ◌∷◌,
-  ◌++◌,
-  length,
-  take,
-  drop,
-  Option,
-  None,
-  MatchOption,
-  slice_get,
-  slice_index,
-  ⊤,
-}
+use Rattle.std.specs.Prelude.{◌≡◌, ℕ, ◌+◌, ◌-◌, ◌<◌, ◌≤◌, Bool, true, false, List, [], ◌∷◌, ◌++◌, length, take, drop, Option, None, MatchOption, slice_get, slice_index, ⊤}
 use Rattle.std.specs.Iterator.{SkipsThenYields, Yields, YieldsThen}
 use Rattle.bittle_bits.specs.Walk.{Walk}
 

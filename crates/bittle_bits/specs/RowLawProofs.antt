@@ -1,36 +1,8 @@
 -- Proofs of the laws that the impls for rows of elements give.
-use Rattle.std.proofs.Common.{
-  ◌≡◌,
-  ℕ,
-  zero,
-  suc,
-  ◌*◌,
-  ◌/◌,
-  ◌%◌,
-  ◌<◌,
-  ◌≤◌,
-  ℤ,
-  Bool,
-  false,
-  ◌&&◌,
-  nat_lt,
-  nat_eq,
-  IsTrue,
-  List,
-  [],
-  ◌∷◌,
-  refl,
-  sym,
-  ap,
-  ◌∙◌,
-  arith,
-}
+use Rattle.std.proofs.Common.{◌≡◌, ℕ, zero, suc, ◌*◌, ◌/◌, ◌%◌, ◌<◌, ◌≤◌, ℤ, Bool, false, ◌&&◌, nat_lt, nat_eq, IsTrue, List, [], ◌∷◌, refl, sym, ap, ◌∙◌, arith}
 use Rattle.std.proofs.Math.Nat.{mul_assoc}
-use Rattle.std.proofs.lemmas.Bool.{le-ltb, ltb-true, eqb-true, and_parts, true≢false}
-use Rattle.std.specs.Cmp.{signed_Decides}
+use Rattle.std.proofs.lemmas.Bool.{le-ltb, ltb-true, and_parts, true≢false}
 use Rattle.std.specs.Cmp.Lexicographic.{pointwise}
-use Rattle.std.specs.Ordering.{int_eq}
-use Rattle.bittle_words.specs.Digits.{digit_has, digit_set}
 use Rattle.bittle_words.specs.PlainSet.{PlainSet}
 use Rattle.bittle_bits.specs.Rows.{at_element, elements_has, elements_set}
 

@@ -1,22 +1,5 @@
 -- A row of elements, as in an array or a slice, as one set.
-use Rattle.std.specs.Prelude.{
-  ◌≡◌,
-  ℕ,
-  zero,
-  suc,
-  ◌+◌,
-  ◌<◌,
-  ◌*◌,
-  ◌/◌,
-  ◌%◌,
-  Bool,
-  false,
-  ◌&&◌,
-  nat_lt,
-  List,
-  [],
-  ◌∷◌,
-}
+use Rattle.std.specs.Prelude.{◌≡◌, ℕ, zero, suc, ◌+◌, ◌<◌, ◌*◌, ◌/◌, ◌%◌, Bool, false, ◌&&◌, nat_lt, List, [], ◌∷◌}
 use Rattle.bittle_words.specs.PlainSet.{PlainSet}
 
 -- the test of the element at a place of the row

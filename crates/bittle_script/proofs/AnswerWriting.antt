@@ -1,46 +1,15 @@
 -- Answers that an output got.
-use Rattle.std.proofs.Common.{
-  ◌≡◌,
-  ℕ,
-  List,
-  ◌∷◌,
-  length,
-  sym,
-  ap,
-  ◌∙◌,
-  false,
-  Result,
-  Ok,
-  Err,
-  Some,
-  None,
-}
+use Rattle.std.proofs.Common.{◌≡◌, ℕ, List, ◌∷◌, length, sym, ap, ◌∙◌, false, Result, Ok, Err, Some, None}
 use Rattle.std.specs.Prelude.{Option, IsErr, ◌==◌, if◌then◌else◌}
 use Rattle.std.specs.Io.KnownBytes.{Appends}
 use Rattle.std.proofs.lemmas.Result.{MatchResult-from_err}
 use Rattle.bittle.specs.PlainSet.{PlainSet}
 use Rattle.bittle_script.specs.declared.answering.Outcome.{Outcome}
 use Rattle.bittle_script.specs.declared.command.Command.{Command}
-use Rattle.bittle_script.specs.Answers.{
-  Answers,
-  IsGiven,
-  line_answers,
-  command_answers,
-  refusal_at,
-  prepend,
-  command_text,
-  after_command,
-}
+use Rattle.bittle_script.specs.Answers.{Answers, IsGiven, line_answers, command_answers, refusal_at, prepend, command_text, after_command}
 use Rattle.bittle_script.specs.Beginnings.{AppendsBeginning}
 use Rattle.bittle_script.specs.Commands.{command_of}
-use Rattle.bittle_script.proofs.Beginnings.{
-  HasBegun,
-  begins-before,
-  begun-nothing,
-  begun-more,
-  begun-whole,
-  begun-failed,
-}
+use Rattle.bittle_script.proofs.Beginnings.{HasBegun, begins-before, begun-nothing, begun-more, begun-whole, begun-failed}
 
 -- an output may fail after a beginning of the answers
 pub IsGiven-failed : {E : Type 0} (a b : Option (List ℕ)) (r : Result Outcome E) (given : Answers) →

@@ -1,20 +1,5 @@
 -- Bytes written one after the other, each whole or a beginning of them.
-use Rattle.std.proofs.Common.{
-  ◌≡◌,
-  ℕ,
-  List,
-  [],
-  ◌++◌,
-  sym,
-  ap,
-  ◌∙◌,
-  append_assoc,
-  append-nil,
-  subst,
-  Result,
-  Ok,
-  Err,
-}
+use Rattle.std.proofs.Common.{◌≡◌, ℕ, List, [], ◌++◌, sym, ap, ◌∙◌, append_assoc, append-nil, subst, Result, Ok, Err}
 use Rattle.std.specs.Prelude.{Option, IsErr}
 use Rattle.std.proofs.lemmas.Result.{MatchResult-from_err}
 use Rattle.std.specs.Io.KnownBytes.{Appends}

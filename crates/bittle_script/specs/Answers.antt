@@ -1,33 +1,11 @@
 -- The answers to a script: those of a plain set of numbers, line by line.
-use Rattle.std.specs.Prelude.{
-  ◌≡◌,
-  ℕ,
-  List,
-  [],
-  ◌∷◌,
-  ◌++◌,
-  Option,
-  None,
-  Some,
-  length,
-  drop,
-  codes,
-  ◌==◌,
-  if◌then◌else◌,
-  Result,
-  MatchResult,
-}
+use Rattle.std.specs.Prelude.{◌≡◌, ℕ, List, [], ◌∷◌, ◌++◌, Option, None, Some, length, drop, codes, ◌==◌, if◌then◌else◌, Result, MatchResult}
 use Rattle.std.specs.List.{enumerate_from, join_by}
 use Rattle.std.specs.Fmt.{decimal}
 use Rattle.std.specs.Io.KnownBytes.{Appends}
 use Rattle.bittle.specs.PlainSet.{PlainSet, empty_set, ascending}
 use Rattle.bittle.specs.Machine.{reply_to, set_after}
-use Rattle.bittle.specs.declared.replay.Call.TheVariants.{
-  Test as Test_call,
-  Put,
-  Clear as Clear_call,
-  CountOnes,
-}
+use Rattle.bittle.specs.declared.replay.Call.TheVariants.{Test as Test_call, Put, Clear as Clear_call, CountOnes}
 use Rattle.bittle.specs.declared.replay.Reply.{Reply}
 use Rattle.bittle.specs.declared.replay.Reply.TheVariants.{Done, Bit, Number}
 use Rattle.bittle_script.specs.declared.command.Command.{Command}

@@ -1,16 +1,5 @@
 -- Numbers in digits.
-use Rattle.std.specs.Prelude.{
-  ℕ,
-  List,
-  Bool,
-  Option,
-  Some,
-  None,
-  ◌&&◌,
-  nat_lt,
-  length,
-  if◌then◌else◌,
-}
+use Rattle.std.specs.Prelude.{ℕ, List, Bool, Option, Some, None, ◌&&◌, nat_lt, length, if◌then◌else◌}
 use Rattle.std.specs.Char.{is_ascii_digit}
 use Rattle.std.specs.List.{list_all}
 use Rattle.std.specs.Str.Parse.{digits_value}

@@ -1,16 +1,5 @@
 -- What a run writes, of what it reads.
-use Rattle.std.specs.Prelude.{
-  ◌≡◌,
-  ℕ,
-  List,
-  Option,
-  Result,
-  ◌⊎◌,
-  IfSome,
-  nat_lt,
-  length,
-  if◌then◌else◌,
-}
+use Rattle.std.specs.Prelude.{◌≡◌, ℕ, List, Option, Result, ◌⊎◌, IfSome, nat_lt, length, if◌then◌else◌}
 use Rattle.std.specs.Io.KnownBytes.{Appends}
 use Rattle.bittle_script.specs.declared.answering.Outcome.{Outcome}
 use Rattle.bittle_script.specs.declared.answering.Outcome.TheVariants.{Answered, Refused}

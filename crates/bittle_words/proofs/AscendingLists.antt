@@ -1,51 +1,9 @@
 -- The increasing list of the members: its ends, what is left without one of them, and its length.
-use Rattle.std.proofs.Common.{
-  ◌≡◌,
-  ℕ,
-  zero,
-  suc,
-  ◌+◌,
-  ◌-◌,
-  ◌<◌,
-  ◌≤◌,
-  Bool,
-  true,
-  false,
-  not,
-  ◌&&◌,
-  ◌==◌,
-  cond,
-  List,
-  [],
-  ◌∷◌,
-  ◌++◌,
-  length,
-  map,
-  get_or,
-  length-append,
-  ◌⊎◌,
-  inl,
-  inr,
-  refl,
-  sym,
-  ap,
-  ◌∙◌,
-  arith,
-}
+use Rattle.std.proofs.Common.{◌≡◌, ℕ, zero, suc, ◌+◌, ◌-◌, ◌<◌, ◌≤◌, Bool, true, false, not, ◌&&◌, ◌==◌, cond, List, [], ◌∷◌, ◌++◌, length, map, get_or, length-append, ◌⊎◌, inl, inr, refl, sym, ap, ◌∙◌, arith}
 use Rattle.std.proofs.Math.Nat.{mod-eq_of_lt}
 use Rattle.std.proofs.lemmas.Bool.{eq-eqb, ne_eqb, cases_Bool, cases_eq}
 use Rattle.std.proofs.lemmas.List.{append-nil}
-use Rattle.bittle_words.specs.PlainSet.{
-  PlainSet,
-  without_index,
-  has_without,
-  count_below,
-  size,
-  ascending_from,
-  ascending,
-  IsLeastMember,
-  IsGreatestMember,
-}
+use Rattle.bittle_words.specs.PlainSet.{PlainSet, without_index, has_without, count_below, size, ascending_from, ascending, IsLeastMember, IsGreatestMember}
 use Rattle.bittle_words.specs.Walk.{AreBelow}
 use Rattle.bittle_words.proofs.PlainSets.{has_without-in}
 use Rattle.bittle_words.proofs.Sizes.{size-le}

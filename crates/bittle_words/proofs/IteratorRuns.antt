@@ -3,15 +3,7 @@ use Rattle.std.proofs.Common.{◌≡◌, ℕ, ◌+◌, ◌≤◌, List, ap, leng
 use Rattle.std.specs.Iterator.{YieldsFirst, YieldsLast}
 use Rattle.std.specs.Iterator.Runs.{YieldsInOrder, YieldsInReverse}
 use Rattle.std.proofs.iter.runs.Sources.{from_front, from_back, as_is, as_is_back}
-use Rattle.bittle_words.specs.Walk.{
-  Walk,
-  StepsFront,
-  StepsBack,
-  IsFresh,
-  ResumesAs,
-  ListsInOrder,
-  ListsInReverse,
-}
+use Rattle.bittle_words.specs.Walk.{Walk, StepsFront, StepsBack, IsFresh, ResumesAs, ListsInOrder, ListsInReverse}
 
 in_order : YieldsInOrder StepsFront (λ w. w.left)
 in_order p seen = as_is p p.from.left (from_front StepsFront (λ x. x) (λ w. w.left)

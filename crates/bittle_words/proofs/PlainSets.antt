@@ -1,40 +1,11 @@
 -- Plain sets, and the members in an order.
-use Rattle.std.proofs.Common.{
-  ◌≡◌,
-  ℕ,
-  ◌*◌,
-  ◌%◌,
-  ◌<◌,
-  ◌≤◌,
-  Bool,
-  false,
-  not,
-  ◌&&◌,
-  ◌||◌,
-  ◌==◌,
-  nat_lt,
-  refl,
-  sym,
-  ap,
-  ◌∙◌,
-  arith,
-}
+use Rattle.std.proofs.Common.{◌≡◌, ℕ, ◌*◌, ◌%◌, ◌<◌, ◌≤◌, Bool, false, not, ◌&&◌, ◌||◌, ◌==◌, nat_lt, refl, sym, ap, ◌∙◌, arith}
 use Rattle.std.proofs.Math.Path.{fun_ext}
 use Rattle.std.proofs.Math.Nat.{mod-eq_of_lt}
 use Rattle.std.proofs.lemmas.Bool.{lt-ltb}
 use Rattle.std.proofs.lemmas.Nat.{mod_below}
 use Rattle.bittle_words.specs.Orders.{place, members}
-use Rattle.bittle_words.specs.PlainSet.{
-  PlainSet,
-  contains,
-  has_with,
-  with_index,
-  has_without,
-  without_index,
-  full_set,
-  lacks,
-  complement,
-}
+use Rattle.bittle_words.specs.PlainSet.{PlainSet, contains, has_with, with_index, has_without, without_index, full_set, lacks, complement}
 use Rattle.bittle_words.proofs.PlaceLemmas.{place_past, place_inside}
 
 -- the set of a capacity with this test

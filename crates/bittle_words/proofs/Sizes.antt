@@ -1,62 +1,8 @@
 -- How many members a set has.
-use Rattle.std.proofs.Common.{
-  ◌≡◌,
-  ◌≢◌,
-  ℕ,
-  zero,
-  suc,
-  ◌+◌,
-  ◌-◌,
-  ◌*◌,
-  ◌%◌,
-  ◌^◌,
-  ◌<◌,
-  ◌≤◌,
-  Bool,
-  true,
-  false,
-  not,
-  ◌&&◌,
-  ◌==◌,
-  cond,
-  inl,
-  inr,
-  refl,
-  sym,
-  ap,
-  ◌∙◌,
-  arith,
-  List,
-  [],
-  ◌∷◌,
-  length,
-  get_or,
-  take,
-  add-zero,
-  add_assoc,
-  add_comm,
-  subst,
-}
-use Rattle.std.proofs.Math.Path.{fun_ext}
-use Rattle.std.proofs.Math.Nat.{mod-eq_of_lt, zero-mul, one-mul, add-suc}
-use Rattle.std.specs.List.{sum_by}
-use Rattle.std.specs.Int.{bit_at}
-use Rattle.std.specs.Int.Count.{ones, ones-ones}
-use Rattle.std.proofs.lemmas.Nat.{ones_cat, mod-pow-add, mod_below, pow_pos}
-use Rattle.std.proofs.lemmas.Nat.Bits.{bit_at-lt}
-use Rattle.std.proofs.lemmas.List.Sums.{sum_by-cons, sum_by_more_le}
-use Rattle.std.proofs.lemmas.List.{take_all}
-use Rattle.std.proofs.lemmas.Bool.{cases_eq, cases_Bool, lt-ltb, eq-eqb, ne_eqb}
-use Rattle.bittle_words.specs.Digits.{digit_has, digit_set}
-use Rattle.bittle_words.specs.Orders.{place, mirror, members}
-use Rattle.bittle_words.specs.PlainSet.{PlainSet, count_below, size, lacks, complement}
-use Rattle.bittle_words.proofs.DigitSets.{
-  digit_has-zero,
-  digit_has-not,
-  digit_has-below,
-  some_digit,
-}
-use Rattle.bittle_words.proofs.PlaceLemmas.{place_part}
+use Rattle.std.proofs.Common.{◌≡◌, ℕ, ◌+◌, ◌*◌, ◌<◌, ◌≤◌, Bool, not, ◌&&◌, sym, ap, ◌∙◌, arith}
+use Rattle.std.proofs.lemmas.Bool.{lt-ltb}
+use Rattle.bittle_words.specs.Orders.{members}
+use Rattle.bittle_words.specs.PlainSet.{PlainSet, size, lacks, complement}
 use Rattle.bittle_words.proofs.Counts.{count-same, count-le, count-placed, count-others}
 
 -- ones and zeros together are the capacity

@@ -1,65 +1,10 @@
 -- Sets with each index of a span, and words.
-use Rattle.std.proofs.Common.{
-  ◌≡◌,
-  ℕ,
-  ◌+◌,
-  ◌-◌,
-  ◌*◌,
-  ◌/◌,
-  ◌%◌,
-  ◌^◌,
-  ◌<◌,
-  ◌≤◌,
-  ◌≢◌,
-  ◌⊎◌,
-  Bool,
-  true,
-  false,
-  not,
-  ◌&&◌,
-  ◌||◌,
-  ◌==◌,
-  nat_lt,
-  nat_le,
-  inl,
-  inr,
-  refl,
-  sym,
-  ap,
-  ◌∙◌,
-  arith,
-  List,
-  length,
-  get_or,
-  set,
-  min,
-  max,
-  bit_and,
-  bit_or,
-}
+use Rattle.std.proofs.Common.{◌≡◌, ℕ, ◌+◌, ◌-◌, ◌%◌, ◌^◌, ◌<◌, ◌≤◌, ◌⊎◌, Bool, true, false, not, ◌&&◌, ◌||◌, ◌==◌, nat_lt, nat_le, inl, inr, refl, sym, ap, ◌∙◌, arith, bit_and, bit_or}
 use Rattle.std.proofs.Math.Path.{fun_ext}
-use Rattle.std.proofs.Math.Nat.{div-add-mod', mul-le-mul_right}
-use Rattle.std.proofs.lemmas.Nat.{mul-add-lt, mod_below}
-use Rattle.std.proofs.lemmas.Bool.{
-  cases_eq,
-  cases_lt,
-  eq-eqb,
-  ne_eqb,
-  lt-ltb,
-  le-ltb,
-  le-leb,
-  lt-leb,
-  and_right,
-}
+use Rattle.std.proofs.lemmas.Bool.{cases_eq, cases_lt, eq-eqb, ne_eqb, lt-ltb, le-ltb, le-leb, lt-leb, and_right}
 use Rattle.bittle_words.specs.Digits.{digit_set}
-use Rattle.bittle_words.specs.Orders.{place, members}
-use Rattle.bittle_words.specs.PlainSet.{
-  PlainSet,
-  with_index,
-  has_with_span,
-  with_span,
-  full_set_from,
-}
+use Rattle.bittle_words.specs.Orders.{members}
+use Rattle.bittle_words.specs.PlainSet.{PlainSet, with_index, has_with_span, with_span, full_set_from}
 use Rattle.bittle_words.specs.SetOperations.{combination_of, first_alone}
 use Rattle.bittle_words.proofs.SetOperations.{combination-below, combination-outside}
 use Rattle.bittle_words.proofs.WordOperations.{digits_either, digits_first_alone, word_combined}

@@ -1,43 +1,12 @@
 -- The calls on one index of a word, by a mask whose one member it is.
-use Rattle.std.proofs.Common.{
-  ◌≡◌,
-  ℕ,
-  ◌-◌,
-  ◌%◌,
-  ◌^◌,
-  ◌<◌,
-  Bool,
-  true,
-  false,
-  not,
-  ◌&&◌,
-  ◌||◌,
-  ◌==◌,
-  nat_lt,
-  ◌⊎◌,
-  inl,
-  inr,
-  refl,
-  sym,
-  ap,
-  ◌∙◌,
-  bit_and,
-  bit_or,
-}
+use Rattle.std.proofs.Common.{◌≡◌, ℕ, ◌-◌, ◌%◌, ◌^◌, ◌<◌, Bool, true, false, not, ◌&&◌, ◌||◌, ◌==◌, nat_lt, ◌⊎◌, inl, inr, refl, sym, ap, ◌∙◌, bit_and, bit_or}
 use Rattle.std.proofs.Math.Path.{fun_ext}
 use Rattle.std.proofs.lemmas.Nat.{mod_below}
 use Rattle.std.proofs.lemmas.Bool.{cases_eq, eq-eqb, ne_eqb, eqb-true, and_parts}
 use Rattle.bittle_words.specs.Digits.{digit_has, digit_set}
 use Rattle.bittle_words.specs.Orders.{place, members}
 use Rattle.bittle_words.specs.PlainSet.{contains, with_index, without_index, empty_set, lacks}
-use Rattle.bittle_words.proofs.DigitSets.{
-  digit_has-and,
-  digit_has-or,
-  digit_has-not,
-  digit_has-pow,
-  digit_has-zero,
-  some_digit,
-}
+use Rattle.bittle_words.proofs.DigitSets.{digit_has-and, digit_has-or, digit_has-not, digit_has-pow, digit_has-zero, some_digit}
 use Rattle.bittle_words.proofs.PlaceLemmas.{place_eq, place_in_word, place-place, mirror_in_word}
 use Rattle.bittle_words.proofs.PlainSets.{plain_set, contains_in, has_with-in, with_in, without_in}
 

@@ -1,64 +1,17 @@
 -- The least and the greatest digit of a word.
-use Rattle.std.proofs.Common.{
-  ◌≡◌,
-  ℕ,
-  zero,
-  suc,
-  ◌-◌,
-  ◌*◌,
-  ◌/◌,
-  ◌%◌,
-  ◌^◌,
-  ◌<◌,
-  ◌≤◌,
-  ◌⊎◌,
-  Bool,
-  true,
-  false,
-  not,
-  ◌&&◌,
-  ◌==◌,
-  nat_lt,
-  bit_and,
-  inl,
-  inr,
-  refl,
-  sym,
-  ap,
-  ◌∙◌,
-  arith,
-  subst,
-}
+use Rattle.std.proofs.Common.{◌≡◌, ℕ, zero, suc, ◌-◌, ◌*◌, ◌/◌, ◌%◌, ◌^◌, ◌<◌, ◌≤◌, ◌⊎◌, Bool, true, false, not, ◌&&◌, ◌==◌, nat_lt, bit_and, inl, inr, refl, sym, ap, ◌∙◌, arith, subst}
 use Rattle.std.proofs.Math.Nat.{mod-eq_of_lt}
 use Rattle.std.proofs.Math.Path.{fun_ext}
 use Rattle.std.specs.Int.{bit_at}
 use Rattle.std.specs.Int.Count.{count_leading_zeros, count_trailing_zeros, leading_of_zero}
 use Rattle.std.proofs.lemmas.Nat.{trailing_le, leading_le, leading_top, mod_below, div-add-mod'}
-use Rattle.std.proofs.lemmas.Nat.Bits.{
-  bit_at-suc,
-  bit_at_lowest,
-  bit_at_above,
-  bit_at-lt,
-  bit_at-zero,
-}
+use Rattle.std.proofs.lemmas.Nat.Bits.{bit_at-suc, bit_at_lowest, bit_at_above, bit_at-lt, bit_at-zero}
 use Rattle.std.proofs.lemmas.Bool.{cases_eq, cases_lt, and_right, eq-eqb, ne_eqb}
 use Rattle.std.proofs.Math.Bool.{and_self}
 use Rattle.bittle_words.specs.Digits.{digit_has, digit_set}
 use Rattle.bittle_words.specs.Orders.{members}
-use Rattle.bittle_words.specs.PlainSet.{
-  PlainSet,
-  without_index,
-  complement,
-  IsLeastMember,
-  IsGreatestMember,
-}
-use Rattle.bittle_words.proofs.DigitSets.{
-  digit_has-at,
-  digit_has-and,
-  digit_has-not,
-  digit_has-zero,
-  top_digit,
-}
+use Rattle.bittle_words.specs.PlainSet.{PlainSet, without_index, complement, IsLeastMember, IsGreatestMember}
+use Rattle.bittle_words.proofs.DigitSets.{digit_has-at, digit_has-and, digit_has-not, digit_has-zero, top_digit}
 use Rattle.bittle_words.proofs.PlaceLemmas.{mirror_in_word}
 use Rattle.bittle_words.proofs.PlainSets.{plain_set, without_in, complement-members}
 

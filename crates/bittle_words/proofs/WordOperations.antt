@@ -1,68 +1,17 @@
 -- The operations on two words.
-use Rattle.std.proofs.Common.{
-  ◌≡◌,
-  ℕ,
-  zero,
-  suc,
-  ◌+◌,
-  ◌-◌,
-  ◌*◌,
-  ◌%◌,
-  ◌^◌,
-  ◌<◌,
-  ◌≤◌,
-  Bool,
-  true,
-  false,
-  cond,
-  not,
-  ◌&&◌,
-  ◌||◌,
-  ◌==◌,
-  nat_lt,
-  inl,
-  inr,
-  refl,
-  sym,
-  ap,
-  ◌∙◌,
-  arith,
-  List,
-  [],
-  ◌∷◌,
-  length,
-  get_or,
-  set,
-  bit_and,
-  bit_or,
-  bit_xor,
-}
+use Rattle.std.proofs.Common.{◌≡◌, ℕ, ◌+◌, ◌-◌, ◌*◌, ◌%◌, ◌^◌, ◌<◌, Bool, not, ◌&&◌, ◌||◌, ◌==◌, inl, inr, refl, sym, ap, ◌∙◌, arith, bit_and, bit_or, bit_xor}
 use Rattle.std.proofs.Math.Path.{fun_ext}
 use Rattle.std.specs.Int.{bit_at}
-use Rattle.std.proofs.Math.Nat.{mul-le-mul_right}
-use Rattle.std.proofs.lemmas.List.{get_or-set_same, get_or-set_other}
-use Rattle.std.proofs.lemmas.Nat.{mul-add-lt}
 use Rattle.std.proofs.lemmas.Nat.Bits.{bit_at_xor, bit_at-lt}
-use Rattle.std.proofs.lemmas.Bool.{cases_eq, cases_lt, lt-ltb, le-ltb}
+use Rattle.std.proofs.lemmas.Bool.{cases_lt, lt-ltb}
 use Rattle.bittle_words.specs.Digits.{digit_has, digit_set}
 use Rattle.bittle_words.specs.LawProofs.{digit_has-past}
-use Rattle.bittle_words.specs.Orders.{place, members}
-use Rattle.bittle_words.specs.PlainSet.{PlainSet, lacks}
-use Rattle.bittle_words.specs.SetOperations.{combination_has, combination_of, first_alone, just_one}
-use Rattle.bittle_words.proofs.DigitSets.{
-  zero_or_one,
-  digit_has-and,
-  digit_has-or,
-  digit_has-not,
-  digit_has-at,
-}
-use Rattle.bittle_words.proofs.PlaceLemmas.{place_inside}
+use Rattle.bittle_words.specs.Orders.{members}
+use Rattle.bittle_words.specs.PlainSet.{lacks}
+use Rattle.bittle_words.specs.SetOperations.{combination_of, first_alone, just_one}
+use Rattle.bittle_words.proofs.DigitSets.{zero_or_one, digit_has-and, digit_has-or, digit_has-not, digit_has-at}
 use Rattle.bittle_words.proofs.PlainSets.{plain_set}
-use Rattle.bittle_words.proofs.SetOperations.{
-  combination-below,
-  combination-outside,
-  members-combination,
-}
+use Rattle.bittle_words.proofs.SetOperations.{combination-below, combination-outside, members-combination}
 
 -- words: an operation on each digit
 module _ (f : Bool → Bool → Bool) (w a b r : ℕ) where

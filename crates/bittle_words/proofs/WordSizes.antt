@@ -1,62 +1,14 @@
 -- How many bits of a word are set.
-use Rattle.std.proofs.Common.{
-  ◌≡◌,
-  ◌≢◌,
-  ℕ,
-  zero,
-  suc,
-  ◌+◌,
-  ◌-◌,
-  ◌*◌,
-  ◌%◌,
-  ◌^◌,
-  ◌<◌,
-  ◌≤◌,
-  Bool,
-  true,
-  false,
-  not,
-  ◌&&◌,
-  ◌==◌,
-  cond,
-  inl,
-  inr,
-  refl,
-  sym,
-  ap,
-  ◌∙◌,
-  arith,
-  List,
-  [],
-  ◌∷◌,
-  length,
-  get_or,
-  take,
-  add-zero,
-  add_assoc,
-  add_comm,
-  subst,
-}
-use Rattle.std.proofs.Math.Path.{fun_ext}
-use Rattle.std.proofs.Math.Nat.{mod-eq_of_lt, zero-mul, one-mul, add-suc}
-use Rattle.std.specs.List.{sum_by}
+use Rattle.std.proofs.Common.{◌≡◌, ℕ, zero, suc, ◌+◌, ◌-◌, ◌*◌, ◌%◌, ◌^◌, ◌<◌, ◌&&◌, ◌==◌, cond, inl, inr, sym, ap, ◌∙◌, arith, add_comm}
+use Rattle.std.proofs.Math.Nat.{mod-eq_of_lt}
 use Rattle.std.specs.Int.{bit_at}
 use Rattle.std.specs.Int.Count.{ones, ones-ones}
 use Rattle.std.proofs.lemmas.Nat.{ones_cat, mod-pow-add, mod_below, pow_pos}
 use Rattle.std.proofs.lemmas.Nat.Bits.{bit_at-lt}
-use Rattle.std.proofs.lemmas.List.Sums.{sum_by-cons, sum_by_more_le}
-use Rattle.std.proofs.lemmas.List.{take_all}
-use Rattle.std.proofs.lemmas.Bool.{cases_eq, cases_Bool, lt-ltb, eq-eqb, ne_eqb}
+use Rattle.std.proofs.lemmas.Bool.{cases_eq, lt-ltb, eq-eqb, ne_eqb}
 use Rattle.bittle_words.specs.Digits.{digit_has, digit_set}
-use Rattle.bittle_words.specs.Orders.{place, mirror, members}
-use Rattle.bittle_words.specs.PlainSet.{PlainSet, count_below, size, lacks, complement}
-use Rattle.bittle_words.proofs.DigitSets.{
-  digit_has-zero,
-  digit_has-not,
-  digit_has-below,
-  some_digit,
-}
-use Rattle.bittle_words.proofs.PlaceLemmas.{place_part}
+use Rattle.bittle_words.specs.PlainSet.{count_below, size, complement}
+use Rattle.bittle_words.proofs.DigitSets.{digit_has-zero, digit_has-not, digit_has-below, some_digit}
 use Rattle.bittle_words.proofs.Counts.{count-same, count-some, count-never}
 use Rattle.bittle_words.proofs.Sizes.{size-complement}
 

@@ -1,40 +1,8 @@
 -- Word k of a set: its members are those of the set from k * w on.
-use Rattle.std.proofs.Common.{
-  ◌≡◌,
-  ℕ,
-  suc,
-  ◌+◌,
-  ◌*◌,
-  ◌/◌,
-  ◌%◌,
-  ◌<◌,
-  ◌≤◌,
-  Bool,
-  ◌&&◌,
-  nat_lt,
-  inl,
-  inr,
-  List,
-  length,
-  get_or,
-  refl,
-  sym,
-  ap,
-  ◌∙◌,
-  arith,
-}
+use Rattle.std.proofs.Common.{◌≡◌, ℕ, suc, ◌+◌, ◌*◌, ◌<◌, ◌≤◌, Bool, ◌&&◌, inl, inr, refl, sym, ap, ◌∙◌, arith}
 use Rattle.std.proofs.Math.Path.{fun_ext}
-use Rattle.std.proofs.Math.Nat.{
-  mul-div_left,
-  div-add-mod',
-  mul_assoc,
-  zero-mul,
-  lt_of_mul-lt-mul_right,
-  mul-lt-mul_of_pos_right,
-  mul-le-mul_right,
-}
-use Rattle.std.proofs.lemmas.Nat.{mod_below, div_below, mul-add-lt}
-use Rattle.std.proofs.lemmas.Bool.{cases_eq, cases_lt, lt-ltb, le-ltb}
+use Rattle.std.proofs.Math.Nat.{zero-mul, lt_of_mul-lt-mul_right, mul-le-mul_right}
+use Rattle.std.proofs.lemmas.Bool.{cases_lt, lt-ltb, le-ltb}
 use Rattle.bittle_words.specs.Digits.{digit_has, digit_set}
 use Rattle.bittle_words.specs.Orders.{place, members}
 use Rattle.bittle_words.specs.PlainSet.{PlainSet}

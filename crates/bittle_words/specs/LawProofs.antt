@@ -1,37 +1,9 @@
 -- Proofs of the laws that the impls of the traits give.
-use Rattle.std.proofs.Common.{
-  ◌≡◌,
-  ℕ,
-  zero,
-  suc,
-  ◌*◌,
-  ◌/◌,
-  ◌%◌,
-  ◌<◌,
-  ◌≤◌,
-  ℤ,
-  Bool,
-  false,
-  ◌&&◌,
-  nat_lt,
-  nat_eq,
-  IsTrue,
-  List,
-  [],
-  ◌∷◌,
-  refl,
-  sym,
-  ap,
-  ◌∙◌,
-  arith,
-}
-use Rattle.std.proofs.Math.Nat.{mul_assoc}
-use Rattle.std.proofs.lemmas.Bool.{le-ltb, ltb-true, eqb-true, and_parts, true≢false}
+use Rattle.std.proofs.Common.{◌≡◌, ℕ, ◌*◌, ◌≤◌, ℤ, false, nat_eq, IsTrue, ap, arith}
+use Rattle.std.proofs.lemmas.Bool.{le-ltb, eqb-true}
 use Rattle.std.specs.Cmp.{signed_Decides}
-use Rattle.std.specs.Cmp.Lexicographic.{pointwise}
 use Rattle.std.specs.Ordering.{int_eq}
 use Rattle.bittle_words.specs.Digits.{digit_has, digit_set}
-use Rattle.bittle_words.specs.PlainSet.{PlainSet}
 
 -- no digit lies past the word
 pub digit_has-past : (w d i : ℕ) → w ≤ i → digit_has w d i ≡ false

@@ -1,18 +1,7 @@
 use Rattle.std.proofs.Common.{rules, [], ◌++◌, refl, sym, ap, ◌∙◌}
 use Rattle.std.specs.Prelude.{codes}
-use Rattle.bittle_script.proofs.Beginnings.{
-  begins-before,
-  begun-nothing,
-  begun-more,
-  begun-failed,
-  begun-written,
-  writes-failed,
-}
-use Rattle.bittle_script.proofs.MemberLines.{
-  spaced_numbers,
-  join_by-spaced_numbers,
-  spaced_numbers-more,
-}
+use Rattle.bittle_script.proofs.Beginnings.{begins-before, begun-nothing, begun-more, begun-failed, begun-written, writes-failed}
+use Rattle.bittle_script.proofs.MemberLines.{spaced_numbers, join_by-spaced_numbers, spaced_numbers-more}
 use Rattle.bittle_script.proofs.answering.print_members.Goals as goal
 
 pub loop-member-init : goal.loop-member-init

@@ -1,28 +1,5 @@
-use Rattle.std.proofs.Common.{
-  ◌≡◌,
-  ◌<◌,
-  ℕ,
-  Bor,
-  ◌∷◌,
-  [],
-  ◌++◌,
-  map,
-  length,
-  get_or,
-  sym,
-  ap,
-  ◌∙◌,
-  arith,
-  rules,
-}
-use Rattle.std.proofs.lemmas.List.{
-  take_more_set,
-  map-append,
-  length-append,
-  length-map,
-  length-set,
-  length-take,
-}
+use Rattle.std.proofs.Common.{◌≡◌, ◌<◌, ℕ, Bor, ◌∷◌, [], ◌++◌, map, length, get_or, sym, ap, ◌∙◌, arith, rules}
+use Rattle.std.proofs.lemmas.List.{take_more_set, map-append, length-append, length-map, length-set, length-take}
 use Rattle.std.specs.Prelude.{slice_index}
 use Rattle.bittle.specs.Digits.{digit_set}
 use Rattle.bittle.specs.PlainSet.{ascending}

@@ -1,8 +1,7 @@
 use Rattle.std.proofs.Common.{sym, ◌∙◌}
 use Rattle.bittle_bits.specs.Orders.{members}
 use Rattle.bittle_bits.proofs.PlainSets.{members-past}
-use Rattle.bittle.proofs.FirstDifference.{cmp_less, cmp_equal, cmp_greater, ours_first, ours_last,
-    theirs_first, theirs_last}
+use Rattle.bittle.proofs.FirstDifference.{cmp_less, cmp_equal, cmp_greater, ours_first, ours_last, theirs_first, theirs_last}
 use Rattle.bittle.proofs.set.apart.compare.Goals as goal
 
 pub returns-in-None : goal.returns-in-None

@@ -4,8 +4,7 @@ use Rattle.std.proofs.Math.Nat.{mul-le-mul_right}
 use Rattle.bittle_bits.specs.Orders.{members}
 use Rattle.bittle_bits.proofs.PlainSets.{members-past}
 use Rattle.bittle.specs.Comparison.{IsFirstApart}
-use Rattle.bittle.proofs.FirstDifference.{SameBelow, same_word, first_in_word, some_least,
-    all_words, past_first, past_second}
+use Rattle.bittle.proofs.FirstDifference.{SameBelow, same_word, first_in_word, some_least, all_words, past_first, past_second}
 use Rattle.bittle.proofs.set.apart.first_apart.Goals as goal
 
 pub returns-then-not-is_zero : goal.returns-then-not-is_zero

@@ -1,14 +1,7 @@
 use Rattle.std.proofs.Common.{◌<◌, ◌/◌, refl, arith}
 use Rattle.bittle_bits.specs.Orders.{members}
 use Rattle.bittle_bits.specs.Walk.{ones_or_zeros}
-use Rattle.bittle_bits.proofs.Steps.{
-  seeks_on,
-  back_on,
-  tail_retired,
-  tail_fetched,
-  head_gave_back,
-  back_ended,
-}
+use Rattle.bittle_bits.proofs.Steps.{seeks_on, back_on, tail_retired, tail_fetched, head_gave_back, back_ended}
 use Rattle.bittle_bits.proofs.internal.cursor.step_back.Goals as goal
 
 pub loop-item-preserved : goal.loop-item-preserved

@@ -1,22 +1,4 @@
-use Rattle.std.proofs.Common.{
-  ◌≡◌,
-  ◌+◌,
-  ◌⊎◌,
-  inl,
-  inr,
-  true,
-  false,
-  cond,
-  ℕ,
-  List,
-  refl,
-  sym,
-  ap,
-  ◌∙◌,
-  map,
-  Some,
-  None,
-}
+use Rattle.std.proofs.Common.{◌≡◌, ◌+◌, ◌⊎◌, inl, inr, true, false, cond, ℕ, List, refl, sym, ap, ◌∙◌, map, Some, None}
 use Rattle.std.proofs.lemmas.Bool.{cases_Bool, cond-true}
 use Rattle.bittle_bits.specs.Copies.{copy_items, items_of}
 use Rattle.bittle_bits.proofs.internal.look.take_first.Goals as goal

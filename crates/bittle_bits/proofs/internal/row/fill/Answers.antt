@@ -1,32 +1,7 @@
-use Rattle.std.proofs.Common.{
-  ◌≡◌,
-  ◌+◌,
-  ◌-◌,
-  ◌*◌,
-  ◌/◌,
-  ◌<◌,
-  ◌≤◌,
-  length,
-  length-set,
-  arith,
-  min,
-  sym,
-  ap,
-  ◌∙◌,
-  refl,
-  get_or,
-  set,
-}
+use Rattle.std.proofs.Common.{◌≡◌, ◌+◌, ◌-◌, ◌*◌, ◌/◌, ◌<◌, ◌≤◌, length, length-set, arith, min, sym, ap, ◌∙◌, refl, get_or, set}
 use Rattle.bittle_bits.proofs.SearchBounds.{first_word, words_ordered}
 use Rattle.bittle_bits.proofs.Spans.{with_span-none}
-use Rattle.bittle_bits.proofs.RowSpans.{
-  span_reaches,
-  row_filled,
-  span_end_at,
-  some_each,
-  begins_before,
-  before_end,
-}
+use Rattle.bittle_bits.proofs.RowSpans.{span_reaches, row_filled, span_end_at, some_each, begins_before, before_end}
 use Rattle.bittle_bits.specs.Orders.{members}
 use Rattle.bittle_bits.specs.PlainSet.{with_span}
 use Rattle.bittle_bits.specs.Rows.{elements_set}

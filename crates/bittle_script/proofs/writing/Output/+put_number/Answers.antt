@@ -4,10 +4,7 @@ use Rattle.std.proofs.lemmas.Fmt.{decimal_step, decimal_digit}
 use Rattle.bittle_script.specs.Beginnings.{AppendsBeginning, Writes}
 use Rattle.bittle_script.proofs.Beginnings.{begins-before, writes-after, writes-failed}
 use Rattle.bittle_script.proofs.writing.Output.+put_number.Goals as goal
-use Rattle.bittle_script.proofs.writing.Output.+put_number.Goals.{
-  then-number-ge10+in_ok-put_number,
-  else-number-ge10,
-}
+use Rattle.bittle_script.proofs.writing.Output.+put_number.Goals.{then-number-ge10+in_ok-put_number, else-number-ge10}
 
 only_digit : (n : ℕ) → n < 10 → (48 + n % 10) ∷ [] ≡ decimal n
 only_digit n short = let e : 48 + n % 10 ≡ 48 + n = omega arith in

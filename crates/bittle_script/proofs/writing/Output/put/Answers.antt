@@ -1,18 +1,4 @@
-use Rattle.std.proofs.Common.{
-  ◌≡◌,
-  ℕ,
-  ◌-◌,
-  List,
-  ◌++◌,
-  length,
-  take,
-  drop,
-  sym,
-  ap,
-  ◌∙◌,
-  append_assoc,
-  take-append-drop,
-}
+use Rattle.std.proofs.Common.{◌≡◌, ℕ, ◌-◌, List, ◌++◌, length, take, drop, sym, ap, ◌∙◌, append_assoc, take-append-drop}
 use Rattle.std.proofs.lemmas.List.{take_rest}
 use Rattle.std.proofs.KnownBytes.{Appends-trans}
 use Rattle.bittle_script.proofs.writing.Output.put.Goals as goal

@@ -1,13 +1,11 @@
-use Rattle.std.proofs.Common.{rules, ◌≡◌, Bool, true, false, ℕ, List, [], ◌∷◌, ◌++◌, codes, sym, ap,
-    ◌∙◌, append_assoc, append-nil, refl}
+use Rattle.std.proofs.Common.{rules, ◌≡◌, Bool, true, false, ℕ, List, [], ◌∷◌, ◌++◌, codes, sym, ap, ◌∙◌, append_assoc, append-nil, refl}
 use Rattle.std.specs.Fmt.{HasWritten, decimal}
 use Rattle.std.proofs.Output.{has_written_append, has_written_of_eq}
 use Rattle.bittle_bits.specs.Orders.{members}
 use Rattle.bittle_bits.specs.PlainSet.{ascending}
 use Rattle.bittle.proofs.set.debug.SetDebug.fmt.Invariants.{others_text, rest_text}
 use Rattle.bittle.proofs.set.debug.SetDebug.fmt.Goals as goal
-use Rattle.bittle.proofs.set.debug.SetDebug.fmt.Goals.{then-not-first+in_ok-write_str-2,
-    else-not-first}
+use Rattle.bittle.proofs.set.debug.SetDebug.fmt.Goals.{then-not-first+in_ok-write_str-2, else-not-first}
 
 regroup : (a b c d e : List ℕ) → ((a ++ b) ++ c) ++ (d ++ e) ≡ a ++ ((b ++ (c ++ d)) ++ e)
 regroup a b c d e =
