@@ -34,15 +34,15 @@ module _ {S : Type 0} (rest : S → List ℕ) where
       let n = get_or ms k 0 in
       let zero_from : n - 0 ≡ n = omega arith in
       let a : slice_get (map now answers) k ≡ Some (get_or (map now answers) k 0) = slice_get-get_or
-          (map now answers) k 0 (omega (arith, length-map answers now)) in
+      (map now answers) k 0 (omega (arith, length-map answers now)) in
       let b : slice_get (map now items) n ≡ Some (get_or (map now answers) k 0) =
       slice_get-map now items n ∙ ap (option_map now)
-          (ap (slice_get items) (sym zero_from) ∙ sym (j.given k h))
-          ∙ sym (slice_get-map now answers k) ∙ a in
+      (ap (slice_get items) (sym zero_from) ∙ sym (j.given k h))
+      ∙ sym (slice_get-map now answers k) ∙ a in
       let c = slice_get_within (map now items) n (get_or (map now answers) k 0) b in
       sym (ap (λ xs. get_or xs n 0) (given_first s t items y) ∙ get_or_append_left (map now items)
-          (rest t) 0 n c ∙ get_or_from_slice_get (map now items) n (get_or (map now answers) k 0) 0
-          b)
+      (rest t) 0 n c ∙ get_or_from_slice_get (map now items) n (get_or (map now answers) k 0) 0
+      b)
 
   -- with members that are all places of elements, nothing ends the join before the last member
   ends_after_all : (s : Join S) (t : Join S) (items : List (Bor ℕ)) (m : ℕ) (ms : List ℕ) →
@@ -52,7 +52,7 @@ module _ {S : Type 0} (rest : S → List ℕ) where
       let all = items ++ e.0 in
       let g = ap length (given_first s.iter y.0 all y.1) in
       let l : length (map (λ (x : Bor ℕ). x.now) all ++ rest y.0)
-          ≡ length all + length (rest y.0) = simp (length-append, length-map) in
+      ≡ length all + length (rest y.0) = simp (length-append, length-map) in
       omega (arith, g, l, y.2.0, e.2, none, h)
 
   -- the answers of a whole run are the elements at the members
@@ -75,9 +75,9 @@ module _ {S : Type 0} (rest : S → List ℕ) where
             let a = length-map answers (λ (x : Bor ℕ). x.now) in
             let b = length-map ms (λ (m : ℕ). slice_index (rest s.iter) m) in
             same_number_lists (map (λ x. x.now) answers) (map (λ m. slice_index (rest s.iter) m) ms)
-                (a ∙ long ∙ sym b) (λ k h. item_at s.iter t.iter ms items answers y from_zero k
-                (omega (arith, a)) ∙ sym
-                (get_or-map (λ m. slice_index (rest s.iter) m) ms k 0 0 (omega (arith, a))))
+            (a ∙ long ∙ sym b) (λ k h. item_at s.iter t.iter ms items answers y from_zero k
+            (omega (arith, a)) ∙ sym
+            (get_or-map (λ m. slice_index (rest s.iter) m) ms k 0 0 (omega (arith, a))))
       ]
 
   yields_more : {A J : Type 0} (steps : J → Option A → J → Type 0) (s t u : J) (xs : List A)
@@ -91,7 +91,7 @@ module _ {S : Type 0} (rest : S → List ℕ) where
       join_steps TakesElement now (Some x) next → length answers < length s.mask.left
   one_more s now next answers x clause y e =
       let a = clause (answers ++ x ∷ []) next
-          (yields_more (join_steps TakesElement) s now next answers x y e) in
+      (yields_more (join_steps TakesElement) s now next answers x y e) in
       omega (arith, a.2.among, length-append answers (x ∷ []))
 
   -- the answers of a run up to its end are the elements at the members
@@ -111,5 +111,10 @@ pub answers_below : {S : Type 0} (rest : S → List ℕ) (s now next : Join S) (
     Yields (join_steps (TakesElement rest)) s answers now →
     join_steps (TakesElement rest) now (Some x) next → count < set.capacity
 answers_below rest s now next answers x set count left long clause y e =
-    omega (arith, one_more rest s now next answers x clause y e, ap length left,
-        ascending_short set, long)
+    omega (
+      arith,
+      one_more rest s now next answers x clause y e,
+      ap length left,
+      ascending_short set,
+      long,
+    )

@@ -20,7 +20,7 @@ ascending_none s e =
       | inr w ↦
           let m = s.capacity - suc w.0 in
           let found = ascending_from-least s.has 0 s.capacity w.0 m w.1.0
-              (omega (arith, w.1.1)) w.1.2 w.1.3 in
+          (omega (arith, w.1.1)) w.1.2 w.1.3 in
           absurd (cc)
     ]
 
@@ -33,10 +33,10 @@ ascending_first s i rest e =
       | inr w ↦
           let m = s.capacity - suc w.0 in
           let found = ascending_from-least s.has 0 s.capacity w.0 m w.1.0
-              (omega (arith, w.1.1)) w.1.2 w.1.3 in
+          (omega (arith, w.1.1)) w.1.2 w.1.3 in
           let same : w.0 ≡ i = cc in
           subst (λ (k : ℕ). IsFirstIn s 0 s.capacity (Some k)) same
-              (w.1.0, omega (arith, w.1.1), w.1.2, w.1.3)
+          (w.1.0, omega (arith, w.1.1), w.1.2, w.1.3)
     ]
 
 -- each of the members is below the capacity
@@ -54,11 +54,13 @@ unfolding ascending_from
 item_passes p from zero k h = absurd (omega arith)
 item_passes p from (suc n) k h =
     elim (p from) as (λ b. p from ≡ b → k < length
-        (cond b (from ∷ ascending_from p (suc from) n) (ascending_from p (suc from) n)) →
-        p (get_or (cond b (from ∷ ascending_from p (suc from) n) (ascending_from p (suc from) n)) k
-        0) ≡ true)
-    [ true ↦ λ is l. first (item_passes p (suc from) n) is k l | false ↦
-        λ is l. item_passes p (suc from) n k l ] refl h
+    (cond b (from ∷ ascending_from p (suc from) n) (ascending_from p (suc from) n)) →
+    p (get_or (cond b (from ∷ ascending_from p (suc from) n) (ascending_from p (suc from) n)) k
+    0) ≡ true) [
+      | true ↦ λ is l. first (item_passes p (suc from) n) is k l
+      | false ↦
+          λ is l. item_passes p (suc from) n k l
+    ] refl h
   where
     first : ((k : ℕ) → k < length (ascending_from p (suc from) n) →
         p (get_or (ascending_from p (suc from) n) k 0) ≡ true) → p from ≡ true → (k : ℕ) →
@@ -115,7 +117,7 @@ ascending_rises s = items_rise s.has 0 s.capacity
 listed : (s : PlainSet) (i : ℕ) → i < s.capacity → s.has i ≡ true → Contains (ascending s) i
 listed s i inside here =
     subst (λ xs. Contains xs i) (sym (ascending-at s i inside here))
-        (Contains-append_left _ _ i (Contains-push (ascending_from s.has 0 i) i))
+    (Contains-append_left _ _ i (Contains-push (ascending_from s.has 0 i) i))
 
 unlisted : (s : PlainSet) (i : ℕ) → Contains (ascending s) i → (i < s.capacity) × (s.has i ≡ true)
 unlisted s i c =
@@ -136,7 +138,7 @@ ascending_last s i front e =
     let n = length front in
     let long : length (ascending s) ≡ n + 1 = ap length e ∙ length-append front (i ∷ []) in
     let at : get_or (ascending s) n 0 ≡ i = ap (λ xs. get_or xs n 0) e
-        ∙ get_or_push front i 0 n refl in
+    ∙ get_or_push front i 0 n refl in
     let mine = unlisted s i (subst (λ xs. Contains xs i) (sym e) (Contains-push front i)) in
     let none : NoneIn s (i + 1) s.capacity = λ k p q.
     elim (cases_Bool (s.has k)) [

@@ -37,7 +37,7 @@ without_index_within s i h =
     let some = lt-ltb 0 s.capacity (omega arith) in
     let same = mod-eq_of_lt h in
     let each : (k : ℕ) → has_without s i k
-        ≡ (not (k == i) && s.has k) = λ k. rw (some, same) refl in
+    ≡ (not (k == i) && s.has k) = λ k. rw (some, same) refl in
     λ j. record { capacity = s.capacity; has = λ k. each k j }
 
 -- below the capacity a number is in the complement where it is no member
@@ -90,7 +90,7 @@ size_zero s none = counts.count-same s.capacity s.has (λ _. false) (λ k h. non
 pub size_full : (s : PlainSet) → size s ≡ s.capacity → (k : ℕ) → k < s.capacity → s.has k ≡ true
 size_full s e k h =
     let none = size_none (complement s) (omega (arith, sizes.size-complement s)) k
-        (omega arith) h in
+    (omega arith) h in
     elim (cases_Bool (s.has k)) [
       | inl here ↦ here
       | inr gone ↦ let no : true ≡ false = sym (complement_within s k h ∙ ap not gone) ∙ none in

@@ -17,9 +17,9 @@ pub walk_yields_back : (w : Walk) (items : List ℕ) → w.left ≡ items →
     YieldsList StepsBack (λ x. x) w (reverse items)
 walk_yields_back w items e =
     subst (λ xs. YieldsList StepsBack (λ x. x) w (reverse xs)) e
-        (YieldsList-from_shown StepsBack (λ x. x) (λ v. reverse v.left)
-        (λ s t h. ap (λ xs. length (reverse xs)) h.gave.0)
-        (λ s x t h. ap reverse h.gave ∙ reverse-append t.left (x ∷ [])) w)
+    (YieldsList-from_shown StepsBack (λ x. x) (λ v. reverse v.left)
+    (λ s t h. ap (λ xs. length (reverse xs)) h.gave.0)
+    (λ s x t h. ap reverse h.gave ∙ reverse-append t.left (x ∷ [])) w)
 
 -- what a run from the front gave, and what is left, are what was left before
 pub given_and_left : (s t : Walk) (items : List ℕ) → Yields StepsFront s items t →
@@ -33,5 +33,5 @@ pub left_and_given : (s t : Walk) (items : List ℕ) → Yields StepsBack s item
 left_and_given s t [] y = ap (λ w. w.left) y ∙ sym (append-nil t.left)
 left_and_given s t (x ∷ items) y =
     y.1.gave ∙ ap (λ r. r ++ x ∷ []) (left_and_given y.0 t items y.2)
-        ∙ append_assoc t.left (reverse items) (x ∷ [])
+    ∙ append_assoc t.left (reverse items) (x ∷ [])
     ∙ ap (λ r. t.left ++ r) (sym (reverse-append (x ∷ []) items))

@@ -37,50 +37,52 @@ module _ (m : Bool) (w : ℕ) (s t : PlainSet) (word : 0 < w) where
       let one : k * (1 * w) ≡ k * w = omega arith in
       let b : i < 1 * w = omega arith in
       let e : place m w (k * w + i) ≡ k * w + place m w i = rw one at (place_part m w 1 k i word b)
-          in
+      in
       sym (ap u.has e)
 
   -- the word x has the digits of word k that are in just one
   module _ (k x : ℕ) (is : digit_set w x ≡ combination_of just_one (word_of w s k) (word_of w t k))
-      where
-    apart_at : (i : ℕ) → i < w → (members m w (digit_set w x)).has i
-        ≡ just_one ((members m w s).has (k * w + i)) ((members m w t).has (k * w + i))
-    apart_at i h =
-        let p = place m w i in
-        let low = place_in_word m w i h in
-        ap (λ u. u.has p) is
-        ∙ combination-below just_one (word_of w s k) (word_of w t k) p low low
-        ∙ ap (λ b. just_one b (word_has w t k p)) (word_has-at w s k p low ∙ member_at s k i h)
-        ∙ ap (just_one ((members m w s).has (k * w + i)))
-            (word_has-at w t k p low ∙ member_at t k i h)
+    where
+      apart_at : (i : ℕ) → i < w → (members m w (digit_set w x)).has i
+          ≡ just_one ((members m w s).has (k * w + i)) ((members m w t).has (k * w + i))
+      apart_at i h =
+          let p = place m w i in
+          let low = place_in_word m w i h in
+          ap (λ u. u.has p) is
+          ∙ combination-below just_one (word_of w s k) (word_of w t k) p low low
+          ∙ ap (λ b. just_one b (word_has w t k p)) (word_has-at w s k p low ∙ member_at s k i h)
+          ∙ ap (just_one ((members m w s).has (k * w + i)))
+          (word_has-at w t k p low ∙ member_at t k i h)
 
-    -- below a place of word k
-    same_up_to : (r : ℕ) → SameBelow (members m w s) (members m w t) (k * w) → r ≤ w →
-        ((i : ℕ) → i < r → (members m w (digit_set w x)).has i ≡ false) →
-        SameBelow (members m w s) (members m w t) (k * w + r)
-    same_up_to r before low none i h =
-        elim (cases_lt i (k * w)) [
-          | inl l ↦ before i l
-          | inr g ↦
-              let j = i - k * w in
-              let back : k * w + j ≡ i = omega arith in
-              let e : just_one ((members m w s).has i) ((members m w t).has i)
-                  ≡ false = rw back at (sym (apart_at j (omega arith)) ∙ none j (omega arith)) in
-              alike _ _ e
-        ]
+      -- below a place of word k
+      same_up_to : (r : ℕ) → SameBelow (members m w s) (members m w t) (k * w) → r ≤ w →
+          ((i : ℕ) → i < r → (members m w (digit_set w x)).has i ≡ false) →
+          SameBelow (members m w s) (members m w t) (k * w + r)
+      same_up_to r before low none i h =
+          elim (cases_lt i (k * w)) [
+            | inl l ↦ before i l
+            | inr g ↦
+                let j = i - k * w in
+                let back : k * w + j ≡ i = omega arith in
+                let e : just_one ((members m w s).has i) ((members m w t).has i)
+                ≡ false = rw back at (sym (apart_at j (omega arith)) ∙ none j (omega arith)) in
+                alike _ _ e
+          ]
 
-    -- it has none, so the word is the same in both
-    pub same_word : SameBelow (members m w s) (members m w t) (k * w) → x ≡ 0 →
-        SameBelow (members m w s) (members m w t) ((k + 1) * w)
-    same_word before zero i h = same_up_to w before (omega arith)
-        (λ j l. ap (λ p. p (place m w j)) (digit_has-zero w x zero)) i (omega arith)
+      -- it has none, so the word is the same in both
+      pub same_word : SameBelow (members m w s) (members m w t) (k * w) → x ≡ 0 →
+          SameBelow (members m w s) (members m w t) ((k + 1) * w)
+      same_word before zero i h = same_up_to w before (omega arith)
+          (λ j l. ap (λ p. p (place m w j)) (digit_has-zero w x zero)) i (omega arith)
 
-    -- its least one
-    pub first_in_word : (r : ℕ) → SameBelow (members m w s) (members m w t) (k * w) →
-        IsLeastMember (members m w (digit_set w x)) r → r < w →
-        IsFirstApart (members m w s) (members m w t) (k * w + r)
-    first_in_word r before least low = (same_up_to r before least.within least.none_below,
-        sym (apart_at r low) ∙ least.is_member low)
+      -- its least one
+      pub first_in_word : (r : ℕ) → SameBelow (members m w s) (members m w t) (k * w) →
+          IsLeastMember (members m w (digit_set w x)) r → r < w →
+          IsFirstApart (members m w s) (members m w t) (k * w + r)
+      first_in_word r before least low = (
+        same_up_to r before least.within least.none_below,
+        sym (apart_at r low) ∙ least.is_member low,
+      )
 
 -- a word that is not 0 has a least digit
 pub some_least : (m : Bool) (w x r : ℕ) → 0 < w → x < 2 ^ w → (x ≡ 0 → ⊥) →
@@ -93,7 +95,7 @@ some_least m w x r word fits some least =
           let i = place m w t.0 in
           let low : i < w = place_in_word m w t.0 (digit_has-below w x t.0 t.1) in
           absurd (true≢false (sym t.1 ∙ ap (digit_has w x) (sym (place-place m w t.0 word))
-              ∙ least.none_below i (omega arith)))
+          ∙ least.none_below i (omega arith)))
     ]
 
 -- ---- past the words of one side
@@ -113,8 +115,10 @@ past_first s t from to None same none past h = λ i.
       | inr g ↦ none i g ∙ sym (elim (cases_lt i to) [ inl b ↦ h i g b | inr q ↦ past i q ])
     ]
 past_first s t from to (Some d) same none past
-    h = ((λ i p. elim (cases_lt i from) [ inl l ↦ same i l | inr g ↦ none i g ∙ sym (h.3 i g p) ]),
-    rw (none d h.0, h.2) refl)
+    h = (
+      (λ i p. elim (cases_lt i from) [ inl l ↦ same i l | inr g ↦ none i g ∙ sym (h.3 i g p) ]),
+      rw (none d h.0, h.2) refl,
+    )
 
 turned : (a b : Bool) → just_one a b ≡ just_one b a
 turned true true = refl

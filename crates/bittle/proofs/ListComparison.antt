@@ -16,8 +16,8 @@ SameIn A B from to = (i : ℕ) → from ≤ i → i < to → A i ≡ B i
 abbrev BeforeIn : (ℕ → Bool) → (ℕ → Bool) → ℕ → ℕ → Type 0
 BeforeIn A B from to =
     (d : ℕ) × (from ≤ d) × (d < to) × SameIn A B from d
-        × (((A d ≡ true) × (B d ≡ false) × ((m : ℕ) × (d < m) × (B m ≡ true)))
-        ⊎ ((A d ≡ false) × (B d ≡ true) × NonePasses A (suc d) to))
+    × (((A d ≡ true) × (B d ≡ false) × ((m : ℕ) × (d < m) × (B m ≡ true)))
+    ⊎ ((A d ≡ false) × (B d ≡ true) × NonePasses A (suc d) to))
 
 abbrev Verdict : (ℕ → Bool) → (ℕ → Bool) → ℕ → ℕ → Ordering → Type 0
 Verdict A B from to o = MatchOrdering o (BeforeIn A B from to) (SameIn A B from to)
@@ -72,22 +72,30 @@ decide A B from (suc n) = by (decide A B (suc from) n) (cases_Bool (A from)) (ca
         (ascending_from B from (suc n)))
     right a b (inl none) =
         let e : list_cmp (ascending_from A from (suc n)) (ascending_from B from (suc n))
-            ≡ Greater = λ i. list_cmp (ascending-yes A from n a i)
-            ((ascending-no B from n b ∙ ascending_from-none B (suc from) n none) i) in
-        subst (Verdict A B from (from + suc n)) (sym e)
-            (from, omega arith, omega arith, (λ i p q. absurd (omega arith)),
-            inr (b, a, λ m p q. none m (omega arith) (omega arith)))
+        ≡ Greater = λ i. list_cmp (ascending-yes A from n a i)
+        ((ascending-no B from n b ∙ ascending_from-none B (suc from) n none) i) in
+        subst (Verdict A B from (from + suc n)) (sym e) (
+          from,
+          omega arith,
+          omega arith,
+          (λ i p q. absurd (omega arith)),
+          inr (b, a, λ m p q. none m (omega arith) (omega arith)),
+        )
     right a b (inr w) =
         let m = suc from + n - suc w.0 in
         let g : suc from + n ≡ suc w.0 + m = omega (arith, w.1.1) in
         let f = ascending_from-least B (suc from) n w.0 m w.1.0 g w.1.2 w.1.3 in
         let e : list_cmp (ascending_from A from (suc n)) (ascending_from B from (suc n))
-            ≡ Less = (λ i. list_cmp (ascending-yes A from n a i) ((ascending-no B from n b ∙ f) i))
-            ∙ less_head from w.0 (ascending_from A (suc from) n) (ascending_from B (suc w.0) m)
-            (omega (arith, w.1.0)) in
-        subst (Verdict A B from (from + suc n)) (sym e)
-            (from, omega arith, omega arith, (λ i p q. absurd (omega arith)),
-            inl (a, b, (w.0, omega (arith, w.1.0), w.1.2)))
+        ≡ Less = (λ i. list_cmp (ascending-yes A from n a i) ((ascending-no B from n b ∙ f) i))
+        ∙ less_head from w.0 (ascending_from A (suc from) n) (ascending_from B (suc w.0) m)
+        (omega (arith, w.1.0)) in
+        subst (Verdict A B from (from + suc n)) (sym e) (
+          from,
+          omega arith,
+          omega arith,
+          (λ i p q. absurd (omega arith)),
+          inl (a, b, (w.0, omega (arith, w.1.0), w.1.2)),
+        )
 
     left : A from ≡ false → B from ≡ true →
         NonePasses A (suc from) (suc from + n)
@@ -96,22 +104,30 @@ decide A B from (suc n) = by (decide A B (suc from) n) (cases_Bool (A from)) (ca
         (ascending_from B from (suc n)))
     left a b (inl none) =
         let e : list_cmp (ascending_from A from (suc n)) (ascending_from B from (suc n))
-            ≡ Less = λ i. list_cmp ((ascending-no A from n a
-            ∙ ascending_from-none A (suc from) n none) i) (ascending-yes B from n b i) in
-        subst (Verdict A B from (from + suc n)) (sym e)
-            (from, omega arith, omega arith, (λ i p q. absurd (omega arith)),
-            inr (a, b, λ m p q. none m (omega arith) (omega arith)))
+        ≡ Less = λ i. list_cmp ((ascending-no A from n a
+        ∙ ascending_from-none A (suc from) n none) i) (ascending-yes B from n b i) in
+        subst (Verdict A B from (from + suc n)) (sym e) (
+          from,
+          omega arith,
+          omega arith,
+          (λ i p q. absurd (omega arith)),
+          inr (a, b, λ m p q. none m (omega arith) (omega arith)),
+        )
     left a b (inr w) =
         let m = suc from + n - suc w.0 in
         let g : suc from + n ≡ suc w.0 + m = omega (arith, w.1.1) in
         let f = ascending_from-least A (suc from) n w.0 m w.1.0 g w.1.2 w.1.3 in
         let e : list_cmp (ascending_from A from (suc n)) (ascending_from B from (suc n))
-            ≡ Greater = (λ i. list_cmp ((ascending-no A from n a ∙ f) i)
-            (ascending-yes B from n b i)) ∙ more_head w.0 from (ascending_from A (suc w.0) m)
-            (ascending_from B (suc from) n) (omega (arith, w.1.0)) in
-        subst (Verdict A B from (from + suc n)) (sym e)
-            (from, omega arith, omega arith, (λ i p q. absurd (omega arith)),
-            inl (b, a, (w.0, omega (arith, w.1.0), w.1.2)))
+        ≡ Greater = (λ i. list_cmp ((ascending-no A from n a ∙ f) i)
+        (ascending-yes B from n b i)) ∙ more_head w.0 from (ascending_from A (suc w.0) m)
+        (ascending_from B (suc from) n) (omega (arith, w.1.0)) in
+        subst (Verdict A B from (from + suc n)) (sym e) (
+          from,
+          omega arith,
+          omega arith,
+          (λ i p q. absurd (omega arith)),
+          inl (b, a, (w.0, omega (arith, w.1.0), w.1.2)),
+        )
 
     by : Verdict A B (suc from) (suc from + n)
         (list_cmp (ascending_from A (suc from) n) (ascending_from B (suc from) n)) →
@@ -120,22 +136,22 @@ decide A B from (suc n) = by (decide A B (suc from) n) (cases_Bool (A from)) (ca
         (ascending_from B from (suc n)))
     by h (inl a) (inl b) =
         let e : list_cmp (ascending_from A from (suc n)) (ascending_from B from (suc n))
-            ≡ list_cmp (ascending_from A (suc from) n)
-            (ascending_from B (suc from) n) = (λ i. list_cmp (ascending-yes A from n a i)
-            (ascending-yes B from n b i)) ∙ same_head from (ascending_from A (suc from) n)
-            (ascending_from B (suc from) n) in
+        ≡ list_cmp (ascending_from A (suc from) n)
+        (ascending_from B (suc from) n) = (λ i. list_cmp (ascending-yes A from n a i)
+        (ascending-yes B from n b i)) ∙ same_head from (ascending_from A (suc from) n)
+        (ascending_from B (suc from) n) in
         subst (Verdict A B from (from + suc n)) (sym e)
-            (more (omega arith) (list_cmp (ascending_from A (suc from) n)
-            (ascending_from B (suc from) n)) (a ∙ sym b) h)
+        (more (omega arith) (list_cmp (ascending_from A (suc from) n)
+        (ascending_from B (suc from) n)) (a ∙ sym b) h)
     by h (inl a) (inr b) = right a b (least_or_none B (suc from) n)
     by h (inr a) (inl b) = left a b (least_or_none A (suc from) n)
     by h (inr a) (inr b) =
         let e : list_cmp (ascending_from A from (suc n)) (ascending_from B from (suc n))
-            ≡ list_cmp (ascending_from A (suc from) n) (ascending_from B (suc from) n) = λ i.
-            list_cmp (ascending-no A from n a i) (ascending-no B from n b i) in
+        ≡ list_cmp (ascending_from A (suc from) n) (ascending_from B (suc from) n) = λ i.
+        list_cmp (ascending-no A from n a i) (ascending-no B from n b i) in
         subst (Verdict A B from (from + suc n)) (sym e)
-            (more (omega arith) (list_cmp (ascending_from A (suc from) n)
-            (ascending_from B (suc from) n)) (a ∙ sym b) h)
+        (more (omega arith) (list_cmp (ascending_from A (suc from) n)
+        (ascending_from B (suc from) n)) (a ∙ sym b) h)
 
 -- no member lies past the capacity
 abbrev pub EndsAtCapacity : PlainSet → Type 0
@@ -155,8 +171,12 @@ before_whole s t to past w = (w.0, (λ i p. w.3 i (omega arith) p), by w.4)
         (((s.has w.0 ≡ true) × (t.has w.0 ≡ false) × ((m : ℕ) × (w.0 < m) × (t.has m ≡ true)))
         ⊎ ((s.has w.0 ≡ false) × (t.has w.0 ≡ true) × ((m : ℕ) → w.0 < m → s.has m ≡ false)))
     by (inl x) = inl x
-    by (inr x) = inr (x.0, x.1, λ m p. elim (cases_lt m to)
-        [ inl l ↦ x.2 m (omega arith) l | inr g ↦ past m g ])
+    by (inr x) = inr (
+      x.0,
+      x.1,
+      λ m p. elim (cases_lt m to)
+          [ inl l ↦ x.2 m (omega arith) l | inr g ↦ past m g ],
+    )
 
 -- what decides the order of two sets
 pub list_cmp-precedes : (s t : PlainSet) → EndsAtCapacity s → EndsAtCapacity t →
@@ -166,18 +186,18 @@ list_cmp-precedes s t ends_s ends_t =
     let past_s : (i : ℕ) → to ≤ i → s.has i ≡ false = λ i p. ends_s i (omega arith) in
     let past_t : (i : ℕ) → to ≤ i → t.has i ≡ false = λ i p. ends_t i (omega arith) in
     let e : list_cmp (ascending_from s.has 0 to) (ascending_from t.has 0 to)
-        ≡ list_cmp (ascending s) (ascending t) = λ i. list_cmp
-        (ascending_from-past s.has 0 s.capacity to (omega arith) (λ k p. ends_s k (omega arith)) i)
-        (ascending_from-past t.has 0 t.capacity to (omega arith) (λ k p. ends_t k (omega arith)) i)
-        in
+    ≡ list_cmp (ascending s) (ascending t) = λ i. list_cmp
+    (ascending_from-past s.has 0 s.capacity to (omega arith) (λ k p. ends_s k (omega arith)) i)
+    (ascending_from-past t.has 0 t.capacity to (omega arith) (λ k p. ends_t k (omega arith)) i)
+    in
     let narrow : Verdict s.has t.has 0 to
-        (list_cmp (ascending_from s.has 0 to) (ascending_from t.has 0 to)) = subst
-        (λ n. Verdict s.has t.has 0 n (list_cmp (ascending_from s.has 0 to)
-        (ascending_from t.has 0 to))) (omega arith) (decide s.has t.has 0 to) in
+    (list_cmp (ascending_from s.has 0 to) (ascending_from t.has 0 to)) = subst
+    (λ n. Verdict s.has t.has 0 n (list_cmp (ascending_from s.has 0 to)
+    (ascending_from t.has 0 to))) (omega arith) (decide s.has t.has 0 to) in
     subst (λ o. MatchOrdering o (Precedes s t) (AreSame s t) (Precedes t s)) e
-        (match_map _ (before_whole s t to past_s)
-        (same_whole s.has t.has to (λ i p. past_s i p ∙ sym (past_t i p)))
-        (before_whole t s to past_t) narrow)
+    (match_map _ (before_whole s t to past_s)
+    (same_whole s.has t.has to (λ i p. past_s i p ∙ sym (past_t i p)))
+    (before_whole t s to past_t) narrow)
 
 -- no set precedes one of the same members
 pub not_both : (s t : PlainSet) → Precedes s t → AreSame s t → ⊥
@@ -192,5 +212,7 @@ pub equal_iff_same : (s t : PlainSet) (o : Ordering) →
     MatchOrdering o (Precedes s t) (AreSame s t) (Precedes t s) → IsTrue (is_eq o) ↔ AreSame s t
 equal_iff_same s t Less h = (λ x. absurd (true≢false (sym x)), λ y. absurd (not_both s t h y))
 equal_iff_same s t Equal h = (λ x. h, λ y. refl)
-equal_iff_same s t Greater h = (λ x. absurd (true≢false (sym x)),
-    λ y. absurd (not_both t s h (λ i. sym (y i))))
+equal_iff_same s t Greater h = (
+  λ x. absurd (true≢false (sym x)),
+  λ y. absurd (not_both t s h (λ i. sym (y i))),
+)

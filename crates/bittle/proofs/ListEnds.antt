@@ -26,16 +26,16 @@ pub keeps_all : (steps : List Step) (xs : List ℕ) → KeepsAll steps xs
 keeps_all [] xs = append-nil xs
 keeps_all (Front ∷ steps) xs =
     append_assoc (item_in (first_of xs)) (items_from_front steps (rest_of xs))
-        (remains_of steps (rest_of xs) ++ reverse (items_from_back steps (rest_of xs)))
+    (remains_of steps (rest_of xs) ++ reverse (items_from_back steps (rest_of xs)))
     ∙ ap (λ l. item_in (first_of xs) ++ l) (keeps_all steps (rest_of xs)) ∙ first_and_rest xs
 keeps_all (Back ∷ steps) xs =
     let left = items_left_by Back xs in
     let last = item_in (first_of (reverse xs)) in
     ap (λ l. items_from_front steps left ++ (remains_of steps left ++ l))
-        (reverse-append last (items_from_back steps left)
-        ∙ ap (λ l. reverse (items_from_back steps left) ++ l) (item_turned (first_of (reverse xs))))
+    (reverse-append last (items_from_back steps left)
+    ∙ ap (λ l. reverse (items_from_back steps left) ++ l) (item_turned (first_of (reverse xs))))
     ∙ ap (λ l. items_from_front steps left ++ l)
-        (sym (append_assoc (remains_of steps left) (reverse (items_from_back steps left)) last))
+    (sym (append_assoc (remains_of steps left) (reverse (items_from_back steps left)) last))
     ∙ sym (append_assoc (items_from_front steps left)
-        (remains_of steps left ++ reverse (items_from_back steps left)) last)
+    (remains_of steps left ++ reverse (items_from_back steps left)) last)
     ∙ ap (λ l. l ++ last) (keeps_all steps left) ∙ last_and_rest xs

@@ -81,10 +81,10 @@ module _ (s : PlainSet) (from : ℕ) where
           let g = leb-true from i a.0 in
           let m = mod_below (i - from) c some in
           let f : (from + (i - from) % c) % c ≡ i % c = add-mod-mod from (i - from) c
-              ∙ ap (λ x. x % c) (omega arith) in
+          ∙ ap (λ x. x % c) (omega arith) in
           some_below-from last (reaches k) (from + (i - from) % c) (omega arith)
-              (and_from (nat_le from (from + (i - from) % c)) (k == (from + (i - from) % c) % c)
-              (le-leb from (from + (i - from) % c) (omega arith)) (ap (λ x. k == x) f ∙ a.1))
+          (and_from (nat_le from (from + (i - from) % c)) (k == (from + (i - from) % c) % c)
+          (le-leb from (from + (i - from) % c) (omega arith)) (ap (λ x. k == x) f ∙ a.1))
 
       alike : (k : ℕ) → (nat_lt 0 s.capacity && some_below last (reaches k))
           ≡ (nat_lt 0 s.capacity && some_below end (reaches k))
@@ -95,12 +95,12 @@ module _ (s : PlainSet) (from : ℕ) where
           let a = and_parts z (some_below last (reaches k)) e in
           let f = some_below-found last (reaches k) a.1 in
           and_from z (some_below end (reaches k)) a.0
-              (some_below-from end (reaches k) f.0 (omega (arith, f.1)) f.2))
+          (some_below-from end (reaches k) f.0 (omega (arith, f.1)) f.2))
           (λ e.
           let a = and_parts z (some_below end (reaches k)) e in
           let f = some_below-found end (reaches k) a.1 in
           and_from z (some_below last (reaches k)) a.0
-              (sooner k f.0 (ltb-true 0 s.capacity a.0) f.2))
+          (sooner k f.0 (ltb-true 0 s.capacity a.0) f.2))
 
   -- neighbours that do not wrap are a span
   range_span : (start count : ℕ) → 0 < s.capacity → start ≡ from % s.capacity →
@@ -110,11 +110,11 @@ module _ (s : PlainSet) (from : ℕ) where
       ∙ sym (with_span-none s start (start + 0) (omega arith))
   range_span start (suc count) some at le =
       let next : (from + count) % s.capacity ≡ start + count = ap (λ t. t % s.capacity)
-          (omega (arith, div-add-mod' from s.capacity)) ∙ mod-mul-add (from / s.capacity) s.capacity
-          (start + count) (omega arith) in
+      (omega (arith, div-add-mod' from s.capacity)) ∙ mod-mul-add (from / s.capacity) s.capacity
+      (start + count) (omega arith) in
       ap (with_range s from) (omega arith) ∙ with_range-more (from + count) (omega arith)
       ∙ ap (λ (u : PlainSet). with_index u (from + count))
-          (range_span start count some at (omega arith))
+      (range_span start count some at (omega arith))
       ∙ with_span-more s start (start + count) (from + count) some next (omega arith)
       ∙ ap (with_span s start) (omega arith)
 
@@ -143,7 +143,7 @@ range_on s from mid zero h = with_range-none (with_range s from mid) mid (mid + 
     ∙ ap (with_range s from) (omega arith)
 range_on s from mid (suc more) h =
     ap (with_range (with_range s from mid) mid) (omega arith)
-        ∙ with_range-more (with_range s from mid) mid (mid + more) (omega arith)
+    ∙ with_range-more (with_range s from mid) mid (mid + more) (omega arith)
     ∙ ap (λ (u : PlainSet). with_index u (mid + more)) (range_on s from mid more h)
     ∙ sym (with_range-more s from (mid + more) (omega arith)) ∙ ap (with_range s from) (omega arith)
 
@@ -158,17 +158,17 @@ two_spans s from start room count end now next some at rest more le in_range sho
     let low = mod_below from c some in
     let t = with_range s from (from + room) in
     let around : 0 ≡ (from + room) % c = sym
-        (ap (λ t. t % c) (omega (arith, div-add-mod' from c)) ∙ mod-mul-add (from / c + 1) c 0 some)
-        in
+    (ap (λ t. t % c) (omega (arith, div-add-mod' from c)) ∙ mod-mul-add (from / c + 1) c 0 some)
+    in
     let begins : now ≡ t = first ∙ ap (with_span s start) (omega arith)
-        ∙ sym (range_span s from start room some at (omega arith)) in
+    ∙ sym (range_span s from start room some at (omega arith)) in
     let ends : next ≡ with_range t (from + room) (from + room + (count - room)) =
     second ∙ ap (λ (u : PlainSet). with_span u 0 (count - room)) begins
-        ∙ ap (with_span t 0) (omega arith)
-        ∙ sym (range_span t (from + room) 0 (count - room) some around (omega arith)) in
+    ∙ ap (with_span t 0) (omega arith)
+    ∙ sym (range_span t (from + room) 0 (count - room) some around (omega arith)) in
     range_whole s from count end next in_range short
-        (ends ∙ range_on s from (from + room) (count - room) (omega arith)
-        ∙ ap (with_range s from) (omega arith))
+    (ends ∙ range_on s from (from + room) (count - room) (omega arith)
+    ∙ ap (with_range s from) (omega arith))
 
 -- with capacity 0 a range adds nothing
 pub no_range : (s : PlainSet) (from end : ℕ) → s.capacity ≡ 0 → with_range s from end ≡ s

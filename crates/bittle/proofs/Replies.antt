@@ -36,4 +36,4 @@ module _ {S X : Type 0} (next : S → X → S) (start now : S) (xs : List X) (i 
       ∙ ap (λ q. take i rs ++ q ∷ []) (e ∙ ap (λ s. out s (get_or xs i d)) so_far)
       ∙ ap (λ qs. qs ++ out (fold next start (take i xs)) (get_or xs i d) ∷ []) had
       ∙ sym (ap (scan next out start) (take_more xs i d h) ∙ scan_push next out start (take i xs)
-          (get_or xs i d))
+      (get_or xs i d))

@@ -9,5 +9,5 @@ pub steps_yield : (w : Walk) (items : List ℕ) → w.left ≡ items →
     YieldsList StepsFront (λ x. x) w items
 steps_yield w items e =
     subst (YieldsList StepsFront (λ x. x) w) e
-        (YieldsList-from_shown StepsFront (λ x. x) (λ v. v.left) (λ s t h. ap length h.gave.0)
-        (λ s x t h. h.gave) w)
+    (YieldsList-from_shown StepsFront (λ x. x) (λ v. v.left) (λ s t h. ap length h.gave.0)
+    (λ s x t h. h.gave) w)

@@ -37,8 +37,8 @@ HasNonePast s d = (m : ℕ) → d < m → s.has m ≡ false
 abbrev pub Precedes : PlainSet → PlainSet → Type 0
 Precedes s t =
     (d : ℕ) × ((i : ℕ) → i < d → s.has i ≡ t.has i)
-        × (((s.has d ≡ true) × (t.has d ≡ false) × HasPast t d)
-        ⊎ ((s.has d ≡ false) × (t.has d ≡ true) × HasNonePast s d))
+    × (((s.has d ≡ true) × (t.has d ≡ false) × HasPast t d)
+    ⊎ ((s.has d ≡ false) × (t.has d ≡ true) × HasNonePast s d))
 
 -- what a hasher is fed of a list: each item, and then how many there are
 abbrev pub feed : List ℕ → List (List ℕ)

@@ -31,9 +31,9 @@ equal_sets mirrored w c positive whole s t size_s size_t none_s none_t h =
           | inl below ↦
               let back = place-place mirrored w i positive in
               let low = place_below mirrored w whole.0 i positive (subst (λ n. i < n) whole.1 below)
-                  in
+              in
               let there = ascending_from-agree (in_order s) (in_order t) 0 c lists
-                  (place mirrored w i) (omega arith) (omega (arith, low, whole.1)) in
+              (place mirrored w i) (omega arith) (omega (arith, low, whole.1)) in
               ap s.has (sym back) ∙ there ∙ ap t.has back
           | inr past ↦ none_s i (omega (arith, size_s)) ∙ sym (none_t i (omega (arith, size_t)))
         ]

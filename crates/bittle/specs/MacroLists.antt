@@ -7,13 +7,13 @@ use Rattle.bittle.specs.Ranges.{with_range}
 abbrev pub listed_set : ℕ → ℕ → PlainSet
 listed_set capacity index =
     with_range (with_range (with_range (with_range (with_index (empty_set capacity) index) 2
-        (3 + 1)) 5 7) 9 4) 14 capacity
+    (3 + 1)) 5 7) 9 4) 14 capacity
 
 -- the set of a capacity that the list `100.., 2..=3, 70..75, 9, index` names
 abbrev pub listed_open_set : ℕ → ℕ → PlainSet
 listed_open_set capacity index =
     with_index (with_index (with_range (with_range (with_range (empty_set capacity) 100 capacity) 2
-        (3 + 1)) 70 75) 9) index
+    (3 + 1)) 70 75) 9) index
 
 -- the set of a capacity that the list `0..` names
 abbrev pub listed_whole_set : ℕ → PlainSet

@@ -23,12 +23,15 @@ returns-then-count-room-clause-set g c =
     let count = c.if-to-from-2.count in
     let start = from % c.bits_capacity-capacity.result in
     let facts : (from + count ≤ end) × (from + count < end → count ≡ old.capacity) =
-    elim c.if-to-from-2.branch [ then-to-from-2 w ↦
-        (omega (arith, w.count-is), λ l. omega (arith, w.count-is)) | else-to-from-2 w ↦
-        (omega (arith, w.count-is, w.if-to-from-2.false), λ l. omega (arith, w.count-is, is)) ] in
+    elim c.if-to-from-2.branch [
+      | then-to-from-2 w ↦
+          (omega (arith, w.count-is), λ l. omega (arith, w.count-is))
+      | else-to-from-2 w ↦
+          (omega (arith, w.count-is, w.if-to-from-2.false), λ l. omega (arith, w.count-is, is))
+    ] in
     one_span old from _ count end _ (omega (arith, is)) (ap (λ t. from % t) is)
-        (omega (arith, is)) facts.0 facts.1
-        (c.fill_in.ensures.set ∙ ap (λ t. with_span old t (start + count)) (omega arith))
+    (omega (arith, is)) facts.0 facts.1
+    (c.fill_in.ensures.set ∙ ap (λ t. with_span old t (start + count)) (omega arith))
 
 pub returns-else-count-room-clause-set : goal.returns-else-count-room-clause-set
 returns-else-count-room-clause-set g c =
@@ -38,14 +41,21 @@ returns-else-count-room-clause-set g c =
     let end = c.args.to + 1 in
     let count = c.if-to-from-2.count in
     let facts : (from + count ≤ end) × (from + count < end → count ≡ old.capacity)
-        × (count ≤ old.capacity) =
-    elim c.if-to-from-2.branch [ then-to-from-2 w ↦
-        (omega (arith, w.count-is), (λ l. omega (arith, w.count-is)),
-        omega (arith, w.count-is, w.if-to-from-2.true, is)) | else-to-from-2 w ↦
-        (omega (arith, w.count-is, w.if-to-from-2.false), (λ l. omega (arith, w.count-is, is)),
-        omega (arith, w.count-is, is)) ] in
+    × (count ≤ old.capacity) =
+    elim c.if-to-from-2.branch [
+      | then-to-from-2 w ↦ (
+        omega (arith, w.count-is),
+        (λ l. omega (arith, w.count-is)),
+        omega (arith, w.count-is, w.if-to-from-2.true, is),
+      )
+      | else-to-from-2 w ↦ (
+        omega (arith, w.count-is, w.if-to-from-2.false),
+        (λ l. omega (arith, w.count-is, is)),
+        omega (arith, w.count-is, is),
+      )
+    ] in
     two_spans old from _ _ count end _ _ (omega (arith, is)) (ap (λ t. from % t) is)
-        (omega (arith, is)) (omega (arith, c.if-count-room.false)) facts.2 facts.0 facts.1
-        (c.fill_in-else-count-room.ensures.set
-        ∙ ap (with_span old (from % c.bits_capacity-capacity.result)) is)
-        c.fill_in-else-count-room-2.ensures.set
+    (omega (arith, is)) (omega (arith, c.if-count-room.false)) facts.2 facts.0 facts.1
+    (c.fill_in-else-count-room.ensures.set
+    ∙ ap (with_span old (from % c.bits_capacity-capacity.result)) is)
+    c.fill_in-else-count-room-2.ensures.set

@@ -9,8 +9,8 @@ pub loop-k-preserved : goal.loop-k-preserved
 loop-k-preserved g c =
     let e = c.take_step.ensures in
     rw (c.push.ensures, c.looks.ensures)
-        (replayed_more _ _ _ _ _ _ _ _ _ _ c.loop-k-test.true (omega arith) c.loop-k.invariant
-        e.answer e.left e.items e.looks e.words e.thrifty)
+    (replayed_more _ _ _ _ _ _ _ _ _ _ c.loop-k-test.true (omega arith) c.loop-k.invariant
+    e.answer e.left e.items e.looks e.words e.thrifty)
 
 pub returns-clause-answers : goal.returns-clause-answers
 returns-clause-answers g c = (replayed_end _ _ _ _ _ _ _ c.loop-k-test.false

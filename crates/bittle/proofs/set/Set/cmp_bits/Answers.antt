@@ -15,8 +15,8 @@ returns-clause-decided g c =
     let ours = members g.E.Endian.mirrored g.T.Bits.width (g.T.Bits.big x) in
     let theirs = members g.U.Order.Endian.mirrored g.U.Bits.width (g.U.Bits.big y) in
     let d = list_cmp-precedes ours theirs
-        (members-past g.E.Endian.mirrored _ _ t.width_positive (t.whole_words x) (t.none_past x))
-        (members-past g.U.Order.Endian.mirrored _ _ u.width_positive (u.whole_words y)
-        (u.none_past y)) in
+    (members-past g.E.Endian.mirrored _ _ t.width_positive (t.whole_words x) (t.none_past x))
+    (members-past g.U.Order.Endian.mirrored _ _ u.width_positive (u.whole_words y)
+    (u.none_past y)) in
     subst (λ o. MatchOrdering o (Precedes ours theirs) (AreSame ours theirs) (Precedes theirs ours))
-        (sym c.compare.ensures) d
+    (sym c.compare.ensures) d

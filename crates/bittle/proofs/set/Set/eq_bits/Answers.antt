@@ -19,22 +19,22 @@ returns-then-are_alike-clause-value g c =
     let theirs = members g.U.Order.Endian.mirrored g.U.Bits.width (g.U.Bits.big y) in
     let alike = c.are_alike.ensures c.if-are_alike.true in
     let apart = subst (λ m. MatchOption c.first_apart.result
-        (AreSame ours (members m g.U.Bits.width (g.U.Bits.big y)))
-        (λ d. IsFirstApart ours (members m g.U.Bits.width (g.U.Bits.big y)) d)) alike.1
-        c.first_apart.ensures in
+    (AreSame ours (members m g.U.Bits.width (g.U.Bits.big y)))
+    (λ d. IsFirstApart ours (members m g.U.Bits.width (g.U.Bits.big y)) d)) alike.1
+    c.first_apart.ensures in
     none_is c.first_apart.result _ c.is_none.ensures
-        ∙ none_equal ours theirs (members-past g.E.Endian.mirrored _ _ t.width_positive
-        (t.whole_words x) (t.none_past x))
-        (members-past g.U.Order.Endian.mirrored _ _ u.width_positive (u.whole_words y)
-        (u.none_past y)) c.first_apart.result apart
-        ∙ sym (texts_ties (ascending ours) (ascending theirs))
+    ∙ none_equal ours theirs (members-past g.E.Endian.mirrored _ _ t.width_positive
+    (t.whole_words x) (t.none_past x))
+    (members-past g.U.Order.Endian.mirrored _ _ u.width_positive (u.whole_words y)
+    (u.none_past y)) c.first_apart.result apart
+    ∙ sym (texts_ties (ascending ours) (ascending theirs))
 
 pub returns-else-are_alike-clause-value : goal.returns-else-are_alike-clause-value
 returns-else-are_alike-clause-value g c =
     let ours = members g.E.Endian.mirrored g.T.Bits.width (g.T.Bits.big c.args.self.now.bits) in
     let theirs = members g.U.Order.Endian.mirrored g.U.Bits.width (g.U.Bits.big c.args.other.now) in
     c.is_eq.ensures ∙ ap is_eq c.cmp_bits.ensures.value
-        ∙ sym (texts_ties (ascending ours) (ascending theirs))
+    ∙ sym (texts_ties (ascending ours) (ascending theirs))
 
 pub returns-then-are_alike-clause-decided : goal.returns-then-are_alike-clause-decided
 returns-then-are_alike-clause-decided g c =
@@ -43,16 +43,16 @@ returns-then-are_alike-clause-decided g c =
     let theirs = members g.U.Order.Endian.mirrored g.U.Bits.width (g.U.Bits.big y) in
     let alike = c.are_alike.ensures c.if-are_alike.true in
     let apart = subst (λ m. MatchOption c.first_apart.result
-        (AreSame ours (members m g.U.Bits.width (g.U.Bits.big y)))
-        (λ d. IsFirstApart ours (members m g.U.Bits.width (g.U.Bits.big y)) d)) alike.1
-        c.first_apart.ensures in
+    (AreSame ours (members m g.U.Bits.width (g.U.Bits.big y)))
+    (λ d. IsFirstApart ours (members m g.U.Bits.width (g.U.Bits.big y)) d)) alike.1
+    c.first_apart.ensures in
     subst (λ r. IsTrue r ↔ AreSame ours theirs)
-        (sym (none_is c.first_apart.result _ c.is_none.ensures))
-        (none_decides ours theirs c.first_apart.result apart)
+    (sym (none_is c.first_apart.result _ c.is_none.ensures))
+    (none_decides ours theirs c.first_apart.result apart)
 
 pub returns-else-are_alike-clause-decided : goal.returns-else-are_alike-clause-decided
 returns-else-are_alike-clause-decided g c =
     let ours = members g.E.Endian.mirrored g.T.Bits.width (g.T.Bits.big c.args.self.now.bits) in
     let theirs = members g.U.Order.Endian.mirrored g.U.Bits.width (g.U.Bits.big c.args.other.now) in
     subst (λ x. IsTrue x ↔ AreSame ours theirs) (sym c.is_eq.ensures)
-        (equal_iff_same ours theirs c.cmp_bits.result c.cmp_bits.ensures.decided)
+    (equal_iff_same ours theirs c.cmp_bits.result c.cmp_bits.ensures.decided)

@@ -3,5 +3,7 @@ use Rattle.bittle.proofs.Shapes.{still_fits}
 use Rattle.bittle.proofs.set.SetBitsMut.combine.Goals as goal
 
 pub invariant_of-self : goal.invariant_of-self
-invariant_of-self g c = record { fits = still_fits _ g.T.Bits.width _ _
-    (c.combine.ensures.set false) c.args.self.now.fits }
+invariant_of-self g c = record {
+  fits = still_fits _ g.T.Bits.width _ _
+      (c.combine.ensures.set false) c.args.self.now.fits;
+}

@@ -5,5 +5,7 @@ use Rattle.bittle.proofs.set.SetClone.clone.Goals as goal
 pub returns : goal.returns
 returns g c =
     let s = c.args.self.now in
-    record { cases = ap (λ q. record { bits = s.bits; order = s.order; fits = q })
-        (fits_one g.T.Bits.indexable (g.T.Bits.big s.bits).capacity _ s.fits) }
+    record {
+      cases = ap (λ q. record { bits = s.bits; order = s.order; fits = q })
+          (fits_one g.T.Bits.indexable (g.T.Bits.big s.bits).capacity _ s.fits);
+    }

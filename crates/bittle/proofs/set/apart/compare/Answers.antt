@@ -13,9 +13,9 @@ returns-in-None g c =
     let ours = members g.E.Endian.mirrored g.A.Bits.width (g.A.Bits.big x) in
     let theirs = members g.E.Endian.mirrored g.B.Bits.width (g.B.Bits.big y) in
     let ends = members-past g.E.Endian.mirrored _ _ a.width_positive (a.whole_words x)
-        (a.none_past x) in
+    (a.none_past x) in
     let ends' = members-past g.E.Endian.mirrored _ _ b.width_positive (b.whole_words y)
-        (b.none_past y) in
+    (b.none_past y) in
     cmp_equal ours theirs ends ends' c.in-None.ensures
 
 pub returns-then-has_past : goal.returns-then-has_past
@@ -27,11 +27,11 @@ returns-then-has_past g c =
     let ours = members g.E.Endian.mirrored g.A.Bits.width (g.A.Bits.big x) in
     let theirs = members g.E.Endian.mirrored g.B.Bits.width (g.B.Bits.big y) in
     let ends = members-past g.E.Endian.mirrored _ _ a.width_positive (a.whole_words x)
-        (a.none_past x) in
+    (a.none_past x) in
     let ends' = members-past g.E.Endian.mirrored _ _ b.width_positive (b.whole_words y)
-        (b.none_past y) in
+    (b.none_past y) in
     cmp_less ours theirs ends ends' (ours_first ours theirs c.in-Some.index c.in-Some.ensures
-        (sym c.has.ensures ∙ c.if-has.true) c.if-has_past.ensures)
+    (sym c.has.ensures ∙ c.if-has.true) c.if-has_past.ensures)
 
 pub returns-else-has_past : goal.returns-else-has_past
 returns-else-has_past g c =
@@ -42,11 +42,11 @@ returns-else-has_past g c =
     let ours = members g.E.Endian.mirrored g.A.Bits.width (g.A.Bits.big x) in
     let theirs = members g.E.Endian.mirrored g.B.Bits.width (g.B.Bits.big y) in
     let ends = members-past g.E.Endian.mirrored _ _ a.width_positive (a.whole_words x)
-        (a.none_past x) in
+    (a.none_past x) in
     let ends' = members-past g.E.Endian.mirrored _ _ b.width_positive (b.whole_words y)
-        (b.none_past y) in
+    (b.none_past y) in
     cmp_greater ours theirs ends ends' (ours_last ours theirs c.in-Some.index c.in-Some.ensures
-        (sym c.has.ensures ∙ c.if-has.true) c.if-has_past.ensures)
+    (sym c.has.ensures ∙ c.if-has.true) c.if-has_past.ensures)
 
 pub returns-then-has_past-2 : goal.returns-then-has_past-2
 returns-then-has_past-2 g c =
@@ -57,11 +57,11 @@ returns-then-has_past-2 g c =
     let ours = members g.E.Endian.mirrored g.A.Bits.width (g.A.Bits.big x) in
     let theirs = members g.E.Endian.mirrored g.B.Bits.width (g.B.Bits.big y) in
     let ends = members-past g.E.Endian.mirrored _ _ a.width_positive (a.whole_words x)
-        (a.none_past x) in
+    (a.none_past x) in
     let ends' = members-past g.E.Endian.mirrored _ _ b.width_positive (b.whole_words y)
-        (b.none_past y) in
+    (b.none_past y) in
     cmp_greater ours theirs ends ends' (theirs_first ours theirs c.in-Some.index c.in-Some.ensures
-        (sym c.has.ensures ∙ c.if-has.false) c.if-has_past-2.ensures)
+    (sym c.has.ensures ∙ c.if-has.false) c.if-has_past-2.ensures)
 
 pub returns-else-has_past-2 : goal.returns-else-has_past-2
 returns-else-has_past-2 g c =
@@ -72,8 +72,8 @@ returns-else-has_past-2 g c =
     let ours = members g.E.Endian.mirrored g.A.Bits.width (g.A.Bits.big x) in
     let theirs = members g.E.Endian.mirrored g.B.Bits.width (g.B.Bits.big y) in
     let ends = members-past g.E.Endian.mirrored _ _ a.width_positive (a.whole_words x)
-        (a.none_past x) in
+    (a.none_past x) in
     let ends' = members-past g.E.Endian.mirrored _ _ b.width_positive (b.whole_words y)
-        (b.none_past y) in
+    (b.none_past y) in
     cmp_less ours theirs ends ends' (theirs_last ours theirs c.in-Some.index c.in-Some.ensures
-        (sym c.has.ensures ∙ c.if-has.false) c.if-has_past-2.ensures)
+    (sym c.has.ensures ∙ c.if-has.false) c.if-has_past-2.ensures)

@@ -7,4 +7,4 @@ abbrev pub invariant-loop-k : goal.invariant-loop-k
 invariant-loop-k g l =
     let w = g.A.Bits.width in
     SameBelow (members g.E.Endian.mirrored w (g.A.Bits.big l.left))
-        (members g.E.Endian.mirrored w (g.B.Bits.big l.right)) (l.k * w)
+    (members g.E.Endian.mirrored w (g.B.Bits.big l.right)) (l.k * w)

@@ -9,16 +9,16 @@ pub returns-then-index-bits_capacity : goal.returns-then-index-bits_capacity
 returns-then-index-bits_capacity g c =
     let s = members g.E.Endian.mirrored g.B.Bits.width (g.B.Bits.big c.args.bits.now) in
     let low : c.args.index < s.capacity = omega
-        (arith, c.bits_capacity.ensures.value c.requires, c.if-index-bits_capacity.true) in
+    (arith, c.bits_capacity.ensures.value c.requires, c.if-index-bits_capacity.true) in
     c.test_bit_in.ensures ∙ contains_in s s.capacity c.args.index refl (omega (arith, low))
-        ∙ ap s.has (mod-eq_of_lt low)
+    ∙ ap s.has (mod-eq_of_lt low)
 
 pub returns-else-index-bits_capacity : goal.returns-else-index-bits_capacity
 returns-else-index-bits_capacity g c =
     let x = c.args.bits.now in
     let b = g.met.B.Bits in
     let past : (g.B.Bits.big x).capacity ≤ c.args.index = omega
-        (arith, c.bits_capacity.ensures.value c.requires, c.if-index-bits_capacity.false) in
+    (arith, c.bits_capacity.ensures.value c.requires, c.if-index-bits_capacity.false) in
     le-ltb _ _ c.if-index-bits_capacity.false
-        ∙ sym (members-past g.E.Endian.mirrored _ _ b.width_positive (b.whole_words x)
-        (b.none_past x) c.args.index past)
+    ∙ sym (members-past g.E.Endian.mirrored _ _ b.width_positive (b.whole_words x)
+    (b.none_past x) c.args.index past)

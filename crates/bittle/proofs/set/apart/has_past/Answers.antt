@@ -11,10 +11,10 @@ returns-then-index-to g c =
     let b = g.met.B.Bits in
     let to = c.bits_capacity-to.ensures.value c.requires in
     let past = members-past g.E.Endian.mirrored _ _ b.width_positive (b.whole_words x)
-        (b.none_past x) in
+    (b.none_past x) in
     rw c.is_some.ensures (past_found (members g.E.Endian.mirrored g.B.Bits.width (g.B.Bits.big x))
-        c.args.index c.bits_capacity-to.result c.first_one_in.result
-        (λ i h. past i (omega (arith, to, h))) c.first_one_in.ensures)
+    c.args.index c.bits_capacity-to.result c.first_one_in.result
+    (λ i h. past i (omega (arith, to, h))) c.first_one_in.ensures)
 
 pub returns-else-index-to : goal.returns-else-index-to
 returns-else-index-to g c =
@@ -22,5 +22,5 @@ returns-else-index-to g c =
     let b = g.met.B.Bits in
     let to = c.bits_capacity-to.ensures.value c.requires in
     let past = members-past g.E.Endian.mirrored _ _ b.width_positive (b.whole_words x)
-        (b.none_past x) in
+    (b.none_past x) in
     rw (le-ltb _ _ c.if-index-to.false) (λ i h. past i (omega (arith, to, h, c.if-index-to.false)))

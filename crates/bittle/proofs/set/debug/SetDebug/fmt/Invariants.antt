@@ -19,4 +19,4 @@ invariant-loop-index g l =
     IsPlainFormatter l.fn.f
     → (done : List ℕ) × HasWritten g.W.Write.write_str_gives l.fn.f done l.f
     × (done ++ (rest_text l.first l.index-iterator.left ++ codes "}")
-        ≡ set_text (members g.E.Endian.mirrored g.T.Bits.width (g.T.Bits.big l.self.bits)))
+    ≡ set_text (members g.E.Endian.mirrored g.T.Bits.width (g.T.Bits.big l.self.bits)))
