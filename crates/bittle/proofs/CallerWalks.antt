@@ -12,14 +12,20 @@ pub walk_yields : (w : Walk) (items : List ℕ) → w.left ≡ items →
     YieldsList StepsFront (λ x. x) w items
 walk_yields = walking.steps_yield
 
+-- an iterator that steps a walk from the back, as `rev` does, gives in reverse what the walk has left
+pub reversed_walk_yields : {S : Type 0} (walk : S → Walk) (s : S) (items : List ℕ) →
+    (walk s).left ≡ items →
+    YieldsList (λ s r t. StepsBack (walk s) r (walk t)) (λ x. x) s (reverse items)
+reversed_walk_yields walk s items e =
+    subst (λ xs. YieldsList (λ s r t. StepsBack (walk s) r (walk t)) (λ x. x) s (reverse xs)) e
+    (YieldsList-from_shown (λ s r t. StepsBack (walk s) r (walk t)) (λ x. x)
+    (λ v. reverse (walk v).left) (λ s t h. ap (λ xs. length (reverse xs)) h.gave.0)
+    (λ s x t h. ap reverse h.gave ∙ reverse-append (walk t).left (x ∷ [])) s)
+
 -- from the back a walk gives what it has left in reverse
 pub walk_yields_back : (w : Walk) (items : List ℕ) → w.left ≡ items →
     YieldsList StepsBack (λ x. x) w (reverse items)
-walk_yields_back w items e =
-    subst (λ xs. YieldsList StepsBack (λ x. x) w (reverse xs)) e
-    (YieldsList-from_shown StepsBack (λ x. x) (λ v. reverse v.left)
-    (λ s t h. ap (λ xs. length (reverse xs)) h.gave.0)
-    (λ s x t h. ap reverse h.gave ∙ reverse-append t.left (x ∷ [])) w)
+walk_yields_back = reversed_walk_yields (λ w. w)
 
 -- what a run from the front gave, and what is left, are what was left before
 pub given_and_left : (s t : Walk) (items : List ℕ) → Yields StepsFront s items t →
