@@ -1,16 +1,24 @@
 //! How many members there are, counted, added and narrowed, and the places of items in a walk.
 
+ghost use Rattle.std.specs.Prelude.{◌≡◌, ◌+◌, ◌-◌, length};
+ghost use Rattle.bittle.specs.Digits.{digit_set};
+ghost use Rattle.bittle.specs.PlainSet.{ascending, size};
+ghost use Rattle.bittle.specs.Rows.{elements_set};
 ghost use Rattle.bittle.specs.Values.{ShapeFits};
 
 use bittle::{Bits, BitsOwned, LittleEndian, Set};
 
 /// Counts the members of a word by its walk.
-pub fn count_of_word(mask: u64) -> usize {
+pub fn count_of_word(mask: u64) -> usize
+    ensures { result ≡ length (ascending (digit_set 64 mask)) }
+{
     mask.iter_ones().count()
 }
 
 /// Counts the members of four bytes by their walk.
-pub fn count_of_bytes(mask: [u8; 4]) -> usize {
+pub fn count_of_bytes(mask: [u8; 4]) -> usize
+    ensures { result ≡ length (ascending (elements_set 4 8 (digit_set 8) mask)) }
+{
     mask.iter_ones().count()
 }
 
@@ -82,27 +90,37 @@ pub fn last_place_of_any<B: BitsOwned>(set: B) -> usize
 }
 
 /// Adds the counts of two bytes.
-pub fn count_of_both(one: u8, other: u8) -> u32 {
+pub fn count_of_both(one: u8, other: u8) -> u32
+    ensures { result ≡ size (digit_set 8 one) + size (digit_set 8 other) }
+{
     Bits::count_ones(&one) + Bits::count_ones(&other)
 }
 
 /// Adds the counts of what two bytes lack.
-pub fn free_of_both(one: u8, other: u8) -> u32 {
-    one.count_zeros() + Bits::count_zeros(&other)
+pub fn free_of_both(one: u8, other: u8) -> u32
+    ensures { result ≡ (8 - size (digit_set 8 one)) + (8 - size (digit_set 8 other)) }
+{
+    Bits::count_zeros(&one) + Bits::count_zeros(&other)
 }
 
 /// Narrows the count of four words to 16 digits.
-pub fn narrow_count(board: &[u64; 4]) -> u16 {
+pub fn narrow_count(board: &[u64; 4]) -> u16
+    ensures { result ≡ size (elements_set 4 64 (digit_set 64) board.now) }
+{
     board.count_ones() as u16
 }
 
 /// Narrows the count of a set to a byte.
-pub fn narrow_count_of_set(set: Set<u64>) -> u8 {
+pub fn narrow_count_of_set(set: Set<u64>) -> u8
+    ensures { result ≡ size (digit_set 64 set.bits) }
+{
     set.count_ones() as u8
 }
 
 /// Subtracts the count of a word from its capacity.
-pub fn free_of_word(board: u64) -> u32 {
+pub fn free_of_word(board: u64) -> u32
+    ensures { result ≡ 64 - size (digit_set 64 board) }
+{
     64 - Bits::count_ones(&board)
 }
 
@@ -110,6 +128,7 @@ pub fn free_of_word(board: u64) -> u32 {
 pub fn count_of_any_both<B: BitsOwned>(one: B, other: B) -> u64
     requires one_fits { ShapeFits B.Bits one }
     requires other_fits { ShapeFits B.Bits other }
+    ensures { result ≡ size (B.big one) + size (B.big other) }
 {
     one.count_ones() as u64 + other.count_ones() as u64
 }
