@@ -1,6 +1,6 @@
 -- Where two sets of words of one width, in one order, are apart, and what that decides.
 use Rattle.std.proofs.Common.{◌≡◌, ℕ, ◌+◌, ◌-◌, ◌*◌, ◌/◌, ◌^◌, ◌<◌, ◌≤◌, ◌⊎◌, ◌↔◌, Bool, true, false, not, IsTrue, inl, inr, Option, Some, None, is_none, is_some, MatchOption, MatchBool, refl, sym, ap, ◌∙◌, arith}
-use Rattle.std.proofs.Math.Nat.{mul-div_left}
+use Rattle.std.proofs.Math.Nat.{mul-div_left, mul-le-mul_right, mul-lt-mul_of_pos_right}
 use Rattle.std.proofs.lemmas.Bool.{cases_eq, cases_lt, true≢false}
 use Rattle.std.specs.declared.cmp.Ordering.{Ordering}
 use Rattle.std.specs.declared.cmp.Ordering.TheVariants.{Less, Equal, Greater}
@@ -15,12 +15,8 @@ use Rattle.bittle_bits.proofs.SetOperations.{combination-below}
 use Rattle.bittle_bits.proofs.DigitSets.{digit_has-zero, digit_has-below, some_digit}
 use Rattle.bittle_bits.proofs.PlaceLemmas.{place_part, place_in_word, place-place}
 use Rattle.bittle_bits.proofs.Words.{word_has-at}
-use Rattle.bittle.specs.Comparison.{list_cmp, AreSame, HasPast, HasNonePast, Precedes, IsFirstApart}
+use Rattle.bittle.specs.Comparison.{list_cmp, AreSame, AreSameBelow, HasPast, HasNonePast, Precedes, IsFirstApart}
 use Rattle.bittle.proofs.ListComparison.{EndsAtCapacity, list_cmp-precedes, equal_iff_same, not_both}
-
--- both have the same members below a number
-abbrev pub SameBelow : PlainSet → PlainSet → ℕ → Type 0
-SameBelow s t n = (i : ℕ) → i < n → s.has i ≡ t.has i
 
 alike : (a b : Bool) → just_one a b ≡ false → a ≡ b
 alike true true h = refl
@@ -55,9 +51,9 @@ module _ (m : Bool) (w : ℕ) (s t : PlainSet) (word : 0 < w) where
           (word_has-at w t k p low ∙ member_at t k i h)
 
       -- below a place of word k
-      same_up_to : (r : ℕ) → SameBelow (members m w s) (members m w t) (k * w) → r ≤ w →
+      same_up_to : (r : ℕ) → AreSameBelow (members m w s) (members m w t) (k * w) → r ≤ w →
           ((i : ℕ) → i < r → (members m w (digit_set w x)).has i ≡ false) →
-          SameBelow (members m w s) (members m w t) (k * w + r)
+          AreSameBelow (members m w s) (members m w t) (k * w + r)
       same_up_to r before low none i h =
           elim (cases_lt i (k * w)) [
             | inl l ↦ before i l
@@ -70,19 +66,24 @@ module _ (m : Bool) (w : ℕ) (s t : PlainSet) (word : 0 < w) where
           ]
 
       -- it has none, so the word is the same in both
-      pub same_word : SameBelow (members m w s) (members m w t) (k * w) → x ≡ 0 →
-          SameBelow (members m w s) (members m w t) ((k + 1) * w)
+      pub same_word : AreSameBelow (members m w s) (members m w t) (k * w) → x ≡ 0 →
+          AreSameBelow (members m w s) (members m w t) ((k + 1) * w)
       same_word before zero i h = same_up_to w before (omega arith)
           (λ j l. ap (λ p. p (place m w j)) (digit_has-zero w x zero)) i (omega arith)
 
       -- its least one
-      pub first_in_word : (r : ℕ) → SameBelow (members m w s) (members m w t) (k * w) →
+      pub first_in_word : (r : ℕ) → AreSameBelow (members m w s) (members m w t) (k * w) →
           IsLeastMember (members m w (digit_set w x)) r → r < w →
           IsFirstApart (members m w s) (members m w t) (k * w + r)
       first_in_word r before least low = (
         same_up_to r before least.within least.none_below,
         sym (apart_at r low) ∙ least.is_member low,
       )
+
+-- a word below a number of words lies within what those make up
+pub word_within : (k words w c : ℕ) → 0 < w → k < words → words * w ≤ c → k * w < c
+word_within k words w c word below within =
+    omega (arith, mul-lt-mul_of_pos_right {k = w} below word, within)
 
 -- a word that is not 0 has a least digit
 pub some_least : (m : Bool) (w x r : ℕ) → 0 < w → x < 2 ^ w → (x ≡ 0 → ⊥) →
@@ -105,8 +106,16 @@ pub all_words : (bits wide w c : ℕ) → 0 < w → bits ≡ c → wide ≡ w �
     bits / wide * wide ≡ c
 all_words bits wide w c word b v h = rw (b, v, h.1) (ap (λ n. n * w) (mul-div_left h.0 word))
 
+-- words that are no more than those of a capacity lie within it
+pub words_within : (k bits wide w c : ℕ) → 0 < w → bits ≡ c → wide ≡ w →
+    (words : ℕ) × (c ≡ words * w) → k ≤ bits / wide → k * w ≤ c
+words_within k bits wide w c word b v h below =
+    let all = all_words bits wide w c word b v h in
+    let some : k * wide ≤ bits / wide * wide = mul-le-mul_right wide below in
+    omega (arith, all, some, ap (λ x. k * x) v)
+
 -- the first set has none from a number on, and the second one ends at another
-pub past_first : (s t : PlainSet) (from to : ℕ) (r : Option ℕ) → SameBelow s t from →
+pub past_first : (s t : PlainSet) (from to : ℕ) (r : Option ℕ) → AreSameBelow s t from →
     ((i : ℕ) → from ≤ i → s.has i ≡ false) → ((i : ℕ) → to ≤ i → t.has i ≡ false) →
     IsFirstIn t from to r → MatchOption r (AreSame s t) (λ d. IsFirstApart s t d)
 past_first s t from to None same none past h = λ i.
@@ -127,7 +136,7 @@ turned false true = refl
 turned false false = refl
 
 -- the second set has none from a number on, and the first one ends at another
-pub past_second : (s t : PlainSet) (from to : ℕ) (r : Option ℕ) → SameBelow s t from →
+pub past_second : (s t : PlainSet) (from to : ℕ) (r : Option ℕ) → AreSameBelow s t from →
     ((i : ℕ) → from ≤ i → t.has i ≡ false) → ((i : ℕ) → to ≤ i → s.has i ≡ false) →
     IsFirstIn s from to r → MatchOption r (AreSame s t) (λ d. IsFirstApart s t d)
 past_second s t from to r same none past h = back r
@@ -137,6 +146,12 @@ past_second s t from to r same none past h = back r
         MatchOption r (AreSame s t) (λ d. IsFirstApart s t d)
     back None e = λ i. sym (e i)
     back (Some d) e = ((λ i p. sym (e.0 i p)), turned (s.has d) (t.has d) ∙ e.1)
+
+-- a search that finds no index apart says that the two are the same as far as it went
+pub none_among : (s t : PlainSet) (n : ℕ) (r : Option ℕ) → is_some r ≡ false →
+    MatchOption r (AreSameBelow s t n) (λ d. IsFirstApart s t d) → AreSameBelow s t n
+none_among s t n None e h = h
+none_among s t n (Some d) e h = absurd (true≢false e)
 
 -- a search past a number
 pub past_found : (s : PlainSet) (d to : ℕ) (r : Option ℕ) → ((i : ℕ) → to ≤ i → s.has i ≡ false) →

@@ -20,9 +20,13 @@ list_eq = pointwise nat_eq
 abbrev pub AreSame : PlainSet → PlainSet → Type 0
 AreSame s t = (i : ℕ) → s.has i ≡ t.has i
 
+-- each number below n is a member of both or of neither
+abbrev pub AreSameBelow : PlainSet → PlainSet → ℕ → Type 0
+AreSameBelow s t n = (i : ℕ) → i < n → s.has i ≡ t.has i
+
 -- d is the least number that is in just one
 abbrev pub IsFirstApart : PlainSet → PlainSet → ℕ → Type 0
-IsFirstApart s t d = ((i : ℕ) → i < d → s.has i ≡ t.has i) × (just_one (s.has d) (t.has d) ≡ true)
+IsFirstApart s t d = AreSameBelow s t d × (just_one (s.has d) (t.has d) ≡ true)
 
 -- a member lies past the number
 abbrev pub HasPast : PlainSet → ℕ → Type 0
@@ -36,7 +40,7 @@ HasNonePast s d = (m : ℕ) → d < m → s.has m ≡ false
 -- and s has none past it
 abbrev pub Precedes : PlainSet → PlainSet → Type 0
 Precedes s t =
-    (d : ℕ) × ((i : ℕ) → i < d → s.has i ≡ t.has i)
+    (d : ℕ) × AreSameBelow s t d
     × (((s.has d ≡ true) × (t.has d ≡ false) × HasPast t d)
     ⊎ ((s.has d ≡ false) × (t.has d ≡ true) × HasNonePast s d))
 

@@ -23,8 +23,8 @@ pub struct Cursor<B: Bits, E: Endian> {
     pub items: Count,
 }
 
-/// Where a walk begins: the first word is copied to the head, and the last to the tail where there
-/// are two or more.
+/// Begins a walk: copies the first word to the head, and the last one to the tail where there are
+/// two or more.
 #[inline]
 pub fn begin<B: Bits, E: Endian, K: Kind>(source: &Source<'_, B>) -> Cursor<B, E>
     requires { Fits B.indexable (B.big source.now.set.now).capacity }

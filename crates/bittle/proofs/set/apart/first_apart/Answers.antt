@@ -1,36 +1,29 @@
-use Rattle.std.proofs.Common.{◌≡◌, ◌+◌, ◌*◌, ◌/◌, ◌≤◌, sym, ◌∙◌, ap, subst, arith}
-use Rattle.std.proofs.lemmas.Bool.{eqb-true, eqb-false}
+use Rattle.std.proofs.Common.{◌≡◌, ◌*◌, ◌/◌, ◌≤◌, sym, ◌∙◌, ap, subst, arith}
 use Rattle.std.proofs.Math.Nat.{mul-le-mul_right}
 use Rattle.bittle_bits.specs.Orders.{members}
 use Rattle.bittle_bits.proofs.PlainSets.{members-past}
-use Rattle.bittle.specs.Comparison.{IsFirstApart}
-use Rattle.bittle.proofs.FirstDifference.{SameBelow, same_word, first_in_word, some_least, all_words, past_first, past_second}
+use Rattle.bittle.specs.Comparison.{AreSameBelow}
+use Rattle.bittle.proofs.FirstDifference.{all_words, words_within, none_among, past_first, past_second}
 use Rattle.bittle.proofs.set.apart.first_apart.Goals as goal
 
-pub returns-then-not-is_zero : goal.returns-then-not-is_zero
-returns-then-not-is_zero g c =
-    let w = g.A.Bits.width in
-    let m = g.E.Endian.mirrored in
-    let s = g.A.Bits.big c.args.left.now in
-    let t = g.B.Bits.big c.args.right.now in
-    let a = g.met.A.Bits in
-    let wide : c.width-width.result ≡ w = c.width-width.ensures ∙ a.leaf_width in
-    let least = rw a.leaf_width at c.zeros.ensures in
-    let some = eqb-false _ _ (sym c.is_zero.ensures.zero ∙ c.if-not-is_zero.true) in
-    let low = some_least m w _ c.zeros.result a.width_positive
-    (rw a.leaf_width at c.is_zero.ensures.range) some least in
-    let found = first_in_word m w s t a.width_positive c.loop-k.k _ c.word_apart-apart.ensures
-    c.zeros.result c.loop-k.invariant least low in
-    rw wide (subst (λ v. IsFirstApart (members m w s) (members m v t)
-    (c.loop-k.k * w + c.zeros.result)) c.requires.width found)
+pub first_apart_among-apart-requires-clause-in_left :
+    goal.first_apart_among-apart-requires-clause-in_left
+first_apart_among-apart-requires-clause-in_left g c =
+    let b = g.met.A.Bits in
+    let v = c.args.left.now in
+    words_within _ c.bits_capacity.result c.width-width.result _ _ b.width_positive
+    (c.bits_capacity.ensures.value c.requires.left_fits) (c.width-width.ensures ∙ b.leaf_width)
+    (b.whole_words v) (omega (arith, c.loop-four-test.true, c.min-common.ensures))
 
-pub loop-k-preserved : goal.loop-k-preserved
-loop-k-preserved g c =
-    let w = g.A.Bits.width in
-    let m = g.E.Endian.mirrored in
-    let zero = eqb-true _ _ (sym c.is_zero.ensures.zero ∙ c.if-not-is_zero.false) in
-    same_word m w (g.A.Bits.big c.args.left.now) (g.B.Bits.big c.args.right.now)
-    g.met.A.Bits.width_positive c.loop-k.k _ c.word_apart-apart.ensures c.loop-k.invariant zero
+pub first_apart_among-apart-requires-clause-in_right :
+    goal.first_apart_among-apart-requires-clause-in_right
+first_apart_among-apart-requires-clause-in_right g c =
+    let b = g.met.B.Bits in
+    let v = c.args.right.now in
+    words_within _ c.bits_capacity-2.result c.width-width.result _ _ b.width_positive
+    (c.bits_capacity-2.ensures.value c.requires.right_fits)
+    (c.width-width.ensures ∙ g.met.A.Bits.leaf_width ∙ c.requires.width)
+    (b.whole_words v) (omega (arith, c.loop-four-test.true, c.min-common.ensures))
 
 pub returns-then-words-others : goal.returns-then-words-others
 returns-then-words-others g c =
@@ -53,10 +46,14 @@ returns-then-words-others g c =
     let all : c.min-common.result ≡ c.bits_capacity.result / c.width-width.result = omega
     (arith, c.min-common.ensures, c.if-words-others.true) in
     let begins : from ≡ s.capacity = ap (λ n. n * c.width-width.result) all ∙ ours in
-    let done : from ≤ c.loop-k.k * w = rw wide
-    (mul-le-mul_right w (omega (arith, c.loop-k-test.false))) in
-    let same = subst (λ v. SameBelow (members m w s) (members m v t) from) c.requires.width
-    (λ i p. c.loop-k.invariant i (omega (arith, done, p))) in
+    let done : c.min-common.result / 4 * 4 * w ≤ c.loop-four.four * 4 * w =
+    mul-le-mul_right w (omega (arith, c.loop-four-test.false)) in
+    let among = c.first_apart_among-apart-2.ensures
+    (λ i p. c.loop-four.invariant i (omega (arith, done, p))) in
+    let none = none_among (members m w s) (members m w t) (c.min-common.result * w) _
+    (sym c.is_some-2.ensures ∙ c.if-is_some-2.false) among in
+    let same = subst (λ v. AreSameBelow (members m w s) (members m v t) from) c.requires.width
+    (rw wide none) in
     past_first (members m w s) (members m g.B.Bits.width t) from to c.first_one_in.result same
     (λ i p. members-past m w s a.width_positive (a.whole_words x) (a.none_past x) i
     (omega (arith, begins, p)))
@@ -85,10 +82,14 @@ returns-else-words-others g c =
     let all : c.min-common.result ≡ c.bits_capacity-2.result / c.width-width.result = omega
     (arith, c.min-common.ensures, c.if-words-others.false) in
     let begins : from ≡ t.capacity = ap (λ n. n * c.width-width.result) all ∙ theirs in
-    let done : from ≤ c.loop-k.k * w = rw wide
-    (mul-le-mul_right w (omega (arith, c.loop-k-test.false))) in
-    let same = subst (λ v. SameBelow (members m w s) (members m v t) from) c.requires.width
-    (λ i p. c.loop-k.invariant i (omega (arith, done, p))) in
+    let done : c.min-common.result / 4 * 4 * w ≤ c.loop-four.four * 4 * w =
+    mul-le-mul_right w (omega (arith, c.loop-four-test.false)) in
+    let among = c.first_apart_among-apart-2.ensures
+    (λ i p. c.loop-four.invariant i (omega (arith, done, p))) in
+    let none = none_among (members m w s) (members m w t) (c.min-common.result * w) _
+    (sym c.is_some-2.ensures ∙ c.if-is_some-2.false) among in
+    let same = subst (λ v. AreSameBelow (members m w s) (members m v t) from) c.requires.width
+    (rw wide none) in
     past_second (members m w s) (members m g.B.Bits.width t) from to
     c.first_one_in-else-words-others.result same
     (λ i p. members-past m g.B.Bits.width t b.width_positive (b.whole_words y) (b.none_past y) i

@@ -1,10 +1,10 @@
 use Rattle.std.proofs.Common.{◌*◌}
 use Rattle.bittle_bits.specs.Orders.{members}
-use Rattle.bittle.proofs.FirstDifference.{SameBelow}
+use Rattle.bittle.specs.Comparison.{AreSameBelow}
 use Rattle.bittle.proofs.set.apart.first_apart.Given as goal
 
-abbrev pub invariant-loop-k : goal.invariant-loop-k
-invariant-loop-k g l =
+abbrev pub invariant-loop-four : goal.invariant-loop-four
+invariant-loop-four g l =
     let w = g.A.Bits.width in
-    SameBelow (members g.E.Endian.mirrored w (g.A.Bits.big l.left))
-    (members g.E.Endian.mirrored w (g.B.Bits.big l.right)) (l.k * w)
+    AreSameBelow (members g.E.Endian.mirrored w (g.A.Bits.big l.left))
+    (members g.E.Endian.mirrored w (g.B.Bits.big l.right)) (l.four * 4 * w)
