@@ -1,10 +1,11 @@
 //! How many members there are, counted, added and narrowed, and the places of items in a walk.
 
-ghost use Rattle.std.specs.Prelude.{◌≡◌, ◌+◌, ◌-◌, length};
+ghost use Rattle.std.specs.Prelude.{◌≡◌, ◌==◌, ◌+◌, ◌-◌, true, length, position};
 ghost use Rattle.bittle.specs.Digits.{digit_set};
-ghost use Rattle.bittle.specs.PlainSet.{ascending, size};
+ghost use Rattle.bittle.specs.Orders.{members};
+ghost use Rattle.bittle.specs.PlainSet.{ascending, complement, size};
 ghost use Rattle.bittle.specs.Rows.{elements_set};
-ghost use Rattle.bittle.specs.Values.{ShapeFits};
+ghost use Rattle.bittle.specs.Values.{set_in, ShapeFits};
 
 use bittle::{Bits, BitsOwned, LittleEndian, Set};
 
@@ -24,23 +25,30 @@ pub fn count_of_bytes(mask: [u8; 4]) -> usize
 
 /// Counts the numbers below the capacity of two bytes that are no members, by a walk that owns
 /// them.
-pub fn count_of_free(mask: [u8; 2]) -> usize {
+pub fn count_of_free(mask: [u8; 2]) -> usize
+    ensures { result ≡ length (ascending (complement (elements_set 2 8 (digit_set 8) mask))) }
+{
     mask.into_iter_zeros_be().count()
 }
 
 /// Counts the members of a set in little-endian order by its walk.
-pub fn count_of_set(set: Set<u16, LittleEndian>) -> usize {
+pub fn count_of_set(set: Set<u16, LittleEndian>) -> usize
+    ensures { result ≡ length (ascending (members true 16 (digit_set 16 set.bits))) }
+{
     set.iter_ones().count()
 }
 
 /// Counts the members of a set by its iteration.
-pub fn count_of_iterated_set(set: Set<u64>) -> usize {
+pub fn count_of_iterated_set(set: Set<u64>) -> usize
+    ensures { result ≡ length (ascending (digit_set 64 set.bits)) }
+{
     set.into_iter().count()
 }
 
 /// Counts the members of any set by its walk.
 pub fn count_of_any<B: BitsOwned>(set: B) -> usize
     requires { ShapeFits B.Bits set }
+    ensures { result ≡ length (ascending (set_in B.Bits B.Order.Endian set)) }
 {
     set.iter_ones().count()
 }
@@ -51,13 +59,17 @@ pub fn count_of_joined(mask: u64, row: &[u32; 64]) -> usize {
 }
 
 /// Returns the place of a member in the increasing list, or `None` where it is no member.
-pub fn place_of_member(mask: u64, wanted: u32) -> Option<usize> {
+pub fn place_of_member(mask: u64, wanted: u32) -> Option<usize>
+    ensures { result ≡ position (λ i. i == wanted) (ascending (digit_set 64 mask)) }
+{
     mask.iter_ones().position(|index| index == wanted)
 }
 
 /// Returns the place of a member in the increasing list of any set, or `None` where it is none.
 pub fn place_of_member_of_any<B: BitsOwned>(set: B, wanted: u32) -> Option<usize>
     requires { ShapeFits B.Bits set }
+    ensures { result
+        ≡ position (λ i. i == wanted) (ascending (set_in B.Bits B.Order.Endian set)) }
 {
     set.iter_ones().position(|index| index == wanted)
 }
@@ -65,6 +77,8 @@ pub fn place_of_member_of_any<B: BitsOwned>(set: B, wanted: u32) -> Option<usize
 /// Returns the place of an index among those of any set that are no members, counted from the left.
 pub fn place_of_free_of_any<B: BitsOwned>(set: B, wanted: u32) -> Option<usize>
     requires { ShapeFits B.Bits set }
+    ensures { result ≡ position (λ i. i == wanted)
+        (ascending (complement (members true B.width (B.big set)))) }
 {
     set.into_iter_zeros_le().position(|index| index == wanted)
 }
@@ -81,6 +95,7 @@ pub fn entries_at_place_and_member(mask: u64, row: &[u32; 64]) -> u32 {
 /// Returns the place of the last member of any set, or 0.
 pub fn last_place_of_any<B: BitsOwned>(set: B) -> usize
     requires { ShapeFits B.Bits set }
+    ensures { result ≡ length (ascending (set_in B.Bits B.Order.Endian set)) - 1 }
 {
     let mut last = 0;
     for (place, _index) in set.iter_ones().enumerate() {

@@ -1,7 +1,10 @@
 //! Walks over slices of words: shared, lent to be changed, and of any element. The fit is asked by
 //! a clause, or tested by `bits_capacity() < u32::MAX`.
 
-ghost use Rattle.std.specs.Prelude.{◌≤◌, ◌<◌, ◌*◌, length};
+ghost use Rattle.std.specs.Prelude.{◌≡◌, ◌≤◌, ◌<◌, ◌*◌, length};
+ghost use Rattle.bittle.specs.Digits.{digit_set};
+ghost use Rattle.bittle.specs.PlainSet.{ascending};
+ghost use Rattle.bittle.specs.Rows.{elements_set};
 ghost use Rattle.bittle.specs.Shapes.{Fits};
 
 use bittle::{BigEndian, Bits, BitsOwned, Endian, LittleEndian, Set};
@@ -69,6 +72,8 @@ pub fn least_free_of_triples(mask: &[[u8; 3]]) -> u32
 /// Counts the members of triples of bytes by their walk.
 pub fn count_of_triples(mask: &[[u8; 3]]) -> usize
     requires { length mask.now * 24 < 4294967295 }
+    ensures { result ≡ length (ascending
+        (elements_set (length mask.now) 24 (elements_set 3 8 (digit_set 8)) mask.now)) }
 {
     mask.iter_ones_in::<BigEndian>().count()
 }

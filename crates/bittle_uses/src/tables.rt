@@ -1,6 +1,8 @@
 //! A row with an entry for each number, read at the members of a set: each item is an index.
 
-ghost use Rattle.std.specs.Prelude.{◌≤◌, length};
+ghost use Rattle.std.specs.Prelude.{◌≡◌, ◌≤◌, Option, ℕ, length, option_map, slice_index, unwrap_or};
+ghost use Rattle.bittle.specs.Digits.{digit_set};
+ghost use Rattle.bittle.specs.Searches.{IsFirstIn};
 ghost use Rattle.bittle.specs.Values.{ShapeFits};
 
 use bittle::number::IterOnes;
@@ -141,7 +143,10 @@ pub fn entry_at_first_free(mask: u64, row: &[u32; 64]) -> u32 {
 }
 
 /// Returns the entry at the least member that a bounded search finds, or 0.
-pub fn entry_at_found(mask: u64, row: &[u32; 64]) -> u32 {
+pub fn entry_at_found(mask: u64, row: &[u32; 64]) -> u32
+    ensures { (found : Option ℕ) × IsFirstIn (digit_set 64 mask) 0 64 found
+        × (result ≡ unwrap_or (option_map (λ i. slice_index row.now i) found) 0) }
+{
     match mask.first_one_in::<BigEndian>(0, 64) {
         Some(index) => row[index as usize],
         None => 0,
