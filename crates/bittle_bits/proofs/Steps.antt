@@ -4,7 +4,7 @@ use Rattle.std.proofs.Common.{◌≡◌, ℕ, ◌+◌, ◌-◌, ◌*◌, ◌<◌
 use Rattle.std.proofs.Math.Nat.{mul-le-mul_right}
 use Rattle.bittle_bits.specs.Copies.{CopyPair, members_between, items_in, copy_count, TakesFirst, TakesLast}
 use Rattle.bittle_bits.specs.PlainSet.{PlainSet}
-use Rattle.bittle_bits.specs.Cursor.{walk_of, Retires}
+use Rattle.bittle_bits.specs.Cursor.{items_left_in, walk_of, Retires}
 use Rattle.bittle_bits.specs.Walk.{Walk, IsThrifty, StepsFront, StepsBack}
 use Rattle.bittle_bits.specs.declared.internal.cursor.Cursor.{Cursor}
 use Rattle.bittle_bits.proofs.Items.{members_between-split, members_between-empty}
@@ -119,6 +119,7 @@ module _ {B E O W : Type 0} (s : PlainSet) (words w : ℕ) where
       c.tail ≡ t.copies.tail → c.fetches ≡ t.copies.fetches →
       let u : Cursor B E O W = record { copies = c; low = t.low; high = t.high; items = t.items } in
       Seeks (walk_of s words w t) (walk_of s words w u) × Retires words u
+  unfolding items_left_in
   head_retired t c r f l e q =
       let after : copy_count c.head ≡ 0 = ap copy_count f.1 in (
         record {
@@ -148,6 +149,7 @@ module _ {B E O W : Type 0} (s : PlainSet) (words w : ℕ) where
         items = t.items;
       } in
       Seeks (walk_of s words w t) (walk_of s words w u) × Retires words u
+  unfolding items_left_in
   head_fetched t xs r f b e =
       let next : (t.low + 1) * w ≡ t.low * w + w = omega arith in
       let up : t.low * w + w ≤ t.high * w = rw (← next) (mul-le-mul_right w (omega arith)) in
@@ -180,6 +182,7 @@ module _ {B E O W : Type 0} (s : PlainSet) (words w : ℕ) where
       c.fetches ≡ t.copies.fetches → i ≡ t.items + 1 →
       let u : Cursor B E O W = record { copies = c; low = t.low; high = t.high; items = i } in
       StepsFront (walk_of s words w t) (Some x) (walk_of s words w u) × Retires words u
+  unfolding items_left_in
   tail_gave t c i x r z b f l e q n =
       let before : copy_count t.copies.tail ≡ 1 = ap copy_count f.1 in
       let after : copy_count c.tail ≡ 1 = ap copy_count f.2 in
@@ -203,6 +206,7 @@ module _ {B E O W : Type 0} (s : PlainSet) (words w : ℕ) where
       c.fetches ≡ t.copies.fetches →
       let u : Cursor B E O W = record { copies = c; low = t.low; high = t.high; items = t.items } in
       StepsFront (walk_of s words w t) None (walk_of s words w u) × Retires words u
+  unfolding items_left_in
   front_ended t c r z b f l e q =
       let after : copy_count c.tail ≡ 0 = ap copy_count f.1 in
       let kept = retires_met t c 0 (copy_count t.copies.tail) r (omega arith)
@@ -230,6 +234,7 @@ module _ {B E O W : Type 0} (s : PlainSet) (words w : ℕ) where
       c.head ≡ t.copies.head → c.fetches ≡ t.copies.fetches →
       let u : Cursor B E O W = record { copies = c; low = t.low; high = t.high; items = t.items } in
       Seeks (walk_of s words w t) (walk_of s words w u) × Retires words u
+  unfolding items_left_in
   tail_retired t c r f l e q =
       let after : copy_count c.tail ≡ 0 = ap copy_count f.1 in (
         record {
@@ -259,6 +264,7 @@ module _ {B E O W : Type 0} (s : PlainSet) (words w : ℕ) where
         items = t.items;
       } in
       Seeks (walk_of s words w t) (walk_of s words w u) × Retires words u
+  unfolding items_left_in
   tail_fetched t xs r f b e =
       let one_less : (t.high - 1) + 1 ≡ t.high = omega arith in
       let next : t.high * w ≡ (t.high - 1) * w + w = ap (λ n. n * w) (sym one_less) ∙ omega arith in
@@ -291,6 +297,7 @@ module _ {B E O W : Type 0} (s : PlainSet) (words w : ℕ) where
       c.fetches ≡ t.copies.fetches → i ≡ t.items + 1 →
       let u : Cursor B E O W = record { copies = c; low = t.low; high = t.high; items = i } in
       StepsBack (walk_of s words w t) (Some x) (walk_of s words w u) × Retires words u
+  unfolding items_left_in
   head_gave_back t c i x r z b f l e q n =
       let before : copy_count t.copies.head ≡ 1 = ap copy_count f.1 in
       let after : copy_count c.head ≡ 1 = ap copy_count f.2 in
@@ -315,6 +322,7 @@ module _ {B E O W : Type 0} (s : PlainSet) (words w : ℕ) where
       c.fetches ≡ t.copies.fetches →
       let u : Cursor B E O W = record { copies = c; low = t.low; high = t.high; items = t.items } in
       StepsBack (walk_of s words w t) None (walk_of s words w u) × Retires words u
+  unfolding items_left_in
   back_ended t c r z b f l e q =
       let after : copy_count c.head ≡ 0 = ap copy_count f.1 in
       let kept = retires_met t c (copy_count t.copies.head) 0 r (omega arith) (omega arith)

@@ -24,6 +24,7 @@ module _ {B E O W : Type 0} (s : PlainSet) (words w : ℕ) where
       high ≡ words → i ≡ 0 →
       let t : Cursor B E O W = record { copies = h; low = 0; high = high; items = i } in
       IsWalkStart s words w t
+  unfolding items_left_in
   walk_start c high i h word is whole count none all items =
       let last : high * w ≡ s.capacity = ap (λ k. k * w)
       (all ∙ count ∙ ap (λ c. c / w) whole.1 ∙ mul-div_left whole.0 word) ∙ sym whole.1

@@ -16,12 +16,12 @@ items_of mirrored w digits base = map (λ i. base + i)
     (ascending (members mirrored w (digit_set w digits)))
 
 -- the items of a copy, if it is held
-abbrev pub copy_items : {W : Type 0} → Bool → ℕ → (W → ℕ) → CopiedWord W → Option (List ℕ)
+unfoldable pub copy_items : {W : Type 0} → Bool → ℕ → (W → ℕ) → CopiedWord W → Option (List ℕ)
 copy_items mirrored w digits c = cond c.held (Some (items_of mirrored w (digits c.word) c.base))
     None
 
 -- the indexes of a copy that is held are numbers of 32 bits, and one that is not held has no items
-abbrev pub IsSound : {W : Type 0} → Bool → ℕ → (W → ℕ) → CopiedWord W → Type 0
+unfoldable pub IsSound : {W : Type 0} → Bool → ℕ → (W → ℕ) → CopiedWord W → Type 0
 IsSound mirrored w digits c = (c.held ≡ true → c.base + w < 4294967296) × (c.held ≡ false →
     items_of mirrored w (digits c.word) c.base ≡ [])
 

@@ -8,8 +8,9 @@ use Rattle.bittle_bits.specs.declared.internal.cursor.Cursor.{Cursor}
 -- the types are those of the set, of the order of the walk, and of the order and the words of the
 -- set
 module _ {B E O W : Type 0} where
-  -- what is left: the head's items, the members of the words between, and the tail's items
-  abbrev pub items_left_in : PlainSet → ℕ → Cursor B E O W → List ℕ
+  -- what is left: the head's items, the members of the words between, and the tail's items. It is
+  -- no abbreviation, so that a caller's search does not open the copies behind each walk
+  unfoldable pub items_left_in : PlainSet → ℕ → Cursor B E O W → List ℕ
   items_left_in s w at = items_in at.copies.head
       ++ (members_between s (at.low * w) (at.high * w) ++ items_in at.copies.tail)
 

@@ -88,6 +88,7 @@ pub fn duplicate<B: Bits, E: Endian>(at: &Cursor<B, E>) -> Cursor<B, E>
 
 /// Takes the first item that is left.
 #[inline]
+#[tactic(auto, unfolding(crate::specs::Cursor::items_left_in))]
 pub fn step_front<B: Bits, E: Endian, K: Kind>(
     source: &Source<'_, B>,
     at: &mut Cursor<B, E>,
@@ -121,6 +122,7 @@ pub fn step_front<B: Bits, E: Endian, K: Kind>(
 
 /// Takes the last item that is left.
 #[inline]
+#[tactic(auto, unfolding(crate::specs::Cursor::items_left_in))]
 pub fn step_back<B: Bits, E: Endian, K: Kind>(
     source: &Source<'_, B>,
     at: &mut Cursor<B, E>,

@@ -118,6 +118,7 @@ fn fetch<B: Bits, E: Endian, K: Kind>(
 
 // Looks at a copy for its first item.
 #[inline]
+#[tactic(auto, unfolding(crate::specs::Copies::copy_items, crate::specs::Copies::IsSound))]
 fn take_first<W: Number, E: Endian>(copy: &mut CopiedWord<W>, looks: &mut Count) -> Option<u32>
     requires { IsSound E.mirrored W.width W.digits copy.old }
     ensures found { TakesFirst (copy_items E.mirrored W.width W.digits copy.old) result
@@ -140,6 +141,7 @@ fn take_first<W: Number, E: Endian>(copy: &mut CopiedWord<W>, looks: &mut Count)
 
 // Looks at a copy for its last item.
 #[inline]
+#[tactic(auto, unfolding(crate::specs::Copies::copy_items, crate::specs::Copies::IsSound))]
 fn take_last<W: Number, E: Endian>(copy: &mut CopiedWord<W>, looks: &mut Count) -> Option<u32>
     requires { IsSound E.mirrored W.width W.digits copy.old }
     ensures found { TakesLast (copy_items E.mirrored W.width W.digits copy.old) result
@@ -192,6 +194,7 @@ impl<W: Number, E: Endian> Model for Copies<W, E> {
 impl<W: Number, E: Endian> Copies<W, E> {
     /// Makes no copies, with no looks and no fetches yet.
     #[inline]
+    #[tactic(auto, unfolding(crate::specs::Copies::copy_items, crate::specs::Copies::IsSound))]
     pub fn none() -> Copies<W, E>
         ensures { result ≡ record { head = None; tail = None; looks = 0; fetches = 0 } }
     {
@@ -234,6 +237,7 @@ impl<W: Number, E: Endian> Copies<W, E> {
 
     /// Fetches word `k` to the head, with the bits that the kind wants.
     #[inline]
+    #[tactic(auto, unfolding(crate::specs::Copies::copy_items, crate::specs::Copies::IsSound))]
     pub fn fetch_head<B: Bits<LeafWord = W>, K: Kind>(&mut self, source: &Source<'_, B>, k: u32)
         requires fits { Fits B.indexable (B.big source.now.set.now).capacity }
         requires within { k * B.width < (B.big source.now.set.now).capacity }
@@ -251,6 +255,7 @@ impl<W: Number, E: Endian> Copies<W, E> {
 
     /// Fetches word `k` to the tail, with the bits that the kind wants.
     #[inline]
+    #[tactic(auto, unfolding(crate::specs::Copies::copy_items, crate::specs::Copies::IsSound))]
     pub fn fetch_tail<B: Bits<LeafWord = W>, K: Kind>(&mut self, source: &Source<'_, B>, k: u32)
         requires fits { Fits B.indexable (B.big source.now.set.now).capacity }
         requires within { k * B.width < (B.big source.now.set.now).capacity }

@@ -1,9 +1,10 @@
 use Rattle.std.proofs.Common.{◌≡◌, ◌+◌, ◌⊎◌, inl, inr, true, false, cond, ℕ, List, refl, sym, ap, ◌∙◌, map, Some, None}
 use Rattle.std.proofs.lemmas.Bool.{cases_Bool, cond-true}
-use Rattle.bittle_bits.specs.Copies.{copy_items, items_of}
+use Rattle.bittle_bits.specs.Copies.{copy_items, items_of, IsSound}
 use Rattle.bittle_bits.proofs.internal.look.take_first.Goals as goal
 
 pub returns-clause-found : goal.returns-clause-found
+unfolding copy_items IsSound
 returns-clause-found g c =
     let copy = c.args.copy.now in
     let moved = λ (items : List ℕ). map (λ i. copy.base + i) items in

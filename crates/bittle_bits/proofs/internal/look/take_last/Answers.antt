@@ -1,13 +1,14 @@
 use Rattle.std.proofs.Common.{◌≡◌, ◌+◌, ◌⊎◌, inl, inr, true, false, cond, ℕ, List, [], ◌∷◌, ◌++◌, refl, sym, ap, ◌∙◌, map, length, length-append, arith, Some, None}
 use Rattle.std.proofs.lemmas.Bool.{cases_Bool, cond-true}
 use Rattle.std.proofs.lemmas.List.{map-append}
-use Rattle.bittle_bits.specs.Copies.{copy_items, items_of}
+use Rattle.bittle_bits.specs.Copies.{copy_items, items_of, IsSound}
 use Rattle.bittle_bits.proofs.internal.look.take_last.Goals as goal
 
 no_end : (xs : List ℕ) (v : ℕ) → xs ++ v ∷ [] ≡ [] → ⊥
 no_end xs v none = let e = ap length none in omega (arith, e, length-append xs (v ∷ []))
 
 pub returns-clause-found : goal.returns-clause-found
+unfolding copy_items IsSound
 returns-clause-found g c =
     let copy = c.args.copy.now in
     let moved = λ (items : List ℕ). map (λ i. copy.base + i) items in
