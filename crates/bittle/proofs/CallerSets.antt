@@ -1,10 +1,10 @@
 -- Facts of sets that callers cite: changes and tests of an index that does not wrap, sizes,
 -- operations.
-use Rattle.std.proofs.Common.{◌≡◌, ℕ, zero, suc, ◌+◌, ◌*◌, ◌<◌, ◌≤◌, Bool, true, false, not, ◌&&◌, ◌||◌, ◌==◌, inl, inr, sym, ap, ◌∙◌, refl, arith}
+use Rattle.std.proofs.Common.{◌≡◌, ℕ, ◌*◌, ◌<◌, ◌≤◌, Bool, true, false, not, ◌&&◌, ◌||◌, ◌==◌, inl, inr, sym, ap, ◌∙◌, refl, arith}
 use Rattle.std.proofs.Math.Nat.{mod-eq_of_lt}
 use Rattle.std.proofs.lemmas.Bool.{cases_Bool, lt-ltb}
 use Rattle.bittle_bits.specs.Orders.{members}
-use Rattle.bittle_bits.specs.PlainSet.{PlainSet, contains, with_index, has_with, without_index, has_without, complement, lacks, empty_set, full_set, count_below, size}
+use Rattle.bittle_bits.specs.PlainSet.{PlainSet, contains, with_index, has_with, without_index, has_without, complement, lacks, empty_set, full_set, size}
 use Rattle.bittle_bits.specs.Searches.{NoneIn}
 use Rattle.bittle_bits.specs.SetOperations.{combination_of, combination_has}
 use Rattle.bittle_bits.proofs.PlainSets.{full_set_in_each_order}
@@ -77,9 +77,7 @@ size_none s e k p q =
 
 -- the empty set has size 0
 pub size_empty : (c : ℕ) → size (empty_set c) ≡ 0
-unfolding count_below
-size_empty zero = refl
-size_empty (suc c) = ap (λ n. n + 0) (size_empty c) ∙ omega arith
+size_empty = counts.count-never
 
 -- a set with no members has size 0
 pub size_zero : (s : PlainSet) → NoneIn s 0 s.capacity → size s ≡ 0

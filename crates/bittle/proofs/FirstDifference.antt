@@ -153,6 +153,23 @@ pub none_among : (s t : PlainSet) (n : ℕ) (r : Option ℕ) → is_some r ≡ f
 none_among s t n None e h = h
 none_among s t n (Some d) e h = absurd (true≢false e)
 
+-- searches by fours, and then of the words that are left, that find no index apart say that the two
+-- are the same in all these words
+pub same_among : (s t : PlainSet) (words fours w : ℕ) (r : Option ℕ) → words / 4 ≤ fours →
+    AreSameBelow s t (fours * 4 * w) → is_some r ≡ false →
+    (AreSameBelow s t (words / 4 * 4 * w) →
+    MatchOption r (AreSameBelow s t (words * w)) (λ d. IsFirstApart s t d)) →
+    AreSameBelow s t (words * w)
+same_among s t words fours w r all before none among =
+    let done : words / 4 * 4 * w ≤ fours * 4 * w = mul-le-mul_right w (omega (arith, all)) in
+    none_among s t (words * w) r none (among (λ i p. before i (omega (arith, done, p))))
+
+-- two sets that are the same below a number, and have none from it on, are the same
+pub same_throughout : (s t : PlainSet) (n : ℕ) → AreSameBelow s t n →
+    ((i : ℕ) → n ≤ i → s.has i ≡ false) → ((i : ℕ) → n ≤ i → t.has i ≡ false) → AreSame s t
+same_throughout s t n same ours theirs = λ i. elim (cases_lt i n)
+    [ inl l ↦ same i l | inr g ↦ ours i g ∙ sym (theirs i g) ]
+
 -- a search past a number
 pub past_found : (s : PlainSet) (d to : ℕ) (r : Option ℕ) → ((i : ℕ) → to ≤ i → s.has i ≡ false) →
     IsFirstIn s (d + 1) to r → MatchBool (is_some r) (HasPast s d) (HasNonePast s d)

@@ -86,11 +86,13 @@ pub fn first_apart<A: Bits, B: Bits, E: Endian>(left: &A, right: &B) -> Option<u
     if apart.is_some() {
         return apart;
     }
-    // Past the common words just one of them can have members.
+    // Past the common words just the longer one can have members.
     if words < others {
         right.first_one_in::<E>(common * width, others * width)
-    } else {
+    } else if others < words {
         left.first_one_in::<E>(common * width, words * width)
+    } else {
+        None
     }
 }
 
