@@ -1,11 +1,10 @@
 -- How many members a row of elements has.
-use Rattle.std.proofs.Common.{◌≡◌, ◌≢◌, ℕ, zero, suc, ◌+◌, ◌-◌, ◌*◌, ◌%◌, ◌^◌, ◌<◌, ◌≤◌, Bool, true, false, not, ◌&&◌, ◌==◌, cond, inl, inr, refl, sym, ap, ◌∙◌, arith, List, [], ◌∷◌, length, get_or, take, add-zero, add_assoc, add_comm, subst}
+use Rattle.std.proofs.Common.{◌≡◌, ◌≢◌, ℕ, zero, suc, ◌+◌, ◌*◌, ◌<◌, ◌≤◌, Bool, sym, ap, ◌∙◌, arith, List, [], ◌∷◌, length, get_or, take, subst}
 use Rattle.std.proofs.Math.Path.{fun_ext}
 use Rattle.std.proofs.Math.Nat.{zero-mul}
 use Rattle.std.specs.List.{sum_by}
 use Rattle.std.proofs.lemmas.List.Sums.{sum_by-cons, sum_by_more_le}
 use Rattle.std.proofs.lemmas.List.{take_all}
-use Rattle.bittle_words.specs.Orders.{members}
 use Rattle.bittle_words.specs.PlainSet.{PlainSet, count_below, size}
 use Rattle.bittle_bits.specs.Rows.{at_element, elements_has, elements_set}
 use Rattle.bittle_bits.proofs.RowSets.{elements_has_at, by_place}

@@ -1,5 +1,5 @@
 -- Word k of a row of elements, which lies in one of them.
-use Rattle.std.proofs.Common.{◌≡◌, ℕ, suc, ◌+◌, ◌*◌, ◌/◌, ◌%◌, ◌<◌, ◌≤◌, Bool, ◌&&◌, nat_lt, inl, inr, List, length, get_or, refl, sym, ap, ◌∙◌, arith}
+use Rattle.std.proofs.Common.{◌≡◌, ℕ, ◌+◌, ◌*◌, ◌/◌, ◌%◌, ◌<◌, ◌&&◌, nat_lt, inl, inr, List, length, get_or, refl, sym, ap, ◌∙◌, arith}
 use Rattle.std.proofs.Math.Path.{fun_ext}
 use Rattle.std.proofs.Math.Nat.{mul-div_left, div-add-mod', mul_assoc, lt_of_mul-lt-mul_right, mul-lt-mul_of_pos_right}
 use Rattle.std.proofs.lemmas.Nat.{mod_below, div_below, mul-add-lt}

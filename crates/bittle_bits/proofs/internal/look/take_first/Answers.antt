@@ -1,6 +1,6 @@
-use Rattle.std.proofs.Common.{◌≡◌, ◌+◌, ◌⊎◌, inl, inr, true, false, cond, ℕ, List, refl, sym, ap, ◌∙◌, map, Some, None}
+use Rattle.std.proofs.Common.{◌+◌, inl, inr, ℕ, List, ap, ◌∙◌, map, Some, None}
 use Rattle.std.proofs.lemmas.Bool.{cases_Bool, cond-true}
-use Rattle.bittle_bits.specs.Copies.{copy_items, items_of, IsSound}
+use Rattle.bittle_bits.specs.Copies.{copy_items, IsSound}
 use Rattle.bittle_bits.proofs.internal.look.take_first.Goals as goal
 
 pub returns-clause-found : goal.returns-clause-found

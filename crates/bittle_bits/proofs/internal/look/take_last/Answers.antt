@@ -1,7 +1,7 @@
-use Rattle.std.proofs.Common.{◌≡◌, ◌+◌, ◌⊎◌, inl, inr, true, false, cond, ℕ, List, [], ◌∷◌, ◌++◌, refl, sym, ap, ◌∙◌, map, length, length-append, arith, Some, None}
+use Rattle.std.proofs.Common.{◌≡◌, ◌+◌, inl, inr, ℕ, List, [], ◌∷◌, ◌++◌, sym, ap, ◌∙◌, map, length, length-append, arith, Some, None}
 use Rattle.std.proofs.lemmas.Bool.{cases_Bool, cond-true}
 use Rattle.std.proofs.lemmas.List.{map-append}
-use Rattle.bittle_bits.specs.Copies.{copy_items, items_of, IsSound}
+use Rattle.bittle_bits.specs.Copies.{copy_items, IsSound}
 use Rattle.bittle_bits.proofs.internal.look.take_last.Goals as goal
 
 no_end : (xs : List ℕ) (v : ℕ) → xs ++ v ∷ [] ≡ [] → ⊥

@@ -1,4 +1,3 @@
-use Rattle.std.proofs.Common.{◌≡◌, true, false}
 use Rattle.bittle_bits.specs.Copies.{IsSound}
 use Rattle.bittle_bits.proofs.Items.{items_of-none}
 use Rattle.bittle_bits.proofs.internal.look.Copies.none.Goals as goal
