@@ -7,8 +7,6 @@ mod decimal;
 mod header;
 mod lines;
 mod reading;
-#[cfg(test)]
-mod tests;
 mod writing;
 
 ghost use Rattle.std.specs.Prelude.{◌≡◌, ◌≤◌};

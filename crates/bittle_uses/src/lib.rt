@@ -21,8 +21,6 @@ pub mod slices;
 pub mod slots;
 pub mod sums;
 pub mod tables;
-#[cfg(test)]
-mod tests;
 pub mod totals;
 pub mod words;
 pub mod wrapped_slices;

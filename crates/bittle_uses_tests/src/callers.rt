@@ -1,14 +1,14 @@
 //! Values worked out by hand.
 
-use crate::changes::{insert, move_bit, remove};
-use crate::free_runs::first_free_run;
-use crate::ranks::{how_many_from, rank_of};
-use crate::relations::{is_disjoint, is_subset};
-use crate::searches::{greatest, has_any_above, is_pairwise_below, list_members};
-use crate::sieve::primes;
-use crate::sums::{sum_in_reverse, sum_of_members};
-use crate::totals::sum_from_greatest;
 use bittle::Bits;
+use bittle_uses::changes::{insert, move_bit, remove};
+use bittle_uses::free_runs::first_free_run;
+use bittle_uses::ranks::{how_many_from, rank_of};
+use bittle_uses::relations::{is_disjoint, is_subset};
+use bittle_uses::searches::{greatest, has_any_above, is_pairwise_below, list_members};
+use bittle_uses::sieve::primes;
+use bittle_uses::sums::{sum_in_reverse, sum_of_members};
+use bittle_uses::totals::sum_from_greatest;
 use std::test::Fail;
 
 #[test]

@@ -1,10 +1,9 @@
 //! What scripts print, and how the program meets bad readers and writers.
-mod streams;
 
-use super::run;
+use crate::streams::{Sink, Source};
+use bittle_script::run;
 use std::io::ErrorKind;
 use std::test::Fail;
-use streams::{Sink, Source};
 
 /// A script, and what it prints.
 const SCRIPT: &[u8] = b"be u8\nset 0\ntest 8\nclear 8\ntest 0\n";

@@ -1,0 +1,7 @@
+//! Tests of the program: what scripts print, and how it meets readers and writers that fail.
+#![tactic(auto)]
+
+#[cfg(test)]
+mod scripts;
+#[cfg(test)]
+mod streams;

@@ -1,0 +1,5 @@
+//! Tests of the callers: values worked out by hand.
+#![tactic(auto)]
+
+#[cfg(test)]
+mod callers;
