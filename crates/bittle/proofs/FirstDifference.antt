@@ -1,5 +1,6 @@
 -- Where two sets of words of one width, in one order, are apart, and what that decides.
-use Rattle.std.proofs.Common.{◌≡◌, ℕ, ◌+◌, ◌-◌, ◌*◌, ◌/◌, ◌^◌, ◌<◌, ◌≤◌, ◌⊎◌, ◌↔◌, Bool, true, false, not, IsTrue, inl, inr, Option, Some, None, is_none, is_some, MatchOption, MatchBool, refl, sym, ap, ◌∙◌, arith}
+use Rattle.std.proofs.Common.{◌≡◌, ℕ, ◌+◌, ◌-◌, ◌*◌, ◌/◌, ◌^◌, ◌<◌, ◌≤◌, ◌⊎◌, ◌↔◌, Bool, true, false, not, IsTrue, inl, inr, Option, Some, None, is_none, is_some, MatchOption, MatchBool, refl, sym, ap, subst, ◌∙◌, arith, bit_or}
+use Rattle.std.proofs.lemmas.Nat.{le_or_l, le_or_r}
 use Rattle.std.proofs.Math.Nat.{mul-div_left, mul-le-mul_right, mul-lt-mul_of_pos_right}
 use Rattle.std.proofs.lemmas.Bool.{cases_eq, cases_lt, true≢false}
 use Rattle.std.specs.declared.cmp.Ordering.{Ordering}
@@ -14,6 +15,7 @@ use Rattle.bittle_bits.specs.Words.{word_has, word_of}
 use Rattle.bittle_bits.proofs.SetOperations.{combination-below}
 use Rattle.bittle_bits.proofs.DigitSets.{digit_has-zero, digit_has-below, some_digit}
 use Rattle.bittle_bits.proofs.PlaceLemmas.{place_part, place_in_word, place-place}
+use Rattle.bittle_bits.proofs.PlainSets.{members-past}
 use Rattle.bittle_bits.proofs.Words.{word_has-at}
 use Rattle.bittle.specs.Comparison.{list_cmp, AreSame, AreSameBelow, HasPast, HasNonePast, Precedes, IsFirstApart}
 use Rattle.bittle.proofs.ListComparison.{EndsAtCapacity, list_cmp-precedes, equal_iff_same, not_both}
@@ -80,6 +82,14 @@ module _ (m : Bool) (w : ℕ) (s t : PlainSet) (word : 0 < w) where
         sym (apart_at r low) ∙ least.is_member low,
       )
 
+-- a word of which no digit is in just one: the two are the same as far as the next word
+pub same_next : (m : Bool) (w : ℕ) (s t : PlainSet) → 0 < w → (k next x : ℕ) →
+    digit_set w x ≡ combination_of just_one (word_of w s k) (word_of w t k) → next ≡ k + 1 →
+    AreSameBelow (members m w s) (members m w t) (k * w) → x ≡ 0 →
+    AreSameBelow (members m w s) (members m w t) (next * w)
+same_next m w s t word k next x is e before zero =
+    rw e (same_word m w s t word k x is before zero)
+
 -- a word below a number of words lies within what those make up
 pub word_within : (k words w c : ℕ) → 0 < w → k < words → words * w ≤ c → k * w < c
 word_within k words w c word below within =
@@ -99,10 +109,22 @@ some_least m w x r word fits some least =
           ∙ least.none_below i (omega arith)))
     ]
 
+-- the or of four words is 0 only where each is
+pub each_is_zero : (a b c d ab cd all : ℕ) → ab ≡ bit_or a b → cd ≡ bit_or c d →
+    all ≡ bit_or ab cd → all ≡ 0 → (a ≡ 0) × (b ≡ 0) × (c ≡ 0) × (d ≡ 0)
+each_is_zero a b c d ab cd all one two both none =
+    let first : ab ≡ 0 = omega (arith, none, both, le_or_l ab cd) in
+    let second : cd ≡ 0 = omega (arith, none, both, le_or_r ab cd) in (
+      omega (arith, first, one, le_or_l a b),
+      omega (arith, first, one, le_or_r a b),
+      omega (arith, second, two, le_or_l c d),
+      omega (arith, second, two, le_or_r c d),
+    )
+
 -- ---- past the words of one side
 
 -- the words of a capacity of whole words make it up
-pub all_words : (bits wide w c : ℕ) → 0 < w → bits ≡ c → wide ≡ w → (words : ℕ) × (c ≡ words * w) →
+all_words : (bits wide w c : ℕ) → 0 < w → bits ≡ c → wide ≡ w → (words : ℕ) × (c ≡ words * w) →
     bits / wide * wide ≡ c
 all_words bits wide w c word b v h = rw (b, v, h.1) (ap (λ n. n * w) (mul-div_left h.0 word))
 
@@ -114,8 +136,17 @@ words_within k bits wide w c word b v h below =
     let some : k * wide ≤ bits / wide * wide = mul-le-mul_right wide below in
     omega (arith, all, some, ap (λ x. k * x) v)
 
+-- a set of whole words has no member from the end of as many words on
+none_from : (m : Bool) (w : ℕ) (s : PlainSet) (k bits wide : ℕ) → 0 < w → bits ≡ s.capacity →
+    wide ≡ w → (words : ℕ) × (s.capacity ≡ words * w) →
+    ((i : ℕ) → s.capacity ≤ i → s.has i ≡ false) → k ≡ bits / wide → (i : ℕ) → k * wide ≤ i →
+    (members m w s).has i ≡ false
+none_from m w s k bits wide word b v h past all i p =
+    let ends = ap (λ n. n * wide) all ∙ all_words bits wide w s.capacity word b v h in
+    members-past m w s word h past i (omega (arith, ends, p))
+
 -- the first set has none from a number on, and the second one ends at another
-pub past_first : (s t : PlainSet) (from to : ℕ) (r : Option ℕ) → AreSameBelow s t from →
+past_first : (s t : PlainSet) (from to : ℕ) (r : Option ℕ) → AreSameBelow s t from →
     ((i : ℕ) → from ≤ i → s.has i ≡ false) → ((i : ℕ) → to ≤ i → t.has i ≡ false) →
     IsFirstIn t from to r → MatchOption r (AreSame s t) (λ d. IsFirstApart s t d)
 past_first s t from to None same none past h = λ i.
@@ -136,7 +167,7 @@ turned false true = refl
 turned false false = refl
 
 -- the second set has none from a number on, and the first one ends at another
-pub past_second : (s t : PlainSet) (from to : ℕ) (r : Option ℕ) → AreSameBelow s t from →
+past_second : (s t : PlainSet) (from to : ℕ) (r : Option ℕ) → AreSameBelow s t from →
     ((i : ℕ) → from ≤ i → t.has i ≡ false) → ((i : ℕ) → to ≤ i → s.has i ≡ false) →
     IsFirstIn s from to r → MatchOption r (AreSame s t) (λ d. IsFirstApart s t d)
 past_second s t from to r same none past h = back r
@@ -153,22 +184,56 @@ pub none_among : (s t : PlainSet) (n : ℕ) (r : Option ℕ) → is_some r ≡ f
 none_among s t n None e h = h
 none_among s t n (Some d) e h = absurd (true≢false e)
 
--- searches by fours, and then of the words that are left, that find no index apart say that the two
--- are the same in all these words
-pub same_among : (s t : PlainSet) (words fours w : ℕ) (r : Option ℕ) → words / 4 ≤ fours →
-    AreSameBelow s t (fours * 4 * w) → is_some r ≡ false →
-    (AreSameBelow s t (words / 4 * 4 * w) →
-    MatchOption r (AreSameBelow s t (words * w)) (λ d. IsFirstApart s t d)) →
-    AreSameBelow s t (words * w)
-same_among s t words fours w r all before none among =
+-- what is the same in the words that fours make up is so in all fours that a number of words has
+pub same_fours : (s t : PlainSet) (words fours w : ℕ) → words / 4 ≤ fours →
+    AreSameBelow s t (fours * 4 * w) → AreSameBelow s t (words / 4 * 4 * w)
+same_fours s t words fours w all before i p =
     let done : words / 4 * 4 * w ≤ fours * 4 * w = mul-le-mul_right w (omega (arith, all)) in
-    none_among s t (words * w) r none (among (λ i p. before i (omega (arith, done, p))))
+    before i (omega (arith, done, p))
 
--- two sets that are the same below a number, and have none from it on, are the same
-pub same_throughout : (s t : PlainSet) (n : ℕ) → AreSameBelow s t n →
-    ((i : ℕ) → n ≤ i → s.has i ≡ false) → ((i : ℕ) → n ≤ i → t.has i ≡ false) → AreSame s t
-same_throughout s t n same ours theirs = λ i. elim (cases_lt i n)
-    [ inl l ↦ same i l | inr g ↦ ours i g ∙ sym (theirs i g) ]
+-- two sets that are the same in as many words as both have
+module _ (m : Bool) (w v : ℕ) (s t : PlainSet) (bits others wide common : ℕ) (word : 0 < w)
+    (width : w ≡ v) (is_wide : wide ≡ w) (ours : bits ≡ s.capacity) (theirs : others ≡ t.capacity)
+    (whole : (n : ℕ) × (s.capacity ≡ n * w)) (whole-2 : (n : ℕ) × (t.capacity ≡ n * v))
+    (past : (i : ℕ) → s.capacity ≤ i → s.has i ≡ false)
+    (past-2 : (i : ℕ) → t.capacity ≤ i → t.has i ≡ false)
+    (same : AreSameBelow (members m w s) (members m w t) (common * w)) where
+  in_common : AreSameBelow (members m w s) (members m v t) (common * wide)
+  in_common = subst (λ n. AreSameBelow (members m w s) (members m n t) (common * wide)) width
+      (rw is_wide same)
+
+  none_of_first : (k : ℕ) → k ≡ bits / wide → (i : ℕ) → k * wide ≤ i →
+      (members m w s).has i ≡ false
+  none_of_first k = none_from m w s k bits wide word ours is_wide whole past
+
+  none_of_second : (k : ℕ) → k ≡ others / wide → (i : ℕ) → k * wide ≤ i →
+      (members m v t).has i ≡ false
+  none_of_second k = none_from m v t k others wide (omega (arith, word, width)) theirs
+      (is_wide ∙ width) whole-2 past-2
+
+  -- just the second goes on
+  pub first_ends : common ≡ bits / wide → (r : Option ℕ) →
+      IsFirstIn (members m v t) (common * wide) (others / wide * wide) r →
+      MatchOption r (AreSame (members m w s) (members m v t))
+      (λ d. IsFirstApart (members m w s) (members m v t) d)
+  first_ends e r found = past_first (members m w s) (members m v t) _ _ r in_common
+      (none_of_first common e) (none_of_second _ refl) found
+
+  -- just the first goes on
+  pub second_ends : common ≡ others / wide → (r : Option ℕ) →
+      IsFirstIn (members m w s) (common * wide) (bits / wide * wide) r →
+      MatchOption r (AreSame (members m w s) (members m v t))
+      (λ d. IsFirstApart (members m w s) (members m v t) d)
+  second_ends e r found = past_second (members m w s) (members m v t) _ _ r in_common
+      (none_of_second common e) (none_of_first _ refl) found
+
+  -- neither goes on
+  pub both_end : common ≡ bits / wide → common ≡ others / wide →
+      AreSame (members m w s) (members m v t)
+  both_end e f i = elim (cases_lt i (common * wide)) [
+    | inl l ↦ in_common i l
+    | inr g ↦ none_of_first common e i g ∙ sym (none_of_second common f i g)
+  ]
 
 -- a search past a number
 pub past_found : (s : PlainSet) (d to : ℕ) (r : Option ℕ) → ((i : ℕ) → to ≤ i → s.has i ≡ false) →

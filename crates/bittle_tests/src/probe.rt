@@ -468,19 +468,29 @@ fn equality_fetches_each_word_once(rt: HostRuntime) {
 }
 
 #[test]
-fn comparisons_end_with_the_first_difference(rt: HostRuntime) {
+fn comparisons_end_with_the_four_words_that_differ(rt: HostRuntime) {
+    // Eight words. The first four are fetched for one test, and two of them again for the index.
     let (left, right) = (Asked::new(), Asked::new());
-    let set = Set::new(Probe::of(ONES, &left));
-    assert!(rt; !set.eq_bits(&Probe::of([1, 2, 0, 128], &right)));
-    assert!(rt; left.is_at_most(2) && right.is_at_most(2));
+    let set = Set::new([Probe::of(ONES, &left), Probe::of(ONES, &left)]);
+    let other = [Probe::of([1, 2, 0, 128], &right), Probe::of(ONES, &right)];
+    assert!(rt; !set.eq_bits(&other));
+    assert!(rt; left.is_at_most(6) && right.is_at_most(6));
 
-    // The index 9 is in one of them: each is asked for it or for a member past it.
+    // The index 9 is in the right one alone: the left one is asked for it and for a member past it.
     let (left, right) = (Asked::new(), Asked::new());
+    let set = Set::new([Probe::of(ONES, &left), Probe::of(ONES, &left)]);
+    let other = [Probe::of([1, 2, 0, 128], &right), Probe::of(ONES, &right)];
+    assert_eq!(rt; set.cmp_bits(&other), Ordering::Greater);
+    assert!(rt; left.fetches.get() <= 9 && left.other.get() <= 1);
+    assert!(rt; right.is_at_most(6));
+}
+
+#[test]
+fn words_after_the_last_four_are_compared_one_by_one(rt: HostRuntime) {
+    let left = Asked::new();
     let set = Set::new(Probe::of(ONES, &left));
-    let order = set.cmp_bits(&Probe::of([1, 2, 0, 128], &right));
-    assert_eq!(rt; order, Ordering::Greater);
-    assert!(rt; left.fetches.get() <= 5 && left.other.get() <= 1);
-    assert!(rt; right.fetches.get() <= 5 && right.other.get() <= 1);
+    assert!(rt; !set.eq_bits(&[1u8, 2, 0]));
+    assert!(rt; left.is_at_most(2));
 }
 
 #[test]

@@ -54,7 +54,9 @@ pub fn count_of_any<B: BitsOwned>(set: B) -> usize
 }
 
 /// Counts the entries of a row that stand at members.
-pub fn count_of_joined(mask: u64, row: &[u32; 64]) -> usize {
+pub fn count_of_joined(mask: u64, row: &[u32; 64]) -> usize
+    ensures { result ≡ length (ascending (digit_set 64 mask)) }
+{
     mask.join_ones(row.iter()).count()
 }
 

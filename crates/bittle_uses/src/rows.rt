@@ -1,6 +1,7 @@
 //! Walks whose items are places of a row, and counts.
 
-ghost use Rattle.std.specs.Prelude.{◌≡◌, ◌+◌, length};
+ghost use Rattle.std.specs.Prelude.{◌≡◌, ◌+◌, ◌*◌, ◌<◌, ◌≤◌, length, reverse, slice_get, None};
+ghost use Rattle.bittle.specs.Rows.{elements_set};
 ghost use Rattle.bittle.specs.Digits.{digit_set};
 ghost use Rattle.bittle.specs.PlainSet.{ascending, size};
 
@@ -16,7 +17,11 @@ pub fn entry_at_greatest(mask: u64, row: &[u32; 64]) -> u32 {
 }
 
 /// Returns the greatest member of a slice of words, or `None` where it has none or is too long.
-pub fn greatest_of_slice(words: &[u64]) -> Option<u32> {
+pub fn greatest_of_slice(words: &[u64]) -> Option<u32>
+    ensures fits { length words.now * 64 < 4294967295 → result ≡ slice_get (reverse (ascending
+        (elements_set (length words.now) 64 (digit_set 64) words.now))) 0 }
+    ensures too_long { 4294967295 ≤ length words.now * 64 → result ≡ None }
+{
     if words.bits_capacity() == u32::MAX {
         return None;
     }

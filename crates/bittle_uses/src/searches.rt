@@ -1,8 +1,7 @@
 //! Questions about all members of a set, answered by a walk.
 
-ghost use Rattle.std.specs.List.{list_any, list_all, zip};
-ghost use Rattle.std.specs.Prelude.{◌≡◌, ◌≤◌, nat_lt, nat_le, length, slice_index};
-ghost use Rattle.std.specs.Prelude.{EachIndex, IfOk, MatchOption};
+ghost use Rattle.std.specs.List.{list_any, list_all, reduce, zip};
+ghost use Rattle.std.specs.Prelude.{◌≡◌, IfOk, max, nat_lt, nat_le};
 ghost use Rattle.bittle.specs.PlainSet.{ascending};
 ghost use Rattle.bittle.specs.Values.{set_in, ShapeFits};
 
@@ -21,9 +20,7 @@ pub fn has_any_above<B: Bits>(set: &B, bound: u32) -> bool
 /// Returns the greatest member, or `None` where there is none.
 pub fn greatest<B: Bits>(set: &B) -> Option<u32>
     requires { ShapeFits B.Bits set.now }
-    ensures { let all = ascending (set_in B.Bits B.Order.Endian set.now) in
-        MatchOption result
-        (length all ≡ 0) (λ most. EachIndex all (λ k. slice_index all k ≤ most)) }
+    ensures { result ≡ reduce max (ascending (set_in B.Bits B.Order.Endian set.now)) }
 {
     set.iter_ones().max()
 }

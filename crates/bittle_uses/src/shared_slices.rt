@@ -1,7 +1,9 @@
 //! Walks over slices of words: shared, lent to be changed, and of any element. The fit is asked by
 //! a clause, or tested by `bits_capacity() < u32::MAX`.
 
-ghost use Rattle.std.specs.Prelude.{◌≡◌, ◌≤◌, ◌<◌, ◌*◌, length};
+ghost use Rattle.std.specs.Prelude.{◌≡◌, ◌≤◌, ◌<◌, ◌*◌, length, slice_get, reverse, MatchOption};
+ghost use Rattle.std.specs.Prelude.{Some, None, []};
+ghost use Rattle.bittle.specs.Orders.{members};
 ghost use Rattle.bittle.specs.Digits.{digit_set};
 ghost use Rattle.bittle.specs.PlainSet.{ascending};
 ghost use Rattle.bittle.specs.Rows.{elements_set};
@@ -24,12 +26,18 @@ pub fn entry_at_greatest(mask: &[u64], row: &[u32]) -> u32
 /// Returns the least member of a slice, or `None` where there is none.
 pub fn least_member(mask: &[u64]) -> Option<u32>
     requires { length mask.now * 64 < 4294967295 }
+    ensures { result ≡ slice_get (ascending
+        (elements_set (length mask.now) 64 (digit_set 64) mask.now)) 0 }
 {
     mask.iter_ones().next()
 }
 
 /// Returns the least member of a slice, or `None` where there is none or the slice does not fit.
-pub fn least_member_if_it_fits(mask: &[u64]) -> Option<u32> {
+pub fn least_member_if_it_fits(mask: &[u64]) -> Option<u32>
+    ensures fits { length mask.now * 64 < 4294967295 → result ≡ slice_get (ascending
+        (elements_set (length mask.now) 64 (digit_set 64) mask.now)) 0 }
+    ensures too_long { 4294967295 ≤ length mask.now * 64 → result ≡ None }
+{
     if mask.bits_capacity() < u32::MAX {
         return mask.iter_ones().next();
     }
@@ -90,7 +98,15 @@ pub fn greatest_of_lent(mask: &mut [u64]) -> u32
 }
 
 /// Returns both ends of a slice's members in any order, or `None` where it does not fit.
-pub fn ends_of_members<T: BitsOwned, E: Endian>(mask: &[T]) -> Option<(u32, u32)> {
+pub fn ends_of_members<T: BitsOwned, E: Endian>(mask: &[T]) -> Option<(u32, u32)>
+    ensures { Fits T.indexable (length mask.now * T.type_capacity) → MatchOption result
+        (ascending (members E.mirrored T.width
+        (elements_set (length mask.now) T.type_capacity T.big mask.now)) ≡ [])
+        (λ ends. (slice_get (ascending (members E.mirrored T.width
+        (elements_set (length mask.now) T.type_capacity T.big mask.now))) 0 ≡ Some ends.0)
+        × (slice_get (reverse (ascending (members E.mirrored T.width
+        (elements_set (length mask.now) T.type_capacity T.big mask.now)))) 0 ≡ Some ends.1)) }
+{
     if mask.bits_capacity() == u32::MAX {
         return None;
     }

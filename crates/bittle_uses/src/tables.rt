@@ -1,6 +1,9 @@
 //! A row with an entry for each number, read at the members of a set: each item is an index.
 
 ghost use Rattle.std.specs.Prelude.{◌≡◌, ◌≤◌, Option, ℕ, length, option_map, slice_index, unwrap_or};
+ghost use Rattle.std.specs.List.{reduce};
+ghost use Rattle.std.specs.Prelude.{max, slice_get};
+ghost use Rattle.bittle.specs.PlainSet.{ascending, complement};
 ghost use Rattle.bittle.specs.Digits.{digit_set};
 ghost use Rattle.bittle.specs.Searches.{IsFirstIn};
 ghost use Rattle.bittle.specs.Values.{ShapeFits};
@@ -127,7 +130,10 @@ pub fn greatest_as_byte(mask: &[u64; 4]) -> u8 {
 }
 
 /// Returns the entry at the first item of a walk, or 0.
-pub fn entry_at_first(mask: u64, row: &[u32; 64]) -> u32 {
+pub fn entry_at_first(mask: u64, row: &[u32; 64]) -> u32
+    ensures { result ≡ unwrap_or (option_map (λ i. slice_index row.now i)
+        (slice_get (ascending (digit_set 64 mask)) 0)) 0 }
+{
     match mask.iter_ones().next() {
         Some(index) => row[index as usize],
         None => 0,
@@ -135,7 +141,10 @@ pub fn entry_at_first(mask: u64, row: &[u32; 64]) -> u32 {
 }
 
 /// Returns the entry at the least index that is no member, or 0 where each is one.
-pub fn entry_at_first_free(mask: u64, row: &[u32; 64]) -> u32 {
+pub fn entry_at_first_free(mask: u64, row: &[u32; 64]) -> u32
+    ensures { result ≡ unwrap_or (option_map (λ i. slice_index row.now i)
+        (slice_get (ascending (complement (digit_set 64 mask))) 0)) 0 }
+{
     match mask.iter_zeros().next() {
         Some(index) => row[index as usize],
         None => 0,
@@ -154,7 +163,10 @@ pub fn entry_at_found(mask: u64, row: &[u32; 64]) -> u32
 }
 
 /// Returns the entry at the greatest item of a walk, or 0.
-pub fn entry_at_maximum(mask: u64, row: &[u32; 64]) -> u32 {
+pub fn entry_at_maximum(mask: u64, row: &[u32; 64]) -> u32
+    ensures { result ≡ unwrap_or (option_map (λ i. slice_index row.now i)
+        (reduce max (ascending (digit_set 64 mask)))) 0 }
+{
     match mask.iter_ones().max() {
         Some(index) => row[index as usize],
         None => 0,

@@ -1,6 +1,6 @@
 //! Where two sets of words of one width, read in one order, are apart: found word by word.
 
-ghost use Rattle.std.specs.Prelude.{◌≡◌, ◌+◌, ◌*◌, ◌<◌, ◌≤◌, ◌⊎◌, true, MatchOption, MatchBool};
+ghost use Rattle.std.specs.Prelude.{◌≡◌, ◌+◌, ◌*◌, ◌<◌, ◌≤◌, ◌⊎◌, true, IsTrue, MatchOption, MatchBool};
 ghost use Rattle.bittle_bits.specs.Digits.{digit_set};
 ghost use Rattle.bittle_bits.specs.Orders.{members};
 ghost use Rattle.bittle_bits.specs.PlainSet.{ascending};
@@ -61,6 +61,52 @@ fn first_apart_among<A: Bits, B: Bits, E: Endian>(
     None
 }
 
+/// Returns whether the four words from `from` on are the same in two sets, by one test for all.
+// What it does not find the same is searched, so it promises nothing of `false`.
+#[inline]
+fn are_four_same<A: Bits, B: Bits, E: Endian>(left: &A, right: &B, from: u32) -> bool
+    requires width { A.width ≡ B.width }
+    requires left_fits { Fits A.indexable (A.big left.now).capacity }
+    requires right_fits { Fits B.indexable (B.big right.now).capacity }
+    requires in_left { (from + 4) * A.width ≤ (A.big left.now).capacity }
+    requires in_right { (from + 4) * B.width ≤ (B.big right.now).capacity }
+    ensures { let ours = members E.mirrored A.width (A.big left.now) in
+        let theirs = members E.mirrored A.width (B.big right.now) in
+        IsTrue result → AreSameBelow ours theirs (from * A.width)
+        → AreSameBelow ours theirs ((from + 4) * A.width) }
+{
+    let first = word_apart::<A, B>(left, right, from);
+    let second = word_apart::<A, B>(left, right, from + 1);
+    let third = word_apart::<A, B>(left, right, from + 2);
+    let fourth = word_apart::<A, B>(left, right, from + 3);
+    first.or(second).or(third.or(fourth)).is_zero()
+}
+
+/// Returns the least index in the first `words` words that is in just one of two sets, or `None`
+/// where these words are the same in both.
+#[inline]
+fn first_apart_below<A: Bits, B: Bits, E: Endian>(left: &A, right: &B, words: u32) -> Option<u32>
+    requires width { A.width ≡ B.width }
+    requires left_fits { Fits A.indexable (A.big left.now).capacity }
+    requires right_fits { Fits B.indexable (B.big right.now).capacity }
+    requires in_left { words * A.width ≤ (A.big left.now).capacity }
+    requires in_right { words * B.width ≤ (B.big right.now).capacity }
+    ensures { let ours = members E.mirrored A.width (A.big left.now) in
+        let theirs = members E.mirrored A.width (B.big right.now) in
+        MatchOption result (AreSameBelow ours theirs (words * A.width))
+        (λ d. IsFirstApart ours theirs d) }
+{
+    for four in 0..words / 4 {
+        if !are_four_same::<A, B, E>(left, right, four * 4) {
+            let apart = first_apart_among::<A, B, E>(left, right, four * 4, four * 4 + 4);
+            if apart.is_some() {
+                return apart;
+            }
+        }
+    }
+    first_apart_among::<A, B, E>(left, right, words / 4 * 4, words)
+}
+
 /// Returns the least index that is in just one of two sets, or `None` where they have the same
 /// members.
 pub fn first_apart<A: Bits, B: Bits, E: Endian>(left: &A, right: &B) -> Option<u32>
@@ -75,14 +121,7 @@ pub fn first_apart<A: Bits, B: Bits, E: Endian>(left: &A, right: &B) -> Option<u
     let words = left.bits_capacity() / width;
     let others = right.bits_capacity() / width;
     let common = words.min(others);
-    // Four words a turn: the machine tests one after the other, and counts once.
-    for four in 0..common / 4 {
-        let apart = first_apart_among::<A, B, E>(left, right, four * 4, four * 4 + 4);
-        if apart.is_some() {
-            return apart;
-        }
-    }
-    let apart = first_apart_among::<A, B, E>(left, right, common / 4 * 4, common);
+    let apart = first_apart_below::<A, B, E>(left, right, common);
     if apart.is_some() {
         return apart;
     }

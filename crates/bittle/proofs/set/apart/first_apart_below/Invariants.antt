@@ -1,7 +1,7 @@
 use Rattle.std.proofs.Common.{◌*◌}
 use Rattle.bittle_bits.specs.Orders.{members}
 use Rattle.bittle.specs.Comparison.{AreSameBelow}
-use Rattle.bittle.proofs.set.apart.first_apart.Given as goal
+use Rattle.bittle.proofs.set.apart.first_apart_below.Given as goal
 
 abbrev pub invariant-loop-four : goal.invariant-loop-four
 invariant-loop-four g l =
