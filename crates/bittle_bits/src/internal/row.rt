@@ -1,6 +1,6 @@
 //! The calls on a row of elements, for arrays and for slices.
 
-ghost use Rattle.std.specs.Prelude.{◌≡◌, ◌==◌, ◌*◌, ◌<◌, ◌≤◌, Bool, length, IsTrue, MatchOption};
+ghost use Rattle.std.specs.Prelude.{◌≡◌, ◌==◌, ◌*◌, ◌<◌, ◌≤◌, ℕ, Bool, cond, get_or, length, IsTrue, MatchOption};
 ghost use Rattle.bittle_bits.specs.Orders.{members};
 ghost use Rattle.bittle_bits.specs.PlainSet.{contains, with_index, with_span, without_index, without_members, size};
 ghost use Rattle.bittle_bits.specs.Rows.{elements_set, GoesTo};
@@ -11,6 +11,7 @@ ghost use Rattle.bittle_bits.specs.Words.{word_of};
 
 use crate::bits_owned::BitsOwned;
 use crate::endian::Endian;
+use crate::internal::kind::{Kind, Ones, Zeros};
 use crate::internal::sealed::Number;
 use crate::operation::Operation;
 
@@ -24,10 +25,7 @@ pub fn bits_capacity<T: BitsOwned>(len: usize) -> u32
     if each == u32::MAX {
         return u32::MAX;
     }
-    match u32::try_from(len) {
-        Ok(len) => each.saturating_mul(len),
-        Err(_) => if each == 0 { 0 } else { u32::MAX },
-    }
+    len.saturating_mul(each as usize).min(u32::MAX as usize) as u32
 }
 
 /// Returns the element that an index goes to, and the index there, or `None` with capacity 0.
@@ -154,22 +152,61 @@ pub fn count_ones<T: BitsOwned>(elements: &[T]) -> u32
     total
 }
 
-/// Returns whether no bit is set, up to the first element with one that is.
+/// Returns whether an element has no bit of the kind.
+#[inline]
+fn has_none<T: BitsOwned, K: Kind>(element: &T) -> bool
+    ensures { result ≡ (size (T.big element.now) == cond K.ONES 0 T.type_capacity) }
+{
+    if K::ONES {
+        element.all_zeros()
+    } else {
+        element.all_ones()
+    }
+}
+
+/// Returns how many elements at the beginning have no bit of the kind, by one test for each four.
+// It counts none of a short row, of elements of more than a word, or where the first one decides:
+// there one by one is faster. It promises nothing of the element that it stops at, which is tested
+// again.
+#[inline]
+fn beginning_without<T: BitsOwned, K: Kind>(elements: &[T]) -> usize
+    ensures within { result ≤ length elements.now }
+    ensures without { (k : ℕ) (d : T) → k < result
+        → size (T.big (get_or elements.now k d)) ≡ cond K.ONES 0 T.type_capacity }
+{
+    if elements.len() < 8
+        || T::bits() != <T::LeafWord as Number>::width()
+        || !has_none::<T, K>(&elements[0])
+    {
+        return 0;
+    }
+    for four in 0..elements.len() / 4 {
+        let at = four * 4;
+        let first = has_none::<T, K>(&elements[at]) & has_none::<T, K>(&elements[at + 1]);
+        let last = has_none::<T, K>(&elements[at + 2]) & has_none::<T, K>(&elements[at + 3]);
+        if !(first & last) {
+            return at;
+        }
+    }
+    elements.len() / 4 * 4
+}
+
+/// Returns whether no bit is set.
 pub fn all_zeros<T: BitsOwned>(elements: &[T]) -> bool
     ensures value { result ≡ (size
         (elements_set (length elements.now) T.type_capacity T.big elements.now) == 0) }
     ensures in_each_order { (mirrored : Bool) → result ≡ (size (members mirrored T.width
         (elements_set (length elements.now) T.type_capacity T.big elements.now)) == 0) }
 {
-    for element in elements {
-        if !element.all_zeros() {
+    for at in beginning_without::<T, Ones>(elements)..elements.len() {
+        if !elements[at].all_zeros() {
             return false;
         }
     }
     true
 }
 
-/// Returns whether every bit is set, up to the first element with one that is not.
+/// Returns whether every bit is set.
 pub fn all_ones<T: BitsOwned>(elements: &[T]) -> bool
     ensures value { result ≡ (size
         (elements_set (length elements.now) T.type_capacity T.big elements.now)
@@ -178,8 +215,8 @@ pub fn all_ones<T: BitsOwned>(elements: &[T]) -> bool
         (elements_set (length elements.now) T.type_capacity T.big elements.now))
         == length elements.now * T.type_capacity) }
 {
-    for element in elements {
-        if !element.all_ones() {
+    for at in beginning_without::<T, Zeros>(elements)..elements.len() {
+        if !elements[at].all_ones() {
             return false;
         }
     }

@@ -7,16 +7,16 @@ use Rattle.bittle_bits.proofs.internal.row.all_ones.Goals as goal
 
 pub returns-then-not-all_ones-clause-value : goal.returns-then-not-all_ones-clause-value
 returns-then-not-all_ones-clause-value g c =
-    let x = c.element-item.result in
+    let x = c.index-elements-at.result in
     sym (ne_eqb _ _ (row_lacks g.T.BitsOwned.type_capacity g.T.Bits.big c.args.elements.now
-    g.met.T.BitsOwned.one_capacity c.loop-element.element-index x c.element-item.is
+    g.met.T.BitsOwned.one_capacity c.loop-at.at x c.index-elements-at.is
     (omega arith) (eqb-false _ _ (sym c.all_ones.ensures.value ∙ c.if-not-all_ones.true))))
 
 pub returns-clause-value : goal.returns-clause-value
 returns-clause-value g c = sym (eq-eqb _ _
     (row_each g.T.BitsOwned.type_capacity g.T.Bits.big c.args.elements.now
     g.met.T.BitsOwned.one_capacity g.T.BitsOwned.type_capacity
-    (λ k d h. c.loop-element.invariant k d (omega arith))))
+    (λ k d h. c.loop-at.invariant k d (omega arith))))
 
 pub returns-then-not-all_ones-clause-in_each_order :
     goal.returns-then-not-all_ones-clause-in_each_order

@@ -8,15 +8,15 @@ use Rattle.bittle_bits.proofs.internal.row.all_zeros.Goals as goal
 
 pub returns-then-not-all_zeros-clause-value : goal.returns-then-not-all_zeros-clause-value
 returns-then-not-all_zeros-clause-value g c =
-    let x = c.element-item.result in
+    let x = c.index-elements-at.result in
     sym (ne_eqb _ _ (row_some g.T.BitsOwned.type_capacity g.T.Bits.big c.args.elements.now
-    g.met.T.BitsOwned.one_capacity c.loop-element.element-index x c.element-item.is
+    g.met.T.BitsOwned.one_capacity c.loop-at.at x c.index-elements-at.is
     (omega arith) (eqb-false _ _ (sym c.all_zeros.ensures.value ∙ c.if-not-all_zeros.true))))
 
 pub returns-clause-value : goal.returns-clause-value
 returns-clause-value g c = sym (eq-eqb _ _
     (row_each g.T.BitsOwned.type_capacity g.T.Bits.big c.args.elements.now
-    g.met.T.BitsOwned.one_capacity 0 (λ k d h. c.loop-element.invariant k d (omega arith))
+    g.met.T.BitsOwned.one_capacity 0 (λ k d h. c.loop-at.invariant k d (omega arith))
     ∙ mul-zero _))
 
 pub returns-then-not-all_zeros-clause-in_each_order :
