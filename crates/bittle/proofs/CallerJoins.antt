@@ -1,5 +1,5 @@
 -- Facts of joins of slices that callers cite.
-use Rattle.std.proofs.Common.{◌≡◌, ℕ, suc, ◌+◌, ◌-◌, ◌<◌, List, [], ◌∷◌, ◌++◌, length, drop, map, get_or, Option, Some, None, Bor, inl, inr, refl, sym, ap, ◌∙◌, subst, arith}
+use Rattle.std.proofs.Common.{◌≡◌, ℕ, suc, ◌+◌, ◌-◌, ◌<◌, ◌≤◌, List, [], ◌∷◌, ◌++◌, length, drop, map, get_or, Option, Some, None, Bor, inl, inr, refl, sym, ap, ◌∙◌, subst, arith}
 use Rattle.std.specs.Prelude.{slice_get, slice_index}
 use Rattle.std.specs.Iterator.{Yields}
 use Rattle.std.specs.Option.{option_map, MatchOption}
@@ -10,7 +10,7 @@ use Rattle.std.proofs.lemmas.List.{drop_all, length-append, length-map, get_or-m
 use Rattle.std.proofs.lemmas.Option.{slice_get-map, slice_get-get_or, slice_get_within, get_or_from_slice_get}
 use Rattle.bittle_bits.specs.Join.{IsJoin, EndsAt, Join, join_steps, AnswersItemsAtMembers, EndsAfterMembers}
 use Rattle.bittle_bits.specs.PlainSet.{PlainSet, ascending}
-use Rattle.bittle.proofs.CallerLists.{ascending_short}
+use Rattle.bittle.proofs.CallerLists.{ascending_below, ascending_short}
 
 -- what a join of a slice gives: the elements at the members of the mask
 module _ {S : Type 0} (rest : S → List ℕ) where
@@ -103,6 +103,12 @@ module _ {S : Type 0} (rest : S → List ℕ) where
   all_answers_at_members s now next answers clause none bound y e =
       let a = clause answers next (now, y, e) in
       answers_at_members s next a.0 answers none bound a.1 a.2
+
+-- each member of a set is a place of a row that is as long as its capacity, or longer
+pub members_are_places : (s : PlainSet) (members row : List ℕ) → members ≡ ascending s →
+    s.capacity ≤ length row → (k : ℕ) → k < length members → get_or members k 0 < length row
+members_are_places s members row is long k h = omega
+    (arith, long, ascending_below s k (omega (arith, h, ap length is)), ap (λ xs. get_or xs k 0) is)
 
 -- one more answer of a join whose mask is this set: there were fewer answers than its capacity
 pub answers_below : {S : Type 0} (rest : S → List ℕ) (s now next : Join S) (answers : List (Bor ℕ))

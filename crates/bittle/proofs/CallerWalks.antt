@@ -1,8 +1,11 @@
 -- Facts of walks that callers cite: what a run gave, and what is left.
-use Rattle.std.proofs.Common.{◌≡◌, ℕ, List, [], ◌∷◌, ◌++◌, length, reverse, sym, ap, ◌∙◌, subst, append_assoc, append-nil}
-use Rattle.std.specs.Iterator.{Yields}
+use Rattle.std.proofs.Common.{◌≡◌, ℕ, List, [], ◌∷◌, ◌++◌, Option, length, max, reverse, sym, ap, ◌∙◌, subst, append_assoc, append-nil}
+use Rattle.std.specs.Iterator.{PicksByCmp, Yields}
+use Rattle.std.specs.List.{reduce}
+use Rattle.std.specs.Ordering.{max_by_ordering, nat_cmp}
 use Rattle.std.proofs.lemmas.Iterator.{YieldsList}
-use Rattle.std.proofs.lemmas.Iterator.Consumers.{YieldsList-from_shown}
+use Rattle.std.proofs.lemmas.Iterator.Adapters.{option_map_id}
+use Rattle.std.proofs.lemmas.Iterator.Consumers.{YieldsList-from_shown, max_from_yields_List}
 use Rattle.std.proofs.lemmas.List.{reverse-append}
 use Rattle.bittle_bits.specs.Walk.{Walk, StepsFront, StepsBack}
 use Rattle.bittle.proofs.WalkYields as walking
@@ -11,6 +14,13 @@ use Rattle.bittle.proofs.WalkYields as walking
 pub walk_yields : (w : Walk) (items : List ℕ) → w.left ≡ items →
     YieldsList StepsFront (λ x. x) w items
 walk_yields = walking.steps_yield
+
+-- the greatest item of a walk, as `max` picks it, is the greatest of what it has left
+pub walk_maximum : (w : Walk) (items : List ℕ) (r : Option ℕ) → w.left ≡ items →
+    PicksByCmp StepsFront max_by_ordering nat_cmp w r → r ≡ reduce max items
+walk_maximum w items r e ran =
+    sym (option_map_id r)
+    ∙ max_from_yields_List {v = λ (i : ℕ). i} w r ran (walk_yields w items e)
 
 -- an iterator that steps a walk from the back, as `rev` does, gives in reverse what the walk has left
 pub reversed_walk_yields : {S : Type 0} (walk : S → Walk) (s : S) (items : List ℕ) →

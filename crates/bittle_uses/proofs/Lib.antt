@@ -1,3 +1,4 @@
 pub mod SieveSteps
 pub mod RoleOrder
 pub mod Subsets
+pub mod Lasts

@@ -1,6 +1,8 @@
 //! How many members there are, counted, added and narrowed, and the places of items in a walk.
 
-ghost use Rattle.std.specs.Prelude.{◌≡◌, ◌==◌, ◌+◌, ◌-◌, true, length, position};
+ghost use Rattle.std.specs.Prelude.{◌≡◌, ◌==◌, ◌+◌, ◌-◌, true, length, position, sum, Some, map, slice_index};
+ghost use Rattle.std.specs.List.{last_or, enumerate_from};
+ghost use Rattle.std.specs.Int.Bits.{bit_xor};
 ghost use Rattle.bittle.specs.Digits.{digit_set};
 ghost use Rattle.bittle.specs.Orders.{members};
 ghost use Rattle.bittle.specs.PlainSet.{ascending, complement, size};
@@ -86,7 +88,11 @@ pub fn place_of_free_of_any<B: BitsOwned>(set: B, wanted: u32) -> Option<usize>
 }
 
 /// Combines the entries at the last member and at its place, or returns 0.
-pub fn entries_at_place_and_member(mask: u64, row: &[u32; 64]) -> u32 {
+pub fn entries_at_place_and_member(mask: u64, row: &[u32; 64]) -> u32
+    ensures { Some result ≡ last_or (Some 0) (map
+        (λ p. bit_xor (slice_index row.now p.0) (slice_index row.now p.1))
+        (enumerate_from 0 (ascending (digit_set 64 mask)))) }
+{
     let mut last = 0;
     for (place, index) in mask.iter_ones().enumerate() {
         last = row[place] ^ row[index as usize];
@@ -151,7 +157,9 @@ pub fn count_of_any_both<B: BitsOwned>(one: B, other: B) -> u64
 }
 
 /// Adds the members from the greatest on, wrapping.
-pub fn wrapping_sum(mask: u32) -> u64 {
+pub fn wrapping_sum(mask: u32) -> u64
+    ensures { result ≡ sum (ascending (digit_set 32 mask)) }
+{
     let mut total = 0u64;
     for index in mask.iter_ones().rev() {
         total = total.wrapping_add(index as u64);

@@ -1,6 +1,7 @@
 //! Walks whose items are places of a row, and counts.
 
-ghost use Rattle.std.specs.Prelude.{◌≡◌, ◌+◌, ◌*◌, ◌<◌, ◌≤◌, length, reverse, slice_get, None};
+ghost use Rattle.std.specs.Prelude.{◌≡◌, ◌+◌, ◌*◌, ◌<◌, ◌≤◌, length, reverse, slice_get, None, Some, map, slice_index};
+ghost use Rattle.std.specs.List.{last_or};
 ghost use Rattle.bittle.specs.Rows.{elements_set};
 ghost use Rattle.bittle.specs.Digits.{digit_set};
 ghost use Rattle.bittle.specs.PlainSet.{ascending, size};
@@ -8,7 +9,10 @@ ghost use Rattle.bittle.specs.PlainSet.{ascending, size};
 use bittle::Bits;
 
 /// Returns the entry at the greatest member, or 0 where there is none.
-pub fn entry_at_greatest(mask: u64, row: &[u32; 64]) -> u32 {
+pub fn entry_at_greatest(mask: u64, row: &[u32; 64]) -> u32
+    ensures { Some result ≡ last_or (Some 0) (map (λ i. slice_index row.now i)
+        (ascending (digit_set 64 mask))) }
+{
     let mut last = 0;
     for index in mask.iter_ones() {
         last = row[index as usize];

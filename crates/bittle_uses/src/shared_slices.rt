@@ -2,10 +2,11 @@
 //! a clause, or tested by `bits_capacity() < u32::MAX`.
 
 ghost use Rattle.std.specs.Prelude.{◌≡◌, ◌≤◌, ◌<◌, ◌*◌, length, slice_get, reverse, MatchOption};
-ghost use Rattle.std.specs.Prelude.{Some, None, []};
+ghost use Rattle.std.specs.Prelude.{Some, None, true, [], map, slice_index, unwrap_or};
+ghost use Rattle.std.specs.List.{last_or};
 ghost use Rattle.bittle.specs.Orders.{members};
 ghost use Rattle.bittle.specs.Digits.{digit_set};
-ghost use Rattle.bittle.specs.PlainSet.{ascending};
+ghost use Rattle.bittle.specs.PlainSet.{ascending, complement};
 ghost use Rattle.bittle.specs.Rows.{elements_set};
 ghost use Rattle.bittle.specs.Shapes.{Fits};
 
@@ -15,6 +16,8 @@ use bittle::{BigEndian, Bits, BitsOwned, Endian, LittleEndian, Set};
 pub fn entry_at_greatest(mask: &[u64], row: &[u32]) -> u32
     requires fits { length mask.now * 64 < 4294967295 }
     requires long { length mask.now * 64 ≤ length row.now }
+    ensures { Some result ≡ last_or (Some 0) (map (λ i. slice_index row.now i)
+        (ascending (elements_set (length mask.now) 64 (digit_set 64) mask.now))) }
 {
     let mut last = 0;
     for index in mask.iter_ones() {
@@ -47,6 +50,8 @@ pub fn least_member_if_it_fits(mask: &[u64]) -> Option<u32>
 /// Returns the greatest member of a slice, counted from the left, or 0.
 pub fn greatest_from_the_left(mask: &[u64]) -> u32
     requires { length mask.now * 64 < 4294967295 }
+    ensures { Some result ≡ last_or (Some 0) (ascending
+        (members true 64 (elements_set (length mask.now) 64 (digit_set 64) mask.now))) }
 {
     let mut last = 0;
     for index in mask.iter_ones_le() {
@@ -58,6 +63,8 @@ pub fn greatest_from_the_left(mask: &[u64]) -> u32
 /// Returns the greatest index that is no member of a slice, counted from the right, or 0.
 pub fn greatest_free_from_the_right(mask: &[u64]) -> u32
     requires { length mask.now * 64 < 4294967295 }
+    ensures { Some result ≡ last_or (Some 0) (ascending
+        (complement (elements_set (length mask.now) 64 (digit_set 64) mask.now))) }
 {
     let mut last = 0;
     for index in mask.iter_zeros_be() {
@@ -69,6 +76,8 @@ pub fn greatest_free_from_the_right(mask: &[u64]) -> u32
 /// Returns the least index that is no member of triples of bytes, from the back, or 0.
 pub fn least_free_of_triples(mask: &[[u8; 3]]) -> u32
     requires { length mask.now * 24 < 4294967295 }
+    ensures { result ≡ unwrap_or (slice_get (ascending (complement (members true 8
+        (elements_set (length mask.now) 24 (elements_set 3 8 (digit_set 8)) mask.now)))) 0) 0 }
 {
     let mut last = 0;
     for index in mask.iter_zeros_in::<LittleEndian>().rev() {
@@ -89,6 +98,9 @@ pub fn count_of_triples(mask: &[[u8; 3]]) -> usize
 /// Returns the greatest member of a slice that is lent to be changed, or 0.
 pub fn greatest_of_lent(mask: &mut [u64]) -> u32
     requires { length mask.old * 64 < 4294967295 }
+    ensures greatest { Some result ≡ last_or (Some 0) (ascending
+        (elements_set (length mask.old) 64 (digit_set 64) mask.old)) }
+    ensures unchanged { mask.new ≡ mask.old }
 {
     let mut last = 0;
     for index in mask.iter_ones() {
@@ -118,6 +130,9 @@ pub fn ends_of_members<T: BitsOwned, E: Endian>(mask: &[T]) -> Option<(u32, u32)
 /// Returns the greatest index that is no member of a slice of any sets, in any order, or 0.
 pub fn greatest_free_of_any<T: BitsOwned, E: Endian>(mask: &[T]) -> u32
     requires { Fits T.indexable (length mask.now * T.type_capacity) }
+    ensures { Some result ≡ last_or (Some 0) (ascending
+        (complement (members E.mirrored T.width
+        (elements_set (length mask.now) T.type_capacity T.big mask.now)))) }
 {
     let mut last = 0;
     for index in mask.iter_zeros_in::<E>() {
@@ -129,6 +144,8 @@ pub fn greatest_free_of_any<T: BitsOwned, E: Endian>(mask: &[T]) -> u32
 /// Returns the greatest member of a slice of any sets, or 0.
 pub fn greatest_of_any<T: BitsOwned>(mask: &[T]) -> u32
     requires { Fits T.indexable (length mask.now * T.type_capacity) }
+    ensures { Some result ≡ last_or (Some 0) (ascending
+        (elements_set (length mask.now) T.type_capacity T.big mask.now)) }
 {
     let mut last = 0;
     for index in mask.iter_ones() {
@@ -140,6 +157,8 @@ pub fn greatest_of_any<T: BitsOwned>(mask: &[T]) -> u32
 /// Returns the greatest member of a slice as a set in little-endian order, or 0.
 pub fn greatest_of_wrapped(mask: &[u64]) -> u32
     requires { length mask.now * 64 < 4294967295 }
+    ensures { Some result ≡ last_or (Some 0) (ascending
+        (members true 64 (elements_set (length mask.now) 64 (digit_set 64) mask.now))) }
 {
     let mut last = 0;
     for index in &Set::from_ref_le(mask) {

@@ -1,18 +1,24 @@
 //! A row with an entry for each number, read at the members of a set: each item is an index.
 
 ghost use Rattle.std.specs.Prelude.{◌≡◌, ◌≤◌, Option, ℕ, length, option_map, slice_index, unwrap_or};
-ghost use Rattle.std.specs.List.{reduce};
-ghost use Rattle.std.specs.Prelude.{max, slice_get};
+ghost use Rattle.std.specs.List.{reduce, last_or, filter, fold, slice_index_or};
+ghost use Rattle.std.specs.Int.Bits.{bit_xor};
+ghost use Rattle.std.specs.Prelude.{max, slice_get, map, Some, true, false, take, drop, not, ◌==◌, ◌<◌, ◌||◌, ◌/◌, ◌%◌, []};
+ghost use Rattle.bittle.specs.Orders.{members};
+ghost use Rattle.bittle.specs.Rows.{elements_set};
 ghost use Rattle.bittle.specs.PlainSet.{ascending, complement};
 ghost use Rattle.bittle.specs.Digits.{digit_set};
 ghost use Rattle.bittle.specs.Searches.{IsFirstIn};
-ghost use Rattle.bittle.specs.Values.{ShapeFits};
+ghost use Rattle.bittle.specs.Values.{set_in, ShapeFits};
 
 use bittle::number::IterOnes;
 use bittle::{BigEndian, Bits, BitsOwned, LittleEndian, Set};
 
 /// Returns the entry at the greatest member of four words, or 0 where there is none.
-pub fn entry_at_greatest_of_words(mask: &[u64; 4], row: &[u32; 256]) -> u32 {
+pub fn entry_at_greatest_of_words(mask: &[u64; 4], row: &[u32; 256]) -> u32
+    ensures { Some result ≡ last_or (Some 0) (map (λ i. slice_index row.now i)
+        (ascending (elements_set 4 64 (digit_set 64) mask.now))) }
+{
     let mut last = 0;
     for index in mask.iter_ones() {
         last = row[index as usize];
@@ -21,7 +27,10 @@ pub fn entry_at_greatest_of_words(mask: &[u64; 4], row: &[u32; 256]) -> u32 {
 }
 
 /// Returns the entry at the greatest index, counted from the left, that is no member, or 0.
-pub fn entry_at_greatest_free(mask: u64, row: &[u32; 64]) -> u32 {
+pub fn entry_at_greatest_free(mask: u64, row: &[u32; 64]) -> u32
+    ensures { Some result ≡ last_or (Some 0) (map (λ i. slice_index row.now i)
+        (ascending (complement (members true 64 (digit_set 64 mask))))) }
+{
     let mut last = 0;
     for index in mask.iter_zeros_le() {
         last = row[index as usize];
@@ -30,7 +39,10 @@ pub fn entry_at_greatest_free(mask: u64, row: &[u32; 64]) -> u32 {
 }
 
 /// Returns the entry at the greatest member of an array that the walk owns, or 0.
-pub fn entry_at_greatest_of_owned(mask: [u16; 4], row: &[u32; 64]) -> u32 {
+pub fn entry_at_greatest_of_owned(mask: [u16; 4], row: &[u32; 64]) -> u32
+    ensures { Some result ≡ last_or (Some 0) (map (λ i. slice_index row.now i)
+        (ascending (elements_set 4 16 (digit_set 16) mask))) }
+{
     let mut last = 0;
     for index in mask.into_iter_ones() {
         last = row[index as usize];
@@ -39,7 +51,10 @@ pub fn entry_at_greatest_of_owned(mask: [u16; 4], row: &[u32; 64]) -> u32 {
 }
 
 /// Returns the entry at the least member, or 0, by a walk from the back.
-pub fn entry_at_least(mask: u64, row: &[u32; 64]) -> u32 {
+pub fn entry_at_least(mask: u64, row: &[u32; 64]) -> u32
+    ensures { result ≡ unwrap_or (option_map (λ i. slice_index row.now i)
+        (slice_get (ascending (digit_set 64 mask)) 0)) 0 }
+{
     let mut last = 0;
     for index in mask.iter_ones().rev() {
         last = row[index as usize];
@@ -48,7 +63,10 @@ pub fn entry_at_least(mask: u64, row: &[u32; 64]) -> u32 {
 }
 
 /// Returns the entry at the greatest member of a set in its own order, or 0.
-pub fn entry_at_greatest_of_set(mask: Set<u64, LittleEndian>, row: &[u32; 64]) -> u32 {
+pub fn entry_at_greatest_of_set(mask: Set<u64, LittleEndian>, row: &[u32; 64]) -> u32
+    ensures { Some result ≡ last_or (Some 0) (map (λ i. slice_index row.now i)
+        (ascending (members true 64 (digit_set 64 mask.bits)))) }
+{
     let mut last = 0;
     for index in mask {
         last = row[index as usize];
@@ -57,7 +75,10 @@ pub fn entry_at_greatest_of_set(mask: Set<u64, LittleEndian>, row: &[u32; 64]) -
 }
 
 /// Returns the entry at the greatest member of a set that is lent, or 0.
-pub fn entry_at_greatest_of_lent_set(mask: &Set<[u64; 4]>, row: &[u32; 256]) -> u32 {
+pub fn entry_at_greatest_of_lent_set(mask: &Set<[u64; 4]>, row: &[u32; 256]) -> u32
+    ensures { Some result ≡ last_or (Some 0) (map (λ i. slice_index row.now i)
+        (ascending (elements_set 4 64 (digit_set 64) mask.now.bits))) }
+{
     let mut last = 0;
     for index in mask {
         last = row[index as usize];
@@ -66,7 +87,10 @@ pub fn entry_at_greatest_of_lent_set(mask: &Set<[u64; 4]>, row: &[u32; 256]) -> 
 }
 
 /// Returns the entry at the greatest member of a set that is walked by name, or 0.
-pub fn entry_at_greatest_of_walked_set(mask: Set<u64>, row: &[u32; 64]) -> u32 {
+pub fn entry_at_greatest_of_walked_set(mask: Set<u64>, row: &[u32; 64]) -> u32
+    ensures { Some result ≡ last_or (Some 0) (map (λ i. slice_index row.now i)
+        (ascending (digit_set 64 mask.bits))) }
+{
     let mut last = 0;
     for index in mask.iter_ones() {
         last = row[index as usize];
@@ -78,6 +102,8 @@ pub fn entry_at_greatest_of_walked_set(mask: Set<u64>, row: &[u32; 64]) -> u32 {
 pub fn entry_at_greatest_of_any<B: BitsOwned>(mask: B, row: &[u32]) -> u32
     requires fits { ShapeFits B.Bits mask }
     requires long { (B.big mask).capacity ≤ length row.now }
+    ensures { Some result ≡ last_or (Some 0) (map (λ i. slice_index row.now i)
+        (ascending (set_in B.Bits B.Order.Endian mask))) }
 {
     let mut last = 0;
     for index in mask.iter_ones() {
@@ -87,7 +113,10 @@ pub fn entry_at_greatest_of_any<B: BitsOwned>(mask: B, row: &[u32]) -> u32
 }
 
 /// Returns the entry at the greatest member, or 0, by the walk of one word.
-pub fn entry_at_greatest_of_word(mask: u64, row: &[u32; 64]) -> u32 {
+pub fn entry_at_greatest_of_word(mask: u64, row: &[u32; 64]) -> u32
+    ensures { Some result ≡ last_or (Some 0) (map (λ i. slice_index row.now i)
+        (ascending (digit_set 64 mask))) }
+{
     let mut last = 0;
     for index in IterOnes::<u64, BigEndian>::new(mask) {
         last = row[index as usize];
@@ -96,14 +125,19 @@ pub fn entry_at_greatest_of_word(mask: u64, row: &[u32; 64]) -> u32 {
 }
 
 /// Marks each member in a row.
-pub fn mark_members(mask: u64, row: &mut [bool; 64]) {
+pub fn mark_members(mask: u64, row: &mut [bool; 64])
+    ensures { (i : ℕ) → i < 64 → slice_index_or row.new i false
+        ≡ (slice_index_or row.old i false || (digit_set 64 mask).has i) }
+{
     for index in mask.iter_ones() {
         row[index as usize] = true;
     }
 }
 
 /// Returns the word again, put together from its members.
-pub fn word_of_members(mask: u64) -> u64 {
+pub fn word_of_members(mask: u64) -> u64
+    ensures { result ≡ mask }
+{
     let mut word = 0;
     for index in mask.iter_ones() {
         word ^= 1u64 << index;
@@ -112,7 +146,11 @@ pub fn word_of_members(mask: u64) -> u64 {
 }
 
 /// Combines the cells of a board of eight rows and eight columns that are members.
-pub fn combine_cells(board: u64, cells: &[[u8; 8]; 8]) -> u8 {
+pub fn combine_cells(board: u64, cells: &[[u8; 8]; 8]) -> u8
+    ensures { result ≡ fold (λ all i. bit_xor all
+        (slice_index (slice_index_or cells.now (i / 8) []) (i % 8))) 0
+        (ascending (digit_set 64 board)) }
+{
     let mut all = 0;
     for cell in board.iter_ones() {
         all ^= cells[cell as usize / 8][cell as usize % 8];
@@ -121,7 +159,10 @@ pub fn combine_cells(board: u64, cells: &[[u8; 8]; 8]) -> u8 {
 }
 
 /// Returns the greatest member of four words, which is a byte, or 0 where there is none.
-pub fn greatest_as_byte(mask: &[u64; 4]) -> u8 {
+pub fn greatest_as_byte(mask: &[u64; 4]) -> u8
+    ensures { Some result ≡ last_or (Some 0)
+        (ascending (elements_set 4 64 (digit_set 64) mask.now)) }
+{
     let mut last = 0;
     for index in mask.iter_ones() {
         last = index as u8;
@@ -174,7 +215,10 @@ pub fn entry_at_maximum(mask: u64, row: &[u32; 64]) -> u32
 }
 
 /// Returns the entry at the greatest member, or 0, by steps of the walk.
-pub fn entry_at_last_step(mask: u64, row: &[u32; 64]) -> u32 {
+pub fn entry_at_last_step(mask: u64, row: &[u32; 64]) -> u32
+    ensures { Some result ≡ last_or (Some 0) (map (λ i. slice_index row.now i)
+        (ascending (digit_set 64 mask))) }
+{
     let mut last = 0;
     let mut walk = mask.iter_ones();
     while let Some(index) = walk.next() {
@@ -184,7 +228,10 @@ pub fn entry_at_last_step(mask: u64, row: &[u32; 64]) -> u32 {
 }
 
 /// Returns the entry at the last of at most three members, without 7 and the first, or 0.
-pub fn entry_at_chosen(mask: u64, row: &[u32; 64]) -> u32 {
+pub fn entry_at_chosen(mask: u64, row: &[u32; 64]) -> u32
+    ensures { Some result ≡ last_or (Some 0) (map (λ i. slice_index row.now i)
+        (take 3 (drop 1 (filter (λ i. not (i == 7)) (ascending (digit_set 64 mask)))))) }
+{
     let mut last = 0;
     for index in mask.iter_ones().filter(|index| *index != 7).skip(1).take(3) {
         last = row[index as usize];
@@ -193,7 +240,10 @@ pub fn entry_at_chosen(mask: u64, row: &[u32; 64]) -> u32 {
 }
 
 /// Returns the entry at the greatest member, or 0, by a clone of the walk.
-pub fn entry_at_greatest_of_clone(mask: u64, row: &[u32; 64]) -> u32 {
+pub fn entry_at_greatest_of_clone(mask: u64, row: &[u32; 64]) -> u32
+    ensures { Some result ≡ last_or (Some 0) (map (λ i. slice_index row.now i)
+        (ascending (digit_set 64 mask))) }
+{
     let walk = mask.iter_ones();
     let mut last = 0;
     if let Ok(again) = walk.clone() {

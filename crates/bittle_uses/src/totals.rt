@@ -1,9 +1,15 @@
 //! Loops over a walk that add up: by a `for`, and written by hand.
 
+ghost use Rattle.std.specs.Prelude.{◌≡◌, sum};
+ghost use Rattle.bittle.specs.Digits.{digit_set};
+ghost use Rattle.bittle.specs.PlainSet.{ascending};
+
 use bittle::Bits;
 
 /// Returns the sum of the members of a word.
-pub fn sum(mask: u64) -> u64 {
+pub fn sum(mask: u64) -> u64
+    ensures { result ≡ sum (ascending (digit_set 64 mask)) }
+{
     let mut total = 0u64;
     for index in mask.iter_ones() {
         total += index as u64;
@@ -12,7 +18,9 @@ pub fn sum(mask: u64) -> u64 {
 }
 
 /// Returns the sum of the members of a word, from the greatest on.
-pub fn sum_from_greatest(mask: u32) -> u64 {
+pub fn sum_from_greatest(mask: u32) -> u64
+    ensures { result ≡ sum (ascending (digit_set 32 mask)) }
+{
     let mut total = 0u64;
     let mut walk = mask.iter_ones();
     while let Some(index) = walk.next_back() {

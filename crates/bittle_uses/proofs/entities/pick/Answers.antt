@@ -1,10 +1,9 @@
-use Rattle.std.proofs.Common.{◌≡◌, ◌<◌, ℕ, Bor, ◌∷◌, [], ◌++◌, map, length, get_or, sym, ap, ◌∙◌, arith, rules}
+use Rattle.std.proofs.Common.{◌≡◌, ◌<◌, ℕ, Bor, ◌∷◌, [], ◌++◌, map, length, sym, ap, ◌∙◌, arith, rules}
 use Rattle.std.proofs.lemmas.List.{take_more_set, map-append, length-append, length-map, length-set, length-take}
 use Rattle.std.specs.Prelude.{slice_index}
 use Rattle.bittle.specs.Digits.{digit_set}
 use Rattle.bittle.specs.PlainSet.{ascending}
-use Rattle.bittle.proofs.CallerJoins.{answers_below, all_answers_at_members}
-use Rattle.bittle.proofs.CallerLists.{ascending_below}
+use Rattle.bittle.proofs.CallerJoins.{answers_below, all_answers_at_members, members_are_places}
 use Rattle.bittle_uses.proofs.entities.pick.Goals as goal
 
 pub bounds-row-count : goal.bounds-row-count
@@ -55,16 +54,9 @@ returns-clause-picked c =
     let start = c.into_iter-component-iterator.ensures.into_iter_gives in
     let items : join.result.iter.rest.now
     ≡ c.args.components.now = ap (λ i. i.rest.now) join.ensures.iter ∙ c.iter.ensures.rest in
-    let bound : (k : ℕ) → k < length join.result.mask.left →
-    get_or join.result.mask.left k 0 < length join.result.iter.rest.now =
-    λ k h. omega (
-      arith,
-      ascending_below (digit_set 64 c.args.mask) k
-          (omega (arith, h, ap length join.ensures.members)),
-      ap (λ xs. get_or xs k 0) join.ensures.members,
-      ap length items,
-      c.told-components,
-    ) in
+    let bound = members_are_places (digit_set 64 c.args.mask) join.result.mask.left
+    join.result.iter.rest.now join.ensures.members
+    (omega (arith, ap length items, c.told-components)) in
     let all = all_answers_at_members (λ i. i.rest.now) join.result
     c.loop-component.component-iterator c.next.new.self c.loop-component.yielded
     join.ensures.end join.ensures.none_taken bound (rw start at c.loop-component.yielded_by)

@@ -1,5 +1,11 @@
-use Rattle.std.proofs.Common.{◌≤◌, ◌*◌, length}
+use Rattle.std.proofs.Common.{◌≡◌, ◌+◌, ◌≤◌, ◌*◌, length}
+use Rattle.std.specs.Iterator.Adapters.{rev_source}
+use Rattle.std.specs.Prelude.{sum}
 use Rattle.bittle_uses.proofs.sums.sum_in_reverse.Given as goal
 
 abbrev pub invariant-loop-index : goal.invariant-loop-index
-invariant-loop-index l = l.total ≤ length l.yielded * 32
+invariant-loop-index l = record {
+  is_sum : l.total + sum (rev_source l.index-iterator).left
+      ≡ sum (rev_source l.initial.index-iterator).left;
+  small : l.total ≤ length l.yielded * 32;
+}

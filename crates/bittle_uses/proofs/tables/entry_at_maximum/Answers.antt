@@ -1,11 +1,8 @@
-use Rattle.std.proofs.Common.{ℕ, sym, ◌∙◌, rules}
-use Rattle.std.proofs.lemmas.Iterator.Adapters.{option_map_id}
-use Rattle.std.proofs.lemmas.Iterator.Consumers.{max_from_yields_List}
-use Rattle.bittle.proofs.CallerWalks.{walk_yields}
+use Rattle.std.proofs.Common.{sym, ◌∙◌, rules}
+use Rattle.bittle.proofs.CallerWalks.{walk_maximum}
 use Rattle.bittle_uses.proofs.tables.entry_at_maximum.Goals as goal
 
 pub returns-in-Some : goal.returns-in-Some
 returns-in-Some c =
-    let most = sym (option_map_id _) ∙ max_from_yields_List {v = λ (i : ℕ). i} _ _
-    c.max.ensures.ran (walk_yields _ _ c.iter_ones.ensures.left) in
+    let most = walk_maximum _ _ _ c.iter_ones.ensures.left c.max.ensures.ran in
     rw (sym most ∙ c.in-Some.is) (search rules)

@@ -1,5 +1,9 @@
-use Rattle.std.proofs.Common.{◌+◌, ◌≤◌, ◌*◌, length}
+use Rattle.std.proofs.Common.{◌≡◌, ◌+◌, ◌≤◌, ◌*◌, length}
+use Rattle.std.specs.Prelude.{sum}
 use Rattle.bittle_uses.proofs.totals.sum.Given as goal
 
 abbrev pub invariant-loop-index : goal.invariant-loop-index
-invariant-loop-index l = l.total + length l.index-iterator.left * 64 ≤ 64 * 64
+invariant-loop-index l = record {
+  is_sum : l.total + sum l.index-iterator.left ≡ sum l.initial.index-iterator.left;
+  small : l.total + length l.index-iterator.left * 64 ≤ 64 * 64;
+}

@@ -1,0 +1,43 @@
+use Rattle.std.proofs.Common.{◌≡◌, ℕ, List, [], ◌∷◌, ◌++◌, ◌==◌, not, map, Some, Option, refl, sym, ap, ◌∙◌, arith}
+use Rattle.std.specs.List.{last_or}
+use Rattle.std.specs.Prelude.{slice_index}
+use Rattle.std.proofs.lemmas.Bool.Decides.{nat_tests}
+use Rattle.std.specs.Iterator.Adapters.{filter_callee, filter_source, skip_count, skip_source}
+use Rattle.std.proofs.lemmas.Iterator.{YieldsList-from_take, items_from_drains}
+use Rattle.std.proofs.lemmas.Iterator.Adapters.{YieldsList-from_skip}
+use Rattle.std.proofs.lemmas.Iterator.Consumers.{YieldsList-from_filter}
+use Rattle.std.proofs.lemmas.List.{map-id}
+use Rattle.bittle.proofs.CallerWalks.{walk_yields}
+use Rattle.bittle_uses.proofs.tables.entry_at_chosen.Goals as goal
+
+-- an item that is put at the end is the last
+last_pushed : (f : ℕ → ℕ) (o : Option ℕ) (xs : List ℕ) (x : ℕ) →
+    last_or o (map f (xs ++ x ∷ [])) ≡ Some (f x)
+last_pushed f o [] x = refl
+last_pushed f o (y ∷ ys) x = last_pushed f (Some (f y)) ys x
+
+pub loop-index-preserved : goal.loop-index-preserved
+loop-index-preserved c =
+    sym (last_pushed (λ i. slice_index c.args.row.now i) (Some 0) c.loop-index.yielded
+    c.in-Some.index)
+
+pub returns : goal.returns
+returns c =
+    let t = c.take-index-items in
+    let start = c.into_iter-index-iterator.ensures.into_iter_gives in
+    let inner = ap skip_source t.ensures.source ∙ c.skip.ensures.source in
+    let walk = ap filter_source inner ∙ c.filter.ensures.source in
+    let kept = YieldsList-from_filter _ (λ i. not (i == 7)) (walk_yields t.result.iter.iter.iter _
+    (ap (λ w. w.left) walk ∙ c.iter_ones.ensures.left))
+    (ap filter_callee inner ∙ c.filter.ensures.closure)
+    (λ x b q k. (refl, grind (arith, nat_tests, k))) in
+    let road = YieldsList-from_take 3 (YieldsList-from_skip 1 kept
+    (ap skip_count t.ensures.source ∙ c.skip.ensures.count)) t.ensures.count in
+    let items = items_from_drains c.loop-index.yielded (
+      c.loop-index.index-iterator,
+      rw start at c.loop-index.yielded_by,
+      λ _. (c.next.new.self, c.in-None.ensures.steps),
+    ) road in
+    c.loop-index.invariant
+    ∙ ap (λ xs. last_or (Some 0) (map (λ i. slice_index c.args.row.now i) xs))
+    (sym (map-id c.loop-index.yielded) ∙ items)
