@@ -22,7 +22,8 @@ walk_maximum w items r e ran =
     sym (option_map_id r)
     ∙ max_from_yields_List {v = λ (i : ℕ). i} w r ran (walk_yields w items e)
 
--- an iterator that steps a walk from the back, as `rev` does, gives in reverse what the walk has left
+-- an iterator that steps a walk from the back, as `rev` does, gives in reverse what the walk has
+-- left
 pub reversed_walk_yields : {S : Type 0} (walk : S → Walk) (s : S) (items : List ℕ) →
     (walk s).left ≡ items →
     YieldsList (λ s r t. StepsBack (walk s) r (walk t)) (λ x. x) s (reverse items)

@@ -165,9 +165,9 @@ fn has_none<T: BitsOwned, K: Kind>(element: &T) -> bool
 }
 
 /// Returns how many elements at the beginning have no bit of the kind, by one test for each four.
-// It counts none of a short row, of elements of more than a word, or where the first one decides:
-// there one by one is faster. It promises nothing of the element that it stops at, which is tested
-// again.
+// It counts none of a short row, or where the first one decides, since one by one is faster there;
+// nor of elements of more than a word, of which it might ask three in vain. It promises nothing of
+// the element that it stops at, which is tested again.
 #[inline]
 fn beginning_without<T: BitsOwned, K: Kind>(elements: &[T]) -> usize
     ensures within { result ≤ length elements.now }
