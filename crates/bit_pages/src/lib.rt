@@ -11,8 +11,6 @@ ghost use Rattle.bit_pages.specs.Pages.{request_answers, final_state};
 
 #[doc(hidden)]
 pub mod laws;
-#[cfg(test)]
-mod tests;
 
 use bittle::{BitsOwned, Set};
 use std::error::Error;

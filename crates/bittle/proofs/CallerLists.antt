@@ -1,10 +1,12 @@
 -- Facts of the increasing list of a set's members that callers cite.
-use Rattle.std.proofs.Common.{◌≡◌, ℕ, zero, suc, ◌+◌, ◌-◌, ◌<◌, ◌≤◌, Bool, true, false, cond, List, [], ◌∷◌, ◌++◌, length, length-append, get_or, Some, inl, inr, refl, sym, ap, ◌∙◌, subst, arith, IsTrue, ◌↔◌}
-use Rattle.std.specs.List.{Contains}
+use Rattle.std.proofs.Common.{◌≡◌, ℕ, zero, suc, ◌+◌, ◌-◌, ◌<◌, ◌≤◌, ◌==◌, Bool, true, false, cond, List, [], ◌∷◌, ◌++◌, length, length-append, get_or, Some, inl, inr, refl, sym, ap, ◌∙◌, subst, arith, IsTrue, ◌↔◌}
+use Rattle.std.specs.List.{Contains, list_any}
 use Rattle.std.specs.Ordering.{is_eq}
-use Rattle.std.proofs.lemmas.Bool.{cases_Bool, cases_eq}
+use Rattle.std.proofs.lemmas.Bool.{cases_Bool, cases_eq, eqb-true}
+use Rattle.std.proofs.lemmas.Bool.Decides.{nat_tests}
 use Rattle.std.proofs.lemmas.List.{get_or_push}
 use Rattle.std.proofs.lemmas.List.Elements.{Contains-append_left, Contains-push, at_from_Contains}
+use Rattle.std.proofs.lemmas.List.Folds.{Any-from_list_any, list_any_at}
 use Rattle.bittle_bits.specs.PlainSet.{PlainSet, ascending, ascending_from}
 use Rattle.bittle_bits.specs.Searches.{NoneIn, IsFirstIn, IsLastIn}
 use Rattle.bittle_bits.proofs.AscendingLists.{ascending-below as below, ascending-at, ascending_from-none}
@@ -130,6 +132,25 @@ unlisted s i c =
 pub ascending_contains : (s : PlainSet) (i : ℕ) →
     Contains (ascending s) i ↔ ((i < s.capacity) × (s.has i ≡ true))
 ascending_contains s i = (unlisted s i, λ h. listed s i h.0 h.1)
+
+-- a test of each number of the list finds one below the capacity exactly if it is a member
+pub ascending_has : (s : PlainSet) (i : ℕ) → i < s.capacity →
+    list_any (λ k. k == i) (ascending s) ≡ s.has i
+ascending_has s i h =
+    elim (cases_Bool (s.has i)) [
+      | inl here ↦
+          let c = at_from_Contains (ascending s) i (listed s i h here) in
+          let e = c.2 0 in
+          list_any_at (λ k. k == i) (ascending s) c.0 0 c.1 (grind (arith, nat_tests)) ∙ sym here
+      | inr gone ↦ elim (cases_Bool (list_any (λ k. k == i) (ascending s))) [
+        | inl found ↦
+            let a = Any-from_list_any (λ k. k == i) (ascending s) found in
+            let same : a.1 ≡ i = eqb-true a.1 i a.4 in
+            let is = (unlisted s a.1 (a.0, a.2, a.3)).1 in
+            found ∙ sym is ∙ ap s.has same
+        | inr none ↦ none ∙ sym gone
+      ]
+    ]
 
 -- the last item is the greatest member
 pub ascending_last : (s : PlainSet) (i : ℕ) (front : List ℕ) → ascending s ≡ front ++ i ∷ [] →

@@ -1,7 +1,7 @@
 -- How many members a row of elements has.
-use Rattle.std.proofs.Common.{◌≡◌, ◌≢◌, ℕ, zero, suc, ◌+◌, ◌*◌, ◌<◌, ◌≤◌, Bool, sym, ap, ◌∙◌, arith, List, [], ◌∷◌, length, get_or, take, subst}
+use Rattle.std.proofs.Common.{◌≡◌, ◌≢◌, ℕ, zero, suc, ◌+◌, ◌*◌, ◌<◌, ◌≤◌, Bool, true, false, cond, sym, ap, ◌∙◌, arith, List, [], ◌∷◌, length, get_or, take, subst}
 use Rattle.std.proofs.Math.Path.{fun_ext}
-use Rattle.std.proofs.Math.Nat.{zero-mul}
+use Rattle.std.proofs.Math.Nat.{zero-mul, mul-zero}
 use Rattle.std.specs.List.{sum_by}
 use Rattle.std.proofs.lemmas.List.Sums.{sum_by-cons, sum_by_more_le}
 use Rattle.std.proofs.lemmas.List.{take_all}
@@ -91,22 +91,36 @@ module _ {X : Type 0} (c : ℕ) (big : X → PlainSet) (xs : List X) (owned : (x
   row_count_all i total l t = t ∙ ap (sum_by (λ x. size (big x))) (take_all i xs l) ∙ sym row_total
 
   -- a row whose elements all have one size has it once for each element
-  pub row_each : (v : ℕ) → ((k : ℕ) (d : X) → k < length xs → size (big (get_or xs k d)) ≡ v) →
+  row_each : (v : ℕ) → ((k : ℕ) (d : X) → k < length xs → size (big (get_or xs k d)) ≡ v) →
       size (elements_set (length xs) c big xs) ≡ length xs * v
   row_each v h = row_total ∙ sum_by-all (λ x. size (big x)) v xs h
 
   -- a row has a member where one of its elements has one
-  pub row_some : (i : ℕ) (x : X) → x ≡ get_or xs i x → i < length xs → size (big x) ≢ 0 →
+  row_some : (i : ℕ) (x : X) → x ≡ get_or xs i x → i < length xs → size (big x) ≢ 0 →
       size (elements_set (length xs) c big xs) ≢ 0
   row_some i x at l n z =
       let e : size (big x) ≡ size (big (get_or xs i x)) = ap (λ y. size (big y)) at in
       n (omega (arith, e, sum_by_more_le (λ x. size (big x)) xs i x l, row_total))
 
   -- a row is not full where one of its elements is not
-  pub row_lacks : (i : ℕ) (x : X) → x ≡ get_or xs i x → i < length xs →
+  row_lacks : (i : ℕ) (x : X) → x ≡ get_or xs i x → i < length xs →
       size (big x) ≢ (big x).capacity → size (elements_set (length xs) c big xs) ≢ length xs * c
   row_lacks i x at l n z =
       let e : size (big x) ≡ size (big (get_or xs i x)) = ap (λ y. size (big y)) at in
       let b : size (big (get_or xs i x)) < c = omega (arith, e, owned x, each-le (get_or xs i x)) in
       let t = sum_by-short (λ x. size (big x)) c xs i x each-le l b in
       omega (arith, row_total)
+
+  -- no element has a bit of the kind
+  pub row_without : (ones : Bool) →
+      ((k : ℕ) (d : X) → k < length xs → size (big (get_or xs k d)) ≡ cond ones 0 c) →
+      size (elements_set (length xs) c big xs) ≡ cond ones 0 (length xs * c)
+  row_without true h = row_each 0 h ∙ mul-zero _
+  row_without false h = row_each c h
+
+  -- an element has a bit of the kind
+  pub row_with : (ones : Bool) (i : ℕ) (x : X) → x ≡ get_or xs i x → i < length xs →
+      size (big x) ≢ cond ones 0 c →
+      size (elements_set (length xs) c big xs) ≢ cond ones 0 (length xs * c)
+  row_with true i x at l n = row_some i x at l n
+  row_with false i x at l n = row_lacks i x at l (λ e. n (e ∙ owned x))

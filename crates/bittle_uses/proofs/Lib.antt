@@ -1,3 +1,4 @@
+pub mod JoinedWords
 pub mod SieveSteps
 pub mod RoleOrder
 pub mod Subsets

@@ -191,6 +191,23 @@ fn beginning_without<T: BitsOwned, K: Kind>(elements: &[T]) -> usize
     elements.len() / 4 * 4
 }
 
+/// Returns whether no element has a bit of the kind.
+fn is_without<T: BitsOwned, K: Kind>(elements: &[T]) -> bool
+    ensures value { result ≡ (size
+        (elements_set (length elements.now) T.type_capacity T.big elements.now)
+        == cond K.ONES 0 (length elements.now * T.type_capacity)) }
+    ensures in_each_order { (mirrored : Bool) → result ≡ (size (members mirrored T.width
+        (elements_set (length elements.now) T.type_capacity T.big elements.now))
+        == cond K.ONES 0 (length elements.now * T.type_capacity)) }
+{
+    for at in beginning_without::<T, K>(elements)..elements.len() {
+        if !has_none::<T, K>(&elements[at]) {
+            return false;
+        }
+    }
+    true
+}
+
 /// Returns whether no bit is set.
 pub fn all_zeros<T: BitsOwned>(elements: &[T]) -> bool
     ensures value { result ≡ (size
@@ -198,12 +215,7 @@ pub fn all_zeros<T: BitsOwned>(elements: &[T]) -> bool
     ensures in_each_order { (mirrored : Bool) → result ≡ (size (members mirrored T.width
         (elements_set (length elements.now) T.type_capacity T.big elements.now)) == 0) }
 {
-    for at in beginning_without::<T, Ones>(elements)..elements.len() {
-        if !elements[at].all_zeros() {
-            return false;
-        }
-    }
-    true
+    is_without::<T, Ones>(elements)
 }
 
 /// Returns whether every bit is set.
@@ -215,12 +227,7 @@ pub fn all_ones<T: BitsOwned>(elements: &[T]) -> bool
         (elements_set (length elements.now) T.type_capacity T.big elements.now))
         == length elements.now * T.type_capacity) }
 {
-    for at in beginning_without::<T, Zeros>(elements)..elements.len() {
-        if !elements[at].all_ones() {
-            return false;
-        }
-    }
-    true
+    is_without::<T, Zeros>(elements)
 }
 
 /// Returns word `k` of the row, which lies in one element.

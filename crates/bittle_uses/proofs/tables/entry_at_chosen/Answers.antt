@@ -1,4 +1,4 @@
-use Rattle.std.proofs.Common.{◌≡◌, ℕ, List, [], ◌∷◌, ◌++◌, ◌==◌, not, map, Some, Option, refl, sym, ap, ◌∙◌, arith}
+use Rattle.std.proofs.Common.{◌==◌, not, map, Some, refl, sym, ap, ◌∙◌, arith}
 use Rattle.std.specs.List.{last_or}
 use Rattle.std.specs.Prelude.{slice_index}
 use Rattle.std.proofs.lemmas.Bool.Decides.{nat_tests}
@@ -8,13 +8,8 @@ use Rattle.std.proofs.lemmas.Iterator.Adapters.{YieldsList-from_skip}
 use Rattle.std.proofs.lemmas.Iterator.Consumers.{YieldsList-from_filter}
 use Rattle.std.proofs.lemmas.List.{map-id}
 use Rattle.bittle.proofs.CallerWalks.{walk_yields}
+use Rattle.bittle_uses.proofs.Lasts.{last_pushed}
 use Rattle.bittle_uses.proofs.tables.entry_at_chosen.Goals as goal
-
--- an item that is put at the end is the last
-last_pushed : (f : ℕ → ℕ) (o : Option ℕ) (xs : List ℕ) (x : ℕ) →
-    last_or o (map f (xs ++ x ∷ [])) ≡ Some (f x)
-last_pushed f o [] x = refl
-last_pushed f o (y ∷ ys) x = last_pushed f (Some (f y)) ys x
 
 pub loop-index-preserved : goal.loop-index-preserved
 loop-index-preserved c =

@@ -2,7 +2,7 @@
 
 ghost use Rattle.bittle.specs.Shapes.{Fits};
 
-use crate::{Answer, NotTaken, Pages, Request};
+use bit_pages::{Answer, NotTaken, Pages, Request};
 use bittle::{BitsOwned, LittleEndian, Set};
 use std::test::Fail;
 

@@ -1,0 +1,5 @@
+//! Tests of the allocator: values worked out by hand.
+#![tactic(auto)]
+
+#[cfg(test)]
+mod requests;

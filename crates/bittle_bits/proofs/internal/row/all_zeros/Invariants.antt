@@ -1,7 +1,0 @@
-use Rattle.std.proofs.Common.{◌≡◌, ℕ, ◌<◌, get_or}
-use Rattle.bittle_bits.specs.PlainSet.{size}
-use Rattle.bittle_bits.proofs.internal.row.all_zeros.Given as goal
-
-abbrev pub invariant-loop-at : goal.invariant-loop-at
-invariant-loop-at g l = (k : ℕ) (d : _) → k < l.at →
-    size (g.T.Bits.big (get_or l.elements k d)) ≡ 0
