@@ -1,13 +1,17 @@
 -- The calls on one index of a word, by a mask whose one member it is.
-use Rattle.std.proofs.Common.{◌≡◌, ℕ, ◌-◌, ◌%◌, ◌^◌, ◌<◌, Bool, true, false, not, ◌&&◌, ◌||◌, ◌==◌, nat_lt, ◌⊎◌, inl, inr, refl, sym, ap, ◌∙◌, bit_and, bit_or}
+use Rattle.std.proofs.Common.{◌≡◌, ℕ, ◌-◌, ◌%◌, ◌^◌, ◌<◌, Bool, true, false, not, ◌&&◌, ◌||◌, ◌==◌, nat_lt, ◌⊎◌, inl, inr, refl, sym, ap, ◌∙◌, subst, arith, bit_and, bit_or, bit_xor}
 use Rattle.std.proofs.Math.Path.{fun_ext}
+use Rattle.std.proofs.Math.Nat.{mod-eq_of_lt}
 use Rattle.std.proofs.lemmas.Nat.{mod_below}
-use Rattle.std.proofs.lemmas.Bool.{cases_eq, eq-eqb, ne_eqb, eqb-true, and_parts}
+use Rattle.std.proofs.lemmas.Bool.{cases_eq, cases_lt, eq-eqb, ne_eqb, eqb-true, and_parts, true≢false}
 use Rattle.bittle_words.specs.Digits.{digit_has, digit_set}
 use Rattle.bittle_words.specs.Orders.{place, members}
 use Rattle.bittle_words.specs.PlainSet.{contains, with_index, without_index, empty_set, lacks}
 use Rattle.bittle_words.proofs.DigitSets.{digit_has-and, digit_has-or, digit_has-not, digit_has-pow, digit_has-zero, some_digit}
 use Rattle.bittle_words.proofs.PlaceLemmas.{place_eq, place_in_word, place-place, mirror_in_word}
+use Rattle.bittle_words.specs.SetOperations.{combination_has, just_one}
+use Rattle.bittle_words.proofs.SetOperations.{combination-below, combination-outside}
+use Rattle.bittle_words.proofs.WordOperations.{digits_just_one, word_combined}
 use Rattle.bittle_words.proofs.PlainSets.{plain_set, contains_in, has_with-in, with_in, without_in}
 
 or_false : (b : Bool) → b || false ≡ b
@@ -73,6 +77,35 @@ module _ (m : Bool) (w d e i : ℕ) (h : 0 < w)
       && (nat_lt (place m w k) w && not b)) (at_mask k) ∙ outside (nat_lt (place m w k) w) _
       (k == i % w))
       ∙ sym (without_in (members m w (digit_set w d)) w i refl h))
+
+  flips : (x here : Bool) → (here ≡ true → x ≡ true) → just_one x here ≡ not here && x
+  flips true true is = refl
+  flips true false is = refl
+  flips false true is = absurd (true≢false (sym (is refl)))
+  flips false false is = refl
+
+  -- the exclusive or with the mask of a member clears it
+  pub word_flipped : i < w → (members m w (digit_set w d)).has i ≡ true →
+      members m w (digit_set w (bit_xor d e)) ≡ without_index (members m w (digit_set w d)) i
+  word_flipped inside is =
+      word_combined just_one w d e (bit_xor d e) m h (digits_just_one w d e)
+      ∙ ap (plain_set w) (fun_ext each)
+      ∙ sym (without_in (members m w (digit_set w d)) w i refl h)
+    where
+      each : (k : ℕ) → combination_has just_one (members m w (digit_set w d))
+          (members m w (digit_set w e)) k ≡ not (k == i % w) && digit_has w d (place m w k)
+      each k = elim (cases_lt k w) [
+        | inl l ↦ combination-below just_one (members m w (digit_set w d))
+            (members m w (digit_set w e)) k l l
+            ∙ ap (just_one (digit_has w d (place m w k))) (at_mask k)
+            ∙ flips (digit_has w d (place m w k)) (k == i % w)
+            (λ e. subst (λ j. digit_has w d (place m w j) ≡ true)
+            (sym (eqb-true k (i % w) e ∙ mod-eq_of_lt inside)) is)
+        | inr g ↦ combination-outside just_one (members m w (digit_set w d))
+            (members m w (digit_set w e)) k g
+            ∙ ap (λ b. not b && digit_has w d (place m w k))
+            (sym (ne_eqb k (i % w) (λ e. absurd (omega (arith, e, mod_below i w h)))))
+      ]
 
   -- the digits that the word and the mask share
   shared : (k : ℕ) → digit_has w (bit_and d e) (place m w k) ≡ digit_has w d (place m w k)

@@ -1,7 +1,7 @@
 //! The calls on one word, for every width at once.
 
 ghost use Rattle.std.specs.Iterator.{YieldsFirst, YieldsLast};
-ghost use Rattle.std.specs.Prelude.{◌≡◌, ◌==◌, Bool, ◌*◌, ◌<◌, ◌≤◌, IfSome};
+ghost use Rattle.std.specs.Prelude.{◌≡◌, ◌==◌, Bool, ◌*◌, ◌<◌, ◌≤◌, IfSome, IsTrue};
 ghost use Rattle.bittle_words.specs.Digits.{digit_set};
 ghost use Rattle.bittle_words.specs.Orders.{members};
 ghost use Rattle.bittle_words.specs.PlainSet.{contains, with_index, with_span, without_index, empty_set, without_members, full_set, size, ascending, IsLeastMember};
@@ -129,6 +129,19 @@ pub fn ones<T: Number>() -> T
     T::zero().not()
 }
 
+// Clears a bit that is set. An exclusive or turns it by one instruction, where an and of the
+// inverted mask takes two.
+#[inline]
+fn clear_set_bit<T: Number, E: Endian>(word: &mut T, index: u32)
+    requires within { index < T.width }
+    requires set { IsTrue
+        ((members E.mirrored T.width (digit_set T.width (T.digits word.old))).has index) }
+    ensures { members E.mirrored T.width (digit_set T.width (T.digits word.new))
+        ≡ without_index (members E.mirrored T.width (digit_set T.width (T.digits word.old))) index }
+{
+    *word = word.xor(E::mask::<T>(index));
+}
+
 // Clears the least member. Where it is the least digit, the word less one lacks it, and below it
 // has digits that the word lacks: a step waits for that alone, and not for the index.
 #[inline]
@@ -140,7 +153,7 @@ fn clear_first<T: Number, E: Endian>(word: &mut T, index: u32)
         ≡ without_index (members E.mirrored T.width (digit_set T.width (T.digits word.old))) index }
 {
     if E::is_mirrored() {
-        clear_bit::<T, E>(word, index);
+        clear_set_bit::<T, E>(word, index);
     } else {
         *word = word.and(T::from_digits(word.to_digits() - 1));
     }
@@ -175,7 +188,7 @@ pub fn take_last<T: Number, E: Endian>(word: &mut T) -> Option<u32>
         return None;
     }
     let index = T::width() - 1 - below_last;
-    clear_bit::<T, E>(word, index);
+    clear_set_bit::<T, E>(word, index);
     Some(index)
 }
 
