@@ -304,35 +304,22 @@ one_way s t p q = by (cases_eq p.0 q.0)
 
 -- the order of the lists, by what decides it
 module _ (s t : PlainSet) (ends_s : EndsAtCapacity s) (ends_t : EndsAtCapacity t) where
-  is_less : (o : Ordering) → Precedes s t →
-      MatchOrdering o (Precedes s t) (AreSame s t) (Precedes t s) → o ≡ Less
-  is_less Less p h = refl
-  is_less Equal p h = absurd (not_both s t p h)
-  is_less Greater p h = absurd (one_way s t p h)
+  both : (a b : Ordering) → MatchOrdering a (Precedes s t) (AreSame s t) (Precedes t s) →
+      MatchOrdering b (Precedes s t) (AreSame s t) (Precedes t s) → a ≡ b
+  both Less Less h k = refl
+  both Less Equal h k = absurd (not_both s t h k)
+  both Less Greater h k = absurd (one_way s t h k)
+  both Equal Less h k = absurd (not_both s t k h)
+  both Equal Equal h k = refl
+  both Equal Greater h k = absurd (not_both t s k (λ i. sym (h i)))
+  both Greater Less h k = absurd (one_way s t k h)
+  both Greater Equal h k = absurd (not_both t s h (λ i. sym (k i)))
+  both Greater Greater h k = refl
 
-  is_equal : (o : Ordering) → AreSame s t →
-      MatchOrdering o (Precedes s t) (AreSame s t) (Precedes t s) → o ≡ Equal
-  is_equal Less p h = absurd (not_both s t h p)
-  is_equal Equal p h = refl
-  is_equal Greater p h = absurd (not_both t s h (λ i. sym (p i)))
-
-  is_greater : (o : Ordering) → Precedes t s →
-      MatchOrdering o (Precedes s t) (AreSame s t) (Precedes t s) → o ≡ Greater
-  is_greater Less p h = absurd (one_way s t h p)
-  is_greater Equal p h = absurd (not_both t s p (λ i. sym (h i)))
-  is_greater Greater p h = refl
-
-  -- a set that precedes the other has the lesser list
-  pub cmp_less : Precedes s t → Less ≡ list_cmp (ascending s) (ascending t)
-  cmp_less p = sym (is_less _ p (list_cmp-precedes s t ends_s ends_t))
-
-  -- sets of the same members have equal lists
-  pub cmp_equal : AreSame s t → Equal ≡ list_cmp (ascending s) (ascending t)
-  cmp_equal p = sym (is_equal _ p (list_cmp-precedes s t ends_s ends_t))
-
-  -- a set that the other precedes has the greater list
-  pub cmp_greater : Precedes t s → Greater ≡ list_cmp (ascending s) (ascending t)
-  cmp_greater p = sym (is_greater _ p (list_cmp-precedes s t ends_s ends_t))
+  -- what decides the order of two sets decides that of their lists
+  pub cmp_decided : (o : Ordering) → MatchOrdering o (Precedes s t) (AreSame s t) (Precedes t s) →
+      o ≡ list_cmp (ascending s) (ascending t)
+  cmp_decided o h = both o _ h (list_cmp-precedes s t ends_s ends_t)
 
   not_true : (b : Bool) → (IsTrue b → ⊥) → false ≡ b
   not_true true h = absurd (h refl)
@@ -341,7 +328,7 @@ module _ (s t : PlainSet) (ends_s : EndsAtCapacity s) (ends_t : EndsAtCapacity t
   -- the lists are equal exactly where no index is in just one set
   pub none_equal : (r : Option ℕ) → MatchOption r (AreSame s t) (λ d. IsFirstApart s t d) →
       is_none r ≡ is_eq (list_cmp (ascending s) (ascending t))
-  none_equal None h = ap is_eq (cmp_equal h)
+  none_equal None h = ap is_eq (cmp_decided Equal h)
   none_equal (Some d) h = not_true _ (λ e. differ _ _ h.1
       ((equal_iff_same s t _ (list_cmp-precedes s t ends_s ends_t)).0 e d))
 

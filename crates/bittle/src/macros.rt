@@ -114,7 +114,7 @@ pub fn put_until<B: BitsMut>(bits: &mut B, from: u32, to: u32)
     requires { ShapeFits B.Bits bits.old }
     ensures set { set_in B.Bits B.Order.Endian bits.new
         ≡ with_range (set_in B.Bits B.Order.Endian bits.old) from to }
-    ensures stays { B.same_place bits.old bits.new }
+    ensures stays { B.loan bits.old ≡ B.loan bits.new }
 {
     put_until_in::<B, B::Order>(bits, from, to);
 }
@@ -125,7 +125,7 @@ pub fn put_until_in<B: BitsMut, E: Endian>(bits: &mut B, from: u32, to: u32)
     requires { ShapeFits B.Bits bits.old }
     ensures set { set_in B.Bits E.Endian bits.new
         ≡ with_range (set_in B.Bits E.Endian bits.old) from to }
-    ensures stays { B.same_place bits.old bits.new }
+    ensures stays { B.loan bits.old ≡ B.loan bits.new }
 {
     if from < to {
         put_through_in::<B, E>(bits, from, to - 1);
@@ -141,7 +141,7 @@ pub fn put_through<B: BitsMut>(bits: &mut B, from: u32, to: u32)
     requires { ShapeFits B.Bits bits.old }
     ensures set { set_in B.Bits B.Order.Endian bits.new
         ≡ with_range (set_in B.Bits B.Order.Endian bits.old) from (to + 1) }
-    ensures stays { B.same_place bits.old bits.new }
+    ensures stays { B.loan bits.old ≡ B.loan bits.new }
 {
     put_through_in::<B, B::Order>(bits, from, to);
 }
@@ -151,7 +151,7 @@ pub fn put_through_in<B: BitsMut, E: Endian>(bits: &mut B, from: u32, to: u32)
     requires { ShapeFits B.Bits bits.old }
     ensures set { set_in B.Bits E.Endian bits.new
         ≡ with_range (set_in B.Bits E.Endian bits.old) from (to + 1) }
-    ensures stays { B.same_place bits.old bits.new }
+    ensures stays { B.loan bits.old ≡ B.loan bits.new }
 {
     if to < from {
         return;

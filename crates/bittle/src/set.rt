@@ -252,11 +252,7 @@ impl<T: Bits, U: Endian> Bits for Set<T, U> {
 }
 
 impl<T: BitsMut, U: Endian> BitsMut for Set<T, U> {
-    ghost same_place = { λ s t. T.same_place s.bits t.bits };
-
-    ghost same_place_self = { λ s. T.same_place_self s.bits };
-
-    ghost same_place_on = { λ s t u. T.same_place_on s.bits t.bits u.bits };
+    ghost loan = { λ s. T.loan s.bits };
 
     #[inline]
     fn set_bit_in<E: Endian>(&mut self, index: u32) {

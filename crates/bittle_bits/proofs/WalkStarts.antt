@@ -3,19 +3,12 @@ use Rattle.std.proofs.Common.{◌≡◌, ℕ, ◌+◌, ◌-◌, ◌*◌, ◌/◌
 use Rattle.std.proofs.Math.Nat.{mul-div_left, zero-mul}
 use Rattle.bittle_bits.specs.Copies.{CopyPair, members_between}
 use Rattle.bittle_bits.specs.PlainSet.{PlainSet, ascending}
-use Rattle.bittle_bits.specs.Cursor.{items_left_in, walk_of, Retires}
+use Rattle.bittle_bits.specs.Cursor.{items_left_in, walk_of, Retires, IsWalkStart}
 use Rattle.bittle_bits.specs.Walk.{IsFresh}
 use Rattle.bittle_bits.specs.declared.internal.cursor.Cursor.{Cursor}
 use Rattle.bittle_bits.proofs.Items.{members_between-all}
 use Rattle.bittle_bits.proofs.IteratorRuns.{is_fresh}
 use Rattle.bittle_bits.proofs.Steps.{head_fetched, tail_fetched}
-
--- all items are left, and nothing is counted but the words that were fetched
-pub record IsWalkStart {B E O W : Type 0} (s : PlainSet) (words w : ℕ) (t : Cursor B E O W) :
-    Type 0 where
-  pub left : items_left_in s w t ≡ ascending s
-  pub fresh : IsFresh words (walk_of s words w t)
-  pub retires : Retires words t
 
 module _ {B E O W : Type 0} (s : PlainSet) (words w : ℕ) where
   -- with no copy

@@ -1,8 +1,8 @@
 -- Where a walk stands: two copies, and the words between them.
-use Rattle.std.specs.Prelude.{ℕ, ◌+◌, ◌-◌, ◌*◌, ◌≤◌, List, ◌++◌}
+use Rattle.std.specs.Prelude.{◌≡◌, ℕ, ◌+◌, ◌-◌, ◌*◌, ◌≤◌, List, ◌++◌}
 use Rattle.bittle_bits.specs.Copies.{members_between, items_in, copy_count}
-use Rattle.bittle_bits.specs.PlainSet.{PlainSet}
-use Rattle.bittle_bits.specs.Walk.{Walk}
+use Rattle.bittle_bits.specs.PlainSet.{PlainSet, ascending}
+use Rattle.bittle_bits.specs.Walk.{Walk, IsFresh}
 use Rattle.bittle_bits.specs.declared.internal.cursor.Cursor.{Cursor}
 
 -- the types are those of the set, of the order of the walk, and of the order and the words of the
@@ -34,3 +34,10 @@ pub record Retires {B E O W : Type 0} (words : ℕ) (at : Cursor B E O W) : Type
   pub at_most : at.copies.looks + copy_count at.copies.head + (at.high - at.low) + copy_count
       at.copies.tail ≤ at.items + words
   pub once : at.copies.fetches + (at.high - at.low) ≤ words
+
+-- all items are left, and nothing is counted but the words that were fetched
+pub record IsWalkStart {B E O W : Type 0} (s : PlainSet) (words w : ℕ) (t : Cursor B E O W) :
+    Type 0 where
+  pub left : items_left_in s w t ≡ ascending s
+  pub fresh : IsFresh words (walk_of s words w t)
+  pub retires : Retires words t

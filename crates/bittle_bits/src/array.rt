@@ -85,12 +85,6 @@ impl<T: BitsOwned, const N: usize> Bits for [T; N] {
 }
 
 impl<T: BitsOwned, const N: usize> BitsMut for [T; N] {
-    ghost same_place = { λ _ _. Unit {0} };
-
-    ghost same_place_self = { λ _. tt };
-
-    ghost same_place_on = { λ _ _ _ _ _. tt };
-
     #[inline]
     fn set_bit_in<E: Endian>(&mut self, index: u32) {
         row::set_bit::<T, E>(self, index);

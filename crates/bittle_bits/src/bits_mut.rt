@@ -1,6 +1,6 @@
 //! Changing a set.
 
-ghost use Rattle.std.specs.Prelude.{◌≡◌, ◌≤◌, Bool, IsTrue};
+ghost use Rattle.std.specs.Prelude.{◌≡◌, ◌≤◌, ℕ, Bool, IsTrue};
 ghost use Rattle.bittle_bits.specs.Orders.{members};
 ghost use Rattle.bittle_bits.specs.PlainSet.{with_index, with_span, without_index, without_members};
 ghost use Rattle.bittle_bits.specs.SetOperations.{combination_of, union_of, conjunction_of, difference_of, symmetric_difference_of};
@@ -12,9 +12,8 @@ use crate::operation::{Conjunction, Difference, Operation, SymmetricDifference, 
 
 /// A set that can be changed. No change alters the capacity.
 pub trait BitsMut: Bits {
-    // How the values before and after a change stand to each other: of a slice that is lent, that
-    // it is the same slice.
-    ghost same_place: { Self → Self → Type 0 };
+    // Which loan a lent slice is: a change leaves the same one. It is 0 of a value that is owned.
+    ghost loan: { Self → ℕ } = { λ _. 0 };
 
     /// Sets the bit at `index` in the order `E`. No other bit changes. An index past the capacity
     /// wraps. With capacity 0 nothing changes.
@@ -29,7 +28,7 @@ pub trait BitsMut: Bits {
         requires { IsTrue Self.indexable }
         ensures set { members E.mirrored Self.width (Self.big self.new)
             ≡ with_index (members E.mirrored Self.width (Self.big self.old)) index }
-        ensures stays { same_place self.old self.new };
+        ensures stays { loan self.old ≡ loan self.new };
 
     /// Clears the bit at `index` in the order `E`: it is unset then. No other bit changes. An index
     /// past the capacity wraps. With capacity 0 nothing changes.
@@ -44,7 +43,7 @@ pub trait BitsMut: Bits {
         requires { IsTrue Self.indexable }
         ensures set { members E.mirrored Self.width (Self.big self.new)
             ≡ without_index (members E.mirrored Self.width (Self.big self.old)) index }
-        ensures stays { same_place self.old self.new };
+        ensures stays { loan self.old ≡ loan self.new };
 
     /// Clears every bit. Always callable.
     ///
@@ -54,7 +53,7 @@ pub trait BitsMut: Bits {
     /// ```
     fn clear_bits(&mut self)
         ensures set { Self.big self.new ≡ without_members (Self.big self.old) }
-        ensures stays { same_place self.old self.new };
+        ensures stays { loan self.old ≡ loan self.new };
 
     /// Sets the bit at each index from `from` on and before `to`, in the order `E`. No other bit
     /// changes.
@@ -65,7 +64,7 @@ pub trait BitsMut: Bits {
         requires within { to ≤ (Self.big self.old).capacity }
         ensures set { members E.mirrored Self.width (Self.big self.new)
             ≡ with_span (members E.mirrored Self.width (Self.big self.old)) from to }
-        ensures stays { same_place self.old self.new };
+        ensures stays { loan self.old ≡ loan self.new };
 
     /// Combines the set with another one by an operation. Between two slices of unequal length only
     /// the elements of the common beginning change.
@@ -75,7 +74,7 @@ pub trait BitsMut: Bits {
             ≡ combination_of O.decide
             (members mirrored Self.width (Self.big self.old))
             (members mirrored Self.width (Self.big other.now)) }
-        ensures stays { same_place self.old self.new };
+        ensures stays { loan self.old ≡ loan self.new };
 
     /// Sets each bit that is set in `other`. Always callable. Between two slices of unequal length
     /// only the elements of the common beginning change.
@@ -90,7 +89,7 @@ pub trait BitsMut: Bits {
             ≡ union_of
             (members mirrored Self.width (Self.big self.old))
             (members mirrored Self.width (Self.big other.now)) }
-        ensures stays { same_place self.old self.new }
+        ensures stays { loan self.old ≡ loan self.new }
     {
         self.combine::<Union>(other);
     }
@@ -109,7 +108,7 @@ pub trait BitsMut: Bits {
             ≡ conjunction_of
             (members mirrored Self.width (Self.big self.old))
             (members mirrored Self.width (Self.big other.now)) }
-        ensures stays { same_place self.old self.new }
+        ensures stays { loan self.old ≡ loan self.new }
     {
         self.combine::<Conjunction>(other);
     }
@@ -127,7 +126,7 @@ pub trait BitsMut: Bits {
             ≡ difference_of
             (members mirrored Self.width (Self.big self.old))
             (members mirrored Self.width (Self.big other.now)) }
-        ensures stays { same_place self.old self.new }
+        ensures stays { loan self.old ≡ loan self.new }
     {
         self.combine::<Difference>(other);
     }
@@ -146,7 +145,7 @@ pub trait BitsMut: Bits {
             ≡ symmetric_difference_of
             (members mirrored Self.width (Self.big self.old))
             (members mirrored Self.width (Self.big other.now)) }
-        ensures stays { same_place self.old self.new }
+        ensures stays { loan self.old ≡ loan self.new }
     {
         self.combine::<SymmetricDifference>(other);
     }
@@ -162,7 +161,7 @@ pub trait BitsMut: Bits {
         requires { IsTrue Self.indexable }
         ensures set { members Self.Order.mirrored Self.width (Self.big self.new)
             ≡ with_index (members Self.Order.mirrored Self.width (Self.big self.old)) index }
-        ensures stays { same_place self.old self.new }
+        ensures stays { loan self.old ≡ loan self.new }
     {
         self.set_bit_in::<Self::Order>(index);
     }
@@ -179,7 +178,7 @@ pub trait BitsMut: Bits {
         ensures set { members ⟦<LittleEndian as Endian>⟧.mirrored Self.width (Self.big self.new)
             ≡ with_index
             (members ⟦<LittleEndian as Endian>⟧.mirrored Self.width (Self.big self.old)) index }
-        ensures stays { same_place self.old self.new }
+        ensures stays { loan self.old ≡ loan self.new }
     {
         self.set_bit_in::<LittleEndian>(index);
     }
@@ -196,7 +195,7 @@ pub trait BitsMut: Bits {
         ensures set { members ⟦<BigEndian as Endian>⟧.mirrored Self.width (Self.big self.new)
             ≡ with_index
             (members ⟦<BigEndian as Endian>⟧.mirrored Self.width (Self.big self.old)) index }
-        ensures stays { same_place self.old self.new }
+        ensures stays { loan self.old ≡ loan self.new }
     {
         self.set_bit_in::<BigEndian>(index);
     }
@@ -212,7 +211,7 @@ pub trait BitsMut: Bits {
         requires { IsTrue Self.indexable }
         ensures set { members Self.Order.mirrored Self.width (Self.big self.new)
             ≡ without_index (members Self.Order.mirrored Self.width (Self.big self.old)) index }
-        ensures stays { same_place self.old self.new }
+        ensures stays { loan self.old ≡ loan self.new }
     {
         self.clear_bit_in::<Self::Order>(index);
     }
@@ -229,7 +228,7 @@ pub trait BitsMut: Bits {
         ensures set { members ⟦<LittleEndian as Endian>⟧.mirrored Self.width (Self.big self.new)
             ≡ without_index
             (members ⟦<LittleEndian as Endian>⟧.mirrored Self.width (Self.big self.old)) index }
-        ensures stays { same_place self.old self.new }
+        ensures stays { loan self.old ≡ loan self.new }
     {
         self.clear_bit_in::<LittleEndian>(index);
     }
@@ -246,12 +245,8 @@ pub trait BitsMut: Bits {
         ensures set { members ⟦<BigEndian as Endian>⟧.mirrored Self.width (Self.big self.new)
             ≡ without_index
             (members ⟦<BigEndian as Endian>⟧.mirrored Self.width (Self.big self.old)) index }
-        ensures stays { same_place self.old self.new }
+        ensures stays { loan self.old ≡ loan self.new }
     {
         self.clear_bit_in::<BigEndian>(index);
     }
-
-    ghost same_place_self: { (v : Self) → same_place v v };
-
-    ghost same_place_on: { (u v w : Self) → same_place u v → same_place v w → same_place u w };
 }

@@ -1,7 +1,6 @@
 //! Slices as sets: a shared one is read, and one that is lent for a change is read and changed.
 
-ghost use Rattle.std.specs.Prelude.{◌≡◌, length};
-ghost use Rattle.std.proofs.Common.{rules, ◌∙◌};
+ghost use Rattle.std.specs.Prelude.{length};
 ghost use Rattle.bittle_bits.specs.RowLawProofs.{elements_has-past, words_of};
 ghost use Rattle.bittle_bits.specs.Rows.{elements_set};
 
@@ -120,11 +119,7 @@ impl<'a, T: BitsOwned> Bits for &'a mut [T] {
 }
 
 impl<'a, T: BitsOwned> BitsMut for &'a mut [T] {
-    ghost same_place = { λ u v. u.ghost_name ≡ v.ghost_name };
-
-    ghost same_place_self = { λ _. Prim.search rules };
-
-    ghost same_place_on = { λ _ _ _ p q. p ∙ q };
+    ghost loan = { λ v. v.ghost_name };
 
     #[inline]
     fn set_bit_in<E: Endian>(&mut self, index: u32) {

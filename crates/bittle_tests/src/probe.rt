@@ -145,12 +145,6 @@ impl<'a> Bits for Probe<'a> {
 }
 
 impl<'a> BitsMut for Probe<'a> {
-    ghost same_place = { λ _ _. Unit {0} };
-
-    ghost same_place_self = { λ _. tt };
-
-    ghost same_place_on = { λ _ _ _ _ _. tt };
-
     fn set_bit_in<E: Endian>(&mut self, index: u32) {
         self.note_other();
         self.bytes.set_bit_in::<E>(index);

@@ -13,7 +13,7 @@ pub fn insert<B: BitsMut>(set: &mut B, index: u32) -> bool
     ensures was_none { result ≡ not (contains (set_in B.Bits B.Order.Endian set.old) index) }
     ensures set { set_in B.Bits B.Order.Endian set.new
         ≡ with_index (set_in B.Bits B.Order.Endian set.old) index }
-    ensures stays { B.same_place set.old set.new }
+    ensures stays { B.loan set.old ≡ B.loan set.new }
 {
     let was_none = !set.test_bit(index);
     set.set_bit(index);
@@ -27,7 +27,7 @@ pub fn remove<B: BitsMut>(set: &mut B, index: u32) -> bool
     ensures was_member { result ≡ contains (set_in B.Bits B.Order.Endian set.old) index }
     ensures set { set_in B.Bits B.Order.Endian set.new
         ≡ without_index (set_in B.Bits B.Order.Endian set.old) index }
-    ensures stays { B.same_place set.old set.new }
+    ensures stays { B.loan set.old ≡ B.loan set.new }
 {
     let was_member = set.test_bit(index);
     set.clear_bit(index);
@@ -41,7 +41,7 @@ pub fn move_bit<B: BitsMut>(set: &mut B, from: u32, to: u32)
     ensures set { let before = set_in B.Bits B.Order.Endian set.old in
         set_in B.Bits B.Order.Endian set.new
         ≡ (if contains before from then with_index (without_index before from) to else before) }
-    ensures stays { B.same_place set.old set.new }
+    ensures stays { B.loan set.old ≡ B.loan set.new }
 {
     if set.test_bit(from) {
         set.clear_bit(from);

@@ -24,13 +24,21 @@ pub trait Number: Copy + Eq + Sealed {
         ensures { digits result ≡ 2 ^ index };
 
     /// The word whose digits are those of weight below `2 ^ index`.
-    fn low(index: u32) -> Self
+    #[inline]
+    final fn low(index: u32) -> Self
         requires { index < width }
-        ensures { digits result ≡ 2 ^ index - 1 };
+        ensures { digits result ≡ 2 ^ index - 1 }
+    {
+        Self::from_digits(Self::one_at(index).to_digits() - 1)
+    }
 
     /// The word with no digit.
-    fn zero() -> Self
-        ensures { digits result ≡ 0 };
+    #[inline]
+    final fn zero() -> Self
+        ensures { digits result ≡ 0 }
+    {
+        Self::from_digits(0)
+    }
 
     /// The digits as a number.
     fn to_digits(self) -> u128
@@ -48,21 +56,39 @@ pub trait Number: Copy + Eq + Sealed {
         ensures range { digits self < 2 ^ width };
 
     /// The digits of both words.
-    fn and(self, other: Self) -> Self
-        ensures { digits result ≡ bit_and (digits self) (digits other) };
+    #[inline]
+    final fn and(self, other: Self) -> Self
+        ensures { digits result ≡ bit_and (digits self) (digits other) }
+    {
+        Self::from_digits(self.to_digits() & other.to_digits())
+    }
 
     /// The digits of either word.
-    fn or(self, other: Self) -> Self
-        ensures { digits result ≡ bit_or (digits self) (digits other) };
+    #[inline]
+    #[tactic(auto, using(std::proofs::lemmas::Nat::or_lt))]
+    final fn or(self, other: Self) -> Self
+        ensures { digits result ≡ bit_or (digits self) (digits other) }
+    {
+        Self::from_digits(self.to_digits() | other.to_digits())
+    }
 
     /// The digits of just one of the words.
-    fn xor(self, other: Self) -> Self
-        ensures { digits result ≡ bit_xor (digits self) (digits other) };
+    #[inline]
+    #[tactic(auto, using(std::proofs::lemmas::Nat::xor_lt))]
+    final fn xor(self, other: Self) -> Self
+        ensures { digits result ≡ bit_xor (digits self) (digits other) }
+    {
+        Self::from_digits(self.to_digits() ^ other.to_digits())
+    }
 
     /// Whether the word has no digit.
-    fn is_zero(self) -> bool
+    #[inline]
+    final fn is_zero(self) -> bool
         ensures zero { result ≡ (digits self == 0) }
-        ensures range { digits self < 2 ^ width };
+        ensures range { digits self < 2 ^ width }
+    {
+        self.to_digits() == 0
+    }
 
     /// How many digits there are.
     fn count_ones(self) -> u32

@@ -1,13 +1,13 @@
 //! Where two sets of words of one width, read in one order, are apart: found word by word.
 
+ghost use Rattle.std.specs.Ordering.{MatchOrdering};
 ghost use Rattle.std.specs.Prelude.{◌≡◌, ◌+◌, ◌*◌, ◌<◌, ◌≤◌, ◌⊎◌, true, IsTrue, MatchOption, MatchBool};
 ghost use Rattle.bittle_bits.specs.Digits.{digit_set};
 ghost use Rattle.bittle_bits.specs.Orders.{members};
-ghost use Rattle.bittle_bits.specs.PlainSet.{ascending};
 ghost use Rattle.bittle_bits.specs.SetOperations.{combination_of, just_one};
 ghost use Rattle.bittle_bits.specs.Shapes.{Fits};
 ghost use Rattle.bittle_bits.specs.Words.{word_of};
-ghost use Rattle.bittle.specs.Comparison.{list_cmp, AreSame, AreSameBelow, HasPast, HasNonePast, IsFirstApart};
+ghost use Rattle.bittle.specs.Comparison.{AreSame, AreSameBelow, HasPast, HasNonePast, IsFirstApart, Precedes};
 
 use bittle_bits::bits::Bits;
 use bittle_bits::endian::Endian;
@@ -161,9 +161,9 @@ pub fn compare<A: Bits, B: Bits, E: Endian>(left: &A, right: &B) -> Ordering
     requires width { A.width ≡ B.width }
     requires left_fits { Fits A.indexable (A.big left.now).capacity }
     requires right_fits { Fits B.indexable (B.big right.now).capacity }
-    ensures { result
-        ≡ list_cmp (ascending (members E.mirrored A.width (A.big left.now)))
-        (ascending (members E.mirrored B.width (B.big right.now))) }
+    ensures { let ours = members E.mirrored A.width (A.big left.now) in
+        let theirs = members E.mirrored B.width (B.big right.now) in
+        MatchOrdering result (Precedes ours theirs) (AreSame ours theirs) (Precedes theirs ours) }
 {
     match first_apart::<A, B, E>(left, right) {
         None => Ordering::Equal,

@@ -67,12 +67,6 @@ impl Bits for u64 {
 }
 
 impl BitsMut for u64 {
-    ghost same_place = { λ _ _. Unit {0} };
-
-    ghost same_place_self = { λ _. tt };
-
-    ghost same_place_on = { λ _ _ _ _ _. tt };
-
     #[inline]
     fn set_bit_in<E: Endian>(&mut self, index: u32) {
         word::set_bit::<u64, E>(self, index);
@@ -179,12 +173,6 @@ impl Bits for i64 {
 }
 
 impl BitsMut for i64 {
-    ghost same_place = { λ _ _. Unit {0} };
-
-    ghost same_place_self = { λ _. tt };
-
-    ghost same_place_on = { λ _ _ _ _ _. tt };
-
     #[inline]
     fn set_bit_in<E: Endian>(&mut self, index: u32) {
         word::set_bit::<i64, E>(self, index);

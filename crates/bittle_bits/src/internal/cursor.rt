@@ -3,9 +3,9 @@
 
 ghost use Rattle.std.specs.Prelude.{◌≡◌, ℕ, ◌/◌};
 ghost use Rattle.bittle_bits.specs.Orders.{members};
-ghost use Rattle.bittle_bits.specs.PlainSet.{PlainSet, ascending};
+ghost use Rattle.bittle_bits.specs.PlainSet.{PlainSet};
 ghost use Rattle.bittle_bits.specs.Shapes.{Fits};
-ghost use Rattle.bittle_bits.specs.Cursor.{items_left_in, walk_of, Retires};
+ghost use Rattle.bittle_bits.specs.Cursor.{items_left_in, walk_of, IsWalkStart, Retires};
 ghost use Rattle.bittle_bits.specs.Walk.{ones_or_zeros, AreBelow, IsFresh, ResumesAs, StepsFront, StepsBack};
 
 use crate::bits::Bits;
@@ -28,18 +28,13 @@ pub struct Cursor<B: Bits, E: Endian> {
 #[inline]
 pub fn begin<B: Bits, E: Endian, K: Kind>(source: &Source<'_, B>) -> Cursor<B, E>
     requires { Fits B.indexable (B.big source.now.set.now).capacity }
-    ensures left { items_left_in
-        (ones_or_zeros K.ONES (members E.mirrored B.width (B.big source.now.set.now))) B.width
-        result
-        ≡ ascending (ones_or_zeros K.ONES (members E.mirrored B.width (B.big source.now.set.now))) }
-    ensures fresh { IsFresh ((B.big source.now.set.now).capacity / B.width)
-        (walk_of (ones_or_zeros K.ONES (members E.mirrored B.width (B.big source.now.set.now)))
-        ((B.big source.now.set.now).capacity / B.width) B.width result) }
+    ensures starts { IsWalkStart
+        (ones_or_zeros K.ONES (members E.mirrored B.width (B.big source.now.set.now)))
+        ((B.big source.now.set.now).capacity / B.width) B.width result }
     ensures below { AreBelow (B.big source.now.set.now).capacity
         (items_left_in
         (ones_or_zeros K.ONES (members E.mirrored B.width (B.big source.now.set.now))) B.width
         result) }
-    ensures retires { Retires ((B.big source.now.set.now).capacity / B.width) result }
 {
     let mut at = Cursor {
         copies: Copies::none(),

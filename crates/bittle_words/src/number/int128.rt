@@ -25,16 +25,6 @@ impl Number for u128 {
     }
 
     #[inline]
-    fn low(index: u32) -> u128 {
-        (1 << index) - 1
-    }
-
-    #[inline]
-    fn zero() -> u128 {
-        0
-    }
-
-    #[inline]
     fn to_digits(self) -> u128 {
         self
     }
@@ -47,26 +37,6 @@ impl Number for u128 {
     #[inline]
     fn not(self) -> u128 {
         !self
-    }
-
-    #[inline]
-    fn and(self, other: u128) -> u128 {
-        self & other
-    }
-
-    #[inline]
-    fn or(self, other: u128) -> u128 {
-        self | other
-    }
-
-    #[inline]
-    fn xor(self, other: u128) -> u128 {
-        self ^ other
-    }
-
-    #[inline]
-    fn is_zero(self) -> bool {
-        self == 0
     }
 
     #[inline]
@@ -87,7 +57,6 @@ impl Number for u128 {
 
 impl Sealed for i128 {}
 
-#[tactic(auto, using(crate::proofs::SignedBits::signed_or, crate::proofs::SignedBits::signed_xor))]
 impl Number for i128 {
     ghost width = { 128 };
 
@@ -106,17 +75,6 @@ impl Number for i128 {
     }
 
     #[inline]
-    fn low(index: u32) -> i128 {
-        let low: u128 = (1 << index) - 1;
-        low as i128
-    }
-
-    #[inline]
-    fn zero() -> i128 {
-        0
-    }
-
-    #[inline]
     fn to_digits(self) -> u128 {
         self.cast_unsigned()
     }
@@ -129,26 +87,6 @@ impl Number for i128 {
     #[inline]
     fn not(self) -> i128 {
         !self
-    }
-
-    #[inline]
-    fn and(self, other: i128) -> i128 {
-        self & other
-    }
-
-    #[inline]
-    fn or(self, other: i128) -> i128 {
-        self | other
-    }
-
-    #[inline]
-    fn xor(self, other: i128) -> i128 {
-        self ^ other
-    }
-
-    #[inline]
-    fn is_zero(self) -> bool {
-        self == 0
     }
 
     #[inline]

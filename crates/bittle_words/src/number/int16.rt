@@ -25,16 +25,6 @@ impl Number for u16 {
     }
 
     #[inline]
-    fn low(index: u32) -> u16 {
-        (1 << index) - 1
-    }
-
-    #[inline]
-    fn zero() -> u16 {
-        0
-    }
-
-    #[inline]
     fn to_digits(self) -> u128 {
         self as u128
     }
@@ -47,26 +37,6 @@ impl Number for u16 {
     #[inline]
     fn not(self) -> u16 {
         !self
-    }
-
-    #[inline]
-    fn and(self, other: u16) -> u16 {
-        self & other
-    }
-
-    #[inline]
-    fn or(self, other: u16) -> u16 {
-        self | other
-    }
-
-    #[inline]
-    fn xor(self, other: u16) -> u16 {
-        self ^ other
-    }
-
-    #[inline]
-    fn is_zero(self) -> bool {
-        self == 0
     }
 
     #[inline]
@@ -105,17 +75,6 @@ impl Number for i16 {
     }
 
     #[inline]
-    fn low(index: u32) -> i16 {
-        let low: u16 = (1 << index) - 1;
-        low as i16
-    }
-
-    #[inline]
-    fn zero() -> i16 {
-        0
-    }
-
-    #[inline]
     fn to_digits(self) -> u128 {
         self.cast_unsigned() as u128
     }
@@ -128,26 +87,6 @@ impl Number for i16 {
     #[inline]
     fn not(self) -> i16 {
         !self
-    }
-
-    #[inline]
-    fn and(self, other: i16) -> i16 {
-        self & other
-    }
-
-    #[inline]
-    fn or(self, other: i16) -> i16 {
-        self | other
-    }
-
-    #[inline]
-    fn xor(self, other: i16) -> i16 {
-        self ^ other
-    }
-
-    #[inline]
-    fn is_zero(self) -> bool {
-        self == 0
     }
 
     #[inline]

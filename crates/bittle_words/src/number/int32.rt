@@ -25,16 +25,6 @@ impl Number for u32 {
     }
 
     #[inline]
-    fn low(index: u32) -> u32 {
-        (1 << index) - 1
-    }
-
-    #[inline]
-    fn zero() -> u32 {
-        0
-    }
-
-    #[inline]
     fn to_digits(self) -> u128 {
         self as u128
     }
@@ -47,26 +37,6 @@ impl Number for u32 {
     #[inline]
     fn not(self) -> u32 {
         !self
-    }
-
-    #[inline]
-    fn and(self, other: u32) -> u32 {
-        self & other
-    }
-
-    #[inline]
-    fn or(self, other: u32) -> u32 {
-        self | other
-    }
-
-    #[inline]
-    fn xor(self, other: u32) -> u32 {
-        self ^ other
-    }
-
-    #[inline]
-    fn is_zero(self) -> bool {
-        self == 0
     }
 
     #[inline]
@@ -105,17 +75,6 @@ impl Number for i32 {
     }
 
     #[inline]
-    fn low(index: u32) -> i32 {
-        let low: u32 = (1 << index) - 1;
-        low as i32
-    }
-
-    #[inline]
-    fn zero() -> i32 {
-        0
-    }
-
-    #[inline]
     fn to_digits(self) -> u128 {
         self.cast_unsigned() as u128
     }
@@ -128,26 +87,6 @@ impl Number for i32 {
     #[inline]
     fn not(self) -> i32 {
         !self
-    }
-
-    #[inline]
-    fn and(self, other: i32) -> i32 {
-        self & other
-    }
-
-    #[inline]
-    fn or(self, other: i32) -> i32 {
-        self | other
-    }
-
-    #[inline]
-    fn xor(self, other: i32) -> i32 {
-        self ^ other
-    }
-
-    #[inline]
-    fn is_zero(self) -> bool {
-        self == 0
     }
 
     #[inline]

@@ -25,16 +25,6 @@ impl Number for u64 {
     }
 
     #[inline]
-    fn low(index: u32) -> u64 {
-        (1 << index) - 1
-    }
-
-    #[inline]
-    fn zero() -> u64 {
-        0
-    }
-
-    #[inline]
     fn to_digits(self) -> u128 {
         self as u128
     }
@@ -47,26 +37,6 @@ impl Number for u64 {
     #[inline]
     fn not(self) -> u64 {
         !self
-    }
-
-    #[inline]
-    fn and(self, other: u64) -> u64 {
-        self & other
-    }
-
-    #[inline]
-    fn or(self, other: u64) -> u64 {
-        self | other
-    }
-
-    #[inline]
-    fn xor(self, other: u64) -> u64 {
-        self ^ other
-    }
-
-    #[inline]
-    fn is_zero(self) -> bool {
-        self == 0
     }
 
     #[inline]
@@ -87,7 +57,6 @@ impl Number for u64 {
 
 impl Sealed for i64 {}
 
-#[tactic(auto, using(crate::proofs::SignedBits::signed_or, crate::proofs::SignedBits::signed_xor))]
 impl Number for i64 {
     ghost width = { 64 };
 
@@ -106,17 +75,6 @@ impl Number for i64 {
     }
 
     #[inline]
-    fn low(index: u32) -> i64 {
-        let low: u64 = (1 << index) - 1;
-        low as i64
-    }
-
-    #[inline]
-    fn zero() -> i64 {
-        0
-    }
-
-    #[inline]
     fn to_digits(self) -> u128 {
         self.cast_unsigned() as u128
     }
@@ -129,26 +87,6 @@ impl Number for i64 {
     #[inline]
     fn not(self) -> i64 {
         !self
-    }
-
-    #[inline]
-    fn and(self, other: i64) -> i64 {
-        self & other
-    }
-
-    #[inline]
-    fn or(self, other: i64) -> i64 {
-        self | other
-    }
-
-    #[inline]
-    fn xor(self, other: i64) -> i64 {
-        self ^ other
-    }
-
-    #[inline]
-    fn is_zero(self) -> bool {
-        self == 0
     }
 
     #[inline]

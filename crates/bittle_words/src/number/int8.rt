@@ -25,16 +25,6 @@ impl Number for u8 {
     }
 
     #[inline]
-    fn low(index: u32) -> u8 {
-        (1 << index) - 1
-    }
-
-    #[inline]
-    fn zero() -> u8 {
-        0
-    }
-
-    #[inline]
     fn to_digits(self) -> u128 {
         self as u128
     }
@@ -47,26 +37,6 @@ impl Number for u8 {
     #[inline]
     fn not(self) -> u8 {
         !self
-    }
-
-    #[inline]
-    fn and(self, other: u8) -> u8 {
-        self & other
-    }
-
-    #[inline]
-    fn or(self, other: u8) -> u8 {
-        self | other
-    }
-
-    #[inline]
-    fn xor(self, other: u8) -> u8 {
-        self ^ other
-    }
-
-    #[inline]
-    fn is_zero(self) -> bool {
-        self == 0
     }
 
     #[inline]
@@ -105,17 +75,6 @@ impl Number for i8 {
     }
 
     #[inline]
-    fn low(index: u32) -> i8 {
-        let low: u8 = (1 << index) - 1;
-        low as i8
-    }
-
-    #[inline]
-    fn zero() -> i8 {
-        0
-    }
-
-    #[inline]
     fn to_digits(self) -> u128 {
         self.cast_unsigned() as u128
     }
@@ -128,26 +87,6 @@ impl Number for i8 {
     #[inline]
     fn not(self) -> i8 {
         !self
-    }
-
-    #[inline]
-    fn and(self, other: i8) -> i8 {
-        self & other
-    }
-
-    #[inline]
-    fn or(self, other: i8) -> i8 {
-        self | other
-    }
-
-    #[inline]
-    fn xor(self, other: i8) -> i8 {
-        self ^ other
-    }
-
-    #[inline]
-    fn is_zero(self) -> bool {
-        self == 0
     }
 
     #[inline]

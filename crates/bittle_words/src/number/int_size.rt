@@ -25,16 +25,6 @@ impl Number for usize {
     }
 
     #[inline]
-    fn low(index: u32) -> usize {
-        (1 << index) - 1
-    }
-
-    #[inline]
-    fn zero() -> usize {
-        0
-    }
-
-    #[inline]
     fn to_digits(self) -> u128 {
         self as u128
     }
@@ -47,26 +37,6 @@ impl Number for usize {
     #[inline]
     fn not(self) -> usize {
         !self
-    }
-
-    #[inline]
-    fn and(self, other: usize) -> usize {
-        self & other
-    }
-
-    #[inline]
-    fn or(self, other: usize) -> usize {
-        self | other
-    }
-
-    #[inline]
-    fn xor(self, other: usize) -> usize {
-        self ^ other
-    }
-
-    #[inline]
-    fn is_zero(self) -> bool {
-        self == 0
     }
 
     #[inline]
@@ -87,7 +57,6 @@ impl Number for usize {
 
 impl Sealed for isize {}
 
-#[tactic(auto, using(crate::proofs::SignedBits::signed_or, crate::proofs::SignedBits::signed_xor))]
 impl Number for isize {
     ghost width = { 64 };
 
@@ -106,17 +75,6 @@ impl Number for isize {
     }
 
     #[inline]
-    fn low(index: u32) -> isize {
-        let low: usize = (1 << index) - 1;
-        low as isize
-    }
-
-    #[inline]
-    fn zero() -> isize {
-        0
-    }
-
-    #[inline]
     fn to_digits(self) -> u128 {
         self.cast_unsigned() as u128
     }
@@ -129,26 +87,6 @@ impl Number for isize {
     #[inline]
     fn not(self) -> isize {
         !self
-    }
-
-    #[inline]
-    fn and(self, other: isize) -> isize {
-        self & other
-    }
-
-    #[inline]
-    fn or(self, other: isize) -> isize {
-        self | other
-    }
-
-    #[inline]
-    fn xor(self, other: isize) -> isize {
-        self ^ other
-    }
-
-    #[inline]
-    fn is_zero(self) -> bool {
-        self == 0
     }
 
     #[inline]

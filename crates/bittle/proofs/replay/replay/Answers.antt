@@ -1,4 +1,4 @@
-use Rattle.std.proofs.Common.{refl, ◌<◌, length, subst, arith}
+use Rattle.std.proofs.Common.{refl, ◌∙◌, ◌<◌, length, subst, arith}
 use Rattle.bittle_bits.specs.Shapes.{Fits}
 use Rattle.bittle.specs.Machine.{reply_to, set_after, replies_of, final_set}
 use Rattle.bittle.proofs.Replies.{state_step, replies_step}
@@ -7,7 +7,7 @@ use Rattle.bittle.proofs.replay.replay.Goals as goal
 
 pub loop-i-init : goal.loop-i-init
 unfolding replies_of final_set
-loop-i-init g c = record { replies = refl; set = refl; stays = g.met.B.BitsMut.same_place_self _ }
+loop-i-init g c = record { replies = refl; set = refl; stays = refl }
 
 pub answer-requires : goal.answer-requires
 answer-requires g c = subst (Fits g.B.Bits.indexable) (run-capacity _ _ _ c.loop-i.invariant.set)
@@ -24,5 +24,5 @@ loop-i-preserved g c =
       replies = replies_step set_after _ _ c.args.calls.now c.loop-i.i _ in_calls t.set reply_to
           c.loop-i.replies c.answer.result in_replies t.replies a.reply;
       set = state_step set_after _ _ c.args.calls.now c.loop-i.i _ in_calls t.set _ a.set;
-      stays = g.met.B.BitsMut.same_place_on _ _ _ t.stays a.stays;
+      stays = t.stays ∙ a.stays;
     }

@@ -10,5 +10,5 @@ invariant-loop-i g l =
       replies : take l.i l.replies ≡ replies_of s (take l.i l.calls);
       set : members g.E.Endian.mirrored g.B.Bits.width (g.B.Bits.big l.bits)
           ≡ final_set s (take l.i l.calls);
-      stays : g.B.BitsMut.same_place l.initial.bits l.bits;
+      stays : g.B.BitsMut.loan l.initial.bits ≡ g.B.BitsMut.loan l.bits;
     }

@@ -1,5 +1,6 @@
 //! The operators `&` and `&=` of sets.
 
+ghost use Rattle.std.specs.Prelude.{◌≡◌};
 ghost use Rattle.bittle_bits.specs.SetOperations.{conjunction_of};
 ghost use Rattle.bittle.specs.SetOperators.{IsInBothOrders};
 
@@ -68,7 +69,7 @@ impl<'a, 'b, T: BitsOwned, E: Endian> BitAnd<&'b Set<T, E>> for &'a Set<T, E> {
 /// both capacities changes.
 impl<T: BitsMut, E: Endian> BitAndAssign<Set<T, E>> for Set<T, E> {
     ghost bitand_assign_gives = { λ a b r. IsInBothOrders conjunction_of T.width (T.big a.bits)
-        (T.big b.bits) (T.big r.bits) × T.same_place a.bits r.bits };
+        (T.big b.bits) (T.big r.bits) × (T.loan a.bits ≡ T.loan r.bits) };
 
     #[inline]
     fn bitand_assign(&mut self, rhs: Set<T, E>) {
@@ -78,7 +79,7 @@ impl<T: BitsMut, E: Endian> BitAndAssign<Set<T, E>> for Set<T, E> {
 
 impl<'b, T: BitsMut, E: Endian> BitAndAssign<&'b Set<T, E>> for Set<T, E> {
     ghost bitand_assign_gives = { λ a b r. IsInBothOrders conjunction_of T.width (T.big a.bits)
-        (T.big b.now.bits) (T.big r.bits) × T.same_place a.bits r.bits };
+        (T.big b.now.bits) (T.big r.bits) × (T.loan a.bits ≡ T.loan r.bits) };
 
     #[inline]
     fn bitand_assign(&mut self, rhs: &'b Set<T, E>) {

@@ -5,39 +5,25 @@ use Rattle.bittle_bits.proofs.WalkStarts.{walk_start, walk_start_head, walk_star
 use Rattle.bittle_bits.proofs.OnesOrZeros.{ones_or_zeros-capacity, ones_or_zeros-below}
 use Rattle.bittle_bits.proofs.internal.cursor.begin.Goals as goal
 
-pub returns-then-at-clause-left : goal.returns-then-at-clause-left
-returns-then-at-clause-left g c =
+pub returns-then-at-clause-starts : goal.returns-then-at-clause-starts
+returns-then-at-clause-starts g c =
     let big = g.B.Bits.big c.args.source.now.set.now in
     let s = ones_or_zeros g.K.Kind.ONES (members g.E.Endian.mirrored g.B.Bits.width big) in
     let w = g.B.Bits.width in
-    let none = walk_start {B = g.row.B.Denot} {E = g.row.E.Denot} {O = g.row.B-Order.Denot}
+    walk_start {B = g.row.B.Denot} {E = g.row.E.Denot} {O = g.row.B-Order.Denot}
     {W = g.row.B-LeafWord.Denot} s (big.capacity / w) w big.capacity _ _ _
     g.met.B.Bits.width_positive
     (ones_or_zeros-capacity g.K.Kind.ONES (members g.E.Endian.mirrored w big))
     (g.met.B.Bits.whole_words c.args.source.now.set.now) refl c.none.ensures c.words.ensures
-    c.new.ensures in
-    none.left
-
-pub returns-then-at-clause-fresh : goal.returns-then-at-clause-fresh
-returns-then-at-clause-fresh g c =
-    let big = g.B.Bits.big c.args.source.now.set.now in
-    let s = ones_or_zeros g.K.Kind.ONES (members g.E.Endian.mirrored g.B.Bits.width big) in
-    let w = g.B.Bits.width in
-    let none = walk_start {B = g.row.B.Denot} {E = g.row.E.Denot} {O = g.row.B-Order.Denot}
-    {W = g.row.B-LeafWord.Denot} s (big.capacity / w) w big.capacity _ _ _
-    g.met.B.Bits.width_positive
-    (ones_or_zeros-capacity g.K.Kind.ONES (members g.E.Endian.mirrored w big))
-    (g.met.B.Bits.whole_words c.args.source.now.set.now) refl c.none.ensures c.words.ensures
-    c.new.ensures in
-    none.fresh
+    c.new.ensures
 
 pub returns-then-at-clause-below : goal.returns-then-at-clause-below
 returns-then-at-clause-below g c = ones_or_zeros-below g.K.Kind.ONES
     (members g.E.Endian.mirrored g.B.Bits.width (g.B.Bits.big c.args.source.now.set.now)) _
-    (returns-then-at-clause-left g c)
+    (returns-then-at-clause-starts g c).left
 
-pub returns-then-at-2-clause-left : goal.returns-then-at-2-clause-left
-returns-then-at-2-clause-left g c =
+pub returns-then-at-2-clause-starts : goal.returns-then-at-2-clause-starts
+returns-then-at-2-clause-starts g c =
     let big = g.B.Bits.big c.args.source.now.set.now in
     let s = ones_or_zeros g.K.Kind.ONES (members g.E.Endian.mirrored g.B.Bits.width big) in
     let w = g.B.Bits.width in
@@ -47,36 +33,18 @@ returns-then-at-2-clause-left g c =
     (ones_or_zeros-capacity g.K.Kind.ONES (members g.E.Endian.mirrored w big))
     (g.met.B.Bits.whole_words c.args.source.now.set.now) refl c.none.ensures c.words.ensures
     c.new.ensures in
-    let one = walk_start_head {B = g.row.B.Denot} {E = g.row.E.Denot} {O = g.row.B-Order.Denot}
+    walk_start_head {B = g.row.B.Denot} {E = g.row.E.Denot} {O = g.row.B-Order.Denot}
     {W = g.row.B-LeafWord.Denot} s (big.capacity / w) w _ _ _ _ _ none
     (ap (λ h. h.head) c.none.ensures) (ap (λ h. h.fetches) c.none.ensures)
-    (omega arith) refl c.fetch_head.ensures in
-    one.left
-
-pub returns-then-at-2-clause-fresh : goal.returns-then-at-2-clause-fresh
-returns-then-at-2-clause-fresh g c =
-    let big = g.B.Bits.big c.args.source.now.set.now in
-    let s = ones_or_zeros g.K.Kind.ONES (members g.E.Endian.mirrored g.B.Bits.width big) in
-    let w = g.B.Bits.width in
-    let none = walk_start {B = g.row.B.Denot} {E = g.row.E.Denot} {O = g.row.B-Order.Denot}
-    {W = g.row.B-LeafWord.Denot} s (big.capacity / w) w big.capacity _ _ _
-    g.met.B.Bits.width_positive
-    (ones_or_zeros-capacity g.K.Kind.ONES (members g.E.Endian.mirrored w big))
-    (g.met.B.Bits.whole_words c.args.source.now.set.now) refl c.none.ensures c.words.ensures
-    c.new.ensures in
-    let one = walk_start_head {B = g.row.B.Denot} {E = g.row.E.Denot} {O = g.row.B-Order.Denot}
-    {W = g.row.B-LeafWord.Denot} s (big.capacity / w) w _ _ _ _ _ none
-    (ap (λ h. h.head) c.none.ensures) (ap (λ h. h.fetches) c.none.ensures)
-    (omega arith) refl c.fetch_head.ensures in
-    one.fresh
+    (omega arith) refl c.fetch_head.ensures
 
 pub returns-then-at-2-clause-below : goal.returns-then-at-2-clause-below
 returns-then-at-2-clause-below g c = ones_or_zeros-below g.K.Kind.ONES
     (members g.E.Endian.mirrored g.B.Bits.width (g.B.Bits.big c.args.source.now.set.now)) _
-    (returns-then-at-2-clause-left g c)
+    (returns-then-at-2-clause-starts g c).left
 
-pub returns-clause-left : goal.returns-clause-left
-returns-clause-left g c =
+pub returns-clause-starts : goal.returns-clause-starts
+returns-clause-starts g c =
     let big = g.B.Bits.big c.args.source.now.set.now in
     let s = ones_or_zeros g.K.Kind.ONES (members g.E.Endian.mirrored g.B.Bits.width big) in
     let w = g.B.Bits.width in
@@ -90,36 +58,13 @@ returns-clause-left g c =
     {W = g.row.B-LeafWord.Denot} s (big.capacity / w) w _ _ _ _ _ none
     (ap (λ h. h.head) c.none.ensures) (ap (λ h. h.fetches) c.none.ensures)
     (omega arith) refl c.fetch_head.ensures in
-    let two = walk_start_tail {B = g.row.B.Denot} {E = g.row.E.Denot} {O = g.row.B-Order.Denot}
+    walk_start_tail {B = g.row.B.Denot} {E = g.row.E.Denot} {O = g.row.B-Order.Denot}
     {W = g.row.B-LeafWord.Denot} s (big.capacity / w) w _ _ _ _ _ one
     (ap (λ h. h.tail) c.fetch_head.ensures ∙ ap (λ h. h.tail) c.none.ensures)
     (ap (λ h. h.fetches) c.fetch_head.ensures ∙ ap (λ h. h.fetches + 1) c.none.ensures)
-    (omega arith) refl c.fetch_tail.ensures in
-    two.left
-
-pub returns-clause-fresh : goal.returns-clause-fresh
-returns-clause-fresh g c =
-    let big = g.B.Bits.big c.args.source.now.set.now in
-    let s = ones_or_zeros g.K.Kind.ONES (members g.E.Endian.mirrored g.B.Bits.width big) in
-    let w = g.B.Bits.width in
-    let none = walk_start {B = g.row.B.Denot} {E = g.row.E.Denot} {O = g.row.B-Order.Denot}
-    {W = g.row.B-LeafWord.Denot} s (big.capacity / w) w big.capacity _ _ _
-    g.met.B.Bits.width_positive
-    (ones_or_zeros-capacity g.K.Kind.ONES (members g.E.Endian.mirrored w big))
-    (g.met.B.Bits.whole_words c.args.source.now.set.now) refl c.none.ensures c.words.ensures
-    c.new.ensures in
-    let one = walk_start_head {B = g.row.B.Denot} {E = g.row.E.Denot} {O = g.row.B-Order.Denot}
-    {W = g.row.B-LeafWord.Denot} s (big.capacity / w) w _ _ _ _ _ none
-    (ap (λ h. h.head) c.none.ensures) (ap (λ h. h.fetches) c.none.ensures)
-    (omega arith) refl c.fetch_head.ensures in
-    let two = walk_start_tail {B = g.row.B.Denot} {E = g.row.E.Denot} {O = g.row.B-Order.Denot}
-    {W = g.row.B-LeafWord.Denot} s (big.capacity / w) w _ _ _ _ _ one
-    (ap (λ h. h.tail) c.fetch_head.ensures ∙ ap (λ h. h.tail) c.none.ensures)
-    (ap (λ h. h.fetches) c.fetch_head.ensures ∙ ap (λ h. h.fetches + 1) c.none.ensures)
-    (omega arith) refl c.fetch_tail.ensures in
-    two.fresh
+    (omega arith) refl c.fetch_tail.ensures
 
 pub returns-clause-below : goal.returns-clause-below
 returns-clause-below g c = ones_or_zeros-below g.K.Kind.ONES
     (members g.E.Endian.mirrored g.B.Bits.width (g.B.Bits.big c.args.source.now.set.now)) _
-    (returns-clause-left g c)
+    (returns-clause-starts g c).left
