@@ -8,6 +8,7 @@ pub mod endian;
 pub mod kind;
 #[doc(hidden)]
 pub mod laws;
+mod native;
 pub mod number;
 #[doc(hidden)]
 pub mod operation;
