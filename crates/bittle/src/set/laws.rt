@@ -1,12 +1,18 @@
-//! Laws of sets that remember an order, and of their comparison. Each function does nothing: its
-//! contract is the law.
+//! Laws of the default order, of sets that remember an order, and of their comparison. Each function
+//! does nothing: its contract is the law.
 
-ghost use Rattle.std.specs.Prelude.{◌≡◌};
+ghost use Rattle.std.specs.Prelude.{◌≡◌, false};
 ghost use Rattle.bittle.specs.ComparisonLaws.{OrderIsTotal, OrderAgreesWithEquality, OrderReverses, EqualityIsSymmetric, EqualSetsFeedAlike};
 
 use super::Set;
+use crate::DefaultEndian;
 use bittle_bits::bits::Bits;
 use bittle_bits::endian::Endian;
+
+/// States that the default order, as this crate passes it on, is the big-endian one.
+pub fn default_order_is_big_endian()
+    ensures { ⟦<DefaultEndian as Endian>⟧.mirrored ≡ false }
+{}
 
 /// States that calls which name no order read a set in the one that it remembers.
 pub fn sets_remember_their_order<T: Bits, U: Endian>()
