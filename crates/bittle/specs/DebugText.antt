@@ -1,5 +1,5 @@
 -- The debug text of a set, as the bytes that are written.
-use Rattle.std.specs.Prelude.{ℕ, List, ◌++◌, codes}
+use Rattle.std.specs.Prelude.{ℕ, Bool, List, ◌++◌, codes, if◌then◌else◌}
 use Rattle.std.specs.Fmt.{decimal}
 use Rattle.std.specs.List.{join_by}
 use Rattle.bittle_bits.specs.PlainSet.{PlainSet, ascending}
@@ -8,3 +8,7 @@ use Rattle.bittle_bits.specs.PlainSet.{PlainSet, ascending}
 -- braces
 abbrev pub set_text : PlainSet → List ℕ
 set_text s = codes "{" ++ (join_by decimal (codes ", ") (ascending s) ++ codes "}")
+
+-- an index in decimal digits, after a comma and a space unless it is the first
+abbrev pub index_text : Bool → ℕ → List ℕ
+index_text first index = if first then decimal index else codes ", " ++ decimal index

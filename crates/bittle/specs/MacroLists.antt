@@ -18,3 +18,14 @@ listed_open_set capacity index =
 -- the set of a capacity that the list `0..` names
 abbrev pub listed_whole_set : ℕ → PlainSet
 listed_whole_set capacity = with_range (empty_set capacity) 0 capacity
+
+-- the set of a capacity that a list of three indexes names
+abbrev pub listed_three_set : ℕ → ℕ → ℕ → ℕ → PlainSet
+listed_three_set capacity a b c =
+    with_index (with_index (with_index (empty_set capacity) a) b) c
+
+-- the set of a capacity that the list `1..=2, 4..=5, 7..9, 10..12` names
+abbrev pub listed_ranges_set : ℕ → PlainSet
+listed_ranges_set capacity =
+    with_range (with_range (with_range (with_range (empty_set capacity) 1 (2 + 1)) 4 (5 + 1)) 7 9)
+    10 12

@@ -1,11 +1,11 @@
 //! Uses of each macro, on any type: the check refuses a macro that lists otherwise.
 //!
-//! Each kind of item stands before another, first and last, and ranges begin at 0, in the first
-//! word and past it.
+//! Each kind of item stands before another, beside one of its own, first and last, and ranges begin
+//! at 0, in the first word and past it.
 
 ghost use Rattle.std.specs.Prelude.{◌≡◌, IsTrue};
 ghost use Rattle.bittle_bits.specs.Orders.{members};
-ghost use Rattle.bittle.specs.MacroLists.{listed_set, listed_open_set, listed_whole_set};
+ghost use Rattle.bittle.specs.MacroLists.{listed_set, listed_open_set, listed_whole_set, listed_three_set, listed_ranges_set};
 
 use bittle_bits::bits_owned::BitsOwned;
 use bittle_bits::endian::{BigEndian, Endian, LittleEndian};
@@ -87,4 +87,98 @@ fn listed_whole_be<B: BitsOwned>() -> B
         ≡ listed_whole_set B.type_capacity }
 {
     crate::set_be![0..]
+}
+
+/// A place with a number.
+#[derive(Drop)]
+struct Place {
+    x: u32,
+}
+
+/// Returns its argument.
+fn same(index: u32) -> u32
+    ensures { result ≡ index }
+{
+    index
+}
+
+/// Lists names beside one another, and a call.
+fn listed_names<B: BitsOwned>(a: u32, b: u32, c: u32) -> B
+    requires { IsTrue B.indexable }
+    ensures { members B.Order.mirrored B.width (B.big result)
+        ≡ listed_three_set B.type_capacity a b c }
+{
+    crate::set![a, b, same(c)]
+}
+
+/// Lists an index in brackets, a field and a cast.
+fn listed_shapes<B: BitsOwned>(d: u32, p: Place, e: u8) -> B
+    requires { IsTrue B.indexable }
+    ensures { members B.Order.mirrored B.width (B.big result)
+        ≡ listed_three_set B.type_capacity d p.x e }
+{
+    crate::set![(d), p.x, e as u32]
+}
+
+/// Lists ranges of each kind beside one of their kind.
+fn listed_ranges<B: BitsOwned>() -> B
+    requires { IsTrue B.indexable }
+    ensures { members B.Order.mirrored B.width (B.big result)
+        ≡ listed_ranges_set B.type_capacity }
+{
+    crate::set![1..=2, 4..=5, 7..9, 10..12]
+}
+
+/// Lists as [`listed_names`] does, in little-endian order.
+fn listed_names_le<B: BitsOwned>(a: u32, b: u32, c: u32) -> B
+    requires { IsTrue B.indexable }
+    ensures { members ⟦<LittleEndian as Endian>⟧.mirrored B.width (B.big result)
+        ≡ listed_three_set B.type_capacity a b c }
+{
+    crate::set_le![a, b, same(c)]
+}
+
+/// Lists as [`listed_names`] does, in big-endian order.
+fn listed_names_be<B: BitsOwned>(a: u32, b: u32, c: u32) -> B
+    requires { IsTrue B.indexable }
+    ensures { members ⟦<BigEndian as Endian>⟧.mirrored B.width (B.big result)
+        ≡ listed_three_set B.type_capacity a b c }
+{
+    crate::set_be![a, b, same(c)]
+}
+
+/// Lists as [`listed_shapes`] does, in little-endian order.
+fn listed_shapes_le<B: BitsOwned>(d: u32, p: Place, e: u8) -> B
+    requires { IsTrue B.indexable }
+    ensures { members ⟦<LittleEndian as Endian>⟧.mirrored B.width (B.big result)
+        ≡ listed_three_set B.type_capacity d p.x e }
+{
+    crate::set_le![(d), p.x, e as u32]
+}
+
+/// Lists as [`listed_shapes`] does, in big-endian order.
+fn listed_shapes_be<B: BitsOwned>(d: u32, p: Place, e: u8) -> B
+    requires { IsTrue B.indexable }
+    ensures { members ⟦<BigEndian as Endian>⟧.mirrored B.width (B.big result)
+        ≡ listed_three_set B.type_capacity d p.x e }
+{
+    crate::set_be![(d), p.x, e as u32]
+}
+
+/// Lists as [`listed_ranges`] does, in little-endian order.
+fn listed_ranges_le<B: BitsOwned>() -> B
+    requires { IsTrue B.indexable }
+    ensures { members ⟦<LittleEndian as Endian>⟧.mirrored B.width (B.big result)
+        ≡ listed_ranges_set B.type_capacity }
+{
+    crate::set_le![1..=2, 4..=5, 7..9, 10..12]
+}
+
+/// Lists as [`listed_ranges`] does, in big-endian order.
+fn listed_ranges_be<B: BitsOwned>() -> B
+    requires { IsTrue B.indexable }
+    ensures { members ⟦<BigEndian as Endian>⟧.mirrored B.width (B.big result)
+        ≡ listed_ranges_set B.type_capacity }
+{
+    crate::set_be![1..=2, 4..=5, 7..9, 10..12]
 }

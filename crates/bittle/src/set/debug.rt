@@ -1,8 +1,9 @@
 //! The text of a set.
 
 ghost use Rattle.std.specs.Prelude.{Some};
+ghost use Rattle.std.specs.Fmt.{WritesOnOk};
 ghost use Rattle.bittle_bits.specs.Orders.{members};
-ghost use Rattle.bittle.specs.DebugText.{set_text};
+ghost use Rattle.bittle.specs.DebugText.{index_text, set_text};
 
 use super::Set;
 use bittle_bits::bits::Bits;
@@ -18,12 +19,19 @@ impl<T: Bits, E: Endian> fmt::Debug for Set<T, E> {
         f.write_str("{")?;
         let mut first = true;
         for index in self.bits.iter_ones_in::<E>() {
-            if !first {
-                f.write_str(", ")?;
-            }
-            write!(f, "{index}")?;
+            write_index(f, first, index)?;
             first = false;
         }
         f.write_str("}")
     }
+}
+
+// Writes an index, after a comma and a space where it is not the first.
+fn write_index<W: fmt::Write>(f: &mut fmt::Formatter<W>, first: bool, index: u32) -> fmt::Result
+    ensures { WritesOnOk W.write_str_gives f.old result (index_text first index) f.new }
+{
+    if !first {
+        f.write_str(", ")?;
+    }
+    write!(f, "{index}")
 }

@@ -1,17 +1,14 @@
-use Rattle.std.proofs.Common.{rules, ◌≡◌, Bool, true, false, ℕ, List, [], ◌∷◌, ◌++◌, codes, sym, ap, ◌∙◌, append_assoc, append-nil, refl}
-use Rattle.std.specs.Fmt.{HasWritten, decimal}
+use Rattle.std.proofs.Common.{rules, ◌≡◌, Bool, true, false, ℕ, List, [], ◌∷◌, ◌++◌, codes, sym, ap, ◌∙◌, append_assoc, refl}
 use Rattle.std.proofs.Output.{has_written_append, has_written_of_eq}
 use Rattle.bittle_bits.specs.Orders.{members}
 use Rattle.bittle_bits.specs.PlainSet.{ascending}
+use Rattle.bittle.specs.DebugText.{index_text}
 use Rattle.bittle.proofs.set.debug.SetDebug.fmt.Invariants.{others_text, rest_text}
 use Rattle.bittle.proofs.set.debug.SetDebug.fmt.Goals as goal
-use Rattle.bittle.proofs.set.debug.SetDebug.fmt.Goals.{then-not-first+in_ok-write_str-2, else-not-first}
 
-regroup : (a b c d e : List ℕ) → ((a ++ b) ++ c) ++ (d ++ e) ≡ a ++ ((b ++ (c ++ d)) ++ e)
-regroup a b c d e =
-    append_assoc (a ++ b) c (d ++ e) ∙ append_assoc a b (c ++ (d ++ e))
-    ∙ ap (λ t. a ++ t) (ap (λ t. b ++ t) (sym (append_assoc c d e))
-    ∙ sym (append_assoc b (c ++ d) e))
+rest_text-next : (first : Bool) (i : ℕ) (left : List ℕ) → rest_text first (i ∷ left) ≡ index_text first i ++ others_text left
+rest_text-next true i left = refl
+rest_text-next false i left = refl
 
 rest_text-none : (first : Bool) → rest_text first [] ≡ []
 rest_text-none true = refl
@@ -30,28 +27,17 @@ loop-index-init g c = λ plain.
 pub loop-index-preserved : goal.loop-index-preserved
 loop-index-preserved g c = λ plain.
     let so_far = c.loop-index.invariant plain in
+    let first = c.loop-index.first in
     let at = c.in-Some.index in
     let left = c.next.new.self.left in
-    let rest = rest_text c.loop-index.first in
-    let comma : (text : List ℕ) × HasWritten g.W.Write.write_str_gives c.args.f.now
-    (so_far.0 ++ text) c.if-not-first.f
-    × (rest (at ∷ left) ≡ text ++ (decimal at ++ others_text left)) =
-    elim c.if-not-first.branch [
-      | then-not-first+in_ok-write_str-2 w ↦ (
-        codes ", ",
-        has_written_append _ _ _ _ _ _ so_far.1
-            (rw w.f-is (w.in_ok-write_str-2.ensures.writes so_far.1.plain refl)),
-        rw w.if-not-first.true refl,
-      )
-      | else-not-first w ↦ ([], rw (append-nil, w.f-is) so_far.1, rw w.if-not-first.false refl)
-    ] in
-    let number : HasWritten g.W.Write.write_str_gives c.if-not-first.f
-    (decimal at) c.write.new.self = search rules in (
-      (so_far.0 ++ comma.0) ++ decimal at,
-      has_written_append _ _ _ _ _ _ comma.1 number,
-      regroup so_far.0 comma.0 (decimal at) (others_text left) (codes "}")
+    let text = index_text first at in (
+      so_far.0 ++ text,
+      has_written_append _ _ _ _ _ _ so_far.1 (c.in_ok-write_index.ensures so_far.1.plain refl),
+      append_assoc so_far.0 text (others_text left ++ codes "}")
+          ∙ ap (λ t. so_far.0 ++ t) (sym (append_assoc text (others_text left) (codes "}")))
           ∙ ap (λ t. so_far.0 ++ (t ++ codes "}"))
-          (sym comma.2 ∙ ap rest (sym c.in-Some.ensures.steps.gave))
+          (sym (rest_text-next first at left)
+          ∙ ap (rest_text first) (sym c.in-Some.ensures.steps.gave))
           ∙ so_far.2,
     )
 
