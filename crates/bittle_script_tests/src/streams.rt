@@ -49,7 +49,7 @@ impl Read for Source<'_> {
 }
 
 /// How many bytes a `Sink` holds.
-const ROOM: usize = 64;
+const ROOM: usize = 5000;
 
 /// Is interrupted some times, takes some bytes, is interrupted again, and then takes more or fails.
 #[derive(Drop)]
