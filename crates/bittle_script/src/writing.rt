@@ -1,12 +1,13 @@
 //! Writes to the output, few times, and counts the writes that were interrupted.
 ghost use Rattle.std.specs.Prelude.{◌<◌, ◌≤◌, ◌≡◌, ◌↔◌, IsErr, OnOk, ◌+◌, ◌∷◌, ◌++◌, []};
 ghost use Rattle.std.specs.Fmt.{decimal};
+ghost use Rattle.std.specs.IoError.{error_kind};
 ghost use Rattle.bittle_script.specs.Beginnings.{Writes};
 ghost use Rattle.bittle_script.specs.declared.writing.TheConstants.{MOST_INTERRUPTED};
 
 use crate::reading::is_interrupted;
 use crate::waiting::Waiting;
-use std::io::Write;
+use std::io::{Error, ErrorKind, Write};
 
 /// At this many interrupted writes a run fails.
 const MOST_INTERRUPTED: u32 = 8192;
@@ -114,27 +115,24 @@ impl<'a, W: Write> Output<'a, W> {
             match self.writer.write(&self.waiting.as_slice()[sent..]) {
                 Ok(0) => return Err(WriteFailed(())),
                 Ok(count) => sent += count,
-                Err(error) => {
-                    if !is_interrupted(&error) {
-                        return Err(WriteFailed(()));
-                    }
-                    self.note_interrupted()?;
-                }
+                Err(error) => self.note_failure(&error)?,
             }
         }
         self.waiting.clear();
         Ok(())
     }
 
-    // Counts one more interrupted write, and fails at the last one.
-    fn note_interrupted(&mut self) -> Result<(), WriteFailed>
+    // Counts one more interrupted write, and fails at the last one, as at any other error.
+    fn note_failure(&mut self, error: &Error) -> Result<(), WriteFailed>
         ensures same_writer { self.new.writer ≡ self.old.writer }
         ensures same_bytes { self.new.waiting ≡ self.old.waiting }
+        ensures again { OnOk result (error_kind error.now ≡ ErrorKind.Interrupted) }
         ensures more { OnOk result (self.new.interrupted ≡ self.old.interrupted + 1) }
         ensures interrupted { self.old.interrupted ≤ self.new.interrupted }
-        ensures last { IsErr result ↔ (self.old.interrupted + 1 ≡ MOST_INTERRUPTED) }
+        ensures last { error_kind error.now ≡ ErrorKind.Interrupted
+            → (IsErr result ↔ (self.old.interrupted + 1 ≡ MOST_INTERRUPTED)) }
     {
-        if self.interrupted + 1 == MOST_INTERRUPTED {
+        if !is_interrupted(error) || self.interrupted + 1 == MOST_INTERRUPTED {
             return Err(WriteFailed(()));
         }
         self.interrupted += 1;
