@@ -1,59 +1,66 @@
 -- Answers that an output got.
-use Rattle.std.proofs.Common.{◌≡◌, ℕ, List, ◌∷◌, length, sym, ap, ◌∙◌, false, Result, Ok, Err, Some, None}
+use Rattle.std.proofs.Common.{◌≡◌, ℕ, List, ◌∷◌, ◌++◌, length, sym, ap, ◌∙◌, false, refl, true≢false, Result, Ok, Err, Some, None}
 use Rattle.std.specs.Prelude.{Option, IsErr, ◌==◌, if◌then◌else◌}
-use Rattle.std.specs.Io.KnownBytes.{Appends}
-use Rattle.std.proofs.lemmas.Result.{MatchResult-from_err}
 use Rattle.bittle.specs.PlainSet.{PlainSet}
 use Rattle.bittle_script.specs.declared.answering.Outcome.{Outcome}
 use Rattle.bittle_script.specs.declared.command.Command.{Command}
-use Rattle.bittle_script.specs.Answers.{Answers, IsGiven, line_answers, command_answers, refusal_at, prepend, command_text, after_command}
-use Rattle.bittle_script.specs.Beginnings.{AppendsBeginning}
+use Rattle.bittle_script.specs.declared.writing.Output.{Output}
+use Rattle.bittle_script.specs.Answers.{Answers, line_answers, command_answers, refusal_at, prepend, command_text, after_command}
+use Rattle.bittle_script.specs.Beginnings.{AppendsBeginning, HasBegun}
 use Rattle.bittle_script.specs.Commands.{command_of}
-use Rattle.bittle_script.proofs.Beginnings.{HasBegun, begins-before, begun-nothing, begun-more, begun-whole, begun-failed}
+use Rattle.bittle_script.specs.GivenAnswers.{IsGiven}
+use Rattle.bittle_script.specs.Outputs.{HasPut, Puts}
+use Rattle.bittle_script.proofs.Beginnings.{begun-nothing, begun-then, begun-failed}
+use Rattle.bittle_script.proofs.Outputs.{put-more, puts-failed_before}
 
 -- an output may fail after a beginning of the answers
-pub IsGiven-failed : {E : Type 0} (a b : Option (List ℕ)) (r : Result Outcome E) (given : Answers) →
-    IsErr r → AppendsBeginning a b given.text → IsGiven a b r given
-IsGiven-failed a b r given failed h = MatchResult-from_err r
-    (λ outcome. (outcome ≡ given.outcome) × Appends a b given.text)
-    (λ _. AppendsBeginning a b given.text) failed (λ _. h)
+pub IsGiven-failed : {W E : Type 0} (contents : W → Option (List ℕ)) (a b : Output W)
+    (r : Result Outcome E) (given : Answers) → IsErr r → Puts contents a b r given.text →
+    IsGiven contents a b r given
+IsGiven-failed contents a b (Ok outcome) given failed h = absurd (true≢false (sym failed))
+IsGiven-failed contents a b (Err e) given failed h = (tt, h)
 
 -- an output got the first of all the answers, and these are left
-pub record IsUnderWay (a b : Option (List ℕ)) (all left : Answers) : Type 0 where
-  pub text : HasBegun a b all.text left.text
+pub record IsUnderWay {W : Type 0} (contents : W → Option (List ℕ)) (a b : Output W)
+    (all left : Answers) : Type 0 where
+  pub text : HasPut contents a b all.text left.text
   pub outcome : all.outcome ≡ left.outcome
 
 -- at first an output got nothing, and all the answers are left
-pub under_way-begins : (a : Option (List ℕ)) (all left : Answers) → all ≡ left →
-    IsUnderWay a a all left
-under_way-begins a all left e = record {
-  text = begun-nothing a all.text left.text
-      (ap (λ given. given.text) e);
+pub under_way-begins : {W : Type 0} (contents : W → Option (List ℕ)) (a : Output W)
+    (all left : Answers) → all ≡ left → IsUnderWay contents a a all left
+under_way-begins contents a all left e = record {
+  text = begun-nothing _ _ _ (ap (λ given. a.waiting ++ given.text) e);
   outcome = ap (λ given. given.outcome) e;
 }
 
--- once a reply is written, the answers after it are left
-pub under_way-after : (a b c : Option (List ℕ)) (all left rest : Answers) (reply : List ℕ) →
-    IsUnderWay a b all left → left ≡ prepend reply rest → Appends b c reply →
-    IsUnderWay a c all rest
-under_way-after a b c all left rest reply h is k = record {
-  text = begun-more a b c all.text left.text reply rest.text h.text (ap (λ given. given.text) is) k;
+-- once a reply is put, the answers after it are left
+pub under_way-after : {W : Type 0} (contents : W → Option (List ℕ)) (a b c : Output W)
+    (all left rest : Answers) (reply : List ℕ) → IsUnderWay contents a b all left → left ≡ prepend reply rest →
+    HasBegun (contents b.writer.now) (contents c.writer.now) (b.waiting ++ reply)
+    c.waiting → IsUnderWay contents a c all rest
+under_way-after contents a b c all left rest reply h is k = record {
+  text = put-more _ _ _ a.waiting b.waiting c.waiting all.text left.text reply rest.text h.text
+      (ap (λ given. given.text) is) k;
   outcome = h.outcome ∙ ap (λ given. given.outcome) is;
 }
 
 -- an output that gets the answers that are left gets all of them
-pub IsGiven-after : {E : Type 0} (a b c : Option (List ℕ)) (r : Result Outcome E)
-    (all left : Answers) → IsUnderWay a b all left → IsGiven b c r left → IsGiven a c r all
-IsGiven-after a b c (Ok outcome) all left h
-    k = (k.0 ∙ sym h.outcome, begun-whole a b c all.text left.text h.text k.1)
-IsGiven-after a b c (Err e) all left h k = begun-failed a b c all.text left.text h.text k
+pub IsGiven-after : {W E : Type 0} (contents : W → Option (List ℕ)) (a b c : Output W)
+    (r : Result Outcome E) (all left : Answers) → IsUnderWay contents a b all left →
+    IsGiven contents b c r left → IsGiven contents a c r all
+IsGiven-after contents a b c (Ok outcome) all left h
+    k = (k.0 ∙ sym h.outcome, begun-then _ _ _ _ _ _ h.text k.1)
+IsGiven-after contents a b c (Err e) all left h k = (tt, begun-failed _ _ _ _ _ h.text k.1)
 
 -- the output failed at the next reply
-pub IsGiven-failed_at : {E : Type 0} (a b : Option (List ℕ)) (r : Result Outcome E)
-    (left rest : Answers) (reply : List ℕ) → IsErr r → left ≡ prepend reply rest →
-    AppendsBeginning a b reply → IsGiven a b r left
-IsGiven-failed_at a b r left rest reply failed is h = rw is
-    (IsGiven-failed a b r (prepend reply rest) failed (begins-before a b reply rest.text h))
+pub IsGiven-failed_at : {W E : Type 0} (contents : W → Option (List ℕ)) (a b : Output W)
+    (r : Result Outcome E) (left rest : Answers) (reply : List ℕ) → IsErr r →
+    left ≡ prepend reply rest → AppendsBeginning (contents a.writer.now)
+    (contents b.writer.now) (a.waiting ++ reply) → IsGiven contents a b r left
+IsGiven-failed_at contents a b r left rest reply failed is h = rw is
+    (IsGiven-failed contents a b r (prepend reply rest) failed
+    (puts-failed_before _ _ r a.waiting (reply ++ rest.text) reply rest.text b.waiting refl failed h))
 
 -- a line that is a command is answered, and then the lines after it by the set it leaves
 pub answers_step : (s t : PlainSet) (all lines : List (ℕ × List ℕ)) (number : ℕ) (line : List ℕ)

@@ -1,8 +1,7 @@
 -- The answers to a script: those of a plain set of numbers, line by line.
-use Rattle.std.specs.Prelude.{◌≡◌, ℕ, List, [], ◌∷◌, ◌++◌, Option, None, Some, length, drop, codes, ◌==◌, if◌then◌else◌, Result, MatchResult}
+use Rattle.std.specs.Prelude.{ℕ, List, [], ◌∷◌, ◌++◌, Option, None, Some, length, drop, codes, ◌==◌, if◌then◌else◌}
 use Rattle.std.specs.List.{enumerate_from, join_by}
 use Rattle.std.specs.Fmt.{decimal}
-use Rattle.std.specs.Io.KnownBytes.{Appends}
 use Rattle.bittle.specs.PlainSet.{PlainSet, empty_set, ascending}
 use Rattle.bittle.specs.Machine.{reply_to, set_after}
 use Rattle.bittle.specs.declared.replay.Call.TheVariants.{Test as Test_call, Put, Clear as Clear_call, CountOnes}
@@ -13,7 +12,6 @@ use Rattle.bittle_script.specs.declared.command.Command.TheVariants.{Set, Clear,
 use Rattle.bittle_script.specs.declared.header.Header.{Header}
 use Rattle.bittle_script.specs.declared.answering.Outcome.{Outcome}
 use Rattle.bittle_script.specs.declared.answering.Outcome.TheVariants.{Answered, Refused}
-use Rattle.bittle_script.specs.Beginnings.{AppendsBeginning}
 use Rattle.bittle_script.specs.Commands.{command_of}
 use Rattle.bittle_script.specs.Headers.{header_of, capacity_of}
 use Rattle.bittle_script.specs.Texts.{script_lines}
@@ -88,9 +86,3 @@ header_answers (Some header) lines = line_answers (empty_set (capacity_of header
 abbrev pub script_answers : List ℕ → Answers
 script_answers text = let lines = enumerate_from 1 (script_lines text) in
     header_answers (header_in lines) (drop 1 lines)
-
--- an output got the answers whole, or failed after a beginning of them
-abbrev pub IsGiven : {E : Type 0} → Option (List ℕ) → Option (List ℕ) → Result Outcome E → Answers →
-    Type 0
-IsGiven old new r given = MatchResult r (λ outcome. (outcome ≡ given.outcome)
-    × Appends old new given.text) (λ _. AppendsBeginning old new given.text)

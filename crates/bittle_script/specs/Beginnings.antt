@@ -9,8 +9,21 @@ pub record AppendsBeginning (old new : Option (List ℕ)) (bytes : List ℕ) : T
   pub split : bytes ≡ front ++ rest
   pub appends : Appends old new front
 
+-- known bytes grew by the first of all the bytes, and these are left
+pub record HasBegun (old new : Option (List ℕ)) (all left : List ℕ) : Type 0 where
+  pub done : List ℕ
+  pub appends : Appends old new done
+  pub split : all ≡ done ++ left
+
 -- known bytes grew by `bytes`, or at `Err` by a beginning of them
 abbrev pub Writes : {T E : Type 0} → Option (List ℕ) → Option (List ℕ) → Result T E → List ℕ →
     Type 0
 Writes old new r bytes = MatchResult r (λ _. Appends old new bytes)
     (λ _. AppendsBeginning old new bytes)
+
+-- known bytes grew by the first of all the bytes, and these are left, or at `Err` by a beginning of
+-- them all
+abbrev pub Begins : {T E : Type 0} → Option (List ℕ) → Option (List ℕ) → Result T E → List ℕ →
+    List ℕ → Type 0
+Begins old new r all left = MatchResult r (λ _. HasBegun old new all left)
+    (λ _. AppendsBeginning old new all)

@@ -5,6 +5,8 @@ pub mod Headers
 pub mod Texts
 pub mod Lines
 pub mod Beginnings
+pub mod Outputs
 pub mod Answers
 pub mod Refusals
 pub mod ProgramRuns
+pub mod GivenAnswers

@@ -1,11 +1,11 @@
 -- What a run writes, of what it reads.
-use Rattle.std.specs.Prelude.{◌≡◌, ℕ, List, Option, Result, ◌⊎◌, IfSome, nat_lt, length, if◌then◌else◌}
+use Rattle.std.specs.Prelude.{◌≡◌, ℕ, List, Option, ◌⊎◌, IfSome, nat_lt, length, if◌then◌else◌}
 use Rattle.std.specs.Io.KnownBytes.{Appends}
 use Rattle.bittle_script.specs.declared.answering.Outcome.{Outcome}
 use Rattle.bittle_script.specs.declared.answering.Outcome.TheVariants.{Answered, Refused}
 use Rattle.bittle_script.specs.declared.reading.Refusal.{Refusal}
 use Rattle.bittle_script.specs.declared.reading.Refusal.TheVariants.{TooLong, ReadFailed}
-use Rattle.bittle_script.specs.Answers.{Answers, script_answers, IsGiven}
+use Rattle.bittle_script.specs.Answers.{Answers, script_answers}
 use Rattle.bittle_script.specs.Beginnings.{AppendsBeginning}
 use Rattle.bittle_script.specs.Refusals.{message_of}
 
@@ -22,12 +22,6 @@ input_answers text = if nat_lt 4096 (length text) then refusal_answers TooLong e
 abbrev pub MayBeAnswered : Option (List ℕ) → Answers → Type 0
 MayBeAnswered remaining given = ((text : List ℕ) × IfSome remaining (λ all. text ≡ all)
     × (given ≡ input_answers text)) ⊎ (given ≡ refusal_answers ReadFailed)
-
--- an output got what may be answered, or failed after a beginning of it
-abbrev pub IsAnswered : {E : Type 0} → Option (List ℕ) → Option (List ℕ) → Option (List ℕ) →
-    Result Outcome E → Type 0
-IsAnswered remaining old new r = (given : Answers) × MayBeAnswered remaining given
-    × IsGiven old new r given
 
 -- the exit status of an outcome
 abbrev pub status_of : Outcome → ℕ

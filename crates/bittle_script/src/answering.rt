@@ -3,10 +3,11 @@ ghost use Rattle.std.specs.Prelude.{◌≡◌, ◌≤◌, length, drop, OnSome, 
 ghost use Rattle.bittle.specs.Orders.{members};
 ghost use Rattle.bittle.specs.PlainSet.{empty_set};
 ghost use Rattle.bittle.specs.Machine.{reply_to, set_after};
-ghost use Rattle.bittle_script.specs.Answers.{line_answers, script_answers, header_answers, header_in, text_of, line_of_members, command_text, after_command, refusal_at, IsGiven};
-ghost use Rattle.bittle_script.specs.Beginnings.{Writes};
+ghost use Rattle.bittle_script.specs.Answers.{line_answers, script_answers, header_answers, header_in, text_of, line_of_members, command_text, after_command, refusal_at};
+ghost use Rattle.bittle_script.specs.GivenAnswers.{IsGiven};
 ghost use Rattle.bittle_script.specs.Headers.{capacity_of};
 ghost use Rattle.bittle_script.specs.Lines.{lines_left};
+ghost use Rattle.bittle_script.specs.Outputs.{Puts};
 ghost use Rattle.bittle_script.specs.declared.reading.TheConstants.{MOST_BYTES};
 
 use crate::command::Command;
@@ -40,8 +41,7 @@ impl Outcome {
 pub fn answer<W: Write>(text: &[u8], output: &mut Output<'_, W>) -> Result<Outcome, WriteFailed>
     requires { length text.now ≤ MOST_BYTES }
     ensures same_writer { output.new.writer.ghost_name ≡ output.old.writer.ghost_name }
-    ensures answers { IsGiven (W.contents output.old.writer.now)
-        (W.contents output.new.writer.now) result
+    ensures answers { IsGiven W.contents output.old output.new result
         (script_answers text.now) }
 {
     let mut lines = Lines::new(text);
@@ -66,8 +66,7 @@ fn answer_in_order<W: Write>(
     output: &mut Output<'_, W>,
 ) -> Result<Outcome, WriteFailed>
     ensures same_writer { output.new.writer.ghost_name ≡ output.old.writer.ghost_name }
-    ensures answers { IsGiven (W.contents output.old.writer.now)
-        (W.contents output.new.writer.now) result
+    ensures answers { IsGiven W.contents output.old output.new result
         (line_answers (empty_set (capacity_of header.shape)) (lines_left lines.entry)) }
 {
     match header.order {
@@ -83,8 +82,7 @@ fn answer_shape<E: Endian, W: Write>(
     output: &mut Output<'_, W>,
 ) -> Result<Outcome, WriteFailed>
     ensures same_writer { output.new.writer.ghost_name ≡ output.old.writer.ghost_name }
-    ensures answers { IsGiven (W.contents output.old.writer.now)
-        (W.contents output.new.writer.now) result
+    ensures answers { IsGiven W.contents output.old output.new result
         (line_answers (empty_set (capacity_of shape)) (lines_left lines.entry)) }
 {
     match shape {
@@ -103,8 +101,7 @@ fn answer_lines<B: BitsOwned, E: Endian, W: Write>(
 ) -> Result<Outcome, WriteFailed>
     requires { IsTrue B.indexable }
     ensures same_writer { output.new.writer.ghost_name ≡ output.old.writer.ghost_name }
-    ensures answers { IsGiven (W.contents output.old.writer.now)
-        (W.contents output.new.writer.now) result
+    ensures answers { IsGiven W.contents output.old output.new result
         (line_answers (empty_set B.type_capacity) (lines_left lines.entry)) }
 {
     let mut bits = empty_value::<B>();
@@ -138,8 +135,7 @@ fn obey<B: BitsOwned, E: Endian, W: Write>(
     ensures same_writer { output.new.writer.ghost_name ≡ output.old.writer.ghost_name }
     ensures set { members E.mirrored B.width (B.big bits.new)
         ≡ after_command (members E.mirrored B.width (B.big bits.old)) command }
-    ensures prints { Writes (W.contents output.old.writer.now)
-        (W.contents output.new.writer.now) result
+    ensures prints { Puts W.contents output.old output.new result
         (command_text (members E.mirrored B.width (B.big bits.old)) command) }
 {
     let call = match command {
@@ -167,8 +163,7 @@ fn ask<B: BitsOwned, E: Endian>(bits: &mut B, call: Call) -> Reply
 /// Prints a reply on a line, if it says anything.
 fn print<W: Write>(reply: Reply, output: &mut Output<'_, W>) -> Result<(), WriteFailed>
     ensures same_writer { output.new.writer.ghost_name ≡ output.old.writer.ghost_name }
-    ensures prints { Writes (W.contents output.old.writer.now)
-        (W.contents output.new.writer.now) result
+    ensures prints { Puts W.contents output.old output.new result
         (text_of reply) }
 {
     match reply {
@@ -188,8 +183,7 @@ fn print_members<B: BitsOwned, E: Endian, W: Write>(
     output: &mut Output<'_, W>,
 ) -> Result<(), WriteFailed>
     ensures same_writer { output.new.writer.ghost_name ≡ output.old.writer.ghost_name }
-    ensures prints { Writes (W.contents output.old.writer.now)
-        (W.contents output.new.writer.now) result
+    ensures prints { Puts W.contents output.old output.new result
         (line_of_members (members E.mirrored B.width (B.big set.now.bits))) }
 {
     let mut space: &[u8] = b"";
@@ -203,12 +197,10 @@ fn print_members<B: BitsOwned, E: Endian, W: Write>(
 /// Says that the line with this number is not understood.
 fn refuse<W: Write>(number: u32, output: &mut Output<'_, W>) -> Result<Outcome, WriteFailed>
     ensures same_writer { output.new.writer.ghost_name ≡ output.old.writer.ghost_name }
-    ensures refused { IsGiven (W.contents output.old.writer.now)
-        (W.contents output.new.writer.now) result
+    ensures refused { IsGiven W.contents output.old output.new result
         (refusal_at number) }
 {
-    output.put(b"line ")?;
-    output.put_number(number)?;
+    output.put_after(b"line ", number)?;
     output.put(b": not understood\n")?;
     Ok(Outcome::Refused)
 }

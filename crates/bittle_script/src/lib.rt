@@ -7,11 +7,13 @@ mod decimal;
 mod header;
 mod lines;
 mod reading;
+mod waiting;
 mod writing;
 
-ghost use Rattle.std.specs.Prelude.{◌≡◌, ◌≤◌};
+ghost use Rattle.std.specs.Prelude.{◌≡◌, ◌≤◌, [], OnOk};
 ghost use Rattle.std.specs.Process.{exit_status};
-ghost use Rattle.bittle_script.specs.ProgramRuns.{IsRun, IsAnswered};
+ghost use Rattle.bittle_script.specs.GivenAnswers.{IsAnswered};
+ghost use Rattle.bittle_script.specs.ProgramRuns.{IsRun};
 
 use answering::Outcome;
 use std::io::{Eprint, Read, Write};
@@ -63,8 +65,8 @@ fn answer_and_flush<R: Read, W: Write>(
     output: &mut Output<'_, W>,
 ) -> Result<Outcome, WriteFailed>
     ensures same_writer { output.new.writer.ghost_name ≡ output.old.writer.ghost_name }
-    ensures answered { IsAnswered (R.remaining input.old) (W.contents output.old.writer.now)
-        (W.contents output.new.writer.now) result }
+    ensures answered { IsAnswered (R.remaining input.old) W.contents output.old output.new result }
+    ensures empty { OnOk result (output.new.waiting ≡ []) }
 {
     let outcome = answer_input(input, output)?;
     output.flush()?;
@@ -77,8 +79,7 @@ fn answer_input<R: Read, W: Write>(
     output: &mut Output<'_, W>,
 ) -> Result<Outcome, WriteFailed>
     ensures same_writer { output.new.writer.ghost_name ≡ output.old.writer.ghost_name }
-    ensures answered { IsAnswered (R.remaining input.old) (W.contents output.old.writer.now)
-        (W.contents output.new.writer.now) result }
+    ensures answered { IsAnswered (R.remaining input.old) W.contents output.old output.new result }
 {
     let mut bytes = [0; reading::ROOM];
     match reading::read_all(input, &mut bytes) {

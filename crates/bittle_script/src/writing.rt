@@ -1,12 +1,13 @@
-//! Writes to the output, and counts the writes that were interrupted.
-ghost use Rattle.std.specs.Prelude.{◌<◌, ◌≤◌, ◌≡◌, ◌↔◌, IsErr, OnOk, ◌+◌, ◌++◌};
+//! Writes to the output, few times, and counts the writes that were interrupted.
+ghost use Rattle.std.specs.Prelude.{◌<◌, ◌≤◌, ◌≡◌, ◌↔◌, IsErr, OnOk, ◌+◌, ◌∷◌, ◌++◌, []};
 ghost use Rattle.std.specs.Fmt.{decimal};
-ghost use Rattle.std.specs.Io.KnownBytes.{Keeps};
+ghost use Rattle.std.specs.IoError.{error_kind};
 ghost use Rattle.bittle_script.specs.Beginnings.{Writes};
 ghost use Rattle.bittle_script.specs.declared.writing.TheConstants.{MOST_INTERRUPTED};
 
 use crate::reading::is_interrupted;
-use std::io::Write;
+use crate::waiting::Waiting;
+use std::io::{Error, ErrorKind, Write};
 
 /// At this many interrupted writes a run fails.
 const MOST_INTERRUPTED: u32 = 8192;
@@ -15,95 +16,123 @@ const MOST_INTERRUPTED: u32 = 8192;
 #[derive(Debug, Drop)]
 pub struct WriteFailed(());
 
-/// What a run writes to.
+/// What a run writes to. The bytes wait until there are many of them, or until it is flushed.
 #[derive(Drop)]
 pub struct Output<'a, W> {
     writer: &'a mut W,
     interrupted: u32,
+    waiting: Waiting,
     ghost goes_on: { interrupted < MOST_INTERRUPTED },
 }
 
 impl<'a, W: Write> Output<'a, W> {
-    /// Returns the output to a writer, of which no write was interrupted yet.
+    ghost use Rattle.bittle_script.specs.Outputs.{Puts};
+
+    /// Returns the output to a writer, of which no write was interrupted yet, and in which nothing
+    /// waits.
     pub fn new(writer: &'a mut W) -> Self
         ensures same_writer { result.writer.ghost_name ≡ writer.entry.ghost_name }
         ensures contents { result.writer.now ≡ writer.old }
+        ensures empty { result.waiting ≡ [] }
         ensures uninterrupted { result.interrupted ≡ 0 }
     {
         Output {
             writer,
             interrupted: 0,
+            waiting: Waiting::new(),
         }
     }
 
-    /// Writes all of `bytes`, or fails after a beginning of them.
-    ///
-    /// The count of interrupted writes never falls.
+    /// Puts `bytes` behind what waits, or fails after a beginning of all that.
     pub fn put(&mut self, bytes: &[u8]) -> Result<(), WriteFailed>
         ensures same_writer { self.new.writer.ghost_name ≡ self.old.writer.ghost_name }
-        ensures bytes { Writes (W.contents self.old.writer.now)
-            (W.contents self.new.writer.now) result bytes.now }
+        ensures puts { Puts W.contents self.old self.new result bytes.now }
         ensures interrupted { self.old.interrupted ≤ self.new.interrupted }
     {
-        let mut rest = bytes;
-        while !rest.is_empty() {
-            match self.writer.write(rest) {
-                Ok(0) => return Err(WriteFailed(())),
-                Ok(count) => rest = &rest[count..],
-                Err(error) => {
-                    if !is_interrupted(&error) {
-                        return Err(WriteFailed(()));
-                    }
-                    self.note_interrupted()?;
-                }
-            }
+        for byte in bytes {
+            self.put_byte(*byte)?;
         }
         Ok(())
     }
 
-    /// Writes a number in digits, or fails after some of them.
+    /// Puts a number in digits.
     pub fn put_number(&mut self, number: u32) -> Result<(), WriteFailed>
         ensures same_writer { self.new.writer.ghost_name ≡ self.old.writer.ghost_name }
-        ensures digits { Writes (W.contents self.old.writer.now)
-            (W.contents self.new.writer.now) result
-            (decimal number) }
+        ensures puts { Puts W.contents self.old self.new result (decimal number) }
         ensures interrupted { self.old.interrupted ≤ self.new.interrupted }
     {
         if number >= 10 {
             self.put_number(number / 10)?;
         }
-        self.put(&[b'0' + (number % 10) as u8])
+        self.put_byte(b'0' + (number % 10) as u8)
     }
 
-    /// Writes `before`, and then a number in digits.
+    /// Puts `before`, and then a number in digits.
     pub fn put_after(&mut self, before: &[u8], number: u32) -> Result<(), WriteFailed>
         ensures same_writer { self.new.writer.ghost_name ≡ self.old.writer.ghost_name }
-        ensures both { Writes (W.contents self.old.writer.now)
-            (W.contents self.new.writer.now) result
-            (before.now ++ decimal number) }
+        ensures puts { Puts W.contents self.old self.new result (before.now ++ decimal number) }
         ensures interrupted { self.old.interrupted ≤ self.new.interrupted }
     {
         self.put(before)?;
         self.put_number(number)
     }
 
-    /// Flushes the writer. A flush that was interrupted has failed.
+    /// Writes what waits, and flushes the writer.
     pub fn flush(&mut self) -> Result<(), WriteFailed>
         ensures same_writer { self.new.writer.ghost_name ≡ self.old.writer.ghost_name }
-        ensures keeps { Keeps (W.contents self.old.writer.now) (W.contents self.new.writer.now) }
+        ensures bytes { Writes (W.contents self.old.writer.now)
+            (W.contents self.new.writer.now) result self.old.waiting }
+        ensures empty { OnOk result (self.new.waiting ≡ []) }
         ensures interrupted { self.old.interrupted ≤ self.new.interrupted }
     {
+        self.send()?;
         self.writer.flush().map_err(|_| WriteFailed(()))
     }
 
-    // Counts one more interrupted write, and fails at the last one.
-    fn note_interrupted(&mut self) -> Result<(), WriteFailed>
+    // Puts a byte behind what waits.
+    fn put_byte(&mut self, byte: u8) -> Result<(), WriteFailed>
+        ensures same_writer { self.new.writer.ghost_name ≡ self.old.writer.ghost_name }
+        ensures puts { Puts W.contents self.old self.new result (byte ∷ []) }
+        ensures interrupted { self.old.interrupted ≤ self.new.interrupted }
+    {
+        if self.waiting.is_full() {
+            self.send()?;
+        }
+        self.waiting.push(byte);
+        Ok(())
+    }
+
+    // Writes what waits, after which nothing does.
+    fn send(&mut self) -> Result<(), WriteFailed>
+        ensures same_writer { self.new.writer.ghost_name ≡ self.old.writer.ghost_name }
+        ensures bytes { Writes (W.contents self.old.writer.now)
+            (W.contents self.new.writer.now) result self.old.waiting }
+        ensures empty { OnOk result (self.new.waiting ≡ []) }
+        ensures interrupted { self.old.interrupted ≤ self.new.interrupted }
+    {
+        let mut sent = 0;
+        while sent < self.waiting.len() {
+            match self.writer.write(&self.waiting.as_slice()[sent..]) {
+                Ok(0) => return Err(WriteFailed(())),
+                Ok(count) => sent += count,
+                Err(error) => self.note_failure(&error)?,
+            }
+        }
+        self.waiting.clear();
+        Ok(())
+    }
+
+    // Counts one more interrupted write, and fails at the last one, as at any other error.
+    fn note_failure(&mut self, error: &Error) -> Result<(), WriteFailed>
         ensures same_writer { self.new.writer ≡ self.old.writer }
+        ensures same_bytes { self.new.waiting ≡ self.old.waiting }
+        ensures again { OnOk result (error_kind error.now ≡ ErrorKind.Interrupted) }
         ensures more { OnOk result (self.new.interrupted ≡ self.old.interrupted + 1) }
         ensures interrupted { self.old.interrupted ≤ self.new.interrupted }
-        ensures last { IsErr result ↔ (self.old.interrupted + 1 ≡ MOST_INTERRUPTED) }
+        ensures last { error_kind error.now ≡ ErrorKind.Interrupted
+            → (IsErr result ↔ (self.old.interrupted + 1 ≡ MOST_INTERRUPTED)) }
     {
-        if self.interrupted + 1 == MOST_INTERRUPTED {
+        if !is_interrupted(error) || self.interrupted + 1 == MOST_INTERRUPTED {
             return Err(WriteFailed(()));
         }
         self.interrupted += 1;

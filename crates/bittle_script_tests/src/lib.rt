@@ -2,6 +2,12 @@
 #![tactic(auto)]
 
 #[cfg(test)]
+mod checks;
+#[cfg(test)]
+mod failures;
+#[cfg(test)]
+mod full_sets;
+#[cfg(test)]
 mod scripts;
 #[cfg(test)]
 mod streams;

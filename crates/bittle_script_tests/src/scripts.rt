@@ -176,9 +176,9 @@ fn gives_up_on_bad_readers(rt: HostRuntime) {
 #[test]
 fn writes_all_to_slow_writers(rt: HostRuntime) {
     for (most, interruptions, writes) in [
-        (100, 0, 2),
+        (100, 0, 1),
         (1, 0, 11),
-        (100, 8191, 8193),
+        (100, 8191, 8192),
         (1, 8191, 8202),
     ] {
         let mut output = Sink::new();
@@ -192,6 +192,24 @@ fn writes_all_to_slow_writers(rt: HostRuntime) {
 }
 
 #[test]
+fn writes_4096_bytes_at_once(rt: HostRuntime) -> Result<(), Fail> {
+    // Each line of answers has 16 bytes.
+    for (lines, writes, len) in [(0, 0, 0), (256, 1, 4096), (257, 2, 4112)] {
+        let script = b"be u8\nset 0\nset 1\nset 2\nset 3\nset 4\nset 5\nset 6\nset 7\n";
+        let mut text = Vec::from_slice(rt.alloc(), script)?;
+        for _ in 0..lines {
+            text.extend_from_slice(b"ones\n")?;
+        }
+        let mut output = Sink::new();
+        assert_eq!(rt; run(&mut Source::new(text.as_slice()), &mut output), 0);
+        assert_eq!(rt; output.writes, writes);
+        assert_eq!(rt; output.text().len(), len);
+        assert!(rt; output.text().is_empty() || output.text().ends_with(b"0 1 2 3 4 5 6 7\n"));
+    }
+    Ok(())
+}
+
+#[test]
 fn gives_up_on_bad_writers(rt: HostRuntime) {
     let broken = Some(ErrorKind::BrokenPipe);
     let interrupted = Some(ErrorKind::Interrupted);
@@ -200,8 +218,8 @@ fn gives_up_on_bad_writers(rt: HostRuntime) {
         (0, 0, None, None, b"".as_slice(), 1, 0),
         (100, 8192, None, None, b"".as_slice(), 8192, 0),
         (100, u32::MAX, None, None, b"".as_slice(), 8192, 0),
-        (100, 0, None, broken, PRINTED, 2, 1),
-        (100, 0, None, interrupted, PRINTED, 2, 1),
+        (100, 0, None, broken, PRINTED, 1, 1),
+        (100, 0, None, interrupted, PRINTED, 1, 1),
     ] {
         let mut output = Sink::new();
         output.most = most;
@@ -216,8 +234,8 @@ fn gives_up_on_bad_writers(rt: HostRuntime) {
 
 #[test]
 fn gives_up_on_a_write_that_fails_midway(rt: HostRuntime) {
-    // It takes two bytes, or the whole first text, and fails at the next call.
-    for (most, sound, printed) in [(2, 2, b"tr".as_slice()), (100, 5, b"true\n".as_slice())] {
+    // It takes two bytes, or the first line, and fails at the next call.
+    for (most, sound, printed) in [(2, 2, b"tr".as_slice()), (5, 5, b"true\n".as_slice())] {
         let mut output = Sink::new();
         output.most = most;
         output.sound = sound;
@@ -230,11 +248,12 @@ fn gives_up_on_a_write_that_fails_midway(rt: HostRuntime) {
 
 #[test]
 fn counts_interrupted_writes_of_the_whole_run(rt: HostRuntime) {
-    // The first text is interrupted 4,096 times, and the second as often or once less.
-    for (later, status, printed) in [(4095, 0, PRINTED), (4096, 1, b"true\n".as_slice())] {
+    // The first six bytes are interrupted 4,096 times, and the others as often or once less.
+    for (later, status, printed) in [(4095, 0, PRINTED), (4096, 1, b"true\nf".as_slice())] {
         let mut output = Sink::new();
+        output.most = 6;
         output.interruptions = 4096;
-        output.sound = 5;
+        output.sound = 6;
         output.later_interruptions = later;
         assert_eq!(rt; run(&mut Source::new(SCRIPT), &mut output), status);
         assert_eq!(rt; output.text(), printed);
@@ -244,7 +263,7 @@ fn counts_interrupted_writes_of_the_whole_run(rt: HostRuntime) {
 
 #[test]
 fn writes_long_texts_after_an_interruption(rt: HostRuntime) {
-    for most in [100, 3, 1] {
+    for most in [12, 3, 1] {
         let mut output = Sink::new();
         output.most = most;
         output.interruptions = 1;

@@ -5,12 +5,18 @@ use std::cmp::min;
 use std::io;
 use std::io::{Error, ErrorKind, Read, Write};
 
-/// Is interrupted some times, then gives its bytes, and then ends or fails.
+/// Is interrupted some times, gives some bytes, is interrupted again, gives the others, and then
+/// ends or fails.
 #[derive(Drop)]
 pub struct Source<'a> {
     bytes: &'a [u8],
-    /// How often it is interrupted.
+    given: usize,
+    /// How often it is interrupted before it gives a byte.
     pub interruptions: u32,
+    /// How many bytes it gives before it is interrupted again.
+    pub sound: usize,
+    /// How often it is interrupted then.
+    pub later_interruptions: u32,
     /// The most bytes that it gives at once.
     pub most: usize,
     /// The error that it ends with, or none.
@@ -23,7 +29,10 @@ impl<'a> Source<'a> {
     pub fn new(bytes: &'a [u8]) -> Self {
         Source {
             bytes,
+            given: 0,
             interruptions: 0,
+            sound: 0,
+            later_interruptions: 0,
             most: usize::MAX,
             end: None,
             calls: 0,
@@ -38,18 +47,24 @@ impl Read for Source<'_> {
             self.interruptions -= 1;
             return Err(Error::from(ErrorKind::Interrupted));
         }
+        if self.given >= self.sound && self.later_interruptions > 0 {
+            self.later_interruptions -= 1;
+            return Err(Error::from(ErrorKind::Interrupted));
+        }
         if self.bytes.is_empty() {
             if let Some(kind) = self.end {
                 return Err(Error::from(kind));
             }
         }
         let room = min(self.most, buf.len());
-        self.bytes.read(&mut buf[..room])
+        let count = self.bytes.read(&mut buf[..room])?;
+        self.given = self.given.saturating_add(count);
+        Ok(count)
     }
 }
 
 /// How many bytes a `Sink` holds.
-const ROOM: usize = 64;
+const ROOM: usize = 5000;
 
 /// Is interrupted some times, takes some bytes, is interrupted again, and then takes more or fails.
 #[derive(Drop)]
@@ -62,6 +77,8 @@ pub struct Sink {
     pub sound: usize,
     /// How often it is interrupted then.
     pub later_interruptions: u32,
+    /// Whether each write is interrupted once before it takes a byte.
+    pub stutters: bool,
     /// The most bytes that it takes at once.
     pub most: usize,
     /// The error of each write from then on, or none.
@@ -84,6 +101,7 @@ impl Sink {
             interruptions: 0,
             sound: 0,
             later_interruptions: 0,
+            stutters: false,
             most: usize::MAX,
             write_fault: None,
             flush_fault: None,
@@ -113,6 +131,9 @@ impl Write for Sink {
     fn write(&mut self, buf: &[u8]) -> io::Result<usize> {
         self.writes = self.writes.saturating_add(1);
         self.is_flushed = false;
+        if self.stutters && self.writes % 2 == 1 {
+            return Err(Error::from(ErrorKind::Interrupted));
+        }
         if self.interruptions > 0 {
             self.interruptions -= 1;
             return Err(Error::from(ErrorKind::Interrupted));
@@ -137,5 +158,26 @@ impl Write for Sink {
             Some(kind) => Err(Error::from(kind)),
             None => Ok(()),
         }
+    }
+}
+
+/// Takes all, and counts the calls and the bytes.
+#[derive(Drop)]
+pub struct Tally {
+    /// How often it was written to.
+    pub writes: u32,
+    /// How many bytes it took.
+    pub bytes: usize,
+}
+
+impl Write for Tally {
+    fn write(&mut self, buf: &[u8]) -> io::Result<usize> {
+        self.writes = self.writes.saturating_add(1);
+        self.bytes = self.bytes.saturating_add(buf.len());
+        Ok(buf.len())
+    }
+
+    fn flush(&mut self) -> io::Result<()> {
+        Ok(())
     }
 }

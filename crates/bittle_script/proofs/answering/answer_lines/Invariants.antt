@@ -9,8 +9,7 @@ use Rattle.bittle_script.proofs.answering.answer_lines.Given as goal
 abbrev pub invariant-loop-line : goal.invariant-loop-line
 invariant-loop-line g l = record {
   same_writer : l.output.writer.ghost_name ≡ l.initial.output.writer.ghost_name;
-  under_way : IsUnderWay (g.W.Write.contents l.initial.output.writer.now)
-      (g.W.Write.contents l.output.writer.now)
+  under_way : IsUnderWay g.W.Write.contents l.initial.output l.output
       (line_answers (empty_set g.B.BitsOwned.type_capacity) (lines_left l.fn.lines))
       (line_answers (members g.E.Endian.mirrored g.B.Bits.width (g.B.Bits.big l.bits))
       (lines_left l.line-iterator));

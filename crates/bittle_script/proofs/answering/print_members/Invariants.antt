@@ -2,15 +2,14 @@ use Rattle.std.proofs.Common.{◌≡◌, ◌++◌}
 use Rattle.std.specs.Prelude.{codes}
 use Rattle.bittle.specs.Orders.{members}
 use Rattle.bittle_script.specs.Answers.{line_of_members}
-use Rattle.bittle_script.proofs.Beginnings.{HasBegun}
+use Rattle.bittle_script.specs.Outputs.{HasPut}
 use Rattle.bittle_script.proofs.MemberLines.{spaced_numbers}
 use Rattle.bittle_script.proofs.answering.print_members.Given as goal
 
 abbrev pub invariant-loop-member : goal.invariant-loop-member
 invariant-loop-member g l = record {
   same_writer : l.output.writer.ghost_name ≡ l.initial.output.writer.ghost_name;
-  begun : HasBegun (g.W.Write.contents l.initial.output.writer.now)
-      (g.W.Write.contents l.output.writer.now)
+  begun : HasPut g.W.Write.contents l.initial.output l.output
       (line_of_members (members g.E.Endian.mirrored g.B.Bits.width (g.B.Bits.big l.set.bits)))
       (spaced_numbers l.space l.member-iterator.left ++ codes "\n");
 }

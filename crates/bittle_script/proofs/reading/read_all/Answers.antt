@@ -37,7 +37,7 @@ loop-preserved g c = elim c.match-read.branch [
       (omega arith) (take-put_mid_below _ _ _ _ _ (le_refl _) within) in
       let all = subst (Consumes _ _) (ap (λ l. take from c.loop.bytes ++ l) (sym part) ∙ joined)
       (Consumes-trans _ _ _ _ _ c.loop.invariant.1 read.bytes.0) in
-      rw w.filled-is (omega (arith, w.if-filled-count-gt-MOST_BYTES.false), all)
+      rw w.filled-is (search (rules, arith), all)
   | in-Err+else-not-is_interrupted w ↦
       let long : length c.loop.bytes ≡ 4097 = search rules in
       let within : c.loop.filled ≤ length c.loop.bytes = omega (arith, c.loop.invariant.0) in

@@ -1,23 +1,26 @@
-use Rattle.std.proofs.Common.{◌≡◌, ℕ, ◌-◌, List, ◌++◌, length, take, drop, sym, ap, ◌∙◌, append_assoc, take-append-drop}
-use Rattle.std.proofs.lemmas.List.{take_rest}
-use Rattle.std.proofs.KnownBytes.{Appends-trans}
+use Rattle.std.proofs.Common.{rules, arith, ◌≡◌, ℕ, ◌+◌, ◌<◌, List, [], ◌∷◌, ◌++◌, length, drop, get_or, drop-cons}
+use Rattle.bittle_script.proofs.Outputs.{put-more, put-more_failed, puts-failed}
 use Rattle.bittle_script.proofs.writing.Output.put.Goals as goal
 
-moves_front : (all done rest : List ℕ) (n : ℕ) → all ≡ done ++ rest →
-    all ≡ (done ++ take n rest) ++ take (length rest - n) (drop n rest)
-moves_front all done rest n e =
-    e ∙ ap (λ l. done ++ l) (sym (take-append-drop n rest))
-    ∙ sym (append_assoc done (take n rest) (drop n rest)) ∙ ap (λ l. (done ++ take n rest) ++ l)
-    (sym (take_rest rest n))
+next : (bytes : List ℕ) (i : ℕ) → i < length bytes →
+    drop i bytes ≡ (get_or bytes i 0 ∷ []) ++ drop (i + 1) bytes
+next bytes i within = grind (arith, drop-cons)
 
-pub loop-rest-preserved-in-Ok : goal.loop-rest-preserved-in-Ok
-loop-rest-preserved-in-Ok g c =
-    let (counts, same, done, split, appended) = c.loop-rest.invariant in
-    let rest = c.loop-rest.rest.now in
-    let n = c.in-Ok.count in (
-      counts,
-      same,
-      done ++ take n rest,
-      moves_front _ done rest n split,
-      Appends-trans _ _ _ _ _ appended c.in-Ok.ensures.bytes,
-    )
+pub returns-in_err-put_byte-clause-puts : goal.returns-in_err-put_byte-clause-puts
+returns-in_err-put_byte-clause-puts g c =
+    let bytes = c.args.bytes.now in
+    puts-failed _ _ c.from_residual.result _ _ c.from_residual.ensures.0
+    (put-more_failed _ _ _ c.args.self.now.waiting c.loop-byte.self.waiting bytes _ _ _
+    c.loop-byte.invariant.begun (next bytes c.loop-byte.byte-index (search rules))
+    c.in_err-put_byte.ensures.puts)
+
+pub loop-byte-preserved : goal.loop-byte-preserved
+loop-byte-preserved g c =
+    let bytes = c.args.bytes.now in
+    record {
+      same_writer = search rules;
+      interrupted = search rules;
+      begun = put-more _ _ _ c.args.self.now.waiting c.loop-byte.self.waiting
+          c.put_byte.new.self.waiting bytes _ _ _ c.loop-byte.invariant.begun
+          (next bytes c.loop-byte.byte-index (search rules)) c.in_ok-put_byte.ensures.puts;
+    }

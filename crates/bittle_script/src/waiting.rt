@@ -1,0 +1,73 @@
+//! Bytes that wait to be written.
+ghost use Rattle.std.specs.Prelude.{◌<◌, ◌≤◌, ◌≡◌, ◌∷◌, ◌++◌, [], false, length};
+
+use std::marker::Model;
+
+/// How many bytes may wait.
+const ROOM: usize = 4096;
+
+/// Bytes that wait to be written.
+#[derive(Drop)]
+pub struct Waiting {
+    bytes: [u8; ROOM],
+    len: usize,
+}
+
+impl Model for Waiting {
+    ghost use Rattle.std.specs.Prelude.{List, ℕ, ◌≤◌, take};
+
+    ghost Value = { List ℕ };
+
+    ghost view = { λ w. take w.len w.bytes };
+
+    ghost invariant = { λ w. w.len ≤ 4096 };
+}
+
+impl Waiting {
+    /// Returns no bytes.
+    pub fn new() -> Self
+        ensures { result ≡ [] }
+    {
+        Waiting {
+            bytes: [0; ROOM],
+            len: 0,
+        }
+    }
+
+    /// Returns how many there are.
+    pub fn len(&self) -> usize
+        ensures { result ≡ length self.now }
+    {
+        self.len
+    }
+
+    /// Returns whether no more may wait.
+    pub fn is_full(&self) -> bool
+        ensures { result ≡ false → length self.now < 4096 }
+    {
+        self.len == ROOM
+    }
+
+    /// Adds a byte.
+    pub fn push(&mut self, byte: u8)
+        requires { length self.old < 4096 }
+        ensures { self.new ≡ self.old ++ byte ∷ [] }
+    {
+        self.bytes[self.len] = byte;
+        self.len += 1;
+    }
+
+    /// Returns the bytes.
+    pub fn as_slice(&self) -> &[u8]
+        ensures { result.now ≡ self.now }
+    {
+        &self.bytes[..self.len]
+    }
+
+    /// Forgets the bytes.
+    pub fn clear(&mut self)
+        ensures { self.new ≡ [] }
+    {
+        self.len = 0;
+    }
+}
