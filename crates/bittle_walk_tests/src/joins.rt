@@ -3,6 +3,7 @@
 ghost use Rattle.std.specs.Prelude.{◌-◌};
 ghost use Rattle.std.specs.Iterator.{at_most};
 
+use crate::checks::same;
 use bittle::prelude::*;
 use bittle::{set, set_le};
 
@@ -35,7 +36,7 @@ fn gives_the_items_at_the_members(rt: HostRuntime) {
     let mask: u8 = set![0, 2, 5];
     let mut join = mask.join_ones([10u8, 20, 30]);
     for expected in [Some(10), Some(30), None, None] {
-        assert_eq!(rt; join.next(), expected);
+        same!(rt; join.next(), expected);
     }
 }
 
@@ -45,11 +46,11 @@ fn reads_its_mask_in_the_order_that_is_named(rt: HostRuntime) {
     let letters = ['a', 'b', 'c', 'd', 'e', 'f', 'g', 'h'];
     let mut join = mask.join_ones_le(letters.iter());
     for expected in [Some('a'), Some('b'), Some('d'), None] {
-        assert_eq!(rt; join.next().copied(), expected);
+        same!(rt; join.next().copied(), expected);
     }
     let mut join = mask.join_ones_be(letters.iter());
     for expected in [Some('e'), Some('g'), Some('h'), None] {
-        assert_eq!(rt; join.next().copied(), expected);
+        same!(rt; join.next().copied(), expected);
     }
 }
 
@@ -60,7 +61,7 @@ fn joins_a_mask_of_a_wide_word(rt: HostRuntime) {
     mask.set_bit(2);
     let mut join = mask.join_ones(&[10, 48, 101]);
     for expected in [Some(10), Some(101), None] {
-        assert_eq!(rt; join.next().copied(), expected);
+        same!(rt; join.next().copied(), expected);
     }
 }
 
@@ -69,7 +70,7 @@ fn joins_a_mask_of_a_nested_array(rt: HostRuntime) {
     let mask = [[16u8, 0], [0, 0x81]];
     let mut join = mask.join_ones(100..132);
     for expected in [Some(104), Some(124), Some(131), None] {
-        assert_eq!(rt; join.next(), expected);
+        same!(rt; join.next(), expected);
     }
 }
 
@@ -81,10 +82,10 @@ fn takes_nothing_past_the_greatest_member(rt: HostRuntime) {
         let mask: u8 = set![0, 2];
         let mut join = mask.join_ones(&mut iter);
         for expected in [Some(10), Some(101), None, None] {
-            assert_eq!(rt; join.next().copied(), expected);
+            same!(rt; join.next().copied(), expected);
         }
     }
-    assert_eq!(rt; iter.as_slice(), [7, 8].as_slice());
+    same!(rt; iter.as_slice(), [7, 8].as_slice());
 }
 
 #[test]
@@ -93,9 +94,9 @@ fn takes_nothing_where_there_are_no_members(rt: HostRuntime) {
     let mut iter = items.iter();
     {
         let mut join = 0u8.join_ones(&mut iter);
-        assert_eq!(rt; join.next().copied(), None);
+        same!(rt; join.next().copied(), None);
     }
-    assert_eq!(rt; iter.as_slice(), [10, 20].as_slice());
+    same!(rt; iter.as_slice(), [10, 20].as_slice());
 }
 
 #[test]
@@ -104,21 +105,21 @@ fn takes_an_item_for_each_index_of_a_full_mask(rt: HostRuntime) {
     {
         let mut join = u128::MAX.join_ones(&mut iter);
         for place in 0..128u32 {
-            assert_eq!(rt; join.next(), Some(place));
+            same!(rt; join.next(), Some(place));
         }
-        assert_eq!(rt; join.next(), None);
+        same!(rt; join.next(), None);
     }
-    assert_eq!(rt; iter.next(), Some(128));
+    same!(rt; iter.next(), Some(128));
 }
 
 #[test]
 fn ends_with_its_iterator(rt: HostRuntime) {
     let mut join = u8::MAX.join_ones([0u8; 0].iter());
-    assert_eq!(rt; join.next().copied(), None);
+    same!(rt; join.next().copied(), None);
 
     let mut join = 0xFFu8.join_ones(["a", "b"]);
     for expected in [Some("a"), Some("b"), None, None] {
-        assert_eq!(rt; join.next(), expected);
+        same!(rt; join.next(), expected);
     }
 }
 
@@ -128,10 +129,10 @@ fn asks_no_more_after_the_end_of_its_iterator(rt: HostRuntime) {
     {
         let mut join = u8::MAX.join_ones(&mut stutter);
         for expected in [Some(1), None, None, None] {
-            assert_eq!(rt; join.next(), expected);
+            same!(rt; join.next(), expected);
         }
     }
-    assert_eq!(rt; stutter.asked, 2);
+    same!(rt; stutter.asked, 2);
 }
 
 #[test]
@@ -141,8 +142,8 @@ fn asks_no_more_after_the_last_member(rt: HostRuntime) {
         let mask: u8 = set_le![1, 3];
         let mut join = mask.join_ones_le(&mut stutter);
         for expected in [Some(4), Some(6), None, None] {
-            assert_eq!(rt; join.next(), expected);
+            same!(rt; join.next(), expected);
         }
     }
-    assert_eq!(rt; stutter.asked, 6);
+    same!(rt; stutter.asked, 6);
 }

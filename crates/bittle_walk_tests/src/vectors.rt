@@ -1,26 +1,27 @@
 //! Sets from lists, with the items of their walks, each worked out by hand.
 
+use crate::checks::holds;
 use bittle::prelude::*;
 use bittle::{LittleEndian, set};
 
 #[test]
 fn walks_from_the_back(rt: HostRuntime) {
     let row: [u32; 4] = set![4, 67, 71, 127];
-    assert!(rt; row.iter_ones().rev().eq([127, 71, 67, 4]));
+    holds!(rt; row.iter_ones().rev().eq([127, 71, 67, 4]));
     let row: [u32; 4] = set![4, 63, 71, 127];
-    assert!(rt; row.into_iter_ones().rev().eq([127, 71, 63, 4]));
+    holds!(rt; row.into_iter_ones().rev().eq([127, 71, 63, 4]));
 }
 
 #[test]
 fn walks_of_zeros_from_the_back(rt: HostRuntime) {
     let pair: [u8; 2] = set![3, 7, 13, 14, 15];
-    assert!(rt;
+    holds!(rt;
         pair.iter_zeros()
             .rev()
             .eq([12, 11, 10, 9, 8, 6, 5, 4, 2, 1, 0])
     );
     let pair: [u8; 2] = set![4, 7, 10];
-    assert!(rt;
+    holds!(rt;
         pair.into_iter_zeros()
             .rev()
             .eq([15, 14, 13, 12, 11, 9, 8, 6, 5, 3, 2, 1, 0])
@@ -29,10 +30,10 @@ fn walks_of_zeros_from_the_back(rt: HostRuntime) {
 
 #[test]
 fn walks_of_words(rt: HostRuntime) {
-    assert!(rt; 0b1101_0000u8.iter_ones_le().rev().eq([3, 1, 0]));
-    assert!(rt; (-2i8).iter_zeros().eq([0]));
+    holds!(rt; 0b1101_0000u8.iter_ones_le().rev().eq([3, 1, 0]));
+    holds!(rt; (-2i8).iter_zeros().eq([0]));
     let with = u128::zeros().with_bit_le(8).with_bit_le(12);
-    assert!(rt; with.iter_ones_le().eq([8, 12]));
+    holds!(rt; with.iter_ones_le().eq([8, 12]));
 }
 
 #[test]
@@ -41,18 +42,18 @@ fn a_walk_of_a_changed_array(rt: HostRuntime) {
     pair.set_bit(15);
     pair.union_assign(&set![31, 7]);
     pair.clear_bit(31);
-    assert!(rt; pair.iter_ones().eq([7, 15]));
+    holds!(rt; pair.iter_ones().eq([7, 15]));
 }
 
 #[test]
 fn walks_of_a_full_array_without_two_indexes(rt: HostRuntime) {
     let without = <[u8; 2]>::ones().without_bit_be(2).without_bit_be(10);
-    assert!(rt; without.into_iter_zeros_be().eq([2, 10]));
-    assert!(rt; without.into_iter_zeros_in::<LittleEndian>().eq([5, 13]));
+    holds!(rt; without.into_iter_zeros_be().eq([2, 10]));
+    holds!(rt; without.into_iter_zeros_in::<LittleEndian>().eq([5, 13]));
 }
 
 #[test]
 fn walks_of_arrays(rt: HostRuntime) {
-    assert!(rt; [0u32, 1, 2, 3].iter_ones().eq([32, 65, 96, 97]));
-    assert!(rt; [[16u8, 0, 0, 0], [0, 0, 1, 0]].iter_ones().eq([4, 48]));
+    holds!(rt; [0u32, 1, 2, 3].iter_ones().eq([32, 65, 96, 97]));
+    holds!(rt; [[16u8, 0, 0, 0], [0, 0, 1, 0]].iter_ones().eq([4, 48]));
 }

@@ -1,44 +1,54 @@
 //! Walks of each form, and the bounded searches, against values worked out by hand.
 
-ghost use Rattle.std.specs.Iterator.{IsFinite};
 ghost use Rattle.bittle.specs.Shapes.{Fits};
 
+use crate::checks::{holds, same};
 use bittle::prelude::*;
 use bittle::{BigEndian, LittleEndian, set};
 use std::alloc::AllocError;
 use std::test::Fail;
 
-// Whether a walk gives these items from the front, from the back and from both ends in turn, and
-// then `None` at both ends for good.
-fn gives<W: DoubleEndedIterator<Item = u32> + Clone>(
-    mut walk: W,
-    items: &[u32],
-) -> Result<bool, AllocError>
+// Whether a walk answers so at the front, or else at the back.
+fn answers<W: DoubleEndedIterator<Item = u32>>(
+    walk: &mut W,
+    at_front: bool,
+    item: Option<u32>,
+) -> bool
     requires front { (w : W) → W.can_next w }
     requires back { (w : W) → W.can_next_back w }
-    requires ends { (w : W) → IsFinite (W.remaining w) }
 {
-    let mut back = walk.clone()?;
-    let mut both = walk.clone()?;
+    if at_front {
+        walk.next() == item
+    } else {
+        walk.next_back() == item
+    }
+}
+
+// Whether a walk gives these items from the front, from the back and from both ends in turn, and
+// then `None` at both ends for good.
+fn gives<W: DoubleEndedIterator<Item = u32> + Clone>(mut walk: W, items: &[u32]) -> bool
+    requires front { (w : W) → W.can_next w }
+    requires back { (w : W) → W.can_next_back w }
+{
+    let back: Result<W, AllocError> = walk.clone();
+    let both: Result<W, AllocError> = walk.clone();
+    let (Ok(mut back), Ok(mut both)) = (back, both) else {
+        return false;
+    };
     let mut good = true;
     let len = items.len();
     for i in 0..len {
-        good = good && walk.next() == Some(items[i]);
-        good = good && back.next_back() == Some(items[len - 1 - i]);
-        let item = if i % 2 == 0 {
-            both.next()
-        } else {
-            both.next_back()
-        };
         let at = if i % 2 == 0 { i / 2 } else { len - 1 - i / 2 };
-        good = good && item == Some(items[at]);
+        good &= answers(&mut walk, true, Some(items[i]));
+        good &= answers(&mut back, false, Some(items[len - 1 - i]));
+        good &= answers(&mut both, i % 2 == 0, Some(items[at]));
     }
     for _ in 0..2 {
-        good = good && walk.next().is_none() && walk.next_back().is_none();
-        good = good && back.next_back().is_none() && back.next().is_none();
-        good = good && both.next().is_none() && both.next_back().is_none();
+        good &= answers(&mut walk, true, None) & answers(&mut walk, false, None);
+        good &= answers(&mut back, false, None) & answers(&mut back, true, None);
+        good &= answers(&mut both, true, None) & answers(&mut both, false, None);
     }
-    Ok(good)
+    good
 }
 
 // The members in big-endian and in little-endian order, and the numbers that are no members.
@@ -51,75 +61,63 @@ struct Expected<'a> {
 }
 
 // Each borrowing form once.
-fn borrowed<B: Bits<Order = BigEndian>>(
-    bits: &B,
-    expected: &Expected<'_>,
-) -> Result<bool, AllocError>
+fn borrowed<B: Bits<Order = BigEndian>>(bits: &B, expected: &Expected<'_>) -> bool
     requires { Fits B.indexable (B.big bits.now).capacity }
 {
-    Ok(
-        gives(bits.iter_ones(), expected.ones_be)?
-            && gives(bits.iter_ones_in::<BigEndian>(), expected.ones_be)?
-            && gives(bits.iter_ones_be(), expected.ones_be)?
-            && gives(bits.iter_ones_in::<LittleEndian>(), expected.ones_le)?
-            && gives(bits.iter_ones_le(), expected.ones_le)?
-            && gives(bits.iter_zeros(), expected.zeros_be)?
-            && gives(bits.iter_zeros_in::<BigEndian>(), expected.zeros_be)?
-            && gives(bits.iter_zeros_be(), expected.zeros_be)?
-            && gives(bits.iter_zeros_in::<LittleEndian>(), expected.zeros_le)?
-            && gives(bits.iter_zeros_le(), expected.zeros_le)?,
-    )
+    gives(bits.iter_ones(), expected.ones_be)
+        && gives(bits.iter_ones_in::<BigEndian>(), expected.ones_be)
+        && gives(bits.iter_ones_be(), expected.ones_be)
+        && gives(bits.iter_ones_in::<LittleEndian>(), expected.ones_le)
+        && gives(bits.iter_ones_le(), expected.ones_le)
+        && gives(bits.iter_zeros(), expected.zeros_be)
+        && gives(bits.iter_zeros_in::<BigEndian>(), expected.zeros_be)
+        && gives(bits.iter_zeros_be(), expected.zeros_be)
+        && gives(bits.iter_zeros_in::<LittleEndian>(), expected.zeros_le)
+        && gives(bits.iter_zeros_le(), expected.zeros_le)
 }
 
 // Each owning form once.
-fn owned<B: BitsOwned<Order = BigEndian>>(
-    bits: B,
-    expected: &Expected<'_>,
-) -> Result<bool, AllocError>
+fn owned<B: BitsOwned<Order = BigEndian>>(bits: B, expected: &Expected<'_>) -> bool
     requires { Fits B.indexable (B.big bits).capacity }
 {
-    Ok(
-        gives(bits.into_iter_ones(), expected.ones_be)?
-            && gives(bits.into_iter_ones_in::<BigEndian>(), expected.ones_be)?
-            && gives(bits.into_iter_ones_be(), expected.ones_be)?
-            && gives(bits.into_iter_ones_in::<LittleEndian>(), expected.ones_le)?
-            && gives(bits.into_iter_ones_le(), expected.ones_le)?
-            && gives(bits.into_iter_zeros(), expected.zeros_be)?
-            && gives(bits.into_iter_zeros_in::<BigEndian>(), expected.zeros_be)?
-            && gives(bits.into_iter_zeros_be(), expected.zeros_be)?
-            && gives(bits.into_iter_zeros_in::<LittleEndian>(), expected.zeros_le)?
-            && gives(bits.into_iter_zeros_le(), expected.zeros_le)?,
-    )
+    gives(bits.into_iter_ones(), expected.ones_be)
+        && gives(bits.into_iter_ones_in::<BigEndian>(), expected.ones_be)
+        && gives(bits.into_iter_ones_be(), expected.ones_be)
+        && gives(bits.into_iter_ones_in::<LittleEndian>(), expected.ones_le)
+        && gives(bits.into_iter_ones_le(), expected.ones_le)
+        && gives(bits.into_iter_zeros(), expected.zeros_be)
+        && gives(bits.into_iter_zeros_in::<BigEndian>(), expected.zeros_be)
+        && gives(bits.into_iter_zeros_be(), expected.zeros_be)
+        && gives(bits.into_iter_zeros_in::<LittleEndian>(), expected.zeros_le)
+        && gives(bits.into_iter_zeros_le(), expected.zeros_le)
 }
 
 #[test]
-fn each_form_at_a_word(rt: HostRuntime) -> Result<(), Fail> {
+fn each_form_at_a_word(rt: HostRuntime) {
     let expected = Expected {
         ones_be: &[4, 6, 7],
         ones_le: &[0, 1, 3],
         zeros_be: &[0, 1, 2, 3, 5],
         zeros_le: &[2, 4, 5, 6, 7],
     };
-    assert!(rt; borrowed(&0b1101_0000u8, &expected)?);
-    assert!(rt; owned(0b1101_0000u8, &expected)?);
-    Ok(())
+    holds!(rt; borrowed(&0b1101_0000u8, &expected));
+    holds!(rt; owned(0b1101_0000u8, &expected));
 }
 
 #[test]
-fn each_form_at_a_signed_word(rt: HostRuntime) -> Result<(), Fail> {
+fn each_form_at_a_signed_word(rt: HostRuntime) {
     let expected = Expected {
         ones_be: &[1, 2, 3, 4, 5, 6, 7],
         ones_le: &[0, 1, 2, 3, 4, 5, 6],
         zeros_be: &[0],
         zeros_le: &[7],
     };
-    assert!(rt; borrowed(&-2i8, &expected)?);
-    assert!(rt; owned(-2i8, &expected)?);
-    Ok(())
+    holds!(rt; borrowed(&-2i8, &expected));
+    holds!(rt; owned(-2i8, &expected));
 }
 
 #[test]
-fn each_form_at_an_array_and_a_slice(rt: HostRuntime) -> Result<(), Fail> {
+fn each_form_at_an_array_and_a_slice(rt: HostRuntime) {
     let expected = Expected {
         ones_be: &[3, 14, 16, 17, 18, 19, 20, 21, 22, 23],
         ones_le: &[4, 9, 16, 17, 18, 19, 20, 21, 22, 23],
@@ -127,17 +125,16 @@ fn each_form_at_an_array_and_a_slice(rt: HostRuntime) -> Result<(), Fail> {
         zeros_le: &[0, 1, 2, 3, 5, 6, 7, 8, 10, 11, 12, 13, 14, 15],
     };
     let mut words = [8u8, 64, 255];
-    assert!(rt; borrowed(&words, &expected)?);
-    assert!(rt; owned(words, &expected)?);
+    holds!(rt; borrowed(&words, &expected));
+    holds!(rt; owned(words, &expected));
     let shared: &[u8] = &words;
-    assert!(rt; borrowed(&shared, &expected)?);
+    holds!(rt; borrowed(&shared, &expected));
     let lent: &mut [u8] = &mut words;
-    assert!(rt; borrowed(&lent, &expected)?);
-    Ok(())
+    holds!(rt; borrowed(&lent, &expected));
 }
 
 #[test]
-fn each_form_at_a_nested_array(rt: HostRuntime) -> Result<(), Fail> {
+fn each_form_at_a_nested_array(rt: HostRuntime) {
     let expected = Expected {
         ones_be: &[8, 31],
         ones_le: &[15, 24],
@@ -150,9 +147,8 @@ fn each_form_at_a_nested_array(rt: HostRuntime) -> Result<(), Fail> {
             26, 27, 28, 29, 30, 31,
         ],
     };
-    assert!(rt; borrowed(&[[0u8, 1], [0, 128]], &expected)?);
-    assert!(rt; owned([[0u8, 1], [0, 128]], &expected)?);
-    Ok(())
+    holds!(rt; borrowed(&[[0u8, 1], [0, 128]], &expected));
+    holds!(rt; owned([[0u8, 1], [0, 128]], &expected));
 }
 
 // Whether a walk tells nothing of how many items are left, before its first step and after it.
@@ -168,30 +164,30 @@ fn tells_nothing<W: DoubleEndedIterator<Item = u32>>(mut walk: W) -> bool
 
 #[test]
 fn walks_tell_not_how_many_items_are_left(rt: HostRuntime) {
-    assert!(rt; tells_nothing(0b1101_0000u8.iter_ones()));
-    assert!(rt; tells_nothing((-2i8).iter_zeros()));
+    holds!(rt; tells_nothing(0b1101_0000u8.iter_ones()));
+    holds!(rt; tells_nothing((-2i8).iter_zeros()));
 }
 
 #[test]
 fn owned_walks_tell_not_how_many_items_are_left(rt: HostRuntime) {
-    assert!(rt; tells_nothing(0b1101_0000u8.into_iter_ones()));
-    assert!(rt; tells_nothing((-2i8).into_iter_zeros()));
+    holds!(rt; tells_nothing(0b1101_0000u8.into_iter_ones()));
+    holds!(rt; tells_nothing((-2i8).into_iter_zeros()));
 }
 
 #[test]
 fn a_clone_taken_midway(rt: HostRuntime) -> Result<(), Fail> {
     let row: [u32; 4] = set![4, 67, 71, 127];
     let mut walk = row.iter_ones();
-    assert_eq!(rt; walk.next(), Some(4));
+    same!(rt; walk.next(), Some(4));
     let mut other = walk.clone()?;
-    assert_eq!(rt; walk.next_back(), Some(127));
-    assert_eq!(rt; walk.next(), Some(67));
-    assert_eq!(rt; walk.next(), Some(71));
-    assert_eq!(rt; walk.next(), None);
-    assert_eq!(rt; other.next(), Some(67));
-    assert_eq!(rt; other.next_back(), Some(127));
-    assert_eq!(rt; other.next(), Some(71));
-    assert_eq!(rt; other.next(), None);
+    same!(rt; walk.next_back(), Some(127));
+    same!(rt; walk.next(), Some(67));
+    same!(rt; walk.next(), Some(71));
+    same!(rt; walk.next(), None);
+    same!(rt; other.next(), Some(67));
+    same!(rt; other.next_back(), Some(127));
+    same!(rt; other.next(), Some(71));
+    same!(rt; other.next(), None);
     Ok(())
 }
 
@@ -199,36 +195,36 @@ fn a_clone_taken_midway(rt: HostRuntime) -> Result<(), Fail> {
 fn a_clone_goes_on_apart(rt: HostRuntime) -> Result<(), Fail> {
     let bits = [0b1001_0010u8, 0, 0b0000_0101];
     let mut walk = bits.iter_ones();
-    assert_eq!(rt; walk.next(), Some(1));
-    assert_eq!(rt; walk.next_back(), Some(18));
+    same!(rt; walk.next(), Some(1));
+    same!(rt; walk.next_back(), Some(18));
     let mut other = walk.clone()?;
-    assert_eq!(rt; walk.next(), Some(4));
-    assert_eq!(rt; other.next_back(), Some(16));
-    assert_eq!(rt; other.next_back(), Some(7));
-    assert_eq!(rt; walk.next_back(), Some(16));
-    assert_eq!(rt; other.next_back(), Some(4));
-    assert_eq!(rt; other.next(), None);
-    assert_eq!(rt; walk.next(), Some(7));
-    assert_eq!(rt; walk.next(), None);
+    same!(rt; walk.next(), Some(4));
+    same!(rt; other.next_back(), Some(16));
+    same!(rt; other.next_back(), Some(7));
+    same!(rt; walk.next_back(), Some(16));
+    same!(rt; other.next_back(), Some(4));
+    same!(rt; other.next(), None);
+    same!(rt; walk.next(), Some(7));
+    same!(rt; walk.next(), None);
     Ok(())
 }
 
 #[test]
 fn worked_searches(rt: HostRuntime) {
     let bits = [0x10u8, 0x01];
-    assert_eq!(rt; bits.first_one_in::<BigEndian>(5, 16), Some(8));
-    assert_eq!(rt; bits.first_one_in::<BigEndian>(5, 8), None);
-    assert_eq!(rt; bits.last_one_in::<BigEndian>(0, 8), Some(4));
-    assert_eq!(rt; bits.first_zero_in::<BigEndian>(4, 16), Some(5));
-    assert_eq!(rt; bits.last_zero_in::<BigEndian>(0, 9), Some(7));
-    assert_eq!(rt; bits.first_one_in::<BigEndian>(4, 4), None);
+    same!(rt; bits.first_one_in::<BigEndian>(5, 16), Some(8));
+    same!(rt; bits.first_one_in::<BigEndian>(5, 8), None);
+    same!(rt; bits.last_one_in::<BigEndian>(0, 8), Some(4));
+    same!(rt; bits.first_zero_in::<BigEndian>(4, 16), Some(5));
+    same!(rt; bits.last_zero_in::<BigEndian>(0, 9), Some(7));
+    same!(rt; bits.first_one_in::<BigEndian>(4, 4), None);
 }
 
 #[test]
 fn searches_in_little_endian_order(rt: HostRuntime) {
     let bits = [0x10u8, 0x01];
-    assert_eq!(rt; bits.first_one_in::<LittleEndian>(4, 16), Some(15));
-    assert_eq!(rt; bits.last_one_in::<LittleEndian>(0, 15), Some(3));
-    assert_eq!(rt; bits.first_zero_in::<LittleEndian>(3, 16), Some(4));
-    assert_eq!(rt; bits.last_zero_in::<LittleEndian>(0, 4), Some(2));
+    same!(rt; bits.first_one_in::<LittleEndian>(4, 16), Some(15));
+    same!(rt; bits.last_one_in::<LittleEndian>(0, 15), Some(3));
+    same!(rt; bits.first_zero_in::<LittleEndian>(3, 16), Some(4));
+    same!(rt; bits.last_zero_in::<LittleEndian>(0, 4), Some(2));
 }
