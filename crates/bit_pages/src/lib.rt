@@ -43,6 +43,10 @@ pub enum Answer {
 pub struct NotTaken;
 
 impl fmt::Display for NotTaken {
+    ghost use Rattle.std.specs.Prelude.{Some, codes};
+
+    ghost output = { λ _. Some (codes "the page is not taken") };
+
     fn fmt<W: fmt::Write>(&self, f: &mut fmt::Formatter<W>) -> fmt::Result {
         f.write_str("the page is not taken")
     }
