@@ -1,34 +1,6 @@
 use Rattle.std.proofs.Common.{refl, ◌∙◌, arith, length}
-use Rattle.bittle_bits.proofs.RowWords.{some_words, word_element, word_within, row_word, words_each}
+use Rattle.bittle_bits.proofs.RowWords.{word_element, word_within, row_word, words_each}
 use Rattle.bittle_bits.proofs.internal.row.leaf_word.Goals as goal
-
-pub nonzero_div-each : goal.nonzero_div-each
-nonzero_div-each g c =
-    omega (arith, c.width.ensures, g.met.T.Bits.leaf_width, g.met.T.Bits.width_positive)
-
-pub nonzero_div-k : goal.nonzero_div-k
-nonzero_div-k g c =
-    let w = g.met.T.BitsOwned.type_whole_words in
-    let each = words_each _ _ _ _ _ _ g.met.T.Bits.width_positive
-    (c.bits.ensures.value (c.requires.fits.0, g.met.T.BitsOwned.type_fits c.requires.fits.0))
-    c.width.ensures g.met.T.Bits.leaf_width w.1 in
-    let some = some_words (length c.args.elements.now) g.T.BitsOwned.type_capacity g.T.Bits.width w.0
-    c.args.k g.T.Bits.big c.args.elements.now g.met.T.Bits.width_positive w.1 c.requires.within in
-    rw each (omega (arith, some))
-
-pub nonzero_rem-k : goal.nonzero_rem-k
-nonzero_rem-k g c =
-    let w = g.met.T.BitsOwned.type_whole_words in
-    let each = words_each _ _ _ _ _ _ g.met.T.Bits.width_positive
-    (c.bits.ensures.value (c.requires.fits.0, g.met.T.BitsOwned.type_fits c.requires.fits.0))
-    c.width.ensures g.met.T.Bits.leaf_width w.1 in
-    let some = some_words (length c.args.elements.now) g.T.BitsOwned.type_capacity g.T.Bits.width w.0
-    c.args.k g.T.Bits.big c.args.elements.now g.met.T.Bits.width_positive w.1 c.requires.within in
-    rw each (omega (arith, some))
-
-pub leaf_word-requires-clause-fits : goal.leaf_word-requires-clause-fits
-leaf_word-requires-clause-fits g c = rw (g.met.T.BitsOwned.one_capacity c.index-elements-k.result)
-    (c.requires.fits.0, g.met.T.BitsOwned.type_fits c.requires.fits.0)
 
 pub offset_bounds-elements-k : goal.offset_bounds-elements-k
 offset_bounds-elements-k g c =

@@ -3,21 +3,6 @@ use Rattle.bittle_bits.proofs.SearchBounds.{index_below, last_word, words_ordere
 use Rattle.bittle_bits.proofs.Searches.{search_start, search_next, first_found, first_past}
 use Rattle.bittle_bits.proofs.internal.search.first_in.Goals as goal
 
-pub nonzero_div-last : goal.nonzero_div-last
-nonzero_div-last g c =
-    omega (arith, c.width-width.ensures, g.met.B.Bits.leaf_width, g.met.B.Bits.width_positive)
-
-pub nonzero_div-k : goal.nonzero_div-k
-nonzero_div-k g c =
-    omega (arith, c.width-width.ensures, g.met.B.Bits.leaf_width, g.met.B.Bits.width_positive)
-
-pub nonzero_rem-from : goal.nonzero_rem-from
-nonzero_rem-from g c =
-    omega (arith, c.width-width.ensures, g.met.B.Bits.leaf_width, g.met.B.Bits.width_positive)
-
-pub overflow_sub-last : goal.overflow_sub-last
-overflow_sub-last g c = omega (arith, c.requires.ordered, c.if-from-to.false)
-
 pub loop-found-init : goal.loop-found-init
 loop-found-init g c =
     let leaf = g.met.B.Bits.leaf_width in

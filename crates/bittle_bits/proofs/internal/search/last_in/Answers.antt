@@ -3,24 +3,6 @@ use Rattle.bittle_bits.proofs.SearchBounds.{first_word, words_ordered}
 use Rattle.bittle_bits.proofs.Searches.{search_back_start, search_back_next, last_found, last_past}
 use Rattle.bittle_bits.proofs.internal.search.last_in.Goals as goal
 
-pub nonzero_div-first : goal.nonzero_div-first
-nonzero_div-first g c =
-    omega (arith, c.width-width.ensures, g.met.B.Bits.leaf_width, g.met.B.Bits.width_positive)
-
-pub nonzero_rem-top : goal.nonzero_rem-top
-nonzero_rem-top g c =
-    omega (arith, c.width-width.ensures, g.met.B.Bits.leaf_width, g.met.B.Bits.width_positive)
-
-pub nonzero_div-k : goal.nonzero_div-k
-nonzero_div-k g c =
-    omega (arith, c.width-width.ensures, g.met.B.Bits.leaf_width, g.met.B.Bits.width_positive)
-
-pub overflow_sub-top : goal.overflow_sub-top
-overflow_sub-top g c = omega (arith, c.requires.ordered, c.if-from-to.false)
-
-pub overflow_sub-k : goal.overflow_sub-k
-overflow_sub-k g c = omega (arith, c.requires.ordered, c.if-from-to.false)
-
 pub loop-found-init : goal.loop-found-init
 loop-found-init g c =
     let leaf = g.met.B.Bits.leaf_width in
