@@ -27,6 +27,7 @@ impl<T: Bits, E: Endian> fmt::Debug for Set<T, E> {
 }
 
 // Writes an index, after a comma and a space where it is not the first.
+#[inline]
 fn write_index<W: fmt::Write>(f: &mut fmt::Formatter<W>, first: bool, index: u32) -> fmt::Result
     ensures { WritesOnOk W.write_str_gives f.old result (index_text first index) f.new }
 {
