@@ -1,5 +1,6 @@
 //! Equality, order and hash of sets, with values worked out by hand.
 
+use crate::checks::{holds, same};
 use bittle::prelude::*;
 use bittle::{Set, set};
 use std::cmp::Ordering;
@@ -9,12 +10,12 @@ use std::marker::Model;
 #[test]
 fn shapes_compare_by_their_members(rt: HostRuntime) {
     let low = Set::new(0b1_1111_1111u16);
-    assert_eq!(rt; low.cmp_bits(&0b1_0001_0000u32), Ordering::Less);
-    assert_eq!(rt; Set::new(1u8).cmp_bits(&3u8), Ordering::Less);
-    assert_eq!(rt; Set::new(0b0110u8).cmp_bits(&0b0101u16), Ordering::Greater);
-    assert_eq!(rt; Set::new([0u8; 0]).cmp_bits(&1u8), Ordering::Less);
-    assert!(rt; Set::new(0b1_0001_0000u32).eq_bits(&[0x10u8, 0x01]));
-    assert!(rt; !Set::new(0b1_0001_0000u32).eq_bits(&[0x10u8, 0x03]));
+    same!(rt; low.cmp_bits(&0b1_0001_0000u32), Ordering::Less);
+    same!(rt; Set::new(1u8).cmp_bits(&3u8), Ordering::Less);
+    same!(rt; Set::new(0b0110u8).cmp_bits(&0b0101u16), Ordering::Greater);
+    same!(rt; Set::new([0u8; 0]).cmp_bits(&1u8), Ordering::Less);
+    holds!(rt; Set::new(0b1_0001_0000u32).eq_bits(&[0x10u8, 0x01]));
+    holds!(rt; !Set::new(0b1_0001_0000u32).eq_bits(&[0x10u8, 0x03]));
 }
 
 #[test]
@@ -23,25 +24,25 @@ fn a_word_compares_with_a_slice(rt: HostRuntime) {
     let mut slice = words.as_mut_slice();
     slice.set_bit(111);
     let word: Set<u128> = set![111];
-    assert!(rt; word.eq_bits(&Set::from_ref(&words)));
-    assert_eq!(rt; word.cmp_bits(&Set::from_ref(&words)), Ordering::Equal);
+    holds!(rt; word.eq_bits(&Set::from_ref(&words)));
+    same!(rt; word.cmp_bits(&Set::from_ref(&words)), Ordering::Equal);
 }
 
 #[test]
 fn each_side_is_compared_in_its_own_order(rt: HostRuntime) {
     // The members 0 and 15.
-    assert!(rt; !Set::new_le(0x80u8).eq_bits(&Set::new(0x8000u16)));
-    assert!(rt; !Set::new(0x8000u16).eq_bits(&Set::new_le(0x80u8)));
+    holds!(rt; !Set::new_le(0x80u8).eq_bits(&Set::new(0x8000u16)));
+    holds!(rt; !Set::new(0x8000u16).eq_bits(&Set::new_le(0x80u8)));
     // The members 0 and 7.
-    assert!(rt; !Set::new_le(0x80u8).eq_bits(&0x80u8));
-    assert_eq!(rt; Set::new_le(0x80u8).cmp_bits(&0x80u8), Ordering::Less);
-    assert_eq!(rt;
+    holds!(rt; !Set::new_le(0x80u8).eq_bits(&0x80u8));
+    same!(rt; Set::new_le(0x80u8).cmp_bits(&0x80u8), Ordering::Less);
+    same!(rt;
         Set::new(0x80u8).cmp_bits(&Set::new_le(0x80u8)),
         Ordering::Greater
     );
     // The member 0 on both sides.
-    assert!(rt; Set::new_le(0x80u8).eq_bits(&Set::new(1u16)));
-    assert!(rt; Set::new(1u16).eq_bits(&Set::new_le(0x80u8)));
+    holds!(rt; Set::new_le(0x80u8).eq_bits(&Set::new(1u16)));
+    holds!(rt; Set::new(1u16).eq_bits(&Set::new_le(0x80u8)));
 }
 
 // Sets in the order of their increasing members: none, 0, 0 1, 0 2, 1, 1 2 3, 1 3, 7.
@@ -52,17 +53,17 @@ fn sets_are_ordered_by_their_members(rt: HostRuntime) {
     for (i, a) in INCREASING.iter().enumerate() {
         for (j, b) in INCREASING.iter().enumerate() {
             let (left, right) = (Set::new(*a), Set::new(*b));
-            assert_eq!(rt; left.cmp(&right), i.cmp(&j), "{left:?} and {right:?}");
-            assert_eq!(rt; left == right, i == j, "{left:?} and {right:?}");
+            same!(rt; (i, j, left.cmp(&right)), (i, j, i.cmp(&j)));
+            same!(rt; (i, j, left == right), (i, j, i == j));
         }
     }
 }
 
 #[test]
 fn sets_are_compared_in_their_order(rt: HostRuntime) {
-    assert!(rt; Set::new_le(0x80u8) < Set::new_le(0x40));
-    assert!(rt; Set::new(0x80u8) > Set::new(0x40));
-    assert!(rt; Set::from_ref(&[1u8]) == Set::from_ref(&[1u8, 0]));
+    holds!(rt; Set::new_le(0x80u8) < Set::new_le(0x40));
+    holds!(rt; Set::new(0x80u8) > Set::new(0x40));
+    holds!(rt; Set::from_ref(&[1u8]) == Set::from_ref(&[1u8, 0]));
 }
 
 // A hasher that keeps the numbers that it is fed.
@@ -113,9 +114,9 @@ fn feed_of<T: Hash>(value: &T) -> ([u32; 4], usize) {
 
 #[test]
 fn a_hasher_is_fed_the_members_and_their_count(rt: HostRuntime) {
-    assert_eq!(rt; feed_of(&Set::new(0b1001u8)), ([0, 3, 2, 0], 3));
-    assert_eq!(rt; feed_of(&Set::new_le(0b1001u8)), ([4, 7, 2, 0], 3));
-    assert_eq!(rt; feed_of(&Set::new([0u8; 0])), ([0, 0, 0, 0], 1));
-    assert_eq!(rt; feed_of(&Set::from_ref(&[1u8])), ([0, 1, 0, 0], 2));
-    assert_eq!(rt; feed_of(&Set::from_ref(&[1u8, 0])), ([0, 1, 0, 0], 2));
+    same!(rt; feed_of(&Set::new(0b1001u8)), ([0, 3, 2, 0], 3));
+    same!(rt; feed_of(&Set::new_le(0b1001u8)), ([4, 7, 2, 0], 3));
+    same!(rt; feed_of(&Set::new([0u8; 0])), ([0, 0, 0, 0], 1));
+    same!(rt; feed_of(&Set::from_ref(&[1u8])), ([0, 1, 0, 0], 2));
+    same!(rt; feed_of(&Set::from_ref(&[1u8, 0])), ([0, 1, 0, 0], 2));
 }

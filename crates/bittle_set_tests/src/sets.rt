@@ -2,6 +2,7 @@
 
 ghost use Rattle.bittle.specs.Shapes.{Fits};
 
+use crate::checks::{holds, same};
 use bittle::prelude::*;
 use bittle::{BigEndian, Endian, LittleEndian, Set, set};
 use std::test::Fail;
@@ -9,31 +10,31 @@ use std::test::Fail;
 #[test]
 fn a_set_uses_its_order_where_a_call_names_none(rt: HostRuntime) {
     let set = Set::new_le(0x80u8);
-    assert!(rt; set.test_bit(0));
-    assert!(rt; !set.test_bit_be(0));
-    assert!(rt; set.test_bit_in::<BigEndian>(7));
-    assert!(rt; set.test_bit_le(0));
+    holds!(rt; set.test_bit(0));
+    holds!(rt; !set.test_bit_be(0));
+    holds!(rt; set.test_bit_in::<BigEndian>(7));
+    holds!(rt; set.test_bit_le(0));
 
     let mut set = Set::<i16, LittleEndian>::default();
     set.set_bit(0);
-    assert_eq!(rt; set.into_bits(), -32768);
+    same!(rt; set.into_bits(), -32768);
 }
 
 #[test]
 fn a_set_of_a_set(rt: HostRuntime) {
     let inner = Set::new_le(0x80u8);
     let outer = Set::new(inner);
-    assert!(rt; outer.test_bit(7));
-    assert!(rt; inner.eq_bits(&Set::new(0x01u8)));
-    assert!(rt; outer.eq_bits(&Set::new(0x80u8)));
+    holds!(rt; outer.test_bit(7));
+    holds!(rt; inner.eq_bits(&Set::new(0x01u8)));
+    holds!(rt; outer.eq_bits(&Set::new(0x80u8)));
 }
 
 #[test]
 fn a_set_of_an_array(rt: HostRuntime) {
     let array = [0x01u8, 0x10];
-    assert!(rt; Set::new(array).test_bit(12));
-    assert!(rt; Set::new_le(array).test_bit(11));
-    assert_eq!(rt;
+    holds!(rt; Set::new(array).test_bit(12));
+    holds!(rt; Set::new_le(array).test_bit(11));
+    same!(rt;
         Set::<[u8; 2], LittleEndian>::new_in(array).into_bits(),
         array
     );
@@ -42,12 +43,12 @@ fn a_set_of_an_array(rt: HostRuntime) {
 #[test]
 fn an_array_of_sets_is_read_in_the_default_order(rt: HostRuntime) {
     let mut sets = [Set::new_le(0x80u8), Set::new_le(0x01)];
-    assert!(rt; sets.test_bit(7));
-    assert!(rt; sets.test_bit(8));
-    assert!(rt; !sets.test_bit(0));
+    holds!(rt; sets.test_bit(7));
+    holds!(rt; sets.test_bit(8));
+    holds!(rt; !sets.test_bit(0));
     sets.set_bit(0);
-    assert_eq!(rt; sets[0].into_bits(), 0x81);
-    assert_eq!(rt; <[Set<u8, LittleEndian>; 2]>::bits(), 16);
+    same!(rt; sets[0].into_bits(), 0x81);
+    same!(rt; <[Set<u8, LittleEndian>; 2]>::bits(), 16);
 }
 
 // Whether a walk in the order of the type gives just these items.
@@ -71,16 +72,16 @@ fn iterates<T: BitsOwned, E: Endian>(set: Set<T, E>, items: &[u32]) -> bool {
 
 #[test]
 fn sets_are_walked_in_their_order(rt: HostRuntime) {
-    assert!(rt; walks(&Set::new_le(0b1101_0000u8), &[0, 1, 3]));
-    assert!(rt; walks(&Set::new_le(0b0000_1001u8), &[4, 7]));
-    assert!(rt; walks_le(&Set::from_ref_le(&[0x01u8, 0x10]), &[7, 11]));
-    assert!(rt; iterates(Set::new([8u8, 0]), &[3]));
-    assert!(rt; iterates(Set::new_le([8u8, 0]), &[4]));
+    holds!(rt; walks(&Set::new_le(0b1101_0000u8), &[0, 1, 3]));
+    holds!(rt; walks(&Set::new_le(0b0000_1001u8), &[4, 7]));
+    holds!(rt; walks_le(&Set::from_ref_le(&[0x01u8, 0x10]), &[7, 11]));
+    holds!(rt; iterates(Set::new([8u8, 0]), &[3]));
+    holds!(rt; iterates(Set::new_le([8u8, 0]), &[4]));
 
     // Inside an array a set is walked in the default order.
     let sets = [Set::new_le(0x80u8), Set::new_le(0x01)];
-    assert!(rt; walks(&sets, &[7, 8]));
-    assert!(rt; walks_le(&sets, &[0, 15]));
+    holds!(rt; walks(&sets, &[7, 8]));
+    holds!(rt; walks_le(&sets, &[0, 15]));
 }
 
 #[test]
@@ -88,10 +89,10 @@ fn changes_reach_the_slice_that_was_lent(rt: HostRuntime) {
     let mut slice = [0x01u8, 0x10];
     {
         let mut set = Set::from_mut_le(&mut slice);
-        assert!(rt; walks(&set, &[7, 11]));
+        holds!(rt; walks(&set, &[7, 11]));
         set.set_bit(4);
     }
-    assert_eq!(rt; slice, [0x09, 0x10]);
+    same!(rt; slice, [0x09, 0x10]);
 }
 
 #[test]
@@ -102,8 +103,8 @@ fn an_operator_changes_the_slice_that_was_lent(rt: HostRuntime) {
         let mut set = Set::from_mut(&mut left);
         set |= &Set::from_mut(&mut right);
     }
-    assert_eq!(rt; left, [5, 2]);
-    assert_eq!(rt; right, [4]);
+    same!(rt; left, [5, 2]);
+    same!(rt; right, [4]);
 }
 
 // The members 1 and 65, and the members 65 and 110.
@@ -115,8 +116,8 @@ fn two_sets() -> (Set<[u32; 4]>, Set<[u32; 4]>) {
 fn unions_of_values_and_references(rt: HostRuntime) {
     let (a, b) = two_sets();
     for union in [a | b, a | &b, &a | b, &a | &b] {
-        assert!(rt; union == set![1, 65, 110]);
-        assert_eq!(rt; union.into_bits(), [2, 0, 2, 0x4000]);
+        holds!(rt; union == set![1, 65, 110]);
+        same!(rt; union.into_bits(), [2, 0, 2, 0x4000]);
     }
 }
 
@@ -124,8 +125,8 @@ fn unions_of_values_and_references(rt: HostRuntime) {
 fn conjunctions_of_values_and_references(rt: HostRuntime) {
     let (a, b) = two_sets();
     for conjunction in [a & b, a & &b, &a & b, &a & &b] {
-        assert!(rt; conjunction == set![65]);
-        assert_eq!(rt; conjunction.into_bits(), [0, 0, 2, 0]);
+        holds!(rt; conjunction == set![65]);
+        same!(rt; conjunction.into_bits(), [0, 0, 2, 0]);
     }
 }
 
@@ -133,8 +134,8 @@ fn conjunctions_of_values_and_references(rt: HostRuntime) {
 fn symmetric_differences_of_values_and_references(rt: HostRuntime) {
     let (a, b) = two_sets();
     for just_one in [a ^ b, a ^ &b, &a ^ b, &a ^ &b] {
-        assert!(rt; just_one == set![1, 110]);
-        assert_eq!(rt; just_one.into_bits(), [2, 0, 0, 0x4000]);
+        holds!(rt; just_one == set![1, 110]);
+        same!(rt; just_one.into_bits(), [2, 0, 0, 0x4000]);
     }
 }
 
@@ -142,8 +143,8 @@ fn symmetric_differences_of_values_and_references(rt: HostRuntime) {
 fn differences_of_values_and_references(rt: HostRuntime) {
     let (a, b) = two_sets();
     for difference in [a - b, a - &b, &a - b, &a - &b] {
-        assert!(rt; difference == set![1]);
-        assert_eq!(rt; difference.into_bits(), [2, 0, 0, 0]);
+        holds!(rt; difference == set![1]);
+        same!(rt; difference.into_bits(), [2, 0, 0, 0]);
     }
 }
 
@@ -152,13 +153,13 @@ fn assigning_operators(rt: HostRuntime) {
     let (a, b) = two_sets();
     let mut set = a;
     set |= b;
-    assert_eq!(rt; set.into_bits(), [2, 0, 2, 0x4000]);
+    same!(rt; set.into_bits(), [2, 0, 2, 0x4000]);
     set &= a;
-    assert_eq!(rt; set.into_bits(), [2, 0, 2, 0]);
+    same!(rt; set.into_bits(), [2, 0, 2, 0]);
     set ^= b;
-    assert_eq!(rt; set.into_bits(), [2, 0, 0, 0x4000]);
+    same!(rt; set.into_bits(), [2, 0, 0, 0x4000]);
     set -= b;
-    assert_eq!(rt; set.into_bits(), [2, 0, 0, 0]);
+    same!(rt; set.into_bits(), [2, 0, 0, 0]);
 }
 
 #[test]
@@ -166,22 +167,22 @@ fn assigning_operators_with_references(rt: HostRuntime) {
     let (a, b) = two_sets();
     let mut set = a - b;
     set |= &b;
-    assert_eq!(rt; set.into_bits(), [2, 0, 2, 0x4000]);
+    same!(rt; set.into_bits(), [2, 0, 2, 0x4000]);
     set &= &b;
-    assert_eq!(rt; set.into_bits(), [0, 0, 2, 0x4000]);
+    same!(rt; set.into_bits(), [0, 0, 2, 0x4000]);
     set ^= &a;
-    assert_eq!(rt; set.into_bits(), [2, 0, 0, 0x4000]);
+    same!(rt; set.into_bits(), [2, 0, 0, 0x4000]);
     set -= &a;
-    assert_eq!(rt; set.into_bits(), [0, 0, 0, 0x4000]);
+    same!(rt; set.into_bits(), [0, 0, 0, 0x4000]);
 }
 
 #[test]
 fn sets_of_integers_in_either_order(rt: HostRuntime) -> Result<(), Fail> {
     let set: Set<u32, LittleEndian> = 1u32.into();
-    assert!(rt; set.test_bit(31));
-    assert_eq!(rt; Set::<i8>::from(-1).count_ones(), 8);
-    assert_eq!(rt; set.clone()?.into_bits(), 1);
-    assert!(rt; Set::<u128>::default().all_zeros());
+    holds!(rt; set.test_bit(31));
+    same!(rt; Set::<i8>::from(-1).count_ones(), 8);
+    same!(rt; set.clone()?.into_bits(), 1);
+    holds!(rt; Set::<u128>::default().all_zeros());
     Ok(())
 }
 
@@ -191,7 +192,7 @@ fn a_join_reads_its_mask_in_the_default_order(rt: HostRuntime) {
     let letters = *b"abcdefgh";
     let mut join = set.join_ones(letters.iter());
     for expected in [Some(b'e'), Some(b'g'), Some(b'h'), None, None] {
-        assert_eq!(rt; join.next().copied(), expected);
+        same!(rt; join.next().copied(), expected);
     }
 }
 
@@ -201,6 +202,6 @@ fn a_join_reads_its_mask_in_the_order_that_is_named(rt: HostRuntime) {
     let letters = *b"abcdefgh";
     let mut join = set.join_ones_le(letters.iter());
     for expected in [Some(b'a'), Some(b'b'), Some(b'd'), None, None] {
-        assert_eq!(rt; join.next().copied(), expected);
+        same!(rt; join.next().copied(), expected);
     }
 }

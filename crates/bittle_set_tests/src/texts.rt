@@ -1,5 +1,6 @@
 //! The debug text of sets.
 
+use crate::checks::{holds, same};
 use bittle::{Set, set};
 use std::fmt;
 use std::fmt::Write;
@@ -8,19 +9,19 @@ use std::test::Fail;
 #[test]
 fn the_text_of_a_set_is_one_line(rt: HostRuntime) -> Result<(), Fail> {
     let set = Set::new(0x4002u16);
-    assert_eq!(rt; format!(in rt.alloc(); "{set:?}")?.as_str(), "{1, 14}");
-    assert_eq!(rt; format!(in rt.alloc(); "{set:#?}")?.as_str(), "{1, 14}");
-    assert_eq!(rt; format!(in rt.alloc(); "{set:12?}")?.as_str(), "{1, 14}");
-    assert_eq!(rt; format!(in rt.alloc(); "{set:>+08?}")?.as_str(), "{1, 14}");
+    same!(rt; format!(in rt.alloc(); "{set:?}")?.as_str(), "{1, 14}");
+    same!(rt; format!(in rt.alloc(); "{set:#?}")?.as_str(), "{1, 14}");
+    same!(rt; format!(in rt.alloc(); "{set:12?}")?.as_str(), "{1, 14}");
+    same!(rt; format!(in rt.alloc(); "{set:>+08?}")?.as_str(), "{1, 14}");
     let set = Set::new_le(0b0000_1001u8);
-    assert_eq!(rt; format!(in rt.alloc(); "{set:?}")?.as_str(), "{4, 7}");
+    same!(rt; format!(in rt.alloc(); "{set:?}")?.as_str(), "{4, 7}");
     Ok(())
 }
 
 #[test]
 fn a_text_names_each_member(rt: HostRuntime) -> Result<(), Fail> {
     let set: Set<[u32; 4]> = set![100, 99, 9, 10, 127];
-    assert_eq!(rt;
+    same!(rt;
         format!(in rt.alloc(); "{set:?}")?.as_str(),
         "{9, 10, 99, 100, 127}"
     );
@@ -35,7 +36,7 @@ fn the_text_of_a_full_set(rt: HostRuntime) -> Result<(), Fail> {
     }
     write!(expected, "}}")?;
     let set: Set<[u64; 2]> = set![0..];
-    assert_eq!(rt;
+    same!(rt;
         format!(in rt.alloc(); "{set:?}")?.as_str(),
         expected.as_str()
     );
@@ -64,15 +65,15 @@ fn a_text_that_was_cut_off_is_an_error(rt: HostRuntime) {
     let set: Set<u16> = set![1, 14];
     for left in 0..5 {
         let mut short = Short { left };
-        assert!(rt; write!(short, "{set:?}").is_err(), "{left}");
+        same!(rt; (left, write!(short, "{set:?}").is_err()), (left, true));
     }
     let mut whole = Short { left: 5 };
-    assert!(rt; write!(whole, "{set:?}").is_ok());
-    assert_eq!(rt; whole.left, 0);
+    holds!(rt; write!(whole, "{set:?}").is_ok());
+    same!(rt; whole.left, 0);
 
     let set: Set<u16> = set![];
     for left in 0..2 {
         let mut short = Short { left };
-        assert!(rt; write!(short, "{set:?}").is_err(), "{left}");
+        same!(rt; (left, write!(short, "{set:?}").is_err()), (left, true));
     }
 }
