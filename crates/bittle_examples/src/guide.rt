@@ -1,6 +1,7 @@
 //! The examples of the README's guide. Each line of its listings stands here or in the program of
 //! `bittle_guide`.
 
+use crate::checks::{holds, same};
 use bittle::{BigEndian, Bits, BitsMut, BitsOwned, LittleEndian, Set};
 use std::test::Fail;
 
@@ -8,31 +9,31 @@ use std::test::Fail;
 fn words(rt: HostRuntime) {
     let mut word = 0b0010_0010u8; // bits 1 and 5 are set
     word.set_bit(0); // 0b0010_0011
-    assert_eq!(rt; word, 0b0010_0011);
+    same!(rt; word, 0b0010_0011);
     word.clear_bit(9); // 9 wraps to 1: 0b0010_0001
-    assert_eq!(rt; word, 0b0010_0001);
+    same!(rt; word, 0b0010_0001);
     word.test_bit(5); // true
-    assert!(rt; word.test_bit(5));
+    holds!(rt; word.test_bit(5));
     word.test_bit_le(2); // true: the same bit, counted from the left
-    assert!(rt; word.test_bit_le(2));
+    holds!(rt; word.test_bit_le(2));
 }
 
 #[test]
 fn arrays(rt: HostRuntime) {
     let mut row = [0u16; 2]; // capacity 32
     row.set_bit(31); // [0, 0x8000]
-    assert_eq!(rt; row, [0, 0x8000]);
+    same!(rt; row, [0, 0x8000]);
     row.count_ones(); // 1
-    assert_eq!(rt; row.count_ones(), 1);
+    same!(rt; row.count_ones(), 1);
 
     let mut nested = [[0u8; 2]; 2];
     nested.set_bit_le(17); // [[0, 0], [0x40, 0]]
-    assert_eq!(rt; nested, [[0, 0], [0x40, 0]]);
+    same!(rt; nested, [[0, 0], [0x40, 0]]);
 
     <[u32; 4]>::bits(); // 128
-    assert_eq!(rt; <[u32; 4]>::bits(), 128);
+    same!(rt; <[u32; 4]>::bits(), 128);
     Bits::count_zeros(&u8::ones()); // 0: an integer has a method of the name too
-    assert_eq!(rt; Bits::count_zeros(&u8::ones()), 0);
+    same!(rt; Bits::count_zeros(&u8::ones()), 0);
 }
 
 fn take(mut words: &mut [u64], slot: u32) {
@@ -44,28 +45,28 @@ fn slices(rt: HostRuntime) -> Result<(), Fail> {
     let mut words = [0u32; 4];
     let mut lent = words.as_mut_slice();
     lent.set_bit(65); // words is [0, 0, 2, 0]
-    assert_eq!(rt; words, [0, 0, 2, 0]);
+    same!(rt; words, [0, 0, 2, 0]);
 
     let alloc = rt.alloc();
     let mut pages: Vec<u64> = Vec::new(alloc);
     pages.push(0)?;
     let mut lent = pages.as_mut_slice();
     lent.set_bit(3); // pages is [8]
-    assert_eq!(rt; pages.as_slice(), [8].as_slice());
+    same!(rt; pages.as_slice(), [8].as_slice());
     take(pages.as_mut_slice(), 0);
-    assert_eq!(rt; pages.as_slice(), [9].as_slice());
+    same!(rt; pages.as_slice(), [9].as_slice());
     Ok(())
 }
 
 #[test]
 fn lists(rt: HostRuntime) {
     let mask: u8 = bittle::set![0, 2..=3, 6..]; // 0b1100_1101
-    assert_eq!(rt; mask, 0b1100_1101);
+    same!(rt; mask, 0b1100_1101);
     let left: u8 = bittle::set_le![0, 1, 3]; // 0b1101_0000
-    assert_eq!(rt; left, 0b1101_0000);
+    same!(rt; left, 0b1101_0000);
     let few: u128 = bittle::set![31, 67];
     few.conjunction(bittle::set![31, 62]); // the set of 31
-    assert_eq!(rt; few.conjunction(bittle::set![31, 62]), bittle::set![31]);
+    same!(rt; few.conjunction(bittle::set![31, 62]), bittle::set![31]);
 }
 
 #[test]
@@ -75,13 +76,13 @@ fn walks(rt: HostRuntime) -> Result<(), Fail> {
     for index in row.iter_ones() {
         mixed ^= index; // 4, 67, 71, 127
     }
-    assert_eq!(rt; mixed, 4 ^ 67 ^ 71 ^ 127);
+    same!(rt; mixed, 4 ^ 67 ^ 71 ^ 127);
     let found: Vec<u32> = row.iter_ones().collect(rt.alloc())?;
-    assert_eq!(rt; found.as_slice(), [4, 67, 71, 127].as_slice());
+    same!(rt; found.as_slice(), [4, 67, 71, 127].as_slice());
     let mut walk = row.iter_ones();
-    assert_eq!(rt; walk.next(), Some(4));
-    assert_eq!(rt; walk.next_back(), Some(127));
-    assert_eq!(rt; walk.rev().next(), Some(71));
+    same!(rt; walk.next(), Some(4));
+    same!(rt; walk.next_back(), Some(127));
+    same!(rt; walk.rev().next(), Some(71));
     Ok(())
 }
 
@@ -91,31 +92,31 @@ fn walks_from_both_ends(rt: HostRuntime) {
     let mut walk = row.iter_ones();
     walk.next(); // Some(4)
     walk.next_back(); // Some(127)
-    assert_eq!(rt; walk.next_back(), Some(71));
-    assert_eq!(rt; walk.next(), Some(67));
-    assert_eq!(rt; walk.next_back(), None);
+    same!(rt; walk.next_back(), Some(71));
+    same!(rt; walk.next(), Some(67));
+    same!(rt; walk.next_back(), None);
 }
 
 #[test]
 fn searches(rt: HostRuntime) {
     let row: [u32; 4] = bittle::set![4, 67, 71, 127];
     0b1101u8.iter_zeros().next(); // Some(1)
-    assert_eq!(rt; 0b1101u8.iter_zeros().next(), Some(1));
+    same!(rt; 0b1101u8.iter_zeros().next(), Some(1));
     row.first_one_in::<BigEndian>(5, 128); // Some(67)
-    assert_eq!(rt; row.first_one_in::<BigEndian>(5, 128), Some(67));
+    same!(rt; row.first_one_in::<BigEndian>(5, 128), Some(67));
 }
 
 #[test]
 fn wrapped(rt: HostRuntime) -> Result<(), Fail> {
     let set = Set::new_le(0b1101_0000u8);
     set.test_bit(3); // true
-    assert!(rt; set.test_bit(3));
+    holds!(rt; set.test_bit(3));
     println!(rt; "{set:?}")?; // {0, 1, 3}
-    assert_eq!(rt; format!(in rt.alloc(); "{set:?}")?.as_str(), "{0, 1, 3}");
+    same!(rt; format!(in rt.alloc(); "{set:?}")?.as_str(), "{0, 1, 3}");
     set.eq_bits(&Set::new(0b1011u16)); // true: each side is read in its own order
-    assert!(rt; set.eq_bits(&Set::new(0b1011u16)));
+    holds!(rt; set.eq_bits(&Set::new(0b1011u16)));
     let both = Set::<u8, LittleEndian>::new_in(0x80) | set;
-    assert_eq!(rt; both.into_bits(), 0b1101_0000);
+    same!(rt; both.into_bits(), 0b1101_0000);
     Ok(())
 }
 
@@ -123,5 +124,5 @@ fn wrapped(rt: HostRuntime) -> Result<(), Fail> {
 fn joins(rt: HostRuntime) {
     let mask: u8 = bittle::set![0, 2, 5];
     mask.join_ones([10, 20, 30]); // yields 10, 30
-    assert!(rt; mask.join_ones([10, 20, 30]).eq([10, 30]));
+    holds!(rt; mask.join_ones([10, 20, 30]).eq([10, 30]));
 }
