@@ -6,6 +6,8 @@
 #[cfg(test)]
 mod callers;
 #[cfg(test)]
+mod checks;
+#[cfg(test)]
 mod lists;
 #[cfg(test)]
 mod operations;

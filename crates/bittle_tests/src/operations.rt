@@ -1,5 +1,6 @@
 //! Operations on two sets, and changes of owned sets, with values worked out by hand.
 
+use crate::checks::{holds, same};
 use bittle::prelude::*;
 use bittle::{LittleEndian, set, set_le};
 
@@ -12,7 +13,7 @@ fn conjunction_and_difference_change_the_common_beginning_alone(rt: HostRuntime)
         let other: &mut [u8] = &mut short;
         set.conjunction_assign(&other);
     }
-    assert_eq!(rt; long, [15, 255]);
+    same!(rt; long, [15, 255]);
 
     let mut long = [0x0Fu8, 0xFF];
     let mut short = [0x05u8];
@@ -21,7 +22,7 @@ fn conjunction_and_difference_change_the_common_beginning_alone(rt: HostRuntime)
         let other: &mut [u8] = &mut short;
         set.difference_assign(&other);
     }
-    assert_eq!(rt; long, [0x0A, 0xFF]);
+    same!(rt; long, [0x0A, 0xFF]);
 }
 
 #[test]
@@ -33,8 +34,8 @@ fn unions_change_the_common_beginning_alone(rt: HostRuntime) {
         let other: &mut [u8] = &mut long;
         set.union_assign(&other);
     }
-    assert_eq!(rt; short, [3]);
-    assert_eq!(rt; long, [2, 4]);
+    same!(rt; short, [3]);
+    same!(rt; long, [2, 4]);
 
     let mut short = [0xF0u8, 0x01];
     let mut long = [0xFFu8, 0x01, 0x01];
@@ -43,65 +44,65 @@ fn unions_change_the_common_beginning_alone(rt: HostRuntime) {
         let other: &mut [u8] = &mut long;
         set.symmetric_difference_assign(&other);
     }
-    assert_eq!(rt; short, [0x0F, 0x00]);
+    same!(rt; short, [0x0F, 0x00]);
 }
 
 #[test]
 fn operations_on_words(rt: HostRuntime) {
     let (a, b): (u128, u128) = (set![31, 67], set![31, 62]);
-    assert_eq!(rt; a.union(b), set![31, 62, 67]);
-    assert_eq!(rt; a.conjunction(b), set![31]);
-    assert_eq!(rt; a.difference(b), set![67]);
-    assert_eq!(rt; a.symmetric_difference(b), set![62, 67]);
+    same!(rt; a.union(b), set![31, 62, 67]);
+    same!(rt; a.conjunction(b), set![31]);
+    same!(rt; a.difference(b), set![67]);
+    same!(rt; a.symmetric_difference(b), set![62, 67]);
 }
 
 #[test]
 fn operations_on_words_in_little_endian_order(rt: HostRuntime) {
     let (a, b): (u128, u128) = (set_le![31, 67], set_le![31, 62]);
-    assert_eq!(rt; a.union(b), 1 << 96 | 1 << 65 | 1 << 60);
-    assert_eq!(rt; a.conjunction(b), 1 << 96);
-    assert_eq!(rt; a.difference(b), 1 << 60);
-    assert_eq!(rt; a.symmetric_difference(b), 1 << 65 | 1 << 60);
+    same!(rt; a.union(b), 1 << 96 | 1 << 65 | 1 << 60);
+    same!(rt; a.conjunction(b), 1 << 96);
+    same!(rt; a.difference(b), 1 << 60);
+    same!(rt; a.symmetric_difference(b), 1 << 65 | 1 << 60);
 }
 
 #[test]
 fn operations_on_signed_words(rt: HostRuntime) {
     let (a, b) = (-128i8, -127i8);
-    assert_eq!(rt; a.union(b), -127);
-    assert_eq!(rt; a.conjunction(b), -128);
-    assert_eq!(rt; b.difference(a), 1);
-    assert_eq!(rt; a.symmetric_difference(b), 1);
+    same!(rt; a.union(b), -127);
+    same!(rt; a.conjunction(b), -128);
+    same!(rt; b.difference(a), 1);
+    same!(rt; a.symmetric_difference(b), 1);
 }
 
 #[test]
 fn operations_on_nested_arrays(rt: HostRuntime) {
     let (a, b) = ([[1u8, 2], [4, 0xF0]], [[3u8, 0], [4, 0x0F]]);
-    assert_eq!(rt; a.union(b), [[3, 2], [4, 0xFF]]);
-    assert_eq!(rt; a.conjunction(b), [[1, 0], [4, 0]]);
-    assert_eq!(rt; a.difference(b), [[0, 2], [0, 0xF0]]);
-    assert_eq!(rt; a.symmetric_difference(b), [[2, 2], [0, 0xFF]]);
+    same!(rt; a.union(b), [[3, 2], [4, 0xFF]]);
+    same!(rt; a.conjunction(b), [[1, 0], [4, 0]]);
+    same!(rt; a.difference(b), [[0, 2], [0, 0xF0]]);
+    same!(rt; a.symmetric_difference(b), [[2, 2], [0, 0xFF]]);
 }
 
 #[test]
 fn words_with_and_without_an_index(rt: HostRuntime) {
-    assert_eq!(rt; u8::ones().without_bit_le(2), 223);
-    assert_eq!(rt; 0u8.with_bit(9), 2);
-    assert_eq!(rt; u8::ones().without_bit_be(2), 251);
-    assert_eq!(rt; u8::ones().without_bit(10), 251);
-    assert_eq!(rt; u8::ones().without_bit_in::<LittleEndian>(2), 223);
-    assert_eq!(rt; 0u8.with_bit_in::<LittleEndian>(2), 32);
-    assert_eq!(rt; 0i8.with_bit_le(0), i8::MIN);
-    assert_eq!(rt; 0i128.with_bit_le(u32::MAX), 1);
+    same!(rt; u8::ones().without_bit_le(2), 223);
+    same!(rt; 0u8.with_bit(9), 2);
+    same!(rt; u8::ones().without_bit_be(2), 251);
+    same!(rt; u8::ones().without_bit(10), 251);
+    same!(rt; u8::ones().without_bit_in::<LittleEndian>(2), 223);
+    same!(rt; 0u8.with_bit_in::<LittleEndian>(2), 32);
+    same!(rt; 0i8.with_bit_le(0), i8::MIN);
+    same!(rt; 0i128.with_bit_le(u32::MAX), 1);
 }
 
 #[test]
 fn arrays_with_and_without_an_index(rt: HostRuntime) {
-    assert_eq!(rt;
+    same!(rt;
         [[0u8; 2]; 2].with_bit_be(13).with_bit_le(16),
         [[0, 0x20], [0x80, 0]]
     );
-    assert_eq!(rt; [0u8; 7].with_bit(u32::MAX), [0, 0, 0, 128, 0, 0, 0]);
-    assert_eq!(rt; [0u8; 7].with_bit_le(u32::MAX), [0, 0, 0, 1, 0, 0, 0]);
-    assert_eq!(rt; [[0u8; 3]; 2].with_bit(u32::MAX), [[0, 128, 0], [0, 0, 0]]);
-    assert!(rt; [[0u8; 0]; 4].with_bit(7).without_bit_le(9).all_zeros());
+    same!(rt; [0u8; 7].with_bit(u32::MAX), [0, 0, 0, 128, 0, 0, 0]);
+    same!(rt; [0u8; 7].with_bit_le(u32::MAX), [0, 0, 0, 1, 0, 0, 0]);
+    same!(rt; [[0u8; 3]; 2].with_bit(u32::MAX), [[0, 128, 0], [0, 0, 0]]);
+    holds!(rt; [[0u8; 0]; 4].with_bit(7).without_bit_le(9).all_zeros());
 }

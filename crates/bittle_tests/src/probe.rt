@@ -8,6 +8,7 @@ ghost use Rattle.bittle_bits.specs.LawProofs.{digit_has-past, one_word, equal_wo
 ghost use Rattle.bittle_bits.specs.Rows.{elements_set};
 ghost use Rattle.bittle_bits.specs.Shapes.{Fits};
 
+use crate::checks::{holds, same};
 use bittle::replay::Step;
 use bittle::{
     BigEndian, Bits, BitsMut, BitsOwned, DefaultEndian, Endian, LittleEndian, Set, macros,
@@ -17,7 +18,6 @@ use bittle_bits::operation::Operation;
 use std::alloc::AllocError;
 use std::cell::Cell;
 use std::cmp::Ordering;
-use std::test::Fail;
 
 // Which words were fetched and how often, and how often anything else was asked but the capacity.
 #[derive(Drop)]
@@ -291,73 +291,73 @@ const ZEROS: [u8; 4] = [254, 255, 255, 127];
 #[test]
 fn walks_of_ones_fetch_each_word_once(rt: HostRuntime) {
     for steps in each_way(0, 31) {
-        assert!(rt; walks_frugally!(iter_ones_be, ONES, steps));
+        holds!(rt; walks_frugally!(iter_ones_be, ONES, steps));
     }
     for steps in each_way(7, 24) {
-        assert!(rt; walks_frugally!(iter_ones_le, ONES, steps));
+        holds!(rt; walks_frugally!(iter_ones_le, ONES, steps));
     }
 }
 
 #[test]
 fn owned_walks_of_ones_fetch_each_word_once(rt: HostRuntime) {
     for steps in each_way(0, 31) {
-        assert!(rt; walks_frugally!(into_iter_ones_be, ONES, steps));
+        holds!(rt; walks_frugally!(into_iter_ones_be, ONES, steps));
     }
     for steps in each_way(7, 24) {
-        assert!(rt; walks_frugally!(into_iter_ones_le, ONES, steps));
+        holds!(rt; walks_frugally!(into_iter_ones_le, ONES, steps));
     }
 }
 
 #[test]
 fn walks_of_zeros_fetch_each_word_once(rt: HostRuntime) {
     for steps in each_way(0, 31) {
-        assert!(rt; walks_frugally!(iter_zeros_be, ZEROS, steps));
+        holds!(rt; walks_frugally!(iter_zeros_be, ZEROS, steps));
     }
     for steps in each_way(7, 24) {
-        assert!(rt; walks_frugally!(iter_zeros_le, ZEROS, steps));
+        holds!(rt; walks_frugally!(iter_zeros_le, ZEROS, steps));
     }
 }
 
 #[test]
 fn owned_walks_of_zeros_fetch_each_word_once(rt: HostRuntime) {
     for steps in each_way(0, 31) {
-        assert!(rt; walks_frugally!(into_iter_zeros_be, ZEROS, steps));
+        holds!(rt; walks_frugally!(into_iter_zeros_be, ZEROS, steps));
     }
     for steps in each_way(7, 24) {
-        assert!(rt; walks_frugally!(into_iter_zeros_le, ZEROS, steps));
+        holds!(rt; walks_frugally!(into_iter_zeros_le, ZEROS, steps));
     }
 }
 
 // Whether a clone, taken after the first step, fetches nothing, and then no more than its source
 // has left.
-fn clones_frugally<W: DoubleEndedIterator<Item = u32> + Clone>(
-    mut walk: W,
-    asked: &Asked,
-) -> Result<bool, AllocError>
+fn clones_frugally<W: DoubleEndedIterator<Item = u32> + Clone>(mut walk: W, asked: &Asked) -> bool
     requires front { (w : W) → W.can_next w }
     requires back { (w : W) → W.can_next_back w }
 {
-    let mut good = walk.next() == Some(0) && asked.is_at_most(2);
-    let mut other = walk.clone()?;
-    good = good && asked.is_at_most(2);
-    good = good && other.next_back() == Some(31) && asked.is_at_most(2);
-    good = good && other.next().is_none() && other.next_back().is_none();
-    good = good && asked.is_at_most(4);
-    good = good && walk.next() == Some(31) && walk.next_back().is_none();
-    Ok(good && walk.next().is_none() && asked.is_at_most(6))
+    let mut good = answers(&mut walk, asked, (Step::Front, Some(0), 2));
+    let other: Result<W, AllocError> = walk.clone();
+    let Ok(mut other) = other else {
+        return false;
+    };
+    good &= asked.is_at_most(2);
+    good &= answers(&mut other, asked, (Step::Back, Some(31), 2));
+    good &= answers(&mut other, asked, (Step::Front, None, 4));
+    good &= answers(&mut other, asked, (Step::Back, None, 4));
+    good &= answers(&mut walk, asked, (Step::Front, Some(31), 6));
+    good &= answers(&mut walk, asked, (Step::Back, None, 6));
+    good && answers(&mut walk, asked, (Step::Front, None, 6))
 }
 
 #[test]
-fn clones_fetch_what_their_source_has_left(rt: HostRuntime) -> Result<(), Fail> {
+fn clones_fetch_what_their_source_has_left(rt: HostRuntime) {
     let asked = Asked::new();
-    assert!(rt; clones_frugally(Probe::of(ONES, &asked).iter_ones_be(), &asked)?);
+    holds!(rt; clones_frugally(Probe::of(ONES, &asked).iter_ones_be(), &asked));
     let asked = Asked::new();
-    assert!(rt; clones_frugally(Probe::of(ZEROS, &asked).iter_zeros_be(), &asked)?);
+    holds!(rt; clones_frugally(Probe::of(ZEROS, &asked).iter_zeros_be(), &asked));
     let asked = Asked::new();
-    assert!(rt; clones_frugally(Probe::of(ONES, &asked).into_iter_ones_be(), &asked)?);
+    holds!(rt; clones_frugally(Probe::of(ONES, &asked).into_iter_ones_be(), &asked));
     let asked = Asked::new();
-    assert!(rt; clones_frugally(Probe::of(ZEROS, &asked).into_iter_zeros_be(), &asked)?);
-    Ok(())
+    holds!(rt; clones_frugally(Probe::of(ZEROS, &asked).into_iter_zeros_be(), &asked));
 }
 
 // What a search of these bytes answers, and the words that it fetched, or `None` where it fetched
@@ -380,49 +380,49 @@ const MOST: [u8; 4] = [0xEF, 0xFE, 0xFF, 0x7F];
 #[test]
 fn searches_of_the_first_one_fetch_up_to_it(rt: HostRuntime) {
     let found = search_of!(FEW, first_one_in::<BigEndian>(5, 32));
-    assert_eq!(rt; found, (Some(8), Some(0b0011)));
+    same!(rt; found, (Some(8), Some(0b0011)));
     let found = search_of!(FEW, first_one_in::<BigEndian>(9, 24));
-    assert_eq!(rt; found, (None, Some(0b0110)));
+    same!(rt; found, (None, Some(0b0110)));
     let found = search_of!(FEW, first_one_in::<LittleEndian>(4, 32));
-    assert_eq!(rt; found, (Some(15), Some(0b0011)));
+    same!(rt; found, (Some(15), Some(0b0011)));
     let found = search_of!(FEW, first_one_in::<LittleEndian>(4, 4));
-    assert_eq!(rt; found, (None, Some(0)));
+    same!(rt; found, (None, Some(0)));
 }
 
 #[test]
 fn searches_of_the_last_one_fetch_down_to_it(rt: HostRuntime) {
     let found = search_of!(FEW, last_one_in::<BigEndian>(0, 31));
-    assert_eq!(rt; found, (Some(8), Some(0b1110)));
+    same!(rt; found, (Some(8), Some(0b1110)));
     let found = search_of!(FEW, last_one_in::<BigEndian>(9, 24));
-    assert_eq!(rt; found, (None, Some(0b0110)));
+    same!(rt; found, (None, Some(0b0110)));
     let found = search_of!(FEW, last_one_in::<LittleEndian>(0, 24));
-    assert_eq!(rt; found, (Some(15), Some(0b0110)));
+    same!(rt; found, (Some(15), Some(0b0110)));
     let found = search_of!(FEW, last_one_in::<LittleEndian>(15, 15));
-    assert_eq!(rt; found, (None, Some(0)));
+    same!(rt; found, (None, Some(0)));
 }
 
 #[test]
 fn searches_of_the_first_zero_fetch_up_to_it(rt: HostRuntime) {
     let found = search_of!(MOST, first_zero_in::<BigEndian>(5, 32));
-    assert_eq!(rt; found, (Some(8), Some(0b0011)));
+    same!(rt; found, (Some(8), Some(0b0011)));
     let found = search_of!(MOST, first_zero_in::<BigEndian>(9, 24));
-    assert_eq!(rt; found, (None, Some(0b0110)));
+    same!(rt; found, (None, Some(0b0110)));
     let found = search_of!(MOST, first_zero_in::<LittleEndian>(4, 32));
-    assert_eq!(rt; found, (Some(15), Some(0b0011)));
+    same!(rt; found, (Some(15), Some(0b0011)));
     let found = search_of!(MOST, first_zero_in::<LittleEndian>(4, 4));
-    assert_eq!(rt; found, (None, Some(0)));
+    same!(rt; found, (None, Some(0)));
 }
 
 #[test]
 fn searches_of_the_last_zero_fetch_down_to_it(rt: HostRuntime) {
     let found = search_of!(MOST, last_zero_in::<BigEndian>(0, 31));
-    assert_eq!(rt; found, (Some(8), Some(0b1110)));
+    same!(rt; found, (Some(8), Some(0b1110)));
     let found = search_of!(MOST, last_zero_in::<BigEndian>(9, 24));
-    assert_eq!(rt; found, (None, Some(0b0110)));
+    same!(rt; found, (None, Some(0b0110)));
     let found = search_of!(MOST, last_zero_in::<LittleEndian>(0, 24));
-    assert_eq!(rt; found, (Some(15), Some(0b0110)));
+    same!(rt; found, (Some(15), Some(0b0110)));
     let found = search_of!(MOST, last_zero_in::<LittleEndian>(15, 15));
-    assert_eq!(rt; found, (None, Some(0)));
+    same!(rt; found, (None, Some(0)));
 }
 
 #[test]
@@ -431,8 +431,8 @@ fn joins_fetch_each_word_of_their_mask_once(rt: HostRuntime) {
     let probe = Probe::of(ONES, &asked);
     let mut join = probe.join_ones(100..140);
     for (item, words) in [(Some(100), 2), (Some(131), 4), (None, 4), (None, 4)] {
-        assert_eq!(rt; join.next(), item);
-        assert!(rt; asked.is_at_most(words));
+        same!(rt; join.next(), item);
+        holds!(rt; asked.is_at_most(words));
     }
 }
 
@@ -442,8 +442,8 @@ fn joins_fetch_nothing_after_the_end_of_their_iterator(rt: HostRuntime) {
     let probe = Probe::of([3, 0, 0, 128], &asked);
     let mut join = probe.join_ones(100..101);
     for item in [Some(100), None, None, None] {
-        assert_eq!(rt; join.next(), item);
-        assert!(rt; asked.is_at_most(2));
+        same!(rt; join.next(), item);
+        holds!(rt; asked.is_at_most(2));
     }
 }
 
@@ -451,40 +451,43 @@ fn joins_fetch_nothing_after_the_end_of_their_iterator(rt: HostRuntime) {
 fn equality_fetches_each_word_once(rt: HostRuntime) {
     let (left, right) = (Asked::new(), Asked::new());
     let set = Set::new(Probe::of(ONES, &left));
-    assert!(rt; set.eq_bits(&Set::new(Probe::of(ONES, &right))));
-    assert!(rt; left.is_at_most(4) && right.is_at_most(4));
+    holds!(rt; set.eq_bits(&Set::new(Probe::of(ONES, &right))));
+    holds!(rt; left.is_at_most(4) && right.is_at_most(4));
 
     // Each side in an order of its own.
     let (left, right) = (Asked::new(), Asked::new());
     let set = Set::new(Probe::of(ONES, &left));
-    assert!(rt; set.eq_bits(&Set::new_le(Probe::of([128, 0, 0, 1], &right))));
-    assert!(rt; left.is_at_most(4) && right.is_at_most(4));
+    holds!(rt; set.eq_bits(&Set::new_le(Probe::of([128, 0, 0, 1], &right))));
+    holds!(rt; left.is_at_most(4) && right.is_at_most(4));
 }
 
 #[test]
-fn comparisons_end_with_the_four_words_that_differ(rt: HostRuntime) {
+fn equality_ends_with_the_four_words_that_differ(rt: HostRuntime) {
     // Eight words. The first four are fetched for one test, and two of them again for the index.
     let (left, right) = (Asked::new(), Asked::new());
     let set = Set::new([Probe::of(ONES, &left), Probe::of(ONES, &left)]);
     let other = [Probe::of([1, 2, 0, 128], &right), Probe::of(ONES, &right)];
-    assert!(rt; !set.eq_bits(&other));
-    assert!(rt; left.is_at_most(6) && right.is_at_most(6));
+    holds!(rt; !set.eq_bits(&other));
+    holds!(rt; left.is_at_most(6) && right.is_at_most(6));
+}
 
+#[test]
+fn comparisons_end_with_the_four_words_that_differ(rt: HostRuntime) {
     // The index 9 is in the right one alone: the left one is asked for it and for a member past it.
     let (left, right) = (Asked::new(), Asked::new());
     let set = Set::new([Probe::of(ONES, &left), Probe::of(ONES, &left)]);
     let other = [Probe::of([1, 2, 0, 128], &right), Probe::of(ONES, &right)];
-    assert_eq!(rt; set.cmp_bits(&other), Ordering::Greater);
-    assert!(rt; left.fetches.get() <= 9 && left.other.get() <= 1);
-    assert!(rt; right.is_at_most(6));
+    same!(rt; set.cmp_bits(&other), Ordering::Greater);
+    holds!(rt; left.fetches.get() <= 9 && left.other.get() <= 1);
+    holds!(rt; right.is_at_most(6));
 }
 
 #[test]
 fn words_after_the_last_four_are_compared_one_by_one(rt: HostRuntime) {
     let left = Asked::new();
     let set = Set::new(Probe::of(ONES, &left));
-    assert!(rt; !set.eq_bits(&[1u8, 2, 0]));
-    assert!(rt; left.is_at_most(2));
+    holds!(rt; !set.eq_bits(&[1u8, 2, 0]));
+    holds!(rt; left.is_at_most(2));
 }
 
 #[test]
@@ -492,9 +495,9 @@ fn a_range_is_one_call_or_two(rt: HostRuntime) {
     let asked = Asked::new();
     let mut probe = Probe::of([0; 4], &asked);
     macros::put_until_in::<Probe, BigEndian>(&mut probe, 5, 30);
-    assert_eq!(rt; probe.bytes, [0xE0, 0xFF, 0xFF, 0x3F]);
-    assert!(rt; asked.fetches.get() == 0 && asked.other.get() == 1);
+    same!(rt; probe.bytes, [0xE0, 0xFF, 0xFF, 0x3F]);
+    holds!(rt; asked.fetches.get() == 0 && asked.other.get() == 1);
     macros::put_through_in::<Probe, BigEndian>(&mut probe, 31, 32);
-    assert_eq!(rt; probe.bytes, [0xE1, 0xFF, 0xFF, 0xBF]);
-    assert!(rt; asked.fetches.get() == 0 && asked.other.get() == 3);
+    same!(rt; probe.bytes, [0xE1, 0xFF, 0xFF, 0xBF]);
+    holds!(rt; asked.fetches.get() == 0 && asked.other.get() == 3);
 }

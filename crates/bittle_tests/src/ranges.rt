@@ -1,5 +1,6 @@
 //! Ranges that macros list, and those that are set in a slice.
 
+use crate::checks::same;
 use bittle::prelude::*;
 use bittle::{BigEndian, LittleEndian, Set, macros, set, set_be, set_le};
 
@@ -14,7 +15,7 @@ fn ranges_in_one_word(rt: HostRuntime) {
         (set![0..0], 0),
     ];
     for (word, want) in words {
-        assert_eq!(rt; word, want);
+        same!(rt; word, want);
     }
 }
 
@@ -27,14 +28,14 @@ fn ranges_in_signed_words(rt: HostRuntime) {
         (set_le![0..1], i8::MIN),
     ];
     for (word, want) in words {
-        assert_eq!(rt; word, want);
+        same!(rt; word, want);
     }
     let wide: i128 = set![127..128];
-    assert_eq!(rt; wide, i128::MIN);
+    same!(rt; wide, i128::MIN);
     let wide: i128 = set_le![0..127];
-    assert_eq!(rt; wide, -2);
+    same!(rt; wide, -2);
     let wide: u128 = set![64..128];
-    assert_eq!(rt; wide, 0xFFFF_FFFF_FFFF_FFFF_0000_0000_0000_0000);
+    same!(rt; wide, 0xFFFF_FFFF_FFFF_FFFF_0000_0000_0000_0000);
 }
 
 #[test]
@@ -50,7 +51,7 @@ fn ranges_in_three_words(rt: HostRuntime) {
         (set![8..8], [0, 0, 0]),
     ];
     for (row, want) in rows {
-        assert_eq!(rt; row, want);
+        same!(rt; row, want);
     }
 }
 
@@ -65,7 +66,7 @@ fn ranges_in_three_words_mirrored(rt: HostRuntime) {
         (set_be![5..18], [0xE0, 0xFF, 0x03]),
     ];
     for (row, want) in rows {
-        assert_eq!(rt; row, want);
+        same!(rt; row, want);
     }
 }
 
@@ -79,12 +80,12 @@ fn ranges_that_wrap(rt: HostRuntime) {
         (set![4294967290..=4294967295], [0, 0xFC]),
     ];
     for (row, want) in rows {
-        assert_eq!(rt; row, want);
+        same!(rt; row, want);
     }
     let row: [u8; 3] = set![20..28];
-    assert_eq!(rt; row, [0x0F, 0, 0xF0]);
+    same!(rt; row, [0x0F, 0, 0xF0]);
     let row: [u8; 3] = set![4294967290..=4294967295];
-    assert_eq!(rt; row, [0, 0xFC, 0]);
+    same!(rt; row, [0, 0xFC, 0]);
 }
 
 #[test]
@@ -99,20 +100,20 @@ fn ranges_as_long_as_the_capacity(rt: HostRuntime) {
         (set![1..16], [0xFE, 0xFF]),
     ];
     for (row, want) in rows {
-        assert_eq!(rt; row, want);
+        same!(rt; row, want);
     }
 }
 
 #[test]
 fn ranges_in_long_rows(rt: HostRuntime) {
     let words: [u64; 64] = set![0..4096];
-    assert_eq!(rt; words, [u64::MAX; 64]);
+    same!(rt; words, [u64::MAX; 64]);
     let words: [u64; 64] = set![1..4095];
-    assert_eq!(rt; words[0], u64::MAX - 1);
-    assert_eq!(rt; words[63], u64::MAX >> 1);
-    assert_eq!(rt; words.count_zeros(), 2);
+    same!(rt; words[0], u64::MAX - 1);
+    same!(rt; words[63], u64::MAX >> 1);
+    same!(rt; words.count_zeros(), 2);
     let words: [u64; 2] = set![63..65];
-    assert_eq!(rt; words, [0x8000_0000_0000_0000, 1]);
+    same!(rt; words, [0x8000_0000_0000_0000, 1]);
 }
 
 #[test]
@@ -125,28 +126,28 @@ fn ranges_in_nested_rows(rt: HostRuntime) {
         (set![9..11], [[0, 0x06], [0, 0]]),
     ];
     for (row, want) in rows {
-        assert_eq!(rt; row, want);
+        same!(rt; row, want);
     }
 }
 
 #[test]
 fn ranges_beside_members(rt: HostRuntime) {
     let row: [u8; 2] = set![0, 9, 4..12];
-    assert_eq!(rt; row, [0xF1, 0x0F]);
+    same!(rt; row, [0xF1, 0x0F]);
     let row: [u8; 2] = set![2..5, 3..12, 15];
-    assert_eq!(rt; row, [0xFC, 0x8F]);
+    same!(rt; row, [0xFC, 0x8F]);
     let remembered: Set<[u8; 2], LittleEndian> = set![4..12];
-    assert_eq!(rt; remembered.into_bits(), [0x0F, 0xF0]);
+    same!(rt; remembered.into_bits(), [0x0F, 0xF0]);
 }
 
 #[test]
 fn ranges_without_capacity(rt: HostRuntime) {
     let none: [u8; 0] = set![0..9, 3..=3, 0..=4294967295, 1..];
-    assert_eq!(rt; none, []);
+    same!(rt; none, []);
     let none: [u8; 0] = set_le![7..8];
-    assert_eq!(rt; none, []);
+    same!(rt; none, []);
     let none: [[u32; 0]; 3] = set![5..70];
-    assert_eq!(rt; none, [[], [], []]);
+    same!(rt; none, [[], [], []]);
 }
 
 #[test]
@@ -154,9 +155,9 @@ fn ranges_in_slices(rt: HostRuntime) {
     let mut bytes = [0u8; 4];
     let mut lent = &mut bytes[1..];
     macros::put_until_in::<&mut [u8], BigEndian>(&mut lent, 5, 18);
-    assert_eq!(rt; bytes, [0, 0xE0, 0xFF, 0x03]);
+    same!(rt; bytes, [0, 0xE0, 0xFF, 0x03]);
     let mut bytes = [0u8; 4];
     let mut lent = &mut bytes[..3];
     macros::put_through_in::<&mut [u8], LittleEndian>(&mut lent, 20, 27);
-    assert_eq!(rt; bytes, [0xF0, 0, 0x0F, 0]);
+    same!(rt; bytes, [0xF0, 0, 0x0F, 0]);
 }

@@ -2,6 +2,7 @@
 
 ghost use Rattle.std.specs.Prelude.{◌<◌, IsTrue};
 
+use crate::checks::holds;
 use bittle::number::{IterOnes, IterZeros};
 use bittle::prelude::*;
 use bittle::{BigEndian, Endian, LittleEndian};
@@ -18,13 +19,13 @@ fn every_byte(rt: HostRuntime) {
         let high = ONES_OF_HALF[(byte / 16) as usize];
         let low = ONES_OF_HALF[(byte % 16) as usize];
         let count = u32::from(high) + u32::from(low);
-        assert!(rt; Bits::count_ones(&byte) == count && Bits::count_ones(&signed) == count);
-        assert!(rt;
+        holds!(rt; Bits::count_ones(&byte) == count && Bits::count_ones(&signed) == count);
+        holds!(rt;
             Bits::count_zeros(&byte) == 8u32.wrapping_sub(count)
                 && Bits::count_zeros(&signed) == 8u32.wrapping_sub(count)
         );
-        assert!(rt; byte.all_zeros() == (byte == 0) && signed.all_zeros() == (byte == 0));
-        assert!(rt; byte.all_ones() == (byte == 255) && signed.all_ones() == (byte == 255));
+        holds!(rt; byte.all_zeros() == (byte == 0) && signed.all_zeros() == (byte == 0));
+        holds!(rt; byte.all_ones() == (byte == 255) && signed.all_ones() == (byte == 255));
         walks::<u8, BigEndian>(&rt, byte, byte);
         walks::<i8, BigEndian>(&rt, signed, byte);
         walks::<u8, LittleEndian>(&rt, byte, byte.reverse_bits());
@@ -62,13 +63,13 @@ fn at_index<T: BitsOwned, E: Endian>(
     requires indexable { IsTrue T.indexable }
     requires within { index < 8 }
 {
-    assert!(rt; word.test_bit_in::<E>(index) == digit && word.test_bit_in::<E>(index + 8) == digit);
+    holds!(rt; word.test_bit_in::<E>(index) == digit && word.test_bit_in::<E>(index + 8) == digit);
     let mut with = word;
     with.set_bit_in::<E>(index);
-    assert!(rt; with == changed.0);
+    holds!(rt; with == changed.0);
     let mut without = word;
     without.clear_bit_in::<E>(index + 16);
-    assert!(rt; without == changed.1);
+    holds!(rt; without == changed.1);
 }
 
 // The searches and the walks of a word whose members in the order are the ones of the byte.
@@ -80,31 +81,31 @@ fn walks<T: Number, E: Endian>(rt: &impl Abort, word: T, members: u8) {
 
 fn searches<T: Number, E: Endian>(rt: &impl Abort, word: T, members: u8) {
     let (least, below_greatest) = (members.trailing_zeros(), members.leading_zeros());
-    assert!(rt; E::zeros(word) == least && E::zeros_rev(word) == below_greatest);
+    holds!(rt; E::zeros(word) == least && E::zeros_rev(word) == below_greatest);
     let (least, below_greatest) = (members.trailing_ones(), members.leading_ones());
-    assert!(rt; E::ones(word) == least && E::ones_rev(word) == below_greatest);
+    holds!(rt; E::ones(word) == least && E::ones_rev(word) == below_greatest);
 }
 
 fn walks_from_the_front<T: Number, E: Endian>(rt: &impl Abort, word: T, members: u8) {
     let (mut ones, mut zeros) = (IterOnes::<T, E>::new(word), IterZeros::<T, E>::new(word));
     for index in 0..8 {
         if (members >> index) % 2 == 1 {
-            assert!(rt; ones.next() == Some(index));
+            holds!(rt; ones.next() == Some(index));
         } else {
-            assert!(rt; zeros.next() == Some(index));
+            holds!(rt; zeros.next() == Some(index));
         }
     }
-    assert!(rt; ones.next().is_none() && zeros.next().is_none());
+    holds!(rt; ones.next().is_none() && zeros.next().is_none());
 }
 
 fn walks_from_the_back<T: Number, E: Endian>(rt: &impl Abort, word: T, members: u8) {
     let (mut ones, mut zeros) = (IterOnes::<T, E>::new(word), IterZeros::<T, E>::new(word));
     for index in (0..8).rev() {
         if (members >> index) % 2 == 1 {
-            assert!(rt; ones.next_back() == Some(index));
+            holds!(rt; ones.next_back() == Some(index));
         } else {
-            assert!(rt; zeros.next_back() == Some(index));
+            holds!(rt; zeros.next_back() == Some(index));
         }
     }
-    assert!(rt; ones.next_back().is_none() && zeros.next_back().is_none());
+    holds!(rt; ones.next_back().is_none() && zeros.next_back().is_none());
 }

@@ -3,6 +3,7 @@
 ghost use Rattle.std.specs.Prelude.{◌<◌};
 ghost use Rattle.bittle_bits.specs.Shapes.{Fits};
 
+use crate::checks::{holds, same};
 use bittle::number::{IterOnes, IterZeros};
 use bittle::{BigEndian, Bits, BitsMut, Endian, LittleEndian};
 use bittle_bits::internal::sealed::Number;
@@ -12,49 +13,49 @@ use std::process::Abort;
 fn single_calls(rt: HostRuntime) {
     let mut byte = 0u8;
     byte.set_bit_in::<LittleEndian>(0);
-    assert_eq!(rt; byte, 128);
+    same!(rt; byte, 128);
 
     let mut signed = 0i8;
     signed.set_bit_le(0);
-    assert_eq!(rt; signed, i8::MIN);
-    assert!(rt; !signed.test_bit_le(1));
+    same!(rt; signed, i8::MIN);
+    holds!(rt; !signed.test_bit_le(1));
 
     let mut word = 0u32;
     word.set_bit(0);
-    assert!(rt; word.test_bit(32));
+    holds!(rt; word.test_bit(32));
 
-    assert_eq!(rt; Bits::count_ones(&-1i16), 16);
-    assert_eq!(rt; Bits::count_zeros(&-2i8), 1);
+    same!(rt; Bits::count_ones(&-1i16), 16);
+    same!(rt; Bits::count_zeros(&-2i8), 1);
 }
 
 #[test]
 fn searches_of_one_word(rt: HostRuntime) {
-    assert_eq!(rt; LittleEndian::mask::<u8>(9), 0x40);
-    assert_eq!(rt; LittleEndian::mask::<i16>(0), -32768);
-    assert_eq!(rt; BigEndian::zeros_rev(0x10u8), 3);
-    assert_eq!(rt; LittleEndian::zeros_rev(0x10u8), 4);
-    assert_eq!(rt; BigEndian::zeros(0u8), 8);
+    same!(rt; LittleEndian::mask::<u8>(9), 0x40);
+    same!(rt; LittleEndian::mask::<i16>(0), -32768);
+    same!(rt; BigEndian::zeros_rev(0x10u8), 3);
+    same!(rt; LittleEndian::zeros_rev(0x10u8), 4);
+    same!(rt; BigEndian::zeros(0u8), 8);
 }
 
 #[test]
 fn steps_of_walks(rt: HostRuntime) {
     let mut members = IterOnes::<i8, LittleEndian>::new(-2);
-    assert_eq!(rt; members.len(), 7);
-    assert_eq!(rt; members.next_back(), Some(6));
-    assert_eq!(rt; members.next(), Some(0));
-    assert_eq!(rt; members.len(), 5);
+    same!(rt; members.len(), 7);
+    same!(rt; members.next_back(), Some(6));
+    same!(rt; members.next(), Some(0));
+    same!(rt; members.len(), 5);
 
     let mut none = IterZeros::<i16, BigEndian>::new(-1);
-    assert_eq!(rt; none.next(), None);
-    assert_eq!(rt; none.next_back(), None);
-    assert_eq!(rt; none.size_hint(), (0, Some(0)));
+    same!(rt; none.next(), None);
+    same!(rt; none.next_back(), None);
+    same!(rt; none.size_hint(), (0, Some(0)));
 
     let mut members = IterOnes::<u8, LittleEndian>::new(0xD0);
-    assert_eq!(rt; members.len(), 3);
-    assert_eq!(rt; members.next_back(), Some(3));
-    assert_eq!(rt; members.size_hint(), (2, Some(2)));
+    same!(rt; members.len(), 3);
+    same!(rt; members.next_back(), Some(3));
+    same!(rt; members.size_hint(), (2, Some(2)));
 
-    assert_eq!(rt; IterZeros::<u8, BigEndian>::new(17).len(), 6);
+    same!(rt; IterZeros::<u8, BigEndian>::new(17).len(), 6);
 }
 
 #[test]
@@ -62,32 +63,32 @@ fn clones_go_on_from_their_source(rt: HostRuntime) {
     let mut source = IterOnes::<u16, BigEndian>::new(0x8421);
     source.next();
     let mut clone = source.clone().unwrap();
-    assert_eq!(rt; source.next_back(), Some(15));
-    assert_eq!(rt; source.len(), 2);
-    assert_eq!(rt; clone.next(), Some(5));
-    assert_eq!(rt; clone.next_back(), Some(15));
+    same!(rt; source.next_back(), Some(15));
+    same!(rt; source.len(), 2);
+    same!(rt; clone.next(), Some(5));
+    same!(rt; clone.next_back(), Some(15));
 
     let mut source = IterZeros::<u16, LittleEndian>::new(0xFFF0);
     source.next();
-    assert!(rt; source.clone().unwrap().eq([13, 14, 15]));
+    holds!(rt; source.clone().unwrap().eq([13, 14, 15]));
 }
 
 #[test]
 fn signed_words_from_the_back(rt: HostRuntime) {
-    assert!(rt;
+    holds!(rt;
         IterOnes::<i8, LittleEndian>::new(-2)
             .rev()
             .eq([6, 5, 4, 3, 2, 1, 0])
     );
-    assert!(rt; IterOnes::<i16, LittleEndian>::new(-32767).rev().eq([15, 0]));
-    assert!(rt; IterZeros::<i32, LittleEndian>::new(-4).rev().eq([31, 30]));
-    assert!(rt;
+    holds!(rt; IterOnes::<i16, LittleEndian>::new(-32767).rev().eq([15, 0]));
+    holds!(rt; IterZeros::<i32, LittleEndian>::new(-4).rev().eq([31, 30]));
+    holds!(rt;
         IterOnes::<i64, LittleEndian>::new(i64::MIN + 3)
             .rev()
             .eq([63, 62, 0])
     );
-    assert!(rt; IterOnes::<i128, LittleEndian>::new(5).rev().eq([127, 125]));
-    assert!(rt;
+    holds!(rt; IterOnes::<i128, LittleEndian>::new(5).rev().eq([127, 125]));
+    holds!(rt;
         IterZeros::<isize, LittleEndian>::new(isize::MAX)
             .rev()
             .eq([0])
@@ -124,8 +125,8 @@ fn at_borders<T: Number + Bits>(rt: &impl Abort, width: u32, none: T, all: T, to
     requires none_fits { Fits T.indexable (T.big none).capacity }
     requires all_fits { Fits T.indexable (T.big all).capacity }
 {
-    assert!(rt; Bits::count_ones(&none) == 0 && Bits::count_ones(&all) == width);
-    assert!(rt; none.all_zeros() && !none.all_ones() && all.all_ones() && !all.all_zeros());
+    holds!(rt; Bits::count_ones(&none) == 0 && Bits::count_ones(&all) == width);
+    holds!(rt; none.all_zeros() && !none.all_ones() && all.all_ones() && !all.all_zeros());
     walks_alone::<T, BigEndian>(rt, all, 0, width);
     walks_alone::<T, LittleEndian>(rt, all, 0, width);
     walks_alone::<T, BigEndian>(rt, none, 0, 0);
@@ -141,10 +142,10 @@ fn walks_alone<T: Number, E: Endian>(rt: &impl Abort, word: T, from: u32, to: u3
     let mut ones = IterOnes::<T, E>::new(word);
     let mut zeros = IterZeros::<T, E>::new(word.not());
     for index in from..to {
-        assert!(rt; ones.next() == Some(index));
+        holds!(rt; ones.next() == Some(index));
     }
     for index in (from..to).rev() {
-        assert!(rt; zeros.next_back() == Some(index));
+        holds!(rt; zeros.next_back() == Some(index));
     }
-    assert!(rt; ones.next().is_none() && zeros.next_back().is_none());
+    holds!(rt; ones.next().is_none() && zeros.next_back().is_none());
 }
