@@ -19,6 +19,8 @@ use std::alloc::AllocError;
 use std::cell::Cell;
 use std::cmp::Ordering;
 
+mod rows;
+
 // Which words were fetched and how often, and how often anything else was asked but the capacity.
 #[derive(Drop)]
 struct Asked {
