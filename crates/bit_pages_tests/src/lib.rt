@@ -3,3 +3,5 @@
 
 #[cfg(test)]
 mod requests;
+#[cfg(test)]
+mod texts;

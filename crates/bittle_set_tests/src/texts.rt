@@ -29,6 +29,16 @@ fn a_text_names_each_member(rt: HostRuntime) -> Result<(), Fail> {
 }
 
 #[test]
+fn a_text_names_members_of_each_length(rt: HostRuntime) -> Result<(), Fail> {
+    let set: Set<[u64; 160]> = set![7, 42, 200, 201, 999, 1_000, 1_234, 9_999, 10_000];
+    same!(rt;
+        format!(in rt.alloc(); "{set:?}")?.as_str(),
+        "{7, 42, 200, 201, 999, 1000, 1234, 9999, 10000}"
+    );
+    Ok(())
+}
+
+#[test]
 fn the_text_of_a_full_set(rt: HostRuntime) -> Result<(), Fail> {
     let mut expected = format!(in rt.alloc(); "{{0")?;
     for index in 1..128u32 {
@@ -76,4 +86,17 @@ fn a_text_that_was_cut_off_is_an_error(rt: HostRuntime) {
         let mut short = Short { left };
         same!(rt; (left, write!(short, "{set:?}").is_err()), (left, true));
     }
+}
+
+#[test]
+fn a_long_text_that_was_cut_off_is_an_error(rt: HostRuntime) {
+    // The two braces, the four members and what stands between them.
+    let set: Set<[u64; 160]> = set![42, 201, 1_000, 10_000];
+    for left in 0..9 {
+        let mut short = Short { left };
+        same!(rt; (left, write!(short, "{set:?}").is_err()), (left, true));
+    }
+    let mut whole = Short { left: 9 };
+    holds!(rt; write!(whole, "{set:?}").is_ok());
+    same!(rt; whole.left, 0);
 }

@@ -3,8 +3,8 @@
 ghost use Rattle.std.specs.Prelude.{◌≡◌, ℕ, ◌-◌, ◌<◌, ◌^◌, ◌==◌, bit_and, bit_or, bit_xor, count_ones};
 ghost use Rattle.std.specs.Int.Count.{count_leading_zeros, count_trailing_zeros};
 
-/// Holds of the types of this project alone, so that a crate which names `bittle` alone can implement
-/// none of the traits above it.
+/// Holds of the types of this project alone, so that a crate which names `bittle` alone can
+/// implement none of the traits above it.
 pub trait Sealed {}
 
 /// A word: one of the twelve integers, with what a processor does to one.

@@ -1,5 +1,5 @@
-//! Laws of the default order, of sets that remember an order, and of their comparison. Each function
-//! does nothing: its contract is the law.
+//! Laws of the default order, of sets that remember an order, and of their comparison. Each
+//! function does nothing: its contract is the law.
 
 ghost use Rattle.std.specs.Prelude.{◌≡◌, false};
 ghost use Rattle.bittle.specs.ComparisonLaws.{OrderIsTotal, OrderAgreesWithEquality, OrderReverses, EqualityIsSymmetric, EqualSetsFeedAlike};

@@ -3,6 +3,6 @@
 pub use crate::internal::ghost_count::{Count, Counted};
 pub use bittle_words::sealed::Number;
 
-/// Holds of the types of this project alone, so that a crate which names `bittle` alone can implement
-/// none of the traits above it.
+/// Holds of the types of this project alone, so that a crate which names `bittle` alone can
+/// implement none of the traits above it.
 pub trait Sealed {}

@@ -6,7 +6,8 @@ use Rattle.bittle.specs.DebugText.{index_text}
 use Rattle.bittle.proofs.set.debug.SetDebug.fmt.Invariants.{others_text, rest_text}
 use Rattle.bittle.proofs.set.debug.SetDebug.fmt.Goals as goal
 
-rest_text-next : (first : Bool) (i : ℕ) (left : List ℕ) → rest_text first (i ∷ left) ≡ index_text first i ++ others_text left
+rest_text-next : (first : Bool) (i : ℕ) (left : List ℕ) →
+    rest_text first (i ∷ left) ≡ index_text first i ++ others_text left
 rest_text-next true i left = refl
 rest_text-next false i left = refl
 

@@ -1,0 +1,29 @@
+//! The text of an error.
+
+use bit_pages::NotTaken;
+use std::fmt;
+use std::fmt::Write;
+
+// Takes some texts, and then fails.
+#[derive(Drop)]
+struct Short {
+    left: u32,
+}
+
+impl Write for Short {
+    fn write_str(&mut self, _text: &str) -> fmt::Result {
+        if self.left == 0 {
+            return Err(fmt::Error);
+        }
+        self.left -= 1;
+        Ok(())
+    }
+}
+
+#[test]
+fn a_text_that_was_cut_off_is_an_error(rt: HostRuntime) {
+    let mut short = Short { left: 0 };
+    assert!(rt; write!(short, "{NotTaken}").is_err());
+    let mut whole = Short { left: 1 };
+    assert!(rt; write!(whole, "{NotTaken}").is_ok());
+}
