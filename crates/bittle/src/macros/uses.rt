@@ -1,7 +1,7 @@
 //! Uses of each macro, on any type: the check refuses a macro that lists otherwise.
 //!
-//! Each kind of item stands before another, beside one of its own, first and last, and ranges begin
-//! at 0, in the first word and past it.
+//! Each kind of item stands before another, names and ranges beside one of their own, first and
+//! last, and ranges begin at 0, in the first word and past it.
 
 ghost use Rattle.std.specs.Prelude.{◌≡◌, IsTrue};
 ghost use Rattle.bittle_bits.specs.Orders.{members};
