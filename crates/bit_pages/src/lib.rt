@@ -69,7 +69,7 @@ impl<B: BitsOwned> Pages<B> {
     /// tells. With capacity 0 it has no page.
     pub fn new() -> Pages<B>
         requires { Fits B.indexable B.type_capacity }
-        ensures { set_in B.Bits B.Order.Endian result.map ≡ empty_set B.type_capacity }
+        ensures { set_in B.Shape B.Order.Endian result.map ≡ empty_set B.type_capacity }
     {
         Pages { map: B::zeros() }
     }
@@ -77,9 +77,9 @@ impl<B: BitsOwned> Pages<B> {
     /// Takes the least page that is free, or changes nothing and returns `None` where all are
     /// taken, as with capacity 0.
     pub fn take(&mut self) -> Option<u32>
-        ensures page { result ≡ least_free (set_in B.Bits B.Order.Endian self.old.map) }
-        ensures pages { set_in B.Bits B.Order.Endian self.new.map
-            ≡ state_after (set_in B.Bits B.Order.Endian self.old.map) Request.Take }
+        ensures page { result ≡ least_free (set_in B.Shape B.Order.Endian self.old.map) }
+        ensures pages { set_in B.Shape B.Order.Endian self.new.map
+            ≡ state_after (set_in B.Shape B.Order.Endian self.old.map) Request.Take }
     {
         let page = self.map.iter_zeros().next()?;
         self.map.set_bit(page);
@@ -90,9 +90,9 @@ impl<B: BitsOwned> Pages<B> {
     /// page is no page, and does not wrap.
     pub fn give_back(&mut self, page: u32) -> Result<(), NotTaken>
         ensures taken { IsOk result
-            ↔ IsTrue (is_taken (set_in B.Bits B.Order.Endian self.old.map) page) }
-        ensures pages { set_in B.Bits B.Order.Endian self.new.map
-            ≡ state_after (set_in B.Bits B.Order.Endian self.old.map) (Request.GiveBack page) }
+            ↔ IsTrue (is_taken (set_in B.Shape B.Order.Endian self.old.map) page) }
+        ensures pages { set_in B.Shape B.Order.Endian self.new.map
+            ≡ state_after (set_in B.Shape B.Order.Endian self.old.map) (Request.GiveBack page) }
     {
         if !self.is_taken(page) {
             return Err(NotTaken);
@@ -103,7 +103,7 @@ impl<B: BitsOwned> Pages<B> {
 
     /// Returns how many pages are taken.
     pub fn taken(&self) -> u32
-        ensures { result ≡ size (set_in B.Bits B.Order.Endian self.now.map) }
+        ensures { result ≡ size (set_in B.Shape B.Order.Endian self.now.map) }
     {
         self.map.count_ones()
     }
@@ -111,8 +111,8 @@ impl<B: BitsOwned> Pages<B> {
     /// Returns whether both have the same pages taken. One may have more pages than the other.
     pub fn same_pages<C: BitsOwned>(&self, other: &Pages<C>) -> bool
         ensures { IsTrue result ↔ AreSame
-            (set_in B.Bits B.Order.Endian self.now.map)
-            (set_in C.Bits C.Order.Endian other.now.map) }
+            (set_in B.Shape B.Order.Endian self.now.map)
+            (set_in C.Shape C.Order.Endian other.now.map) }
     {
         Set::<B, B::Order>::new_in(self.map).eq_bits(&other.map)
     }
@@ -120,16 +120,16 @@ impl<B: BitsOwned> Pages<B> {
     // Returns whether the number is a page, and taken. The map would take a number past the last
     // page for another.
     fn is_taken(&self, page: u32) -> bool
-        ensures { result ≡ is_taken (set_in B.Bits B.Order.Endian self.now.map) page }
+        ensures { result ≡ is_taken (set_in B.Shape B.Order.Endian self.now.map) page }
     {
         page < B::bits() && self.map.test_bit(page)
     }
 
     // Answers one request.
     fn answer(&mut self, request: Request) -> Answer
-        ensures answer { result ≡ answer_to (set_in B.Bits B.Order.Endian self.old.map) request }
-        ensures pages { set_in B.Bits B.Order.Endian self.new.map
-            ≡ state_after (set_in B.Bits B.Order.Endian self.old.map) request }
+        ensures answer { result ≡ answer_to (set_in B.Shape B.Order.Endian self.old.map) request }
+        ensures pages { set_in B.Shape B.Order.Endian self.new.map
+            ≡ state_after (set_in B.Shape B.Order.Endian self.old.map) request }
     {
         match request {
             Request::Take => match self.take() {
@@ -148,9 +148,9 @@ impl<B: BitsOwned> Pages<B> {
     pub fn serve(&mut self, requests: &[Request], answers: &mut [Answer])
         requires { length answers.old ≡ length requests.now }
         ensures answers { answers.new
-            ≡ request_answers (set_in B.Bits B.Order.Endian self.old.map) requests.now }
-        ensures pages { set_in B.Bits B.Order.Endian self.new.map
-            ≡ final_state (set_in B.Bits B.Order.Endian self.old.map) requests.now }
+            ≡ request_answers (set_in B.Shape B.Order.Endian self.old.map) requests.now }
+        ensures pages { set_in B.Shape B.Order.Endian self.new.map
+            ≡ final_state (set_in B.Shape B.Order.Endian self.old.map) requests.now }
     {
         for i in 0..requests.len() {
             answers[i] = self.answer(requests[i]);

@@ -111,9 +111,9 @@ macro_rules! put_listed {
 /// range with capacity 0.
 #[inline]
 pub fn put_until<B: BitsMut>(bits: &mut B, from: u32, to: u32)
-    requires { ShapeFits B.Bits bits.old }
-    ensures set { set_in B.Bits B.Order.Endian bits.new
-        ≡ with_range (set_in B.Bits B.Order.Endian bits.old) from to }
+    requires { ShapeFits B.Shape bits.old }
+    ensures set { set_in B.Shape B.Order.Endian bits.new
+        ≡ with_range (set_in B.Shape B.Order.Endian bits.old) from to }
     ensures stays { B.loan bits.old ≡ B.loan bits.new }
 {
     put_until_in::<B, B::Order>(bits, from, to);
@@ -122,9 +122,9 @@ pub fn put_until<B: BitsMut>(bits: &mut B, from: u32, to: u32)
 /// Sets the bits as [`put_until`] does, in the order `E`.
 #[inline]
 pub fn put_until_in<B: BitsMut, E: Endian>(bits: &mut B, from: u32, to: u32)
-    requires { ShapeFits B.Bits bits.old }
-    ensures set { set_in B.Bits E.Endian bits.new
-        ≡ with_range (set_in B.Bits E.Endian bits.old) from to }
+    requires { ShapeFits B.Shape bits.old }
+    ensures set { set_in B.Shape E.Endian bits.new
+        ≡ with_range (set_in B.Shape E.Endian bits.old) from to }
     ensures stays { B.loan bits.old ≡ B.loan bits.new }
 {
     if from < to {
@@ -138,9 +138,9 @@ pub fn put_until_in<B: BitsMut, E: Endian>(bits: &mut B, from: u32, to: u32)
 /// range with capacity 0.
 #[inline]
 pub fn put_through<B: BitsMut>(bits: &mut B, from: u32, to: u32)
-    requires { ShapeFits B.Bits bits.old }
-    ensures set { set_in B.Bits B.Order.Endian bits.new
-        ≡ with_range (set_in B.Bits B.Order.Endian bits.old) from (to + 1) }
+    requires { ShapeFits B.Shape bits.old }
+    ensures set { set_in B.Shape B.Order.Endian bits.new
+        ≡ with_range (set_in B.Shape B.Order.Endian bits.old) from (to + 1) }
     ensures stays { B.loan bits.old ≡ B.loan bits.new }
 {
     put_through_in::<B, B::Order>(bits, from, to);
@@ -148,9 +148,9 @@ pub fn put_through<B: BitsMut>(bits: &mut B, from: u32, to: u32)
 
 /// Sets the bits as [`put_through`] does, in the order `E`.
 pub fn put_through_in<B: BitsMut, E: Endian>(bits: &mut B, from: u32, to: u32)
-    requires { ShapeFits B.Bits bits.old }
-    ensures set { set_in B.Bits E.Endian bits.new
-        ≡ with_range (set_in B.Bits E.Endian bits.old) from (to + 1) }
+    requires { ShapeFits B.Shape bits.old }
+    ensures set { set_in B.Shape E.Endian bits.new
+        ≡ with_range (set_in B.Shape E.Endian bits.old) from (to + 1) }
     ensures stays { B.loan bits.old ≡ B.loan bits.new }
 {
     if to < from {

@@ -2,13 +2,14 @@
 
 ghost use Rattle.std.specs.Prelude.{◌≡◌, ◌*◌, ◌<◌, length, IsTrue};
 ghost use Rattle.bittle_bits.specs.Shapes.{Fits};
+ghost use Rattle.bittle_bits.specs.Values.{ShapeFits};
 ghost use Rattle.bittle.specs.EqualityProof.{equal_sets};
 
 use bittle_bits::bits::Bits;
 use bittle_bits::bits_mut::BitsMut;
 use bittle_bits::bits_owned::BitsOwned;
 use bittle_bits::endian::{DefaultEndian, Endian, LittleEndian};
-use bittle_bits::internal::sealed::Sealed;
+use bittle_bits::internal::shape::Shape;
 use bittle_bits::operation::Operation;
 use std::alloc::AllocError;
 use std::marker::PhantomData;
@@ -51,7 +52,7 @@ mod operators;
 pub struct Set<T: Bits, E: Endian = DefaultEndian> {
     bits: T,
     order: PhantomData<E>,
-    pub ghost fits: { Fits T.indexable (T.big bits).capacity },
+    pub ghost fits: { ShapeFits T.Shape bits },
 }
 
 impl<T: Bits> Set<T> {
@@ -62,7 +63,7 @@ impl<T: Bits> Set<T> {
     /// ```
     #[inline]
     pub fn new(bits: T) -> Set<T>
-        requires { Fits T.indexable (T.big bits).capacity }
+        requires { ShapeFits T.Shape bits }
         ensures { result.bits ≡ bits }
     {
         Set::<T>::new_in(bits)
@@ -77,7 +78,7 @@ impl<T: Bits> Set<T, LittleEndian> {
     /// ```
     #[inline]
     pub fn new_le(bits: T) -> Set<T, LittleEndian>
-        requires { Fits T.indexable (T.big bits).capacity }
+        requires { ShapeFits T.Shape bits }
         ensures { result.bits ≡ bits }
     {
         Set::<T, LittleEndian>::new_in(bits)
@@ -92,7 +93,7 @@ impl<T: Bits, E: Endian> Set<T, E> {
     /// ```
     #[inline]
     pub fn new_in(bits: T) -> Set<T, E>
-        requires { Fits T.indexable (T.big bits).capacity }
+        requires { ShapeFits T.Shape bits }
         ensures { result.bits ≡ bits }
     {
         Set {
@@ -109,7 +110,7 @@ impl<T: Bits, E: Endian> Set<T, E> {
     #[inline]
     pub fn into_bits(self) -> T
         ensures value { result ≡ self.bits }
-        ensures fits { Fits T.indexable (T.big result).capacity }
+        ensures fits { ShapeFits T.Shape result }
     {
         self.bits
     }
@@ -199,18 +200,18 @@ impl<T: Bits + Copy, E: Endian> Clone for Set<T, E> {
 
 impl<T: Bits + Copy, E: Endian> Copy for Set<T, E> {}
 
-impl<T: Bits, E: Endian> Sealed for Set<T, E> {}
-
-impl<T: Bits, U: Endian> Bits for Set<T, U> {
-    type Order = U;
-
-    type LeafWord = T::LeafWord;
-
+impl<T: Bits, E: Endian> Shape for Set<T, E> {
     ghost width = { T.width };
 
     ghost indexable = { T.indexable };
 
     ghost big = { λ s. T.big s.bits };
+}
+
+impl<T: Bits, U: Endian> Bits for Set<T, U> {
+    type Order = U;
+
+    type LeafWord = T::LeafWord;
 
     ghost leaf_width = { T.leaf_width };
 

@@ -1,14 +1,19 @@
--- What a value of a type with the traits stands for.
+-- What a value stands for.
+use Rattle.std.specs.Prelude.{Bool}
 use Rattle.bittle_bits.specs.Orders.{members}
 use Rattle.bittle_bits.specs.PlainSet.{PlainSet}
 use Rattle.bittle_bits.specs.Shapes.{Fits}
-use Rattle.bittle_bits.specs.declared.bits.Bits as bits
+use Rattle.bittle_bits.specs.declared.internal.shape.Shape as shape
 use Rattle.bittle_words.specs.declared.endian.Endian as endian
 
 -- the set of a value, read in an order
-abbrev pub set_in : {V O W E : Type 0} → bits.Ghosts V O W → endian.Ghosts E → V → PlainSet
+abbrev pub set_in : {V E : Type 0} → shape.Ghosts V → endian.Ghosts E → V → PlainSet
 set_in b e v = members e.mirrored b.width (b.big v)
 
+-- the set of a value, mirrored within each word or not
+abbrev pub set_mirrored : {V : Type 0} → shape.Ghosts V → Bool → V → PlainSet
+set_mirrored b mirrored v = members mirrored b.width (b.big v)
+
 -- the shape of a value fits
-abbrev pub ShapeFits : {V O W : Type 0} → bits.Ghosts V O W → V → Type 0
+abbrev pub ShapeFits : {V : Type 0} → shape.Ghosts V → V → Type 0
 ShapeFits b v = Fits b.indexable (b.big v).capacity

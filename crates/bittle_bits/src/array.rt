@@ -11,10 +11,16 @@ use crate::bits_mut::BitsMut;
 use crate::bits_owned::BitsOwned;
 use crate::endian::{DefaultEndian, Endian};
 use crate::internal::row;
-use crate::internal::sealed::Sealed;
+use crate::internal::shape::Shape;
 use crate::operation::Operation;
 
-impl<T: BitsOwned, const N: usize> Sealed for [T; N] {}
+impl<T: BitsOwned, const N: usize> Shape for [T; N] {
+    ghost width = { T.width };
+
+    ghost indexable = { T.indexable && nat_lt (N * T.type_capacity) 4294967295 };
+
+    ghost big = { λ v. elements_set N T.type_capacity T.big v };
+}
 
 // The operation on two arrays. A short one is copied first: the copy lies elsewhere for certain, so
 // that the machine goes over several words at once.
@@ -38,12 +44,6 @@ impl<T: BitsOwned, const N: usize> Bits for [T; N] {
     type Order = DefaultEndian;
 
     type LeafWord = T::LeafWord;
-
-    ghost width = { T.width };
-
-    ghost indexable = { T.indexable && nat_lt (N * T.type_capacity) 4294967295 };
-
-    ghost big = { λ v. elements_set N T.type_capacity T.big v };
 
     ghost leaf_width = { T.leaf_width };
 

@@ -3,18 +3,18 @@
 ghost use Rattle.std.specs.Prelude.{◌≡◌, ◌==◌, ℕ, ◌*◌, ◌-◌, ◌/◌, ◌<◌, ◌≤◌, Bool, false, IsTrue};
 ghost use Rattle.bittle_bits.specs.Digits.{digit_set};
 ghost use Rattle.bittle_bits.specs.Join.{AnswersItemsAtMembers, EndsAfterMembers};
-ghost use Rattle.bittle_bits.specs.Orders.{members};
-ghost use Rattle.bittle_bits.specs.PlainSet.{PlainSet, contains, size, ascending, complement};
+ghost use Rattle.bittle_bits.specs.PlainSet.{contains, size, ascending, complement};
 ghost use Rattle.bittle_bits.specs.Searches.{IsFirstIn, IsLastIn};
-ghost use Rattle.bittle_bits.specs.Shapes.{Fits};
+ghost use Rattle.bittle_bits.specs.Values.{set_in, set_mirrored, ShapeFits};
 ghost use Rattle.bittle_bits.specs.Walk.{AreBelow, IsFresh};
 ghost use Rattle.bittle_bits.specs.Words.{word_of};
 
 use crate::endian::{BigEndian, DefaultEndian, Endian, LittleEndian};
 use crate::internal::kind::{Ones, Zeros};
 use crate::internal::look::Source;
-use crate::internal::sealed::{Number, Sealed};
+use crate::internal::sealed::Number;
 use crate::internal::search;
+use crate::internal::shape::Shape;
 use crate::join::JoinOnes;
 use crate::walk::{Iter, IterOnes, IterZeros};
 
@@ -27,7 +27,7 @@ use crate::walk::{Iter, IterOnes, IterZeros};
 /// A shape *fits* if its capacity, and that of each array type within it, is below `u32::MAX`;
 /// `bits_capacity() < u32::MAX` tells. Calls that count, iterate, join or search ask for that. A
 /// call on one index asks of a slice only that its element type fits, so it works at any length.
-pub trait Bits: Drop + Sealed {
+pub trait Bits: Drop + Shape {
     /// The order of the calls that name none: [`DefaultEndian`], but of a `Set` the one it
     /// remembers.
     type Order: Endian;
@@ -36,23 +36,14 @@ pub trait Bits: Drop + Sealed {
     #[doc(hidden)]
     type LeafWord: Number;
 
-    // The digits of each word.
-    ghost width: { ℕ };
-
-    // Whether the elements of the shape fit, so that an index finds its element.
-    ghost indexable: { Bool };
-
-    // The set in big-endian order.
-    ghost big: { Self → PlainSet };
-
     /// Returns how many bits the set has, or `u32::MAX` if its shape does not fit. Always callable.
     ///
     /// ```
     /// [0u16; 2].bits_capacity();                          // 32
     /// ```
     fn bits_capacity(&self) -> u32
-        ensures value { Fits indexable (big self.now).capacity → result ≡ (big self.now).capacity }
-        ensures fits { result < 4294967295 → Fits indexable (big self.now).capacity };
+        ensures value { ShapeFits Self.Shape self.now → result ≡ (Self.big self.now).capacity }
+        ensures fits { result < 4294967295 → ShapeFits Self.Shape self.now };
 
     /// Returns how many bits are set, the same in both orders. The shape has to fit. With capacity
     /// 0 it returns 0.
@@ -61,11 +52,11 @@ pub trait Bits: Drop + Sealed {
     /// [0b0001_0000u8, 0b0100_1000].count_ones();          // 3
     /// ```
     fn count_ones(&self) -> u32
-        requires { Fits indexable (big self.now).capacity }
-        ensures value { result ≡ size (big self.now) }
+        requires { ShapeFits Self.Shape self.now }
+        ensures value { result ≡ size (Self.big self.now) }
         ensures in_each_order { (mirrored : Bool) →
-            result ≡ size (members mirrored width (big self.now)) }
-        ensures at_most { result ≤ (big self.now).capacity };
+            result ≡ size (set_mirrored Self.Shape mirrored self.now) }
+        ensures at_most { result ≤ (Self.big self.now).capacity };
 
     /// Returns how many bits are unset, the same in both orders. The shape has to fit. With
     /// capacity 0 it returns 0.
@@ -75,10 +66,10 @@ pub trait Bits: Drop + Sealed {
     /// ```
     #[inline]
     final fn count_zeros(&self) -> u32
-        requires { Fits indexable (big self.now).capacity }
-        ensures value { result ≡ (big self.now).capacity - size (big self.now) }
-        ensures in_each_order { (mirrored : Bool) →
-            result ≡ (big self.now).capacity - size (members mirrored width (big self.now)) }
+        requires { ShapeFits Self.Shape self.now }
+        ensures value { result ≡ (Self.big self.now).capacity - size (Self.big self.now) }
+        ensures in_each_order { (mirrored : Bool) → result
+            ≡ (Self.big self.now).capacity - size (set_mirrored Self.Shape mirrored self.now) }
     {
         self.bits_capacity() - self.count_ones()
     }
@@ -89,9 +80,9 @@ pub trait Bits: Drop + Sealed {
     /// [0u8; 4].all_zeros();                               // true
     /// ```
     fn all_zeros(&self) -> bool
-        ensures value { result ≡ (size (big self.now) == 0) }
+        ensures value { result ≡ (size (Self.big self.now) == 0) }
         ensures in_each_order { (mirrored : Bool) →
-            result ≡ (size (members mirrored width (big self.now)) == 0) };
+            result ≡ (size (set_mirrored Self.Shape mirrored self.now) == 0) };
 
     /// Returns `true` if each bit is set, also with capacity 0. Always callable.
     ///
@@ -99,9 +90,9 @@ pub trait Bits: Drop + Sealed {
     /// [255u8; 4].all_ones();                              // true
     /// ```
     fn all_ones(&self) -> bool
-        ensures value { result ≡ (size (big self.now) == (big self.now).capacity) }
-        ensures in_each_order { (mirrored : Bool) →
-            result ≡ (size (members mirrored width (big self.now)) == (big self.now).capacity) };
+        ensures value { result ≡ (size (Self.big self.now) == (Self.big self.now).capacity) }
+        ensures in_each_order { (mirrored : Bool) → result
+            ≡ (size (set_mirrored Self.Shape mirrored self.now) == (Self.big self.now).capacity) };
 
     /// Returns `true` if the bit at `index` is set, in the order `E`. An index past the capacity
     /// wraps. With capacity 0 it returns `false`.
@@ -112,15 +103,16 @@ pub trait Bits: Drop + Sealed {
     /// 0b1000_0000u8.test_bit_in::<LittleEndian>(0);       // true
     /// ```
     fn test_bit_in<E: Endian>(&self, index: u32) -> bool
-        requires { IsTrue indexable }
-        ensures { result ≡ contains (members E.mirrored width (big self.now)) index };
+        requires { IsTrue Self.indexable }
+        ensures { result ≡ contains (set_in Self.Shape E.Endian self.now) index };
 
     /// Returns word `k` of the set: its bits are those from `k` times the width on.
     #[doc(hidden)]
     fn leaf_word(&self, k: u32) -> Self::LeafWord
-        requires fits { Fits indexable (big self.now).capacity }
-        requires within { k * width < (big self.now).capacity }
-        ensures { digit_set width (Self.LeafWord.digits result) ≡ word_of width (big self.now) k };
+        requires fits { ShapeFits Self.Shape self.now }
+        requires within { k * Self.width < (Self.big self.now).capacity }
+        ensures { digit_set Self.width (Self.LeafWord.digits result)
+            ≡ word_of Self.width (Self.big self.now) k };
 
     /// Tests a bit in the order of the type, as [`test_bit_in`](Bits::test_bit_in) does.
     ///
@@ -130,8 +122,8 @@ pub trait Bits: Drop + Sealed {
     /// ```
     #[inline]
     final fn test_bit(&self, index: u32) -> bool
-        requires { IsTrue indexable }
-        ensures { result ≡ contains (members Self.Order.mirrored width (big self.now)) index }
+        requires { IsTrue Self.indexable }
+        ensures { result ≡ contains (set_in Self.Shape Self.Order.Endian self.now) index }
     {
         self.test_bit_in::<Self::Order>(index)
     }
@@ -143,9 +135,8 @@ pub trait Bits: Drop + Sealed {
     /// ```
     #[inline]
     final fn test_bit_le(&self, index: u32) -> bool
-        requires { IsTrue indexable }
-        ensures { result
-            ≡ contains (members ⟦<LittleEndian as Endian>⟧.mirrored width (big self.now)) index }
+        requires { IsTrue Self.indexable }
+        ensures { result ≡ contains (set_in Self.Shape ⟦<LittleEndian as Endian>⟧ self.now) index }
     {
         self.test_bit_in::<LittleEndian>(index)
     }
@@ -157,9 +148,8 @@ pub trait Bits: Drop + Sealed {
     /// ```
     #[inline]
     final fn test_bit_be(&self, index: u32) -> bool
-        requires { IsTrue indexable }
-        ensures { result
-            ≡ contains (members ⟦<BigEndian as Endian>⟧.mirrored width (big self.now)) index }
+        requires { IsTrue Self.indexable }
+        ensures { result ≡ contains (set_in Self.Shape ⟦<BigEndian as Endian>⟧ self.now) index }
     {
         self.test_bit_in::<BigEndian>(index)
     }
@@ -177,10 +167,10 @@ pub trait Bits: Drop + Sealed {
     final fn first_one_in<E: Endian>(&self, from: u32, to: u32) -> Option<u32>
     where
         Self: Sized,
-        requires fits { Fits indexable (big self.now).capacity }
+        requires fits { ShapeFits Self.Shape self.now }
         requires ordered { from ≤ to }
-        requires within { to ≤ (big self.now).capacity }
-        ensures { IsFirstIn (members E.mirrored width (big self.now)) from to result }
+        requires within { to ≤ (Self.big self.now).capacity }
+        ensures { IsFirstIn (set_in Self.Shape E.Endian self.now) from to result }
     {
         search::first_in::<Self, E, Ones>(self, from, to)
     }
@@ -198,10 +188,10 @@ pub trait Bits: Drop + Sealed {
     final fn first_zero_in<E: Endian>(&self, from: u32, to: u32) -> Option<u32>
     where
         Self: Sized,
-        requires fits { Fits indexable (big self.now).capacity }
+        requires fits { ShapeFits Self.Shape self.now }
         requires ordered { from ≤ to }
-        requires within { to ≤ (big self.now).capacity }
-        ensures { IsFirstIn (complement (members E.mirrored width (big self.now))) from to result }
+        requires within { to ≤ (Self.big self.now).capacity }
+        ensures { IsFirstIn (complement (set_in Self.Shape E.Endian self.now)) from to result }
     {
         search::first_in::<Self, E, Zeros>(self, from, to)
     }
@@ -219,10 +209,10 @@ pub trait Bits: Drop + Sealed {
     final fn last_one_in<E: Endian>(&self, from: u32, to: u32) -> Option<u32>
     where
         Self: Sized,
-        requires fits { Fits indexable (big self.now).capacity }
+        requires fits { ShapeFits Self.Shape self.now }
         requires ordered { from ≤ to }
-        requires within { to ≤ (big self.now).capacity }
-        ensures { IsLastIn (members E.mirrored width (big self.now)) from to result }
+        requires within { to ≤ (Self.big self.now).capacity }
+        ensures { IsLastIn (set_in Self.Shape E.Endian self.now) from to result }
     {
         search::last_in::<Self, E, Ones>(self, from, to)
     }
@@ -240,10 +230,10 @@ pub trait Bits: Drop + Sealed {
     final fn last_zero_in<E: Endian>(&self, from: u32, to: u32) -> Option<u32>
     where
         Self: Sized,
-        requires fits { Fits indexable (big self.now).capacity }
+        requires fits { ShapeFits Self.Shape self.now }
         requires ordered { from ≤ to }
-        requires within { to ≤ (big self.now).capacity }
-        ensures { IsLastIn (complement (members E.mirrored width (big self.now))) from to result }
+        requires within { to ≤ (Self.big self.now).capacity }
+        ensures { IsLastIn (complement (set_in Self.Shape E.Endian self.now)) from to result }
     {
         search::last_in::<Self, E, Zeros>(self, from, to)
     }
@@ -261,10 +251,10 @@ pub trait Bits: Drop + Sealed {
     final fn iter_ones_in<E: Endian>(&self) -> IterOnes<'_, Self, E>
     where
         Self: Sized,
-        requires { Fits indexable (big self.now).capacity }
-        ensures left { result.left ≡ ascending (members E.mirrored width (big self.now)) }
-        ensures fresh { IsFresh ((big self.now).capacity / width) result }
-        ensures below { AreBelow (big self.now).capacity result.left }
+        requires { ShapeFits Self.Shape self.now }
+        ensures left { result.left ≡ ascending (set_in Self.Shape E.Endian self.now) }
+        ensures fresh { IsFresh ((Self.big self.now).capacity / Self.width) result }
+        ensures below { AreBelow (Self.big self.now).capacity result.left }
     {
         Iter::new(Source::new(self))
     }
@@ -282,11 +272,10 @@ pub trait Bits: Drop + Sealed {
     final fn iter_zeros_in<E: Endian>(&self) -> IterZeros<'_, Self, E>
     where
         Self: Sized,
-        requires { Fits indexable (big self.now).capacity }
-        ensures left { result.left
-            ≡ ascending (complement (members E.mirrored width (big self.now))) }
-        ensures fresh { IsFresh ((big self.now).capacity / width) result }
-        ensures below { AreBelow (big self.now).capacity result.left }
+        requires { ShapeFits Self.Shape self.now }
+        ensures left { result.left ≡ ascending (complement (set_in Self.Shape E.Endian self.now)) }
+        ensures fresh { IsFresh ((Self.big self.now).capacity / Self.width) result }
+        ensures below { AreBelow (Self.big self.now).capacity result.left }
     {
         Iter::new(Source::new(self))
     }
@@ -302,10 +291,10 @@ pub trait Bits: Drop + Sealed {
     final fn iter_ones(&self) -> IterOnes<'_, Self, Self::Order>
     where
         Self: Sized,
-        requires { Fits indexable (big self.now).capacity }
-        ensures left { result.left ≡ ascending (members Self.Order.mirrored width (big self.now)) }
-        ensures fresh { IsFresh ((big self.now).capacity / width) result }
-        ensures below { AreBelow (big self.now).capacity result.left }
+        requires { ShapeFits Self.Shape self.now }
+        ensures left { result.left ≡ ascending (set_in Self.Shape Self.Order.Endian self.now) }
+        ensures fresh { IsFresh ((Self.big self.now).capacity / Self.width) result }
+        ensures below { AreBelow (Self.big self.now).capacity result.left }
     {
         self.iter_ones_in::<Self::Order>()
     }
@@ -320,11 +309,11 @@ pub trait Bits: Drop + Sealed {
     final fn iter_ones_le(&self) -> IterOnes<'_, Self, LittleEndian>
     where
         Self: Sized,
-        requires { Fits indexable (big self.now).capacity }
+        requires { ShapeFits Self.Shape self.now }
         ensures left { result.left
-            ≡ ascending (members ⟦<LittleEndian as Endian>⟧.mirrored width (big self.now)) }
-        ensures fresh { IsFresh ((big self.now).capacity / width) result }
-        ensures below { AreBelow (big self.now).capacity result.left }
+            ≡ ascending (set_in Self.Shape ⟦<LittleEndian as Endian>⟧ self.now) }
+        ensures fresh { IsFresh ((Self.big self.now).capacity / Self.width) result }
+        ensures below { AreBelow (Self.big self.now).capacity result.left }
     {
         self.iter_ones_in::<LittleEndian>()
     }
@@ -339,11 +328,11 @@ pub trait Bits: Drop + Sealed {
     final fn iter_ones_be(&self) -> IterOnes<'_, Self, BigEndian>
     where
         Self: Sized,
-        requires { Fits indexable (big self.now).capacity }
+        requires { ShapeFits Self.Shape self.now }
         ensures left { result.left
-            ≡ ascending (members ⟦<BigEndian as Endian>⟧.mirrored width (big self.now)) }
-        ensures fresh { IsFresh ((big self.now).capacity / width) result }
-        ensures below { AreBelow (big self.now).capacity result.left }
+            ≡ ascending (set_in Self.Shape ⟦<BigEndian as Endian>⟧ self.now) }
+        ensures fresh { IsFresh ((Self.big self.now).capacity / Self.width) result }
+        ensures below { AreBelow (Self.big self.now).capacity result.left }
     {
         self.iter_ones_in::<BigEndian>()
     }
@@ -358,11 +347,11 @@ pub trait Bits: Drop + Sealed {
     final fn iter_zeros(&self) -> IterZeros<'_, Self, Self::Order>
     where
         Self: Sized,
-        requires { Fits indexable (big self.now).capacity }
+        requires { ShapeFits Self.Shape self.now }
         ensures left { result.left
-            ≡ ascending (complement (members Self.Order.mirrored width (big self.now))) }
-        ensures fresh { IsFresh ((big self.now).capacity / width) result }
-        ensures below { AreBelow (big self.now).capacity result.left }
+            ≡ ascending (complement (set_in Self.Shape Self.Order.Endian self.now)) }
+        ensures fresh { IsFresh ((Self.big self.now).capacity / Self.width) result }
+        ensures below { AreBelow (Self.big self.now).capacity result.left }
     {
         self.iter_zeros_in::<Self::Order>()
     }
@@ -377,12 +366,11 @@ pub trait Bits: Drop + Sealed {
     final fn iter_zeros_le(&self) -> IterZeros<'_, Self, LittleEndian>
     where
         Self: Sized,
-        requires { Fits indexable (big self.now).capacity }
+        requires { ShapeFits Self.Shape self.now }
         ensures left { result.left
-            ≡ ascending (complement
-            (members ⟦<LittleEndian as Endian>⟧.mirrored width (big self.now))) }
-        ensures fresh { IsFresh ((big self.now).capacity / width) result }
-        ensures below { AreBelow (big self.now).capacity result.left }
+            ≡ ascending (complement (set_in Self.Shape ⟦<LittleEndian as Endian>⟧ self.now)) }
+        ensures fresh { IsFresh ((Self.big self.now).capacity / Self.width) result }
+        ensures below { AreBelow (Self.big self.now).capacity result.left }
     {
         self.iter_zeros_in::<LittleEndian>()
     }
@@ -397,12 +385,11 @@ pub trait Bits: Drop + Sealed {
     final fn iter_zeros_be(&self) -> IterZeros<'_, Self, BigEndian>
     where
         Self: Sized,
-        requires { Fits indexable (big self.now).capacity }
+        requires { ShapeFits Self.Shape self.now }
         ensures left { result.left
-            ≡ ascending (complement
-            (members ⟦<BigEndian as Endian>⟧.mirrored width (big self.now))) }
-        ensures fresh { IsFresh ((big self.now).capacity / width) result }
-        ensures below { AreBelow (big self.now).capacity result.left }
+            ≡ ascending (complement (set_in Self.Shape ⟦<BigEndian as Endian>⟧ self.now)) }
+        ensures fresh { IsFresh ((Self.big self.now).capacity / Self.width) result }
+        ensures below { AreBelow (Self.big self.now).capacity result.left }
     {
         self.iter_zeros_in::<BigEndian>()
     }
@@ -424,9 +411,9 @@ pub trait Bits: Drop + Sealed {
     where
         Self: Sized,
         I::Item: Drop,
-        requires { Fits indexable (big self.now).capacity }
-        ensures members { result.mask.left ≡ ascending (members E.mirrored width (big self.now)) }
-        ensures below { AreBelow (big self.now).capacity result.mask.left }
+        requires { ShapeFits Self.Shape self.now }
+        ensures members { result.mask.left ≡ ascending (set_in Self.Shape E.Endian self.now) }
+        ensures below { AreBelow (Self.big self.now).capacity result.mask.left }
         ensures iter { I.into_iter_gives iter result.iter }
         ensures none_taken { result.taken ≡ 0 }
         ensures goes_on { result.ended ≡ false }
@@ -450,10 +437,10 @@ pub trait Bits: Drop + Sealed {
     where
         Self: Sized,
         I::Item: Drop,
-        requires { Fits indexable (big self.now).capacity }
+        requires { ShapeFits Self.Shape self.now }
         ensures members { result.mask.left
-            ≡ ascending (members ⟦<DefaultEndian as Endian>⟧.mirrored width (big self.now)) }
-        ensures below { AreBelow (big self.now).capacity result.mask.left }
+            ≡ ascending (set_in Self.Shape ⟦<DefaultEndian as Endian>⟧ self.now) }
+        ensures below { AreBelow (Self.big self.now).capacity result.mask.left }
         ensures iter { I.into_iter_gives iter result.iter }
         ensures none_taken { result.taken ≡ 0 }
         ensures goes_on { result.ended ≡ false }
@@ -476,10 +463,10 @@ pub trait Bits: Drop + Sealed {
     where
         Self: Sized,
         I::Item: Drop,
-        requires { Fits indexable (big self.now).capacity }
+        requires { ShapeFits Self.Shape self.now }
         ensures members { result.mask.left
-            ≡ ascending (members ⟦<LittleEndian as Endian>⟧.mirrored width (big self.now)) }
-        ensures below { AreBelow (big self.now).capacity result.mask.left }
+            ≡ ascending (set_in Self.Shape ⟦<LittleEndian as Endian>⟧ self.now) }
+        ensures below { AreBelow (Self.big self.now).capacity result.mask.left }
         ensures iter { I.into_iter_gives iter result.iter }
         ensures none_taken { result.taken ≡ 0 }
         ensures goes_on { result.ended ≡ false }
@@ -502,10 +489,10 @@ pub trait Bits: Drop + Sealed {
     where
         Self: Sized,
         I::Item: Drop,
-        requires { Fits indexable (big self.now).capacity }
+        requires { ShapeFits Self.Shape self.now }
         ensures members { result.mask.left
-            ≡ ascending (members ⟦<BigEndian as Endian>⟧.mirrored width (big self.now)) }
-        ensures below { AreBelow (big self.now).capacity result.mask.left }
+            ≡ ascending (set_in Self.Shape ⟦<BigEndian as Endian>⟧ self.now) }
+        ensures below { AreBelow (Self.big self.now).capacity result.mask.left }
         ensures iter { I.into_iter_gives iter result.iter }
         ensures none_taken { result.taken ≡ 0 }
         ensures goes_on { result.ended ≡ false }
@@ -516,14 +503,15 @@ pub trait Bits: Drop + Sealed {
     }
 
     // The integers that the set is made of have the width of its words.
-    ghost leaf_width: { Self.LeafWord.width ≡ width };
+    ghost leaf_width: { Self.LeafWord.width ≡ Self.width };
 
     // A word has a digit.
-    ghost width_positive: { 0 < width };
+    ghost width_positive: { 0 < Self.width };
 
     // The capacity is whole words.
-    ghost whole_words: { (v : Self) → (words : ℕ) × ((big v).capacity ≡ words * width) };
+    ghost whole_words: { (v : Self) → (words : ℕ) × ((Self.big v).capacity ≡ words * Self.width) };
 
     // No number from the capacity on is a member.
-    ghost none_past: { (v : Self) (i : ℕ) → (big v).capacity ≤ i → (big v).has i ≡ false };
+    ghost none_past: { (v : Self) (i : ℕ) → (Self.big v).capacity ≤ i → (Self.big v).has i
+        ≡ false };
 }

@@ -1,10 +1,9 @@
 //! Changing a set.
 
 ghost use Rattle.std.specs.Prelude.{◌≡◌, ◌≤◌, ℕ, Bool, IsTrue};
-ghost use Rattle.bittle_bits.specs.Orders.{members};
 ghost use Rattle.bittle_bits.specs.PlainSet.{with_index, with_span, without_index, without_members};
 ghost use Rattle.bittle_bits.specs.SetOperations.{combination_of, union_of, conjunction_of, difference_of, symmetric_difference_of};
-ghost use Rattle.bittle_bits.specs.Shapes.{Fits};
+ghost use Rattle.bittle_bits.specs.Values.{set_in, set_mirrored, ShapeFits};
 
 use crate::bits::Bits;
 use crate::endian::{BigEndian, Endian, LittleEndian};
@@ -26,8 +25,8 @@ pub trait BitsMut: Bits {
     /// ```
     fn set_bit_in<E: Endian>(&mut self, index: u32)
         requires { IsTrue Self.indexable }
-        ensures set { members E.mirrored Self.width (Self.big self.new)
-            ≡ with_index (members E.mirrored Self.width (Self.big self.old)) index }
+        ensures set { set_in Self.Shape E.Endian self.new
+            ≡ with_index (set_in Self.Shape E.Endian self.old) index }
         ensures stays { loan self.old ≡ loan self.new };
 
     /// Clears the bit at `index` in the order `E`: it is unset then. No other bit changes. An index
@@ -41,8 +40,8 @@ pub trait BitsMut: Bits {
     /// ```
     fn clear_bit_in<E: Endian>(&mut self, index: u32)
         requires { IsTrue Self.indexable }
-        ensures set { members E.mirrored Self.width (Self.big self.new)
-            ≡ without_index (members E.mirrored Self.width (Self.big self.old)) index }
+        ensures set { set_in Self.Shape E.Endian self.new
+            ≡ without_index (set_in Self.Shape E.Endian self.old) index }
         ensures stays { loan self.old ≡ loan self.new };
 
     /// Clears every bit. Always callable.
@@ -59,21 +58,20 @@ pub trait BitsMut: Bits {
     /// changes.
     #[doc(hidden)]
     fn fill_in<E: Endian>(&mut self, from: u32, to: u32)
-        requires fits { Fits Self.indexable (Self.big self.old).capacity }
+        requires fits { ShapeFits Self.Shape self.old }
         requires ordered { from ≤ to }
         requires within { to ≤ (Self.big self.old).capacity }
-        ensures set { members E.mirrored Self.width (Self.big self.new)
-            ≡ with_span (members E.mirrored Self.width (Self.big self.old)) from to }
+        ensures set { set_in Self.Shape E.Endian self.new
+            ≡ with_span (set_in Self.Shape E.Endian self.old) from to }
         ensures stays { loan self.old ≡ loan self.new };
 
     /// Combines the set with another one by an operation. Between two slices of unequal length only
     /// the elements of the common beginning change.
     #[doc(hidden)]
     fn combine<O: Operation>(&mut self, other: &Self)
-        ensures set { (mirrored : Bool) → members mirrored Self.width (Self.big self.new)
-            ≡ combination_of O.decide
-            (members mirrored Self.width (Self.big self.old))
-            (members mirrored Self.width (Self.big other.now)) }
+        ensures set { (mirrored : Bool) → set_mirrored Self.Shape mirrored self.new
+            ≡ combination_of O.decide (set_mirrored Self.Shape mirrored self.old)
+            (set_mirrored Self.Shape mirrored other.now) }
         ensures stays { loan self.old ≡ loan self.new };
 
     /// Sets each bit that is set in `other`. Always callable. Between two slices of unequal length
@@ -85,10 +83,9 @@ pub trait BitsMut: Bits {
     /// ```
     #[inline]
     final fn union_assign(&mut self, other: &Self)
-        ensures union { (mirrored : Bool) → members mirrored Self.width (Self.big self.new)
-            ≡ union_of
-            (members mirrored Self.width (Self.big self.old))
-            (members mirrored Self.width (Self.big other.now)) }
+        ensures union { (mirrored : Bool) → set_mirrored Self.Shape mirrored self.new
+            ≡ union_of (set_mirrored Self.Shape mirrored self.old)
+            (set_mirrored Self.Shape mirrored other.now) }
         ensures stays { loan self.old ≡ loan self.new }
     {
         self.combine::<Union>(other);
@@ -104,10 +101,9 @@ pub trait BitsMut: Bits {
     /// ```
     #[inline]
     final fn conjunction_assign(&mut self, other: &Self)
-        ensures conjunction { (mirrored : Bool) → members mirrored Self.width (Self.big self.new)
-            ≡ conjunction_of
-            (members mirrored Self.width (Self.big self.old))
-            (members mirrored Self.width (Self.big other.now)) }
+        ensures conjunction { (mirrored : Bool) → set_mirrored Self.Shape mirrored self.new
+            ≡ conjunction_of (set_mirrored Self.Shape mirrored self.old)
+            (set_mirrored Self.Shape mirrored other.now) }
         ensures stays { loan self.old ≡ loan self.new }
     {
         self.combine::<Conjunction>(other);
@@ -122,10 +118,9 @@ pub trait BitsMut: Bits {
     /// ```
     #[inline]
     final fn difference_assign(&mut self, other: &Self)
-        ensures difference { (mirrored : Bool) → members mirrored Self.width (Self.big self.new)
-            ≡ difference_of
-            (members mirrored Self.width (Self.big self.old))
-            (members mirrored Self.width (Self.big other.now)) }
+        ensures difference { (mirrored : Bool) → set_mirrored Self.Shape mirrored self.new
+            ≡ difference_of (set_mirrored Self.Shape mirrored self.old)
+            (set_mirrored Self.Shape mirrored other.now) }
         ensures stays { loan self.old ≡ loan self.new }
     {
         self.combine::<Difference>(other);
@@ -140,11 +135,9 @@ pub trait BitsMut: Bits {
     /// ```
     #[inline]
     final fn symmetric_difference_assign(&mut self, other: &Self)
-        ensures symmetric_difference { (mirrored : Bool)
-            → members mirrored Self.width (Self.big self.new)
-            ≡ symmetric_difference_of
-            (members mirrored Self.width (Self.big self.old))
-            (members mirrored Self.width (Self.big other.now)) }
+        ensures symmetric_difference { (mirrored : Bool) → set_mirrored Self.Shape mirrored self.new
+            ≡ symmetric_difference_of (set_mirrored Self.Shape mirrored self.old)
+            (set_mirrored Self.Shape mirrored other.now) }
         ensures stays { loan self.old ≡ loan self.new }
     {
         self.combine::<SymmetricDifference>(other);
@@ -159,8 +152,8 @@ pub trait BitsMut: Bits {
     #[inline]
     final fn set_bit(&mut self, index: u32)
         requires { IsTrue Self.indexable }
-        ensures set { members Self.Order.mirrored Self.width (Self.big self.new)
-            ≡ with_index (members Self.Order.mirrored Self.width (Self.big self.old)) index }
+        ensures set { set_in Self.Shape Self.Order.Endian self.new
+            ≡ with_index (set_in Self.Shape Self.Order.Endian self.old) index }
         ensures stays { loan self.old ≡ loan self.new }
     {
         self.set_bit_in::<Self::Order>(index);
@@ -175,9 +168,8 @@ pub trait BitsMut: Bits {
     #[inline]
     final fn set_bit_le(&mut self, index: u32)
         requires { IsTrue Self.indexable }
-        ensures set { members ⟦<LittleEndian as Endian>⟧.mirrored Self.width (Self.big self.new)
-            ≡ with_index
-            (members ⟦<LittleEndian as Endian>⟧.mirrored Self.width (Self.big self.old)) index }
+        ensures set { set_in Self.Shape ⟦<LittleEndian as Endian>⟧ self.new
+            ≡ with_index (set_in Self.Shape ⟦<LittleEndian as Endian>⟧ self.old) index }
         ensures stays { loan self.old ≡ loan self.new }
     {
         self.set_bit_in::<LittleEndian>(index);
@@ -192,9 +184,8 @@ pub trait BitsMut: Bits {
     #[inline]
     final fn set_bit_be(&mut self, index: u32)
         requires { IsTrue Self.indexable }
-        ensures set { members ⟦<BigEndian as Endian>⟧.mirrored Self.width (Self.big self.new)
-            ≡ with_index
-            (members ⟦<BigEndian as Endian>⟧.mirrored Self.width (Self.big self.old)) index }
+        ensures set { set_in Self.Shape ⟦<BigEndian as Endian>⟧ self.new
+            ≡ with_index (set_in Self.Shape ⟦<BigEndian as Endian>⟧ self.old) index }
         ensures stays { loan self.old ≡ loan self.new }
     {
         self.set_bit_in::<BigEndian>(index);
@@ -209,8 +200,8 @@ pub trait BitsMut: Bits {
     #[inline]
     final fn clear_bit(&mut self, index: u32)
         requires { IsTrue Self.indexable }
-        ensures set { members Self.Order.mirrored Self.width (Self.big self.new)
-            ≡ without_index (members Self.Order.mirrored Self.width (Self.big self.old)) index }
+        ensures set { set_in Self.Shape Self.Order.Endian self.new
+            ≡ without_index (set_in Self.Shape Self.Order.Endian self.old) index }
         ensures stays { loan self.old ≡ loan self.new }
     {
         self.clear_bit_in::<Self::Order>(index);
@@ -225,9 +216,8 @@ pub trait BitsMut: Bits {
     #[inline]
     final fn clear_bit_le(&mut self, index: u32)
         requires { IsTrue Self.indexable }
-        ensures set { members ⟦<LittleEndian as Endian>⟧.mirrored Self.width (Self.big self.new)
-            ≡ without_index
-            (members ⟦<LittleEndian as Endian>⟧.mirrored Self.width (Self.big self.old)) index }
+        ensures set { set_in Self.Shape ⟦<LittleEndian as Endian>⟧ self.new
+            ≡ without_index (set_in Self.Shape ⟦<LittleEndian as Endian>⟧ self.old) index }
         ensures stays { loan self.old ≡ loan self.new }
     {
         self.clear_bit_in::<LittleEndian>(index);
@@ -242,9 +232,8 @@ pub trait BitsMut: Bits {
     #[inline]
     final fn clear_bit_be(&mut self, index: u32)
         requires { IsTrue Self.indexable }
-        ensures set { members ⟦<BigEndian as Endian>⟧.mirrored Self.width (Self.big self.new)
-            ≡ without_index
-            (members ⟦<BigEndian as Endian>⟧.mirrored Self.width (Self.big self.old)) index }
+        ensures set { set_in Self.Shape ⟦<BigEndian as Endian>⟧ self.new
+            ≡ without_index (set_in Self.Shape ⟦<BigEndian as Endian>⟧ self.old) index }
         ensures stays { loan self.old ≡ loan self.new }
     {
         self.clear_bit_in::<BigEndian>(index);

@@ -1,10 +1,10 @@
 //! Sets that are owned.
 
 ghost use Rattle.std.specs.Prelude.{◌≡◌, ℕ, ◌*◌, ◌<◌, Bool, IsTrue, ◌/◌};
-ghost use Rattle.bittle_bits.specs.Orders.{members};
 ghost use Rattle.bittle_bits.specs.PlainSet.{empty_set, full_set, with_index, without_index, ascending, complement};
 ghost use Rattle.bittle_bits.specs.SetOperations.{union_of, conjunction_of, difference_of, symmetric_difference_of};
 ghost use Rattle.bittle_bits.specs.Shapes.{Fits};
+ghost use Rattle.bittle_bits.specs.Values.{set_in, set_mirrored, ShapeFits};
 ghost use Rattle.bittle_bits.specs.Walk.{AreBelow, IsFresh};
 
 use crate::bits_mut::BitsMut;
@@ -36,7 +36,7 @@ pub trait BitsOwned: Copy + Eq + BitsMut {
         requires { IsTrue Self.indexable }
         ensures value { Self.big result ≡ empty_set type_capacity }
         ensures in_each_order { (mirrored : Bool) →
-            members mirrored Self.width (Self.big result) ≡ empty_set type_capacity };
+            set_mirrored Self.Shape mirrored result ≡ empty_set type_capacity };
 
     /// Returns the set in which each bit is set; with capacity 0 it is empty too. The type has to
     /// fit.
@@ -47,10 +47,9 @@ pub trait BitsOwned: Copy + Eq + BitsMut {
     fn ones() -> Self
         requires { IsTrue Self.indexable }
         ensures value { Self.big result ≡ full_set type_capacity }
-        ensures in_own_order { members Self.Order.mirrored Self.width (Self.big result)
-            ≡ full_set type_capacity }
+        ensures in_own_order { set_in Self.Shape Self.Order.Endian result ≡ full_set type_capacity }
         ensures in_each_order { (mirrored : Bool) →
-            members mirrored Self.width (Self.big result) ≡ full_set type_capacity };
+            set_mirrored Self.Shape mirrored result ≡ full_set type_capacity };
 
     /// Returns the set with the bit at `bit` set, in the order `E`. An index past the capacity
     /// wraps. With capacity 0 it returns the set itself. The type has to fit.
@@ -61,8 +60,8 @@ pub trait BitsOwned: Copy + Eq + BitsMut {
     #[inline]
     final fn with_bit_in<E: Endian>(self, bit: u32) -> Self
         requires { IsTrue Self.indexable }
-        ensures { members E.mirrored Self.width (Self.big result)
-            ≡ with_index (members E.mirrored Self.width (Self.big self)) bit }
+        ensures { set_in Self.Shape E.Endian result
+            ≡ with_index (set_in Self.Shape E.Endian self) bit }
     {
         let mut set = self;
         set.set_bit_in::<E>(bit);
@@ -78,8 +77,8 @@ pub trait BitsOwned: Copy + Eq + BitsMut {
     #[inline]
     final fn with_bit(self, bit: u32) -> Self
         requires { IsTrue Self.indexable }
-        ensures { members Self.Order.mirrored Self.width (Self.big result)
-            ≡ with_index (members Self.Order.mirrored Self.width (Self.big self)) bit }
+        ensures { set_in Self.Shape Self.Order.Endian result
+            ≡ with_index (set_in Self.Shape Self.Order.Endian self) bit }
     {
         self.with_bit_in::<Self::Order>(bit)
     }
@@ -93,9 +92,8 @@ pub trait BitsOwned: Copy + Eq + BitsMut {
     #[inline]
     final fn with_bit_le(self, bit: u32) -> Self
         requires { IsTrue Self.indexable }
-        ensures { members ⟦<LittleEndian as Endian>⟧.mirrored Self.width (Self.big result)
-            ≡ with_index (members ⟦<LittleEndian as Endian>⟧.mirrored Self.width (Self.big self))
-            bit }
+        ensures { set_in Self.Shape ⟦<LittleEndian as Endian>⟧ result
+            ≡ with_index (set_in Self.Shape ⟦<LittleEndian as Endian>⟧ self) bit }
     {
         self.with_bit_in::<LittleEndian>(bit)
     }
@@ -109,8 +107,8 @@ pub trait BitsOwned: Copy + Eq + BitsMut {
     #[inline]
     final fn with_bit_be(self, bit: u32) -> Self
         requires { IsTrue Self.indexable }
-        ensures { members ⟦<BigEndian as Endian>⟧.mirrored Self.width (Self.big result)
-            ≡ with_index (members ⟦<BigEndian as Endian>⟧.mirrored Self.width (Self.big self)) bit }
+        ensures { set_in Self.Shape ⟦<BigEndian as Endian>⟧ result
+            ≡ with_index (set_in Self.Shape ⟦<BigEndian as Endian>⟧ self) bit }
     {
         self.with_bit_in::<BigEndian>(bit)
     }
@@ -124,8 +122,8 @@ pub trait BitsOwned: Copy + Eq + BitsMut {
     #[inline]
     final fn without_bit_in<E: Endian>(self, bit: u32) -> Self
         requires { IsTrue Self.indexable }
-        ensures { members E.mirrored Self.width (Self.big result)
-            ≡ without_index (members E.mirrored Self.width (Self.big self)) bit }
+        ensures { set_in Self.Shape E.Endian result
+            ≡ without_index (set_in Self.Shape E.Endian self) bit }
     {
         let mut set = self;
         set.clear_bit_in::<E>(bit);
@@ -141,8 +139,8 @@ pub trait BitsOwned: Copy + Eq + BitsMut {
     #[inline]
     final fn without_bit(self, bit: u32) -> Self
         requires { IsTrue Self.indexable }
-        ensures { members Self.Order.mirrored Self.width (Self.big result)
-            ≡ without_index (members Self.Order.mirrored Self.width (Self.big self)) bit }
+        ensures { set_in Self.Shape Self.Order.Endian result
+            ≡ without_index (set_in Self.Shape Self.Order.Endian self) bit }
     {
         self.without_bit_in::<Self::Order>(bit)
     }
@@ -156,9 +154,8 @@ pub trait BitsOwned: Copy + Eq + BitsMut {
     #[inline]
     final fn without_bit_le(self, bit: u32) -> Self
         requires { IsTrue Self.indexable }
-        ensures { members ⟦<LittleEndian as Endian>⟧.mirrored Self.width (Self.big result)
-            ≡ without_index
-            (members ⟦<LittleEndian as Endian>⟧.mirrored Self.width (Self.big self)) bit }
+        ensures { set_in Self.Shape ⟦<LittleEndian as Endian>⟧ result
+            ≡ without_index (set_in Self.Shape ⟦<LittleEndian as Endian>⟧ self) bit }
     {
         self.without_bit_in::<LittleEndian>(bit)
     }
@@ -172,9 +169,8 @@ pub trait BitsOwned: Copy + Eq + BitsMut {
     #[inline]
     final fn without_bit_be(self, bit: u32) -> Self
         requires { IsTrue Self.indexable }
-        ensures { members ⟦<BigEndian as Endian>⟧.mirrored Self.width (Self.big result)
-            ≡ without_index
-            (members ⟦<BigEndian as Endian>⟧.mirrored Self.width (Self.big self)) bit }
+        ensures { set_in Self.Shape ⟦<BigEndian as Endian>⟧ result
+            ≡ without_index (set_in Self.Shape ⟦<BigEndian as Endian>⟧ self) bit }
     {
         self.without_bit_in::<BigEndian>(bit)
     }
@@ -186,10 +182,9 @@ pub trait BitsOwned: Copy + Eq + BitsMut {
     /// ```
     #[inline]
     final fn union(self, other: Self) -> Self
-        ensures { (mirrored : Bool) → members mirrored Self.width (Self.big result)
-            ≡ union_of
-            (members mirrored Self.width (Self.big self))
-            (members mirrored Self.width (Self.big other)) }
+        ensures { (mirrored : Bool) → set_mirrored Self.Shape mirrored result
+            ≡ union_of (set_mirrored Self.Shape mirrored self)
+            (set_mirrored Self.Shape mirrored other) }
     {
         let mut set = self;
         set.union_assign(&other);
@@ -203,10 +198,9 @@ pub trait BitsOwned: Copy + Eq + BitsMut {
     /// ```
     #[inline]
     final fn conjunction(self, other: Self) -> Self
-        ensures { (mirrored : Bool) → members mirrored Self.width (Self.big result)
-            ≡ conjunction_of
-            (members mirrored Self.width (Self.big self))
-            (members mirrored Self.width (Self.big other)) }
+        ensures { (mirrored : Bool) → set_mirrored Self.Shape mirrored result
+            ≡ conjunction_of (set_mirrored Self.Shape mirrored self)
+            (set_mirrored Self.Shape mirrored other) }
     {
         let mut set = self;
         set.conjunction_assign(&other);
@@ -220,10 +214,9 @@ pub trait BitsOwned: Copy + Eq + BitsMut {
     /// ```
     #[inline]
     final fn difference(self, other: Self) -> Self
-        ensures { (mirrored : Bool) → members mirrored Self.width (Self.big result)
-            ≡ difference_of
-            (members mirrored Self.width (Self.big self))
-            (members mirrored Self.width (Self.big other)) }
+        ensures { (mirrored : Bool) → set_mirrored Self.Shape mirrored result
+            ≡ difference_of (set_mirrored Self.Shape mirrored self)
+            (set_mirrored Self.Shape mirrored other) }
     {
         let mut set = self;
         set.difference_assign(&other);
@@ -237,10 +230,9 @@ pub trait BitsOwned: Copy + Eq + BitsMut {
     /// ```
     #[inline]
     final fn symmetric_difference(self, other: Self) -> Self
-        ensures { (mirrored : Bool) → members mirrored Self.width (Self.big result)
-            ≡ symmetric_difference_of
-            (members mirrored Self.width (Self.big self))
-            (members mirrored Self.width (Self.big other)) }
+        ensures { (mirrored : Bool) → set_mirrored Self.Shape mirrored result
+            ≡ symmetric_difference_of (set_mirrored Self.Shape mirrored self)
+            (set_mirrored Self.Shape mirrored other) }
     {
         let mut set = self;
         set.symmetric_difference_assign(&other);
@@ -257,8 +249,8 @@ pub trait BitsOwned: Copy + Eq + BitsMut {
     final fn into_iter_ones_in<E: Endian>(self) -> IntoIterOnes<Self, E>
     where
         Self: Sized,
-        requires { Fits Self.indexable (Self.big self).capacity }
-        ensures left { result.left ≡ ascending (members E.mirrored Self.width (Self.big self)) }
+        requires { ShapeFits Self.Shape self }
+        ensures left { result.left ≡ ascending (set_in Self.Shape E.Endian self) }
         ensures fresh { IsFresh ((Self.big self).capacity / Self.width) result }
         ensures below { AreBelow (Self.big self).capacity result.left }
     {
@@ -275,9 +267,8 @@ pub trait BitsOwned: Copy + Eq + BitsMut {
     final fn into_iter_ones(self) -> IntoIterOnes<Self, Self::Order>
     where
         Self: Sized,
-        requires { Fits Self.indexable (Self.big self).capacity }
-        ensures left { result.left
-            ≡ ascending (members Self.Order.mirrored Self.width (Self.big self)) }
+        requires { ShapeFits Self.Shape self }
+        ensures left { result.left ≡ ascending (set_in Self.Shape Self.Order.Endian self) }
         ensures fresh { IsFresh ((Self.big self).capacity / Self.width) result }
         ensures below { AreBelow (Self.big self).capacity result.left }
     {
@@ -294,9 +285,8 @@ pub trait BitsOwned: Copy + Eq + BitsMut {
     final fn into_iter_ones_le(self) -> IntoIterOnes<Self, LittleEndian>
     where
         Self: Sized,
-        requires { Fits Self.indexable (Self.big self).capacity }
-        ensures left { result.left
-            ≡ ascending (members ⟦<LittleEndian as Endian>⟧.mirrored Self.width (Self.big self)) }
+        requires { ShapeFits Self.Shape self }
+        ensures left { result.left ≡ ascending (set_in Self.Shape ⟦<LittleEndian as Endian>⟧ self) }
         ensures fresh { IsFresh ((Self.big self).capacity / Self.width) result }
         ensures below { AreBelow (Self.big self).capacity result.left }
     {
@@ -313,9 +303,8 @@ pub trait BitsOwned: Copy + Eq + BitsMut {
     final fn into_iter_ones_be(self) -> IntoIterOnes<Self, BigEndian>
     where
         Self: Sized,
-        requires { Fits Self.indexable (Self.big self).capacity }
-        ensures left { result.left
-            ≡ ascending (members ⟦<BigEndian as Endian>⟧.mirrored Self.width (Self.big self)) }
+        requires { ShapeFits Self.Shape self }
+        ensures left { result.left ≡ ascending (set_in Self.Shape ⟦<BigEndian as Endian>⟧ self) }
         ensures fresh { IsFresh ((Self.big self).capacity / Self.width) result }
         ensures below { AreBelow (Self.big self).capacity result.left }
     {
@@ -333,9 +322,8 @@ pub trait BitsOwned: Copy + Eq + BitsMut {
     final fn into_iter_zeros_in<E: Endian>(self) -> IntoIterZeros<Self, E>
     where
         Self: Sized,
-        requires { Fits Self.indexable (Self.big self).capacity }
-        ensures left { result.left
-            ≡ ascending (complement (members E.mirrored Self.width (Self.big self))) }
+        requires { ShapeFits Self.Shape self }
+        ensures left { result.left ≡ ascending (complement (set_in Self.Shape E.Endian self)) }
         ensures fresh { IsFresh ((Self.big self).capacity / Self.width) result }
         ensures below { AreBelow (Self.big self).capacity result.left }
     {
@@ -352,9 +340,9 @@ pub trait BitsOwned: Copy + Eq + BitsMut {
     final fn into_iter_zeros(self) -> IntoIterZeros<Self, Self::Order>
     where
         Self: Sized,
-        requires { Fits Self.indexable (Self.big self).capacity }
+        requires { ShapeFits Self.Shape self }
         ensures left { result.left
-            ≡ ascending (complement (members Self.Order.mirrored Self.width (Self.big self))) }
+            ≡ ascending (complement (set_in Self.Shape Self.Order.Endian self)) }
         ensures fresh { IsFresh ((Self.big self).capacity / Self.width) result }
         ensures below { AreBelow (Self.big self).capacity result.left }
     {
@@ -371,10 +359,9 @@ pub trait BitsOwned: Copy + Eq + BitsMut {
     final fn into_iter_zeros_le(self) -> IntoIterZeros<Self, LittleEndian>
     where
         Self: Sized,
-        requires { Fits Self.indexable (Self.big self).capacity }
+        requires { ShapeFits Self.Shape self }
         ensures left { result.left
-            ≡ ascending (complement
-            (members ⟦<LittleEndian as Endian>⟧.mirrored Self.width (Self.big self))) }
+            ≡ ascending (complement (set_in Self.Shape ⟦<LittleEndian as Endian>⟧ self)) }
         ensures fresh { IsFresh ((Self.big self).capacity / Self.width) result }
         ensures below { AreBelow (Self.big self).capacity result.left }
     {
@@ -391,10 +378,9 @@ pub trait BitsOwned: Copy + Eq + BitsMut {
     final fn into_iter_zeros_be(self) -> IntoIterZeros<Self, BigEndian>
     where
         Self: Sized,
-        requires { Fits Self.indexable (Self.big self).capacity }
+        requires { ShapeFits Self.Shape self }
         ensures left { result.left
-            ≡ ascending (complement
-            (members ⟦<BigEndian as Endian>⟧.mirrored Self.width (Self.big self))) }
+            ≡ ascending (complement (set_in Self.Shape ⟦<BigEndian as Endian>⟧ self)) }
         ensures fresh { IsFresh ((Self.big self).capacity / Self.width) result }
         ensures below { AreBelow (Self.big self).capacity result.left }
     {

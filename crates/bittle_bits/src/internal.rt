@@ -7,3 +7,4 @@ pub(crate) mod look;
 pub(crate) mod row;
 pub mod sealed;
 pub(crate) mod search;
+pub mod shape;

@@ -9,21 +9,21 @@ use crate::bits_mut::BitsMut;
 use crate::bits_owned::BitsOwned;
 use crate::endian::{DefaultEndian, Endian};
 use crate::internal::row;
-use crate::internal::sealed::Sealed;
+use crate::internal::shape::Shape;
 use crate::operation::Operation;
 
-impl<'a, T: BitsOwned> Sealed for &'a [T] {}
-
-impl<'a, T: BitsOwned> Bits for &'a [T] {
-    type Order = DefaultEndian;
-
-    type LeafWord = T::LeafWord;
-
+impl<'a, T: BitsOwned> Shape for &'a [T] {
     ghost width = { T.width };
 
     ghost indexable = { T.indexable };
 
     ghost big = { λ v. elements_set (length v.now) T.type_capacity T.big v.now };
+}
+
+impl<'a, T: BitsOwned> Bits for &'a [T] {
+    type Order = DefaultEndian;
+
+    type LeafWord = T::LeafWord;
 
     ghost leaf_width = { T.leaf_width };
 
@@ -65,18 +65,18 @@ impl<'a, T: BitsOwned> Bits for &'a [T] {
     }
 }
 
-impl<'a, T: BitsOwned> Sealed for &'a mut [T] {}
-
-impl<'a, T: BitsOwned> Bits for &'a mut [T] {
-    type Order = DefaultEndian;
-
-    type LeafWord = T::LeafWord;
-
+impl<'a, T: BitsOwned> Shape for &'a mut [T] {
     ghost width = { T.width };
 
     ghost indexable = { T.indexable };
 
     ghost big = { λ v. elements_set (length v.now) T.type_capacity T.big v.now };
+}
+
+impl<'a, T: BitsOwned> Bits for &'a mut [T] {
+    type Order = DefaultEndian;
+
+    type LeafWord = T::LeafWord;
 
     ghost leaf_width = { T.leaf_width };
 

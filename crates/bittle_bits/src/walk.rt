@@ -6,9 +6,8 @@
 ghost use Rattle.std.specs.Prelude.{◌≡◌, ◌/◌, ⊤, None, IfSome};
 ghost use Rattle.std.specs.Iterator.{item_count, UpTo};
 ghost use Rattle.std.specs.Iterator.SizeHint.{IsWithinCount};
-ghost use Rattle.bittle_bits.specs.Orders.{members};
 ghost use Rattle.bittle_bits.specs.PlainSet.{ascending};
-ghost use Rattle.bittle_bits.specs.Shapes.{Fits};
+ghost use Rattle.bittle_bits.specs.Values.{set_in, ShapeFits};
 ghost use Rattle.bittle_bits.specs.Walk.{ones_or_zeros, AreBelow, IsFresh, ResumesAs, StepsFront, StepsBack};
 
 use crate::bits::Bits;
@@ -69,15 +68,13 @@ impl<'a, B: Bits, E: Endian, K: Kind> Model for Iter<'a, B, E, K> {
     ghost Value = { Walk };
 
     ghost use Rattle.std.specs.Prelude.{◌/◌};
-    ghost use Rattle.bittle_bits.specs.Orders.{members};
-    ghost use Rattle.bittle_bits.specs.Shapes.{Fits};
+    ghost use Rattle.bittle_bits.specs.Values.{set_in, ShapeFits};
     ghost use Rattle.bittle_bits.specs.Cursor.{walk_of, Retires};
 
-    ghost view = { λ w. walk_of
-        (ones_or_zeros K.ONES (members E.mirrored B.width (B.big w.source.set.now)))
+    ghost view = { λ w. walk_of (ones_or_zeros K.ONES (set_in B.Shape E.Endian w.source.set.now))
         ((B.big w.source.set.now).capacity / B.width) B.width w.at };
 
-    ghost invariant = { λ w. Fits B.indexable (B.big w.source.set.now).capacity
+    ghost invariant = { λ w. ShapeFits B.Shape w.source.set.now
         × Retires ((B.big w.source.set.now).capacity / B.width) w.at };
 }
 
@@ -85,10 +82,9 @@ impl<'a, B: Bits, E: Endian, K: Kind> Iter<'a, B, E, K> {
     /// Begins an iterator over all of its set.
     #[inline]
     pub(crate) fn new(source: Source<'a, B>) -> Self
-        requires { Fits B.indexable (B.big source.set.now).capacity }
+        requires { ShapeFits B.Shape source.set.now }
         ensures left { result.left
-            ≡ ascending (ones_or_zeros K.ONES
-            (members E.mirrored B.width (B.big source.entry.set.now))) }
+            ≡ ascending (ones_or_zeros K.ONES (set_in B.Shape E.Endian source.entry.set.now)) }
         ensures fresh { IsFresh ((B.big source.entry.set.now).capacity / B.width) result }
         ensures below { AreBelow (B.big source.entry.set.now).capacity result.left }
     {
@@ -179,15 +175,13 @@ impl<B: BitsOwned, E: Endian, K: Kind> Model for IntoIter<B, E, K> {
     ghost Value = { Walk };
 
     ghost use Rattle.std.specs.Prelude.{◌/◌};
-    ghost use Rattle.bittle_bits.specs.Orders.{members};
-    ghost use Rattle.bittle_bits.specs.Shapes.{Fits};
+    ghost use Rattle.bittle_bits.specs.Values.{set_in, ShapeFits};
     ghost use Rattle.bittle_bits.specs.Cursor.{walk_of, Retires};
 
-    ghost view = { λ w. walk_of
-        (ones_or_zeros K.ONES (members E.mirrored B.width (B.big w.source.set)))
+    ghost view = { λ w. walk_of (ones_or_zeros K.ONES (set_in B.Shape E.Endian w.source.set))
         ((B.big w.source.set).capacity / B.width) B.width w.at };
 
-    ghost invariant = { λ w. Fits B.indexable (B.big w.source.set).capacity
+    ghost invariant = { λ w. ShapeFits B.Shape w.source.set
         × Retires ((B.big w.source.set).capacity / B.width) w.at };
 }
 
@@ -195,9 +189,9 @@ impl<B: BitsOwned, E: Endian, K: Kind> IntoIter<B, E, K> {
     /// Begins an iterator over all of its set.
     #[inline]
     pub(crate) fn new(source: OwnedSource<B>) -> Self
-        requires { Fits B.indexable (B.big source.set).capacity }
+        requires { ShapeFits B.Shape source.set }
         ensures left { result.left
-            ≡ ascending (ones_or_zeros K.ONES (members E.mirrored B.width (B.big source.set))) }
+            ≡ ascending (ones_or_zeros K.ONES (set_in B.Shape E.Endian source.set)) }
         ensures fresh { IsFresh ((B.big source.set).capacity / B.width) result }
         ensures below { AreBelow (B.big source.set).capacity result.left }
     {

@@ -1,6 +1,6 @@
 //! One list of calls on shapes of every nesting, and on slices of the caller.
 
-ghost use Rattle.bittle.specs.Shapes.{Fits};
+ghost use Rattle.bittle.specs.Values.{ShapeFits};
 
 use bittle::replay::{Call, Reply, replay};
 use bittle::{BigEndian, BitsMut, Endian, LittleEndian};
@@ -71,7 +71,7 @@ fn no_words<E: Endian>(rt: &impl Abort) {
 // Puts an index into an empty set: it is tested, counted, and alone among as many numbers as the
 // capacity.
 fn put_and_ask<B: BitsMut, E: Endian>(rt: &impl Abort, bits: &mut B, index: u32, capacity: u32)
-    requires { Fits B.indexable (B.big bits.old).capacity }
+    requires { ShapeFits B.Shape bits.old }
 {
     let calls = [
         Call::Put(index),

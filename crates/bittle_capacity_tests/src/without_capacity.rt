@@ -1,7 +1,7 @@
 //! Shapes without capacity: each call answers, and nothing is held.
 
 ghost use Rattle.std.specs.Prelude.{IsTrue};
-ghost use Rattle.bittle.specs.Shapes.{Fits};
+ghost use Rattle.bittle.specs.Values.{ShapeFits};
 
 use bittle::prelude::*;
 use bittle::{BigEndian, LittleEndian, Set, set, set_be, set_le};
@@ -46,7 +46,7 @@ fn is_over<W: DoubleEndedIterator<Item = u32>>(mut walk: W) -> bool
 }
 
 fn yields_no_ones<B: Bits>(rt: &impl Abort, bits: &B)
-    requires { Fits B.indexable (B.big bits.now).capacity }
+    requires { ShapeFits B.Shape bits.now }
 {
     assert!(rt; is_over(bits.iter_ones()));
     assert!(rt; is_over(bits.iter_ones_le()));
@@ -55,7 +55,7 @@ fn yields_no_ones<B: Bits>(rt: &impl Abort, bits: &B)
 }
 
 fn yields_no_zeros<B: Bits>(rt: &impl Abort, bits: &B)
-    requires { Fits B.indexable (B.big bits.now).capacity }
+    requires { ShapeFits B.Shape bits.now }
 {
     assert!(rt; is_over(bits.iter_zeros()));
     assert!(rt; is_over(bits.iter_zeros_le()));
@@ -64,7 +64,7 @@ fn yields_no_zeros<B: Bits>(rt: &impl Abort, bits: &B)
 }
 
 fn joins_nothing<B: Bits>(rt: &impl Abort, bits: &B)
-    requires { Fits B.indexable (B.big bits.now).capacity }
+    requires { ShapeFits B.Shape bits.now }
 {
     let letters = ["a", "b", "c"];
     assert!(rt; bits.join_ones(letters.iter()).next().is_none());

@@ -1,6 +1,5 @@
 //! The answers to a script.
 ghost use Rattle.std.specs.Prelude.{◌≡◌, ◌≤◌, length, drop, OnSome, IsTrue};
-ghost use Rattle.bittle.specs.Orders.{members};
 ghost use Rattle.bittle.specs.PlainSet.{empty_set};
 ghost use Rattle.bittle.specs.Machine.{reply_to, set_after};
 ghost use Rattle.bittle_script.specs.Answers.{line_answers, script_answers, header_answers, header_in, text_of, line_of_members, command_text, after_command, refusal_at};
@@ -9,6 +8,7 @@ ghost use Rattle.bittle_script.specs.Headers.{capacity_of};
 ghost use Rattle.bittle_script.specs.Lines.{lines_left};
 ghost use Rattle.bittle_script.specs.Outputs.{Puts};
 ghost use Rattle.bittle_script.specs.declared.reading.TheConstants.{MOST_BYTES};
+ghost use Rattle.bittle.specs.Values.{set_in};
 
 use crate::command::Command;
 use crate::header::{Header, Order, Shape};
@@ -133,10 +133,10 @@ fn obey<B: BitsOwned, E: Endian, W: Write>(
 ) -> Result<(), WriteFailed>
     requires { IsTrue B.indexable }
     ensures same_writer { output.new.writer.ghost_name ≡ output.old.writer.ghost_name }
-    ensures set { members E.mirrored B.width (B.big bits.new)
-        ≡ after_command (members E.mirrored B.width (B.big bits.old)) command }
+    ensures set { set_in B.Shape E.Endian bits.new
+        ≡ after_command (set_in B.Shape E.Endian bits.old) command }
     ensures prints { Puts W.contents output.old output.new result
-        (command_text (members E.mirrored B.width (B.big bits.old)) command) }
+        (command_text (set_in B.Shape E.Endian bits.old) command) }
 {
     let call = match command {
         Command::Set(index) => Call::Put(index),
@@ -151,9 +151,9 @@ fn obey<B: BitsOwned, E: Endian, W: Write>(
 /// Makes one call, and returns its reply.
 fn ask<B: BitsOwned, E: Endian>(bits: &mut B, call: Call) -> Reply
     requires { IsTrue B.indexable }
-    ensures reply { result ≡ reply_to (members E.mirrored B.width (B.big bits.old)) call }
-    ensures set { members E.mirrored B.width (B.big bits.new)
-        ≡ set_after (members E.mirrored B.width (B.big bits.old)) call }
+    ensures reply { result ≡ reply_to (set_in B.Shape E.Endian bits.old) call }
+    ensures set { set_in B.Shape E.Endian bits.new
+        ≡ set_after (set_in B.Shape E.Endian bits.old) call }
 {
     let mut replies = [Reply::Done];
     replay::<B, E>(bits, &[call], &mut replies);
@@ -184,7 +184,7 @@ fn print_members<B: BitsOwned, E: Endian, W: Write>(
 ) -> Result<(), WriteFailed>
     ensures same_writer { output.new.writer.ghost_name ≡ output.old.writer.ghost_name }
     ensures prints { Puts W.contents output.old output.new result
-        (line_of_members (members E.mirrored B.width (B.big set.now.bits))) }
+        (line_of_members (set_in B.Shape E.Endian set.now.bits)) }
 {
     let mut space: &[u8] = b"";
     for member in set.iter_ones() {

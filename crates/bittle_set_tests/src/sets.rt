@@ -1,6 +1,6 @@
 //! Sets and what they answer, with values worked out by hand.
 
-ghost use Rattle.bittle.specs.Shapes.{Fits};
+ghost use Rattle.bittle.specs.Values.{ShapeFits};
 
 use crate::checks::{holds, same};
 use bittle::prelude::*;
@@ -53,14 +53,14 @@ fn an_array_of_sets_is_read_in_the_default_order(rt: HostRuntime) {
 
 // Whether a walk in the order of the type gives just these items.
 fn walks<B: Bits>(bits: &B, items: &[u32]) -> bool
-    requires { Fits B.indexable (B.big bits.now).capacity }
+    requires { ShapeFits B.Shape bits.now }
 {
     bits.iter_ones().eq(items.iter().copied())
 }
 
 // Whether a walk in little-endian order gives just these items.
 fn walks_le<B: Bits>(bits: &B, items: &[u32]) -> bool
-    requires { Fits B.indexable (B.big bits.now).capacity }
+    requires { ShapeFits B.Shape bits.now }
 {
     bits.iter_ones_le().eq(items.iter().copied())
 }

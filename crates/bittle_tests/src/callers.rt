@@ -6,7 +6,7 @@ ghost use Rattle.bittle_bits.specs.Digits.{digit_set};
 ghost use Rattle.bittle_bits.specs.Orders.{members};
 ghost use Rattle.bittle_bits.specs.PlainSet.{ascending, complement};
 ghost use Rattle.bittle_bits.specs.Rows.{elements_set};
-ghost use Rattle.bittle_bits.specs.Shapes.{Fits};
+ghost use Rattle.bittle.specs.Values.{set_in, ShapeFits};
 
 use bittle::{Bits, BitsOwned, Endian, LittleEndian, number};
 use bittle_bits::internal::sealed::Number;
@@ -14,9 +14,9 @@ use std::alloc::{AllocError, Global};
 
 /// Walks the members of any set by a `for`.
 fn each_member<B: Bits, E: Endian>(bits: &B) -> u64
-    requires fits { Fits B.indexable (B.big bits.now).capacity }
-    requires few { length (ascending (members E.mirrored B.width (B.big bits.now))) < 100 }
-    ensures { result ≡ length (ascending (members E.mirrored B.width (B.big bits.now))) }
+    requires fits { ShapeFits B.Shape bits.now }
+    requires few { length (ascending (set_in B.Shape E.Endian bits.now)) < 100 }
+    ensures { result ≡ length (ascending (set_in B.Shape E.Endian bits.now)) }
 {
     let mut total: u64 = 0;
     for _index in bits.iter_ones_in::<E>() {
@@ -44,9 +44,9 @@ fn each_other(bits: &[[u8; 2]; 2]) -> u32
 
 /// Walks the members of an owned set by a `for`.
 fn each_owned_member<B: BitsOwned, E: Endian>(bits: B) -> u64
-    requires fits { Fits B.indexable (B.big bits).capacity }
-    requires few { length (ascending (members E.mirrored B.width (B.big bits))) < 100 }
-    ensures { result ≡ length (ascending (members E.mirrored B.width (B.big bits))) }
+    requires fits { ShapeFits B.Shape bits }
+    requires few { length (ascending (set_in B.Shape E.Endian bits)) < 100 }
+    ensures { result ≡ length (ascending (set_in B.Shape E.Endian bits)) }
 {
     let mut total: u64 = 0;
     for _index in bits.into_iter_ones_in::<E>() {
@@ -57,9 +57,9 @@ fn each_owned_member<B: BitsOwned, E: Endian>(bits: B) -> u64
 
 /// Walks the zeros of an owned set by a `for`.
 fn each_owned_other<B: BitsOwned, E: Endian>(bits: B) -> u64
-    requires fits { Fits B.indexable (B.big bits).capacity }
-    requires few { length (ascending (complement (members E.mirrored B.width (B.big bits)))) < 100 }
-    ensures { result ≡ length (ascending (complement (members E.mirrored B.width (B.big bits)))) }
+    requires fits { ShapeFits B.Shape bits }
+    requires few { length (ascending (complement (set_in B.Shape E.Endian bits))) < 100 }
+    ensures { result ≡ length (ascending (complement (set_in B.Shape E.Endian bits))) }
 {
     let mut total: u64 = 0;
     for _index in bits.into_iter_zeros_in::<E>() {
@@ -70,18 +70,17 @@ fn each_owned_other<B: BitsOwned, E: Endian>(bits: B) -> u64
 
 /// Counts the members of an owned set by its walk.
 fn counted<B: BitsOwned, E: Endian>(bits: B) -> usize
-    requires fits { Fits B.indexable (B.big bits).capacity }
-    requires few { length (ascending (members E.mirrored B.width (B.big bits))) < 2 ^ 64 }
-    ensures { result ≡ length (ascending (members E.mirrored B.width (B.big bits))) }
+    requires fits { ShapeFits B.Shape bits }
+    requires few { length (ascending (set_in B.Shape E.Endian bits)) < 2 ^ 64 }
+    ensures { result ≡ length (ascending (set_in B.Shape E.Endian bits)) }
 {
     bits.into_iter_ones_in::<E>().count()
 }
 
 /// Lists the members of a set in an order, from the last on.
 fn reversed<B: Bits, E: Endian>(alloc: Global, bits: &B) -> Result<Vec<u32>, AllocError>
-    requires { Fits B.indexable (B.big bits.now).capacity }
-    ensures { IfOk result (λ v. v.items
-        ≡ reverse (ascending (members E.mirrored B.width (B.big bits.now)))) }
+    requires { ShapeFits B.Shape bits.now }
+    ensures { IfOk result (λ v. v.items ≡ reverse (ascending (set_in B.Shape E.Endian bits.now))) }
 {
     bits.iter_ones_in::<E>().rev().collect(alloc)
 }

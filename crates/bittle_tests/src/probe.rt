@@ -13,7 +13,7 @@ use bittle::replay::Step;
 use bittle::{
     BigEndian, Bits, BitsMut, BitsOwned, DefaultEndian, Endian, LittleEndian, Set, macros,
 };
-use bittle_bits::internal::sealed::Sealed;
+use bittle_bits::internal::shape::Shape;
 use bittle_bits::operation::Operation;
 use std::alloc::AllocError;
 use std::cell::Cell;
@@ -95,18 +95,18 @@ impl<'a> Probe<'a> {
     }
 }
 
-impl<'a> Sealed for Probe<'a> {}
+impl<'a> Shape for Probe<'a> {
+    ghost width = { ⟦<[u8; 4] as Shape>⟧.width };
+
+    ghost indexable = { true };
+
+    ghost big = { λ p. ⟦<[u8; 4] as Shape>⟧.big p.bytes };
+}
 
 impl<'a> Bits for Probe<'a> {
     type Order = DefaultEndian;
 
     type LeafWord = u8;
-
-    ghost width = { ⟦<[u8; 4] as Bits>⟧.width };
-
-    ghost indexable = { true };
-
-    ghost big = { λ p. ⟦<[u8; 4] as Bits>⟧.big p.bytes };
 
     ghost leaf_width = { refl };
 

@@ -1,7 +1,7 @@
 //! Words of all widths, at their borders.
 
 ghost use Rattle.std.specs.Prelude.{◌<◌};
-ghost use Rattle.bittle_bits.specs.Shapes.{Fits};
+ghost use Rattle.bittle.specs.Values.{ShapeFits};
 
 use crate::checks::{holds, same};
 use bittle::number::{IterOnes, IterZeros};
@@ -122,8 +122,8 @@ fn every_type_at_its_borders(rt: HostRuntime) {
 // with its least alone.
 fn at_borders<T: Number + Bits>(rt: &impl Abort, width: u32, none: T, all: T, top: T, least: T)
     requires positive { 0 < width }
-    requires none_fits { Fits T.indexable (T.big none).capacity }
-    requires all_fits { Fits T.indexable (T.big all).capacity }
+    requires none_fits { ShapeFits T.Shape none }
+    requires all_fits { ShapeFits T.Shape all }
 {
     holds!(rt; Bits::count_ones(&none) == 0 && Bits::count_ones(&all) == width);
     holds!(rt; none.all_zeros() && !none.all_ones() && all.all_ones() && !all.all_zeros());

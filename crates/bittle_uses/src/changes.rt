@@ -10,9 +10,9 @@ use bittle::BitsMut;
 /// it was none, and nothing changes.
 pub fn insert<B: BitsMut>(set: &mut B, index: u32) -> bool
     requires { IsTrue B.indexable }
-    ensures was_none { result ≡ not (contains (set_in B.Bits B.Order.Endian set.old) index) }
-    ensures set { set_in B.Bits B.Order.Endian set.new
-        ≡ with_index (set_in B.Bits B.Order.Endian set.old) index }
+    ensures was_none { result ≡ not (contains (set_in B.Shape B.Order.Endian set.old) index) }
+    ensures set { set_in B.Shape B.Order.Endian set.new
+        ≡ with_index (set_in B.Shape B.Order.Endian set.old) index }
     ensures stays { B.loan set.old ≡ B.loan set.new }
 {
     let was_none = !set.test_bit(index);
@@ -24,9 +24,9 @@ pub fn insert<B: BitsMut>(set: &mut B, index: u32) -> bool
 /// it was none.
 pub fn remove<B: BitsMut>(set: &mut B, index: u32) -> bool
     requires { IsTrue B.indexable }
-    ensures was_member { result ≡ contains (set_in B.Bits B.Order.Endian set.old) index }
-    ensures set { set_in B.Bits B.Order.Endian set.new
-        ≡ without_index (set_in B.Bits B.Order.Endian set.old) index }
+    ensures was_member { result ≡ contains (set_in B.Shape B.Order.Endian set.old) index }
+    ensures set { set_in B.Shape B.Order.Endian set.new
+        ≡ without_index (set_in B.Shape B.Order.Endian set.old) index }
     ensures stays { B.loan set.old ≡ B.loan set.new }
 {
     let was_member = set.test_bit(index);
@@ -38,8 +38,8 @@ pub fn remove<B: BitsMut>(set: &mut B, index: u32) -> bool
 /// wrap.
 pub fn move_bit<B: BitsMut>(set: &mut B, from: u32, to: u32)
     requires { IsTrue B.indexable }
-    ensures set { let before = set_in B.Bits B.Order.Endian set.old in
-        set_in B.Bits B.Order.Endian set.new
+    ensures set { let before = set_in B.Shape B.Order.Endian set.old in
+        set_in B.Shape B.Order.Endian set.new
         ≡ (if contains before from then with_index (without_index before from) to else before) }
     ensures stays { B.loan set.old ≡ B.loan set.new }
 {

@@ -7,7 +7,7 @@ ghost use Rattle.bittle.specs.Digits.{digit_set};
 ghost use Rattle.bittle.specs.Orders.{members};
 ghost use Rattle.bittle.specs.PlainSet.{ascending, complement, size};
 ghost use Rattle.bittle.specs.Rows.{elements_set};
-ghost use Rattle.bittle.specs.Values.{set_in, ShapeFits};
+ghost use Rattle.bittle.specs.Values.{set_in, set_mirrored, ShapeFits};
 
 use bittle::{Bits, BitsOwned, LittleEndian, Set};
 
@@ -49,8 +49,8 @@ pub fn count_of_iterated_set(set: Set<u64>) -> usize
 
 /// Counts the members of any set by its walk.
 pub fn count_of_any<B: BitsOwned>(set: B) -> usize
-    requires { ShapeFits B.Bits set }
-    ensures { result ≡ length (ascending (set_in B.Bits B.Order.Endian set)) }
+    requires { ShapeFits B.Shape set }
+    ensures { result ≡ length (ascending (set_in B.Shape B.Order.Endian set)) }
 {
     set.iter_ones().count()
 }
@@ -71,18 +71,18 @@ pub fn place_of_member(mask: u64, wanted: u32) -> Option<usize>
 
 /// Returns the place of a member in the increasing list of any set, or `None` where it is none.
 pub fn place_of_member_of_any<B: BitsOwned>(set: B, wanted: u32) -> Option<usize>
-    requires { ShapeFits B.Bits set }
+    requires { ShapeFits B.Shape set }
     ensures { result
-        ≡ position (λ i. i == wanted) (ascending (set_in B.Bits B.Order.Endian set)) }
+        ≡ position (λ i. i == wanted) (ascending (set_in B.Shape B.Order.Endian set)) }
 {
     set.iter_ones().position(|index| index == wanted)
 }
 
 /// Returns the place of an index among those of any set that are no members, counted from the left.
 pub fn place_of_free_of_any<B: BitsOwned>(set: B, wanted: u32) -> Option<usize>
-    requires { ShapeFits B.Bits set }
+    requires { ShapeFits B.Shape set }
     ensures { result ≡ position (λ i. i == wanted)
-        (ascending (complement (members true B.width (B.big set)))) }
+        (ascending (complement (set_mirrored B.Shape true set))) }
 {
     set.into_iter_zeros_le().position(|index| index == wanted)
 }
@@ -102,8 +102,8 @@ pub fn entries_at_place_and_member(mask: u64, row: &[u32; 64]) -> u32
 
 /// Returns the place of the last member of any set, or 0.
 pub fn last_place_of_any<B: BitsOwned>(set: B) -> usize
-    requires { ShapeFits B.Bits set }
-    ensures { result ≡ length (ascending (set_in B.Bits B.Order.Endian set)) - 1 }
+    requires { ShapeFits B.Shape set }
+    ensures { result ≡ length (ascending (set_in B.Shape B.Order.Endian set)) - 1 }
 {
     let mut last = 0;
     for (place, _index) in set.iter_ones().enumerate() {
@@ -149,8 +149,8 @@ pub fn free_of_word(board: u64) -> u32
 
 /// Adds the counts of any two sets of one type.
 pub fn count_of_any_both<B: BitsOwned>(one: B, other: B) -> u64
-    requires one_fits { ShapeFits B.Bits one }
-    requires other_fits { ShapeFits B.Bits other }
+    requires one_fits { ShapeFits B.Shape one }
+    requires other_fits { ShapeFits B.Shape other }
     ensures { result ≡ size (B.big one) + size (B.big other) }
 {
     one.count_ones() as u64 + other.count_ones() as u64

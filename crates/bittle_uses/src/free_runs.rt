@@ -9,8 +9,8 @@ use bittle::Bits;
 /// Returns the least index from which on so many neighbours are no members, or `None` where there
 /// is no such run. The shape has to fit.
 pub fn first_free_run<B: Bits>(set: &B, length: u32) -> Option<u32>
-    requires { ShapeFits B.Bits set.now }
-    ensures { let taken = set_in B.Bits B.Order.Endian set.now in
+    requires { ShapeFits B.Shape set.now }
+    ensures { let taken = set_in B.Shape B.Order.Endian set.now in
         MatchOption result (HasNoFreeRun taken length) (IsFirstFreeRun taken length) }
 {
     let end = set.bits_capacity();

@@ -48,9 +48,9 @@ pub fn take_least(words: &mut [u64]) -> Option<u32>
 
 /// Sets a bit of any set, read in any order.
 pub fn set_in_any<B: BitsMut, E: Endian>(bits: &mut B, index: u32)
-    requires { ShapeFits B.Bits bits.old }
-    ensures { set_in B.Bits E.Endian bits.new
-        ≡ with_index (set_in B.Bits E.Endian bits.old) index }
+    requires { ShapeFits B.Shape bits.old }
+    ensures { set_in B.Shape E.Endian bits.new
+        ≡ with_index (set_in B.Shape E.Endian bits.old) index }
 {
     bits.set_bit_in::<E>(index);
 }

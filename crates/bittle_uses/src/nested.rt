@@ -13,8 +13,8 @@ use bittle::{Bits, BitsOwned, Set};
 
 /// Returns the greatest member of any set, by a walk that owns it, or 0.
 pub fn greatest_of_owned<B: BitsOwned>(set: B) -> u32
-    requires { ShapeFits B.Bits set }
-    ensures { Some result ≡ last_or (Some 0) (ascending (set_in B.Bits B.Order.Endian set)) }
+    requires { ShapeFits B.Shape set }
+    ensures { Some result ≡ last_or (Some 0) (ascending (set_in B.Shape B.Order.Endian set)) }
 {
     let mut last = 0;
     for index in set.into_iter_ones() {

@@ -8,9 +8,9 @@ use bittle::Bits;
 
 /// Returns how many members are a bound or above it, counted from the greatest on.
 pub fn how_many_from<B: Bits>(set: &B, bound: u32) -> u32
-    requires { ShapeFits B.Bits set.now }
+    requires { ShapeFits B.Shape set.now }
     ensures { result
-        ≡ count_by (λ i. nat_le bound i) (ascending (set_in B.Bits B.Order.Endian set.now)) }
+        ≡ count_by (λ i. nat_le bound i) (ascending (set_in B.Shape B.Order.Endian set.now)) }
 {
     let mut count = 0;
     let mut walk = set.iter_ones();
@@ -24,9 +24,9 @@ pub fn how_many_from<B: Bits>(set: &B, bound: u32) -> u32
 
 /// Returns how many members lie below one, or `None` where it is no member.
 pub fn rank_of<B: Bits>(set: &B, index: u32) -> Option<usize>
-    requires { ShapeFits B.Bits set.now }
+    requires { ShapeFits B.Shape set.now }
     ensures { result
-        ≡ position (λ i. i == index) (ascending (set_in B.Bits B.Order.Endian set.now)) }
+        ≡ position (λ i. i == index) (ascending (set_in B.Shape B.Order.Endian set.now)) }
 {
     set.iter_ones().position(|member| member == index)
 }

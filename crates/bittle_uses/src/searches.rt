@@ -10,26 +10,26 @@ use std::alloc::{AllocError, Global};
 
 /// Returns whether some member is above a bound.
 pub fn has_any_above<B: Bits>(set: &B, bound: u32) -> bool
-    requires { ShapeFits B.Bits set.now }
+    requires { ShapeFits B.Shape set.now }
     ensures { result
-        ≡ list_any (λ i. nat_lt bound i) (ascending (set_in B.Bits B.Order.Endian set.now)) }
+        ≡ list_any (λ i. nat_lt bound i) (ascending (set_in B.Shape B.Order.Endian set.now)) }
 {
     set.iter_ones().any(|member| bound < member)
 }
 
 /// Returns the greatest member, or `None` where there is none.
 pub fn greatest<B: Bits>(set: &B) -> Option<u32>
-    requires { ShapeFits B.Bits set.now }
-    ensures { result ≡ reduce max (ascending (set_in B.Bits B.Order.Endian set.now)) }
+    requires { ShapeFits B.Shape set.now }
+    ensures { result ≡ reduce max (ascending (set_in B.Shape B.Order.Endian set.now)) }
 {
     set.iter_ones().max()
 }
 
 /// Returns the members, as a vector in increasing order.
 pub fn list_members<B: Bits>(alloc: Global, set: &B) -> Result<Vec<u32>, AllocError>
-    requires { ShapeFits B.Bits set.now }
+    requires { ShapeFits B.Shape set.now }
     ensures { IfOk result
-        (λ list. list.items ≡ ascending (set_in B.Bits B.Order.Endian set.now)) }
+        (λ list. list.items ≡ ascending (set_in B.Shape B.Order.Endian set.now)) }
 {
     set.iter_ones().collect(alloc)
 }
@@ -37,11 +37,11 @@ pub fn list_members<B: Bits>(alloc: Global, set: &B) -> Result<Vec<u32>, AllocEr
 /// Returns whether each member is at most the member of another set at the same place, as far as
 /// both sets go.
 pub fn is_pairwise_below<A: Bits, B: Bits>(first: &A, second: &B) -> bool
-    requires first_fits { ShapeFits A.Bits first.now }
-    requires second_fits { ShapeFits B.Bits second.now }
+    requires first_fits { ShapeFits A.Shape first.now }
+    requires second_fits { ShapeFits B.Shape second.now }
     ensures { result ≡ list_all (λ pair. nat_le pair.0 pair.1)
-        (zip (ascending (set_in A.Bits A.Order.Endian first.now))
-        (ascending (set_in B.Bits B.Order.Endian second.now))) }
+        (zip (ascending (set_in A.Shape A.Order.Endian first.now))
+        (ascending (set_in B.Shape B.Order.Endian second.now))) }
 {
     first
         .iter_ones()

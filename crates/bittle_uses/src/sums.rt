@@ -9,8 +9,8 @@ use bittle::Bits;
 
 /// Returns the sum of the members.
 pub fn sum_of_members<B: Bits>(set: &B) -> u64
-    requires { ShapeFits B.Bits set.now }
-    ensures { result ≡ sum (ascending (set_in B.Bits B.Order.Endian set.now)) }
+    requires { ShapeFits B.Shape set.now }
+    ensures { result ≡ sum (ascending (set_in B.Shape B.Order.Endian set.now)) }
 {
     let mut total = 0;
     for member in set.iter_ones() {

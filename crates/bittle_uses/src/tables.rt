@@ -100,10 +100,10 @@ pub fn entry_at_greatest_of_walked_set(mask: Set<u64>, row: &[u32; 64]) -> u32
 
 /// Returns the entry at the greatest member of any set, or 0. The row is as long as its capacity.
 pub fn entry_at_greatest_of_any<B: BitsOwned>(mask: B, row: &[u32]) -> u32
-    requires fits { ShapeFits B.Bits mask }
+    requires fits { ShapeFits B.Shape mask }
     requires long { (B.big mask).capacity ≤ length row.now }
     ensures { Some result ≡ last_or (Some 0) (map (λ i. slice_index row.now i)
-        (ascending (set_in B.Bits B.Order.Endian mask))) }
+        (ascending (set_in B.Shape B.Order.Endian mask))) }
 {
     let mut last = 0;
     for index in mask.iter_ones() {

@@ -1,6 +1,6 @@
 //! Walks of each form, and the bounded searches, against values worked out by hand.
 
-ghost use Rattle.bittle.specs.Shapes.{Fits};
+ghost use Rattle.bittle.specs.Values.{ShapeFits};
 
 use crate::checks::{holds, same};
 use bittle::prelude::*;
@@ -62,7 +62,7 @@ struct Expected<'a> {
 
 // Each borrowing form once.
 fn borrowed<B: Bits<Order = BigEndian>>(bits: &B, expected: &Expected<'_>) -> bool
-    requires { Fits B.indexable (B.big bits.now).capacity }
+    requires { ShapeFits B.Shape bits.now }
 {
     gives(bits.iter_ones(), expected.ones_be)
         && gives(bits.iter_ones_in::<BigEndian>(), expected.ones_be)
@@ -78,7 +78,7 @@ fn borrowed<B: Bits<Order = BigEndian>>(bits: &B, expected: &Expected<'_>) -> bo
 
 // Each owning form once.
 fn owned<B: BitsOwned<Order = BigEndian>>(bits: B, expected: &Expected<'_>) -> bool
-    requires { Fits B.indexable (B.big bits).capacity }
+    requires { ShapeFits B.Shape bits }
 {
     gives(bits.into_iter_ones(), expected.ones_be)
         && gives(bits.into_iter_ones_in::<BigEndian>(), expected.ones_be)

@@ -4,8 +4,8 @@
 //! last, and ranges begin at 0, in the first word and past it.
 
 ghost use Rattle.std.specs.Prelude.{◌≡◌, IsTrue};
-ghost use Rattle.bittle_bits.specs.Orders.{members};
 ghost use Rattle.bittle.specs.MacroLists.{listed_set, listed_open_set, listed_whole_set, listed_three_set, listed_ranges_set};
+ghost use Rattle.bittle_bits.specs.Values.{set_in};
 
 use bittle_bits::bits_owned::BitsOwned;
 use bittle_bits::endian::{BigEndian, Endian, LittleEndian};
@@ -13,7 +13,7 @@ use bittle_bits::endian::{BigEndian, Endian, LittleEndian};
 /// Lists an index first, then ranges.
 fn listed<B: BitsOwned>(index: u32) -> B
     requires { IsTrue B.indexable }
-    ensures { members B.Order.mirrored B.width (B.big result) ≡ listed_set B.type_capacity index }
+    ensures { set_in B.Shape B.Order.Endian result ≡ listed_set B.type_capacity index }
 {
     crate::set![index, 2..=3, 5..7, 9..4, 14..]
 }
@@ -21,8 +21,7 @@ fn listed<B: BitsOwned>(index: u32) -> B
 /// Lists as [`listed`] does, in little-endian order.
 fn listed_le<B: BitsOwned>(index: u32) -> B
     requires { IsTrue B.indexable }
-    ensures { members ⟦<LittleEndian as Endian>⟧.mirrored B.width (B.big result)
-        ≡ listed_set B.type_capacity index }
+    ensures { set_in B.Shape ⟦<LittleEndian as Endian>⟧ result ≡ listed_set B.type_capacity index }
 {
     crate::set_le![index, 2..=3, 5..7, 9..4, 14..]
 }
@@ -30,8 +29,7 @@ fn listed_le<B: BitsOwned>(index: u32) -> B
 /// Lists as [`listed`] does, in big-endian order.
 fn listed_be<B: BitsOwned>(index: u32) -> B
     requires { IsTrue B.indexable }
-    ensures { members ⟦<BigEndian as Endian>⟧.mirrored B.width (B.big result)
-        ≡ listed_set B.type_capacity index }
+    ensures { set_in B.Shape ⟦<BigEndian as Endian>⟧ result ≡ listed_set B.type_capacity index }
 {
     crate::set_be![index, 2..=3, 5..7, 9..4, 14..]
 }
@@ -39,8 +37,7 @@ fn listed_be<B: BitsOwned>(index: u32) -> B
 /// Lists an open range first, and an index last.
 fn listed_open<B: BitsOwned>(index: u32) -> B
     requires { IsTrue B.indexable }
-    ensures { members B.Order.mirrored B.width (B.big result)
-        ≡ listed_open_set B.type_capacity index }
+    ensures { set_in B.Shape B.Order.Endian result ≡ listed_open_set B.type_capacity index }
 {
     crate::set![100.., 2..=3, 70..75, 9, index]
 }
@@ -48,7 +45,7 @@ fn listed_open<B: BitsOwned>(index: u32) -> B
 /// Lists as [`listed_open`] does, in little-endian order.
 fn listed_open_le<B: BitsOwned>(index: u32) -> B
     requires { IsTrue B.indexable }
-    ensures { members ⟦<LittleEndian as Endian>⟧.mirrored B.width (B.big result)
+    ensures { set_in B.Shape ⟦<LittleEndian as Endian>⟧ result
         ≡ listed_open_set B.type_capacity index }
 {
     crate::set_le![100.., 2..=3, 70..75, 9, index]
@@ -57,7 +54,7 @@ fn listed_open_le<B: BitsOwned>(index: u32) -> B
 /// Lists as [`listed_open`] does, in big-endian order.
 fn listed_open_be<B: BitsOwned>(index: u32) -> B
     requires { IsTrue B.indexable }
-    ensures { members ⟦<BigEndian as Endian>⟧.mirrored B.width (B.big result)
+    ensures { set_in B.Shape ⟦<BigEndian as Endian>⟧ result
         ≡ listed_open_set B.type_capacity index }
 {
     crate::set_be![100.., 2..=3, 70..75, 9, index]
@@ -66,7 +63,7 @@ fn listed_open_be<B: BitsOwned>(index: u32) -> B
 /// Lists every index by an open range.
 fn listed_whole<B: BitsOwned>() -> B
     requires { IsTrue B.indexable }
-    ensures { members B.Order.mirrored B.width (B.big result) ≡ listed_whole_set B.type_capacity }
+    ensures { set_in B.Shape B.Order.Endian result ≡ listed_whole_set B.type_capacity }
 {
     crate::set![0..]
 }
@@ -74,8 +71,7 @@ fn listed_whole<B: BitsOwned>() -> B
 /// Lists as [`listed_whole`] does, in little-endian order.
 fn listed_whole_le<B: BitsOwned>() -> B
     requires { IsTrue B.indexable }
-    ensures { members ⟦<LittleEndian as Endian>⟧.mirrored B.width (B.big result)
-        ≡ listed_whole_set B.type_capacity }
+    ensures { set_in B.Shape ⟦<LittleEndian as Endian>⟧ result ≡ listed_whole_set B.type_capacity }
 {
     crate::set_le![0..]
 }
@@ -83,8 +79,7 @@ fn listed_whole_le<B: BitsOwned>() -> B
 /// Lists as [`listed_whole`] does, in big-endian order.
 fn listed_whole_be<B: BitsOwned>() -> B
     requires { IsTrue B.indexable }
-    ensures { members ⟦<BigEndian as Endian>⟧.mirrored B.width (B.big result)
-        ≡ listed_whole_set B.type_capacity }
+    ensures { set_in B.Shape ⟦<BigEndian as Endian>⟧ result ≡ listed_whole_set B.type_capacity }
 {
     crate::set_be![0..]
 }
@@ -105,8 +100,7 @@ fn same(index: u32) -> u32
 /// Lists names beside one another, and a call.
 fn listed_names<B: BitsOwned>(a: u32, b: u32, c: u32) -> B
     requires { IsTrue B.indexable }
-    ensures { members B.Order.mirrored B.width (B.big result)
-        ≡ listed_three_set B.type_capacity a b c }
+    ensures { set_in B.Shape B.Order.Endian result ≡ listed_three_set B.type_capacity a b c }
 {
     crate::set![a, b, same(c)]
 }
@@ -114,8 +108,7 @@ fn listed_names<B: BitsOwned>(a: u32, b: u32, c: u32) -> B
 /// Lists an index in brackets, a field and a cast.
 fn listed_shapes<B: BitsOwned>(d: u32, p: Place, e: u8) -> B
     requires { IsTrue B.indexable }
-    ensures { members B.Order.mirrored B.width (B.big result)
-        ≡ listed_three_set B.type_capacity d p.x e }
+    ensures { set_in B.Shape B.Order.Endian result ≡ listed_three_set B.type_capacity d p.x e }
 {
     crate::set![(d), p.x, e as u32]
 }
@@ -123,8 +116,7 @@ fn listed_shapes<B: BitsOwned>(d: u32, p: Place, e: u8) -> B
 /// Lists ranges of each kind beside one of their kind.
 fn listed_ranges<B: BitsOwned>() -> B
     requires { IsTrue B.indexable }
-    ensures { members B.Order.mirrored B.width (B.big result)
-        ≡ listed_ranges_set B.type_capacity }
+    ensures { set_in B.Shape B.Order.Endian result ≡ listed_ranges_set B.type_capacity }
 {
     crate::set![1..=2, 4..=5, 7..9, 10..12]
 }
@@ -132,7 +124,7 @@ fn listed_ranges<B: BitsOwned>() -> B
 /// Lists as [`listed_names`] does, in little-endian order.
 fn listed_names_le<B: BitsOwned>(a: u32, b: u32, c: u32) -> B
     requires { IsTrue B.indexable }
-    ensures { members ⟦<LittleEndian as Endian>⟧.mirrored B.width (B.big result)
+    ensures { set_in B.Shape ⟦<LittleEndian as Endian>⟧ result
         ≡ listed_three_set B.type_capacity a b c }
 {
     crate::set_le![a, b, same(c)]
@@ -141,7 +133,7 @@ fn listed_names_le<B: BitsOwned>(a: u32, b: u32, c: u32) -> B
 /// Lists as [`listed_names`] does, in big-endian order.
 fn listed_names_be<B: BitsOwned>(a: u32, b: u32, c: u32) -> B
     requires { IsTrue B.indexable }
-    ensures { members ⟦<BigEndian as Endian>⟧.mirrored B.width (B.big result)
+    ensures { set_in B.Shape ⟦<BigEndian as Endian>⟧ result
         ≡ listed_three_set B.type_capacity a b c }
 {
     crate::set_be![a, b, same(c)]
@@ -150,7 +142,7 @@ fn listed_names_be<B: BitsOwned>(a: u32, b: u32, c: u32) -> B
 /// Lists as [`listed_shapes`] does, in little-endian order.
 fn listed_shapes_le<B: BitsOwned>(d: u32, p: Place, e: u8) -> B
     requires { IsTrue B.indexable }
-    ensures { members ⟦<LittleEndian as Endian>⟧.mirrored B.width (B.big result)
+    ensures { set_in B.Shape ⟦<LittleEndian as Endian>⟧ result
         ≡ listed_three_set B.type_capacity d p.x e }
 {
     crate::set_le![(d), p.x, e as u32]
@@ -159,7 +151,7 @@ fn listed_shapes_le<B: BitsOwned>(d: u32, p: Place, e: u8) -> B
 /// Lists as [`listed_shapes`] does, in big-endian order.
 fn listed_shapes_be<B: BitsOwned>(d: u32, p: Place, e: u8) -> B
     requires { IsTrue B.indexable }
-    ensures { members ⟦<BigEndian as Endian>⟧.mirrored B.width (B.big result)
+    ensures { set_in B.Shape ⟦<BigEndian as Endian>⟧ result
         ≡ listed_three_set B.type_capacity d p.x e }
 {
     crate::set_be![(d), p.x, e as u32]
@@ -168,8 +160,7 @@ fn listed_shapes_be<B: BitsOwned>(d: u32, p: Place, e: u8) -> B
 /// Lists as [`listed_ranges`] does, in little-endian order.
 fn listed_ranges_le<B: BitsOwned>() -> B
     requires { IsTrue B.indexable }
-    ensures { members ⟦<LittleEndian as Endian>⟧.mirrored B.width (B.big result)
-        ≡ listed_ranges_set B.type_capacity }
+    ensures { set_in B.Shape ⟦<LittleEndian as Endian>⟧ result ≡ listed_ranges_set B.type_capacity }
 {
     crate::set_le![1..=2, 4..=5, 7..9, 10..12]
 }
@@ -177,8 +168,7 @@ fn listed_ranges_le<B: BitsOwned>() -> B
 /// Lists as [`listed_ranges`] does, in big-endian order.
 fn listed_ranges_be<B: BitsOwned>() -> B
     requires { IsTrue B.indexable }
-    ensures { members ⟦<BigEndian as Endian>⟧.mirrored B.width (B.big result)
-        ≡ listed_ranges_set B.type_capacity }
+    ensures { set_in B.Shape ⟦<BigEndian as Endian>⟧ result ≡ listed_ranges_set B.type_capacity }
 {
     crate::set_be![1..=2, 4..=5, 7..9, 10..12]
 }

@@ -120,10 +120,10 @@ pub fn replay_walk<B: Bits, E: Endian>(
     steps: &[Step],
     answers: &mut [Option<u32>],
 ) -> Looks
-    requires fits { ShapeFits B.Bits bits.now }
+    requires fits { ShapeFits B.Shape bits.now }
     requires places { length answers.old ≡ length steps.now }
     ensures answers { answers.new
-        ≡ answers_of steps.now (ascending (ones_or_zeros ones (set_in B.Bits E.Endian bits.now))) }
+        ≡ answers_of steps.now (ascending (ones_or_zeros ones (set_in B.Shape E.Endian bits.now))) }
     ensures looks { AreThrifty result answers.new ((B.big bits.now).capacity / B.width) }
 {
     if ones {

@@ -5,7 +5,7 @@ ghost use Rattle.std.specs.Prelude.{◌≡◌, ◌+◌, ◌*◌, ◌<◌, ◌≤
 ghost use Rattle.bittle_bits.specs.Digits.{digit_set};
 ghost use Rattle.bittle_bits.specs.Orders.{members};
 ghost use Rattle.bittle_bits.specs.SetOperations.{combination_of, just_one};
-ghost use Rattle.bittle_bits.specs.Shapes.{Fits};
+ghost use Rattle.bittle_bits.specs.Values.{set_in, ShapeFits};
 ghost use Rattle.bittle_bits.specs.Words.{word_of};
 ghost use Rattle.bittle.specs.Comparison.{AreSame, AreSameBelow, HasPast, HasNonePast, IsFirstApart, Precedes};
 
@@ -18,8 +18,8 @@ use std::cmp::Ordering;
 #[inline]
 fn word_apart<A: Bits, B: Bits>(left: &A, right: &B, k: u32) -> A::LeafWord
     requires width { A.width ≡ B.width }
-    requires left_fits { Fits A.indexable (A.big left.now).capacity }
-    requires right_fits { Fits B.indexable (B.big right.now).capacity }
+    requires left_fits { ShapeFits A.Shape left.now }
+    requires right_fits { ShapeFits B.Shape right.now }
     requires in_left { k * A.width < (A.big left.now).capacity }
     requires in_right { k * B.width < (B.big right.now).capacity }
     ensures { digit_set A.width (A.LeafWord.digits result)
@@ -41,11 +41,11 @@ fn first_apart_among<A: Bits, B: Bits, E: Endian>(
     to: u32,
 ) -> Option<u32>
     requires width { A.width ≡ B.width }
-    requires left_fits { Fits A.indexable (A.big left.now).capacity }
-    requires right_fits { Fits B.indexable (B.big right.now).capacity }
+    requires left_fits { ShapeFits A.Shape left.now }
+    requires right_fits { ShapeFits B.Shape right.now }
     requires in_left { to * A.width ≤ (A.big left.now).capacity }
     requires in_right { to * B.width ≤ (B.big right.now).capacity }
-    ensures { let ours = members E.mirrored A.width (A.big left.now) in
+    ensures { let ours = set_in A.Shape E.Endian left.now in
         let theirs = members E.mirrored A.width (B.big right.now) in
         AreSameBelow ours theirs (from * A.width)
         → MatchOption result (AreSameBelow ours theirs (to * A.width))
@@ -66,11 +66,11 @@ fn first_apart_among<A: Bits, B: Bits, E: Endian>(
 #[inline]
 fn are_four_same<A: Bits, B: Bits, E: Endian>(left: &A, right: &B, from: u32) -> bool
     requires width { A.width ≡ B.width }
-    requires left_fits { Fits A.indexable (A.big left.now).capacity }
-    requires right_fits { Fits B.indexable (B.big right.now).capacity }
+    requires left_fits { ShapeFits A.Shape left.now }
+    requires right_fits { ShapeFits B.Shape right.now }
     requires in_left { (from + 4) * A.width ≤ (A.big left.now).capacity }
     requires in_right { (from + 4) * B.width ≤ (B.big right.now).capacity }
-    ensures { let ours = members E.mirrored A.width (A.big left.now) in
+    ensures { let ours = set_in A.Shape E.Endian left.now in
         let theirs = members E.mirrored A.width (B.big right.now) in
         IsTrue result → AreSameBelow ours theirs (from * A.width)
         → AreSameBelow ours theirs ((from + 4) * A.width) }
@@ -87,11 +87,11 @@ fn are_four_same<A: Bits, B: Bits, E: Endian>(left: &A, right: &B, from: u32) ->
 #[inline]
 fn first_apart_below<A: Bits, B: Bits, E: Endian>(left: &A, right: &B, words: u32) -> Option<u32>
     requires width { A.width ≡ B.width }
-    requires left_fits { Fits A.indexable (A.big left.now).capacity }
-    requires right_fits { Fits B.indexable (B.big right.now).capacity }
+    requires left_fits { ShapeFits A.Shape left.now }
+    requires right_fits { ShapeFits B.Shape right.now }
     requires in_left { words * A.width ≤ (A.big left.now).capacity }
     requires in_right { words * B.width ≤ (B.big right.now).capacity }
-    ensures { let ours = members E.mirrored A.width (A.big left.now) in
+    ensures { let ours = set_in A.Shape E.Endian left.now in
         let theirs = members E.mirrored A.width (B.big right.now) in
         MatchOption result (AreSameBelow ours theirs (words * A.width))
         (λ d. IsFirstApart ours theirs d) }
@@ -111,10 +111,10 @@ fn first_apart_below<A: Bits, B: Bits, E: Endian>(left: &A, right: &B, words: u3
 /// members.
 pub fn first_apart<A: Bits, B: Bits, E: Endian>(left: &A, right: &B) -> Option<u32>
     requires width { A.width ≡ B.width }
-    requires left_fits { Fits A.indexable (A.big left.now).capacity }
-    requires right_fits { Fits B.indexable (B.big right.now).capacity }
-    ensures { let ours = members E.mirrored A.width (A.big left.now) in
-        let theirs = members E.mirrored B.width (B.big right.now) in
+    requires left_fits { ShapeFits A.Shape left.now }
+    requires right_fits { ShapeFits B.Shape right.now }
+    ensures { let ours = set_in A.Shape E.Endian left.now in
+        let theirs = set_in B.Shape E.Endian right.now in
         MatchOption result (AreSame ours theirs) (λ d. IsFirstApart ours theirs d) }
 {
     let width = <A::LeafWord as Number>::width();
@@ -138,8 +138,8 @@ pub fn first_apart<A: Bits, B: Bits, E: Endian>(left: &A, right: &B) -> Option<u
 /// Returns whether an index is a member. It does not wrap.
 #[inline]
 fn has<B: Bits, E: Endian>(bits: &B, index: u32) -> bool
-    requires { Fits B.indexable (B.big bits.now).capacity }
-    ensures { result ≡ (members E.mirrored B.width (B.big bits.now)).has index }
+    requires { ShapeFits B.Shape bits.now }
+    ensures { result ≡ (set_in B.Shape E.Endian bits.now).has index }
 {
     index < bits.bits_capacity() && bits.test_bit_in::<E>(index)
 }
@@ -147,10 +147,9 @@ fn has<B: Bits, E: Endian>(bits: &B, index: u32) -> bool
 /// Returns whether a member lies past an index.
 #[inline]
 fn has_past<B: Bits, E: Endian>(bits: &B, index: u32) -> bool
-    requires { Fits B.indexable (B.big bits.now).capacity }
-    ensures { MatchBool result
-        (HasPast (members E.mirrored B.width (B.big bits.now)) index)
-        (HasNonePast (members E.mirrored B.width (B.big bits.now)) index) }
+    requires { ShapeFits B.Shape bits.now }
+    ensures { MatchBool result (HasPast (set_in B.Shape E.Endian bits.now) index)
+        (HasNonePast (set_in B.Shape E.Endian bits.now) index) }
 {
     let to = bits.bits_capacity();
     index < to && bits.first_one_in::<E>(index + 1, to).is_some()
@@ -159,10 +158,10 @@ fn has_past<B: Bits, E: Endian>(bits: &B, index: u32) -> bool
 /// Compares two sets by their words.
 pub fn compare<A: Bits, B: Bits, E: Endian>(left: &A, right: &B) -> Ordering
     requires width { A.width ≡ B.width }
-    requires left_fits { Fits A.indexable (A.big left.now).capacity }
-    requires right_fits { Fits B.indexable (B.big right.now).capacity }
-    ensures { let ours = members E.mirrored A.width (A.big left.now) in
-        let theirs = members E.mirrored B.width (B.big right.now) in
+    requires left_fits { ShapeFits A.Shape left.now }
+    requires right_fits { ShapeFits B.Shape right.now }
+    ensures { let ours = set_in A.Shape E.Endian left.now in
+        let theirs = set_in B.Shape E.Endian right.now in
         MatchOrdering result (Precedes ours theirs) (AreSame ours theirs) (Precedes theirs ours) }
 {
     match first_apart::<A, B, E>(left, right) {

@@ -4,7 +4,6 @@ ghost use Rattle.std.specs.Cmp.{partial_equiv_from_equiv, partial_order_from_agr
 ghost use Rattle.std.specs.Cmp.Lexicographic.{nat_list_eq_equiv, nat_list_cmp_total, texts_ties};
 ghost use Rattle.std.specs.Ordering.{MatchOrdering, on, as_partial_cmp};
 ghost use Rattle.std.specs.Prelude.{◌≡◌, ◌↔◌, IsTrue, refl};
-ghost use Rattle.bittle_bits.specs.Orders.{members};
 ghost use Rattle.bittle_bits.specs.PlainSet.{ascending};
 ghost use Rattle.bittle_bits.specs.Values.{set_in, ShapeFits};
 ghost use Rattle.bittle.specs.Comparison.{list_cmp, list_eq, AreSame, Precedes};
@@ -28,11 +27,11 @@ fn are_alike<A: Bits, B: Bits, E: Endian, F: Endian>() -> bool
 // both walk step by step, up to their first difference.
 #[inline]
 fn compare<A: Bits, B: Bits, E: Endian, F: Endian>(left: &A, right: &B) -> Ordering
-    requires left_fits { ShapeFits A.Bits left.now }
-    requires right_fits { ShapeFits B.Bits right.now }
+    requires left_fits { ShapeFits A.Shape left.now }
+    requires right_fits { ShapeFits B.Shape right.now }
     ensures { result
-        ≡ list_cmp (ascending (set_in A.Bits E.Endian left.now))
-        (ascending (set_in B.Bits F.Endian right.now)) }
+        ≡ list_cmp (ascending (set_in A.Shape E.Endian left.now))
+        (ascending (set_in B.Shape F.Endian right.now)) }
 {
     if are_alike::<A, B, E, F>() {
         apart::compare::<A, B, E>(left, right)
@@ -50,13 +49,13 @@ impl<T: Bits, E: Endian> Set<T, E> {
     /// Set::new(1u8).cmp_bits(&3u16);                      // Less
     /// ```
     pub fn cmp_bits<U: Bits>(&self, other: &U) -> Ordering
-        requires { ShapeFits U.Bits other.now }
+        requires { ShapeFits U.Shape other.now }
         ensures value { result
-            ≡ list_cmp (ascending (set_in T.Bits E.Endian self.now.bits))
-            (ascending (set_in U.Bits U.Order.Endian other.now)) }
+            ≡ list_cmp (ascending (set_in T.Shape E.Endian self.now.bits))
+            (ascending (set_in U.Shape U.Order.Endian other.now)) }
         // What decides it.
-        ensures decided { let ours = set_in T.Bits E.Endian self.now.bits in
-            let theirs = set_in U.Bits U.Order.Endian other.now in
+        ensures decided { let ours = set_in T.Shape E.Endian self.now.bits in
+            let theirs = set_in U.Shape U.Order.Endian other.now in
             MatchOrdering result (Precedes ours theirs) (AreSame ours theirs)
             (Precedes theirs ours) }
     {
@@ -71,14 +70,14 @@ impl<T: Bits, E: Endian> Set<T, E> {
     /// Set::new_le(0x80u8).eq_bits(&1u16);                 // true: each has the one index 0
     /// ```
     pub fn eq_bits<U: Bits>(&self, other: &U) -> bool
-        requires { ShapeFits U.Bits other.now }
+        requires { ShapeFits U.Shape other.now }
         ensures value { result
-            ≡ list_eq (ascending (set_in T.Bits E.Endian self.now.bits))
-            (ascending (set_in U.Bits U.Order.Endian other.now)) }
+            ≡ list_eq (ascending (set_in T.Shape E.Endian self.now.bits))
+            (ascending (set_in U.Shape U.Order.Endian other.now)) }
         // What decides it.
         ensures decided { IsTrue result
-            ↔ AreSame (set_in T.Bits E.Endian self.now.bits)
-            (set_in U.Bits U.Order.Endian other.now) }
+            ↔ AreSame (set_in T.Shape E.Endian self.now.bits)
+            (set_in U.Shape U.Order.Endian other.now) }
     {
         if are_alike::<T, U, E, U::Order>() {
             apart::first_apart::<T, U, E>(&self.bits, other).is_none()
@@ -89,38 +88,37 @@ impl<T: Bits, E: Endian> Set<T, E> {
 }
 
 impl<T: Bits, E: Endian> PartialEq for Set<T, E> {
-    ghost eq = { on (λ s. ascending (set_in T.Bits E.Endian s.bits)) list_eq };
+    ghost eq = { on (λ s. ascending (set_in T.Shape E.Endian s.bits)) list_eq };
 
     ghost laws = { partial_equiv_from_equiv
-        (on_equiv (λ s. ascending (members E.mirrored T.width (T.big s.bits))) nat_list_eq_equiv) };
+        (on_equiv (λ s. ascending (set_in T.Shape E.Endian s.bits)) nat_list_eq_equiv) };
 
     fn eq(&self, other: &Set<T, E>) -> bool
         ensures value { result
-            ≡ list_eq (ascending (set_in T.Bits E.Endian self.now.bits))
-            (ascending (set_in T.Bits E.Endian other.now.bits)) }
+            ≡ list_eq (ascending (set_in T.Shape E.Endian self.now.bits))
+            (ascending (set_in T.Shape E.Endian other.now.bits)) }
         ensures decided { IsTrue result
-            ↔ AreSame (set_in T.Bits E.Endian self.now.bits)
-            (set_in T.Bits E.Endian other.now.bits) }
+            ↔ AreSame (set_in T.Shape E.Endian self.now.bits)
+            (set_in T.Shape E.Endian other.now.bits) }
     {
         self.eq_bits(other)
     }
 }
 
 impl<T: Bits, E: Endian> Eq for Set<T, E> {
-    ghost laws = { on_equiv
-        (λ s. ascending (members E.mirrored T.width (T.big s.bits))) nat_list_eq_equiv };
+    ghost laws = { on_equiv (λ s. ascending (set_in T.Shape E.Endian s.bits)) nat_list_eq_equiv };
 }
 
 impl<T: Bits, E: Endian> PartialOrd for Set<T, E> {
     ghost partial_cmp = { as_partial_cmp
-        (on (λ s. ascending (set_in T.Bits E.Endian s.bits)) list_cmp) };
+        (on (λ s. ascending (set_in T.Shape E.Endian s.bits)) list_cmp) };
 
     ghost laws = { partial_order_from_agreeing_total
-        (on (λ s. ascending (members E.mirrored T.width (T.big s.bits))) list_cmp)
-        (on_total (λ s. ascending (members E.mirrored T.width (T.big s.bits))) nat_list_cmp_total)
+        (on (λ s. ascending (set_in T.Shape E.Endian s.bits)) list_cmp)
+        (on_total (λ s. ascending (set_in T.Shape E.Endian s.bits)) nat_list_cmp_total)
         (λ a b. refl)
-        (λ a b. texts_ties (ascending (members E.mirrored T.width (T.big a.bits)))
-        (ascending (members E.mirrored T.width (T.big b.bits)))) };
+        (λ a b. texts_ties (ascending (set_in T.Shape E.Endian a.bits))
+        (ascending (set_in T.Shape E.Endian b.bits))) };
 
     fn partial_cmp(&self, other: &Set<T, E>) -> Option<Ordering> {
         Some(self.cmp(other))
@@ -128,22 +126,21 @@ impl<T: Bits, E: Endian> PartialOrd for Set<T, E> {
 }
 
 impl<T: Bits, E: Endian> Ord for Set<T, E> {
-    ghost cmp = { on (λ s. ascending (set_in T.Bits E.Endian s.bits)) list_cmp };
+    ghost cmp = { on (λ s. ascending (set_in T.Shape E.Endian s.bits)) list_cmp };
 
-    ghost total = { on_total
-        (λ s. ascending (members E.mirrored T.width (T.big s.bits))) nat_list_cmp_total };
+    ghost total = { on_total (λ s. ascending (set_in T.Shape E.Endian s.bits)) nat_list_cmp_total };
 
     ghost matches_partial_cmp = { λ a b. refl };
 
-    ghost matches_eq = { λ a b. texts_ties (ascending (members E.mirrored T.width (T.big a.bits)))
-        (ascending (members E.mirrored T.width (T.big b.bits))) };
+    ghost matches_eq = { λ a b. texts_ties (ascending (set_in T.Shape E.Endian a.bits))
+        (ascending (set_in T.Shape E.Endian b.bits)) };
 
     fn cmp(&self, other: &Set<T, E>) -> Ordering
         ensures value { result
-            ≡ list_cmp (ascending (set_in T.Bits E.Endian self.now.bits))
-            (ascending (set_in T.Bits E.Endian other.now.bits)) }
-        ensures decided { let ours = set_in T.Bits E.Endian self.now.bits in
-            let theirs = set_in T.Bits E.Endian other.now.bits in
+            ≡ list_cmp (ascending (set_in T.Shape E.Endian self.now.bits))
+            (ascending (set_in T.Shape E.Endian other.now.bits)) }
+        ensures decided { let ours = set_in T.Shape E.Endian self.now.bits in
+            let theirs = set_in T.Shape E.Endian other.now.bits in
             MatchOrdering result (Precedes ours theirs) (AreSame ours theirs)
             (Precedes theirs ours) }
     {

@@ -2,8 +2,8 @@
 
 ghost use Rattle.std.specs.Prelude.{Some};
 ghost use Rattle.std.specs.Fmt.{WritesOnOk};
-ghost use Rattle.bittle_bits.specs.Orders.{members};
 ghost use Rattle.bittle.specs.DebugText.{index_text, set_text};
+ghost use Rattle.bittle_bits.specs.Values.{set_in};
 
 use super::Set;
 use bittle_bits::bits::Bits;
@@ -13,7 +13,7 @@ use std::fmt;
 /// Prints the indexes of the set bits in increasing order between braces, as `{1, 14}`. The flags
 /// of the format change nothing.
 impl<T: Bits, E: Endian> fmt::Debug for Set<T, E> {
-    ghost debug_output = { λ s. Some (set_text (members E.mirrored T.width (T.big s.bits))) };
+    ghost debug_output = { λ s. Some (set_text (set_in T.Shape E.Endian s.bits)) };
 
     fn fmt<W: fmt::Write>(&self, f: &mut fmt::Formatter<W>) -> fmt::Result {
         f.write_str("{")?;

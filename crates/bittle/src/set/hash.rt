@@ -2,8 +2,8 @@
 
 ghost use Rattle.std.specs.Cmp.Lexicographic.{bytes_decides};
 ghost use Rattle.std.specs.Hash.{on_Alike, same_Alike};
-ghost use Rattle.bittle_bits.specs.Orders.{members};
 ghost use Rattle.bittle_bits.specs.PlainSet.{ascending};
+ghost use Rattle.bittle_bits.specs.Values.{set_in};
 ghost use Rattle.bittle.specs.Comparison.{feed};
 
 use super::Set;
@@ -14,9 +14,9 @@ use std::hash::{Hash, Hasher};
 /// Feeds the hasher the index of each set bit in increasing order and then their number, each as a
 /// `u32`. So equal sets are fed alike, whatever the slices that they wrap.
 impl<T: Bits, E: Endian> Hash for Set<T, E> {
-    ghost hash_input = { λ s. feed (ascending (members E.mirrored T.width (T.big s.bits))) };
+    ghost hash_input = { λ s. feed (ascending (set_in T.Shape E.Endian s.bits)) };
 
-    ghost respects_eq = { (on_Alike (λ s. ascending (members E.mirrored T.width (T.big s.bits)))
+    ghost respects_eq = { (on_Alike (λ s. ascending (set_in T.Shape E.Endian s.bits))
         (same_Alike feed bytes_decides)).fed };
 
     fn hash<H: Hasher>(&self, state: &mut H) {

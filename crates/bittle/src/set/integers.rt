@@ -2,9 +2,9 @@
 
 ghost use Rattle.std.specs.Prelude.{◌≡◌, Bool, refl};
 ghost use Rattle.std.proofs.Common.{lit<};
-ghost use Rattle.bittle_bits.specs.Orders.{members};
 ghost use Rattle.bittle_bits.specs.PlainSet.{empty_set, size};
 ghost use Rattle.bittle_bits.specs.Shapes.{Fits};
+ghost use Rattle.bittle_bits.specs.Values.{set_mirrored};
 
 use super::Set;
 use bittle_bits::bits_owned::BitsOwned;
@@ -75,7 +75,7 @@ impl<T: Word, E: Endian> From<T> for Set<T, E> {
 
 impl<T: Word, E: Endian> Default for Set<T, E> {
     ghost is_default = { λ s. (T.big s.bits ≡ empty_set T.type_capacity)
-        × ((mirrored : Bool) → members mirrored T.width (T.big s.bits) ≡ empty_set T.type_capacity)
+        × ((mirrored : Bool) → set_mirrored T.Shape mirrored s.bits ≡ empty_set T.type_capacity)
         × (size (T.big s.bits) ≡ 0) };
 
     #[inline]

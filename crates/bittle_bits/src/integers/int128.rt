@@ -10,22 +10,22 @@ use crate::bits::Bits;
 use crate::bits_mut::BitsMut;
 use crate::bits_owned::BitsOwned;
 use crate::endian::{DefaultEndian, Endian};
-use crate::internal::sealed::Sealed;
+use crate::internal::shape::Shape;
 use crate::operation::Operation;
 use bittle_words::word;
 
-impl Sealed for u128 {}
-
-impl Bits for u128 {
-    type Order = DefaultEndian;
-
-    type LeafWord = u128;
-
+impl Shape for u128 {
     ghost width = { 128 };
 
     ghost indexable = { true };
 
     ghost big = { λ x. digit_set 128 x };
+}
+
+impl Bits for u128 {
+    type Order = DefaultEndian;
+
+    type LeafWord = u128;
 
     ghost leaf_width = { refl };
 
@@ -120,18 +120,18 @@ impl BitsOwned for u128 {
     }
 }
 
-impl Sealed for i128 {}
-
-impl Bits for i128 {
-    type Order = DefaultEndian;
-
-    type LeafWord = i128;
-
+impl Shape for i128 {
     ghost width = { 128 };
 
     ghost indexable = { true };
 
     ghost big = { λ x. digit_set 128 (cast_unsigned w128 x) };
+}
+
+impl Bits for i128 {
+    type Order = DefaultEndian;
+
+    type LeafWord = i128;
 
     ghost leaf_width = { refl };
 

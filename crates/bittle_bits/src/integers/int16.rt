@@ -10,22 +10,22 @@ use crate::bits::Bits;
 use crate::bits_mut::BitsMut;
 use crate::bits_owned::BitsOwned;
 use crate::endian::{DefaultEndian, Endian};
-use crate::internal::sealed::Sealed;
+use crate::internal::shape::Shape;
 use crate::operation::Operation;
 use bittle_words::word;
 
-impl Sealed for u16 {}
-
-impl Bits for u16 {
-    type Order = DefaultEndian;
-
-    type LeafWord = u16;
-
+impl Shape for u16 {
     ghost width = { 16 };
 
     ghost indexable = { true };
 
     ghost big = { λ x. digit_set 16 x };
+}
+
+impl Bits for u16 {
+    type Order = DefaultEndian;
+
+    type LeafWord = u16;
 
     ghost leaf_width = { refl };
 
@@ -120,18 +120,18 @@ impl BitsOwned for u16 {
     }
 }
 
-impl Sealed for i16 {}
-
-impl Bits for i16 {
-    type Order = DefaultEndian;
-
-    type LeafWord = i16;
-
+impl Shape for i16 {
     ghost width = { 16 };
 
     ghost indexable = { true };
 
     ghost big = { λ x. digit_set 16 (cast_unsigned w16 x) };
+}
+
+impl Bits for i16 {
+    type Order = DefaultEndian;
+
+    type LeafWord = i16;
 
     ghost leaf_width = { refl };
 

@@ -10,22 +10,22 @@ use crate::bits::Bits;
 use crate::bits_mut::BitsMut;
 use crate::bits_owned::BitsOwned;
 use crate::endian::{DefaultEndian, Endian};
-use crate::internal::sealed::Sealed;
+use crate::internal::shape::Shape;
 use crate::operation::Operation;
 use bittle_words::word;
 
-impl Sealed for u32 {}
-
-impl Bits for u32 {
-    type Order = DefaultEndian;
-
-    type LeafWord = u32;
-
+impl Shape for u32 {
     ghost width = { 32 };
 
     ghost indexable = { true };
 
     ghost big = { λ x. digit_set 32 x };
+}
+
+impl Bits for u32 {
+    type Order = DefaultEndian;
+
+    type LeafWord = u32;
 
     ghost leaf_width = { refl };
 
@@ -120,18 +120,18 @@ impl BitsOwned for u32 {
     }
 }
 
-impl Sealed for i32 {}
-
-impl Bits for i32 {
-    type Order = DefaultEndian;
-
-    type LeafWord = i32;
-
+impl Shape for i32 {
     ghost width = { 32 };
 
     ghost indexable = { true };
 
     ghost big = { λ x. digit_set 32 (cast_unsigned w32 x) };
+}
+
+impl Bits for i32 {
+    type Order = DefaultEndian;
+
+    type LeafWord = i32;
 
     ghost leaf_width = { refl };
 

@@ -10,22 +10,22 @@ use crate::bits::Bits;
 use crate::bits_mut::BitsMut;
 use crate::bits_owned::BitsOwned;
 use crate::endian::{DefaultEndian, Endian};
-use crate::internal::sealed::Sealed;
+use crate::internal::shape::Shape;
 use crate::operation::Operation;
 use bittle_words::word;
 
-impl Sealed for u64 {}
-
-impl Bits for u64 {
-    type Order = DefaultEndian;
-
-    type LeafWord = u64;
-
+impl Shape for u64 {
     ghost width = { 64 };
 
     ghost indexable = { true };
 
     ghost big = { λ x. digit_set 64 x };
+}
+
+impl Bits for u64 {
+    type Order = DefaultEndian;
+
+    type LeafWord = u64;
 
     ghost leaf_width = { refl };
 
@@ -120,18 +120,18 @@ impl BitsOwned for u64 {
     }
 }
 
-impl Sealed for i64 {}
-
-impl Bits for i64 {
-    type Order = DefaultEndian;
-
-    type LeafWord = i64;
-
+impl Shape for i64 {
     ghost width = { 64 };
 
     ghost indexable = { true };
 
     ghost big = { λ x. digit_set 64 (cast_unsigned w64 x) };
+}
+
+impl Bits for i64 {
+    type Order = DefaultEndian;
+
+    type LeafWord = i64;
 
     ghost leaf_width = { refl };
 

@@ -10,22 +10,22 @@ use crate::bits::Bits;
 use crate::bits_mut::BitsMut;
 use crate::bits_owned::BitsOwned;
 use crate::endian::{DefaultEndian, Endian};
-use crate::internal::sealed::Sealed;
+use crate::internal::shape::Shape;
 use crate::operation::Operation;
 use bittle_words::word;
 
-impl Sealed for u8 {}
-
-impl Bits for u8 {
-    type Order = DefaultEndian;
-
-    type LeafWord = u8;
-
+impl Shape for u8 {
     ghost width = { 8 };
 
     ghost indexable = { true };
 
     ghost big = { λ x. digit_set 8 x };
+}
+
+impl Bits for u8 {
+    type Order = DefaultEndian;
+
+    type LeafWord = u8;
 
     ghost leaf_width = { refl };
 
@@ -120,18 +120,18 @@ impl BitsOwned for u8 {
     }
 }
 
-impl Sealed for i8 {}
-
-impl Bits for i8 {
-    type Order = DefaultEndian;
-
-    type LeafWord = i8;
-
+impl Shape for i8 {
     ghost width = { 8 };
 
     ghost indexable = { true };
 
     ghost big = { λ x. digit_set 8 (cast_unsigned w8 x) };
+}
+
+impl Bits for i8 {
+    type Order = DefaultEndian;
+
+    type LeafWord = i8;
 
     ghost leaf_width = { refl };
 

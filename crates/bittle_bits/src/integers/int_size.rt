@@ -10,22 +10,22 @@ use crate::bits::Bits;
 use crate::bits_mut::BitsMut;
 use crate::bits_owned::BitsOwned;
 use crate::endian::{DefaultEndian, Endian};
-use crate::internal::sealed::Sealed;
+use crate::internal::shape::Shape;
 use crate::operation::Operation;
 use bittle_words::word;
 
-impl Sealed for usize {}
-
-impl Bits for usize {
-    type Order = DefaultEndian;
-
-    type LeafWord = usize;
-
+impl Shape for usize {
     ghost width = { 64 };
 
     ghost indexable = { true };
 
     ghost big = { λ x. digit_set 64 x };
+}
+
+impl Bits for usize {
+    type Order = DefaultEndian;
+
+    type LeafWord = usize;
 
     ghost leaf_width = { refl };
 
@@ -120,18 +120,18 @@ impl BitsOwned for usize {
     }
 }
 
-impl Sealed for isize {}
-
-impl Bits for isize {
-    type Order = DefaultEndian;
-
-    type LeafWord = isize;
-
+impl Shape for isize {
     ghost width = { 64 };
 
     ghost indexable = { true };
 
     ghost big = { λ x. digit_set 64 (cast_unsigned w64 x) };
+}
+
+impl Bits for isize {
+    type Order = DefaultEndian;
+
+    type LeafWord = isize;
 
     ghost leaf_width = { refl };
 

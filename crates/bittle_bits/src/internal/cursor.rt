@@ -2,10 +2,9 @@
 //! owned.
 
 ghost use Rattle.std.specs.Prelude.{◌≡◌, ℕ, ◌/◌};
-ghost use Rattle.bittle_bits.specs.Orders.{members};
 ghost use Rattle.bittle_bits.specs.PlainSet.{PlainSet};
-ghost use Rattle.bittle_bits.specs.Shapes.{Fits};
 ghost use Rattle.bittle_bits.specs.Cursor.{items_left_in, walk_of, IsWalkStart, Retires};
+ghost use Rattle.bittle_bits.specs.Values.{set_in, ShapeFits};
 ghost use Rattle.bittle_bits.specs.Walk.{ones_or_zeros, AreBelow, IsFresh, ResumesAs, StepsFront, StepsBack};
 
 use crate::bits::Bits;
@@ -27,13 +26,11 @@ pub struct Cursor<B: Bits, E: Endian> {
 /// two or more.
 #[inline]
 pub fn begin<B: Bits, E: Endian, K: Kind>(source: &Source<'_, B>) -> Cursor<B, E>
-    requires { Fits B.indexable (B.big source.now.set.now).capacity }
-    ensures starts { IsWalkStart
-        (ones_or_zeros K.ONES (members E.mirrored B.width (B.big source.now.set.now)))
+    requires { ShapeFits B.Shape source.now.set.now }
+    ensures starts { IsWalkStart (ones_or_zeros K.ONES (set_in B.Shape E.Endian source.now.set.now))
         ((B.big source.now.set.now).capacity / B.width) B.width result }
     ensures below { AreBelow (B.big source.now.set.now).capacity
-        (items_left_in
-        (ones_or_zeros K.ONES (members E.mirrored B.width (B.big source.now.set.now))) B.width
+        (items_left_in (ones_or_zeros K.ONES (set_in B.Shape E.Endian source.now.set.now)) B.width
         result) }
 {
     let mut at = Cursor {
@@ -88,12 +85,12 @@ pub fn step_front<B: Bits, E: Endian, K: Kind>(
     source: &Source<'_, B>,
     at: &mut Cursor<B, E>,
 ) -> Option<u32>
-    requires fits { Fits B.indexable (B.big source.now.set.now).capacity }
+    requires fits { ShapeFits B.Shape source.now.set.now }
     requires retires { Retires ((B.big source.now.set.now).capacity / B.width) at.old }
     ensures steps { StepsFront
-        (walk_of (ones_or_zeros K.ONES (members E.mirrored B.width (B.big source.now.set.now)))
+        (walk_of (ones_or_zeros K.ONES (set_in B.Shape E.Endian source.now.set.now))
         ((B.big source.now.set.now).capacity / B.width) B.width at.old) result
-        (walk_of (ones_or_zeros K.ONES (members E.mirrored B.width (B.big source.now.set.now)))
+        (walk_of (ones_or_zeros K.ONES (set_in B.Shape E.Endian source.now.set.now))
         ((B.big source.now.set.now).capacity / B.width) B.width at.new) }
     ensures retires { Retires ((B.big source.now.set.now).capacity / B.width) at.new }
 {
@@ -122,12 +119,12 @@ pub fn step_back<B: Bits, E: Endian, K: Kind>(
     source: &Source<'_, B>,
     at: &mut Cursor<B, E>,
 ) -> Option<u32>
-    requires fits { Fits B.indexable (B.big source.now.set.now).capacity }
+    requires fits { ShapeFits B.Shape source.now.set.now }
     requires retires { Retires ((B.big source.now.set.now).capacity / B.width) at.old }
     ensures steps { StepsBack
-        (walk_of (ones_or_zeros K.ONES (members E.mirrored B.width (B.big source.now.set.now)))
+        (walk_of (ones_or_zeros K.ONES (set_in B.Shape E.Endian source.now.set.now))
         ((B.big source.now.set.now).capacity / B.width) B.width at.old) result
-        (walk_of (ones_or_zeros K.ONES (members E.mirrored B.width (B.big source.now.set.now)))
+        (walk_of (ones_or_zeros K.ONES (set_in B.Shape E.Endian source.now.set.now))
         ((B.big source.now.set.now).capacity / B.width) B.width at.new) }
     ensures retires { Retires ((B.big source.now.set.now).capacity / B.width) at.new }
 {

@@ -2,7 +2,7 @@
 
 ghost use Rattle.std.specs.Prelude.{◌≡◌, ◌*◌, ◌<◌};
 ghost use Rattle.bittle_bits.specs.Digits.{digit_set};
-ghost use Rattle.bittle_bits.specs.Shapes.{Fits};
+ghost use Rattle.bittle_bits.specs.Values.{ShapeFits};
 ghost use Rattle.bittle_bits.specs.Walk.{ones_or_zeros};
 ghost use Rattle.bittle_bits.specs.Words.{word_of};
 
@@ -13,7 +13,7 @@ pub use bittle_words::kind::{Kind, Ones, Zeros};
 /// Returns word `k` of a set, as a word whose ones are the bits of the kind.
 #[inline]
 pub(crate) fn wanted_word<B: Bits, K: Kind>(bits: &B, k: u32) -> B::LeafWord
-    requires fits { Fits B.indexable (B.big bits.now).capacity }
+    requires fits { ShapeFits B.Shape bits.now }
     requires within { k * B.width < (B.big bits.now).capacity }
     ensures { digit_set B.width (B.LeafWord.digits result)
         ≡ word_of B.width (ones_or_zeros K.ONES (B.big bits.now)) k }

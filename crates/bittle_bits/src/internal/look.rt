@@ -3,8 +3,7 @@
 
 ghost use Rattle.std.specs.Prelude.{◌≡◌, ◌+◌, ◌*◌, ◌/◌, ◌<◌, Some, None, true};
 ghost use Rattle.bittle_bits.specs.Copies.{members_between, copy_items, copy_count, items_of, IsSound, TakesFirst, TakesLast};
-ghost use Rattle.bittle_bits.specs.Orders.{members};
-ghost use Rattle.bittle_bits.specs.Shapes.{Fits};
+ghost use Rattle.bittle_bits.specs.Values.{set_in, ShapeFits};
 ghost use Rattle.bittle_bits.specs.Walk.{ones_or_zeros};
 
 use crate::bits::Bits;
@@ -52,7 +51,7 @@ impl<'a, B: Bits> Source<'a, B> {
     /// Returns how many words the set has.
     #[inline]
     pub fn words(&self) -> u32
-        requires { Fits B.indexable (B.big self.now.set.now).capacity }
+        requires { ShapeFits B.Shape self.now.set.now }
         ensures { result ≡ (B.big self.now.set.now).capacity / B.width }
     {
         self.set.bits_capacity() / <B::LeafWord as Number>::width()
@@ -98,11 +97,10 @@ fn fetch<B: Bits, E: Endian, K: Kind>(
     k: u32,
     fetches: &mut Count,
 ) -> CopiedWord<B::LeafWord>
-    requires fits { Fits B.indexable (B.big source.now.set.now).capacity }
+    requires fits { ShapeFits B.Shape source.now.set.now }
     requires within { k * B.width < (B.big source.now.set.now).capacity }
     ensures items { items_of E.mirrored B.LeafWord.width (B.LeafWord.digits result.word) result.base
-        ≡ members_between
-        (ones_or_zeros K.ONES (members E.mirrored B.width (B.big source.now.set.now)))
+        ≡ members_between (ones_or_zeros K.ONES (set_in B.Shape E.Endian source.now.set.now))
         (k * B.width) (k * B.width + B.width) }
     ensures reach { result.base + B.LeafWord.width < 4294967296 }
     ensures held { result.held ≡ true }
@@ -239,11 +237,11 @@ impl<W: Number, E: Endian> Copies<W, E> {
     #[inline]
     #[tactic(auto, unfolding(crate::specs::Copies::copy_items, crate::specs::Copies::IsSound))]
     pub fn fetch_head<B: Bits<LeafWord = W>, K: Kind>(&mut self, source: &Source<'_, B>, k: u32)
-        requires fits { Fits B.indexable (B.big source.now.set.now).capacity }
+        requires fits { ShapeFits B.Shape source.now.set.now }
         requires within { k * B.width < (B.big source.now.set.now).capacity }
         ensures { self.new ≡ record {
           head = Some (members_between
-              (ones_or_zeros K.ONES (members E.mirrored B.width (B.big source.now.set.now)))
+              (ones_or_zeros K.ONES (set_in B.Shape E.Endian source.now.set.now))
               (k * B.width) (k * B.width + B.width));
           tail = self.old.tail;
           looks = self.old.looks;
@@ -257,12 +255,12 @@ impl<W: Number, E: Endian> Copies<W, E> {
     #[inline]
     #[tactic(auto, unfolding(crate::specs::Copies::copy_items, crate::specs::Copies::IsSound))]
     pub fn fetch_tail<B: Bits<LeafWord = W>, K: Kind>(&mut self, source: &Source<'_, B>, k: u32)
-        requires fits { Fits B.indexable (B.big source.now.set.now).capacity }
+        requires fits { ShapeFits B.Shape source.now.set.now }
         requires within { k * B.width < (B.big source.now.set.now).capacity }
         ensures { self.new ≡ record {
           head = self.old.head;
           tail = Some (members_between
-              (ones_or_zeros K.ONES (members E.mirrored B.width (B.big source.now.set.now)))
+              (ones_or_zeros K.ONES (set_in B.Shape E.Endian source.now.set.now))
               (k * B.width) (k * B.width + B.width));
           looks = self.old.looks;
           fetches = self.old.fetches + 1;

@@ -1,9 +1,8 @@
 //! The first and the last member between two numbers, found word by word.
 
 ghost use Rattle.std.specs.Prelude.{◌≤◌};
-ghost use Rattle.bittle_bits.specs.Orders.{members};
 ghost use Rattle.bittle_bits.specs.Searches.{IsFirstIn, IsLastIn};
-ghost use Rattle.bittle_bits.specs.Shapes.{Fits};
+ghost use Rattle.bittle_bits.specs.Values.{set_in, ShapeFits};
 ghost use Rattle.bittle_bits.specs.Walk.{ones_or_zeros};
 
 use crate::bits::Bits;
@@ -14,11 +13,10 @@ use crate::internal::sealed::Number;
 /// Returns the first index from `from` on and below `to` whose bit is of the kind, or `None`.
 #[inline]
 pub fn first_in<B: Bits, E: Endian, K: Kind>(bits: &B, from: u32, to: u32) -> Option<u32>
-    requires fits { Fits B.indexable (B.big bits.now).capacity }
+    requires fits { ShapeFits B.Shape bits.now }
     requires ordered { from ≤ to }
     requires within { to ≤ (B.big bits.now).capacity }
-    ensures { IsFirstIn
-        (ones_or_zeros K.ONES (members E.mirrored B.width (B.big bits.now))) from to result }
+    ensures { IsFirstIn (ones_or_zeros K.ONES (set_in B.Shape E.Endian bits.now)) from to result }
 {
     if from == to {
         return None;
@@ -44,11 +42,10 @@ pub fn first_in<B: Bits, E: Endian, K: Kind>(bits: &B, from: u32, to: u32) -> Op
 /// Returns the last index from `from` on and below `to` whose bit is of the kind, or `None`.
 #[inline]
 pub fn last_in<B: Bits, E: Endian, K: Kind>(bits: &B, from: u32, to: u32) -> Option<u32>
-    requires fits { Fits B.indexable (B.big bits.now).capacity }
+    requires fits { ShapeFits B.Shape bits.now }
     requires ordered { from ≤ to }
     requires within { to ≤ (B.big bits.now).capacity }
-    ensures { IsLastIn
-        (ones_or_zeros K.ONES (members E.mirrored B.width (B.big bits.now))) from to result }
+    ensures { IsLastIn (ones_or_zeros K.ONES (set_in B.Shape E.Endian bits.now)) from to result }
 {
     if from == to {
         return None;

@@ -2,7 +2,7 @@
 //! the law.
 
 ghost use Rattle.bittle_bits.specs.OrderLaws.{PlacesAreInTheWord, PlacesAreApart, PlacesMirror, MembersMirror, MirroringTwiceIsNothing, MirroringStaysBelow, MirroringReachesAll, TestingWraps};
-ghost use Rattle.bittle_bits.specs.Orders.{members};
+ghost use Rattle.bittle_bits.specs.Values.{set_in};
 
 use crate::bits::Bits;
 use crate::endian::{BigEndian, Endian, LittleEndian};
@@ -38,5 +38,5 @@ pub fn sets_mirror_each_other<B: Bits>(bits: &B)
 
 /// States that testing an index is testing it modulo the capacity.
 pub fn testing_wraps<B: Bits, E: Endian>(bits: &B)
-    ensures { TestingWraps (members E.mirrored B.width (B.big bits.now)) }
+    ensures { TestingWraps (set_in B.Shape E.Endian bits.now) }
 {}

@@ -16,7 +16,7 @@ returns-then-capacity-eq0-clause-set g c =
 
 pub returns-then-count-room-clause-set : goal.returns-then-count-room-clause-set
 returns-then-count-room-clause-set g c =
-    let old = set_in g.B.Bits g.E.Endian c.args.bits.now in
+    let old = set_in g.B.Shape g.E.Endian c.args.bits.now in
     let is = c.bits_capacity-capacity.ensures.value c.requires in
     let from = c.args.from in
     let end = c.args.to + 1 in
@@ -35,7 +35,7 @@ returns-then-count-room-clause-set g c =
 
 pub returns-else-count-room-clause-set : goal.returns-else-count-room-clause-set
 returns-else-count-room-clause-set g c =
-    let old = set_in g.B.Bits g.E.Endian c.args.bits.now in
+    let old = set_in g.B.Shape g.E.Endian c.args.bits.now in
     let is = c.bits_capacity-capacity.ensures.value c.requires in
     let from = c.args.from in
     let end = c.args.to + 1 in

@@ -4,4 +4,4 @@ use Rattle.bittle.proofs.replay.answer.Goals as goal
 
 pub returns-in-ClearAll-clause-set : goal.returns-in-ClearAll-clause-set
 returns-in-ClearAll-clause-set g c = rw c.in-ClearAll.is
-    (ap (members g.E.Endian.mirrored g.B.Bits.width) c.clear_bits.ensures.set)
+    (ap (members g.E.Endian.mirrored g.B.Shape.width) c.clear_bits.ensures.set)

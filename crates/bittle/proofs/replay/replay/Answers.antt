@@ -10,7 +10,7 @@ unfolding replies_of final_set
 loop-i-init g c = record { replies = refl; set = refl; stays = refl }
 
 pub answer-requires : goal.answer-requires
-answer-requires g c = subst (Fits g.B.Bits.indexable) (run-capacity _ _ _ c.loop-i.invariant.set)
+answer-requires g c = subst (Fits g.B.Shape.indexable) (run-capacity _ _ _ c.loop-i.invariant.set)
     c.requires.fits
 
 pub loop-i-preserved : goal.loop-i-preserved

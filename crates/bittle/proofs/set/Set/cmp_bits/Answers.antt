@@ -1,10 +1,10 @@
 use Rattle.std.proofs.Common.{sym, subst}
 use Rattle.std.specs.Ordering.{MatchOrdering}
-use Rattle.bittle_bits.specs.Orders.{members}
 use Rattle.bittle_bits.proofs.PlainSets.{members-past}
 use Rattle.bittle.specs.Comparison.{AreSame, Precedes}
 use Rattle.bittle.proofs.ListComparison.{list_cmp-precedes}
 use Rattle.bittle.proofs.set.Set.cmp_bits.Goals as goal
+use Rattle.bittle_bits.specs.Values.{set_in}
 
 pub returns-clause-decided : goal.returns-clause-decided
 returns-clause-decided g c =
@@ -12,8 +12,8 @@ returns-clause-decided g c =
     let y = c.args.other.now in
     let t = g.met.T.Bits in
     let u = g.met.U.Bits in
-    let ours = members g.E.Endian.mirrored g.T.Bits.width (g.T.Bits.big x) in
-    let theirs = members g.U.Order.Endian.mirrored g.U.Bits.width (g.U.Bits.big y) in
+    let ours = set_in g.T.Shape g.E.Endian x in
+    let theirs = set_in g.U.Shape g.U.Order.Endian y in
     let d = list_cmp-precedes ours theirs
     (members-past g.E.Endian.mirrored _ _ t.width_positive (t.whole_words x) (t.none_past x))
     (members-past g.U.Order.Endian.mirrored _ _ u.width_positive (u.whole_words y)

@@ -1,8 +1,8 @@
 use Rattle.std.proofs.Common.{sym, ap, subst, ◌∙◌, ◌↔◌, IsTrue, MatchOption}
 use Rattle.std.specs.Cmp.Lexicographic.{texts_ties}
 use Rattle.std.specs.Ordering.{is_eq}
-use Rattle.bittle_bits.specs.Orders.{members}
 use Rattle.bittle_bits.specs.PlainSet.{ascending}
+use Rattle.bittle_bits.specs.Values.{set_in, set_mirrored}
 use Rattle.bittle_bits.proofs.PlainSets.{members-past}
 use Rattle.bittle.specs.Comparison.{AreSame, IsFirstApart}
 use Rattle.bittle.proofs.FirstDifference.{none_is, none_equal, none_decides}
@@ -15,12 +15,12 @@ returns-then-are_alike-clause-value g c =
     let y = c.args.other.now in
     let t = g.met.T.Bits in
     let u = g.met.U.Bits in
-    let ours = members g.E.Endian.mirrored g.T.Bits.width (g.T.Bits.big x) in
-    let theirs = members g.U.Order.Endian.mirrored g.U.Bits.width (g.U.Bits.big y) in
+    let ours = set_in g.T.Shape g.E.Endian x in
+    let theirs = set_in g.U.Shape g.U.Order.Endian y in
     let alike = c.are_alike.ensures c.if-are_alike.true in
     let apart = subst (λ m. MatchOption c.first_apart.result
-    (AreSame ours (members m g.U.Bits.width (g.U.Bits.big y)))
-    (λ d. IsFirstApart ours (members m g.U.Bits.width (g.U.Bits.big y)) d)) alike.1
+    (AreSame ours (set_mirrored g.U.Shape m y))
+    (λ d. IsFirstApart ours (set_mirrored g.U.Shape m y) d)) alike.1
     c.first_apart.ensures in
     none_is c.first_apart.result _ c.is_none.ensures
     ∙ none_equal ours theirs (members-past g.E.Endian.mirrored _ _ t.width_positive
@@ -31,20 +31,20 @@ returns-then-are_alike-clause-value g c =
 
 pub returns-else-are_alike-clause-value : goal.returns-else-are_alike-clause-value
 returns-else-are_alike-clause-value g c =
-    let ours = members g.E.Endian.mirrored g.T.Bits.width (g.T.Bits.big c.args.self.now.bits) in
-    let theirs = members g.U.Order.Endian.mirrored g.U.Bits.width (g.U.Bits.big c.args.other.now) in
-    c.is_eq.ensures ∙ ap is_eq c.cmp_bits.ensures.value
+    let ours = set_in g.T.Shape g.E.Endian c.args.self.now.bits in
+    let theirs = set_in g.U.Shape g.U.Order.Endian c.args.other.now
+    in c.is_eq.ensures ∙ ap is_eq c.cmp_bits.ensures.value
     ∙ sym (texts_ties (ascending ours) (ascending theirs))
 
 pub returns-then-are_alike-clause-decided : goal.returns-then-are_alike-clause-decided
 returns-then-are_alike-clause-decided g c =
     let y = c.args.other.now in
-    let ours = members g.E.Endian.mirrored g.T.Bits.width (g.T.Bits.big c.args.self.now.bits) in
-    let theirs = members g.U.Order.Endian.mirrored g.U.Bits.width (g.U.Bits.big y) in
+    let ours = set_in g.T.Shape g.E.Endian c.args.self.now.bits in
+    let theirs = set_in g.U.Shape g.U.Order.Endian y in
     let alike = c.are_alike.ensures c.if-are_alike.true in
     let apart = subst (λ m. MatchOption c.first_apart.result
-    (AreSame ours (members m g.U.Bits.width (g.U.Bits.big y)))
-    (λ d. IsFirstApart ours (members m g.U.Bits.width (g.U.Bits.big y)) d)) alike.1
+    (AreSame ours (set_mirrored g.U.Shape m y))
+    (λ d. IsFirstApart ours (set_mirrored g.U.Shape m y) d)) alike.1
     c.first_apart.ensures in
     subst (λ r. IsTrue r ↔ AreSame ours theirs)
     (sym (none_is c.first_apart.result _ c.is_none.ensures))
@@ -52,7 +52,7 @@ returns-then-are_alike-clause-decided g c =
 
 pub returns-else-are_alike-clause-decided : goal.returns-else-are_alike-clause-decided
 returns-else-are_alike-clause-decided g c =
-    let ours = members g.E.Endian.mirrored g.T.Bits.width (g.T.Bits.big c.args.self.now.bits) in
-    let theirs = members g.U.Order.Endian.mirrored g.U.Bits.width (g.U.Bits.big c.args.other.now) in
-    subst (λ x. IsTrue x ↔ AreSame ours theirs) (sym c.is_eq.ensures)
+    let ours = set_in g.T.Shape g.E.Endian c.args.self.now.bits in
+    let theirs = set_in g.U.Shape g.U.Order.Endian c.args.other.now
+    in subst (λ x. IsTrue x ↔ AreSame ours theirs) (sym c.is_eq.ensures)
     (equal_iff_same ours theirs c.cmp_bits.result c.cmp_bits.ensures.decided)

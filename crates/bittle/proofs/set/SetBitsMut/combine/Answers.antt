@@ -4,6 +4,6 @@ use Rattle.bittle.proofs.set.SetBitsMut.combine.Goals as goal
 
 pub invariant_of-self : goal.invariant_of-self
 invariant_of-self g c = record {
-  fits = still_fits _ g.T.Bits.width _ _
+  fits = still_fits _ g.T.Shape.width _ _
       (c.combine.ensures.set false) c.args.self.now.fits;
 }

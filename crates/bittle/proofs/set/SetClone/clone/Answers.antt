@@ -7,5 +7,5 @@ returns g c =
     let s = c.args.self.now in
     record {
       cases = ap (λ q. record { bits = s.bits; order = s.order; fits = q })
-          (fits_one g.T.Bits.indexable (g.T.Bits.big s.bits).capacity _ s.fits);
+          (fits_one g.T.Shape.indexable (g.T.Shape.big s.bits).capacity _ s.fits);
     }

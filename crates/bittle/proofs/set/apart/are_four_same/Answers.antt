@@ -10,8 +10,8 @@ returns g c same before =
     (d c.word_apart-third.result) (d c.word_apart-fourth.result) _ _ _ c.or.ensures c.or-2.ensures
     c.or-3.ensures (eqb-true _ _ (sym c.is_zero.ensures.zero ∙ same)) in
     let k = c.args.from in
-    let next = same_next g.E.Endian.mirrored g.A.Bits.width (g.A.Bits.big c.args.left.now)
-    (g.B.Bits.big c.args.right.now) g.met.A.Bits.width_positive in
+    let next = same_next g.E.Endian.mirrored g.A.Shape.width (g.A.Shape.big c.args.left.now)
+    (g.B.Shape.big c.args.right.now) g.met.A.Bits.width_positive in
     next (k + 3) (k + 4) _ c.word_apart-fourth.ensures (omega arith)
     (next (k + 2) (k + 3) _ c.word_apart-third.ensures (omega arith)
     (next (k + 1) (k + 2) _ c.word_apart-second.ensures (omega arith)

@@ -22,19 +22,19 @@ first_apart_below-apart-requires-clause-in_right g c =
 
 pub returns-then-words-others : goal.returns-then-words-others
 returns-then-words-others g c =
-    let w = g.A.Bits.width in
+    let w = g.A.Shape.width in
     let m = g.E.Endian.mirrored in
     let x = c.args.left.now in
     let y = c.args.right.now in
     let a = g.met.A.Bits in
     let b = g.met.B.Bits in
-    first_ends m w g.B.Bits.width (g.A.Bits.big x) (g.B.Bits.big y) c.bits_capacity.result
+    first_ends m w g.B.Shape.width (g.A.Shape.big x) (g.B.Shape.big y) c.bits_capacity.result
     c.bits_capacity-2.result c.width-width.result c.min-common.result a.width_positive
     c.requires.width (c.width-width.ensures ∙ a.leaf_width)
     (c.bits_capacity.ensures.value c.requires.left_fits)
     (c.bits_capacity-2.ensures.value c.requires.right_fits) (a.whole_words x) (b.whole_words y)
     (a.none_past x) (b.none_past y)
-    (none_among (members m w (g.A.Bits.big x)) (members m w (g.B.Bits.big y)) _
+    (none_among (members m w (g.A.Shape.big x)) (members m w (g.B.Shape.big y)) _
     c.first_apart_below-apart.result (sym c.is_some.ensures ∙ c.if-is_some.false)
     c.first_apart_below-apart.ensures)
     (omega (arith, c.min-common.ensures, c.if-words-others.true)) c.first_one_in.result
@@ -42,19 +42,19 @@ returns-then-words-others g c =
 
 pub returns-then-others-words : goal.returns-then-others-words
 returns-then-others-words g c =
-    let w = g.A.Bits.width in
+    let w = g.A.Shape.width in
     let m = g.E.Endian.mirrored in
     let x = c.args.left.now in
     let y = c.args.right.now in
     let a = g.met.A.Bits in
     let b = g.met.B.Bits in
-    second_ends m w g.B.Bits.width (g.A.Bits.big x) (g.B.Bits.big y) c.bits_capacity.result
+    second_ends m w g.B.Shape.width (g.A.Shape.big x) (g.B.Shape.big y) c.bits_capacity.result
     c.bits_capacity-2.result c.width-width.result c.min-common.result a.width_positive
     c.requires.width (c.width-width.ensures ∙ a.leaf_width)
     (c.bits_capacity.ensures.value c.requires.left_fits)
     (c.bits_capacity-2.ensures.value c.requires.right_fits) (a.whole_words x) (b.whole_words y)
     (a.none_past x) (b.none_past y)
-    (none_among (members m w (g.A.Bits.big x)) (members m w (g.B.Bits.big y)) _
+    (none_among (members m w (g.A.Shape.big x)) (members m w (g.B.Shape.big y)) _
     c.first_apart_below-apart.result (sym c.is_some.ensures ∙ c.if-is_some.false)
     c.first_apart_below-apart.ensures)
     (omega (arith, c.min-common.ensures, c.if-words-others.false))
@@ -62,19 +62,19 @@ returns-then-others-words g c =
 
 pub returns-else-others-words : goal.returns-else-others-words
 returns-else-others-words g c =
-    let w = g.A.Bits.width in
+    let w = g.A.Shape.width in
     let m = g.E.Endian.mirrored in
     let x = c.args.left.now in
     let y = c.args.right.now in
     let a = g.met.A.Bits in
     let b = g.met.B.Bits in
-    both_end m w g.B.Bits.width (g.A.Bits.big x) (g.B.Bits.big y) c.bits_capacity.result
+    both_end m w g.B.Shape.width (g.A.Shape.big x) (g.B.Shape.big y) c.bits_capacity.result
     c.bits_capacity-2.result c.width-width.result c.min-common.result a.width_positive
     c.requires.width (c.width-width.ensures ∙ a.leaf_width)
     (c.bits_capacity.ensures.value c.requires.left_fits)
     (c.bits_capacity-2.ensures.value c.requires.right_fits) (a.whole_words x) (b.whole_words y)
     (a.none_past x) (b.none_past y)
-    (none_among (members m w (g.A.Bits.big x)) (members m w (g.B.Bits.big y)) _
+    (none_among (members m w (g.A.Shape.big x)) (members m w (g.B.Shape.big y)) _
     c.first_apart_below-apart.result (sym c.is_some.ensures ∙ c.if-is_some.false)
     c.first_apart_below-apart.ensures)
     (omega (arith, c.min-common.ensures, c.if-words-others.false, c.if-others-words.false))

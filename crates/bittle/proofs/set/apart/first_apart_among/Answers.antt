@@ -16,10 +16,10 @@ word_apart-apart-requires-clause-in_right g c =
 
 pub returns-then-not-is_zero : goal.returns-then-not-is_zero
 returns-then-not-is_zero g c before =
-    let w = g.A.Bits.width in
+    let w = g.A.Shape.width in
     let m = g.E.Endian.mirrored in
-    let s = g.A.Bits.big c.args.left.now in
-    let t = g.B.Bits.big c.args.right.now in
+    let s = g.A.Shape.big c.args.left.now in
+    let t = g.B.Shape.big c.args.right.now in
     let a = g.met.A.Bits in
     let wide : c.width-width.result ≡ w = c.width-width.ensures ∙ a.leaf_width in
     let least = rw a.leaf_width at c.zeros.ensures in
@@ -31,16 +31,16 @@ returns-then-not-is_zero g c before =
 
 pub loop-k-preserved : goal.loop-k-preserved
 loop-k-preserved g c before =
-    let w = g.A.Bits.width in
+    let w = g.A.Shape.width in
     let m = g.E.Endian.mirrored in
     let zero = eqb-true _ _ (sym c.is_zero.ensures.zero ∙ c.if-not-is_zero.false) in
-    same_word m w (g.A.Bits.big c.args.left.now) (g.B.Bits.big c.args.right.now)
+    same_word m w (g.A.Shape.big c.args.left.now) (g.B.Shape.big c.args.right.now)
     g.met.A.Bits.width_positive c.loop-k.k _ c.word_apart-apart.ensures
     (c.loop-k.invariant before) zero
 
 pub returns : goal.returns
 returns g c before i p =
-    let w = g.A.Bits.width in
+    let w = g.A.Shape.width in
     let done : c.args.to * w ≤ c.loop-k.k * w =
     mul-le-mul_right w (omega (arith, c.loop-k-test.false)) in
     c.loop-k.invariant before i (omega (arith, done, p))

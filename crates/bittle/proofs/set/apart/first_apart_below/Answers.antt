@@ -5,9 +5,9 @@ use Rattle.bittle.proofs.set.apart.first_apart_below.Goals as goal
 
 pub returns : goal.returns
 returns g c =
-    let w = g.A.Bits.width in
+    let w = g.A.Shape.width in
     let m = g.E.Endian.mirrored in
-    let s = members m w (g.A.Bits.big c.args.left.now) in
-    let t = members m w (g.B.Bits.big c.args.right.now) in
+    let s = members m w (g.A.Shape.big c.args.left.now) in
+    let t = members m w (g.B.Shape.big c.args.right.now) in
     c.first_apart_among.ensures (same_fours s t c.args.words c.loop-four.four w
     (omega (arith, c.loop-four-test.false)) c.loop-four.invariant)

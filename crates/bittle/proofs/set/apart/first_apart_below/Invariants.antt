@@ -5,6 +5,6 @@ use Rattle.bittle.proofs.set.apart.first_apart_below.Given as goal
 
 abbrev pub invariant-loop-four : goal.invariant-loop-four
 invariant-loop-four g l =
-    let w = g.A.Bits.width in
-    AreSameBelow (members g.E.Endian.mirrored w (g.A.Bits.big l.left))
-    (members g.E.Endian.mirrored w (g.B.Bits.big l.right)) (l.four * 4 * w)
+    let w = g.A.Shape.width in
+    AreSameBelow (members g.E.Endian.mirrored w (g.A.Shape.big l.left))
+    (members g.E.Endian.mirrored w (g.B.Shape.big l.right)) (l.four * 4 * w)

@@ -7,9 +7,9 @@ use Rattle.bittle.proofs.set.apart.word_apart.Goals as goal
 
 pub returns : goal.returns
 returns g c =
-    let w = g.A.Bits.width in
+    let w = g.A.Shape.width in
     let k = c.args.k in
-    let t = g.B.Bits.big c.args.right.now in
+    let t = g.B.Shape.big c.args.right.now in
     let d = g.B.LeafWord.Number.digits c.leaf_word.result in
     let same : digit_set w d ≡ word_of w t k = subst (λ v. digit_set v d ≡ word_of v t k)
     (sym c.requires.width) c.leaf_word.ensures in

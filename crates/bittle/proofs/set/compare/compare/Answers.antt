@@ -1,8 +1,8 @@
 use Rattle.std.proofs.Common.{◌≡◌, refl, ap, subst, ◌∙◌}
 use Rattle.std.proofs.lemmas.Iterator.Search.{cmp_from_yields_List}
 use Rattle.std.specs.Ordering.{nat_cmp}
-use Rattle.bittle_bits.specs.Orders.{members}
 use Rattle.bittle_bits.specs.PlainSet.{ascending}
+use Rattle.bittle_bits.specs.Values.{set_mirrored}
 use Rattle.bittle_bits.proofs.PlainSets.{members-past}
 use Rattle.bittle.specs.Comparison.{list_cmp}
 use Rattle.bittle.proofs.FirstDifference.{cmp_decided}
@@ -16,11 +16,11 @@ returns-then-are_alike g c =
     let a = g.met.A.Bits in
     let b = g.met.B.Bits in
     let m = g.E.Endian.mirrored in
-    let ours = members m g.A.Bits.width (g.A.Bits.big x) in
+    let ours = set_mirrored g.A.Shape m x in
     subst (λ n. c.compare.result
-    ≡ list_cmp (ascending ours) (ascending (members n g.B.Bits.width (g.B.Bits.big y))))
+    ≡ list_cmp (ascending ours) (ascending (set_mirrored g.B.Shape n y)))
     (c.are_alike.ensures c.if-are_alike.true).1
-    (cmp_decided ours (members m g.B.Bits.width (g.B.Bits.big y))
+    (cmp_decided ours (set_mirrored g.B.Shape m y)
     (members-past m _ _ a.width_positive (a.whole_words x) (a.none_past x))
     (members-past m _ _ b.width_positive (b.whole_words y) (b.none_past y)) _ c.compare.ensures)
 

@@ -1,5 +1,6 @@
 use Rattle.std.proofs.Common.{◌/◌, ◌+◌, refl, ap, ◌∙◌, arith}
 use Rattle.bittle_bits.specs.Orders.{members}
+use Rattle.bittle_bits.specs.Values.{set_in}
 use Rattle.bittle_bits.specs.Walk.{ones_or_zeros}
 use Rattle.bittle_bits.proofs.WalkStarts.{walk_start, walk_start_head, walk_start_tail}
 use Rattle.bittle_bits.proofs.OnesOrZeros.{ones_or_zeros-capacity, ones_or_zeros-below}
@@ -7,9 +8,9 @@ use Rattle.bittle_bits.proofs.internal.cursor.begin.Goals as goal
 
 pub returns-then-at-clause-starts : goal.returns-then-at-clause-starts
 returns-then-at-clause-starts g c =
-    let big = g.B.Bits.big c.args.source.now.set.now in
-    let s = ones_or_zeros g.K.Kind.ONES (members g.E.Endian.mirrored g.B.Bits.width big) in
-    let w = g.B.Bits.width in
+    let big = g.B.Shape.big c.args.source.now.set.now in
+    let s = ones_or_zeros g.K.Kind.ONES (members g.E.Endian.mirrored g.B.Shape.width big) in
+    let w = g.B.Shape.width in
     walk_start {B = g.row.B.Denot} {E = g.row.E.Denot} {O = g.row.B-Order.Denot}
     {W = g.row.B-LeafWord.Denot} s (big.capacity / w) w big.capacity _ _ _
     g.met.B.Bits.width_positive
@@ -19,14 +20,14 @@ returns-then-at-clause-starts g c =
 
 pub returns-then-at-clause-below : goal.returns-then-at-clause-below
 returns-then-at-clause-below g c = ones_or_zeros-below g.K.Kind.ONES
-    (members g.E.Endian.mirrored g.B.Bits.width (g.B.Bits.big c.args.source.now.set.now)) _
+    (set_in g.B.Shape g.E.Endian c.args.source.now.set.now) _
     (returns-then-at-clause-starts g c).left
 
 pub returns-then-at-2-clause-starts : goal.returns-then-at-2-clause-starts
 returns-then-at-2-clause-starts g c =
-    let big = g.B.Bits.big c.args.source.now.set.now in
-    let s = ones_or_zeros g.K.Kind.ONES (members g.E.Endian.mirrored g.B.Bits.width big) in
-    let w = g.B.Bits.width in
+    let big = g.B.Shape.big c.args.source.now.set.now in
+    let s = ones_or_zeros g.K.Kind.ONES (members g.E.Endian.mirrored g.B.Shape.width big) in
+    let w = g.B.Shape.width in
     let none = walk_start {B = g.row.B.Denot} {E = g.row.E.Denot} {O = g.row.B-Order.Denot}
     {W = g.row.B-LeafWord.Denot} s (big.capacity / w) w big.capacity _ _ _
     g.met.B.Bits.width_positive
@@ -40,14 +41,14 @@ returns-then-at-2-clause-starts g c =
 
 pub returns-then-at-2-clause-below : goal.returns-then-at-2-clause-below
 returns-then-at-2-clause-below g c = ones_or_zeros-below g.K.Kind.ONES
-    (members g.E.Endian.mirrored g.B.Bits.width (g.B.Bits.big c.args.source.now.set.now)) _
+    (set_in g.B.Shape g.E.Endian c.args.source.now.set.now) _
     (returns-then-at-2-clause-starts g c).left
 
 pub returns-clause-starts : goal.returns-clause-starts
 returns-clause-starts g c =
-    let big = g.B.Bits.big c.args.source.now.set.now in
-    let s = ones_or_zeros g.K.Kind.ONES (members g.E.Endian.mirrored g.B.Bits.width big) in
-    let w = g.B.Bits.width in
+    let big = g.B.Shape.big c.args.source.now.set.now in
+    let s = ones_or_zeros g.K.Kind.ONES (members g.E.Endian.mirrored g.B.Shape.width big) in
+    let w = g.B.Shape.width in
     let none = walk_start {B = g.row.B.Denot} {E = g.row.E.Denot} {O = g.row.B-Order.Denot}
     {W = g.row.B-LeafWord.Denot} s (big.capacity / w) w big.capacity _ _ _
     g.met.B.Bits.width_positive
@@ -66,5 +67,5 @@ returns-clause-starts g c =
 
 pub returns-clause-below : goal.returns-clause-below
 returns-clause-below g c = ones_or_zeros-below g.K.Kind.ONES
-    (members g.E.Endian.mirrored g.B.Bits.width (g.B.Bits.big c.args.source.now.set.now)) _
+    (set_in g.B.Shape g.E.Endian c.args.source.now.set.now) _
     (returns-clause-starts g c).left

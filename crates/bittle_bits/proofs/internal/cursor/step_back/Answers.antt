@@ -1,15 +1,14 @@
 use Rattle.std.proofs.Common.{◌<◌, ◌/◌, refl, arith}
-use Rattle.bittle_bits.specs.Orders.{members}
+use Rattle.bittle_bits.specs.Values.{set_in}
 use Rattle.bittle_bits.specs.Walk.{ones_or_zeros}
 use Rattle.bittle_bits.proofs.Steps.{seeks_on, back_on, tail_retired, tail_fetched, head_gave_back, back_ended}
 use Rattle.bittle_bits.proofs.internal.cursor.step_back.Goals as goal
 
 pub loop-item-preserved : goal.loop-item-preserved
 loop-item-preserved g c =
-    let s = ones_or_zeros g.K.Kind.ONES (members g.E.Endian.mirrored g.B.Bits.width
-    (g.B.Bits.big c.args.source.now.set.now)) in
-    let w = g.B.Bits.width in
-    let words = (g.B.Bits.big c.args.source.now.set.now).capacity / w in
+    let s = ones_or_zeros g.K.Kind.ONES (set_in g.B.Shape g.E.Endian c.args.source.now.set.now) in
+    let w = g.B.Shape.width in
+    let words = (g.B.Shape.big c.args.source.now.set.now).capacity / w in
     let t = c.loop-item.at in
     let look = c.in_default.ensures in
     let met = tail_retired s words w t c.last_of_tail.new.self c.loop-item.invariant.1 look.found
@@ -25,10 +24,9 @@ loop-item-preserved g c =
 
 pub returns-in_default-last_of_head-clause-steps : goal.returns-in_default-last_of_head-clause-steps
 returns-in_default-last_of_head-clause-steps g c =
-    let s = ones_or_zeros g.K.Kind.ONES (members g.E.Endian.mirrored g.B.Bits.width
-    (g.B.Bits.big c.args.source.now.set.now)) in
-    let w = g.B.Bits.width in
-    let words = (g.B.Bits.big c.args.source.now.set.now).capacity / w in
+    let s = ones_or_zeros g.K.Kind.ONES (set_in g.B.Shape g.E.Endian c.args.source.now.set.now) in
+    let w = g.B.Shape.width in
+    let words = (g.B.Shape.big c.args.source.now.set.now).capacity / w in
     let t = c.loop-item.at in
     let look = c.in_default.ensures in
     let last = c.in_default-last_of_head.ensures in
@@ -42,10 +40,9 @@ returns-in_default-last_of_head-clause-steps g c =
 
 pub returns-clause-steps : goal.returns-clause-steps
 returns-clause-steps g c =
-    let s = ones_or_zeros g.K.Kind.ONES (members g.E.Endian.mirrored g.B.Bits.width
-    (g.B.Bits.big c.args.source.now.set.now)) in
-    let w = g.B.Bits.width in
-    let words = (g.B.Bits.big c.args.source.now.set.now).capacity / w in
+    let s = ones_or_zeros g.K.Kind.ONES (set_in g.B.Shape g.E.Endian c.args.source.now.set.now) in
+    let w = g.B.Shape.width in
+    let words = (g.B.Shape.big c.args.source.now.set.now).capacity / w in
     let t = c.loop-item.at in
     let look = c.in_default.ensures in
     let last = c.in-Some-last_of_head.ensures in

@@ -1,16 +1,15 @@
 use Rattle.std.proofs.Common.{◌-◌, ◌/◌}
-use Rattle.bittle_bits.specs.Orders.{members}
 use Rattle.bittle_bits.specs.Cursor.{walk_of, Retires}
+use Rattle.bittle_bits.specs.Values.{set_in}
 use Rattle.bittle_bits.specs.Walk.{ones_or_zeros}
 use Rattle.bittle_bits.proofs.Steps.{Seeks}
 use Rattle.bittle_bits.proofs.internal.cursor.step_back.Given as goal
 
 abbrev pub invariant-loop-item : goal.invariant-loop-item
 invariant-loop-item g l =
-    let s = ones_or_zeros g.K.Kind.ONES (members g.E.Endian.mirrored g.B.Bits.width
-    (g.B.Bits.big l.source.set.now)) in
-    let words = (g.B.Bits.big l.source.set.now).capacity / g.B.Bits.width in
-    Seeks (walk_of s words g.B.Bits.width l.initial.at) (walk_of s words g.B.Bits.width l.at)
+    let s = ones_or_zeros g.K.Kind.ONES (set_in g.B.Shape g.E.Endian l.source.set.now) in
+    let words = (g.B.Shape.big l.source.set.now).capacity / g.B.Shape.width in
+    Seeks (walk_of s words g.B.Shape.width l.initial.at) (walk_of s words g.B.Shape.width l.at)
     × Retires words l.at
 
 abbrev pub decreases-loop-item : goal.decreases-loop-item

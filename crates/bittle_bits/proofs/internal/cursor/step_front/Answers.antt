@@ -1,15 +1,14 @@
 use Rattle.std.proofs.Common.{◌<◌, ◌/◌, refl, arith}
-use Rattle.bittle_bits.specs.Orders.{members}
+use Rattle.bittle_bits.specs.Values.{set_in}
 use Rattle.bittle_bits.specs.Walk.{ones_or_zeros}
 use Rattle.bittle_bits.proofs.Steps.{seeks_on, front_on, head_retired, head_fetched, tail_gave, front_ended}
 use Rattle.bittle_bits.proofs.internal.cursor.step_front.Goals as goal
 
 pub loop-item-preserved : goal.loop-item-preserved
 loop-item-preserved g c =
-    let s = ones_or_zeros g.K.Kind.ONES (members g.E.Endian.mirrored g.B.Bits.width
-    (g.B.Bits.big c.args.source.now.set.now)) in
-    let w = g.B.Bits.width in
-    let words = (g.B.Bits.big c.args.source.now.set.now).capacity / w in
+    let s = ones_or_zeros g.K.Kind.ONES (set_in g.B.Shape g.E.Endian c.args.source.now.set.now) in
+    let w = g.B.Shape.width in
+    let words = (g.B.Shape.big c.args.source.now.set.now).capacity / w in
     let t = c.loop-item.at in
     let look = c.in_default.ensures in
     let met = head_retired s words w t c.first_of_head.new.self c.loop-item.invariant.1 look.found
@@ -26,10 +25,9 @@ loop-item-preserved g c =
 pub returns-in_default-first_of_tail-clause-steps :
     goal.returns-in_default-first_of_tail-clause-steps
 returns-in_default-first_of_tail-clause-steps g c =
-    let s = ones_or_zeros g.K.Kind.ONES (members g.E.Endian.mirrored g.B.Bits.width
-    (g.B.Bits.big c.args.source.now.set.now)) in
-    let w = g.B.Bits.width in
-    let words = (g.B.Bits.big c.args.source.now.set.now).capacity / w in
+    let s = ones_or_zeros g.K.Kind.ONES (set_in g.B.Shape g.E.Endian c.args.source.now.set.now) in
+    let w = g.B.Shape.width in
+    let words = (g.B.Shape.big c.args.source.now.set.now).capacity / w in
     let t = c.loop-item.at in
     let look = c.in_default.ensures in
     let last = c.in_default-first_of_tail.ensures in
@@ -43,10 +41,9 @@ returns-in_default-first_of_tail-clause-steps g c =
 
 pub returns-clause-steps : goal.returns-clause-steps
 returns-clause-steps g c =
-    let s = ones_or_zeros g.K.Kind.ONES (members g.E.Endian.mirrored g.B.Bits.width
-    (g.B.Bits.big c.args.source.now.set.now)) in
-    let w = g.B.Bits.width in
-    let words = (g.B.Bits.big c.args.source.now.set.now).capacity / w in
+    let s = ones_or_zeros g.K.Kind.ONES (set_in g.B.Shape g.E.Endian c.args.source.now.set.now) in
+    let w = g.B.Shape.width in
+    let words = (g.B.Shape.big c.args.source.now.set.now).capacity / w in
     let t = c.loop-item.at in
     let look = c.in_default.ensures in
     let last = c.in-Some-first_of_tail.ensures in

@@ -6,8 +6,8 @@ use Rattle.bittle_bits.proofs.internal.kind.wanted_word.Goals as goal
 
 pub returns : goal.returns
 returns g c =
-    let w = g.B.Bits.width in
-    let s = g.B.Bits.big c.args.bits.now in
+    let w = g.B.Shape.width in
+    let s = g.B.Shape.big c.args.bits.now in
     let ones = g.K.Kind.ONES in
     (rw g.met.B.Bits.leaf_width at c.wanted_in.ensures)
     ∙ ap (ones_or_zeros ones) c.leaf_word.ensures

@@ -8,11 +8,11 @@ use Rattle.bittle_bits.proofs.internal.look.fetch.Goals as goal
 
 pub returns-clause-items : goal.returns-clause-items
 returns-clause-items g c =
-    let w = g.B.Bits.width in
+    let w = g.B.Shape.width in
     let k = c.args.k in
     let m = g.E.Endian.mirrored in
     let ones = g.K.Kind.ONES in
-    let big = g.B.Bits.big c.args.source.now.set.now in
+    let big = g.B.Shape.big c.args.source.now.set.now in
     let word = g.met.B.Bits.width_positive in
     let leaf = g.met.B.Bits.leaf_width in
     let wide : c.width.result ≡ w = c.width.ensures ∙ leaf in
@@ -23,8 +23,8 @@ returns-clause-items g c =
 
 pub returns-clause-reach : goal.returns-clause-reach
 returns-clause-reach g c =
-    let e = word_ends g.B.Bits.width c.args.k _ (g.met.B.Bits.whole_words c.args.source.now.set.now)
-    c.requires.within in
+    let e = word_ends g.B.Shape.width c.args.k _
+    (g.met.B.Bits.whole_words c.args.source.now.set.now) c.requires.within in
     omega (
       arith,
       e,

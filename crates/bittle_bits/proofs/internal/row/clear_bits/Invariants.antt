@@ -3,4 +3,4 @@ use Rattle.bittle_bits.proofs.internal.row.clear_bits.Given as goal
 
 abbrev pub invariant-loop-element : goal.invariant-loop-element
 invariant-loop-element g l = (k : ℕ) (d : _) → k < l.element-index →
-    (g.T.Bits.big (get_or l.elements k d)).has ≡ (λ _. false)
+    (g.T.Shape.big (get_or l.elements k d)).has ≡ (λ _. false)

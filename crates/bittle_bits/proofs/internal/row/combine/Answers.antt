@@ -9,11 +9,11 @@ pub loop-at-preserved : goal.loop-at-preserved
 loop-at-preserved g c =
     let f = g.O.Operation.decide in
     let old = c.loop-at.invariant in record {
-      done = more_done f g.T.Bits.big c.args.elements.now c.args.others.now c.loop-at.elements
+      done = more_done f g.T.Shape.big c.args.elements.now c.args.others.now c.loop-at.elements
           c.loop-at.at c.index-elements-at.result c.index-others-at.result c.combine.new.self
           (omega arith) (omega arith) old.rest (omega arith) c.index-others-at.is
           (c.combine.ensures.set false) old.done;
-      rest = still_rest f g.T.Bits.big c.args.elements.now c.args.others.now c.loop-at.elements
+      rest = still_rest f g.T.Shape.big c.args.elements.now c.args.others.now c.loop-at.elements
           c.loop-at.at c.index-elements-at.result c.index-others-at.result c.combine.new.self
           (omega arith) (omega arith) old.rest;
     }
@@ -23,11 +23,11 @@ returns g c mirrored =
     let T = g.met.T in
     let done = c.loop-at.invariant in
     let whole = T.BitsOwned.type_whole_words in
-    let all = row_combined g.O.Operation.decide g.T.BitsOwned.type_capacity g.T.Bits.big
+    let all = row_combined g.O.Operation.decide g.T.BitsOwned.type_capacity g.T.Shape.big
     c.args.elements.now c.args.others.now c.loop-at.elements T.BitsOwned.one_capacity
     (omega arith) (λ k d a b. done.done k d (omega arith))
     (λ k d b. done.rest k d (omega arith)) in
-    ap (members mirrored g.T.Bits.width) all
+    ap (members mirrored g.T.Shape.width) all
     ∙ members-combination _ mirrored _ _ _ T.Bits.width_positive
     (words_of (length c.args.elements.now) _ _ whole)
     (words_of (length c.args.others.now) _ _ whole)

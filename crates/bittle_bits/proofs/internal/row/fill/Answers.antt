@@ -17,8 +17,8 @@ loop-at-init g c =
     let e = g.T.BitsOwned.type_capacity in
     let from = c.args.from in
     let some = some_each c.args.to (length c.args.elements.now) e (omega arith) c.requires.within in
-    let row = members g.E.Endian.mirrored g.T.Bits.width
-    (elements_set (length c.args.elements.now) e g.T.Bits.big c.args.elements.now) in
+    let row = members g.E.Endian.mirrored g.T.Shape.width
+    (elements_set (length c.args.elements.now) e g.T.Shape.big c.args.elements.now) in
     rw each (record {
       begun = omega (arith, before_end from e some);
       set = sym (with_span-none row from _ (omega (arith, first_word e from)));
@@ -59,9 +59,9 @@ loop-at-preserved g c =
     let each = c.bits-each.ensures.value
     (c.requires.fits.0, g.met.T.BitsOwned.type_fits c.requires.fits.0) in
     let m = g.E.Endian.mirrored in
-    let w = g.T.Bits.width in
+    let w = g.T.Shape.width in
     let e = g.T.BitsOwned.type_capacity in
-    let big = g.T.Bits.big in
+    let big = g.T.Shape.big in
     let n = length c.args.elements.now in
     let from = c.args.from in
     let to = c.args.to in
@@ -101,6 +101,6 @@ returns g c =
     let last : at ≡ (to - 1) / e + 1 = rw (sym each) (omega (arith, ordered)) in
     let whole : span_end_at c.args.from to (at * e)
     ≡ to = rw last (omega (arith, before_end (to - 1) e some)) in
-    let row = members g.E.Endian.mirrored g.T.Bits.width
-    (elements_set (length c.args.elements.now) e g.T.Bits.big c.args.elements.now) in
+    let row = members g.E.Endian.mirrored g.T.Shape.width
+    (elements_set (length c.args.elements.now) e g.T.Shape.big c.args.elements.now) in
     c.loop-at.invariant.set ∙ ap (with_span row c.args.from) whole

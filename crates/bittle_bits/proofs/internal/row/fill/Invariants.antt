@@ -8,11 +8,11 @@ use Rattle.bittle_bits.proofs.internal.row.fill.Given as goal
 abbrev pub invariant-loop-at : goal.invariant-loop-at
 invariant-loop-at g l =
     let m = g.E.Endian.mirrored in
-    let w = g.T.Bits.width in
+    let w = g.T.Shape.width in
     let c = g.T.BitsOwned.type_capacity in
     record {
       begun : l.fn.from < l.at * c + c;
-      set : members m w (elements_set (length l.elements) c g.T.Bits.big l.elements)
-          ≡ with_span (members m w (elements_set (length l.fn.elements) c g.T.Bits.big
+      set : members m w (elements_set (length l.elements) c g.T.Shape.big l.elements)
+          ≡ with_span (members m w (elements_set (length l.fn.elements) c g.T.Shape.big
           l.fn.elements)) l.fn.from (span_end_at l.fn.from l.fn.to (l.at * c));
     }

@@ -6,7 +6,7 @@ use Rattle.bittle_bits.proofs.internal.search.first_in.Goals as goal
 pub loop-found-init : goal.loop-found-init
 loop-found-init g c =
     let leaf = g.met.B.Bits.leaf_width in
-    let wide : c.width-width.result ≡ g.B.Bits.width = c.width-width.ensures
+    let wide : c.width-width.result ≡ g.B.Shape.width = c.width-width.ensures
     ∙ g.met.B.Bits.leaf_width in
     let some : c.args.from < c.args.to = omega (arith, c.requires.ordered, c.if-from-to.false) in
     rw (wide, c.and-word.ensures) (
@@ -18,7 +18,7 @@ loop-found-init g c =
 
 pub overflow_add-found : goal.overflow_add-found
 overflow_add-found g c =
-    let wide : c.width-width.result ≡ g.B.Bits.width = c.width-width.ensures
+    let wide : c.width-width.result ≡ g.B.Shape.width = c.width-width.ensures
     ∙ g.met.B.Bits.leaf_width in
     let some : c.args.from < c.args.to = omega (arith, c.requires.ordered, c.if-from-to.false) in
     let whole = g.met.B.Bits.whole_words c.args.bits.now in
@@ -29,7 +29,7 @@ overflow_add-found g c =
 pub returns-then-found-to : goal.returns-then-found-to
 returns-then-found-to g c =
     let leaf = g.met.B.Bits.leaf_width in
-    let wide : c.width-width.result ≡ g.B.Bits.width = c.width-width.ensures
+    let wide : c.width-width.result ≡ g.B.Shape.width = c.width-width.ensures
     ∙ g.met.B.Bits.leaf_width in
     rw wide (first_found _ _ _ _ g.met.B.Bits.width_positive
     (g.met.B.Bits.whole_words _) c.args.from c.args.to c.loop-found.k _ c.zeros-index.result
@@ -39,7 +39,7 @@ returns-then-found-to g c =
 pub returns-else-found-to : goal.returns-else-found-to
 returns-else-found-to g c =
     let leaf = g.met.B.Bits.leaf_width in
-    let wide : c.width-width.result ≡ g.B.Bits.width = c.width-width.ensures
+    let wide : c.width-width.result ≡ g.B.Shape.width = c.width-width.ensures
     ∙ g.met.B.Bits.leaf_width in
     first_past _ _ _ _ g.met.B.Bits.width_positive (g.met.B.Bits.whole_words _) c.args.from
     c.args.to c.loop-found.k _ c.zeros-index.result
@@ -48,11 +48,11 @@ returns-else-found-to g c =
 pub returns-then-k-last : goal.returns-then-k-last
 returns-then-k-last g c =
     let leaf = g.met.B.Bits.leaf_width in
-    let wide : c.width-width.result ≡ g.B.Bits.width = c.width-width.ensures
+    let wide : c.width-width.result ≡ g.B.Shape.width = c.width-width.ensures
     ∙ g.met.B.Bits.leaf_width in
     let some : c.args.from < c.args.to = omega (arith, c.requires.ordered, c.if-from-to.false) in
-    let end : g.B.Bits.width ≤ c.zeros-index.result = rw wide at c.if-index-width.false in
-    let last : c.loop-found.k ≡ (c.args.to - 1) / g.B.Bits.width = rw wide at c.if-k-last.true in
+    let end : g.B.Shape.width ≤ c.zeros-index.result = rw wide at c.if-index-width.false in
+    let last : c.loop-found.k ≡ (c.args.to - 1) / g.B.Shape.width = rw wide at c.if-k-last.true in
     let up = last_word _ c.args.to g.met.B.Bits.width_positive (omega arith) in
     first_past _ _ _ _ g.met.B.Bits.width_positive (g.met.B.Bits.whole_words _) c.args.from
     c.args.to c.loop-found.k _ c.zeros-index.result
@@ -61,10 +61,10 @@ returns-then-k-last g c =
 pub loop-found-preserved : goal.loop-found-preserved
 loop-found-preserved g c =
     let leaf = g.met.B.Bits.leaf_width in
-    let wide : c.width-width.result ≡ g.B.Bits.width = c.width-width.ensures
+    let wide : c.width-width.result ≡ g.B.Shape.width = c.width-width.ensures
     ∙ g.met.B.Bits.leaf_width in
     let inv = c.loop-found.invariant in
-    let end : g.B.Bits.width ≤ c.zeros-index.result = rw wide at c.if-index-width.false in
+    let end : g.B.Shape.width ≤ c.zeros-index.result = rw wide at c.if-index-width.false in
     let more = rw wide at c.if-k-last.false in (
       omega (arith, inv.0),
       omega (arith, inv.1, more),

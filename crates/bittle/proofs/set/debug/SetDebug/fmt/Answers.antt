@@ -1,7 +1,7 @@
 use Rattle.std.proofs.Common.{rules, ◌≡◌, Bool, true, false, ℕ, List, [], ◌∷◌, ◌++◌, codes, sym, ap, ◌∙◌, append_assoc, refl}
 use Rattle.std.proofs.Output.{has_written_append, has_written_of_eq}
-use Rattle.bittle_bits.specs.Orders.{members}
 use Rattle.bittle_bits.specs.PlainSet.{ascending}
+use Rattle.bittle_bits.specs.Values.{set_in}
 use Rattle.bittle.specs.DebugText.{index_text}
 use Rattle.bittle.proofs.set.debug.SetDebug.fmt.Invariants.{others_text, rest_text}
 use Rattle.bittle.proofs.set.debug.SetDebug.fmt.Goals as goal
@@ -18,7 +18,7 @@ rest_text-none false = refl
 pub loop-index-init : goal.loop-index-init
 loop-index-init g c = λ plain.
     let all : c.into_iter-index-iterator.result.left
-    ≡ ascending (members g.E.Endian.mirrored g.T.Bits.width (g.T.Bits.big c.args.self.now.bits))
+    ≡ ascending (set_in g.T.Shape g.E.Endian c.args.self.now.bits)
     = search rules in (
       codes "{",
       c.in_ok-write_str.ensures.writes plain refl,

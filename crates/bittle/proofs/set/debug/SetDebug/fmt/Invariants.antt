@@ -2,6 +2,7 @@ use Rattle.std.proofs.Common.{◌≡◌, ℕ, Bool, List, ◌++◌, codes, if◌
 use Rattle.std.specs.Fmt.{HasWritten, IsPlainFormatter, decimal}
 use Rattle.std.specs.List.{join_by, flat_map}
 use Rattle.bittle_bits.specs.Orders.{members}
+use Rattle.bittle_bits.specs.Values.{set_in}
 use Rattle.bittle.specs.DebugText.{set_text}
 use Rattle.bittle.proofs.set.debug.SetDebug.fmt.Given as goal
 
@@ -19,4 +20,4 @@ invariant-loop-index g l =
     IsPlainFormatter l.fn.f
     → (done : List ℕ) × HasWritten g.W.Write.write_str_gives l.fn.f done l.f
     × (done ++ (rest_text l.first l.index-iterator.left ++ codes "}")
-    ≡ set_text (members g.E.Endian.mirrored g.T.Bits.width (g.T.Bits.big l.self.bits)))
+    ≡ set_text (set_in g.T.Shape g.E.Endian l.self.bits))

@@ -1,14 +1,14 @@
 use Rattle.std.proofs.Common.{◌≡◌, ◌+◌, length}
 use Rattle.std.specs.List.{flat_map, fold}
 use Rattle.std.specs.Hash as fed
-use Rattle.bittle_bits.specs.Orders.{members}
 use Rattle.bittle_bits.specs.PlainSet.{ascending}
+use Rattle.bittle_bits.specs.Values.{set_in}
 use Rattle.bittle.proofs.set.hash.SetHash.hash.Given as goal
 
 -- what is fed of the rest completes what is fed of all
 abbrev pub invariant-loop-index : goal.invariant-loop-index
 invariant-loop-index g l =
-    let all = ascending (members g.E.Endian.mirrored g.T.Bits.width (g.T.Bits.big l.self.bits)) in
+    let all = ascending (set_in g.T.Shape g.E.Endian l.self.bits) in
     let write = g.H.Hasher.write in
     record {
       count : l.count + length l.index-iterator.left ≡ length all;

@@ -6,5 +6,5 @@ use Rattle.bittle.proofs.set.integers.SetDefault.default.Goals as goal
 -- src/set/integers.rt
 pub returns : goal.returns
 returns g c =
-    let none = ap g.T.Bits.big c.new_in.ensures ∙ c.zeros.ensures.value in
+    let none = ap g.T.Shape.big c.new_in.ensures ∙ c.zeros.ensures.value in
     (none, rw none (λ _. refl), ap size none ∙ count-never _)
