@@ -2,8 +2,8 @@
 use Rattle.std.proofs.Common.{◌≡◌, ℕ, ◌*◌, ◌<◌, ◌≤◌, Bool, false, IsTrue, inl, inr, sym, ap, ◌∙◌, subst, arith}
 use Rattle.std.proofs.lemmas.Bool.{cases_lt}
 use Rattle.std.specs.Cmp.Lexicographic.{same_text}
-use Rattle.bittle_words.proofs.AscendingLists.{ascending_from-agree}
-use Rattle.bittle_words.proofs.PlaceLemmas.{place-place, place_below}
+use Rattle.bittle_bits.proofs.AscendingLists.{ascending_from-agree}
+use Rattle.bittle_bits.proofs.PlaceLemmas.{place-place, place_below}
 use Rattle.bittle_bits.specs.Orders.{place, members}
 use Rattle.bittle_bits.specs.PlainSet.{PlainSet, ascending, ascending_from}
 use Rattle.bittle.specs.Comparison.{list_eq}

@@ -5,10 +5,10 @@ use Rattle.std.proofs.Math.Nat.{div-add-mod', mod-eq_of_lt}
 use Rattle.std.proofs.lemmas.Nat.{mod-mul-add, mod_below, mul-add-lt, same_from_place}
 use Rattle.std.proofs.lemmas.Bool.{eq-eqb, ne_eqb, cases_eq, cases_lt}
 use Rattle.bittle_bits.specs.RowLawProofs.{elements_has-past}
-use Rattle.bittle_words.specs.Orders.{place, members}
-use Rattle.bittle_words.specs.PlainSet.{PlainSet, contains, with_index, without_index}
+use Rattle.bittle_bits.specs.Orders.{place, members}
+use Rattle.bittle_bits.specs.PlainSet.{PlainSet, contains, with_index, without_index}
 use Rattle.bittle_bits.specs.Rows.{elements_has, elements_set, GoesTo}
-use Rattle.bittle_words.proofs.PlainSets.{plain_set, contains_in, with_in, without_in}
+use Rattle.bittle_bits.proofs.PlainSets.{plain_set, contains_in, with_in, without_in}
 use Rattle.bittle_bits.proofs.RowSets.{at_element-read, at_element-set_same, at_element-set_other, elements_has_at, by_place, elements_placed}
 
 -- the place of an index that wraps

@@ -6,12 +6,12 @@ use Rattle.std.proofs.lemmas.List.{get_or-set_same, get_or-set_other}
 use Rattle.std.proofs.lemmas.Nat.{mul-add-lt}
 use Rattle.std.proofs.lemmas.Bool.{cases_eq, cases_lt}
 use Rattle.bittle_bits.specs.RowLawProofs.{elements_has-past}
-use Rattle.bittle_words.specs.PlainSet.{PlainSet}
+use Rattle.bittle_bits.specs.PlainSet.{PlainSet}
 use Rattle.bittle_bits.specs.Rows.{at_element, elements_has, elements_set}
-use Rattle.bittle_words.specs.SetOperations.{combination_has, combination_of}
-use Rattle.bittle_words.proofs.PlainSets.{plain_set}
+use Rattle.bittle_bits.specs.SetOperations.{combination_has, combination_of}
+use Rattle.bittle_bits.proofs.PlainSets.{plain_set}
 use Rattle.bittle_bits.proofs.RowSets.{elements_has_at, by_place}
-use Rattle.bittle_words.proofs.SetOperations.{combination-below, combination-past, combination-outside}
+use Rattle.bittle_bits.proofs.SetOperations.{combination-below, combination-past, combination-outside}
 
 -- some element of a row that has one
 some_of : {X : Type 0} (xs : List X) (n : ℕ) → n < length xs → X

@@ -6,11 +6,11 @@ use Rattle.std.proofs.lemmas.Nat.{mod-mul-add, div-mul-add, mod_below, div_below
 use Rattle.std.proofs.lemmas.List.{get_or-replicate, length-replicate}
 use Rattle.std.proofs.lemmas.Bool.{cases_eq, cases_lt, lt-ltb, le-ltb, and_right}
 use Rattle.bittle_bits.specs.RowLawProofs.{elements_has-past}
-use Rattle.bittle_words.specs.Orders.{place}
-use Rattle.bittle_words.specs.PlainSet.{PlainSet, empty_set, without_members, full_set}
+use Rattle.bittle_bits.specs.Orders.{place}
+use Rattle.bittle_bits.specs.PlainSet.{PlainSet, empty_set, without_members, full_set}
 use Rattle.bittle_bits.specs.Rows.{at_element, elements_has, elements_set}
-use Rattle.bittle_words.proofs.PlaceLemmas.{place_part, place_below, place_past}
-use Rattle.bittle_words.proofs.PlainSets.{plain_set}
+use Rattle.bittle_bits.proofs.PlaceLemmas.{place_part, place_below, place_past}
+use Rattle.bittle_bits.proofs.PlainSets.{plain_set}
 
 -- the test at a place of the row is that of the element read there
 pub at_element-read : {X : Type 0} (p : X → Bool) (xs : List X) (n : ℕ) (x : X) → n < length xs →

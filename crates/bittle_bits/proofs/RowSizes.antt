@@ -5,11 +5,11 @@ use Rattle.std.proofs.Math.Nat.{zero-mul, mul-zero}
 use Rattle.std.specs.List.{sum_by}
 use Rattle.std.proofs.lemmas.List.Sums.{sum_by-cons, sum_by_more_le}
 use Rattle.std.proofs.lemmas.List.{take_all}
-use Rattle.bittle_words.specs.PlainSet.{PlainSet, count_below, size}
+use Rattle.bittle_bits.specs.PlainSet.{PlainSet, count_below, size}
 use Rattle.bittle_bits.specs.Rows.{at_element, elements_has, elements_set}
 use Rattle.bittle_bits.proofs.RowSets.{elements_has_at, by_place}
-use Rattle.bittle_words.proofs.Counts.{count-same, count-le, count-add, count-none}
-use Rattle.bittle_words.proofs.Sizes.{size-le}
+use Rattle.bittle_bits.proofs.Counts.{count-same, count-le, count-add, count-none}
+use Rattle.bittle_bits.proofs.Sizes.{size-le}
 
 -- a row has the members of its elements
 pub size-elements : {X : Type 0} (c : ℕ) (f : X → ℕ → Bool) (xs : List X) →

@@ -10,7 +10,7 @@ use Rattle.bittle_bits.specs.PlainSet.{PlainSet, with_span}
 use Rattle.bittle_bits.specs.Rows.{elements_has, elements_set}
 use Rattle.bittle_bits.proofs.PlainSets.{plain_set}
 use Rattle.bittle_bits.proofs.RowSets.{at_element-read, at_element-set_same, at_element-set_other, elements_has_at, elements_placed, by_place}
-use Rattle.bittle_words.proofs.Spans.{outside_span, inside_span, with_span-on}
+use Rattle.bittle_bits.proofs.Spans.{outside_span, inside_span, with_span-on}
 
 -- rows: a span within one element
 module _ {X : Type 0} (m : Bool) (w c n q : ℕ) (big : X → PlainSet) (xs : List X) (x y : X)

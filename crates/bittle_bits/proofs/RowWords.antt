@@ -4,10 +4,10 @@ use Rattle.std.proofs.Math.Path.{fun_ext}
 use Rattle.std.proofs.Math.Nat.{mul-div_left, div-add-mod', mul_assoc, lt_of_mul-lt-mul_right, mul-lt-mul_of_pos_right}
 use Rattle.std.proofs.lemmas.Nat.{mod_below, div_below, mul-add-lt}
 use Rattle.std.proofs.lemmas.Bool.{cases_eq, cases_lt, le-ltb}
-use Rattle.bittle_words.specs.PlainSet.{PlainSet}
+use Rattle.bittle_bits.specs.PlainSet.{PlainSet}
 use Rattle.bittle_bits.specs.Rows.{elements_has, elements_set}
-use Rattle.bittle_words.specs.Words.{word_has, word_of}
-use Rattle.bittle_words.proofs.PlainSets.{plain_set}
+use Rattle.bittle_bits.specs.Words.{word_has, word_of}
+use Rattle.bittle_bits.proofs.PlainSets.{plain_set}
 use Rattle.bittle_bits.proofs.RowSets.{elements_has_at, at_element-read}
 
 -- word k of a row of elements of d words is a word of one element

@@ -76,19 +76,19 @@ back_on u v w (Some x) a b = record {
   thrifty = b.thrifty;
 }
 
-module _ {B E O W : Type 0} (s : PlainSet) (words w : ℕ) where
+module _ {B E W : Type 0} (s : PlainSet) (words w : ℕ) where
   -- the looks are paid by what a walk keeps
-  pub thrifty : (t : Cursor B E O W) → Retires words t → IsThrifty (walk_of s words w t)
+  pub thrifty : (t : Cursor B E W) → Retires words t → IsThrifty (walk_of s words w t)
   thrifty t r = record { at_least = r.at_least; at_most = omega (arith, r.at_most); once = r.once }
 
   -- ---- the looks
 
   -- a look that gave an item
-  retires_gave : (t : Cursor B E O W) (c : CopyPair) (i : ℕ) → Retires words t →
+  retires_gave : (t : Cursor B E W) (c : CopyPair) (i : ℕ) → Retires words t →
       c.looks ≡ t.copies.looks + 1 → copy_count c.head ≡ copy_count t.copies.head →
       copy_count c.tail ≡ copy_count t.copies.tail → c.fetches ≡ t.copies.fetches →
       i ≡ t.items + 1 → Retires words (let u :
-      Cursor B E O W = record { copies = c; low = t.low; high = t.high; items = i } in u)
+      Cursor B E W = record { copies = c; low = t.low; high = t.high; items = i } in u)
   retires_gave t c i r l h e q n = record {
     ordered = r.ordered;
     within = omega (arith, r.within);
@@ -98,10 +98,10 @@ module _ {B E O W : Type 0} (s : PlainSet) (words w : ℕ) where
   }
 
   -- a look that retired a copy, or met none
-  retires_met : (t : Cursor B E O W) (c : CopyPair) (a b : ℕ) → Retires words t →
+  retires_met : (t : Cursor B E W) (c : CopyPair) (a b : ℕ) → Retires words t →
       c.looks ≡ t.copies.looks + (a + b) → copy_count c.head + a ≡ copy_count t.copies.head →
       copy_count c.tail + b ≡ copy_count t.copies.tail → c.fetches ≡ t.copies.fetches →
-      Retires words (let u : Cursor B E O W = record
+      Retires words (let u : Cursor B E W = record
       { copies = c; low = t.low; high = t.high; items = t.items } in u)
   retires_met t c a b r l h e q = record {
     ordered = r.ordered;
@@ -114,10 +114,10 @@ module _ {B E O W : Type 0} (s : PlainSet) (words w : ℕ) where
   -- ---- from the front
 
   -- a look at the head that finds nothing retires the copy, if there is one
-  pub head_retired : (t : Cursor B E O W) (c : CopyPair) → Retires words t →
+  pub head_retired : (t : Cursor B E W) (c : CopyPair) → Retires words t →
       TakesFirst t.copies.head None c.head → c.looks ≡ t.copies.looks + copy_count t.copies.head →
       c.tail ≡ t.copies.tail → c.fetches ≡ t.copies.fetches →
-      let u : Cursor B E O W = record { copies = c; low = t.low; high = t.high; items = t.items } in
+      let u : Cursor B E W = record { copies = c; low = t.low; high = t.high; items = t.items } in
       Seeks (walk_of s words w t) (walk_of s words w u) × Retires words u
   unfolding items_left_in
   head_retired t c r f l e q =
@@ -135,9 +135,9 @@ module _ {B E O W : Type 0} (s : PlainSet) (words w : ℕ) where
       )
 
   -- the next word between is copied to the head
-  pub head_fetched : (t : Cursor B E O W) (xs : List ℕ) → Retires words t → t.copies.head ≡ None →
+  pub head_fetched : (t : Cursor B E W) (xs : List ℕ) → Retires words t → t.copies.head ≡ None →
       t.low < t.high → xs ≡ members_between s (t.low * w) (t.low * w + w) →
-      let u : Cursor B E O W = record {
+      let u : Cursor B E W = record {
         copies = record {
           head = Some xs;
           tail = t.copies.tail;
@@ -176,11 +176,11 @@ module _ {B E O W : Type 0} (s : PlainSet) (words w : ℕ) where
       )
 
   -- no word is left between, and the tail gives
-  pub tail_gave : (t : Cursor B E O W) (c : CopyPair) (i x : ℕ) → Retires words t →
+  pub tail_gave : (t : Cursor B E W) (c : CopyPair) (i x : ℕ) → Retires words t →
       t.copies.head ≡ None → t.low ≡ t.high → TakesFirst t.copies.tail (Some x) c.tail →
       c.looks ≡ t.copies.looks + copy_count t.copies.tail → c.head ≡ t.copies.head →
       c.fetches ≡ t.copies.fetches → i ≡ t.items + 1 →
-      let u : Cursor B E O W = record { copies = c; low = t.low; high = t.high; items = i } in
+      let u : Cursor B E W = record { copies = c; low = t.low; high = t.high; items = i } in
       StepsFront (walk_of s words w t) (Some x) (walk_of s words w u) × Retires words u
   unfolding items_left_in
   tail_gave t c i x r z b f l e q n =
@@ -200,11 +200,11 @@ module _ {B E O W : Type 0} (s : PlainSet) (words w : ℕ) where
       )
 
   -- with no head and no word between, a look at the tail that finds nothing ends the walk
-  pub front_ended : (t : Cursor B E O W) (c : CopyPair) → Retires words t → t.copies.head ≡ None →
+  pub front_ended : (t : Cursor B E W) (c : CopyPair) → Retires words t → t.copies.head ≡ None →
       t.low ≡ t.high → TakesFirst t.copies.tail None c.tail →
       c.looks ≡ t.copies.looks + copy_count t.copies.tail → c.head ≡ t.copies.head →
       c.fetches ≡ t.copies.fetches →
-      let u : Cursor B E O W = record { copies = c; low = t.low; high = t.high; items = t.items } in
+      let u : Cursor B E W = record { copies = c; low = t.low; high = t.high; items = t.items } in
       StepsFront (walk_of s words w t) None (walk_of s words w u) × Retires words u
   unfolding items_left_in
   front_ended t c r z b f l e q =
@@ -229,10 +229,10 @@ module _ {B E O W : Type 0} (s : PlainSet) (words w : ℕ) where
   -- ---- the same from the back
 
   -- a look at the tail that finds nothing retires the copy, if there is one
-  pub tail_retired : (t : Cursor B E O W) (c : CopyPair) → Retires words t →
+  pub tail_retired : (t : Cursor B E W) (c : CopyPair) → Retires words t →
       TakesLast t.copies.tail None c.tail → c.looks ≡ t.copies.looks + copy_count t.copies.tail →
       c.head ≡ t.copies.head → c.fetches ≡ t.copies.fetches →
-      let u : Cursor B E O W = record { copies = c; low = t.low; high = t.high; items = t.items } in
+      let u : Cursor B E W = record { copies = c; low = t.low; high = t.high; items = t.items } in
       Seeks (walk_of s words w t) (walk_of s words w u) × Retires words u
   unfolding items_left_in
   tail_retired t c r f l e q =
@@ -250,9 +250,9 @@ module _ {B E O W : Type 0} (s : PlainSet) (words w : ℕ) where
       )
 
   -- the last word between is copied to the tail
-  pub tail_fetched : (t : Cursor B E O W) (xs : List ℕ) → Retires words t → t.copies.tail ≡ None →
+  pub tail_fetched : (t : Cursor B E W) (xs : List ℕ) → Retires words t → t.copies.tail ≡ None →
       t.low < t.high → xs ≡ members_between s ((t.high - 1) * w) ((t.high - 1) * w + w) →
-      let u : Cursor B E O W = record {
+      let u : Cursor B E W = record {
         copies = record {
           head = t.copies.head;
           tail = Some xs;
@@ -291,11 +291,11 @@ module _ {B E O W : Type 0} (s : PlainSet) (words w : ℕ) where
       )
 
   -- no word is left between, and the head gives
-  pub head_gave_back : (t : Cursor B E O W) (c : CopyPair) (i x : ℕ) → Retires words t →
+  pub head_gave_back : (t : Cursor B E W) (c : CopyPair) (i x : ℕ) → Retires words t →
       t.copies.tail ≡ None → t.low ≡ t.high → TakesLast t.copies.head (Some x) c.head →
       c.looks ≡ t.copies.looks + copy_count t.copies.head → c.tail ≡ t.copies.tail →
       c.fetches ≡ t.copies.fetches → i ≡ t.items + 1 →
-      let u : Cursor B E O W = record { copies = c; low = t.low; high = t.high; items = i } in
+      let u : Cursor B E W = record { copies = c; low = t.low; high = t.high; items = i } in
       StepsBack (walk_of s words w t) (Some x) (walk_of s words w u) × Retires words u
   unfolding items_left_in
   head_gave_back t c i x r z b f l e q n =
@@ -316,11 +316,11 @@ module _ {B E O W : Type 0} (s : PlainSet) (words w : ℕ) where
       )
 
   -- with no tail and no word between, a look at the head that finds nothing ends the walk
-  pub back_ended : (t : Cursor B E O W) (c : CopyPair) → Retires words t → t.copies.tail ≡ None →
+  pub back_ended : (t : Cursor B E W) (c : CopyPair) → Retires words t → t.copies.tail ≡ None →
       t.low ≡ t.high → TakesLast t.copies.head None c.head →
       c.looks ≡ t.copies.looks + copy_count t.copies.head → c.tail ≡ t.copies.tail →
       c.fetches ≡ t.copies.fetches →
-      let u : Cursor B E O W = record { copies = c; low = t.low; high = t.high; items = t.items } in
+      let u : Cursor B E W = record { copies = c; low = t.low; high = t.high; items = t.items } in
       StepsBack (walk_of s words w t) None (walk_of s words w u) × Retires words u
   unfolding items_left_in
   back_ended t c r z b f l e q =

@@ -10,12 +10,12 @@ use Rattle.bittle_bits.proofs.Items.{members_between-all}
 use Rattle.bittle_bits.proofs.IteratorRuns.{is_fresh}
 use Rattle.bittle_bits.proofs.Steps.{head_fetched, tail_fetched}
 
-module _ {B E O W : Type 0} (s : PlainSet) (words w : ℕ) where
+module _ {B E W : Type 0} (s : PlainSet) (words w : ℕ) where
   -- with no copy
   pub walk_start : (c high i : ℕ) (h : CopyPair) → 0 < w → s.capacity ≡ c → (n : ℕ) × (c ≡ n * w) →
       words ≡ c / w → h ≡ record { head = None; tail = None; looks = 0; fetches = 0 } →
       high ≡ words → i ≡ 0 →
-      let t : Cursor B E O W = record { copies = h; low = 0; high = high; items = i } in
+      let t : Cursor B E W = record { copies = h; low = 0; high = high; items = i } in
       IsWalkStart s words w t
   unfolding items_left_in
   walk_start c high i h word is whole count none all items =
@@ -36,14 +36,14 @@ module _ {B E O W : Type 0} (s : PlainSet) (words w : ℕ) where
 
   -- with the first word copied
   pub walk_start_head : (high i : ℕ) (h h' : CopyPair) (xs : List ℕ) →
-      let t : Cursor B E O W = record { copies = h; low = 0; high = high; items = i } in
-      let u : Cursor B E O W = record { copies = h'; low = 1; high = high; items = i } in
+      let t : Cursor B E W = record { copies = h; low = 0; high = high; items = i } in
+      let u : Cursor B E W = record { copies = h'; low = 1; high = high; items = i } in
       IsWalkStart s words w t → h.head ≡ None → h.fetches ≡ 0 → 0 < high →
       xs ≡ members_between s (0 * w) (0 * w + w) →
       h' ≡ record { head = Some xs; tail = h.tail; looks = h.looks; fetches = h.fetches + 1 } →
       IsWalkStart s words w u
   walk_start_head high i h h' xs at none unread some items is =
-      let t : Cursor B E O W = record { copies = h; low = 0; high = high; items = i } in
+      let t : Cursor B E W = record { copies = h; low = 0; high = high; items = i } in
       let one = head_fetched s words w t xs at.retires none some items in
       rw is (record {
         left = one.0.left ∙ at.left;
@@ -53,14 +53,14 @@ module _ {B E O W : Type 0} (s : PlainSet) (words w : ℕ) where
 
   -- with the last word copied too
   pub walk_start_tail : (high i : ℕ) (h h' : CopyPair) (xs : List ℕ) →
-      let t : Cursor B E O W = record { copies = h; low = 1; high = high; items = i } in
-      let u : Cursor B E O W = record { copies = h'; low = 1; high = high - 1; items = i } in
+      let t : Cursor B E W = record { copies = h; low = 1; high = high; items = i } in
+      let u : Cursor B E W = record { copies = h'; low = 1; high = high - 1; items = i } in
       IsWalkStart s words w t → h.tail ≡ None → h.fetches ≡ 1 → 1 < high →
       xs ≡ members_between s ((high - 1) * w) ((high - 1) * w + w) →
       h' ≡ record { head = h.head; tail = Some xs; looks = h.looks; fetches = h.fetches + 1 } →
       IsWalkStart s words w u
   walk_start_tail high i h h' xs at none one more items is =
-      let t : Cursor B E O W = record { copies = h; low = 1; high = high; items = i } in
+      let t : Cursor B E W = record { copies = h; low = 1; high = high; items = i } in
       let two = tail_fetched s words w t xs at.retires none more items in
       rw is (record {
         left = two.0.left ∙ at.left;

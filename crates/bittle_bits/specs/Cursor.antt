@@ -5,17 +5,16 @@ use Rattle.bittle_bits.specs.PlainSet.{PlainSet, ascending}
 use Rattle.bittle_bits.specs.Walk.{Walk, IsFresh}
 use Rattle.bittle_bits.specs.declared.internal.cursor.Cursor.{Cursor}
 
--- the types are those of the set, of the order of the walk, and of the order and the words of the
--- set
-module _ {B E O W : Type 0} where
+-- the types are those of the set, of the order of the walk, and of the words of the set
+module _ {B E W : Type 0} where
   -- what is left: the head's items, the members of the words between, and the tail's items. It is
   -- no abbreviation, so that a caller's search does not open the copies behind each walk
-  unfoldable pub items_left_in : PlainSet → ℕ → Cursor B E O W → List ℕ
+  unfoldable pub items_left_in : PlainSet → ℕ → Cursor B E W → List ℕ
   items_left_in s w at = items_in at.copies.head
       ++ (members_between s (at.low * w) (at.high * w) ++ items_in at.copies.tail)
 
   -- the walk over a set that has so many words of w digits
-  abbrev pub walk_of : PlainSet → ℕ → ℕ → Cursor B E O W → Walk
+  abbrev pub walk_of : PlainSet → ℕ → ℕ → Cursor B E W → Walk
   walk_of s words w at = record {
     left = items_left_in s w at;
     looks = at.copies.looks;
@@ -27,7 +26,7 @@ module _ {B E O W : Type 0} where
 
 -- each look gave an item or retired one of the words, and each word was fetched once or is between
 -- the copies
-pub record Retires {B E O W : Type 0} (words : ℕ) (at : Cursor B E O W) : Type 0 where
+pub record Retires {B E W : Type 0} (words : ℕ) (at : Cursor B E W) : Type 0 where
   pub ordered : at.low ≤ at.high
   pub within : at.high + copy_count at.copies.tail ≤ words
   pub at_least : at.items ≤ at.copies.looks
@@ -36,7 +35,7 @@ pub record Retires {B E O W : Type 0} (words : ℕ) (at : Cursor B E O W) : Type
   pub once : at.copies.fetches + (at.high - at.low) ≤ words
 
 -- all items are left, and nothing is counted but the words that were fetched
-pub record IsWalkStart {B E O W : Type 0} (s : PlainSet) (words w : ℕ) (t : Cursor B E O W) :
+pub record IsWalkStart {B E W : Type 0} (s : PlainSet) (words w : ℕ) (t : Cursor B E W) :
     Type 0 where
   pub left : items_left_in s w t ≡ ascending s
   pub fresh : IsFresh words (walk_of s words w t)

@@ -1,10 +1,10 @@
-pub use Rattle.bittle_words.specs.Digits
-pub use Rattle.bittle_words.specs.LawProofs
-pub use Rattle.bittle_words.specs.Orders
-pub use Rattle.bittle_words.specs.PlainSet
-pub use Rattle.bittle_words.specs.SetOperations
-pub use Rattle.bittle_words.specs.Walk
-pub use Rattle.bittle_words.specs.Words
+pub mod Digits
+pub mod LawProofs
+pub mod Orders
+pub mod PlainSet
+pub mod SetOperations
+pub mod Walk
+pub mod Words
 pub mod Copies
 pub mod Join
 pub mod OrderLaws

@@ -1,6 +1,6 @@
 -- A row of elements, as in an array or a slice, as one set.
 use Rattle.std.specs.Prelude.{◌≡◌, ℕ, zero, suc, ◌+◌, ◌<◌, ◌*◌, ◌/◌, ◌%◌, Bool, false, ◌&&◌, nat_lt, List, [], ◌∷◌}
-use Rattle.bittle_words.specs.PlainSet.{PlainSet}
+use Rattle.bittle_bits.specs.PlainSet.{PlainSet}
 
 -- the test of the element at a place of the row
 unfoldable pub at_element : {X : Type 0} → (X → Bool) → List X → ℕ → Bool

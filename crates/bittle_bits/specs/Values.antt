@@ -4,16 +4,16 @@ use Rattle.bittle_bits.specs.Orders.{members}
 use Rattle.bittle_bits.specs.PlainSet.{PlainSet}
 use Rattle.bittle_bits.specs.Shapes.{Fits}
 use Rattle.bittle_bits.specs.declared.internal.shape.Shape as shape
-use Rattle.bittle_words.specs.declared.endian.Endian as endian
+use Rattle.bittle_bits.specs.declared.endian.Endian as endian
 
 -- the set of a value, read in an order
-abbrev pub set_in : {V E : Type 0} → shape.Ghosts V → endian.Ghosts E → V → PlainSet
+abbrev pub set_in : {V W E : Type 0} → shape.Ghosts V W → endian.Ghosts E → V → PlainSet
 set_in b e v = members e.mirrored b.width (b.big v)
 
 -- the set of a value, mirrored within each word or not
-abbrev pub set_mirrored : {V : Type 0} → shape.Ghosts V → Bool → V → PlainSet
+abbrev pub set_mirrored : {V W : Type 0} → shape.Ghosts V W → Bool → V → PlainSet
 set_mirrored b mirrored v = members mirrored b.width (b.big v)
 
 -- the shape of a value fits
-abbrev pub ShapeFits : {V : Type 0} → shape.Ghosts V → V → Type 0
+abbrev pub ShapeFits : {V W : Type 0} → shape.Ghosts V W → V → Type 0
 ShapeFits b v = Fits b.indexable (b.big v).capacity

@@ -11,15 +11,21 @@ use crate::bits_mut::BitsMut;
 use crate::bits_owned::BitsOwned;
 use crate::endian::{DefaultEndian, Endian};
 use crate::internal::row;
-use crate::internal::shape::Shape;
+use crate::internal::shape::{OwnedShape, Shape};
 use crate::operation::Operation;
 
-impl<T: BitsOwned, const N: usize> Shape for [T; N] {
+impl<T: OwnedShape, const N: usize> Shape for [T; N] {
+    type LeafWord = T::LeafWord;
+
     ghost width = { T.width };
 
     ghost indexable = { T.indexable && nat_lt (N * T.type_capacity) 4294967295 };
 
     ghost big = { λ v. elements_set N T.type_capacity T.big v };
+}
+
+impl<T: OwnedShape, const N: usize> OwnedShape for [T; N] {
+    ghost type_capacity = { N * T.type_capacity };
 }
 
 // The operation on two arrays. A short one is copied first: the copy lies elsewhere for certain, so
@@ -42,8 +48,6 @@ fn combine<T: BitsOwned, O: Operation, const N: usize>(elements: &mut [T; N], ot
 
 impl<T: BitsOwned, const N: usize> Bits for [T; N] {
     type Order = DefaultEndian;
-
-    type LeafWord = T::LeafWord;
 
     ghost leaf_width = { T.leaf_width };
 
@@ -112,8 +116,6 @@ impl<T: BitsOwned, const N: usize> BitsMut for [T; N] {
 }
 
 impl<T: BitsOwned, const N: usize> BitsOwned for [T; N] {
-    ghost type_capacity = { N * T.type_capacity };
-
     ghost one_capacity = { λ _. refl };
 
     ghost type_whole_words = { words_of N _ _ T.type_whole_words };

@@ -12,7 +12,6 @@ ghost use Rattle.bittle_bits.specs.Words.{word_of};
 use crate::endian::{BigEndian, DefaultEndian, Endian, LittleEndian};
 use crate::internal::kind::{Ones, Zeros};
 use crate::internal::look::Source;
-use crate::internal::sealed::Number;
 use crate::internal::search;
 use crate::internal::shape::Shape;
 use crate::join::JoinOnes;
@@ -31,10 +30,6 @@ pub trait Bits: Drop + Shape {
     /// The order of the calls that name none: [`DefaultEndian`], but of a `Set` the one it
     /// remembers.
     type Order: Endian;
-
-    /// The integer type that the set is made of.
-    #[doc(hidden)]
-    type LeafWord: Number;
 
     /// Returns how many bits the set has, or `u32::MAX` if its shape does not fit. Always callable.
     ///

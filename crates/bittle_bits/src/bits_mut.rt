@@ -1,6 +1,6 @@
 //! Changing a set.
 
-ghost use Rattle.std.specs.Prelude.{◌≡◌, ◌≤◌, ℕ, Bool, IsTrue};
+ghost use Rattle.std.specs.Prelude.{◌≡◌, ◌≤◌, Bool, IsTrue};
 ghost use Rattle.bittle_bits.specs.PlainSet.{with_index, with_span, without_index, without_members};
 ghost use Rattle.bittle_bits.specs.SetOperations.{combination_of, union_of, conjunction_of, difference_of, symmetric_difference_of};
 ghost use Rattle.bittle_bits.specs.Values.{set_in, set_mirrored, ShapeFits};
@@ -11,9 +11,6 @@ use crate::operation::{Conjunction, Difference, Operation, SymmetricDifference, 
 
 /// A set that can be changed. No change alters the capacity.
 pub trait BitsMut: Bits {
-    // Which loan a lent slice is: a change leaves the same one. It is 0 of a value that is owned.
-    ghost loan: { Self → ℕ } = { λ _. 0 };
-
     /// Sets the bit at `index` in the order `E`. No other bit changes. An index past the capacity
     /// wraps. With capacity 0 nothing changes.
     ///
@@ -27,7 +24,7 @@ pub trait BitsMut: Bits {
         requires { IsTrue Self.indexable }
         ensures set { set_in Self.Shape E.Endian self.new
             ≡ with_index (set_in Self.Shape E.Endian self.old) index }
-        ensures stays { loan self.old ≡ loan self.new };
+        ensures stays { Self.loan self.old ≡ Self.loan self.new };
 
     /// Clears the bit at `index` in the order `E`: it is unset then. No other bit changes. An index
     /// past the capacity wraps. With capacity 0 nothing changes.
@@ -42,7 +39,7 @@ pub trait BitsMut: Bits {
         requires { IsTrue Self.indexable }
         ensures set { set_in Self.Shape E.Endian self.new
             ≡ without_index (set_in Self.Shape E.Endian self.old) index }
-        ensures stays { loan self.old ≡ loan self.new };
+        ensures stays { Self.loan self.old ≡ Self.loan self.new };
 
     /// Clears every bit. Always callable.
     ///
@@ -52,7 +49,7 @@ pub trait BitsMut: Bits {
     /// ```
     fn clear_bits(&mut self)
         ensures set { Self.big self.new ≡ without_members (Self.big self.old) }
-        ensures stays { loan self.old ≡ loan self.new };
+        ensures stays { Self.loan self.old ≡ Self.loan self.new };
 
     /// Sets the bit at each index from `from` on and before `to`, in the order `E`. No other bit
     /// changes.
@@ -63,7 +60,7 @@ pub trait BitsMut: Bits {
         requires within { to ≤ (Self.big self.old).capacity }
         ensures set { set_in Self.Shape E.Endian self.new
             ≡ with_span (set_in Self.Shape E.Endian self.old) from to }
-        ensures stays { loan self.old ≡ loan self.new };
+        ensures stays { Self.loan self.old ≡ Self.loan self.new };
 
     /// Combines the set with another one by an operation. Between two slices of unequal length only
     /// the elements of the common beginning change.
@@ -72,7 +69,7 @@ pub trait BitsMut: Bits {
         ensures set { (mirrored : Bool) → set_mirrored Self.Shape mirrored self.new
             ≡ combination_of O.decide (set_mirrored Self.Shape mirrored self.old)
             (set_mirrored Self.Shape mirrored other.now) }
-        ensures stays { loan self.old ≡ loan self.new };
+        ensures stays { Self.loan self.old ≡ Self.loan self.new };
 
     /// Sets each bit that is set in `other`. Always callable. Between two slices of unequal length
     /// only the elements of the common beginning change.
@@ -86,7 +83,7 @@ pub trait BitsMut: Bits {
         ensures union { (mirrored : Bool) → set_mirrored Self.Shape mirrored self.new
             ≡ union_of (set_mirrored Self.Shape mirrored self.old)
             (set_mirrored Self.Shape mirrored other.now) }
-        ensures stays { loan self.old ≡ loan self.new }
+        ensures stays { Self.loan self.old ≡ Self.loan self.new }
     {
         self.combine::<Union>(other);
     }
@@ -104,7 +101,7 @@ pub trait BitsMut: Bits {
         ensures conjunction { (mirrored : Bool) → set_mirrored Self.Shape mirrored self.new
             ≡ conjunction_of (set_mirrored Self.Shape mirrored self.old)
             (set_mirrored Self.Shape mirrored other.now) }
-        ensures stays { loan self.old ≡ loan self.new }
+        ensures stays { Self.loan self.old ≡ Self.loan self.new }
     {
         self.combine::<Conjunction>(other);
     }
@@ -121,7 +118,7 @@ pub trait BitsMut: Bits {
         ensures difference { (mirrored : Bool) → set_mirrored Self.Shape mirrored self.new
             ≡ difference_of (set_mirrored Self.Shape mirrored self.old)
             (set_mirrored Self.Shape mirrored other.now) }
-        ensures stays { loan self.old ≡ loan self.new }
+        ensures stays { Self.loan self.old ≡ Self.loan self.new }
     {
         self.combine::<Difference>(other);
     }
@@ -138,7 +135,7 @@ pub trait BitsMut: Bits {
         ensures symmetric_difference { (mirrored : Bool) → set_mirrored Self.Shape mirrored self.new
             ≡ symmetric_difference_of (set_mirrored Self.Shape mirrored self.old)
             (set_mirrored Self.Shape mirrored other.now) }
-        ensures stays { loan self.old ≡ loan self.new }
+        ensures stays { Self.loan self.old ≡ Self.loan self.new }
     {
         self.combine::<SymmetricDifference>(other);
     }
@@ -154,7 +151,7 @@ pub trait BitsMut: Bits {
         requires { IsTrue Self.indexable }
         ensures set { set_in Self.Shape Self.Order.Endian self.new
             ≡ with_index (set_in Self.Shape Self.Order.Endian self.old) index }
-        ensures stays { loan self.old ≡ loan self.new }
+        ensures stays { Self.loan self.old ≡ Self.loan self.new }
     {
         self.set_bit_in::<Self::Order>(index);
     }
@@ -170,7 +167,7 @@ pub trait BitsMut: Bits {
         requires { IsTrue Self.indexable }
         ensures set { set_in Self.Shape ⟦<LittleEndian as Endian>⟧ self.new
             ≡ with_index (set_in Self.Shape ⟦<LittleEndian as Endian>⟧ self.old) index }
-        ensures stays { loan self.old ≡ loan self.new }
+        ensures stays { Self.loan self.old ≡ Self.loan self.new }
     {
         self.set_bit_in::<LittleEndian>(index);
     }
@@ -186,7 +183,7 @@ pub trait BitsMut: Bits {
         requires { IsTrue Self.indexable }
         ensures set { set_in Self.Shape ⟦<BigEndian as Endian>⟧ self.new
             ≡ with_index (set_in Self.Shape ⟦<BigEndian as Endian>⟧ self.old) index }
-        ensures stays { loan self.old ≡ loan self.new }
+        ensures stays { Self.loan self.old ≡ Self.loan self.new }
     {
         self.set_bit_in::<BigEndian>(index);
     }
@@ -202,7 +199,7 @@ pub trait BitsMut: Bits {
         requires { IsTrue Self.indexable }
         ensures set { set_in Self.Shape Self.Order.Endian self.new
             ≡ without_index (set_in Self.Shape Self.Order.Endian self.old) index }
-        ensures stays { loan self.old ≡ loan self.new }
+        ensures stays { Self.loan self.old ≡ Self.loan self.new }
     {
         self.clear_bit_in::<Self::Order>(index);
     }
@@ -218,7 +215,7 @@ pub trait BitsMut: Bits {
         requires { IsTrue Self.indexable }
         ensures set { set_in Self.Shape ⟦<LittleEndian as Endian>⟧ self.new
             ≡ without_index (set_in Self.Shape ⟦<LittleEndian as Endian>⟧ self.old) index }
-        ensures stays { loan self.old ≡ loan self.new }
+        ensures stays { Self.loan self.old ≡ Self.loan self.new }
     {
         self.clear_bit_in::<LittleEndian>(index);
     }
@@ -234,7 +231,7 @@ pub trait BitsMut: Bits {
         requires { IsTrue Self.indexable }
         ensures set { set_in Self.Shape ⟦<BigEndian as Endian>⟧ self.new
             ≡ without_index (set_in Self.Shape ⟦<BigEndian as Endian>⟧ self.old) index }
-        ensures stays { loan self.old ≡ loan self.new }
+        ensures stays { Self.loan self.old ≡ Self.loan self.new }
     {
         self.clear_bit_in::<BigEndian>(index);
     }

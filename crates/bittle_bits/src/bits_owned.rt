@@ -10,13 +10,11 @@ ghost use Rattle.bittle_bits.specs.Walk.{AreBelow, IsFresh};
 use crate::bits_mut::BitsMut;
 use crate::endian::{BigEndian, Endian, LittleEndian};
 use crate::internal::look::OwnedSource;
+use crate::internal::shape::OwnedShape;
 use crate::walk::{IntoIter, IntoIterOnes, IntoIterZeros};
 
 /// A set that is copied with its value. All values of the type have one capacity.
-pub trait BitsOwned: Copy + Eq + BitsMut {
-    // The capacity of each value.
-    ghost type_capacity: { ℕ };
-
+pub trait BitsOwned: Copy + Eq + BitsMut + OwnedShape {
     /// Returns how many bits a set of the type has, or `u32::MAX` if the type does not fit. Always
     /// callable.
     ///
@@ -24,8 +22,8 @@ pub trait BitsOwned: Copy + Eq + BitsMut {
     /// <[u32; 4]>::bits();                                 // 128
     /// ```
     fn bits() -> u32
-        ensures value { Fits Self.indexable type_capacity → result ≡ type_capacity }
-        ensures fits { result < 4294967295 → Fits Self.indexable type_capacity };
+        ensures value { Fits Self.indexable Self.type_capacity → result ≡ Self.type_capacity }
+        ensures fits { result < 4294967295 → Fits Self.indexable Self.type_capacity };
 
     /// Returns the set in which no bit is set. The type has to fit.
     ///
@@ -34,9 +32,9 @@ pub trait BitsOwned: Copy + Eq + BitsMut {
     /// ```
     fn zeros() -> Self
         requires { IsTrue Self.indexable }
-        ensures value { Self.big result ≡ empty_set type_capacity }
+        ensures value { Self.big result ≡ empty_set Self.type_capacity }
         ensures in_each_order { (mirrored : Bool) →
-            set_mirrored Self.Shape mirrored result ≡ empty_set type_capacity };
+            set_mirrored Self.Shape mirrored result ≡ empty_set Self.type_capacity };
 
     /// Returns the set in which each bit is set; with capacity 0 it is empty too. The type has to
     /// fit.
@@ -46,10 +44,10 @@ pub trait BitsOwned: Copy + Eq + BitsMut {
     /// ```
     fn ones() -> Self
         requires { IsTrue Self.indexable }
-        ensures value { Self.big result ≡ full_set type_capacity }
-        ensures in_own_order { set_in Self.Shape Self.Order.Endian result ≡ full_set type_capacity }
+        ensures value { Self.big result ≡ full_set Self.type_capacity }
+        ensures in_own_order { set_in Self.Shape Self.Order.Endian result ≡ full_set Self.type_capacity }
         ensures in_each_order { (mirrored : Bool) →
-            set_mirrored Self.Shape mirrored result ≡ full_set type_capacity };
+            set_mirrored Self.Shape mirrored result ≡ full_set Self.type_capacity };
 
     /// Returns the set with the bit at `bit` set, in the order `E`. An index past the capacity
     /// wraps. With capacity 0 it returns the set itself. The type has to fit.
@@ -387,12 +385,12 @@ pub trait BitsOwned: Copy + Eq + BitsMut {
         self.into_iter_zeros_in::<BigEndian>()
     }
 
-    ghost one_capacity: { (v : Self) → (Self.big v).capacity ≡ type_capacity };
+    ghost one_capacity: { (v : Self) → (Self.big v).capacity ≡ Self.type_capacity };
 
-    ghost type_whole_words: { (words : ℕ) × (type_capacity ≡ words * Self.width) };
+    ghost type_whole_words: { (words : ℕ) × (Self.type_capacity ≡ words * Self.width) };
 
     // An owned type that is indexable fits.
-    ghost type_fits: { IsTrue Self.indexable → type_capacity < 4294967295 };
+    ghost type_fits: { IsTrue Self.indexable → Self.type_capacity < 4294967295 };
 
     // Values that `==` finds equal are one set.
     ghost eq_is_same: { (u v : Self) → IsTrue (Self.eq u v) → Self.big u ≡ Self.big v };

@@ -1,4 +1,4 @@
-//! The twelve integers as sets.
+//! The twelve integers as words.
 
 mod int128;
 mod int16;

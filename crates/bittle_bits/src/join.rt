@@ -6,6 +6,7 @@ ghost use Rattle.bittle_bits.specs.Join.{IsAscendingFrom, join_steps, AnswersIte
 
 use crate::bits::Bits;
 use crate::endian::Endian;
+use crate::internal::shape::Shape;
 use crate::walk::IterOnes;
 use std::marker::Model;
 
@@ -24,14 +25,14 @@ use std::marker::Model;
 /// join.next();                                        // None
 /// ```
 #[derive(Drop)]
-pub struct JoinOnes<'a, A: Bits, E: Endian, I> {
+pub struct JoinOnes<'a, A: Shape, E: Endian, I> {
     mask: IterOnes<'a, A, E>,
     iter: I,
     taken: usize,
     ended: bool,
 }
 
-impl<'a, A: Bits, E: Endian, I> Model for JoinOnes<'a, A, E, I> {
+impl<'a, A: Shape, E: Endian, I> Model for JoinOnes<'a, A, E, I> {
     ghost use Rattle.bittle_bits.specs.Join.{Join, IsAscendingFrom};
 
     ghost Value = { Join I };

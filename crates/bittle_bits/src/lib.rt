@@ -1,4 +1,5 @@
-//! Sets of small numbers over native integers: the traits, the orders and the plain shapes.
+//! Sets of small numbers over native integers: what a set is, the two orders, the twelve words, the
+//! traits, and the plain shapes, with the iterators over them.
 //!
 //! Users name the crate `bittle`, which exports the public items of this one.
 #![tactic(auto)]
@@ -7,15 +8,18 @@ mod array;
 pub mod bits;
 pub mod bits_mut;
 pub mod bits_owned;
+pub mod endian;
 mod integers;
 #[doc(hidden)]
 pub mod internal;
 pub mod join;
 #[doc(hidden)]
 pub mod laws;
+pub mod number;
+mod one_word;
+#[doc(hidden)]
+pub mod operation;
 mod slice;
 pub mod walk;
-
 #[doc(hidden)]
-pub use bittle_words::operation;
-pub use bittle_words::{endian, number};
+pub mod word;

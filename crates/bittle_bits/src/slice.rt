@@ -9,10 +9,12 @@ use crate::bits_mut::BitsMut;
 use crate::bits_owned::BitsOwned;
 use crate::endian::{DefaultEndian, Endian};
 use crate::internal::row;
-use crate::internal::shape::Shape;
+use crate::internal::shape::{OwnedShape, Shape};
 use crate::operation::Operation;
 
-impl<'a, T: BitsOwned> Shape for &'a [T] {
+impl<'a, T: OwnedShape> Shape for &'a [T] {
+    type LeafWord = T::LeafWord;
+
     ghost width = { T.width };
 
     ghost indexable = { T.indexable };
@@ -22,8 +24,6 @@ impl<'a, T: BitsOwned> Shape for &'a [T] {
 
 impl<'a, T: BitsOwned> Bits for &'a [T] {
     type Order = DefaultEndian;
-
-    type LeafWord = T::LeafWord;
 
     ghost leaf_width = { T.leaf_width };
 
@@ -65,18 +65,20 @@ impl<'a, T: BitsOwned> Bits for &'a [T] {
     }
 }
 
-impl<'a, T: BitsOwned> Shape for &'a mut [T] {
+impl<'a, T: OwnedShape> Shape for &'a mut [T] {
+    type LeafWord = T::LeafWord;
+
     ghost width = { T.width };
 
     ghost indexable = { T.indexable };
 
     ghost big = { λ v. elements_set (length v.now) T.type_capacity T.big v.now };
+
+    ghost loan = { λ v. v.ghost_name };
 }
 
 impl<'a, T: BitsOwned> Bits for &'a mut [T] {
     type Order = DefaultEndian;
-
-    type LeafWord = T::LeafWord;
 
     ghost leaf_width = { T.leaf_width };
 
@@ -119,8 +121,6 @@ impl<'a, T: BitsOwned> Bits for &'a mut [T] {
 }
 
 impl<'a, T: BitsOwned> BitsMut for &'a mut [T] {
-    ghost loan = { λ v. v.ghost_name };
-
     #[inline]
     fn set_bit_in<E: Endian>(&mut self, index: u32) {
         row::set_bit::<T, E>(self, index);

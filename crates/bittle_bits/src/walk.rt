@@ -17,6 +17,7 @@ use crate::internal::cursor::{Cursor, begin, duplicate, step_back, step_front};
 use crate::internal::ghost_count::{Count, Counted};
 use crate::internal::kind::{Kind, Ones, Zeros};
 use crate::internal::look::{OwnedSource, Source};
+use crate::internal::shape::Shape;
 use std::alloc::AllocError;
 use std::marker::{Model, PhantomData};
 
@@ -56,13 +57,13 @@ pub type IntoIterZeros<B, E> = IntoIter<B, E, Zeros>;
 /// Each step yields the first or the last item that is left. After its end it returns `None` on
 /// both sides. A clone goes on from where its source is.
 #[derive(Drop)]
-pub struct Iter<'a, B: Bits, E: Endian, K: Kind> {
+pub struct Iter<'a, B: Shape, E: Endian, K: Kind> {
     source: Source<'a, B>,
     at: Cursor<B, E>,
     kind: PhantomData<K>,
 }
 
-impl<'a, B: Bits, E: Endian, K: Kind> Model for Iter<'a, B, E, K> {
+impl<'a, B: Shape, E: Endian, K: Kind> Model for Iter<'a, B, E, K> {
     ghost use Rattle.bittle_bits.specs.Walk.{Walk, ones_or_zeros};
 
     ghost Value = { Walk };
@@ -163,13 +164,13 @@ impl<'a, B: Bits, E: Endian, K: Kind> Counted for Iter<'a, B, E, K> {
 /// Each step yields the first or the last item that is left. After its end it returns `None` on
 /// both sides. A clone goes on from where its source is.
 #[derive(Drop)]
-pub struct IntoIter<B: BitsOwned, E: Endian, K: Kind> {
+pub struct IntoIter<B: Shape, E: Endian, K: Kind> {
     source: OwnedSource<B>,
     at: Cursor<B, E>,
     kind: PhantomData<K>,
 }
 
-impl<B: BitsOwned, E: Endian, K: Kind> Model for IntoIter<B, E, K> {
+impl<B: Shape, E: Endian, K: Kind> Model for IntoIter<B, E, K> {
     ghost use Rattle.bittle_bits.specs.Walk.{Walk, ones_or_zeros};
 
     ghost Value = { Walk };

@@ -4,17 +4,15 @@ ghost use Rattle.std.specs.Prelude.{true, refl};
 ghost use Rattle.std.specs.Int.{w128, cast_unsigned};
 ghost use Rattle.std.proofs.Common.{lit<};
 ghost use Rattle.bittle_bits.specs.Digits.{digit_set};
-ghost use Rattle.bittle_bits.specs.LawProofs.{digit_has-past, one_word, equal_words, equal_signed_words};
+ghost use Rattle.bittle_bits.specs.LawProofs.{equal_words, equal_signed_words};
 
-use crate::bits::Bits;
-use crate::bits_mut::BitsMut;
-use crate::bits_owned::BitsOwned;
-use crate::endian::{DefaultEndian, Endian};
-use crate::internal::shape::Shape;
-use crate::operation::Operation;
-use bittle_words::word;
+use crate::internal::shape::{OwnedShape, Shape};
+use crate::one_word::Integer;
+use crate::word::Word;
 
 impl Shape for u128 {
+    type LeafWord = u128;
+
     ghost width = { 128 };
 
     ghost indexable = { true };
@@ -22,105 +20,77 @@ impl Shape for u128 {
     ghost big = { λ x. digit_set 128 x };
 }
 
-impl Bits for u128 {
-    type Order = DefaultEndian;
+impl OwnedShape for u128 {
+    ghost type_capacity = { 128 };
+}
 
-    type LeafWord = u128;
+impl Integer for u128 {
+    ghost same_width = { refl };
 
-    ghost leaf_width = { refl };
+    ghost same_capacity = { refl };
+
+    ghost is_indexable = { refl };
+
+    ghost is_owned = { λ _ _. refl };
+
+    ghost width_fits = { lit< tt };
+
+    ghost big_is_digits = { λ _. refl };
+
+    ghost same_digits = { equal_words 128 };
+}
+
+impl Word for u128 {
+    ghost width = { 128 };
+
+    ghost digits = { λ x. x };
 
     ghost width_positive = { lit< tt };
 
-    ghost whole_words = { λ _. one_word 128 };
-
-    ghost none_past = { λ v i h. digit_has-past 128 _ i h };
-
     #[inline]
-    fn bits_capacity(&self) -> u32 {
+    fn width() -> u32 {
         u128::BITS
     }
 
     #[inline]
-    fn count_ones(&self) -> u32 {
-        word::count_ones::<u128>(*self)
+    fn one_at(index: u32) -> u128 {
+        1 << index
     }
 
     #[inline]
-    fn all_zeros(&self) -> bool {
-        word::all_zeros::<u128>(*self)
+    fn to_digits(self) -> u128 {
+        self
     }
 
     #[inline]
-    fn all_ones(&self) -> bool {
-        word::all_ones::<u128>(*self)
+    fn from_digits(value: u128) -> u128 {
+        value
     }
 
     #[inline]
-    fn test_bit_in<E: Endian>(&self, index: u32) -> bool {
-        word::test_bit::<u128, E>(*self, index)
+    fn not(self) -> u128 {
+        !self
     }
 
     #[inline]
-    fn leaf_word(&self, k: u32) -> u128 {
-        word::leaf_word::<u128>(*self, k)
-    }
-}
-
-impl BitsMut for u128 {
-    #[inline]
-    fn set_bit_in<E: Endian>(&mut self, index: u32) {
-        word::set_bit::<u128, E>(self, index);
+    fn count_ones(self) -> u32 {
+        self.count_ones()
     }
 
     #[inline]
-    fn clear_bit_in<E: Endian>(&mut self, index: u32) {
-        word::clear_bit::<u128, E>(self, index);
+    fn trailing_zeros(self) -> u32 {
+        self.trailing_zeros()
     }
 
     #[inline]
-    fn clear_bits(&mut self) {
-        word::clear_bits::<u128>(self);
-    }
-
-    #[inline]
-    fn fill_in<E: Endian>(&mut self, from: u32, to: u32) {
-        word::fill::<u128, E>(self, from, to);
-    }
-
-    #[inline]
-    fn combine<O: Operation>(&mut self, other: &u128) {
-        word::combine::<u128, O>(self, *other);
-    }
-}
-
-impl BitsOwned for u128 {
-    ghost type_capacity = { 128 };
-
-    ghost one_capacity = { λ _. refl };
-
-    ghost type_whole_words = { one_word 128 };
-
-    ghost type_fits = { λ _. lit< tt };
-
-    ghost eq_is_same = { equal_words 128 };
-
-    #[inline]
-    fn bits() -> u32 {
-        u128::BITS
-    }
-
-    #[inline]
-    fn zeros() -> u128 {
-        word::zeros::<u128>()
-    }
-
-    #[inline]
-    fn ones() -> u128 {
-        word::ones::<u128>()
+    fn leading_zeros(self) -> u32 {
+        self.leading_zeros()
     }
 }
 
 impl Shape for i128 {
+    type LeafWord = i128;
+
     ghost width = { 128 };
 
     ghost indexable = { true };
@@ -128,100 +98,70 @@ impl Shape for i128 {
     ghost big = { λ x. digit_set 128 (cast_unsigned w128 x) };
 }
 
-impl Bits for i128 {
-    type Order = DefaultEndian;
+impl OwnedShape for i128 {
+    ghost type_capacity = { 128 };
+}
 
-    type LeafWord = i128;
+impl Integer for i128 {
+    ghost same_width = { refl };
 
-    ghost leaf_width = { refl };
+    ghost same_capacity = { refl };
+
+    ghost is_indexable = { refl };
+
+    ghost is_owned = { λ _ _. refl };
+
+    ghost width_fits = { lit< tt };
+
+    ghost big_is_digits = { λ _. refl };
+
+    ghost same_digits = { equal_signed_words 128 (cast_unsigned w128) };
+}
+
+impl Word for i128 {
+    ghost width = { 128 };
+
+    ghost digits = { cast_unsigned w128 };
 
     ghost width_positive = { lit< tt };
 
-    ghost whole_words = { λ _. one_word 128 };
-
-    ghost none_past = { λ v i h. digit_has-past 128 _ i h };
-
     #[inline]
-    fn bits_capacity(&self) -> u32 {
+    fn width() -> u32 {
         i128::BITS
     }
 
     #[inline]
-    fn count_ones(&self) -> u32 {
-        word::count_ones::<i128>(*self)
+    fn one_at(index: u32) -> i128 {
+        1 << index
     }
 
     #[inline]
-    fn all_zeros(&self) -> bool {
-        word::all_zeros::<i128>(*self)
+    fn to_digits(self) -> u128 {
+        self.cast_unsigned()
     }
 
     #[inline]
-    fn all_ones(&self) -> bool {
-        word::all_ones::<i128>(*self)
+    fn from_digits(value: u128) -> i128 {
+        value.cast_signed()
     }
 
     #[inline]
-    fn test_bit_in<E: Endian>(&self, index: u32) -> bool {
-        word::test_bit::<i128, E>(*self, index)
+    fn not(self) -> i128 {
+        !self
     }
 
     #[inline]
-    fn leaf_word(&self, k: u32) -> i128 {
-        word::leaf_word::<i128>(*self, k)
-    }
-}
-
-impl BitsMut for i128 {
-    #[inline]
-    fn set_bit_in<E: Endian>(&mut self, index: u32) {
-        word::set_bit::<i128, E>(self, index);
+    fn count_ones(self) -> u32 {
+        self.count_ones()
     }
 
     #[inline]
-    fn clear_bit_in<E: Endian>(&mut self, index: u32) {
-        word::clear_bit::<i128, E>(self, index);
+    fn trailing_zeros(self) -> u32 {
+        self.trailing_zeros()
     }
 
     #[inline]
-    fn clear_bits(&mut self) {
-        word::clear_bits::<i128>(self);
-    }
-
-    #[inline]
-    fn fill_in<E: Endian>(&mut self, from: u32, to: u32) {
-        word::fill::<i128, E>(self, from, to);
-    }
-
-    #[inline]
-    fn combine<O: Operation>(&mut self, other: &i128) {
-        word::combine::<i128, O>(self, *other);
-    }
-}
-
-impl BitsOwned for i128 {
-    ghost type_capacity = { 128 };
-
-    ghost one_capacity = { λ _. refl };
-
-    ghost type_whole_words = { one_word 128 };
-
-    ghost type_fits = { λ _. lit< tt };
-
-    ghost eq_is_same = { equal_signed_words 128 (cast_unsigned w128) };
-
-    #[inline]
-    fn bits() -> u32 {
-        i128::BITS
-    }
-
-    #[inline]
-    fn zeros() -> i128 {
-        word::zeros::<i128>()
-    }
-
-    #[inline]
-    fn ones() -> i128 {
-        word::ones::<i128>()
+    fn leading_zeros(self) -> u32 {
+        self.leading_zeros()
     }
 }

@@ -4,17 +4,15 @@ ghost use Rattle.std.specs.Prelude.{true, refl};
 ghost use Rattle.std.specs.Int.{w64, cast_unsigned};
 ghost use Rattle.std.proofs.Common.{lit<};
 ghost use Rattle.bittle_bits.specs.Digits.{digit_set};
-ghost use Rattle.bittle_bits.specs.LawProofs.{digit_has-past, one_word, equal_words, equal_signed_words};
+ghost use Rattle.bittle_bits.specs.LawProofs.{equal_words, equal_signed_words};
 
-use crate::bits::Bits;
-use crate::bits_mut::BitsMut;
-use crate::bits_owned::BitsOwned;
-use crate::endian::{DefaultEndian, Endian};
-use crate::internal::shape::Shape;
-use crate::operation::Operation;
-use bittle_words::word;
+use crate::internal::shape::{OwnedShape, Shape};
+use crate::one_word::Integer;
+use crate::word::Word;
 
 impl Shape for u64 {
+    type LeafWord = u64;
+
     ghost width = { 64 };
 
     ghost indexable = { true };
@@ -22,105 +20,77 @@ impl Shape for u64 {
     ghost big = { λ x. digit_set 64 x };
 }
 
-impl Bits for u64 {
-    type Order = DefaultEndian;
+impl OwnedShape for u64 {
+    ghost type_capacity = { 64 };
+}
 
-    type LeafWord = u64;
+impl Integer for u64 {
+    ghost same_width = { refl };
 
-    ghost leaf_width = { refl };
+    ghost same_capacity = { refl };
+
+    ghost is_indexable = { refl };
+
+    ghost is_owned = { λ _ _. refl };
+
+    ghost width_fits = { lit< tt };
+
+    ghost big_is_digits = { λ _. refl };
+
+    ghost same_digits = { equal_words 64 };
+}
+
+impl Word for u64 {
+    ghost width = { 64 };
+
+    ghost digits = { λ x. x };
 
     ghost width_positive = { lit< tt };
 
-    ghost whole_words = { λ _. one_word 64 };
-
-    ghost none_past = { λ v i h. digit_has-past 64 _ i h };
-
     #[inline]
-    fn bits_capacity(&self) -> u32 {
+    fn width() -> u32 {
         u64::BITS
     }
 
     #[inline]
-    fn count_ones(&self) -> u32 {
-        word::count_ones::<u64>(*self)
+    fn one_at(index: u32) -> u64 {
+        1 << index
     }
 
     #[inline]
-    fn all_zeros(&self) -> bool {
-        word::all_zeros::<u64>(*self)
+    fn to_digits(self) -> u128 {
+        self as u128
     }
 
     #[inline]
-    fn all_ones(&self) -> bool {
-        word::all_ones::<u64>(*self)
+    fn from_digits(value: u128) -> u64 {
+        value as u64
     }
 
     #[inline]
-    fn test_bit_in<E: Endian>(&self, index: u32) -> bool {
-        word::test_bit::<u64, E>(*self, index)
+    fn not(self) -> u64 {
+        !self
     }
 
     #[inline]
-    fn leaf_word(&self, k: u32) -> u64 {
-        word::leaf_word::<u64>(*self, k)
-    }
-}
-
-impl BitsMut for u64 {
-    #[inline]
-    fn set_bit_in<E: Endian>(&mut self, index: u32) {
-        word::set_bit::<u64, E>(self, index);
+    fn count_ones(self) -> u32 {
+        self.count_ones()
     }
 
     #[inline]
-    fn clear_bit_in<E: Endian>(&mut self, index: u32) {
-        word::clear_bit::<u64, E>(self, index);
+    fn trailing_zeros(self) -> u32 {
+        self.trailing_zeros()
     }
 
     #[inline]
-    fn clear_bits(&mut self) {
-        word::clear_bits::<u64>(self);
-    }
-
-    #[inline]
-    fn fill_in<E: Endian>(&mut self, from: u32, to: u32) {
-        word::fill::<u64, E>(self, from, to);
-    }
-
-    #[inline]
-    fn combine<O: Operation>(&mut self, other: &u64) {
-        word::combine::<u64, O>(self, *other);
-    }
-}
-
-impl BitsOwned for u64 {
-    ghost type_capacity = { 64 };
-
-    ghost one_capacity = { λ _. refl };
-
-    ghost type_whole_words = { one_word 64 };
-
-    ghost type_fits = { λ _. lit< tt };
-
-    ghost eq_is_same = { equal_words 64 };
-
-    #[inline]
-    fn bits() -> u32 {
-        u64::BITS
-    }
-
-    #[inline]
-    fn zeros() -> u64 {
-        word::zeros::<u64>()
-    }
-
-    #[inline]
-    fn ones() -> u64 {
-        word::ones::<u64>()
+    fn leading_zeros(self) -> u32 {
+        self.leading_zeros()
     }
 }
 
 impl Shape for i64 {
+    type LeafWord = i64;
+
     ghost width = { 64 };
 
     ghost indexable = { true };
@@ -128,100 +98,70 @@ impl Shape for i64 {
     ghost big = { λ x. digit_set 64 (cast_unsigned w64 x) };
 }
 
-impl Bits for i64 {
-    type Order = DefaultEndian;
+impl OwnedShape for i64 {
+    ghost type_capacity = { 64 };
+}
 
-    type LeafWord = i64;
+impl Integer for i64 {
+    ghost same_width = { refl };
 
-    ghost leaf_width = { refl };
+    ghost same_capacity = { refl };
+
+    ghost is_indexable = { refl };
+
+    ghost is_owned = { λ _ _. refl };
+
+    ghost width_fits = { lit< tt };
+
+    ghost big_is_digits = { λ _. refl };
+
+    ghost same_digits = { equal_signed_words 64 (cast_unsigned w64) };
+}
+
+impl Word for i64 {
+    ghost width = { 64 };
+
+    ghost digits = { cast_unsigned w64 };
 
     ghost width_positive = { lit< tt };
 
-    ghost whole_words = { λ _. one_word 64 };
-
-    ghost none_past = { λ v i h. digit_has-past 64 _ i h };
-
     #[inline]
-    fn bits_capacity(&self) -> u32 {
+    fn width() -> u32 {
         i64::BITS
     }
 
     #[inline]
-    fn count_ones(&self) -> u32 {
-        word::count_ones::<i64>(*self)
+    fn one_at(index: u32) -> i64 {
+        1 << index
     }
 
     #[inline]
-    fn all_zeros(&self) -> bool {
-        word::all_zeros::<i64>(*self)
+    fn to_digits(self) -> u128 {
+        self.cast_unsigned() as u128
     }
 
     #[inline]
-    fn all_ones(&self) -> bool {
-        word::all_ones::<i64>(*self)
+    fn from_digits(value: u128) -> i64 {
+        (value as u64).cast_signed()
     }
 
     #[inline]
-    fn test_bit_in<E: Endian>(&self, index: u32) -> bool {
-        word::test_bit::<i64, E>(*self, index)
+    fn not(self) -> i64 {
+        !self
     }
 
     #[inline]
-    fn leaf_word(&self, k: u32) -> i64 {
-        word::leaf_word::<i64>(*self, k)
-    }
-}
-
-impl BitsMut for i64 {
-    #[inline]
-    fn set_bit_in<E: Endian>(&mut self, index: u32) {
-        word::set_bit::<i64, E>(self, index);
+    fn count_ones(self) -> u32 {
+        self.count_ones()
     }
 
     #[inline]
-    fn clear_bit_in<E: Endian>(&mut self, index: u32) {
-        word::clear_bit::<i64, E>(self, index);
+    fn trailing_zeros(self) -> u32 {
+        self.trailing_zeros()
     }
 
     #[inline]
-    fn clear_bits(&mut self) {
-        word::clear_bits::<i64>(self);
-    }
-
-    #[inline]
-    fn fill_in<E: Endian>(&mut self, from: u32, to: u32) {
-        word::fill::<i64, E>(self, from, to);
-    }
-
-    #[inline]
-    fn combine<O: Operation>(&mut self, other: &i64) {
-        word::combine::<i64, O>(self, *other);
-    }
-}
-
-impl BitsOwned for i64 {
-    ghost type_capacity = { 64 };
-
-    ghost one_capacity = { λ _. refl };
-
-    ghost type_whole_words = { one_word 64 };
-
-    ghost type_fits = { λ _. lit< tt };
-
-    ghost eq_is_same = { equal_signed_words 64 (cast_unsigned w64) };
-
-    #[inline]
-    fn bits() -> u32 {
-        i64::BITS
-    }
-
-    #[inline]
-    fn zeros() -> i64 {
-        word::zeros::<i64>()
-    }
-
-    #[inline]
-    fn ones() -> i64 {
-        word::ones::<i64>()
+    fn leading_zeros(self) -> u32 {
+        self.leading_zeros()
     }
 }

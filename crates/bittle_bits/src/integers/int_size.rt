@@ -4,17 +4,15 @@ ghost use Rattle.std.specs.Prelude.{true, refl};
 ghost use Rattle.std.specs.Int.{w64, cast_unsigned};
 ghost use Rattle.std.proofs.Common.{lit<};
 ghost use Rattle.bittle_bits.specs.Digits.{digit_set};
-ghost use Rattle.bittle_bits.specs.LawProofs.{digit_has-past, one_word, equal_words, equal_signed_words};
+ghost use Rattle.bittle_bits.specs.LawProofs.{equal_words, equal_signed_words};
 
-use crate::bits::Bits;
-use crate::bits_mut::BitsMut;
-use crate::bits_owned::BitsOwned;
-use crate::endian::{DefaultEndian, Endian};
-use crate::internal::shape::Shape;
-use crate::operation::Operation;
-use bittle_words::word;
+use crate::internal::shape::{OwnedShape, Shape};
+use crate::one_word::Integer;
+use crate::word::Word;
 
 impl Shape for usize {
+    type LeafWord = usize;
+
     ghost width = { 64 };
 
     ghost indexable = { true };
@@ -22,105 +20,77 @@ impl Shape for usize {
     ghost big = { λ x. digit_set 64 x };
 }
 
-impl Bits for usize {
-    type Order = DefaultEndian;
+impl OwnedShape for usize {
+    ghost type_capacity = { 64 };
+}
 
-    type LeafWord = usize;
+impl Integer for usize {
+    ghost same_width = { refl };
 
-    ghost leaf_width = { refl };
+    ghost same_capacity = { refl };
+
+    ghost is_indexable = { refl };
+
+    ghost is_owned = { λ _ _. refl };
+
+    ghost width_fits = { lit< tt };
+
+    ghost big_is_digits = { λ _. refl };
+
+    ghost same_digits = { equal_words 64 };
+}
+
+impl Word for usize {
+    ghost width = { 64 };
+
+    ghost digits = { λ x. x };
 
     ghost width_positive = { lit< tt };
 
-    ghost whole_words = { λ _. one_word 64 };
-
-    ghost none_past = { λ v i h. digit_has-past 64 _ i h };
-
     #[inline]
-    fn bits_capacity(&self) -> u32 {
+    fn width() -> u32 {
         usize::BITS
     }
 
     #[inline]
-    fn count_ones(&self) -> u32 {
-        word::count_ones::<usize>(*self)
+    fn one_at(index: u32) -> usize {
+        1 << index
     }
 
     #[inline]
-    fn all_zeros(&self) -> bool {
-        word::all_zeros::<usize>(*self)
+    fn to_digits(self) -> u128 {
+        self as u128
     }
 
     #[inline]
-    fn all_ones(&self) -> bool {
-        word::all_ones::<usize>(*self)
+    fn from_digits(value: u128) -> usize {
+        value as usize
     }
 
     #[inline]
-    fn test_bit_in<E: Endian>(&self, index: u32) -> bool {
-        word::test_bit::<usize, E>(*self, index)
+    fn not(self) -> usize {
+        !self
     }
 
     #[inline]
-    fn leaf_word(&self, k: u32) -> usize {
-        word::leaf_word::<usize>(*self, k)
-    }
-}
-
-impl BitsMut for usize {
-    #[inline]
-    fn set_bit_in<E: Endian>(&mut self, index: u32) {
-        word::set_bit::<usize, E>(self, index);
+    fn count_ones(self) -> u32 {
+        self.count_ones()
     }
 
     #[inline]
-    fn clear_bit_in<E: Endian>(&mut self, index: u32) {
-        word::clear_bit::<usize, E>(self, index);
+    fn trailing_zeros(self) -> u32 {
+        self.trailing_zeros()
     }
 
     #[inline]
-    fn clear_bits(&mut self) {
-        word::clear_bits::<usize>(self);
-    }
-
-    #[inline]
-    fn fill_in<E: Endian>(&mut self, from: u32, to: u32) {
-        word::fill::<usize, E>(self, from, to);
-    }
-
-    #[inline]
-    fn combine<O: Operation>(&mut self, other: &usize) {
-        word::combine::<usize, O>(self, *other);
-    }
-}
-
-impl BitsOwned for usize {
-    ghost type_capacity = { 64 };
-
-    ghost one_capacity = { λ _. refl };
-
-    ghost type_whole_words = { one_word 64 };
-
-    ghost type_fits = { λ _. lit< tt };
-
-    ghost eq_is_same = { equal_words 64 };
-
-    #[inline]
-    fn bits() -> u32 {
-        usize::BITS
-    }
-
-    #[inline]
-    fn zeros() -> usize {
-        word::zeros::<usize>()
-    }
-
-    #[inline]
-    fn ones() -> usize {
-        word::ones::<usize>()
+    fn leading_zeros(self) -> u32 {
+        self.leading_zeros()
     }
 }
 
 impl Shape for isize {
+    type LeafWord = isize;
+
     ghost width = { 64 };
 
     ghost indexable = { true };
@@ -128,100 +98,70 @@ impl Shape for isize {
     ghost big = { λ x. digit_set 64 (cast_unsigned w64 x) };
 }
 
-impl Bits for isize {
-    type Order = DefaultEndian;
+impl OwnedShape for isize {
+    ghost type_capacity = { 64 };
+}
 
-    type LeafWord = isize;
+impl Integer for isize {
+    ghost same_width = { refl };
 
-    ghost leaf_width = { refl };
+    ghost same_capacity = { refl };
+
+    ghost is_indexable = { refl };
+
+    ghost is_owned = { λ _ _. refl };
+
+    ghost width_fits = { lit< tt };
+
+    ghost big_is_digits = { λ _. refl };
+
+    ghost same_digits = { equal_signed_words 64 (cast_unsigned w64) };
+}
+
+impl Word for isize {
+    ghost width = { 64 };
+
+    ghost digits = { cast_unsigned w64 };
 
     ghost width_positive = { lit< tt };
 
-    ghost whole_words = { λ _. one_word 64 };
-
-    ghost none_past = { λ v i h. digit_has-past 64 _ i h };
-
     #[inline]
-    fn bits_capacity(&self) -> u32 {
+    fn width() -> u32 {
         isize::BITS
     }
 
     #[inline]
-    fn count_ones(&self) -> u32 {
-        word::count_ones::<isize>(*self)
+    fn one_at(index: u32) -> isize {
+        1 << index
     }
 
     #[inline]
-    fn all_zeros(&self) -> bool {
-        word::all_zeros::<isize>(*self)
+    fn to_digits(self) -> u128 {
+        self.cast_unsigned() as u128
     }
 
     #[inline]
-    fn all_ones(&self) -> bool {
-        word::all_ones::<isize>(*self)
+    fn from_digits(value: u128) -> isize {
+        (value as usize).cast_signed()
     }
 
     #[inline]
-    fn test_bit_in<E: Endian>(&self, index: u32) -> bool {
-        word::test_bit::<isize, E>(*self, index)
+    fn not(self) -> isize {
+        !self
     }
 
     #[inline]
-    fn leaf_word(&self, k: u32) -> isize {
-        word::leaf_word::<isize>(*self, k)
-    }
-}
-
-impl BitsMut for isize {
-    #[inline]
-    fn set_bit_in<E: Endian>(&mut self, index: u32) {
-        word::set_bit::<isize, E>(self, index);
+    fn count_ones(self) -> u32 {
+        self.count_ones()
     }
 
     #[inline]
-    fn clear_bit_in<E: Endian>(&mut self, index: u32) {
-        word::clear_bit::<isize, E>(self, index);
+    fn trailing_zeros(self) -> u32 {
+        self.trailing_zeros()
     }
 
     #[inline]
-    fn clear_bits(&mut self) {
-        word::clear_bits::<isize>(self);
-    }
-
-    #[inline]
-    fn fill_in<E: Endian>(&mut self, from: u32, to: u32) {
-        word::fill::<isize, E>(self, from, to);
-    }
-
-    #[inline]
-    fn combine<O: Operation>(&mut self, other: &isize) {
-        word::combine::<isize, O>(self, *other);
-    }
-}
-
-impl BitsOwned for isize {
-    ghost type_capacity = { 64 };
-
-    ghost one_capacity = { λ _. refl };
-
-    ghost type_whole_words = { one_word 64 };
-
-    ghost type_fits = { λ _. lit< tt };
-
-    ghost eq_is_same = { equal_signed_words 64 (cast_unsigned w64) };
-
-    #[inline]
-    fn bits() -> u32 {
-        isize::BITS
-    }
-
-    #[inline]
-    fn zeros() -> isize {
-        word::zeros::<isize>()
-    }
-
-    #[inline]
-    fn ones() -> isize {
-        word::ones::<isize>()
+    fn leading_zeros(self) -> u32 {
+        self.leading_zeros()
     }
 }

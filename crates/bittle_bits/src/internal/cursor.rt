@@ -12,10 +12,11 @@ use crate::endian::Endian;
 use crate::internal::ghost_count::Count;
 use crate::internal::kind::Kind;
 use crate::internal::look::{Copies, Source};
+use crate::internal::shape::Shape;
 
 /// The copies of a walk, and the range of words between them that are not copied yet.
 #[derive(Drop)]
-pub struct Cursor<B: Bits, E: Endian> {
+pub struct Cursor<B: Shape, E: Endian> {
     pub copies: Copies<B::LeafWord, E>,
     pub low: u32,
     pub high: u32,

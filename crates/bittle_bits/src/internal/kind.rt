@@ -1,14 +1,55 @@
-//! A word of a set, with the bits that an iterator or a search is for.
+//! What an iterator or a search is for: the ones of a set, or its zeros.
 
-ghost use Rattle.std.specs.Prelude.{◌≡◌, ◌*◌, ◌<◌};
+ghost use Rattle.std.specs.Prelude.{◌≡◌, ◌*◌, ◌<◌, Bool, true, false};
 ghost use Rattle.bittle_bits.specs.Digits.{digit_set};
 ghost use Rattle.bittle_bits.specs.Values.{ShapeFits};
 ghost use Rattle.bittle_bits.specs.Walk.{ones_or_zeros};
 ghost use Rattle.bittle_bits.specs.Words.{word_of};
 
 use crate::bits::Bits;
-use bittle_words::kind::wanted_in;
-pub use bittle_words::kind::{Kind, Ones, Zeros};
+use crate::internal::sealed::Sealed;
+use crate::word::Word;
+
+/// Names the bits that an iterator yields: the [`Ones`] or the [`Zeros`] of its set.
+pub trait Kind: Drop + Sealed {
+    ghost ONES: { Bool };
+
+    const ONES: bool;
+}
+
+/// Names the set bits.
+#[derive(Drop)]
+pub enum Ones {}
+
+/// Names the unset bits below the capacity.
+#[derive(Drop)]
+pub enum Zeros {}
+
+impl Sealed for Ones {}
+
+impl Sealed for Zeros {}
+
+impl Kind for Ones {
+    ghost ONES = { true };
+
+    const ONES: bool = true;
+}
+
+impl Kind for Zeros {
+    ghost ONES = { false };
+
+    const ONES: bool = false;
+}
+
+/// Returns a word whose ones are the bits of the kind: for zeros, each bit flipped.
+#[doc(hidden)]
+#[inline]
+pub fn wanted_in<T: Word, K: Kind>(word: T) -> T
+    ensures { digit_set T.width (T.digits result)
+        ≡ ones_or_zeros K.ONES (digit_set T.width (T.digits word)) }
+{
+    if K::ONES { word } else { word.not() }
+}
 
 /// Returns word `k` of a set, as a word whose ones are the bits of the kind.
 #[inline]

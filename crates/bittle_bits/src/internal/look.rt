@@ -11,8 +11,9 @@ use crate::bits_owned::BitsOwned;
 use crate::endian::Endian;
 use crate::internal::ghost_count::Count;
 use crate::internal::kind::{Kind, wanted_word};
-use crate::internal::sealed::Number;
-use bittle_words::word;
+use crate::internal::shape::Shape;
+use crate::one_word;
+use crate::word::Word;
 use std::marker::{Model, PhantomData};
 
 // A copied word, and the index in its set of the first digit. Where there is no copy, or it is
@@ -27,7 +28,7 @@ struct CopiedWord<W: Copy> {
 /// A set that a walk borrows: its words can be counted and fetched, and nothing else can be asked
 /// of it.
 #[derive(Drop)]
-pub struct Source<'a, B: Bits> {
+pub struct Source<'a, B: Shape> {
     set: &'a B,
 }
 
@@ -54,13 +55,13 @@ impl<'a, B: Bits> Source<'a, B> {
         requires { ShapeFits B.Shape self.now.set.now }
         ensures { result ≡ (B.big self.now.set.now).capacity / B.width }
     {
-        self.set.bits_capacity() / <B::LeafWord as Number>::width()
+        self.set.bits_capacity() / <B::LeafWord as Word>::width()
     }
 }
 
 /// A set that a walk owns: all it can do is to lend its words.
 #[derive(Drop)]
-pub struct OwnedSource<B: BitsOwned> {
+pub struct OwnedSource<B: Shape> {
     set: B,
 }
 
@@ -109,7 +110,7 @@ fn fetch<B: Bits, E: Endian, K: Kind>(
     fetches.raise();
     CopiedWord {
         word: wanted_word::<B, K>(source.set, k),
-        base: k * <B::LeafWord as Number>::width(),
+        base: k * <B::LeafWord as Word>::width(),
         held: true,
     }
 }
@@ -117,7 +118,7 @@ fn fetch<B: Bits, E: Endian, K: Kind>(
 // Looks at a copy for its first item.
 #[inline]
 #[tactic(auto, unfolding(crate::specs::Copies::copy_items, crate::specs::Copies::IsSound))]
-fn take_first<W: Number, E: Endian>(copy: &mut CopiedWord<W>, looks: &mut Count) -> Option<u32>
+fn take_first<W: Word, E: Endian>(copy: &mut CopiedWord<W>, looks: &mut Count) -> Option<u32>
     requires { IsSound E.mirrored W.width W.digits copy.old }
     ensures found { TakesFirst (copy_items E.mirrored W.width W.digits copy.old) result
         (copy_items E.mirrored W.width W.digits copy.new) }
@@ -125,7 +126,7 @@ fn take_first<W: Number, E: Endian>(copy: &mut CopiedWord<W>, looks: &mut Count)
         ≡ looks.old + copy_count (copy_items E.mirrored W.width W.digits copy.old) }
     ensures sound { IsSound E.mirrored W.width W.digits copy.new }
 {
-    let Some(index) = word::take_first::<W, E>(&mut copy.word) else {
+    let Some(index) = one_word::take_first::<W, E>(&mut copy.word) else {
         if copy.held {
             looks.raise();
             copy.held = false;
@@ -140,7 +141,7 @@ fn take_first<W: Number, E: Endian>(copy: &mut CopiedWord<W>, looks: &mut Count)
 // Looks at a copy for its last item.
 #[inline]
 #[tactic(auto, unfolding(crate::specs::Copies::copy_items, crate::specs::Copies::IsSound))]
-fn take_last<W: Number, E: Endian>(copy: &mut CopiedWord<W>, looks: &mut Count) -> Option<u32>
+fn take_last<W: Word, E: Endian>(copy: &mut CopiedWord<W>, looks: &mut Count) -> Option<u32>
     requires { IsSound E.mirrored W.width W.digits copy.old }
     ensures found { TakesLast (copy_items E.mirrored W.width W.digits copy.old) result
         (copy_items E.mirrored W.width W.digits copy.new) }
@@ -148,7 +149,7 @@ fn take_last<W: Number, E: Endian>(copy: &mut CopiedWord<W>, looks: &mut Count) 
         ≡ looks.old + copy_count (copy_items E.mirrored W.width W.digits copy.old) }
     ensures sound { IsSound E.mirrored W.width W.digits copy.new }
 {
-    let Some(index) = word::take_last::<W, E>(&mut copy.word) else {
+    let Some(index) = one_word::take_last::<W, E>(&mut copy.word) else {
         if copy.held {
             looks.raise();
             copy.held = false;
@@ -165,7 +166,7 @@ fn take_last<W: Number, E: Endian>(copy: &mut CopiedWord<W>, looks: &mut Count) 
 /// Each fetch of a word is counted, and is no look. Each call that searches a copy is one look, and
 /// gives an item or retires the copy.
 #[derive(Drop)]
-pub struct Copies<W: Number, E: Endian> {
+pub struct Copies<W: Word, E: Endian> {
     head: CopiedWord<W>,
     tail: CopiedWord<W>,
     looks: Count,
@@ -173,7 +174,7 @@ pub struct Copies<W: Number, E: Endian> {
     order: PhantomData<E>,
 }
 
-impl<W: Number, E: Endian> Model for Copies<W, E> {
+impl<W: Word, E: Endian> Model for Copies<W, E> {
     ghost use Rattle.bittle_bits.specs.Copies.{CopyPair, copy_items, IsSound};
 
     ghost Value = { CopyPair };
@@ -189,7 +190,7 @@ impl<W: Number, E: Endian> Model for Copies<W, E> {
         × IsSound E.mirrored W.width W.digits c.tail };
 }
 
-impl<W: Number, E: Endian> Copies<W, E> {
+impl<W: Word, E: Endian> Copies<W, E> {
     /// Makes no copies, with no looks and no fetches yet.
     #[inline]
     #[tactic(auto, unfolding(crate::specs::Copies::copy_items, crate::specs::Copies::IsSound))]

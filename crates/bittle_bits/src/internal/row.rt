@@ -12,8 +12,8 @@ ghost use Rattle.bittle_bits.specs.Words.{word_of};
 use crate::bits_owned::BitsOwned;
 use crate::endian::Endian;
 use crate::internal::kind::{Kind, Ones, Zeros};
-use crate::internal::sealed::Number;
 use crate::operation::Operation;
+use crate::word::Word;
 
 /// Returns the capacity of this many elements, or `u32::MAX` where they do not fit.
 #[inline]
@@ -175,7 +175,7 @@ fn beginning_without<T: BitsOwned, K: Kind>(elements: &[T]) -> usize
         → size (T.big (get_or elements.now k d)) ≡ cond K.ONES 0 T.type_capacity }
 {
     if elements.len() < 8
-        || T::bits() != <T::LeafWord as Number>::width()
+        || T::bits() != <T::LeafWord as Word>::width()
         || !has_none::<T, K>(&elements[0])
     {
         return 0;
@@ -239,6 +239,6 @@ pub fn leaf_word<T: BitsOwned>(elements: &[T], k: u32) -> T::LeafWord
         ≡ word_of T.width
         (elements_set (length elements.now) T.type_capacity T.big elements.now) k }
 {
-    let each = T::bits() / <T::LeafWord as Number>::width();
+    let each = T::bits() / <T::LeafWord as Word>::width();
     elements[(k / each) as usize].leaf_word(k % each)
 }

@@ -1,4 +1,7 @@
 //! A sealed trait and ghost types that the public signatures mention; not part of the API.
 
 pub use crate::internal::ghost_count::{Count, Counted};
-pub use bittle_words::sealed::Number;
+
+/// Holds of the types of this project alone, so that a crate which names `bittle` alone can
+/// implement none of the traits above it.
+pub trait Sealed {}

@@ -8,7 +8,7 @@ ghost use Rattle.bittle_bits.specs.Walk.{ones_or_zeros};
 use crate::bits::Bits;
 use crate::endian::Endian;
 use crate::internal::kind::{Kind, wanted_word};
-use crate::internal::sealed::Number;
+use crate::word::Word;
 
 /// Returns the first index from `from` on and below `to` whose bit is of the kind, or `None`.
 #[inline]
@@ -21,7 +21,7 @@ pub fn first_in<B: Bits, E: Endian, K: Kind>(bits: &B, from: u32, to: u32) -> Op
     if from == to {
         return None;
     }
-    let width = <B::LeafWord as Number>::width();
+    let width = <B::LeafWord as Word>::width();
     let last = (to - 1) / width;
     let mut k = from / width;
     let mut word = wanted_word::<B, K>(bits, k).and(E::from_index::<B::LeafWord>(from % width));
@@ -50,7 +50,7 @@ pub fn last_in<B: Bits, E: Endian, K: Kind>(bits: &B, from: u32, to: u32) -> Opt
     if from == to {
         return None;
     }
-    let width = <B::LeafWord as Number>::width();
+    let width = <B::LeafWord as Word>::width();
     let first = from / width;
     let top = (to - 1) % width;
     let mut k = (to - 1) / width;

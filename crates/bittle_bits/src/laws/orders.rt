@@ -1,11 +1,20 @@
 //! What holds of the two orders and of every set: each function makes no calls, and its contract is
 //! the law.
 
+ghost use Rattle.std.specs.Prelude.{◌≡◌, true, false};
 ghost use Rattle.bittle_bits.specs.OrderLaws.{PlacesAreInTheWord, PlacesAreApart, PlacesMirror, MembersMirror, MirroringTwiceIsNothing, MirroringStaysBelow, MirroringReachesAll, TestingWraps};
 ghost use Rattle.bittle_bits.specs.Values.{set_in};
 
 use crate::bits::Bits;
-use crate::endian::{BigEndian, Endian, LittleEndian};
+use crate::endian::{BigEndian, DefaultEndian, Endian, LittleEndian};
+
+/// States that the first index is the bit of greatest weight in little-endian order, and not in
+/// big-endian order, the default.
+pub fn the_default_order_is_big_endian()
+    ensures little { ⟦<LittleEndian as Endian>⟧.mirrored ≡ true }
+    ensures big { ⟦<BigEndian as Endian>⟧.mirrored ≡ false }
+    ensures default { ⟦<DefaultEndian as Endian>⟧.mirrored ≡ false }
+{}
 
 /// States that each index below the width has one place in its word, and each place one index.
 pub fn each_index_has_its_place<E: Endian>()

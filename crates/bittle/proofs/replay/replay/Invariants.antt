@@ -10,5 +10,5 @@ invariant-loop-i g l =
       replies : take l.i l.replies ≡ replies_of s (take l.i l.calls);
       set : set_in g.B.Shape g.E.Endian l.bits
           ≡ final_set s (take l.i l.calls);
-      stays : g.B.BitsMut.loan l.initial.bits ≡ g.B.BitsMut.loan l.bits;
+      stays : g.B.Shape.loan l.initial.bits ≡ g.B.Shape.loan l.bits;
     }

@@ -5,7 +5,7 @@ use Rattle.bittle.proofs.set.apart.are_four_same.Goals as goal
 
 pub returns : goal.returns
 returns g c same before =
-    let d = g.A.LeafWord.Number.digits in
+    let d = g.A.LeafWord.Word.digits in
     let none = each_is_zero (d c.word_apart-first.result) (d c.word_apart-second.result)
     (d c.word_apart-third.result) (d c.word_apart-fourth.result) _ _ _ c.or.ensures c.or-2.ensures
     c.or-3.ensures (eqb-true _ _ (sym c.is_zero.ensures.zero ∙ same)) in

@@ -10,10 +10,10 @@ returns g c =
     let w = g.A.Shape.width in
     let k = c.args.k in
     let t = g.B.Shape.big c.args.right.now in
-    let d = g.B.LeafWord.Number.digits c.leaf_word.result in
+    let d = g.B.LeafWord.Word.digits c.leaf_word.result in
     let same : digit_set w d ≡ word_of w t k = subst (λ v. digit_set v d ≡ word_of v t k)
     (sym c.requires.width) c.leaf_word.ensures in
-    let theirs : digit_set w (g.A.LeafWord.Number.digits c.from_digits.result)
+    let theirs : digit_set w (g.A.LeafWord.Word.digits c.from_digits.result)
     ≡ word_of w t k = ap (digit_set w)
     (c.from_digits.ensures ∙ c.to_digits-theirs.ensures.digits) ∙ same in
     ap (digit_set w) c.xor.ensures ∙ digits_just_one w _ _

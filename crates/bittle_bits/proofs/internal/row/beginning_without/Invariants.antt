@@ -4,4 +4,4 @@ use Rattle.bittle_bits.proofs.internal.row.beginning_without.Given as goal
 
 abbrev pub invariant-loop-four : goal.invariant-loop-four
 invariant-loop-four g l = (k : ℕ) (d : _) → k < l.four * 4 →
-    size (g.T.Shape.big (get_or l.elements k d)) ≡ cond g.K.Kind.ONES 0 g.T.BitsOwned.type_capacity
+    size (g.T.Shape.big (get_or l.elements k d)) ≡ cond g.K.Kind.ONES 0 g.T.OwnedShape.type_capacity

@@ -14,7 +14,7 @@ pub loop-at-init : goal.loop-at-init
 loop-at-init g c =
     let each = c.bits-each.ensures.value
     (c.requires.fits.0, g.met.T.BitsOwned.type_fits c.requires.fits.0) in
-    let e = g.T.BitsOwned.type_capacity in
+    let e = g.T.OwnedShape.type_capacity in
     let from = c.args.from in
     let some = some_each c.args.to (length c.args.elements.now) e (omega arith) c.requires.within in
     let row = members g.E.Endian.mirrored g.T.Shape.width
@@ -29,11 +29,11 @@ offset_bounds-elements-at g c =
     let each = c.bits-each.ensures.value
     (c.requires.fits.0, g.met.T.BitsOwned.type_fits c.requires.fits.0) in
     let low : c.loop-at.at < length c.loop-at.elements =
-    let below : c.loop-at.at < (c.args.to - 1) / g.T.BitsOwned.type_capacity + 1 = rw (sym each)
+    let below : c.loop-at.at < (c.args.to - 1) / g.T.OwnedShape.type_capacity + 1 = rw (sym each)
     (omega arith) in
     omega (
       arith,
-      (begins_before c.args.to (length c.args.elements.now) g.T.BitsOwned.type_capacity
+      (begins_before c.args.to (length c.args.elements.now) g.T.OwnedShape.type_capacity
           c.loop-at.at (omega arith) c.requires.within below).1,
     ) in
     grind (arith, low)
@@ -42,9 +42,9 @@ pub fill_in-requires-clause-ordered : goal.fill_in-requires-clause-ordered
 fill_in-requires-clause-ordered g c =
     let each = c.bits-each.ensures.value
     (c.requires.fits.0, g.met.T.BitsOwned.type_fits c.requires.fits.0) in
-    let below : c.loop-at.at < (c.args.to - 1) / g.T.BitsOwned.type_capacity + 1 = rw (sym each)
+    let below : c.loop-at.at < (c.args.to - 1) / g.T.OwnedShape.type_capacity + 1 = rw (sym each)
     (omega arith) in
-    let in_row = begins_before c.args.to (length c.args.elements.now) g.T.BitsOwned.type_capacity
+    let in_row = begins_before c.args.to (length c.args.elements.now) g.T.OwnedShape.type_capacity
     c.loop-at.at (omega arith) c.requires.within below in
     omega (
       arith,
@@ -60,7 +60,7 @@ loop-at-preserved g c =
     (c.requires.fits.0, g.met.T.BitsOwned.type_fits c.requires.fits.0) in
     let m = g.E.Endian.mirrored in
     let w = g.T.Shape.width in
-    let e = g.T.BitsOwned.type_capacity in
+    let e = g.T.OwnedShape.type_capacity in
     let big = g.T.Shape.big in
     let n = length c.args.elements.now in
     let from = c.args.from in
@@ -92,7 +92,7 @@ pub returns : goal.returns
 returns g c =
     let each = c.bits-each.ensures.value
     (c.requires.fits.0, g.met.T.BitsOwned.type_fits c.requires.fits.0) in
-    let e = g.T.BitsOwned.type_capacity in
+    let e = g.T.OwnedShape.type_capacity in
     let to = c.args.to in
     let at = c.loop-at.at in
     let some = some_each to (length c.args.elements.now) e (omega arith) c.requires.within in

@@ -9,7 +9,7 @@ abbrev pub invariant-loop-at : goal.invariant-loop-at
 invariant-loop-at g l =
     let m = g.E.Endian.mirrored in
     let w = g.T.Shape.width in
-    let c = g.T.BitsOwned.type_capacity in
+    let c = g.T.OwnedShape.type_capacity in
     record {
       begun : l.fn.from < l.at * c + c;
       set : members m w (elements_set (length l.elements) c g.T.Shape.big l.elements)

@@ -8,7 +8,7 @@ offset_bounds-elements-k g c =
     let each = words_each _ _ _ _ _ _ g.met.T.Bits.width_positive
     (c.bits.ensures.value (c.requires.fits.0, g.met.T.BitsOwned.type_fits c.requires.fits.0))
     c.width.ensures g.met.T.Bits.leaf_width w.1 in
-    let low = word_element (length c.args.elements.now) g.T.BitsOwned.type_capacity g.T.Shape.width
+    let low = word_element (length c.args.elements.now) g.T.OwnedShape.type_capacity g.T.Shape.width
     w.0 c.args.k g.T.Shape.big c.args.elements.now g.met.T.Bits.width_positive w.1
     c.requires.within in
     rw each (omega (arith, low))
@@ -19,7 +19,7 @@ bounds-elements-k g c =
     let each = words_each _ _ _ _ _ _ g.met.T.Bits.width_positive
     (c.bits.ensures.value (c.requires.fits.0, g.met.T.BitsOwned.type_fits c.requires.fits.0))
     c.width.ensures g.met.T.Bits.leaf_width w.1 in
-    rw each (word_element (length c.args.elements.now) g.T.BitsOwned.type_capacity g.T.Shape.width
+    rw each (word_element (length c.args.elements.now) g.T.OwnedShape.type_capacity g.T.Shape.width
     w.0 c.args.k g.T.Shape.big c.args.elements.now g.met.T.Bits.width_positive w.1
     c.requires.within)
 
@@ -30,7 +30,7 @@ leaf_word-requires-clause-within g c =
     (c.bits.ensures.value (c.requires.fits.0, g.met.T.BitsOwned.type_fits c.requires.fits.0))
     c.width.ensures g.met.T.Bits.leaf_width w.1 in
     rw (each, g.met.T.BitsOwned.one_capacity c.index-elements-k.result)
-    (word_within (length c.args.elements.now) g.T.BitsOwned.type_capacity g.T.Shape.width w.0
+    (word_within (length c.args.elements.now) g.T.OwnedShape.type_capacity g.T.Shape.width w.0
     c.args.k g.T.Shape.big c.args.elements.now g.met.T.Bits.width_positive w.1 c.requires.within)
 
 pub returns : goal.returns
@@ -40,6 +40,6 @@ returns g c =
     (c.bits.ensures.value (c.requires.fits.0, g.met.T.BitsOwned.type_fits c.requires.fits.0))
     c.width.ensures g.met.T.Bits.leaf_width w.1 in
     (rw each at c.leaf_word.ensures) ∙ row_word
-    (length c.args.elements.now) g.T.BitsOwned.type_capacity g.T.Shape.width w.0 c.args.k
+    (length c.args.elements.now) g.T.OwnedShape.type_capacity g.T.Shape.width w.0 c.args.k
     g.T.Shape.big c.args.elements.now g.met.T.Bits.width_positive w.1 c.requires.within
     c.index-elements-k.result refl (rw each at c.index-elements-k.is)

@@ -13,7 +13,7 @@ loop-found-init g c =
       words_ordered _ c.args.from c.args.to g.met.B.Bits.width_positive some,
       omega arith,
       search_back_start _ _ _ g.met.B.Bits.width_positive c.args.to _ _
-          (g.B.LeafWord.Number.digits c.from_index.result) _ _ ((c.args.to - 1) % g.B.Shape.width)
+          (g.B.LeafWord.Word.digits c.from_index.result) _ _ ((c.args.to - 1) % g.B.Shape.width)
           (omega arith) refl refl (rw wide at c.wanted_word.ensures)
           (rw (leaf, wide) at c.from_index.ensures) (rw leaf at c.not.ensures.range)
           (rw leaf at c.not.ensures.digits) (rw (leaf, wide) at c.mask.ensures),

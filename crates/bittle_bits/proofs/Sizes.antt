@@ -1,0 +1,33 @@
+-- How many members a set has.
+use Rattle.std.proofs.Common.{◌≡◌, ℕ, ◌+◌, ◌*◌, ◌<◌, ◌≤◌, Bool, not, ◌&&◌, sym, ap, ◌∙◌, arith}
+use Rattle.std.proofs.lemmas.Bool.{lt-ltb}
+use Rattle.bittle_bits.specs.Orders.{members}
+use Rattle.bittle_bits.specs.PlainSet.{PlainSet, size, lacks, complement}
+use Rattle.bittle_bits.proofs.Counts.{count-same, count-le, count-placed, count-others}
+
+-- ones and zeros together are the capacity
+pub size-complement : (s : PlainSet) → size (complement s) + size s ≡ s.capacity
+unfolding lacks
+size-complement s =
+    ap (λ n. n + size s) (count-same s.capacity (lacks s) (λ k. not (s.has k))
+    (λ k l. ap (λ b. b && not (s.has k)) (lt-ltb k s.capacity l)))
+    ∙ count-others s.capacity s.has
+
+-- each order has as many members, in a capacity of whole words
+pub size-members : (m : Bool) (w : ℕ) (s : PlainSet) → 0 < w →
+    (words : ℕ) × (s.capacity ≡ words * w) → size (members m w s) ≡ size s
+size-members m w s h whole = rw (whole.1) (count-placed m w whole.0 s.has h)
+
+-- what is known of the size in big-endian order is known of it in each order
+pub size_in_each_order : {A : Type 0} (w : ℕ) (s : PlainSet) (f : ℕ → A) (r : A) → 0 < w →
+    (words : ℕ) × (s.capacity ≡ words * w) → r ≡ f (size s) → (m : Bool) →
+    r ≡ f (size (members m w s))
+size_in_each_order w s f r h whole is m = is ∙ ap f (sym (size-members m w s h whole))
+
+-- a set has no more members than its capacity
+pub size-le : (s : PlainSet) → size s ≤ s.capacity
+size-le s = count-le s.capacity s.has
+
+-- a number that is the size is no more than the capacity
+pub size-most : (s : PlainSet) (n : ℕ) → n ≡ size s → n ≤ s.capacity
+size-most s n e = omega (arith, size-le s)

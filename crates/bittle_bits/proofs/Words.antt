@@ -1,0 +1,54 @@
+-- Word k of a set: its members are those of the set from k * w on.
+use Rattle.std.proofs.Common.{◌≡◌, ℕ, suc, ◌+◌, ◌*◌, ◌<◌, ◌≤◌, Bool, ◌&&◌, inl, inr, refl, sym, ap, ◌∙◌, arith}
+use Rattle.std.proofs.Math.Path.{fun_ext}
+use Rattle.std.proofs.Math.Nat.{zero-mul, lt_of_mul-lt-mul_right, mul-le-mul_right}
+use Rattle.std.proofs.lemmas.Bool.{cases_lt, lt-ltb, le-ltb}
+use Rattle.bittle_bits.specs.Digits.{digit_has, digit_set}
+use Rattle.bittle_bits.specs.Orders.{place, members}
+use Rattle.bittle_bits.specs.PlainSet.{PlainSet}
+use Rattle.bittle_bits.specs.Words.{word_has, word_of}
+use Rattle.bittle_bits.proofs.PlaceLemmas.{place_part, place_in_word}
+use Rattle.bittle_bits.proofs.PlainSets.{plain_set}
+
+-- the members of word k, counted from its first place
+pub word_has-at : (w : ℕ) (s : PlainSet) (k i : ℕ) → i < w → word_has w s k i ≡ s.has (k * w + i)
+unfolding word_has
+word_has-at w s k i h = ap (λ b. b && s.has (k * w + i)) (lt-ltb i w h)
+
+-- a word is its own only word
+pub word_of-digits : (w d k : ℕ) → k * w < w → digit_set w d ≡ word_of w (digit_set w d) k
+unfolding word_has digit_has
+word_of-digits w d k h =
+    let one : k * w < 1 * w = omega arith in
+    let low : k < 1 = lt_of_mul-lt-mul_right w one in
+    let zero : k ≡ 0 = omega arith in
+    let none : k * w ≡ 0 = ap (λ t. t * w) zero ∙ zero-mul w in
+    ap (plain_set w) (fun_ext λ i. elim (cases_lt i w) [
+      | inl l ↦ let e : i ≡ k * w + i = omega arith in
+          ap (digit_has w d) e ∙ sym (ap (λ b. b && digit_has w d (k * w + i)) (lt-ltb i w l))
+      | inr g ↦ rw (le-ltb i w g) refl
+    ])
+
+-- the members of word k in an order are those of the set from k * w on
+module _ (m : Bool) (w k : ℕ) (s : PlainSet) (d : ℕ) (word : 0 < w) where
+  member_at : (i : ℕ) → i < w → (members m w s).has (k * w + i) ≡ s.has (k * w + place m w i)
+  member_at i h =
+      let one : k * (1 * w) ≡ k * w = omega arith in
+      let b : i < 1 * w = omega arith in
+      let e : place m w (k * w + i) ≡ k * w + place m w i = rw one at (place_part m w 1 k i word b)
+      in
+      ap s.has e
+
+  -- the digits of word k in an order
+  pub digit_at : digit_set w d ≡ word_of w s k → (i : ℕ) → i < w →
+      (members m w (digit_set w d)).has i ≡ (members m w s).has (k * w + i)
+  digit_at is i h = ap (λ t. t.has (place m w i)) is ∙ word_has-at w s k (place m w i)
+      (place_in_word m w i h) ∙ sym (member_at i h)
+
+-- a word that begins below a capacity of whole words ends below it
+pub word_ends : (w k c : ℕ) → (words : ℕ) × (c ≡ words * w) → k * w < c → k * w + w ≤ c
+word_ends w k c whole within =
+    let h : k * w < whole.0 * w = omega (arith, whole.1) in
+    let low : k < whole.0 = lt_of_mul-lt-mul_right w h in
+    let up : suc k * w ≤ whole.0 * w = mul-le-mul_right w low in
+    omega (arith, up, whole.1)

@@ -1,0 +1,12 @@
+use Rattle.std.proofs.Common.{◌∙◌, ◌==◌}
+use Rattle.bittle_bits.specs.LawProofs.{one_word}
+use Rattle.bittle_bits.proofs.WordSizes.{word_empty}
+use Rattle.bittle_bits.proofs.Sizes.{size_in_each_order}
+use Rattle.bittle_bits.proofs.one_word.all_zeros.Goals as goal
+
+pub returns-clause-value : goal.returns-clause-value
+returns-clause-value g c = c.is_zero.ensures.zero ∙ word_empty _ _ c.is_zero.ensures.range
+
+pub returns-clause-in_each_order : goal.returns-clause-in_each_order
+returns-clause-in_each_order g c = size_in_each_order _ _
+    (λ n. n == 0) _ g.met.T.Word.width_positive (one_word _) (returns-clause-value g c)

@@ -1,0 +1,38 @@
+-- The operations on two sets.
+use Rattle.std.specs.Prelude.{ℕ, Bool, true, false, cond, not, ◌&&◌, ◌||◌, nat_lt}
+use Rattle.bittle_bits.specs.PlainSet.{PlainSet}
+
+-- whether a number is a member after an operation with another set: one below both capacities is
+-- decided by whether it is a member of either, and any other stays as it was
+unfoldable pub combination_has : (Bool → Bool → Bool) → PlainSet → PlainSet → ℕ → Bool
+combination_has decide s t k = cond (nat_lt k s.capacity && nat_lt k t.capacity)
+    (decide (s.has k) (t.has k)) (s.has k)
+
+-- the first set after an operation with the second one
+abbrev pub combination_of : (Bool → Bool → Bool) → PlainSet → PlainSet → PlainSet
+combination_of decide s t = record { capacity = s.capacity; has = combination_has decide s t }
+
+-- in the first and not in the second
+abbrev pub first_alone : Bool → Bool → Bool
+first_alone a b = a && not b
+
+-- in just one of both
+abbrev pub just_one : Bool → Bool → Bool
+just_one true b = not b
+just_one false b = b
+
+-- the members of either set
+abbrev pub union_of : PlainSet → PlainSet → PlainSet
+union_of s t = combination_of ◌||◌ s t
+
+-- the members of both sets
+abbrev pub conjunction_of : PlainSet → PlainSet → PlainSet
+conjunction_of s t = combination_of ◌&&◌ s t
+
+-- the members of the first set that are none of the second
+abbrev pub difference_of : PlainSet → PlainSet → PlainSet
+difference_of s t = combination_of first_alone s t
+
+-- the members of just one of the sets
+abbrev pub symmetric_difference_of : PlainSet → PlainSet → PlainSet
+symmetric_difference_of s t = combination_of just_one s t

@@ -1,0 +1,87 @@
+-- What contracts see of a walk.
+use Rattle.std.specs.Prelude.{◌≡◌, ℕ, ◌+◌, ◌<◌, ◌≤◌, Bool, true, false, List, length, slice_index, Option, Some, None}
+use Rattle.std.specs.Iterator.{YieldsFirst, YieldsLast}
+use Rattle.std.specs.Iterator.Runs.{YieldsInOrder, YieldsInReverse}
+use Rattle.bittle_bits.specs.PlainSet.{PlainSet, complement}
+
+-- the set that a walk goes over: of the ones the set itself, of the zeros its complement
+abbrev pub ones_or_zeros : Bool → PlainSet → PlainSet
+ones_or_zeros true s = s
+ones_or_zeros false s = complement s
+
+-- each number of the list is below c, and there are at most c of them
+abbrev pub AreBelow : ℕ → List ℕ → Type 0
+AreBelow c xs = (length xs ≤ c) × ((k : ℕ) → k < length xs → slice_index xs k < c)
+
+-- a walk
+pub record Walk : Type 0 where
+  -- the items that it has left, in increasing order
+  pub left : List ℕ
+  -- how many looks at words it has made, and how many items it has given
+  pub looks : ℕ
+  pub items : ℕ
+  -- how many words it has fetched, and how many it has not fetched yet
+  pub fetches : ℕ
+  pub unread : ℕ
+  -- how many words its set has
+  pub words : ℕ
+
+-- the looks are at least the items given, and at most these and the words; the words fetched and
+-- the unread are at most the words
+pub record IsThrifty (w : Walk) : Type 0 where
+  pub at_least : w.items ≤ w.looks
+  pub at_most : w.looks ≤ w.items + w.words
+  pub once : w.fetches + w.unread ≤ w.words
+
+-- one more where a step gave an item
+abbrev pub count_after : ℕ → Option ℕ → ℕ
+count_after n None = n
+count_after n (Some item) = n + 1
+
+-- a step from the front: it gave the first item that was left, or None where none was, and each
+-- word that it fetched was unread
+pub record StepsFront (before : Walk) (r : Option ℕ) (after : Walk) : Type 0 where
+  pub gave : YieldsFirst (λ w. w.left) before r after
+  pub items : after.items ≡ count_after before.items r
+  pub looks : before.looks ≤ after.looks
+  pub fetches : before.fetches ≤ after.fetches
+  pub unread : after.fetches + after.unread ≡ before.fetches + before.unread
+  pub words : after.words ≡ before.words
+  pub thrifty : IsThrifty after
+
+-- a step from the back: it gave the last item that was left, or None where none was, and each word
+-- that it fetched was unread
+pub record StepsBack (before : Walk) (r : Option ℕ) (after : Walk) : Type 0 where
+  pub gave : YieldsLast (λ w. w.left) before r after
+  pub items : after.items ≡ count_after before.items r
+  pub looks : before.looks ≤ after.looks
+  pub fetches : before.fetches ≤ after.fetches
+  pub unread : after.fetches + after.unread ≡ before.fetches + before.unread
+  pub words : after.words ≡ before.words
+  pub thrifty : IsThrifty after
+
+-- a walk that has not stepped yet: it has fetched a word for each end at most; and what runs of its
+-- steps give
+pub record IsFresh (words : ℕ) (w : Walk) : Type 0 where
+  pub looks : w.looks ≡ 0
+  pub items : w.items ≡ 0
+  pub fetches : w.fetches ≤ 2
+  pub words_are : w.words ≡ words
+  pub thrifty : IsThrifty w
+  pub in_order : YieldsInOrder StepsFront (λ s. s.left)
+  pub in_reverse : YieldsInReverse StepsBack (λ s. s.left)
+
+-- a clone has what its source has left, items and unread words, and has counted nothing
+pub record ResumesAs (source clone : Walk) : Type 0 where
+  pub left : clone.left ≡ source.left
+  pub unread : clone.unread ≡ source.unread
+  pub fetches : clone.fetches ≡ 0
+  pub fresh : IsFresh source.words clone
+
+-- runs of steps over a list of numbers give it from its first item on
+abbrev pub ListsInOrder : Type 0
+ListsInOrder = YieldsInOrder (YieldsFirst (λ (left : List ℕ). left)) (λ left. left)
+
+-- runs of steps from the back of a list of numbers give its items in reverse
+abbrev pub ListsInReverse : Type 0
+ListsInReverse = YieldsInReverse (YieldsLast (λ (left : List ℕ). left)) (λ left. left)

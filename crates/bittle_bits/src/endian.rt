@@ -1,0 +1,190 @@
+//! The two orders in which the digits of a word are read.
+
+ghost use Rattle.std.specs.Prelude.{◌≡◌, ◌<◌, Bool, true, false};
+ghost use Rattle.bittle_bits.specs.Digits.{digit_set};
+ghost use Rattle.bittle_bits.specs.Orders.{members};
+ghost use Rattle.bittle_bits.specs.PlainSet.{empty_set, full_set_from, with_index, complement, IsLeastMember, IsGreatestMember};
+
+use crate::internal::sealed::Sealed;
+use crate::word::Word;
+
+/// An order in which the bits of each word are indexed: [`BigEndian`] or [`LittleEndian`].
+pub trait Endian: Drop + Sealed {
+    // Whether the first index is the digit of greatest weight.
+    ghost mirrored: { Bool };
+
+    /// Returns `true` if index 0 is the bit of greatest weight.
+    #[doc(hidden)]
+    fn is_mirrored() -> bool
+        ensures { result ≡ mirrored };
+
+    /// Returns the word in which the bit at `index` alone is set; the index wraps at the width.
+    ///
+    /// ```
+    /// LittleEndian::mask::<u8>(9);                        // 0b0100_0000
+    /// ```
+    #[doc(hidden)]
+    fn mask<T: Word>(index: u32) -> T
+        ensures { members mirrored T.width (digit_set T.width (T.digits result))
+            ≡ with_index (empty_set T.width) index };
+
+    /// Returns the word in which each bit from `index` on is set.
+    #[doc(hidden)]
+    fn from_index<T: Word>(index: u32) -> T
+        requires { index < T.width }
+        ensures { members mirrored T.width (digit_set T.width (T.digits result))
+            ≡ full_set_from T.width index };
+
+    /// Returns the least index of a set bit, or the width if there is none.
+    ///
+    /// ```
+    /// BigEndian::zeros(0b0001_0000u8);                    // 4
+    /// ```
+    #[doc(hidden)]
+    fn zeros<T: Word>(value: T) -> u32
+        ensures { IsLeastMember
+            (members mirrored T.width (digit_set T.width (T.digits value))) result };
+
+    /// Returns the least index of an unset bit, or the width if there is none.
+    ///
+    /// ```
+    /// BigEndian::ones(0b0000_0111u8);                     // 3
+    /// ```
+    #[doc(hidden)]
+    fn ones<T: Word>(value: T) -> u32
+        ensures { IsLeastMember
+            (complement (members mirrored T.width (digit_set T.width (T.digits value)))) result };
+
+    /// Returns how far the greatest set bit lies below the last index, or the width if no bit is
+    /// set.
+    ///
+    /// ```
+    /// LittleEndian::zeros_rev(0b0001_0000u8);             // 4
+    /// ```
+    #[doc(hidden)]
+    fn zeros_rev<T: Word>(value: T) -> u32
+        ensures { IsGreatestMember
+            (members mirrored T.width (digit_set T.width (T.digits value))) result };
+
+    /// Returns how far the greatest unset bit lies below the last index, or the width if every bit
+    /// is set.
+    ///
+    /// ```
+    /// BigEndian::ones_rev(0b1110_0000u8);                 // 3
+    /// ```
+    #[doc(hidden)]
+    fn ones_rev<T: Word>(value: T) -> u32
+        ensures { IsGreatestMember
+            (complement (members mirrored T.width (digit_set T.width (T.digits value)))) result };
+}
+
+/// Counts from the bit of least weight, the rightmost one as a number is written. The default
+/// order.
+///
+/// ```
+/// 0b0010_0010u8.iter_ones_in::<BigEndian>();          // yields 1, 5
+/// ```
+#[derive(Drop)]
+pub enum BigEndian {}
+
+/// Counts from the bit of greatest weight, the leftmost one as a number is written.
+///
+/// ```
+/// 0b0010_0010u8.iter_ones_in::<LittleEndian>();       // yields 2, 6
+/// ```
+#[derive(Drop)]
+pub enum LittleEndian {}
+
+/// The order of calls that name none: [`BigEndian`].
+pub type DefaultEndian = BigEndian;
+
+impl Sealed for BigEndian {}
+
+impl Sealed for LittleEndian {}
+
+impl Endian for BigEndian {
+    ghost mirrored = { false };
+
+    #[inline]
+    fn is_mirrored() -> bool {
+        false
+    }
+
+    #[inline]
+    fn mask<T: Word>(index: u32) -> T {
+        T::one_at(index % T::width())
+    }
+
+    #[inline]
+    fn from_index<T: Word>(index: u32) -> T {
+        T::low(index).not()
+    }
+
+    #[inline]
+    fn zeros<T: Word>(value: T) -> u32 {
+        // Right of the least member stand zeros alone.
+        value.trailing_zeros()
+    }
+
+    #[inline]
+    fn ones<T: Word>(value: T) -> u32 {
+        // Right of the least index that is no member stand ones alone.
+        value.not().trailing_zeros()
+    }
+
+    #[inline]
+    fn zeros_rev<T: Word>(value: T) -> u32 {
+        // Left of the greatest member stand zeros alone.
+        value.leading_zeros()
+    }
+
+    #[inline]
+    fn ones_rev<T: Word>(value: T) -> u32 {
+        // Left of the greatest index that is no member stand ones alone.
+        value.not().leading_zeros()
+    }
+}
+
+impl Endian for LittleEndian {
+    ghost mirrored = { true };
+
+    #[inline]
+    fn is_mirrored() -> bool {
+        true
+    }
+
+    #[inline]
+    fn mask<T: Word>(index: u32) -> T {
+        T::one_at(T::width() - 1 - index % T::width())
+    }
+
+    #[inline]
+    fn from_index<T: Word>(index: u32) -> T {
+        let place = T::width() - 1 - index;
+        T::low(place).or(T::one_at(place))
+    }
+
+    #[inline]
+    fn zeros<T: Word>(value: T) -> u32 {
+        // Left of the least member stand zeros alone.
+        value.leading_zeros()
+    }
+
+    #[inline]
+    fn ones<T: Word>(value: T) -> u32 {
+        // Left of the least index that is no member stand ones alone.
+        value.not().leading_zeros()
+    }
+
+    #[inline]
+    fn zeros_rev<T: Word>(value: T) -> u32 {
+        // Right of the greatest member stand zeros alone.
+        value.trailing_zeros()
+    }
+
+    #[inline]
+    fn ones_rev<T: Word>(value: T) -> u32 {
+        // Right of the greatest index that is no member stand ones alone.
+        value.not().trailing_zeros()
+    }
+}

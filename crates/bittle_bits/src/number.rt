@@ -1,0 +1,135 @@
+//! Walks over one word, from both ends.
+
+ghost use Rattle.std.specs.Iterator.SizeHint.{IsWithinCount};
+ghost use Rattle.std.specs.Iterator.{UpTo, YieldsFirst, YieldsLast, item_count};
+ghost use Rattle.std.specs.Prelude.{◌≡◌, length, IfSome, ⊤, Some};
+ghost use Rattle.bittle_bits.specs.Digits.{digit_set};
+ghost use Rattle.bittle_bits.specs.Orders.{members};
+ghost use Rattle.bittle_bits.specs.PlainSet.{ascending};
+ghost use Rattle.bittle_bits.specs.Walk.{ones_or_zeros, AreBelow, ListsInOrder, ListsInReverse};
+
+use crate::endian::Endian;
+use crate::internal::kind::{Kind, Ones, Zeros, wanted_in};
+use crate::one_word;
+use crate::word::Word;
+use std::alloc::AllocError;
+use std::marker::{Model, PhantomData};
+
+/// Yields the indexes of the set bits of one word, increasing, in the order `E`.
+///
+/// ```
+/// let mut ones = number::IterOnes::<u8, BigEndian>::new(0b1101);
+/// (ones.next(), ones.next_back());                    // (Some(0), Some(3))
+/// ```
+pub type IterOnes<T, E> = Iter<T, E, Ones>;
+
+/// Yields the indexes of the unset bits of one word, increasing, in the order `E`.
+///
+/// ```
+/// number::IterZeros::<u8, BigEndian>::new(0xF9);      // yields 1, 2
+/// ```
+pub type IterZeros<T, E> = Iter<T, E, Zeros>;
+
+/// Iterates over one word, for the bits that `K` names. After its end it returns `None` on both
+/// sides.
+#[derive(Drop)]
+pub struct Iter<T: Word, E: Endian, K: Kind> {
+    // Its ones are the items that are left.
+    left: T,
+    order: PhantomData<E>,
+    kind: PhantomData<K>,
+}
+
+impl<T: Word, E: Endian, K: Kind> Model for Iter<T, E, K> {
+    ghost use Rattle.std.specs.Prelude.{ℕ, List};
+    ghost use Rattle.bittle_bits.specs.Digits.{digit_set};
+    ghost use Rattle.bittle_bits.specs.Orders.{members};
+    ghost use Rattle.bittle_bits.specs.PlainSet.{ascending};
+
+    ghost Value = { List ℕ };
+
+    ghost view = { λ w. ascending
+        (members E.mirrored T.width (digit_set T.width (T.digits w.left))) };
+}
+
+impl<T: Word, E: Endian, K: Kind> Iter<T, E, K> {
+    /// Makes an iterator over the set bits of the word, or over its unset bits.
+    ///
+    /// ```
+    /// number::IterOnes::<u8, LittleEndian>::new(0xD0);    // yields 0, 1, 3
+    /// ```
+    #[inline]
+    pub fn new(word: T) -> Iter<T, E, K>
+        ensures items { result
+            ≡ ascending (ones_or_zeros K.ONES
+            (members E.mirrored T.width (digit_set T.width (T.digits word)))) }
+        ensures below { AreBelow T.width result }
+        ensures in_order { ListsInOrder }
+        ensures in_reverse { ListsInReverse }
+    {
+        Iter {
+            left: wanted_in::<T, K>(word),
+            order: PhantomData,
+            kind: PhantomData,
+        }
+    }
+
+    /// Returns how many items are left.
+    ///
+    /// ```
+    /// number::IterOnes::<u8, LittleEndian>::new(0xD0).len();    // 3
+    /// ```
+    #[inline]
+    pub fn len(&self) -> usize
+        ensures { result ≡ length self.now }
+    {
+        one_word::count_ones::<T>(self.left) as usize
+    }
+}
+
+impl<T: Word, E: Endian, K: Kind> Iterator for Iter<T, E, K> {
+    type Item = u32;
+
+    ghost next_gives = { YieldsFirst (λ left. left) };
+
+    ghost remaining = { item_count (λ left. left) };
+
+    #[inline]
+    fn next(&mut self) -> Option<u32> {
+        one_word::take_first::<T, E>(&mut self.left)
+    }
+
+    #[inline]
+    fn size_hint(&self) -> (usize, Option<usize>)
+        ensures lower { IsWithinCount result.0 (item_count (λ left. left) self.now) }
+        ensures upper { IfSome result.1 (UpTo (item_count (λ left. left) self.now)) }
+        ensures exact { result ≡ (length self.now, Some (length self.now)) }
+    {
+        let len = self.len();
+        (len, Some(len))
+    }
+}
+
+impl<T: Word, E: Endian, K: Kind> DoubleEndedIterator for Iter<T, E, K> {
+    ghost next_back_gives = { YieldsLast (λ left. left) };
+
+    #[inline]
+    fn next_back(&mut self) -> Option<u32> {
+        one_word::take_last::<T, E>(&mut self.left)
+    }
+}
+
+impl<T: Word, E: Endian, K: Kind> Clone for Iter<T, E, K> {
+    ghost is_clone = { λ source clone. clone ≡ source };
+
+    ghost is_infallible = { λ _. ⊤ };
+
+    #[inline]
+    fn clone(&self) -> Result<Iter<T, E, K>, AllocError> {
+        Ok(Iter {
+            left: self.left,
+            order: PhantomData,
+            kind: PhantomData,
+        })
+    }
+}

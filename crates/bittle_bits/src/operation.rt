@@ -1,0 +1,63 @@
+//! The four operations on two sets, so that each shape has one body for them all.
+
+ghost use Rattle.std.specs.Prelude.{◌≡◌, Bool, ◌||◌, ◌&&◌};
+ghost use Rattle.bittle_bits.specs.Digits.{digit_set};
+ghost use Rattle.bittle_bits.specs.SetOperations.{combination_of, first_alone, just_one};
+
+use crate::word::Word;
+
+/// An operation on two sets.
+pub trait Operation {
+    // Whether a number is a member afterwards, by whether it is one of each set.
+    ghost decide: { Bool → Bool → Bool };
+
+    /// The operation on the digits of two words.
+    fn on_words<T: Word>(word: T, other: T) -> T
+        ensures { digit_set T.width (T.digits result)
+            ≡ combination_of decide
+            (digit_set T.width (T.digits word)) (digit_set T.width (T.digits other)) };
+}
+
+pub enum Union {}
+
+pub enum Conjunction {}
+
+pub enum Difference {}
+
+pub enum SymmetricDifference {}
+
+impl Operation for Union {
+    ghost decide = { ◌||◌ };
+
+    #[inline]
+    fn on_words<T: Word>(word: T, other: T) -> T {
+        word.or(other)
+    }
+}
+
+impl Operation for Conjunction {
+    ghost decide = { ◌&&◌ };
+
+    #[inline]
+    fn on_words<T: Word>(word: T, other: T) -> T {
+        word.and(other)
+    }
+}
+
+impl Operation for Difference {
+    ghost decide = { first_alone };
+
+    #[inline]
+    fn on_words<T: Word>(word: T, other: T) -> T {
+        word.and(other.not())
+    }
+}
+
+impl Operation for SymmetricDifference {
+    ghost decide = { just_one };
+
+    #[inline]
+    fn on_words<T: Word>(word: T, other: T) -> T {
+        word.xor(other)
+    }
+}

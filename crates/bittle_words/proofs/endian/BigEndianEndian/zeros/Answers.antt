@@ -1,7 +1,0 @@
-use Rattle.std.proofs.Common.{sym, subst}
-use Rattle.bittle_words.specs.PlainSet.{IsLeastMember}
-use Rattle.bittle_words.proofs.WordEnds.{least_digit}
-use Rattle.bittle_words.proofs.endian.BigEndianEndian.zeros.Goals as goal
-
-pub returns : goal.returns
-returns g c = subst (IsLeastMember _) (sym c.trailing_zeros.ensures.count) (least_digit _ _)

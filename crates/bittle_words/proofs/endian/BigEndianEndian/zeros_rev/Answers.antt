@@ -1,8 +1,0 @@
-use Rattle.std.proofs.Common.{sym, subst}
-use Rattle.bittle_words.specs.PlainSet.{IsGreatestMember}
-use Rattle.bittle_words.proofs.WordEnds.{greatest_digit}
-use Rattle.bittle_words.proofs.endian.BigEndianEndian.zeros_rev.Goals as goal
-
-pub returns : goal.returns
-returns g c = subst (IsGreatestMember _) (sym c.leading_zeros.ensures.count)
-    (greatest_digit _ _ c.leading_zeros.ensures.range)

@@ -1,5 +1,0 @@
-use Rattle.bittle_words.proofs.WordOperations.{digits_first_alone}
-use Rattle.bittle_words.proofs.operation.DifferenceOperation.on_words.Goals as goal
-
-pub returns : goal.returns
-returns g c = rw c.and.ensures (digits_first_alone _ _ _ _ c.not.ensures.range c.not.ensures.digits)

@@ -1,6 +1,0 @@
-use Rattle.bittle_words.proofs.WordCalls.{word_cleared}
-use Rattle.bittle_words.proofs.word.clear_bit.Goals as goal
-
-pub returns : goal.returns
-returns g c = rw c.and.ensures (word_cleared _ _ _ _ _ g.met.T.Number.width_positive c.mask.ensures
-    _ c.not.ensures.range c.not.ensures.digits)

@@ -1,5 +1,0 @@
-use Rattle.bittle_words.proofs.DigitSets.{no_digits}
-use Rattle.bittle_words.proofs.word.clear_bits.Goals as goal
-
-pub returns : goal.returns
-returns g c = no_digits _ _ c.zero.ensures

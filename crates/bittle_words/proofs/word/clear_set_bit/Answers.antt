@@ -1,6 +1,0 @@
-use Rattle.bittle_words.proofs.WordCalls.{word_flipped}
-use Rattle.bittle_words.proofs.word.clear_set_bit.Goals as goal
-
-pub returns : goal.returns
-returns g c = rw c.xor.ensures (word_flipped _ _ _ _ _ g.met.T.Number.width_positive c.mask.ensures
-    c.requires.within c.requires.set)

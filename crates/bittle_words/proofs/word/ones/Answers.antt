@@ -1,9 +1,0 @@
-use Rattle.bittle_words.proofs.DigitSets.{all_digits, full_word}
-use Rattle.bittle_words.proofs.word.ones.Goals as goal
-
-pub returns-clause-value : goal.returns-clause-value
-returns-clause-value g c = all_digits _ _ _ c.zero.ensures c.not.ensures.range c.not.ensures.digits
-
-pub returns-clause-in_each_order : goal.returns-clause-in_each_order
-returns-clause-in_each_order g c = full_word _ _ g.met.T.Number.width_positive
-    (returns-clause-value g c)

@@ -1,8 +1,0 @@
-use Rattle.std.proofs.Common.{◌∙◌, ap, not}
-use Rattle.bittle_words.proofs.WordCalls.{word_tested}
-use Rattle.bittle_words.proofs.word.test_bit.Goals as goal
-
-pub returns : goal.returns
-returns g c = ap not c.is_zero.ensures.zero
-    ∙ rw c.and.ensures (word_tested _ _ _ _ _ g.met.T.Number.width_positive c.mask.ensures
-    (rw c.and.ensures at c.is_zero.ensures.range))

@@ -1,5 +1,0 @@
-//! Iterators over one word.
-
-mod walk;
-
-pub use walk::{IterOnes, IterZeros};
