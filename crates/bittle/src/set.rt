@@ -9,7 +9,7 @@ use bittle_bits::bits::Bits;
 use bittle_bits::bits_mut::BitsMut;
 use bittle_bits::bits_owned::BitsOwned;
 use bittle_bits::endian::{DefaultEndian, Endian, LittleEndian};
-use bittle_bits::internal::shape::Shape;
+use bittle_bits::internal::shape::{OwnedShape, Shape};
 use bittle_bits::operation::Operation;
 use std::alloc::AllocError;
 use std::marker::PhantomData;
@@ -49,7 +49,7 @@ mod operators;
 /// Set::<u8>::default().all_zeros();                   // true
 /// ```
 #[derive(Drop)]
-pub struct Set<T: Bits, E: Endian = DefaultEndian> {
+pub struct Set<T: Shape, E: Endian = DefaultEndian> {
     bits: T,
     order: PhantomData<E>,
     pub ghost fits: { ShapeFits T.Shape bits },
@@ -182,7 +182,7 @@ impl<'a, U: BitsOwned> Set<&'a mut [U], LittleEndian> {
     }
 }
 
-impl<T: Bits + Copy, E: Endian> Clone for Set<T, E> {
+impl<T: Shape + Copy, E: Endian> Clone for Set<T, E> {
     ghost use Rattle.std.specs.Prelude.{⊤};
 
     ghost is_clone = { λ s r. r ≡ s };
@@ -198,20 +198,26 @@ impl<T: Bits + Copy, E: Endian> Clone for Set<T, E> {
     }
 }
 
-impl<T: Bits + Copy, E: Endian> Copy for Set<T, E> {}
+impl<T: Shape + Copy, E: Endian> Copy for Set<T, E> {}
 
-impl<T: Bits, E: Endian> Shape for Set<T, E> {
+impl<T: Shape, E: Endian> Shape for Set<T, E> {
+    type LeafWord = T::LeafWord;
+
     ghost width = { T.width };
 
     ghost indexable = { T.indexable };
 
     ghost big = { λ s. T.big s.bits };
+
+    ghost loan = { λ s. T.loan s.bits };
+}
+
+impl<T: OwnedShape, E: Endian> OwnedShape for Set<T, E> {
+    ghost type_capacity = { T.type_capacity };
 }
 
 impl<T: Bits, U: Endian> Bits for Set<T, U> {
     type Order = U;
-
-    type LeafWord = T::LeafWord;
 
     ghost leaf_width = { T.leaf_width };
 
@@ -253,8 +259,6 @@ impl<T: Bits, U: Endian> Bits for Set<T, U> {
 }
 
 impl<T: BitsMut, U: Endian> BitsMut for Set<T, U> {
-    ghost loan = { λ s. T.loan s.bits };
-
     #[inline]
     fn set_bit_in<E: Endian>(&mut self, index: u32) {
         self.bits.set_bit_in::<E>(index);
@@ -282,8 +286,6 @@ impl<T: BitsMut, U: Endian> BitsMut for Set<T, U> {
 }
 
 impl<T: BitsOwned, U: Endian> BitsOwned for Set<T, U> {
-    ghost type_capacity = { T.type_capacity };
-
     ghost one_capacity = { λ s. T.one_capacity s.bits };
 
     ghost type_whole_words = { T.type_whole_words };

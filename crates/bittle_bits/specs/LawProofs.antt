@@ -37,10 +37,6 @@ one_word_whole w own c same whole = rw (whole, same) (one_word own)
 pub positive_width : (w own : ℕ) → w ≡ own → 0 < own → 0 < w
 positive_width w own same h = omega (arith, same, h)
 
--- an index finds each bit of a word
-pub fits_in_width : (w c : ℕ) → c ≡ w → w < 4294967295 → c < 4294967295
-fits_in_width w c same h = omega (arith, same, h)
-
 -- equal words are one set
 pub equal_words : (w u v : ℕ) → IsTrue (nat_eq u v) → digit_set w u ≡ digit_set w v
 equal_words w u v h = ap (digit_set w) (eqb-true u v h)

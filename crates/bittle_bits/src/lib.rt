@@ -16,7 +16,8 @@ pub mod join;
 #[doc(hidden)]
 pub mod laws;
 pub mod number;
-mod one_word;
+#[doc(hidden)]
+pub mod one_word;
 #[doc(hidden)]
 pub mod operation;
 mod slice;

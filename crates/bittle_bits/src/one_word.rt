@@ -1,13 +1,14 @@
 //! A word as a set, for every width at once: the calls on it, and its iterators' steps.
 
 ghost use Rattle.std.specs.Iterator.{YieldsFirst, YieldsLast};
-ghost use Rattle.std.specs.Prelude.{◌≡◌, ◌==◌, Bool, ◌*◌, ◌<◌, ◌≤◌, IfSome, IsTrue, true};
+ghost use Rattle.std.specs.Prelude.{◌≡◌, ◌==◌, Bool, ◌*◌, ◌<◌, ◌≤◌, IfSome, IsTrue};
 ghost use Rattle.std.proofs.Common.{sym};
 ghost use Rattle.bittle_bits.specs.Digits.{digit_set};
-ghost use Rattle.bittle_bits.specs.LawProofs.{fits_in_width, none_past_word, one_whole_word, one_word_whole, positive_width, word_capacity};
+ghost use Rattle.bittle_bits.specs.LawProofs.{none_past_word, one_whole_word, one_word_whole, positive_width, word_capacity};
 ghost use Rattle.bittle_bits.specs.Orders.{members};
 ghost use Rattle.bittle_bits.specs.PlainSet.{contains, with_index, with_span, without_index, empty_set, without_members, full_set, size, ascending, IsLeastMember};
 ghost use Rattle.bittle_bits.specs.SetOperations.{combination_of};
+ghost use Rattle.bittle_bits.specs.Shapes.{Fits};
 ghost use Rattle.bittle_bits.specs.Words.{word_of};
 
 use crate::bits::Bits;
@@ -24,13 +25,11 @@ pub trait Integer: Word + OwnedShape + Shape<LeafWord = Self> {
 
     ghost same_capacity: { Self.type_capacity ≡ ⟦<Self as Word>⟧.width };
 
-    // An index finds each digit.
-    ghost is_indexable: { Self.indexable ≡ true };
-
     // No word is a loan.
     ghost is_owned: { (u v : Self) → Self.loan u ≡ Self.loan v };
 
-    ghost width_fits: { ⟦<Self as Word>⟧.width < 4294967295 };
+    // An index finds each digit.
+    ghost fits: { Fits Self.indexable Self.type_capacity };
 
     // A word is the set of its digits.
     ghost big_is_digits: { (v : Self) → Self.big v ≡ digit_set ⟦<Self as Word>⟧.width (Self.digits v) };
@@ -113,7 +112,7 @@ impl<W: Integer> BitsOwned for W {
 
     ghost type_whole_words = { one_word_whole _ _ _ W.same_width W.same_capacity };
 
-    ghost type_fits = { λ _. fits_in_width _ _ W.same_capacity W.width_fits };
+    ghost type_fits = { λ _. W.fits.1 };
 
     ghost eq_is_same = { W.same_digits };
 

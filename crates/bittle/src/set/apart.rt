@@ -11,7 +11,7 @@ ghost use Rattle.bittle.specs.Comparison.{AreSame, AreSameBelow, HasPast, HasNon
 
 use bittle_bits::bits::Bits;
 use bittle_bits::endian::Endian;
-use bittle_bits::internal::sealed::Number;
+use bittle_bits::word::Word;
 use std::cmp::Ordering;
 
 /// Returns the bits of word `k` that are set in just one of two sets.
@@ -28,7 +28,7 @@ fn word_apart<A: Bits, B: Bits>(left: &A, right: &B, k: u32) -> A::LeafWord
 {
     let theirs = right.leaf_word(k).to_digits();
     left.leaf_word(k)
-        .xor(<A::LeafWord as Number>::from_digits(theirs))
+        .xor(<A::LeafWord as Word>::from_digits(theirs))
 }
 
 /// Returns the least index in the words from `from` on and before `to` that is in just one of two
@@ -51,7 +51,7 @@ fn first_apart_among<A: Bits, B: Bits, E: Endian>(
         → MatchOption result (AreSameBelow ours theirs (to * A.width))
         (λ d. IsFirstApart ours theirs d) }
 {
-    let width = <A::LeafWord as Number>::width();
+    let width = <A::LeafWord as Word>::width();
     for k in from..to {
         let apart = word_apart::<A, B>(left, right, k);
         if !apart.is_zero() {
@@ -117,7 +117,7 @@ pub fn first_apart<A: Bits, B: Bits, E: Endian>(left: &A, right: &B) -> Option<u
         let theirs = set_in B.Shape E.Endian right.now in
         MatchOption result (AreSame ours theirs) (λ d. IsFirstApart ours theirs d) }
 {
-    let width = <A::LeafWord as Number>::width();
+    let width = <A::LeafWord as Word>::width();
     let words = left.bits_capacity() / width;
     let others = right.bits_capacity() / width;
     let common = words.min(others);

@@ -11,7 +11,7 @@ ghost use Rattle.bittle.specs.Comparison.{list_cmp, list_eq, AreSame, Precedes};
 use super::{Set, apart};
 use bittle_bits::bits::Bits;
 use bittle_bits::endian::Endian;
-use bittle_bits::internal::sealed::Number;
+use bittle_bits::word::Word;
 use std::cmp::Ordering;
 
 // Whether two sets are read by words of one width in one order.
@@ -19,7 +19,7 @@ use std::cmp::Ordering;
 fn are_alike<A: Bits, B: Bits, E: Endian, F: Endian>() -> bool
     ensures { IsTrue result → (A.width ≡ B.width) × (E.mirrored ≡ F.mirrored) }
 {
-    <A::LeafWord as Number>::width() == <B::LeafWord as Number>::width()
+    <A::LeafWord as Word>::width() == <B::LeafWord as Word>::width()
         && E::is_mirrored() == F::is_mirrored()
 }
 

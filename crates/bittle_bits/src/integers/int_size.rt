@@ -29,11 +29,9 @@ impl Integer for usize {
 
     ghost same_capacity = { refl };
 
-    ghost is_indexable = { refl };
-
     ghost is_owned = { λ _ _. refl };
 
-    ghost width_fits = { lit< tt };
+    ghost fits = { (refl, lit< tt) };
 
     ghost big_is_digits = { λ _. refl };
 
@@ -107,11 +105,9 @@ impl Integer for isize {
 
     ghost same_capacity = { refl };
 
-    ghost is_indexable = { refl };
-
     ghost is_owned = { λ _ _. refl };
 
-    ghost width_fits = { lit< tt };
+    ghost fits = { (refl, lit< tt) };
 
     ghost big_is_digits = { λ _. refl };
 
