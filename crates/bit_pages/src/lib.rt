@@ -12,7 +12,7 @@ ghost use Rattle.bit_pages.specs.Pages.{request_answers, final_state};
 #[doc(hidden)]
 pub mod laws;
 
-use bittle::{BitsOwned, Set};
+use bittle::{BitsOwned, OwnedShape, Set};
 use std::error::Error;
 use std::fmt;
 
@@ -58,7 +58,7 @@ impl Error for NotTaken {}
 ///
 /// The type keeps that it fits: `B::bits()` is below `u32::MAX`.
 #[derive(Drop)]
-pub struct Pages<B: BitsOwned> {
+pub struct Pages<B: OwnedShape> {
     // Its members, in the order of the type, are the pages that are taken.
     map: B,
     pub ghost fits: { Fits B.indexable B.type_capacity },

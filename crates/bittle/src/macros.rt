@@ -169,9 +169,9 @@ pub fn put_through_in<B: BitsMut, E: Endian>(bits: &mut B, from: u32, to: u32)
     let start = from % capacity;
     let room = capacity - start;
     if count <= room {
-        bits.fill_in::<E>(start, start + count);
+        bits.set_range_in::<E>(start, start + count);
     } else {
-        bits.fill_in::<E>(start, capacity);
-        bits.fill_in::<E>(0, count - room);
+        bits.set_range_in::<E>(start, capacity);
+        bits.set_range_in::<E>(0, count - room);
     }
 }

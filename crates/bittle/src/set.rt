@@ -9,8 +9,9 @@ use bittle_bits::bits::Bits;
 use bittle_bits::bits_mut::BitsMut;
 use bittle_bits::bits_owned::BitsOwned;
 use bittle_bits::endian::{DefaultEndian, Endian, LittleEndian};
-use bittle_bits::internal::shape::{OwnedShape, Shape};
+use bittle_bits::internal::sealed::Sealed;
 use bittle_bits::operation::Operation;
+use bittle_bits::shape::{OwnedShape, Shape};
 use std::alloc::AllocError;
 use std::marker::PhantomData;
 
@@ -200,6 +201,8 @@ impl<T: Shape + Copy, E: Endian> Clone for Set<T, E> {
 
 impl<T: Shape + Copy, E: Endian> Copy for Set<T, E> {}
 
+impl<T: Shape, E: Endian> Sealed for Set<T, E> {}
+
 impl<T: Shape, E: Endian> Shape for Set<T, E> {
     type LeafWord = T::LeafWord;
 
@@ -253,8 +256,8 @@ impl<T: Bits, U: Endian> Bits for Set<T, U> {
     }
 
     #[inline]
-    fn leaf_word(&self, k: u32) -> T::LeafWord {
-        self.bits.leaf_word(k)
+    fn nth_leaf_word(&self, k: u32) -> T::LeafWord {
+        self.bits.nth_leaf_word(k)
     }
 }
 
@@ -275,13 +278,13 @@ impl<T: BitsMut, U: Endian> BitsMut for Set<T, U> {
     }
 
     #[inline]
-    fn fill_in<E: Endian>(&mut self, from: u32, to: u32) {
-        self.bits.fill_in::<E>(from, to);
+    fn set_range_in<E: Endian>(&mut self, from: u32, to: u32) {
+        self.bits.set_range_in::<E>(from, to);
     }
 
     #[inline]
-    fn combine<O: Operation>(&mut self, other: &Set<T, U>) {
-        self.bits.combine::<O>(&other.bits);
+    fn assign_by_operation<O: Operation>(&mut self, other: &Set<T, U>) {
+        self.bits.assign_by_operation::<O>(&other.bits);
     }
 }
 

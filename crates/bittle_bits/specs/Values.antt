@@ -3,7 +3,7 @@ use Rattle.std.specs.Prelude.{Bool}
 use Rattle.bittle_bits.specs.Orders.{members}
 use Rattle.bittle_bits.specs.PlainSet.{PlainSet}
 use Rattle.bittle_bits.specs.Shapes.{Fits}
-use Rattle.bittle_bits.specs.declared.internal.shape.Shape as shape
+use Rattle.bittle_bits.specs.declared.shape.Shape as shape
 use Rattle.bittle_bits.specs.declared.endian.Endian as endian
 
 -- the set of a value, read in an order

@@ -11,8 +11,11 @@ use crate::bits_mut::BitsMut;
 use crate::bits_owned::BitsOwned;
 use crate::endian::{DefaultEndian, Endian};
 use crate::internal::row;
-use crate::internal::shape::{OwnedShape, Shape};
+use crate::internal::sealed::Sealed;
 use crate::operation::Operation;
+use crate::shape::{OwnedShape, Shape};
+
+impl<T: OwnedShape, const N: usize> Sealed for [T; N] {}
 
 impl<T: OwnedShape, const N: usize> Shape for [T; N] {
     type LeafWord = T::LeafWord;
@@ -83,7 +86,7 @@ impl<T: BitsOwned, const N: usize> Bits for [T; N] {
     }
 
     #[inline]
-    fn leaf_word(&self, k: u32) -> T::LeafWord {
+    fn nth_leaf_word(&self, k: u32) -> T::LeafWord {
         row::leaf_word::<T>(self, k)
     }
 }
@@ -105,12 +108,12 @@ impl<T: BitsOwned, const N: usize> BitsMut for [T; N] {
     }
 
     #[inline]
-    fn fill_in<E: Endian>(&mut self, from: u32, to: u32) {
+    fn set_range_in<E: Endian>(&mut self, from: u32, to: u32) {
         row::fill::<T, E>(self, from, to);
     }
 
     #[inline]
-    fn combine<O: Operation>(&mut self, other: &[T; N]) {
+    fn assign_by_operation<O: Operation>(&mut self, other: &[T; N]) {
         combine::<T, O, N>(self, other);
     }
 }

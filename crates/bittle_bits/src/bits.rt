@@ -13,8 +13,8 @@ use crate::endian::{BigEndian, DefaultEndian, Endian, LittleEndian};
 use crate::internal::kind::{Ones, Zeros};
 use crate::internal::look::Source;
 use crate::internal::search;
-use crate::internal::shape::Shape;
 use crate::join::JoinOnes;
+use crate::shape::Shape;
 use crate::walk::{Iter, IterOnes, IterZeros};
 
 /// A set of bits, each named by a `u32` index below the capacity.
@@ -103,7 +103,7 @@ pub trait Bits: Drop + Shape {
 
     /// Returns word `k` of the set: its bits are those from `k` times the width on.
     #[doc(hidden)]
-    fn leaf_word(&self, k: u32) -> Self::LeafWord
+    fn nth_leaf_word(&self, k: u32) -> Self::LeafWord
         requires fits { ShapeFits Self.Shape self.now }
         requires within { k * Self.width < (Self.big self.now).capacity }
         ensures { digit_set Self.width (Self.LeafWord.digits result)

@@ -54,7 +54,7 @@ pub trait BitsMut: Bits {
     /// Sets the bit at each index from `from` on and before `to`, in the order `E`. No other bit
     /// changes.
     #[doc(hidden)]
-    fn fill_in<E: Endian>(&mut self, from: u32, to: u32)
+    fn set_range_in<E: Endian>(&mut self, from: u32, to: u32)
         requires fits { ShapeFits Self.Shape self.old }
         requires ordered { from ≤ to }
         requires within { to ≤ (Self.big self.old).capacity }
@@ -65,7 +65,7 @@ pub trait BitsMut: Bits {
     /// Combines the set with another one by an operation. Between two slices of unequal length only
     /// the elements of the common beginning change.
     #[doc(hidden)]
-    fn combine<O: Operation>(&mut self, other: &Self)
+    fn assign_by_operation<O: Operation>(&mut self, other: &Self)
         ensures set { (mirrored : Bool) → set_mirrored Self.Shape mirrored self.new
             ≡ combination_of O.decide (set_mirrored Self.Shape mirrored self.old)
             (set_mirrored Self.Shape mirrored other.now) }
@@ -85,7 +85,7 @@ pub trait BitsMut: Bits {
             (set_mirrored Self.Shape mirrored other.now) }
         ensures stays { Self.loan self.old ≡ Self.loan self.new }
     {
-        self.combine::<Union>(other);
+        self.assign_by_operation::<Union>(other);
     }
 
     /// Clears each bit that is unset in `other`. Always callable. Between two slices of unequal
@@ -103,7 +103,7 @@ pub trait BitsMut: Bits {
             (set_mirrored Self.Shape mirrored other.now) }
         ensures stays { Self.loan self.old ≡ Self.loan self.new }
     {
-        self.combine::<Conjunction>(other);
+        self.assign_by_operation::<Conjunction>(other);
     }
 
     /// Clears each bit that is set in `other`. Always callable. Between two slices of unequal
@@ -120,7 +120,7 @@ pub trait BitsMut: Bits {
             (set_mirrored Self.Shape mirrored other.now) }
         ensures stays { Self.loan self.old ≡ Self.loan self.new }
     {
-        self.combine::<Difference>(other);
+        self.assign_by_operation::<Difference>(other);
     }
 
     /// Flips each bit that is set in `other`. Always callable. Between two slices of unequal length
@@ -137,7 +137,7 @@ pub trait BitsMut: Bits {
             (set_mirrored Self.Shape mirrored other.now) }
         ensures stays { Self.loan self.old ≡ Self.loan self.new }
     {
-        self.combine::<SymmetricDifference>(other);
+        self.assign_by_operation::<SymmetricDifference>(other);
     }
 
     /// Sets a bit in the order of the type, as [`set_bit_in`](BitsMut::set_bit_in) does.

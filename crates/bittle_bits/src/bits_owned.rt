@@ -10,7 +10,7 @@ ghost use Rattle.bittle_bits.specs.Walk.{AreBelow, IsFresh};
 use crate::bits_mut::BitsMut;
 use crate::endian::{BigEndian, Endian, LittleEndian};
 use crate::internal::look::OwnedSource;
-use crate::internal::shape::OwnedShape;
+use crate::shape::OwnedShape;
 use crate::walk::{IntoIter, IntoIterOnes, IntoIterZeros};
 
 /// A set that is copied with its value. All values of the type have one capacity.

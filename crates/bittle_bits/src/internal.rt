@@ -7,4 +7,3 @@ pub(crate) mod look;
 pub(crate) mod row;
 pub mod sealed;
 pub(crate) mod search;
-pub mod shape;

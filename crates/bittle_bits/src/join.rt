@@ -6,7 +6,7 @@ ghost use Rattle.bittle_bits.specs.Join.{IsAscendingFrom, join_steps, AnswersIte
 
 use crate::bits::Bits;
 use crate::endian::Endian;
-use crate::internal::shape::Shape;
+use crate::shape::Shape;
 use crate::walk::IterOnes;
 use std::marker::Model;
 

@@ -20,6 +20,7 @@ pub mod number;
 pub mod one_word;
 #[doc(hidden)]
 pub mod operation;
+pub mod shape;
 mod slice;
 pub mod walk;
 #[doc(hidden)]

@@ -15,8 +15,8 @@ use crate::bits::Bits;
 use crate::bits_mut::BitsMut;
 use crate::bits_owned::BitsOwned;
 use crate::endian::{DefaultEndian, Endian};
-use crate::internal::shape::{OwnedShape, Shape};
 use crate::operation::Operation;
+use crate::shape::{OwnedShape, Shape};
 use crate::word::Word;
 
 /// A word that is a set: that of its digits.
@@ -75,7 +75,7 @@ impl<W: Integer> Bits for W {
     }
 
     #[inline]
-    fn leaf_word(&self, k: u32) -> W {
+    fn nth_leaf_word(&self, k: u32) -> W {
         leaf_word::<W>(*self, k)
     }
 }
@@ -97,12 +97,12 @@ impl<W: Integer> BitsMut for W {
     }
 
     #[inline]
-    fn fill_in<E: Endian>(&mut self, from: u32, to: u32) {
+    fn set_range_in<E: Endian>(&mut self, from: u32, to: u32) {
         fill::<W, E>(self, from, to);
     }
 
     #[inline]
-    fn combine<O: Operation>(&mut self, other: &W) {
+    fn assign_by_operation<O: Operation>(&mut self, other: &W) {
         combine::<W, O>(self, *other);
     }
 }

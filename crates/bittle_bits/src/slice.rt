@@ -9,8 +9,11 @@ use crate::bits_mut::BitsMut;
 use crate::bits_owned::BitsOwned;
 use crate::endian::{DefaultEndian, Endian};
 use crate::internal::row;
-use crate::internal::shape::{OwnedShape, Shape};
+use crate::internal::sealed::Sealed;
 use crate::operation::Operation;
+use crate::shape::{OwnedShape, Shape};
+
+impl<'a, T: OwnedShape> Sealed for &'a [T] {}
 
 impl<'a, T: OwnedShape> Shape for &'a [T] {
     type LeafWord = T::LeafWord;
@@ -60,10 +63,12 @@ impl<'a, T: BitsOwned> Bits for &'a [T] {
     }
 
     #[inline]
-    fn leaf_word(&self, k: u32) -> T::LeafWord {
+    fn nth_leaf_word(&self, k: u32) -> T::LeafWord {
         row::leaf_word::<T>(self, k)
     }
 }
+
+impl<'a, T: OwnedShape> Sealed for &'a mut [T] {}
 
 impl<'a, T: OwnedShape> Shape for &'a mut [T] {
     type LeafWord = T::LeafWord;
@@ -115,7 +120,7 @@ impl<'a, T: BitsOwned> Bits for &'a mut [T] {
     }
 
     #[inline]
-    fn leaf_word(&self, k: u32) -> T::LeafWord {
+    fn nth_leaf_word(&self, k: u32) -> T::LeafWord {
         row::leaf_word::<T>(self, k)
     }
 }
@@ -137,12 +142,12 @@ impl<'a, T: BitsOwned> BitsMut for &'a mut [T] {
     }
 
     #[inline]
-    fn fill_in<E: Endian>(&mut self, from: u32, to: u32) {
+    fn set_range_in<E: Endian>(&mut self, from: u32, to: u32) {
         row::fill::<T, E>(self, from, to);
     }
 
     #[inline]
-    fn combine<O: Operation>(&mut self, other: &&'a mut [T]) {
+    fn assign_by_operation<O: Operation>(&mut self, other: &&'a mut [T]) {
         let others: &[T] = other;
         row::combine::<T, O>(self, others);
     }

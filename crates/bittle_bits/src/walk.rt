@@ -17,7 +17,7 @@ use crate::internal::cursor::{Cursor, begin, duplicate, step_back, step_front};
 use crate::internal::ghost_count::{Count, Counted};
 use crate::internal::kind::{Kind, Ones, Zeros};
 use crate::internal::look::{OwnedSource, Source};
-use crate::internal::shape::Shape;
+use crate::shape::Shape;
 use std::alloc::AllocError;
 use std::marker::{Model, PhantomData};
 

@@ -9,7 +9,7 @@ ghost use Rattle.bittle_bits.specs.Rows.{elements_set};
 ghost use Rattle.bittle.specs.Values.{set_in, ShapeFits};
 
 use bittle::{Bits, BitsOwned, Endian, LittleEndian, number};
-use bittle_bits::internal::sealed::Number;
+use bittle_bits::word::Word;
 use std::alloc::{AllocError, Global};
 
 /// Walks the members of any set by a `for`.

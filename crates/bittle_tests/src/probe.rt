@@ -13,7 +13,7 @@ use bittle::replay::Step;
 use bittle::{
     BigEndian, Bits, BitsMut, BitsOwned, DefaultEndian, Endian, LittleEndian, Set, macros,
 };
-use bittle_bits::internal::shape::Shape;
+use bittle_bits::shape::Shape;
 use bittle_bits::operation::Operation;
 use std::alloc::AllocError;
 use std::cell::Cell;
@@ -140,9 +140,9 @@ impl<'a> Bits for Probe<'a> {
         self.bytes.test_bit_in::<E>(index)
     }
 
-    fn leaf_word(&self, k: u32) -> u8 {
+    fn nth_leaf_word(&self, k: u32) -> u8 {
         self.note_word(k);
-        self.bytes.leaf_word(k)
+        self.bytes.nth_leaf_word(k)
     }
 }
 
@@ -162,14 +162,14 @@ impl<'a> BitsMut for Probe<'a> {
         self.bytes.clear_bits();
     }
 
-    fn fill_in<E: Endian>(&mut self, from: u32, to: u32) {
+    fn set_range_in<E: Endian>(&mut self, from: u32, to: u32) {
         self.note_other();
-        self.bytes.fill_in::<E>(from, to);
+        self.bytes.set_range_in::<E>(from, to);
     }
 
-    fn combine<O: Operation>(&mut self, other: &Probe<'a>) {
+    fn assign_by_operation<O: Operation>(&mut self, other: &Probe<'a>) {
         self.note_other();
-        self.bytes.combine::<O>(&other.bytes);
+        self.bytes.assign_by_operation::<O>(&other.bytes);
     }
 }
 

@@ -6,7 +6,7 @@ use crate::checks::holds;
 use bittle::number::{IterOnes, IterZeros};
 use bittle::prelude::*;
 use bittle::{BigEndian, Endian, LittleEndian};
-use bittle_bits::internal::sealed::Number;
+use bittle_bits::word::Word;
 use std::process::Abort;
 
 // How many ones the numbers from 0 to 15 have.

@@ -6,7 +6,7 @@ ghost use Rattle.bittle.specs.Values.{ShapeFits};
 use crate::checks::{holds, same};
 use bittle::number::{IterOnes, IterZeros};
 use bittle::{BigEndian, Bits, BitsMut, Endian, LittleEndian};
-use bittle_bits::internal::sealed::Number;
+use bittle_bits::word::Word;
 use std::process::Abort;
 
 #[test]

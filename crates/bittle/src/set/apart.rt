@@ -26,8 +26,8 @@ fn word_apart<A: Bits, B: Bits>(left: &A, right: &B, k: u32) -> A::LeafWord
         ≡ combination_of just_one (word_of A.width (A.big left.now) k)
         (word_of A.width (B.big right.now) k) }
 {
-    let theirs = right.leaf_word(k).to_digits();
-    left.leaf_word(k)
+    let theirs = right.nth_leaf_word(k).to_digits();
+    left.nth_leaf_word(k)
         .xor(<A::LeafWord as Word>::from_digits(theirs))
 }
 

@@ -6,9 +6,12 @@ ghost use Rattle.std.proofs.Common.{lit<};
 ghost use Rattle.bittle_bits.specs.Digits.{digit_set};
 ghost use Rattle.bittle_bits.specs.LawProofs.{equal_words, equal_signed_words};
 
-use crate::internal::shape::{OwnedShape, Shape};
+use crate::internal::sealed::Sealed;
 use crate::one_word::Integer;
+use crate::shape::{OwnedShape, Shape};
 use crate::word::Word;
+
+impl Sealed for u16 {}
 
 impl Shape for u16 {
     type LeafWord = u16;
@@ -85,6 +88,8 @@ impl Word for u16 {
         self.leading_zeros()
     }
 }
+
+impl Sealed for i16 {}
 
 impl Shape for i16 {
     type LeafWord = i16;

@@ -6,9 +6,12 @@ ghost use Rattle.std.proofs.Common.{lit<};
 ghost use Rattle.bittle_bits.specs.Digits.{digit_set};
 ghost use Rattle.bittle_bits.specs.LawProofs.{equal_words, equal_signed_words};
 
-use crate::internal::shape::{OwnedShape, Shape};
+use crate::internal::sealed::Sealed;
 use crate::one_word::Integer;
+use crate::shape::{OwnedShape, Shape};
 use crate::word::Word;
+
+impl Sealed for u32 {}
 
 impl Shape for u32 {
     type LeafWord = u32;
@@ -85,6 +88,8 @@ impl Word for u32 {
         self.leading_zeros()
     }
 }
+
+impl Sealed for i32 {}
 
 impl Shape for i32 {
     type LeafWord = i32;

@@ -6,9 +6,12 @@ ghost use Rattle.std.proofs.Common.{lit<};
 ghost use Rattle.bittle_bits.specs.Digits.{digit_set};
 ghost use Rattle.bittle_bits.specs.LawProofs.{equal_words, equal_signed_words};
 
-use crate::internal::shape::{OwnedShape, Shape};
+use crate::internal::sealed::Sealed;
 use crate::one_word::Integer;
+use crate::shape::{OwnedShape, Shape};
 use crate::word::Word;
+
+impl Sealed for usize {}
 
 impl Shape for usize {
     type LeafWord = usize;
@@ -85,6 +88,8 @@ impl Word for usize {
         self.leading_zeros()
     }
 }
+
+impl Sealed for isize {}
 
 impl Shape for isize {
     type LeafWord = isize;

@@ -12,7 +12,7 @@ use crate::endian::Endian;
 use crate::internal::ghost_count::Count;
 use crate::internal::kind::Kind;
 use crate::internal::look::{Copies, Source};
-use crate::internal::shape::Shape;
+use crate::shape::Shape;
 
 /// The copies of a walk, and the range of words between them that are not copied yet.
 #[derive(Drop)]

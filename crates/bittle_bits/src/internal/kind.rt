@@ -59,5 +59,5 @@ pub(crate) fn wanted_word<B: Bits, K: Kind>(bits: &B, k: u32) -> B::LeafWord
     ensures { digit_set B.width (B.LeafWord.digits result)
         ≡ word_of B.width (ones_or_zeros K.ONES (B.big bits.now)) k }
 {
-    wanted_in::<B::LeafWord, K>(bits.leaf_word(k))
+    wanted_in::<B::LeafWord, K>(bits.nth_leaf_word(k))
 }

@@ -11,8 +11,8 @@ use crate::bits_owned::BitsOwned;
 use crate::endian::Endian;
 use crate::internal::ghost_count::Count;
 use crate::internal::kind::{Kind, wanted_word};
-use crate::internal::shape::Shape;
 use crate::one_word;
+use crate::shape::Shape;
 use crate::word::Word;
 use std::marker::{Model, PhantomData};
 

@@ -115,7 +115,7 @@ pub fn fill<T: BitsOwned, E: Endian>(elements: &mut [T], from: u32, to: u32)
     for at in from / each..(to - 1) / each + 1 {
         let start = at * each;
         let end = each.min(to - start);
-        elements[at as usize].fill_in::<E>(from.saturating_sub(start), end);
+        elements[at as usize].set_range_in::<E>(from.saturating_sub(start), end);
     }
 }
 
@@ -132,7 +132,7 @@ pub fn combine<T: BitsOwned, O: Operation>(elements: &mut [T], others: &[T])
 {
     let common = elements.len().min(others.len());
     for at in 0..common {
-        elements[at].combine::<O>(&others[at]);
+        elements[at].assign_by_operation::<O>(&others[at]);
     }
 }
 
@@ -240,5 +240,5 @@ pub fn leaf_word<T: BitsOwned>(elements: &[T], k: u32) -> T::LeafWord
         (elements_set (length elements.now) T.type_capacity T.big elements.now) k }
 {
     let each = T::bits() / <T::LeafWord as Word>::width();
-    elements[(k / each) as usize].leaf_word(k % each)
+    elements[(k / each) as usize].nth_leaf_word(k % each)
 }

@@ -31,7 +31,7 @@ returns-then-count-room-clause-set g c =
     ] in
     one_span old from _ count end _ (omega (arith, is)) (ap (λ t. from % t) is)
     (omega (arith, is)) facts.0 facts.1
-    (c.fill_in.ensures.set ∙ ap (λ t. with_span old t (start + count)) (omega arith))
+    (c.set_range_in.ensures.set ∙ ap (λ t. with_span old t (start + count)) (omega arith))
 
 pub returns-else-count-room-clause-set : goal.returns-else-count-room-clause-set
 returns-else-count-room-clause-set g c =
@@ -56,6 +56,6 @@ returns-else-count-room-clause-set g c =
     ] in
     two_spans old from _ _ count end _ _ (omega (arith, is)) (ap (λ t. from % t) is)
     (omega (arith, is)) (omega (arith, c.if-count-room.false)) facts.2 facts.0 facts.1
-    (c.fill_in-else-count-room.ensures.set
+    (c.set_range_in-else-count-room.ensures.set
     ∙ ap (with_span old (from % c.bits_capacity-capacity.result)) is)
-    c.fill_in-else-count-room-2.ensures.set
+    c.set_range_in-else-count-room-2.ensures.set

@@ -11,7 +11,7 @@ returns-then-at-clause-starts g c =
     let big = g.B.Shape.big c.args.source.now.set.now in
     let s = ones_or_zeros g.K.Kind.ONES (members g.E.Endian.mirrored g.B.Shape.width big) in
     let w = g.B.Shape.width in
-    walk_start {B = g.row.B.Denot} {E = g.row.E.Denot} 
+    walk_start {B = g.row.B.Denot} {E = g.row.E.Denot}
     {W = g.row.B-LeafWord.Denot} s (big.capacity / w) w big.capacity _ _ _
     g.met.B.Bits.width_positive
     (ones_or_zeros-capacity g.K.Kind.ONES (members g.E.Endian.mirrored w big))
@@ -28,13 +28,13 @@ returns-then-at-2-clause-starts g c =
     let big = g.B.Shape.big c.args.source.now.set.now in
     let s = ones_or_zeros g.K.Kind.ONES (members g.E.Endian.mirrored g.B.Shape.width big) in
     let w = g.B.Shape.width in
-    let none = walk_start {B = g.row.B.Denot} {E = g.row.E.Denot} 
+    let none = walk_start {B = g.row.B.Denot} {E = g.row.E.Denot}
     {W = g.row.B-LeafWord.Denot} s (big.capacity / w) w big.capacity _ _ _
     g.met.B.Bits.width_positive
     (ones_or_zeros-capacity g.K.Kind.ONES (members g.E.Endian.mirrored w big))
     (g.met.B.Bits.whole_words c.args.source.now.set.now) refl c.none.ensures c.words.ensures
     c.new.ensures in
-    walk_start_head {B = g.row.B.Denot} {E = g.row.E.Denot} 
+    walk_start_head {B = g.row.B.Denot} {E = g.row.E.Denot}
     {W = g.row.B-LeafWord.Denot} s (big.capacity / w) w _ _ _ _ _ none
     (ap (λ h. h.head) c.none.ensures) (ap (λ h. h.fetches) c.none.ensures)
     (omega arith) refl c.fetch_head.ensures
@@ -49,17 +49,17 @@ returns-clause-starts g c =
     let big = g.B.Shape.big c.args.source.now.set.now in
     let s = ones_or_zeros g.K.Kind.ONES (members g.E.Endian.mirrored g.B.Shape.width big) in
     let w = g.B.Shape.width in
-    let none = walk_start {B = g.row.B.Denot} {E = g.row.E.Denot} 
+    let none = walk_start {B = g.row.B.Denot} {E = g.row.E.Denot}
     {W = g.row.B-LeafWord.Denot} s (big.capacity / w) w big.capacity _ _ _
     g.met.B.Bits.width_positive
     (ones_or_zeros-capacity g.K.Kind.ONES (members g.E.Endian.mirrored w big))
     (g.met.B.Bits.whole_words c.args.source.now.set.now) refl c.none.ensures c.words.ensures
     c.new.ensures in
-    let one = walk_start_head {B = g.row.B.Denot} {E = g.row.E.Denot} 
+    let one = walk_start_head {B = g.row.B.Denot} {E = g.row.E.Denot}
     {W = g.row.B-LeafWord.Denot} s (big.capacity / w) w _ _ _ _ _ none
     (ap (λ h. h.head) c.none.ensures) (ap (λ h. h.fetches) c.none.ensures)
     (omega arith) refl c.fetch_head.ensures in
-    walk_start_tail {B = g.row.B.Denot} {E = g.row.E.Denot} 
+    walk_start_tail {B = g.row.B.Denot} {E = g.row.E.Denot}
     {W = g.row.B-LeafWord.Denot} s (big.capacity / w) w _ _ _ _ _ one
     (ap (λ h. h.tail) c.fetch_head.ensures ∙ ap (λ h. h.tail) c.none.ensures)
     (ap (λ h. h.fetches) c.fetch_head.ensures ∙ ap (λ h. h.fetches + 1) c.none.ensures)

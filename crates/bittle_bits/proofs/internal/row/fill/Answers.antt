@@ -38,8 +38,8 @@ offset_bounds-elements-at g c =
     ) in
     grind (arith, low)
 
-pub fill_in-requires-clause-ordered : goal.fill_in-requires-clause-ordered
-fill_in-requires-clause-ordered g c =
+pub set_range_in-requires-clause-ordered : goal.set_range_in-requires-clause-ordered
+set_range_in-requires-clause-ordered g c =
     let each = c.bits-each.ensures.value
     (c.requires.fits.0, g.met.T.BitsOwned.type_fits c.requires.fits.0) in
     let below : c.loop-at.at < (c.args.to - 1) / g.T.OwnedShape.type_capacity + 1 = rw (sym each)
@@ -73,15 +73,15 @@ loop-at-preserved g c =
     let inv = c.loop-at.invariant in
     let first : c.saturating_sub.result ≡ from - at * e = rw each at c.saturating_sub.ensures in
     let end : c.min-end.result ≡ min e (to - at * e) = rw each at c.min-end.ensures in
-    let one : members m w (big c.fill_in.new.self) ≡ with_span (members m w (big x)) (from - at * e)
-    (min e (to - at * e)) = rw (first, end) at c.fill_in.ensures.set in
-    let row = row_filled m w e (length xs) at big xs x c.fill_in.new.self
+    let one : members m w (big c.set_range_in.new.self) ≡ with_span (members m w (big x)) (from - at * e)
+    (min e (to - at * e)) = rw (first, end) at c.set_range_in.ensures.set in
+    let row = row_filled m w e (length xs) at big xs x c.set_range_in.new.self
     g.met.T.Bits.width_positive g.met.T.BitsOwned.type_whole_words
     (omega (arith, in_row.1)) refl (ap (λ (d : g.row.T.Denot). get_or xs at d)
     c.index-elements-at.is) (from - at * e) (min e (to - at * e)) (omega arith) one in
     let before = members m w (elements_set n e big c.args.elements.now) in
     let now = members m w (elements_set (length xs) e big xs) in
-    let next = members m w (elements_set (length xs) e big (set xs at c.fill_in.new.self)) in
+    let next = members m w (elements_set (length xs) e big (set xs at c.set_range_in.new.self)) in
     record {
       begun = omega (arith, inv.begun);
       set = rw length-set (span_reaches before now next from to e at

@@ -23,8 +23,8 @@ bounds-elements-k g c =
     w.0 c.args.k g.T.Shape.big c.args.elements.now g.met.T.Bits.width_positive w.1
     c.requires.within)
 
-pub leaf_word-requires-clause-within : goal.leaf_word-requires-clause-within
-leaf_word-requires-clause-within g c =
+pub nth_leaf_word-requires-clause-within : goal.nth_leaf_word-requires-clause-within
+nth_leaf_word-requires-clause-within g c =
     let w = g.met.T.BitsOwned.type_whole_words in
     let each = words_each _ _ _ _ _ _ g.met.T.Bits.width_positive
     (c.bits.ensures.value (c.requires.fits.0, g.met.T.BitsOwned.type_fits c.requires.fits.0))
@@ -39,7 +39,7 @@ returns g c =
     let each = words_each _ _ _ _ _ _ g.met.T.Bits.width_positive
     (c.bits.ensures.value (c.requires.fits.0, g.met.T.BitsOwned.type_fits c.requires.fits.0))
     c.width.ensures g.met.T.Bits.leaf_width w.1 in
-    (rw each at c.leaf_word.ensures) ∙ row_word
+    (rw each at c.nth_leaf_word.ensures) ∙ row_word
     (length c.args.elements.now) g.T.OwnedShape.type_capacity g.T.Shape.width w.0 c.args.k
     g.T.Shape.big c.args.elements.now g.met.T.Bits.width_positive w.1 c.requires.within
     c.index-elements-k.result refl (rw each at c.index-elements-k.is)

@@ -1,0 +1,39 @@
+//! What a value stands for, said by ghosts alone.
+//!
+//! A struct over any set asks for a `Shape` alone: of it each type has one impl, where an array is
+//! met by two impls of [`Bits`](crate::bits::Bits), that of the words and its own, and only the
+//! first asks for more. So the checker knows what a `Shape` is without asking which of them holds.
+
+ghost use Rattle.std.specs.Prelude.{ℕ, Bool};
+ghost use Rattle.bittle_bits.specs.PlainSet.{PlainSet};
+
+use crate::internal::sealed::Sealed;
+use crate::word::Word;
+
+/// A type whose values stand for sets. Its members are ghosts: contracts speak of them.
+///
+/// A struct over any set names this bound, and its functions name [`Bits`](crate::bits::Bits) or a
+/// trait above it. Only the types of this project are shapes.
+pub trait Shape: Drop + Sealed {
+    /// The integer type that the set is made of.
+    #[doc(hidden)]
+    type LeafWord: Word;
+
+    // The digits of each word.
+    ghost width: { ℕ };
+
+    // Whether the elements of the shape fit, so that an index finds its element.
+    ghost indexable: { Bool };
+
+    // The set in big-endian order.
+    ghost big: { Self → PlainSet };
+
+    // Which loan a lent slice is: a change leaves the same one. It is 0 of a value that is owned.
+    ghost loan: { Self → ℕ } = { λ _. 0 };
+}
+
+/// A shape whose values all have one capacity: what a struct over any owned set names.
+pub trait OwnedShape: Shape {
+    // The capacity of each value.
+    ghost type_capacity: { ℕ };
+}
