@@ -45,7 +45,8 @@ pub trait BitsOwned: Copy + Eq + BitsMut + OwnedShape {
     fn ones() -> Self
         requires { IsTrue Self.indexable }
         ensures value { Self.big result ≡ full_set Self.type_capacity }
-        ensures in_own_order { set_in Self.Shape Self.Order.Endian result ≡ full_set Self.type_capacity }
+        ensures in_own_order { set_in Self.Shape Self.Order.Endian result
+            ≡ full_set Self.type_capacity }
         ensures in_each_order { (mirrored : Bool) →
             set_mirrored Self.Shape mirrored result ≡ full_set Self.type_capacity };
 

@@ -32,7 +32,8 @@ pub trait Integer: Word + OwnedShape + Shape<LeafWord = Self> {
     ghost fits: { Fits Self.indexable Self.type_capacity };
 
     // A word is the set of its digits.
-    ghost big_is_digits: { (v : Self) → Self.big v ≡ digit_set ⟦<Self as Word>⟧.width (Self.digits v) };
+    ghost big_is_digits: { (v : Self) → Self.big v
+        ≡ digit_set ⟦<Self as Word>⟧.width (Self.digits v) };
 
     // Equal words are one set, whatever number a law calls a word.
     ghost same_digits: { (u v : Self) → IsTrue (Self.eq u v) → Self.big u ≡ Self.big v };

@@ -104,7 +104,7 @@ fn halves(alloc: Global, word: u8) -> Result<Vec<u32>, AllocError>
 }
 
 /// Walks the members of one word of any type by a `for`.
-fn each_digit<T: Number, E: Endian>(word: T) -> u64
+fn each_digit<T: Word, E: Endian>(word: T) -> u64
     requires { T.width < 1000 }
     ensures { result
         ≡ length (ascending (members E.mirrored T.width (digit_set T.width (T.digits word)))) }

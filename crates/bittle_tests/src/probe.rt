@@ -13,8 +13,9 @@ use bittle::replay::Step;
 use bittle::{
     BigEndian, Bits, BitsMut, BitsOwned, DefaultEndian, Endian, LittleEndian, Set, macros,
 };
-use bittle_bits::shape::Shape;
+use bittle_bits::internal::sealed::Sealed;
 use bittle_bits::operation::Operation;
+use bittle_bits::shape::{OwnedShape, Shape};
 use std::alloc::AllocError;
 use std::cell::Cell;
 use std::cmp::Ordering;
@@ -95,7 +96,11 @@ impl<'a> Probe<'a> {
     }
 }
 
+impl<'a> Sealed for Probe<'a> {}
+
 impl<'a> Shape for Probe<'a> {
+    type LeafWord = u8;
+
     ghost width = { ⟦<[u8; 4] as Shape>⟧.width };
 
     ghost indexable = { true };
@@ -103,10 +108,12 @@ impl<'a> Shape for Probe<'a> {
     ghost big = { λ p. ⟦<[u8; 4] as Shape>⟧.big p.bytes };
 }
 
+impl<'a> OwnedShape for Probe<'a> {
+    ghost type_capacity = { 4 * 8 };
+}
+
 impl<'a> Bits for Probe<'a> {
     type Order = DefaultEndian;
-
-    type LeafWord = u8;
 
     ghost leaf_width = { refl };
 
@@ -174,8 +181,6 @@ impl<'a> BitsMut for Probe<'a> {
 }
 
 impl<'a> BitsOwned for Probe<'a> {
-    ghost type_capacity = { 4 * 8 };
-
     ghost one_capacity = { λ _. refl };
 
     ghost type_whole_words = { words_of 4 8 8 (one_word 8) };

@@ -73,20 +73,20 @@ fn at_index<T: BitsOwned, E: Endian>(
 }
 
 // The searches and the walks of a word whose members in the order are the ones of the byte.
-fn walks<T: Number, E: Endian>(rt: &impl Abort, word: T, members: u8) {
+fn walks<T: Word, E: Endian>(rt: &impl Abort, word: T, members: u8) {
     searches::<T, E>(rt, word, members);
     walks_from_the_front::<T, E>(rt, word, members);
     walks_from_the_back::<T, E>(rt, word, members);
 }
 
-fn searches<T: Number, E: Endian>(rt: &impl Abort, word: T, members: u8) {
+fn searches<T: Word, E: Endian>(rt: &impl Abort, word: T, members: u8) {
     let (least, below_greatest) = (members.trailing_zeros(), members.leading_zeros());
     holds!(rt; E::zeros(word) == least && E::zeros_rev(word) == below_greatest);
     let (least, below_greatest) = (members.trailing_ones(), members.leading_ones());
     holds!(rt; E::ones(word) == least && E::ones_rev(word) == below_greatest);
 }
 
-fn walks_from_the_front<T: Number, E: Endian>(rt: &impl Abort, word: T, members: u8) {
+fn walks_from_the_front<T: Word, E: Endian>(rt: &impl Abort, word: T, members: u8) {
     let (mut ones, mut zeros) = (IterOnes::<T, E>::new(word), IterZeros::<T, E>::new(word));
     for index in 0..8 {
         if (members >> index) % 2 == 1 {
@@ -98,7 +98,7 @@ fn walks_from_the_front<T: Number, E: Endian>(rt: &impl Abort, word: T, members:
     holds!(rt; ones.next().is_none() && zeros.next().is_none());
 }
 
-fn walks_from_the_back<T: Number, E: Endian>(rt: &impl Abort, word: T, members: u8) {
+fn walks_from_the_back<T: Word, E: Endian>(rt: &impl Abort, word: T, members: u8) {
     let (mut ones, mut zeros) = (IterOnes::<T, E>::new(word), IterZeros::<T, E>::new(word));
     for index in (0..8).rev() {
         if (members >> index) % 2 == 1 {

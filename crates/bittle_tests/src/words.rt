@@ -120,7 +120,7 @@ fn every_type_at_its_borders(rt: HostRuntime) {
 
 // The word without a digit, with all, with its greatest alone, which is the least signed value, and
 // with its least alone.
-fn at_borders<T: Number + Bits>(rt: &impl Abort, width: u32, none: T, all: T, top: T, least: T)
+fn at_borders<T: Word + Bits>(rt: &impl Abort, width: u32, none: T, all: T, top: T, least: T)
     requires positive { 0 < width }
     requires none_fits { ShapeFits T.Shape none }
     requires all_fits { ShapeFits T.Shape all }
@@ -138,7 +138,7 @@ fn at_borders<T: Number + Bits>(rt: &impl Abort, width: u32, none: T, all: T, to
 
 // The members are the indexes from one on and below another: from the front, and from the back of
 // what the other word lacks.
-fn walks_alone<T: Number, E: Endian>(rt: &impl Abort, word: T, from: u32, to: u32) {
+fn walks_alone<T: Word, E: Endian>(rt: &impl Abort, word: T, from: u32, to: u32) {
     let mut ones = IterOnes::<T, E>::new(word);
     let mut zeros = IterZeros::<T, E>::new(word.not());
     for index in from..to {

@@ -10,11 +10,13 @@ loop-at-preserved g c =
     let f = g.O.Operation.decide in
     let old = c.loop-at.invariant in record {
       done = more_done f g.T.Shape.big c.args.elements.now c.args.others.now c.loop-at.elements
-          c.loop-at.at c.index-elements-at.result c.index-others-at.result c.assign_by_operation.new.self
+          c.loop-at.at c.index-elements-at.result c.index-others-at.result
+          c.assign_by_operation.new.self
           (omega arith) (omega arith) old.rest (omega arith) c.index-others-at.is
           (c.assign_by_operation.ensures.set false) old.done;
       rest = still_rest f g.T.Shape.big c.args.elements.now c.args.others.now c.loop-at.elements
-          c.loop-at.at c.index-elements-at.result c.index-others-at.result c.assign_by_operation.new.self
+          c.loop-at.at c.index-elements-at.result c.index-others-at.result
+          c.assign_by_operation.new.self
           (omega arith) (omega arith) old.rest;
     }
 

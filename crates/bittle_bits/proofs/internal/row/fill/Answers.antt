@@ -73,7 +73,8 @@ loop-at-preserved g c =
     let inv = c.loop-at.invariant in
     let first : c.saturating_sub.result ≡ from - at * e = rw each at c.saturating_sub.ensures in
     let end : c.min-end.result ≡ min e (to - at * e) = rw each at c.min-end.ensures in
-    let one : members m w (big c.set_range_in.new.self) ≡ with_span (members m w (big x)) (from - at * e)
+    let one : members m w (big c.set_range_in.new.self)
+    ≡ with_span (members m w (big x)) (from - at * e)
     (min e (to - at * e)) = rw (first, end) at c.set_range_in.ensures.set in
     let row = row_filled m w e (length xs) at big xs x c.set_range_in.new.self
     g.met.T.Bits.width_positive g.met.T.BitsOwned.type_whole_words
