@@ -1,5 +1,5 @@
 //! Bytes that wait to be written.
-ghost use Rattle.std.specs.Prelude.{◌<◌, ◌≤◌, ◌≡◌, ◌∷◌, ◌++◌, [], false, length};
+ghost use Rattle.std.specs.Prelude.{◌<◌, ◌≤◌, ◌≡◌, ◌∷◌, ◌++◌, [], true, false, length};
 
 use std::marker::Model;
 
@@ -43,7 +43,8 @@ impl Waiting {
 
     /// Returns whether no more may wait.
     pub fn is_full(&self) -> bool
-        ensures { result ≡ false → length self.now < 4096 }
+        ensures full { result ≡ true → length self.now ≡ 4096 }
+        ensures room { result ≡ false → length self.now < 4096 }
     {
         self.len == ROOM
     }
