@@ -1,6 +1,5 @@
-//! Walks over nested arrays. A walk that owns one is made in a generic function, since the borrow
-//! checker covers no function that makes it at a type of so many levels. One that borrows goes a
-//! level deeper.
+//! Walks over nested arrays: one that owns its set, in a generic function that serves every shape,
+//! and one that borrows.
 
 ghost use Rattle.std.specs.List.{last_or};
 ghost use Rattle.std.specs.Prelude.{◌≡◌, Some};
