@@ -19,6 +19,10 @@ listed_open_set capacity index =
 abbrev pub listed_whole_set : ℕ → PlainSet
 listed_whole_set capacity = with_range (empty_set capacity) 0 capacity
 
+-- the set of a capacity that a list of two indexes names
+abbrev pub listed_two_set : ℕ → ℕ → ℕ → PlainSet
+listed_two_set capacity a b = with_index (with_index (empty_set capacity) a) b
+
 -- the set of a capacity that a list of three indexes names
 abbrev pub listed_three_set : ℕ → ℕ → ℕ → ℕ → PlainSet
 listed_three_set capacity a b c =

@@ -10,6 +10,8 @@ ghost use Rattle.bittle_bits.specs.Values.{set_in};
 use bittle_bits::bits_owned::BitsOwned;
 use bittle_bits::endian::{BigEndian, Endian, LittleEndian};
 
+mod pairs;
+
 /// Lists an index first, then ranges.
 fn listed<B: BitsOwned>(index: u32) -> B
     requires { IsTrue B.indexable }
