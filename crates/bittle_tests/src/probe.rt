@@ -1,11 +1,18 @@
 //! A set that counts what it is asked.
 
-ghost use Rattle.std.specs.Prelude.{◌≡◌, ◌<◌};
+ghost use Rattle.std.specs.Prelude.{◌≡◌, ◌*◌, ◌<◌, true, refl};
+ghost use Rattle.std.proofs.Common.{lit<};
+ghost use Rattle.bittle_bits.specs.Digits.{digit_set};
+ghost use Rattle.bittle_bits.specs.RowLawProofs.{elements_has-past, words_of, equal_rows};
+ghost use Rattle.bittle_bits.specs.LawProofs.{digit_has-past, one_word, equal_words};
+ghost use Rattle.bittle_bits.specs.Rows.{elements_set};
 ghost use Rattle.bittle_bits.specs.Shapes.{Fits};
 
 use crate::checks::{holds, same};
 use bittle::replay::Step;
-use bittle::{BigEndian, Bits, BitsMut, BitsOwned, Endian, LittleEndian, Set, macros};
+use bittle::{
+    BigEndian, Bits, BitsMut, BitsOwned, DefaultEndian, Endian, LittleEndian, Set, macros,
+};
 use bittle_bits::internal::sealed::Sealed;
 use bittle_bits::operation::Operation;
 use bittle_bits::shape::{OwnedShape, Shape};
@@ -13,10 +20,7 @@ use std::alloc::AllocError;
 use std::cell::Cell;
 use std::cmp::Ordering;
 
-mod fours;
-mod replays;
 mod rows;
-mod sets;
 
 // Which words were fetched and how often, and how often anything else was asked but the capacity.
 #[derive(Drop)]
@@ -45,11 +49,6 @@ impl Asked {
         self.other.set(self.other.get().wrapping_add(1));
     }
 
-    // How often a word was fetched, and how often anything else was asked.
-    fn counts(&self) -> (u32, u32) {
-        (self.fetches.get(), self.other.get())
-    }
-
     // Whether at most so many words were fetched, and nothing else was asked.
     fn is_at_most(&self, words: u32) -> bool {
         self.fetches.get() <= words && self.other.get() == 0
@@ -67,27 +66,19 @@ impl Asked {
     }
 }
 
-// A set, four bytes where nothing else is said, and the counts of the calls that reach it.
+// Four bytes that are a set, and the counts of the calls that reach it.
 #[derive(Clone, Copy)]
-#[derive_where(PartialEq, Eq; B)]
-struct Probe<'a, B = [u8; 4]> {
-    set: B,
+#[derive_where(PartialEq, Eq)]
+struct Probe<'a> {
+    bytes: [u8; 4],
     #[derive_where(skip)]
     asked: Option<&'a Asked>,
 }
 
 impl<'a> Probe<'a> {
     fn of(bytes: [u8; 4], asked: &'a Asked) -> Probe<'a> {
-        Probe::over(bytes, asked)
-    }
-}
-
-impl<'a, B: BitsOwned> Probe<'a, B> {
-    fn over(set: B, asked: &'a Asked) -> Probe<'a, B>
-        ensures { result.set ≡ set }
-    {
         Probe {
-            set,
+            bytes,
             asked: Some(asked),
         }
     }
@@ -105,118 +96,116 @@ impl<'a, B: BitsOwned> Probe<'a, B> {
     }
 }
 
-impl<'a, B: OwnedShape> Sealed for Probe<'a, B> {}
+impl<'a> Sealed for Probe<'a> {}
 
-impl<'a, B: OwnedShape> Shape for Probe<'a, B> {
-    type LeafWord = B::LeafWord;
+impl<'a> Shape for Probe<'a> {
+    type LeafWord = u8;
 
-    ghost width = { B.width };
+    ghost width = { ⟦<[u8; 4] as Shape>⟧.width };
 
-    ghost indexable = { B.indexable };
+    ghost indexable = { true };
 
-    ghost big = { λ p. B.big p.set };
-
-    ghost loan = { λ p. B.loan p.set };
+    ghost big = { λ p. ⟦<[u8; 4] as Shape>⟧.big p.bytes };
 }
 
-impl<'a, B: OwnedShape> OwnedShape for Probe<'a, B> {
-    ghost type_capacity = { B.type_capacity };
+impl<'a> OwnedShape for Probe<'a> {
+    ghost type_capacity = { 4 * 8 };
 }
 
-impl<'a, B: BitsOwned> Bits for Probe<'a, B> {
-    type Order = B::Order;
+impl<'a> Bits for Probe<'a> {
+    type Order = DefaultEndian;
 
-    ghost leaf_width = { B.leaf_width };
+    ghost leaf_width = { refl };
 
-    ghost width_positive = { B.width_positive };
+    ghost width_positive = { lit< tt };
 
-    ghost whole_words = { λ p. B.whole_words p.set };
+    ghost whole_words = { λ _. words_of 4 8 8 (one_word 8) };
 
-    ghost none_past = { λ p. B.none_past p.set };
+    ghost none_past = { λ p i h. elements_has-past 4 8 (λ x. (digit_set 8 x).has) p.bytes i h };
 
     fn bits_capacity(&self) -> u32 {
-        self.set.bits_capacity()
+        self.bytes.bits_capacity()
     }
 
     fn count_ones(&self) -> u32 {
         self.note_other();
-        self.set.count_ones()
+        self.bytes.count_ones()
     }
 
     fn all_zeros(&self) -> bool {
         self.note_other();
-        self.set.all_zeros()
+        self.bytes.all_zeros()
     }
 
     fn all_ones(&self) -> bool {
         self.note_other();
-        self.set.all_ones()
+        self.bytes.all_ones()
     }
 
     fn test_bit_in<E: Endian>(&self, index: u32) -> bool {
         self.note_other();
-        self.set.test_bit_in::<E>(index)
+        self.bytes.test_bit_in::<E>(index)
     }
 
-    fn nth_leaf_word(&self, k: u32) -> B::LeafWord {
+    fn nth_leaf_word(&self, k: u32) -> u8 {
         self.note_word(k);
-        self.set.nth_leaf_word(k)
+        self.bytes.nth_leaf_word(k)
     }
 }
 
-impl<'a, B: BitsOwned> BitsMut for Probe<'a, B> {
+impl<'a> BitsMut for Probe<'a> {
     fn set_bit_in<E: Endian>(&mut self, index: u32) {
         self.note_other();
-        self.set.set_bit_in::<E>(index);
+        self.bytes.set_bit_in::<E>(index);
     }
 
     fn clear_bit_in<E: Endian>(&mut self, index: u32) {
         self.note_other();
-        self.set.clear_bit_in::<E>(index);
+        self.bytes.clear_bit_in::<E>(index);
     }
 
     fn clear_bits(&mut self) {
         self.note_other();
-        self.set.clear_bits();
+        self.bytes.clear_bits();
     }
 
     fn set_range_in<E: Endian>(&mut self, from: u32, to: u32) {
         self.note_other();
-        self.set.set_range_in::<E>(from, to);
+        self.bytes.set_range_in::<E>(from, to);
     }
 
-    fn assign_by_operation<O: Operation>(&mut self, other: &Probe<'a, B>) {
+    fn assign_by_operation<O: Operation>(&mut self, other: &Probe<'a>) {
         self.note_other();
-        self.set.assign_by_operation::<O>(&other.set);
+        self.bytes.assign_by_operation::<O>(&other.bytes);
     }
 }
 
-impl<'a, B: BitsOwned> BitsOwned for Probe<'a, B> {
-    ghost one_capacity = { λ p. B.one_capacity p.set };
+impl<'a> BitsOwned for Probe<'a> {
+    ghost one_capacity = { λ _. refl };
 
-    ghost type_whole_words = { B.type_whole_words };
+    ghost type_whole_words = { words_of 4 8 8 (one_word 8) };
 
-    ghost type_fits = { B.type_fits };
+    ghost type_fits = { λ _. lit< tt };
 
-    ghost eq_is_same = { λ p q. B.eq_is_same p.set q.set };
+    ghost eq_is_same = { λ u v. equal_rows 4 8 (digit_set 8) (equal_words 8) u.bytes v.bytes };
 
     fn bits() -> u32
-        ensures value { Fits B.indexable B.type_capacity → result ≡ B.type_capacity }
-        ensures fits { result < 4294967295 → Fits B.indexable B.type_capacity }
+        ensures value { Fits true (4 * 8) → result ≡ 4 * 8 }
+        ensures fits { result < 4294967295 → Fits true (4 * 8) }
     {
-        B::bits()
+        <[u8; 4]>::bits()
     }
 
-    fn zeros() -> Probe<'a, B> {
+    fn zeros() -> Probe<'a> {
         Probe {
-            set: B::zeros(),
+            bytes: <[u8; 4]>::zeros(),
             asked: None,
         }
     }
 
-    fn ones() -> Probe<'a, B> {
+    fn ones() -> Probe<'a> {
         Probe {
-            set: B::ones(),
+            bytes: <[u8; 4]>::ones(),
             asked: None,
         }
     }
@@ -513,9 +502,9 @@ fn a_range_is_one_call_or_two(rt: HostRuntime) {
     let asked = Asked::new();
     let mut probe = Probe::of([0; 4], &asked);
     macros::put_until_in::<Probe, BigEndian>(&mut probe, 5, 30);
-    same!(rt; probe.set, [0xE0, 0xFF, 0xFF, 0x3F]);
+    same!(rt; probe.bytes, [0xE0, 0xFF, 0xFF, 0x3F]);
     holds!(rt; asked.fetches.get() == 0 && asked.other.get() == 1);
     macros::put_through_in::<Probe, BigEndian>(&mut probe, 31, 32);
-    same!(rt; probe.set, [0xE1, 0xFF, 0xFF, 0xBF]);
+    same!(rt; probe.bytes, [0xE1, 0xFF, 0xFF, 0xBF]);
     holds!(rt; asked.fetches.get() == 0 && asked.other.get() == 3);
 }

@@ -5,7 +5,6 @@ use crate::checks::{holds, same};
 use bittle::replay::{Step, replay_walk};
 use bittle::{BigEndian, Bits, BitsMut, BitsOwned, Set, macros};
 use std::cmp::Ordering;
-use std::test::Fail;
 
 #[test]
 fn reading_a_row_asks_each_element_once(rt: HostRuntime) {
@@ -64,26 +63,11 @@ fn owned_walks_of_twelve_words_fetch_each_once(rt: HostRuntime) {
 }
 
 #[test]
-fn a_clone_of_a_walk_of_twelve_words_fetches_nothing(rt: HostRuntime) -> Result<(), Fail> {
-    let asked = Asked::new();
-    let row = [Probe::of(ONES, &asked); 3];
-    let mut walk = row.iter_ones();
-    same!(rt; walk.next(), Some(0));
-    let other = walk.clone()?;
-    holds!(rt; asked.is_at_most(2));
-    same!(rt; other.count(), 5);
-    holds!(rt; asked.is_at_most(12));
-    Ok(())
-}
-
-#[test]
 fn searches_of_twelve_words_fetch_each_once(rt: HostRuntime) {
     let asked = Asked::new();
     let row = [Probe::of([0; 4], &asked); 3];
     same!(rt; row.last_one_in::<BigEndian>(0, 96), None);
     holds!(rt; asked.is_at_most(12));
-    same!(rt; row.first_one_in::<BigEndian>(0, 96), None);
-    holds!(rt; asked.fetches.get() <= 24 && asked.other.get() == 0);
 }
 
 #[test]
