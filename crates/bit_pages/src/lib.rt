@@ -10,7 +10,7 @@ ghost use Rattle.bit_pages.specs.Pages.{is_taken, least_free, answer_to, state_a
 ghost use Rattle.bit_pages.specs.Pages.{request_answers, final_state};
 
 #[doc(hidden)]
-pub mod laws;
+pub mod page_laws;
 
 use bittle::{BitsOwned, OwnedShape, Set};
 use std::error::Error;

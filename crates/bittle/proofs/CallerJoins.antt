@@ -57,12 +57,12 @@ module _ {S : Type 0} (rest : S → List ℕ) where
 
   -- the answers of a whole run are the elements at the members
   pub answers_at_members : (s t : Join S) (items answers : List (Bor ℕ)) → s.taken ≡ 0 →
-      ((k : ℕ) → k < length s.mask.left → get_or s.mask.left k 0 < length (rest s.iter)) →
-      IsJoin s.taken s.mask.left items answers →
-      EndsAt TakesElement s items (drop (length answers) s.mask.left) t →
-      map (λ x. x.now) answers ≡ map (λ n. slice_index (rest s.iter) n) s.mask.left
+      ((k : ℕ) → k < length s.mask.remaining → get_or s.mask.remaining k 0 < length (rest s.iter)) →
+      IsJoin s.taken s.mask.remaining items answers →
+      EndsAt TakesElement s items (drop (length answers) s.mask.remaining) t →
+      map (λ x. x.now) answers ≡ map (λ n. slice_index (rest s.iter) n) s.mask.remaining
   answers_at_members s t items answers none bound j e =
-      let ms = s.mask.left in
+      let ms = s.mask.remaining in
       let n = length answers in
       let ends = λ (d : List ℕ). EndsAt TakesElement s items d t in
       elim (cases_lt n (length ms)) [
@@ -88,7 +88,7 @@ module _ {S : Type 0} (rest : S → List ℕ) where
   -- an answer more is an answer for one more member
   pub one_more : (s now next : Join S) (answers : List (Bor ℕ)) (x : Bor ℕ) →
       AnswersItemsAtMembers TakesElement s → Yields (join_steps TakesElement) s answers now →
-      join_steps TakesElement now (Some x) next → length answers < length s.mask.left
+      join_steps TakesElement now (Some x) next → length answers < length s.mask.remaining
   one_more s now next answers x clause y e =
       let a = clause (answers ++ x ∷ []) next
       (yields_more (join_steps TakesElement) s now next answers x y e) in
@@ -97,9 +97,9 @@ module _ {S : Type 0} (rest : S → List ℕ) where
   -- the answers of a run up to its end are the elements at the members
   pub all_answers_at_members : (s now next : Join S) (answers : List (Bor ℕ)) →
       EndsAfterMembers TakesElement s → s.taken ≡ 0 →
-      ((k : ℕ) → k < length s.mask.left → get_or s.mask.left k 0 < length (rest s.iter)) →
+      ((k : ℕ) → k < length s.mask.remaining → get_or s.mask.remaining k 0 < length (rest s.iter)) →
       Yields (join_steps TakesElement) s answers now → join_steps TakesElement now None next →
-      map (λ x. x.now) answers ≡ map (λ n. slice_index (rest s.iter) n) s.mask.left
+      map (λ x. x.now) answers ≡ map (λ n. slice_index (rest s.iter) n) s.mask.remaining
   all_answers_at_members s now next answers clause none bound y e =
       let a = clause answers next (now, y, e) in
       answers_at_members s next a.0 answers none bound a.1 a.2
@@ -112,7 +112,7 @@ members_are_places s members row is long k h = omega
 
 -- one more answer of a join whose mask is this set: there were fewer answers than its capacity
 pub answers_below : {S : Type 0} (rest : S → List ℕ) (s now next : Join S) (answers : List (Bor ℕ))
-    (x : Bor ℕ) (set : PlainSet) (count : ℕ) → s.mask.left ≡ ascending set →
+    (x : Bor ℕ) (set : PlainSet) (count : ℕ) → s.mask.remaining ≡ ascending set →
     count ≡ length answers → AnswersItemsAtMembers (TakesElement rest) s →
     Yields (join_steps (TakesElement rest)) s answers now →
     join_steps (TakesElement rest) now (Some x) next → count < set.capacity

@@ -3,7 +3,7 @@
 use Rattle.std.proofs.Common.{◌≡◌, ℕ, ◌*◌, ◌<◌, ◌≤◌, Bool, true, false, not, ◌&&◌, ◌||◌, ◌==◌, inl, inr, sym, ap, ◌∙◌, refl, arith}
 use Rattle.std.proofs.Math.Nat.{mod-eq_of_lt}
 use Rattle.std.proofs.lemmas.Bool.{cases_Bool, lt-ltb}
-use Rattle.bittle_bits.specs.Orders.{members}
+use Rattle.bittle_bits.specs.Orders.{read_in}
 use Rattle.bittle_bits.specs.PlainSet.{PlainSet, contains, with_index, has_with, without_index, has_without, complement, lacks, empty_set, full_set, size}
 use Rattle.bittle_bits.specs.Searches.{NoneIn}
 use Rattle.bittle_bits.specs.SetOperations.{combination_of, combination_has}
@@ -55,12 +55,12 @@ combination_within decide s t i h k = let one = lt-ltb i s.capacity h in
 
 -- there are as many members in one order as in the other
 pub size_members : (mirrored : Bool) (w : ℕ) (s : PlainSet) → 0 < w →
-    (words : ℕ) × (s.capacity ≡ words * w) → size (members mirrored w s) ≡ size s
+    (words : ℕ) × (s.capacity ≡ words * w) → size (read_in mirrored w s) ≡ size s
 size_members = sizes.size-members
 
 -- the set of all numbers below a capacity of whole words is that set in each order
 pub full_set_members : (w c : ℕ) (s : PlainSet) → 0 < w → (words : ℕ) × (c ≡ words * w) →
-    s ≡ full_set c → (mirrored : Bool) → members mirrored w s ≡ full_set c
+    s ≡ full_set c → (mirrored : Bool) → read_in mirrored w s ≡ full_set c
 full_set_members = full_set_in_each_order
 
 -- there are at most as many members as the capacity

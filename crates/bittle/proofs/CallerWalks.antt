@@ -11,12 +11,12 @@ use Rattle.bittle_bits.specs.Walk.{Walk, StepsFront, StepsBack}
 use Rattle.bittle.proofs.WalkYields as walking
 
 -- a walk gives what it has left
-pub walk_yields : (w : Walk) (items : List ℕ) → w.left ≡ items →
+pub walk_yields : (w : Walk) (items : List ℕ) → w.remaining ≡ items →
     YieldsList StepsFront (λ x. x) w items
 walk_yields = walking.steps_yield
 
 -- the greatest item of a walk, as `max` picks it, is the greatest of what it has left
-pub walk_maximum : (w : Walk) (items : List ℕ) (r : Option ℕ) → w.left ≡ items →
+pub walk_maximum : (w : Walk) (items : List ℕ) (r : Option ℕ) → w.remaining ≡ items →
     PicksByCmp StepsFront max_by_ordering nat_cmp w r → r ≡ reduce max items
 walk_maximum w items r e ran =
     sym (option_map_id r)
@@ -25,30 +25,30 @@ walk_maximum w items r e ran =
 -- an iterator that steps a walk from the back, as `rev` does, gives in reverse what the walk has
 -- left
 pub reversed_walk_yields : {S : Type 0} (walk : S → Walk) (s : S) (items : List ℕ) →
-    (walk s).left ≡ items →
+    (walk s).remaining ≡ items →
     YieldsList (λ s r t. StepsBack (walk s) r (walk t)) (λ x. x) s (reverse items)
 reversed_walk_yields walk s items e =
     subst (λ xs. YieldsList (λ s r t. StepsBack (walk s) r (walk t)) (λ x. x) s (reverse xs)) e
     (YieldsList-from_shown (λ s r t. StepsBack (walk s) r (walk t)) (λ x. x)
-    (λ v. reverse (walk v).left) (λ s t h. ap (λ xs. length (reverse xs)) h.gave.0)
-    (λ s x t h. ap reverse h.gave ∙ reverse-append (walk t).left (x ∷ [])) s)
+    (λ v. reverse (walk v).remaining) (λ s t h. ap (λ xs. length (reverse xs)) h.gave.0)
+    (λ s x t h. ap reverse h.gave ∙ reverse-append (walk t).remaining (x ∷ [])) s)
 
 -- from the back a walk gives what it has left in reverse
-pub walk_yields_back : (w : Walk) (items : List ℕ) → w.left ≡ items →
+pub walk_yields_back : (w : Walk) (items : List ℕ) → w.remaining ≡ items →
     YieldsList StepsBack (λ x. x) w (reverse items)
 walk_yields_back = reversed_walk_yields (λ w. w)
 
 -- what a run from the front gave, and what is left, are what was left before
 pub given_and_left : (s t : Walk) (items : List ℕ) → Yields StepsFront s items t →
-    s.left ≡ items ++ t.left
-given_and_left s t [] y = ap (λ w. w.left) y
+    s.remaining ≡ items ++ t.remaining
+given_and_left s t [] y = ap (λ w. w.remaining) y
 given_and_left s t (x ∷ items) y = y.1.gave ∙ ap (λ r. x ∷ r) (given_and_left y.0 t items y.2)
 
 -- what is left after a run from the back, and what it gave in reverse, are what was left before
 pub left_and_given : (s t : Walk) (items : List ℕ) → Yields StepsBack s items t →
-    s.left ≡ t.left ++ reverse items
-left_and_given s t [] y = ap (λ w. w.left) y ∙ sym (append-nil t.left)
+    s.remaining ≡ t.remaining ++ reverse items
+left_and_given s t [] y = ap (λ w. w.remaining) y ∙ sym (append-nil t.remaining)
 left_and_given s t (x ∷ items) y =
     y.1.gave ∙ ap (λ r. r ++ x ∷ []) (left_and_given y.0 t items y.2)
-    ∙ append_assoc t.left (reverse items) (x ∷ [])
-    ∙ ap (λ r. t.left ++ r) (sym (reverse-append (x ∷ []) items))
+    ∙ append_assoc t.remaining (reverse items) (x ∷ [])
+    ∙ ap (λ r. t.remaining ++ r) (sym (reverse-append (x ∷ []) items))

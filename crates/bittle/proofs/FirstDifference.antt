@@ -1,4 +1,4 @@
--- Where two sets of words of one width, in one order, are apart, and what that decides.
+-- The first difference of two sets of words of one width, read in one order, and what it decides.
 use Rattle.std.proofs.Common.{◌≡◌, ℕ, ◌+◌, ◌-◌, ◌*◌, ◌/◌, ◌^◌, ◌<◌, ◌≤◌, ◌⊎◌, ◌↔◌, Bool, true, false, not, IsTrue, inl, inr, Option, Some, None, is_none, is_some, MatchOption, MatchBool, refl, sym, ap, subst, ◌∙◌, arith, bit_or}
 use Rattle.std.proofs.lemmas.Nat.{le_or_l, le_or_r}
 use Rattle.std.proofs.Math.Nat.{mul-div_left, mul-le-mul_right, mul-lt-mul_of_pos_right}
@@ -6,18 +6,18 @@ use Rattle.std.proofs.lemmas.Bool.{cases_eq, cases_lt, true≢false}
 use Rattle.std.specs.declared.cmp.Ordering.{Ordering}
 use Rattle.std.specs.declared.cmp.Ordering.TheVariants.{Less, Equal, Greater}
 use Rattle.std.specs.Ordering.{MatchOrdering, is_eq}
-use Rattle.bittle_bits.specs.Digits.{digit_has, digit_set}
-use Rattle.bittle_bits.specs.Orders.{place, members}
+use Rattle.bittle_bits.specs.BitPatterns.{bit_has, bit_set}
+use Rattle.bittle_bits.specs.Orders.{place, read_in}
 use Rattle.bittle_bits.specs.PlainSet.{PlainSet, ascending, IsLeastMember}
 use Rattle.bittle_bits.specs.Searches.{IsFirstIn}
 use Rattle.bittle_bits.specs.SetOperations.{combination_of, just_one}
 use Rattle.bittle_bits.specs.Words.{word_has, word_of}
 use Rattle.bittle_bits.proofs.SetOperations.{combination-below}
-use Rattle.bittle_bits.proofs.DigitSets.{digit_has-zero, digit_has-below, some_digit}
+use Rattle.bittle_bits.proofs.BitSets.{bit_has-zero, bit_has-below, some_digit}
 use Rattle.bittle_bits.proofs.PlaceLemmas.{place_part, place_in_word, place-place}
 use Rattle.bittle_bits.proofs.PlainSets.{members-past}
 use Rattle.bittle_bits.proofs.Words.{word_has-at}
-use Rattle.bittle.specs.Comparison.{list_cmp, AreSame, AreSameBelow, HasPast, HasNonePast, Precedes, IsFirstApart}
+use Rattle.bittle.specs.Comparison.{list_cmp, AreSame, AreSameBelow, HasPast, HasNonePast, Precedes, IsFirstDifference}
 use Rattle.bittle.proofs.ListComparison.{EndsAtCapacity, list_cmp-precedes, equal_iff_same, not_both}
 
 alike : (a b : Bool) → just_one a b ≡ false → a ≡ b
@@ -30,7 +30,7 @@ alike false false h = refl
 
 module _ (m : Bool) (w : ℕ) (s t : PlainSet) (word : 0 < w) where
   member_at : (u : PlainSet) (k i : ℕ) → i < w →
-      u.has (k * w + place m w i) ≡ (members m w u).has (k * w + i)
+      u.has (k * w + place m w i) ≡ (read_in m w u).has (k * w + i)
   member_at u k i h =
       let one : k * (1 * w) ≡ k * w = omega arith in
       let b : i < 1 * w = omega arith in
@@ -38,55 +38,55 @@ module _ (m : Bool) (w : ℕ) (s t : PlainSet) (word : 0 < w) where
       in
       sym (ap u.has e)
 
-  -- the word x has the digits of word k that are in just one
-  module _ (k x : ℕ) (is : digit_set w x ≡ combination_of just_one (word_of w s k) (word_of w t k))
+  -- the word x has the bits of word k that are in just one
+  module _ (k x : ℕ) (is : bit_set w x ≡ combination_of just_one (word_of w s k) (word_of w t k))
     where
-      apart_at : (i : ℕ) → i < w → (members m w (digit_set w x)).has i
-          ≡ just_one ((members m w s).has (k * w + i)) ((members m w t).has (k * w + i))
+      apart_at : (i : ℕ) → i < w → (read_in m w (bit_set w x)).has i
+          ≡ just_one ((read_in m w s).has (k * w + i)) ((read_in m w t).has (k * w + i))
       apart_at i h =
           let p = place m w i in
           let low = place_in_word m w i h in
           ap (λ u. u.has p) is
           ∙ combination-below just_one (word_of w s k) (word_of w t k) p low low
           ∙ ap (λ b. just_one b (word_has w t k p)) (word_has-at w s k p low ∙ member_at s k i h)
-          ∙ ap (just_one ((members m w s).has (k * w + i)))
+          ∙ ap (just_one ((read_in m w s).has (k * w + i)))
           (word_has-at w t k p low ∙ member_at t k i h)
 
       -- below a place of word k
-      same_up_to : (r : ℕ) → AreSameBelow (members m w s) (members m w t) (k * w) → r ≤ w →
-          ((i : ℕ) → i < r → (members m w (digit_set w x)).has i ≡ false) →
-          AreSameBelow (members m w s) (members m w t) (k * w + r)
+      same_up_to : (r : ℕ) → AreSameBelow (read_in m w s) (read_in m w t) (k * w) → r ≤ w →
+          ((i : ℕ) → i < r → (read_in m w (bit_set w x)).has i ≡ false) →
+          AreSameBelow (read_in m w s) (read_in m w t) (k * w + r)
       same_up_to r before low none i h =
           elim (cases_lt i (k * w)) [
             | inl l ↦ before i l
             | inr g ↦
                 let j = i - k * w in
                 let back : k * w + j ≡ i = omega arith in
-                let e : just_one ((members m w s).has i) ((members m w t).has i)
+                let e : just_one ((read_in m w s).has i) ((read_in m w t).has i)
                 ≡ false = rw back at (sym (apart_at j (omega arith)) ∙ none j (omega arith)) in
                 alike _ _ e
           ]
 
       -- it has none, so the word is the same in both
-      pub same_word : AreSameBelow (members m w s) (members m w t) (k * w) → x ≡ 0 →
-          AreSameBelow (members m w s) (members m w t) ((k + 1) * w)
+      pub same_word : AreSameBelow (read_in m w s) (read_in m w t) (k * w) → x ≡ 0 →
+          AreSameBelow (read_in m w s) (read_in m w t) ((k + 1) * w)
       same_word before zero i h = same_up_to w before (omega arith)
-          (λ j l. ap (λ p. p (place m w j)) (digit_has-zero w x zero)) i (omega arith)
+          (λ j l. ap (λ p. p (place m w j)) (bit_has-zero w x zero)) i (omega arith)
 
       -- its least one
-      pub first_in_word : (r : ℕ) → AreSameBelow (members m w s) (members m w t) (k * w) →
-          IsLeastMember (members m w (digit_set w x)) r → r < w →
-          IsFirstApart (members m w s) (members m w t) (k * w + r)
+      pub first_in_word : (r : ℕ) → AreSameBelow (read_in m w s) (read_in m w t) (k * w) →
+          IsLeastMember (read_in m w (bit_set w x)) r → r < w →
+          IsFirstDifference (read_in m w s) (read_in m w t) (k * w + r)
       first_in_word r before least low = (
         same_up_to r before least.within least.none_below,
         sym (apart_at r low) ∙ least.is_member low,
       )
 
--- a word of which no digit is in just one: the two are the same as far as the next word
+-- a word of which no bit is in just one: the two are the same as far as the next word
 pub same_next : (m : Bool) (w : ℕ) (s t : PlainSet) → 0 < w → (k next x : ℕ) →
-    digit_set w x ≡ combination_of just_one (word_of w s k) (word_of w t k) → next ≡ k + 1 →
-    AreSameBelow (members m w s) (members m w t) (k * w) → x ≡ 0 →
-    AreSameBelow (members m w s) (members m w t) (next * w)
+    bit_set w x ≡ combination_of just_one (word_of w s k) (word_of w t k) → next ≡ k + 1 →
+    AreSameBelow (read_in m w s) (read_in m w t) (k * w) → x ≡ 0 →
+    AreSameBelow (read_in m w s) (read_in m w t) (next * w)
 same_next m w s t word k next x is e before zero =
     rw e (same_word m w s t word k x is before zero)
 
@@ -95,17 +95,17 @@ pub word_within : (k words w c : ℕ) → 0 < w → k < words → words * w ≤ 
 word_within k words w c word below within =
     omega (arith, mul-lt-mul_of_pos_right {k = w} below word, within)
 
--- a word that is not 0 has a least digit
+-- a word that is not 0 has a least set bit
 pub some_least : (m : Bool) (w x r : ℕ) → 0 < w → x < 2 ^ w → (x ≡ 0 → ⊥) →
-    IsLeastMember (members m w (digit_set w x)) r → r < w
+    IsLeastMember (read_in m w (bit_set w x)) r → r < w
 some_least m w x r word fits some least =
     elim (cases_lt r w) [
       | inl l ↦ l
       | inr g ↦
           let t = some_digit w x fits some in
           let i = place m w t.0 in
-          let low : i < w = place_in_word m w t.0 (digit_has-below w x t.0 t.1) in
-          absurd (true≢false (sym t.1 ∙ ap (digit_has w x) (sym (place-place m w t.0 word))
+          let low : i < w = place_in_word m w t.0 (bit_has-below w x t.0 t.1) in
+          absurd (true≢false (sym t.1 ∙ ap (bit_has w x) (sym (place-place m w t.0 word))
           ∙ least.none_below i (omega arith)))
     ]
 
@@ -140,7 +140,7 @@ words_within k bits wide w c word b v h below =
 none_from : (m : Bool) (w : ℕ) (s : PlainSet) (k bits wide : ℕ) → 0 < w → bits ≡ s.capacity →
     wide ≡ w → (words : ℕ) × (s.capacity ≡ words * w) →
     ((i : ℕ) → s.capacity ≤ i → s.has i ≡ false) → k ≡ bits / wide → (i : ℕ) → k * wide ≤ i →
-    (members m w s).has i ≡ false
+    (read_in m w s).has i ≡ false
 none_from m w s k bits wide word b v h past all i p =
     let ends = ap (λ n. n * wide) all ∙ all_words bits wide w s.capacity word b v h in
     members-past m w s word h past i (omega (arith, ends, p))
@@ -148,7 +148,7 @@ none_from m w s k bits wide word b v h past all i p =
 -- the first set has none from a number on, and the second one ends at another
 past_first : (s t : PlainSet) (from to : ℕ) (r : Option ℕ) → AreSameBelow s t from →
     ((i : ℕ) → from ≤ i → s.has i ≡ false) → ((i : ℕ) → to ≤ i → t.has i ≡ false) →
-    IsFirstIn t from to r → MatchOption r (AreSame s t) (λ d. IsFirstApart s t d)
+    IsFirstIn t from to r → MatchOption r (AreSame s t) (λ d. IsFirstDifference s t d)
 past_first s t from to None same none past h = λ i.
     elim (cases_lt i from) [
       | inl l ↦ same i l
@@ -169,18 +169,18 @@ turned false false = refl
 -- the second set has none from a number on, and the first one ends at another
 past_second : (s t : PlainSet) (from to : ℕ) (r : Option ℕ) → AreSameBelow s t from →
     ((i : ℕ) → from ≤ i → t.has i ≡ false) → ((i : ℕ) → to ≤ i → s.has i ≡ false) →
-    IsFirstIn s from to r → MatchOption r (AreSame s t) (λ d. IsFirstApart s t d)
+    IsFirstIn s from to r → MatchOption r (AreSame s t) (λ d. IsFirstDifference s t d)
 past_second s t from to r same none past h = back r
     (past_first t s from to r (λ i p. sym (same i p)) none past h)
   where
-    back : (r : Option ℕ) → MatchOption r (AreSame t s) (λ d. IsFirstApart t s d) →
-        MatchOption r (AreSame s t) (λ d. IsFirstApart s t d)
+    back : (r : Option ℕ) → MatchOption r (AreSame t s) (λ d. IsFirstDifference t s d) →
+        MatchOption r (AreSame s t) (λ d. IsFirstDifference s t d)
     back None e = λ i. sym (e i)
     back (Some d) e = ((λ i p. sym (e.0 i p)), turned (s.has d) (t.has d) ∙ e.1)
 
--- a search that finds no index apart says that the two are the same as far as it went
+-- a search that finds no difference says that the two are the same as far as it went
 pub none_among : (s t : PlainSet) (n : ℕ) (r : Option ℕ) → is_some r ≡ false →
-    MatchOption r (AreSameBelow s t n) (λ d. IsFirstApart s t d) → AreSameBelow s t n
+    MatchOption r (AreSameBelow s t n) (λ d. IsFirstDifference s t d) → AreSameBelow s t n
 none_among s t n None e h = h
 none_among s t n (Some d) e h = absurd (true≢false e)
 
@@ -197,39 +197,39 @@ module _ (m : Bool) (w v : ℕ) (s t : PlainSet) (bits others wide common : ℕ)
     (whole : (n : ℕ) × (s.capacity ≡ n * w)) (whole-2 : (n : ℕ) × (t.capacity ≡ n * v))
     (past : (i : ℕ) → s.capacity ≤ i → s.has i ≡ false)
     (past-2 : (i : ℕ) → t.capacity ≤ i → t.has i ≡ false)
-    (same : AreSameBelow (members m w s) (members m w t) (common * w)) where
-  in_common : AreSameBelow (members m w s) (members m v t) (common * wide)
-  in_common = subst (λ n. AreSameBelow (members m w s) (members m n t) (common * wide)) width
+    (same : AreSameBelow (read_in m w s) (read_in m w t) (common * w)) where
+  in_common : AreSameBelow (read_in m w s) (read_in m v t) (common * wide)
+  in_common = subst (λ n. AreSameBelow (read_in m w s) (read_in m n t) (common * wide)) width
       (rw is_wide same)
 
   none_of_first : (k : ℕ) → k ≡ bits / wide → (i : ℕ) → k * wide ≤ i →
-      (members m w s).has i ≡ false
+      (read_in m w s).has i ≡ false
   none_of_first k = none_from m w s k bits wide word ours is_wide whole past
 
   none_of_second : (k : ℕ) → k ≡ others / wide → (i : ℕ) → k * wide ≤ i →
-      (members m v t).has i ≡ false
+      (read_in m v t).has i ≡ false
   none_of_second k = none_from m v t k others wide (omega (arith, word, width)) theirs
       (is_wide ∙ width) whole-2 past-2
 
   -- just the second goes on
   pub first_ends : common ≡ bits / wide → (r : Option ℕ) →
-      IsFirstIn (members m v t) (common * wide) (others / wide * wide) r →
-      MatchOption r (AreSame (members m w s) (members m v t))
-      (λ d. IsFirstApart (members m w s) (members m v t) d)
-  first_ends e r found = past_first (members m w s) (members m v t) _ _ r in_common
+      IsFirstIn (read_in m v t) (common * wide) (others / wide * wide) r →
+      MatchOption r (AreSame (read_in m w s) (read_in m v t))
+      (λ d. IsFirstDifference (read_in m w s) (read_in m v t) d)
+  first_ends e r found = past_first (read_in m w s) (read_in m v t) _ _ r in_common
       (none_of_first common e) (none_of_second _ refl) found
 
   -- just the first goes on
   pub second_ends : common ≡ others / wide → (r : Option ℕ) →
-      IsFirstIn (members m w s) (common * wide) (bits / wide * wide) r →
-      MatchOption r (AreSame (members m w s) (members m v t))
-      (λ d. IsFirstApart (members m w s) (members m v t) d)
-  second_ends e r found = past_second (members m w s) (members m v t) _ _ r in_common
+      IsFirstIn (read_in m w s) (common * wide) (bits / wide * wide) r →
+      MatchOption r (AreSame (read_in m w s) (read_in m v t))
+      (λ d. IsFirstDifference (read_in m w s) (read_in m v t) d)
+  second_ends e r found = past_second (read_in m w s) (read_in m v t) _ _ r in_common
       (none_of_second common e) (none_of_first _ refl) found
 
   -- neither goes on
   pub both_end : common ≡ bits / wide → common ≡ others / wide →
-      AreSame (members m w s) (members m v t)
+      AreSame (read_in m w s) (read_in m v t)
   both_end e f i = elim (cases_lt i (common * wide)) [
     | inl l ↦ in_common i l
     | inr g ↦ none_of_first common e i g ∙ sym (none_of_second common f i g)
@@ -260,7 +260,7 @@ second_only false b h e = h
 second_only true b h e = absurd (true≢false e)
 
 -- the first index in just one, by the side that has it
-module _ (s t : PlainSet) (d : ℕ) (at : IsFirstApart s t d) where
+module _ (s t : PlainSet) (d : ℕ) (at : IsFirstDifference s t d) where
   -- the first set has that index and the second has a member past it: the first precedes
   pub ours_first : s.has d ≡ true → HasPast t d → Precedes s t
   ours_first a p = (d, at.0, inl (a, first_only _ _ at.1 a, p))
@@ -326,7 +326,7 @@ module _ (s t : PlainSet) (ends_s : EndsAtCapacity s) (ends_t : EndsAtCapacity t
   not_true false h = refl
 
   -- the lists are equal exactly where no index is in just one set
-  pub none_equal : (r : Option ℕ) → MatchOption r (AreSame s t) (λ d. IsFirstApart s t d) →
+  pub none_equal : (r : Option ℕ) → MatchOption r (AreSame s t) (λ d. IsFirstDifference s t d) →
       is_none r ≡ is_eq (list_cmp (ascending s) (ascending t))
   none_equal None h = ap is_eq (cmp_decided Equal h)
   none_equal (Some d) h = not_true _ (λ e. differ _ _ h.1
@@ -339,6 +339,6 @@ none_is r false e = sym (ap not e)
 
 -- there is no such index exactly where the two are the same
 pub none_decides : (s t : PlainSet) (r : Option ℕ) →
-    MatchOption r (AreSame s t) (λ d. IsFirstApart s t d) → IsTrue (is_none r) ↔ AreSame s t
+    MatchOption r (AreSame s t) (λ d. IsFirstDifference s t d) → IsTrue (is_none r) ↔ AreSame s t
 none_decides s t None h = (λ x. h, λ y. refl)
 none_decides s t (Some d) h = (λ x. absurd (true≢false (sym x)), λ y. absurd (differ _ _ h.1 (y d)))

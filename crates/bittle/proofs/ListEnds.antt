@@ -1,8 +1,8 @@
 -- One step of a list's two ends, and what many steps keep.
 use Rattle.std.proofs.Common.{◌≡◌, ℕ, Option, Some, None, List, [], ◌∷◌, ◌++◌, reverse, refl, sym, ap, ◌∙◌, append_assoc, append-nil}
 use Rattle.std.proofs.lemmas.List.{reverse-append, reverse-reverse}
-use Rattle.bittle.specs.declared.replay.walk.Step.{Step}
-use Rattle.bittle.specs.declared.replay.walk.Step.TheVariants.{Front, Back}
+use Rattle.bittle.specs.declared.replay.steps.Step.{Step}
+use Rattle.bittle.specs.declared.replay.steps.Step.TheVariants.{Front, Back}
 use Rattle.bittle.specs.ListEnds.{first_of, rest_of, items_left_by, remains_of, item_in, items_from_front, items_from_back, KeepsAll}
 
 -- a list is its first item and the rest

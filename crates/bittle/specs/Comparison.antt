@@ -25,8 +25,8 @@ abbrev pub AreSameBelow : PlainSet → PlainSet → ℕ → Type 0
 AreSameBelow s t n = (i : ℕ) → i < n → s.has i ≡ t.has i
 
 -- d is the least number that is in just one
-abbrev pub IsFirstApart : PlainSet → PlainSet → ℕ → Type 0
-IsFirstApart s t d = AreSameBelow s t d × (just_one (s.has d) (t.has d) ≡ true)
+abbrev pub IsFirstDifference : PlainSet → PlainSet → ℕ → Type 0
+IsFirstDifference s t d = AreSameBelow s t d × (just_one (s.has d) (t.has d) ≡ true)
 
 -- a member lies past the number
 abbrev pub HasPast : PlainSet → ℕ → Type 0

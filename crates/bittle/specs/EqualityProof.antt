@@ -4,7 +4,7 @@ use Rattle.std.proofs.lemmas.Bool.{cases_lt}
 use Rattle.std.specs.Cmp.Lexicographic.{same_text}
 use Rattle.bittle_bits.proofs.AscendingLists.{ascending_from-agree}
 use Rattle.bittle_bits.proofs.PlaceLemmas.{place-place, place_below}
-use Rattle.bittle_bits.specs.Orders.{place, members}
+use Rattle.bittle_bits.specs.Orders.{place, read_in}
 use Rattle.bittle_bits.specs.PlainSet.{PlainSet, ascending, ascending_from}
 use Rattle.bittle.specs.Comparison.{list_eq}
 
@@ -12,7 +12,7 @@ use Rattle.bittle.specs.Comparison.{list_eq}
 pub equal_sets : (mirrored : Bool) (w c : ℕ) → 0 < w → (words : ℕ) × (c ≡ words * w) →
     (s t : PlainSet) → s.capacity ≡ c → t.capacity ≡ c →
     ((i : ℕ) → s.capacity ≤ i → s.has i ≡ false) → ((i : ℕ) → t.capacity ≤ i → t.has i ≡ false) →
-    IsTrue (list_eq (ascending (members mirrored w s)) (ascending (members mirrored w t))) → s ≡ t
+    IsTrue (list_eq (ascending (read_in mirrored w s)) (ascending (read_in mirrored w t))) → s ≡ t
 equal_sets mirrored w c positive whole s t size_s size_t none_s none_t h =
     λ k. record { capacity = (size_s ∙ sym size_t) k; has = λ i. each i k }
   where
@@ -22,7 +22,7 @@ equal_sets mirrored w c positive whole s t size_s size_t none_s none_t h =
     lists : ascending_from (in_order s) 0 c ≡ ascending_from (in_order t) 0 c
     lists =
         ap (ascending_from (in_order s) 0) (sym size_s)
-        ∙ same_text (ascending (members mirrored w s)) (ascending (members mirrored w t)) (sym h)
+        ∙ same_text (ascending (read_in mirrored w s)) (ascending (read_in mirrored w t)) (sym h)
         ∙ ap (ascending_from (in_order t) 0) size_t
 
     each : (i : ℕ) → s.has i ≡ t.has i

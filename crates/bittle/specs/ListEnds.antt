@@ -1,7 +1,7 @@
--- Steps that take the items of a list from its two ends, and the looks that they may cost.
+-- Steps that take the items of a list from its two ends, and the scans that they may cost.
 use Rattle.std.specs.Prelude.{◌≡◌, ℕ, ◌+◌, ◌<◌, ◌≤◌, Option, Some, None, List, [], ◌∷◌, ◌++◌, length, take, slice_index, is_some, count_by, reverse}
-use Rattle.bittle.specs.declared.replay.walk.Step.{Step}
-use Rattle.bittle.specs.declared.replay.walk.Step.TheVariants.{Front, Back}
+use Rattle.bittle.specs.declared.replay.steps.Step.{Step}
+use Rattle.bittle.specs.declared.replay.steps.Step.TheVariants.{Front, Back}
 
 -- the first item
 abbrev pub first_of : List ℕ → Option ℕ
@@ -61,12 +61,12 @@ KeepsAll steps xs = items_from_front steps xs
 abbrev pub items_given : List (Option ℕ) → ℕ
 items_given answers = count_by is_some answers
 
--- looks, one number for each answer, never fall, and each is at least the items given so far and at
+-- scans, one number for each answer, never fall, and each is at least the items given so far and at
 -- most these and the words
-pub record AreThrifty (looks : List ℕ) (answers : List (Option ℕ)) (words : ℕ) : Type 0 where
-  pub each : length looks ≡ length answers
-  pub rise : (k : ℕ) → k + 1 < length looks → slice_index looks k ≤ slice_index looks (k + 1)
-  pub at_least : (k : ℕ) → k < length looks →
-      items_given (take (k + 1) answers) ≤ slice_index looks k
-  pub at_most : (k : ℕ) → k < length looks →
-      slice_index looks k ≤ items_given (take (k + 1) answers) + words
+pub record AreScanBounded (scans : List ℕ) (answers : List (Option ℕ)) (words : ℕ) : Type 0 where
+  pub each : length scans ≡ length answers
+  pub rise : (k : ℕ) → k + 1 < length scans → slice_index scans k ≤ slice_index scans (k + 1)
+  pub at_least : (k : ℕ) → k < length scans →
+      items_given (take (k + 1) answers) ≤ slice_index scans k
+  pub at_most : (k : ℕ) → k < length scans →
+      slice_index scans k ≤ items_given (take (k + 1) answers) + words

@@ -1,10 +1,10 @@
 -- What the operators of sets give.
 use Rattle.std.specs.Prelude.{◌≡◌, ℕ, Bool}
-use Rattle.bittle_bits.specs.Orders.{members}
+use Rattle.bittle_bits.specs.Orders.{read_in}
 use Rattle.bittle_bits.specs.PlainSet.{PlainSet}
 
--- the set r, of words of w digits, is in both orders what the operation makes of s and t
+-- the set r, of words of w bits, is in both orders what the operation makes of s and t
 abbrev pub IsInBothOrders : (PlainSet → PlainSet → PlainSet) → ℕ → PlainSet → PlainSet → PlainSet →
     Type 0
 IsInBothOrders operation w s t r = (mirrored : Bool) →
-    members mirrored w r ≡ operation (members mirrored w s) (members mirrored w t)
+    read_in mirrored w r ≡ operation (read_in mirrored w s) (read_in mirrored w t)

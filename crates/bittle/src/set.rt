@@ -1,4 +1,4 @@
-//! Sets that remember the order in which their digits are read.
+//! Sets that remember the order in which their bits are indexed.
 
 ghost use Rattle.std.specs.Prelude.{◌≡◌, ◌*◌, ◌<◌, length, IsTrue};
 ghost use Rattle.bittle_bits.specs.Shapes.{Fits};
@@ -15,15 +15,15 @@ use bittle_bits::shape::{OwnedShape, Shape};
 use std::alloc::AllocError;
 use std::marker::PhantomData;
 
-mod apart;
+mod by_words;
 mod compare;
 mod debug;
+mod from_word;
 mod hash;
-mod integers;
 mod iteration;
-#[doc(hidden)]
-pub mod laws;
 mod operators;
+#[doc(hidden)]
+pub mod set_laws;
 
 /// A set that remembers the order in which its bits are indexed.
 ///

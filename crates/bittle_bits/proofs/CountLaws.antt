@@ -3,7 +3,7 @@ use Rattle.std.proofs.Common.{◌≡◌, ℕ, zero, suc, ◌+◌, ◌<◌, ◌�
 use Rattle.std.specs.List.{list_any}
 use Rattle.std.proofs.lemmas.Bool.{cases_eq, eq-eqb, ne_eqb, lt-ltb}
 use Rattle.bittle_bits.specs.PlainSet.{ascending_from, complement, count_below, size, lacks}
-use Rattle.bittle_bits.specs.CountLaws.{OnesAndZerosSplit}
+use Rattle.bittle_bits.specs.CountLaws.{OnesAndZerosPartition}
 use Rattle.bittle_bits.proofs.Counts.{count-same, count-add}
 
 other_and_it : (b : Bool) → cond b 1 0 + cond (not b) 1 0 ≡ 1
@@ -71,7 +71,7 @@ listed p a (suc n) k lo hi = elim (cases_eq a k) [
 ]
 
 -- of every set, the ones and the zeros split the numbers below the capacity
-pub splits : OnesAndZerosSplit
+pub splits : OnesAndZerosPartition
 unfolding lacks
 splits s =
     let others : size (complement s) ≡ count_below s.capacity (λ k. not (s.has k)) = count-same

@@ -5,21 +5,21 @@ use Rattle.std.specs.Int.{bit_at}
 use Rattle.std.proofs.lemmas.Nat.{pow_pos}
 use Rattle.std.proofs.lemmas.Nat.Bits.{bit_at_above}
 use Rattle.std.proofs.lemmas.Bool.{cases_eq, cases_lt, eq-eqb, ne_eqb, lt-ltb, le-ltb}
-use Rattle.bittle_bits.specs.Digits.{digit_has, digit_set}
-use Rattle.bittle_bits.specs.LawProofs.{digit_has-past}
-use Rattle.bittle_bits.specs.Orders.{mirror, members}
+use Rattle.bittle_bits.specs.BitPatterns.{bit_has, bit_set}
+use Rattle.bittle_bits.specs.LawProofs.{bit_has-past}
+use Rattle.bittle_bits.specs.Orders.{mirror, read_in}
 use Rattle.bittle_bits.specs.PlainSet.{full_set_from, lacks}
-use Rattle.bittle_bits.proofs.DigitSets.{digit_has-not, digit_has-or, digit_has-pow, all_digits}
+use Rattle.bittle_bits.proofs.BitSets.{bit_has-not, bit_has-or, bit_has-pow, all_digits}
 use Rattle.bittle_bits.proofs.PlaceLemmas.{mirror_in_word, place_past}
 use Rattle.bittle_bits.proofs.PlainSets.{plain_set}
 
--- the i digits of least weight
-pub digit_has-low : (w i : ℕ) → i ≤ w → digit_has w (2 ^ i - 1) ≡ (λ k. nat_lt k i)
-unfolding digit_has
-digit_has-low w i h = fun_ext λ k.
+-- the i bits of least weight
+pub bit_has-low : (w i : ℕ) → i ≤ w → bit_has w (2 ^ i - 1) ≡ (λ k. nat_lt k i)
+unfolding bit_has
+bit_has-low w i h = fun_ext λ k.
     elim (cases_lt k i) [
       | inl l ↦
-          let all : digit_has i (2 ^ i - 1) k ≡ nat_lt k i = ap (λ s. s.has k)
+          let all : bit_has i (2 ^ i - 1) k ≡ nat_lt k i = ap (λ s. s.has k)
           (all_digits i 0 (2 ^ i - 1) refl (pow_pos i) (omega arith)) in
           let one : (bit_at (2 ^ i - 1) k == 1)
           ≡ true = sym (ap (λ b. b && (bit_at (2 ^ i - 1) k == 1)) (lt-ltb k i l)) ∙ all
@@ -36,26 +36,26 @@ digit_has-low w i h = fun_ext λ k.
     and_false true = refl
     and_false false = refl
 
--- in big-endian order, the word that lacks just the digits below the index
+-- in big-endian order, the word that lacks just the bits below the index
 pub big_from : (w i d e : ℕ) → i < w → d ≡ 2 ^ i - 1 → d < 2 ^ w → e ≡ 2 ^ w - 1 - d →
-    members false w (digit_set w e) ≡ full_set_from w i
+    read_in false w (bit_set w e) ≡ full_set_from w i
 unfolding lacks
 big_from w i d e h low fits is =
-    ap (plain_set w) (ap (digit_has w) is ∙ digit_has-not w d fits
+    ap (plain_set w) (ap (bit_has w) is ∙ bit_has-not w d fits
     ∙ fun_ext λ k. ap (λ p. nat_lt k w && not (p k))
-    (ap (digit_has w) low ∙ digit_has-low w i (omega arith)))
+    (ap (bit_has w) low ∙ bit_has-low w i (omega arith)))
 
--- in little-endian order, the word of the digit at the index's place and of those below it
+-- in little-endian order, the word of the bit at the index's place and of those below it
 pub little_from : (w i p d e f : ℕ) → i < w → p ≡ w - 1 - i → d ≡ 2 ^ p - 1 → e ≡ 2 ^ p →
-    f ≡ bit_or d e → members true w (digit_set w f) ≡ full_set_from w i
+    f ≡ bit_or d e → read_in true w (bit_set w f) ≡ full_set_from w i
 little_from w i p d e f h at low one is =
     let in_word : p < w = omega arith in
-    let digits : digit_has w f ≡ (λ k. nat_lt k p || (k == p)) =
-    ap (digit_has w) is ∙ digit_has-or w d e ∙ ap (λ q k. q k || digit_has w e k)
-    (ap (digit_has w) low ∙ digit_has-low w p (omega arith)) ∙ ap (λ q k. nat_lt k p || q k)
-    (ap (digit_has w) one ∙ digit_has-pow w p in_word) in
+    let pattern : bit_has w f ≡ (λ k. nat_lt k p || (k == p)) =
+    ap (bit_has w) is ∙ bit_has-or w d e ∙ ap (λ q k. q k || bit_has w e k)
+    (ap (bit_has w) low ∙ bit_has-low w p (omega arith)) ∙ ap (λ q k. nat_lt k p || q k)
+    (ap (bit_has w) one ∙ bit_has-pow w p in_word) in
     ap (plain_set w) (fun_ext λ k. elim (cases_lt k w) [
-      | inl l ↦ ap (digit_has w f) (mirror_in_word w k l) ∙ ap (λ q. q (w - 1 - k)) digits
+      | inl l ↦ ap (bit_has w f) (mirror_in_word w k l) ∙ ap (λ q. q (w - 1 - k)) pattern
           ∙ by k l (cases_lt k i)
       | inr g ↦ past k g
     ])
@@ -81,8 +81,8 @@ little_from w i p d e f h at low one is =
           rw (lt-ltb (w - 1 - k) p near, lt-ltb k w l, le-ltb k i b) refl
     ]
 
-    past : (k : ℕ) → w ≤ k → digit_has w f (mirror w k) ≡ nat_lt k w && not (nat_lt k i)
+    past : (k : ℕ) → w ≤ k → bit_has w f (mirror w k) ≡ nat_lt k w && not (nat_lt k i)
     past k g =
         let one : 1 * w ≤ k = omega arith in
         let up = place_past true w 1 k (omega arith) one in
-        rw (le-ltb k w g) (digit_has-past w f (mirror w k) (omega arith))
+        rw (le-ltb k w g) (bit_has-past w f (mirror w k) (omega arith))

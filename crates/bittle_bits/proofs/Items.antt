@@ -1,12 +1,12 @@
--- The members of a set between two numbers, and the items of a copied word, as lists.
+-- The members of a set between two numbers, and the items of a buffered word, as lists.
 use Rattle.std.proofs.Common.{◌≡◌, ℕ, ◌+◌, ◌-◌, ◌*◌, ◌<◌, ◌≤◌, Bool, false, [], ◌++◌, map, refl, sym, ap, ◌∙◌, arith}
-use Rattle.bittle_bits.specs.Copies.{members_between, items_of}
-use Rattle.bittle_bits.specs.Digits.{digit_set}
-use Rattle.bittle_bits.specs.Orders.{members}
+use Rattle.bittle_bits.specs.Buffers.{members_between, items_of}
+use Rattle.bittle_bits.specs.BitPatterns.{bit_set}
+use Rattle.bittle_bits.specs.Orders.{read_in}
 use Rattle.bittle_bits.specs.PlainSet.{PlainSet, ascending}
 use Rattle.bittle_bits.specs.Words.{word_of}
 use Rattle.bittle_bits.proofs.AscendingLists.{ascending_from-add, ascending_from-none, ascending_from-moved}
-use Rattle.bittle_bits.proofs.DigitSets.{no_digits}
+use Rattle.bittle_bits.proofs.BitSets.{no_digits}
 use Rattle.bittle_bits.proofs.Words.{digit_at}
 
 -- those between two numbers are those up to a third and those from it on
@@ -29,16 +29,16 @@ members_between-all s a c none is = let e : c - a ≡ s.capacity = omega arith i
 
 -- the items of word k are the members of the set from k * w on
 pub items_of-word : (m : Bool) (w k : ℕ) (s : PlainSet) (d : ℕ) → 0 < w →
-    digit_set w d ≡ word_of w s k → items_of m w d (k * w) ≡ members_between (members m w s) (k * w)
+    bit_set w d ≡ word_of w s k → items_of m w d (k * w) ≡ members_between (read_in m w s) (k * w)
     (k * w + w)
 unfolding members_between
 items_of-word m w k s d word is =
     let n : k * w + w - k * w ≡ w = omega arith in
-    rw n (ascending_from-moved (members m w (digit_set w d)).has (members m w s).has (k * w) 0
+    rw n (ascending_from-moved (read_in m w (bit_set w d)).has (read_in m w s).has (k * w) 0
     (k * w) w (omega arith) (λ i lo hi. sym (digit_at m w k s d word is i (omega arith))))
 
 -- the word 0 has no items
 pub items_of-none : (m : Bool) (w d base : ℕ) → d ≡ 0 → items_of m w d base ≡ []
 items_of-none m w d base is =
-    ap (λ s. map (λ i. base + i) (ascending (members m w s))) (no_digits w d is)
+    ap (λ s. map (λ i. base + i) (ascending (read_in m w s))) (no_digits w d is)
     ∙ ap (map (λ i. base + i)) (ascending_from-none (λ _. false) 0 w (λ k lo hi. refl))

@@ -5,34 +5,34 @@ use Rattle.std.specs.Iterator.Runs.{YieldsInOrder, YieldsInReverse}
 use Rattle.std.proofs.iter.runs.Sources.{from_front, from_back, as_is, as_is_back}
 use Rattle.bittle_bits.specs.Walk.{Walk, StepsFront, StepsBack, IsFresh, ResumesAs, ListsInOrder, ListsInReverse}
 
-in_order : YieldsInOrder StepsFront (λ w. w.left)
-in_order p seen = as_is p p.from.left (from_front StepsFront (λ x. x) (λ w. w.left)
+in_order : YieldsInOrder StepsFront (λ w. w.remaining)
+in_order p seen = as_is p p.from.remaining (from_front StepsFront (λ x. x) (λ w. w.remaining)
     (λ s t h. ap length h.gave.0) (λ s x t h. h.gave) p seen)
 
-in_reverse : YieldsInReverse StepsBack (λ w. w.left)
-in_reverse p seen = as_is_back p p.from.left
-    (from_back StepsBack (λ x. x) (λ w. w.left) (λ s t h. ap length h.gave.0)
+in_reverse : YieldsInReverse StepsBack (λ w. w.remaining)
+in_reverse p seen = as_is_back p p.from.remaining
+    (from_back StepsBack (λ x. x) (λ w. w.remaining) (λ s t h. ap length h.gave.0)
     (λ s x t h. h.gave) p seen)
 
--- a walk that has counted no looks and no items, and has fetched a word for each end at most
-pub is_fresh : (words : ℕ) (w : Walk) → w.looks ≡ 0 → w.items ≡ 0 → w.fetches ≤ 2 →
+-- a walk that has counted no scans and no items, and has fetched a word for each end at most
+pub is_fresh : (words : ℕ) (w : Walk) → w.scans ≡ 0 → w.items ≡ 0 → w.fetches ≤ 2 →
     w.words ≡ words → w.fetches + w.unread ≤ words → IsFresh words w
 is_fresh words w l i f n u = record {
-  looks = l;
+  scans = l;
   items = i;
   fetches = f;
   words_are = n;
-  thrifty = record { at_least = omega arith; at_most = omega arith; once = omega arith };
+  bounded = record { at_least = omega arith; at_most = omega arith; once = omega arith };
   in_order = in_order;
   in_reverse = in_reverse;
 }
 
 -- a walk that has what another has left, and has counted nothing
-pub resumes_as : (source clone : Walk) → clone.left ≡ source.left → clone.unread ≡ source.unread →
-    clone.words ≡ source.words → clone.looks ≡ 0 → clone.items ≡ 0 → clone.fetches ≡ 0 →
+pub resumes_as : (source clone : Walk) → clone.remaining ≡ source.remaining → clone.unread ≡ source.unread →
+    clone.words ≡ source.words → clone.scans ≡ 0 → clone.items ≡ 0 → clone.fetches ≡ 0 →
     source.unread ≤ source.words → ResumesAs source clone
 resumes_as source clone left u n l i f b = record {
-  left = left;
+  remaining = left;
   unread = u;
   fetches = f;
   fresh = is_fresh source.words clone l i (omega arith) n

@@ -81,11 +81,11 @@ module _ {I A : Type 0} (steps : I → Option A → I → Type 0) where
   -- what calls from a join with these members left give, from its next place on
   abbrev JoinsTo : Join I → List ℕ → List A → Join I → Type 0
   JoinsTo s ms ys t = (taken : List A) × Yields steps s.iter taken t.iter
-      × IsJoin s.taken ms taken ys × (t.mask.left ≡ drop (length ys) ms)
+      × IsJoin s.taken ms taken ys × (t.mask.remaining ≡ drop (length ys) ms)
       × (t.taken ≡ s.taken + length taken) × (t.ended ≡ false)
 
   one_more : (s j t : Join I) (y : A) (ys : List A) (ms : List ℕ) → IsAscendingFrom s.taken ms →
-      JoinsNext steps ms s (Some y) j → JoinsTo j j.mask.left ys t → JoinsTo s ms (y ∷ ys) t
+      JoinsNext steps ms s (Some y) j → JoinsTo j j.mask.remaining ys t → JoinsTo s ms (y ∷ ys) t
   one_more s j t y ys [] ahead step after = absurd (cc (step.0))
   one_more s j t y ys (m ∷ ms) ahead (left, next, (passed, (u, before, last), count))
       (taken, ran, join, rest, many, goes) =
@@ -102,33 +102,33 @@ module _ {I A : Type 0} (steps : I → Option A → I → Type 0) where
 
   -- a step to an item leaves members that are ahead
   still_ahead : (s j : Join I) (y : A) (ms : List ℕ) → IsAscendingFrom s.taken ms →
-      JoinsNext steps ms s (Some y) j → IsAscendingFrom j.taken j.mask.left
+      JoinsNext steps ms s (Some y) j → IsAscendingFrom j.taken j.mask.remaining
   still_ahead s j y [] ahead step = absurd (cc (step.0))
   still_ahead s j y (m ∷ ms) ahead step = subst (λ l. IsAscendingFrom j.taken l) (sym step.0)
       (subst (λ n. IsAscendingFrom n ms) (sym step.1) ahead.1)
 
   -- the answers of a join before its end are the iterator's items at the mask's members
-  pub join_answers : (s : Join I) (ys : List A) (t : Join I) → IsAscendingFrom s.taken s.mask.left →
-      s.ended ≡ false → Yields (join_steps steps) s ys t → JoinsTo s s.mask.left ys t
+  pub join_answers : (s : Join I) (ys : List A) (t : Join I) → IsAscendingFrom s.taken s.mask.remaining →
+      s.ended ≡ false → Yields (join_steps steps) s ys t → JoinsTo s s.mask.remaining ys t
   join_answers s [] t ahead goes h = (
     [],
     ap (λ j. j.iter) h,
-    joined_none s.taken s.mask.left,
-    ap (λ j. j.mask.left) (sym h),
+    joined_none s.taken s.mask.remaining,
+    ap (λ j. j.mask.remaining) (sym h),
     omega (arith, ap (λ j. j.taken) h),
     ap (λ j. j.ended) (sym h)
         ∙ goes,
   )
   join_answers s (y ∷ ys) t ahead goes (j, step, rest) =
-      one_more s j t y ys s.mask.left ahead (step.2 goes)
-      (join_answers j ys t (still_ahead s j y s.mask.left ahead (step.2 goes)) step.0 rest)
+      one_more s j t y ys s.mask.remaining ahead (step.2 goes)
+      (join_answers j ys t (still_ahead s j y s.mask.remaining ahead (step.2 goes)) step.0 rest)
 
   -- the members stay ahead however many items were given
-  ahead_after : (s : Join I) (ys : List A) (t : Join I) → IsAscendingFrom s.taken s.mask.left →
-      s.ended ≡ false → Yields (join_steps steps) s ys t → IsAscendingFrom t.taken t.mask.left
-  ahead_after s [] t ahead goes h = subst (λ j. IsAscendingFrom j.taken j.mask.left) h ahead
+  ahead_after : (s : Join I) (ys : List A) (t : Join I) → IsAscendingFrom s.taken s.mask.remaining →
+      s.ended ≡ false → Yields (join_steps steps) s ys t → IsAscendingFrom t.taken t.mask.remaining
+  ahead_after s [] t ahead goes h = subst (λ j. IsAscendingFrom j.taken j.mask.remaining) h ahead
   ahead_after s (y ∷ ys) t ahead goes (j, step, rest) = ahead_after j ys t
-      (still_ahead s j y s.mask.left ahead (step.2 goes)) step.0 rest
+      (still_ahead s j y s.mask.remaining ahead (step.2 goes)) step.0 rest
 
   at_end : (s u t : Join I) (taken : List A) (ms : List ℕ) → Yields steps s.iter taken u.iter →
       u.taken ≡ s.taken + length taken → IsAscendingFrom u.taken ms → JoinsNext steps ms u None t →
@@ -141,13 +141,13 @@ module _ {I A : Type 0} (steps : I → Option A → I → Type 0) where
   )
 
   -- a join comes to its end after the last member, or at one that the iterator does not reach
-  pub join_end : (s : Join I) (ys : List A) (t : Join I) → IsAscendingFrom s.taken s.mask.left →
+  pub join_end : (s : Join I) (ys : List A) (t : Join I) → IsAscendingFrom s.taken s.mask.remaining →
       s.ended ≡ false → YieldsThen (join_steps steps) s ys None t
-      → (taken : List A) × IsJoin s.taken s.mask.left taken ys
-      × EndsAt steps s taken (drop (length ys) s.mask.left) t
+      → (taken : List A) × IsJoin s.taken s.mask.remaining taken ys
+      × EndsAt steps s taken (drop (length ys) s.mask.remaining) t
   join_end s ys t before goes (u, calls, step) =
       let (taken, ran, join, left, many, goes') = join_answers s ys u before goes calls in
-      let ms = drop (length ys) s.mask.left in
+      let ms = drop (length ys) s.mask.remaining in
       let ahead : IsAscendingFrom u.taken ms = subst (IsAscendingFrom u.taken) left
       (ahead_after s ys u before goes calls) in
       let next : JoinsNext steps ms u None t = subst (λ l. JoinsNext steps l u None t) left

@@ -1,7 +1,7 @@
 pub mod AscendingLists
 pub mod SetOperations
 pub mod Counts
-pub mod DigitSets
+pub mod BitSets
 pub mod WordEnds
 pub mod FromIndex
 pub mod PlaceLemmas

@@ -2,13 +2,13 @@
 use Rattle.std.proofs.Common.{◌≡◌, ℕ, ◌+◌, ◌-◌, ◌*◌, ◌^◌, ◌<◌, ◌≤◌, Bool, true, false, inl, inr, List, refl, ap, ◌∙◌, subst, arith}
 use Rattle.std.proofs.Math.Path.{fun_ext}
 use Rattle.std.proofs.lemmas.Bool.{cases_lt, lt-ltb, le-ltb}
-use Rattle.bittle_bits.specs.Digits.{digit_has, digit_set}
-use Rattle.bittle_bits.specs.Orders.{members}
+use Rattle.bittle_bits.specs.BitPatterns.{bit_has, bit_set}
+use Rattle.bittle_bits.specs.Orders.{read_in}
 use Rattle.bittle_bits.specs.PlainSet.{PlainSet, ascending, complement, lacks}
 use Rattle.bittle_bits.specs.Walk.{ones_or_zeros, AreBelow}
 use Rattle.bittle_bits.specs.Words.{word_has, word_of}
 use Rattle.bittle_bits.proofs.AscendingLists.{are_below}
-use Rattle.bittle_bits.proofs.DigitSets.{digit_has-not}
+use Rattle.bittle_bits.proofs.BitSets.{bit_has-not}
 use Rattle.bittle_bits.proofs.PlainSets.{plain_set, complement-members}
 
 -- a set and its complement have one capacity
@@ -17,25 +17,25 @@ pub ones_or_zeros-capacity : (ones : Bool) (s : PlainSet) →
 ones_or_zeros-capacity true s = refl
 ones_or_zeros-capacity false s = refl
 
--- the list of what is wanted lies below the capacity of the set
+-- the list of the bits of the kind lies below the capacity of the set
 pub ones_or_zeros-below : (ones : Bool) (s : PlainSet) (items : List ℕ) →
     items ≡ ascending (ones_or_zeros ones s) → AreBelow s.capacity items
 ones_or_zeros-below ones s items e = subst (λ c. AreBelow c items) (ones_or_zeros-capacity ones s)
     (are_below (ones_or_zeros ones s) items e)
 
--- what is wanted in an order is what is wanted, in the order
+-- the bits of the kind of a set read in an order are those of the set, read in the order
 pub ones_or_zeros-members : (ones m : Bool) (w : ℕ) (s : PlainSet) → 0 < w →
     (words : ℕ) × (s.capacity ≡ words * w) →
-    ones_or_zeros ones (members m w s) ≡ members m w (ones_or_zeros ones s)
+    ones_or_zeros ones (read_in m w s) ≡ read_in m w (ones_or_zeros ones s)
 ones_or_zeros-members true m w s word whole = refl
 ones_or_zeros-members false m w s word whole = complement-members m w s word whole
 
--- the digits that a word lacks are those of the flipped word
+-- the bits that a word lacks are those of the flipped word
 pub digits_of_complement : (w d e : ℕ) → d < 2 ^ w → e ≡ 2 ^ w - 1 - d →
-    digit_set w e ≡ complement (digit_set w d)
-digits_of_complement w d e fits is = ap (plain_set w) (ap (digit_has w) is ∙ digit_has-not w d fits)
+    bit_set w e ≡ complement (bit_set w d)
+digits_of_complement w d e fits is = ap (plain_set w) (ap (bit_has w) is ∙ bit_has-not w d fits)
 
--- what is wanted of word k is word k of what is wanted
+-- the bits of the kind of word k are word k of those of the set
 pub ones_or_zeros-word_of : (ones : Bool) (w k : ℕ) (s : PlainSet) → k * w + w ≤ s.capacity →
     ones_or_zeros ones (word_of w s k) ≡ word_of w (ones_or_zeros ones s) k
 unfolding word_has lacks

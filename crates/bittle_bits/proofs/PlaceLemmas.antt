@@ -88,5 +88,5 @@ unfolding mirror
 mirror_in_word w i h = let e = mod-eq_of_lt h in omega arith
 
 -- indexes that have one place are the same
-pub place_apart : (m : Bool) (w i j : ℕ) → 0 < w → place m w i ≡ place m w j → i ≡ j
-place_apart m w i j h e = sym (place-place m w i h) ∙ ap (place m w) e ∙ place-place m w j h
+pub place_distinct : (m : Bool) (w i j : ℕ) → 0 < w → place m w i ≡ place m w j → i ≡ j
+place_distinct m w i j h e = sym (place-place m w i h) ∙ ap (place m w) e ∙ place-place m w j h

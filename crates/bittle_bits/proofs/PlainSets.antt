@@ -4,7 +4,7 @@ use Rattle.std.proofs.Math.Path.{fun_ext}
 use Rattle.std.proofs.Math.Nat.{mod-eq_of_lt}
 use Rattle.std.proofs.lemmas.Bool.{lt-ltb}
 use Rattle.std.proofs.lemmas.Nat.{mod_below}
-use Rattle.bittle_bits.specs.Orders.{place, members}
+use Rattle.bittle_bits.specs.Orders.{place, read_in}
 use Rattle.bittle_bits.specs.PlainSet.{PlainSet, contains, has_with, with_index, has_without, without_index, full_set, lacks, complement}
 use Rattle.bittle_bits.proofs.PlaceLemmas.{place_past, place_inside}
 
@@ -67,13 +67,13 @@ module _ (m : Bool) (w : ℕ) (s : PlainSet) (word : 0 < w)
     (whole : (words : ℕ) × (s.capacity ≡ words * w)) where
   -- no number from the capacity on is a member in any order
   pub members-past : ((i : ℕ) → s.capacity ≤ i → s.has i ≡ false) → (i : ℕ) → s.capacity ≤ i →
-      (members m w s).has i ≡ false
+      (read_in m w s).has i ≡ false
   members-past past i h =
       let b : whole.0 * w ≤ i = omega (arith, whole.1) in
       past (place m w i) (omega (arith, place_past m w whole.0 i word b, whole.1))
 
   -- what is no member in an order is so in the other at its mirrored index
-  pub complement-members : complement (members m w s) ≡ members m w (complement s)
+  pub complement-members : complement (read_in m w s) ≡ read_in m w (complement s)
   unfolding lacks
   complement-members =
       ap (plain_set s.capacity) (fun_ext λ k.
@@ -83,7 +83,7 @@ module _ (m : Bool) (w : ℕ) (s : PlainSet) (word : 0 < w)
 
 -- each number below a capacity of whole words is below it in each order
 pub full_set_in_each_order : (w c : ℕ) (s : PlainSet) → 0 < w → (words : ℕ) × (c ≡ words * w) →
-    s ≡ full_set c → (m : Bool) → members m w s ≡ full_set c
+    s ≡ full_set c → (m : Bool) → read_in m w s ≡ full_set c
 full_set_in_each_order w c s word whole is m =
-    ap (members m w) is ∙ rw (whole.1) (ap (plain_set (whole.0 * w))
+    ap (read_in m w) is ∙ rw (whole.1) (ap (plain_set (whole.0 * w))
     (fun_ext λ k. place_inside m w whole.0 k word))

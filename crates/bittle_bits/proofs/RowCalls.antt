@@ -4,10 +4,10 @@ use Rattle.std.proofs.Math.Path.{fun_ext}
 use Rattle.std.proofs.Math.Nat.{div-add-mod', mod-eq_of_lt}
 use Rattle.std.proofs.lemmas.Nat.{mod-mul-add, mod_below, mul-add-lt, same_from_place}
 use Rattle.std.proofs.lemmas.Bool.{eq-eqb, ne_eqb, cases_eq, cases_lt}
-use Rattle.bittle_bits.specs.RowLawProofs.{elements_has-past}
-use Rattle.bittle_bits.specs.Orders.{place, members}
+use Rattle.bittle_bits.specs.RowLawProofs.{row_has-past}
+use Rattle.bittle_bits.specs.Orders.{place, read_in}
 use Rattle.bittle_bits.specs.PlainSet.{PlainSet, contains, with_index, without_index}
-use Rattle.bittle_bits.specs.Rows.{elements_has, elements_set, GoesTo}
+use Rattle.bittle_bits.specs.Rows.{row_has, row_set, GoesTo}
 use Rattle.bittle_bits.proofs.PlainSets.{plain_set, contains_in, with_in, without_in}
 use Rattle.bittle_bits.proofs.RowSets.{at_element-read, at_element-set_same, at_element-set_other, elements_has_at, by_place, elements_placed}
 
@@ -34,32 +34,32 @@ same_place_eq e c r t =
 module _ {X : Type 0} (n c e r : ℕ) (f : X → ℕ → Bool) (h : Bool → Bool → Bool) (xs : List X)
     (x y : X) where
   -- an element changed at one index changes the row at that index alone
-  pub elements_has-set : e < n → n ≡ length xs → r < c → ((b : Bool) → h false b ≡ b) →
+  pub row_has-set : e < n → n ≡ length xs → r < c → ((b : Bool) → h false b ≡ b) →
       x ≡ get_or xs e x → f y ≡ (λ t. h (t == r) (f x t)) →
-      elements_has n c f (set xs e y) ≡ (λ k. h (k == e * c + r) (elements_has n c f xs k))
-  elements_has-set le all lr none at is = fun_ext λ k.
+      row_has n c f (set xs e y) ≡ (λ k. h (k == e * c + r) (row_has n c f xs k))
+  row_has-set le all lr none at is = fun_ext λ k.
       elim (cases_lt k (n * c)) [
-        | inl l ↦ by_place n c (λ k. elements_has n c f (set xs e y) k
-            ≡ h (k == e * c + r) (elements_has n c f xs k))
+        | inl l ↦ by_place n c (λ k. row_has n c f (set xs e y) k
+            ≡ h (k == e * c + r) (row_has n c f xs k))
             (λ q t a b. elements_has_at n c f (set xs e y) q t a b ∙
             elim (cases_eq q e) [
               | inl same ↦
                   rw same (at_element-set_same (λ x. f x t) xs e y (omega arith) ∙ ap (λ g. g t) is
-                  ∙ sym (ap (λ s. h s (elements_has n c f xs (e * c + t)))
+                  ∙ sym (ap (λ s. h s (row_has n c f xs (e * c + t)))
                   (same_place_eq e c r t)
                   ∙ ap (h (t == r)) (elements_has_at n c f xs e t le b
                   ∙ at_element-read (λ x. f x t) xs e x (omega arith) at)))
               | inr other ↦
                   at_element-set_other (λ x. f x t) xs e q y other
-                  ∙ sym (ap (λ s. h s (elements_has n c f xs (q * c + t)))
+                  ∙ sym (ap (λ s. h s (row_has n c f xs (q * c + t)))
                   (ne_eqb _ _ (λ z. other (same_from_place q t e r c b lr z).0)) ∙ none _
                   ∙ elements_has_at n c f xs q t a b)
             ]) k l
         | inr g ↦
             let low = mul-add-lt e c r n le lr in
-            elements_has-past n c f (set xs e y) k g
-            ∙ sym (ap (λ s. h s (elements_has n c f xs k))
-            (ne_eqb k (e * c + r) (λ z. omega arith)) ∙ none _ ∙ elements_has-past n c f xs k g)
+            row_has-past n c f (set xs e y) k g
+            ∙ sym (ap (λ s. h s (row_has n c f xs k))
+            (ne_eqb k (e * c + r) (λ z. omega arith)) ∙ none _ ∙ row_has-past n c f xs k g)
       ]
 
 -- the three calls on a row, by the call on the element that the index goes to
@@ -76,46 +76,46 @@ module _ {X : Type 0} (m : Bool) (w c n i q r : ℕ) (big : X → PlainSet) (xs 
   abbrev test : X → ℕ → Bool
   test y k = (big y).has (place m w k)
 
-  placed : (ys : List X) → (members m w (elements_set n c big ys)).has ≡ elements_has n c test ys
+  placed : (ys : List X) → (read_in m w (row_set n c big ys)).has ≡ row_has n c test ys
   placed ys = elements_placed m w whole.0 c n word whole.1 (λ x. (big x).has) ys
 
   -- the test of the index in its element is that of the index in the row
-  pub row_tested : (b : Bool) → b ≡ contains (members m w (big x)) r →
-      b ≡ contains (members m w (elements_set n c big xs)) i
+  pub row_tested : (b : Bool) → b ≡ contains (read_in m w (big x)) r →
+      b ≡ contains (read_in m w (row_set n c big xs)) i
   row_tested b is =
-      is ∙ contains_in (members m w (big x)) c r owned some ∙ ap (test x) (mod-eq_of_lt goes.within)
-      ∙ sym (contains_in (members m w (elements_set n c big xs)) (n * c) i refl there
-      ∙ ap (λ p. p (i % (n * c))) (placed xs) ∙ ap (elements_has n c test xs) goes.at
+      is ∙ contains_in (read_in m w (big x)) c r owned some ∙ ap (test x) (mod-eq_of_lt goes.within)
+      ∙ sym (contains_in (read_in m w (row_set n c big xs)) (n * c) i refl there
+      ∙ ap (λ p. p (i % (n * c))) (placed xs) ∙ ap (row_has n c test xs) goes.at
       ∙ elements_has_at n c test xs q r goes.is_element goes.within
       ∙ at_element-read (λ x. test x r) xs q x (let l = goes.is_element in omega arith) at)
 
   -- a change of one index of the element
   changed : (h : Bool → Bool → Bool) (y : X) → ((b : Bool) → h false b ≡ b) →
-      members m w (big y) ≡ plain_set c (λ t. h (t == r % c) (test x t)) →
-      members m w (elements_set n c big (set xs q y))
+      read_in m w (big y) ≡ plain_set c (λ t. h (t == r % c) (test x t)) →
+      read_in m w (row_set n c big (set xs q y))
       ≡ plain_set (n * c) (λ k. h (k == i % (n * c))
-      ((members m w (elements_set n c big xs)).has k))
+      ((read_in m w (row_set n c big xs)).has k))
   changed h y none is =
       ap (plain_set (n * c)) (placed (set xs q y)
-      ∙ elements_has-set n c q r test h xs x y goes.is_element all goes.within none at
+      ∙ row_has-set n c q r test h xs x y goes.is_element all goes.within none at
       (ap (λ s. s.has) is ∙ ap (λ p. (λ t. h (t == p) (test x t))) (mod-eq_of_lt goes.within))
-      ∙ ap (λ p. (λ k. h (k == p) (elements_has n c test xs k))) (sym goes.at)
+      ∙ ap (λ p. (λ k. h (k == p) (row_has n c test xs k))) (sym goes.at)
       ∙ ap (λ p k. h (k == i % (n * c)) (p k)) (sym (placed xs)))
 
   -- the element with the index set makes the row with the index set
-  pub row_set : (y : X) → members m w (big y) ≡ with_index (members m w (big x)) r →
-      members m w (elements_set n c big (set xs q y))
-      ≡ with_index (members m w (elements_set n c big xs)) i
-  row_set y is = changed ◌||◌ y (λ _. refl) (is ∙ with_in (members m w (big x)) c r owned some)
-      ∙ sym (with_in (members m w (elements_set n c big xs)) (n * c) i refl there)
+  pub row_with : (y : X) → read_in m w (big y) ≡ with_index (read_in m w (big x)) r →
+      read_in m w (row_set n c big (set xs q y))
+      ≡ with_index (read_in m w (row_set n c big xs)) i
+  row_with y is = changed ◌||◌ y (λ _. refl) (is ∙ with_in (read_in m w (big x)) c r owned some)
+      ∙ sym (with_in (read_in m w (row_set n c big xs)) (n * c) i refl there)
 
   -- the element with the index cleared makes the row with the index cleared
-  pub row_cleared : (y : X) → members m w (big y) ≡ without_index (members m w (big x)) r →
-      members m w (elements_set n c big (set xs q y))
-      ≡ without_index (members m w (elements_set n c big xs)) i
-  row_cleared y is = changed (λ t u. not t && u) y (λ _. refl)
-      (is ∙ without_in (members m w (big x)) c r owned some)
-      ∙ sym (without_in (members m w (elements_set n c big xs)) (n * c) i refl there)
+  pub row_without : (y : X) → read_in m w (big y) ≡ without_index (read_in m w (big x)) r →
+      read_in m w (row_set n c big (set xs q y))
+      ≡ without_index (read_in m w (row_set n c big xs)) i
+  row_without y is = changed (λ t u. not t && u) y (λ _. refl)
+      (is ∙ without_in (read_in m w (big x)) c r owned some)
+      ∙ sym (without_in (read_in m w (row_set n c big xs)) (n * c) i refl there)
 
 -- where an index goes, by a quotient and a remainder of the element's capacity
 pub goes_to : (n c each i q : ℕ) → each ≡ c → 0 < n → 0 < c → q ≡ i / each % n →

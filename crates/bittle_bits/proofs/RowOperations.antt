@@ -5,9 +5,9 @@ use Rattle.std.proofs.Math.Nat.{mul-le-mul_right}
 use Rattle.std.proofs.lemmas.List.{get_or-set_same, get_or-set_other}
 use Rattle.std.proofs.lemmas.Nat.{mul-add-lt}
 use Rattle.std.proofs.lemmas.Bool.{cases_eq, cases_lt}
-use Rattle.bittle_bits.specs.RowLawProofs.{elements_has-past}
+use Rattle.bittle_bits.specs.RowLawProofs.{row_has-past}
 use Rattle.bittle_bits.specs.PlainSet.{PlainSet}
-use Rattle.bittle_bits.specs.Rows.{at_element, elements_has, elements_set}
+use Rattle.bittle_bits.specs.Rows.{at_element, row_has, row_set}
 use Rattle.bittle_bits.specs.SetOperations.{combination_has, combination_of}
 use Rattle.bittle_bits.proofs.PlainSets.{plain_set}
 use Rattle.bittle_bits.proofs.RowSets.{elements_has_at, by_place}
@@ -33,13 +33,13 @@ module _ {X : Type 0} (f : Bool → Bool → Bool) (c : ℕ) (big : X → PlainS
   has x = (big x).has
 
   abbrev before : PlainSet
-  before = elements_set (length xs) c big xs
+  before = row_set (length xs) c big xs
 
   abbrev other : PlainSet
-  other = elements_set (length ys) c big ys
+  other = row_set (length ys) c big ys
 
   read : (n : ℕ) (us : List X) (q r : ℕ) (d : X) → n ≤ length us → q < n → r < c →
-      elements_has n c has us (q * c + r) ≡ has (get_or us q d) r
+      row_has n c has us (q * c + r) ≡ has (get_or us q d) r
   read n us q r d le a b = elements_has_at n c has us q r a b ∙ at_element-get (λ x. has x r) us q d
       (omega arith)
 
@@ -53,7 +53,7 @@ module _ {X : Type 0} (f : Bool → Bool → Bool) (c : ℕ) (big : X → PlainS
       big (get_or zs k d) ≡ combination_of f (big (get_or xs k d)) (big (get_or ys k d)))
       (later : (k : ℕ) (d : X) → length ys ≤ k → get_or zs k d ≡ get_or xs k d) where
     abbrev after : ℕ → Bool
-    after = elements_has (length xs) c has zs
+    after = row_has (length xs) c has zs
 
     decided : (q r : ℕ) (d : X) → q < length xs → q < length ys → r < c →
         has (get_or zs q d) r ≡ combination_has f before other (q * c + r)
@@ -63,7 +63,7 @@ module _ {X : Type 0} (f : Bool → Bool → Bool) (c : ℕ) (big : X → PlainS
         (omega (arith, owned (get_or xs q d))) (omega (arith, owned (get_or ys q d)))
         ∙ sym (combination-below f before other (q * c + r) (inside (length xs) q r a b)
         (inside (length ys) q r l b)
-        ∙ ap (λ t. f t (elements_has (length ys) c has ys (q * c + r)))
+        ∙ ap (λ t. f t (row_has (length ys) c has ys (q * c + r)))
         (read (length xs) xs q r d (omega arith) a b)
         ∙ ap (f (has (get_or xs q d) r)) (read (length ys) ys q r d (omega arith) l b))
 
@@ -81,14 +81,14 @@ module _ {X : Type 0} (f : Bool → Bool → Bool) (c : ℕ) (big : X → PlainS
         elim (cases_lt q (length ys)) [ inl l ↦ decided q r d a l b | inr g ↦ stays q r d a g b ]
 
     -- a row whose elements are combined, and whose later ones stay, is the combined row
-    pub row_combined : elements_set (length zs) c big zs ≡ combination_of f before other
+    pub row_combined : row_set (length zs) c big zs ≡ combination_of f before other
     row_combined = rw same (ap (plain_set (length xs * c)) (fun_ext λ k.
         elim (cases_lt k (length xs * c)) [
           | inl l ↦ by_place (length xs) c (λ k. after k ≡ combination_has f before other k)
               (λ q r a b. placed q r (some_of xs q a) a b) k l
-          | inr g ↦ elements_has-past (length xs) c has zs k g
+          | inr g ↦ row_has-past (length xs) c has zs k g
               ∙ sym (combination-outside f before other k g
-              ∙ elements_has-past (length xs) c has xs k g)
+              ∙ row_has-past (length xs) c has xs k g)
         ]))
 
 get_or-any : {X : Type 0} (xs : List X) (n : ℕ) (d e : X) → n < length xs →

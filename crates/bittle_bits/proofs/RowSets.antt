@@ -5,10 +5,10 @@ use Rattle.std.proofs.Math.Nat.{div-add-mod', mul_assoc}
 use Rattle.std.proofs.lemmas.Nat.{mod-mul-add, div-mul-add, mod_below, div_below, mul-add-lt}
 use Rattle.std.proofs.lemmas.List.{get_or-replicate, length-replicate}
 use Rattle.std.proofs.lemmas.Bool.{cases_eq, cases_lt, lt-ltb, le-ltb, and_right}
-use Rattle.bittle_bits.specs.RowLawProofs.{elements_has-past}
+use Rattle.bittle_bits.specs.RowLawProofs.{row_has-past}
 use Rattle.bittle_bits.specs.Orders.{place}
 use Rattle.bittle_bits.specs.PlainSet.{PlainSet, empty_set, without_members, full_set}
-use Rattle.bittle_bits.specs.Rows.{at_element, elements_has, elements_set}
+use Rattle.bittle_bits.specs.Rows.{at_element, row_has, row_set}
 use Rattle.bittle_bits.proofs.PlaceLemmas.{place_part, place_below, place_past}
 use Rattle.bittle_bits.proofs.PlainSets.{plain_set}
 
@@ -41,8 +41,8 @@ at_element-set_other p (x ∷ xs) (suc n) (suc k) y h = at_element-set_other p x
 
 -- an index of the row is a member exactly where it is one of its element
 pub elements_has_at : {X : Type 0} (n c : ℕ) (f : X → ℕ → Bool) (xs : List X) (q r : ℕ) → q < n →
-    r < c → elements_has n c f xs (q * c + r) ≡ at_element (λ x. f x r) xs q
-unfolding elements_has
+    r < c → row_has n c f xs (q * c + r) ≡ at_element (λ x. f x r) xs q
+unfolding row_has
 elements_has_at n c f xs q r h l =
     let b = mul-add-lt q c r n h l in
     let t : nat_lt (q * c + r) (n * c) ≡ true = lt-ltb (q * c + r) (n * c) (omega arith) in
@@ -72,16 +72,16 @@ module _ (m : Bool) (w d c n : ℕ) (word : 0 < w) (whole : c ≡ d * w) where
 
   -- the members of a row are those of its elements
   pub elements_placed : {X : Type 0} (f : X → ℕ → Bool) (xs : List X) →
-      (λ k. elements_has n c f xs (place m w k)) ≡ elements_has n c (λ x k. f x (place m w k)) xs
+      (λ k. row_has n c f xs (place m w k)) ≡ row_has n c (λ x k. f x (place m w k)) xs
   elements_placed f xs = fun_ext λ k.
       elim (cases_lt k (n * c)) [
-        | inl l ↦ by_place n c (λ t. elements_has n c f xs (place m w t)
-            ≡ elements_has n c (λ x k. f x (place m w k)) xs t)
+        | inl l ↦ by_place n c (λ t. row_has n c f xs (place m w t)
+            ≡ row_has n c (λ x k. f x (place m w k)) xs t)
             (λ q r a b. rw (place_at q r b)
             (elements_has_at n c f xs q (place m w r) a (place_within r b)
             ∙ sym (elements_has_at n c (λ x k. f x (place m w k)) xs q r a b))) k l
-        | inr g ↦ elements_has-past n c f xs (place m w k) (row_past k g)
-            ∙ sym (elements_has-past n c (λ x k. f x (place m w k)) xs k g)
+        | inr g ↦ row_has-past n c f xs (place m w k) (row_past k g)
+            ∙ sym (row_has-past n c (λ x k. f x (place m w k)) xs k g)
       ]
 
 at_element-none : {X : Type 0} (p : X → Bool) (xs : List X) (n : ℕ) →
@@ -91,36 +91,36 @@ at_element-none p [] n h = refl
 at_element-none p (x ∷ xs) zero h = h 0 x (omega arith)
 at_element-none p (x ∷ xs) (suc n) h = at_element-none p xs n (λ k d l. h (suc k) d (omega arith))
 
-elements_has-none : {X : Type 0} (n c : ℕ) (f : X → ℕ → Bool) (xs : List X) →
+row_has-none : {X : Type 0} (n c : ℕ) (f : X → ℕ → Bool) (xs : List X) →
     ((k : ℕ) (d : X) → k < length xs → f (get_or xs k d) ≡ (λ _. false)) →
-    elements_has n c f xs ≡ (λ _. false)
-unfolding elements_has
-elements_has-none n c f xs h = fun_ext λ i.
+    row_has n c f xs ≡ (λ _. false)
+unfolding row_has
+row_has-none n c f xs h = fun_ext λ i.
     ap (λ t. nat_lt i (n * c) && t) (at_element-none (λ x. f x (i % c)) xs (i / c)
     (λ k d l. ap (λ s. s (i % c)) (h k d l))) ∙ and_right (nat_lt i (n * c)) false refl
 
 -- a row whose elements have no members is the emptied row
 pub elements_without_members : {X : Type 0} (n old c : ℕ) (big : X → PlainSet) (xs ys : List X) →
     n ≡ old → ((k : ℕ) (d : X) → k < length xs → (big (get_or xs k d)).has ≡ (λ _. false)) →
-    elements_set n c big xs ≡ without_members (elements_set old c big ys)
+    row_set n c big xs ≡ without_members (row_set old c big ys)
 elements_without_members n old c big xs ys e h = rw e
-    (ap (plain_set (old * c)) (elements_has-none old c (λ x. (big x).has) xs h))
+    (ap (plain_set (old * c)) (row_has-none old c (λ x. (big x).has) xs h))
 
 -- a row of empty elements is empty
-pub elements_set-replicate : {X : Type 0} (n c : ℕ) (big : X → PlainSet) (x : X) →
-    big x ≡ empty_set c → elements_set n c big (replicate n x) ≡ empty_set (n * c)
-elements_set-replicate n c big x e = ap (plain_set (n * c))
-    (elements_has-none n c (λ x. (big x).has) (replicate n x)
+pub row_set-replicate : {X : Type 0} (n c : ℕ) (big : X → PlainSet) (x : X) →
+    big x ≡ empty_set c → row_set n c big (replicate n x) ≡ empty_set (n * c)
+row_set-replicate n c big x e = ap (plain_set (n * c))
+    (row_has-none n c (λ x. (big x).has) (replicate n x)
     (λ k d l. ap (λ y. (big y).has) (get_or-replicate n k x d (let y = length-replicate n x in
     omega arith)) ∙ ap (λ s. s.has) e))
 
 -- a row of filled elements is filled
-pub elements_set-full : {X : Type 0} (n c : ℕ) (big : X → PlainSet) (x : X) → big x ≡ full_set c →
-    elements_set n c big (replicate n x) ≡ full_set (n * c)
-elements_set-full n c big x e =
+pub row_set-full : {X : Type 0} (n c : ℕ) (big : X → PlainSet) (x : X) → big x ≡ full_set c →
+    row_set n c big (replicate n x) ≡ full_set (n * c)
+row_set-full n c big x e =
     ap (plain_set (n * c)) (fun_ext λ k.
     elim (cases_lt k (n * c)) [
-      | inl l ↦ by_place n c (λ k. elements_has n c (λ x. (big x).has) (replicate n x) k
+      | inl l ↦ by_place n c (λ k. row_has n c (λ x. (big x).has) (replicate n x) k
           ≡ nat_lt k (n * c)) (λ q r a b.
           elements_has_at n c (λ x. (big x).has) (replicate n x) q r a b
           ∙ at_element-read (λ x. (big x).has r) (replicate n x) q x
@@ -129,6 +129,6 @@ elements_set-full n c big x e =
           ∙ ap (λ s. s.has r) e ∙ lt-ltb r c b
           ∙ sym (lt-ltb (q * c + r) (n * c) (let t = mul-add-lt q c r n a b in omega arith))) k
           l
-      | inr g ↦ elements_has-past n c (λ x. (big x).has) (replicate n x) k g
+      | inr g ↦ row_has-past n c (λ x. (big x).has) (replicate n x) k g
           ∙ sym (le-ltb k (n * c) g)
     ])

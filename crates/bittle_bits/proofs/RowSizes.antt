@@ -6,25 +6,25 @@ use Rattle.std.specs.List.{sum_by}
 use Rattle.std.proofs.lemmas.List.Sums.{sum_by-cons, sum_by_more_le}
 use Rattle.std.proofs.lemmas.List.{take_all}
 use Rattle.bittle_bits.specs.PlainSet.{PlainSet, count_below, size}
-use Rattle.bittle_bits.specs.Rows.{at_element, elements_has, elements_set}
+use Rattle.bittle_bits.specs.Rows.{at_element, row_has, row_set}
 use Rattle.bittle_bits.proofs.RowSets.{elements_has_at, by_place}
 use Rattle.bittle_bits.proofs.Counts.{count-same, count-le, count-add, count-none}
 use Rattle.bittle_bits.proofs.Sizes.{size-le}
 
 -- a row has the members of its elements
 pub size-elements : {X : Type 0} (c : ℕ) (f : X → ℕ → Bool) (xs : List X) →
-    count_below (length xs * c) (elements_has (length xs) c f xs)
+    count_below (length xs * c) (row_has (length xs) c f xs)
     ≡ sum_by (λ x. count_below c (f x)) xs
 unfolding at_element
 size-elements c f [] = rw zero-mul (count-none _)
 size-elements c f (x ∷ xs) =
     let n = length xs in
-    let g = elements_has (suc n) c f (x ∷ xs) in
+    let g = row_has (suc n) c f (x ∷ xs) in
     let first : count_below c g ≡ count_below c (f x) = count-same c _ _
     (λ k l. subst (λ t. g t ≡ f x k) (omega arith)
     (elements_has_at (suc n) c f (x ∷ xs) 0 k (omega arith) l)) in
-    let rest : count_below (n * c) (λ k. g (c + k)) ≡ count_below (n * c) (elements_has n c f xs) =
-    count-same (n * c) _ _ (by_place n c (λ k. g (c + k) ≡ elements_has n c f xs k)
+    let rest : count_below (n * c) (λ k. g (c + k)) ≡ count_below (n * c) (row_has n c f xs) =
+    count-same (n * c) _ _ (by_place n c (λ k. g (c + k) ≡ row_has n c f xs k)
     (λ q r a b. ap g (omega arith) ∙ elements_has_at (suc n) c f (x ∷ xs) (suc q) r
     (omega arith) b ∙ sym (elements_has_at n c f xs q r a b))) in
     let e : suc n * c ≡ c + n * c = omega arith in
@@ -66,7 +66,7 @@ module _ {X : Type 0} (c : ℕ) (big : X → PlainSet) (xs : List X) (owned : (x
   each-le : (x : X) → size (big x) ≤ c
   each-le x = rw (each-is x) (count-le c (big x).has)
 
-  row_total : size (elements_set (length xs) c big xs) ≡ sum_by (λ x. size (big x)) xs
+  row_total : size (row_set (length xs) c big xs) ≡ sum_by (λ x. size (big x)) xs
   row_total = size-elements c (λ x. (big x).has) xs
       ∙ ap (λ f. sum_by f xs) (fun_ext λ x. sym (each-is x))
 
@@ -81,30 +81,30 @@ module _ {X : Type 0} (c : ℕ) (big : X → PlainSet) (xs : List X) (owned : (x
         t,
         sum_by_more_le (λ x. size (big x)) xs i x l,
         row_total,
-        size-le (elements_set (length xs) c big xs),
+        size-le (row_set (length xs) c big xs),
       )
 
   -- after the last element the count is the size of the row
   pub row_count_all : (i total : ℕ) → length xs ≤ i →
       total ≡ sum_by (λ x. size (big x)) (take i xs) →
-      total ≡ size (elements_set (length xs) c big xs)
+      total ≡ size (row_set (length xs) c big xs)
   row_count_all i total l t = t ∙ ap (sum_by (λ x. size (big x))) (take_all i xs l) ∙ sym row_total
 
   -- a row whose elements all have one size has it once for each element
   row_each : (v : ℕ) → ((k : ℕ) (d : X) → k < length xs → size (big (get_or xs k d)) ≡ v) →
-      size (elements_set (length xs) c big xs) ≡ length xs * v
+      size (row_set (length xs) c big xs) ≡ length xs * v
   row_each v h = row_total ∙ sum_by-all (λ x. size (big x)) v xs h
 
   -- a row has a member where one of its elements has one
   row_some : (i : ℕ) (x : X) → x ≡ get_or xs i x → i < length xs → size (big x) ≢ 0 →
-      size (elements_set (length xs) c big xs) ≢ 0
+      size (row_set (length xs) c big xs) ≢ 0
   row_some i x at l n z =
       let e : size (big x) ≡ size (big (get_or xs i x)) = ap (λ y. size (big y)) at in
       n (omega (arith, e, sum_by_more_le (λ x. size (big x)) xs i x l, row_total))
 
   -- a row is not full where one of its elements is not
   row_lacks : (i : ℕ) (x : X) → x ≡ get_or xs i x → i < length xs →
-      size (big x) ≢ (big x).capacity → size (elements_set (length xs) c big xs) ≢ length xs * c
+      size (big x) ≢ (big x).capacity → size (row_set (length xs) c big xs) ≢ length xs * c
   row_lacks i x at l n z =
       let e : size (big x) ≡ size (big (get_or xs i x)) = ap (λ y. size (big y)) at in
       let b : size (big (get_or xs i x)) < c = omega (arith, e, owned x, each-le (get_or xs i x)) in
@@ -114,13 +114,13 @@ module _ {X : Type 0} (c : ℕ) (big : X → PlainSet) (xs : List X) (owned : (x
   -- no element has a bit of the kind
   pub row_without : (ones : Bool) →
       ((k : ℕ) (d : X) → k < length xs → size (big (get_or xs k d)) ≡ cond ones 0 c) →
-      size (elements_set (length xs) c big xs) ≡ cond ones 0 (length xs * c)
+      size (row_set (length xs) c big xs) ≡ cond ones 0 (length xs * c)
   row_without true h = row_each 0 h ∙ mul-zero _
   row_without false h = row_each c h
 
   -- an element has a bit of the kind
   pub row_with : (ones : Bool) (i : ℕ) (x : X) → x ≡ get_or xs i x → i < length xs →
       size (big x) ≢ cond ones 0 c →
-      size (elements_set (length xs) c big xs) ≢ cond ones 0 (length xs * c)
+      size (row_set (length xs) c big xs) ≢ cond ones 0 (length xs * c)
   row_with true i x at l n = row_some i x at l n
   row_with false i x at l n = row_lacks i x at l (λ e. n (e ∙ owned x))

@@ -4,10 +4,10 @@ use Rattle.std.proofs.Math.Path.{fun_ext}
 use Rattle.std.proofs.Math.Nat.{div-add-mod', mul-le-mul_right}
 use Rattle.std.proofs.lemmas.Nat.{mul-add-lt, mod_below}
 use Rattle.std.proofs.lemmas.Bool.{cases_eq, cases_lt}
-use Rattle.bittle_bits.specs.RowLawProofs.{elements_has-past}
-use Rattle.bittle_bits.specs.Orders.{place, members}
+use Rattle.bittle_bits.specs.RowLawProofs.{row_has-past}
+use Rattle.bittle_bits.specs.Orders.{place, read_in}
 use Rattle.bittle_bits.specs.PlainSet.{PlainSet, with_span}
-use Rattle.bittle_bits.specs.Rows.{elements_has, elements_set}
+use Rattle.bittle_bits.specs.Rows.{row_has, row_set}
 use Rattle.bittle_bits.proofs.PlainSets.{plain_set}
 use Rattle.bittle_bits.proofs.RowSets.{at_element-read, at_element-set_same, at_element-set_other, elements_has_at, elements_placed, by_place}
 use Rattle.bittle_bits.proofs.Spans.{outside_span, inside_span, with_span-on}
@@ -21,9 +21,9 @@ module _ {X : Type 0} (m : Bool) (w c n q : ℕ) (big : X → PlainSet) (xs : Li
   test y k = (big y).has (place m w k)
 
   abbrev row : List X → PlainSet
-  row ys = members m w (elements_set n c big ys)
+  row ys = read_in m w (row_set n c big ys)
 
-  placed : (ys : List X) → (row ys).has ≡ elements_has n c test ys
+  placed : (ys : List X) → (row ys).has ≡ row_has n c test ys
   placed ys = elements_placed m w whole.0 c n word whole.1 (λ x. (big x).has) ys
 
   -- the span of the row that lies in the element
@@ -31,20 +31,20 @@ module _ {X : Type 0} (m : Bool) (w c n q : ℕ) (big : X → PlainSet) (xs : Li
   spanned from end = with_span (row xs) (q * c + from) (q * c + end)
 
   -- an index of the element
-  here : (from end t : ℕ) → members m w (big y) ≡ with_span (members m w (big x)) from end → t < c →
-      elements_has n c test (set xs q y) (q * c + t) ≡ (spanned from end).has (q * c + t)
+  here : (from end t : ℕ) → read_in m w (big y) ≡ with_span (read_in m w (big x)) from end → t < c →
+      row_has n c test (set xs q y) (q * c + t) ≡ (spanned from end).has (q * c + t)
   here from end t is b =
       elements_has_at n c test (set xs q y) q t le b ∙ at_element-set_same (λ x. test x t) xs q y
       (omega arith) ∙ ap (λ s. s.has t) is
       ∙ elim (cases_lt t from) [
-        | inl l ↦ outside_span (members m w (big x)) from end t (inl l) ∙ old
+        | inl l ↦ outside_span (read_in m w (big x)) from end t (inl l) ∙ old
             ∙ sym (outside_span (row xs) (q * c + from) (q * c + end) (q * c + t)
             (inl (omega arith)))
         | inr g ↦ elim (cases_lt t end) [
-          | inl l ↦ inside_span (members m w (big x)) from end t g l
+          | inl l ↦ inside_span (read_in m w (big x)) from end t g l
               ∙ sym (inside_span (row xs) (q * c + from) (q * c + end) (q * c + t) (omega arith)
               (omega arith))
-          | inr e ↦ outside_span (members m w (big x)) from end t (inr e) ∙ old
+          | inr e ↦ outside_span (read_in m w (big x)) from end t (inr e) ∙ old
               ∙ sym (outside_span (row xs) (q * c + from) (q * c + end) (q * c + t)
               (inr (omega arith)))
         ]
@@ -56,7 +56,7 @@ module _ {X : Type 0} (m : Bool) (w c n q : ℕ) (big : X → PlainSet) (xs : Li
 
   -- an index of any other element
   elsewhere : (from end p t : ℕ) → end ≤ c → p ≢ q → p < n → t < c →
-      elements_has n c test (set xs q y) (p * c + t) ≡ (spanned from end).has (p * c + t)
+      row_has n c test (set xs q y) (p * c + t) ≡ (spanned from end).has (p * c + t)
   elsewhere from end p t h other a b =
       elements_has_at n c test (set xs q y) p t a b
       ∙ at_element-set_other (λ x. test x t) xs q p y other
@@ -72,21 +72,21 @@ module _ {X : Type 0} (m : Bool) (w c n q : ℕ) (big : X → PlainSet) (xs : Li
 
   -- the element with a span makes the row with it
   pub row_filled : (from end : ℕ) → end ≤ c →
-      members m w (big y) ≡ with_span (members m w (big x)) from end →
+      read_in m w (big y) ≡ with_span (read_in m w (big x)) from end →
       row (set xs q y) ≡ spanned from end
   row_filled from end h is =
       ap (plain_set (n * c)) (placed (set xs q y) ∙ fun_ext λ k.
       elim (cases_lt k (n * c)) [
-        | inl l ↦ by_place n c (λ k. elements_has n c test (set xs q y) k
+        | inl l ↦ by_place n c (λ k. row_has n c test (set xs q y) k
             ≡ (spanned from end).has k) (λ p t a b. elim (cases_eq p q) [
               | inl same ↦ rw same (here from end t is b)
               | inr other ↦ elsewhere from end p t h other a b
             ]) k l
         | inr g ↦
             let z : (q + 1) * c ≤ n * c = mul-le-mul_right c (omega arith) in
-            elements_has-past n c test (set xs q y) k g
+            row_has-past n c test (set xs q y) k g
             ∙ sym (outside_span (row xs) (q * c + from) (q * c + end) k (inr (omega arith))
-            ∙ ap (λ f. f k) (placed xs) ∙ elements_has-past n c test xs k g)
+            ∙ ap (λ f. f k) (placed xs) ∙ row_has-past n c test xs k g)
       ])
 
 -- where the span stands before an element: at its start, or nowhere past the span

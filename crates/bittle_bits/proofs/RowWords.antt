@@ -5,7 +5,7 @@ use Rattle.std.proofs.Math.Nat.{mul-div_left, div-add-mod', mul_assoc, lt_of_mul
 use Rattle.std.proofs.lemmas.Nat.{mod_below, div_below, mul-add-lt}
 use Rattle.std.proofs.lemmas.Bool.{cases_eq, cases_lt, le-ltb}
 use Rattle.bittle_bits.specs.PlainSet.{PlainSet}
-use Rattle.bittle_bits.specs.Rows.{elements_has, elements_set}
+use Rattle.bittle_bits.specs.Rows.{row_has, row_set}
 use Rattle.bittle_bits.specs.Words.{word_has, word_of}
 use Rattle.bittle_bits.proofs.PlainSets.{plain_set}
 use Rattle.bittle_bits.proofs.RowSets.{elements_has_at, at_element-read}
@@ -36,7 +36,7 @@ module _ {X : Type 0} (n c w d k : ℕ) (big : X → PlainSet) (xs : List X) (wo
 
   -- the word of the row is that of the element it lies in
   pub row_word : (x : X) → n ≡ length xs → x ≡ get_or xs (k / d) x →
-      word_of w (big x) (k % d) ≡ word_of w (elements_set n c big xs) k
+      word_of w (big x) (k % d) ≡ word_of w (row_set n c big xs) k
   unfolding word_has
   row_word x all at =
       ap (plain_set w) (fun_ext λ i. elim (cases_lt i w) [
@@ -49,7 +49,7 @@ module _ {X : Type 0} (n c w d k : ℕ) (big : X → PlainSet) (xs : List X) (wo
             let place_is : k * w + i ≡ k / d * c + (k % d * w + i) = omega
             (arith, split, ap (λ t. k / d * t) whole, mul_assoc (k / d) d w) in
             ap (λ b. nat_lt i w && b) (sym
-            (ap (elements_has n c (λ x. (big x).has) xs) place_is
+            (ap (row_has n c (λ x. (big x).has) xs) place_is
             ∙ elements_has_at n c (λ x. (big x).has) xs (k / d)
             (k % d * w + i) word_element inside
             ∙ at_element-read (λ x. (big x).has (k % d * w + i)) xs (k / d) x

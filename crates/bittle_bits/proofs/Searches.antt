@@ -3,30 +3,30 @@ use Rattle.std.proofs.Common.{◌≡◌, ℕ, ◌+◌, ◌-◌, ◌*◌, ◌/◌
 use Rattle.std.proofs.Math.Nat.{div-add-mod', mul-le-mul_right, mod-eq_of_lt}
 use Rattle.std.proofs.lemmas.Nat.{mod_below}
 use Rattle.std.proofs.lemmas.Bool.{cases_lt, cases_eq, eq-eqb, ne_eqb, lt-ltb, le-ltb, ltb-true, and_parts, true≢false}
-use Rattle.bittle_bits.specs.Digits.{digit_has, digit_set}
-use Rattle.bittle_bits.specs.Orders.{place, members}
+use Rattle.bittle_bits.specs.BitPatterns.{bit_has, bit_set}
+use Rattle.bittle_bits.specs.Orders.{place, read_in}
 use Rattle.bittle_bits.specs.PlainSet.{PlainSet, full_set_from, with_index, empty_set, lacks, IsLeastMember, IsGreatestMember}
 use Rattle.bittle_bits.specs.Searches.{NoneIn, IsFirstIn, IsLastIn}
 use Rattle.bittle_bits.specs.Walk.{ones_or_zeros}
 use Rattle.bittle_bits.specs.Words.{word_of}
-use Rattle.bittle_bits.proofs.DigitSets.{digit_has-and, digit_has-or, digit_has-not}
+use Rattle.bittle_bits.proofs.BitSets.{bit_has-and, bit_has-or, bit_has-not}
 use Rattle.bittle_bits.proofs.PlaceLemmas.{place_in_word}
 use Rattle.bittle_bits.proofs.OnesOrZeros.{ones_or_zeros-members}
 use Rattle.bittle_bits.proofs.WordCalls.{at_mask}
 use Rattle.bittle_bits.proofs.Words.{digit_at}
 
--- no member was found up to word k, whose digits d have the members from one number on
+-- no member was found up to word k, whose pattern d has the members from one number on
 pub record SearchesForward (m : Bool) (w : ℕ) (s : PlainSet) (from k d : ℕ) : Type 0 where
-  pub none : NoneIn (members m w s) from (k * w)
-  pub has : (i : ℕ) → i < w → (members m w (digit_set w d)).has i ≡ not (nat_lt (k * w + i) from)
-      && (members m w s).has (k * w + i)
+  pub none : NoneIn (read_in m w s) from (k * w)
+  pub has : (i : ℕ) → i < w → (read_in m w (bit_set w d)).has i ≡ not (nat_lt (k * w + i) from)
+      && (read_in m w s).has (k * w + i)
 
--- no member was found from the end of word k on, whose digits d have the members below another
+-- no member was found from the end of word k on, whose pattern d has the members below another
 -- number
 pub record SearchesBackward (m : Bool) (w : ℕ) (s : PlainSet) (to k d : ℕ) : Type 0 where
-  pub none : NoneIn (members m w s) (k * w + w) to
-  pub has : (i : ℕ) → i < w → (members m w (digit_set w d)).has i ≡ nat_lt (k * w + i) to
-      && (members m w s).has (k * w + i)
+  pub none : NoneIn (read_in m w s) (k * w + w) to
+  pub has : (i : ℕ) → i < w → (read_in m w (bit_set w d)).has i ≡ nat_lt (k * w + i) to
+      && (read_in m w s).has (k * w + i)
 
 kept_by : (a b : Bool) → a && b ≡ false → a ≡ true → b ≡ false
 kept_by true b h e = h
@@ -40,21 +40,21 @@ swapped false false = refl
 
 module _ (m : Bool) (w : ℕ) (s : PlainSet) (word : 0 < w) where
   abbrev t : PlainSet
-  t = members m w s
+  t = read_in m w s
 
   -- ---- from the front
 
   -- a search begins at the word that holds `from`, masked from there on
-  pub search_start : (from k d e : ℕ) → k ≡ from / w → digit_set w d ≡ word_of w s k →
-      members m w (digit_set w e) ≡ full_set_from w (from % w) →
+  pub search_start : (from k d e : ℕ) → k ≡ from / w → bit_set w d ≡ word_of w s k →
+      read_in m w (bit_set w e) ≡ full_set_from w (from % w) →
       SearchesForward m w s from k (bit_and d e)
   search_start from k d e at is mask =
       let split : from ≡ k * w + from % w = rw at (sym (div-add-mod' from w)) in
       record {
         none = λ j lo hi. absurd (omega arith);
         has = λ i h.
-            ap (λ p. p (place m w i)) (digit_has-and w d e)
-            ∙ ap (λ b. b && digit_has w e (place m w i)) (digit_at m w k s d word is i h)
+            ap (λ p. p (place m w i)) (bit_has-and w d e)
+            ∙ ap (λ b. b && bit_has w e (place m w i)) (digit_at m w k s d word is i h)
             ∙ ap (λ u. t.has (k * w + i) && u.has i) mask
             ∙ ap (λ b. t.has (k * w + i) && (b && not (nat_lt i (from % w)))) (lt-ltb i w h)
             ∙ swapped (t.has (k * w + i)) (not (nat_lt i (from % w)))
@@ -68,7 +68,7 @@ module _ (m : Bool) (w : ℕ) (s : PlainSet) (word : 0 < w) where
 
   -- below a place of word k
   none_up_to : (from k d r : ℕ) → SearchesForward m w s from k d → r ≤ w →
-      ((i : ℕ) → i < r → (members m w (digit_set w d)).has i ≡ false) → NoneIn t from (k * w + r)
+      ((i : ℕ) → i < r → (read_in m w (bit_set w d)).has i ≡ false) → NoneIn t from (k * w + r)
   none_up_to from k d r h low none j lo hi =
       elim (cases_lt j (k * w)) [
         | inl l ↦ h.none j lo l
@@ -82,7 +82,7 @@ module _ (m : Bool) (w : ℕ) (s : PlainSet) (word : 0 < w) where
 
   -- where the word has no member that is sought, the search goes on at the next word
   pub search_next : (from k d r d' : ℕ) → from / w ≤ k → SearchesForward m w s from k d →
-      IsLeastMember (members m w (digit_set w d)) r → w ≤ r → digit_set w d' ≡ word_of w s (k + 1) →
+      IsLeastMember (read_in m w (bit_set w d)) r → w ≤ r → bit_set w d' ≡ word_of w s (k + 1) →
       SearchesForward m w s from (k + 1) d'
   search_next from k d r d' past h least end is =
       let next : (k + 1) * w ≡ k * w + w = omega arith in
@@ -98,7 +98,7 @@ module _ (m : Bool) (w : ℕ) (s : PlainSet) (word : 0 < w) where
 
   -- the least member of the word, where it is below `to`, is the first of the range
   pub search_end : (from to k d r : ℕ) → SearchesForward m w s from k d →
-      IsLeastMember (members m w (digit_set w d)) r → r < w → k * w + r < to →
+      IsLeastMember (read_in m w (bit_set w d)) r → r < w → k * w + r < to →
       IsFirstIn t from to (Some (k * w + r))
   search_end from to k d r h least low below =
       let both = and_parts (not (nat_lt (k * w + r) from)) (t.has (k * w + r))
@@ -116,7 +116,7 @@ module _ (m : Bool) (w : ℕ) (s : PlainSet) (word : 0 < w) where
 
   -- where the least member of the word is not below `to`, the range has none
   pub search_past : (from to k d r : ℕ) → SearchesForward m w s from k d →
-      IsLeastMember (members m w (digit_set w d)) r → to ≤ k * w + r → IsFirstIn t from to None
+      IsLeastMember (read_in m w (bit_set w d)) r → to ≤ k * w + r → IsFirstIn t from to None
   search_past from to k d r h least past j lo hi = none_up_to from k d r h least.within
       least.none_below j lo (omega arith)
 
@@ -124,8 +124,8 @@ module _ (m : Bool) (w : ℕ) (s : PlainSet) (word : 0 < w) where
 
   -- a search from the back begins at the word that holds the number below `to`, masked there
   pub search_back_start : (to k d e n o top : ℕ) → 0 < to → k ≡ (to - 1) / w → top ≡ (to - 1) % w →
-      digit_set w d ≡ word_of w s k → members m w (digit_set w e) ≡ full_set_from w top →
-      e < 2 ^ w → n ≡ 2 ^ w - 1 - e → members m w (digit_set w o) ≡ with_index (empty_set w) top →
+      bit_set w d ≡ word_of w s k → read_in m w (bit_set w e) ≡ full_set_from w top →
+      e < 2 ^ w → n ≡ 2 ^ w - 1 - e → read_in m w (bit_set w o) ≡ with_index (empty_set w) top →
       SearchesBackward m w s to k (bit_and d (bit_or n o))
   unfolding lacks
   search_back_start to k d e n o top some at rest is from fits other one =
@@ -134,17 +134,17 @@ module _ (m : Bool) (w : ℕ) (s : PlainSet) (word : 0 < w) where
       record {
         none = λ j lo hi. absurd (omega arith);
         has = λ i h.
-            ap (λ p. p (place m w i)) (digit_has-and w d (bit_or n o))
-            ∙ ap (λ b. b && digit_has w (bit_or n o) (place m w i)) (digit_at m w k s d word is i h)
-            ∙ ap (λ p. t.has (k * w + i) && p (place m w i)) (digit_has-or w n o)
-            ∙ ap (λ p. t.has (k * w + i) && (p (place m w i) || digit_has w o (place m w i)))
-            (ap (digit_has w) other ∙ digit_has-not w e fits)
+            ap (λ p. p (place m w i)) (bit_has-and w d (bit_or n o))
+            ∙ ap (λ b. b && bit_has w (bit_or n o) (place m w i)) (digit_at m w k s d word is i h)
+            ∙ ap (λ p. t.has (k * w + i) && p (place m w i)) (bit_has-or w n o)
+            ∙ ap (λ p. t.has (k * w + i) && (p (place m w i) || bit_has w o (place m w i)))
+            (ap (bit_has w) other ∙ bit_has-not w e fits)
             ∙ ap (λ b. t.has (k * w + i)
-            && ((b && not (digit_has w e (place m w i))) || digit_has w o (place m w i)))
+            && ((b && not (bit_has w e (place m w i))) || bit_has w o (place m w i)))
             (lt-ltb (place m w i) w (place_in_word m w i h))
-            ∙ ap (λ u. t.has (k * w + i) && (not (u.has i) || digit_has w o (place m w i))) from
+            ∙ ap (λ u. t.has (k * w + i) && (not (u.has i) || bit_has w o (place m w i))) from
             ∙ ap (λ b. t.has (k * w + i)
-            && (not (b && not (nat_lt i top)) || digit_has w o (place m w i))) (lt-ltb i w h)
+            && (not (b && not (nat_lt i top)) || bit_has w o (place m w i))) (lt-ltb i w h)
             ∙ ap (λ b. t.has (k * w + i) && (not (not (nat_lt i top)) || b))
             (at_mask m w d o top word one i ∙ ap (λ j. i == j) (mod-eq_of_lt low))
             ∙ swapped (t.has (k * w + i)) (not (not (nat_lt i top)) || (i == top))
@@ -161,7 +161,7 @@ module _ (m : Bool) (w : ℕ) (s : PlainSet) (word : 0 < w) where
 
   -- from a place of word k on
   none_down_to : (to k d q : ℕ) → SearchesBackward m w s to k d →
-      ((i : ℕ) → q ≤ i → i < w → (members m w (digit_set w d)).has i ≡ false) →
+      ((i : ℕ) → q ≤ i → i < w → (read_in m w (bit_set w d)).has i ≡ false) →
       NoneIn t (k * w + q) to
   none_down_to to k d q h none j lo hi =
       elim (cases_lt j (k * w + w)) [
@@ -177,7 +177,7 @@ module _ (m : Bool) (w : ℕ) (s : PlainSet) (word : 0 < w) where
 
   -- above the greatest member of word k
   none_above_greatest : (to k d r : ℕ) → SearchesBackward m w s to k d →
-      IsGreatestMember (members m w (digit_set w d)) r → NoneIn t (k * w + (w - r)) to
+      IsGreatestMember (read_in m w (bit_set w d)) r → NoneIn t (k * w + (w - r)) to
   none_above_greatest to k d r h greatest =
       let low = greatest.within in
       none_down_to to k d (w - r) h (λ i lo hi.
@@ -186,8 +186,8 @@ module _ (m : Bool) (w : ℕ) (s : PlainSet) (word : 0 < w) where
 
   -- where the word has no member that is sought, the search goes back to the word before
   pub search_back_next : (to k d r d' : ℕ) → 0 < k → k ≤ (to - 1) / w →
-      SearchesBackward m w s to k d → IsGreatestMember (members m w (digit_set w d)) r → w ≤ r →
-      digit_set w d' ≡ word_of w s (k - 1) → SearchesBackward m w s to (k - 1) d'
+      SearchesBackward m w s to k d → IsGreatestMember (read_in m w (bit_set w d)) r → w ≤ r →
+      bit_set w d' ≡ word_of w s (k - 1) → SearchesBackward m w s to (k - 1) d'
   search_back_next to k d r d' some past h greatest end is =
       let one_less : (k - 1) + 1 ≡ k = omega arith in
       let before : k * w ≡ (k - 1) * w + w = ap (λ n. n * w) (sym one_less) ∙ omega arith in
@@ -203,7 +203,7 @@ module _ (m : Bool) (w : ℕ) (s : PlainSet) (word : 0 < w) where
 
   -- the greatest member of the word, where it is not below `from`, is the last of the range
   pub search_back_end : (from to k d r : ℕ) → SearchesBackward m w s to k d →
-      IsGreatestMember (members m w (digit_set w d)) r → r < w → from ≤ k * w + (w - 1 - r) →
+      IsGreatestMember (read_in m w (bit_set w d)) r → r < w → from ≤ k * w + (w - 1 - r) →
       IsLastIn t from to (Some (k * w + (w - 1 - r)))
   search_back_end from to k d r h greatest low above =
       let both = and_parts (nat_lt (k * w + (w - 1 - r)) to) (t.has (k * w + (w - 1 - r)))
@@ -217,7 +217,7 @@ module _ (m : Bool) (w : ℕ) (s : PlainSet) (word : 0 < w) where
 
   -- where the greatest member of the word is below `from`, the range has none
   pub search_back_past : (from to k d r : ℕ) → SearchesBackward m w s to k d →
-      IsGreatestMember (members m w (digit_set w d)) r → k * w + (w - r) ≤ from →
+      IsGreatestMember (read_in m w (bit_set w d)) r → k * w + (w - r) ≤ from →
       IsLastIn t from to None
   search_back_past from to k d r h greatest past j lo hi = none_above_greatest to k d r h greatest j
       (omega arith) hi
@@ -229,34 +229,34 @@ module _ (ones m : Bool) (w : ℕ) (big : PlainSet) (word : 0 < w)
   of_kind = ones_or_zeros ones big
 
   abbrev sought : PlainSet
-  sought = ones_or_zeros ones (members m w big)
+  sought = ones_or_zeros ones (read_in m w big)
 
-  in_order : sought ≡ members m w of_kind
+  in_order : sought ≡ read_in m w of_kind
   in_order = ones_or_zeros-members ones m w big word whole
 
   -- the least member of the word, where it is below `to`, is the first that is sought
   pub first_found : (from to k d r : ℕ) → SearchesForward m w of_kind from k d →
-      IsLeastMember (members m w (digit_set w d)) r → r < w → k * w + r < to →
+      IsLeastMember (read_in m w (bit_set w d)) r → r < w → k * w + r < to →
       IsFirstIn sought from to (Some (k * w + r))
   first_found from to k d r h least low below = rw in_order
       (search_end m w of_kind word from to k d r h least low below)
 
   -- where the least member of the word is not below `to`, nothing that is sought is there
   pub first_past : (from to k d r : ℕ) → SearchesForward m w of_kind from k d →
-      IsLeastMember (members m w (digit_set w d)) r → to ≤ k * w + r → IsFirstIn sought from to None
+      IsLeastMember (read_in m w (bit_set w d)) r → to ≤ k * w + r → IsFirstIn sought from to None
   first_past from to k d r h least past = rw in_order
       (search_past m w of_kind word from to k d r h least past)
 
   -- the greatest member of the word, where it is not below `from`, is the last that is sought
   pub last_found : (from to k d r : ℕ) → SearchesBackward m w of_kind to k d →
-      IsGreatestMember (members m w (digit_set w d)) r → r < w → from ≤ k * w + (w - 1 - r) →
+      IsGreatestMember (read_in m w (bit_set w d)) r → r < w → from ≤ k * w + (w - 1 - r) →
       IsLastIn sought from to (Some (k * w + (w - 1 - r)))
   last_found from to k d r h greatest low above = rw in_order
       (search_back_end m w of_kind word from to k d r h greatest low above)
 
   -- where the greatest member of the word is below `from`, nothing that is sought is there
   pub last_past : (from to k d r : ℕ) → SearchesBackward m w of_kind to k d →
-      IsGreatestMember (members m w (digit_set w d)) r → k * w + (w - r) ≤ from →
+      IsGreatestMember (read_in m w (bit_set w d)) r → k * w + (w - r) ≤ from →
       IsLastIn sought from to None
   last_past from to k d r h greatest past = rw in_order
       (search_back_past m w of_kind word from to k d r h greatest past)

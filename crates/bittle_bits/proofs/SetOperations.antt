@@ -2,7 +2,7 @@
 use Rattle.std.proofs.Common.{◌≡◌, ℕ, ◌*◌, ◌<◌, ◌≤◌, Bool, true, false, cond, ◌&&◌, nat_lt, refl, sym, ap, ◌∙◌}
 use Rattle.std.proofs.Math.Path.{fun_ext}
 use Rattle.std.proofs.lemmas.Bool.{lt-ltb, le-ltb}
-use Rattle.bittle_bits.specs.Orders.{place, members}
+use Rattle.bittle_bits.specs.Orders.{place, read_in}
 use Rattle.bittle_bits.specs.PlainSet.{PlainSet}
 use Rattle.bittle_bits.specs.SetOperations.{combination_has, combination_of}
 use Rattle.bittle_bits.proofs.PlaceLemmas.{place_inside}
@@ -33,7 +33,7 @@ combination-outside f s t k h = rw (le-ltb k s.capacity h) refl
 -- an operation on sets of whole words is the same in each order
 pub members-combination : (f : Bool → Bool → Bool) (m : Bool) (w : ℕ) (s t : PlainSet) → 0 < w →
     (words : ℕ) × (s.capacity ≡ words * w) → (words : ℕ) × (t.capacity ≡ words * w) →
-    members m w (combination_of f s t) ≡ combination_of f (members m w s) (members m w t)
+    read_in m w (combination_of f s t) ≡ combination_of f (read_in m w s) (read_in m w t)
 unfolding combination_has
 members-combination f m w s t word whole also =
     ap (plain_set s.capacity) (fun_ext λ k.

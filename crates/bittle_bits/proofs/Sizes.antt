@@ -1,7 +1,7 @@
 -- How many members a set has.
 use Rattle.std.proofs.Common.{◌≡◌, ℕ, ◌+◌, ◌*◌, ◌<◌, ◌≤◌, Bool, not, ◌&&◌, sym, ap, ◌∙◌, arith}
 use Rattle.std.proofs.lemmas.Bool.{lt-ltb}
-use Rattle.bittle_bits.specs.Orders.{members}
+use Rattle.bittle_bits.specs.Orders.{read_in}
 use Rattle.bittle_bits.specs.PlainSet.{PlainSet, size, lacks, complement}
 use Rattle.bittle_bits.proofs.Counts.{count-same, count-le, count-placed, count-others}
 
@@ -15,13 +15,13 @@ size-complement s =
 
 -- each order has as many members, in a capacity of whole words
 pub size-members : (m : Bool) (w : ℕ) (s : PlainSet) → 0 < w →
-    (words : ℕ) × (s.capacity ≡ words * w) → size (members m w s) ≡ size s
+    (words : ℕ) × (s.capacity ≡ words * w) → size (read_in m w s) ≡ size s
 size-members m w s h whole = rw (whole.1) (count-placed m w whole.0 s.has h)
 
 -- what is known of the size in big-endian order is known of it in each order
 pub size_in_each_order : {A : Type 0} (w : ℕ) (s : PlainSet) (f : ℕ → A) (r : A) → 0 < w →
     (words : ℕ) × (s.capacity ≡ words * w) → r ≡ f (size s) → (m : Bool) →
-    r ≡ f (size (members m w s))
+    r ≡ f (size (read_in m w s))
 size_in_each_order w s f r h whole is m = is ∙ ap f (sym (size-members m w s h whole))
 
 -- a set has no more members than its capacity

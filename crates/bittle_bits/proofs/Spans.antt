@@ -2,8 +2,8 @@
 use Rattle.std.proofs.Common.{◌≡◌, ℕ, ◌+◌, ◌-◌, ◌%◌, ◌^◌, ◌<◌, ◌≤◌, ◌⊎◌, Bool, true, false, not, ◌&&◌, ◌||◌, ◌==◌, nat_lt, nat_le, inl, inr, refl, sym, ap, ◌∙◌, arith, bit_and, bit_or}
 use Rattle.std.proofs.Math.Path.{fun_ext}
 use Rattle.std.proofs.lemmas.Bool.{cases_eq, cases_lt, eq-eqb, ne_eqb, lt-ltb, le-ltb, le-leb, lt-leb, and_right}
-use Rattle.bittle_bits.specs.Digits.{digit_set}
-use Rattle.bittle_bits.specs.Orders.{members}
+use Rattle.bittle_bits.specs.BitPatterns.{bit_set}
+use Rattle.bittle_bits.specs.Orders.{read_in}
 use Rattle.bittle_bits.specs.PlainSet.{PlainSet, with_index, has_with_span, with_span, full_set_from}
 use Rattle.bittle_bits.specs.SetOperations.{combination_of, first_alone}
 use Rattle.bittle_bits.proofs.SetOperations.{combination-below, combination-outside}
@@ -73,14 +73,14 @@ with_span-more s from end i some at h =
 module _ (m : Bool) (w : ℕ) (word : 0 < w) where
   -- the word of the indexes from one on, without those from an end on, is the word of the span
   pub span_word : (from end d e f r : ℕ) → from < end → end < w →
-      members m w (digit_set w d) ≡ full_set_from w from →
-      members m w (digit_set w e) ≡ full_set_from w end → e < 2 ^ w → f ≡ 2 ^ w - 1 - e →
-      r ≡ bit_and d f → members m w (digit_set w r)
+      read_in m w (bit_set w d) ≡ full_set_from w from →
+      read_in m w (bit_set w e) ≡ full_set_from w end → e < 2 ^ w → f ≡ 2 ^ w - 1 - e →
+      r ≡ bit_and d f → read_in m w (bit_set w r)
       ≡ plain_set w (λ k. nat_le from k && nat_lt k end)
   span_word from end d e f r h l first second fits inverted is =
       word_combined first_alone w d e r m word
-      (ap (digit_set w) is ∙ digits_first_alone w d e f fits inverted)
-      ∙ ap (λ s. combination_of first_alone s (members m w (digit_set w e))) first
+      (ap (bit_set w) is ∙ digits_first_alone w d e f fits inverted)
+      ∙ ap (λ s. combination_of first_alone s (read_in m w (bit_set w e))) first
       ∙ ap (combination_of first_alone (full_set_from w from)) second
       ∙ ap (plain_set w) (fun_ext λ k. elim (cases_lt k w) [
         | inl b ↦ combination-below first_alone (full_set_from w from) (full_set_from w end) k b b
@@ -102,8 +102,8 @@ module _ (m : Bool) (w : ℕ) (word : 0 < w) where
           ]
 
   -- the word of the indexes from one on is that of the span up to the width
-  pub span_to_width : (from d : ℕ) → members m w (digit_set w d) ≡ full_set_from w from →
-      members m w (digit_set w d) ≡ plain_set w (λ k. nat_le from k && nat_lt k w)
+  pub span_to_width : (from d : ℕ) → read_in m w (bit_set w d) ≡ full_set_from w from →
+      read_in m w (bit_set w d) ≡ plain_set w (λ k. nat_le from k && nat_lt k w)
   span_to_width from d is =
       is ∙ ap (plain_set w) (fun_ext λ k. elim (cases_lt k from) [
         | inl c ↦ rw (lt-ltb k from c, lt-leb from k c) (and_right (nat_lt k w) false refl)
@@ -116,14 +116,14 @@ module _ (m : Bool) (w : ℕ) (word : 0 < w) where
 
   -- a word or-ed with the word of a span has the set with the span
   pub word_filled : (from end d e r : ℕ) → end ≤ w →
-      members m w (digit_set w e) ≡ plain_set w (λ k. nat_le from k && nat_lt k end) →
-      r ≡ bit_or d e → members m w (digit_set w r)
-      ≡ with_span (members m w (digit_set w d)) from end
+      read_in m w (bit_set w e) ≡ plain_set w (λ k. nat_le from k && nat_lt k end) →
+      r ≡ bit_or d e → read_in m w (bit_set w r)
+      ≡ with_span (read_in m w (bit_set w d)) from end
   unfolding has_with_span
   word_filled from end d e r h span is =
-      let s = members m w (digit_set w d) in
+      let s = read_in m w (bit_set w d) in
       let t = plain_set w (λ k. nat_le from k && nat_lt k end) in
-      word_combined ◌||◌ w d e r m word (ap (digit_set w) is ∙ digits_either w d e)
+      word_combined ◌||◌ w d e r m word (ap (bit_set w) is ∙ digits_either w d e)
       ∙ ap (combination_of ◌||◌ s) span
       ∙ ap (plain_set w) (fun_ext λ k. elim (cases_lt k w) [
         | inl b ↦ combination-below ◌||◌ s t k b b ∙ swapped (s.has k) (t.has k)

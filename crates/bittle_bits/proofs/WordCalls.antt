@@ -4,10 +4,10 @@ use Rattle.std.proofs.Math.Path.{fun_ext}
 use Rattle.std.proofs.Math.Nat.{mod-eq_of_lt}
 use Rattle.std.proofs.lemmas.Nat.{mod_below}
 use Rattle.std.proofs.lemmas.Bool.{cases_eq, cases_lt, eq-eqb, ne_eqb, eqb-true, and_parts, true≢false}
-use Rattle.bittle_bits.specs.Digits.{digit_has, digit_set}
-use Rattle.bittle_bits.specs.Orders.{place, members}
+use Rattle.bittle_bits.specs.BitPatterns.{bit_has, bit_set}
+use Rattle.bittle_bits.specs.Orders.{place, read_in}
 use Rattle.bittle_bits.specs.PlainSet.{contains, with_index, without_index, empty_set, lacks}
-use Rattle.bittle_bits.proofs.DigitSets.{digit_has-and, digit_has-or, digit_has-not, digit_has-pow, digit_has-zero, some_digit}
+use Rattle.bittle_bits.proofs.BitSets.{bit_has-and, bit_has-or, bit_has-not, bit_has-pow, bit_has-zero, some_digit}
 use Rattle.bittle_bits.proofs.PlaceLemmas.{place_eq, place_in_word, place-place, mirror_in_word}
 use Rattle.bittle_bits.specs.SetOperations.{combination_has, just_one}
 use Rattle.bittle_bits.proofs.SetOperations.{combination-below, combination-outside}
@@ -18,30 +18,30 @@ or_false : (b : Bool) → b || false ≡ b
 or_false true = refl
 or_false false = refl
 
--- the word whose one digit stands at the index's place
+-- the word whose one set bit is at the index's place
 pub mask_set : (m : Bool) (w i d : ℕ) → 0 < w → d ≡ 2 ^ place m w (i % w) →
-    members m w (digit_set w d) ≡ with_index (empty_set w) i
+    read_in m w (bit_set w d) ≡ with_index (empty_set w) i
 mask_set m w i d h is =
     rw is (ap (plain_set w) (ap (λ p k. p (place m w k))
-    (digit_has-pow w (place m w (i % w)) (place_in_word m w (i % w) (mod_below i w h)))
+    (bit_has-pow w (place m w (i % w)) (place_in_word m w (i % w) (mod_below i w h)))
     ∙ fun_ext λ k. place_eq m w k (i % w) h ∙ sym (or_false (k == i % w)))
     ∙ sym (with_in (empty_set w) w i refl h))
 
--- in little-endian order the mask's digit stands at the mirrored place of the index
+-- in little-endian order the mask's bit is at the mirrored place of the index
 pub mirrored_mask : (w i d : ℕ) → 0 < w → d ≡ 2 ^ (w - 1 - i % w) →
-    members true w (digit_set w d) ≡ with_index (empty_set w) i
+    read_in true w (bit_set w d) ≡ with_index (empty_set w) i
 mirrored_mask w i d h is = mask_set true w i d h
     (is ∙ ap (λ p. 2 ^ p) (sym (mirror_in_word w (i % w) (mod_below i w h))))
 
 module _ (m : Bool) (w d e i : ℕ) (h : 0 < w)
-    (one : members m w (digit_set w e) ≡ with_index (empty_set w) i) where
+    (one : read_in m w (bit_set w e) ≡ with_index (empty_set w) i) where
   -- the mask's one member
-  mask_has : ◌≡◌ {A = ℕ → Bool} (λ k. digit_has w e (place m w k)) (λ k. k == i % w)
+  mask_has : ◌≡◌ {A = ℕ → Bool} (λ k. bit_has w e (place m w k)) (λ k. k == i % w)
   mask_has = ap (λ s. s.has) one ∙ has_with-in (empty_set w) w i refl h
       ∙ fun_ext λ k. or_false (k == i % w)
 
-  -- the mask has a digit at the place of the index, and at no other
-  pub at_mask : (k : ℕ) → digit_has w e (place m w k) ≡ (k == i % w)
+  -- the mask has a bit set at the place of the index, and at no other
+  pub at_mask : (k : ℕ) → bit_has w e (place m w k) ≡ (k == i % w)
   at_mask k = ap (λ p. p k) mask_has
 
   swapped : (a b : Bool) → a || b ≡ b || a
@@ -51,12 +51,12 @@ module _ (m : Bool) (w d e i : ℕ) (h : 0 < w)
   swapped false false = refl
 
   -- the or with the mask sets the index
-  pub word_set : members m w (digit_set w (bit_or d e)) ≡ with_index (members m w (digit_set w d)) i
+  pub word_set : read_in m w (bit_set w (bit_or d e)) ≡ with_index (read_in m w (bit_set w d)) i
   word_set =
-      ap (plain_set w) (ap (λ p k. p (place m w k)) (digit_has-or w d e)
-      ∙ fun_ext λ k. ap (λ b. digit_has w d (place m w k) || b) (at_mask k)
-      ∙ swapped (digit_has w d (place m w k)) (k == i % w))
-      ∙ sym (with_in (members m w (digit_set w d)) w i refl h)
+      ap (plain_set w) (ap (λ p k. p (place m w k)) (bit_has-or w d e)
+      ∙ fun_ext λ k. ap (λ b. bit_has w d (place m w k) || b) (at_mask k)
+      ∙ swapped (bit_has w d (place m w k)) (k == i % w))
+      ∙ sym (with_in (read_in m w (bit_set w d)) w i refl h)
 
   outside : (t x u : Bool) → (t && x) && (t && not u) ≡ not u && (t && x)
   outside true true true = refl
@@ -68,15 +68,15 @@ module _ (m : Bool) (w d e i : ℕ) (h : 0 < w)
 
   -- the and with the inverted mask clears the index
   pub word_cleared : (mask : ℕ) → e < 2 ^ w → mask ≡ 2 ^ w - 1 - e →
-      members m w (digit_set w (bit_and d mask)) ≡ without_index (members m w (digit_set w d)) i
-  unfolding digit_has lacks
+      read_in m w (bit_set w (bit_and d mask)) ≡ without_index (read_in m w (bit_set w d)) i
+  unfolding bit_has lacks
   word_cleared mask fits is =
-      rw is (ap (plain_set w) (ap (λ p k. p (place m w k)) (digit_has-and w d (2 ^ w - 1 - e))
-      ∙ fun_ext λ k. ap (λ p. digit_has w d (place m w k) && p (place m w k))
-      (digit_has-not w e fits) ∙ ap (λ b. digit_has w d (place m w k)
+      rw is (ap (plain_set w) (ap (λ p k. p (place m w k)) (bit_has-and w d (2 ^ w - 1 - e))
+      ∙ fun_ext λ k. ap (λ p. bit_has w d (place m w k) && p (place m w k))
+      (bit_has-not w e fits) ∙ ap (λ b. bit_has w d (place m w k)
       && (nat_lt (place m w k) w && not b)) (at_mask k) ∙ outside (nat_lt (place m w k) w) _
       (k == i % w))
-      ∙ sym (without_in (members m w (digit_set w d)) w i refl h))
+      ∙ sym (without_in (read_in m w (bit_set w d)) w i refl h))
 
   flips : (x here : Bool) → (here ≡ true → x ≡ true) → just_one x here ≡ not here && x
   flips true true is = refl
@@ -85,61 +85,61 @@ module _ (m : Bool) (w d e i : ℕ) (h : 0 < w)
   flips false false is = refl
 
   -- the exclusive or with the mask of a member clears it
-  pub word_flipped : i < w → (members m w (digit_set w d)).has i ≡ true →
-      members m w (digit_set w (bit_xor d e)) ≡ without_index (members m w (digit_set w d)) i
+  pub word_flipped : i < w → (read_in m w (bit_set w d)).has i ≡ true →
+      read_in m w (bit_set w (bit_xor d e)) ≡ without_index (read_in m w (bit_set w d)) i
   word_flipped inside is =
       word_combined just_one w d e (bit_xor d e) m h (digits_just_one w d e)
       ∙ ap (plain_set w) (fun_ext each)
-      ∙ sym (without_in (members m w (digit_set w d)) w i refl h)
+      ∙ sym (without_in (read_in m w (bit_set w d)) w i refl h)
     where
-      each : (k : ℕ) → combination_has just_one (members m w (digit_set w d))
-          (members m w (digit_set w e)) k ≡ not (k == i % w) && digit_has w d (place m w k)
+      each : (k : ℕ) → combination_has just_one (read_in m w (bit_set w d))
+          (read_in m w (bit_set w e)) k ≡ not (k == i % w) && bit_has w d (place m w k)
       each k = elim (cases_lt k w) [
-        | inl l ↦ combination-below just_one (members m w (digit_set w d))
-            (members m w (digit_set w e)) k l l
-            ∙ ap (just_one (digit_has w d (place m w k))) (at_mask k)
-            ∙ flips (digit_has w d (place m w k)) (k == i % w)
-            (λ e. subst (λ j. digit_has w d (place m w j) ≡ true)
+        | inl l ↦ combination-below just_one (read_in m w (bit_set w d))
+            (read_in m w (bit_set w e)) k l l
+            ∙ ap (just_one (bit_has w d (place m w k))) (at_mask k)
+            ∙ flips (bit_has w d (place m w k)) (k == i % w)
+            (λ e. subst (λ j. bit_has w d (place m w j) ≡ true)
             (sym (eqb-true k (i % w) e ∙ mod-eq_of_lt inside)) is)
-        | inr g ↦ combination-outside just_one (members m w (digit_set w d))
-            (members m w (digit_set w e)) k g
-            ∙ ap (λ b. not b && digit_has w d (place m w k))
+        | inr g ↦ combination-outside just_one (read_in m w (bit_set w d))
+            (read_in m w (bit_set w e)) k g
+            ∙ ap (λ b. not b && bit_has w d (place m w k))
             (sym (ne_eqb k (i % w) (λ e. absurd (omega (arith, e, mod_below i w h)))))
       ]
 
-  -- the digits that the word and the mask share
-  shared : (k : ℕ) → digit_has w (bit_and d e) (place m w k) ≡ digit_has w d (place m w k)
+  -- the bits that the word and the mask share
+  shared : (k : ℕ) → bit_has w (bit_and d e) (place m w k) ≡ bit_has w d (place m w k)
       && (k == i % w)
-  shared k = ap (λ p. p (place m w k)) (digit_has-and w d e)
-      ∙ ap (λ b. digit_has w d (place m w k) && b) (at_mask k)
+  shared k = ap (λ p. p (place m w k)) (bit_has-and w d e)
+      ∙ ap (λ b. bit_has w d (place m w k) && b) (at_mask k)
 
   and_true : (b : Bool) → b && true ≡ b
   and_true true = refl
   and_true false = refl
 
-  here : digit_has w (bit_and d e) (place m w (i % w)) ≡ digit_has w d (place m w (i % w))
-  here = shared (i % w) ∙ ap (λ b. digit_has w d (place m w (i % w)) && b)
+  here : bit_has w (bit_and d e) (place m w (i % w)) ≡ bit_has w d (place m w (i % w))
+  here = shared (i % w) ∙ ap (λ b. bit_has w d (place m w (i % w)) && b)
       (eq-eqb (i % w) (i % w) refl) ∙ and_true _
 
   -- the and with the mask is not 0 exactly where the index is a member
   pub word_tested : bit_and d e < 2 ^ w →
-      not (bit_and d e == 0) ≡ contains (members m w (digit_set w d)) i
+      not (bit_and d e == 0) ≡ contains (read_in m w (bit_set w d)) i
   word_tested fits = by (cases_eq (bit_and d e) 0)
-      ∙ sym (contains_in (members m w (digit_set w d)) w i refl h)
+      ∙ sym (contains_in (read_in m w (bit_set w d)) w i refl h)
     where
-      found : (k : ℕ) → digit_has w (bit_and d e) k ≡ true →
-          true ≡ digit_has w d (place m w (i % w))
+      found : (k : ℕ) → bit_has w (bit_and d e) k ≡ true →
+          true ≡ bit_has w d (place m w (i % w))
       found k t =
           let j = place m w k in
           let back : place m w j ≡ k = place-place m w k h in
-          let both = and_parts (digit_has w d (place m w j)) (j == i % w)
-          (sym (shared j) ∙ ap (digit_has w (bit_and d e)) back ∙ t) in
+          let both = and_parts (bit_has w d (place m w j)) (j == i % w)
+          (sym (shared j) ∙ ap (bit_has w (bit_and d e)) back ∙ t) in
           let same : j ≡ i % w = eqb-true j (i % w) both.1 in
-          sym (ap (λ n. digit_has w d (place m w n)) (sym same) ∙ both.0)
+          sym (ap (λ n. bit_has w d (place m w n)) (sym same) ∙ both.0)
 
       by : (bit_and d e ≡ 0) ⊎ (bit_and d e ≡ 0 → ⊥) →
-          not (bit_and d e == 0) ≡ digit_has w d (place m w (i % w))
+          not (bit_and d e == 0) ≡ bit_has w d (place m w (i % w))
       by (inl z) = ap not (eq-eqb _ _ z)
-          ∙ sym (sym here ∙ ap (λ p. p (place m w (i % w))) (digit_has-zero w (bit_and d e) z))
+          ∙ sym (sym here ∙ ap (λ p. p (place m w (i % w))) (bit_has-zero w (bit_and d e) z))
       by (inr n) = let t = some_digit w (bit_and d e) fits n in
           ap not (ne_eqb _ _ n) ∙ found t.0 t.1

@@ -1,4 +1,4 @@
--- The least and the greatest digit of a word.
+-- The least and the greatest set bit of a word.
 use Rattle.std.proofs.Common.{◌≡◌, ℕ, zero, suc, ◌-◌, ◌*◌, ◌/◌, ◌%◌, ◌^◌, ◌<◌, ◌≤◌, ◌⊎◌, Bool, true, false, not, ◌&&◌, ◌==◌, nat_lt, bit_and, inl, inr, refl, sym, ap, ◌∙◌, arith, subst}
 use Rattle.std.proofs.Math.Nat.{mod-eq_of_lt}
 use Rattle.std.proofs.Math.Path.{fun_ext}
@@ -8,14 +8,14 @@ use Rattle.std.proofs.lemmas.Nat.{trailing_le, leading_le, leading_top, mod_belo
 use Rattle.std.proofs.lemmas.Nat.Bits.{bit_at-suc, bit_at_lowest, bit_at_above, bit_at-lt, bit_at-zero}
 use Rattle.std.proofs.lemmas.Bool.{cases_eq, cases_lt, and_right, eq-eqb, ne_eqb}
 use Rattle.std.proofs.Math.Bool.{and_self}
-use Rattle.bittle_bits.specs.Digits.{digit_has, digit_set}
-use Rattle.bittle_bits.specs.Orders.{members}
+use Rattle.bittle_bits.specs.BitPatterns.{bit_has, bit_set}
+use Rattle.bittle_bits.specs.Orders.{read_in}
 use Rattle.bittle_bits.specs.PlainSet.{PlainSet, without_index, complement, IsLeastMember, IsGreatestMember}
-use Rattle.bittle_bits.proofs.DigitSets.{digit_has-at, digit_has-and, digit_has-not, digit_has-zero, top_digit}
+use Rattle.bittle_bits.proofs.BitSets.{bit_has-at, bit_has-and, bit_has-not, bit_has-zero, top_digit}
 use Rattle.bittle_bits.proofs.PlaceLemmas.{mirror_in_word}
 use Rattle.bittle_bits.proofs.PlainSets.{plain_set, without_in, complement-members}
 
--- the digits below the least one are 0, and it is 1
+-- the bits below the least set one are 0, and it is 1
 record Lowest (k d r : ℕ) : Type 0 where
   below : (i : ℕ) → i < r → bit_at d i ≡ 0
   there : r < k → bit_at d r ≡ 1
@@ -40,31 +40,31 @@ lowest (suc k) d = by (lowest k (d / 2)) (cases_eq (d % 2) 0)
         let e : d % 2 ≡ 1 = omega (arith, mod_below d 2 (omega arith)) in
         rw e (record { below = λ i h. absurd (omega arith); there = λ h. bit_at_lowest d ∙ e })
 
--- the trailing zeros of a word are the index of its least digit
-pub least_digit : (w d : ℕ) → IsLeastMember (digit_set w d) (count_trailing_zeros w d)
+-- the trailing zeros of a word are the index of its least set bit
+pub least_digit : (w d : ℕ) → IsLeastMember (bit_set w d) (count_trailing_zeros w d)
 least_digit w d =
     let r = count_trailing_zeros w d in
     let low = trailing_le w d in
     let at = lowest w d in record {
       within = low;
-      none_below = λ k h. digit_has-at w d k (omega arith) ∙ ap (λ b. b == 1) (at.below k h);
-      is_member = λ h. digit_has-at w d r h ∙ eq-eqb (bit_at d r) 1 (at.there h);
+      none_below = λ k h. bit_has-at w d k (omega arith) ∙ ap (λ b. b == 1) (at.below k h);
+      is_member = λ h. bit_has-at w d r h ∙ eq-eqb (bit_at d r) 1 (at.there h);
     }
 
--- the leading zeros of a word are how far its greatest digit lies below the last
+-- the leading zeros of a word are how far its greatest set bit lies below the last
 pub greatest_digit : (w d : ℕ) → d < 2 ^ w →
-    IsGreatestMember (digit_set w d) (count_leading_zeros w d)
+    IsGreatestMember (bit_set w d) (count_leading_zeros w d)
 greatest_digit w d fits = by (cases_eq d 0)
   where
     r : ℕ
     r = count_leading_zeros w d
 
-    by : (d ≡ 0) ⊎ (d ≡ 0 → ⊥) → IsGreatestMember (digit_set w d) (count_leading_zeros w d)
+    by : (d ≡ 0) ⊎ (d ≡ 0 → ⊥) → IsGreatestMember (bit_set w d) (count_leading_zeros w d)
     by (inl z) =
         let all : count_leading_zeros w d ≡ w = ap (count_leading_zeros w) z ∙ leading_of_zero w in
         record {
           within = omega arith;
-          none_above = λ k h. digit_has-at w d (w - 1 - k) (omega arith)
+          none_above = λ k h. bit_has-at w d (w - 1 - k) (omega arith)
               ∙ ap (λ b. b == 1) (ap (λ x. bit_at x (w - 1 - k)) z ∙ bit_at-zero (w - 1 - k));
           is_member = λ h. absurd (omega arith);
         }
@@ -73,9 +73,9 @@ greatest_digit w d fits = by (cases_eq d 0)
         let j = t.0 in
         let e : w - 1 - r ≡ j = omega (arith, t.1) in record {
           within = leading_le w d;
-          none_above = λ k h. digit_has-at w d (w - 1 - k) (omega (arith, t.1))
+          none_above = λ k h. bit_has-at w d (w - 1 - k) (omega (arith, t.1))
               ∙ ap (λ b. b == 1) (bit_at_above d (suc j) (w - 1 - k) t.3 (omega (arith, t.1)));
-          is_member = λ h. rw e (digit_has-at w d j (omega (arith, t.1))
+          is_member = λ h. rw e (bit_has-at w d j (omega (arith, t.1))
               ∙ eq-eqb (bit_at d j) 1 (top_digit j d t.2 t.3));
         }
 
@@ -83,7 +83,7 @@ greatest_digit w d fits = by (cases_eq d 0)
 module _ (w r : ℕ) (p : ℕ → Bool) where
   -- how far the greatest member lies below the last number is the least one mirrored
   pub mirrored_least : IsGreatestMember (plain_set w p) r →
-      IsLeastMember (members true w (plain_set w p)) r
+      IsLeastMember (read_in true w (plain_set w p)) r
   mirrored_least h = record {
     within = h.within;
     none_below = λ k l. let low = h.within in ap p (mirror_in_word w k (omega arith))
@@ -93,7 +93,7 @@ module _ (w r : ℕ) (p : ℕ → Bool) where
 
   -- the least member is how far the greatest one mirrored lies below the last number
   pub mirrored_greatest : IsLeastMember (plain_set w p) r →
-      IsGreatestMember (members true w (plain_set w p)) r
+      IsGreatestMember (read_in true w (plain_set w p)) r
   mirrored_greatest h = record {
     within = h.within;
     none_above = λ k l. let low = h.within in
@@ -104,15 +104,15 @@ module _ (w r : ℕ) (p : ℕ → Bool) where
 
 -- the ends of what a word lacks, in an order
 pub ends_of_rest : (m : Bool) (w d e : ℕ) (P : PlainSet → Type 0) → 0 < w → d < 2 ^ w →
-    e ≡ 2 ^ w - 1 - d → P (members m w (digit_set w e)) →
-    P (complement (members m w (digit_set w d)))
+    e ≡ 2 ^ w - 1 - d → P (read_in m w (bit_set w e)) →
+    P (complement (read_in m w (bit_set w d)))
 ends_of_rest m w d e P h fits is got =
     let one : (words : ℕ) × (w ≡ words * w) = (1, omega arith) in
-    subst P (sym (complement-members m w (digit_set w d) h one
-    ∙ ap (λ p. members m w (plain_set w p))
-    (sym (ap (digit_has w) is ∙ digit_has-not w d fits)))) got
+    subst P (sym (complement-members m w (bit_set w d) h one
+    ∙ ap (λ p. read_in m w (plain_set w p))
+    (sym (ap (bit_has w) is ∙ bit_has-not w d fits)))) got
 
--- a number whose least digit is r, less one: the digit r is 0, and those above stay
+-- a number whose least set bit is r, less one: the bit r is 0, and those above stay
 record Lowered (d r : ℕ) : Type 0 where
   there : bit_at (d - 1) r ≡ 0
   above : (k : ℕ) → r < k → bit_at (d - 1) k ≡ bit_at d k
@@ -169,54 +169,54 @@ lowered (suc r) d below there = up (lowered r (d / 2)
       above = above rest;
     }
 
--- a word with a digit is not 0
-pub some_word : (w d r : ℕ) → IsLeastMember (digit_set w d) r → r < w → 1 ≤ d
+-- a word with a bit set is not 0
+pub some_word : (w d r : ℕ) → IsLeastMember (bit_set w d) r → r < w → 1 ≤ d
 some_word w d r least h = elim (cases_eq d 0) [
-  | inl z ↦ absurd (let none = ap (λ p. p r) (digit_has-zero w d z) in
+  | inl z ↦ absurd (let none = ap (λ p. p r) (bit_has-zero w d z) in
       let one = least.is_member h in cc)
   | inr n ↦ omega arith
 ]
 
--- bits that are alike are digits alike
-digit-same : (w d e k : ℕ) → bit_at e k ≡ bit_at d k → digit_has w e k ≡ digit_has w d k
-unfolding digit_has
+-- patterns that are alike are words alike
+digit-same : (w d e k : ℕ) → bit_at e k ≡ bit_at d k → bit_has w e k ≡ bit_has w d k
+unfolding bit_has
 digit-same w d e k is = ap (λ b. nat_lt k w && (b == 1)) is
 
-digit-no : (w e k : ℕ) → bit_at e k ≡ 0 → digit_has w e k ≡ false
-unfolding digit_has
+digit-no : (w e k : ℕ) → bit_at e k ≡ 0 → bit_has w e k ≡ false
+unfolding bit_has
 digit-no w e k is = ap (λ b. nat_lt k w && (b == 1)) is ∙ and_right (nat_lt k w) false refl
 
--- the and of a word and the word less one lacks the least digit alone
-pub less_least : (w d r : ℕ) → IsLeastMember (digit_set w d) r → r < w →
-    digit_set w (bit_and d (d - 1)) ≡ without_index (digit_set w d) r
-less_least w d r least h = ap (plain_set w) (digit_has-and w d (d - 1) ∙ fun_ext at)
-    ∙ sym (without_in (digit_set w d) w r refl (omega arith))
+-- the and of a word and the word less one lacks the least set bit alone
+pub less_least : (w d r : ℕ) → IsLeastMember (bit_set w d) r → r < w →
+    bit_set w (bit_and d (d - 1)) ≡ without_index (bit_set w d) r
+less_least w d r least h = ap (plain_set w) (bit_has-and w d (d - 1) ∙ fun_ext at)
+    ∙ sym (without_in (bit_set w d) w r refl (omega arith))
   where
-    bit : (i : ℕ) → i < w → digit_has w d i ≡ false → bit_at d i ≡ 0
+    bit : (i : ℕ) → i < w → bit_has w d i ≡ false → bit_at d i ≡ 0
     bit i l none = elim (cases_eq (bit_at d i) 1) [
-      | inl e ↦ absurd (let one = digit_has-at w d i l ∙ eq-eqb (bit_at d i) 1 e in cc)
+      | inl e ↦ absurd (let one = bit_has-at w d i l ∙ eq-eqb (bit_at d i) 1 e in cc)
       | inr n ↦ omega (arith, bit_at-lt d i)
     ]
 
     low : Lowered d r
     low = lowered r d (λ i l. bit i (omega arith) (least.none_below i l)) (top (least.is_member h))
       where
-        top : digit_has w d r ≡ true → bit_at d r ≡ 1
+        top : bit_has w d r ≡ true → bit_at d r ≡ 1
         top one = elim (cases_eq (bit_at d r) 1) [
           | inl e ↦ e
           | inr n ↦ absurd
-              (let none = digit_has-at w d r h ∙ ne_eqb (bit_at d r) 1 n in cc)
+              (let none = bit_has-at w d r h ∙ ne_eqb (bit_at d r) 1 n in cc)
         ]
 
-    at : (k : ℕ) → digit_has w d k && digit_has w (d - 1) k ≡ not (k == r % w) && digit_has w d k
+    at : (k : ℕ) → bit_has w d k && bit_has w (d - 1) k ≡ not (k == r % w) && bit_has w d k
     at k = elim (cases_lt k r) [
       | inl l ↦ rw (least.none_below k l) (sym (and_right (not (k == r % w)) false refl))
       | inr g ↦ elim (cases_eq k r) [
         | inl e ↦
             let gone = digit-no w (d - 1) r low.there in
-            rw (e, gone, mod-eq_of_lt h, eq-eqb r r refl) (and_right (digit_has w d r) false refl)
+            rw (e, gone, mod-eq_of_lt h, eq-eqb r r refl) (and_right (bit_has w d r) false refl)
         | inr n ↦
             let same = digit-same w d (d - 1) k (low.above k (omega arith)) in
-            rw (same, mod-eq_of_lt h, ne_eqb k r n) (and_self (digit_has w d k))
+            rw (same, mod-eq_of_lt h, ne_eqb k r n) (and_self (bit_has w d k))
       ]
     ]

@@ -4,59 +4,59 @@ use Rattle.std.proofs.Math.Path.{fun_ext}
 use Rattle.std.specs.Int.{bit_at}
 use Rattle.std.proofs.lemmas.Nat.Bits.{bit_at_xor, bit_at-lt}
 use Rattle.std.proofs.lemmas.Bool.{cases_lt, lt-ltb}
-use Rattle.bittle_bits.specs.Digits.{digit_has, digit_set}
-use Rattle.bittle_bits.specs.LawProofs.{digit_has-past}
-use Rattle.bittle_bits.specs.Orders.{members}
+use Rattle.bittle_bits.specs.BitPatterns.{bit_has, bit_set}
+use Rattle.bittle_bits.specs.LawProofs.{bit_has-past}
+use Rattle.bittle_bits.specs.Orders.{read_in}
 use Rattle.bittle_bits.specs.PlainSet.{lacks}
 use Rattle.bittle_bits.specs.SetOperations.{combination_of, first_alone, just_one}
-use Rattle.bittle_bits.proofs.DigitSets.{zero_or_one, digit_has-and, digit_has-or, digit_has-not, digit_has-at}
+use Rattle.bittle_bits.proofs.BitSets.{zero_or_one, bit_has-and, bit_has-or, bit_has-not, bit_has-at}
 use Rattle.bittle_bits.proofs.PlainSets.{plain_set}
 use Rattle.bittle_bits.proofs.SetOperations.{combination-below, combination-outside, members-combination}
 
--- words: an operation on each digit
+-- words: an operation on each bit
 module _ (f : Bool → Bool → Bool) (w a b r : ℕ) where
-  -- a word whose every digit is decided by those of two words has their combined set
+  -- a word whose every bit is decided by those of two words has their combined set
   pub digits_combined : ((k : ℕ) → k < w →
-      digit_has w r k ≡ f (digit_has w a k) (digit_has w b k)) →
-      digit_set w r ≡ combination_of f (digit_set w a) (digit_set w b)
+      bit_has w r k ≡ f (bit_has w a k) (bit_has w b k)) →
+      bit_set w r ≡ combination_of f (bit_set w a) (bit_set w b)
   digits_combined h =
       ap (plain_set w) (fun_ext λ k.
       elim (cases_lt k w) [
-        | inl l ↦ h k l ∙ sym (combination-below f (digit_set w a) (digit_set w b) k l l)
-        | inr g ↦ digit_has-past w r k g
-            ∙ sym (combination-outside f (digit_set w a) (digit_set w b) k g
-            ∙ digit_has-past w a k g)
+        | inl l ↦ h k l ∙ sym (combination-below f (bit_set w a) (bit_set w b) k l l)
+        | inr g ↦ bit_has-past w r k g
+            ∙ sym (combination-outside f (bit_set w a) (bit_set w b) k g
+            ∙ bit_has-past w a k g)
       ])
 
   -- words combined in big-endian order are combined in each order
   pub word_combined : (m : Bool) → 0 < w →
-      digit_set w r ≡ combination_of f (digit_set w a) (digit_set w b) →
-      members m w (digit_set w r) ≡ combination_of f (members m w (digit_set w a))
-      (members m w (digit_set w b))
+      bit_set w r ≡ combination_of f (bit_set w a) (bit_set w b) →
+      read_in m w (bit_set w r) ≡ combination_of f (read_in m w (bit_set w a))
+      (read_in m w (bit_set w b))
   word_combined m word is =
       let one : (words : ℕ) × (w ≡ words * w) = (1, omega arith) in
-      ap (members m w) is ∙ members-combination f m w (digit_set w a) (digit_set w b) word one one
+      ap (read_in m w) is ∙ members-combination f m w (bit_set w a) (bit_set w b) word one one
 
--- the or of two words has the digits of either
-pub digits_either : (w a b : ℕ) → digit_set w (bit_or a b) ≡ combination_of ◌||◌ (digit_set w a)
-    (digit_set w b)
+-- the or of two words has the bits of either
+pub digits_either : (w a b : ℕ) → bit_set w (bit_or a b) ≡ combination_of ◌||◌ (bit_set w a)
+    (bit_set w b)
 digits_either w a b = digits_combined ◌||◌ w a b (bit_or a b)
-    (λ k h. ap (λ p. p k) (digit_has-or w a b))
+    (λ k h. ap (λ p. p k) (bit_has-or w a b))
 
--- the and of two words has the digits of both
-pub digits_both : (w a b : ℕ) → digit_set w (bit_and a b) ≡ combination_of ◌&&◌ (digit_set w a)
-    (digit_set w b)
+-- the and of two words has the bits of both
+pub digits_both : (w a b : ℕ) → bit_set w (bit_and a b) ≡ combination_of ◌&&◌ (bit_set w a)
+    (bit_set w b)
 digits_both w a b = digits_combined ◌&&◌ w a b (bit_and a b)
-    (λ k h. ap (λ p. p k) (digit_has-and w a b))
+    (λ k h. ap (λ p. p k) (bit_has-and w a b))
 
--- the and with the inverted second word has the digits of the first word alone
+-- the and with the inverted second word has the bits of the first word alone
 pub digits_first_alone : (w a b rest : ℕ) → b < 2 ^ w → rest ≡ 2 ^ w - 1 - b →
-    digit_set w (bit_and a rest) ≡ combination_of first_alone (digit_set w a) (digit_set w b)
+    bit_set w (bit_and a rest) ≡ combination_of first_alone (bit_set w a) (bit_set w b)
 unfolding lacks
 digits_first_alone w a b rest fits is =
     rw is (digits_combined first_alone w a b (bit_and a (2 ^ w - 1 - b)) (λ k h.
-    ap (λ p. p k) (digit_has-and w a (2 ^ w - 1 - b)) ∙ ap (λ p. digit_has w a k && p k)
-    (digit_has-not w b fits) ∙ ap (λ t. digit_has w a k && (t && not (digit_has w b k)))
+    ap (λ p. p k) (bit_has-and w a (2 ^ w - 1 - b)) ∙ ap (λ p. bit_has w a k && p k)
+    (bit_has-not w b fits) ∙ ap (λ t. bit_has w a k && (t && not (bit_has w b k)))
     (lt-ltb k w h)))
 
 one_of : (x y : ℕ) → x < 2 → y < 2 → ((x + y) % 2 == 1) ≡ just_one (x == 1) (y == 1)
@@ -67,11 +67,11 @@ one_of x y p q = elim (zero_or_one x p) [
       elim (zero_or_one y q) [ inl f ↦ rw (e, f) refl | inr f ↦ rw (e, f) refl ]
 ]
 
--- the exclusive or of two words has the digits of just one
-pub digits_just_one : (w a b : ℕ) → digit_set w (bit_xor a b)
-    ≡ combination_of just_one (digit_set w a) (digit_set w b)
+-- the exclusive or of two words has the bits of just one
+pub digits_just_one : (w a b : ℕ) → bit_set w (bit_xor a b)
+    ≡ combination_of just_one (bit_set w a) (bit_set w b)
 digits_just_one w a b = digits_combined just_one w a b (bit_xor a b) (λ k h.
-    digit_has-at w (bit_xor a b) k h ∙ ap (λ t. t == 1) (bit_at_xor a b k)
+    bit_has-at w (bit_xor a b) k h ∙ ap (λ t. t == 1) (bit_at_xor a b k)
     ∙ one_of (bit_at a k) (bit_at b k) (bit_at-lt a k) (bit_at-lt b k)
-    ∙ sym (ap (λ t. just_one t (digit_has w b k)) (digit_has-at w a k h)
-    ∙ ap (just_one (bit_at a k == 1)) (digit_has-at w b k h)))
+    ∙ sym (ap (λ t. just_one t (bit_has w b k)) (bit_has-at w a k h)
+    ∙ ap (just_one (bit_at a k == 1)) (bit_has-at w b k h)))

@@ -6,13 +6,13 @@ use Rattle.std.specs.Int.Count.{ones, ones-ones}
 use Rattle.std.proofs.lemmas.Nat.{ones_cat, mod-pow-add, mod_below, pow_pos}
 use Rattle.std.proofs.lemmas.Nat.Bits.{bit_at-lt}
 use Rattle.std.proofs.lemmas.Bool.{cases_eq, lt-ltb, eq-eqb, ne_eqb}
-use Rattle.bittle_bits.specs.Digits.{digit_has, digit_set}
+use Rattle.bittle_bits.specs.BitPatterns.{bit_has, bit_set}
 use Rattle.bittle_bits.specs.PlainSet.{count_below, size, complement}
-use Rattle.bittle_bits.proofs.DigitSets.{digit_has-zero, digit_has-not, digit_has-below, some_digit}
+use Rattle.bittle_bits.proofs.BitSets.{bit_has-zero, bit_has-not, bit_has-below, some_digit}
 use Rattle.bittle_bits.proofs.Counts.{count-same, count-some, count-never}
 use Rattle.bittle_bits.proofs.Sizes.{size-complement}
 
--- the digits of a word
+-- the bits of a word
 one_digit : (b : ℕ) → b < 2 → ones b ≡ cond (b == 1) 1 0
 one_digit b h = elim (cases_eq b 0) [
   | inl e ↦ rw e (ones-ones 0)
@@ -31,32 +31,32 @@ low_digits (suc k) d =
     ∙ sym (ap ones e ∙ ones_cat k (bit_at d k) (d % 2 ^ k) (mod_below d (2 ^ k) (pow_pos k))
     ∙ ap (λ n. n + ones (d % 2 ^ k)) (one_digit (bit_at d k) (bit_at-lt d k)) ∙ add_comm _ _)
 
--- the count of the ones of a word is that of the digits that it has
-pub size-digit_set : (w d n : ℕ) → n ≡ ones d → d < 2 ^ w → n ≡ count_below w (digit_has w d)
-unfolding digit_has
-size-digit_set w d n is h =
+-- the count of the ones of a pattern is that of the bits that are set
+pub size-bit_set : (w d n : ℕ) → n ≡ ones d → d < 2 ^ w → n ≡ count_below w (bit_has w d)
+unfolding bit_has
+size-bit_set w d n is h =
     is ∙ sym (count-same w _ _ (λ k l. ap (λ t. t && (bit_at d k == 1)) (lt-ltb k w l))
     ∙ low_digits w d ∙ ap ones (mod-eq_of_lt h))
 
--- a word of no digit, and one that lacks none
-pub word_empty : (w d : ℕ) → d < 2 ^ w → (d == 0) ≡ (size (digit_set w d) == 0)
+-- a word with no bit set, and one with each bit set
+pub word_empty : (w d : ℕ) → d < 2 ^ w → (d == 0) ≡ (size (bit_set w d) == 0)
 word_empty w d fits =
     elim (cases_eq d 0) [
       | inl z ↦ eq-eqb d 0 z ∙ sym (eq-eqb _ 0
-          (ap (count_below w) (digit_has-zero w d z) ∙ count-never w))
+          (ap (count_below w) (bit_has-zero w d z) ∙ count-never w))
       | inr n ↦ let k = some_digit w d fits n in
-          let m = count-some w k.0 (digit_has w d) (digit_has-below w d k.0 k.1) k.1 in
+          let m = count-some w k.0 (bit_has w d) (bit_has-below w d k.0 k.1) k.1 in
           ne_eqb d 0 n ∙ sym (ne_eqb _ 0 (λ z. omega arith))
     ]
 
 -- the inverted word is 0 exactly where the size of the word's set is its width
 pub word_full : (w d e : ℕ) → d < 2 ^ w → e < 2 ^ w → e ≡ 2 ^ w - 1 - d →
-    (e == 0) ≡ (size (digit_set w d) == w)
+    (e == 0) ≡ (size (bit_set w d) == w)
 word_full w d e fits low is =
-    let rest : size (digit_set w e) ≡ size (complement (digit_set w d)) = ap (count_below w)
-    (ap (digit_has w) is ∙ digit_has-not w d fits) in
-    let all = size-complement (digit_set w d) in
-    word_empty w e low ∙ elim (cases_eq (size (digit_set w d)) w) [
+    let rest : size (bit_set w e) ≡ size (complement (bit_set w d)) = ap (count_below w)
+    (ap (bit_has w) is ∙ bit_has-not w d fits) in
+    let all = size-complement (bit_set w d) in
+    word_empty w e low ∙ elim (cases_eq (size (bit_set w d)) w) [
       | inl y ↦ eq-eqb _ 0 (omega arith) ∙ sym (eq-eqb _ w y)
       | inr n ↦ ne_eqb _ 0 (λ z. n (omega arith)) ∙ sym (ne_eqb _ w n)
     ]

@@ -3,8 +3,8 @@ use Rattle.std.proofs.Common.{◌≡◌, ℕ, suc, ◌+◌, ◌*◌, ◌<◌, �
 use Rattle.std.proofs.Math.Path.{fun_ext}
 use Rattle.std.proofs.Math.Nat.{zero-mul, lt_of_mul-lt-mul_right, mul-le-mul_right}
 use Rattle.std.proofs.lemmas.Bool.{cases_lt, lt-ltb, le-ltb}
-use Rattle.bittle_bits.specs.Digits.{digit_has, digit_set}
-use Rattle.bittle_bits.specs.Orders.{place, members}
+use Rattle.bittle_bits.specs.BitPatterns.{bit_has, bit_set}
+use Rattle.bittle_bits.specs.Orders.{place, read_in}
 use Rattle.bittle_bits.specs.PlainSet.{PlainSet}
 use Rattle.bittle_bits.specs.Words.{word_has, word_of}
 use Rattle.bittle_bits.proofs.PlaceLemmas.{place_part, place_in_word}
@@ -16,22 +16,22 @@ unfolding word_has
 word_has-at w s k i h = ap (λ b. b && s.has (k * w + i)) (lt-ltb i w h)
 
 -- a word is its own only word
-pub word_of-digits : (w d k : ℕ) → k * w < w → digit_set w d ≡ word_of w (digit_set w d) k
-unfolding word_has digit_has
-word_of-digits w d k h =
+pub word_of-pattern : (w d k : ℕ) → k * w < w → bit_set w d ≡ word_of w (bit_set w d) k
+unfolding word_has bit_has
+word_of-pattern w d k h =
     let one : k * w < 1 * w = omega arith in
     let low : k < 1 = lt_of_mul-lt-mul_right w one in
     let zero : k ≡ 0 = omega arith in
     let none : k * w ≡ 0 = ap (λ t. t * w) zero ∙ zero-mul w in
     ap (plain_set w) (fun_ext λ i. elim (cases_lt i w) [
       | inl l ↦ let e : i ≡ k * w + i = omega arith in
-          ap (digit_has w d) e ∙ sym (ap (λ b. b && digit_has w d (k * w + i)) (lt-ltb i w l))
+          ap (bit_has w d) e ∙ sym (ap (λ b. b && bit_has w d (k * w + i)) (lt-ltb i w l))
       | inr g ↦ rw (le-ltb i w g) refl
     ])
 
 -- the members of word k in an order are those of the set from k * w on
 module _ (m : Bool) (w k : ℕ) (s : PlainSet) (d : ℕ) (word : 0 < w) where
-  member_at : (i : ℕ) → i < w → (members m w s).has (k * w + i) ≡ s.has (k * w + place m w i)
+  member_at : (i : ℕ) → i < w → (read_in m w s).has (k * w + i) ≡ s.has (k * w + place m w i)
   member_at i h =
       let one : k * (1 * w) ≡ k * w = omega arith in
       let b : i < 1 * w = omega arith in
@@ -39,9 +39,9 @@ module _ (m : Bool) (w k : ℕ) (s : PlainSet) (d : ℕ) (word : 0 < w) where
       in
       ap s.has e
 
-  -- the digits of word k in an order
-  pub digit_at : digit_set w d ≡ word_of w s k → (i : ℕ) → i < w →
-      (members m w (digit_set w d)).has i ≡ (members m w s).has (k * w + i)
+  -- the bits of word k in an order
+  pub digit_at : bit_set w d ≡ word_of w s k → (i : ℕ) → i < w →
+      (read_in m w (bit_set w d)).has i ≡ (read_in m w s).has (k * w + i)
   digit_at is i h = ap (λ t. t.has (place m w i)) is ∙ word_has-at w s k (place m w i)
       (place_in_word m w i h) ∙ sym (member_at i h)
 

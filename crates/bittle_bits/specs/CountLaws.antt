@@ -5,7 +5,7 @@ use Rattle.bittle_bits.specs.PlainSet.{PlainSet, size, complement, ascending}
 
 -- the members and the others are as many as the capacity, the lists of both are as long as their
 -- counts, and each number below the capacity is in just one of the lists
-pub record Splits (s : PlainSet) : Type 0 where
+pub record IsPartitioned (s : PlainSet) : Type 0 where
   pub total : size s + size (complement s) ≡ s.capacity
   pub ones_listed : length (ascending s) ≡ size s
   pub zeros_listed : length (ascending (complement s)) ≡ size (complement s)
@@ -13,5 +13,5 @@ pub record Splits (s : PlainSet) : Type 0 where
       list_any (λ i. i == k) (ascending (complement s)) ≡ not (list_any (λ i. i == k) (ascending s))
 
 -- so it is of every set
-abbrev pub OnesAndZerosSplit : Type 0
-OnesAndZerosSplit = (s : PlainSet) → Splits s
+abbrev pub OnesAndZerosPartition : Type 0
+OnesAndZerosPartition = (s : PlainSet) → IsPartitioned s

@@ -29,14 +29,14 @@ module _ {I A : Type 0} (steps : I → Option A → I → Type 0) where
   -- counted from its first item, or `None` where there is no such item; with no member left it took
   -- nothing
   abbrev pub JoinsNext : List ℕ → Join I → Option A → Join I → Type 0
-  JoinsNext [] s r t = (r ≡ None) × (t.mask.left ≡ []) × (t.iter ≡ s.iter) × (t.taken ≡ s.taken)
-  JoinsNext (m ∷ ms) s r t = (t.mask.left ≡ ms) × (t.taken ≡ m + 1) × SkipsThenYields steps s.iter
+  JoinsNext [] s r t = (r ≡ None) × (t.mask.remaining ≡ []) × (t.iter ≡ s.iter) × (t.taken ≡ s.taken)
+  JoinsNext (m ∷ ms) s r t = (t.mask.remaining ≡ ms) × (t.taken ≡ m + 1) × SkipsThenYields steps s.iter
       (m - s.taken) r t.iter
 
   -- after `None` a join gives `None` and asks neither its mask nor its iterator
   abbrev pub join_steps : Join I → Option A → Join I → Type 0
   join_steps s r t = MatchOption r (t.ended ≡ true) (λ _. t.ended ≡ false)
-      × (s.ended ≡ true → (r ≡ None) × (t ≡ s)) × (s.ended ≡ false → JoinsNext s.mask.left s r t)
+      × (s.ended ≡ true → (r ≡ None) × (t ≡ s)) × (s.ended ≡ false → JoinsNext s.mask.remaining s r t)
 
 -- Of an iterator whose next item is at place `from`: the items `taken` were taken, up to the last
 -- of the members that were answered, and the answers are those of them at the first of these
@@ -53,8 +53,8 @@ module _ {I A : Type 0} (steps : I → Option A → I → Type 0) (s : Join I) w
   abbrev pub AnswersItemsAtMembers : Type 0
   AnswersItemsAtMembers = (answers : List A) (t : Join I) → Yields (join_steps steps) s answers t
       → (taken : List A) × Yields steps s.iter taken t.iter
-      × IsJoin s.taken s.mask.left taken answers
-      × (t.mask.left ≡ drop (length answers) s.mask.left) × (t.taken ≡ s.taken + length taken)
+      × IsJoin s.taken s.mask.remaining taken answers
+      × (t.mask.remaining ≡ drop (length answers) s.mask.remaining) × (t.taken ≡ s.taken + length taken)
       × (t.ended ≡ false)
 
   -- With no member left nothing further was taken; else the iterator came to its end at or before
@@ -69,5 +69,5 @@ module _ {I A : Type 0} (steps : I → Option A → I → Type 0) (s : Join I) w
   abbrev pub EndsAfterMembers : Type 0
   EndsAfterMembers = (answers : List A) (t : Join I) →
       YieldsThen (join_steps steps) s answers None t
-      → (taken : List A) × IsJoin s.taken s.mask.left taken answers
-      × EndsAt taken (drop (length answers) s.mask.left) t
+      → (taken : List A) × IsJoin s.taken s.mask.remaining taken answers
+      × EndsAt taken (drop (length answers) s.mask.remaining) t

@@ -1,11 +1,11 @@
-pub mod Digits
+pub mod BitPatterns
 pub mod LawProofs
 pub mod Orders
 pub mod PlainSet
 pub mod SetOperations
 pub mod Walk
 pub mod Words
-pub mod Copies
+pub mod Buffers
 pub mod Join
 pub mod OrderLaws
 pub mod RowLawProofs

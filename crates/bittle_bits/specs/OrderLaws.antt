@@ -1,6 +1,6 @@
 -- Laws of the two orders, for words of every width.
 use Rattle.std.specs.Prelude.{◌≡◌, ℕ, ◌*◌, ◌%◌, ◌<◌, Bool}
-use Rattle.bittle_bits.specs.Orders.{mirror, place, members}
+use Rattle.bittle_bits.specs.Orders.{mirror, place, read_in}
 use Rattle.bittle_bits.specs.PlainSet.{PlainSet, contains}
 
 -- each index of a word has a place in the word
@@ -8,8 +8,8 @@ abbrev pub PlacesAreInTheWord : Bool → Type 0
 PlacesAreInTheWord mirrored = (w i : ℕ) → i < w → place mirrored w i < w
 
 -- no two indexes have the same place
-abbrev pub PlacesAreApart : Bool → Type 0
-PlacesAreApart mirrored = (w i j : ℕ) → 0 < w → place mirrored w i ≡ place mirrored w j → i ≡ j
+abbrev pub PlacesAreDistinct : Bool → Type 0
+PlacesAreDistinct mirrored = (w i j : ℕ) → 0 < w → place mirrored w i ≡ place mirrored w j → i ≡ j
 
 -- the place of an index in one order is that of the mirrored index in the other
 abbrev pub PlacesMirror : Bool → Bool → Type 0
@@ -17,8 +17,8 @@ PlacesMirror one other = (w i : ℕ) → 0 < w → place one w i ≡ place other
 
 -- an index is a member in one order exactly if the mirrored index is one in the other
 abbrev pub MembersMirror : Bool → Bool → ℕ → PlainSet → Type 0
-MembersMirror one other w s = (i : ℕ) → (members one w s).has i
-    ≡ (members other w s).has (mirror w i)
+MembersMirror one other w s = (i : ℕ) → (read_in one w s).has i
+    ≡ (read_in other w s).has (mirror w i)
 
 -- mirroring an index twice gives it back
 abbrev pub MirroringTwiceIsNothing : Type 0

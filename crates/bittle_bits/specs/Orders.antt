@@ -1,8 +1,8 @@
--- The two orders in which the digits of each word are read.
+-- The two orders in which the bits of each word are indexed.
 use Rattle.std.specs.Prelude.{ℕ, ◌+◌, ◌-◌, ◌%◌, Bool, true, false}
 use Rattle.bittle_bits.specs.PlainSet.{PlainSet}
 
--- the index mirrored within its word of w digits
+-- the index mirrored within its word of w bits
 unfoldable pub mirror : ℕ → ℕ → ℕ
 mirror w i = (i - i % w) + (w - 1 - i % w)
 
@@ -11,6 +11,6 @@ abbrev pub place : Bool → ℕ → ℕ → ℕ
 place false w i = i
 place true w i = mirror w i
 
--- the members in an order, mirrored or not, of a set that is given in big-endian order
-abbrev pub members : Bool → ℕ → PlainSet → PlainSet
-members mirrored w s = record { capacity = s.capacity; has = λ i. s.has (place mirrored w i) }
+-- a set that is given in big-endian order, read in an order, mirrored or not
+abbrev pub read_in : Bool → ℕ → PlainSet → PlainSet
+read_in mirrored w s = record { capacity = s.capacity; has = λ i. s.has (place mirrored w i) }

@@ -4,13 +4,13 @@ use Rattle.std.proofs.Math.Nat.{mul_assoc}
 use Rattle.std.proofs.lemmas.Bool.{le-ltb, ltb-true, and_parts, true≢false}
 use Rattle.std.specs.Cmp.Lexicographic.{pointwise}
 use Rattle.bittle_bits.specs.PlainSet.{PlainSet}
-use Rattle.bittle_bits.specs.Rows.{at_element, elements_has, elements_set}
+use Rattle.bittle_bits.specs.Rows.{at_element, row_has, row_set}
 
 -- no member lies past the row
-pub elements_has-past : {X : Type 0} (n c : ℕ) (f : X → ℕ → Bool) (xs : List X) (i : ℕ) →
-    n * c ≤ i → elements_has n c f xs i ≡ false
-unfolding elements_has
-elements_has-past n c f xs i h = rw (le-ltb i (n * c) h)
+pub row_has-past : {X : Type 0} (n c : ℕ) (f : X → ℕ → Bool) (xs : List X) (i : ℕ) →
+    n * c ≤ i → row_has n c f xs i ≡ false
+unfolding row_has
+row_has-past n c f xs i h = rw (le-ltb i (n * c) h)
 
 -- elements of whole words make a row of whole words
 pub words_of : (n c w : ℕ) → (words : ℕ) × (c ≡ words * w) → (words : ℕ) × (n * c ≡ words * w)
@@ -34,14 +34,14 @@ module _ {X : Type 0} {eq : X → X → Bool} (c : ℕ) (big : X → PlainSet) (
       (and_parts (eq x y) (pointwise eq xs ys) h).1
 
   same_test : (n : ℕ) (xs ys : List X) → IsTrue (pointwise eq xs ys) → (i : ℕ) →
-      elements_has n c (λ x. (big x).has) xs i ≡ elements_has n c (λ x. (big x).has) ys i
-  unfolding elements_has
+      row_has n c (λ x. (big x).has) xs i ≡ row_has n c (λ x. (big x).has) ys i
+  unfolding row_has
   same_test n xs ys h i = ap (λ b. nat_lt i (n * c) && b) (equal_elements xs ys (i / c) (i % c) h)
 
 -- rows that are equal element by element are one set
 pub equal_rows : {X : Type 0} {eq : X → X → Bool} (n c : ℕ) (big : X → PlainSet) →
     ((x y : X) → IsTrue (eq x y) → big x ≡ big y) →
     (xs ys : List X) → IsTrue (pointwise eq xs ys) →
-    elements_set n c big xs ≡ elements_set n c big ys
+    row_set n c big xs ≡ row_set n c big ys
 equal_rows n c big each xs ys h = λ k. record
     { capacity = n * c; has = λ i. same_test c big each n xs ys h i k }

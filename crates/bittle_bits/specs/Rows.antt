@@ -9,12 +9,12 @@ at_element p (x ∷ xs) zero = p x
 at_element p (x ∷ xs) (suc n) = at_element p xs n
 
 -- whether the number is the index of a member of its element, of n elements of capacity c
-unfoldable pub elements_has : {X : Type 0} → ℕ → ℕ → (X → ℕ → Bool) → List X → ℕ → Bool
-elements_has n c has xs i = nat_lt i (n * c) && at_element (λ x. has x (i % c)) xs (i / c)
+unfoldable pub row_has : {X : Type 0} → ℕ → ℕ → (X → ℕ → Bool) → List X → ℕ → Bool
+row_has n c has xs i = nat_lt i (n * c) && at_element (λ x. has x (i % c)) xs (i / c)
 
 -- the set of n elements, each of capacity c: member r of element q is member q * c + r of the row
-abbrev pub elements_set : {X : Type 0} → ℕ → ℕ → (X → PlainSet) → List X → PlainSet
-elements_set n c big xs = record { capacity = n * c; has = elements_has n c (λ x. (big x).has) xs }
+abbrev pub row_set : {X : Type 0} → ℕ → ℕ → (X → PlainSet) → List X → PlainSet
+row_set n c big xs = record { capacity = n * c; has = row_has n c (λ x. (big x).has) xs }
 
 -- an index, which wraps at the capacity of n elements of capacity c, is index r of element q
 pub record GoesTo (n c i q r : ℕ) : Type 0 where

@@ -1,4 +1,4 @@
--- What contracts see of a walk.
+-- What contracts see of an iterator, which is called a walk here.
 use Rattle.std.specs.Prelude.{◌≡◌, ℕ, ◌+◌, ◌<◌, ◌≤◌, Bool, true, false, List, length, slice_index, Option, Some, None}
 use Rattle.std.specs.Iterator.{YieldsFirst, YieldsLast}
 use Rattle.std.specs.Iterator.Runs.{YieldsInOrder, YieldsInReverse}
@@ -15,10 +15,10 @@ AreBelow c xs = (length xs ≤ c) × ((k : ℕ) → k < length xs → slice_inde
 
 -- a walk
 pub record Walk : Type 0 where
-  -- the items that it has left, in increasing order
-  pub left : List ℕ
-  -- how many looks at words it has made, and how many items it has given
-  pub looks : ℕ
+  -- the items that remain, in increasing order
+  pub remaining : List ℕ
+  -- how many scans of words it has made, and how many items it has yielded
+  pub scans : ℕ
   pub items : ℕ
   -- how many words it has fetched, and how many it has not fetched yet
   pub fetches : ℕ
@@ -26,11 +26,11 @@ pub record Walk : Type 0 where
   -- how many words its set has
   pub words : ℕ
 
--- the looks are at least the items given, and at most these and the words; the words fetched and
+-- the scans are at least the items yielded, and at most these and the words; the words fetched and
 -- the unread are at most the words
-pub record IsThrifty (w : Walk) : Type 0 where
-  pub at_least : w.items ≤ w.looks
-  pub at_most : w.looks ≤ w.items + w.words
+pub record IsScanBounded (w : Walk) : Type 0 where
+  pub at_least : w.items ≤ w.scans
+  pub at_most : w.scans ≤ w.items + w.words
   pub once : w.fetches + w.unread ≤ w.words
 
 -- one more where a step gave an item
@@ -41,47 +41,47 @@ count_after n (Some item) = n + 1
 -- a step from the front: it gave the first item that was left, or None where none was, and each
 -- word that it fetched was unread
 pub record StepsFront (before : Walk) (r : Option ℕ) (after : Walk) : Type 0 where
-  pub gave : YieldsFirst (λ w. w.left) before r after
+  pub gave : YieldsFirst (λ w. w.remaining) before r after
   pub items : after.items ≡ count_after before.items r
-  pub looks : before.looks ≤ after.looks
+  pub scans : before.scans ≤ after.scans
   pub fetches : before.fetches ≤ after.fetches
   pub unread : after.fetches + after.unread ≡ before.fetches + before.unread
   pub words : after.words ≡ before.words
-  pub thrifty : IsThrifty after
+  pub bounded : IsScanBounded after
 
 -- a step from the back: it gave the last item that was left, or None where none was, and each word
 -- that it fetched was unread
 pub record StepsBack (before : Walk) (r : Option ℕ) (after : Walk) : Type 0 where
-  pub gave : YieldsLast (λ w. w.left) before r after
+  pub gave : YieldsLast (λ w. w.remaining) before r after
   pub items : after.items ≡ count_after before.items r
-  pub looks : before.looks ≤ after.looks
+  pub scans : before.scans ≤ after.scans
   pub fetches : before.fetches ≤ after.fetches
   pub unread : after.fetches + after.unread ≡ before.fetches + before.unread
   pub words : after.words ≡ before.words
-  pub thrifty : IsThrifty after
+  pub bounded : IsScanBounded after
 
 -- a walk that has not stepped yet: it has fetched a word for each end at most; and what runs of its
 -- steps give
 pub record IsFresh (words : ℕ) (w : Walk) : Type 0 where
-  pub looks : w.looks ≡ 0
+  pub scans : w.scans ≡ 0
   pub items : w.items ≡ 0
   pub fetches : w.fetches ≤ 2
   pub words_are : w.words ≡ words
-  pub thrifty : IsThrifty w
-  pub in_order : YieldsInOrder StepsFront (λ s. s.left)
-  pub in_reverse : YieldsInReverse StepsBack (λ s. s.left)
+  pub bounded : IsScanBounded w
+  pub in_order : YieldsInOrder StepsFront (λ s. s.remaining)
+  pub in_reverse : YieldsInReverse StepsBack (λ s. s.remaining)
 
 -- a clone has what its source has left, items and unread words, and has counted nothing
 pub record ResumesAs (source clone : Walk) : Type 0 where
-  pub left : clone.left ≡ source.left
+  pub remaining : clone.remaining ≡ source.remaining
   pub unread : clone.unread ≡ source.unread
   pub fetches : clone.fetches ≡ 0
   pub fresh : IsFresh source.words clone
 
 -- runs of steps over a list of numbers give it from its first item on
 abbrev pub ListsInOrder : Type 0
-ListsInOrder = YieldsInOrder (YieldsFirst (λ (left : List ℕ). left)) (λ left. left)
+ListsInOrder = YieldsInOrder (YieldsFirst (λ (items : List ℕ). items)) (λ items. items)
 
 -- runs of steps from the back of a list of numbers give its items in reverse
 abbrev pub ListsInReverse : Type 0
-ListsInReverse = YieldsInReverse (YieldsLast (λ (left : List ℕ). left)) (λ left. left)
+ListsInReverse = YieldsInReverse (YieldsLast (λ (items : List ℕ). items)) (λ items. items)

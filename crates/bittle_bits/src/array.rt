@@ -1,9 +1,9 @@
 //! Arrays as sets.
 
 ghost use Rattle.std.specs.Prelude.{◌≡◌, ◌*◌, ◌&&◌, Bool, nat_lt, refl};
-ghost use Rattle.bittle_bits.specs.RowLawProofs.{elements_has-past, words_of, second_is_below, equal_rows};
-ghost use Rattle.bittle_bits.specs.Orders.{members};
-ghost use Rattle.bittle_bits.specs.Rows.{elements_set};
+ghost use Rattle.bittle_bits.specs.RowLawProofs.{row_has-past, words_of, second_is_below, equal_rows};
+ghost use Rattle.bittle_bits.specs.Orders.{read_in};
+ghost use Rattle.bittle_bits.specs.Rows.{row_set};
 ghost use Rattle.bittle_bits.specs.SetOperations.{combination_of};
 
 use crate::bits::Bits;
@@ -24,7 +24,7 @@ impl<T: OwnedShape, const N: usize> Shape for [T; N] {
 
     ghost indexable = { T.indexable && nat_lt (N * T.type_capacity) 4294967295 };
 
-    ghost big = { λ v. elements_set N T.type_capacity T.big v };
+    ghost big = { λ v. row_set N T.type_capacity T.big v };
 }
 
 impl<T: OwnedShape, const N: usize> OwnedShape for [T; N] {
@@ -36,10 +36,10 @@ impl<T: OwnedShape, const N: usize> OwnedShape for [T; N] {
 #[inline]
 fn combine<T: BitsOwned, O: Operation, const N: usize>(elements: &mut [T; N], others: &[T; N])
     ensures { (mirrored : Bool)
-        → members mirrored T.width (elements_set N T.type_capacity T.big elements.new)
+        → read_in mirrored T.width (row_set N T.type_capacity T.big elements.new)
         ≡ combination_of O.decide
-        (members mirrored T.width (elements_set N T.type_capacity T.big elements.old))
-        (members mirrored T.width (elements_set N T.type_capacity T.big others.now)) }
+        (read_in mirrored T.width (row_set N T.type_capacity T.big elements.old))
+        (read_in mirrored T.width (row_set N T.type_capacity T.big others.now)) }
 {
     if N <= 16 {
         let others = *others;
@@ -58,7 +58,7 @@ impl<T: BitsOwned, const N: usize> Bits for [T; N] {
 
     ghost whole_words = { λ _. words_of N _ _ T.type_whole_words };
 
-    ghost none_past = { λ v i h. elements_has-past N T.type_capacity (λ x. (T.big x).has) v i h };
+    ghost none_past = { λ v i h. row_has-past N T.type_capacity (λ x. (T.big x).has) v i h };
 
     #[inline]
     fn bits_capacity(&self) -> u32 {

@@ -1,7 +1,7 @@
 //! Reading a set.
 
 ghost use Rattle.std.specs.Prelude.{◌≡◌, ◌==◌, ℕ, ◌*◌, ◌-◌, ◌/◌, ◌<◌, ◌≤◌, Bool, false, IsTrue};
-ghost use Rattle.bittle_bits.specs.Digits.{digit_set};
+ghost use Rattle.bittle_bits.specs.BitPatterns.{bit_set};
 ghost use Rattle.bittle_bits.specs.Join.{AnswersItemsAtMembers, EndsAfterMembers};
 ghost use Rattle.bittle_bits.specs.PlainSet.{contains, size, ascending, complement};
 ghost use Rattle.bittle_bits.specs.Searches.{IsFirstIn, IsLastIn};
@@ -11,8 +11,8 @@ ghost use Rattle.bittle_bits.specs.Words.{word_of};
 
 use crate::endian::{BigEndian, DefaultEndian, Endian, LittleEndian};
 use crate::internal::kind::{Ones, Zeros};
-use crate::internal::look::Source;
 use crate::internal::search;
+use crate::internal::source::Source;
 use crate::join::JoinOnes;
 use crate::shape::Shape;
 use crate::walk::{Iter, IterOnes, IterZeros};
@@ -106,7 +106,7 @@ pub trait Bits: Drop + Shape {
     fn nth_leaf_word(&self, k: u32) -> Self::LeafWord
         requires fits { ShapeFits Self.Shape self.now }
         requires within { k * Self.width < (Self.big self.now).capacity }
-        ensures { digit_set Self.width (Self.LeafWord.digits result)
+        ensures { bit_set Self.width (Self.LeafWord.pattern result)
             ≡ word_of Self.width (Self.big self.now) k };
 
     /// Tests a bit in the order of the type, as [`test_bit_in`](Bits::test_bit_in) does.
@@ -247,9 +247,9 @@ pub trait Bits: Drop + Shape {
     where
         Self: Sized,
         requires { ShapeFits Self.Shape self.now }
-        ensures left { result.left ≡ ascending (set_in Self.Shape E.Endian self.now) }
+        ensures remaining { result.remaining ≡ ascending (set_in Self.Shape E.Endian self.now) }
         ensures fresh { IsFresh ((Self.big self.now).capacity / Self.width) result }
-        ensures below { AreBelow (Self.big self.now).capacity result.left }
+        ensures below { AreBelow (Self.big self.now).capacity result.remaining }
     {
         Iter::new(Source::new(self))
     }
@@ -268,9 +268,9 @@ pub trait Bits: Drop + Shape {
     where
         Self: Sized,
         requires { ShapeFits Self.Shape self.now }
-        ensures left { result.left ≡ ascending (complement (set_in Self.Shape E.Endian self.now)) }
+        ensures remaining { result.remaining ≡ ascending (complement (set_in Self.Shape E.Endian self.now)) }
         ensures fresh { IsFresh ((Self.big self.now).capacity / Self.width) result }
-        ensures below { AreBelow (Self.big self.now).capacity result.left }
+        ensures below { AreBelow (Self.big self.now).capacity result.remaining }
     {
         Iter::new(Source::new(self))
     }
@@ -287,9 +287,9 @@ pub trait Bits: Drop + Shape {
     where
         Self: Sized,
         requires { ShapeFits Self.Shape self.now }
-        ensures left { result.left ≡ ascending (set_in Self.Shape Self.Order.Endian self.now) }
+        ensures remaining { result.remaining ≡ ascending (set_in Self.Shape Self.Order.Endian self.now) }
         ensures fresh { IsFresh ((Self.big self.now).capacity / Self.width) result }
-        ensures below { AreBelow (Self.big self.now).capacity result.left }
+        ensures below { AreBelow (Self.big self.now).capacity result.remaining }
     {
         self.iter_ones_in::<Self::Order>()
     }
@@ -305,10 +305,10 @@ pub trait Bits: Drop + Shape {
     where
         Self: Sized,
         requires { ShapeFits Self.Shape self.now }
-        ensures left { result.left
+        ensures remaining { result.remaining
             ≡ ascending (set_in Self.Shape ⟦<LittleEndian as Endian>⟧ self.now) }
         ensures fresh { IsFresh ((Self.big self.now).capacity / Self.width) result }
-        ensures below { AreBelow (Self.big self.now).capacity result.left }
+        ensures below { AreBelow (Self.big self.now).capacity result.remaining }
     {
         self.iter_ones_in::<LittleEndian>()
     }
@@ -324,10 +324,10 @@ pub trait Bits: Drop + Shape {
     where
         Self: Sized,
         requires { ShapeFits Self.Shape self.now }
-        ensures left { result.left
+        ensures remaining { result.remaining
             ≡ ascending (set_in Self.Shape ⟦<BigEndian as Endian>⟧ self.now) }
         ensures fresh { IsFresh ((Self.big self.now).capacity / Self.width) result }
-        ensures below { AreBelow (Self.big self.now).capacity result.left }
+        ensures below { AreBelow (Self.big self.now).capacity result.remaining }
     {
         self.iter_ones_in::<BigEndian>()
     }
@@ -343,10 +343,10 @@ pub trait Bits: Drop + Shape {
     where
         Self: Sized,
         requires { ShapeFits Self.Shape self.now }
-        ensures left { result.left
+        ensures remaining { result.remaining
             ≡ ascending (complement (set_in Self.Shape Self.Order.Endian self.now)) }
         ensures fresh { IsFresh ((Self.big self.now).capacity / Self.width) result }
-        ensures below { AreBelow (Self.big self.now).capacity result.left }
+        ensures below { AreBelow (Self.big self.now).capacity result.remaining }
     {
         self.iter_zeros_in::<Self::Order>()
     }
@@ -362,10 +362,10 @@ pub trait Bits: Drop + Shape {
     where
         Self: Sized,
         requires { ShapeFits Self.Shape self.now }
-        ensures left { result.left
+        ensures remaining { result.remaining
             ≡ ascending (complement (set_in Self.Shape ⟦<LittleEndian as Endian>⟧ self.now)) }
         ensures fresh { IsFresh ((Self.big self.now).capacity / Self.width) result }
-        ensures below { AreBelow (Self.big self.now).capacity result.left }
+        ensures below { AreBelow (Self.big self.now).capacity result.remaining }
     {
         self.iter_zeros_in::<LittleEndian>()
     }
@@ -381,10 +381,10 @@ pub trait Bits: Drop + Shape {
     where
         Self: Sized,
         requires { ShapeFits Self.Shape self.now }
-        ensures left { result.left
+        ensures remaining { result.remaining
             ≡ ascending (complement (set_in Self.Shape ⟦<BigEndian as Endian>⟧ self.now)) }
         ensures fresh { IsFresh ((Self.big self.now).capacity / Self.width) result }
-        ensures below { AreBelow (Self.big self.now).capacity result.left }
+        ensures below { AreBelow (Self.big self.now).capacity result.remaining }
     {
         self.iter_zeros_in::<BigEndian>()
     }
@@ -407,8 +407,8 @@ pub trait Bits: Drop + Shape {
         Self: Sized,
         I::Item: Drop,
         requires { ShapeFits Self.Shape self.now }
-        ensures members { result.mask.left ≡ ascending (set_in Self.Shape E.Endian self.now) }
-        ensures below { AreBelow (Self.big self.now).capacity result.mask.left }
+        ensures members { result.mask.remaining ≡ ascending (set_in Self.Shape E.Endian self.now) }
+        ensures below { AreBelow (Self.big self.now).capacity result.mask.remaining }
         ensures iter { I.into_iter_gives iter result.iter }
         ensures none_taken { result.taken ≡ 0 }
         ensures goes_on { result.ended ≡ false }
@@ -433,9 +433,9 @@ pub trait Bits: Drop + Shape {
         Self: Sized,
         I::Item: Drop,
         requires { ShapeFits Self.Shape self.now }
-        ensures members { result.mask.left
+        ensures members { result.mask.remaining
             ≡ ascending (set_in Self.Shape ⟦<DefaultEndian as Endian>⟧ self.now) }
-        ensures below { AreBelow (Self.big self.now).capacity result.mask.left }
+        ensures below { AreBelow (Self.big self.now).capacity result.mask.remaining }
         ensures iter { I.into_iter_gives iter result.iter }
         ensures none_taken { result.taken ≡ 0 }
         ensures goes_on { result.ended ≡ false }
@@ -459,9 +459,9 @@ pub trait Bits: Drop + Shape {
         Self: Sized,
         I::Item: Drop,
         requires { ShapeFits Self.Shape self.now }
-        ensures members { result.mask.left
+        ensures members { result.mask.remaining
             ≡ ascending (set_in Self.Shape ⟦<LittleEndian as Endian>⟧ self.now) }
-        ensures below { AreBelow (Self.big self.now).capacity result.mask.left }
+        ensures below { AreBelow (Self.big self.now).capacity result.mask.remaining }
         ensures iter { I.into_iter_gives iter result.iter }
         ensures none_taken { result.taken ≡ 0 }
         ensures goes_on { result.ended ≡ false }
@@ -485,9 +485,9 @@ pub trait Bits: Drop + Shape {
         Self: Sized,
         I::Item: Drop,
         requires { ShapeFits Self.Shape self.now }
-        ensures members { result.mask.left
+        ensures members { result.mask.remaining
             ≡ ascending (set_in Self.Shape ⟦<BigEndian as Endian>⟧ self.now) }
-        ensures below { AreBelow (Self.big self.now).capacity result.mask.left }
+        ensures below { AreBelow (Self.big self.now).capacity result.mask.remaining }
         ensures iter { I.into_iter_gives iter result.iter }
         ensures none_taken { result.taken ≡ 0 }
         ensures goes_on { result.ended ≡ false }
@@ -500,7 +500,7 @@ pub trait Bits: Drop + Shape {
     // The integers that the set is made of have the width of its words.
     ghost leaf_width: { Self.LeafWord.width ≡ Self.width };
 
-    // A word has a digit.
+    // A word has a bit.
     ghost width_positive: { 0 < Self.width };
 
     // The capacity is whole words.

@@ -9,7 +9,7 @@ ghost use Rattle.bittle_bits.specs.Walk.{AreBelow, IsFresh};
 
 use crate::bits_mut::BitsMut;
 use crate::endian::{BigEndian, Endian, LittleEndian};
-use crate::internal::look::OwnedSource;
+use crate::internal::source::OwnedSource;
 use crate::shape::OwnedShape;
 use crate::walk::{IntoIter, IntoIterOnes, IntoIterZeros};
 
@@ -249,9 +249,9 @@ pub trait BitsOwned: Copy + Eq + BitsMut + OwnedShape {
     where
         Self: Sized,
         requires { ShapeFits Self.Shape self }
-        ensures left { result.left ≡ ascending (set_in Self.Shape E.Endian self) }
+        ensures remaining { result.remaining ≡ ascending (set_in Self.Shape E.Endian self) }
         ensures fresh { IsFresh ((Self.big self).capacity / Self.width) result }
-        ensures below { AreBelow (Self.big self).capacity result.left }
+        ensures below { AreBelow (Self.big self).capacity result.remaining }
     {
         IntoIter::new(OwnedSource::new(self))
     }
@@ -267,9 +267,9 @@ pub trait BitsOwned: Copy + Eq + BitsMut + OwnedShape {
     where
         Self: Sized,
         requires { ShapeFits Self.Shape self }
-        ensures left { result.left ≡ ascending (set_in Self.Shape Self.Order.Endian self) }
+        ensures remaining { result.remaining ≡ ascending (set_in Self.Shape Self.Order.Endian self) }
         ensures fresh { IsFresh ((Self.big self).capacity / Self.width) result }
-        ensures below { AreBelow (Self.big self).capacity result.left }
+        ensures below { AreBelow (Self.big self).capacity result.remaining }
     {
         self.into_iter_ones_in::<Self::Order>()
     }
@@ -285,9 +285,9 @@ pub trait BitsOwned: Copy + Eq + BitsMut + OwnedShape {
     where
         Self: Sized,
         requires { ShapeFits Self.Shape self }
-        ensures left { result.left ≡ ascending (set_in Self.Shape ⟦<LittleEndian as Endian>⟧ self) }
+        ensures remaining { result.remaining ≡ ascending (set_in Self.Shape ⟦<LittleEndian as Endian>⟧ self) }
         ensures fresh { IsFresh ((Self.big self).capacity / Self.width) result }
-        ensures below { AreBelow (Self.big self).capacity result.left }
+        ensures below { AreBelow (Self.big self).capacity result.remaining }
     {
         self.into_iter_ones_in::<LittleEndian>()
     }
@@ -303,9 +303,9 @@ pub trait BitsOwned: Copy + Eq + BitsMut + OwnedShape {
     where
         Self: Sized,
         requires { ShapeFits Self.Shape self }
-        ensures left { result.left ≡ ascending (set_in Self.Shape ⟦<BigEndian as Endian>⟧ self) }
+        ensures remaining { result.remaining ≡ ascending (set_in Self.Shape ⟦<BigEndian as Endian>⟧ self) }
         ensures fresh { IsFresh ((Self.big self).capacity / Self.width) result }
-        ensures below { AreBelow (Self.big self).capacity result.left }
+        ensures below { AreBelow (Self.big self).capacity result.remaining }
     {
         self.into_iter_ones_in::<BigEndian>()
     }
@@ -322,9 +322,9 @@ pub trait BitsOwned: Copy + Eq + BitsMut + OwnedShape {
     where
         Self: Sized,
         requires { ShapeFits Self.Shape self }
-        ensures left { result.left ≡ ascending (complement (set_in Self.Shape E.Endian self)) }
+        ensures remaining { result.remaining ≡ ascending (complement (set_in Self.Shape E.Endian self)) }
         ensures fresh { IsFresh ((Self.big self).capacity / Self.width) result }
-        ensures below { AreBelow (Self.big self).capacity result.left }
+        ensures below { AreBelow (Self.big self).capacity result.remaining }
     {
         IntoIter::new(OwnedSource::new(self))
     }
@@ -340,10 +340,10 @@ pub trait BitsOwned: Copy + Eq + BitsMut + OwnedShape {
     where
         Self: Sized,
         requires { ShapeFits Self.Shape self }
-        ensures left { result.left
+        ensures remaining { result.remaining
             ≡ ascending (complement (set_in Self.Shape Self.Order.Endian self)) }
         ensures fresh { IsFresh ((Self.big self).capacity / Self.width) result }
-        ensures below { AreBelow (Self.big self).capacity result.left }
+        ensures below { AreBelow (Self.big self).capacity result.remaining }
     {
         self.into_iter_zeros_in::<Self::Order>()
     }
@@ -359,10 +359,10 @@ pub trait BitsOwned: Copy + Eq + BitsMut + OwnedShape {
     where
         Self: Sized,
         requires { ShapeFits Self.Shape self }
-        ensures left { result.left
+        ensures remaining { result.remaining
             ≡ ascending (complement (set_in Self.Shape ⟦<LittleEndian as Endian>⟧ self)) }
         ensures fresh { IsFresh ((Self.big self).capacity / Self.width) result }
-        ensures below { AreBelow (Self.big self).capacity result.left }
+        ensures below { AreBelow (Self.big self).capacity result.remaining }
     {
         self.into_iter_zeros_in::<LittleEndian>()
     }
@@ -378,10 +378,10 @@ pub trait BitsOwned: Copy + Eq + BitsMut + OwnedShape {
     where
         Self: Sized,
         requires { ShapeFits Self.Shape self }
-        ensures left { result.left
+        ensures remaining { result.remaining
             ≡ ascending (complement (set_in Self.Shape ⟦<BigEndian as Endian>⟧ self)) }
         ensures fresh { IsFresh ((Self.big self).capacity / Self.width) result }
-        ensures below { AreBelow (Self.big self).capacity result.left }
+        ensures below { AreBelow (Self.big self).capacity result.remaining }
     {
         self.into_iter_zeros_in::<BigEndian>()
     }

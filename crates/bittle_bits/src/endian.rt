@@ -1,8 +1,8 @@
-//! The two orders in which the digits of a word are read.
+//! The two orders in which the bits of a word are indexed.
 
 ghost use Rattle.std.specs.Prelude.{◌≡◌, ◌<◌, Bool, true, false};
-ghost use Rattle.bittle_bits.specs.Digits.{digit_set};
-ghost use Rattle.bittle_bits.specs.Orders.{members};
+ghost use Rattle.bittle_bits.specs.BitPatterns.{bit_set};
+ghost use Rattle.bittle_bits.specs.Orders.{read_in};
 ghost use Rattle.bittle_bits.specs.PlainSet.{empty_set, full_set_from, with_index, complement, IsLeastMember, IsGreatestMember};
 
 use crate::internal::sealed::Sealed;
@@ -10,7 +10,7 @@ use crate::word::Word;
 
 /// An order in which the bits of each word are indexed: [`BigEndian`] or [`LittleEndian`].
 pub trait Endian: Drop + Sealed {
-    // Whether the first index is the digit of greatest weight.
+    // Whether the first index is the bit of greatest weight.
     ghost mirrored: { Bool };
 
     /// Returns `true` if index 0 is the bit of greatest weight.
@@ -25,14 +25,14 @@ pub trait Endian: Drop + Sealed {
     /// ```
     #[doc(hidden)]
     fn mask<T: Word>(index: u32) -> T
-        ensures { members mirrored T.width (digit_set T.width (T.digits result))
+        ensures { read_in mirrored T.width (bit_set T.width (T.pattern result))
             ≡ with_index (empty_set T.width) index };
 
     /// Returns the word in which each bit from `index` on is set.
     #[doc(hidden)]
     fn from_index<T: Word>(index: u32) -> T
         requires { index < T.width }
-        ensures { members mirrored T.width (digit_set T.width (T.digits result))
+        ensures { read_in mirrored T.width (bit_set T.width (T.pattern result))
             ≡ full_set_from T.width index };
 
     /// Returns the least index of a set bit, or the width if there is none.
@@ -43,7 +43,7 @@ pub trait Endian: Drop + Sealed {
     #[doc(hidden)]
     fn zeros<T: Word>(value: T) -> u32
         ensures { IsLeastMember
-            (members mirrored T.width (digit_set T.width (T.digits value))) result };
+            (read_in mirrored T.width (bit_set T.width (T.pattern value))) result };
 
     /// Returns the least index of an unset bit, or the width if there is none.
     ///
@@ -53,7 +53,7 @@ pub trait Endian: Drop + Sealed {
     #[doc(hidden)]
     fn ones<T: Word>(value: T) -> u32
         ensures { IsLeastMember
-            (complement (members mirrored T.width (digit_set T.width (T.digits value)))) result };
+            (complement (read_in mirrored T.width (bit_set T.width (T.pattern value)))) result };
 
     /// Returns how far the greatest set bit lies below the last index, or the width if no bit is
     /// set.
@@ -64,7 +64,7 @@ pub trait Endian: Drop + Sealed {
     #[doc(hidden)]
     fn zeros_rev<T: Word>(value: T) -> u32
         ensures { IsGreatestMember
-            (members mirrored T.width (digit_set T.width (T.digits value))) result };
+            (read_in mirrored T.width (bit_set T.width (T.pattern value))) result };
 
     /// Returns how far the greatest unset bit lies below the last index, or the width if every bit
     /// is set.
@@ -75,7 +75,7 @@ pub trait Endian: Drop + Sealed {
     #[doc(hidden)]
     fn ones_rev<T: Word>(value: T) -> u32
         ensures { IsGreatestMember
-            (complement (members mirrored T.width (digit_set T.width (T.digits value)))) result };
+            (complement (read_in mirrored T.width (bit_set T.width (T.pattern value)))) result };
 }
 
 /// Counts from the bit of least weight, the rightmost one as a number is written. The default

@@ -1,9 +1,10 @@
 //! The parts that the public modules stand on; no user names them.
 
+pub(crate) mod buffer;
 pub(crate) mod cursor;
 pub(crate) mod ghost_count;
 pub mod kind;
-pub(crate) mod look;
 pub(crate) mod row;
 pub mod sealed;
 pub(crate) mod search;
+pub(crate) mod source;

@@ -39,7 +39,7 @@ impl<'a, A: Shape, E: Endian, I> Model for JoinOnes<'a, A, E, I> {
 
     ghost view = { λ j. record { mask = j.mask; iter = j.iter; taken = j.taken; ended = j.ended } };
 
-    ghost invariant = { λ j. IsAscendingFrom j.taken j.mask.left };
+    ghost invariant = { λ j. IsAscendingFrom j.taken j.mask.remaining };
 }
 
 impl<'a, A: Bits, E: Endian, I: Iterator> JoinOnes<'a, A, E, I>
@@ -49,7 +49,7 @@ where
     /// Joins a walk over a mask with an iterator.
     #[inline]
     pub(crate) fn new(mask: IterOnes<'a, A, E>, iter: I) -> Self
-        requires { IsAscendingFrom 0 mask.left }
+        requires { IsAscendingFrom 0 mask.remaining }
         ensures mask { result.mask ≡ mask.entry }
         ensures iter { result.iter ≡ iter }
         ensures none_taken { result.taken ≡ 0 }
@@ -76,7 +76,7 @@ where
 
     ghost next_gives = { join_steps I.next_gives };
 
-    ghost remaining = { λ s. at_most (length s.mask.left) };
+    ghost remaining = { λ s. at_most (length s.mask.remaining) };
 
     #[inline]
     fn next(&mut self) -> Option<I::Item> {

@@ -3,13 +3,13 @@
 ghost use Rattle.std.specs.Iterator.SizeHint.{IsWithinCount};
 ghost use Rattle.std.specs.Iterator.{UpTo, YieldsFirst, YieldsLast, item_count};
 ghost use Rattle.std.specs.Prelude.{◌≡◌, length, IfSome, ⊤, Some};
-ghost use Rattle.bittle_bits.specs.Digits.{digit_set};
-ghost use Rattle.bittle_bits.specs.Orders.{members};
+ghost use Rattle.bittle_bits.specs.BitPatterns.{bit_set};
+ghost use Rattle.bittle_bits.specs.Orders.{read_in};
 ghost use Rattle.bittle_bits.specs.PlainSet.{ascending};
 ghost use Rattle.bittle_bits.specs.Walk.{ones_or_zeros, AreBelow, ListsInOrder, ListsInReverse};
 
 use crate::endian::Endian;
-use crate::internal::kind::{Kind, Ones, Zeros, wanted_in};
+use crate::internal::kind::{Kind, Ones, Zeros, bits_of_kind};
 use crate::one_word;
 use crate::word::Word;
 use std::alloc::AllocError;
@@ -34,22 +34,22 @@ pub type IterZeros<T, E> = Iter<T, E, Zeros>;
 /// sides.
 #[derive(Drop)]
 pub struct Iter<T: Word, E: Endian, K: Kind> {
-    // Its ones are the items that are left.
-    left: T,
+    // Its ones are the items that remain.
+    remaining: T,
     order: PhantomData<E>,
     kind: PhantomData<K>,
 }
 
 impl<T: Word, E: Endian, K: Kind> Model for Iter<T, E, K> {
     ghost use Rattle.std.specs.Prelude.{ℕ, List};
-    ghost use Rattle.bittle_bits.specs.Digits.{digit_set};
-    ghost use Rattle.bittle_bits.specs.Orders.{members};
+    ghost use Rattle.bittle_bits.specs.BitPatterns.{bit_set};
+    ghost use Rattle.bittle_bits.specs.Orders.{read_in};
     ghost use Rattle.bittle_bits.specs.PlainSet.{ascending};
 
     ghost Value = { List ℕ };
 
     ghost view = { λ w. ascending
-        (members E.mirrored T.width (digit_set T.width (T.digits w.left))) };
+        (read_in E.mirrored T.width (bit_set T.width (T.pattern w.remaining))) };
 }
 
 impl<T: Word, E: Endian, K: Kind> Iter<T, E, K> {
@@ -62,13 +62,13 @@ impl<T: Word, E: Endian, K: Kind> Iter<T, E, K> {
     pub fn new(word: T) -> Iter<T, E, K>
         ensures items { result
             ≡ ascending (ones_or_zeros K.ONES
-            (members E.mirrored T.width (digit_set T.width (T.digits word)))) }
+            (read_in E.mirrored T.width (bit_set T.width (T.pattern word)))) }
         ensures below { AreBelow T.width result }
         ensures in_order { ListsInOrder }
         ensures in_reverse { ListsInReverse }
     {
         Iter {
-            left: wanted_in::<T, K>(word),
+            remaining: bits_of_kind::<T, K>(word),
             order: PhantomData,
             kind: PhantomData,
         }
@@ -83,26 +83,26 @@ impl<T: Word, E: Endian, K: Kind> Iter<T, E, K> {
     pub fn len(&self) -> usize
         ensures { result ≡ length self.now }
     {
-        one_word::count_ones::<T>(self.left) as usize
+        one_word::count_ones::<T>(self.remaining) as usize
     }
 }
 
 impl<T: Word, E: Endian, K: Kind> Iterator for Iter<T, E, K> {
     type Item = u32;
 
-    ghost next_gives = { YieldsFirst (λ left. left) };
+    ghost next_gives = { YieldsFirst (λ items. items) };
 
-    ghost remaining = { item_count (λ left. left) };
+    ghost remaining = { item_count (λ items. items) };
 
     #[inline]
     fn next(&mut self) -> Option<u32> {
-        one_word::take_first::<T, E>(&mut self.left)
+        one_word::pop_first::<T, E>(&mut self.remaining)
     }
 
     #[inline]
     fn size_hint(&self) -> (usize, Option<usize>)
-        ensures lower { IsWithinCount result.0 (item_count (λ left. left) self.now) }
-        ensures upper { IfSome result.1 (UpTo (item_count (λ left. left) self.now)) }
+        ensures lower { IsWithinCount result.0 (item_count (λ items. items) self.now) }
+        ensures upper { IfSome result.1 (UpTo (item_count (λ items. items) self.now)) }
         ensures exact { result ≡ (length self.now, Some (length self.now)) }
     {
         let len = self.len();
@@ -111,11 +111,11 @@ impl<T: Word, E: Endian, K: Kind> Iterator for Iter<T, E, K> {
 }
 
 impl<T: Word, E: Endian, K: Kind> DoubleEndedIterator for Iter<T, E, K> {
-    ghost next_back_gives = { YieldsLast (λ left. left) };
+    ghost next_back_gives = { YieldsLast (λ items. items) };
 
     #[inline]
     fn next_back(&mut self) -> Option<u32> {
-        one_word::take_last::<T, E>(&mut self.left)
+        one_word::pop_last::<T, E>(&mut self.remaining)
     }
 }
 
@@ -127,7 +127,7 @@ impl<T: Word, E: Endian, K: Kind> Clone for Iter<T, E, K> {
     #[inline]
     fn clone(&self) -> Result<Iter<T, E, K>, AllocError> {
         Ok(Iter {
-            left: self.left,
+            remaining: self.remaining,
             order: PhantomData,
             kind: PhantomData,
         })

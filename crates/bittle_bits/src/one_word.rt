@@ -3,9 +3,9 @@
 ghost use Rattle.std.specs.Iterator.{YieldsFirst, YieldsLast};
 ghost use Rattle.std.specs.Prelude.{◌≡◌, ◌==◌, Bool, ◌*◌, ◌<◌, ◌≤◌, IfSome, IsTrue};
 ghost use Rattle.std.proofs.Common.{sym};
-ghost use Rattle.bittle_bits.specs.Digits.{digit_set};
+ghost use Rattle.bittle_bits.specs.BitPatterns.{bit_set};
 ghost use Rattle.bittle_bits.specs.LawProofs.{none_past_word, one_whole_word, one_word_whole, positive_width, word_capacity};
-ghost use Rattle.bittle_bits.specs.Orders.{members};
+ghost use Rattle.bittle_bits.specs.Orders.{read_in};
 ghost use Rattle.bittle_bits.specs.PlainSet.{contains, with_index, with_span, without_index, empty_set, without_members, full_set, size, ascending, IsLeastMember};
 ghost use Rattle.bittle_bits.specs.SetOperations.{combination_of};
 ghost use Rattle.bittle_bits.specs.Shapes.{Fits};
@@ -19,7 +19,7 @@ use crate::operation::Operation;
 use crate::shape::{OwnedShape, Shape};
 use crate::word::Word;
 
-/// A word that is a set: that of its digits.
+/// A word that is a set: that of its bits.
 pub trait Integer: Word + OwnedShape + Shape<LeafWord = Self> {
     ghost same_width: { ⟦<Self as Shape>⟧.width ≡ ⟦<Self as Word>⟧.width };
 
@@ -28,15 +28,15 @@ pub trait Integer: Word + OwnedShape + Shape<LeafWord = Self> {
     // No word is a loan.
     ghost is_owned: { (u v : Self) → Self.loan u ≡ Self.loan v };
 
-    // An index finds each digit.
+    // An index finds each bit.
     ghost fits: { Fits Self.indexable Self.type_capacity };
 
-    // A word is the set of its digits.
-    ghost big_is_digits: { (v : Self) → Self.big v
-        ≡ digit_set ⟦<Self as Word>⟧.width (Self.digits v) };
+    // A word is the set of its bits.
+    ghost big_is_pattern: { (v : Self) → Self.big v
+        ≡ bit_set ⟦<Self as Word>⟧.width (Self.pattern v) };
 
     // Equal words are one set, whatever number a law calls a word.
-    ghost same_digits: { (u v : Self) → IsTrue (Self.eq u v) → Self.big u ≡ Self.big v };
+    ghost same_pattern: { (u v : Self) → IsTrue (Self.eq u v) → Self.big u ≡ Self.big v };
 }
 
 impl<W: Integer> Bits for W {
@@ -46,9 +46,9 @@ impl<W: Integer> Bits for W {
 
     ghost width_positive = { positive_width _ _ W.same_width W.width_positive };
 
-    ghost whole_words = { λ v. one_whole_word _ _ _ _ W.same_width (W.big_is_digits v) };
+    ghost whole_words = { λ v. one_whole_word _ _ _ _ W.same_width (W.big_is_pattern v) };
 
-    ghost none_past = { λ v. none_past_word _ _ _ (W.big_is_digits v) };
+    ghost none_past = { λ v. none_past_word _ _ _ (W.big_is_pattern v) };
 
     #[inline]
     fn bits_capacity(&self) -> u32 {
@@ -109,13 +109,13 @@ impl<W: Integer> BitsMut for W {
 }
 
 impl<W: Integer> BitsOwned for W {
-    ghost one_capacity = { λ v. word_capacity _ _ _ _ (W.big_is_digits v) W.same_capacity };
+    ghost one_capacity = { λ v. word_capacity _ _ _ _ (W.big_is_pattern v) W.same_capacity };
 
     ghost type_whole_words = { one_word_whole _ _ _ W.same_width W.same_capacity };
 
     ghost type_fits = { λ _. W.fits.1 };
 
-    ghost eq_is_same = { W.same_digits };
+    ghost eq_is_same = { W.same_pattern };
 
     #[inline]
     fn bits() -> u32 {
@@ -137,7 +137,7 @@ impl<W: Integer> BitsOwned for W {
 #[inline]
 pub fn test_bit<T: Word, E: Endian>(word: T, index: u32) -> bool
     ensures { result
-        ≡ contains (members E.mirrored T.width (digit_set T.width (T.digits word))) index }
+        ≡ contains (read_in E.mirrored T.width (bit_set T.width (T.pattern word))) index }
 {
     !word.and(E::mask::<T>(index)).is_zero()
 }
@@ -145,8 +145,8 @@ pub fn test_bit<T: Word, E: Endian>(word: T, index: u32) -> bool
 /// Sets the bit at an index, which wraps.
 #[inline]
 pub fn set_bit<T: Word, E: Endian>(word: &mut T, index: u32)
-    ensures { members E.mirrored T.width (digit_set T.width (T.digits word.new))
-        ≡ with_index (members E.mirrored T.width (digit_set T.width (T.digits word.old))) index }
+    ensures { read_in E.mirrored T.width (bit_set T.width (T.pattern word.new))
+        ≡ with_index (read_in E.mirrored T.width (bit_set T.width (T.pattern word.old))) index }
 {
     *word = word.or(E::mask::<T>(index));
 }
@@ -154,8 +154,8 @@ pub fn set_bit<T: Word, E: Endian>(word: &mut T, index: u32)
 /// Clears the bit at an index, which wraps.
 #[inline]
 pub fn clear_bit<T: Word, E: Endian>(word: &mut T, index: u32)
-    ensures { members E.mirrored T.width (digit_set T.width (T.digits word.new))
-        ≡ without_index (members E.mirrored T.width (digit_set T.width (T.digits word.old))) index }
+    ensures { read_in E.mirrored T.width (bit_set T.width (T.pattern word.new))
+        ≡ without_index (read_in E.mirrored T.width (bit_set T.width (T.pattern word.old))) index }
 {
     *word = word.and(E::mask::<T>(index).not());
 }
@@ -166,8 +166,8 @@ pub fn clear_bit<T: Word, E: Endian>(word: &mut T, index: u32)
 pub fn fill<T: Word, E: Endian>(word: &mut T, from: u32, to: u32)
     requires ordered { from ≤ to }
     requires within { to ≤ T.width }
-    ensures { members E.mirrored T.width (digit_set T.width (T.digits word.new))
-        ≡ with_span (members E.mirrored T.width (digit_set T.width (T.digits word.old))) from to }
+    ensures { read_in E.mirrored T.width (bit_set T.width (T.pattern word.new))
+        ≡ with_span (read_in E.mirrored T.width (bit_set T.width (T.pattern word.old))) from to }
 {
     if from == to {
         return;
@@ -182,8 +182,8 @@ pub fn fill<T: Word, E: Endian>(word: &mut T, from: u32, to: u32)
 /// Clears every bit.
 #[inline]
 pub fn clear_bits<T: Word>(word: &mut T)
-    ensures { digit_set T.width (T.digits word.new)
-        ≡ without_members (digit_set T.width (T.digits word.old)) }
+    ensures { bit_set T.width (T.pattern word.new)
+        ≡ without_members (bit_set T.width (T.pattern word.old)) }
 {
     *word = T::zero();
 }
@@ -191,10 +191,10 @@ pub fn clear_bits<T: Word>(word: &mut T)
 /// Combines a word with another, bit by bit.
 #[inline]
 pub fn combine<T: Word, O: Operation>(word: &mut T, other: T)
-    ensures { (mirrored : Bool) → members mirrored T.width (digit_set T.width (T.digits word.new))
+    ensures { (mirrored : Bool) → read_in mirrored T.width (bit_set T.width (T.pattern word.new))
         ≡ combination_of O.decide
-        (members mirrored T.width (digit_set T.width (T.digits word.old)))
-        (members mirrored T.width (digit_set T.width (T.digits other))) }
+        (read_in mirrored T.width (bit_set T.width (T.pattern word.old)))
+        (read_in mirrored T.width (bit_set T.width (T.pattern other))) }
 {
     *word = O::on_words::<T>(*word, other);
 }
@@ -202,9 +202,9 @@ pub fn combine<T: Word, O: Operation>(word: &mut T, other: T)
 /// Counts the set bits.
 #[inline]
 pub fn count_ones<T: Word>(word: T) -> u32
-    ensures value { result ≡ size (digit_set T.width (T.digits word)) }
+    ensures value { result ≡ size (bit_set T.width (T.pattern word)) }
     ensures in_each_order { (mirrored : Bool) →
-        result ≡ size (members mirrored T.width (digit_set T.width (T.digits word))) }
+        result ≡ size (read_in mirrored T.width (bit_set T.width (T.pattern word))) }
     ensures at_most { result ≤ T.width }
 {
     word.count_ones()
@@ -213,9 +213,9 @@ pub fn count_ones<T: Word>(word: T) -> u32
 /// Returns whether no bit is set.
 #[inline]
 pub fn all_zeros<T: Word>(word: T) -> bool
-    ensures value { result ≡ (size (digit_set T.width (T.digits word)) == 0) }
+    ensures value { result ≡ (size (bit_set T.width (T.pattern word)) == 0) }
     ensures in_each_order { (mirrored : Bool) →
-        result ≡ (size (members mirrored T.width (digit_set T.width (T.digits word))) == 0) }
+        result ≡ (size (read_in mirrored T.width (bit_set T.width (T.pattern word))) == 0) }
 {
     word.is_zero()
 }
@@ -223,9 +223,9 @@ pub fn all_zeros<T: Word>(word: T) -> bool
 /// Returns whether every bit is set.
 #[inline]
 pub fn all_ones<T: Word>(word: T) -> bool
-    ensures value { result ≡ (size (digit_set T.width (T.digits word)) == T.width) }
+    ensures value { result ≡ (size (bit_set T.width (T.pattern word)) == T.width) }
     ensures in_each_order { (mirrored : Bool) →
-        result ≡ (size (members mirrored T.width (digit_set T.width (T.digits word))) == T.width) }
+        result ≡ (size (read_in mirrored T.width (bit_set T.width (T.pattern word))) == T.width) }
 {
     word.not().is_zero()
 }
@@ -233,9 +233,9 @@ pub fn all_ones<T: Word>(word: T) -> bool
 /// Returns the word with no bit set.
 #[inline]
 pub fn zeros<T: Word>() -> T
-    ensures value { digit_set T.width (T.digits result) ≡ empty_set T.width }
+    ensures value { bit_set T.width (T.pattern result) ≡ empty_set T.width }
     ensures in_each_order { (mirrored : Bool) →
-        members mirrored T.width (digit_set T.width (T.digits result)) ≡ empty_set T.width }
+        read_in mirrored T.width (bit_set T.width (T.pattern result)) ≡ empty_set T.width }
 {
     T::zero()
 }
@@ -243,9 +243,9 @@ pub fn zeros<T: Word>() -> T
 /// Returns the word with every bit set.
 #[inline]
 pub fn ones<T: Word>() -> T
-    ensures value { digit_set T.width (T.digits result) ≡ full_set T.width }
+    ensures value { bit_set T.width (T.pattern result) ≡ full_set T.width }
     ensures in_each_order { (mirrored : Bool) →
-        members mirrored T.width (digit_set T.width (T.digits result)) ≡ full_set T.width }
+        read_in mirrored T.width (bit_set T.width (T.pattern result)) ≡ full_set T.width }
 {
     T::zero().not()
 }
@@ -256,35 +256,35 @@ pub fn ones<T: Word>() -> T
 fn clear_set_bit<T: Word, E: Endian>(word: &mut T, index: u32)
     requires within { index < T.width }
     requires set { IsTrue
-        ((members E.mirrored T.width (digit_set T.width (T.digits word.old))).has index) }
-    ensures { members E.mirrored T.width (digit_set T.width (T.digits word.new))
-        ≡ without_index (members E.mirrored T.width (digit_set T.width (T.digits word.old))) index }
+        ((read_in E.mirrored T.width (bit_set T.width (T.pattern word.old))).has index) }
+    ensures { read_in E.mirrored T.width (bit_set T.width (T.pattern word.new))
+        ≡ without_index (read_in E.mirrored T.width (bit_set T.width (T.pattern word.old))) index }
 {
     *word = word.xor(E::mask::<T>(index));
 }
 
-// Clears the least member. Where it is the least digit, the word less one lacks it, and below it
-// has digits that the word lacks: a step waits for that alone, and not for the index.
+// Clears the least member. Where it is the bit of least weight, the word less one lacks it, and has
+// bits below it that the word lacks: a step waits for that alone, and not for the index.
 #[inline]
 fn clear_first<T: Word, E: Endian>(word: &mut T, index: u32)
     requires least { IsLeastMember
-        (members E.mirrored T.width (digit_set T.width (T.digits word.old))) index }
+        (read_in E.mirrored T.width (bit_set T.width (T.pattern word.old))) index }
     requires within { index < T.width }
-    ensures { members E.mirrored T.width (digit_set T.width (T.digits word.new))
-        ≡ without_index (members E.mirrored T.width (digit_set T.width (T.digits word.old))) index }
+    ensures { read_in E.mirrored T.width (bit_set T.width (T.pattern word.new))
+        ≡ without_index (read_in E.mirrored T.width (bit_set T.width (T.pattern word.old))) index }
 {
     if E::is_mirrored() {
         clear_set_bit::<T, E>(word, index);
     } else {
-        *word = word.and(T::from_digits(word.to_digits() - 1));
+        *word = word.and(T::from_bits(word.to_bits() - 1));
     }
 }
 
 /// Takes the least member out of the word.
 #[inline]
-pub fn take_first<T: Word, E: Endian>(word: &mut T) -> Option<u32>
+pub fn pop_first<T: Word, E: Endian>(word: &mut T) -> Option<u32>
     ensures found { YieldsFirst
-        (λ w. ascending (members E.mirrored T.width (digit_set T.width (T.digits w))))
+        (λ w. ascending (read_in E.mirrored T.width (bit_set T.width (T.pattern w))))
         word.old result word.new }
     ensures below { IfSome result (λ index. index < T.width) }
 {
@@ -298,9 +298,9 @@ pub fn take_first<T: Word, E: Endian>(word: &mut T) -> Option<u32>
 
 /// Takes the greatest member out of the word.
 #[inline]
-pub fn take_last<T: Word, E: Endian>(word: &mut T) -> Option<u32>
+pub fn pop_last<T: Word, E: Endian>(word: &mut T) -> Option<u32>
     ensures found { YieldsLast
-        (λ w. ascending (members E.mirrored T.width (digit_set T.width (T.digits w))))
+        (λ w. ascending (read_in E.mirrored T.width (bit_set T.width (T.pattern w))))
         word.old result word.new }
     ensures below { IfSome result (λ index. index < T.width) }
 {
@@ -317,8 +317,8 @@ pub fn take_last<T: Word, E: Endian>(word: &mut T) -> Option<u32>
 #[inline]
 pub fn leaf_word<T: Word>(word: T, k: u32) -> T
     requires { k * T.width < T.width }
-    ensures { digit_set T.width (T.digits result)
-        ≡ word_of T.width (digit_set T.width (T.digits word)) k }
+    ensures { bit_set T.width (T.pattern result)
+        ≡ word_of T.width (bit_set T.width (T.pattern word)) k }
 {
     let _ = k;
     word

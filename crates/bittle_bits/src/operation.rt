@@ -1,7 +1,7 @@
 //! The four operations on two sets, so that each shape has one body for them all.
 
 ghost use Rattle.std.specs.Prelude.{◌≡◌, Bool, ◌||◌, ◌&&◌};
-ghost use Rattle.bittle_bits.specs.Digits.{digit_set};
+ghost use Rattle.bittle_bits.specs.BitPatterns.{bit_set};
 ghost use Rattle.bittle_bits.specs.SetOperations.{combination_of, first_alone, just_one};
 
 use crate::word::Word;
@@ -11,11 +11,11 @@ pub trait Operation {
     // Whether a number is a member afterwards, by whether it is one of each set.
     ghost decide: { Bool → Bool → Bool };
 
-    /// The operation on the digits of two words.
+    /// The operation on the bits of two words.
     fn on_words<T: Word>(word: T, other: T) -> T
-        ensures { digit_set T.width (T.digits result)
+        ensures { bit_set T.width (T.pattern result)
             ≡ combination_of decide
-            (digit_set T.width (T.digits word)) (digit_set T.width (T.digits other)) };
+            (bit_set T.width (T.pattern word)) (bit_set T.width (T.pattern other)) };
 }
 
 pub enum Union {}

@@ -19,7 +19,7 @@ pub trait Shape: Drop + Sealed {
     #[doc(hidden)]
     type LeafWord: Word;
 
-    // The digits of each word.
+    // The bits of each word.
     ghost width: { ℕ };
 
     // Whether the elements of the shape fit, so that an index finds its element.

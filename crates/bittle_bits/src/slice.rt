@@ -1,8 +1,8 @@
 //! Slices as sets: a shared one is read, and one that is lent for a change is read and changed.
 
 ghost use Rattle.std.specs.Prelude.{length};
-ghost use Rattle.bittle_bits.specs.RowLawProofs.{elements_has-past, words_of};
-ghost use Rattle.bittle_bits.specs.Rows.{elements_set};
+ghost use Rattle.bittle_bits.specs.RowLawProofs.{row_has-past, words_of};
+ghost use Rattle.bittle_bits.specs.Rows.{row_set};
 
 use crate::bits::Bits;
 use crate::bits_mut::BitsMut;
@@ -22,7 +22,7 @@ impl<'a, T: OwnedShape> Shape for &'a [T] {
 
     ghost indexable = { T.indexable };
 
-    ghost big = { λ v. elements_set (length v.now) T.type_capacity T.big v.now };
+    ghost big = { λ v. row_set (length v.now) T.type_capacity T.big v.now };
 }
 
 impl<'a, T: BitsOwned> Bits for &'a [T] {
@@ -34,7 +34,7 @@ impl<'a, T: BitsOwned> Bits for &'a [T] {
 
     ghost whole_words = { λ v. words_of (length v.now) _ _ T.type_whole_words };
 
-    ghost none_past = { λ v i h. elements_has-past (length v.now) T.type_capacity
+    ghost none_past = { λ v i h. row_has-past (length v.now) T.type_capacity
         (λ x. (T.big x).has) v.now i h };
 
     #[inline]
@@ -77,7 +77,7 @@ impl<'a, T: OwnedShape> Shape for &'a mut [T] {
 
     ghost indexable = { T.indexable };
 
-    ghost big = { λ v. elements_set (length v.now) T.type_capacity T.big v.now };
+    ghost big = { λ v. row_set (length v.now) T.type_capacity T.big v.now };
 
     ghost loan = { λ v. v.ghost_name };
 }
@@ -91,7 +91,7 @@ impl<'a, T: BitsOwned> Bits for &'a mut [T] {
 
     ghost whole_words = { λ v. words_of (length v.now) _ _ T.type_whole_words };
 
-    ghost none_past = { λ v i h. elements_has-past (length v.now) T.type_capacity
+    ghost none_past = { λ v i h. row_has-past (length v.now) T.type_capacity
         (λ x. (T.big x).has) v.now i h };
 
     #[inline]

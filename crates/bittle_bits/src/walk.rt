@@ -16,7 +16,7 @@ use crate::endian::Endian;
 use crate::internal::cursor::{Cursor, begin, duplicate, step_back, step_front};
 use crate::internal::ghost_count::{Count, Counted};
 use crate::internal::kind::{Kind, Ones, Zeros};
-use crate::internal::look::{OwnedSource, Source};
+use crate::internal::source::{OwnedSource, Source};
 use crate::shape::Shape;
 use std::alloc::AllocError;
 use std::marker::{Model, PhantomData};
@@ -70,13 +70,13 @@ impl<'a, B: Shape, E: Endian, K: Kind> Model for Iter<'a, B, E, K> {
 
     ghost use Rattle.std.specs.Prelude.{◌/◌};
     ghost use Rattle.bittle_bits.specs.Values.{set_in, ShapeFits};
-    ghost use Rattle.bittle_bits.specs.Cursor.{walk_of, Retires};
+    ghost use Rattle.bittle_bits.specs.Cursor.{walk_of, IsCounted};
 
     ghost view = { λ w. walk_of (ones_or_zeros K.ONES (set_in B.Shape E.Endian w.source.set.now))
         ((B.big w.source.set.now).capacity / B.width) B.width w.at };
 
     ghost invariant = { λ w. ShapeFits B.Shape w.source.set.now
-        × Retires ((B.big w.source.set.now).capacity / B.width) w.at };
+        × IsCounted ((B.big w.source.set.now).capacity / B.width) w.at };
 }
 
 impl<'a, B: Bits, E: Endian, K: Kind> Iter<'a, B, E, K> {
@@ -84,10 +84,10 @@ impl<'a, B: Bits, E: Endian, K: Kind> Iter<'a, B, E, K> {
     #[inline]
     pub(crate) fn new(source: Source<'a, B>) -> Self
         requires { ShapeFits B.Shape source.set.now }
-        ensures left { result.left
+        ensures remaining { result.remaining
             ≡ ascending (ones_or_zeros K.ONES (set_in B.Shape E.Endian source.entry.set.now)) }
         ensures fresh { IsFresh ((B.big source.entry.set.now).capacity / B.width) result }
-        ensures below { AreBelow (B.big source.entry.set.now).capacity result.left }
+        ensures below { AreBelow (B.big source.entry.set.now).capacity result.remaining }
     {
         let at = begin::<B, E, K>(&source);
         Iter {
@@ -103,7 +103,7 @@ impl<'a, B: Bits, E: Endian, K: Kind> Iterator for Iter<'a, B, E, K> {
 
     ghost next_gives = { StepsFront };
 
-    ghost remaining = { item_count (λ w. w.left) };
+    ghost remaining = { item_count (λ w. w.remaining) };
 
     #[inline]
     fn next(&mut self) -> Option<u32> {
@@ -112,8 +112,8 @@ impl<'a, B: Bits, E: Endian, K: Kind> Iterator for Iter<'a, B, E, K> {
 
     #[inline]
     fn size_hint(&self) -> (usize, Option<usize>)
-        ensures lower { IsWithinCount result.0 (item_count (λ w. w.left) self.now) }
-        ensures upper { IfSome result.1 (UpTo (item_count (λ w. w.left) self.now)) }
+        ensures lower { IsWithinCount result.0 (item_count (λ w. w.remaining) self.now) }
+        ensures upper { IfSome result.1 (UpTo (item_count (λ w. w.remaining) self.now)) }
         ensures nothing { result ≡ (0, None) }
     {
         (0, None)
@@ -154,8 +154,8 @@ impl<'a, B: Bits, E: Endian, K: Kind> Counted for Iter<'a, B, E, K> {
     ghost steps_back = { λ _ _ _ h. h };
 
     #[inline]
-    fn looks(&self) -> &Count {
-        self.at.copies.looks()
+    fn scans(&self) -> &Count {
+        self.at.buffers.scans()
     }
 }
 
@@ -177,13 +177,13 @@ impl<B: Shape, E: Endian, K: Kind> Model for IntoIter<B, E, K> {
 
     ghost use Rattle.std.specs.Prelude.{◌/◌};
     ghost use Rattle.bittle_bits.specs.Values.{set_in, ShapeFits};
-    ghost use Rattle.bittle_bits.specs.Cursor.{walk_of, Retires};
+    ghost use Rattle.bittle_bits.specs.Cursor.{walk_of, IsCounted};
 
     ghost view = { λ w. walk_of (ones_or_zeros K.ONES (set_in B.Shape E.Endian w.source.set))
         ((B.big w.source.set).capacity / B.width) B.width w.at };
 
     ghost invariant = { λ w. ShapeFits B.Shape w.source.set
-        × Retires ((B.big w.source.set).capacity / B.width) w.at };
+        × IsCounted ((B.big w.source.set).capacity / B.width) w.at };
 }
 
 impl<B: BitsOwned, E: Endian, K: Kind> IntoIter<B, E, K> {
@@ -191,10 +191,10 @@ impl<B: BitsOwned, E: Endian, K: Kind> IntoIter<B, E, K> {
     #[inline]
     pub(crate) fn new(source: OwnedSource<B>) -> Self
         requires { ShapeFits B.Shape source.set }
-        ensures left { result.left
+        ensures remaining { result.remaining
             ≡ ascending (ones_or_zeros K.ONES (set_in B.Shape E.Endian source.set)) }
         ensures fresh { IsFresh ((B.big source.set).capacity / B.width) result }
-        ensures below { AreBelow (B.big source.set).capacity result.left }
+        ensures below { AreBelow (B.big source.set).capacity result.remaining }
     {
         let at = begin::<B, E, K>(&source.lend());
         IntoIter {
@@ -210,7 +210,7 @@ impl<B: BitsOwned, E: Endian, K: Kind> Iterator for IntoIter<B, E, K> {
 
     ghost next_gives = { StepsFront };
 
-    ghost remaining = { item_count (λ w. w.left) };
+    ghost remaining = { item_count (λ w. w.remaining) };
 
     #[inline]
     fn next(&mut self) -> Option<u32> {
@@ -219,8 +219,8 @@ impl<B: BitsOwned, E: Endian, K: Kind> Iterator for IntoIter<B, E, K> {
 
     #[inline]
     fn size_hint(&self) -> (usize, Option<usize>)
-        ensures lower { IsWithinCount result.0 (item_count (λ w. w.left) self.now) }
-        ensures upper { IfSome result.1 (UpTo (item_count (λ w. w.left) self.now)) }
+        ensures lower { IsWithinCount result.0 (item_count (λ w. w.remaining) self.now) }
+        ensures upper { IfSome result.1 (UpTo (item_count (λ w. w.remaining) self.now)) }
         ensures nothing { result ≡ (0, None) }
     {
         (0, None)
@@ -261,7 +261,7 @@ impl<B: BitsOwned, E: Endian, K: Kind> Counted for IntoIter<B, E, K> {
     ghost steps_back = { λ _ _ _ h. h };
 
     #[inline]
-    fn looks(&self) -> &Count {
-        self.at.copies.looks()
+    fn scans(&self) -> &Count {
+        self.at.buffers.scans()
     }
 }

@@ -5,103 +5,103 @@ ghost use Rattle.std.specs.Int.Count.{count_leading_zeros, count_trailing_zeros}
 
 /// A word: one of the twelve integers, with what a processor does to one.
 pub trait Word: Copy + Eq {
-    // How many digits a word has.
+    // How many bits a word has.
     ghost width: { ℕ };
 
-    // Its digits as one number: of a negative word those of its two's complement.
-    ghost digits: { Self → ℕ };
+    // Its bit pattern as a number: of a negative word that of its two's complement.
+    ghost pattern: { Self → ℕ };
 
-    /// The number of digits.
+    /// Returns the number of bits.
     fn width() -> u32
         ensures { result ≡ width };
 
-    /// The word whose one digit has the weight `2 ^ index`.
+    /// Returns the word whose one set bit has the weight `2 ^ index`.
     fn one_at(index: u32) -> Self
         requires { index < width }
-        ensures { digits result ≡ 2 ^ index };
+        ensures { pattern result ≡ 2 ^ index };
 
-    /// The word whose digits are those of weight below `2 ^ index`.
+    /// Returns the word whose set bits are those of weight below `2 ^ index`.
     #[inline]
     final fn low(index: u32) -> Self
         requires { index < width }
-        ensures { digits result ≡ 2 ^ index - 1 }
+        ensures { pattern result ≡ 2 ^ index - 1 }
     {
-        Self::from_digits(Self::one_at(index).to_digits() - 1)
+        Self::from_bits(Self::one_at(index).to_bits() - 1)
     }
 
-    /// The word with no digit.
+    /// Returns the word with no bit set.
     #[inline]
     final fn zero() -> Self
-        ensures { digits result ≡ 0 }
+        ensures { pattern result ≡ 0 }
     {
-        Self::from_digits(0)
+        Self::from_bits(0)
     }
 
-    /// The digits as a number.
-    fn to_digits(self) -> u128
-        ensures digits { result ≡ digits self }
-        ensures range { digits self < 2 ^ width };
+    /// Returns the bit pattern as a number.
+    fn to_bits(self) -> u128
+        ensures pattern { result ≡ pattern self }
+        ensures range { pattern self < 2 ^ width };
 
-    /// The word of these digits.
-    fn from_digits(value: u128) -> Self
+    /// Returns the word of a bit pattern.
+    fn from_bits(value: u128) -> Self
         requires { value < 2 ^ width }
-        ensures { digits result ≡ value };
+        ensures { pattern result ≡ value };
 
-    /// The digits that the word lacks.
+    /// Returns the word with each bit flipped.
     fn not(self) -> Self
-        ensures digits { digits result ≡ 2 ^ width - 1 - digits self }
-        ensures range { digits self < 2 ^ width };
+        ensures pattern { pattern result ≡ 2 ^ width - 1 - pattern self }
+        ensures range { pattern self < 2 ^ width };
 
-    /// The digits of both words.
+    /// Returns the bits that are set in both words.
     #[inline]
     final fn and(self, other: Self) -> Self
-        ensures { digits result ≡ bit_and (digits self) (digits other) }
+        ensures { pattern result ≡ bit_and (pattern self) (pattern other) }
     {
-        Self::from_digits(self.to_digits() & other.to_digits())
+        Self::from_bits(self.to_bits() & other.to_bits())
     }
 
-    /// The digits of either word.
+    /// Returns the bits that are set in either word.
     #[inline]
     #[tactic(auto, using(std::proofs::lemmas::Nat::or_lt))]
     final fn or(self, other: Self) -> Self
-        ensures { digits result ≡ bit_or (digits self) (digits other) }
+        ensures { pattern result ≡ bit_or (pattern self) (pattern other) }
     {
-        Self::from_digits(self.to_digits() | other.to_digits())
+        Self::from_bits(self.to_bits() | other.to_bits())
     }
 
-    /// The digits of just one of the words.
+    /// Returns the bits that are set in just one of the words.
     #[inline]
     #[tactic(auto, using(std::proofs::lemmas::Nat::xor_lt))]
     final fn xor(self, other: Self) -> Self
-        ensures { digits result ≡ bit_xor (digits self) (digits other) }
+        ensures { pattern result ≡ bit_xor (pattern self) (pattern other) }
     {
-        Self::from_digits(self.to_digits() ^ other.to_digits())
+        Self::from_bits(self.to_bits() ^ other.to_bits())
     }
 
-    /// Whether the word has no digit.
+    /// Returns whether no bit is set.
     #[inline]
     final fn is_zero(self) -> bool
-        ensures zero { result ≡ (digits self == 0) }
-        ensures range { digits self < 2 ^ width }
+        ensures zero { result ≡ (pattern self == 0) }
+        ensures range { pattern self < 2 ^ width }
     {
-        self.to_digits() == 0
+        self.to_bits() == 0
     }
 
-    /// How many digits there are.
+    /// Returns how many bits are set.
     fn count_ones(self) -> u32
-        ensures count { result ≡ count_ones (digits self) }
-        ensures range { digits self < 2 ^ width };
+        ensures count { result ≡ count_ones (pattern self) }
+        ensures range { pattern self < 2 ^ width };
 
-    /// How many digits are 0 below the least that is 1.
+    /// Returns how many unset bits lie below the set one of least weight.
     fn trailing_zeros(self) -> u32
-        ensures count { result ≡ count_trailing_zeros width (digits self) }
-        ensures range { digits self < 2 ^ width };
+        ensures count { result ≡ count_trailing_zeros width (pattern self) }
+        ensures range { pattern self < 2 ^ width };
 
-    /// How many digits are 0 above the greatest that is 1.
+    /// Returns how many unset bits lie above the set one of greatest weight.
     fn leading_zeros(self) -> u32
-        ensures count { result ≡ count_leading_zeros width (digits self) }
-        ensures range { digits self < 2 ^ width };
+        ensures count { result ≡ count_leading_zeros width (pattern self) }
+        ensures range { pattern self < 2 ^ width };
 
-    // A word has a digit.
+    // A word has a bit.
     ghost width_positive: { 0 < width };
 }

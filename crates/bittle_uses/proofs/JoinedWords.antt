@@ -5,7 +5,7 @@ use Rattle.std.specs.List.{fold}
 use Rattle.std.proofs.lemmas.Bool.Decides.{nat_tests}
 use Rattle.std.proofs.lemmas.Nat.{mod-pow-add, xor_comm, pow_pos}
 use Rattle.std.proofs.lemmas.Nat.Bits.{bit_at-lt}
-use Rattle.bittle.specs.Digits.{digit_has, digit_set}
+use Rattle.bittle.specs.BitPatterns.{bit_has, bit_set}
 use Rattle.bittle.specs.PlainSet.{ascending, ascending_from}
 
 -- a word with its digit i flipped
@@ -14,8 +14,8 @@ flip w i = bit_xor w (2 ^ i)
 
 -- a word's digits below k, and the one at k where it is 1, are those below the next place
 one_more : (m k : ℕ) → k < 64 →
-    cond (digit_has 64 m k) (flip (m % 2 ^ k) k) (m % 2 ^ k) ≡ m % 2 ^ suc k
-unfolding digit_has
+    cond (bit_has 64 m k) (flip (m % 2 ^ k) k) (m % 2 ^ k) ≡ m % 2 ^ suc k
+unfolding bit_has
 one_more m k h =
     let pos = pow_pos k in
     let low : m % 2 ^ k < 2 ^ k = omega arith in
@@ -35,19 +35,19 @@ taken false w i rest = refl
 
 -- the members from k on, joined to the digits below k
 joined : (m k n : ℕ) → k + n ≤ 64 →
-    fold flip (m % 2 ^ k) (ascending_from (digit_has 64 m) k n) ≡ m % 2 ^ (k + n)
+    fold flip (m % 2 ^ k) (ascending_from (bit_has 64 m) k n) ≡ m % 2 ^ (k + n)
 unfolding ascending_from
 joined m k zero h = let same : k ≡ k + 0 = omega arith in ap (λ j. m % 2 ^ j) same
 joined m k (suc n) h =
-    let rest = ascending_from (digit_has 64 m) (suc k) n in
+    let rest = ascending_from (bit_has 64 m) (suc k) n in
     let same : suc k + n ≡ k + suc n = omega arith in
-    taken (digit_has 64 m k) (m % 2 ^ k) k rest
+    taken (bit_has 64 m k) (m % 2 ^ k) k rest
     ∙ ap (λ w. fold flip w rest) (one_more m k (omega arith))
     ∙ joined m (suc k) n (omega arith) ∙ ap (λ j. m % 2 ^ j) same
 
 -- the members joined to no digit are the word
-pub members_joined : (m : ℕ) → m < 2 ^ 64 → fold flip 0 (ascending (digit_set 64 m)) ≡ m
+pub members_joined : (m : ℕ) → m < 2 ^ 64 → fold flip 0 (ascending (bit_set 64 m)) ≡ m
 members_joined m h =
     let start : 0 ≡ m % 2 ^ 0 = omega arith in
-    ap (λ w. fold flip w (ascending (digit_set 64 m))) start ∙ joined m 0 64 (omega arith)
+    ap (λ w. fold flip w (ascending (bit_set 64 m))) start ∙ joined m 0 64 (omega arith)
     ∙ omega arith

@@ -10,29 +10,29 @@ use Rattle.std.specs.Prelude.{slice_index_or}
 use Rattle.std.specs.Result.{result_ok}
 use Rattle.std.specs.declared.cmp.Ordering.TheVariants.{Less, Greater}
 use Rattle.std.specs.declared.cmp.Ordering.{Ordering}
-use Rattle.bittle.specs.Digits.{digit_has, digit_set}
+use Rattle.bittle.specs.BitPatterns.{bit_has, bit_set}
 use Rattle.bittle.specs.Comparison.{list_cmp, AreSame}
 use Rattle.bittle.specs.PlainSet.{ascending}
 use Rattle.bittle.proofs.CallerLists.{equal_iff_same_members}
 
-none_past : (role i : ℕ) → 32 ≤ i → digit_has 32 role i ≡ false
-unfolding digit_has
+none_past : (role i : ℕ) → 32 ≤ i → bit_has 32 role i ≡ false
+unfolding bit_has
 none_past role i h = rw (le-ltb i 32 h)
 
 -- two roles are equal in the order exactly where they grant the same
 pub equal_iff_granted : (m n : ℕ) → IsTrue
-    (is_eq (list_cmp (ascending (digit_set 32 m)) (ascending (digit_set 32 n))))
-    ↔ AreSame (digit_set 32 m) (digit_set 32 n)
-equal_iff_granted m n = equal_iff_same_members (digit_set 32 m) (digit_set 32 n) (none_past m)
+    (is_eq (list_cmp (ascending (bit_set 32 m)) (ascending (bit_set 32 n))))
+    ↔ AreSame (bit_set 32 m) (bit_set 32 n)
+equal_iff_granted m n = equal_iff_same_members (bit_set 32 m) (bit_set 32 n) (none_past m)
     (none_past n)
 
 -- a search of a sorted table, whose roles are read by `bits`
 module _ {X : Type 0} (bits : X → ℕ) (wanted : ℕ) where
   abbrev order : X → Ordering
-  order x = list_cmp (ascending (digit_set 32 (bits x))) (ascending (digit_set 32 wanted))
+  order x = list_cmp (ascending (bit_set 32 (bits x))) (ascending (bit_set 32 wanted))
 
   abbrev GrantsJust : X → Type 0
-  GrantsJust x = AreSame (digit_set 32 (bits x)) (digit_set 32 wanted)
+  GrantsJust x = AreSame (bit_set 32 (bits x)) (bit_set 32 wanted)
 
   not_equal : (x : X) (o : Ordering) → order x ≡ o → is_eq o ≡ false → GrantsJust x → ⊥
   not_equal x o e f same =
@@ -41,15 +41,15 @@ module _ {X : Type 0} (bits : X → ℕ) (wanted : ℕ) where
 
   -- the search gives a place whose role grants just what is wanted, or None where no role does
   pub search_found : (xs : List X) (r : Result ℕ ℕ) →
-      IsSortedBy (λ a b. is_lt (list_cmp (ascending (digit_set 32 (bits a)))
-      (ascending (digit_set 32 (bits b))))) xs → IsBinarySearchResult order xs r →
+      IsSortedBy (λ a b. is_lt (list_cmp (ascending (bit_set 32 (bits a)))
+      (ascending (bit_set 32 (bits b))))) xs → IsBinarySearchResult order xs r →
       MatchOption (result_ok r) (All (λ x. GrantsJust x → ⊥) xs)
       (λ place. HoldsAt GrantsJust xs place)
   search_found xs (Ok i) sorted h = λ d. (equal_iff_granted (bits (slice_index_or xs i d)) wanted).0
       (ap is_eq (h d))
   search_found xs (Err i) sorted h =
       let between = h (searchable_from_sorted nat_list_cmp_total
-      (λ x. ascending (digit_set 32 (bits x))) xs (ascending (digit_set 32 wanted)) sorted) in
+      (λ x. ascending (bit_set 32 (bits x))) xs (ascending (bit_set 32 wanted)) sorted) in
       λ k d l. elim (cases_lt k i) [
         | inl a ↦ not_equal (slice_index_or xs k d) Less (between.0 k d (omega arith) a) refl
         | inr b ↦ not_equal (slice_index_or xs k d) Greater (between.1 k d b l) refl

@@ -1,7 +1,7 @@
 //! A board of eight rows of eight cells, whose members are the cells that are taken.
 
 ghost use Rattle.std.specs.Prelude.{◌≡◌, IfOk, reverse};
-ghost use Rattle.bittle.specs.Digits.{digit_set};
+ghost use Rattle.bittle.specs.BitPatterns.{bit_set};
 ghost use Rattle.bittle.specs.PlainSet.{ascending, complement, empty_set};
 ghost use Rattle.bittle.specs.Ranges.{with_range};
 ghost use Rattle.bittle_uses.specs.Board.{AreEnds};
@@ -11,14 +11,14 @@ use std::alloc::{AllocError, Global};
 
 /// Returns the board at the start: the two first rows and the two last ones are taken.
 pub fn start() -> u64
-    ensures { digit_set 64 result ≡ with_range (with_range (empty_set 64) 0 16) 48 64 }
+    ensures { bit_set 64 result ≡ with_range (with_range (empty_set 64) 0 16) 48 64 }
 {
     set![0..16, 48..]
 }
 
 /// Returns the first free cell, and the last of the others.
 pub fn outer_cells(board: u64) -> (Option<u32>, Option<u32>)
-    ensures { AreEnds (ascending (complement (digit_set 64 board))) result.0 result.1 }
+    ensures { AreEnds (ascending (complement (bit_set 64 board))) result.0 result.1 }
 {
     let mut free = board.iter_zeros();
     let first = free.next();
@@ -28,7 +28,7 @@ pub fn outer_cells(board: u64) -> (Option<u32>, Option<u32>)
 /// Returns the free cells, the last of them first.
 pub fn cells_from_last(alloc: Global, board: u64) -> Result<Vec<u32>, AllocError>
     ensures { IfOk result
-        (λ cells. cells.items ≡ reverse (ascending (complement (digit_set 64 board)))) }
+        (λ cells. cells.items ≡ reverse (ascending (complement (bit_set 64 board)))) }
 {
     board.iter_zeros().rev().collect(alloc)
 }

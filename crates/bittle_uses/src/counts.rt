@@ -3,24 +3,24 @@
 ghost use Rattle.std.specs.Prelude.{◌≡◌, ◌==◌, ◌+◌, ◌-◌, true, length, position, sum, Some, map, slice_index};
 ghost use Rattle.std.specs.List.{last_or, enumerate_from};
 ghost use Rattle.std.specs.Int.Bits.{bit_xor};
-ghost use Rattle.bittle.specs.Digits.{digit_set};
-ghost use Rattle.bittle.specs.Orders.{members};
+ghost use Rattle.bittle.specs.BitPatterns.{bit_set};
+ghost use Rattle.bittle.specs.Orders.{read_in};
 ghost use Rattle.bittle.specs.PlainSet.{ascending, complement, size};
-ghost use Rattle.bittle.specs.Rows.{elements_set};
+ghost use Rattle.bittle.specs.Rows.{row_set};
 ghost use Rattle.bittle.specs.Values.{set_in, set_mirrored, ShapeFits};
 
 use bittle::{Bits, BitsOwned, LittleEndian, Set};
 
 /// Counts the members of a word by its walk.
 pub fn count_of_word(mask: u64) -> usize
-    ensures { result ≡ length (ascending (digit_set 64 mask)) }
+    ensures { result ≡ length (ascending (bit_set 64 mask)) }
 {
     mask.iter_ones().count()
 }
 
 /// Counts the members of four bytes by their walk.
 pub fn count_of_bytes(mask: [u8; 4]) -> usize
-    ensures { result ≡ length (ascending (elements_set 4 8 (digit_set 8) mask)) }
+    ensures { result ≡ length (ascending (row_set 4 8 (bit_set 8) mask)) }
 {
     mask.iter_ones().count()
 }
@@ -28,21 +28,21 @@ pub fn count_of_bytes(mask: [u8; 4]) -> usize
 /// Counts the numbers below the capacity of two bytes that are no members, by a walk that owns
 /// them.
 pub fn count_of_free(mask: [u8; 2]) -> usize
-    ensures { result ≡ length (ascending (complement (elements_set 2 8 (digit_set 8) mask))) }
+    ensures { result ≡ length (ascending (complement (row_set 2 8 (bit_set 8) mask))) }
 {
     mask.into_iter_zeros_be().count()
 }
 
 /// Counts the members of a set in little-endian order by its walk.
 pub fn count_of_set(set: Set<u16, LittleEndian>) -> usize
-    ensures { result ≡ length (ascending (members true 16 (digit_set 16 set.bits))) }
+    ensures { result ≡ length (ascending (read_in true 16 (bit_set 16 set.bits))) }
 {
     set.iter_ones().count()
 }
 
 /// Counts the members of a set by its iteration.
 pub fn count_of_iterated_set(set: Set<u64>) -> usize
-    ensures { result ≡ length (ascending (digit_set 64 set.bits)) }
+    ensures { result ≡ length (ascending (bit_set 64 set.bits)) }
 {
     set.into_iter().count()
 }
@@ -57,14 +57,14 @@ pub fn count_of_any<B: BitsOwned>(set: B) -> usize
 
 /// Counts the entries of a row that stand at members.
 pub fn count_of_joined(mask: u64, row: &[u32; 64]) -> usize
-    ensures { result ≡ length (ascending (digit_set 64 mask)) }
+    ensures { result ≡ length (ascending (bit_set 64 mask)) }
 {
     mask.join_ones(row.iter()).count()
 }
 
 /// Returns the place of a member in the increasing list, or `None` where it is no member.
 pub fn place_of_member(mask: u64, wanted: u32) -> Option<usize>
-    ensures { result ≡ position (λ i. i == wanted) (ascending (digit_set 64 mask)) }
+    ensures { result ≡ position (λ i. i == wanted) (ascending (bit_set 64 mask)) }
 {
     mask.iter_ones().position(|index| index == wanted)
 }
@@ -91,7 +91,7 @@ pub fn place_of_free_of_any<B: BitsOwned>(set: B, wanted: u32) -> Option<usize>
 pub fn entries_at_place_and_member(mask: u64, row: &[u32; 64]) -> u32
     ensures { Some result ≡ last_or (Some 0) (map
         (λ p. bit_xor (slice_index row.now p.0) (slice_index row.now p.1))
-        (enumerate_from 0 (ascending (digit_set 64 mask)))) }
+        (enumerate_from 0 (ascending (bit_set 64 mask)))) }
 {
     let mut last = 0;
     for (place, index) in mask.iter_ones().enumerate() {
@@ -114,35 +114,35 @@ pub fn last_place_of_any<B: BitsOwned>(set: B) -> usize
 
 /// Adds the counts of two bytes.
 pub fn count_of_both(one: u8, other: u8) -> u32
-    ensures { result ≡ size (digit_set 8 one) + size (digit_set 8 other) }
+    ensures { result ≡ size (bit_set 8 one) + size (bit_set 8 other) }
 {
     Bits::count_ones(&one) + Bits::count_ones(&other)
 }
 
 /// Adds the counts of what two bytes lack.
 pub fn free_of_both(one: u8, other: u8) -> u32
-    ensures { result ≡ (8 - size (digit_set 8 one)) + (8 - size (digit_set 8 other)) }
+    ensures { result ≡ (8 - size (bit_set 8 one)) + (8 - size (bit_set 8 other)) }
 {
     Bits::count_zeros(&one) + Bits::count_zeros(&other)
 }
 
 /// Narrows the count of four words to 16 digits.
 pub fn narrow_count(board: &[u64; 4]) -> u16
-    ensures { result ≡ size (elements_set 4 64 (digit_set 64) board.now) }
+    ensures { result ≡ size (row_set 4 64 (bit_set 64) board.now) }
 {
     board.count_ones() as u16
 }
 
 /// Narrows the count of a set to a byte.
 pub fn narrow_count_of_set(set: Set<u64>) -> u8
-    ensures { result ≡ size (digit_set 64 set.bits) }
+    ensures { result ≡ size (bit_set 64 set.bits) }
 {
     set.count_ones() as u8
 }
 
 /// Subtracts the count of a word from its capacity.
 pub fn free_of_word(board: u64) -> u32
-    ensures { result ≡ 64 - size (digit_set 64 board) }
+    ensures { result ≡ 64 - size (bit_set 64 board) }
 {
     64 - Bits::count_ones(&board)
 }
@@ -158,7 +158,7 @@ pub fn count_of_any_both<B: BitsOwned>(one: B, other: B) -> u64
 
 /// Adds the members from the greatest on, wrapping.
 pub fn wrapping_sum(mask: u32) -> u64
-    ensures { result ≡ sum (ascending (digit_set 32 mask)) }
+    ensures { result ≡ sum (ascending (bit_set 32 mask)) }
 {
     let mut total = 0u64;
     for index in mask.iter_ones().rev() {

@@ -2,8 +2,8 @@
 //! that have one.
 
 ghost use Rattle.std.specs.Prelude.{◌≡◌, Bool, length, map, take, slice_index};
-ghost use Rattle.bittle.specs.Digits.{digit_set};
-ghost use Rattle.bittle.specs.Orders.{members};
+ghost use Rattle.bittle.specs.BitPatterns.{bit_set};
+ghost use Rattle.bittle.specs.Orders.{read_in};
 ghost use Rattle.bittle.specs.PlainSet.{ascending};
 ghost use Rattle.bittle.specs.SetOperations.{conjunction_of};
 
@@ -11,9 +11,9 @@ use bittle::{Bits, BitsOwned};
 
 /// Returns the entities that have components of both kinds, in whichever order masks are read.
 pub fn with_both(one: u64, other: u64) -> u64
-    ensures { (mirrored : Bool) → members mirrored 64 (digit_set 64 result)
-        ≡ conjunction_of (members mirrored 64 (digit_set 64 one))
-        (members mirrored 64 (digit_set 64 other)) }
+    ensures { (mirrored : Bool) → read_in mirrored 64 (bit_set 64 result)
+        ≡ conjunction_of (read_in mirrored 64 (bit_set 64 one))
+        (read_in mirrored 64 (bit_set 64 other)) }
 {
     one.conjunction(other)
 }
@@ -21,9 +21,9 @@ pub fn with_both(one: u64, other: u64) -> u64
 /// Picks the components of the entities of a mask into a row, in the order of the entities, and
 /// returns how many.
 pub fn pick(mask: u64, components: &[u32; 64], row: &mut [u32; 64]) -> usize
-    ensures count { result ≡ length (ascending (digit_set 64 mask)) }
+    ensures count { result ≡ length (ascending (bit_set 64 mask)) }
     ensures picked { take result row.new
-        ≡ map (λ entity. slice_index components.now entity) (ascending (digit_set 64 mask)) }
+        ≡ map (λ entity. slice_index components.now entity) (ascending (bit_set 64 mask)) }
 {
     let mut count = 0;
     for component in mask.join_ones(components.iter()) {

@@ -1,9 +1,9 @@
 //! Contracts that say what a lent slice, or any set, holds after a change.
 
 ghost use Rattle.std.specs.Prelude.{◌≡◌, ◌*◌, ◌<◌, length, MatchOption, slice_get};
-ghost use Rattle.bittle.specs.Digits.{digit_set};
+ghost use Rattle.bittle.specs.BitPatterns.{bit_set};
 ghost use Rattle.bittle.specs.PlainSet.{ascending, complement, with_index, without_index};
-ghost use Rattle.bittle.specs.Rows.{elements_set};
+ghost use Rattle.bittle.specs.Rows.{row_set};
 ghost use Rattle.bittle.specs.Values.{set_in, ShapeFits};
 
 use bittle::{Bits, BitsMut, Endian, Set};
@@ -11,8 +11,8 @@ use bittle::{Bits, BitsMut, Endian, Set};
 /// Sets a bit of a slice that fits.
 pub fn set_in_slice(words: &mut [u64], index: u32)
     requires { length words.old * 64 < 4294967295 }
-    ensures { elements_set (length words.new) 64 (digit_set 64) words.new
-        ≡ with_index (elements_set (length words.old) 64 (digit_set 64) words.old) index }
+    ensures { row_set (length words.new) 64 (bit_set 64) words.new
+        ≡ with_index (row_set (length words.old) 64 (bit_set 64) words.old) index }
 {
     let mut set = Set::from_mut(words);
     set.set_bit(index);
@@ -20,8 +20,8 @@ pub fn set_in_slice(words: &mut [u64], index: u32)
 
 /// Clears a bit of a slice of any length.
 pub fn clear_in_slice(words: &mut [u64], index: u32)
-    ensures { elements_set (length words.new) 64 (digit_set 64) words.new
-        ≡ without_index (elements_set (length words.old) 64 (digit_set 64) words.old) index }
+    ensures { row_set (length words.new) 64 (bit_set 64) words.new
+        ≡ without_index (row_set (length words.old) 64 (bit_set 64) words.old) index }
 {
     let mut held = (words,);
     let lent = &mut held;
@@ -33,11 +33,11 @@ pub fn clear_in_slice(words: &mut [u64], index: u32)
 pub fn take_least(words: &mut [u64]) -> Option<u32>
     requires { length words.old * 64 < 4294967295 }
     ensures least { result ≡ slice_get (ascending (complement
-        (elements_set (length words.old) 64 (digit_set 64) words.old))) 0 }
+        (row_set (length words.old) 64 (bit_set 64) words.old))) 0 }
     ensures taken { MatchOption result
         (words.new ≡ words.old)
-        (λ index. elements_set (length words.new) 64 (digit_set 64) words.new
-        ≡ with_index (elements_set (length words.old) 64 (digit_set 64) words.old) index) }
+        (λ index. row_set (length words.new) 64 (bit_set 64) words.new
+        ≡ with_index (row_set (length words.old) 64 (bit_set 64) words.old) index) }
 {
     let mut held = (words,);
     let lent = &mut held;

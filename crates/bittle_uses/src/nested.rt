@@ -3,9 +3,9 @@
 
 ghost use Rattle.std.specs.List.{last_or};
 ghost use Rattle.std.specs.Prelude.{◌≡◌, Some};
-ghost use Rattle.bittle.specs.Digits.{digit_set};
+ghost use Rattle.bittle.specs.BitPatterns.{bit_set};
 ghost use Rattle.bittle.specs.PlainSet.{ascending};
-ghost use Rattle.bittle.specs.Rows.{elements_set};
+ghost use Rattle.bittle.specs.Rows.{row_set};
 ghost use Rattle.bittle.specs.Values.{set_in, ShapeFits};
 
 use bittle::{Bits, BitsOwned, Set};
@@ -25,7 +25,7 @@ pub fn greatest_of_owned<B: BitsOwned>(set: B) -> u32
 /// Returns the greatest member of a table of four rows, or 0.
 pub fn greatest_of_table(table: [[u32; 4]; 4]) -> u32
     ensures { Some result ≡ last_or (Some 0)
-        (ascending (elements_set 4 128 (elements_set 4 32 (digit_set 32)) table)) }
+        (ascending (row_set 4 128 (row_set 4 32 (bit_set 32)) table)) }
 {
     greatest_of_owned(table)
 }
@@ -33,7 +33,7 @@ pub fn greatest_of_table(table: [[u32; 4]; 4]) -> u32
 /// Returns the greatest member of a table of four rows as a set, or 0.
 pub fn greatest_of_table_as_set(table: Set<[[u32; 4]; 4]>) -> u32
     ensures { Some result ≡ last_or (Some 0)
-        (ascending (elements_set 4 128 (elements_set 4 32 (digit_set 32)) table.bits)) }
+        (ascending (row_set 4 128 (row_set 4 32 (bit_set 32)) table.bits)) }
 {
     greatest_of_owned(table)
 }
@@ -41,7 +41,7 @@ pub fn greatest_of_table_as_set(table: Set<[[u32; 4]; 4]>) -> u32
 /// Returns the greatest member of a table of four rows, by a walk that borrows it, or 0.
 pub fn greatest_of_lent_table(table: &[[u32; 4]; 4]) -> u32
     ensures { Some result ≡ last_or (Some 0)
-        (ascending (elements_set 4 128 (elements_set 4 32 (digit_set 32)) table.now)) }
+        (ascending (row_set 4 128 (row_set 4 32 (bit_set 32)) table.now)) }
 {
     let mut last = 0;
     for index in table.iter_ones() {

@@ -3,18 +3,18 @@
 ghost use Rattle.std.specs.List.Sorted.{IsPermutation, IsSorted};
 ghost use Rattle.std.specs.List.{All, HoldsAt};
 ghost use Rattle.std.specs.Prelude.{◌≡◌, ◌↔◌, Bool, IsTrue, MatchOption};
-ghost use Rattle.bittle.specs.Digits.{digit_set};
+ghost use Rattle.bittle.specs.BitPatterns.{bit_set};
 ghost use Rattle.bittle.specs.Comparison.{AreSame};
-ghost use Rattle.bittle.specs.Orders.{members};
+ghost use Rattle.bittle.specs.Orders.{read_in};
 ghost use Rattle.bittle.specs.SetOperations.{union_of};
 
 use bittle::Set;
 
 /// Returns what two roles grant together, in whichever order they are read.
 pub fn together(one: Set<u32>, other: Set<u32>) -> Set<u32>
-    ensures { (mirrored : Bool) → members mirrored 32 (digit_set 32 result.bits)
-        ≡ union_of (members mirrored 32 (digit_set 32 one.bits))
-        (members mirrored 32 (digit_set 32 other.bits)) }
+    ensures { (mirrored : Bool) → read_in mirrored 32 (bit_set 32 result.bits)
+        ≡ union_of (read_in mirrored 32 (bit_set 32 one.bits))
+        (read_in mirrored 32 (bit_set 32 other.bits)) }
 {
     one | other
 }
@@ -23,8 +23,8 @@ pub fn together(one: Set<u32>, other: Set<u32>) -> Set<u32>
 /// role.
 pub fn allows(role: Set<u32>, asked: Set<u32>) -> bool
     ensures { IsTrue result
-        ↔ AreSame (union_of (digit_set 32 role.bits) (digit_set 32 asked.bits))
-        (digit_set 32 role.bits) }
+        ↔ AreSame (union_of (bit_set 32 role.bits) (bit_set 32 asked.bits))
+        (bit_set 32 role.bits) }
 {
     role | asked == role
 }
@@ -41,10 +41,10 @@ pub fn sort(roles: &mut [Set<u32>])
 /// does.
 pub fn find(roles: &[Set<u32>], wanted: Set<u32>) -> Option<usize>
     requires { IsSorted ⟦<Set<u32> as Ord>⟧.cmp roles.now }
-    ensures { let asked = digit_set 32 wanted.bits in
+    ensures { let asked = bit_set 32 wanted.bits in
         MatchOption result
-        (All (λ role. AreSame (digit_set 32 role.bits) asked → ⊥) roles.now)
-        (λ place. HoldsAt (λ role. AreSame (digit_set 32 role.bits) asked) roles.now place) }
+        (All (λ role. AreSame (bit_set 32 role.bits) asked → ⊥) roles.now)
+        (λ place. HoldsAt (λ role. AreSame (bit_set 32 role.bits) asked) roles.now place) }
 {
     roles.binary_search(&wanted).ok()
 }

@@ -2,8 +2,8 @@
 
 ghost use Rattle.std.specs.Prelude.{◌≡◌, ◌+◌, ◌*◌, ◌<◌, ◌≤◌, length, reverse, slice_get, None, Some, map, slice_index};
 ghost use Rattle.std.specs.List.{last_or};
-ghost use Rattle.bittle.specs.Rows.{elements_set};
-ghost use Rattle.bittle.specs.Digits.{digit_set};
+ghost use Rattle.bittle.specs.Rows.{row_set};
+ghost use Rattle.bittle.specs.BitPatterns.{bit_set};
 ghost use Rattle.bittle.specs.PlainSet.{ascending, size};
 
 use bittle::Bits;
@@ -11,7 +11,7 @@ use bittle::Bits;
 /// Returns the entry at the greatest member, or 0 where there is none.
 pub fn entry_at_greatest(mask: u64, row: &[u32; 64]) -> u32
     ensures { Some result ≡ last_or (Some 0) (map (λ i. slice_index row.now i)
-        (ascending (digit_set 64 mask))) }
+        (ascending (bit_set 64 mask))) }
 {
     let mut last = 0;
     for index in mask.iter_ones() {
@@ -23,7 +23,7 @@ pub fn entry_at_greatest(mask: u64, row: &[u32; 64]) -> u32
 /// Returns the greatest member of a slice of words, or `None` where it has none or is too long.
 pub fn greatest_of_slice(words: &[u64]) -> Option<u32>
     ensures fits { length words.now * 64 < 4294967295 → result ≡ slice_get (reverse (ascending
-        (elements_set (length words.now) 64 (digit_set 64) words.now))) 0 }
+        (row_set (length words.now) 64 (bit_set 64) words.now))) 0 }
     ensures too_long { 4294967295 ≤ length words.now * 64 → result ≡ None }
 {
     if words.bits_capacity() == u32::MAX {
@@ -34,14 +34,14 @@ pub fn greatest_of_slice(words: &[u64]) -> Option<u32>
 
 /// Returns how many members there are, by a walk.
 pub fn how_many(mask: u64) -> usize
-    ensures { result ≡ length (ascending (digit_set 64 mask)) }
+    ensures { result ≡ length (ascending (bit_set 64 mask)) }
 {
     mask.iter_ones().count()
 }
 
 /// Returns how many members two words have, each counted for itself.
 pub fn how_many_in_both(one: u64, other: u64) -> u32
-    ensures { result ≡ size (digit_set 64 one) + size (digit_set 64 other) }
+    ensures { result ≡ size (bit_set 64 one) + size (bit_set 64 other) }
 {
     Bits::count_ones(&one) + Bits::count_ones(&other)
 }

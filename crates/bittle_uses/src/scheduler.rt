@@ -2,9 +2,9 @@
 //! first.
 
 ghost use Rattle.std.specs.Prelude.{◌≡◌, ◌<◌, MatchOption};
-ghost use Rattle.bittle.specs.Digits.{digit_set};
+ghost use Rattle.bittle.specs.BitPatterns.{bit_set};
 ghost use Rattle.bittle.specs.PlainSet.{with_index, without_index};
-ghost use Rattle.bittle.specs.Rows.{elements_set};
+ghost use Rattle.bittle.specs.Rows.{row_set};
 ghost use Rattle.bittle.specs.Searches.{IsFirstIn};
 
 use bittle::{BigEndian, Bits, BitsMut};
@@ -12,19 +12,19 @@ use bittle::{BigEndian, Bits, BitsMut};
 /// Makes the priority ready.
 pub fn wake(mask: &mut [u64; 4], priority: u32)
     requires { priority < 256 }
-    ensures { elements_set 4 64 (digit_set 64) mask.new
-        ≡ with_index (elements_set 4 64 (digit_set 64) mask.old) priority }
+    ensures { row_set 4 64 (bit_set 64) mask.new
+        ≡ with_index (row_set 4 64 (bit_set 64) mask.old) priority }
 {
     mask.set_bit(priority);
 }
 
 /// Takes the least priority that is ready, or changes nothing and returns `None` where none is.
 pub fn take(mask: &mut [u64; 4]) -> Option<u32>
-    ensures least { IsFirstIn (elements_set 4 64 (digit_set 64) mask.old) 0 256 result }
+    ensures least { IsFirstIn (row_set 4 64 (bit_set 64) mask.old) 0 256 result }
     ensures mask { MatchOption result
         (mask.new ≡ mask.old)
-        (λ priority. elements_set 4 64 (digit_set 64) mask.new
-        ≡ without_index (elements_set 4 64 (digit_set 64) mask.old) priority) }
+        (λ priority. row_set 4 64 (bit_set 64) mask.new
+        ≡ without_index (row_set 4 64 (bit_set 64) mask.old) priority) }
 {
     let priority = mask.first_one_in::<BigEndian>(0, 256)?;
     mask.clear_bit(priority);

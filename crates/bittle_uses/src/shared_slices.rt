@@ -4,10 +4,10 @@
 ghost use Rattle.std.specs.Prelude.{◌≡◌, ◌≤◌, ◌<◌, ◌*◌, length, slice_get, reverse, MatchOption};
 ghost use Rattle.std.specs.Prelude.{Some, None, true, [], map, slice_index, unwrap_or};
 ghost use Rattle.std.specs.List.{last_or};
-ghost use Rattle.bittle.specs.Orders.{members};
-ghost use Rattle.bittle.specs.Digits.{digit_set};
+ghost use Rattle.bittle.specs.Orders.{read_in};
+ghost use Rattle.bittle.specs.BitPatterns.{bit_set};
 ghost use Rattle.bittle.specs.PlainSet.{ascending, complement};
-ghost use Rattle.bittle.specs.Rows.{elements_set};
+ghost use Rattle.bittle.specs.Rows.{row_set};
 ghost use Rattle.bittle.specs.Shapes.{Fits};
 
 use bittle::{BigEndian, Bits, BitsOwned, Endian, LittleEndian, Set};
@@ -17,7 +17,7 @@ pub fn entry_at_greatest(mask: &[u64], row: &[u32]) -> u32
     requires fits { length mask.now * 64 < 4294967295 }
     requires long { length mask.now * 64 ≤ length row.now }
     ensures { Some result ≡ last_or (Some 0) (map (λ i. slice_index row.now i)
-        (ascending (elements_set (length mask.now) 64 (digit_set 64) mask.now))) }
+        (ascending (row_set (length mask.now) 64 (bit_set 64) mask.now))) }
 {
     let mut last = 0;
     for index in mask.iter_ones() {
@@ -30,7 +30,7 @@ pub fn entry_at_greatest(mask: &[u64], row: &[u32]) -> u32
 pub fn least_member(mask: &[u64]) -> Option<u32>
     requires { length mask.now * 64 < 4294967295 }
     ensures { result ≡ slice_get (ascending
-        (elements_set (length mask.now) 64 (digit_set 64) mask.now)) 0 }
+        (row_set (length mask.now) 64 (bit_set 64) mask.now)) 0 }
 {
     mask.iter_ones().next()
 }
@@ -38,7 +38,7 @@ pub fn least_member(mask: &[u64]) -> Option<u32>
 /// Returns the least member of a slice, or `None` where there is none or the slice does not fit.
 pub fn least_member_if_it_fits(mask: &[u64]) -> Option<u32>
     ensures fits { length mask.now * 64 < 4294967295 → result ≡ slice_get (ascending
-        (elements_set (length mask.now) 64 (digit_set 64) mask.now)) 0 }
+        (row_set (length mask.now) 64 (bit_set 64) mask.now)) 0 }
     ensures too_long { 4294967295 ≤ length mask.now * 64 → result ≡ None }
 {
     if mask.bits_capacity() < u32::MAX {
@@ -51,7 +51,7 @@ pub fn least_member_if_it_fits(mask: &[u64]) -> Option<u32>
 pub fn greatest_from_the_left(mask: &[u64]) -> u32
     requires { length mask.now * 64 < 4294967295 }
     ensures { Some result ≡ last_or (Some 0) (ascending
-        (members true 64 (elements_set (length mask.now) 64 (digit_set 64) mask.now))) }
+        (read_in true 64 (row_set (length mask.now) 64 (bit_set 64) mask.now))) }
 {
     let mut last = 0;
     for index in mask.iter_ones_le() {
@@ -64,7 +64,7 @@ pub fn greatest_from_the_left(mask: &[u64]) -> u32
 pub fn greatest_free_from_the_right(mask: &[u64]) -> u32
     requires { length mask.now * 64 < 4294967295 }
     ensures { Some result ≡ last_or (Some 0) (ascending
-        (complement (elements_set (length mask.now) 64 (digit_set 64) mask.now))) }
+        (complement (row_set (length mask.now) 64 (bit_set 64) mask.now))) }
 {
     let mut last = 0;
     for index in mask.iter_zeros_be() {
@@ -76,8 +76,8 @@ pub fn greatest_free_from_the_right(mask: &[u64]) -> u32
 /// Returns the least index that is no member of triples of bytes, from the back, or 0.
 pub fn least_free_of_triples(mask: &[[u8; 3]]) -> u32
     requires { length mask.now * 24 < 4294967295 }
-    ensures { result ≡ unwrap_or (slice_get (ascending (complement (members true 8
-        (elements_set (length mask.now) 24 (elements_set 3 8 (digit_set 8)) mask.now)))) 0) 0 }
+    ensures { result ≡ unwrap_or (slice_get (ascending (complement (read_in true 8
+        (row_set (length mask.now) 24 (row_set 3 8 (bit_set 8)) mask.now)))) 0) 0 }
 {
     let mut last = 0;
     for index in mask.iter_zeros_in::<LittleEndian>().rev() {
@@ -90,7 +90,7 @@ pub fn least_free_of_triples(mask: &[[u8; 3]]) -> u32
 pub fn count_of_triples(mask: &[[u8; 3]]) -> usize
     requires { length mask.now * 24 < 4294967295 }
     ensures { result ≡ length (ascending
-        (elements_set (length mask.now) 24 (elements_set 3 8 (digit_set 8)) mask.now)) }
+        (row_set (length mask.now) 24 (row_set 3 8 (bit_set 8)) mask.now)) }
 {
     mask.iter_ones_in::<BigEndian>().count()
 }
@@ -99,7 +99,7 @@ pub fn count_of_triples(mask: &[[u8; 3]]) -> usize
 pub fn greatest_of_lent(mask: &mut [u64]) -> u32
     requires { length mask.old * 64 < 4294967295 }
     ensures greatest { Some result ≡ last_or (Some 0) (ascending
-        (elements_set (length mask.old) 64 (digit_set 64) mask.old)) }
+        (row_set (length mask.old) 64 (bit_set 64) mask.old)) }
     ensures unchanged { mask.new ≡ mask.old }
 {
     let mut last = 0;
@@ -112,12 +112,12 @@ pub fn greatest_of_lent(mask: &mut [u64]) -> u32
 /// Returns both ends of a slice's members in any order, or `None` where it does not fit.
 pub fn ends_of_members<T: BitsOwned, E: Endian>(mask: &[T]) -> Option<(u32, u32)>
     ensures { Fits T.indexable (length mask.now * T.type_capacity) → MatchOption result
-        (ascending (members E.mirrored T.width
-        (elements_set (length mask.now) T.type_capacity T.big mask.now)) ≡ [])
-        (λ ends. (slice_get (ascending (members E.mirrored T.width
-        (elements_set (length mask.now) T.type_capacity T.big mask.now))) 0 ≡ Some ends.0)
-        × (slice_get (reverse (ascending (members E.mirrored T.width
-        (elements_set (length mask.now) T.type_capacity T.big mask.now)))) 0 ≡ Some ends.1)) }
+        (ascending (read_in E.mirrored T.width
+        (row_set (length mask.now) T.type_capacity T.big mask.now)) ≡ [])
+        (λ ends. (slice_get (ascending (read_in E.mirrored T.width
+        (row_set (length mask.now) T.type_capacity T.big mask.now))) 0 ≡ Some ends.0)
+        × (slice_get (reverse (ascending (read_in E.mirrored T.width
+        (row_set (length mask.now) T.type_capacity T.big mask.now)))) 0 ≡ Some ends.1)) }
 {
     if mask.bits_capacity() == u32::MAX {
         return None;
@@ -131,8 +131,8 @@ pub fn ends_of_members<T: BitsOwned, E: Endian>(mask: &[T]) -> Option<(u32, u32)
 pub fn greatest_free_of_any<T: BitsOwned, E: Endian>(mask: &[T]) -> u32
     requires { Fits T.indexable (length mask.now * T.type_capacity) }
     ensures { Some result ≡ last_or (Some 0) (ascending
-        (complement (members E.mirrored T.width
-        (elements_set (length mask.now) T.type_capacity T.big mask.now)))) }
+        (complement (read_in E.mirrored T.width
+        (row_set (length mask.now) T.type_capacity T.big mask.now)))) }
 {
     let mut last = 0;
     for index in mask.iter_zeros_in::<E>() {
@@ -145,7 +145,7 @@ pub fn greatest_free_of_any<T: BitsOwned, E: Endian>(mask: &[T]) -> u32
 pub fn greatest_of_any<T: BitsOwned>(mask: &[T]) -> u32
     requires { Fits T.indexable (length mask.now * T.type_capacity) }
     ensures { Some result ≡ last_or (Some 0) (ascending
-        (elements_set (length mask.now) T.type_capacity T.big mask.now)) }
+        (row_set (length mask.now) T.type_capacity T.big mask.now)) }
 {
     let mut last = 0;
     for index in mask.iter_ones() {
@@ -158,7 +158,7 @@ pub fn greatest_of_any<T: BitsOwned>(mask: &[T]) -> u32
 pub fn greatest_of_wrapped(mask: &[u64]) -> u32
     requires { length mask.now * 64 < 4294967295 }
     ensures { Some result ≡ last_or (Some 0) (ascending
-        (members true 64 (elements_set (length mask.now) 64 (digit_set 64) mask.now))) }
+        (read_in true 64 (row_set (length mask.now) 64 (bit_set 64) mask.now))) }
 {
     let mut last = 0;
     for index in &Set::from_ref_le(mask) {

@@ -1,10 +1,10 @@
 //! Runs on a slice of the caller, which holds all changes when the borrow ends.
 
 ghost use Rattle.std.specs.Prelude.{◌≡◌, ◌*◌, ◌<◌, length, true, false};
-ghost use Rattle.bittle.specs.Digits.{digit_set};
+ghost use Rattle.bittle.specs.BitPatterns.{bit_set};
 ghost use Rattle.bittle.specs.Machine.{replies_of, final_set};
-ghost use Rattle.bittle.specs.Orders.{members};
-ghost use Rattle.bittle.specs.Rows.{elements_set};
+ghost use Rattle.bittle.specs.Orders.{read_in};
+ghost use Rattle.bittle.specs.Rows.{row_set};
 ghost use Rattle.bittle.specs.Shapes.{Fits};
 
 use bittle::replay::{Call, Reply, replay};
@@ -18,12 +18,12 @@ pub fn replay_on_slice<T: BitsOwned, E: Endian>(
 )
     requires fits { Fits T.indexable (length elements.old * T.type_capacity) }
     requires room { length replies.old ≡ length calls.now }
-    ensures replies { replies.new ≡ replies_of (members E.mirrored T.width
-        (elements_set (length elements.old) T.type_capacity T.big elements.old)) calls.now }
-    ensures set { members E.mirrored T.width
-        (elements_set (length elements.new) T.type_capacity T.big elements.new)
-        ≡ final_set (members E.mirrored T.width
-        (elements_set (length elements.old) T.type_capacity T.big elements.old)) calls.now }
+    ensures replies { replies.new ≡ replies_of (read_in E.mirrored T.width
+        (row_set (length elements.old) T.type_capacity T.big elements.old)) calls.now }
+    ensures set { read_in E.mirrored T.width
+        (row_set (length elements.new) T.type_capacity T.big elements.new)
+        ≡ final_set (read_in E.mirrored T.width
+        (row_set (length elements.old) T.type_capacity T.big elements.old)) calls.now }
 {
     let mut held = (elements,);
     let lent = &mut held;
@@ -34,8 +34,8 @@ pub fn replay_on_slice<T: BitsOwned, E: Endian>(
 pub fn replay_on_words(words: &mut [u16], calls: &[Call], replies: &mut [Reply])
     requires fits { length words.old * 16 < 4294967295 }
     requires room { length replies.old ≡ length calls.now }
-    ensures { members true 16 (elements_set (length words.new) 16 (digit_set 16) words.new)
-        ≡ final_set (members true 16 (elements_set (length words.old) 16 (digit_set 16) words.old))
+    ensures { read_in true 16 (row_set (length words.new) 16 (bit_set 16) words.new)
+        ≡ final_set (read_in true 16 (row_set (length words.old) 16 (bit_set 16) words.old))
         calls.now }
 {
     replay_on_slice::<u16, LittleEndian>(words, calls, replies);
@@ -45,11 +45,11 @@ pub fn replay_on_words(words: &mut [u16], calls: &[Call], replies: &mut [Reply])
 pub fn replay_on_pairs(pairs: &mut [[u8; 2]], calls: &[Call], replies: &mut [Reply])
     requires fits { length pairs.old * 16 < 4294967295 }
     requires room { length replies.old ≡ length calls.now }
-    ensures { members false 8
-        (elements_set (length pairs.new) 16 (elements_set 2 8 (digit_set 8)) pairs.new)
+    ensures { read_in false 8
+        (row_set (length pairs.new) 16 (row_set 2 8 (bit_set 8)) pairs.new)
         ≡ final_set
-        (members false 8
-        (elements_set (length pairs.old) 16 (elements_set 2 8 (digit_set 8)) pairs.old)) calls.now }
+        (read_in false 8
+        (row_set (length pairs.old) 16 (row_set 2 8 (bit_set 8)) pairs.old)) calls.now }
 {
     replay_on_slice::<[u8; 2], BigEndian>(pairs, calls, replies);
 }

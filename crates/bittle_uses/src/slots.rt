@@ -1,9 +1,9 @@
 //! A table of slots over words that a caller lends, whose members are the slots that are taken.
 
 ghost use Rattle.std.specs.Prelude.{◌≡◌, ◌*◌, ◌<◌, length, MatchOption};
-ghost use Rattle.bittle.specs.Digits.{digit_set};
+ghost use Rattle.bittle.specs.BitPatterns.{bit_set};
 ghost use Rattle.bittle.specs.PlainSet.{complement, contains, with_index, without_index};
-ghost use Rattle.bittle.specs.Rows.{elements_set};
+ghost use Rattle.bittle.specs.Rows.{row_set};
 ghost use Rattle.bittle.specs.Searches.{IsFirstIn};
 
 use bittle::{BigEndian, Bits, BitsMut};
@@ -27,7 +27,7 @@ impl<'a> Slots<'a> {
     pub fn is_taken(&self, slot: u32) -> bool
         requires { slot < length self.now.words.now * 64 }
         ensures { let words = self.now.words.now in
-            result ≡ contains (elements_set (length words) 64 (digit_set 64) words) slot }
+            result ≡ contains (row_set (length words) 64 (bit_set 64) words) slot }
     {
         self.words.test_bit(slot)
     }
@@ -37,13 +37,13 @@ impl<'a> Slots<'a> {
     pub fn take(&mut self) -> Option<u32>
         requires { length self.old.words.now * 64 < 4294967295 }
         ensures least { let words = self.old.words.now in
-            IsFirstIn (complement (elements_set (length words) 64 (digit_set 64) words))
+            IsFirstIn (complement (row_set (length words) 64 (bit_set 64) words))
             0 (length words * 64) result }
         ensures table { let before = self.old.words.now in let after = self.new.words.now in
             MatchOption result
             (after ≡ before)
-            (λ slot. elements_set (length after) 64 (digit_set 64) after
-            ≡ with_index (elements_set (length before) 64 (digit_set 64) before) slot) }
+            (λ slot. row_set (length after) 64 (bit_set 64) after
+            ≡ with_index (row_set (length before) 64 (bit_set 64) before) slot) }
         ensures same_words { self.new.words.ghost_name ≡ self.old.words.ghost_name }
     {
         let end = self.words.len() as u32 * 64;
@@ -56,8 +56,8 @@ impl<'a> Slots<'a> {
     pub fn give_back(&mut self, slot: u32)
         requires { slot < length self.old.words.now * 64 }
         ensures table { let before = self.old.words.now in let after = self.new.words.now in
-            elements_set (length after) 64 (digit_set 64) after
-            ≡ without_index (elements_set (length before) 64 (digit_set 64) before) slot }
+            row_set (length after) 64 (bit_set 64) after
+            ≡ without_index (row_set (length before) 64 (bit_set 64) before) slot }
         ensures same_words { self.new.words.ghost_name ≡ self.old.words.ghost_name }
     {
         self.words.clear_bit(slot);
@@ -67,8 +67,8 @@ impl<'a> Slots<'a> {
 /// Gives a slot back to the table over a caller's words.
 pub fn give_back_to(words: &mut [u64], slot: u32)
     requires { slot < length words.old * 64 }
-    ensures { elements_set (length words.new) 64 (digit_set 64) words.new
-        ≡ without_index (elements_set (length words.old) 64 (digit_set 64) words.old) slot }
+    ensures { row_set (length words.new) 64 (bit_set 64) words.new
+        ≡ without_index (row_set (length words.old) 64 (bit_set 64) words.old) slot }
 {
     let mut slots = Slots::over(words);
     slots.give_back(slot);

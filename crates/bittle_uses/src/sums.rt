@@ -1,7 +1,7 @@
 //! Sums of the members of a set.
 
 ghost use Rattle.std.specs.Prelude.{◌≡◌, sum};
-ghost use Rattle.bittle.specs.Digits.{digit_set};
+ghost use Rattle.bittle.specs.BitPatterns.{bit_set};
 ghost use Rattle.bittle.specs.PlainSet.{ascending};
 ghost use Rattle.bittle.specs.Values.{set_in, ShapeFits};
 
@@ -21,7 +21,7 @@ pub fn sum_of_members<B: Bits>(set: &B) -> u64
 
 /// Returns the sum of the members of a word, from the greatest on, by the reversed walk.
 pub fn sum_in_reverse(mask: u32) -> u64
-    ensures { result ≡ sum (ascending (digit_set 32 mask)) }
+    ensures { result ≡ sum (ascending (bit_set 32 mask)) }
 {
     let mut total = 0u64;
     for index in mask.iter_ones().rev() {

@@ -4,10 +4,10 @@ ghost use Rattle.std.specs.Prelude.{◌≡◌, ◌≤◌, Option, ℕ, length, o
 ghost use Rattle.std.specs.List.{reduce, last_or, filter, fold, slice_index_or};
 ghost use Rattle.std.specs.Int.Bits.{bit_xor};
 ghost use Rattle.std.specs.Prelude.{max, slice_get, map, Some, true, false, take, drop, not, ◌==◌, ◌<◌, ◌||◌, ◌/◌, ◌%◌, []};
-ghost use Rattle.bittle.specs.Orders.{members};
-ghost use Rattle.bittle.specs.Rows.{elements_set};
+ghost use Rattle.bittle.specs.Orders.{read_in};
+ghost use Rattle.bittle.specs.Rows.{row_set};
 ghost use Rattle.bittle.specs.PlainSet.{ascending, complement};
-ghost use Rattle.bittle.specs.Digits.{digit_set};
+ghost use Rattle.bittle.specs.BitPatterns.{bit_set};
 ghost use Rattle.bittle.specs.Searches.{IsFirstIn};
 ghost use Rattle.bittle.specs.Values.{set_in, ShapeFits};
 
@@ -17,7 +17,7 @@ use bittle::{BigEndian, Bits, BitsOwned, LittleEndian, Set};
 /// Returns the entry at the greatest member of four words, or 0 where there is none.
 pub fn entry_at_greatest_of_words(mask: &[u64; 4], row: &[u32; 256]) -> u32
     ensures { Some result ≡ last_or (Some 0) (map (λ i. slice_index row.now i)
-        (ascending (elements_set 4 64 (digit_set 64) mask.now))) }
+        (ascending (row_set 4 64 (bit_set 64) mask.now))) }
 {
     let mut last = 0;
     for index in mask.iter_ones() {
@@ -29,7 +29,7 @@ pub fn entry_at_greatest_of_words(mask: &[u64; 4], row: &[u32; 256]) -> u32
 /// Returns the entry at the greatest index, counted from the left, that is no member, or 0.
 pub fn entry_at_greatest_free(mask: u64, row: &[u32; 64]) -> u32
     ensures { Some result ≡ last_or (Some 0) (map (λ i. slice_index row.now i)
-        (ascending (complement (members true 64 (digit_set 64 mask))))) }
+        (ascending (complement (read_in true 64 (bit_set 64 mask))))) }
 {
     let mut last = 0;
     for index in mask.iter_zeros_le() {
@@ -41,7 +41,7 @@ pub fn entry_at_greatest_free(mask: u64, row: &[u32; 64]) -> u32
 /// Returns the entry at the greatest member of an array that the walk owns, or 0.
 pub fn entry_at_greatest_of_owned(mask: [u16; 4], row: &[u32; 64]) -> u32
     ensures { Some result ≡ last_or (Some 0) (map (λ i. slice_index row.now i)
-        (ascending (elements_set 4 16 (digit_set 16) mask))) }
+        (ascending (row_set 4 16 (bit_set 16) mask))) }
 {
     let mut last = 0;
     for index in mask.into_iter_ones() {
@@ -53,7 +53,7 @@ pub fn entry_at_greatest_of_owned(mask: [u16; 4], row: &[u32; 64]) -> u32
 /// Returns the entry at the least member, or 0, by a walk from the back.
 pub fn entry_at_least(mask: u64, row: &[u32; 64]) -> u32
     ensures { result ≡ unwrap_or (option_map (λ i. slice_index row.now i)
-        (slice_get (ascending (digit_set 64 mask)) 0)) 0 }
+        (slice_get (ascending (bit_set 64 mask)) 0)) 0 }
 {
     let mut last = 0;
     for index in mask.iter_ones().rev() {
@@ -65,7 +65,7 @@ pub fn entry_at_least(mask: u64, row: &[u32; 64]) -> u32
 /// Returns the entry at the greatest member of a set in its own order, or 0.
 pub fn entry_at_greatest_of_set(mask: Set<u64, LittleEndian>, row: &[u32; 64]) -> u32
     ensures { Some result ≡ last_or (Some 0) (map (λ i. slice_index row.now i)
-        (ascending (members true 64 (digit_set 64 mask.bits)))) }
+        (ascending (read_in true 64 (bit_set 64 mask.bits)))) }
 {
     let mut last = 0;
     for index in mask {
@@ -77,7 +77,7 @@ pub fn entry_at_greatest_of_set(mask: Set<u64, LittleEndian>, row: &[u32; 64]) -
 /// Returns the entry at the greatest member of a set that is lent, or 0.
 pub fn entry_at_greatest_of_lent_set(mask: &Set<[u64; 4]>, row: &[u32; 256]) -> u32
     ensures { Some result ≡ last_or (Some 0) (map (λ i. slice_index row.now i)
-        (ascending (elements_set 4 64 (digit_set 64) mask.now.bits))) }
+        (ascending (row_set 4 64 (bit_set 64) mask.now.bits))) }
 {
     let mut last = 0;
     for index in mask {
@@ -89,7 +89,7 @@ pub fn entry_at_greatest_of_lent_set(mask: &Set<[u64; 4]>, row: &[u32; 256]) -> 
 /// Returns the entry at the greatest member of a set that is walked by name, or 0.
 pub fn entry_at_greatest_of_walked_set(mask: Set<u64>, row: &[u32; 64]) -> u32
     ensures { Some result ≡ last_or (Some 0) (map (λ i. slice_index row.now i)
-        (ascending (digit_set 64 mask.bits))) }
+        (ascending (bit_set 64 mask.bits))) }
 {
     let mut last = 0;
     for index in mask.iter_ones() {
@@ -115,7 +115,7 @@ pub fn entry_at_greatest_of_any<B: BitsOwned>(mask: B, row: &[u32]) -> u32
 /// Returns the entry at the greatest member, or 0, by the walk of one word.
 pub fn entry_at_greatest_of_word(mask: u64, row: &[u32; 64]) -> u32
     ensures { Some result ≡ last_or (Some 0) (map (λ i. slice_index row.now i)
-        (ascending (digit_set 64 mask))) }
+        (ascending (bit_set 64 mask))) }
 {
     let mut last = 0;
     for index in IterOnes::<u64, BigEndian>::new(mask) {
@@ -127,7 +127,7 @@ pub fn entry_at_greatest_of_word(mask: u64, row: &[u32; 64]) -> u32
 /// Marks each member in a row.
 pub fn mark_members(mask: u64, row: &mut [bool; 64])
     ensures { (i : ℕ) → i < 64 → slice_index_or row.new i false
-        ≡ (slice_index_or row.old i false || (digit_set 64 mask).has i) }
+        ≡ (slice_index_or row.old i false || (bit_set 64 mask).has i) }
 {
     for index in mask.iter_ones() {
         row[index as usize] = true;
@@ -149,7 +149,7 @@ pub fn word_of_members(mask: u64) -> u64
 pub fn combine_cells(board: u64, cells: &[[u8; 8]; 8]) -> u8
     ensures { result ≡ fold (λ all i. bit_xor all
         (slice_index (slice_index_or cells.now (i / 8) []) (i % 8))) 0
-        (ascending (digit_set 64 board)) }
+        (ascending (bit_set 64 board)) }
 {
     let mut all = 0;
     for cell in board.iter_ones() {
@@ -161,7 +161,7 @@ pub fn combine_cells(board: u64, cells: &[[u8; 8]; 8]) -> u8
 /// Returns the greatest member of four words, which is a byte, or 0 where there is none.
 pub fn greatest_as_byte(mask: &[u64; 4]) -> u8
     ensures { Some result ≡ last_or (Some 0)
-        (ascending (elements_set 4 64 (digit_set 64) mask.now)) }
+        (ascending (row_set 4 64 (bit_set 64) mask.now)) }
 {
     let mut last = 0;
     for index in mask.iter_ones() {
@@ -173,7 +173,7 @@ pub fn greatest_as_byte(mask: &[u64; 4]) -> u8
 /// Returns the entry at the first item of a walk, or 0.
 pub fn entry_at_first(mask: u64, row: &[u32; 64]) -> u32
     ensures { result ≡ unwrap_or (option_map (λ i. slice_index row.now i)
-        (slice_get (ascending (digit_set 64 mask)) 0)) 0 }
+        (slice_get (ascending (bit_set 64 mask)) 0)) 0 }
 {
     match mask.iter_ones().next() {
         Some(index) => row[index as usize],
@@ -184,7 +184,7 @@ pub fn entry_at_first(mask: u64, row: &[u32; 64]) -> u32
 /// Returns the entry at the least index that is no member, or 0 where each is one.
 pub fn entry_at_first_free(mask: u64, row: &[u32; 64]) -> u32
     ensures { result ≡ unwrap_or (option_map (λ i. slice_index row.now i)
-        (slice_get (ascending (complement (digit_set 64 mask))) 0)) 0 }
+        (slice_get (ascending (complement (bit_set 64 mask))) 0)) 0 }
 {
     match mask.iter_zeros().next() {
         Some(index) => row[index as usize],
@@ -194,7 +194,7 @@ pub fn entry_at_first_free(mask: u64, row: &[u32; 64]) -> u32
 
 /// Returns the entry at the least member that a bounded search finds, or 0.
 pub fn entry_at_found(mask: u64, row: &[u32; 64]) -> u32
-    ensures { (found : Option ℕ) × IsFirstIn (digit_set 64 mask) 0 64 found
+    ensures { (found : Option ℕ) × IsFirstIn (bit_set 64 mask) 0 64 found
         × (result ≡ unwrap_or (option_map (λ i. slice_index row.now i) found) 0) }
 {
     match mask.first_one_in::<BigEndian>(0, 64) {
@@ -206,7 +206,7 @@ pub fn entry_at_found(mask: u64, row: &[u32; 64]) -> u32
 /// Returns the entry at the greatest item of a walk, or 0.
 pub fn entry_at_maximum(mask: u64, row: &[u32; 64]) -> u32
     ensures { result ≡ unwrap_or (option_map (λ i. slice_index row.now i)
-        (reduce max (ascending (digit_set 64 mask)))) 0 }
+        (reduce max (ascending (bit_set 64 mask)))) 0 }
 {
     match mask.iter_ones().max() {
         Some(index) => row[index as usize],
@@ -217,7 +217,7 @@ pub fn entry_at_maximum(mask: u64, row: &[u32; 64]) -> u32
 /// Returns the entry at the greatest member, or 0, by steps of the walk.
 pub fn entry_at_last_step(mask: u64, row: &[u32; 64]) -> u32
     ensures { Some result ≡ last_or (Some 0) (map (λ i. slice_index row.now i)
-        (ascending (digit_set 64 mask))) }
+        (ascending (bit_set 64 mask))) }
 {
     let mut last = 0;
     let mut walk = mask.iter_ones();
@@ -230,7 +230,7 @@ pub fn entry_at_last_step(mask: u64, row: &[u32; 64]) -> u32
 /// Returns the entry at the last of at most three members, without 7 and the first, or 0.
 pub fn entry_at_chosen(mask: u64, row: &[u32; 64]) -> u32
     ensures { Some result ≡ last_or (Some 0) (map (λ i. slice_index row.now i)
-        (take 3 (drop 1 (filter (λ i. not (i == 7)) (ascending (digit_set 64 mask)))))) }
+        (take 3 (drop 1 (filter (λ i. not (i == 7)) (ascending (bit_set 64 mask)))))) }
 {
     let mut last = 0;
     for index in mask.iter_ones().filter(|index| *index != 7).skip(1).take(3) {
@@ -242,7 +242,7 @@ pub fn entry_at_chosen(mask: u64, row: &[u32; 64]) -> u32
 /// Returns the entry at the greatest member, or 0, by a clone of the walk.
 pub fn entry_at_greatest_of_clone(mask: u64, row: &[u32; 64]) -> u32
     ensures { Some result ≡ last_or (Some 0) (map (λ i. slice_index row.now i)
-        (ascending (digit_set 64 mask))) }
+        (ascending (bit_set 64 mask))) }
 {
     let walk = mask.iter_ones();
     let mut last = 0;

@@ -1,14 +1,14 @@
 //! Loops over a walk that add up: by a `for`, and written by hand.
 
 ghost use Rattle.std.specs.Prelude.{◌≡◌, sum};
-ghost use Rattle.bittle.specs.Digits.{digit_set};
+ghost use Rattle.bittle.specs.BitPatterns.{bit_set};
 ghost use Rattle.bittle.specs.PlainSet.{ascending};
 
 use bittle::Bits;
 
 /// Returns the sum of the members of a word.
 pub fn sum(mask: u64) -> u64
-    ensures { result ≡ sum (ascending (digit_set 64 mask)) }
+    ensures { result ≡ sum (ascending (bit_set 64 mask)) }
 {
     let mut total = 0u64;
     for index in mask.iter_ones() {
@@ -19,7 +19,7 @@ pub fn sum(mask: u64) -> u64
 
 /// Returns the sum of the members of a word, from the greatest on.
 pub fn sum_from_greatest(mask: u32) -> u64
-    ensures { result ≡ sum (ascending (digit_set 32 mask)) }
+    ensures { result ≡ sum (ascending (bit_set 32 mask)) }
 {
     let mut total = 0u64;
     let mut walk = mask.iter_ones();

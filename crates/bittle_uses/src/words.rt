@@ -2,8 +2,8 @@
 
 ghost use Rattle.std.specs.Int.{w8, cast_unsigned};
 ghost use Rattle.std.specs.Prelude.{◌≡◌, ◌/◌, length, map, count_by, nat_lt, true, false, MatchOption, [], ◌∷◌, ◌++◌, ℕ, List};
-ghost use Rattle.bittle.specs.Digits.{digit_set};
-ghost use Rattle.bittle.specs.Orders.{members};
+ghost use Rattle.bittle.specs.BitPatterns.{bit_set};
+ghost use Rattle.bittle.specs.Orders.{read_in};
 ghost use Rattle.bittle.specs.PlainSet.{ascending, complement};
 
 use bittle::number::{IterOnes, IterZeros};
@@ -11,7 +11,7 @@ use bittle::{BigEndian, LittleEndian};
 
 /// Counts the members of a word of 32 bits.
 pub fn how_many(word: u32) -> usize
-    ensures { result ≡ length (ascending (members true 32 (digit_set 32 word))) }
+    ensures { result ≡ length (ascending (read_in true 32 (bit_set 32 word))) }
 {
     IterOnes::<u32, LittleEndian>::new(word).count()
 }
@@ -19,7 +19,7 @@ pub fn how_many(word: u32) -> usize
 /// Counts the zeros of a word of 64 bits below a bound.
 pub fn how_many_lacking(word: u64, bound: u32) -> usize
     ensures { result ≡ count_by (λ i. nat_lt i bound)
-        (ascending (complement (members false 64 (digit_set 64 word)))) }
+        (ascending (complement (read_in false 64 (bit_set 64 word)))) }
 {
     IterZeros::<u64, BigEndian>::new(word)
         .filter(|i| *i < bound)
@@ -29,7 +29,7 @@ pub fn how_many_lacking(word: u64, bound: u32) -> usize
 /// Counts the members of a byte whose half lies above a bound.
 pub fn halves_above(word: i8, bound: u32) -> usize
     ensures { result ≡ count_by (λ i. nat_lt bound i)
-        (map (λ i. i / 2) (ascending (members false 8 (digit_set 8 (cast_unsigned w8 word))))) }
+        (map (λ i. i / 2) (ascending (read_in false 8 (bit_set 8 (cast_unsigned w8 word))))) }
 {
     IterOnes::<i8, BigEndian>::new(word)
         .map(|i| i / 2)
@@ -39,9 +39,9 @@ pub fn halves_above(word: i8, bound: u32) -> usize
 
 /// Returns the greatest zero of a word of 16 bits, or `None` where it has none.
 pub fn greatest_lacking(word: u16) -> Option<u32>
-    ensures { MatchOption result (ascending (complement (members true 16 (digit_set 16 word))) ≡ [])
+    ensures { MatchOption result (ascending (complement (read_in true 16 (bit_set 16 word))) ≡ [])
         (λ i. (rest : List ℕ)
-        × (ascending (complement (members true 16 (digit_set 16 word))) ≡ rest ++ i ∷ [])) }
+        × (ascending (complement (read_in true 16 (bit_set 16 word))) ≡ rest ++ i ∷ [])) }
 {
     IterZeros::<u16, LittleEndian>::new(word).rev().next()
 }

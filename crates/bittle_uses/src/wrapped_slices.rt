@@ -1,9 +1,9 @@
 //! What a slice holds after changes through the set that it was lent to.
 
 ghost use Rattle.std.specs.Prelude.{◌≡◌, ◌*◌, ◌<◌, length, IsTrue};
-ghost use Rattle.bittle.specs.Orders.{members};
+ghost use Rattle.bittle.specs.Orders.{read_in};
 ghost use Rattle.bittle.specs.PlainSet.{with_index, without_index};
-ghost use Rattle.bittle.specs.Rows.{elements_set};
+ghost use Rattle.bittle.specs.Rows.{row_set};
 ghost use Rattle.bittle.specs.Shapes.{Fits};
 ghost use Rattle.bittle.specs.Machine.{replies_of, final_set};
 
@@ -13,11 +13,11 @@ use bittle::{BitsMut, BitsOwned, DefaultEndian, Endian, LittleEndian, Set};
 /// Makes one index a member and another none, through a set in the default order.
 pub fn set_and_clear<U: BitsOwned>(slice: &mut [U], set: u32, clear: u32)
     requires { Fits U.indexable (length slice.old * U.type_capacity) }
-    ensures { members ⟦<DefaultEndian as Endian>⟧.mirrored U.width
-        (elements_set (length slice.new) U.type_capacity U.big slice.new)
+    ensures { read_in ⟦<DefaultEndian as Endian>⟧.mirrored U.width
+        (row_set (length slice.new) U.type_capacity U.big slice.new)
         ≡ without_index
-        (with_index (members ⟦<DefaultEndian as Endian>⟧.mirrored U.width
-        (elements_set (length slice.old) U.type_capacity U.big slice.old)) set)
+        (with_index (read_in ⟦<DefaultEndian as Endian>⟧.mirrored U.width
+        (row_set (length slice.old) U.type_capacity U.big slice.old)) set)
         clear }
 {
     let mut wrapped = Set::from_mut(slice);
@@ -28,11 +28,11 @@ pub fn set_and_clear<U: BitsOwned>(slice: &mut [U], set: u32, clear: u32)
 /// Makes one index a member and another none, through a set in little-endian order.
 pub fn set_and_clear_le<U: BitsOwned>(slice: &mut [U], set: u32, clear: u32)
     requires { Fits U.indexable (length slice.old * U.type_capacity) }
-    ensures { members ⟦<LittleEndian as Endian>⟧.mirrored U.width
-        (elements_set (length slice.new) U.type_capacity U.big slice.new)
+    ensures { read_in ⟦<LittleEndian as Endian>⟧.mirrored U.width
+        (row_set (length slice.new) U.type_capacity U.big slice.new)
         ≡ without_index
-        (with_index (members ⟦<LittleEndian as Endian>⟧.mirrored U.width
-        (elements_set (length slice.old) U.type_capacity U.big slice.old)) set)
+        (with_index (read_in ⟦<LittleEndian as Endian>⟧.mirrored U.width
+        (row_set (length slice.old) U.type_capacity U.big slice.old)) set)
         clear }
 {
     let mut wrapped = Set::from_mut_le(slice);
@@ -49,12 +49,12 @@ pub fn replay_through<U: BitsOwned, E: Endian>(
     requires fits { Fits U.indexable (length slice.old * U.type_capacity) }
     requires room { length replies.old ≡ length calls.now }
     ensures replies { replies.new
-        ≡ replies_of (members E.mirrored U.width
-        (elements_set (length slice.old) U.type_capacity U.big slice.old)) calls.now }
-    ensures set { members E.mirrored U.width
-        (elements_set (length slice.new) U.type_capacity U.big slice.new)
-        ≡ final_set (members E.mirrored U.width
-        (elements_set (length slice.old) U.type_capacity U.big slice.old)) calls.now }
+        ≡ replies_of (read_in E.mirrored U.width
+        (row_set (length slice.old) U.type_capacity U.big slice.old)) calls.now }
+    ensures set { read_in E.mirrored U.width
+        (row_set (length slice.new) U.type_capacity U.big slice.new)
+        ≡ final_set (read_in E.mirrored U.width
+        (row_set (length slice.old) U.type_capacity U.big slice.old)) calls.now }
 {
     let mut wrapped = Set::from_mut(slice);
     replay::<Set<&mut [U]>, E>(&mut wrapped, calls, replies);

@@ -8,7 +8,7 @@ ghost use Rattle.bittle_bits.specs.PlainSet.{ascending};
 ghost use Rattle.bittle_bits.specs.Values.{set_in, ShapeFits};
 ghost use Rattle.bittle.specs.Comparison.{list_cmp, list_eq, AreSame, Precedes};
 
-use super::{Set, apart};
+use super::{Set, by_words};
 use bittle_bits::bits::Bits;
 use bittle_bits::endian::Endian;
 use bittle_bits::word::Word;
@@ -34,7 +34,7 @@ fn compare<A: Bits, B: Bits, E: Endian, F: Endian>(left: &A, right: &B) -> Order
         (ascending (set_in B.Shape F.Endian right.now)) }
 {
     if are_alike::<A, B, E, F>() {
-        apart::compare::<A, B, E>(left, right)
+        by_words::compare::<A, B, E>(left, right)
     } else {
         left.iter_ones_in::<E>().cmp(right.iter_ones_in::<F>())
     }
@@ -80,7 +80,7 @@ impl<T: Bits, E: Endian> Set<T, E> {
             (set_in U.Shape U.Order.Endian other.now) }
     {
         if are_alike::<T, U, E, U::Order>() {
-            apart::first_apart::<T, U, E>(&self.bits, other).is_none()
+            by_words::first_difference::<T, U, E>(&self.bits, other).is_none()
         } else {
             self.cmp_bits(other).is_eq()
         }

@@ -17,8 +17,8 @@ impl<T: BitsOwned, E: Endian> IntoIterator for Set<T, E> {
 
     type IntoIter = IntoIterOnes<Set<T, E>, E>;
 
-    ghost into_iter_gives = { λ s w. (w.left ≡ ascending (set_in T.Shape E.Endian s.bits))
-        × IsFresh ((T.big s.bits).capacity / T.width) w × AreBelow (T.big s.bits).capacity w.left };
+    ghost into_iter_gives = { λ s w. (w.remaining ≡ ascending (set_in T.Shape E.Endian s.bits))
+        × IsFresh ((T.big s.bits).capacity / T.width) w × AreBelow (T.big s.bits).capacity w.remaining };
 
     #[inline]
     fn into_iter(self) -> IntoIterOnes<Set<T, E>, E> {
@@ -32,9 +32,9 @@ impl<'a, T: Bits, E: Endian> IntoIterator for &'a Set<T, E> {
 
     type IntoIter = IterOnes<'a, Set<T, E>, E>;
 
-    ghost into_iter_gives = { λ s w. (w.left ≡ ascending (set_in T.Shape E.Endian s.now.bits))
+    ghost into_iter_gives = { λ s w. (w.remaining ≡ ascending (set_in T.Shape E.Endian s.now.bits))
         × IsFresh ((T.big s.now.bits).capacity / T.width) w
-        × AreBelow (T.big s.now.bits).capacity w.left };
+        × AreBelow (T.big s.now.bits).capacity w.remaining };
 
     #[inline]
     fn into_iter(self) -> IterOnes<'a, Set<T, E>, E> {

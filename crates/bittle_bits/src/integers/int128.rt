@@ -1,9 +1,9 @@
-//! The words of 128 digits: `u128` and `i128`.
+//! The words of 128 bits: `u128` and `i128`.
 
 ghost use Rattle.std.specs.Prelude.{true, refl};
 ghost use Rattle.std.specs.Int.{w128, cast_unsigned};
 ghost use Rattle.std.proofs.Common.{lit<};
-ghost use Rattle.bittle_bits.specs.Digits.{digit_set};
+ghost use Rattle.bittle_bits.specs.BitPatterns.{bit_set};
 ghost use Rattle.bittle_bits.specs.LawProofs.{equal_words, equal_signed_words};
 
 use crate::internal::sealed::Sealed;
@@ -20,7 +20,7 @@ impl Shape for u128 {
 
     ghost indexable = { true };
 
-    ghost big = { λ x. digit_set 128 x };
+    ghost big = { λ x. bit_set 128 x };
 }
 
 impl OwnedShape for u128 {
@@ -36,15 +36,15 @@ impl Integer for u128 {
 
     ghost fits = { (refl, lit< tt) };
 
-    ghost big_is_digits = { λ _. refl };
+    ghost big_is_pattern = { λ _. refl };
 
-    ghost same_digits = { equal_words 128 };
+    ghost same_pattern = { equal_words 128 };
 }
 
 impl Word for u128 {
     ghost width = { 128 };
 
-    ghost digits = { λ x. x };
+    ghost pattern = { λ x. x };
 
     ghost width_positive = { lit< tt };
 
@@ -59,12 +59,12 @@ impl Word for u128 {
     }
 
     #[inline]
-    fn to_digits(self) -> u128 {
+    fn to_bits(self) -> u128 {
         self
     }
 
     #[inline]
-    fn from_digits(value: u128) -> u128 {
+    fn from_bits(value: u128) -> u128 {
         value
     }
 
@@ -98,7 +98,7 @@ impl Shape for i128 {
 
     ghost indexable = { true };
 
-    ghost big = { λ x. digit_set 128 (cast_unsigned w128 x) };
+    ghost big = { λ x. bit_set 128 (cast_unsigned w128 x) };
 }
 
 impl OwnedShape for i128 {
@@ -114,15 +114,15 @@ impl Integer for i128 {
 
     ghost fits = { (refl, lit< tt) };
 
-    ghost big_is_digits = { λ _. refl };
+    ghost big_is_pattern = { λ _. refl };
 
-    ghost same_digits = { equal_signed_words 128 (cast_unsigned w128) };
+    ghost same_pattern = { equal_signed_words 128 (cast_unsigned w128) };
 }
 
 impl Word for i128 {
     ghost width = { 128 };
 
-    ghost digits = { cast_unsigned w128 };
+    ghost pattern = { cast_unsigned w128 };
 
     ghost width_positive = { lit< tt };
 
@@ -137,12 +137,12 @@ impl Word for i128 {
     }
 
     #[inline]
-    fn to_digits(self) -> u128 {
+    fn to_bits(self) -> u128 {
         self.cast_unsigned()
     }
 
     #[inline]
-    fn from_digits(value: u128) -> i128 {
+    fn from_bits(value: u128) -> i128 {
         value.cast_signed()
     }
 

@@ -1,9 +1,9 @@
-//! The words of 16 digits: `u16` and `i16`.
+//! The words of 16 bits: `u16` and `i16`.
 
 ghost use Rattle.std.specs.Prelude.{true, refl};
 ghost use Rattle.std.specs.Int.{w16, cast_unsigned};
 ghost use Rattle.std.proofs.Common.{lit<};
-ghost use Rattle.bittle_bits.specs.Digits.{digit_set};
+ghost use Rattle.bittle_bits.specs.BitPatterns.{bit_set};
 ghost use Rattle.bittle_bits.specs.LawProofs.{equal_words, equal_signed_words};
 
 use crate::internal::sealed::Sealed;
@@ -20,7 +20,7 @@ impl Shape for u16 {
 
     ghost indexable = { true };
 
-    ghost big = { λ x. digit_set 16 x };
+    ghost big = { λ x. bit_set 16 x };
 }
 
 impl OwnedShape for u16 {
@@ -36,15 +36,15 @@ impl Integer for u16 {
 
     ghost fits = { (refl, lit< tt) };
 
-    ghost big_is_digits = { λ _. refl };
+    ghost big_is_pattern = { λ _. refl };
 
-    ghost same_digits = { equal_words 16 };
+    ghost same_pattern = { equal_words 16 };
 }
 
 impl Word for u16 {
     ghost width = { 16 };
 
-    ghost digits = { λ x. x };
+    ghost pattern = { λ x. x };
 
     ghost width_positive = { lit< tt };
 
@@ -59,12 +59,12 @@ impl Word for u16 {
     }
 
     #[inline]
-    fn to_digits(self) -> u128 {
+    fn to_bits(self) -> u128 {
         self as u128
     }
 
     #[inline]
-    fn from_digits(value: u128) -> u16 {
+    fn from_bits(value: u128) -> u16 {
         value as u16
     }
 
@@ -98,7 +98,7 @@ impl Shape for i16 {
 
     ghost indexable = { true };
 
-    ghost big = { λ x. digit_set 16 (cast_unsigned w16 x) };
+    ghost big = { λ x. bit_set 16 (cast_unsigned w16 x) };
 }
 
 impl OwnedShape for i16 {
@@ -114,15 +114,15 @@ impl Integer for i16 {
 
     ghost fits = { (refl, lit< tt) };
 
-    ghost big_is_digits = { λ _. refl };
+    ghost big_is_pattern = { λ _. refl };
 
-    ghost same_digits = { equal_signed_words 16 (cast_unsigned w16) };
+    ghost same_pattern = { equal_signed_words 16 (cast_unsigned w16) };
 }
 
 impl Word for i16 {
     ghost width = { 16 };
 
-    ghost digits = { cast_unsigned w16 };
+    ghost pattern = { cast_unsigned w16 };
 
     ghost width_positive = { lit< tt };
 
@@ -137,12 +137,12 @@ impl Word for i16 {
     }
 
     #[inline]
-    fn to_digits(self) -> u128 {
+    fn to_bits(self) -> u128 {
         self.cast_unsigned() as u128
     }
 
     #[inline]
-    fn from_digits(value: u128) -> i16 {
+    fn from_bits(value: u128) -> i16 {
         (value as u16).cast_signed()
     }
 

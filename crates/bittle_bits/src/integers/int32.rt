@@ -1,9 +1,9 @@
-//! The words of 32 digits: `u32` and `i32`.
+//! The words of 32 bits: `u32` and `i32`.
 
 ghost use Rattle.std.specs.Prelude.{true, refl};
 ghost use Rattle.std.specs.Int.{w32, cast_unsigned};
 ghost use Rattle.std.proofs.Common.{lit<};
-ghost use Rattle.bittle_bits.specs.Digits.{digit_set};
+ghost use Rattle.bittle_bits.specs.BitPatterns.{bit_set};
 ghost use Rattle.bittle_bits.specs.LawProofs.{equal_words, equal_signed_words};
 
 use crate::internal::sealed::Sealed;
@@ -20,7 +20,7 @@ impl Shape for u32 {
 
     ghost indexable = { true };
 
-    ghost big = { λ x. digit_set 32 x };
+    ghost big = { λ x. bit_set 32 x };
 }
 
 impl OwnedShape for u32 {
@@ -36,15 +36,15 @@ impl Integer for u32 {
 
     ghost fits = { (refl, lit< tt) };
 
-    ghost big_is_digits = { λ _. refl };
+    ghost big_is_pattern = { λ _. refl };
 
-    ghost same_digits = { equal_words 32 };
+    ghost same_pattern = { equal_words 32 };
 }
 
 impl Word for u32 {
     ghost width = { 32 };
 
-    ghost digits = { λ x. x };
+    ghost pattern = { λ x. x };
 
     ghost width_positive = { lit< tt };
 
@@ -59,12 +59,12 @@ impl Word for u32 {
     }
 
     #[inline]
-    fn to_digits(self) -> u128 {
+    fn to_bits(self) -> u128 {
         self as u128
     }
 
     #[inline]
-    fn from_digits(value: u128) -> u32 {
+    fn from_bits(value: u128) -> u32 {
         value as u32
     }
 
@@ -98,7 +98,7 @@ impl Shape for i32 {
 
     ghost indexable = { true };
 
-    ghost big = { λ x. digit_set 32 (cast_unsigned w32 x) };
+    ghost big = { λ x. bit_set 32 (cast_unsigned w32 x) };
 }
 
 impl OwnedShape for i32 {
@@ -114,15 +114,15 @@ impl Integer for i32 {
 
     ghost fits = { (refl, lit< tt) };
 
-    ghost big_is_digits = { λ _. refl };
+    ghost big_is_pattern = { λ _. refl };
 
-    ghost same_digits = { equal_signed_words 32 (cast_unsigned w32) };
+    ghost same_pattern = { equal_signed_words 32 (cast_unsigned w32) };
 }
 
 impl Word for i32 {
     ghost width = { 32 };
 
-    ghost digits = { cast_unsigned w32 };
+    ghost pattern = { cast_unsigned w32 };
 
     ghost width_positive = { lit< tt };
 
@@ -137,12 +137,12 @@ impl Word for i32 {
     }
 
     #[inline]
-    fn to_digits(self) -> u128 {
+    fn to_bits(self) -> u128 {
         self.cast_unsigned() as u128
     }
 
     #[inline]
-    fn from_digits(value: u128) -> i32 {
+    fn from_bits(value: u128) -> i32 {
         (value as u32).cast_signed()
     }
 

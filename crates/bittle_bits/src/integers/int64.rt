@@ -1,9 +1,9 @@
-//! The words of 64 digits: `u64` and `i64`.
+//! The words of 64 bits: `u64` and `i64`.
 
 ghost use Rattle.std.specs.Prelude.{true, refl};
 ghost use Rattle.std.specs.Int.{w64, cast_unsigned};
 ghost use Rattle.std.proofs.Common.{lit<};
-ghost use Rattle.bittle_bits.specs.Digits.{digit_set};
+ghost use Rattle.bittle_bits.specs.BitPatterns.{bit_set};
 ghost use Rattle.bittle_bits.specs.LawProofs.{equal_words, equal_signed_words};
 
 use crate::internal::sealed::Sealed;
@@ -20,7 +20,7 @@ impl Shape for u64 {
 
     ghost indexable = { true };
 
-    ghost big = { λ x. digit_set 64 x };
+    ghost big = { λ x. bit_set 64 x };
 }
 
 impl OwnedShape for u64 {
@@ -36,15 +36,15 @@ impl Integer for u64 {
 
     ghost fits = { (refl, lit< tt) };
 
-    ghost big_is_digits = { λ _. refl };
+    ghost big_is_pattern = { λ _. refl };
 
-    ghost same_digits = { equal_words 64 };
+    ghost same_pattern = { equal_words 64 };
 }
 
 impl Word for u64 {
     ghost width = { 64 };
 
-    ghost digits = { λ x. x };
+    ghost pattern = { λ x. x };
 
     ghost width_positive = { lit< tt };
 
@@ -59,12 +59,12 @@ impl Word for u64 {
     }
 
     #[inline]
-    fn to_digits(self) -> u128 {
+    fn to_bits(self) -> u128 {
         self as u128
     }
 
     #[inline]
-    fn from_digits(value: u128) -> u64 {
+    fn from_bits(value: u128) -> u64 {
         value as u64
     }
 
@@ -98,7 +98,7 @@ impl Shape for i64 {
 
     ghost indexable = { true };
 
-    ghost big = { λ x. digit_set 64 (cast_unsigned w64 x) };
+    ghost big = { λ x. bit_set 64 (cast_unsigned w64 x) };
 }
 
 impl OwnedShape for i64 {
@@ -114,15 +114,15 @@ impl Integer for i64 {
 
     ghost fits = { (refl, lit< tt) };
 
-    ghost big_is_digits = { λ _. refl };
+    ghost big_is_pattern = { λ _. refl };
 
-    ghost same_digits = { equal_signed_words 64 (cast_unsigned w64) };
+    ghost same_pattern = { equal_signed_words 64 (cast_unsigned w64) };
 }
 
 impl Word for i64 {
     ghost width = { 64 };
 
-    ghost digits = { cast_unsigned w64 };
+    ghost pattern = { cast_unsigned w64 };
 
     ghost width_positive = { lit< tt };
 
@@ -137,12 +137,12 @@ impl Word for i64 {
     }
 
     #[inline]
-    fn to_digits(self) -> u128 {
+    fn to_bits(self) -> u128 {
         self.cast_unsigned() as u128
     }
 
     #[inline]
-    fn from_digits(value: u128) -> i64 {
+    fn from_bits(value: u128) -> i64 {
         (value as u64).cast_signed()
     }
 

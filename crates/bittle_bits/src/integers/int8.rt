@@ -1,9 +1,9 @@
-//! The words of 8 digits: `u8` and `i8`.
+//! The words of 8 bits: `u8` and `i8`.
 
 ghost use Rattle.std.specs.Prelude.{true, refl};
 ghost use Rattle.std.specs.Int.{w8, cast_unsigned};
 ghost use Rattle.std.proofs.Common.{lit<};
-ghost use Rattle.bittle_bits.specs.Digits.{digit_set};
+ghost use Rattle.bittle_bits.specs.BitPatterns.{bit_set};
 ghost use Rattle.bittle_bits.specs.LawProofs.{equal_words, equal_signed_words};
 
 use crate::internal::sealed::Sealed;
@@ -20,7 +20,7 @@ impl Shape for u8 {
 
     ghost indexable = { true };
 
-    ghost big = { λ x. digit_set 8 x };
+    ghost big = { λ x. bit_set 8 x };
 }
 
 impl OwnedShape for u8 {
@@ -36,15 +36,15 @@ impl Integer for u8 {
 
     ghost fits = { (refl, lit< tt) };
 
-    ghost big_is_digits = { λ _. refl };
+    ghost big_is_pattern = { λ _. refl };
 
-    ghost same_digits = { equal_words 8 };
+    ghost same_pattern = { equal_words 8 };
 }
 
 impl Word for u8 {
     ghost width = { 8 };
 
-    ghost digits = { λ x. x };
+    ghost pattern = { λ x. x };
 
     ghost width_positive = { lit< tt };
 
@@ -59,12 +59,12 @@ impl Word for u8 {
     }
 
     #[inline]
-    fn to_digits(self) -> u128 {
+    fn to_bits(self) -> u128 {
         self as u128
     }
 
     #[inline]
-    fn from_digits(value: u128) -> u8 {
+    fn from_bits(value: u128) -> u8 {
         value as u8
     }
 
@@ -98,7 +98,7 @@ impl Shape for i8 {
 
     ghost indexable = { true };
 
-    ghost big = { λ x. digit_set 8 (cast_unsigned w8 x) };
+    ghost big = { λ x. bit_set 8 (cast_unsigned w8 x) };
 }
 
 impl OwnedShape for i8 {
@@ -114,15 +114,15 @@ impl Integer for i8 {
 
     ghost fits = { (refl, lit< tt) };
 
-    ghost big_is_digits = { λ _. refl };
+    ghost big_is_pattern = { λ _. refl };
 
-    ghost same_digits = { equal_signed_words 8 (cast_unsigned w8) };
+    ghost same_pattern = { equal_signed_words 8 (cast_unsigned w8) };
 }
 
 impl Word for i8 {
     ghost width = { 8 };
 
-    ghost digits = { cast_unsigned w8 };
+    ghost pattern = { cast_unsigned w8 };
 
     ghost width_positive = { lit< tt };
 
@@ -137,12 +137,12 @@ impl Word for i8 {
     }
 
     #[inline]
-    fn to_digits(self) -> u128 {
+    fn to_bits(self) -> u128 {
         self.cast_unsigned() as u128
     }
 
     #[inline]
-    fn from_digits(value: u128) -> i8 {
+    fn from_bits(value: u128) -> i8 {
         (value as u8).cast_signed()
     }
 

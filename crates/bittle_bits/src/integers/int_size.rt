@@ -1,9 +1,9 @@
-//! The words of the size of a pointer, which has 64 digits: `usize` and `isize`.
+//! The words of the size of a pointer, which has 64 bits: `usize` and `isize`.
 
 ghost use Rattle.std.specs.Prelude.{true, refl};
 ghost use Rattle.std.specs.Int.{w64, cast_unsigned};
 ghost use Rattle.std.proofs.Common.{lit<};
-ghost use Rattle.bittle_bits.specs.Digits.{digit_set};
+ghost use Rattle.bittle_bits.specs.BitPatterns.{bit_set};
 ghost use Rattle.bittle_bits.specs.LawProofs.{equal_words, equal_signed_words};
 
 use crate::internal::sealed::Sealed;
@@ -20,7 +20,7 @@ impl Shape for usize {
 
     ghost indexable = { true };
 
-    ghost big = { λ x. digit_set 64 x };
+    ghost big = { λ x. bit_set 64 x };
 }
 
 impl OwnedShape for usize {
@@ -36,15 +36,15 @@ impl Integer for usize {
 
     ghost fits = { (refl, lit< tt) };
 
-    ghost big_is_digits = { λ _. refl };
+    ghost big_is_pattern = { λ _. refl };
 
-    ghost same_digits = { equal_words 64 };
+    ghost same_pattern = { equal_words 64 };
 }
 
 impl Word for usize {
     ghost width = { 64 };
 
-    ghost digits = { λ x. x };
+    ghost pattern = { λ x. x };
 
     ghost width_positive = { lit< tt };
 
@@ -59,12 +59,12 @@ impl Word for usize {
     }
 
     #[inline]
-    fn to_digits(self) -> u128 {
+    fn to_bits(self) -> u128 {
         self as u128
     }
 
     #[inline]
-    fn from_digits(value: u128) -> usize {
+    fn from_bits(value: u128) -> usize {
         value as usize
     }
 
@@ -98,7 +98,7 @@ impl Shape for isize {
 
     ghost indexable = { true };
 
-    ghost big = { λ x. digit_set 64 (cast_unsigned w64 x) };
+    ghost big = { λ x. bit_set 64 (cast_unsigned w64 x) };
 }
 
 impl OwnedShape for isize {
@@ -114,15 +114,15 @@ impl Integer for isize {
 
     ghost fits = { (refl, lit< tt) };
 
-    ghost big_is_digits = { λ _. refl };
+    ghost big_is_pattern = { λ _. refl };
 
-    ghost same_digits = { equal_signed_words 64 (cast_unsigned w64) };
+    ghost same_pattern = { equal_signed_words 64 (cast_unsigned w64) };
 }
 
 impl Word for isize {
     ghost width = { 64 };
 
-    ghost digits = { cast_unsigned w64 };
+    ghost pattern = { cast_unsigned w64 };
 
     ghost width_positive = { lit< tt };
 
@@ -137,12 +137,12 @@ impl Word for isize {
     }
 
     #[inline]
-    fn to_digits(self) -> u128 {
+    fn to_bits(self) -> u128 {
         self.cast_unsigned() as u128
     }
 
     #[inline]
-    fn from_digits(value: u128) -> isize {
+    fn from_bits(value: u128) -> isize {
         (value as usize).cast_signed()
     }
 

@@ -1,30 +1,31 @@
-//! Where a walk stands, and its steps: one core for the walks of ones and of zeros, borrowed and
-//! owned.
+//! Where an iterator is, and its steps: one core for those over set bits and over unset bits,
+//! borrowed and owned.
 
 ghost use Rattle.std.specs.Prelude.{◌≡◌, ℕ, ◌/◌};
 ghost use Rattle.bittle_bits.specs.PlainSet.{PlainSet};
-ghost use Rattle.bittle_bits.specs.Cursor.{items_left_in, walk_of, IsWalkStart, Retires};
+ghost use Rattle.bittle_bits.specs.Cursor.{items_left_in, walk_of, IsWalkStart, IsCounted};
 ghost use Rattle.bittle_bits.specs.Values.{set_in, ShapeFits};
 ghost use Rattle.bittle_bits.specs.Walk.{ones_or_zeros, AreBelow, IsFresh, ResumesAs, StepsFront, StepsBack};
 
 use crate::bits::Bits;
 use crate::endian::Endian;
+use crate::internal::buffer::Buffers;
 use crate::internal::ghost_count::Count;
 use crate::internal::kind::Kind;
-use crate::internal::look::{Copies, Source};
+use crate::internal::source::Source;
 use crate::shape::Shape;
 
-/// The copies of a walk, and the range of words between them that are not copied yet.
+/// The buffered words of an iterator, and the range of words between them that are not fetched yet.
 #[derive(Drop)]
 pub struct Cursor<B: Shape, E: Endian> {
-    pub copies: Copies<B::LeafWord, E>,
+    pub buffers: Buffers<B::LeafWord, E>,
     pub low: u32,
     pub high: u32,
     pub items: Count,
 }
 
-/// Begins a walk: copies the first word to the head, and the last one to the tail where there are
-/// two or more.
+/// Begins an iterator: loads the first word to the head, and the last one to the tail where there
+/// are two or more.
 #[inline]
 pub fn begin<B: Bits, E: Endian, K: Kind>(source: &Source<'_, B>) -> Cursor<B, E>
     requires { ShapeFits B.Shape source.now.set.now }
@@ -35,7 +36,7 @@ pub fn begin<B: Bits, E: Endian, K: Kind>(source: &Source<'_, B>) -> Cursor<B, E
         result) }
 {
     let mut at = Cursor {
-        copies: Copies::none(),
+        buffers: Buffers::none(),
         low: 0,
         high: source.words(),
         items: Count::new(),
@@ -43,27 +44,27 @@ pub fn begin<B: Bits, E: Endian, K: Kind>(source: &Source<'_, B>) -> Cursor<B, E
     if at.low == at.high {
         return at;
     }
-    at.copies.fetch_head::<B, K>(source, at.low);
+    at.buffers.fetch_head::<B, K>(source, at.low);
     at.low += 1;
     if at.low == at.high {
         return at;
     }
     at.high -= 1;
-    at.copies.fetch_tail::<B, K>(source, at.high);
+    at.buffers.fetch_tail::<B, K>(source, at.high);
     at
 }
 
 /// Returns the same place with its counters at zero, for `clone`.
 #[inline]
 pub fn duplicate<B: Bits, E: Endian>(at: &Cursor<B, E>) -> Cursor<B, E>
-    ensures resumes { (s : PlainSet) (words w : ℕ) → Retires words at.now
+    ensures resumes { (s : PlainSet) (words w : ℕ) → IsCounted words at.now
         → ResumesAs (walk_of s words w at.now) (walk_of s words w result) }
     ensures same { result
         ≡ record {
-          copies = record {
-            head = at.now.copies.head;
-            tail = at.now.copies.tail;
-            looks = 0;
+          buffers = record {
+            head = at.now.buffers.head;
+            tail = at.now.buffers.tail;
+            scans = 0;
             fetches = 0;
           };
           low = at.now.low;
@@ -72,14 +73,14 @@ pub fn duplicate<B: Bits, E: Endian>(at: &Cursor<B, E>) -> Cursor<B, E>
         } }
 {
     Cursor {
-        copies: at.copies.duplicate(),
+        buffers: at.buffers.duplicate(),
         low: at.low,
         high: at.high,
         items: Count::new(),
     }
 }
 
-/// Takes the first item that is left.
+/// Takes the first item that remains.
 #[inline]
 #[tactic(auto, unfolding(crate::specs::Cursor::items_left_in))]
 pub fn step_front<B: Bits, E: Endian, K: Kind>(
@@ -87,33 +88,33 @@ pub fn step_front<B: Bits, E: Endian, K: Kind>(
     at: &mut Cursor<B, E>,
 ) -> Option<u32>
     requires fits { ShapeFits B.Shape source.now.set.now }
-    requires retires { Retires ((B.big source.now.set.now).capacity / B.width) at.old }
+    requires counted { IsCounted ((B.big source.now.set.now).capacity / B.width) at.old }
     ensures steps { StepsFront
         (walk_of (ones_or_zeros K.ONES (set_in B.Shape E.Endian source.now.set.now))
         ((B.big source.now.set.now).capacity / B.width) B.width at.old) result
         (walk_of (ones_or_zeros K.ONES (set_in B.Shape E.Endian source.now.set.now))
         ((B.big source.now.set.now).capacity / B.width) B.width at.new) }
-    ensures retires { Retires ((B.big source.now.set.now).capacity / B.width) at.new }
+    ensures counted { IsCounted ((B.big source.now.set.now).capacity / B.width) at.new }
 {
     loop {
-        if let Some(item) = at.copies.first_of_head() {
+        if let Some(item) = at.buffers.first_of_head() {
             at.items.raise();
             return Some(item);
         }
         if at.low == at.high {
             break;
         }
-        at.copies.fetch_head::<B, K>(source, at.low);
+        at.buffers.fetch_head::<B, K>(source, at.low);
         at.low += 1;
     }
-    let Some(item) = at.copies.first_of_tail() else {
+    let Some(item) = at.buffers.first_of_tail() else {
         return None;
     };
     at.items.raise();
     Some(item)
 }
 
-/// Takes the last item that is left.
+/// Takes the last item that remains.
 #[inline]
 #[tactic(auto, unfolding(crate::specs::Cursor::items_left_in))]
 pub fn step_back<B: Bits, E: Endian, K: Kind>(
@@ -121,16 +122,16 @@ pub fn step_back<B: Bits, E: Endian, K: Kind>(
     at: &mut Cursor<B, E>,
 ) -> Option<u32>
     requires fits { ShapeFits B.Shape source.now.set.now }
-    requires retires { Retires ((B.big source.now.set.now).capacity / B.width) at.old }
+    requires counted { IsCounted ((B.big source.now.set.now).capacity / B.width) at.old }
     ensures steps { StepsBack
         (walk_of (ones_or_zeros K.ONES (set_in B.Shape E.Endian source.now.set.now))
         ((B.big source.now.set.now).capacity / B.width) B.width at.old) result
         (walk_of (ones_or_zeros K.ONES (set_in B.Shape E.Endian source.now.set.now))
         ((B.big source.now.set.now).capacity / B.width) B.width at.new) }
-    ensures retires { Retires ((B.big source.now.set.now).capacity / B.width) at.new }
+    ensures counted { IsCounted ((B.big source.now.set.now).capacity / B.width) at.new }
 {
     loop {
-        if let Some(item) = at.copies.last_of_tail() {
+        if let Some(item) = at.buffers.last_of_tail() {
             at.items.raise();
             return Some(item);
         }
@@ -138,9 +139,9 @@ pub fn step_back<B: Bits, E: Endian, K: Kind>(
             break;
         }
         at.high -= 1;
-        at.copies.fetch_tail::<B, K>(source, at.high);
+        at.buffers.fetch_tail::<B, K>(source, at.high);
     }
-    let Some(item) = at.copies.last_of_head() else {
+    let Some(item) = at.buffers.last_of_head() else {
         return None;
     };
     at.items.raise();

@@ -51,14 +51,14 @@ impl Count {
 
 const _: () = prove!(size_of::<Count>() == 0);
 
-/// Tells how many looks a walk has made.
+/// An iterator that counts its scans.
 pub trait Counted: DoubleEndedIterator<Item = u32> {
-    // What contracts see of the walk.
+    // What contracts see of it.
     ghost walk: { Self → Walk };
 
-    /// Returns how many looks it has made.
-    fn looks(&self) -> &Count
-        ensures { result.now ≡ (walk self.now).looks };
+    /// Returns how many scans it has made.
+    fn scans(&self) -> &Count
+        ensures { result.now ≡ (walk self.now).scans };
 
     // It can be stepped from either end at any time.
     ghost can_step: { (s : Self) → Self.can_next s × Self.can_next_back s };

@@ -1,7 +1,7 @@
 //! What an iterator or a search is for: the ones of a set, or its zeros.
 
 ghost use Rattle.std.specs.Prelude.{◌≡◌, ◌*◌, ◌<◌, Bool, true, false};
-ghost use Rattle.bittle_bits.specs.Digits.{digit_set};
+ghost use Rattle.bittle_bits.specs.BitPatterns.{bit_set};
 ghost use Rattle.bittle_bits.specs.Values.{ShapeFits};
 ghost use Rattle.bittle_bits.specs.Walk.{ones_or_zeros};
 ghost use Rattle.bittle_bits.specs.Words.{word_of};
@@ -44,20 +44,20 @@ impl Kind for Zeros {
 /// Returns a word whose ones are the bits of the kind: for zeros, each bit flipped.
 #[doc(hidden)]
 #[inline]
-pub fn wanted_in<T: Word, K: Kind>(word: T) -> T
-    ensures { digit_set T.width (T.digits result)
-        ≡ ones_or_zeros K.ONES (digit_set T.width (T.digits word)) }
+pub fn bits_of_kind<T: Word, K: Kind>(word: T) -> T
+    ensures { bit_set T.width (T.pattern result)
+        ≡ ones_or_zeros K.ONES (bit_set T.width (T.pattern word)) }
 {
     if K::ONES { word } else { word.not() }
 }
 
 /// Returns word `k` of a set, as a word whose ones are the bits of the kind.
 #[inline]
-pub(crate) fn wanted_word<B: Bits, K: Kind>(bits: &B, k: u32) -> B::LeafWord
+pub(crate) fn word_of_kind<B: Bits, K: Kind>(bits: &B, k: u32) -> B::LeafWord
     requires fits { ShapeFits B.Shape bits.now }
     requires within { k * B.width < (B.big bits.now).capacity }
-    ensures { digit_set B.width (B.LeafWord.digits result)
+    ensures { bit_set B.width (B.LeafWord.pattern result)
         ≡ word_of B.width (ones_or_zeros K.ONES (B.big bits.now)) k }
 {
-    wanted_in::<B::LeafWord, K>(bits.nth_leaf_word(k))
+    bits_of_kind::<B::LeafWord, K>(bits.nth_leaf_word(k))
 }

@@ -1,12 +1,12 @@
 //! The calls on a row of elements, for arrays and for slices.
 
 ghost use Rattle.std.specs.Prelude.{◌≡◌, ◌==◌, ◌*◌, ◌<◌, ◌≤◌, ℕ, Bool, cond, get_or, length, IsTrue, MatchOption};
-ghost use Rattle.bittle_bits.specs.Orders.{members};
+ghost use Rattle.bittle_bits.specs.Orders.{read_in};
 ghost use Rattle.bittle_bits.specs.PlainSet.{contains, with_index, with_span, without_index, without_members, size};
-ghost use Rattle.bittle_bits.specs.Rows.{elements_set, GoesTo};
+ghost use Rattle.bittle_bits.specs.Rows.{row_set, GoesTo};
 ghost use Rattle.bittle_bits.specs.SetOperations.{combination_of};
 ghost use Rattle.bittle_bits.specs.Shapes.{Fits};
-ghost use Rattle.bittle_bits.specs.Digits.{digit_set};
+ghost use Rattle.bittle_bits.specs.BitPatterns.{bit_set};
 ghost use Rattle.bittle_bits.specs.Words.{word_of};
 
 use crate::bits_owned::BitsOwned;
@@ -30,7 +30,7 @@ pub fn bits_capacity<T: BitsOwned>(len: usize) -> u32
 
 /// Returns the element that an index goes to, and the index there, or `None` with capacity 0.
 #[inline]
-fn place_of<T: BitsOwned>(len: usize, index: u32) -> Option<(usize, u32)>
+fn locate<T: BitsOwned>(len: usize, index: u32) -> Option<(usize, u32)>
     requires { IsTrue T.indexable }
     ensures { MatchOption result (len * T.type_capacity
         ≡ 0) (λ at. GoesTo len T.type_capacity index at.0 at.1) }
@@ -48,10 +48,10 @@ fn place_of<T: BitsOwned>(len: usize, index: u32) -> Option<(usize, u32)>
 pub fn test_bit<T: BitsOwned, E: Endian>(elements: &[T], index: u32) -> bool
     requires { IsTrue T.indexable }
     ensures { result ≡ contains
-        (members E.mirrored T.width
-        (elements_set (length elements.now) T.type_capacity T.big elements.now)) index }
+        (read_in E.mirrored T.width
+        (row_set (length elements.now) T.type_capacity T.big elements.now)) index }
 {
-    match place_of::<T>(elements.len(), index) {
+    match locate::<T>(elements.len(), index) {
         Some((element, at)) => elements[element].test_bit_in::<E>(at),
         None => false,
     }
@@ -61,13 +61,13 @@ pub fn test_bit<T: BitsOwned, E: Endian>(elements: &[T], index: u32) -> bool
 #[inline]
 pub fn set_bit<T: BitsOwned, E: Endian>(elements: &mut [T], index: u32)
     requires { IsTrue T.indexable }
-    ensures { members E.mirrored T.width
-        (elements_set (length elements.new) T.type_capacity T.big elements.new)
+    ensures { read_in E.mirrored T.width
+        (row_set (length elements.new) T.type_capacity T.big elements.new)
         ≡ with_index
-        (members E.mirrored T.width
-        (elements_set (length elements.old) T.type_capacity T.big elements.old)) index }
+        (read_in E.mirrored T.width
+        (row_set (length elements.old) T.type_capacity T.big elements.old)) index }
 {
-    if let Some((element, at)) = place_of::<T>(elements.len(), index) {
+    if let Some((element, at)) = locate::<T>(elements.len(), index) {
         elements[element].set_bit_in::<E>(at);
     }
 }
@@ -76,21 +76,21 @@ pub fn set_bit<T: BitsOwned, E: Endian>(elements: &mut [T], index: u32)
 #[inline]
 pub fn clear_bit<T: BitsOwned, E: Endian>(elements: &mut [T], index: u32)
     requires { IsTrue T.indexable }
-    ensures { members E.mirrored T.width
-        (elements_set (length elements.new) T.type_capacity T.big elements.new)
+    ensures { read_in E.mirrored T.width
+        (row_set (length elements.new) T.type_capacity T.big elements.new)
         ≡ without_index
-        (members E.mirrored T.width
-        (elements_set (length elements.old) T.type_capacity T.big elements.old)) index }
+        (read_in E.mirrored T.width
+        (row_set (length elements.old) T.type_capacity T.big elements.old)) index }
 {
-    if let Some((element, at)) = place_of::<T>(elements.len(), index) {
+    if let Some((element, at)) = locate::<T>(elements.len(), index) {
         elements[element].clear_bit_in::<E>(at);
     }
 }
 
 /// Clears every bit.
 pub fn clear_bits<T: BitsOwned>(elements: &mut [T])
-    ensures { elements_set (length elements.new) T.type_capacity T.big elements.new
-        ≡ without_members (elements_set (length elements.old) T.type_capacity T.big elements.old) }
+    ensures { row_set (length elements.new) T.type_capacity T.big elements.new
+        ≡ without_members (row_set (length elements.old) T.type_capacity T.big elements.old) }
 {
     for element in elements.iter_mut() {
         element.clear_bits();
@@ -102,11 +102,11 @@ pub fn fill<T: BitsOwned, E: Endian>(elements: &mut [T], from: u32, to: u32)
     requires fits { Fits T.indexable (length elements.old * T.type_capacity) }
     requires ordered { from ≤ to }
     requires within { to ≤ length elements.old * T.type_capacity }
-    ensures { members E.mirrored T.width
-        (elements_set (length elements.new) T.type_capacity T.big elements.new)
+    ensures { read_in E.mirrored T.width
+        (row_set (length elements.new) T.type_capacity T.big elements.new)
         ≡ with_span
-        (members E.mirrored T.width
-        (elements_set (length elements.old) T.type_capacity T.big elements.old)) from to }
+        (read_in E.mirrored T.width
+        (row_set (length elements.old) T.type_capacity T.big elements.old)) from to }
 {
     if from == to {
         return;
@@ -122,13 +122,13 @@ pub fn fill<T: BitsOwned, E: Endian>(elements: &mut [T], from: u32, to: u32)
 /// Combines the elements of the common beginning, each with its counterpart.
 pub fn combine<T: BitsOwned, O: Operation>(elements: &mut [T], others: &[T])
     ensures { (mirrored : Bool)
-        → members mirrored T.width
-        (elements_set (length elements.new) T.type_capacity T.big elements.new)
+        → read_in mirrored T.width
+        (row_set (length elements.new) T.type_capacity T.big elements.new)
         ≡ combination_of O.decide
-        (members mirrored T.width
-        (elements_set (length elements.old) T.type_capacity T.big elements.old))
-        (members mirrored T.width
-        (elements_set (length others.now) T.type_capacity T.big others.now)) }
+        (read_in mirrored T.width
+        (row_set (length elements.old) T.type_capacity T.big elements.old))
+        (read_in mirrored T.width
+        (row_set (length others.now) T.type_capacity T.big others.now)) }
 {
     let common = elements.len().min(others.len());
     for at in 0..common {
@@ -140,9 +140,9 @@ pub fn combine<T: BitsOwned, O: Operation>(elements: &mut [T], others: &[T])
 pub fn count_ones<T: BitsOwned>(elements: &[T]) -> u32
     requires { Fits T.indexable (length elements.now * T.type_capacity) }
     ensures value { result ≡ size
-        (elements_set (length elements.now) T.type_capacity T.big elements.now) }
-    ensures in_each_order { (mirrored : Bool) → result ≡ size (members mirrored T.width
-        (elements_set (length elements.now) T.type_capacity T.big elements.now)) }
+        (row_set (length elements.now) T.type_capacity T.big elements.now) }
+    ensures in_each_order { (mirrored : Bool) → result ≡ size (read_in mirrored T.width
+        (row_set (length elements.now) T.type_capacity T.big elements.now)) }
     ensures at_most { result ≤ length elements.now * T.type_capacity }
 {
     let mut total = 0;
@@ -166,7 +166,7 @@ fn has_none<T: BitsOwned, K: Kind>(element: &T) -> bool
 
 /// Returns how many elements at the beginning have no bit of the kind, by one test for each four.
 // It counts none of a short row, or where the first one decides, since one by one is faster there;
-// nor of elements of more than a word, of which it might ask three in vain. It promises nothing of
+// nor of elements of more than a word, of which it might ask three without need. It promises nothing of
 // the element that it stops at, which is tested again.
 #[inline]
 fn beginning_without<T: BitsOwned, K: Kind>(elements: &[T]) -> usize
@@ -194,10 +194,10 @@ fn beginning_without<T: BitsOwned, K: Kind>(elements: &[T]) -> usize
 /// Returns whether no element has a bit of the kind.
 fn is_without<T: BitsOwned, K: Kind>(elements: &[T]) -> bool
     ensures value { result ≡ (size
-        (elements_set (length elements.now) T.type_capacity T.big elements.now)
+        (row_set (length elements.now) T.type_capacity T.big elements.now)
         == cond K.ONES 0 (length elements.now * T.type_capacity)) }
-    ensures in_each_order { (mirrored : Bool) → result ≡ (size (members mirrored T.width
-        (elements_set (length elements.now) T.type_capacity T.big elements.now))
+    ensures in_each_order { (mirrored : Bool) → result ≡ (size (read_in mirrored T.width
+        (row_set (length elements.now) T.type_capacity T.big elements.now))
         == cond K.ONES 0 (length elements.now * T.type_capacity)) }
 {
     for at in beginning_without::<T, K>(elements)..elements.len() {
@@ -211,9 +211,9 @@ fn is_without<T: BitsOwned, K: Kind>(elements: &[T]) -> bool
 /// Returns whether no bit is set.
 pub fn all_zeros<T: BitsOwned>(elements: &[T]) -> bool
     ensures value { result ≡ (size
-        (elements_set (length elements.now) T.type_capacity T.big elements.now) == 0) }
-    ensures in_each_order { (mirrored : Bool) → result ≡ (size (members mirrored T.width
-        (elements_set (length elements.now) T.type_capacity T.big elements.now)) == 0) }
+        (row_set (length elements.now) T.type_capacity T.big elements.now) == 0) }
+    ensures in_each_order { (mirrored : Bool) → result ≡ (size (read_in mirrored T.width
+        (row_set (length elements.now) T.type_capacity T.big elements.now)) == 0) }
 {
     is_without::<T, Ones>(elements)
 }
@@ -221,10 +221,10 @@ pub fn all_zeros<T: BitsOwned>(elements: &[T]) -> bool
 /// Returns whether every bit is set.
 pub fn all_ones<T: BitsOwned>(elements: &[T]) -> bool
     ensures value { result ≡ (size
-        (elements_set (length elements.now) T.type_capacity T.big elements.now)
+        (row_set (length elements.now) T.type_capacity T.big elements.now)
         == length elements.now * T.type_capacity) }
-    ensures in_each_order { (mirrored : Bool) → result ≡ (size (members mirrored T.width
-        (elements_set (length elements.now) T.type_capacity T.big elements.now))
+    ensures in_each_order { (mirrored : Bool) → result ≡ (size (read_in mirrored T.width
+        (row_set (length elements.now) T.type_capacity T.big elements.now))
         == length elements.now * T.type_capacity) }
 {
     is_without::<T, Zeros>(elements)
@@ -235,9 +235,9 @@ pub fn all_ones<T: BitsOwned>(elements: &[T]) -> bool
 pub fn leaf_word<T: BitsOwned>(elements: &[T], k: u32) -> T::LeafWord
     requires fits { Fits T.indexable (length elements.now * T.type_capacity) }
     requires within { k * T.width < length elements.now * T.type_capacity }
-    ensures { digit_set T.width (T.LeafWord.digits result)
+    ensures { bit_set T.width (T.LeafWord.pattern result)
         ≡ word_of T.width
-        (elements_set (length elements.now) T.type_capacity T.big elements.now) k }
+        (row_set (length elements.now) T.type_capacity T.big elements.now) k }
 {
     let each = T::bits() / <T::LeafWord as Word>::width();
     elements[(k / each) as usize].nth_leaf_word(k % each)

@@ -7,7 +7,7 @@ ghost use Rattle.bittle_bits.specs.Walk.{ones_or_zeros};
 
 use crate::bits::Bits;
 use crate::endian::Endian;
-use crate::internal::kind::{Kind, wanted_word};
+use crate::internal::kind::{Kind, word_of_kind};
 use crate::word::Word;
 
 /// Returns the first index from `from` on and below `to` whose bit is of the kind, or `None`.
@@ -24,7 +24,7 @@ pub fn first_in<B: Bits, E: Endian, K: Kind>(bits: &B, from: u32, to: u32) -> Op
     let width = <B::LeafWord as Word>::width();
     let last = (to - 1) / width;
     let mut k = from / width;
-    let mut word = wanted_word::<B, K>(bits, k).and(E::from_index::<B::LeafWord>(from % width));
+    let mut word = word_of_kind::<B, K>(bits, k).and(E::from_index::<B::LeafWord>(from % width));
     loop {
         let index = E::zeros::<B::LeafWord>(word);
         if index < width {
@@ -35,7 +35,7 @@ pub fn first_in<B: Bits, E: Endian, K: Kind>(bits: &B, from: u32, to: u32) -> Op
             return None;
         }
         k += 1;
-        word = wanted_word::<B, K>(bits, k);
+        word = word_of_kind::<B, K>(bits, k);
     }
 }
 
@@ -57,7 +57,7 @@ pub fn last_in<B: Bits, E: Endian, K: Kind>(bits: &B, from: u32, to: u32) -> Opt
     let up_to = E::from_index::<B::LeafWord>(top)
         .not()
         .or(E::mask::<B::LeafWord>(top));
-    let mut word = wanted_word::<B, K>(bits, k).and(up_to);
+    let mut word = word_of_kind::<B, K>(bits, k).and(up_to);
     loop {
         let above = E::zeros_rev::<B::LeafWord>(word);
         if above < width {
@@ -68,6 +68,6 @@ pub fn last_in<B: Bits, E: Endian, K: Kind>(bits: &B, from: u32, to: u32) -> Opt
             return None;
         }
         k -= 1;
-        word = wanted_word::<B, K>(bits, k);
+        word = word_of_kind::<B, K>(bits, k);
     }
 }

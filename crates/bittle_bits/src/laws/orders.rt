@@ -2,7 +2,7 @@
 //! the law.
 
 ghost use Rattle.std.specs.Prelude.{◌≡◌, true, false};
-ghost use Rattle.bittle_bits.specs.OrderLaws.{PlacesAreInTheWord, PlacesAreApart, PlacesMirror, MembersMirror, MirroringTwiceIsNothing, MirroringStaysBelow, MirroringReachesAll, TestingWraps};
+ghost use Rattle.bittle_bits.specs.OrderLaws.{PlacesAreInTheWord, PlacesAreDistinct, PlacesMirror, MembersMirror, MirroringTwiceIsNothing, MirroringStaysBelow, MirroringReachesAll, TestingWraps};
 ghost use Rattle.bittle_bits.specs.Values.{set_in};
 
 use crate::bits::Bits;
@@ -19,7 +19,7 @@ pub fn the_default_order_is_big_endian()
 /// States that each index below the width has one place in its word, and each place one index.
 pub fn each_index_has_its_place<E: Endian>()
     ensures inside { PlacesAreInTheWord E.mirrored }
-    ensures apart { PlacesAreApart E.mirrored }
+    ensures distinct { PlacesAreDistinct E.mirrored }
 {}
 
 /// States that the two orders mirror each other within each word.

@@ -9,20 +9,20 @@ pub loop-i-init : goal.loop-i-init
 unfolding replies_of final_set
 loop-i-init g c = record { replies = refl; set = refl; stays = refl }
 
-pub answer-requires : goal.answer-requires
-answer-requires g c = subst (Fits g.B.Shape.indexable) (run-capacity _ _ _ c.loop-i.invariant.set)
+pub make_call-requires : goal.make_call-requires
+make_call-requires g c = subst (Fits g.B.Shape.indexable) (run-capacity _ _ _ c.loop-i.invariant.set)
     c.requires.fits
 
 pub loop-i-preserved : goal.loop-i-preserved
 unfolding replies_of final_set
 loop-i-preserved g c =
     let t = c.loop-i.invariant in
-    let a = c.answer.ensures in
+    let a = c.make_call.ensures in
     let in_calls : c.loop-i.i < length c.args.calls.now = omega arith in
     let in_replies : c.loop-i.i < length c.loop-i.replies = omega arith in
     record {
       replies = replies_step set_after _ _ c.args.calls.now c.loop-i.i _ in_calls t.set reply_to
-          c.loop-i.replies c.answer.result in_replies t.replies a.reply;
+          c.loop-i.replies c.make_call.result in_replies t.replies a.reply;
       set = state_step set_after _ _ c.args.calls.now c.loop-i.i _ in_calls t.set _ a.set;
       stays = t.stays ∙ a.stays;
     }

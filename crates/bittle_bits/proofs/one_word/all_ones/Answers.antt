@@ -6,7 +6,7 @@ use Rattle.bittle_bits.proofs.one_word.all_ones.Goals as goal
 
 pub returns-clause-value : goal.returns-clause-value
 returns-clause-value g c = c.is_zero.ensures.zero
-    ∙ word_full _ _ _ c.not.ensures.range c.is_zero.ensures.range c.not.ensures.digits
+    ∙ word_full _ _ _ c.not.ensures.range c.is_zero.ensures.range c.not.ensures.pattern
 
 pub returns-clause-in_each_order : goal.returns-clause-in_each_order
 returns-clause-in_each_order g c = size_in_each_order _ _ (λ n. n == g.T.Word.width) _

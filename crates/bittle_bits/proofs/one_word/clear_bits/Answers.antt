@@ -1,4 +1,4 @@
-use Rattle.bittle_bits.proofs.DigitSets.{no_digits}
+use Rattle.bittle_bits.proofs.BitSets.{no_digits}
 use Rattle.bittle_bits.proofs.one_word.clear_bits.Goals as goal
 
 pub returns : goal.returns

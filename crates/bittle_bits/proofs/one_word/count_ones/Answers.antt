@@ -1,10 +1,10 @@
 use Rattle.bittle_bits.specs.LawProofs.{one_word}
-use Rattle.bittle_bits.proofs.WordSizes.{size-digit_set}
+use Rattle.bittle_bits.proofs.WordSizes.{size-bit_set}
 use Rattle.bittle_bits.proofs.Sizes.{size-most, size_in_each_order}
 use Rattle.bittle_bits.proofs.one_word.count_ones.Goals as goal
 
 pub returns-clause-value : goal.returns-clause-value
-returns-clause-value g c = size-digit_set _ _ _ c.count_ones.ensures.count
+returns-clause-value g c = size-bit_set _ _ _ c.count_ones.ensures.count
     c.count_ones.ensures.range
 
 pub returns-clause-in_each_order : goal.returns-clause-in_each_order

@@ -11,5 +11,5 @@ invariant-loop-member g l = record {
   same_writer : l.output.writer.ghost_name ≡ l.initial.output.writer.ghost_name;
   begun : HasPut g.W.Write.contents l.initial.output l.output
       (line_of_members (set_in g.B.Shape g.E.Endian l.set.bits))
-      (spaced_numbers l.space l.member-iterator.left ++ codes "\n");
+      (spaced_numbers l.space l.member-iterator.remaining ++ codes "\n");
 }

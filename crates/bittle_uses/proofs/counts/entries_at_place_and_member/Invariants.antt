@@ -10,5 +10,5 @@ invariant-loop-place l =
     let entries = λ (n : ℕ) (left : List ℕ). map
     (λ p. bit_xor (slice_index l.row p.0) (slice_index l.row p.1)) (enumerate_from n left) in
     last_or (Some l.last) (entries (enumerate_count l.place-iterator)
-    (enumerate_source l.place-iterator).left)
-    ≡ last_or (Some 0) (entries 0 (enumerate_source l.initial.place-iterator).left)
+    (enumerate_source l.place-iterator).remaining)
+    ≡ last_or (Some 0) (entries 0 (enumerate_source l.initial.place-iterator).remaining)

@@ -4,9 +4,9 @@ use Rattle.bittle_uses.proofs.counts.last_place_of_any.Given as goal
 
 abbrev pub invariant-loop-place : goal.invariant-loop-place
 invariant-loop-place g l =
-    let whole = length (enumerate_source l.initial.place-iterator).left in
+    let whole = length (enumerate_source l.initial.place-iterator).remaining in
     record {
       last : l.last ≡ enumerate_count l.place-iterator - 1;
-      count : enumerate_count l.place-iterator + length (enumerate_source l.place-iterator).left
+      count : enumerate_count l.place-iterator + length (enumerate_source l.place-iterator).remaining
           ≡ whole;
     }

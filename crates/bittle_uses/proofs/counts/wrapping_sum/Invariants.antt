@@ -5,7 +5,7 @@ use Rattle.bittle_uses.proofs.counts.wrapping_sum.Given as goal
 
 abbrev pub invariant-loop-index : goal.invariant-loop-index
 invariant-loop-index l = record {
-  is_sum : l.total + sum (rev_source l.index-iterator).left
-      ≡ sum (rev_source l.initial.index-iterator).left;
+  is_sum : l.total + sum (rev_source l.index-iterator).remaining
+      ≡ sum (rev_source l.initial.index-iterator).remaining;
   small : l.total ≤ length l.yielded * 4294967295;
 }

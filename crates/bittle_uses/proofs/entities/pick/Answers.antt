@@ -1,7 +1,7 @@
 use Rattle.std.proofs.Common.{◌≡◌, ◌<◌, ℕ, Bor, ◌∷◌, [], ◌++◌, map, length, sym, ap, ◌∙◌, arith, rules}
 use Rattle.std.proofs.lemmas.List.{take_more_set, map-append, length-append, length-map, length-set, length-take}
 use Rattle.std.specs.Prelude.{slice_index}
-use Rattle.bittle.specs.Digits.{digit_set}
+use Rattle.bittle.specs.BitPatterns.{bit_set}
 use Rattle.bittle.specs.PlainSet.{ascending}
 use Rattle.bittle.proofs.CallerJoins.{answers_below, all_answers_at_members, members_are_places}
 use Rattle.bittle_uses.proofs.entities.pick.Goals as goal
@@ -12,7 +12,7 @@ bounds-row-count c =
     let start = c.into_iter-component-iterator.ensures.into_iter_gives in
     let b : c.loop-component.count < 64 = answers_below (λ i. i.rest.now) join.result
     c.loop-component.component-iterator c.next.new.self c.loop-component.yielded
-    c.in-Some.component (digit_set 64 c.args.mask) c.loop-component.count join.ensures.members
+    c.in-Some.component (bit_set 64 c.args.mask) c.loop-component.count join.ensures.members
     c.loop-component.invariant.count join.ensures.answers
     (rw start at c.loop-component.yielded_by) c.in-Some.ensures.steps in
     b
@@ -23,7 +23,7 @@ offset_bounds-row-count c =
     let start = c.into_iter-component-iterator.ensures.into_iter_gives in
     let b : c.loop-component.count < 64 = answers_below (λ i. i.rest.now) join.result
     c.loop-component.component-iterator c.next.new.self c.loop-component.yielded
-    c.in-Some.component (digit_set 64 c.args.mask) c.loop-component.count join.ensures.members
+    c.in-Some.component (bit_set 64 c.args.mask) c.loop-component.count join.ensures.members
     c.loop-component.invariant.count join.ensures.answers
     (rw start at c.loop-component.yielded_by) c.in-Some.ensures.steps in
     search rules
@@ -54,7 +54,7 @@ returns-clause-picked c =
     let start = c.into_iter-component-iterator.ensures.into_iter_gives in
     let items : join.result.iter.rest.now
     ≡ c.args.components.now = ap (λ i. i.rest.now) join.ensures.iter ∙ c.iter.ensures.rest in
-    let bound = members_are_places (digit_set 64 c.args.mask) join.result.mask.left
+    let bound = members_are_places (bit_set 64 c.args.mask) join.result.mask.remaining
     join.result.iter.rest.now join.ensures.members
     (omega (arith, ap length items, c.told-components)) in
     let all = all_answers_at_members (λ i. i.rest.now) join.result
@@ -62,13 +62,13 @@ returns-clause-picked c =
     join.ensures.end join.ensures.none_taken bound (rw start at c.loop-component.yielded_by)
     c.in-None.ensures.steps in
     c.loop-component.invariant.picked ∙ all
-    ∙ ap (λ xs. map (λ n. slice_index xs n) join.result.mask.left) items
+    ∙ ap (λ xs. map (λ n. slice_index xs n) join.result.mask.remaining) items
     ∙ ap (map (λ n. slice_index c.args.components.now n)) join.ensures.members
 
 pub returns-clause-count : goal.returns-clause-count
 returns-clause-count c =
     let t = c.loop-component.invariant in
     let a = ap length (returns-clause-picked c) in
-    let b = length-map (ascending (digit_set 64 c.args.mask))
+    let b = length-map (ascending (bit_set 64 c.args.mask))
     (λ n. slice_index c.args.components.now n) in
     omega (arith, a, b, length-take c.loop-component.count c.loop-component.row, t.places, t.room)

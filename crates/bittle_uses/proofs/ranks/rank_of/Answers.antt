@@ -6,4 +6,4 @@ use Rattle.bittle_uses.proofs.ranks.rank_of.Goals as goal
 pub returns : goal.returns
 returns g c =
     position_from_yields_List (λ i. i == c.args.index) _ _ _ c.position.ensures.ran
-    (walk_yields _ _ c.iter_ones.ensures.left) (λ x b q k. search rules)
+    (walk_yields _ _ c.iter_ones.ensures.remaining) (λ x b q k. search rules)

@@ -4,5 +4,5 @@ use Rattle.std.specs.Prelude.{slice_get, unwrap_or}
 use Rattle.bittle_uses.proofs.shared_slices.least_free_of_triples.Given as goal
 
 abbrev pub invariant-loop-index : goal.invariant-loop-index
-invariant-loop-index l = unwrap_or (slice_get (rev_source l.index-iterator).left 0) l.last
-    ≡ unwrap_or (slice_get (rev_source l.initial.index-iterator).left 0) 0
+invariant-loop-index l = unwrap_or (slice_get (rev_source l.index-iterator).remaining 0) l.last
+    ≡ unwrap_or (slice_get (rev_source l.initial.index-iterator).remaining 0) 0

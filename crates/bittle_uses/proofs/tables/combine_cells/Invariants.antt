@@ -8,4 +8,4 @@ abbrev pub invariant-loop-cell : goal.invariant-loop-cell
 invariant-loop-cell l =
     let combined = fold (λ all i. bit_xor all
     (slice_index (slice_index_or l.cells (i / 8) []) (i % 8))) in
-    combined l.all l.cell-iterator.left ≡ combined 0 l.initial.cell-iterator.left
+    combined l.all l.cell-iterator.remaining ≡ combined 0 l.initial.cell-iterator.remaining

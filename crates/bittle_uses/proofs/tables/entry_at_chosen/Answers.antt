@@ -23,7 +23,7 @@ returns c =
     let inner = ap skip_source t.ensures.source ∙ c.skip.ensures.source in
     let walk = ap filter_source inner ∙ c.filter.ensures.source in
     let kept = YieldsList-from_filter _ (λ i. not (i == 7)) (walk_yields t.result.iter.iter.iter _
-    (ap (λ w. w.left) walk ∙ c.iter_ones.ensures.left))
+    (ap (λ w. w.remaining) walk ∙ c.iter_ones.ensures.remaining))
     (ap filter_callee inner ∙ c.filter.ensures.closure)
     (λ x b q k. (refl, grind (arith, nat_tests, k))) in
     let road = YieldsList-from_take 3 (YieldsList-from_skip 1 kept

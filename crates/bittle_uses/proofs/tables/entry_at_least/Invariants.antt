@@ -6,5 +6,5 @@ use Rattle.bittle_uses.proofs.tables.entry_at_least.Given as goal
 abbrev pub invariant-loop-index : goal.invariant-loop-index
 invariant-loop-index l =
     let entry = option_map (λ i. slice_index l.row i) in
-    unwrap_or (entry (slice_get (rev_source l.index-iterator).left 0)) l.last
-    ≡ unwrap_or (entry (slice_get (rev_source l.initial.index-iterator).left 0)) 0
+    unwrap_or (entry (slice_get (rev_source l.index-iterator).remaining 0)) l.last
+    ≡ unwrap_or (entry (slice_get (rev_source l.initial.index-iterator).remaining 0)) 0

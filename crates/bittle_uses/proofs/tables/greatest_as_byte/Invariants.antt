@@ -2,4 +2,4 @@ use Rattle.bittle_uses.proofs.Lasts.{KeepsLast}
 use Rattle.bittle_uses.proofs.tables.greatest_as_byte.Given as goal
 
 abbrev pub invariant-loop-index : goal.invariant-loop-index
-invariant-loop-index l = KeepsLast l.last l.index-iterator.left l.initial.index-iterator.left
+invariant-loop-index l = KeepsLast l.last l.index-iterator.remaining l.initial.index-iterator.remaining

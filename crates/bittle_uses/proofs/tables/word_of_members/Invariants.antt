@@ -5,4 +5,4 @@ use Rattle.bittle_uses.proofs.tables.word_of_members.Given as goal
 
 abbrev pub invariant-loop-index : goal.invariant-loop-index
 invariant-loop-index l =
-    fold flip l.word l.index-iterator.left ≡ fold flip 0 l.initial.index-iterator.left
+    fold flip l.word l.index-iterator.remaining ≡ fold flip 0 l.initial.index-iterator.remaining

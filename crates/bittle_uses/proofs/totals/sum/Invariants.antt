@@ -4,6 +4,6 @@ use Rattle.bittle_uses.proofs.totals.sum.Given as goal
 
 abbrev pub invariant-loop-index : goal.invariant-loop-index
 invariant-loop-index l = record {
-  is_sum : l.total + sum l.index-iterator.left ≡ sum l.initial.index-iterator.left;
-  small : l.total + length l.index-iterator.left * 64 ≤ 64 * 64;
+  is_sum : l.total + sum l.index-iterator.remaining ≡ sum l.initial.index-iterator.remaining;
+  small : l.total + length l.index-iterator.remaining * 64 ≤ 64 * 64;
 }

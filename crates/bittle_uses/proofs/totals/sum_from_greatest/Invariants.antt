@@ -4,9 +4,9 @@ use Rattle.bittle_uses.proofs.totals.sum_from_greatest.Given as goal
 
 abbrev pub invariant-loop-index : goal.invariant-loop-index
 invariant-loop-index l = record {
-  is_sum : l.total + sum l.walk.left ≡ sum l.initial.walk.left;
-  small : l.total + length l.walk.left * 4294967296 ≤ 32 * 4294967296;
+  is_sum : l.total + sum l.walk.remaining ≡ sum l.initial.walk.remaining;
+  small : l.total + length l.walk.remaining * 4294967296 ≤ 32 * 4294967296;
 }
 
 abbrev pub decreases-loop-index : goal.decreases-loop-index
-decreases-loop-index l = length l.walk.left
+decreases-loop-index l = length l.walk.remaining

@@ -4,7 +4,7 @@ use Rattle.std.specs.Ordering.{is_eq}
 use Rattle.bittle_bits.specs.PlainSet.{ascending}
 use Rattle.bittle_bits.specs.Values.{set_in, set_mirrored}
 use Rattle.bittle_bits.proofs.PlainSets.{members-past}
-use Rattle.bittle.specs.Comparison.{AreSame, IsFirstApart}
+use Rattle.bittle.specs.Comparison.{AreSame, IsFirstDifference}
 use Rattle.bittle.proofs.FirstDifference.{none_is, none_equal, none_decides}
 use Rattle.bittle.proofs.ListComparison.{equal_iff_same}
 use Rattle.bittle.proofs.set.Set.eq_bits.Goals as goal
@@ -18,15 +18,15 @@ returns-then-are_alike-clause-value g c =
     let ours = set_in g.T.Shape g.E.Endian x in
     let theirs = set_in g.U.Shape g.U.Order.Endian y in
     let alike = c.are_alike.ensures c.if-are_alike.true in
-    let apart = subst (λ m. MatchOption c.first_apart.result
+    let difference = subst (λ m. MatchOption c.first_difference.result
     (AreSame ours (set_mirrored g.U.Shape m y))
-    (λ d. IsFirstApart ours (set_mirrored g.U.Shape m y) d)) alike.1
-    c.first_apart.ensures in
-    none_is c.first_apart.result _ c.is_none.ensures
+    (λ d. IsFirstDifference ours (set_mirrored g.U.Shape m y) d)) alike.1
+    c.first_difference.ensures in
+    none_is c.first_difference.result _ c.is_none.ensures
     ∙ none_equal ours theirs (members-past g.E.Endian.mirrored _ _ t.width_positive
     (t.whole_words x) (t.none_past x))
     (members-past g.U.Order.Endian.mirrored _ _ u.width_positive (u.whole_words y)
-    (u.none_past y)) c.first_apart.result apart
+    (u.none_past y)) c.first_difference.result difference
     ∙ sym (texts_ties (ascending ours) (ascending theirs))
 
 pub returns-else-are_alike-clause-value : goal.returns-else-are_alike-clause-value
@@ -42,13 +42,13 @@ returns-then-are_alike-clause-decided g c =
     let ours = set_in g.T.Shape g.E.Endian c.args.self.now.bits in
     let theirs = set_in g.U.Shape g.U.Order.Endian y in
     let alike = c.are_alike.ensures c.if-are_alike.true in
-    let apart = subst (λ m. MatchOption c.first_apart.result
+    let difference = subst (λ m. MatchOption c.first_difference.result
     (AreSame ours (set_mirrored g.U.Shape m y))
-    (λ d. IsFirstApart ours (set_mirrored g.U.Shape m y) d)) alike.1
-    c.first_apart.ensures in
+    (λ d. IsFirstDifference ours (set_mirrored g.U.Shape m y) d)) alike.1
+    c.first_difference.ensures in
     subst (λ r. IsTrue r ↔ AreSame ours theirs)
-    (sym (none_is c.first_apart.result _ c.is_none.ensures))
-    (none_decides ours theirs c.first_apart.result apart)
+    (sym (none_is c.first_difference.result _ c.is_none.ensures))
+    (none_decides ours theirs c.first_difference.result difference)
 
 pub returns-else-are_alike-clause-decided : goal.returns-else-are_alike-clause-decided
 returns-else-are_alike-clause-decided g c =

@@ -1,5 +1,5 @@
 use Rattle.std.proofs.Common.{false}
-use Rattle.bittle.proofs.Shapes.{still_fits}
+use Rattle.bittle.proofs.Fitting.{still_fits}
 use Rattle.bittle.proofs.set.SetBitsMut.assign_by_operation.Goals as goal
 
 pub invariant_of-self : goal.invariant_of-self

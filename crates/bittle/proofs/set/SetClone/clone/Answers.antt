@@ -1,5 +1,5 @@
 use Rattle.std.proofs.Common.{ap}
-use Rattle.bittle.proofs.Shapes.{fits_one}
+use Rattle.bittle.proofs.Fitting.{fits_one}
 use Rattle.bittle.proofs.set.SetClone.clone.Goals as goal
 
 pub returns : goal.returns

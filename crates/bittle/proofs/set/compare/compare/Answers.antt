@@ -27,6 +27,6 @@ returns-then-are_alike g c =
 pub returns-else-are_alike : goal.returns-else-are_alike
 returns-else-are_alike g c =
     cmp_from_yields_List (λ x y. y ≡ x) _ nat_cmp _ c.cmp.ensures.ran
-    (steps_yield c.iter_ones_in.result _ c.iter_ones_in.ensures.left)
-    (λ it e. steps_yield it _ (ap (λ w. w.left) e ∙ c.iter_ones_in-else-are_alike.ensures.left))
+    (steps_yield c.iter_ones_in.result _ c.iter_ones_in.ensures.remaining)
+    (λ it e. steps_yield it _ (ap (λ w. w.remaining) e ∙ c.iter_ones_in-else-are_alike.ensures.remaining))
     (λ x y. refl)

@@ -1,10 +1,10 @@
 use Rattle.bittle_bits.specs.RowLawProofs.{words_of}
 use Rattle.bittle_bits.proofs.PlainSets.{full_set_in_each_order}
-use Rattle.bittle_bits.proofs.RowSets.{elements_set-full}
+use Rattle.bittle_bits.proofs.RowSets.{row_set-full}
 use Rattle.bittle_bits.proofs.array.ArrayBitsOwned.ones.Goals as goal
 
 pub returns-clause-value : goal.returns-clause-value
-returns-clause-value g c = elements_set-full _ _ g.T.Shape.big _ c.ones.ensures.value
+returns-clause-value g c = row_set-full _ _ g.T.Shape.big _ c.ones.ensures.value
 
 pub returns-clause-in_each_order : goal.returns-clause-in_each_order
 returns-clause-in_each_order g c = full_set_in_each_order _ _ _ g.met.T.Bits.width_positive

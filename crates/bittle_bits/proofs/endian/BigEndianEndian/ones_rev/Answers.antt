@@ -5,8 +5,8 @@ use Rattle.bittle_bits.proofs.endian.BigEndianEndian.ones_rev.Goals as goal
 
 pub returns : goal.returns
 returns g c =
-    ends_of_rest false g.T.Word.width (g.T.Word.digits c.args.value)
-    (g.T.Word.digits c.not.result) (λ s. IsGreatestMember s c.leading_zeros.result)
-    g.met.T.Word.width_positive c.not.ensures.range c.not.ensures.digits
+    ends_of_rest false g.T.Word.width (g.T.Word.pattern c.args.value)
+    (g.T.Word.pattern c.not.result) (λ s. IsGreatestMember s c.leading_zeros.result)
+    g.met.T.Word.width_positive c.not.ensures.range c.not.ensures.pattern
     (subst (IsGreatestMember _) (sym c.leading_zeros.ensures.count)
     (greatest_digit _ _ c.leading_zeros.ensures.range))

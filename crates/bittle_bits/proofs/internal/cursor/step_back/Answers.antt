@@ -1,7 +1,7 @@
 use Rattle.std.proofs.Common.{◌<◌, ◌/◌, refl, arith}
 use Rattle.bittle_bits.specs.Values.{set_in}
 use Rattle.bittle_bits.specs.Walk.{ones_or_zeros}
-use Rattle.bittle_bits.proofs.Steps.{seeks_on, back_on, tail_retired, tail_fetched, head_gave_back, back_ended}
+use Rattle.bittle_bits.proofs.Steps.{seeks_on, back_on, tail_exhausted, tail_fetched, head_gave_back, back_ended}
 use Rattle.bittle_bits.proofs.internal.cursor.step_back.Goals as goal
 
 pub loop-item-preserved : goal.loop-item-preserved
@@ -10,16 +10,16 @@ loop-item-preserved g c =
     let w = g.B.Shape.width in
     let words = (g.B.Shape.big c.args.source.now.set.now).capacity / w in
     let t = c.loop-item.at in
-    let look = c.in_default.ensures in
-    let met = tail_retired s words w t c.last_of_tail.new.self c.loop-item.invariant.1 look.found
-    look.looks look.head look.fetches in
+    let scan = c.in_default.ensures in
+    let met = tail_exhausted s words w t c.last_of_tail.new.self c.loop-item.invariant.1 scan.found
+    scan.scans scan.head scan.fetches in
     let some : t.low < t.high = omega (arith, c.loop-item.invariant.1.ordered) in
-    let copied = tail_fetched s words w (record
-    { copies = c.last_of_tail.new.self; low = t.low; high = t.high; items = t.items }) _ met.1
-    look.found.1 some refl in
+    let loaded = tail_fetched s words w (record
+    { buffers = c.last_of_tail.new.self; low = t.low; high = t.high; items = t.items }) _ met.1
+    scan.found.1 some refl in
     rw c.fetch_tail.ensures (
-      seeks_on _ _ _ c.loop-item.invariant.0 (seeks_on _ _ _ met.0 copied.0),
-      copied.1,
+      seeks_on _ _ _ c.loop-item.invariant.0 (seeks_on _ _ _ met.0 loaded.0),
+      loaded.1,
     )
 
 pub returns-in_default-last_of_head-clause-steps : goal.returns-in_default-last_of_head-clause-steps
@@ -28,13 +28,13 @@ returns-in_default-last_of_head-clause-steps g c =
     let w = g.B.Shape.width in
     let words = (g.B.Shape.big c.args.source.now.set.now).capacity / w in
     let t = c.loop-item.at in
-    let look = c.in_default.ensures in
+    let scan = c.in_default.ensures in
     let last = c.in_default-last_of_head.ensures in
-    let met = tail_retired s words w t c.last_of_tail.new.self c.loop-item.invariant.1 look.found
-    look.looks look.head look.fetches in
+    let met = tail_exhausted s words w t c.last_of_tail.new.self c.loop-item.invariant.1 scan.found
+    scan.scans scan.head scan.fetches in
     let ended = back_ended s words w (record
-    { copies = c.last_of_tail.new.self; low = t.low; high = t.high; items = t.items })
-    c.last_of_head.new.self met.1 look.found.1 c.if-at.true last.found last.looks last.tail
+    { buffers = c.last_of_tail.new.self; low = t.low; high = t.high; items = t.items })
+    c.last_of_head.new.self met.1 scan.found.1 c.if-at.true last.found last.scans last.tail
     last.fetches in
     back_on _ _ _ _ (seeks_on _ _ _ c.loop-item.invariant.0 met.0) ended.0
 
@@ -44,12 +44,12 @@ returns-clause-steps g c =
     let w = g.B.Shape.width in
     let words = (g.B.Shape.big c.args.source.now.set.now).capacity / w in
     let t = c.loop-item.at in
-    let look = c.in_default.ensures in
+    let scan = c.in_default.ensures in
     let last = c.in-Some-last_of_head.ensures in
-    let met = tail_retired s words w t c.last_of_tail.new.self c.loop-item.invariant.1 look.found
-    look.looks look.head look.fetches in
+    let met = tail_exhausted s words w t c.last_of_tail.new.self c.loop-item.invariant.1 scan.found
+    scan.scans scan.head scan.fetches in
     let gave = head_gave_back s words w (record
-    { copies = c.last_of_tail.new.self; low = t.low; high = t.high; items = t.items })
-    c.last_of_head.new.self c.raise-2.new.self c.in-Some-last_of_head.item met.1 look.found.1
-    c.if-at.true last.found last.looks last.tail last.fetches c.raise-2.ensures in
+    { buffers = c.last_of_tail.new.self; low = t.low; high = t.high; items = t.items })
+    c.last_of_head.new.self c.raise-2.new.self c.in-Some-last_of_head.item met.1 scan.found.1
+    c.if-at.true last.found last.scans last.tail last.fetches c.raise-2.ensures in
     back_on _ _ _ _ (seeks_on _ _ _ c.loop-item.invariant.0 met.0) gave.0

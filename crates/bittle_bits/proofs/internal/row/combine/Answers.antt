@@ -1,6 +1,6 @@
 use Rattle.std.proofs.Common.{false, length, ap, ◌∙◌, arith}
 use Rattle.bittle_bits.specs.RowLawProofs.{words_of}
-use Rattle.bittle_bits.specs.Orders.{members}
+use Rattle.bittle_bits.specs.Orders.{read_in}
 use Rattle.bittle_bits.proofs.RowOperations.{row_combined, more_done, still_rest}
 use Rattle.bittle_bits.proofs.SetOperations.{members-combination}
 use Rattle.bittle_bits.proofs.internal.row.combine.Goals as goal
@@ -29,7 +29,7 @@ returns g c mirrored =
     c.args.elements.now c.args.others.now c.loop-at.elements T.BitsOwned.one_capacity
     (omega arith) (λ k d a b. done.done k d (omega arith))
     (λ k d b. done.rest k d (omega arith)) in
-    ap (members mirrored g.T.Shape.width) all
+    ap (read_in mirrored g.T.Shape.width) all
     ∙ members-combination _ mirrored _ _ _ T.Bits.width_positive
     (words_of (length c.args.elements.now) _ _ whole)
     (words_of (length c.args.others.now) _ _ whole)

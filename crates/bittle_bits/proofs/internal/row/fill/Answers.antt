@@ -2,9 +2,9 @@ use Rattle.std.proofs.Common.{◌≡◌, ◌+◌, ◌-◌, ◌*◌, ◌/◌, ◌
 use Rattle.bittle_bits.proofs.SearchBounds.{first_word, words_ordered}
 use Rattle.bittle_bits.proofs.Spans.{with_span-none}
 use Rattle.bittle_bits.proofs.RowSpans.{span_reaches, row_filled, span_end_at, some_each, begins_before, before_end}
-use Rattle.bittle_bits.specs.Orders.{members}
+use Rattle.bittle_bits.specs.Orders.{read_in}
 use Rattle.bittle_bits.specs.PlainSet.{with_span}
-use Rattle.bittle_bits.specs.Rows.{elements_set}
+use Rattle.bittle_bits.specs.Rows.{row_set}
 use Rattle.bittle_bits.proofs.internal.row.fill.Goals as goal
 
 pub returns-then-from-to : goal.returns-then-from-to
@@ -17,8 +17,8 @@ loop-at-init g c =
     let e = g.T.OwnedShape.type_capacity in
     let from = c.args.from in
     let some = some_each c.args.to (length c.args.elements.now) e (omega arith) c.requires.within in
-    let row = members g.E.Endian.mirrored g.T.Shape.width
-    (elements_set (length c.args.elements.now) e g.T.Shape.big c.args.elements.now) in
+    let row = read_in g.E.Endian.mirrored g.T.Shape.width
+    (row_set (length c.args.elements.now) e g.T.Shape.big c.args.elements.now) in
     rw each (record {
       begun = omega (arith, before_end from e some);
       set = sym (with_span-none row from _ (omega (arith, first_word e from)));
@@ -73,16 +73,16 @@ loop-at-preserved g c =
     let inv = c.loop-at.invariant in
     let first : c.saturating_sub.result ≡ from - at * e = rw each at c.saturating_sub.ensures in
     let end : c.min-end.result ≡ min e (to - at * e) = rw each at c.min-end.ensures in
-    let one : members m w (big c.set_range_in.new.self)
-    ≡ with_span (members m w (big x)) (from - at * e)
+    let one : read_in m w (big c.set_range_in.new.self)
+    ≡ with_span (read_in m w (big x)) (from - at * e)
     (min e (to - at * e)) = rw (first, end) at c.set_range_in.ensures.set in
     let row = row_filled m w e (length xs) at big xs x c.set_range_in.new.self
     g.met.T.Bits.width_positive g.met.T.BitsOwned.type_whole_words
     (omega (arith, in_row.1)) refl (ap (λ (d : g.row.T.Denot). get_or xs at d)
     c.index-elements-at.is) (from - at * e) (min e (to - at * e)) (omega arith) one in
-    let before = members m w (elements_set n e big c.args.elements.now) in
-    let now = members m w (elements_set (length xs) e big xs) in
-    let next = members m w (elements_set (length xs) e big (set xs at c.set_range_in.new.self)) in
+    let before = read_in m w (row_set n e big c.args.elements.now) in
+    let now = read_in m w (row_set (length xs) e big xs) in
+    let next = read_in m w (row_set (length xs) e big (set xs at c.set_range_in.new.self)) in
     record {
       begun = omega (arith, inv.begun);
       set = rw length-set (span_reaches before now next from to e at
@@ -102,6 +102,6 @@ returns g c =
     let last : at ≡ (to - 1) / e + 1 = rw (sym each) (omega (arith, ordered)) in
     let whole : span_end_at c.args.from to (at * e)
     ≡ to = rw last (omega (arith, before_end (to - 1) e some)) in
-    let row = members g.E.Endian.mirrored g.T.Shape.width
-    (elements_set (length c.args.elements.now) e g.T.Shape.big c.args.elements.now) in
+    let row = read_in g.E.Endian.mirrored g.T.Shape.width
+    (row_set (length c.args.elements.now) e g.T.Shape.big c.args.elements.now) in
     c.loop-at.invariant.set ∙ ap (with_span row c.args.from) whole

@@ -1,7 +1,7 @@
 use Rattle.std.proofs.Common.{◌≡◌, ◌+◌, ◌*◌, ◌<◌, length}
-use Rattle.bittle_bits.specs.Orders.{members}
+use Rattle.bittle_bits.specs.Orders.{read_in}
 use Rattle.bittle_bits.specs.PlainSet.{with_span}
-use Rattle.bittle_bits.specs.Rows.{elements_set}
+use Rattle.bittle_bits.specs.Rows.{row_set}
 use Rattle.bittle_bits.proofs.RowSpans.{span_end_at}
 use Rattle.bittle_bits.proofs.internal.row.fill.Given as goal
 
@@ -12,7 +12,7 @@ invariant-loop-at g l =
     let c = g.T.OwnedShape.type_capacity in
     record {
       begun : l.fn.from < l.at * c + c;
-      set : members m w (elements_set (length l.elements) c g.T.Shape.big l.elements)
-          ≡ with_span (members m w (elements_set (length l.fn.elements) c g.T.Shape.big
+      set : read_in m w (row_set (length l.elements) c g.T.Shape.big l.elements)
+          ≡ with_span (read_in m w (row_set (length l.fn.elements) c g.T.Shape.big
           l.fn.elements)) l.fn.from (span_end_at l.fn.from l.fn.to (l.at * c));
     }

@@ -13,7 +13,7 @@ loop-found-init g c =
       omega arith,
       words_ordered _ c.args.from c.args.to g.met.B.Bits.width_positive some,
       search_start _ _ _ g.met.B.Bits.width_positive c.args.from _ _ _ refl
-          (rw wide at c.wanted_word.ensures) (rw (leaf, wide) at c.from_index.ensures),
+          (rw wide at c.word_of_kind.ensures) (rw (leaf, wide) at c.from_index.ensures),
     )
 
 pub overflow_add-found : goal.overflow_add-found
@@ -70,5 +70,5 @@ loop-found-preserved g c =
       omega (arith, inv.1, more),
       search_next _ _ _ g.met.B.Bits.width_positive c.args.from c.loop-found.k _
           c.zeros-index.result _
-          inv.0 inv.2 (rw leaf at c.zeros-index.ensures) end c.wanted_word-word.ensures,
+          inv.0 inv.2 (rw leaf at c.zeros-index.ensures) end c.word_of_kind-word.ensures,
     )

@@ -8,7 +8,7 @@ invariant-loop-found g l =
     let s = ones_or_zeros g.K.Kind.ONES (g.B.Shape.big l.bits) in
     let w = g.B.Shape.width in
     (l.fn.from / w ≤ l.k) × (l.k ≤ (l.fn.to - 1) / w)
-    × SearchesForward g.E.Endian.mirrored w s l.fn.from l.k (g.B.LeafWord.Word.digits l.word)
+    × SearchesForward g.E.Endian.mirrored w s l.fn.from l.k (g.B.LeafWord.Word.pattern l.word)
 
 abbrev pub decreases-loop-found : goal.decreases-loop-found
 decreases-loop-found g l = (l.fn.to - 1) / g.B.Shape.width - l.k

@@ -13,10 +13,10 @@ loop-found-init g c =
       words_ordered _ c.args.from c.args.to g.met.B.Bits.width_positive some,
       omega arith,
       search_back_start _ _ _ g.met.B.Bits.width_positive c.args.to _ _
-          (g.B.LeafWord.Word.digits c.from_index.result) _ _ ((c.args.to - 1) % g.B.Shape.width)
-          (omega arith) refl refl (rw wide at c.wanted_word.ensures)
+          (g.B.LeafWord.Word.pattern c.from_index.result) _ _ ((c.args.to - 1) % g.B.Shape.width)
+          (omega arith) refl refl (rw wide at c.word_of_kind.ensures)
           (rw (leaf, wide) at c.from_index.ensures) (rw leaf at c.not.ensures.range)
-          (rw leaf at c.not.ensures.digits) (rw (leaf, wide) at c.mask.ensures),
+          (rw leaf at c.not.ensures.pattern) (rw (leaf, wide) at c.mask.ensures),
     )
 
 pub returns-then-from-found : goal.returns-then-from-found
@@ -64,5 +64,5 @@ loop-found-preserved g c =
       omega (arith, inv.1),
       search_back_next _ _ _ g.met.B.Bits.width_positive c.args.to c.loop-found.k _
           c.zeros_rev-above.result _ (omega (arith, inv.0, more)) inv.1 inv.2
-          (rw leaf at c.zeros_rev-above.ensures) end c.wanted_word-word.ensures,
+          (rw leaf at c.zeros_rev-above.ensures) end c.word_of_kind-word.ensures,
     )

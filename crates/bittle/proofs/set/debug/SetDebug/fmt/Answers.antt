@@ -17,7 +17,7 @@ rest_text-none false = refl
 
 pub loop-index-init : goal.loop-index-init
 loop-index-init g c = λ plain.
-    let all : c.into_iter-index-iterator.result.left
+    let all : c.into_iter-index-iterator.result.remaining
     ≡ ascending (set_in g.T.Shape g.E.Endian c.args.self.now.bits)
     = search rules in (
       codes "{",
@@ -30,7 +30,7 @@ loop-index-preserved g c = λ plain.
     let so_far = c.loop-index.invariant plain in
     let first = c.loop-index.first in
     let at = c.in-Some.index in
-    let left = c.next.new.self.left in
+    let left = c.next.new.self.remaining in
     let text = index_text first at in (
       so_far.0 ++ text,
       has_written_append _ _ _ _ _ _ so_far.1 (c.in_ok-write_index.ensures so_far.1.plain refl),

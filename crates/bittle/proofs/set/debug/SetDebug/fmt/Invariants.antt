@@ -1,7 +1,7 @@
 use Rattle.std.proofs.Common.{◌≡◌, ℕ, Bool, List, ◌++◌, codes, if◌then◌else◌}
 use Rattle.std.specs.Fmt.{HasWritten, IsPlainFormatter, decimal}
 use Rattle.std.specs.List.{join_by, flat_map}
-use Rattle.bittle_bits.specs.Orders.{members}
+use Rattle.bittle_bits.specs.Orders.{read_in}
 use Rattle.bittle_bits.specs.Values.{set_in}
 use Rattle.bittle.specs.DebugText.{set_text}
 use Rattle.bittle.proofs.set.debug.SetDebug.fmt.Given as goal
@@ -19,5 +19,5 @@ abbrev pub invariant-loop-index : goal.invariant-loop-index
 invariant-loop-index g l =
     IsPlainFormatter l.fn.f
     → (done : List ℕ) × HasWritten g.W.Write.write_str_gives l.fn.f done l.f
-    × (done ++ (rest_text l.first l.index-iterator.left ++ codes "}")
+    × (done ++ (rest_text l.first l.index-iterator.remaining ++ codes "}")
     ≡ set_text (set_in g.T.Shape g.E.Endian l.self.bits))

@@ -11,7 +11,7 @@ invariant-loop-index g l =
     let all = ascending (set_in g.T.Shape g.E.Endian l.self.bits) in
     let write = g.H.Hasher.write in
     record {
-      count : l.count + length l.index-iterator.left ≡ length all;
+      count : l.count + length l.index-iterator.remaining ≡ length all;
       fed : fold write l.initial.state (flat_map fed.u32 all)
-          ≡ fold write l.state (flat_map fed.u32 l.index-iterator.left);
+          ≡ fold write l.state (flat_map fed.u32 l.index-iterator.remaining);
     }

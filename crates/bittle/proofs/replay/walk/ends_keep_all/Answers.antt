@@ -1,5 +1,0 @@
-use Rattle.bittle.proofs.ListEnds.{keeps_all}
-use Rattle.bittle.proofs.replay.walk.ends_keep_all.Goals as goal
-
-pub returns : goal.returns
-returns c = keeps_all

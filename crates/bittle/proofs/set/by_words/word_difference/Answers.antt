@@ -1,0 +1,20 @@
+use Rattle.std.proofs.Common.{◌≡◌, sym, ap, subst, ◌∙◌}
+use Rattle.bittle_bits.specs.BitPatterns.{bit_set}
+use Rattle.bittle_bits.specs.SetOperations.{combination_of, just_one}
+use Rattle.bittle_bits.specs.Words.{word_of}
+use Rattle.bittle_bits.proofs.WordOperations.{digits_just_one}
+use Rattle.bittle.proofs.set.by_words.word_difference.Goals as goal
+
+pub returns : goal.returns
+returns g c =
+    let w = g.A.Shape.width in
+    let k = c.args.k in
+    let t = g.B.Shape.big c.args.right.now in
+    let d = g.B.LeafWord.Word.pattern c.nth_leaf_word.result in
+    let same : bit_set w d ≡ word_of w t k = subst (λ v. bit_set v d ≡ word_of v t k)
+    (sym c.requires.width) c.nth_leaf_word.ensures in
+    let theirs : bit_set w (g.A.LeafWord.Word.pattern c.from_bits.result)
+    ≡ word_of w t k = ap (bit_set w)
+    (c.from_bits.ensures ∙ c.to_bits-theirs.ensures.pattern) ∙ same in
+    ap (bit_set w) c.xor.ensures ∙ digits_just_one w _ _
+    ∙ (λ i. combination_of just_one (c.nth_leaf_word-2.ensures i) (theirs i))

@@ -1,8 +1,0 @@
--- A list of counts.
-use Rattle.std.specs.Prelude.{ℕ, List, [], ◌∷◌, ◌++◌}
-use Rattle.bittle.specs.declared.replay.walk.Trail.{Trail, Empty, And'}
-
--- the numbers, from the first on
-abbrev pub numbers_of : Trail → List ℕ
-numbers_of Empty = []
-numbers_of (And' shape before count) = numbers_of before ++ count.value ∷ []

@@ -1,0 +1,147 @@
+//! The main theorem on iterators, the contract of [`replay_walk`]: one iterator through a list of
+//! steps yields an increasing list from its two ends, and makes few scans of words.
+
+ghost use Rattle.std.specs.Prelude.{◌≡◌, ℕ, ◌+◌, ◌/◌, ◌≤◌, ◌∷◌, ◌++◌, [], List, length, slice_index};
+ghost use Rattle.bittle_bits.specs.PlainSet.{ascending};
+ghost use Rattle.bittle_bits.specs.Walk.{ones_or_zeros, count_after, IsScanBounded};
+ghost use Rattle.bittle_bits.specs.Values.{set_in, ShapeFits};
+ghost use Rattle.bittle.specs.ListEnds.{answer_of, items_left_by, answers_of, AreScanBounded, KeepsAll};
+
+use bittle_bits::bits::Bits;
+use bittle_bits::endian::Endian;
+use bittle_bits::internal::sealed::{Count, Counted};
+use std::marker::Model;
+use std::mem::replace;
+use std::snapshot::Snapshot;
+
+/// From which end of a walk an item is taken.
+#[derive(Clone, Copy, Debug, PartialEq, Eq)]
+pub enum Step {
+    /// The first item that is left.
+    Front,
+    /// The last item that is left.
+    Back,
+}
+
+// A list of numbers, of which snapshots alone are kept.
+#[derive(Drop)]
+enum CountList {
+    Empty,
+    And(Snapshot<CountList>, Snapshot<Count>),
+}
+
+/// One number for each step of an iterator, the scans made up to it. Contracts alone see them, and they
+/// take no bytes.
+#[derive(Drop)]
+pub struct Scans {
+    trail: Snapshot<CountList>,
+}
+
+/// The name of [`Scans`] before 0.7.0-rattle.3.
+pub type Looks = Scans;
+
+impl Model for Scans {
+    ghost use Rattle.std.specs.Prelude.{ℕ, List};
+
+    ghost Value = { List ℕ };
+
+    ghost use Rattle.bittle.specs.Scans.{numbers_of};
+
+    ghost view = { λ c. numbers_of c.trail.value };
+}
+
+impl Scans {
+    /// Returns an empty log.
+    fn new() -> Scans
+        ensures { result ≡ [] }
+    {
+        Scans {
+            trail: Snapshot::of(&CountList::Empty),
+        }
+    }
+
+    /// Adds the count that a walk has reached.
+    fn push(&mut self, count: &Count)
+        ensures { self.new ≡ self.old ++ count.now ∷ [] }
+    {
+        let Scans { trail } = replace(self, Scans::new());
+        self.trail = Snapshot::of(&CountList::And(trail, Snapshot::of(count)));
+    }
+}
+
+const _: () = prove!(size_of::<Scans>() == 0);
+
+// Takes one step.
+#[inline]
+fn take_step<W: Counted>(walk: &mut W, step: Step) -> Option<u32>
+    ensures answer { result ≡ answer_of step (W.walk walk.old).remaining }
+    ensures remaining { (W.walk walk.new).remaining ≡ items_left_by step (W.walk walk.old).remaining }
+    ensures items { (W.walk walk.new).items ≡ count_after (W.walk walk.old).items result }
+    ensures scans { (W.walk walk.old).scans ≤ (W.walk walk.new).scans }
+    ensures words { (W.walk walk.new).words ≡ (W.walk walk.old).words }
+    ensures bounded { IsScanBounded (W.walk walk.new) }
+{
+    match step {
+        Step::Front => walk.next(),
+        Step::Back => walk.next_back(),
+    }
+}
+
+// Takes a walk that has given nothing yet through the steps. The last number is the walk's own
+// count of scans.
+fn run<W: Counted>(walk: &mut W, steps: &[Step], answers: &mut [Option<u32>]) -> Scans
+    requires places { length answers.old ≡ length steps.now }
+    requires fresh { (W.walk walk.old).items ≡ 0 }
+    ensures answers { answers.new ≡ answers_of steps.now (W.walk walk.old).remaining }
+    ensures scans { AreScanBounded result answers.new (W.walk walk.old).words }
+    ensures own { (k : ℕ) → length steps.now ≡ k + 1
+        → slice_index result k ≡ (W.walk walk.new).scans }
+{
+    let mut scans = Scans::new();
+    for (k, step) in steps.iter().enumerate() {
+        answers[k] = take_step(walk, *step);
+        scans.push(walk.scans());
+    }
+    scans
+}
+
+/// Takes one walk of a set in the order `E`, of its ones or of its zeros, through the steps, and
+/// answers each.
+///
+/// The answers are the items of the increasing list from its two ends, and `None` once none is
+/// left. There is a place for the answer of each step, and the shape fits. Contracts see in the
+/// result the scans made up to each step.
+///
+/// ```
+/// let mut answers = [None; 3];
+/// let steps = [Step::Front, Step::Back, Step::Front];
+/// let _scans = replay_walk::<_, BigEndian>(&0b1101u8, true, &steps, &mut answers);
+/// answers;                                            // [Some(0), Some(3), Some(2)]
+/// ```
+pub fn replay_walk<B: Bits, E: Endian>(
+    bits: &B,
+    ones: bool,
+    steps: &[Step],
+    answers: &mut [Option<u32>],
+) -> Scans
+    requires fits { ShapeFits B.Shape bits.now }
+    requires places { length answers.old ≡ length steps.now }
+    ensures answers { answers.new
+        ≡ answers_of steps.now (ascending (ones_or_zeros ones (set_in B.Shape E.Endian bits.now))) }
+    ensures scans { AreScanBounded result answers.new ((B.big bits.now).capacity / B.width) }
+{
+    if ones {
+        let mut walk = bits.iter_ones_in::<E>();
+        run(&mut walk, steps, answers)
+    } else {
+        let mut walk = bits.iter_zeros_in::<E>();
+        run(&mut walk, steps, answers)
+    }
+}
+
+/// States that at every moment the items from the front, what remains, and the items from the back
+/// in reverse are the whole list.
+#[doc(hidden)]
+pub fn ends_keep_all()
+    ensures { (steps : List Step) (xs : List ℕ) → KeepsAll steps xs }
+{}

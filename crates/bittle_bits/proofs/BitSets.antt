@@ -1,0 +1,151 @@
+-- What the operations on words make of their sets.
+use Rattle.std.proofs.Common.{◌≡◌, ℕ, ◌+◌, ◌-◌, suc, ◌*◌, ◌/◌, ◌^◌, ◌<◌, ◌≤◌, ◌⊎◌, Bool, true, false, not, ◌&&◌, ◌||◌, ◌==◌, nat_lt, inl, inr, refl, sym, ap, ◌∙◌, arith, bit_and, bit_or, min, max}
+use Rattle.std.proofs.Math.Path.{fun_ext}
+use Rattle.std.specs.Int.{bit_at}
+use Rattle.std.proofs.lemmas.Nat.{pow_pos, pow_below, and-not, leading_top, le-div, div_below}
+use Rattle.std.proofs.Math.Nat.{pow-suc}
+use Rattle.std.proofs.lemmas.Nat.Bits.{and_pow, bit_at_or, bit_at_and, bit_at-pow_same, bit_at-pow_other, bit_at-lt, bit_at-zero}
+use Rattle.std.proofs.lemmas.Bool.{cases_eq, cases_lt, eq-eqb, ne_eqb, lt-ltb, le-ltb, ltb-true, and_parts, and_right}
+use Rattle.bittle_bits.specs.BitPatterns.{bit_has, bit_set}
+use Rattle.bittle_bits.specs.PlainSet.{lacks, empty_set, full_set}
+use Rattle.bittle_bits.specs.Orders.{read_in}
+use Rattle.bittle_bits.proofs.PlainSets.{plain_set, full_set_in_each_order}
+
+-- a number below 2 is 0 or 1
+pub zero_or_one : (x : ℕ) → x < 2 → (x ≡ 0) ⊎ (x ≡ 1)
+zero_or_one x h = elim (cases_eq x 0) [ inl e ↦ inl e | inr n ↦ inr (omega arith) ]
+
+either : (t : Bool) (x y : ℕ) → x < 2 → y < 2 →
+    (t && (max x y == 1)) ≡ (t && (x == 1)) || (t && (y == 1))
+either false x y p q = refl
+either true x y p q = elim (zero_or_one x p) [
+  | inl e ↦ elim (zero_or_one y q) [ inl f ↦ rw (e, f) refl | inr f ↦ rw (e, f) refl ]
+  | inr e ↦
+      elim (zero_or_one y q) [ inl f ↦ rw (e, f) refl | inr f ↦ rw (e, f) refl ]
+]
+
+both : (t : Bool) (x y : ℕ) → x < 2 → y < 2 →
+    (t && (min x y == 1)) ≡ (t && (x == 1)) && (t && (y == 1))
+both false x y p q = refl
+both true x y p q = elim (zero_or_one x p) [
+  | inl e ↦ elim (zero_or_one y q) [ inl f ↦ rw (e, f) refl | inr f ↦ rw (e, f) refl ]
+  | inr e ↦
+      elim (zero_or_one y q) [ inl f ↦ rw (e, f) refl | inr f ↦ rw (e, f) refl ]
+]
+
+other : (t : Bool) (x y : ℕ) → x + y ≡ 1 → (t && (x == 1)) ≡ t && not (t && (y == 1))
+other false x y h = refl
+other true x y h = elim (zero_or_one y (omega arith)) [
+  | inl e ↦ let f : x ≡ 1 = omega arith in
+      rw (e, f) refl
+  | inr e ↦ let f : x ≡ 0 = omega arith in rw (e, f) refl
+]
+
+one_of_two : (a b x : ℕ) → 0 < x → a < 2 → b < 2 → a * x + b * x ≡ x → a + b ≡ 1
+one_of_two a b x q u v e =
+    elim (zero_or_one a u) [
+      | inl z ↦ elim (zero_or_one b v) [
+        | inl y ↦
+            absurd (let t : 0 * x + 0 * x ≡ x = rw z at (rw y at e) in omega arith)
+        | inr y ↦
+            omega arith
+      ]
+      | inr z ↦ elim (zero_or_one b v) [
+        | inl y ↦ omega arith
+        | inr y ↦
+            absurd (let t : 1 * x + 1 * x ≡ x = rw z at (rw y at e) in omega arith)
+      ]
+    ]
+
+bit_at-complement : (w d k : ℕ) → d < 2 ^ w → k < w → bit_at (2 ^ w - 1 - d) k + bit_at d k ≡ 1
+bit_at-complement w d k h l =
+    let p = pow_below k w l in
+    one_of_two _ _ (2 ^ k) (pow_pos k) (bit_at-lt _ k) (bit_at-lt d k)
+    (rw (← and_pow (2 ^ w - 1 - d) k, ← and_pow d k) (and-not w d (2 ^ k) h p))
+
+-- the or of two words has a bit set exactly where either has it
+pub bit_has-or : (w a b : ℕ) → bit_has w (bit_or a b)
+    ≡ (λ k. bit_has w a k || bit_has w b k)
+unfolding bit_has
+bit_has-or w a b = fun_ext λ k. rw (bit_at_or a b k)
+    (either (nat_lt k w) (bit_at a k) (bit_at b k) (bit_at-lt a k) (bit_at-lt b k))
+
+-- the and of two words has a bit set exactly where both have it
+pub bit_has-and : (w a b : ℕ) → bit_has w (bit_and a b)
+    ≡ (λ k. bit_has w a k && bit_has w b k)
+unfolding bit_has
+bit_has-and w a b = fun_ext λ k. rw (bit_at_and a b k)
+    (both (nat_lt k w) (bit_at a k) (bit_at b k) (bit_at-lt a k) (bit_at-lt b k))
+
+-- the inverted word has the bits set that the word lacks
+pub bit_has-not : (w d : ℕ) → d < 2 ^ w → bit_has w (2 ^ w - 1 - d) ≡ lacks (bit_set w d)
+unfolding bit_has lacks
+bit_has-not w d h = fun_ext λ k.
+    elim (cases_lt k w) [
+      | inl l ↦ other (nat_lt k w) (bit_at (2 ^ w - 1 - d) k) (bit_at d k)
+          (bit_at-complement w d k h l)
+      | inr g ↦ rw (le-ltb k w g) refl
+    ]
+
+-- a power of two has one bit set, that of its exponent
+pub bit_has-pow : (w p : ℕ) → p < w → bit_has w (2 ^ p) ≡ (λ k. k == p)
+unfolding bit_has
+bit_has-pow w p h = fun_ext λ k.
+    elim (cases_eq k p) [
+      | inl e ↦ rw e (rw (lt-ltb p w h, bit_at-pow_same p) (sym (eq-eqb p p refl)))
+      | inr n ↦ rw (bit_at-pow_other p k n)
+          (and_right (nat_lt k w) (0 == 1) refl ∙ sym (ne_eqb k p n))
+    ]
+
+-- the word 0 has no bit set
+pub bit_has-zero : (w d : ℕ) → d ≡ 0 → bit_has w d ≡ (λ _. false)
+unfolding bit_has
+bit_has-zero w d is = fun_ext λ k. rw is
+    (ap (λ t. nat_lt k w && (t == 1)) (bit_at-zero k) ∙ and_right (nat_lt k w) false refl)
+
+-- below the width, a bit is that of the pattern
+pub bit_has-at : (w d k : ℕ) → k < w → bit_has w d k ≡ (bit_at d k == 1)
+unfolding bit_has
+bit_has-at w d k h = ap (λ t. t && (bit_at d k == 1)) (lt-ltb k w h)
+
+-- a bit that is set is below the width
+pub bit_has-below : (w d k : ℕ) → bit_has w d k ≡ true → k < w
+unfolding bit_has
+bit_has-below w d k h = ltb-true k w (and_parts (nat_lt k w) (bit_at d k == 1) h).0
+
+-- the set of the word 0 is empty
+pub no_digits : (w d : ℕ) → d ≡ 0 → bit_set w d ≡ empty_set w
+no_digits w d is = ap (plain_set w) (bit_has-zero w d is)
+
+-- the set of the inverted word 0 is filled
+pub all_digits : (w z d : ℕ) → z ≡ 0 → z < 2 ^ w → d ≡ 2 ^ w - 1 - z → bit_set w d ≡ full_set w
+unfolding lacks
+all_digits w z d none fits is =
+    ap (plain_set w) (rw is (bit_has-not w z fits)
+    ∙ fun_ext λ k. ap (λ t. nat_lt k w && not (t k)) (bit_has-zero w z none)
+    ∙ true_right (nat_lt k w))
+  where
+    true_right : (t : Bool) → t && true ≡ t
+    true_right true = refl
+    true_right false = refl
+
+-- a word with all its bits set has each number below the width in each order
+pub full_word : (w d : ℕ) → 0 < w → bit_set w d ≡ full_set w → (m : Bool) →
+    read_in m w (bit_set w d) ≡ full_set w
+full_word w d word = full_set_in_each_order w w (bit_set w d) word (1, omega arith)
+
+-- a number from a power of two up to the next has the bit of that power set
+pub top_digit : (k d : ℕ) → 2 ^ k ≤ d → d < 2 ^ suc k → bit_at d k ≡ 1
+top_digit k d lo hi =
+    let a : 1 ≤ d / 2 ^ k = le-div 1 d (2 ^ k) (pow_pos k) (omega arith) in
+    let b : d / 2 ^ k < 2 = div_below d (2 ^ k) 2 (pow_pos k) (omega (arith, pow-suc 2 k)) in
+    let e : d / 2 ^ k ≡ 1 = omega arith in
+    rw e refl
+
+-- a word that is not 0 has a bit set
+pub some_digit : (w d : ℕ) → d < 2 ^ w → (d ≡ 0 → ⊥) → (k : ℕ) × (bit_has w d k ≡ true)
+some_digit w d fits some =
+    let t = leading_top w d (omega arith) fits in
+    let k = t.0 in
+    let low : k < w = omega (arith, t.1) in
+    (k, bit_has-at w d k low ∙ eq-eqb (bit_at d k) 1 (top_digit k d t.2 t.3))

@@ -1,0 +1,55 @@
+-- Buffered words: the items that remain in each, and what a scan takes.
+use Rattle.std.specs.Prelude.{◌≡◌, ℕ, ◌+◌, ◌-◌, ◌<◌, Bool, true, false, cond, List, [], ◌∷◌, ◌++◌, map, Option, Some, None, MatchOption}
+use Rattle.bittle_bits.specs.BitPatterns.{bit_set}
+use Rattle.bittle_bits.specs.Orders.{read_in}
+use Rattle.bittle_bits.specs.PlainSet.{PlainSet, ascending_from, ascending}
+use Rattle.bittle_bits.specs.declared.internal.buffer.BufferedWord.{BufferedWord}
+
+-- the members of a set from one number on and below another, in increasing order
+unfoldable pub members_between : PlainSet → ℕ → ℕ → List ℕ
+members_between s from to = ascending_from s.has from (to - from)
+
+-- the members of a word of w bits, moved by a base: indexes of the set that it was fetched from,
+-- where its first bit has the index base
+abbrev pub items_of : Bool → ℕ → ℕ → ℕ → List ℕ
+items_of mirrored w pattern base = map (λ i. base + i)
+    (ascending (read_in mirrored w (bit_set w pattern)))
+
+-- the items of a buffered word, if one is loaded
+unfoldable pub buffered_items : {W : Type 0} → Bool → ℕ → (W → ℕ) → BufferedWord W → Option (List ℕ)
+buffered_items mirrored w pattern c = cond c.is_loaded (Some (items_of mirrored w (pattern c.word) c.base))
+    None
+
+-- the indexes of a loaded word are numbers of 32 bits, and a buffer with none loaded has no items
+unfoldable pub IsSound : {W : Type 0} → Bool → ℕ → (W → ℕ) → BufferedWord W → Type 0
+IsSound mirrored w pattern c = (c.is_loaded ≡ true → c.base + w < 4294967296) × (c.is_loaded ≡ false →
+    items_of mirrored w (pattern c.word) c.base ≡ [])
+
+-- two buffered words, by the items that remain in each, the scans of them, and the fetches of words
+pub record BufferPair : Type 0 where
+  pub head : Option (List ℕ)
+  pub tail : Option (List ℕ)
+  pub scans : ℕ
+  pub fetches : ℕ
+
+-- the items of a loaded word, and none where none is loaded
+abbrev pub items_in : Option (List ℕ) → List ℕ
+items_in None = []
+items_in (Some xs) = xs
+
+-- 1 where a word is loaded
+abbrev pub buffer_count : Option (List ℕ) → ℕ
+buffer_count None = 0
+buffer_count (Some xs) = 1
+
+-- a scan from the front takes the first item of a loaded word, or finds the word exhausted; where
+-- none is loaded it finds nothing
+abbrev pub ScansFirst : Option (List ℕ) → Option ℕ → Option (List ℕ) → Type 0
+ScansFirst before r after = MatchOption r ((items_in before ≡ []) × (after ≡ None))
+    (λ item. (xs : List ℕ) × (before ≡ Some (item ∷ xs)) × (after ≡ Some xs))
+
+-- a scan from the back takes the last item of a loaded word, or finds the word exhausted; where
+-- none is loaded it finds nothing
+abbrev pub ScansLast : Option (List ℕ) → Option ℕ → Option (List ℕ) → Type 0
+ScansLast before r after = MatchOption r ((items_in before ≡ []) × (after ≡ None))
+    (λ item. (xs : List ℕ) × (before ≡ Some (xs ++ item ∷ [])) × (after ≡ Some xs))

@@ -1,0 +1,248 @@
+//! Buffered words: an iterator reads its set through them alone, and each fetch of a word and each
+//! scan of a buffered one is counted.
+
+ghost use Rattle.std.specs.Prelude.{◌≡◌, ◌+◌, ◌*◌, ◌<◌, Some, None, true};
+ghost use Rattle.bittle_bits.specs.Buffers.{members_between, buffered_items, buffer_count, items_of, IsSound, ScansFirst, ScansLast};
+ghost use Rattle.bittle_bits.specs.Values.{set_in, ShapeFits};
+ghost use Rattle.bittle_bits.specs.Walk.{ones_or_zeros};
+
+use crate::bits::Bits;
+use crate::endian::Endian;
+use crate::internal::ghost_count::Count;
+use crate::internal::kind::Kind;
+use crate::internal::source::Source;
+use crate::one_word;
+use crate::word::Word;
+use std::marker::{Model, PhantomData};
+
+// A word of a set, and the index in the set of its first bit. Where none is loaded, or it is
+// exhausted, the word has no bit set, so that a step tests the word alone; the flag serves the count.
+#[derive(Clone, Copy)]
+struct BufferedWord<W: Copy> {
+    word: W,
+    base: u32,
+    is_loaded: bool,
+}
+
+// Loads word `k`, with the bits of the kind.
+#[inline]
+fn load<B: Bits, E: Endian, K: Kind>(
+    source: &Source<'_, B>,
+    k: u32,
+    fetches: &mut Count,
+) -> BufferedWord<B::LeafWord>
+    requires fits { ShapeFits B.Shape source.now.set.now }
+    requires within { k * B.width < (B.big source.now.set.now).capacity }
+    ensures items { items_of E.mirrored B.LeafWord.width (B.LeafWord.pattern result.word) result.base
+        ≡ members_between (ones_or_zeros K.ONES (set_in B.Shape E.Endian source.now.set.now))
+        (k * B.width) (k * B.width + B.width) }
+    ensures reach { result.base + B.LeafWord.width < 4294967296 }
+    ensures loaded { result.is_loaded ≡ true }
+    ensures fetches { fetches.new ≡ fetches.old + 1 }
+{
+    BufferedWord {
+        word: source.fetch::<K>(k, fetches),
+        base: k * <B::LeafWord as Word>::width(),
+        is_loaded: true,
+    }
+}
+
+// Scans a buffered word for its first item.
+#[inline]
+#[tactic(auto, unfolding(crate::specs::Buffers::buffered_items, crate::specs::Buffers::IsSound))]
+fn scan_first<W: Word, E: Endian>(buffered: &mut BufferedWord<W>, scans: &mut Count) -> Option<u32>
+    requires { IsSound E.mirrored W.width W.pattern buffered.old }
+    ensures found { ScansFirst (buffered_items E.mirrored W.width W.pattern buffered.old) result
+        (buffered_items E.mirrored W.width W.pattern buffered.new) }
+    ensures scans { scans.new
+        ≡ scans.old + buffer_count (buffered_items E.mirrored W.width W.pattern buffered.old) }
+    ensures sound { IsSound E.mirrored W.width W.pattern buffered.new }
+{
+    let Some(index) = one_word::pop_first::<W, E>(&mut buffered.word) else {
+        if buffered.is_loaded {
+            scans.raise();
+            buffered.is_loaded = false;
+        }
+        buffered.base = 0;
+        return None;
+    };
+    scans.raise();
+    Some(buffered.base + index)
+}
+
+// Scans a buffered word for its last item.
+#[inline]
+#[tactic(auto, unfolding(crate::specs::Buffers::buffered_items, crate::specs::Buffers::IsSound))]
+fn scan_last<W: Word, E: Endian>(buffered: &mut BufferedWord<W>, scans: &mut Count) -> Option<u32>
+    requires { IsSound E.mirrored W.width W.pattern buffered.old }
+    ensures found { ScansLast (buffered_items E.mirrored W.width W.pattern buffered.old) result
+        (buffered_items E.mirrored W.width W.pattern buffered.new) }
+    ensures scans { scans.new
+        ≡ scans.old + buffer_count (buffered_items E.mirrored W.width W.pattern buffered.old) }
+    ensures sound { IsSound E.mirrored W.width W.pattern buffered.new }
+{
+    let Some(index) = one_word::pop_last::<W, E>(&mut buffered.word) else {
+        if buffered.is_loaded {
+            scans.raise();
+            buffered.is_loaded = false;
+        }
+        buffered.base = 0;
+        return None;
+    };
+    scans.raise();
+    Some(buffered.base + index)
+}
+
+/// The two buffered words of an iterator, its head and its tail: for one over unset bits, with each
+/// bit flipped.
+///
+/// Each call that searches a loaded word is one scan: it yields an item, or the word is exhausted.
+#[derive(Drop)]
+pub struct Buffers<W: Word, E: Endian> {
+    head: BufferedWord<W>,
+    tail: BufferedWord<W>,
+    scans: Count,
+    fetches: Count,
+    order: PhantomData<E>,
+}
+
+impl<W: Word, E: Endian> Model for Buffers<W, E> {
+    ghost use Rattle.bittle_bits.specs.Buffers.{BufferPair, buffered_items, IsSound};
+
+    ghost Value = { BufferPair };
+
+    ghost view = { λ c. record {
+      head = buffered_items E.mirrored W.width W.pattern c.head;
+      tail = buffered_items E.mirrored W.width W.pattern c.tail;
+      scans = c.scans;
+      fetches = c.fetches;
+    } };
+
+    ghost invariant = { λ c. IsSound E.mirrored W.width W.pattern c.head
+        × IsSound E.mirrored W.width W.pattern c.tail };
+}
+
+impl<W: Word, E: Endian> Buffers<W, E> {
+    /// Makes two buffers with no word loaded, no scans and no fetches yet.
+    #[inline]
+    #[tactic(auto, unfolding(crate::specs::Buffers::buffered_items, crate::specs::Buffers::IsSound))]
+    pub fn none() -> Buffers<W, E>
+        ensures { result ≡ record { head = None; tail = None; scans = 0; fetches = 0 } }
+    {
+        let none = BufferedWord {
+            word: W::zero(),
+            base: 0,
+            is_loaded: false,
+        };
+        Buffers {
+            head: none,
+            tail: none,
+            scans: Count::new(),
+            fetches: Count::new(),
+            order: PhantomData,
+        }
+    }
+
+    /// Returns the same buffered words, with no scans and no fetches yet.
+    #[inline]
+    pub fn duplicate(&self) -> Buffers<W, E>
+        ensures { result
+            ≡ record { head = self.now.head; tail = self.now.tail; scans = 0; fetches = 0 } }
+    {
+        Buffers {
+            head: self.head,
+            tail: self.tail,
+            scans: Count::new(),
+            fetches: Count::new(),
+            order: PhantomData,
+        }
+    }
+
+    /// Returns how many scans there were.
+    #[inline]
+    pub fn scans(&self) -> &Count
+        ensures { result.now ≡ self.now.scans }
+    {
+        &self.scans
+    }
+
+    /// Loads word `k` to the head, with the bits of the kind.
+    #[inline]
+    #[tactic(auto, unfolding(crate::specs::Buffers::buffered_items, crate::specs::Buffers::IsSound))]
+    pub fn fetch_head<B: Bits<LeafWord = W>, K: Kind>(&mut self, source: &Source<'_, B>, k: u32)
+        requires fits { ShapeFits B.Shape source.now.set.now }
+        requires within { k * B.width < (B.big source.now.set.now).capacity }
+        ensures { self.new ≡ record {
+          head = Some (members_between
+              (ones_or_zeros K.ONES (set_in B.Shape E.Endian source.now.set.now))
+              (k * B.width) (k * B.width + B.width));
+          tail = self.old.tail;
+          scans = self.old.scans;
+          fetches = self.old.fetches + 1;
+        } }
+    {
+        self.head = load::<B, E, K>(source, k, &mut self.fetches);
+    }
+
+    /// Loads word `k` to the tail, with the bits of the kind.
+    #[inline]
+    #[tactic(auto, unfolding(crate::specs::Buffers::buffered_items, crate::specs::Buffers::IsSound))]
+    pub fn fetch_tail<B: Bits<LeafWord = W>, K: Kind>(&mut self, source: &Source<'_, B>, k: u32)
+        requires fits { ShapeFits B.Shape source.now.set.now }
+        requires within { k * B.width < (B.big source.now.set.now).capacity }
+        ensures { self.new ≡ record {
+          head = self.old.head;
+          tail = Some (members_between
+              (ones_or_zeros K.ONES (set_in B.Shape E.Endian source.now.set.now))
+              (k * B.width) (k * B.width + B.width));
+          scans = self.old.scans;
+          fetches = self.old.fetches + 1;
+        } }
+    {
+        self.tail = load::<B, E, K>(source, k, &mut self.fetches);
+    }
+
+    /// Scans the head for its first item.
+    #[inline]
+    pub fn first_of_head(&mut self) -> Option<u32>
+        ensures found { ScansFirst self.old.head result self.new.head }
+        ensures scans { self.new.scans ≡ self.old.scans + buffer_count self.old.head }
+        ensures tail { self.new.tail ≡ self.old.tail }
+        ensures fetches { self.new.fetches ≡ self.old.fetches }
+    {
+        scan_first::<W, E>(&mut self.head, &mut self.scans)
+    }
+
+    /// Scans the tail for its first item.
+    #[inline]
+    pub fn first_of_tail(&mut self) -> Option<u32>
+        ensures found { ScansFirst self.old.tail result self.new.tail }
+        ensures scans { self.new.scans ≡ self.old.scans + buffer_count self.old.tail }
+        ensures head { self.new.head ≡ self.old.head }
+        ensures fetches { self.new.fetches ≡ self.old.fetches }
+    {
+        scan_first::<W, E>(&mut self.tail, &mut self.scans)
+    }
+
+    /// Scans the head for its last item.
+    #[inline]
+    pub fn last_of_head(&mut self) -> Option<u32>
+        ensures found { ScansLast self.old.head result self.new.head }
+        ensures scans { self.new.scans ≡ self.old.scans + buffer_count self.old.head }
+        ensures tail { self.new.tail ≡ self.old.tail }
+        ensures fetches { self.new.fetches ≡ self.old.fetches }
+    {
+        scan_last::<W, E>(&mut self.head, &mut self.scans)
+    }
+
+    /// Scans the tail for its last item.
+    #[inline]
+    pub fn last_of_tail(&mut self) -> Option<u32>
+        ensures found { ScansLast self.old.tail result self.new.tail }
+        ensures scans { self.new.scans ≡ self.old.scans + buffer_count self.old.tail }
+        ensures head { self.new.head ≡ self.old.head }
+        ensures fetches { self.new.fetches ≡ self.old.fetches }
+    {
+        scan_last::<W, E>(&mut self.tail, &mut self.scans)
+    }
+}

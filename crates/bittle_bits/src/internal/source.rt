@@ -1,0 +1,94 @@
+//! The set that an iterator reads: how many words it has, and each of them. Each fetch of a word is
+//! counted.
+
+ghost use Rattle.std.specs.Prelude.{◌≡◌, ◌+◌, ◌*◌, ◌/◌, ◌<◌};
+ghost use Rattle.bittle_bits.specs.BitPatterns.{bit_set};
+ghost use Rattle.bittle_bits.specs.Values.{ShapeFits};
+ghost use Rattle.bittle_bits.specs.Walk.{ones_or_zeros};
+ghost use Rattle.bittle_bits.specs.Words.{word_of};
+
+use crate::bits::Bits;
+use crate::bits_owned::BitsOwned;
+use crate::internal::ghost_count::Count;
+use crate::internal::kind::{Kind, word_of_kind};
+use crate::shape::Shape;
+use crate::word::Word;
+
+/// A set that an iterator borrows. Of it an iterator learns how many words it has, and each word that
+/// it fetches, and nothing else.
+#[derive(Drop)]
+pub struct Source<'a, B: Shape> {
+    set: &'a B,
+}
+
+impl<'a, B: Bits> Source<'a, B> {
+    /// Lends the words of a set.
+    #[inline]
+    pub fn new(set: &'a B) -> Source<'a, B>
+        ensures { result.set.now ≡ set.now }
+    {
+        Source { set }
+    }
+
+    /// Lends the words of the same set.
+    #[inline]
+    pub fn duplicate(&self) -> Source<'a, B>
+        ensures { result.set ≡ self.now.set }
+    {
+        Source { set: self.set }
+    }
+
+    /// Returns how many words the set has.
+    #[inline]
+    pub fn words(&self) -> u32
+        requires { ShapeFits B.Shape self.now.set.now }
+        ensures { result ≡ (B.big self.now.set.now).capacity / B.width }
+    {
+        self.set.bits_capacity() / <B::LeafWord as Word>::width()
+    }
+
+    /// Fetches word `k`, as a word whose ones are the bits of the kind, and counts the fetch.
+    #[inline]
+    pub fn fetch<K: Kind>(&self, k: u32, fetches: &mut Count) -> B::LeafWord
+        requires fits { ShapeFits B.Shape self.now.set.now }
+        requires within { k * B.width < (B.big self.now.set.now).capacity }
+        ensures word { bit_set B.width (B.LeafWord.pattern result)
+            ≡ word_of B.width (ones_or_zeros K.ONES (B.big self.now.set.now)) k }
+        ensures fetches { fetches.new ≡ fetches.old + 1 }
+    {
+        fetches.raise();
+        word_of_kind::<B, K>(self.set, k)
+    }
+}
+
+/// A set that an iterator owns: all it can do is to lend its words.
+#[derive(Drop)]
+pub struct OwnedSource<B: Shape> {
+    set: B,
+}
+
+impl<B: BitsOwned> OwnedSource<B> {
+    /// Takes the set.
+    #[inline]
+    pub fn new(set: B) -> OwnedSource<B>
+        ensures { result.set ≡ set }
+    {
+        OwnedSource { set }
+    }
+
+    /// Lends the words of the set.
+    #[inline]
+    pub fn lend(&self) -> Source<'_, B>
+        ensures { result.set.now ≡ self.now.set }
+    {
+        Source { set: &self.set }
+    }
+
+    /// Returns the same set.
+    #[inline]
+    pub fn duplicate(&self) -> OwnedSource<B>
+        ensures { result.set ≡ self.now.set }
+    {
+        OwnedSource { set: self.set }
+    }
+}

@@ -1,5 +1,0 @@
-//! Tests of the callers: values worked out by hand.
-#![tactic(auto)]
-
-#[cfg(test)]
-mod callers;

@@ -1,0 +1,11 @@
+//! Tests of the proved callers and of the allocator: values worked out by hand.
+//!
+//! The callers are in `bittle_uses` and the allocator in `bit_pages`, each with its contracts.
+#![tactic(auto)]
+
+#[cfg(test)]
+mod error_texts;
+#[cfg(test)]
+mod requests;
+#[cfg(test)]
+mod worked_values;

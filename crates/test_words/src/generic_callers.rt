@@ -1,0 +1,127 @@
+//! What callers prove of walks with no proof but a loop's invariant.
+
+ghost use Rattle.std.specs.Prelude.{◌≡◌, ◌+◌, ◌*◌, ◌/◌, ◌<◌, ◌^◌, IfOk, length, map, reverse, true, false};
+ghost use Rattle.std.specs.Int.{w16, cast_unsigned};
+ghost use Rattle.bittle_bits.specs.BitPatterns.{bit_set};
+ghost use Rattle.bittle_bits.specs.Orders.{read_in};
+ghost use Rattle.bittle_bits.specs.PlainSet.{ascending, complement};
+ghost use Rattle.bittle_bits.specs.Rows.{row_set};
+ghost use Rattle.bittle.specs.Values.{set_in, ShapeFits};
+
+use bittle::{Bits, BitsOwned, Endian, LittleEndian, number};
+use bittle_bits::word::Word;
+use std::alloc::{AllocError, Global};
+
+/// Walks the members of any set by a `for`.
+fn each_member<B: Bits, E: Endian>(bits: &B) -> u64
+    requires fits { ShapeFits B.Shape bits.now }
+    requires few { length (ascending (set_in B.Shape E.Endian bits.now)) < 100 }
+    ensures { result ≡ length (ascending (set_in B.Shape E.Endian bits.now)) }
+{
+    let mut total: u64 = 0;
+    for _index in bits.iter_ones_in::<E>() {
+        total += 1;
+    }
+    total
+}
+
+/// Walks the zeros of an array by a `for`.
+fn each_other(bits: &[[u8; 2]; 2]) -> u32
+    requires { length
+        (ascending (complement
+        (read_in false 8 (row_set 2 16 (row_set 2 8 (bit_set 8)) bits.now)))) < 100 }
+    ensures { result
+        ≡ length (ascending
+        (complement (read_in false 8
+        (row_set 2 16 (row_set 2 8 (bit_set 8)) bits.now)))) }
+{
+    let mut total = 0;
+    for _index in bits.iter_zeros() {
+        total += 1;
+    }
+    total
+}
+
+/// Walks the members of an owned set by a `for`.
+fn each_owned_member<B: BitsOwned, E: Endian>(bits: B) -> u64
+    requires fits { ShapeFits B.Shape bits }
+    requires few { length (ascending (set_in B.Shape E.Endian bits)) < 100 }
+    ensures { result ≡ length (ascending (set_in B.Shape E.Endian bits)) }
+{
+    let mut total: u64 = 0;
+    for _index in bits.into_iter_ones_in::<E>() {
+        total += 1;
+    }
+    total
+}
+
+/// Walks the zeros of an owned set by a `for`.
+fn each_owned_other<B: BitsOwned, E: Endian>(bits: B) -> u64
+    requires fits { ShapeFits B.Shape bits }
+    requires few { length (ascending (complement (set_in B.Shape E.Endian bits))) < 100 }
+    ensures { result ≡ length (ascending (complement (set_in B.Shape E.Endian bits))) }
+{
+    let mut total: u64 = 0;
+    for _index in bits.into_iter_zeros_in::<E>() {
+        total += 1;
+    }
+    total
+}
+
+/// Counts the members of an owned set by its walk.
+fn counted<B: BitsOwned, E: Endian>(bits: B) -> usize
+    requires fits { ShapeFits B.Shape bits }
+    requires few { length (ascending (set_in B.Shape E.Endian bits)) < 2 ^ 64 }
+    ensures { result ≡ length (ascending (set_in B.Shape E.Endian bits)) }
+{
+    bits.into_iter_ones_in::<E>().count()
+}
+
+/// Lists the members of a set in an order, from the last on.
+fn reversed<B: Bits, E: Endian>(alloc: Global, bits: &B) -> Result<Vec<u32>, AllocError>
+    requires { ShapeFits B.Shape bits.now }
+    ensures { IfOk result (λ v. v.items ≡ reverse (ascending (set_in B.Shape E.Endian bits.now))) }
+{
+    bits.iter_ones_in::<E>().rev().collect(alloc)
+}
+
+/// Lists the members of a word, from the last on.
+fn word_reversed(alloc: Global, word: i16) -> Result<Vec<u32>, AllocError>
+    ensures { IfOk result (λ v. v.items
+        ≡ reverse (ascending (read_in false 16 (bit_set 16 (cast_unsigned w16 word))))) }
+{
+    word.into_iter_ones_be().rev().collect(alloc)
+}
+
+/// Lists half of each zero of a word.
+fn halves(alloc: Global, word: u8) -> Result<Vec<u32>, AllocError>
+    ensures { IfOk result (λ v. v.items
+        ≡ map (λ i. i / 2) (ascending (complement (read_in true 8 (bit_set 8 word))))) }
+{
+    word.into_iter_zeros_le()
+        .map(|index| index / 2)
+        .collect(alloc)
+}
+
+/// Walks the members of one word of any type by a `for`.
+fn each_digit<T: Word, E: Endian>(word: T) -> u64
+    requires { T.width < 1000 }
+    ensures { result
+        ≡ length (ascending (read_in E.mirrored T.width (bit_set T.width (T.pattern word)))) }
+{
+    let mut total: u64 = 0;
+    for _index in number::IterOnes::<T, E>::new(word) {
+        total += 1;
+    }
+    total
+}
+
+/// Lists the zeros of one word, from the last on.
+fn lacking_reversed(alloc: Global, word: u32) -> Result<Vec<u32>, AllocError>
+    ensures { IfOk result (λ v. v.items
+        ≡ reverse (ascending (complement (read_in true 32 (bit_set 32 word))))) }
+{
+    number::IterZeros::<u32, LittleEndian>::new(word)
+        .rev()
+        .collect(alloc)
+}
