@@ -6,7 +6,7 @@ use Rattle.std.proofs.lemmas.Bool.{ltb-true, leb-true, le-leb, and_from, and_par
 use Rattle.std.proofs.lemmas.Nat.{mod_below, mod-mul-add}
 use Rattle.bittle_bits.specs.PlainSet.{PlainSet, has_with, with_index, with_span}
 use Rattle.bittle_bits.proofs.PlainSets.{plain_set}
-use Rattle.bittle_bits.proofs.Spans.{with_span-none, with_span-more}
+use Rattle.bittle_bits.proofs.Spans.{changed-none, with_span-more}
 use Rattle.bittle.specs.Ranges.{some_below, has_with_range, with_range}
 
 -- two tests that pass together
@@ -107,7 +107,7 @@ module _ (s : PlainSet) (from : ℕ) where
       start + count ≤ s.capacity → with_range s from (from + count)
       ≡ with_span s start (start + count)
   range_span start zero some at le = with_range-none (from + 0) (omega arith)
-      ∙ sym (with_span-none s start (start + 0) (omega arith))
+      ∙ sym (changed-none (λ _. true) s start (start + 0) (omega arith))
   range_span start (suc count) some at le =
       let next : (from + count) % s.capacity ≡ start + count = ap (λ t. t % s.capacity)
       (omega (arith, div-add-mod' from s.capacity)) ∙ mod-mul-add (from / s.capacity) s.capacity

@@ -10,7 +10,7 @@ use bittle_bits::bits_mut::BitsMut;
 use bittle_bits::bits_owned::BitsOwned;
 use bittle_bits::endian::{DefaultEndian, Endian, LittleEndian};
 use bittle_bits::internal::sealed::Sealed;
-use bittle_bits::operation::Operation;
+use bittle_bits::operation::{Operation, RangeOperation};
 use bittle_bits::shape::{OwnedShape, Shape};
 use std::alloc::AllocError;
 use std::marker::PhantomData;
@@ -278,8 +278,8 @@ impl<T: BitsMut, U: Endian> BitsMut for Set<T, U> {
     }
 
     #[inline]
-    fn set_range_in<E: Endian>(&mut self, from: u32, to: u32) {
-        self.bits.set_range_in::<E>(from, to);
+    fn assign_range_by_operation<E: Endian, O: RangeOperation>(&mut self, from: u32, to: u32) {
+        self.bits.assign_range_by_operation::<E, O>(from, to);
     }
 
     #[inline]

@@ -1,4 +1,4 @@
--- Rows of elements with each index of a span.
+-- Rows of elements after a change of each index of a span.
 use Rattle.std.proofs.Common.{◌≡◌, ℕ, ◌+◌, ◌-◌, ◌*◌, ◌/◌, ◌<◌, ◌≤◌, ◌≢◌, ◌⊎◌, Bool, inl, inr, sym, ap, ◌∙◌, arith, List, length, get_or, set, min, max}
 use Rattle.std.proofs.Math.Path.{fun_ext}
 use Rattle.std.proofs.Math.Nat.{div-add-mod', mul-le-mul_right}
@@ -6,14 +6,14 @@ use Rattle.std.proofs.lemmas.Nat.{mul-add-lt, mod_below}
 use Rattle.std.proofs.lemmas.Bool.{cases_eq, cases_lt}
 use Rattle.bittle_bits.specs.RowLawProofs.{row_has-past}
 use Rattle.bittle_bits.specs.Orders.{place, read_in}
-use Rattle.bittle_bits.specs.PlainSet.{PlainSet, with_span}
+use Rattle.bittle_bits.specs.PlainSet.{PlainSet, with_span_changed}
 use Rattle.bittle_bits.specs.Rows.{row_has, row_set}
 use Rattle.bittle_bits.proofs.PlainSets.{plain_set}
 use Rattle.bittle_bits.proofs.RowSets.{at_element-read, at_element-set_same, at_element-set_other, elements_has_at, elements_placed, by_place}
-use Rattle.bittle_bits.proofs.Spans.{outside_span, inside_span, with_span-on}
+use Rattle.bittle_bits.proofs.Spans.{outside_span, inside_span, changed-on}
 
 -- rows: a span within one element
-module _ {X : Type 0} (m : Bool) (w c n q : ℕ) (big : X → PlainSet) (xs : List X) (x y : X)
+module _ {X : Type 0} (change : Bool → Bool) (m : Bool) (w c n q : ℕ) (big : X → PlainSet) (xs : List X) (x y : X)
     (word : 0 < w) (whole : (d : ℕ) × (c ≡ d * w)) (le : q < n) (all : n ≡ length xs)
     (at : x ≡ get_or xs q x) where
   -- the test of an element in the order
@@ -26,26 +26,26 @@ module _ {X : Type 0} (m : Bool) (w c n q : ℕ) (big : X → PlainSet) (xs : Li
   placed : (ys : List X) → (row ys).has ≡ row_has n c test ys
   placed ys = elements_placed m w whole.0 c n word whole.1 (λ x. (big x).has) ys
 
-  -- the span of the row that lies in the element
+  -- the row after a change of the span that lies in the element
   abbrev spanned : ℕ → ℕ → PlainSet
-  spanned from end = with_span (row xs) (q * c + from) (q * c + end)
+  spanned from end = with_span_changed change (row xs) (q * c + from) (q * c + end)
 
   -- an index of the element
-  here : (from end t : ℕ) → read_in m w (big y) ≡ with_span (read_in m w (big x)) from end → t < c →
+  here : (from end t : ℕ) → read_in m w (big y) ≡ with_span_changed change (read_in m w (big x)) from end → t < c →
       row_has n c test (set xs q y) (q * c + t) ≡ (spanned from end).has (q * c + t)
   here from end t is b =
       elements_has_at n c test (set xs q y) q t le b ∙ at_element-set_same (λ x. test x t) xs q y
       (omega arith) ∙ ap (λ s. s.has t) is
       ∙ elim (cases_lt t from) [
-        | inl l ↦ outside_span (read_in m w (big x)) from end t (inl l) ∙ old
-            ∙ sym (outside_span (row xs) (q * c + from) (q * c + end) (q * c + t)
+        | inl l ↦ outside_span change (read_in m w (big x)) from end t (inl l) ∙ old
+            ∙ sym (outside_span change (row xs) (q * c + from) (q * c + end) (q * c + t)
             (inl (omega arith)))
         | inr g ↦ elim (cases_lt t end) [
-          | inl l ↦ inside_span (read_in m w (big x)) from end t g l
-              ∙ sym (inside_span (row xs) (q * c + from) (q * c + end) (q * c + t) (omega arith)
+          | inl l ↦ inside_span change (read_in m w (big x)) from end t g l ∙ ap change old
+              ∙ sym (inside_span change (row xs) (q * c + from) (q * c + end) (q * c + t) (omega arith)
               (omega arith))
-          | inr e ↦ outside_span (read_in m w (big x)) from end t (inr e) ∙ old
-              ∙ sym (outside_span (row xs) (q * c + from) (q * c + end) (q * c + t)
+          | inr e ↦ outside_span change (read_in m w (big x)) from end t (inr e) ∙ old
+              ∙ sym (outside_span change (row xs) (q * c + from) (q * c + end) (q * c + t)
               (inr (omega arith)))
         ]
       ]
@@ -60,7 +60,7 @@ module _ {X : Type 0} (m : Bool) (w c n q : ℕ) (big : X → PlainSet) (xs : Li
   elsewhere from end p t h other a b =
       elements_has_at n c test (set xs q y) p t a b
       ∙ at_element-set_other (λ x. test x t) xs q p y other
-      ∙ sym (outside_span (row xs) (q * c + from) (q * c + end) (p * c + t) apart
+      ∙ sym (outside_span change (row xs) (q * c + from) (q * c + end) (p * c + t) apart
       ∙ ap (λ f. f (p * c + t)) (placed xs) ∙ elements_has_at n c test xs p t a b)
     where
       apart : (p * c + t < q * c + from) ⊎ (q * c + end ≤ p * c + t)
@@ -70,11 +70,11 @@ module _ {X : Type 0} (m : Bool) (w c n q : ℕ) (big : X → PlainSet) (xs : Li
             inr (omega arith)
       ]
 
-  -- the element with a span makes the row with it
-  pub row_filled : (from end : ℕ) → end ≤ c →
-      read_in m w (big y) ≡ with_span (read_in m w (big x)) from end →
+  -- the element after a change of a span makes the row after it
+  pub row_changed : (from end : ℕ) → end ≤ c →
+      read_in m w (big y) ≡ with_span_changed change (read_in m w (big x)) from end →
       row (set xs q y) ≡ spanned from end
-  row_filled from end h is =
+  row_changed from end h is =
       ap (plain_set (n * c)) (placed (set xs q y) ∙ fun_ext λ k.
       elim (cases_lt k (n * c)) [
         | inl l ↦ by_place n c (λ k. row_has n c test (set xs q y) k
@@ -85,7 +85,7 @@ module _ {X : Type 0} (m : Bool) (w c n q : ℕ) (big : X → PlainSet) (xs : Li
         | inr g ↦
             let z : (q + 1) * c ≤ n * c = mul-le-mul_right c (omega arith) in
             row_has-past n c test (set xs q y) k g
-            ∙ sym (outside_span (row xs) (q * c + from) (q * c + end) k (inr (omega arith))
+            ∙ sym (outside_span change (row xs) (q * c + from) (q * c + end) k (inr (omega arith))
             ∙ ap (λ f. f k) (placed xs) ∙ row_has-past n c test xs k g)
       ])
 
@@ -94,19 +94,19 @@ abbrev pub span_end_at : ℕ → ℕ → ℕ → ℕ
 span_end_at from to start = max from (min to start)
 
 -- one more element
-pub span_reaches : (s now next : PlainSet) (from to c q : ℕ) → from < to → q * c < to →
-    from < q * c + c → now ≡ with_span s from (span_end_at from to (q * c)) →
-    next ≡ with_span now (q * c + (from - q * c)) (q * c + min c (to - q * c)) →
-    next ≡ with_span s from (span_end_at from to ((q + 1) * c))
-span_reaches s now next from to c q h l b so_far is =
+pub span_reaches : (change : Bool → Bool) (s now next : PlainSet) (from to c q : ℕ) → from < to → q * c < to →
+    from < q * c + c → now ≡ with_span_changed change s from (span_end_at from to (q * c)) →
+    next ≡ with_span_changed change now (q * c + (from - q * c)) (q * c + min c (to - q * c)) →
+    next ≡ with_span_changed change s from (span_end_at from to ((q + 1) * c))
+span_reaches change s now next from to c q h l b so_far is =
     let start = q * c in
     let at : max from (min to start) ≡ start + (from - start) = omega arith in
     let on : start + min c (to - start) ≡ max from (min to ((q + 1) * c)) = omega arith in
-    is ∙ ap (λ u. with_span u (start + (from - start)) (start + min c (to - start)))
-    (so_far ∙ ap (with_span s from) at)
-    ∙ with_span-on s from (start + (from - start)) (start + min c (to - start)) (omega arith)
+    is ∙ ap (λ u. with_span_changed change u (start + (from - start)) (start + min c (to - start)))
+    (so_far ∙ ap (with_span_changed change s from) at)
+    ∙ changed-on change s from (start + (from - start)) (start + min c (to - start)) (omega arith)
     (omega arith)
-    ∙ ap (with_span s from) on
+    ∙ ap (with_span_changed change s from) on
 
 -- a row that holds some index has elements that hold one
 pub some_each : (to n c : ℕ) → 0 < to → to ≤ n * c → 0 < c

@@ -2,9 +2,8 @@
 use Rattle.std.proofs.Common.{◌≡◌, ℕ, ◌+◌, ◌-◌, ◌*◌, ◌/◌, ◌<◌, List, Some, None, refl, sym, ap, ◌∙◌, arith, append-nil}
 use Rattle.std.proofs.Math.Nat.{mul-div_left, zero-mul}
 use Rattle.bittle_bits.specs.Buffers.{BufferPair, members_between}
-use Rattle.bittle_bits.specs.PlainSet.{PlainSet, ascending}
-use Rattle.bittle_bits.specs.Cursor.{items_left_in, walk_of, IsCounted, IsWalkStart}
-use Rattle.bittle_bits.specs.Walk.{IsFresh}
+use Rattle.bittle_bits.specs.PlainSet.{PlainSet}
+use Rattle.bittle_bits.specs.Cursor.{items_left_in, IsWalkStart}
 use Rattle.bittle_bits.specs.declared.internal.cursor.Cursor.{Cursor}
 use Rattle.bittle_bits.proofs.Items.{members_between-all}
 use Rattle.bittle_bits.proofs.IteratorRuns.{is_fresh}

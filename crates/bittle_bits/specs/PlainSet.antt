@@ -19,13 +19,34 @@ has_with s i k = (nat_lt 0 s.capacity && (k == i % s.capacity)) || s.has k
 abbrev pub with_index : PlainSet → ℕ → PlainSet
 with_index s i = record { capacity = s.capacity; has = has_with s i }
 
--- whether a number is a member, or lies from one index on and before an end
-unfoldable pub has_with_span : PlainSet → ℕ → ℕ → ℕ → Bool
-has_with_span s from end k = (nat_le from k && nat_lt k end) || s.has k
+-- whether a number lies in the span from one number on and before an end
+abbrev pub is_in_span : ℕ → ℕ → ℕ → Bool
+is_in_span from end k = nat_le from k && nat_lt k end
+
+-- the set of a capacity that has each number of a span, of which none is past the capacity
+abbrev pub span_set : ℕ → ℕ → ℕ → PlainSet
+span_set c from end = record { capacity = c; has = is_in_span from end }
+
+-- whether a number is a member after a change of each number of a span; any other stays as it was
+unfoldable pub has_changed : (Bool → Bool) → PlainSet → ℕ → ℕ → ℕ → Bool
+has_changed change s from end k = cond (is_in_span from end k) (change (s.has k)) (s.has k)
+
+-- the set after a change of each index of a span, of which none is past the capacity
+abbrev pub with_span_changed : (Bool → Bool) → PlainSet → ℕ → ℕ → PlainSet
+with_span_changed change s from end =
+    record { capacity = s.capacity; has = has_changed change s from end }
 
 -- the set with each index from one on and before an end, of which none is past the capacity
 abbrev pub with_span : PlainSet → ℕ → ℕ → PlainSet
-with_span s from end = record { capacity = s.capacity; has = has_with_span s from end }
+with_span s from end = with_span_changed (λ _. true) s from end
+
+-- the set without the indexes from one on and before an end
+abbrev pub without_span : PlainSet → ℕ → ℕ → PlainSet
+without_span s from end = with_span_changed (λ _. false) s from end
+
+-- the set in which the indexes from one on and before an end are members just if they were none
+abbrev pub with_span_toggled : PlainSet → ℕ → ℕ → PlainSet
+with_span_toggled s from end = with_span_changed not s from end
 
 -- whether a number is a member, and is not the index, which wraps at the capacity
 unfoldable pub has_without : PlainSet → ℕ → ℕ → Bool

@@ -12,7 +12,7 @@ use crate::bits_owned::BitsOwned;
 use crate::endian::{DefaultEndian, Endian};
 use crate::internal::row;
 use crate::internal::sealed::Sealed;
-use crate::operation::Operation;
+use crate::operation::{Operation, RangeOperation};
 use crate::shape::{OwnedShape, Shape};
 
 impl<T: OwnedShape, const N: usize> Sealed for [T; N] {}
@@ -108,8 +108,8 @@ impl<T: BitsOwned, const N: usize> BitsMut for [T; N] {
     }
 
     #[inline]
-    fn set_range_in<E: Endian>(&mut self, from: u32, to: u32) {
-        row::fill::<T, E>(self, from, to);
+    fn assign_range_by_operation<E: Endian, O: RangeOperation>(&mut self, from: u32, to: u32) {
+        row::assign_range::<T, E, O>(self, from, to);
     }
 
     #[inline]

@@ -1,13 +1,15 @@
 //! Changing a set.
 
-ghost use Rattle.std.specs.Prelude.{◌≡◌, ◌≤◌, Bool, IsTrue};
-ghost use Rattle.bittle_bits.specs.PlainSet.{with_index, with_span, without_index, without_members};
+ghost use Rattle.std.specs.Prelude.{◌≡◌, ◌≤◌, Bool, true, IsTrue};
+ghost use Rattle.bittle_bits.specs.PlainSet.{with_index, without_index, with_span_changed, with_span, without_span, with_span_toggled, without_members};
 ghost use Rattle.bittle_bits.specs.SetOperations.{combination_of, union_of, conjunction_of, difference_of, symmetric_difference_of};
 ghost use Rattle.bittle_bits.specs.Values.{set_in, set_mirrored, ShapeFits};
 
 use crate::bits::Bits;
 use crate::endian::{BigEndian, Endian, LittleEndian};
-use crate::operation::{Conjunction, Difference, Operation, SymmetricDifference, Union};
+use crate::operation::{
+    Conjunction, Difference, Operation, RangeOperation, SymmetricDifference, Union,
+};
 
 /// A set that can be changed. No change alters the capacity.
 pub trait BitsMut: Bits {
@@ -51,15 +53,15 @@ pub trait BitsMut: Bits {
         ensures set { Self.big self.new ≡ without_members (Self.big self.old) }
         ensures stays { Self.loan self.old ≡ Self.loan self.new };
 
-    /// Sets the bit at each index from `from` on and before `to`, in the order `E`. No other bit
-    /// changes.
+    /// Combines each bit from `from` on and before `to` with a set one by an operation, in the order
+    /// `E`. No other bit changes.
     #[doc(hidden)]
-    fn set_range_in<E: Endian>(&mut self, from: u32, to: u32)
+    fn assign_range_by_operation<E: Endian, O: RangeOperation>(&mut self, from: u32, to: u32)
         requires fits { ShapeFits Self.Shape self.old }
         requires ordered { from ≤ to }
         requires within { to ≤ (Self.big self.old).capacity }
         ensures set { set_in Self.Shape E.Endian self.new
-            ≡ with_span (set_in Self.Shape E.Endian self.old) from to }
+            ≡ with_span_changed (λ b. O.decide b true) (set_in Self.Shape E.Endian self.old) from to }
         ensures stays { Self.loan self.old ≡ Self.loan self.new };
 
     /// Combines the set with another one by an operation. Between two slices of unequal length only
@@ -70,6 +72,72 @@ pub trait BitsMut: Bits {
             ≡ combination_of O.decide (set_mirrored Self.Shape mirrored self.old)
             (set_mirrored Self.Shape mirrored other.now) }
         ensures stays { Self.loan self.old ≡ Self.loan self.new };
+
+    /// Sets each bit at the indexes `from..to`, in the order `E`, by one mask a word. No other bit
+    /// changes.
+    ///
+    /// The shape has to fit, and `from <= to <= capacity`: nothing wraps. Only the words of the range
+    /// are written. An empty range, as any with capacity 0, changes nothing.
+    ///
+    /// ```
+    /// let mut row = [0u8; 2];
+    /// row.set_range_in::<BigEndian>(6, 11);               // row is [0xC0, 0x07]
+    /// ```
+    #[inline]
+    final fn set_range_in<E: Endian>(&mut self, from: u32, to: u32)
+        requires fits { ShapeFits Self.Shape self.old }
+        requires ordered { from ≤ to }
+        requires within { to ≤ (Self.big self.old).capacity }
+        ensures set { set_in Self.Shape E.Endian self.new
+            ≡ with_span (set_in Self.Shape E.Endian self.old) from to }
+        ensures stays { Self.loan self.old ≡ Self.loan self.new }
+    {
+        self.assign_range_by_operation::<E, Union>(from, to);
+    }
+
+    /// Clears each bit at the indexes `from..to`, in the order `E`, by one mask a word. No other bit
+    /// changes.
+    ///
+    /// The shape has to fit, and `from <= to <= capacity`: nothing wraps. Only the words of the range
+    /// are written. An empty range, as any with capacity 0, changes nothing.
+    ///
+    /// ```
+    /// let mut row = [0xFFu8; 2];
+    /// row.clear_range_in::<LittleEndian>(6, 11);          // row is [0xFC, 0x1F]
+    /// ```
+    #[inline]
+    final fn clear_range_in<E: Endian>(&mut self, from: u32, to: u32)
+        requires fits { ShapeFits Self.Shape self.old }
+        requires ordered { from ≤ to }
+        requires within { to ≤ (Self.big self.old).capacity }
+        ensures set { set_in Self.Shape E.Endian self.new
+            ≡ without_span (set_in Self.Shape E.Endian self.old) from to }
+        ensures stays { Self.loan self.old ≡ Self.loan self.new }
+    {
+        self.assign_range_by_operation::<E, Difference>(from, to);
+    }
+
+    /// Flips each bit at the indexes `from..to`, in the order `E`, by one mask a word. No other bit
+    /// changes.
+    ///
+    /// The shape has to fit, and `from <= to <= capacity`: nothing wraps. Only the words of the range
+    /// are written. An empty range, as any with capacity 0, changes nothing.
+    ///
+    /// ```
+    /// let mut word = 0b0011_1100u8;
+    /// word.toggle_range_in::<BigEndian>(0, 4);            // word is 0b0011_0011
+    /// ```
+    #[inline]
+    final fn toggle_range_in<E: Endian>(&mut self, from: u32, to: u32)
+        requires fits { ShapeFits Self.Shape self.old }
+        requires ordered { from ≤ to }
+        requires within { to ≤ (Self.big self.old).capacity }
+        ensures set { set_in Self.Shape E.Endian self.new
+            ≡ with_span_toggled (set_in Self.Shape E.Endian self.old) from to }
+        ensures stays { Self.loan self.old ≡ Self.loan self.new }
+    {
+        self.assign_range_by_operation::<E, SymmetricDifference>(from, to);
+    }
 
     /// Sets each bit that is set in `other`. Always callable. Between two slices of unequal length
     /// only the elements of the common beginning change.

@@ -1,12 +1,12 @@
 //! A word as a set, for every width at once: the calls on it, and its iterators' steps.
 
 ghost use Rattle.std.specs.Iterator.{YieldsFirst, YieldsLast};
-ghost use Rattle.std.specs.Prelude.{◌≡◌, ◌==◌, Bool, ◌*◌, ◌<◌, ◌≤◌, IfSome, IsTrue};
+ghost use Rattle.std.specs.Prelude.{◌≡◌, ◌==◌, Bool, ◌*◌, ◌<◌, ◌≤◌, true, IfSome, IsTrue};
 ghost use Rattle.std.proofs.Common.{sym};
 ghost use Rattle.bittle_bits.specs.BitPatterns.{bit_set};
 ghost use Rattle.bittle_bits.specs.LawProofs.{none_past_word, one_whole_word, one_word_whole, positive_width, word_capacity};
 ghost use Rattle.bittle_bits.specs.Orders.{read_in};
-ghost use Rattle.bittle_bits.specs.PlainSet.{contains, with_index, with_span, without_index, empty_set, without_members, full_set, size, ascending, IsLeastMember};
+ghost use Rattle.bittle_bits.specs.PlainSet.{contains, with_index, with_span_changed, without_index, empty_set, without_members, full_set, span_set, size, ascending, IsLeastMember};
 ghost use Rattle.bittle_bits.specs.SetOperations.{combination_of};
 ghost use Rattle.bittle_bits.specs.Shapes.{Fits};
 ghost use Rattle.bittle_bits.specs.Words.{word_of};
@@ -15,7 +15,7 @@ use crate::bits::Bits;
 use crate::bits_mut::BitsMut;
 use crate::bits_owned::BitsOwned;
 use crate::endian::{DefaultEndian, Endian};
-use crate::operation::Operation;
+use crate::operation::{Operation, RangeOperation};
 use crate::shape::{OwnedShape, Shape};
 use crate::word::Word;
 
@@ -98,8 +98,8 @@ impl<W: Integer> BitsMut for W {
     }
 
     #[inline]
-    fn set_range_in<E: Endian>(&mut self, from: u32, to: u32) {
-        fill::<W, E>(self, from, to);
+    fn assign_range_by_operation<E: Endian, O: RangeOperation>(&mut self, from: u32, to: u32) {
+        assign_range::<W, E, O>(self, from, to);
     }
 
     #[inline]
@@ -160,23 +160,35 @@ pub fn clear_bit<T: Word, E: Endian>(word: &mut T, index: u32)
     *word = word.and(E::mask::<T>(index).not());
 }
 
-/// Sets each index from `from` on and before `to`, by the word of those from `from` on, without
-/// those from `to` on.
+/// Returns the word of the indexes from `from` on and before `to`: that of those from `from` on,
+/// without those from `to` on.
 #[inline]
-pub fn fill<T: Word, E: Endian>(word: &mut T, from: u32, to: u32)
+pub fn range<T: Word, E: Endian>(from: u32, to: u32) -> T
+    requires ordered { from ≤ to }
+    requires within { to ≤ T.width }
+    ensures { read_in E.mirrored T.width (bit_set T.width (T.pattern result))
+        ≡ span_set T.width from to }
+{
+    if from == to {
+        return T::zero();
+    }
+    let since = E::from_index::<T>(from);
+    if to == T::width() {
+        return since;
+    }
+    since.and(E::from_index::<T>(to).not())
+}
+
+/// Combines each bit from `from` on and before `to` with a set one.
+#[inline]
+pub fn assign_range<T: Word, E: Endian, O: RangeOperation>(word: &mut T, from: u32, to: u32)
     requires ordered { from ≤ to }
     requires within { to ≤ T.width }
     ensures { read_in E.mirrored T.width (bit_set T.width (T.pattern word.new))
-        ≡ with_span (read_in E.mirrored T.width (bit_set T.width (T.pattern word.old))) from to }
+        ≡ with_span_changed (λ b. O.decide b true)
+        (read_in E.mirrored T.width (bit_set T.width (T.pattern word.old))) from to }
 {
-    if from == to {
-        return;
-    }
-    let mut span = E::from_index::<T>(from);
-    if to < T::width() {
-        span = span.and(E::from_index::<T>(to).not());
-    }
-    *word = word.or(span);
+    *word = O::on_words::<T>(*word, range::<T, E>(from, to));
 }
 
 /// Clears every bit.

@@ -1,6 +1,6 @@
 //! The four operations on two sets, so that each shape has one body for them all.
 
-ghost use Rattle.std.specs.Prelude.{◌≡◌, Bool, ◌||◌, ◌&&◌};
+ghost use Rattle.std.specs.Prelude.{◌≡◌, Bool, true, false, ◌||◌, ◌&&◌, refl};
 ghost use Rattle.bittle_bits.specs.BitPatterns.{bit_set};
 ghost use Rattle.bittle_bits.specs.SetOperations.{combination_of, first_alone, just_one};
 
@@ -16,6 +16,13 @@ pub trait Operation {
         ensures { bit_set T.width (T.pattern result)
             ≡ combination_of decide
             (bit_set T.width (T.pattern word)) (bit_set T.width (T.pattern other)) };
+}
+
+/// An operation that changes no bit where the other set has none, so that with a range of indexes it
+/// changes these alone.
+pub trait RangeOperation: Operation {
+    // A number that is none of the other set's stays as it was.
+    ghost keeps_others: { (b : Bool) → Self.decide b false ≡ b };
 }
 
 pub enum Union {}
@@ -60,4 +67,16 @@ impl Operation for SymmetricDifference {
     fn on_words<T: Word>(word: T, other: T) -> T {
         word.xor(other)
     }
+}
+
+impl RangeOperation for Union {
+    ghost keeps_others = { elim [ true ↦ refl | false ↦ refl ] };
+}
+
+impl RangeOperation for Difference {
+    ghost keeps_others = { elim [ true ↦ refl | false ↦ refl ] };
+}
+
+impl RangeOperation for SymmetricDifference {
+    ghost keeps_others = { elim [ true ↦ refl | false ↦ refl ] };
 }

@@ -10,7 +10,7 @@ use crate::bits_owned::BitsOwned;
 use crate::endian::{DefaultEndian, Endian};
 use crate::internal::row;
 use crate::internal::sealed::Sealed;
-use crate::operation::Operation;
+use crate::operation::{Operation, RangeOperation};
 use crate::shape::{OwnedShape, Shape};
 
 impl<'a, T: OwnedShape> Sealed for &'a [T] {}
@@ -142,8 +142,8 @@ impl<'a, T: BitsOwned> BitsMut for &'a mut [T] {
     }
 
     #[inline]
-    fn set_range_in<E: Endian>(&mut self, from: u32, to: u32) {
-        row::fill::<T, E>(self, from, to);
+    fn assign_range_by_operation<E: Endian, O: RangeOperation>(&mut self, from: u32, to: u32) {
+        row::assign_range::<T, E, O>(self, from, to);
     }
 
     #[inline]

@@ -14,7 +14,7 @@ use bittle::{
     BigEndian, Bits, BitsMut, BitsOwned, DefaultEndian, Endian, LittleEndian, Set, macros,
 };
 use bittle_bits::internal::sealed::Sealed;
-use bittle_bits::operation::Operation;
+use bittle_bits::operation::{Operation, RangeOperation};
 use bittle_bits::shape::{OwnedShape, Shape};
 use std::alloc::AllocError;
 use std::cell::Cell;
@@ -169,9 +169,9 @@ impl<'a> BitsMut for Probe<'a> {
         self.bytes.clear_bits();
     }
 
-    fn set_range_in<E: Endian>(&mut self, from: u32, to: u32) {
+    fn assign_range_by_operation<E: Endian, O: RangeOperation>(&mut self, from: u32, to: u32) {
         self.note_other();
-        self.bytes.set_range_in::<E>(from, to);
+        self.bytes.assign_range_by_operation::<E, O>(from, to);
     }
 
     fn assign_by_operation<O: Operation>(&mut self, other: &Probe<'a>) {

@@ -1,8 +1,11 @@
-//! Ranges that macros list, and those that are set in a slice.
+//! Ranges that macros list, and those that are set, cleared and flipped.
+
+ghost use Rattle.std.specs.Prelude.{◌≤◌};
+ghost use Rattle.bittle.specs.Values.{ShapeFits};
 
 use crate::checks::same;
 use bittle::prelude::*;
-use bittle::{BigEndian, LittleEndian, Set, macros, set, set_be, set_le};
+use bittle::{BigEndian, Endian, LittleEndian, Set, macros, set, set_be, set_le};
 
 #[test]
 fn ranges_in_one_word(rt: HostRuntime) {
@@ -160,4 +163,86 @@ fn ranges_in_slices(rt: HostRuntime) {
     let mut lent = &mut bytes[..3];
     macros::put_through_in::<&mut [u8], LittleEndian>(&mut lent, 20, 27);
     same!(rt; bytes, [0xF0, 0, 0x0F, 0]);
+}
+
+// The set after `from..to` is set, cleared and flipped.
+fn changed<B: BitsOwned, E: Endian>(bits: B, from: u32, to: u32) -> [B; 3]
+    requires fits { ShapeFits B.Shape bits }
+    requires ordered { from ≤ to }
+    requires within { to ≤ (B.big bits).capacity }
+{
+    let [mut set, mut cleared, mut flipped] = [bits; 3];
+    set.set_range_in::<E>(from, to);
+    cleared.clear_range_in::<E>(from, to);
+    flipped.toggle_range_in::<E>(from, to);
+    [set, cleared, flipped]
+}
+
+#[test]
+fn ranges_of_a_word_change(rt: HostRuntime) {
+    let rows: [(u32, u32, [u8; 3]); 6] = [
+        (0, 4, [0b0011_1111, 0b0011_0000, 0b0011_0011]),
+        (3, 6, [0b0011_1100, 0b0000_0100, 0b0000_0100]),
+        (6, 8, [0b1111_1100, 0b0011_1100, 0b1111_1100]),
+        (0, 8, [0b1111_1111, 0b0000_0000, 0b1100_0011]),
+        (5, 5, [0b0011_1100, 0b0011_1100, 0b0011_1100]),
+        (8, 8, [0b0011_1100, 0b0011_1100, 0b0011_1100]),
+    ];
+    for (from, to, want) in rows {
+        assert!(rt; from <= to && to <= 8);
+        same!(rt; changed::<u8, BigEndian>(0b0011_1100, from, to), want);
+    }
+}
+
+#[test]
+fn ranges_of_a_signed_word_change(rt: HostRuntime) {
+    same!(rt; changed::<i8, BigEndian>(0, 7, 8), [i8::MIN, 0, i8::MIN]);
+    same!(rt; changed::<i8, LittleEndian>(-1, 1, 8), [-1, i8::MIN, i8::MIN]);
+    same!(rt; changed::<i16, LittleEndian>(1, 0, 1), [i16::MIN + 1, 1, i16::MIN + 1]);
+    same!(rt; changed::<u128, BigEndian>(1, 127, 128), [1 << 127 | 1, 1, 1 << 127 | 1]);
+}
+
+#[test]
+fn ranges_of_rows_change(rt: HostRuntime) {
+    let row = [0xF0u8, 0xF0, 0xF0];
+    same!(rt;
+        changed::<[u8; 3], BigEndian>(row, 6, 18),
+        [[0xF0, 0xFF, 0xF3], [0x30, 0x00, 0xF0], [0x30, 0x0F, 0xF3]]
+    );
+    same!(rt;
+        changed::<[u8; 3], LittleEndian>(row, 6, 18),
+        [[0xF3, 0xFF, 0xF0], [0xF0, 0x00, 0x30], [0xF3, 0x0F, 0x30]]
+    );
+    same!(rt;
+        changed::<[u8; 3], LittleEndian>(row, 8, 16),
+        [[0xF0, 0xFF, 0xF0], [0xF0, 0x00, 0xF0], [0xF0, 0x0F, 0xF0]]
+    );
+    same!(rt;
+        changed::<[[u8; 2]; 2], BigEndian>([[1, 2], [4, 8]], 9, 24),
+        [[[1, 0xFE], [0xFF, 8]], [[1, 0], [0, 8]], [[1, 0xFC], [0xFB, 8]]]
+    );
+}
+
+#[test]
+fn ranges_without_capacity_change_nothing(rt: HostRuntime) {
+    same!(rt; changed::<[u8; 0], BigEndian>([], 0, 0), [[], [], []]);
+    same!(rt; changed::<[[u32; 0]; 2], LittleEndian>([[], []], 0, 0), [[[], []]; 3]);
+}
+
+#[test]
+fn ranges_of_sets_and_slices_change(rt: HostRuntime) {
+    let mut set = Set::new_le(0x0Fu8);
+    set.toggle_range_in::<LittleEndian>(2, 6);
+    same!(rt; set.into_bits(), 0x33);
+    let mut bytes = [0xFFu8; 4];
+    {
+        let mut lent = &mut bytes[1..];
+        lent.clear_range_in::<BigEndian>(5, 18);
+    }
+    same!(rt; bytes, [0xFF, 0x1F, 0x00, 0xFC]);
+    {
+        let mut lent = &mut bytes[..2];
+        lent.toggle_range_in::<LittleEndian>(7, 16);
+    }
+    same!(rt; bytes, [0xFE, 0xE0, 0x00, 0xFC]);
 }

@@ -1,8 +1,8 @@
 //! The calls on a row of elements, for arrays and for slices.
 
-ghost use Rattle.std.specs.Prelude.{◌≡◌, ◌==◌, ◌*◌, ◌<◌, ◌≤◌, ℕ, Bool, cond, get_or, length, IsTrue, MatchOption};
+ghost use Rattle.std.specs.Prelude.{◌≡◌, ◌==◌, ◌*◌, ◌<◌, ◌≤◌, ℕ, Bool, true, cond, get_or, length, IsTrue, MatchOption};
 ghost use Rattle.bittle_bits.specs.Orders.{read_in};
-ghost use Rattle.bittle_bits.specs.PlainSet.{contains, with_index, with_span, without_index, without_members, size};
+ghost use Rattle.bittle_bits.specs.PlainSet.{contains, with_index, with_span_changed, without_index, without_members, size};
 ghost use Rattle.bittle_bits.specs.Rows.{row_set, GoesTo};
 ghost use Rattle.bittle_bits.specs.SetOperations.{combination_of};
 ghost use Rattle.bittle_bits.specs.Shapes.{Fits};
@@ -12,7 +12,7 @@ ghost use Rattle.bittle_bits.specs.Words.{word_of};
 use crate::bits_owned::BitsOwned;
 use crate::endian::Endian;
 use crate::internal::kind::{Kind, Ones, Zeros};
-use crate::operation::Operation;
+use crate::operation::{Operation, RangeOperation};
 use crate::word::Word;
 
 /// Returns the capacity of this many elements, or `u32::MAX` where they do not fit.
@@ -97,14 +97,19 @@ pub fn clear_bits<T: BitsOwned>(elements: &mut [T])
     }
 }
 
-/// Sets each index from `from` on and before `to`, of each element those that lie in it.
-pub fn fill<T: BitsOwned, E: Endian>(elements: &mut [T], from: u32, to: u32)
+/// Combines each bit from `from` on and before `to` with a set one, of each element those that lie in
+/// it.
+pub fn assign_range<T: BitsOwned, E: Endian, O: RangeOperation>(
+    elements: &mut [T],
+    from: u32,
+    to: u32,
+)
     requires fits { Fits T.indexable (length elements.old * T.type_capacity) }
     requires ordered { from ≤ to }
     requires within { to ≤ length elements.old * T.type_capacity }
     ensures { read_in E.mirrored T.width
         (row_set (length elements.new) T.type_capacity T.big elements.new)
-        ≡ with_span
+        ≡ with_span_changed (λ b. O.decide b true)
         (read_in E.mirrored T.width
         (row_set (length elements.old) T.type_capacity T.big elements.old)) from to }
 {
@@ -115,7 +120,8 @@ pub fn fill<T: BitsOwned, E: Endian>(elements: &mut [T], from: u32, to: u32)
     for at in from / each..(to - 1) / each + 1 {
         let start = at * each;
         let end = each.min(to - start);
-        elements[at as usize].set_range_in::<E>(from.saturating_sub(start), end);
+        let first = from.saturating_sub(start);
+        elements[at as usize].assign_range_by_operation::<E, O>(first, end);
     }
 }
 

@@ -1,7 +1,6 @@
 use Rattle.std.proofs.Common.{◌≡◌, ℕ, Bool, List, ◌++◌, codes, if◌then◌else◌}
 use Rattle.std.specs.Fmt.{HasWritten, IsPlainFormatter, decimal}
 use Rattle.std.specs.List.{join_by, flat_map}
-use Rattle.bittle_bits.specs.Orders.{read_in}
 use Rattle.bittle_bits.specs.Values.{set_in}
 use Rattle.bittle.specs.DebugText.{set_text}
 use Rattle.bittle.proofs.set.debug.SetDebug.fmt.Given as goal

@@ -1,14 +1,19 @@
-use Rattle.std.proofs.Common.{◌≡◌, ◌+◌, ◌-◌, ◌*◌, ◌/◌, ◌<◌, ◌≤◌, length, length-set, arith, min, sym, ap, ◌∙◌, refl, get_or, set}
+use Rattle.std.proofs.Common.{Bool, true, ◌≡◌, ◌+◌, ◌-◌, ◌*◌, ◌/◌, ◌<◌, ◌≤◌, length, length-set, arith, min, sym, ap, ◌∙◌, refl, get_or, set}
 use Rattle.bittle_bits.proofs.SearchBounds.{first_word, words_ordered}
-use Rattle.bittle_bits.proofs.Spans.{with_span-none}
-use Rattle.bittle_bits.proofs.RowSpans.{span_reaches, row_filled, span_end_at, some_each, begins_before, before_end}
+use Rattle.bittle_bits.proofs.Spans.{changed-none}
+use Rattle.bittle_bits.proofs.RowSpans.{span_reaches, row_changed, span_end_at, some_each, begins_before, before_end}
 use Rattle.bittle_bits.specs.Orders.{read_in}
-use Rattle.bittle_bits.specs.PlainSet.{with_span}
+use Rattle.bittle_bits.specs.PlainSet.{with_span_changed}
 use Rattle.bittle_bits.specs.Rows.{row_set}
-use Rattle.bittle_bits.proofs.internal.row.fill.Goals as goal
+use Rattle.bittle_bits.proofs.internal.row.assign_range.Goals as goal
+use Rattle.bittle_bits.proofs.internal.row.assign_range.Given.{Over}
+
+-- what becomes of a bit of the range
+abbrev change : Over → Bool → Bool
+change g b = g.O.Operation.decide b true
 
 pub returns-then-from-to : goal.returns-then-from-to
-returns-then-from-to g c = sym (with_span-none _ c.args.from c.args.to (omega arith))
+returns-then-from-to g c = sym (changed-none (change g) _ c.args.from c.args.to (omega arith))
 
 pub loop-at-init : goal.loop-at-init
 loop-at-init g c =
@@ -21,7 +26,7 @@ loop-at-init g c =
     (row_set (length c.args.elements.now) e g.T.Shape.big c.args.elements.now) in
     rw each (record {
       begun = omega (arith, before_end from e some);
-      set = sym (with_span-none row from _ (omega (arith, first_word e from)));
+      set = sym (changed-none (change g) row from _ (omega (arith, first_word e from)));
     })
 
 pub offset_bounds-elements-at : goal.offset_bounds-elements-at
@@ -38,8 +43,8 @@ offset_bounds-elements-at g c =
     ) in
     grind (arith, low)
 
-pub set_range_in-requires-clause-ordered : goal.set_range_in-requires-clause-ordered
-set_range_in-requires-clause-ordered g c =
+pub assign_range_by_operation-requires-clause-ordered : goal.assign_range_by_operation-requires-clause-ordered
+assign_range_by_operation-requires-clause-ordered g c =
     let each = c.bits-each.ensures.value
     (c.requires.fits.0, g.met.T.BitsOwned.type_fits c.requires.fits.0) in
     let below : c.loop-at.at < (c.args.to - 1) / g.T.OwnedShape.type_capacity + 1 = rw (sym each)
@@ -49,7 +54,7 @@ set_range_in-requires-clause-ordered g c =
     omega (
       arith,
       in_row.0,
-      (rw each at c.saturating_sub.ensures),
+      (rw each at c.saturating_sub-first.ensures),
       (rw each at c.min-end.ensures),
       c.loop-at.invariant.begun,
     )
@@ -71,21 +76,21 @@ loop-at-preserved g c =
     let below : at < (to - 1) / e + 1 = rw (sym each) (omega arith) in
     let in_row = begins_before to n e at (omega arith) c.requires.within below in
     let inv = c.loop-at.invariant in
-    let first : c.saturating_sub.result ≡ from - at * e = rw each at c.saturating_sub.ensures in
+    let first : c.saturating_sub-first.result ≡ from - at * e = rw each at c.saturating_sub-first.ensures in
     let end : c.min-end.result ≡ min e (to - at * e) = rw each at c.min-end.ensures in
-    let one : read_in m w (big c.set_range_in.new.self)
-    ≡ with_span (read_in m w (big x)) (from - at * e)
-    (min e (to - at * e)) = rw (first, end) at c.set_range_in.ensures.set in
-    let row = row_filled m w e (length xs) at big xs x c.set_range_in.new.self
+    let one : read_in m w (big c.assign_range_by_operation.new.self)
+    ≡ with_span_changed (change g) (read_in m w (big x)) (from - at * e)
+    (min e (to - at * e)) = rw (first, end) at c.assign_range_by_operation.ensures.set in
+    let row = row_changed (change g) m w e (length xs) at big xs x c.assign_range_by_operation.new.self
     g.met.T.Bits.width_positive g.met.T.BitsOwned.type_whole_words
     (omega (arith, in_row.1)) refl (ap (λ (d : g.row.T.Denot). get_or xs at d)
     c.index-elements-at.is) (from - at * e) (min e (to - at * e)) (omega arith) one in
     let before = read_in m w (row_set n e big c.args.elements.now) in
     let now = read_in m w (row_set (length xs) e big xs) in
-    let next = read_in m w (row_set (length xs) e big (set xs at c.set_range_in.new.self)) in
+    let next = read_in m w (row_set (length xs) e big (set xs at c.assign_range_by_operation.new.self)) in
     record {
       begun = omega (arith, inv.begun);
-      set = rw length-set (span_reaches before now next from to e at
+      set = rw length-set (span_reaches (change g) before now next from to e at
           (omega arith) in_row.0 inv.begun inv.set row);
     }
 
@@ -104,4 +109,4 @@ returns g c =
     ≡ to = rw last (omega (arith, before_end (to - 1) e some)) in
     let row = read_in g.E.Endian.mirrored g.T.Shape.width
     (row_set (length c.args.elements.now) e g.T.Shape.big c.args.elements.now) in
-    c.loop-at.invariant.set ∙ ap (with_span row c.args.from) whole
+    c.loop-at.invariant.set ∙ ap (with_span_changed (change g) row c.args.from) whole

@@ -1,9 +1,9 @@
-use Rattle.std.proofs.Common.{◌≡◌, ◌+◌, ◌*◌, ◌<◌, length}
+use Rattle.std.proofs.Common.{true, ◌≡◌, ◌+◌, ◌*◌, ◌<◌, length}
 use Rattle.bittle_bits.specs.Orders.{read_in}
-use Rattle.bittle_bits.specs.PlainSet.{with_span}
+use Rattle.bittle_bits.specs.PlainSet.{with_span_changed}
 use Rattle.bittle_bits.specs.Rows.{row_set}
 use Rattle.bittle_bits.proofs.RowSpans.{span_end_at}
-use Rattle.bittle_bits.proofs.internal.row.fill.Given as goal
+use Rattle.bittle_bits.proofs.internal.row.assign_range.Given as goal
 
 abbrev pub invariant-loop-at : goal.invariant-loop-at
 invariant-loop-at g l =
@@ -13,6 +13,6 @@ invariant-loop-at g l =
     record {
       begun : l.fn.from < l.at * c + c;
       set : read_in m w (row_set (length l.elements) c g.T.Shape.big l.elements)
-          ≡ with_span (read_in m w (row_set (length l.fn.elements) c g.T.Shape.big
+          ≡ with_span_changed (λ b. g.O.Operation.decide b true) (read_in m w (row_set (length l.fn.elements) c g.T.Shape.big
           l.fn.elements)) l.fn.from (span_end_at l.fn.from l.fn.to (l.at * c));
     }
