@@ -1,0 +1,312 @@
+//! Changing a set.
+
+ghost use Rattle.std.specs.Prelude.{◌≡◌, ◌≤◌, not, IsTrue};
+ghost use Rattle.bittle_ext.specs.Changes.{with_index_assigned, with_index_toggled, with_span_assigned};
+ghost use Rattle.bittle.specs.PlainSet.{contains, with_index, without_index, with_span, without_span, with_span_toggled};
+ghost use Rattle.bittle.specs.Values.{set_in, ShapeFits};
+
+use bittle::{BitsMut, Endian};
+
+/// Everyday changes of any set that can be changed. No change alters the capacity.
+pub trait BitsMutExt: BitsMut {
+    /// Sets the bit at `index`, in the order `E`, and returns `true` if it was unset. An index past
+    /// the capacity wraps. With capacity 0 nothing changes, and it returns `true`.
+    ///
+    /// The type has to fit; of a slice its element type.
+    ///
+    /// ```
+    /// let mut word = 0b1000_0000u8;
+    /// word.insert_in::<LittleEndian>(0);                  // false: it was set
+    /// word.insert_in::<LittleEndian>(7);                  // true: word is 0b1000_0001
+    /// ```
+    #[inline]
+    final fn insert_in<E: Endian>(&mut self, index: u32) -> bool
+        requires { IsTrue Self.indexable }
+        ensures was_unset { result ≡ not (contains (set_in Self.Shape E.Endian self.old) index) }
+        ensures set { set_in Self.Shape E.Endian self.new
+            ≡ with_index (set_in Self.Shape E.Endian self.old) index }
+        ensures stays { Self.loan self.old ≡ Self.loan self.new }
+    {
+        let was_unset = !self.test_bit_in::<E>(index);
+        self.set_bit_in::<E>(index);
+        was_unset
+    }
+
+    /// Clears the bit at `index`, in the order `E`, and returns `true` if it was set. An index past
+    /// the capacity wraps. With capacity 0 nothing changes, and it returns `false`.
+    ///
+    /// The type has to fit; of a slice its element type.
+    ///
+    /// ```
+    /// let mut word = 0b1000_0001u8;
+    /// word.remove_in::<LittleEndian>(0);                  // true: word is 0b0000_0001
+    /// word.remove_in::<LittleEndian>(0);                  // false: it was unset
+    /// ```
+    #[inline]
+    final fn remove_in<E: Endian>(&mut self, index: u32) -> bool
+        requires { IsTrue Self.indexable }
+        ensures was_set { result ≡ contains (set_in Self.Shape E.Endian self.old) index }
+        ensures set { set_in Self.Shape E.Endian self.new
+            ≡ without_index (set_in Self.Shape E.Endian self.old) index }
+        ensures stays { Self.loan self.old ≡ Self.loan self.new }
+    {
+        let was_set = self.test_bit_in::<E>(index);
+        self.clear_bit_in::<E>(index);
+        was_set
+    }
+
+    /// Sets the bit at `index` if `value` is `true`, else clears it, in the order `E`. An index past
+    /// the capacity wraps. With capacity 0 nothing changes.
+    ///
+    /// The type has to fit; of a slice its element type.
+    ///
+    /// ```
+    /// let mut word = 0b1000_0000u8;
+    /// word.assign_in::<LittleEndian>(0, false);           // word is 0
+    /// ```
+    #[inline]
+    final fn assign_in<E: Endian>(&mut self, index: u32, value: bool)
+        requires { IsTrue Self.indexable }
+        ensures set { set_in Self.Shape E.Endian self.new
+            ≡ with_index_assigned (set_in Self.Shape E.Endian self.old) index value }
+        ensures stays { Self.loan self.old ≡ Self.loan self.new }
+    {
+        if value {
+            self.set_bit_in::<E>(index);
+        } else {
+            self.clear_bit_in::<E>(index);
+        }
+    }
+
+    /// Sets the bit at `index` if `value` is `true`, else clears it, in the order `E`, and returns
+    /// `true` if it was set before. An index past the capacity wraps. With capacity 0 nothing
+    /// changes, and it returns `false`.
+    ///
+    /// The type has to fit; of a slice its element type.
+    ///
+    /// ```
+    /// let mut word = 0b1000_0000u8;
+    /// word.replace_in::<LittleEndian>(0, false);          // true: word is 0
+    /// ```
+    #[inline]
+    final fn replace_in<E: Endian>(&mut self, index: u32, value: bool) -> bool
+        requires { IsTrue Self.indexable }
+        ensures was_set { result ≡ contains (set_in Self.Shape E.Endian self.old) index }
+        ensures set { set_in Self.Shape E.Endian self.new
+            ≡ with_index_assigned (set_in Self.Shape E.Endian self.old) index value }
+        ensures stays { Self.loan self.old ≡ Self.loan self.new }
+    {
+        let was_set = self.test_bit_in::<E>(index);
+        self.assign_in::<E>(index, value);
+        was_set
+    }
+
+    /// Flips the bit at `index`, in the order `E`. An index past the capacity wraps. With capacity 0
+    /// nothing changes.
+    ///
+    /// The type has to fit; of a slice its element type.
+    ///
+    /// ```
+    /// let mut word = 0b1000_0000u8;
+    /// word.toggle_in::<LittleEndian>(0);                  // word is 0
+    /// ```
+    #[inline]
+    final fn toggle_in<E: Endian>(&mut self, index: u32)
+        requires { IsTrue Self.indexable }
+        ensures set { set_in Self.Shape E.Endian self.new
+            ≡ with_index_toggled (set_in Self.Shape E.Endian self.old) index }
+        ensures stays { Self.loan self.old ≡ Self.loan self.new }
+    {
+        let value = !self.test_bit_in::<E>(index);
+        self.assign_in::<E>(index, value);
+    }
+
+    /// Sets each bit at the indexes `from..to` if `value` is `true`, else clears each, in the order
+    /// `E`, by one mask a word.
+    ///
+    /// The shape has to fit, and `from <= to <= capacity`: nothing wraps. Only the words of the range
+    /// are written. An empty range, as any with capacity 0, changes nothing.
+    ///
+    /// ```
+    /// let mut word = 0b1111_1111u8;
+    /// word.assign_range_in::<LittleEndian>(0, 3, false);  // word is 0b0001_1111
+    /// ```
+    #[inline]
+    final fn assign_range_in<E: Endian>(&mut self, from: u32, to: u32, value: bool)
+        requires fits { ShapeFits Self.Shape self.old }
+        requires ordered { from ≤ to }
+        requires within { to ≤ (Self.big self.old).capacity }
+        ensures set { set_in Self.Shape E.Endian self.new
+            ≡ with_span_assigned (set_in Self.Shape E.Endian self.old) from to value }
+        ensures stays { Self.loan self.old ≡ Self.loan self.new }
+    {
+        if value {
+            self.set_range_in::<E>(from, to);
+        } else {
+            self.clear_range_in::<E>(from, to);
+        }
+    }
+
+    /// Sets a bit in the order of the type, as [`insert_in`](BitsMutExt::insert_in) does.
+    ///
+    /// ```
+    /// let mut row = [0u16, 1];
+    /// row.insert(16);                                     // false: it was set
+    /// row.insert(33);                                     // true: 33 wraps to 1, row is [2, 1]
+    /// ```
+    #[inline]
+    final fn insert(&mut self, index: u32) -> bool
+        requires { IsTrue Self.indexable }
+        ensures was_unset { result ≡ not (contains (set_in Self.Shape Self.Order.Endian self.old) index) }
+        ensures set { set_in Self.Shape Self.Order.Endian self.new
+            ≡ with_index (set_in Self.Shape Self.Order.Endian self.old) index }
+        ensures stays { Self.loan self.old ≡ Self.loan self.new }
+    {
+        self.insert_in::<Self::Order>(index)
+    }
+
+    /// Clears a bit in the order of the type, as [`remove_in`](BitsMutExt::remove_in) does.
+    ///
+    /// ```
+    /// let mut row = [0u16, 1];
+    /// row.remove(16);                                     // true: row is [0, 0]
+    /// row.remove(16);                                     // false: it was unset
+    /// ```
+    #[inline]
+    final fn remove(&mut self, index: u32) -> bool
+        requires { IsTrue Self.indexable }
+        ensures was_set { result ≡ contains (set_in Self.Shape Self.Order.Endian self.old) index }
+        ensures set { set_in Self.Shape Self.Order.Endian self.new
+            ≡ without_index (set_in Self.Shape Self.Order.Endian self.old) index }
+        ensures stays { Self.loan self.old ≡ Self.loan self.new }
+    {
+        self.remove_in::<Self::Order>(index)
+    }
+
+    /// Sets or clears a bit in the order of the type, as [`assign_in`](BitsMutExt::assign_in) does.
+    ///
+    /// ```
+    /// let mut word = 0b0001u8;
+    /// word.assign(1, true);                               // word is 0b0011
+    /// ```
+    #[inline]
+    final fn assign(&mut self, index: u32, value: bool)
+        requires { IsTrue Self.indexable }
+        ensures set { set_in Self.Shape Self.Order.Endian self.new
+            ≡ with_index_assigned (set_in Self.Shape Self.Order.Endian self.old) index value }
+        ensures stays { Self.loan self.old ≡ Self.loan self.new }
+    {
+        self.assign_in::<Self::Order>(index, value);
+    }
+
+    /// Sets or clears a bit in the order of the type, as [`replace_in`](BitsMutExt::replace_in) does.
+    ///
+    /// ```
+    /// let mut word = 0b0001u8;
+    /// word.replace(0, false);                             // true: word is 0
+    /// ```
+    #[inline]
+    final fn replace(&mut self, index: u32, value: bool) -> bool
+        requires { IsTrue Self.indexable }
+        ensures was_set { result ≡ contains (set_in Self.Shape Self.Order.Endian self.old) index }
+        ensures set { set_in Self.Shape Self.Order.Endian self.new
+            ≡ with_index_assigned (set_in Self.Shape Self.Order.Endian self.old) index value }
+        ensures stays { Self.loan self.old ≡ Self.loan self.new }
+    {
+        self.replace_in::<Self::Order>(index, value)
+    }
+
+    /// Flips a bit in the order of the type, as [`toggle_in`](BitsMutExt::toggle_in) does.
+    ///
+    /// ```
+    /// let mut row = [0u8; 2];
+    /// row.toggle(9);                                      // row is [0, 2]
+    /// ```
+    #[inline]
+    final fn toggle(&mut self, index: u32)
+        requires { IsTrue Self.indexable }
+        ensures set { set_in Self.Shape Self.Order.Endian self.new
+            ≡ with_index_toggled (set_in Self.Shape Self.Order.Endian self.old) index }
+        ensures stays { Self.loan self.old ≡ Self.loan self.new }
+    {
+        self.toggle_in::<Self::Order>(index);
+    }
+
+    /// Sets the bits of a range in the order of the type, as
+    /// [`set_range_in`](bittle::BitsMut::set_range_in) does.
+    ///
+    /// ```
+    /// let mut row = [0u8; 2];
+    /// row.set_range(6, 11);                               // row is [0xC0, 0x07]
+    /// ```
+    #[inline]
+    final fn set_range(&mut self, from: u32, to: u32)
+        requires fits { ShapeFits Self.Shape self.old }
+        requires ordered { from ≤ to }
+        requires within { to ≤ (Self.big self.old).capacity }
+        ensures set { set_in Self.Shape Self.Order.Endian self.new
+            ≡ with_span (set_in Self.Shape Self.Order.Endian self.old) from to }
+        ensures stays { Self.loan self.old ≡ Self.loan self.new }
+    {
+        self.set_range_in::<Self::Order>(from, to);
+    }
+
+    /// Clears the bits of a range in the order of the type, as
+    /// [`clear_range_in`](bittle::BitsMut::clear_range_in) does.
+    ///
+    /// ```
+    /// let mut row = [0xFFu8; 2];
+    /// row.clear_range(6, 11);                             // row is [0x3F, 0xF8]
+    /// ```
+    #[inline]
+    final fn clear_range(&mut self, from: u32, to: u32)
+        requires fits { ShapeFits Self.Shape self.old }
+        requires ordered { from ≤ to }
+        requires within { to ≤ (Self.big self.old).capacity }
+        ensures set { set_in Self.Shape Self.Order.Endian self.new
+            ≡ without_span (set_in Self.Shape Self.Order.Endian self.old) from to }
+        ensures stays { Self.loan self.old ≡ Self.loan self.new }
+    {
+        self.clear_range_in::<Self::Order>(from, to);
+    }
+
+    /// Flips the bits of a range in the order of the type, as
+    /// [`toggle_range_in`](bittle::BitsMut::toggle_range_in) does.
+    ///
+    /// ```
+    /// let mut word = 0b0011_1100u8;
+    /// word.toggle_range(0, 4);                            // word is 0b0011_0011
+    /// ```
+    #[inline]
+    final fn toggle_range(&mut self, from: u32, to: u32)
+        requires fits { ShapeFits Self.Shape self.old }
+        requires ordered { from ≤ to }
+        requires within { to ≤ (Self.big self.old).capacity }
+        ensures set { set_in Self.Shape Self.Order.Endian self.new
+            ≡ with_span_toggled (set_in Self.Shape Self.Order.Endian self.old) from to }
+        ensures stays { Self.loan self.old ≡ Self.loan self.new }
+    {
+        self.toggle_range_in::<Self::Order>(from, to);
+    }
+
+    /// Sets or clears the bits of a range in the order of the type, as
+    /// [`assign_range_in`](BitsMutExt::assign_range_in) does.
+    ///
+    /// ```
+    /// let mut word = 0b1111_1111u8;
+    /// word.assign_range(0, 3, false);                     // word is 0b1111_1000
+    /// ```
+    #[inline]
+    final fn assign_range(&mut self, from: u32, to: u32, value: bool)
+        requires fits { ShapeFits Self.Shape self.old }
+        requires ordered { from ≤ to }
+        requires within { to ≤ (Self.big self.old).capacity }
+        ensures set { set_in Self.Shape Self.Order.Endian self.new
+            ≡ with_span_assigned (set_in Self.Shape Self.Order.Endian self.old) from to value }
+        ensures stays { Self.loan self.old ≡ Self.loan self.new }
+    {
+        self.assign_range_in::<Self::Order>(from, to, value);
+    }
+}
+
+impl<B: BitsMut> BitsMutExt for B {}

@@ -1,0 +1,24 @@
+//! Everyday calls on any set, above the library: a change that tells whether the set changed, a range
+//! changed at once, the first and the last bit taken out, a set made of a list of indexes, a
+//! complement.
+//!
+//! They stand in extension traits, which every set of `bittle` has in both orders, and on the
+//! contracts of the library alone. The twelve words, the orders, searches, iterators, joins and the
+//! operations on two sets stand in `bittle`. A call that ends in `_in` names its order; without the
+//! ending it is the order of the type.
+//!
+//! ```rust
+//! use bittle::prelude::*;
+//! use bittle_ext::prelude::*;
+//!
+//! let mut word = 0b0010_0010u8;
+//! word.insert(0);                   // true: it was unset
+//! word.set_range(2, 4);             // 0b0010_1111
+//! word.pop_last();                  // Some(5)
+//! ```
+#![tactic(auto)]
+
+mod bits_mut_ext;
+pub mod prelude;
+
+pub use bits_mut_ext::BitsMutExt;

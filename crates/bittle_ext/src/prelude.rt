@@ -1,0 +1,3 @@
+//! The extension traits of sets, for `use bittle_ext::prelude::*`.
+
+pub use crate::bits_mut_ext::BitsMutExt;
