@@ -1,6 +1,6 @@
-//! Everyday calls on any set, above the library: a change that tells whether the set changed, a range
-//! changed at once, the first and the last bit taken out, a set made of a list of indexes, a
-//! complement.
+//! Everyday calls on any set, above the library: the ends of a set and the neighbours of an index, a
+//! change that tells whether the set changed, a range changed at once, the first and the last bit
+//! taken out, a set made of a list of indexes, a complement.
 //!
 //! They stand in extension traits, which every set of `bittle` has in both orders, and on the
 //! contracts of the library alone. The twelve words, the orders, searches, iterators, joins and the
@@ -12,13 +12,17 @@
 //! use bittle_ext::prelude::*;
 //!
 //! let mut word = 0b0010_0010u8;
+//! word.first_one();                 // Some(1)
+//! word.next_one(2);                 // Some(5)
 //! word.insert(0);                   // true: it was unset
 //! word.set_range(2, 4);             // 0b0010_1111
 //! word.pop_last();                  // Some(5)
 //! ```
 #![tactic(auto)]
 
+mod bits_ext;
 mod bits_mut_ext;
 pub mod prelude;
 
+pub use bits_ext::BitsExt;
 pub use bits_mut_ext::BitsMutExt;

@@ -1,3 +1,4 @@
 //! The extension traits of sets, for `use bittle_ext::prelude::*`.
 
+pub use crate::bits_ext::BitsExt;
 pub use crate::bits_mut_ext::BitsMutExt;
