@@ -10,8 +10,7 @@
 //!               (index 0 is the rightmost bit)   (index 0 is the leftmost bit)
 //! ```
 //!
-//! README.md says how to add it to a project and what is proved; CALLING.md is for whoever ports a
-//! program from the Rust crate `bittle`, or proves one. The examples below begin with
+//! The examples below begin with
 //!
 //! ```rust
 //! use bittle::{BigEndian, Bits, BitsMut, BitsOwned, LittleEndian, Set};
