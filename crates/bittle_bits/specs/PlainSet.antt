@@ -89,6 +89,10 @@ count_below (suc c) p = count_below c p + cond (p c) 1 0
 abbrev pub size : PlainSet → ℕ
 size s = count_below s.capacity s.has
 
+-- how many members lie below a number
+abbrev pub members_below : PlainSet → ℕ → ℕ
+members_below s n = count_below n s.has
+
 -- those of the n numbers from one on that pass the test, in increasing order
 unfoldable pub ascending_from : (ℕ → Bool) → ℕ → ℕ → List ℕ
 ascending_from p from zero = []

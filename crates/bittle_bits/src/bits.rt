@@ -3,7 +3,7 @@
 ghost use Rattle.std.specs.Prelude.{◌≡◌, ◌==◌, ℕ, ◌*◌, ◌-◌, ◌/◌, ◌<◌, ◌≤◌, Bool, false, IsTrue};
 ghost use Rattle.bittle_bits.specs.BitPatterns.{bit_set};
 ghost use Rattle.bittle_bits.specs.Join.{AnswersItemsAtMembers, EndsAfterMembers};
-ghost use Rattle.bittle_bits.specs.PlainSet.{contains, size, ascending, complement};
+ghost use Rattle.bittle_bits.specs.PlainSet.{contains, size, members_below, ascending, complement};
 ghost use Rattle.bittle_bits.specs.Searches.{IsFirstIn, IsLastIn};
 ghost use Rattle.bittle_bits.specs.Values.{set_in, set_mirrored, ShapeFits};
 ghost use Rattle.bittle_bits.specs.Walk.{AreBelow, IsFresh};
@@ -11,8 +11,8 @@ ghost use Rattle.bittle_bits.specs.Words.{word_of};
 
 use crate::endian::{BigEndian, DefaultEndian, Endian, LittleEndian};
 use crate::internal::kind::{Ones, Zeros};
-use crate::internal::search;
 use crate::internal::source::Source;
+use crate::internal::{range_count, search};
 use crate::join::JoinOnes;
 use crate::shape::Shape;
 use crate::walk::{Iter, IterOnes, IterZeros};
@@ -231,6 +231,28 @@ pub trait Bits: Drop + Shape {
         ensures { IsLastIn (complement (set_in Self.Shape E.Endian self.now)) from to result }
     {
         search::last_in::<Self, E, Zeros>(self, from, to)
+    }
+
+    /// Returns how many bits of `from..to` are set, in the order `E`.
+    ///
+    /// The shape has to fit, and `from <= to <= capacity`: nothing wraps. Each word of the range is
+    /// counted at once. With capacity 0 it returns 0.
+    ///
+    /// ```
+    /// [0x90u8, 0x03].count_ones_in_range_in::<BigEndian>(5, 9);    // 2: bits 7 and 8
+    /// ```
+    #[inline]
+    final fn count_ones_in_range_in<E: Endian>(&self, from: u32, to: u32) -> u32
+    where
+        Self: Sized,
+        requires fits { ShapeFits Self.Shape self.now }
+        requires ordered { from ≤ to }
+        requires within { to ≤ (Self.big self.now).capacity }
+        ensures value { let ours = set_in Self.Shape E.Endian self.now in
+            result ≡ members_below ours to - members_below ours from }
+        ensures at_most { result ≤ to - from }
+    {
+        range_count::count_ones::<Self, E>(self, from, to)
     }
 
     /// Returns an iterator over the indexes of the set bits in the order `E`, increasing, from both

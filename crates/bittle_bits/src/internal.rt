@@ -4,6 +4,7 @@ pub(crate) mod buffer;
 pub(crate) mod cursor;
 pub(crate) mod ghost_count;
 pub mod kind;
+pub(crate) mod range_count;
 pub(crate) mod row;
 pub mod sealed;
 pub(crate) mod search;

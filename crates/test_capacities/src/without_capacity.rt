@@ -25,6 +25,8 @@ fn reads<B: Bits>(rt: &impl Abort, bits: &B) {
     yields_no_ones(rt, bits);
     yields_no_zeros(rt, bits);
     joins_nothing(rt, bits);
+    assert_eq!(rt; bits.count_ones_in_range_in::<BigEndian>(0, 0), 0);
+    assert_eq!(rt; bits.count_ones_in_range_in::<LittleEndian>(0, 0), 0);
 }
 
 fn tests_false<B: Bits>(rt: &impl Abort, bits: &B, index: u32)

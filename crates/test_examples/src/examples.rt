@@ -71,6 +71,11 @@ fn reading_test_bit(rt: HostRuntime) {
 }
 
 #[test]
+fn reading_count_ones_in_range(rt: HostRuntime) {
+    same!(rt; [0x90u8, 0x03].count_ones_in_range_in::<BigEndian>(5, 9), 2);
+}
+
+#[test]
 fn reading_first_one(rt: HostRuntime) {
     same!(rt; [0x10u8, 0x01].first_one_in::<BigEndian>(5, 16), Some(8));
 }

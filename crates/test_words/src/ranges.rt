@@ -1,9 +1,9 @@
-//! Ranges that macros list, and those that are set, cleared and flipped.
+//! Ranges that macros list, those that are set, cleared and flipped, and counts of a range.
 
 ghost use Rattle.std.specs.Prelude.{◌≤◌};
 ghost use Rattle.bittle.specs.Values.{ShapeFits};
 
-use crate::checks::same;
+use crate::checks::{holds, same};
 use bittle::prelude::*;
 use bittle::{BigEndian, Endian, LittleEndian, Set, macros, set, set_be, set_le};
 
@@ -245,4 +245,80 @@ fn ranges_of_sets_and_slices_change(rt: HostRuntime) {
         lent.toggle_range_in::<LittleEndian>(7, 16);
     }
     same!(rt; bytes, [0xFE, 0xE0, 0x00, 0xFC]);
+}
+
+// How many bits of each range are set, in the order that the call names.
+fn counts<B: Bits, E: Endian>(bits: &B, ranges: &[(u32, u32)], wanted: &[u32]) -> bool
+    requires { ShapeFits B.Shape bits.now }
+{
+    let capacity = bits.bits_capacity();
+    for at in 0..ranges.len().min(wanted.len()) {
+        let (from, to) = ranges[at];
+        if to < from || capacity < to {
+            return false;
+        }
+        if bits.count_ones_in_range_in::<E>(from, to) != wanted[at] {
+            return false;
+        }
+    }
+    ranges.len() == wanted.len()
+}
+
+#[test]
+fn ranges_of_a_word_are_counted(rt: HostRuntime) {
+    let ranges = [
+        (0, 8),
+        (0, 1),
+        (1, 3),
+        (2, 5),
+        (3, 8),
+        (7, 8),
+        (4, 4),
+        (8, 8),
+    ];
+    // Bits 1, 2 and 7, which are 6, 5 and 0 from the left.
+    let word = 0b1000_0110u8;
+    holds!(rt; counts::<u8, BigEndian>(&word, &ranges, &[3, 0, 2, 1, 1, 1, 0, 0]));
+    holds!(rt; counts::<u8, LittleEndian>(&word, &ranges, &[3, 1, 0, 0, 2, 0, 0, 0]));
+    let ranges = [(0, 16), (0, 1), (1, 16), (15, 16)];
+    holds!(rt; counts::<i16, BigEndian>(&i16::MIN, &ranges, &[1, 0, 1, 1]));
+    holds!(rt; counts::<i16, LittleEndian>(&i16::MIN, &ranges, &[1, 1, 0, 0]));
+    let ranges = [(0, 128), (1, 127), (1, 128), (0, 127)];
+    holds!(rt; counts::<i128, BigEndian>(&-1, &ranges, &[128, 126, 127, 127]));
+    holds!(rt; counts::<u128, LittleEndian>(&1, &ranges, &[1, 0, 1, 0]));
+}
+
+#[test]
+fn ranges_of_rows_are_counted(rt: HostRuntime) {
+    let ranges = [
+        (0, 24),
+        (2, 19),
+        (0, 8),
+        (8, 16),
+        (7, 9),
+        (9, 15),
+        (4, 20),
+        (23, 24),
+        (8, 8),
+    ];
+    // Bits 4 to 19, which are 0 to 3, 8 to 15 and 20 to 23 from the left of each byte.
+    let row = [0xF0u8, 0xFF, 0x0F];
+    holds!(rt; counts::<[u8; 3], BigEndian>(&row, &ranges, &[16, 15, 4, 8, 2, 6, 16, 0, 0]));
+    holds!(rt; counts::<[u8; 3], LittleEndian>(&row, &ranges, &[16, 10, 4, 8, 1, 6, 8, 1, 0]));
+    let ranges = [(0, 32), (1, 27), (0, 28), (7, 28), (9, 10)];
+    let nested = [[1u8, 2], [4, 8]];
+    holds!(rt; counts::<[[u8; 2]; 2], BigEndian>(&nested, &ranges, &[4, 2, 4, 3, 1]));
+    holds!(rt; counts::<[[u8; 2]; 2], LittleEndian>(&nested, &ranges, &[4, 3, 3, 3, 0]));
+}
+
+#[test]
+fn ranges_of_sets_and_slices_are_counted(rt: HostRuntime) {
+    let set = Set::new_le(0b0000_0111u8);
+    same!(rt; set.count_ones_in_range_in::<LittleEndian>(2, 7), 2);
+    same!(rt; set.count_ones_in_range_in::<BigEndian>(2, 7), 1);
+    let bytes = [0xFFu8, 0x1F, 0x00, 0xFC];
+    let last = &bytes[1..];
+    holds!(rt; counts::<&[u8], BigEndian>(&last, &[(0, 24), (3, 20), (5, 18)], &[11, 4, 0]));
+    let none = &bytes[..0];
+    holds!(rt; counts::<&[u8], LittleEndian>(&none, &[(0, 0)], &[0]));
 }

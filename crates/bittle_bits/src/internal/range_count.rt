@@ -1,0 +1,63 @@
+//! How many bits of a range are set, counted word by word.
+
+ghost use Rattle.std.specs.Prelude.{◌≡◌, ◌+◌, ◌*◌, ◌<◌, ◌≤◌};
+ghost use Rattle.bittle_bits.specs.PlainSet.{members_below};
+ghost use Rattle.bittle_bits.specs.Values.{set_in, ShapeFits};
+
+use crate::bits::Bits;
+use crate::endian::Endian;
+use crate::one_word::range;
+use crate::word::Word;
+
+/// Counts the set bits of word `k`.
+#[inline]
+fn count_word<B: Bits, E: Endian>(bits: &B, k: u32) -> u32
+    requires fits { ShapeFits B.Shape bits.now }
+    requires word { k * B.width < (B.big bits.now).capacity }
+    ensures { let ours = set_in B.Shape E.Endian bits.now in
+        members_below ours (k * B.width) + result ≡ members_below ours ((k + 1) * B.width) }
+{
+    bits.nth_leaf_word(k).count_ones()
+}
+
+/// Counts the set bits of word `k` from one place of it on and before another.
+#[inline]
+fn count_in_word<B: Bits, E: Endian>(bits: &B, k: u32, from: u32, to: u32) -> u32
+    requires fits { ShapeFits B.Shape bits.now }
+    requires word { k * B.width < (B.big bits.now).capacity }
+    requires ordered { from ≤ to }
+    requires within { to ≤ B.width }
+    ensures { let ours = set_in B.Shape E.Endian bits.now in
+        members_below ours (k * B.width + from) + result
+        ≡ members_below ours (k * B.width + to) }
+{
+    let word = bits.nth_leaf_word(k);
+    word.and(range::<B::LeafWord, E>(from, to)).count_ones()
+}
+
+/// Counts the set bits of `from..to`, in the order `E`: of its first and its last word those that a
+/// mask keeps, and of any word between them all.
+#[inline]
+pub fn count_ones<B: Bits, E: Endian>(bits: &B, from: u32, to: u32) -> u32
+    requires fits { ShapeFits B.Shape bits.now }
+    requires ordered { from ≤ to }
+    requires within { to ≤ (B.big bits.now).capacity }
+    ensures { let ours = set_in B.Shape E.Endian bits.now in
+        members_below ours from + result ≡ members_below ours to }
+{
+    if from == to {
+        return 0;
+    }
+    let width = <B::LeafWord as Word>::width();
+    let first = from / width;
+    let last = (to - 1) / width;
+    let end = to - last * width;
+    if first == last {
+        return count_in_word::<B, E>(bits, first, from % width, end);
+    }
+    let mut count = count_in_word::<B, E>(bits, first, from % width, width);
+    for k in first + 1..last {
+        count += count_word::<B, E>(bits, k);
+    }
+    count + count_in_word::<B, E>(bits, last, 0, end)
+}
