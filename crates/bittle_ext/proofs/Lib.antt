@@ -1,1 +1,2 @@
+mod Complements
 pub mod SetFacts

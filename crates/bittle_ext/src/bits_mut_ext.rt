@@ -1,11 +1,15 @@
 //! Changing a set.
 
-ghost use Rattle.std.specs.Prelude.{◌≡◌, ◌≤◌, not, IsTrue};
+ghost use Rattle.std.specs.Prelude.{◌≡◌, ◌≤◌, ℕ, Bool, List, not, IsTrue, MatchOption};
+ghost use Rattle.std.specs.Iterator.{Drains, IsFinite};
+ghost use Rattle.std.specs.Iterator.Runs.{WholeRun};
+ghost use Rattle.std.specs.List.{fold};
 ghost use Rattle.bittle_ext.specs.Changes.{with_index_assigned, with_index_toggled, with_span_assigned};
-ghost use Rattle.bittle.specs.PlainSet.{contains, with_index, without_index, with_span, without_span, with_span_toggled};
-ghost use Rattle.bittle.specs.Values.{set_in, ShapeFits};
+ghost use Rattle.bittle.specs.PlainSet.{contains, complement, with_index, without_index, with_span, without_span, with_span_toggled};
+ghost use Rattle.bittle.specs.Searches.{IsFirstIn, IsLastIn};
+ghost use Rattle.bittle.specs.Values.{set_in, set_mirrored, ShapeFits};
 
-use bittle::{BitsMut, Endian};
+use bittle::{BigEndian, BitsMut, Endian};
 
 /// Everyday changes of any set that can be changed. No change alters the capacity.
 pub trait BitsMutExt: BitsMut {
@@ -144,6 +148,153 @@ pub trait BitsMutExt: BitsMut {
             self.set_range_in::<E>(from, to);
         } else {
             self.clear_range_in::<E>(from, to);
+        }
+    }
+
+    /// Flips every bit, by one mask a word: the set becomes its complement, in both orders.
+    ///
+    /// The shape has to fit. With capacity 0 nothing changes.
+    ///
+    /// ```
+    /// let mut row = [0xFFu8, 0x0F];
+    /// row.complement_assign();                            // row is [0x00, 0xF0]
+    /// ```
+    #[inline]
+    final fn complement_assign(&mut self)
+        requires { ShapeFits Self.Shape self.old }
+        ensures set { Self.big self.new ≡ complement (Self.big self.old) }
+        ensures in_each_order { (mirrored : Bool) → set_mirrored Self.Shape mirrored self.new
+            ≡ complement (set_mirrored Self.Shape mirrored self.old) }
+        ensures stays { Self.loan self.old ≡ Self.loan self.new }
+    {
+        let capacity = self.bits_capacity();
+        self.toggle_range_in::<BigEndian>(0, capacity);
+    }
+
+    /// Clears the least set bit, in the order `E`, and returns its index. If no bit is set, as with
+    /// capacity 0, nothing changes, and it returns `None`.
+    ///
+    /// The shape has to fit. The words up to the answer are read.
+    ///
+    /// ```
+    /// let mut row = [0x10u8, 0x81];
+    /// row.pop_first_in::<LittleEndian>();                 // Some(3): row is [0x00, 0x81]
+    /// row.pop_first_in::<LittleEndian>();                 // Some(8): row is [0x00, 0x01]
+    /// ```
+    #[inline]
+    final fn pop_first_in<E: Endian>(&mut self) -> Option<u32>
+    where
+        Self: Sized,
+        requires { ShapeFits Self.Shape self.old }
+        ensures least { let before = set_in Self.Shape E.Endian self.old in
+            IsFirstIn before 0 before.capacity result }
+        ensures set { MatchOption result (self.new ≡ self.old)
+            (λ index. set_in Self.Shape E.Endian self.new
+            ≡ without_index (set_in Self.Shape E.Endian self.old) index) }
+        ensures stays { Self.loan self.old ≡ Self.loan self.new }
+    {
+        let index = self.first_one_in::<E>(0, self.bits_capacity())?;
+        self.clear_bit_in::<E>(index);
+        Some(index)
+    }
+
+    /// Clears the greatest set bit, in the order `E`, and returns its index. If no bit is set, as
+    /// with capacity 0, nothing changes, and it returns `None`.
+    ///
+    /// The shape has to fit. The words from the answer on are read.
+    ///
+    /// ```
+    /// let mut row = [0x10u8, 0x81];
+    /// row.pop_last_in::<LittleEndian>();                  // Some(15): row is [0x10, 0x80]
+    /// ```
+    #[inline]
+    final fn pop_last_in<E: Endian>(&mut self) -> Option<u32>
+    where
+        Self: Sized,
+        requires { ShapeFits Self.Shape self.old }
+        ensures greatest { let before = set_in Self.Shape E.Endian self.old in
+            IsLastIn before 0 before.capacity result }
+        ensures set { MatchOption result (self.new ≡ self.old)
+            (λ index. set_in Self.Shape E.Endian self.new
+            ≡ without_index (set_in Self.Shape E.Endian self.old) index) }
+        ensures stays { Self.loan self.old ≡ Self.loan self.new }
+    {
+        let index = self.last_one_in::<E>(0, self.bits_capacity())?;
+        self.clear_bit_in::<E>(index);
+        Some(index)
+    }
+
+    /// Sets the least unset bit, in the order `E`, and returns its index, as an allocator of slots
+    /// does. If each bit is set, as with capacity 0, nothing changes, and it returns `None`.
+    ///
+    /// The shape has to fit. The words up to the answer are read.
+    ///
+    /// ```
+    /// let mut row = [0xFFu8, 0xC1];
+    /// row.take_first_zero_in::<LittleEndian>();           // Some(10): row is [0xFF, 0xE1]
+    /// ```
+    #[inline]
+    final fn take_first_zero_in<E: Endian>(&mut self) -> Option<u32>
+    where
+        Self: Sized,
+        requires { ShapeFits Self.Shape self.old }
+        ensures least { let before = complement (set_in Self.Shape E.Endian self.old) in
+            IsFirstIn before 0 before.capacity result }
+        ensures set { MatchOption result (self.new ≡ self.old)
+            (λ index. set_in Self.Shape E.Endian self.new
+            ≡ with_index (set_in Self.Shape E.Endian self.old) index) }
+        ensures stays { Self.loan self.old ≡ Self.loan self.new }
+    {
+        let index = self.first_zero_in::<E>(0, self.bits_capacity())?;
+        self.set_bit_in::<E>(index);
+        Some(index)
+    }
+
+    /// Sets the bit at each of the indexes, in the order `E`. An index past the capacity wraps. With
+    /// capacity 0 nothing changes.
+    ///
+    /// The type has to fit; of a slice its element type.
+    ///
+    /// ```
+    /// let mut word = 0u8;
+    /// word.insert_all_in::<LittleEndian>(&[0, 7, 9]);     // word is 0b1100_0001: 9 wraps to 1
+    /// ```
+    #[inline]
+    final fn insert_all_in<E: Endian>(&mut self, indexes: &[u32])
+        requires { IsTrue Self.indexable }
+        ensures set { set_in Self.Shape E.Endian self.new
+            ≡ fold with_index (set_in Self.Shape E.Endian self.old) indexes.now }
+        ensures stays { Self.loan self.old ≡ Self.loan self.new }
+    {
+        for index in indexes {
+            self.set_bit_in::<E>(*index);
+        }
+    }
+
+    /// Sets the bit at each index that the iterator yields, in the order `E`. An index past the
+    /// capacity wraps. With capacity 0 nothing changes.
+    ///
+    /// The type has to fit; of a slice its element type. The iterator has to end.
+    ///
+    /// ```
+    /// let mut word = 0u8;
+    /// word.extend_in::<_, LittleEndian>(5..9);            // word is 0b1000_0111: 8 wraps to 0
+    /// ```
+    #[inline]
+    final fn extend_in<I: Iterator<Item = u32>, E: Endian>(&mut self, indexes: I)
+        requires indexable { IsTrue Self.indexable }
+        requires can { I.can_next indexes }
+        requires finite { IsFinite (I.remaining indexes) }
+        ensures set { (items : List ℕ) × Drains I.next_gives indexes items
+            × (set_in Self.Shape E.Endian self.new
+            ≡ fold with_index (set_in Self.Shape E.Endian self.old) items) }
+        ensures runs { WholeRun I.next_gives indexes (λ run. set_in Self.Shape E.Endian self.new
+            ≡ fold with_index (set_in Self.Shape E.Endian self.old) run.items) }
+        ensures stays { Self.loan self.old ≡ Self.loan self.new }
+    {
+        let mut rest = indexes;
+        while let Some(index) = rest.next() {
+            self.set_bit_in::<E>(index);
         }
     }
 
@@ -306,6 +457,112 @@ pub trait BitsMutExt: BitsMut {
         ensures stays { Self.loan self.old ≡ Self.loan self.new }
     {
         self.assign_range_in::<Self::Order>(from, to, value);
+    }
+
+    /// Clears the least set bit in the order of the type, as
+    /// [`pop_first_in`](BitsMutExt::pop_first_in) does.
+    ///
+    /// ```
+    /// let mut row = [0x00u8, 0x81];
+    /// row.pop_first();                                    // Some(8): row is [0x00, 0x80]
+    /// ```
+    #[inline]
+    final fn pop_first(&mut self) -> Option<u32>
+    where
+        Self: Sized,
+        requires { ShapeFits Self.Shape self.old }
+        ensures least { let before = set_in Self.Shape Self.Order.Endian self.old in
+            IsFirstIn before 0 before.capacity result }
+        ensures set { MatchOption result (self.new ≡ self.old)
+            (λ index. set_in Self.Shape Self.Order.Endian self.new
+            ≡ without_index (set_in Self.Shape Self.Order.Endian self.old) index) }
+        ensures stays { Self.loan self.old ≡ Self.loan self.new }
+    {
+        self.pop_first_in::<Self::Order>()
+    }
+
+    /// Clears the greatest set bit in the order of the type, as
+    /// [`pop_last_in`](BitsMutExt::pop_last_in) does.
+    ///
+    /// ```
+    /// let mut row = [0x00u8, 0x81];
+    /// row.pop_last();                                     // Some(15): row is [0x00, 0x01]
+    /// ```
+    #[inline]
+    final fn pop_last(&mut self) -> Option<u32>
+    where
+        Self: Sized,
+        requires { ShapeFits Self.Shape self.old }
+        ensures greatest { let before = set_in Self.Shape Self.Order.Endian self.old in
+            IsLastIn before 0 before.capacity result }
+        ensures set { MatchOption result (self.new ≡ self.old)
+            (λ index. set_in Self.Shape Self.Order.Endian self.new
+            ≡ without_index (set_in Self.Shape Self.Order.Endian self.old) index) }
+        ensures stays { Self.loan self.old ≡ Self.loan self.new }
+    {
+        self.pop_last_in::<Self::Order>()
+    }
+
+    /// Sets the least unset bit in the order of the type, as
+    /// [`take_first_zero_in`](BitsMutExt::take_first_zero_in) does.
+    ///
+    /// ```
+    /// let mut row = [0xFFu8, 0x0F];
+    /// row.take_first_zero();                              // Some(12): row is [0xFF, 0x1F]
+    /// ```
+    #[inline]
+    final fn take_first_zero(&mut self) -> Option<u32>
+    where
+        Self: Sized,
+        requires { ShapeFits Self.Shape self.old }
+        ensures least { let before = complement (set_in Self.Shape Self.Order.Endian self.old) in
+            IsFirstIn before 0 before.capacity result }
+        ensures set { MatchOption result (self.new ≡ self.old)
+            (λ index. set_in Self.Shape Self.Order.Endian self.new
+            ≡ with_index (set_in Self.Shape Self.Order.Endian self.old) index) }
+        ensures stays { Self.loan self.old ≡ Self.loan self.new }
+    {
+        self.take_first_zero_in::<Self::Order>()
+    }
+
+    /// Sets the bit at each of the indexes in the order of the type, as
+    /// [`insert_all_in`](BitsMutExt::insert_all_in) does.
+    ///
+    /// ```
+    /// let mut row = [0u8; 2];
+    /// row.insert_all(&[0, 7, 9]);                         // row is [0x81, 0x02]
+    /// ```
+    #[inline]
+    final fn insert_all(&mut self, indexes: &[u32])
+        requires { IsTrue Self.indexable }
+        ensures set { set_in Self.Shape Self.Order.Endian self.new
+            ≡ fold with_index (set_in Self.Shape Self.Order.Endian self.old) indexes.now }
+        ensures stays { Self.loan self.old ≡ Self.loan self.new }
+    {
+        self.insert_all_in::<Self::Order>(indexes);
+    }
+
+    /// Sets the bit at each index that the iterator yields in the order of the type, as
+    /// [`extend_in`](BitsMutExt::extend_in) does.
+    ///
+    /// ```
+    /// let mut row = [0u8; 2];
+    /// row.extend(0b0010_0001u8.iter_ones());              // row is [0x21, 0x00]
+    /// ```
+    #[inline]
+    final fn extend<I: Iterator<Item = u32>>(&mut self, indexes: I)
+        requires indexable { IsTrue Self.indexable }
+        requires can { I.can_next indexes }
+        requires finite { IsFinite (I.remaining indexes) }
+        ensures set { (items : List ℕ) × Drains I.next_gives indexes items
+            × (set_in Self.Shape Self.Order.Endian self.new
+            ≡ fold with_index (set_in Self.Shape Self.Order.Endian self.old) items) }
+        ensures runs { WholeRun I.next_gives indexes
+            (λ run. set_in Self.Shape Self.Order.Endian self.new
+            ≡ fold with_index (set_in Self.Shape Self.Order.Endian self.old) run.items) }
+        ensures stays { Self.loan self.old ≡ Self.loan self.new }
+    {
+        self.extend_in::<I, Self::Order>(indexes);
     }
 }
 

@@ -17,12 +17,15 @@
 //! word.insert(0);                   // true: it was unset
 //! word.set_range(2, 4);             // 0b0010_1111
 //! word.pop_last();                  // Some(5)
+//! u8::from_iter(2..4).complement(); // 0b1111_0011
 //! ```
 #![tactic(auto)]
 
 mod bits_ext;
 mod bits_mut_ext;
+mod bits_owned_ext;
 pub mod prelude;
 
 pub use bits_ext::BitsExt;
 pub use bits_mut_ext::BitsMutExt;
+pub use bits_owned_ext::BitsOwnedExt;

@@ -1,0 +1,226 @@
+//! Making sets that are owned.
+
+ghost use Rattle.std.specs.Prelude.{◌≡◌, ◌≤◌, ℕ, Bool, List, IsTrue};
+ghost use Rattle.std.specs.Iterator.{Drains, IsFinite};
+ghost use Rattle.std.specs.Iterator.Runs.{WholeRun};
+ghost use Rattle.std.specs.List.{fold};
+ghost use Rattle.bittle.specs.PlainSet.{complement, empty_set, with_index, with_span, without_span, with_span_toggled};
+ghost use Rattle.bittle.specs.Values.{set_in, set_mirrored};
+
+use crate::bits_mut_ext::BitsMutExt;
+use bittle::{BitsOwned, Endian};
+
+/// Sets made of one set, of a list of indexes or of an iterator. The type has to fit.
+pub trait BitsOwnedExt: BitsOwned {
+    /// Returns the set of the bits that are unset, the same in both orders. With capacity 0 it
+    /// returns the same set. Each word is read once.
+    ///
+    /// ```
+    /// [0xFFu8, 0x0F].complement();                        // [0x00, 0xF0]
+    /// ```
+    #[inline]
+    final fn complement(self) -> Self
+        requires { IsTrue Self.indexable }
+        ensures value { Self.big result ≡ complement (Self.big self) }
+        ensures in_each_order { (mirrored : Bool) → set_mirrored Self.Shape mirrored result
+            ≡ complement (set_mirrored Self.Shape mirrored self) }
+    {
+        Self::ones().difference(self)
+    }
+
+    /// Returns the set with each bit at the indexes `from..to` set, in the order `E`, by one mask a
+    /// word.
+    ///
+    /// `from <= to <= capacity`: nothing wraps. An empty range, as any with capacity 0, changes
+    /// nothing.
+    ///
+    /// ```
+    /// 0u8.with_range_in::<LittleEndian>(0, 3);            // 0b1110_0000
+    /// ```
+    #[inline]
+    final fn with_range_in<E: Endian>(self, from: u32, to: u32) -> Self
+        requires indexable { IsTrue Self.indexable }
+        requires ordered { from ≤ to }
+        requires within { to ≤ Self.type_capacity }
+        ensures { set_in Self.Shape E.Endian result
+            ≡ with_span (set_in Self.Shape E.Endian self) from to }
+    {
+        let mut set = self;
+        set.set_range_in::<E>(from, to);
+        set
+    }
+
+    /// Returns the set with each bit at the indexes `from..to` unset, in the order `E`, by one mask a
+    /// word.
+    ///
+    /// `from <= to <= capacity`: nothing wraps. An empty range, as any with capacity 0, changes
+    /// nothing.
+    ///
+    /// ```
+    /// 0xFFu8.without_range_in::<LittleEndian>(0, 3);      // 0b0001_1111
+    /// ```
+    #[inline]
+    final fn without_range_in<E: Endian>(self, from: u32, to: u32) -> Self
+        requires indexable { IsTrue Self.indexable }
+        requires ordered { from ≤ to }
+        requires within { to ≤ Self.type_capacity }
+        ensures { set_in Self.Shape E.Endian result
+            ≡ without_span (set_in Self.Shape E.Endian self) from to }
+    {
+        let mut set = self;
+        set.clear_range_in::<E>(from, to);
+        set
+    }
+
+    /// Returns the set with each bit at the indexes `from..to` flipped, in the order `E`, by one mask
+    /// a word.
+    ///
+    /// `from <= to <= capacity`: nothing wraps. An empty range, as any with capacity 0, changes
+    /// nothing.
+    ///
+    /// ```
+    /// 0b1100_0000u8.with_range_toggled_in::<LittleEndian>(1, 4);    // 0b1011_0000
+    /// ```
+    #[inline]
+    final fn with_range_toggled_in<E: Endian>(self, from: u32, to: u32) -> Self
+        requires indexable { IsTrue Self.indexable }
+        requires ordered { from ≤ to }
+        requires within { to ≤ Self.type_capacity }
+        ensures { set_in Self.Shape E.Endian result
+            ≡ with_span_toggled (set_in Self.Shape E.Endian self) from to }
+    {
+        let mut set = self;
+        set.toggle_range_in::<E>(from, to);
+        set
+    }
+
+    /// Returns the set of the indexes, in the order `E`. An index past the capacity wraps. With
+    /// capacity 0 the set is empty.
+    ///
+    /// ```
+    /// u8::from_indexes_in::<LittleEndian>(&[0, 7, 9]);    // 0b1100_0001: 9 wraps to 1
+    /// ```
+    #[inline]
+    final fn from_indexes_in<E: Endian>(indexes: &[u32]) -> Self
+        requires { IsTrue Self.indexable }
+        ensures { set_in Self.Shape E.Endian result
+            ≡ fold with_index (empty_set Self.type_capacity) indexes.now }
+    {
+        let mut set = Self::zeros();
+        set.insert_all_in::<E>(indexes);
+        set
+    }
+
+    /// Returns the set of the indexes that the iterator yields, in the order `E`. An index past the
+    /// capacity wraps. With capacity 0 the set is empty.
+    ///
+    /// The iterator has to end.
+    ///
+    /// ```
+    /// u8::from_iter_in::<_, LittleEndian>(5..9);          // 0b1000_0111: 8 wraps to 0
+    /// ```
+    #[inline]
+    final fn from_iter_in<I: Iterator<Item = u32>, E: Endian>(indexes: I) -> Self
+        requires indexable { IsTrue Self.indexable }
+        requires can { I.can_next indexes }
+        requires finite { IsFinite (I.remaining indexes) }
+        ensures set { (items : List ℕ) × Drains I.next_gives indexes items
+            × (set_in Self.Shape E.Endian result
+            ≡ fold with_index (empty_set Self.type_capacity) items) }
+        ensures runs { WholeRun I.next_gives indexes (λ run. set_in Self.Shape E.Endian result
+            ≡ fold with_index (empty_set Self.type_capacity) run.items) }
+    {
+        let mut set = Self::zeros();
+        set.extend_in::<I, E>(indexes);
+        set
+    }
+
+    /// Returns the set with the bits of a range set in the order of the type, as
+    /// [`with_range_in`](BitsOwnedExt::with_range_in) does.
+    ///
+    /// ```
+    /// [0u8; 2].with_range(6, 11);                         // [0xC0, 0x07]
+    /// ```
+    #[inline]
+    final fn with_range(self, from: u32, to: u32) -> Self
+        requires indexable { IsTrue Self.indexable }
+        requires ordered { from ≤ to }
+        requires within { to ≤ Self.type_capacity }
+        ensures { set_in Self.Shape Self.Order.Endian result
+            ≡ with_span (set_in Self.Shape Self.Order.Endian self) from to }
+    {
+        self.with_range_in::<Self::Order>(from, to)
+    }
+
+    /// Returns the set with the bits of a range unset in the order of the type, as
+    /// [`without_range_in`](BitsOwnedExt::without_range_in) does.
+    ///
+    /// ```
+    /// [0xFFu8; 2].without_range(6, 11);                   // [0x3F, 0xF8]
+    /// ```
+    #[inline]
+    final fn without_range(self, from: u32, to: u32) -> Self
+        requires indexable { IsTrue Self.indexable }
+        requires ordered { from ≤ to }
+        requires within { to ≤ Self.type_capacity }
+        ensures { set_in Self.Shape Self.Order.Endian result
+            ≡ without_span (set_in Self.Shape Self.Order.Endian self) from to }
+    {
+        self.without_range_in::<Self::Order>(from, to)
+    }
+
+    /// Returns the set with the bits of a range flipped in the order of the type, as
+    /// [`with_range_toggled_in`](BitsOwnedExt::with_range_toggled_in) does.
+    ///
+    /// ```
+    /// 0b0011_1100u8.with_range_toggled(0, 4);             // 0b0011_0011
+    /// ```
+    #[inline]
+    final fn with_range_toggled(self, from: u32, to: u32) -> Self
+        requires indexable { IsTrue Self.indexable }
+        requires ordered { from ≤ to }
+        requires within { to ≤ Self.type_capacity }
+        ensures { set_in Self.Shape Self.Order.Endian result
+            ≡ with_span_toggled (set_in Self.Shape Self.Order.Endian self) from to }
+    {
+        self.with_range_toggled_in::<Self::Order>(from, to)
+    }
+
+    /// Returns the set of the indexes in the order of the type, as
+    /// [`from_indexes_in`](BitsOwnedExt::from_indexes_in) does.
+    ///
+    /// ```
+    /// <[u8; 2]>::from_indexes(&[0, 7, 9]);                // [0x81, 0x02]
+    /// ```
+    #[inline]
+    final fn from_indexes(indexes: &[u32]) -> Self
+        requires { IsTrue Self.indexable }
+        ensures { set_in Self.Shape Self.Order.Endian result
+            ≡ fold with_index (empty_set Self.type_capacity) indexes.now }
+    {
+        Self::from_indexes_in::<Self::Order>(indexes)
+    }
+
+    /// Returns the set of the indexes that the iterator yields in the order of the type, as
+    /// [`from_iter_in`](BitsOwnedExt::from_iter_in) does.
+    ///
+    /// ```
+    /// <[u8; 2]>::from_iter(6..11);                        // [0xC0, 0x07]
+    /// ```
+    #[inline]
+    final fn from_iter<I: Iterator<Item = u32>>(indexes: I) -> Self
+        requires indexable { IsTrue Self.indexable }
+        requires can { I.can_next indexes }
+        requires finite { IsFinite (I.remaining indexes) }
+        ensures set { (items : List ℕ) × Drains I.next_gives indexes items
+            × (set_in Self.Shape Self.Order.Endian result
+            ≡ fold with_index (empty_set Self.type_capacity) items) }
+        ensures runs { WholeRun I.next_gives indexes
+            (λ run. set_in Self.Shape Self.Order.Endian result
+            ≡ fold with_index (empty_set Self.type_capacity) run.items) }
+    {
+        Self::from_iter_in::<I, Self::Order>(indexes)
+    }
+}
+
+impl<B: BitsOwned> BitsOwnedExt for B {}
