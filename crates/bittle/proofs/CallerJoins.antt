@@ -56,7 +56,7 @@ module _ {S : Type 0} (rest : S → List ℕ) where
       omega (arith, g, l, y.2.0, e.2, none, h)
 
   -- the answers of a whole run are the elements at the members
-  pub answers_at_members : (s t : Join S) (items answers : List (Bor ℕ)) → s.taken ≡ 0 →
+  answers_at_members : (s t : Join S) (items answers : List (Bor ℕ)) → s.taken ≡ 0 →
       ((k : ℕ) → k < length s.mask.remaining → get_or s.mask.remaining k 0 < length (rest s.iter)) →
       IsJoin s.taken s.mask.remaining items answers →
       EndsAt TakesElement s items (drop (length answers) s.mask.remaining) t →

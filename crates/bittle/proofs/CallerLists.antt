@@ -128,11 +128,6 @@ unlisted s i c =
     let low = ascending_below s at.0 at.1 in
     (subst (λ n. n < s.capacity) e low, ap s.has (sym e) ∙ ascending_member s at.0 at.1)
 
--- a number is in the list exactly if it is below the capacity and a member
-pub ascending_contains : (s : PlainSet) (i : ℕ) →
-    Contains (ascending s) i ↔ ((i < s.capacity) × (s.has i ≡ true))
-ascending_contains s i = (unlisted s i, λ h. listed s i h.0 h.1)
-
 -- a test of each number of the list finds one below the capacity exactly if it is a member
 pub ascending_has : (s : PlainSet) (i : ℕ) → i < s.capacity →
     list_any (λ k. k == i) (ascending s) ≡ s.has i

@@ -3,11 +3,9 @@
 use Rattle.std.proofs.Common.{◌≡◌, ℕ, ◌*◌, ◌<◌, ◌≤◌, Bool, true, false, not, ◌&&◌, ◌||◌, ◌==◌, inl, inr, sym, ap, ◌∙◌, refl, arith}
 use Rattle.std.proofs.Math.Nat.{mod-eq_of_lt}
 use Rattle.std.proofs.lemmas.Bool.{cases_Bool, lt-ltb}
-use Rattle.bittle_bits.specs.Orders.{read_in}
 use Rattle.bittle_bits.specs.PlainSet.{PlainSet, contains, with_index, has_with, without_index, has_without, complement, lacks, empty_set, full_set, size}
 use Rattle.bittle_bits.specs.Searches.{NoneIn}
 use Rattle.bittle_bits.specs.SetOperations.{combination_of, combination_has}
-use Rattle.bittle_bits.proofs.PlainSets.{full_set_in_each_order}
 use Rattle.bittle_bits.proofs.Counts as counts
 use Rattle.bittle_bits.proofs.Sizes as sizes
 
@@ -52,20 +50,6 @@ pub combination_within : (decide : Bool → Bool → Bool) (s t : PlainSet) (i :
 unfolding combination_has
 combination_within decide s t i h k = let one = lt-ltb i s.capacity h in
     let other = lt-ltb i t.capacity k in rw (one, other) refl
-
--- there are as many members in one order as in the other
-pub size_members : (mirrored : Bool) (w : ℕ) (s : PlainSet) → 0 < w →
-    (words : ℕ) × (s.capacity ≡ words * w) → size (read_in mirrored w s) ≡ size s
-size_members = sizes.size-members
-
--- the set of all numbers below a capacity of whole words is that set in each order
-pub full_set_members : (w c : ℕ) (s : PlainSet) → 0 < w → (words : ℕ) × (c ≡ words * w) →
-    s ≡ full_set c → (mirrored : Bool) → read_in mirrored w s ≡ full_set c
-full_set_members = full_set_in_each_order
-
--- there are at most as many members as the capacity
-pub size_at_most : (s : PlainSet) → size s ≤ s.capacity
-size_at_most = sizes.size-le
 
 -- a set of size 0 has no members
 pub size_none : (s : PlainSet) → size s ≡ 0 → NoneIn s 0 s.capacity

@@ -33,11 +33,6 @@ reversed_walk_yields walk s items e =
     (λ v. reverse (walk v).remaining) (λ s t h. ap (λ xs. length (reverse xs)) h.gave.0)
     (λ s x t h. ap reverse h.gave ∙ reverse-append (walk t).remaining (x ∷ [])) s)
 
--- from the back a walk gives what it has left in reverse
-pub walk_yields_back : (w : Walk) (items : List ℕ) → w.remaining ≡ items →
-    YieldsList StepsBack (λ x. x) w (reverse items)
-walk_yields_back = reversed_walk_yields (λ w. w)
-
 -- what a run from the front gave, and what is left, are what was left before
 pub given_and_left : (s t : Walk) (items : List ℕ) → Yields StepsFront s items t →
     s.remaining ≡ items ++ t.remaining

@@ -1,8 +1,9 @@
 //! Questions about all members of a set, answered by a walk.
 
 ghost use Rattle.std.specs.List.{list_any, list_all, reduce, zip};
-ghost use Rattle.std.specs.Prelude.{◌≡◌, IfOk, max, nat_lt, nat_le};
+ghost use Rattle.std.specs.Prelude.{◌≡◌, ◌↔◌, ◌<◌, ℕ, true, IfOk, IsTrue, max, nat_lt, nat_le};
 ghost use Rattle.bittle.specs.PlainSet.{ascending};
+ghost use Rattle.bittle.specs.Searches.{IsLastIn};
 ghost use Rattle.bittle.specs.Values.{set_in, ShapeFits};
 
 use bittle::Bits;
@@ -23,6 +24,23 @@ pub fn greatest<B: Bits>(set: &B) -> Option<u32>
     ensures { result ≡ reduce max (ascending (set_in B.Shape B.Order.Endian set.now)) }
 {
     set.iter_ones().max()
+}
+
+/// Returns the greatest member, as the last one that a walk yields, or `None` where there is none.
+pub fn last_of_walk<B: Bits>(set: &B) -> Option<u32>
+    requires { ShapeFits B.Shape set.now }
+    ensures { let members = set_in B.Shape B.Order.Endian set.now in
+        IsLastIn members 0 members.capacity result }
+{
+    set.iter_ones().next_back()
+}
+
+/// Returns whether each index below the capacity is a member.
+pub fn has_all<B: Bits>(set: &B) -> bool
+    ensures { let members = set_in B.Shape B.Order.Endian set.now in
+        IsTrue result ↔ ((k : ℕ) → k < members.capacity → members.has k ≡ true) }
+{
+    set.all_ones()
 }
 
 /// Returns the members, as a vector in increasing order.
