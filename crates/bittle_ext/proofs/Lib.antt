@@ -1,2 +1,3 @@
 mod Complements
+pub mod RunFacts
 pub mod SetFacts

@@ -1,12 +1,12 @@
 //! Reading a set.
 
-ghost use Rattle.std.specs.Prelude.{◌≡◌, ◌-◌, ◌≤◌, ◌↔◌, IsTrue, MatchOption, slice_get};
-ghost use Rattle.bittle_bits.specs.PlainSet.{ascending, complement};
-ghost use Rattle.bittle_bits.specs.Searches.{IsFirstIn, IsLastIn};
-ghost use Rattle.bittle_bits.specs.Values.{set_in, ShapeFits};
+ghost use Rattle.bittle_ext.specs.Runs.{IsFirstRun};
+ghost use Rattle.bittle.specs.PlainSet.{complement};
+ghost use Rattle.bittle.specs.Searches.{IsFirstIn, IsLastIn};
+ghost use Rattle.bittle.specs.Values.{set_in, ShapeFits};
 
-use bittle_bits::bits::Bits;
-use bittle_bits::endian::Endian;
+use crate::runs;
+use bittle::{Bits, Endian};
 
 /// What can be asked of any set beyond the calls of [`Bits`].
 ///
@@ -222,6 +222,142 @@ pub trait BitsExt: Bits {
             IsLastIn (complement ours) 0 to result }
     {
         self.prev_zero_in::<Self::Order>(to)
+    }
+
+    /// Returns the least index from `from` on where `length` unset bits begin, in the order `E`, or
+    /// `None` if there is no such run.
+    ///
+    /// No run goes past the capacity. A run of no bits begins at each index up to the capacity: with
+    /// `length` 0 it returns `from`, and `None` past the capacity. Each run that is too short costs
+    /// two searches of words.
+    ///
+    /// ```
+    /// 0b0110_0001u8.next_zero_run_in::<LittleEndian>(1, 2); // Some(3)
+    /// ```
+    #[inline]
+    final fn next_zero_run_in<E: Endian>(&self, from: u32, length: u32) -> Option<u32>
+    where
+        Self: Sized,
+        requires { ShapeFits Self.Shape self.now }
+        ensures { IsFirstRun (complement (set_in Self.Shape E.Endian self.now)) from length result }
+    {
+        runs::next_zero_run::<Self, E>(self, from, length)
+    }
+
+    /// Returns the least index from `from` on where `length` unset bits begin, in the order of the
+    /// type, as [`next_zero_run_in`](BitsExt::next_zero_run_in) does.
+    ///
+    /// ```
+    /// 0b0010_0001u8.next_zero_run(2, 2);                   // Some(2)
+    /// ```
+    #[inline]
+    final fn next_zero_run(&self, from: u32, length: u32) -> Option<u32>
+    where
+        Self: Sized,
+        requires { ShapeFits Self.Shape self.now }
+        ensures { IsFirstRun (complement (set_in Self.Shape Self.Order.Endian self.now)) from length result }
+    {
+        self.next_zero_run_in::<Self::Order>(from, length)
+    }
+
+    /// Returns the least index where `length` unset bits begin, in the order `E`, or `None` if there
+    /// is no such run, as [`next_zero_run_in`](BitsExt::next_zero_run_in) does from 0 on.
+    ///
+    /// ```
+    /// 0b0110_0001u8.first_zero_run_in::<LittleEndian>(2);  // Some(3)
+    /// ```
+    #[inline]
+    final fn first_zero_run_in<E: Endian>(&self, length: u32) -> Option<u32>
+    where
+        Self: Sized,
+        requires { ShapeFits Self.Shape self.now }
+        ensures { IsFirstRun (complement (set_in Self.Shape E.Endian self.now)) 0 length result }
+    {
+        self.next_zero_run_in::<E>(0, length)
+    }
+
+    /// Returns the least index where `length` unset bits begin, in the order of the type, or `None` if
+    /// there is no such run, as [`next_zero_run_in`](BitsExt::next_zero_run_in) does from 0 on.
+    ///
+    /// ```
+    /// 0b0100_1101u8.first_zero_run(2);                     // Some(4)
+    /// ```
+    #[inline]
+    final fn first_zero_run(&self, length: u32) -> Option<u32>
+    where
+        Self: Sized,
+        requires { ShapeFits Self.Shape self.now }
+        ensures { IsFirstRun (complement (set_in Self.Shape Self.Order.Endian self.now)) 0 length result }
+    {
+        self.next_zero_run_in::<Self::Order>(0, length)
+    }
+
+    /// Returns the least index from `from` on where `length` set bits begin, in the order `E`, or
+    /// `None` if there is no such run.
+    ///
+    /// No run goes past the capacity. A run of no bits begins at each index up to the capacity: with
+    /// `length` 0 it returns `from`, and `None` past the capacity. Each run that is too short costs
+    /// two searches of words.
+    ///
+    /// ```
+    /// 0b0110_0011u8.next_one_run_in::<LittleEndian>(2, 2);  // Some(6)
+    /// ```
+    #[inline]
+    final fn next_one_run_in<E: Endian>(&self, from: u32, length: u32) -> Option<u32>
+    where
+        Self: Sized,
+        requires { ShapeFits Self.Shape self.now }
+        ensures { IsFirstRun (set_in Self.Shape E.Endian self.now) from length result }
+    {
+        runs::next_one_run::<Self, E>(self, from, length)
+    }
+
+    /// Returns the least index from `from` on where `length` set bits begin, in the order of the
+    /// type, as [`next_one_run_in`](BitsExt::next_one_run_in) does.
+    ///
+    /// ```
+    /// 0b0110_0011u8.next_one_run(1, 2);                    // Some(5)
+    /// ```
+    #[inline]
+    final fn next_one_run(&self, from: u32, length: u32) -> Option<u32>
+    where
+        Self: Sized,
+        requires { ShapeFits Self.Shape self.now }
+        ensures { IsFirstRun (set_in Self.Shape Self.Order.Endian self.now) from length result }
+    {
+        self.next_one_run_in::<Self::Order>(from, length)
+    }
+
+    /// Returns the least index where `length` set bits begin, in the order `E`, or `None` if there
+    /// is no such run, as [`next_one_run_in`](BitsExt::next_one_run_in) does from 0 on.
+    ///
+    /// ```
+    /// 0b0010_0011u8.first_one_run_in::<LittleEndian>(2);   // Some(6)
+    /// ```
+    #[inline]
+    final fn first_one_run_in<E: Endian>(&self, length: u32) -> Option<u32>
+    where
+        Self: Sized,
+        requires { ShapeFits Self.Shape self.now }
+        ensures { IsFirstRun (set_in Self.Shape E.Endian self.now) 0 length result }
+    {
+        self.next_one_run_in::<E>(0, length)
+    }
+
+    /// Returns the least index where `length` set bits begin, in the order of the type, or `None` if
+    /// there is no such run, as [`next_one_run_in`](BitsExt::next_one_run_in) does from 0 on.
+    ///
+    /// ```
+    /// 0b0110_0001u8.first_one_run(2);                      // Some(5)
+    /// ```
+    #[inline]
+    final fn first_one_run(&self, length: u32) -> Option<u32>
+    where
+        Self: Sized,
+        requires { ShapeFits Self.Shape self.now }
+        ensures { IsFirstRun (set_in Self.Shape Self.Order.Endian self.now) 0 length result }
+    {
+        self.next_one_run_in::<Self::Order>(0, length)
     }
 }
 

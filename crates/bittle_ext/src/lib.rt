@@ -25,6 +25,7 @@ mod bits_ext;
 mod bits_mut_ext;
 mod bits_owned_ext;
 pub mod prelude;
+mod runs;
 
 pub use bits_ext::BitsExt;
 pub use bits_mut_ext::BitsMutExt;
