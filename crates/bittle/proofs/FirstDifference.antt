@@ -1,22 +1,13 @@
 -- The first difference of two sets of words of one width, read in one order, and what it decides.
-use Rattle.std.proofs.Common.{◌≡◌, ℕ, ◌+◌, ◌-◌, ◌*◌, ◌/◌, ◌^◌, ◌<◌, ◌≤◌, ◌⊎◌, ◌↔◌, Bool, true, false, not, IsTrue, inl, inr, Option, Some, None, is_none, is_some, MatchOption, MatchBool, refl, sym, ap, subst, ◌∙◌, arith, bit_or}
-use Rattle.std.proofs.lemmas.Nat.{le_or_l, le_or_r}
-use Rattle.std.proofs.Math.Nat.{mul-div_left, mul-le-mul_right, mul-lt-mul_of_pos_right}
+use Rattle.std.proofs.Common.{◌≡◌, ℕ, ◌+◌, ◌<◌, ◌≤◌, ◌⊎◌, ◌↔◌, Bool, true, false, not, IsTrue, inl, inr, Option, Some, None, is_none, is_some, MatchOption, MatchBool, min, refl, sym, ap, ◌∙◌, arith}
 use Rattle.std.proofs.lemmas.Bool.{cases_eq, cases_lt, true≢false}
 use Rattle.std.specs.declared.cmp.Ordering.{Ordering}
 use Rattle.std.specs.declared.cmp.Ordering.TheVariants.{Less, Equal, Greater}
 use Rattle.std.specs.Ordering.{MatchOrdering, is_eq}
-use Rattle.bittle_bits.specs.BitPatterns.{bit_has, bit_set}
-use Rattle.bittle_bits.specs.Orders.{place, read_in}
-use Rattle.bittle_bits.specs.PlainSet.{PlainSet, ascending, IsLeastMember}
+use Rattle.bittle_bits.specs.Decided.{NoneDecidedBelow, IsFirstDecided}
+use Rattle.bittle_bits.specs.PlainSet.{PlainSet, ascending}
 use Rattle.bittle_bits.specs.Searches.{IsFirstIn}
-use Rattle.bittle_bits.specs.SetOperations.{combination_of, just_one}
-use Rattle.bittle_bits.specs.Words.{word_has, word_of}
-use Rattle.bittle_bits.proofs.SetOperations.{combination-below}
-use Rattle.bittle_bits.proofs.BitSets.{bit_has-zero, bit_has-below, some_digit}
-use Rattle.bittle_bits.proofs.PlaceLemmas.{place_part, place_in_word, place-place}
-use Rattle.bittle_bits.proofs.PlainSets.{members-past}
-use Rattle.bittle_bits.proofs.Words.{word_has-at}
+use Rattle.bittle_bits.specs.SetOperations.{just_one}
 use Rattle.bittle.specs.Comparison.{list_cmp, AreSame, AreSameBelow, HasPast, HasNonePast, Precedes, IsFirstDifference}
 use Rattle.bittle.proofs.ListComparison.{EndsAtCapacity, list_cmp-precedes, equal_iff_same, not_both}
 
@@ -26,124 +17,23 @@ alike true false h = absurd (true≢false h)
 alike false true h = absurd (true≢false h)
 alike false false h = refl
 
--- ---- word by word
+-- ---- as far as both sets go
 
-module _ (m : Bool) (w : ℕ) (s t : PlainSet) (word : 0 < w) where
-  member_at : (u : PlainSet) (k i : ℕ) → i < w →
-      u.has (k * w + place m w i) ≡ (read_in m w u).has (k * w + i)
-  member_at u k i h =
-      let one : k * (1 * w) ≡ k * w = omega arith in
-      let b : i < 1 * w = omega arith in
-      let e : place m w (k * w + i) ≡ k * w + place m w i = rw one at (place_part m w 1 k i word b)
-      in
-      sym (ap u.has e)
+-- a first number that is in just one is the first difference, whatever lies past it
+pub some_among : (s t : PlainSet) (n : ℕ) (r : Option ℕ) → is_some r ≡ true →
+    MatchOption r (NoneDecidedBelow just_one s t n) (IsFirstDecided just_one s t) →
+    MatchOption r (AreSame s t) (λ d. IsFirstDifference s t d)
+some_among s t n None e h = absurd (true≢false (sym e))
+some_among s t n (Some d) e h = ((λ i l. alike _ _ (h.0 i l)), h.1)
 
-  -- the word x has the bits of word k that are in just one
-  module _ (k x : ℕ) (is : bit_set w x ≡ combination_of just_one (word_of w s k) (word_of w t k))
-    where
-      apart_at : (i : ℕ) → i < w → (read_in m w (bit_set w x)).has i
-          ≡ just_one ((read_in m w s).has (k * w + i)) ((read_in m w t).has (k * w + i))
-      apart_at i h =
-          let p = place m w i in
-          let low = place_in_word m w i h in
-          ap (λ u. u.has p) is
-          ∙ combination-below just_one (word_of w s k) (word_of w t k) p low low
-          ∙ ap (λ b. just_one b (word_has w t k p)) (word_has-at w s k p low ∙ member_at s k i h)
-          ∙ ap (just_one ((read_in m w s).has (k * w + i)))
-          (word_has-at w t k p low ∙ member_at t k i h)
-
-      -- below a place of word k
-      same_up_to : (r : ℕ) → AreSameBelow (read_in m w s) (read_in m w t) (k * w) → r ≤ w →
-          ((i : ℕ) → i < r → (read_in m w (bit_set w x)).has i ≡ false) →
-          AreSameBelow (read_in m w s) (read_in m w t) (k * w + r)
-      same_up_to r before low none i h =
-          elim (cases_lt i (k * w)) [
-            | inl l ↦ before i l
-            | inr g ↦
-                let j = i - k * w in
-                let back : k * w + j ≡ i = omega arith in
-                let e : just_one ((read_in m w s).has i) ((read_in m w t).has i)
-                ≡ false = rw back at (sym (apart_at j (omega arith)) ∙ none j (omega arith)) in
-                alike _ _ e
-          ]
-
-      -- it has none, so the word is the same in both
-      pub same_word : AreSameBelow (read_in m w s) (read_in m w t) (k * w) → x ≡ 0 →
-          AreSameBelow (read_in m w s) (read_in m w t) ((k + 1) * w)
-      same_word before zero i h = same_up_to w before (omega arith)
-          (λ j l. ap (λ p. p (place m w j)) (bit_has-zero w x zero)) i (omega arith)
-
-      -- its least one
-      pub first_in_word : (r : ℕ) → AreSameBelow (read_in m w s) (read_in m w t) (k * w) →
-          IsLeastMember (read_in m w (bit_set w x)) r → r < w →
-          IsFirstDifference (read_in m w s) (read_in m w t) (k * w + r)
-      first_in_word r before least low = (
-        same_up_to r before least.within least.none_below,
-        sym (apart_at r low) ∙ least.is_member low,
-      )
-
--- a word of which no bit is in just one: the two are the same as far as the next word
-pub same_next : (m : Bool) (w : ℕ) (s t : PlainSet) → 0 < w → (k next x : ℕ) →
-    bit_set w x ≡ combination_of just_one (word_of w s k) (word_of w t k) → next ≡ k + 1 →
-    AreSameBelow (read_in m w s) (read_in m w t) (k * w) → x ≡ 0 →
-    AreSameBelow (read_in m w s) (read_in m w t) (next * w)
-same_next m w s t word k next x is e before zero =
-    rw e (same_word m w s t word k x is before zero)
-
--- a word below a number of words lies within what those make up
-pub word_within : (k words w c : ℕ) → 0 < w → k < words → words * w ≤ c → k * w < c
-word_within k words w c word below within =
-    omega (arith, mul-lt-mul_of_pos_right {k = w} below word, within)
-
--- a word that is not 0 has a least set bit
-pub some_least : (m : Bool) (w x r : ℕ) → 0 < w → x < 2 ^ w → (x ≡ 0 → ⊥) →
-    IsLeastMember (read_in m w (bit_set w x)) r → r < w
-some_least m w x r word fits some least =
-    elim (cases_lt r w) [
-      | inl l ↦ l
-      | inr g ↦
-          let t = some_digit w x fits some in
-          let i = place m w t.0 in
-          let low : i < w = place_in_word m w t.0 (bit_has-below w x t.0 t.1) in
-          absurd (true≢false (sym t.1 ∙ ap (bit_has w x) (sym (place-place m w t.0 word))
-          ∙ least.none_below i (omega arith)))
-    ]
-
--- the or of four words is 0 only where each is
-pub each_is_zero : (a b c d ab cd all : ℕ) → ab ≡ bit_or a b → cd ≡ bit_or c d →
-    all ≡ bit_or ab cd → all ≡ 0 → (a ≡ 0) × (b ≡ 0) × (c ≡ 0) × (d ≡ 0)
-each_is_zero a b c d ab cd all one two both none =
-    let first : ab ≡ 0 = omega (arith, none, both, le_or_l ab cd) in
-    let second : cd ≡ 0 = omega (arith, none, both, le_or_r ab cd) in (
-      omega (arith, first, one, le_or_l a b),
-      omega (arith, first, one, le_or_r a b),
-      omega (arith, second, two, le_or_l c d),
-      omega (arith, second, two, le_or_r c d),
-    )
+-- a search that finds none says that the two are the same as far as it went
+pub none_among : (s t : PlainSet) (n : ℕ) (r : Option ℕ) → is_some r ≡ false →
+    MatchOption r (NoneDecidedBelow just_one s t n) (IsFirstDecided just_one s t) →
+    AreSameBelow s t n
+none_among s t n None e h = λ i l. alike _ _ (h i l)
+none_among s t n (Some d) e h = absurd (true≢false e)
 
 -- ---- past the words of one side
-
--- the words of a capacity of whole words make it up
-all_words : (bits wide w c : ℕ) → 0 < w → bits ≡ c → wide ≡ w → (words : ℕ) × (c ≡ words * w) →
-    bits / wide * wide ≡ c
-all_words bits wide w c word b v h = rw (b, v, h.1) (ap (λ n. n * w) (mul-div_left h.0 word))
-
--- words that are no more than those of a capacity lie within it
-pub words_within : (k bits wide w c : ℕ) → 0 < w → bits ≡ c → wide ≡ w →
-    (words : ℕ) × (c ≡ words * w) → k ≤ bits / wide → k * w ≤ c
-words_within k bits wide w c word b v h below =
-    let all = all_words bits wide w c word b v h in
-    let some : k * wide ≤ bits / wide * wide = mul-le-mul_right wide below in
-    omega (arith, all, some, ap (λ x. k * x) v)
-
--- a set of whole words has no member from the end of as many words on
-none_from : (m : Bool) (w : ℕ) (s : PlainSet) (k bits wide : ℕ) → 0 < w → bits ≡ s.capacity →
-    wide ≡ w → (words : ℕ) × (s.capacity ≡ words * w) →
-    ((i : ℕ) → s.capacity ≤ i → s.has i ≡ false) → k ≡ bits / wide → (i : ℕ) → k * wide ≤ i →
-    (read_in m w s).has i ≡ false
-none_from m w s k bits wide word b v h past all i p =
-    let ends = ap (λ n. n * wide) all ∙ all_words bits wide w s.capacity word b v h in
-    members-past m w s word h past i (omega (arith, ends, p))
 
 -- the first set has none from a number on, and the second one ends at another
 past_first : (s t : PlainSet) (from to : ℕ) (r : Option ℕ) → AreSameBelow s t from →
@@ -178,61 +68,29 @@ past_second s t from to r same none past h = back r
     back None e = λ i. sym (e i)
     back (Some d) e = ((λ i p. sym (e.0 i p)), turned (s.has d) (t.has d) ∙ e.1)
 
--- a search that finds no difference says that the two are the same as far as it went
-pub none_among : (s t : PlainSet) (n : ℕ) (r : Option ℕ) → is_some r ≡ false →
-    MatchOption r (AreSameBelow s t n) (λ d. IsFirstDifference s t d) → AreSameBelow s t n
-none_among s t n None e h = h
-none_among s t n (Some d) e h = absurd (true≢false e)
-
--- what is the same in the words that fours make up is so in all fours that a number of words has
-pub same_fours : (s t : PlainSet) (words fours w : ℕ) → words / 4 ≤ fours →
-    AreSameBelow s t (fours * 4 * w) → AreSameBelow s t (words / 4 * 4 * w)
-same_fours s t words fours w all before i p =
-    let done : words / 4 * 4 * w ≤ fours * 4 * w = mul-le-mul_right w (omega (arith, all)) in
-    before i (omega (arith, done, p))
-
--- two sets that are the same in as many words as both have
-module _ (m : Bool) (w v : ℕ) (s t : PlainSet) (bits others wide common : ℕ) (word : 0 < w)
-    (width : w ≡ v) (is_wide : wide ≡ w) (ours : bits ≡ s.capacity) (theirs : others ≡ t.capacity)
-    (whole : (n : ℕ) × (s.capacity ≡ n * w)) (whole-2 : (n : ℕ) × (t.capacity ≡ n * v))
-    (past : (i : ℕ) → s.capacity ≤ i → s.has i ≡ false)
+-- two sets that are the same as far as both go, each with no member past its capacity
+module _ (s t : PlainSet) (past : (i : ℕ) → s.capacity ≤ i → s.has i ≡ false)
     (past-2 : (i : ℕ) → t.capacity ≤ i → t.has i ≡ false)
-    (same : AreSameBelow (read_in m w s) (read_in m w t) (common * w)) where
-  in_common : AreSameBelow (read_in m w s) (read_in m v t) (common * wide)
-  in_common = subst (λ n. AreSameBelow (read_in m w s) (read_in m n t) (common * wide)) width
-      (rw is_wide same)
-
-  none_of_first : (k : ℕ) → k ≡ bits / wide → (i : ℕ) → k * wide ≤ i →
-      (read_in m w s).has i ≡ false
-  none_of_first k = none_from m w s k bits wide word ours is_wide whole past
-
-  none_of_second : (k : ℕ) → k ≡ others / wide → (i : ℕ) → k * wide ≤ i →
-      (read_in m v t).has i ≡ false
-  none_of_second k = none_from m v t k others wide (omega (arith, word, width)) theirs
-      (is_wide ∙ width) whole-2 past-2
-
+    (same : AreSameBelow s t (min s.capacity t.capacity)) where
   -- just the second goes on
-  pub first_ends : common ≡ bits / wide → (r : Option ℕ) →
-      IsFirstIn (read_in m v t) (common * wide) (others / wide * wide) r →
-      MatchOption r (AreSame (read_in m w s) (read_in m v t))
-      (λ d. IsFirstDifference (read_in m w s) (read_in m v t) d)
-  first_ends e r found = past_first (read_in m w s) (read_in m v t) _ _ r in_common
-      (none_of_first common e) (none_of_second _ refl) found
+  pub first_ends : s.capacity < t.capacity → (r : Option ℕ) →
+      IsFirstIn t s.capacity t.capacity r →
+      MatchOption r (AreSame s t) (λ d. IsFirstDifference s t d)
+  first_ends h r found = past_first s t s.capacity t.capacity r
+      (λ i l. same i (omega (arith, h))) past past-2 found
 
   -- just the first goes on
-  pub second_ends : common ≡ others / wide → (r : Option ℕ) →
-      IsFirstIn (read_in m w s) (common * wide) (bits / wide * wide) r →
-      MatchOption r (AreSame (read_in m w s) (read_in m v t))
-      (λ d. IsFirstDifference (read_in m w s) (read_in m v t) d)
-  second_ends e r found = past_second (read_in m w s) (read_in m v t) _ _ r in_common
-      (none_of_second common e) (none_of_first _ refl) found
+  pub second_ends : t.capacity < s.capacity → (r : Option ℕ) →
+      IsFirstIn s t.capacity s.capacity r →
+      MatchOption r (AreSame s t) (λ d. IsFirstDifference s t d)
+  second_ends h r found = past_second s t t.capacity s.capacity r
+      (λ i l. same i (omega (arith, h))) past-2 past found
 
   -- neither goes on
-  pub both_end : common ≡ bits / wide → common ≡ others / wide →
-      AreSame (read_in m w s) (read_in m v t)
-  both_end e f i = elim (cases_lt i (common * wide)) [
-    | inl l ↦ in_common i l
-    | inr g ↦ none_of_first common e i g ∙ sym (none_of_second common f i g)
+  pub both_end : s.capacity ≡ t.capacity → AreSame s t
+  both_end e i = elim (cases_lt i s.capacity) [
+    | inl l ↦ same i (omega (arith, e))
+    | inr g ↦ past i g ∙ sym (past-2 i (omega (arith, e)))
   ]
 
 -- a search past a number

@@ -1,6 +1,7 @@
 pub mod AscendingLists
 pub mod SetOperations
 pub mod Counts
+pub mod DecidedWords
 pub mod MembersBelow
 pub mod BitSets
 pub mod WordEnds

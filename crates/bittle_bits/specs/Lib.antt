@@ -17,3 +17,4 @@ pub mod CountLaws
 pub mod Cursor
 pub mod Count
 pub mod Values
+pub mod Decided

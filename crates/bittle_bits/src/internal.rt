@@ -2,6 +2,7 @@
 
 pub(crate) mod buffer;
 pub(crate) mod cursor;
+pub mod decided;
 pub(crate) mod ghost_count;
 pub mod kind;
 pub(crate) mod range_count;

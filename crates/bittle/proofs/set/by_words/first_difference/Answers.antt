@@ -1,81 +1,72 @@
 use Rattle.std.proofs.Common.{sym, ◌∙◌, arith}
-use Rattle.bittle_bits.specs.Orders.{read_in}
-use Rattle.bittle.proofs.FirstDifference.{none_among, words_within, first_ends, second_ends, both_end}
+use Rattle.bittle_bits.proofs.PlainSets.{members-past}
+use Rattle.bittle_bits.specs.Values.{set_in}
+use Rattle.bittle.proofs.FirstDifference.{some_among, none_among, first_ends, second_ends, both_end}
 use Rattle.bittle.proofs.set.by_words.first_difference.Goals as goal
 
-pub first_difference_below-difference-requires-clause-in_left :
-    goal.first_difference_below-difference-requires-clause-in_left
-first_difference_below-difference-requires-clause-in_left g c =
-    let b = g.met.A.Bits in
-    words_within _ c.bits_capacity.result c.width-width.result _ _ b.width_positive
-    (c.bits_capacity.ensures.value c.requires.left_fits) (c.width-width.ensures ∙ b.leaf_width)
-    (b.whole_words c.args.left.now) (omega (arith, c.min-common.ensures))
+pub returns-then-is_some : goal.returns-then-is_some
+returns-then-is_some g c =
+    some_among (set_in g.A.Shape g.E.Endian c.args.left.now)
+    (set_in g.B.Shape g.E.Endian c.args.right.now) _ c.first_decided-difference.result
+    (sym c.is_some.ensures ∙ c.if-is_some.true) c.first_decided-difference.ensures.first
 
-pub first_difference_below-difference-requires-clause-in_right :
-    goal.first_difference_below-difference-requires-clause-in_right
-first_difference_below-difference-requires-clause-in_right g c =
+pub returns-then-capacity-other : goal.returns-then-capacity-other
+returns-then-capacity-other g c =
+    let a = g.met.A.Bits in
     let b = g.met.B.Bits in
-    words_within _ c.bits_capacity-2.result c.width-width.result _ _ b.width_positive
-    (c.bits_capacity-2.ensures.value c.requires.right_fits)
-    (c.width-width.ensures ∙ g.met.A.Bits.leaf_width ∙ c.requires.width)
-    (b.whole_words c.args.right.now) (omega (arith, c.min-common.ensures))
-
-pub returns-then-words-others : goal.returns-then-words-others
-returns-then-words-others g c =
-    let w = g.A.Shape.width in
     let m = g.E.Endian.mirrored in
     let x = c.args.left.now in
     let y = c.args.right.now in
+    let ours = set_in g.A.Shape g.E.Endian x in
+    let theirs = set_in g.B.Shape g.E.Endian y in
+    let capacity = c.bits_capacity-capacity.ensures.value c.requires.left_fits in
+    let other = c.bits_capacity-other.ensures.value c.requires.right_fits in
+    let same = none_among ours theirs _ c.first_decided-difference.result
+    (sym c.is_some.ensures ∙ c.if-is_some.false) c.first_decided-difference.ensures.first in
+    let past = members-past m _ _ a.width_positive (a.whole_words x) (a.none_past x) in
+    let past-2 = members-past m _ _ b.width_positive (b.whole_words y) (b.none_past y) in
+    first_ends ours theirs past past-2 same (omega (arith, capacity, other, c.if-capacity-other.true))
+    c.first_one_in.result (rw (capacity, other) at c.first_one_in.ensures)
+
+pub returns-then-other-capacity : goal.returns-then-other-capacity
+returns-then-other-capacity g c =
     let a = g.met.A.Bits in
     let b = g.met.B.Bits in
-    first_ends m w g.B.Shape.width (g.A.Shape.big x) (g.B.Shape.big y) c.bits_capacity.result
-    c.bits_capacity-2.result c.width-width.result c.min-common.result a.width_positive
-    c.requires.width (c.width-width.ensures ∙ a.leaf_width)
-    (c.bits_capacity.ensures.value c.requires.left_fits)
-    (c.bits_capacity-2.ensures.value c.requires.right_fits) (a.whole_words x) (b.whole_words y)
-    (a.none_past x) (b.none_past y)
-    (none_among (read_in m w (g.A.Shape.big x)) (read_in m w (g.B.Shape.big y)) _
-    c.first_difference_below-difference.result (sym c.is_some.ensures ∙ c.if-is_some.false)
-    c.first_difference_below-difference.ensures)
-    (omega (arith, c.min-common.ensures, c.if-words-others.true)) c.first_one_in.result
-    c.first_one_in.ensures
-
-pub returns-then-others-words : goal.returns-then-others-words
-returns-then-others-words g c =
-    let w = g.A.Shape.width in
     let m = g.E.Endian.mirrored in
     let x = c.args.left.now in
     let y = c.args.right.now in
+    let ours = set_in g.A.Shape g.E.Endian x in
+    let theirs = set_in g.B.Shape g.E.Endian y in
+    let capacity = c.bits_capacity-capacity.ensures.value c.requires.left_fits in
+    let other = c.bits_capacity-other.ensures.value c.requires.right_fits in
+    let same = none_among ours theirs _ c.first_decided-difference.result
+    (sym c.is_some.ensures ∙ c.if-is_some.false) c.first_decided-difference.ensures.first in
+    let past = members-past m _ _ a.width_positive (a.whole_words x) (a.none_past x) in
+    let past-2 = members-past m _ _ b.width_positive (b.whole_words y) (b.none_past y) in
+    second_ends ours theirs past past-2 same
+    (omega (arith, capacity, other, c.if-other-capacity.true))
+    c.first_one_in-then-other-capacity.result
+    (rw (capacity, other) at c.first_one_in-then-other-capacity.ensures)
+
+pub returns-else-other-capacity : goal.returns-else-other-capacity
+returns-else-other-capacity g c =
     let a = g.met.A.Bits in
     let b = g.met.B.Bits in
-    second_ends m w g.B.Shape.width (g.A.Shape.big x) (g.B.Shape.big y) c.bits_capacity.result
-    c.bits_capacity-2.result c.width-width.result c.min-common.result a.width_positive
-    c.requires.width (c.width-width.ensures ∙ a.leaf_width)
-    (c.bits_capacity.ensures.value c.requires.left_fits)
-    (c.bits_capacity-2.ensures.value c.requires.right_fits) (a.whole_words x) (b.whole_words y)
-    (a.none_past x) (b.none_past y)
-    (none_among (read_in m w (g.A.Shape.big x)) (read_in m w (g.B.Shape.big y)) _
-    c.first_difference_below-difference.result (sym c.is_some.ensures ∙ c.if-is_some.false)
-    c.first_difference_below-difference.ensures)
-    (omega (arith, c.min-common.ensures, c.if-words-others.false))
-    c.first_one_in-then-others-words.result c.first_one_in-then-others-words.ensures
-
-pub returns-else-others-words : goal.returns-else-others-words
-returns-else-others-words g c =
-    let w = g.A.Shape.width in
     let m = g.E.Endian.mirrored in
     let x = c.args.left.now in
     let y = c.args.right.now in
-    let a = g.met.A.Bits in
-    let b = g.met.B.Bits in
-    both_end m w g.B.Shape.width (g.A.Shape.big x) (g.B.Shape.big y) c.bits_capacity.result
-    c.bits_capacity-2.result c.width-width.result c.min-common.result a.width_positive
-    c.requires.width (c.width-width.ensures ∙ a.leaf_width)
-    (c.bits_capacity.ensures.value c.requires.left_fits)
-    (c.bits_capacity-2.ensures.value c.requires.right_fits) (a.whole_words x) (b.whole_words y)
-    (a.none_past x) (b.none_past y)
-    (none_among (read_in m w (g.A.Shape.big x)) (read_in m w (g.B.Shape.big y)) _
-    c.first_difference_below-difference.result (sym c.is_some.ensures ∙ c.if-is_some.false)
-    c.first_difference_below-difference.ensures)
-    (omega (arith, c.min-common.ensures, c.if-words-others.false, c.if-others-words.false))
-    (omega (arith, c.min-common.ensures, c.if-words-others.false))
+    let ours = set_in g.A.Shape g.E.Endian x in
+    let theirs = set_in g.B.Shape g.E.Endian y in
+    let capacity = c.bits_capacity-capacity.ensures.value c.requires.left_fits in
+    let other = c.bits_capacity-other.ensures.value c.requires.right_fits in
+    let same = none_among ours theirs _ c.first_decided-difference.result
+    (sym c.is_some.ensures ∙ c.if-is_some.false) c.first_decided-difference.ensures.first in
+    let past = members-past m _ _ a.width_positive (a.whole_words x) (a.none_past x) in
+    let past-2 = members-past m _ _ b.width_positive (b.whole_words y) (b.none_past y) in
+    both_end ours theirs past past-2 same (omega (
+      arith,
+      capacity,
+      other,
+      c.if-capacity-other.false,
+      c.if-other-capacity.false,
+    ))

@@ -1,9 +1,8 @@
 use Rattle.std.proofs.Common.{◌≡◌, sym, ap, subst, ◌∙◌}
 use Rattle.bittle_bits.specs.BitPatterns.{bit_set}
-use Rattle.bittle_bits.specs.SetOperations.{combination_of, just_one}
+use Rattle.bittle_bits.specs.SetOperations.{combination_of}
 use Rattle.bittle_bits.specs.Words.{word_of}
-use Rattle.bittle_bits.proofs.WordOperations.{digits_just_one}
-use Rattle.bittle.proofs.set.by_words.word_difference.Goals as goal
+use Rattle.bittle_bits.proofs.internal.decided.word_of_both.Goals as goal
 
 pub returns : goal.returns
 returns g c =
@@ -16,5 +15,5 @@ returns g c =
     let theirs : bit_set w (g.A.LeafWord.Word.pattern c.from_bits.result)
     ≡ word_of w t k = ap (bit_set w)
     (c.from_bits.ensures ∙ c.to_bits-theirs.ensures.pattern) ∙ same in
-    ap (bit_set w) c.xor.ensures ∙ digits_just_one w _ _
-    ∙ (λ i. combination_of just_one (c.nth_leaf_word-2.ensures i) (theirs i))
+    (rw g.met.A.Bits.leaf_width at c.on_words.ensures)
+    ∙ (λ i. combination_of g.O.Operation.decide (c.nth_leaf_word-word.ensures i) (theirs i))
