@@ -59,8 +59,8 @@ pub trait BitsMutExt: BitsMut {
         was_set
     }
 
-    /// Sets the bit at `index` if `value` is `true`, else clears it, in the order `E`. An index past
-    /// the capacity wraps. With capacity 0 nothing changes.
+    /// Sets the bit at `index` if `value` is `true`, else clears it, in the order `E`. An index
+    /// past the capacity wraps. With capacity 0 nothing changes.
     ///
     /// The type has to fit; of a slice its element type.
     ///
@@ -100,13 +100,13 @@ pub trait BitsMutExt: BitsMut {
             ≡ with_index_assigned (set_in Self.Shape E.Endian self.old) index value }
         ensures stays { Self.loan self.old ≡ Self.loan self.new }
     {
-        let was_set = self.test_bit_in::<E>(index);
+        let before = self.test_bit_in::<E>(index);
         self.assign_in::<E>(index, value);
-        was_set
+        before
     }
 
-    /// Flips the bit at `index`, in the order `E`. An index past the capacity wraps. With capacity 0
-    /// nothing changes.
+    /// Flips the bit at `index`, in the order `E`. An index past the capacity wraps. With
+    /// capacity 0 nothing changes.
     ///
     /// The type has to fit; of a slice its element type.
     ///
@@ -128,8 +128,8 @@ pub trait BitsMutExt: BitsMut {
     /// Sets each bit at the indexes `from..to` if `value` is `true`, else clears each, in the order
     /// `E`, by one mask a word.
     ///
-    /// The shape has to fit, and `from <= to <= capacity`: nothing wraps. Only the words of the range
-    /// are written. An empty range, as any with capacity 0, changes nothing.
+    /// The shape has to fit, and `from <= to <= capacity`: nothing wraps. Only the words of the
+    /// range are written. An empty range, as any with capacity 0, changes nothing.
     ///
     /// ```
     /// let mut word = 0b1111_1111u8;
@@ -193,9 +193,9 @@ pub trait BitsMutExt: BitsMut {
             ≡ without_index (set_in Self.Shape E.Endian self.old) index) }
         ensures stays { Self.loan self.old ≡ Self.loan self.new }
     {
-        let index = self.first_one_in::<E>(0, self.bits_capacity())?;
-        self.clear_bit_in::<E>(index);
-        Some(index)
+        let first = self.first_one_in::<E>(0, self.bits_capacity())?;
+        self.clear_bit_in::<E>(first);
+        Some(first)
     }
 
     /// Clears the greatest set bit, in the order `E`, and returns its index. If no bit is set, as
@@ -219,9 +219,9 @@ pub trait BitsMutExt: BitsMut {
             ≡ without_index (set_in Self.Shape E.Endian self.old) index) }
         ensures stays { Self.loan self.old ≡ Self.loan self.new }
     {
-        let index = self.last_one_in::<E>(0, self.bits_capacity())?;
-        self.clear_bit_in::<E>(index);
-        Some(index)
+        let last = self.last_one_in::<E>(0, self.bits_capacity())?;
+        self.clear_bit_in::<E>(last);
+        Some(last)
     }
 
     /// Sets the least unset bit, in the order `E`, and returns its index, as an allocator of slots
@@ -245,13 +245,13 @@ pub trait BitsMutExt: BitsMut {
             ≡ with_index (set_in Self.Shape E.Endian self.old) index) }
         ensures stays { Self.loan self.old ≡ Self.loan self.new }
     {
-        let index = self.first_zero_in::<E>(0, self.bits_capacity())?;
-        self.set_bit_in::<E>(index);
-        Some(index)
+        let free = self.first_zero_in::<E>(0, self.bits_capacity())?;
+        self.set_bit_in::<E>(free);
+        Some(free)
     }
 
-    /// Sets the bit at each of the indexes, in the order `E`. An index past the capacity wraps. With
-    /// capacity 0 nothing changes.
+    /// Sets the bit at each of the indexes, in the order `E`. An index past the capacity wraps.
+    /// With capacity 0 nothing changes.
     ///
     /// The type has to fit; of a slice its element type.
     ///
@@ -308,7 +308,8 @@ pub trait BitsMutExt: BitsMut {
     #[inline]
     final fn insert(&mut self, index: u32) -> bool
         requires { IsTrue Self.indexable }
-        ensures was_unset { result ≡ not (contains (set_in Self.Shape Self.Order.Endian self.old) index) }
+        ensures was_unset { result
+            ≡ not (contains (set_in Self.Shape Self.Order.Endian self.old) index) }
         ensures set { set_in Self.Shape Self.Order.Endian self.new
             ≡ with_index (set_in Self.Shape Self.Order.Endian self.old) index }
         ensures stays { Self.loan self.old ≡ Self.loan self.new }

@@ -50,8 +50,8 @@ pub trait BitsOwnedExt: BitsOwned {
         set
     }
 
-    /// Returns the set with each bit at the indexes `from..to` unset, in the order `E`, by one mask a
-    /// word.
+    /// Returns the set with each bit at the indexes `from..to` unset, in the order `E`, by one mask
+    /// a word.
     ///
     /// `from <= to <= capacity`: nothing wraps. An empty range, as any with capacity 0, changes
     /// nothing.
@@ -72,8 +72,8 @@ pub trait BitsOwnedExt: BitsOwned {
         set
     }
 
-    /// Returns the set with each bit at the indexes `from..to` flipped, in the order `E`, by one mask
-    /// a word.
+    /// Returns the set with each bit at the indexes `from..to` flipped, in the order `E`, by one
+    /// mask a word.
     ///
     /// `from <= to <= capacity`: nothing wraps. An empty range, as any with capacity 0, changes
     /// nothing.

@@ -1,0 +1,96 @@
+//! Changes of sets of any shape.
+
+ghost use Rattle.std.specs.Prelude.{◌≡◌, ◌≤◌, not, Bool, IsTrue, MatchOption};
+ghost use Rattle.std.specs.List.{fold};
+ghost use Rattle.bittle.specs.PlainSet.{ascending, complement, contains, with_index, without_index, without_span};
+ghost use Rattle.bittle.specs.Searches.{IsFirstIn};
+ghost use Rattle.bittle.specs.Values.{set_in, set_mirrored, ShapeFits};
+
+use bittle::{Bits, BitsMut, BitsOwned, Endian};
+use bittle_ext::{BitsMutExt, BitsOwnedExt};
+
+/// Sets a bit, and returns whether it was unset.
+pub fn add_new<B: BitsMut>(set: &mut B, index: u32) -> bool
+    requires { IsTrue B.indexable }
+    ensures was_unset { result ≡ not (contains (set_in B.Shape B.Order.Endian set.old) index) }
+    ensures set { set_in B.Shape B.Order.Endian set.new
+        ≡ with_index (set_in B.Shape B.Order.Endian set.old) index }
+{
+    set.insert(index)
+}
+
+/// Clears the bits of a range.
+pub fn clear<B: BitsMut, E: Endian>(set: &mut B, from: u32, to: u32)
+    requires fits { ShapeFits B.Shape set.old }
+    requires ordered { from ≤ to }
+    requires within { to ≤ (B.big set.old).capacity }
+    ensures cleared { set_in B.Shape E.Endian set.new
+        ≡ without_span (set_in B.Shape E.Endian set.old) from to }
+    ensures stays { B.loan set.old ≡ B.loan set.new }
+{
+    set.assign_range_in::<E>(from, to, false);
+}
+
+/// Flips each bit, and returns how many are set then.
+pub fn flip<B: BitsMut>(set: &mut B) -> u32
+    requires { ShapeFits B.Shape set.old }
+    ensures { (mirrored : Bool) → set_mirrored B.Shape mirrored set.new
+        ≡ complement (set_mirrored B.Shape mirrored set.old) }
+{
+    set.complement_assign();
+    set.count_ones()
+}
+
+/// Takes the least free slot.
+pub fn take_slot<B: BitsMut>(slots: &mut B) -> Option<u32>
+    requires { ShapeFits B.Shape slots.old }
+    ensures least { let free = complement (set_in B.Shape B.Order.Endian slots.old) in
+        IsFirstIn free 0 free.capacity result }
+    ensures taken { MatchOption result (slots.new ≡ slots.old)
+        (λ slot. set_in B.Shape B.Order.Endian slots.new
+        ≡ with_index (set_in B.Shape B.Order.Endian slots.old) slot) }
+{
+    slots.take_first_zero()
+}
+
+/// Returns the bits that are unset.
+pub fn others<B: BitsOwned>(set: B) -> B
+    requires { IsTrue B.indexable }
+    ensures { set_in B.Shape B.Order.Endian result
+        ≡ complement (set_in B.Shape B.Order.Endian set) }
+{
+    set.complement()
+}
+
+/// Sets each bit that is set in another set, of whatever shape.
+pub fn unite<A: BitsMut, B: Bits>(set: &mut A, other: &B)
+    requires indexable { IsTrue A.indexable }
+    requires other_fits { ShapeFits B.Shape other.now }
+    ensures { set_in A.Shape A.Order.Endian set.new
+        ≡ fold with_index (set_in A.Shape A.Order.Endian set.old)
+        (ascending (set_in B.Shape B.Order.Endian other.now)) }
+{
+    set.extend(other.iter_ones());
+}
+
+/// Takes the least index, under the extension's own bound.
+pub fn take_least_of<B: BitsMutExt>(set: &mut B) -> Option<u32>
+    requires { ShapeFits B.Shape set.old }
+    ensures least { let before = set_in B.Shape B.Order.Endian set.old in
+        IsFirstIn before 0 before.capacity result }
+    ensures stays { B.loan set.old ≡ B.loan set.new }
+{
+    set.pop_first()
+}
+
+/// Moves an index from one set to the other, and returns whether it was in the first.
+pub fn hand_over<B: BitsMutExt>(one: &mut B, other: &mut B, index: u32) -> bool
+    requires { IsTrue B.indexable }
+    ensures was { result ≡ contains (set_in B.Shape B.Order.Endian one.old) index }
+    ensures one { set_in B.Shape B.Order.Endian one.new
+        ≡ without_index (set_in B.Shape B.Order.Endian one.old) index }
+{
+    let was = one.remove(index);
+    other.assign(index, was);
+    was
+}

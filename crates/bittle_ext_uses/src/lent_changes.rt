@@ -1,0 +1,71 @@
+//! Changes of slices that a caller lends.
+
+ghost use Rattle.std.specs.Prelude.{◌≡◌, ◌*◌, ◌<◌, ◌≤◌, length, not, MatchOption};
+ghost use Rattle.bittle.specs.BitPatterns.{bit_set};
+ghost use Rattle.bittle.specs.PlainSet.{complement, contains, with_index, with_span, without_index, without_span};
+ghost use Rattle.bittle.specs.Rows.{row_set};
+ghost use Rattle.bittle.specs.Searches.{IsFirstIn};
+
+use bittle::Set;
+use bittle_ext::BitsMutExt;
+
+/// Sets the bits of a range.
+pub fn fill(words: &mut [u64], from: u32, to: u32)
+    requires fits { length words.old * 64 < 4294967295 }
+    requires ordered { from ≤ to }
+    requires within { to ≤ length words.old * 64 }
+    ensures { row_set (length words.new) 64 (bit_set 64) words.new
+        ≡ with_span (row_set (length words.old) 64 (bit_set 64) words.old) from to }
+{
+    let mut set = Set::from_mut(words);
+    set.set_range(from, to);
+}
+
+/// Clears the bits of a range.
+pub fn clear(words: &mut [u64], from: u32, to: u32)
+    requires fits { length words.old * 64 < 4294967295 }
+    requires ordered { from ≤ to }
+    requires within { to ≤ length words.old * 64 }
+    ensures { row_set (length words.new) 64 (bit_set 64) words.new
+        ≡ without_span (row_set (length words.old) 64 (bit_set 64) words.old) from to }
+{
+    let mut held = (words,);
+    let lent = &mut held;
+    lent.0.clear_range(from, to);
+}
+
+/// Sets a bit of a slice of any length, and returns whether it was unset.
+pub fn add(words: &mut [u64], index: u32) -> bool
+    ensures was_unset { result ≡ not (contains
+        (row_set (length words.old) 64 (bit_set 64) words.old) index) }
+    ensures set { row_set (length words.new) 64 (bit_set 64) words.new
+        ≡ with_index (row_set (length words.old) 64 (bit_set 64) words.old) index }
+{
+    let mut held = (words,);
+    let lent = &mut held;
+    lent.0.insert(index)
+}
+
+/// Takes the least index.
+pub fn take_least(words: &mut [u64]) -> Option<u32>
+    requires { length words.old * 64 < 4294967295 }
+    ensures least { IsFirstIn (row_set (length words.old) 64 (bit_set 64) words.old)
+        0 (length words.old * 64) result }
+    ensures taken { MatchOption result (words.new ≡ words.old)
+        (λ index. row_set (length words.new) 64 (bit_set 64) words.new
+        ≡ without_index (row_set (length words.old) 64 (bit_set 64) words.old) index) }
+{
+    let mut held = (words,);
+    let lent = &mut held;
+    lent.0.pop_first()
+}
+
+/// Flips each bit.
+pub fn flip(words: &mut [u8])
+    requires { length words.old * 8 < 4294967295 }
+    ensures { row_set (length words.new) 8 (bit_set 8) words.new
+        ≡ complement (row_set (length words.old) 8 (bit_set 8) words.old) }
+{
+    let mut set = Set::from_mut(words);
+    set.complement_assign();
+}

@@ -1,0 +1,8 @@
+//! Callers of the everyday calls, each proved from public contracts with no proof file.
+#![tactic(auto)]
+
+pub mod any_changes;
+pub mod lent_changes;
+pub mod made_sets;
+pub mod shape_changes;
+pub mod word_changes;

@@ -1,0 +1,62 @@
+//! Sets made of indexes, ranges and other sets.
+
+ghost use Rattle.std.specs.List.{fold, range_with_len};
+ghost use Rattle.std.specs.Prelude.{◌≡◌, ◌-◌, ◌≤◌, false, true};
+ghost use Rattle.bittle.specs.BitPatterns.{bit_set};
+ghost use Rattle.bittle.specs.Orders.{read_in};
+ghost use Rattle.bittle.specs.PlainSet.{ascending, complement, empty_set, with_index, with_span, without_span, with_span_toggled};
+
+use bittle::{Bits, LittleEndian};
+use bittle_ext::BitsOwnedExt;
+
+/// Returns the bits that are unset.
+pub fn others(mask: u8) -> u8
+    ensures { bit_set 8 result ≡ complement (bit_set 8 mask) }
+{
+    mask.complement()
+}
+
+/// Returns the set of three indexes.
+pub fn three(a: u32, b: u32, c: u32) -> u64
+    ensures { bit_set 64 result ≡ with_index (with_index (with_index (empty_set 64) a) b) c }
+{
+    u64::from_indexes(&[a, b, c])
+}
+
+/// Returns the set of a list, from the left.
+pub fn all_of(indexes: &[u32]) -> u64
+    ensures { read_in true 64 (bit_set 64 result)
+        ≡ fold with_index (empty_set 64) indexes.now }
+{
+    u64::from_indexes_in::<LittleEndian>(indexes)
+}
+
+/// Returns the set of what another set yields.
+pub fn widened(mask: u8) -> u32
+    ensures { bit_set 32 result
+        ≡ fold with_index (empty_set 32) (ascending (bit_set 8 mask)) }
+{
+    u32::from_iter(mask.iter_ones())
+}
+
+/// Returns the set of each fourth index.
+pub fn each_fourth() -> u64 {
+    u64::from_iter((0..64).step_by(4))
+}
+
+/// Returns a mask of a range.
+pub fn mask_of(from: u32, to: u32) -> u64
+    requires ordered { from ≤ to }
+    requires within { to ≤ 64 }
+    ensures { bit_set 64 result ≡ with_span (bit_set 64 0) from to }
+{
+    0u64.with_range(from, to)
+}
+
+/// Returns the word without a range, and with another one flipped.
+pub fn changed(mask: u32) -> u32
+    ensures { bit_set 32 result
+        ≡ with_span_toggled (without_span (bit_set 32 mask) 4 9) 20 32 }
+{
+    mask.without_range(4, 9).with_range_toggled(20, 32)
+}

@@ -1,0 +1,93 @@
+//! Changes of single words.
+
+ghost use Rattle.std.specs.Prelude.{◌≡◌, ◌<◌, ◌≤◌, not, true, MatchOption};
+ghost use Rattle.bittle.specs.BitPatterns.{bit_set};
+ghost use Rattle.bittle.specs.Orders.{read_in};
+ghost use Rattle.bittle.specs.PlainSet.{complement, contains, with_index, with_span, with_span_toggled, without_index, without_span};
+ghost use Rattle.bittle.specs.Searches.{IsFirstIn, IsLastIn};
+ghost use Rattle.bittle_ext.specs.Changes.{with_index_assigned, with_index_toggled};
+
+use bittle::LittleEndian;
+use bittle_ext::BitsMutExt;
+
+/// Sets a bit, and returns whether it was unset.
+pub fn add(mask: &mut u64, index: u32) -> bool
+    requires { index < 64 }
+    ensures was_unset { result ≡ not (contains (bit_set 64 mask.old) index) }
+    ensures set { bit_set 64 mask.new ≡ with_index (bit_set 64 mask.old) index }
+{
+    mask.insert(index)
+}
+
+/// Clears a bit, and returns whether it was set.
+pub fn take_away(mask: &mut i64, index: u32) -> bool {
+    mask.remove(index)
+}
+
+/// Sets or clears a bit from the left, and returns whether it was set.
+pub fn put(mask: &mut u8, index: u32, value: bool) -> bool
+    ensures was { result ≡ contains (read_in true 8 (bit_set 8 mask.old)) index }
+    ensures set { read_in true 8 (bit_set 8 mask.new)
+        ≡ with_index_assigned (read_in true 8 (bit_set 8 mask.old)) index value }
+{
+    mask.replace_in::<LittleEndian>(index, value)
+}
+
+/// Sets a bit by its value.
+pub fn set_by_value(mask: &mut u16, index: u32)
+    ensures { bit_set 16 mask.new ≡ with_index (bit_set 16 mask.old) index }
+{
+    mask.assign(index, true);
+}
+
+/// Flips a bit twice.
+pub fn flip_twice(mask: &mut u8, index: u32)
+    ensures { bit_set 8 mask.new
+        ≡ with_index_toggled (with_index_toggled (bit_set 8 mask.old) index) index }
+{
+    mask.toggle(index);
+    mask.toggle(index);
+}
+
+/// Sets the bits of a range but those of another one, and flips them all.
+pub fn ranges(mask: &mut u64)
+    ensures { bit_set 64 mask.new
+        ≡ with_span_toggled (without_span (with_span (bit_set 64 mask.old) 3 40) 10 20) 0 64 }
+{
+    mask.set_range(3, 40);
+    mask.assign_range(10, 20, false);
+    mask.toggle_range(0, 64);
+}
+
+/// Takes the least index.
+pub fn take_least(mask: &mut u128) -> Option<u32>
+    ensures least { IsFirstIn (bit_set 128 mask.old) 0 128 result }
+    ensures set { MatchOption result (mask.new ≡ mask.old)
+        (λ index. bit_set 128 mask.new ≡ without_index (bit_set 128 mask.old) index) }
+{
+    mask.pop_first()
+}
+
+/// Takes the greatest index from the left.
+pub fn take_greatest_le(mask: &mut u8) -> Option<u32>
+    ensures greatest { IsLastIn (read_in true 8 (bit_set 8 mask.old)) 0 8 result }
+{
+    mask.pop_last_in::<LittleEndian>()
+}
+
+/// Takes the least free slot.
+pub fn take_slot(slots: &mut u32) -> Option<u32>
+    ensures least { IsFirstIn (complement (bit_set 32 slots.old)) 0 32 result }
+    ensures taken { MatchOption result (slots.new ≡ slots.old)
+        (λ slot. bit_set 32 slots.new ≡ with_index (bit_set 32 slots.old) slot) }
+{
+    slots.take_first_zero()
+}
+
+/// Returns what remains where both ends are taken out.
+pub fn without_ends(mask: u64) -> u64 {
+    let mut rest = mask;
+    rest.pop_first();
+    rest.pop_last();
+    rest
+}
