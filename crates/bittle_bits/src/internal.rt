@@ -5,7 +5,7 @@ pub(crate) mod cursor;
 pub mod decided;
 pub(crate) mod ghost_count;
 pub mod kind;
-pub(crate) mod range_count;
+pub mod range_count;
 pub(crate) mod row;
 pub mod sealed;
 pub(crate) mod search;

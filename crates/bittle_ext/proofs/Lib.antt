@@ -1,3 +1,4 @@
 mod Complements
+pub mod RankFacts
 pub mod RunFacts
 pub mod SetFacts

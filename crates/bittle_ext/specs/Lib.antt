@@ -1,2 +1,4 @@
 pub mod Changes
 pub mod Runs
+pub mod Ranges
+pub mod Ranks

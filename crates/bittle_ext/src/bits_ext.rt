@@ -1,11 +1,13 @@
 //! Reading a set.
 
+ghost use Rattle.std.specs.Prelude.{◌≡◌, ◌-◌, ◌≤◌, MatchBool, slice_get};
+ghost use Rattle.bittle_ext.specs.Ranges.{HasSomeIn, HasAllIn};
 ghost use Rattle.bittle_ext.specs.Runs.{IsFirstRun};
-ghost use Rattle.bittle.specs.PlainSet.{complement};
-ghost use Rattle.bittle.specs.Searches.{IsFirstIn, IsLastIn};
+ghost use Rattle.bittle.specs.PlainSet.{ascending, complement, members_below};
+ghost use Rattle.bittle.specs.Searches.{IsFirstIn, IsLastIn, NoneIn};
 ghost use Rattle.bittle.specs.Values.{set_in, ShapeFits};
 
-use crate::runs;
+use crate::{ranks, runs};
 use bittle::{Bits, Endian};
 
 /// What can be asked of any set beyond the calls of [`Bits`].
@@ -222,6 +224,226 @@ pub trait BitsExt: Bits {
             IsLastIn (complement ours) 0 to result }
     {
         self.prev_zero_in::<Self::Order>(to)
+    }
+
+    /// Returns how many set bits lie below `index`, in the order `E`. An `index` past the capacity
+    /// means the capacity. Words are counted whole, the last one by a mask.
+    ///
+    /// ```
+    /// 0b1100_0001u8.rank_in::<LittleEndian>(7);           // 2
+    /// ```
+    #[inline]
+    final fn rank_in<E: Endian>(&self, index: u32) -> u32
+    where
+        Self: Sized,
+        requires { ShapeFits Self.Shape self.now }
+        ensures value { result ≡ members_below (set_in Self.Shape E.Endian self.now) index }
+        ensures at_most { result ≤ (Self.big self.now).capacity }
+    {
+        self.count_ones_in_range_in::<E>(0, index.min(self.bits_capacity()))
+    }
+
+    /// Returns how many set bits lie below `index`, in the order of the type, as
+    /// [`rank_in`](BitsExt::rank_in) does.
+    ///
+    /// ```
+    /// 0b0010_0010u8.rank(5);                              // 1
+    /// ```
+    #[inline]
+    final fn rank(&self, index: u32) -> u32
+    where
+        Self: Sized,
+        requires { ShapeFits Self.Shape self.now }
+        ensures value { result
+            ≡ members_below (set_in Self.Shape Self.Order.Endian self.now) index }
+        ensures at_most { result ≤ (Self.big self.now).capacity }
+    {
+        self.rank_in::<Self::Order>(index)
+    }
+
+    /// Returns the index of the set bit below which `rank` bits are set, in the order `E`, or `None`
+    /// if no more than `rank` bits are set.
+    ///
+    /// Words are counted whole up to that of the answer, which halves find: six of a `u64`.
+    ///
+    /// ```
+    /// 0b1100_0001u8.select_in::<LittleEndian>(2);         // Some(7)
+    /// ```
+    #[inline]
+    final fn select_in<E: Endian>(&self, rank: u32) -> Option<u32>
+    where
+        Self: Sized,
+        requires { ShapeFits Self.Shape self.now }
+        ensures { result ≡ slice_get (ascending (set_in Self.Shape E.Endian self.now)) rank }
+    {
+        ranks::select::<Self, E>(self, rank)
+    }
+
+    /// Returns the index of the set bit below which `rank` bits are set, in the order of the type, as
+    /// [`select_in`](BitsExt::select_in) does.
+    ///
+    /// ```
+    /// 0b0010_0010u8.select(1);                            // Some(5)
+    /// ```
+    #[inline]
+    final fn select(&self, rank: u32) -> Option<u32>
+    where
+        Self: Sized,
+        requires { ShapeFits Self.Shape self.now }
+        ensures { result
+            ≡ slice_get (ascending (set_in Self.Shape Self.Order.Endian self.now)) rank }
+    {
+        self.select_in::<Self::Order>(rank)
+    }
+
+    /// Returns how many bits of `from..to` are set, in the order of the type, as
+    /// [`count_ones_in_range_in`](Bits::count_ones_in_range_in) does.
+    ///
+    /// The shape has to fit, and `from <= to <= capacity`: nothing wraps.
+    ///
+    /// ```
+    /// 0b0110_0010u8.count_ones_in_range(1, 6);            // 2: bits 1 and 5
+    /// ```
+    #[inline]
+    final fn count_ones_in_range(&self, from: u32, to: u32) -> u32
+    where
+        Self: Sized,
+        requires fits { ShapeFits Self.Shape self.now }
+        requires ordered { from ≤ to }
+        requires within { to ≤ (Self.big self.now).capacity }
+        ensures value { let ours = set_in Self.Shape Self.Order.Endian self.now in
+            result ≡ members_below ours to - members_below ours from }
+        ensures at_most { result ≤ to - from }
+    {
+        self.count_ones_in_range_in::<Self::Order>(from, to)
+    }
+
+    /// Returns how many bits of `from..to` are unset, in the order `E`.
+    ///
+    /// The shape has to fit, and `from <= to <= capacity`: nothing wraps. Each word of the range is
+    /// counted at once. With capacity 0 it returns 0.
+    ///
+    /// ```
+    /// 0b0110_0010u8.count_zeros_in_range_in::<LittleEndian>(1, 6); // 3: bits 3, 4 and 5
+    /// ```
+    #[inline]
+    final fn count_zeros_in_range_in<E: Endian>(&self, from: u32, to: u32) -> u32
+    where
+        Self: Sized,
+        requires fits { ShapeFits Self.Shape self.now }
+        requires ordered { from ≤ to }
+        requires within { to ≤ (Self.big self.now).capacity }
+        ensures value { let others = complement (set_in Self.Shape E.Endian self.now) in
+            result ≡ members_below others to - members_below others from }
+        ensures at_most { result ≤ to - from }
+    {
+        to - from - self.count_ones_in_range_in::<E>(from, to)
+    }
+
+    /// Returns how many bits of `from..to` are unset, in the order of the type, as
+    /// [`count_zeros_in_range_in`](BitsExt::count_zeros_in_range_in) does.
+    ///
+    /// The shape has to fit, and `from <= to <= capacity`: nothing wraps.
+    ///
+    /// ```
+    /// 0b0110_0010u8.count_zeros_in_range(1, 6);           // 3: bits 2, 3 and 4
+    /// ```
+    #[inline]
+    final fn count_zeros_in_range(&self, from: u32, to: u32) -> u32
+    where
+        Self: Sized,
+        requires fits { ShapeFits Self.Shape self.now }
+        requires ordered { from ≤ to }
+        requires within { to ≤ (Self.big self.now).capacity }
+        ensures value { let others = complement (set_in Self.Shape Self.Order.Endian self.now) in
+            result ≡ members_below others to - members_below others from }
+        ensures at_most { result ≤ to - from }
+    {
+        self.count_zeros_in_range_in::<Self::Order>(from, to)
+    }
+
+    /// Returns `true` if a bit of `from..to` is set, in the order `E`.
+    ///
+    /// The shape has to fit, and `from <= to <= capacity`: nothing wraps. In an empty range none is.
+    /// Words are read up to the first set bit.
+    ///
+    /// ```
+    /// 0b0110_0000u8.any_in_range_in::<LittleEndian>(3, 8); // false
+    /// ```
+    #[inline]
+    final fn any_in_range_in<E: Endian>(&self, from: u32, to: u32) -> bool
+    where
+        Self: Sized,
+        requires fits { ShapeFits Self.Shape self.now }
+        requires ordered { from ≤ to }
+        requires within { to ≤ (Self.big self.now).capacity }
+        ensures { let ours = set_in Self.Shape E.Endian self.now in
+            MatchBool result (HasSomeIn ours from to) (NoneIn ours from to) }
+    {
+        self.first_one_in::<E>(from, to).is_some()
+    }
+
+    /// Returns `true` if a bit of `from..to` is set, in the order of the type, as
+    /// [`any_in_range_in`](BitsExt::any_in_range_in) does.
+    ///
+    /// The shape has to fit, and `from <= to <= capacity`: nothing wraps.
+    ///
+    /// ```
+    /// 0b0110_0000u8.any_in_range(3, 6);                   // true: bit 5
+    /// ```
+    #[inline]
+    final fn any_in_range(&self, from: u32, to: u32) -> bool
+    where
+        Self: Sized,
+        requires fits { ShapeFits Self.Shape self.now }
+        requires ordered { from ≤ to }
+        requires within { to ≤ (Self.big self.now).capacity }
+        ensures { let ours = set_in Self.Shape Self.Order.Endian self.now in
+            MatchBool result (HasSomeIn ours from to) (NoneIn ours from to) }
+    {
+        self.any_in_range_in::<Self::Order>(from, to)
+    }
+
+    /// Returns `true` if each bit of `from..to` is set, in the order `E`.
+    ///
+    /// The shape has to fit, and `from <= to <= capacity`: nothing wraps. In an empty range each is.
+    /// Words are read up to the first unset bit.
+    ///
+    /// ```
+    /// 0b0110_0000u8.all_in_range_in::<LittleEndian>(1, 3); // true
+    /// ```
+    #[inline]
+    final fn all_in_range_in<E: Endian>(&self, from: u32, to: u32) -> bool
+    where
+        Self: Sized,
+        requires fits { ShapeFits Self.Shape self.now }
+        requires ordered { from ≤ to }
+        requires within { to ≤ (Self.big self.now).capacity }
+        ensures { let ours = set_in Self.Shape E.Endian self.now in
+            MatchBool result (HasAllIn ours from to) (HasSomeIn (complement ours) from to) }
+    {
+        self.first_zero_in::<E>(from, to).is_none()
+    }
+
+    /// Returns `true` if each bit of `from..to` is set, in the order of the type, as
+    /// [`all_in_range_in`](BitsExt::all_in_range_in) does.
+    ///
+    /// The shape has to fit, and `from <= to <= capacity`: nothing wraps.
+    ///
+    /// ```
+    /// 0b0110_0000u8.all_in_range(5, 8);                   // false: bit 7 is unset
+    /// ```
+    #[inline]
+    final fn all_in_range(&self, from: u32, to: u32) -> bool
+    where
+        Self: Sized,
+        requires fits { ShapeFits Self.Shape self.now }
+        requires ordered { from ≤ to }
+        requires within { to ≤ (Self.big self.now).capacity }
+        ensures { let ours = set_in Self.Shape Self.Order.Endian self.now in
+            MatchBool result (HasAllIn ours from to) (HasSomeIn (complement ours) from to) }
+    {
+        self.all_in_range_in::<Self::Order>(from, to)
     }
 
     /// Returns the least index from `from` on where `length` unset bits begin, in the order `E`, or

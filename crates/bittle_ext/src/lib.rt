@@ -25,6 +25,9 @@ mod bits_ext;
 mod bits_mut_ext;
 mod bits_owned_ext;
 pub mod prelude;
+#[doc(hidden)]
+pub mod rank_laws;
+mod ranks;
 mod runs;
 
 pub use bits_ext::BitsExt;

@@ -11,7 +11,7 @@ use crate::word::Word;
 
 /// Counts the set bits of word `k`.
 #[inline]
-fn count_word<B: Bits, E: Endian>(bits: &B, k: u32) -> u32
+pub fn count_word<B: Bits, E: Endian>(bits: &B, k: u32) -> u32
     requires fits { ShapeFits B.Shape bits.now }
     requires word { k * B.width < (B.big bits.now).capacity }
     ensures { let ours = set_in B.Shape E.Endian bits.now in
@@ -22,7 +22,7 @@ fn count_word<B: Bits, E: Endian>(bits: &B, k: u32) -> u32
 
 /// Counts the set bits of word `k` from one place of it on and before another.
 #[inline]
-fn count_in_word<B: Bits, E: Endian>(bits: &B, k: u32, from: u32, to: u32) -> u32
+pub fn count_in_word<B: Bits, E: Endian>(bits: &B, k: u32, from: u32, to: u32) -> u32
     requires fits { ShapeFits B.Shape bits.now }
     requires word { k * B.width < (B.big bits.now).capacity }
     requires ordered { from ≤ to }

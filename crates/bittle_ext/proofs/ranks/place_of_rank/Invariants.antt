@@ -1,0 +1,19 @@
+use Rattle.std.proofs.Common.{◌+◌, ◌*◌, ◌<◌, ◌≤◌}
+use Rattle.bittle.specs.Orders.{read_in}
+use Rattle.bittle.specs.PlainSet.{members_below}
+use Rattle.bittle_ext.proofs.ranks.place_of_rank.Given as goal
+
+abbrev pub invariant-loop-span : goal.invariant-loop-span
+invariant-loop-span g l =
+    let w = g.B.Shape.width in
+    let ours = read_in g.E.Endian.mirrored w (g.B.Shape.big l.bits) in
+    let start = l.k * w in
+    record {
+      some : 0 < l.span;
+      within : l.at + l.span ≤ w;
+      from : members_below ours (start + l.at) ≤ members_below ours start + l.rest;
+      to : members_below ours start + l.rest < members_below ours (start + l.at + l.span);
+    }
+
+abbrev pub decreases-loop-span : goal.decreases-loop-span
+decreases-loop-span g l = l.span

@@ -1,0 +1,39 @@
+use Rattle.std.proofs.Common.{◌≡◌, ◌*◌, ◌+◌, ap, ◌∙◌, arith}
+use Rattle.bittle.specs.Values.{set_in}
+use Rattle.bittle_bits.proofs.Words.{word_ends}
+use Rattle.bittle_ext.proofs.RankFacts.{selected, not_selected}
+use Rattle.bittle_ext.proofs.ranks.select.Goals as goal
+
+pub overflow_add-result : goal.overflow_add-result
+overflow_add-result g c =
+    let b = g.met.B.Bits in
+    let w = g.B.Shape.width in
+    let s = set_in g.B.Shape g.E.Endian c.args.bits.now in
+    let wide : c.width-width.result ≡ w = c.width-width.ensures ∙ b.leaf_width in
+    let at : c.in-Some.k * c.width-width.result ≡ c.in-Some.k * w = ap (λ v. c.in-Some.k * v) wide in
+    omega (
+      arith,
+      at,
+      word_ends w c.in-Some.k s.capacity (b.whole_words c.args.bits.now) c.in-Some.ensures.0,
+      c.place_of_rank.ensures.within,
+      c.requires.1,
+    )
+
+pub returns-in-Some : goal.returns-in-Some
+returns-in-Some g c =
+    let b = g.met.B.Bits in
+    let w = g.B.Shape.width in
+    let s = set_in g.B.Shape g.E.Endian c.args.bits.now in
+    let wide : c.width-width.result ≡ w = c.width-width.ensures ∙ b.leaf_width in
+    let place = c.place_of_rank.ensures in
+    rw wide (selected s (c.in-Some.k * w + c.place_of_rank.result) c.args.rank
+    (omega (
+      arith,
+      word_ends w c.in-Some.k s.capacity (b.whole_words c.args.bits.now) c.in-Some.ensures.0,
+      place.within,
+    ))
+    place.is_set (place.rank ∙ c.in-Some.ensures.1))
+
+pub returns-in-None : goal.returns-in-None
+returns-in-None g c =
+    not_selected (set_in g.B.Shape g.E.Endian c.args.bits.now) c.args.rank c.in-None.ensures

@@ -1,0 +1,23 @@
+-- Which member has so many members below it.
+use Rattle.std.specs.Prelude.{◌≡◌, ℕ, ◌+◌, ◌*◌, ◌<◌, ◌≤◌, true, Some, slice_get}
+use Rattle.bittle.specs.PlainSet.{PlainSet, ascending, members_below, size}
+
+-- no member has so many below it
+abbrev pub HasNoRank : PlainSet → ℕ → Type 0
+HasNoRank s rank = size s ≤ rank
+
+-- the member that has so many below it lies in word k, of words of w bits, and of that word so many
+-- members lie below it
+abbrev pub IsInWord : PlainSet → ℕ → ℕ → ℕ → ℕ → Type 0
+IsInWord s w rank k rest = (k * w < s.capacity) × (members_below s (k * w) + rest ≡ rank)
+    × (rank < members_below s ((k + 1) * w))
+
+-- each member is the item at its rank, and the rank of an item is its place
+pub record RankUndoesSelect (s : PlainSet) : Type 0 where
+  pub member_at_rank : (i : ℕ) → i < s.capacity → s.has i ≡ true →
+      slice_get (ascending s) (members_below s i) ≡ Some i
+  pub rank_of_item : (r i : ℕ) → slice_get (ascending s) r ≡ Some i → members_below s i ≡ r
+
+-- so it is of every set
+abbrev pub RanksUndoSelection : Type 0
+RanksUndoSelection = (s : PlainSet) → RankUndoesSelect s

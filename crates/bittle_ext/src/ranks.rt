@@ -1,0 +1,72 @@
+//! The set bit of a rank: its word by the counts of whole words, its place there by halves.
+
+ghost use Rattle.std.specs.Prelude.{◌≡◌, ◌+◌, ◌*◌, ◌<◌, ◌≤◌, true, MatchOption, slice_get};
+ghost use Rattle.bittle_ext.specs.Ranks.{HasNoRank, IsInWord};
+ghost use Rattle.bittle.specs.PlainSet.{ascending, members_below};
+ghost use Rattle.bittle.specs.Values.{set_in, ShapeFits};
+
+use bittle::{Bits, Endian};
+use bittle_bits::internal::range_count::{count_in_word, count_word};
+use bittle_bits::word::Word;
+
+/// Returns the word with the set bit of a rank, and how many bits of the word are set below that
+/// one, or `None` if there is no such bit.
+#[inline]
+fn word_of_rank<B: Bits, E: Endian>(bits: &B, rank: u32) -> Option<(u32, u32)>
+    requires { ShapeFits B.Shape bits.now }
+    ensures { let ours = set_in B.Shape E.Endian bits.now in
+        MatchOption result (HasNoRank ours rank) (λ at. IsInWord ours B.width rank at.0 at.1) }
+{
+    let width = <B::LeafWord as Word>::width();
+    let mut rest = rank;
+    for k in 0..bits.bits_capacity() / width {
+        let count = count_word::<B, E>(bits, k);
+        if rest < count {
+            return Some((k, rest));
+        }
+        rest -= count;
+    }
+    None
+}
+
+/// Returns the place in word `k` of the set bit below which `rest` bits of the word are set.
+///
+/// It lies in a span of the word, which is halved: the lower half has it if more than `rest` bits
+/// are set below the half's end.
+#[inline]
+fn place_of_rank<B: Bits, E: Endian>(bits: &B, k: u32, rest: u32) -> u32
+    requires fits { ShapeFits B.Shape bits.now }
+    requires word { k * B.width < (B.big bits.now).capacity }
+    requires has_it { let ours = set_in B.Shape E.Endian bits.now in
+        members_below ours (k * B.width) + rest < members_below ours ((k + 1) * B.width) }
+    ensures within { result < B.width }
+    ensures is_set { (set_in B.Shape E.Endian bits.now).has (k * B.width + result) ≡ true }
+    ensures rank { let ours = set_in B.Shape E.Endian bits.now in
+        members_below ours (k * B.width + result) ≡ members_below ours (k * B.width) + rest }
+{
+    let mut at = 0;
+    let mut span = <B::LeafWord as Word>::width();
+    while span > 1 {
+        let half = span / 2;
+        if rest < count_in_word::<B, E>(bits, k, 0, at + half) {
+            span = half;
+        } else {
+            at += half;
+            span -= half;
+        }
+    }
+    at
+}
+
+/// Returns the index of the set bit below which `rank` bits are set, or `None`.
+#[inline]
+pub fn select<B: Bits, E: Endian>(bits: &B, rank: u32) -> Option<u32>
+    requires { ShapeFits B.Shape bits.now }
+    ensures { result ≡ slice_get (ascending (set_in B.Shape E.Endian bits.now)) rank }
+{
+    let width = <B::LeafWord as Word>::width();
+    match word_of_rank::<B, E>(bits, rank) {
+        Some((k, rest)) => Some(k * width + place_of_rank::<B, E>(bits, k, rest)),
+        None => None,
+    }
+}
