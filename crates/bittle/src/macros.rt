@@ -13,9 +13,12 @@ mod uses;
 /// Makes a set of what is listed, in the order of its type.
 ///
 /// A list has indexes, which are expressions of the type `u32`, and ranges `a..=b`, `a..b` and
-/// `a..` whose bounds are literals; `a..` ends at the capacity. An index past the capacity wraps. A
-/// range that ends before it starts sets nothing, and with capacity 0 the set is empty. The type,
-/// which the place of use names, has to fit.
+/// `a..` whose bounds are literals; `a..` ends at the capacity. A range that ends before it starts
+/// sets nothing.
+///
+/// The type, which the place of use names, has to fit. An index costs O(1), a range one mask for
+/// each word of it. An index past the capacity wraps. With capacity 0 the set is empty. The macro is
+/// no constant: in place of one write a function that returns it.
 ///
 /// ```
 /// let mask: u8 = bittle::set![0, 2..=3, 6..];         // 0b1100_1101
@@ -160,7 +163,7 @@ pub fn put_through_in<B: BitsMut, E: Endian>(bits: &mut B, from: u32, to: u32)
     if capacity == 0 {
         return;
     }
-    // As many neighbours as the capacity are all of them, so no range has more to set.
+    // Consecutive indexes, as many as the capacity, name every bit, so no range has more to set.
     let count = if to - from < capacity {
         to - from + 1
     } else {

@@ -29,7 +29,7 @@ pub mod set_laws;
 ///
 /// Calls that name no order use the remembered one, and so do iteration, comparison, hashing and
 /// debug text. What a set wraps always fits: its capacity, and that of every array type within it,
-/// is below `u32::MAX`. So its calls have no condition.
+/// is below `u32::MAX`. So its calls have no condition but the bounds of a range or a search.
 ///
 /// ```
 /// let set = Set::new_le(0b1101_0000u8);
@@ -57,7 +57,9 @@ pub struct Set<T: Shape, E: Endian = DefaultEndian> {
 }
 
 impl<T: Bits> Set<T> {
-    /// Wraps `bits`, to be read in [`DefaultEndian`] order. The shape has to fit.
+    /// Wraps `bits`, to be read in [`DefaultEndian`] order.
+    ///
+    /// The shape has to fit.
     ///
     /// ```
     /// Set::new(0b1101_0000u8).iter_ones();                // yields 4, 6, 7
@@ -72,7 +74,9 @@ impl<T: Bits> Set<T> {
 }
 
 impl<T: Bits> Set<T, LittleEndian> {
-    /// Wraps `bits`, to be read in [`LittleEndian`] order. The shape has to fit.
+    /// Wraps `bits`, to be read in [`LittleEndian`] order.
+    ///
+    /// The shape has to fit.
     ///
     /// ```
     /// Set::new_le(0b1101_0000u8).iter_ones();             // yields 0, 1, 3
@@ -87,7 +91,9 @@ impl<T: Bits> Set<T, LittleEndian> {
 }
 
 impl<T: Bits, E: Endian> Set<T, E> {
-    /// Wraps `bits`, to be read in the order `E`. The shape has to fit.
+    /// Wraps `bits`, to be read in the order `E`.
+    ///
+    /// The shape has to fit.
     ///
     /// ```
     /// Set::<u8, LittleEndian>::new_in(0x80).iter_ones();  // yields 0
@@ -105,6 +111,8 @@ impl<T: Bits, E: Endian> Set<T, E> {
 
     /// Returns the wrapped value.
     ///
+    /// Always callable.
+    ///
     /// ```
     /// Set::new_le(0x80u8).into_bits();                    // 0x80
     /// ```
@@ -118,7 +126,9 @@ impl<T: Bits, E: Endian> Set<T, E> {
 }
 
 impl<'a, U: BitsOwned> Set<&'a [U]> {
-    /// Wraps a slice, to be read in [`DefaultEndian`] order. The shape has to fit.
+    /// Wraps a slice, to be read in [`DefaultEndian`] order.
+    ///
+    /// The shape has to fit.
     ///
     /// ```
     /// Set::from_ref(&[1u8, 16]).iter_ones();              // yields 0, 12
@@ -133,7 +143,9 @@ impl<'a, U: BitsOwned> Set<&'a [U]> {
 }
 
 impl<'a, U: BitsOwned> Set<&'a [U], LittleEndian> {
-    /// Wraps a slice, to be read in [`LittleEndian`] order. The shape has to fit.
+    /// Wraps a slice, to be read in [`LittleEndian`] order.
+    ///
+    /// The shape has to fit.
     ///
     /// ```
     /// Set::from_ref_le(&[1u8, 16]).iter_ones();           // yields 7, 11
@@ -149,6 +161,7 @@ impl<'a, U: BitsOwned> Set<&'a [U], LittleEndian> {
 
 impl<'a, U: BitsOwned> Set<&'a mut [U]> {
     /// Wraps a lent slice, to be read in [`DefaultEndian`] order. Changes reach the caller's slice.
+    ///
     /// The shape has to fit.
     ///
     /// ```
@@ -167,6 +180,7 @@ impl<'a, U: BitsOwned> Set<&'a mut [U]> {
 
 impl<'a, U: BitsOwned> Set<&'a mut [U], LittleEndian> {
     /// Wraps a lent slice, to be read in [`LittleEndian`] order. Changes reach the caller's slice.
+    ///
     /// The shape has to fit.
     ///
     /// ```

@@ -13,10 +13,10 @@ use crate::operation::{
 
 /// A set that can be changed. No change alters the capacity.
 pub trait BitsMut: Bits {
-    /// Sets the bit at `index` in the order `E`. No other bit changes. An index past the capacity
-    /// wraps. With capacity 0 nothing changes.
+    /// Sets the bit at `index`, in the order `E`. No other bit changes.
     ///
-    /// The type has to fit; of a slice its element type.
+    /// The type has to fit; of a slice its element type. An index past the capacity wraps. With
+    /// capacity 0 nothing changes.
     ///
     /// ```
     /// let mut word = 0u8;
@@ -28,10 +28,10 @@ pub trait BitsMut: Bits {
             ≡ with_index (set_in Self.Shape E.Endian self.old) index }
         ensures stays { Self.loan self.old ≡ Self.loan self.new };
 
-    /// Clears the bit at `index` in the order `E`: it is unset then. No other bit changes. An index
-    /// past the capacity wraps. With capacity 0 nothing changes.
+    /// Clears the bit at `index`, in the order `E`: it is unset then. No other bit changes.
     ///
-    /// The type has to fit; of a slice its element type.
+    /// The type has to fit; of a slice its element type. An index past the capacity wraps. With
+    /// capacity 0 nothing changes.
     ///
     /// ```
     /// let mut word = 0b1000_0001u8;
@@ -43,7 +43,9 @@ pub trait BitsMut: Bits {
             ≡ without_index (set_in Self.Shape E.Endian self.old) index }
         ensures stays { Self.loan self.old ≡ Self.loan self.new };
 
-    /// Clears every bit. Always callable.
+    /// Clears every bit.
+    ///
+    /// Always callable. Each word is written once.
     ///
     /// ```
     /// let mut row = [7u8, 9];
@@ -64,8 +66,8 @@ pub trait BitsMut: Bits {
             ≡ with_span_changed (λ b. O.decide b true) (set_in Self.Shape E.Endian self.old) from to }
         ensures stays { Self.loan self.old ≡ Self.loan self.new };
 
-    /// Combines the set with another one by an operation. Between two slices of unequal length only
-    /// the elements of the common beginning change.
+    /// Combines the set with another one by an operation, as
+    /// [`union_assign`](BitsMut::union_assign) does.
     #[doc(hidden)]
     fn assign_by_operation<O: Operation>(&mut self, other: &Self)
         ensures set { (mirrored : Bool) → set_mirrored Self.Shape mirrored self.new
@@ -73,11 +75,10 @@ pub trait BitsMut: Bits {
             (set_mirrored Self.Shape mirrored other.now) }
         ensures stays { Self.loan self.old ≡ Self.loan self.new };
 
-    /// Sets each bit at the indexes `from..to`, in the order `E`, by one mask a word. No other bit
-    /// changes.
+    /// Sets each bit at the indexes `from..to`, in the order `E`. No other bit changes.
     ///
     /// The shape has to fit, and `from <= to <= capacity`: nothing wraps. Only the words of the range
-    /// are written. An empty range, as any with capacity 0, changes nothing.
+    /// are written, by one mask each. An empty range, as any with capacity 0, changes nothing.
     ///
     /// ```
     /// let mut row = [0u8; 2];
@@ -95,11 +96,8 @@ pub trait BitsMut: Bits {
         self.assign_range_by_operation::<E, Union>(from, to);
     }
 
-    /// Clears each bit at the indexes `from..to`, in the order `E`, by one mask a word. No other bit
-    /// changes.
-    ///
-    /// The shape has to fit, and `from <= to <= capacity`: nothing wraps. Only the words of the range
-    /// are written. An empty range, as any with capacity 0, changes nothing.
+    /// Clears each bit at the indexes `from..to`, in the order `E`. All else is as with
+    /// [`set_range_in`](BitsMut::set_range_in).
     ///
     /// ```
     /// let mut row = [0xFFu8; 2];
@@ -117,11 +115,8 @@ pub trait BitsMut: Bits {
         self.assign_range_by_operation::<E, Difference>(from, to);
     }
 
-    /// Flips each bit at the indexes `from..to`, in the order `E`, by one mask a word. No other bit
-    /// changes.
-    ///
-    /// The shape has to fit, and `from <= to <= capacity`: nothing wraps. Only the words of the range
-    /// are written. An empty range, as any with capacity 0, changes nothing.
+    /// Flips each bit at the indexes `from..to`, in the order `E`. All else is as with
+    /// [`set_range_in`](BitsMut::set_range_in).
     ///
     /// ```
     /// let mut word = 0b0011_1100u8;
@@ -139,8 +134,10 @@ pub trait BitsMut: Bits {
         self.assign_range_by_operation::<E, SymmetricDifference>(from, to);
     }
 
-    /// Sets each bit that is set in `other`. Always callable. Between two slices of unequal length
-    /// only the elements of the common beginning change.
+    /// Sets each bit that is set in `other`.
+    ///
+    /// Always callable, as the three operations after it. Each word is read and written once. Between
+    /// two slices of unequal length only the elements of the common beginning change.
     ///
     /// ```
     /// let mut word = 0b0011u8;
@@ -156,9 +153,8 @@ pub trait BitsMut: Bits {
         self.assign_by_operation::<Union>(other);
     }
 
-    /// Clears each bit that is unset in `other`. Always callable. Between two slices of unequal
-    /// length only the elements of the common beginning change: the later elements of the longer
-    /// one stay.
+    /// Clears each bit that is unset in `other`. All else is as with
+    /// [`union_assign`](BitsMut::union_assign): the later elements of a longer slice stay.
     ///
     /// ```
     /// let mut word = 0b0011u8;
@@ -174,8 +170,8 @@ pub trait BitsMut: Bits {
         self.assign_by_operation::<Conjunction>(other);
     }
 
-    /// Clears each bit that is set in `other`. Always callable. Between two slices of unequal
-    /// length only the elements of the common beginning change.
+    /// Clears each bit that is set in `other`. All else is as with
+    /// [`union_assign`](BitsMut::union_assign).
     ///
     /// ```
     /// let mut word = 0b0011u8;
@@ -191,8 +187,8 @@ pub trait BitsMut: Bits {
         self.assign_by_operation::<Difference>(other);
     }
 
-    /// Flips each bit that is set in `other`. Always callable. Between two slices of unequal length
-    /// only the elements of the common beginning change.
+    /// Flips each bit that is set in `other`. All else is as with
+    /// [`union_assign`](BitsMut::union_assign).
     ///
     /// ```
     /// let mut word = 0b0011u8;

@@ -15,8 +15,9 @@ use crate::walk::{IntoIter, IntoIterOnes, IntoIterZeros};
 
 /// A set that is copied with its value. All values of the type have one capacity.
 pub trait BitsOwned: Copy + Eq + BitsMut + OwnedShape {
-    /// Returns how many bits a set of the type has, or `u32::MAX` if the type does not fit. Always
-    /// callable.
+    /// Returns how many bits a set of the type has, or `u32::MAX` if the type does not fit.
+    ///
+    /// Always callable.
     ///
     /// ```
     /// <[u32; 4]>::bits();                                 // 128
@@ -25,7 +26,9 @@ pub trait BitsOwned: Copy + Eq + BitsMut + OwnedShape {
         ensures value { Fits Self.indexable Self.type_capacity → result ≡ Self.type_capacity }
         ensures fits { result < 4294967295 → Fits Self.indexable Self.type_capacity };
 
-    /// Returns the set in which no bit is set. The type has to fit.
+    /// Returns the set in which no bit is set.
+    ///
+    /// The type has to fit. Each word is written once.
     ///
     /// ```
     /// <[u8; 2]>::zeros();                                 // [0, 0]
@@ -36,8 +39,9 @@ pub trait BitsOwned: Copy + Eq + BitsMut + OwnedShape {
         ensures in_each_order { (mirrored : Bool) →
             set_mirrored Self.Shape mirrored result ≡ empty_set Self.type_capacity };
 
-    /// Returns the set in which each bit is set; with capacity 0 it is empty too. The type has to
-    /// fit.
+    /// Returns the set in which each bit is set.
+    ///
+    /// The type has to fit. Each word is written once. With capacity 0 the set is empty too.
     ///
     /// ```
     /// <[u8; 2]>::ones();                                  // [255, 255]
@@ -50,8 +54,10 @@ pub trait BitsOwned: Copy + Eq + BitsMut + OwnedShape {
         ensures in_each_order { (mirrored : Bool) →
             set_mirrored Self.Shape mirrored result ≡ full_set Self.type_capacity };
 
-    /// Returns the set with the bit at `bit` set, in the order `E`. An index past the capacity
-    /// wraps. With capacity 0 it returns the set itself. The type has to fit.
+    /// Returns the set with the bit at `bit` set, in the order `E`.
+    ///
+    /// The type has to fit. The set is copied. An index past the capacity wraps. With capacity 0 it
+    /// returns the set itself.
     ///
     /// ```
     /// 0u8.with_bit_in::<LittleEndian>(0);                 // 0b1000_0000
@@ -112,8 +118,10 @@ pub trait BitsOwned: Copy + Eq + BitsMut + OwnedShape {
         self.with_bit_in::<BigEndian>(bit)
     }
 
-    /// Returns the set with the bit at `bit` unset, in the order `E`. An index past the capacity
-    /// wraps. With capacity 0 it returns the set itself. The type has to fit.
+    /// Returns the set with the bit at `bit` unset, in the order `E`.
+    ///
+    /// The type has to fit. The set is copied. An index past the capacity wraps. With capacity 0 it
+    /// returns the set itself.
     ///
     /// ```
     /// 255u8.without_bit_in::<LittleEndian>(0);            // 0b0111_1111
@@ -174,7 +182,9 @@ pub trait BitsOwned: Copy + Eq + BitsMut + OwnedShape {
         self.without_bit_in::<BigEndian>(bit)
     }
 
-    /// Returns the bits that are set in either set. Always callable.
+    /// Returns the bits that are set in either set.
+    ///
+    /// Always callable, as the three operations after it. Each word is read and written once.
     ///
     /// ```
     /// 0b0011u8.union(0b0101);                             // 0b0111
@@ -190,7 +200,7 @@ pub trait BitsOwned: Copy + Eq + BitsMut + OwnedShape {
         set
     }
 
-    /// Returns the bits that are set in both sets. Always callable.
+    /// Returns the bits that are set in both sets.
     ///
     /// ```
     /// 0b0011u8.conjunction(0b0101);                       // 0b0001
@@ -206,7 +216,7 @@ pub trait BitsOwned: Copy + Eq + BitsMut + OwnedShape {
         set
     }
 
-    /// Returns the bits that are set in this set and unset in the other. Always callable.
+    /// Returns the bits that are set in this set and unset in the other.
     ///
     /// ```
     /// 0b0011u8.difference(0b0101);                        // 0b0010
@@ -222,7 +232,7 @@ pub trait BitsOwned: Copy + Eq + BitsMut + OwnedShape {
         set
     }
 
-    /// Returns the bits that are set in just one of the sets. Always callable.
+    /// Returns the bits that are set in just one of the sets.
     ///
     /// ```
     /// 0b0011u8.symmetric_difference(0b0101);              // 0b0110
@@ -239,7 +249,9 @@ pub trait BitsOwned: Copy + Eq + BitsMut + OwnedShape {
     }
 
     /// Returns an iterator that owns the set, over the indexes of its set bits in the order `E`,
-    /// increasing, from both ends. The type has to fit. With capacity 0 it yields nothing.
+    /// increasing, from both ends.
+    ///
+    /// The type has to fit. Each word is read at most once. With capacity 0 it yields nothing.
     ///
     /// ```
     /// 0b1101_0000u8.into_iter_ones_in::<LittleEndian>();  // yields 0, 1, 3
@@ -311,8 +323,9 @@ pub trait BitsOwned: Copy + Eq + BitsMut + OwnedShape {
     }
 
     /// Returns an iterator that owns the set, over the indexes of its unset bits below the capacity
-    /// in the order `E`, increasing, from both ends. The type has to fit. With capacity 0 it yields
-    /// nothing.
+    /// in the order `E`, increasing, from both ends.
+    ///
+    /// The type has to fit. Each word is read at most once. With capacity 0 it yields nothing.
     ///
     /// ```
     /// 0b1101_0000u8.into_iter_zeros_in::<LittleEndian>(); // yields 2, 4, 5, 6, 7

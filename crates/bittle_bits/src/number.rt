@@ -1,4 +1,4 @@
-//! Walks over one word, from both ends.
+//! Iterators over one word, from both ends.
 
 ghost use Rattle.std.specs.Iterator.SizeHint.{IsWithinCount};
 ghost use Rattle.std.specs.Iterator.{UpTo, YieldsFirst, YieldsLast, item_count};
@@ -55,6 +55,8 @@ impl<T: Word, E: Endian, K: Kind> Model for Iter<T, E, K> {
 impl<T: Word, E: Endian, K: Kind> Iter<T, E, K> {
     /// Makes an iterator over the set bits of the word, or over its unset bits.
     ///
+    /// Always callable. A step costs O(1).
+    ///
     /// ```
     /// number::IterOnes::<u8, LittleEndian>::new(0xD0);    // yields 0, 1, 3
     /// ```
@@ -74,7 +76,7 @@ impl<T: Word, E: Endian, K: Kind> Iter<T, E, K> {
         }
     }
 
-    /// Returns how many items are left.
+    /// Returns how many items remain.
     ///
     /// ```
     /// number::IterOnes::<u8, LittleEndian>::new(0xD0).len();    // 3

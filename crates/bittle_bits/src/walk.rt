@@ -54,7 +54,7 @@ pub type IntoIterZeros<B, E> = IntoIter<B, E, Zeros>;
 
 /// Iterates over a set that it borrows, for the bits that `K` names.
 ///
-/// Each step yields the first or the last item that is left. After its end it returns `None` on
+/// Each step yields the first or the last item that remains. After its end it returns `None` on
 /// both sides. A clone goes on from where its source is.
 #[derive(Drop)]
 pub struct Iter<'a, B: Shape, E: Endian, K: Kind> {
@@ -161,7 +161,7 @@ impl<'a, B: Bits, E: Endian, K: Kind> Counted for Iter<'a, B, E, K> {
 
 /// Iterates over a set that it owns, for the bits that `K` names.
 ///
-/// Each step yields the first or the last item that is left. After its end it returns `None` on
+/// Each step yields the first or the last item that remains. After its end it returns `None` on
 /// both sides. A clone goes on from where its source is.
 #[derive(Drop)]
 pub struct IntoIter<B: Shape, E: Endian, K: Kind> {

@@ -14,12 +14,12 @@ use std::marker::Model;
 use std::mem::replace;
 use std::snapshot::Snapshot;
 
-/// From which end of a walk an item is taken.
+/// From which end of an iterator an item is taken.
 #[derive(Clone, Copy, Debug, PartialEq, Eq)]
 pub enum Step {
-    /// The first item that is left.
+    /// The first item that remains.
     Front,
-    /// The last item that is left.
+    /// The last item that remains.
     Back,
 }
 
@@ -60,7 +60,7 @@ impl Scans {
         }
     }
 
-    /// Adds the count that a walk has reached.
+    /// Adds the count that an iterator has reached.
     fn push(&mut self, count: &Count)
         ensures { self.new ≡ self.old ++ count.now ∷ [] }
     {
@@ -105,12 +105,14 @@ fn run<W: Counted>(walk: &mut W, steps: &[Step], answers: &mut [Option<u32>]) ->
     scans
 }
 
-/// Takes one walk of a set in the order `E`, of its ones or of its zeros, through the steps, and
-/// answers each.
+/// Takes one iterator over a set in the order `E`, of its ones or of its zeros, through the steps,
+/// and writes what each returns.
 ///
-/// The answers are the items of the increasing list from its two ends, and `None` once none is
-/// left. There is a place for the answer of each step, and the shape fits. Contracts see in the
-/// result the scans made up to each step.
+/// That is the items of the increasing list from its two ends, and `None` once none remains.
+/// Contracts see in the result the scans made up to each step.
+///
+/// The shape has to fit, and there is one place for the answer of each step. Each word is fetched at
+/// most once.
 ///
 /// ```
 /// let mut answers = [None; 3];
