@@ -325,7 +325,7 @@ pub fn pop_last<T: Word, E: Endian>(word: &mut T) -> Option<u32>
     Some(index)
 }
 
-/// Word `k` of a word, which is its only one.
+/// Returns word `k` of a word, which is its only one.
 #[inline]
 pub fn leaf_word<T: Word>(word: T, k: u32) -> T
     requires { k * T.width < T.width }

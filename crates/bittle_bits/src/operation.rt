@@ -11,7 +11,7 @@ pub trait Operation {
     // Whether a number is a member afterwards, by whether it is one of each set.
     ghost decide: { Bool → Bool → Bool };
 
-    /// The operation on the bits of two words.
+    /// Combines the bits of two words by the operation.
     fn on_words<T: Word>(word: T, other: T) -> T
         ensures { bit_set T.width (T.pattern result)
             ≡ combination_of decide
