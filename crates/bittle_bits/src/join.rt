@@ -1,7 +1,7 @@
 //! Joins: the items of an iterator at the members of a set.
 
-ghost use Rattle.std.specs.Prelude.{◌≡◌, false, length};
-ghost use Rattle.std.specs.Iterator.{at_most};
+ghost use Rattle.std.specs.Prelude.{◌≡◌, false, length, OnSome};
+ghost use Rattle.std.specs.Iterator.{at_most, SkipsThenYields};
 ghost use Rattle.bittle_bits.specs.Join.{IsAscendingFrom, join_steps, AnswersItemsAtMembers, EndsAfterMembers};
 
 use crate::bits::Bits;
@@ -66,6 +66,53 @@ where
     }
 }
 
+/// Takes the next item. A loop that calls it is counted by its own number, where one that calls
+/// `next` would have to be over an iterator that ends.
+#[inline]
+fn take<I: Iterator>(iter: &mut I) -> Option<I::Item>
+    requires { I.can_next iter.old }
+    ensures steps { I.next_gives iter.old result iter.new }
+    ensures keeps { OnSome result (I.can_next iter.new) }
+{
+    iter.next()
+}
+
+/// Passes over `count` items and takes the next one.
+///
+/// Where the iterator says that so many are there, it is asked again after each item whether it
+/// now says one less. Over a slice it always does, which the compiler sees: no end is looked for,
+/// and the loop is one addition.
+#[inline]
+fn skip_to<I: Iterator>(iter: &mut I, count: usize) -> Option<I::Item>
+where
+    I::Item: Drop,
+    requires { I.can_next iter.old }
+    ensures ran { SkipsThenYields I.next_gives iter.old count result iter.new }
+    ensures keeps { OnSome result (I.can_next iter.new) }
+{
+    let (mut now, _) = iter.size_hint();
+    if now <= count {
+        return iter.nth(count);
+    }
+    // the hint once the wanted item is taken
+    let end = now - count - 1;
+    loop {
+        let item = take(iter)?;
+        let (left, _) = iter.size_hint();
+        if left != now - 1 {
+            // not a count: what is left is asked of `nth`
+            if now - 1 == end {
+                return Some(item);
+            }
+            return iter.nth(now - end - 2);
+        }
+        if left <= end {
+            return Some(item);
+        }
+        now = left;
+    }
+}
+
 impl<A: Bits, E: Endian, I: Iterator> Iterator for JoinOnes<'_, A, E, I>
 where
     I::Item: Drop,
@@ -87,7 +134,7 @@ where
             Some(member) => {
                 let passed_over = member as usize - self.taken;
                 self.taken = member as usize + 1;
-                self.iter.nth(passed_over)
+                skip_to(&mut self.iter, passed_over)
             }
             None => None,
         };

@@ -113,6 +113,17 @@ fn takes_an_item_for_each_index_of_a_full_mask(rt: HostRuntime) {
 }
 
 #[test]
+fn joins_an_iterator_whose_count_of_items_grows(rt: HostRuntime) {
+    // Flattened arrays tell of the items of one array at a time.
+    let pairs = [[1u32, 2, 3, 4], [5, 6, 7, 8]];
+    let mask: u16 = set![0, 3, 6, 7, 10, 11];
+    let mut join = mask.join_ones(pairs.into_iter().flatten().chain([9, 10, 11]));
+    for expected in [Some(1), Some(4), Some(7), Some(8), Some(11), None] {
+        same!(rt; join.next(), expected);
+    }
+}
+
+#[test]
 fn ends_with_its_iterator(rt: HostRuntime) {
     let mut join = u8::MAX.join_ones([0u8; 0].iter());
     same!(rt; join.next().copied(), None);
