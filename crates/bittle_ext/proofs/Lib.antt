@@ -1,4 +1,5 @@
 mod Complements
 pub mod RankFacts
+pub mod RelationFacts
 pub mod RunFacts
 pub mod SetFacts

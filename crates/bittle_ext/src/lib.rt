@@ -14,6 +14,8 @@
 //! let mut word = 0b0010_0010u8;
 //! word.first_one();                 // Some(1)
 //! word.next_one(2);                 // Some(5)
+//! word.rank(5);                     // 1
+//! word.is_subset(&0x1F22u16);       // true
 //! word.insert(0);                   // true: it was unset
 //! word.set_range(2, 4);             // 0b0010_1111
 //! word.pop_last();                  // Some(5)
@@ -24,12 +26,15 @@
 mod bits_ext;
 mod bits_mut_ext;
 mod bits_owned_ext;
+mod bits_relation_ext;
 pub mod prelude;
 #[doc(hidden)]
 pub mod rank_laws;
 mod ranks;
+mod relations;
 mod runs;
 
 pub use bits_ext::BitsExt;
 pub use bits_mut_ext::BitsMutExt;
 pub use bits_owned_ext::BitsOwnedExt;
+pub use bits_relation_ext::BitsRelationExt;

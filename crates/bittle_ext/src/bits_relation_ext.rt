@@ -1,0 +1,246 @@
+//! How two sets stand to each other.
+
+ghost use Rattle.std.specs.Prelude.{◌↔◌, IsTrue, MatchOption};
+ghost use Rattle.bittle_ext.specs.Relations.{IsSubset, AreDisjoint, Meet, IsFirstAlone, IsFirstCommon};
+ghost use Rattle.bittle.specs.Values.{set_in, ShapeFits};
+
+use crate::relations;
+use bittle::{Bits, Endian};
+
+/// What can be asked of two sets, of any two shapes that fit.
+///
+/// A short form reads each set in the order of its type, a form that ends in `_in` both in one
+/// order. Words decide where both sets have words of one width that are read in one order; else
+/// searches go on in turns, each from where the other one stopped. Past its capacity a set has no
+/// index, so capacities may differ. With capacity 0 a set is the empty one.
+pub trait BitsRelationExt: Bits {
+    /// Returns the least index that is set in both sets, both in the order `E`, or `None` if there is
+    /// none. It stops at the answer.
+    ///
+    /// ```
+    /// 0b0110u8.first_common_in::<u16, LittleEndian>(&0x0600); // Some(5)
+    /// ```
+    #[inline]
+    final fn first_common_in<B: Bits, E: Endian>(&self, other: &B) -> Option<u32>
+    where
+        Self: Sized,
+        requires fits { ShapeFits Self.Shape self.now }
+        requires other_fits { ShapeFits B.Shape other.now }
+        ensures { let ours = set_in Self.Shape E.Endian self.now in
+            let theirs = set_in B.Shape E.Endian other.now in
+            MatchOption result (AreDisjoint ours theirs) (IsFirstCommon ours theirs) }
+    {
+        relations::first_common::<Self, B, E, E>(self, other)
+    }
+
+    /// Returns the least index that is set in both sets, each in its own order, as
+    /// [`first_common_in`](BitsRelationExt::first_common_in) does.
+    ///
+    /// ```
+    /// 0b0110u8.first_common(&0x0104u16);                  // Some(2)
+    /// ```
+    #[inline]
+    final fn first_common<B: Bits>(&self, other: &B) -> Option<u32>
+    where
+        Self: Sized,
+        requires fits { ShapeFits Self.Shape self.now }
+        requires other_fits { ShapeFits B.Shape other.now }
+        ensures { let ours = set_in Self.Shape Self.Order.Endian self.now in
+            let theirs = set_in B.Shape B.Order.Endian other.now in
+            MatchOption result (AreDisjoint ours theirs) (IsFirstCommon ours theirs) }
+    {
+        relations::first_common::<Self, B, Self::Order, B::Order>(self, other)
+    }
+
+    /// Returns the least index that is set in this set and not in the other one, both in the order
+    /// `E`, or `None` if there is none. It stops at the answer.
+    ///
+    /// ```
+    /// 0b0110u8.first_alone_in::<u8, LittleEndian>(&0b0100); // Some(6)
+    /// ```
+    #[inline]
+    final fn first_alone_in<B: Bits, E: Endian>(&self, other: &B) -> Option<u32>
+    where
+        Self: Sized,
+        requires fits { ShapeFits Self.Shape self.now }
+        requires other_fits { ShapeFits B.Shape other.now }
+        ensures { let ours = set_in Self.Shape E.Endian self.now in
+            let theirs = set_in B.Shape E.Endian other.now in
+            MatchOption result (IsSubset ours theirs) (IsFirstAlone ours theirs) }
+    {
+        relations::first_alone::<Self, B, E, E>(self, other)
+    }
+
+    /// Returns the least index that is set in this set and not in the other one, each in its own order, as
+    /// [`first_alone_in`](BitsRelationExt::first_alone_in) does.
+    ///
+    /// ```
+    /// 0b0110u8.first_alone(&0x0102u16);                   // Some(2)
+    /// ```
+    #[inline]
+    final fn first_alone<B: Bits>(&self, other: &B) -> Option<u32>
+    where
+        Self: Sized,
+        requires fits { ShapeFits Self.Shape self.now }
+        requires other_fits { ShapeFits B.Shape other.now }
+        ensures { let ours = set_in Self.Shape Self.Order.Endian self.now in
+            let theirs = set_in B.Shape B.Order.Endian other.now in
+            MatchOption result (IsSubset ours theirs) (IsFirstAlone ours theirs) }
+    {
+        relations::first_alone::<Self, B, Self::Order, B::Order>(self, other)
+    }
+
+    /// Returns `true` if each bit that is set in this set is set in the other one too, both in the
+    /// order `E`. It stops at the first bit that is not.
+    ///
+    /// ```
+    /// 0x80u8.is_subset_in::<u16, LittleEndian>(&0x8000);  // true: each has index 0
+    /// ```
+    #[inline]
+    final fn is_subset_in<B: Bits, E: Endian>(&self, other: &B) -> bool
+    where
+        Self: Sized,
+        requires fits { ShapeFits Self.Shape self.now }
+        requires other_fits { ShapeFits B.Shape other.now }
+        ensures { let ours = set_in Self.Shape E.Endian self.now in
+            let theirs = set_in B.Shape E.Endian other.now in
+            IsTrue result ↔ IsSubset ours theirs }
+    {
+        relations::first_alone::<Self, B, E, E>(self, other).is_none()
+    }
+
+    /// Returns `true` if each bit that is set in this set is set in the other one too, each in its own order, as
+    /// [`is_subset_in`](BitsRelationExt::is_subset_in) does.
+    ///
+    /// ```
+    /// 0b0110u8.is_subset(&0x010Fu16);                     // true
+    /// ```
+    #[inline]
+    final fn is_subset<B: Bits>(&self, other: &B) -> bool
+    where
+        Self: Sized,
+        requires fits { ShapeFits Self.Shape self.now }
+        requires other_fits { ShapeFits B.Shape other.now }
+        ensures { let ours = set_in Self.Shape Self.Order.Endian self.now in
+            let theirs = set_in B.Shape B.Order.Endian other.now in
+            IsTrue result ↔ IsSubset ours theirs }
+    {
+        relations::first_alone::<Self, B, Self::Order, B::Order>(self, other).is_none()
+    }
+
+    /// Returns `true` if each bit that is set in the other set is set in this one too, both in the
+    /// order `E`. It stops at the first bit that is not.
+    ///
+    /// ```
+    /// 0x8000u16.is_superset_in::<u8, LittleEndian>(&0x80); // true: each has index 0
+    /// ```
+    #[inline]
+    final fn is_superset_in<B: Bits, E: Endian>(&self, other: &B) -> bool
+    where
+        Self: Sized,
+        requires fits { ShapeFits Self.Shape self.now }
+        requires other_fits { ShapeFits B.Shape other.now }
+        ensures { let ours = set_in Self.Shape E.Endian self.now in
+            let theirs = set_in B.Shape E.Endian other.now in
+            IsTrue result ↔ IsSubset theirs ours }
+    {
+        relations::first_alone::<B, Self, E, E>(other, self).is_none()
+    }
+
+    /// Returns `true` if each bit that is set in the other set is set in this one too, each in its own order, as
+    /// [`is_superset_in`](BitsRelationExt::is_superset_in) does.
+    ///
+    /// ```
+    /// 0b0110u8.is_superset(&0x0106u16);                   // false: index 8 is not in it
+    /// ```
+    #[inline]
+    final fn is_superset<B: Bits>(&self, other: &B) -> bool
+    where
+        Self: Sized,
+        requires fits { ShapeFits Self.Shape self.now }
+        requires other_fits { ShapeFits B.Shape other.now }
+        ensures { let ours = set_in Self.Shape Self.Order.Endian self.now in
+            let theirs = set_in B.Shape B.Order.Endian other.now in
+            IsTrue result ↔ IsSubset theirs ours }
+    {
+        relations::first_alone::<B, Self, B::Order, Self::Order>(other, self).is_none()
+    }
+
+    /// Returns `true` if no index is set in both sets, both in the order `E`. It stops at the first
+    /// index that is.
+    ///
+    /// ```
+    /// 0x80u8.is_disjoint_in::<u16, LittleEndian>(&0x0080); // true: 0 and 8
+    /// ```
+    #[inline]
+    final fn is_disjoint_in<B: Bits, E: Endian>(&self, other: &B) -> bool
+    where
+        Self: Sized,
+        requires fits { ShapeFits Self.Shape self.now }
+        requires other_fits { ShapeFits B.Shape other.now }
+        ensures { let ours = set_in Self.Shape E.Endian self.now in
+            let theirs = set_in B.Shape E.Endian other.now in
+            IsTrue result ↔ AreDisjoint ours theirs }
+    {
+        relations::first_common::<Self, B, E, E>(self, other).is_none()
+    }
+
+    /// Returns `true` if no index is set in both sets, each in its own order, as
+    /// [`is_disjoint_in`](BitsRelationExt::is_disjoint_in) does.
+    ///
+    /// ```
+    /// 0b0110u8.is_disjoint(&0b1001u64);                   // true
+    /// ```
+    #[inline]
+    final fn is_disjoint<B: Bits>(&self, other: &B) -> bool
+    where
+        Self: Sized,
+        requires fits { ShapeFits Self.Shape self.now }
+        requires other_fits { ShapeFits B.Shape other.now }
+        ensures { let ours = set_in Self.Shape Self.Order.Endian self.now in
+            let theirs = set_in B.Shape B.Order.Endian other.now in
+            IsTrue result ↔ AreDisjoint ours theirs }
+    {
+        relations::first_common::<Self, B, Self::Order, B::Order>(self, other).is_none()
+    }
+
+    /// Returns `true` if an index is set in both sets, both in the order `E`. It stops at the first
+    /// one.
+    ///
+    /// ```
+    /// 0x80u8.intersects_in::<u16, LittleEndian>(&0x8000); // true: each has index 0
+    /// ```
+    #[inline]
+    final fn intersects_in<B: Bits, E: Endian>(&self, other: &B) -> bool
+    where
+        Self: Sized,
+        requires fits { ShapeFits Self.Shape self.now }
+        requires other_fits { ShapeFits B.Shape other.now }
+        ensures { let ours = set_in Self.Shape E.Endian self.now in
+            let theirs = set_in B.Shape E.Endian other.now in
+            IsTrue result ↔ Meet ours theirs }
+    {
+        relations::first_common::<Self, B, E, E>(self, other).is_some()
+    }
+
+    /// Returns `true` if an index is set in both sets, each in its own order, as
+    /// [`intersects_in`](BitsRelationExt::intersects_in) does.
+    ///
+    /// ```
+    /// 0b0110u8.intersects(&0b1100u64);                    // true: index 2
+    /// ```
+    #[inline]
+    final fn intersects<B: Bits>(&self, other: &B) -> bool
+    where
+        Self: Sized,
+        requires fits { ShapeFits Self.Shape self.now }
+        requires other_fits { ShapeFits B.Shape other.now }
+        ensures { let ours = set_in Self.Shape Self.Order.Endian self.now in
+            let theirs = set_in B.Shape B.Order.Endian other.now in
+            IsTrue result ↔ Meet ours theirs }
+    {
+        relations::first_common::<Self, B, Self::Order, B::Order>(self, other).is_some()
+    }
+}
+
+impl<B: Bits> BitsRelationExt for B {}

@@ -1,0 +1,303 @@
+//! Reading calls, with values worked out by hand.
+
+use crate::checks::{holds, same};
+use bittle::prelude::*;
+use bittle::{LittleEndian, Set};
+use bittle_ext::prelude::*;
+
+#[test]
+fn ends_of_a_word(rt: HostRuntime) {
+    let word = 0b0010_0010u8;
+    same!(rt; (word.first_one(), word.last_one()), (Some(1), Some(5)));
+    same!(rt; (word.first_zero(), word.last_zero()), (Some(0), Some(7)));
+    same!(rt; (0u8.first_one(), 0u8.last_one()), (None, None));
+    same!(rt; (255u8.first_zero(), (-1i8).last_zero()), (None, None));
+    same!(rt; (i128::MIN.first_one(), i128::MIN.last_one()), (Some(127), Some(127)));
+}
+
+#[test]
+fn ends_of_longer_shapes(rt: HostRuntime) {
+    let row: [u16; 3] = [0, 0x0180, 0];
+    same!(rt; (row.first_one(), row.last_one()), (Some(23), Some(24)));
+    same!(rt; (row.first_zero(), row.last_zero()), (Some(0), Some(47)));
+    let nested: [[u8; 2]; 2] = [[255, 255], [255, 127]];
+    same!(rt; (nested.first_zero(), nested.last_zero()), (Some(31), Some(31)));
+    let set = Set::new_le(0b0010_0010u8);
+    same!(rt; (set.first_one(), set.last_one()), (Some(2), Some(6)));
+    let none: [u8; 0] = [];
+    same!(rt; (none.first_one(), none.last_zero()), (None, None));
+    same!(rt; (none.first_zero(), none.last_one()), (None, None));
+}
+
+#[test]
+fn neighbours_in_a_word(rt: HostRuntime) {
+    let word = 0b0010_0010u8;
+    same!(rt; (word.next_one(1), word.next_one(2)), (Some(1), Some(5)));
+    same!(rt; (word.next_one(6), word.next_one(u32::MAX)), (None, None));
+    same!(rt; (word.prev_one(5), word.prev_one(6)), (Some(1), Some(5)));
+    same!(rt; (word.prev_one(1), word.prev_one(u32::MAX)), (None, Some(5)));
+    same!(rt; (word.next_zero(5), word.prev_zero(2)), (Some(6), Some(0)));
+    same!(rt; (255u8.next_zero(3), 255u8.prev_zero(9)), (None, None));
+}
+
+#[test]
+fn neighbours_from_the_left(rt: HostRuntime) {
+    // From the left bits 2 and 6 are set.
+    let word = 0b0010_0010u8;
+    same!(rt; word.next_one_in::<LittleEndian>(3), Some(6));
+    same!(rt; word.prev_one_in::<LittleEndian>(6), Some(2));
+    same!(rt; word.next_zero_in::<LittleEndian>(6), Some(7));
+    same!(rt; word.prev_zero_in::<LittleEndian>(3), Some(1));
+}
+
+#[test]
+fn neighbours_in_other_words(rt: HostRuntime) {
+    let row: [u8; 4] = [0, 0x80, 0, 0x01];
+    same!(rt; (row.next_one(0), row.next_one(16)), (Some(15), Some(24)));
+    same!(rt; (row.prev_one(24), row.prev_one(15)), (Some(15), None));
+    same!(rt; (row.next_zero(15), row.prev_zero(25)), (Some(16), Some(23)));
+    let none: [u32; 0] = [];
+    same!(rt; (none.next_one(0), none.prev_one(7)), (None, None));
+}
+
+#[test]
+fn ranks_and_selection(rt: HostRuntime) {
+    let row: [u64; 3] = [u64::MAX, 0, 0b1011];
+    same!(rt; (row.rank(0), row.rank(63), row.rank(64)), (0, 63, 64));
+    same!(rt; (row.rank(128), row.rank(130), row.rank(9999)), (64, 66, 67));
+    same!(rt; (row.select(0), row.select(63), row.select(64)), (Some(0), Some(63), Some(128)));
+    same!(rt; (row.select(65), row.select(66)), (Some(129), Some(131)));
+    same!(rt; (row.select(67), row.select(u32::MAX)), (None, None));
+    let none: [u8; 0] = [];
+    same!(rt; (none.rank(3), none.select(0)), (0, None));
+}
+
+#[test]
+fn ranks_from_the_left(rt: HostRuntime) {
+    // From the left bits 0, 1, 7 and 15 are set.
+    let row: [u8; 2] = [0b1100_0001, 0b0000_0001];
+    same!(rt; row.rank_in::<LittleEndian>(7), 2);
+    same!(rt; row.rank_in::<LittleEndian>(15), 3);
+    same!(rt; row.select_in::<LittleEndian>(2), Some(7));
+    same!(rt; row.select_in::<LittleEndian>(3), Some(15));
+    same!(rt; row.select_in::<LittleEndian>(4), None);
+    same!(rt; (i8::MIN.select_in::<LittleEndian>(0), i8::MIN.select(0)), (Some(0), Some(7)));
+}
+
+#[test]
+fn counts_of_ranges(rt: HostRuntime) {
+    let row: [u16; 2] = [0xF000, 0x000F];
+    assert!(rt; row.bits_capacity() == 32);
+    same!(rt; row.count_ones_in_range(12, 20), 8);
+    same!(rt; row.count_ones_in_range(13, 18), 5);
+    same!(rt; row.count_zeros_in_range(0, 32), 24);
+    same!(rt; row.count_zeros_in_range(10, 14), 2);
+    same!(rt; row.count_zeros_in_range_in::<LittleEndian>(0, 4), 0);
+    same!(rt; (row.count_ones_in_range(7, 7), row.count_zeros_in_range(32, 32)), (0, 0));
+}
+
+#[test]
+fn any_and_all_of_ranges(rt: HostRuntime) {
+    let row: [u16; 2] = [0xF000, 0x000F];
+    assert!(rt; row.bits_capacity() == 32);
+    holds!(rt; row.any_in_range(0, 13) && !row.any_in_range(0, 12));
+    holds!(rt; row.all_in_range(12, 20) && !row.all_in_range(12, 21));
+    holds!(rt; row.all_in_range(5, 5) && !row.any_in_range(13, 13));
+    holds!(rt; row.all_in_range_in::<LittleEndian>(0, 4));
+    holds!(rt; !row.any_in_range_in::<LittleEndian>(4, 28));
+}
+
+#[test]
+fn runs_of_a_word(rt: HostRuntime) {
+    // Bits 1 to 3, 5, 6, 8, 9, 11 and 12 are unset.
+    let pages = 0b1110_0100_1001_0001u16;
+    same!(rt; (pages.first_zero_run(1), pages.first_zero_run(3)), (Some(1), Some(1)));
+    same!(rt; (pages.first_zero_run(4), pages.first_zero_run(0)), (None, Some(0)));
+    same!(rt; (pages.next_zero_run(2, 2), pages.next_zero_run(3, 2)), (Some(2), Some(5)));
+    same!(rt; (pages.first_one_run(3), pages.next_one_run(14, 3)), (Some(13), None));
+    same!(rt; (pages.next_zero_run(16, 0), pages.next_zero_run(17, 0)), (Some(16), None));
+}
+
+#[test]
+fn runs_over_words(rt: HostRuntime) {
+    let row: [u8; 3] = [0b0111_1111, 0b0000_0001, 0b1100_0000];
+    same!(rt; (row.first_zero_run(2), row.first_zero_run(13)), (Some(9), Some(9)));
+    same!(rt; (row.first_zero_run(14), row.next_zero_run(10, 13)), (None, None));
+    let ones: [u8; 3] = [0b1100_0000, 0xFF, 0b0000_0001];
+    same!(rt; (ones.first_one_run(11), ones.first_one_run(12)), (Some(6), None));
+    same!(rt; ones.first_zero_run_in::<LittleEndian>(6), Some(2));
+    same!(rt; ones.first_one_run_in::<LittleEndian>(8), Some(8));
+    let none: [u64; 0] = [];
+    same!(rt; (none.first_zero_run(0), none.first_one_run(1)), (Some(0), None));
+}
+
+/// Bits of `N` words, as a plain loop sees them.
+fn plain<const N: usize>(words: &[u8; N]) -> [bool; 64] {
+    let mut bits = [false; 64];
+    for k in 0..64usize {
+        if k / 8 < N && words[k / 8] >> (k % 8) & 1 == 1 {
+            bits[k] = true;
+        }
+    }
+    bits
+}
+
+/// The next number of a row that looks random.
+fn step(state: u64) -> u64 {
+    state
+        .wrapping_mul(6364136223846793005)
+        .wrapping_add(1442695040888963407)
+}
+
+/// Returns how many bits below `end` are set, one by one.
+fn plain_rank(bits: &[bool; 64], end: u32) -> u32 {
+    let mut count = 0u32;
+    for k in 0..64usize {
+        if (k as u32) < end && bits[k] {
+            count = count.saturating_add(1);
+        }
+    }
+    count
+}
+
+/// Returns the first bit from `from` on below 64 with this value, one by one.
+fn plain_next(bits: &[bool; 64], from: u32, value: bool) -> Option<u32> {
+    for k in 0..64usize {
+        if from <= k as u32 && bits[k] == value {
+            return Some(k as u32);
+        }
+    }
+    None
+}
+
+/// Returns the last bit below `to` with this value, one by one.
+fn plain_prev(bits: &[bool; 64], to: u32, value: bool) -> Option<u32> {
+    let mut found = None;
+    for k in 0..64usize {
+        if (k as u32) < to && bits[k] == value {
+            found = Some(k as u32);
+        }
+    }
+    found
+}
+
+/// Returns where the first run of unset bits begins, one by one.
+fn plain_zero_run(bits: &[bool; 64], from: u32, length: u32) -> Option<u32> {
+    let mut free = 0u32;
+    for k in 0..64usize {
+        if from <= k as u32 {
+            free = if bits[k] { 0 } else { free.saturating_add(1) };
+            if free == length {
+                return Some((k as u32).saturating_add(1).saturating_sub(length));
+            }
+        }
+    }
+    None
+}
+
+#[test]
+fn random_rows_are_read_as_plain_arrays(rt: HostRuntime) {
+    let mut state = 1u64;
+    for round in 0..2000u32 {
+        state = step(state);
+        let dense = state >> 8;
+        state = step(state);
+        let word = if round % 3 == 0 {
+            dense
+        } else {
+            dense & (state >> 4) | dense << 40
+        };
+        let row = word.to_le_bytes();
+        let bits = plain(&row);
+        state = step(state);
+        let from = (state >> 33) as u32 % 70;
+        let length = (state >> 40) as u32 % 9 + 1;
+        same!(rt; row.next_one(from), plain_next(&bits, from, true));
+        same!(rt; row.next_zero(from), plain_next(&bits, from, false));
+        same!(rt; row.prev_one(from), plain_prev(&bits, from, true));
+        same!(rt; row.prev_zero(from), plain_prev(&bits, from, false));
+        same!(rt; row.rank(from), plain_rank(&bits, from));
+        same!(rt; word.rank(from), plain_rank(&bits, from));
+        same!(rt; row.next_zero_run(from, length), plain_zero_run(&bits, from, length));
+        if let Some(index) = row.next_one(from) {
+            same!(rt; row.select(plain_rank(&bits, index)), Some(index));
+            same!(rt; word.select(plain_rank(&bits, index)), Some(index));
+        }
+    }
+}
+
+#[test]
+fn relations_of_two_shapes(rt: HostRuntime) {
+    let row: [u8; 8] = [0b0110, 0, 0, 0, 0, 0, 0, 1];
+    holds!(rt; 0b0110u64.is_subset(&row) && !0b0111u64.is_subset(&row));
+    holds!(rt; row.is_superset(&6u8) && !row.is_subset(&6u8));
+    holds!(rt; 0b1001u64.is_disjoint(&row) && row.intersects(&0b1100u16));
+    same!(rt; row.first_common(&0b1100u16), Some(2));
+    same!(rt; (row.first_alone(&6u8), 6u8.first_alone(&row)), (Some(56), None));
+    same!(rt; 0b1110u32.first_alone(&row), Some(3));
+}
+
+#[test]
+fn relations_of_like_words(rt: HostRuntime) {
+    let long: [u32; 3] = [1, 0, 1];
+    let short: [u32; 2] = [1, 0];
+    holds!(rt; short.is_subset(&long) && !long.is_subset(&short));
+    holds!(rt; long.is_superset(&short) && !short.is_superset(&long));
+    same!(rt; (long.first_alone(&short), short.first_alone(&long)), (Some(64), None));
+    same!(rt; long.first_common(&short), Some(0));
+    let other: [u32; 1] = [2];
+    holds!(rt; long.is_disjoint(&other) && !long.intersects(&other));
+    same!(rt; long.first_common(&other), None);
+}
+
+#[test]
+fn relations_in_each_order(rt: HostRuntime) {
+    // From the left each of the two has the one index 0.
+    holds!(rt; 0x80u8.is_subset_in::<u16, LittleEndian>(&0x8000));
+    holds!(rt; 0x80u8.intersects_in::<u16, LittleEndian>(&0x8000));
+    holds!(rt; 0x80u8.is_disjoint(&0x8000u16));
+    holds!(rt; Set::new_le(0x80u8).is_subset(&1u16));
+    holds!(rt; 1u16.is_superset(&Set::new_le(0x80u8)));
+    same!(rt; Set::new_le(0x41u8).first_common(&0xFFu8), Some(1));
+    same!(rt; Set::new_le(0x41u8).first_alone(&0x02u8), Some(7));
+}
+
+#[test]
+fn relations_of_no_capacity(rt: HostRuntime) {
+    let none: [u8; 0] = [];
+    holds!(rt; none.is_subset(&5u8) && !5u8.is_subset(&none));
+    holds!(rt; none.is_disjoint(&none) && !none.intersects(&none));
+    same!(rt; (5u32.first_alone(&none), none.first_common(&5u32)), (Some(0), None));
+}
+
+#[test]
+fn random_rows_stand_as_plain_arrays_do(rt: HostRuntime) {
+    let mut state = 7u64;
+    for round in 0..1000u32 {
+        state = step(state);
+        let first = state & (state >> 13) & (state << 7);
+        state = step(state);
+        let second = if round % 4 == 0 {
+            first | state
+        } else {
+            state & (state >> 11)
+        };
+        let row = second.to_le_bytes();
+        let ours = plain(&first.to_le_bytes());
+        let theirs = plain(&row);
+        let mut common = None;
+        let mut alone = None;
+        for k in (0..64usize).rev() {
+            if ours[k] && theirs[k] {
+                common = Some(k as u32);
+            }
+            if ours[k] && !theirs[k] {
+                alone = Some(k as u32);
+            }
+        }
+        same!(rt; (first.first_common(&second), first.first_common(&row)), (common, common));
+        same!(rt; (first.first_alone(&second), first.first_alone(&row)), (alone, alone));
+        same!(rt; (first.is_subset(&second), first.is_subset(&row)), (alone == None, alone == None));
+        same!(rt; (first.is_disjoint(&row), first.intersects(&row)), (common == None, common != None));
+    }
+}
