@@ -74,6 +74,15 @@ impl<B: BitsOwned> Pages<B> {
         Pages { map: B::zeros() }
     }
 
+    /// Returns an allocator of which the pages in the map are taken, each by its index in the order
+    /// of the type. The type has to fit, as for [`new`](Pages::new).
+    pub fn with_taken(map: B) -> Pages<B>
+        requires { Fits B.indexable B.type_capacity }
+        ensures { set_in B.Shape B.Order.Endian result.map ≡ set_in B.Shape B.Order.Endian map }
+    {
+        Pages { map }
+    }
+
     /// Takes the least page that is free, or changes nothing and returns `None` where all are
     /// taken, as with capacity 0.
     pub fn take(&mut self) -> Option<u32>

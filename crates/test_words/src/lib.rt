@@ -12,8 +12,6 @@ mod lists;
 #[cfg(test)]
 mod operations;
 #[cfg(test)]
-mod probe;
-#[cfg(test)]
 mod ranges;
 #[cfg(test)]
 mod runs;

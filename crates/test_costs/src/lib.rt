@@ -1,0 +1,25 @@
+//! Tests of what calls cost: how often each asks the set that it goes over, by a set that counts.
+#![tactic(auto)]
+
+#[cfg(test)]
+mod asked;
+#[cfg(test)]
+mod checks;
+#[cfg(test)]
+mod comparisons;
+#[cfg(test)]
+mod pages;
+#[cfg(test)]
+mod probe;
+#[cfg(test)]
+mod replays;
+#[cfg(test)]
+mod rows;
+#[cfg(test)]
+mod searches;
+#[cfg(test)]
+mod sets;
+#[cfg(test)]
+mod walks;
+#[cfg(test)]
+mod word_probe;
