@@ -1,3 +1,6 @@
+mod CombinedStarts
+mod CombinedSteps
+mod CombinedWords
 mod Complements
 pub mod RankFacts
 pub mod RelationFacts

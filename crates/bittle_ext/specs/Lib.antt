@@ -1,5 +1,6 @@
 pub mod Changes
-pub mod Runs
+pub mod Combined
 pub mod Ranges
 pub mod Ranks
 pub mod Relations
+pub mod Runs

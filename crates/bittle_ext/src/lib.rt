@@ -27,6 +27,8 @@ mod bits_ext;
 mod bits_mut_ext;
 mod bits_owned_ext;
 mod bits_relation_ext;
+mod both_words;
+pub mod combined;
 pub mod prelude;
 #[doc(hidden)]
 pub mod rank_laws;
@@ -38,3 +40,4 @@ pub use bits_ext::BitsExt;
 pub use bits_mut_ext::BitsMutExt;
 pub use bits_owned_ext::BitsOwnedExt;
 pub use bits_relation_ext::BitsRelationExt;
+pub use combined::BitsCombinedExt;

@@ -4,3 +4,4 @@ pub use crate::bits_ext::BitsExt;
 pub use crate::bits_mut_ext::BitsMutExt;
 pub use crate::bits_owned_ext::BitsOwnedExt;
 pub use crate::bits_relation_ext::BitsRelationExt;
+pub use crate::combined::BitsCombinedExt;

@@ -2,6 +2,7 @@
 #![tactic(auto)]
 
 pub mod any_changes;
+pub mod combined_walks;
 pub mod lent_changes;
 pub mod made_sets;
 pub mod shape_changes;

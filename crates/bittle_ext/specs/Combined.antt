@@ -1,0 +1,46 @@
+-- What an operation makes of two sets, each of its own capacity, and where an iterator over it is.
+use Rattle.std.specs.Prelude.{ℕ, ◌+◌, ◌*◌, ◌<◌, ◌≤◌, max, Bool, ◌||◌, ◌&&◌, List, ◌++◌}
+use Rattle.bittle_bits.specs.Buffers.{members_between, items_of}
+use Rattle.bittle.specs.PlainSet.{PlainSet}
+use Rattle.bittle.specs.SetOperations.{first_alone, just_one}
+use Rattle.bittle_ext.specs.declared.both_words.Loaded.{Loaded}
+use Rattle.bittle_ext.specs.declared.both_words.Place.{Place}
+
+-- the set of the numbers that are members by whether they are members of each of two sets
+abbrev pub decided_set : (Bool → Bool → Bool) → PlainSet → PlainSet → PlainSet
+decided_set decide s t =
+    record { capacity = max s.capacity t.capacity; has = λ k. decide (s.has k) (t.has k) }
+
+-- the members of either set
+abbrev pub either_of : PlainSet → PlainSet → PlainSet
+either_of s t = decided_set ◌||◌ s t
+
+-- the members of both sets
+abbrev pub both_of : PlainSet → PlainSet → PlainSet
+both_of s t = decided_set ◌&&◌ s t
+
+-- the members of the first set that are none of the second
+abbrev pub first_only_of : PlainSet → PlainSet → PlainSet
+first_only_of s t = decided_set first_alone s t
+
+-- the members of just one of the sets
+abbrev pub just_one_of : PlainSet → PlainSet → PlainSet
+just_one_of s t = decided_set just_one s t
+
+-- the type is that of the words, which have so many bits
+module _ {W : Type 0} (mirrored : Bool) (leaf : ℕ) (pattern : W → ℕ) where
+  -- the items of a loaded word
+  abbrev pub items_of_loaded : Loaded W → List ℕ
+  items_of_loaded l = items_of mirrored leaf (pattern l.word) l.base
+
+  -- what remains of a set: the head's items, the members of the words between, and the tail's items
+  unfoldable pub items_at : ℕ → PlainSet → Place W → List ℕ
+  items_at w s at = items_of_loaded at.head
+      ++ (members_between s (at.low * w) (at.high * w) ++ items_of_loaded at.tail)
+
+-- the indexes of each word that is loaded, or will be, are numbers of 32 bits
+pub record IsPlaced {W : Type 0} (leaf w : ℕ) (at : Place W) : Type 0 where
+  pub ordered : at.low ≤ at.high
+  pub between : at.high * w < 4294967295
+  pub head : at.head.base + leaf < 4294967296
+  pub tail : at.tail.base + leaf < 4294967296

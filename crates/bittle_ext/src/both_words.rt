@@ -1,0 +1,186 @@
+//! The words that an operation makes of two sets, and the steps of an iterator over them.
+
+ghost use Rattle.std.specs.Iterator.{YieldsFirst, YieldsLast};
+ghost use Rattle.std.specs.Prelude.{◌≡◌, ◌+◌, ◌*◌, ◌<◌};
+ghost use Rattle.bittle_bits.specs.Buffers.{members_between};
+ghost use Rattle.bittle_bits.specs.BitPatterns.{bit_set};
+ghost use Rattle.bittle_bits.specs.Words.{word_of};
+ghost use Rattle.bittle_ext.specs.Combined.{decided_set, items_of_loaded, items_at, IsPlaced};
+ghost use Rattle.bittle.specs.Orders.{read_in};
+ghost use Rattle.bittle.specs.Values.{ShapeFits};
+
+use bittle::{Bits, Endian};
+use bittle_bits::one_word;
+use bittle_bits::operation::Operation;
+use bittle_bits::word::Word;
+
+/// What remains of a word, and the index of its first bit.
+#[derive(Clone, Copy)]
+pub struct Loaded<W: Copy> {
+    pub word: W,
+    pub base: u32,
+}
+
+/// Where an iterator is: what remains of its first and of its last word, and the range of words
+/// between them that are not loaded yet.
+#[derive(Clone, Copy)]
+pub struct Place<W: Copy> {
+    pub head: Loaded<W>,
+    pub tail: Loaded<W>,
+    pub low: u32,
+    pub high: u32,
+}
+
+/// Returns word `k` of a set, or an empty word from its capacity on.
+#[inline]
+fn word_or_empty<S: Bits>(set: &S, k: u32) -> S::LeafWord
+    requires { ShapeFits S.Shape set.now }
+    ensures { bit_set S.width (S.LeafWord.pattern result) ≡ word_of S.width (S.big set.now) k }
+{
+    if k < set.bits_capacity() / <S::LeafWord as Word>::width() {
+        set.nth_leaf_word(k)
+    } else {
+        <S::LeafWord as Word>::zero()
+    }
+}
+
+/// Returns word `k` of what an operation makes of two sets.
+#[inline]
+fn word_of_both<A: Bits, B: Bits, O: Operation>(left: &A, right: &B, k: u32) -> A::LeafWord
+    requires width { A.width ≡ B.width }
+    requires left_fits { ShapeFits A.Shape left.now }
+    requires right_fits { ShapeFits B.Shape right.now }
+    ensures { bit_set A.width (A.LeafWord.pattern result)
+        ≡ word_of A.width (decided_set O.decide (A.big left.now) (B.big right.now)) k }
+{
+    let theirs = word_or_empty(right, k).to_bits();
+    let ours = word_or_empty(left, k);
+    O::on_words::<A::LeafWord>(ours, <A::LeafWord as Word>::from_bits(theirs))
+}
+
+/// Loads word `k` of what an operation makes of two sets.
+#[inline]
+fn load<A: Bits, B: Bits, E: Endian, O: Operation>(
+    left: &A,
+    right: &B,
+    k: u32,
+) -> Loaded<A::LeafWord>
+    requires width { A.width ≡ B.width }
+    requires left_fits { ShapeFits A.Shape left.now }
+    requires right_fits { ShapeFits B.Shape right.now }
+    requires within { k * A.width + A.width < 4294967295 }
+    ensures items { items_of_loaded E.mirrored A.LeafWord.width A.LeafWord.pattern result
+        ≡ members_between (read_in E.mirrored A.width
+        (decided_set O.decide (A.big left.now) (B.big right.now)))
+        (k * A.width) (k * A.width + A.width) }
+    ensures reach { result.base + A.LeafWord.width < 4294967296 }
+{
+    Loaded {
+        word: word_of_both::<A, B, O>(left, right, k),
+        base: k * <A::LeafWord as Word>::width(),
+    }
+}
+
+/// Takes the first item of a loaded word.
+#[inline]
+fn scan_first<W: Word, E: Endian>(loaded: &mut Loaded<W>) -> Option<u32>
+    requires { loaded.old.base + W.width < 4294967296 }
+    ensures gave { YieldsFirst (items_of_loaded E.mirrored W.width W.pattern)
+        loaded.old result loaded.new }
+    ensures base { loaded.new.base ≡ loaded.old.base }
+{
+    let index = one_word::pop_first::<W, E>(&mut loaded.word)?;
+    Some(loaded.base + index)
+}
+
+/// Takes the last item of a loaded word.
+#[inline]
+fn scan_last<W: Word, E: Endian>(loaded: &mut Loaded<W>) -> Option<u32>
+    requires { loaded.old.base + W.width < 4294967296 }
+    ensures gave { YieldsLast (items_of_loaded E.mirrored W.width W.pattern)
+        loaded.old result loaded.new }
+    ensures base { loaded.new.base ≡ loaded.old.base }
+{
+    let index = one_word::pop_last::<W, E>(&mut loaded.word)?;
+    Some(loaded.base + index)
+}
+
+/// Returns the place before the first of so many words.
+#[inline]
+pub fn begin<W: Word>(words: u32) -> Place<W>
+    ensures head { W.pattern result.head.word ≡ 0 }
+    ensures head_base { result.head.base ≡ 0 }
+    ensures tail { W.pattern result.tail.word ≡ 0 }
+    ensures tail_base { result.tail.base ≡ 0 }
+    ensures low { result.low ≡ 0 }
+    ensures high { result.high ≡ words }
+{
+    let none = Loaded {
+        word: W::zero(),
+        base: 0,
+    };
+    Place {
+        head: none,
+        tail: none,
+        low: 0,
+        high: words,
+    }
+}
+
+/// Takes the first item that remains.
+#[inline]
+pub fn step_front<A: Bits, B: Bits, E: Endian, O: Operation>(
+    left: &A,
+    right: &B,
+    at: &mut Place<A::LeafWord>,
+) -> Option<u32>
+    requires width { A.width ≡ B.width }
+    requires left_fits { ShapeFits A.Shape left.now }
+    requires right_fits { ShapeFits B.Shape right.now }
+    requires placed { IsPlaced A.LeafWord.width A.width at.old }
+    ensures gave { YieldsFirst (items_at E.mirrored A.LeafWord.width A.LeafWord.pattern A.width
+        (read_in E.mirrored A.width (decided_set O.decide (A.big left.now) (B.big right.now))))
+        at.old result at.new }
+    ensures placed { IsPlaced A.LeafWord.width A.width at.new }
+{
+    loop {
+        if let Some(item) = scan_first::<A::LeafWord, E>(&mut at.head) {
+            return Some(item);
+        }
+        if at.low == at.high {
+            break;
+        }
+        at.head = load::<A, B, E, O>(left, right, at.low);
+        at.low += 1;
+    }
+    scan_first::<A::LeafWord, E>(&mut at.tail)
+}
+
+/// Takes the last item that remains.
+#[inline]
+pub fn step_back<A: Bits, B: Bits, E: Endian, O: Operation>(
+    left: &A,
+    right: &B,
+    at: &mut Place<A::LeafWord>,
+) -> Option<u32>
+    requires width { A.width ≡ B.width }
+    requires left_fits { ShapeFits A.Shape left.now }
+    requires right_fits { ShapeFits B.Shape right.now }
+    requires placed { IsPlaced A.LeafWord.width A.width at.old }
+    ensures gave { YieldsLast (items_at E.mirrored A.LeafWord.width A.LeafWord.pattern A.width
+        (read_in E.mirrored A.width (decided_set O.decide (A.big left.now) (B.big right.now))))
+        at.old result at.new }
+    ensures placed { IsPlaced A.LeafWord.width A.width at.new }
+{
+    loop {
+        if let Some(item) = scan_last::<A::LeafWord, E>(&mut at.tail) {
+            return Some(item);
+        }
+        if at.low == at.high {
+            break;
+        }
+        at.high -= 1;
+        at.tail = load::<A, B, E, O>(left, right, at.high);
+    }
+    scan_last::<A::LeafWord, E>(&mut at.head)
+}

@@ -1,0 +1,63 @@
+//! Iterators over what an operation makes of two sets.
+
+ghost use Rattle.std.specs.Prelude.{◌≡◌, length, true};
+ghost use Rattle.std.specs.List.{fold};
+ghost use Rattle.bittle.specs.BitPatterns.{bit_set};
+ghost use Rattle.bittle.specs.Orders.{read_in};
+ghost use Rattle.bittle.specs.PlainSet.{ascending, empty_set, with_index};
+ghost use Rattle.bittle.specs.Rows.{row_set};
+ghost use Rattle.bittle.specs.Values.{set_in, ShapeFits};
+ghost use Rattle.bittle_ext.specs.Combined.{both_of, either_of, first_only_of, just_one_of};
+
+use bittle::{Bits, Endian, LittleEndian};
+use bittle_ext::{BitsOwnedExt, BitsCombinedExt};
+
+/// Counts the indexes that are set in both of two words.
+pub fn count_common(one: u64, other: u64) -> usize
+    ensures { result ≡ length (ascending (both_of (bit_set 64 one) (bit_set 64 other))) }
+{
+    one.iter_conjunction(&other).count()
+}
+
+/// Counts what is set in either of two rows of unequal length, read from the left.
+pub fn count_either(one: &[u32; 2], other: &[u32; 4]) -> usize
+    ensures { result ≡ length (ascending (either_of
+        (read_in true 32 (row_set 2 32 (bit_set 32) one.now))
+        (read_in true 32 (row_set 4 32 (bit_set 32) other.now)))) }
+{
+    one.iter_union_in::<_, LittleEndian>(other).count()
+}
+
+/// Returns the set of what is set in one word alone.
+pub fn alone(one: u16, other: u16) -> u16
+    ensures { bit_set 16 result ≡ fold with_index (empty_set 16)
+        (ascending (first_only_of (bit_set 16 one) (bit_set 16 other))) }
+{
+    u16::from_iter(one.iter_difference(&other))
+}
+
+/// Counts where any two sets of one width differ.
+pub fn count_different<A: Bits, B: Bits, E: Endian>(one: &A, other: &B) -> usize
+    requires width { A.width ≡ B.width }
+    requires one_fits { ShapeFits A.Shape one.now }
+    requires other_fits { ShapeFits B.Shape other.now }
+    ensures { result ≡ length (ascending (just_one_of
+        (set_in A.Shape E.Endian one.now) (set_in B.Shape E.Endian other.now))) }
+{
+    one.iter_symmetric_difference_in::<B, E>(other).count()
+}
+
+/// Returns the last entry of a table at an index that is set in both of two masks.
+pub fn last_entry(one: u64, other: u64, table: &[u32; 64]) -> u32 {
+    let mut last = 0;
+    for index in one.iter_conjunction(&other) {
+        last = table[index as usize];
+    }
+    last
+}
+
+/// Returns both ends of what is set in either of two words.
+pub fn ends(one: u8, other: u8) -> (Option<u32>, Option<u32>) {
+    let mut walk = one.iter_union(&other);
+    (walk.next(), walk.next_back())
+}
