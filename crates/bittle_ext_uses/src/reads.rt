@@ -1,0 +1,197 @@
+//! Reading calls, of words, of longer shapes and of any shape.
+
+ghost use Rattle.std.specs.Prelude.{◌≡◌, ◌↔◌, ◌+◌, ◌-◌, ◌<◌, ◌≤◌, true, IsTrue, MatchBool, MatchOption, slice_get};
+ghost use Rattle.bittle.specs.BitPatterns.{bit_set};
+ghost use Rattle.bittle.specs.Orders.{read_in};
+ghost use Rattle.bittle.specs.PlainSet.{ascending, complement, members_below};
+ghost use Rattle.bittle.specs.Rows.{row_set};
+ghost use Rattle.bittle.specs.Searches.{IsFirstIn, IsLastIn, NoneIn};
+ghost use Rattle.bittle.specs.Values.{set_in, ShapeFits};
+ghost use Rattle.bittle_ext.specs.Ranges.{HasSomeIn, HasAllIn};
+ghost use Rattle.bittle_ext.specs.Relations.{IsSubset, AreDisjoint, Meet, IsFirstAlone, IsFirstCommon};
+ghost use Rattle.bittle_ext.specs.Runs.{IsFirstRun};
+
+use bittle::{Bits, Endian, LittleEndian, Set};
+use bittle_ext::{BitsExt, BitsRelationExt};
+
+/// Returns the least member.
+pub fn least(mask: u64) -> Option<u32>
+    ensures { IsFirstIn (bit_set 64 mask) 0 64 result }
+{
+    mask.first_one()
+}
+
+/// Returns the entry of a row at the greatest member, or 0.
+pub fn entry_at_greatest(mask: u16, row: &[u32; 16]) -> u32 {
+    match mask.last_one() {
+        Some(index) => row[index as usize],
+        None => 0,
+    }
+}
+
+/// Returns the least number that is no member.
+pub fn least_free(mask: u32) -> Option<u32>
+    ensures { IsFirstIn (complement (bit_set 32 mask)) 0 32 result }
+{
+    mask.first_zero()
+}
+
+/// Returns the greatest number that is no member, from the left.
+pub fn greatest_free_le(mask: u8) -> Option<u32>
+    ensures { IsLastIn (complement (read_in true 8 (bit_set 8 mask))) 0 8 result }
+{
+    mask.prev_zero_in::<LittleEndian>(8)
+}
+
+/// Returns the neighbours of an index among the members.
+pub fn neighbours(mask: u64, index: u32) -> (Option<u32>, Option<u32>)
+    requires { index < 64 }
+    ensures before { IsLastIn (bit_set 64 mask) 0 index result.0 }
+    ensures after { IsFirstIn (bit_set 64 mask) (index + 1) 64 result.1 }
+{
+    (mask.prev_one(index), mask.next_one(index + 1))
+}
+
+/// Returns the next member of a set that is read from the left.
+pub fn next_of(set: &Set<u16, LittleEndian>, from: u32) -> Option<u32>
+    ensures { IsFirstIn (read_in true 16 (bit_set 16 set.now.bits)) from 16 result }
+{
+    set.next_one(from)
+}
+
+/// Counts the members below an index.
+pub fn rank(board: &[u64; 4], index: u32) -> u32
+    ensures { result ≡ members_below (row_set 4 64 (bit_set 64) board.now) index }
+{
+    board.rank(index)
+}
+
+/// Returns the member of a rank.
+pub fn member(board: &[u64; 4], rank: u32) -> Option<u32>
+    ensures { result ≡ slice_get (ascending (row_set 4 64 (bit_set 64) board.now)) rank }
+{
+    board.select(rank)
+}
+
+/// Counts the members of a range.
+pub fn count(mask: u128, from: u32, to: u32) -> u32
+    requires ordered { from ≤ to }
+    requires within { to ≤ 128 }
+    ensures { result
+        ≡ members_below (bit_set 128 mask) to - members_below (bit_set 128 mask) from }
+{
+    mask.count_ones_in_range(from, to)
+}
+
+/// Returns whether a range of pages is free.
+pub fn is_free(pages: &[u32; 8], from: u32, to: u32) -> bool
+    requires ordered { from ≤ to }
+    requires within { to ≤ 256 }
+    ensures { let taken = row_set 8 32 (bit_set 32) pages.now in
+        MatchBool result (NoneIn taken from to) (HasSomeIn taken from to) }
+{
+    !pages.any_in_range(from, to)
+}
+
+/// Returns whether each day of a range is a working day.
+pub fn works_through(days: u32, from: u32, to: u32) -> bool
+    requires ordered { from ≤ to }
+    requires within { to ≤ 32 }
+    ensures { MatchBool result (HasAllIn (bit_set 32 days) from to)
+        (HasSomeIn (complement (bit_set 32 days)) from to) }
+{
+    days.all_in_range(from, to)
+}
+
+/// Returns where four neighbours are free.
+pub fn four_free(pages: u64) -> Option<u32>
+    ensures { IsFirstRun (complement (bit_set 64 pages)) 0 4 result }
+{
+    pages.first_zero_run(4)
+}
+
+/// Returns where so many neighbours are free from a page on, in any shape.
+pub fn free_from<B: Bits>(pages: &B, from: u32, length: u32) -> Option<u32>
+    requires { ShapeFits B.Shape pages.now }
+    ensures { IsFirstRun (complement (set_in B.Shape B.Order.Endian pages.now)) from length result }
+{
+    pages.next_zero_run(from, length)
+}
+
+/// Returns the median member, and the index itself where it is asked for its rank.
+pub fn middle<B: Bits, E: Endian>(set: &B) -> Option<u32>
+    requires { ShapeFits B.Shape set.now }
+{
+    set.select_in::<E>(set.count_ones() / 2)
+}
+
+/// Returns whether a role grants what is wanted.
+pub fn grants(role: u32, wanted: u32) -> bool
+    ensures { IsTrue result ↔ IsSubset (bit_set 32 wanted) (bit_set 32 role) }
+{
+    role.is_superset(&wanted)
+}
+
+/// Returns whether a byte's members are all among those of a long word.
+pub fn is_within(small: u8, large: u128) -> bool
+    ensures { IsTrue result ↔ IsSubset (bit_set 8 small) (bit_set 128 large) }
+{
+    small.is_subset(&large)
+}
+
+/// Returns whether two words meet.
+pub fn meet(one: u16, other: u16) -> bool
+    ensures { IsTrue result ↔ Meet (bit_set 16 one) (bit_set 16 other) }
+{
+    one.intersects(&other)
+}
+
+/// Returns whether two words have nothing in common, both read from the left.
+pub fn are_disjoint_le(one: u16, other: u32) -> bool
+    ensures { IsTrue result ↔ AreDisjoint (read_in true 16 (bit_set 16 one))
+        (read_in true 32 (bit_set 32 other)) }
+{
+    one.is_disjoint_in::<u32, LittleEndian>(&other)
+}
+
+/// Returns the first permission that is wanted and not granted.
+pub fn first_missing(wanted: u64, granted: &[u8; 8]) -> Option<u32>
+    ensures { let ours = bit_set 64 wanted in
+        let theirs = row_set 8 8 (bit_set 8) granted.now in
+        MatchOption result (IsSubset ours theirs) (IsFirstAlone ours theirs) }
+{
+    wanted.first_alone(granted)
+}
+
+/// Returns the first member of both of two sets of any shape.
+pub fn first_of_both<A: Bits, B: Bits>(one: &A, other: &B) -> Option<u32>
+    requires one_fits { ShapeFits A.Shape one.now }
+    requires other_fits { ShapeFits B.Shape other.now }
+    ensures { let ours = set_in A.Shape A.Order.Endian one.now in
+        let theirs = set_in B.Shape B.Order.Endian other.now in
+        MatchOption result (AreDisjoint ours theirs) (IsFirstCommon ours theirs) }
+{
+    one.first_common(other)
+}
+
+/// Returns the least member, under the extension's own bound.
+pub fn least_of<B: BitsExt>(set: &B) -> Option<u32>
+    requires { ShapeFits B.Shape set.now }
+    ensures { let ours = set_in B.Shape B.Order.Endian set.now in
+        IsFirstIn ours 0 ours.capacity result }
+{
+    set.first_one()
+}
+
+/// Returns the least members of a word, an array and a slice.
+pub fn three_least(
+    word: u64,
+    row: &[u32; 4],
+    slice: &[u8; 2],
+) -> (Option<u32>, Option<u32>, Option<u32>)
+    ensures word { IsFirstIn (bit_set 64 word) 0 64 result.0 }
+    ensures row { IsFirstIn (row_set 4 32 (bit_set 32) row.now) 0 128 result.1 }
+    ensures slice { IsFirstIn (row_set 2 8 (bit_set 8) slice.now) 0 16 result.2 }
+{
+    (least_of(&word), least_of(row), least_of(slice))
+}
