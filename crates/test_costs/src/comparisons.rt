@@ -33,12 +33,13 @@ fn equality_ends_with_the_four_words_that_differ(rt: HostRuntime) {
 
 #[test]
 fn comparisons_end_with_the_four_words_that_differ(rt: HostRuntime) {
-    // The index 9 is in the right one alone: the left one is asked for it and for a member past it.
+    // The index 9 is in the right one alone: the left one is asked for its word, and for a member
+    // past it.
     let (left, right) = (Asked::new(), Asked::new());
     let set = Set::new([Probe::of(ONES, &left), Probe::of(ONES, &left)]);
     let other = [Probe::of([1, 2, 0, 128], &right), Probe::of(ONES, &right)];
     same!(rt; set.cmp_bits(&other), Ordering::Greater);
-    holds!(rt; left.fetches() <= 9 && left.other() <= 1);
+    holds!(rt; left.is_at_most(10));
     holds!(rt; right.is_at_most(6));
 }
 
@@ -100,11 +101,13 @@ fn wide_words_are_compared_by_words(rt: HostRuntime) {
 
 #[test]
 fn comparisons_ask_this_side_for_an_index_of_the_other(rt: HostRuntime) {
-    // The index 9 is in the right one alone: the left one is tested for it, and searched past it.
+    // The index 9 is in the right one alone: past the four words and the two that are searched, the
+    // left one is asked for its word, and for the three words past it.
     let (left, right) = (Asked::new(), Asked::new());
     let set = Set::new(Probe::of(ONES, &left));
     same!(rt; set.cmp_bits(&Probe::of([1, 2, 0, 128], &right)), Ordering::Greater);
-    same!(rt; (left.other(), right.other()), (1, 0));
+    same!(rt; (left.fetches(), left.other()), (10, 0));
+    same!(rt; (right.fetches(), right.other()), (6, 0));
 }
 
 #[test]

@@ -9,7 +9,9 @@ ghost use Rattle.bittle.specs.Comparison.{AreSame, HasPast, HasNonePast, IsFirst
 use bittle_bits::bits::Bits;
 use bittle_bits::endian::Endian;
 use bittle_bits::internal::decided::first_decided;
+use bittle_bits::one_word::test_bit;
 use bittle_bits::operation::SymmetricDifference;
+use bittle_bits::word::Word;
 use std::cmp::Ordering;
 
 /// Returns the least index that is in just one of two sets, or `None` where they have the same
@@ -44,7 +46,12 @@ fn has<B: Bits, E: Endian>(bits: &B, index: u32) -> bool
     requires { ShapeFits B.Shape bits.now }
     ensures { result ≡ (set_in B.Shape E.Endian bits.now).has index }
 {
-    index < bits.bits_capacity() && bits.test_bit_in::<E>(index)
+    if bits.bits_capacity() <= index {
+        return false;
+    }
+    let width = <B::LeafWord as Word>::width();
+    // Of a slice a test of an index that may wrap divides by its length, which the word does not.
+    test_bit::<B::LeafWord, E>(bits.nth_leaf_word(index / width), index % width)
 }
 
 /// Returns whether a member lies past an index.

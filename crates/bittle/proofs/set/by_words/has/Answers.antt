@@ -1,24 +1,36 @@
-use Rattle.std.proofs.Common.{◌<◌, ◌≤◌, refl, sym, ap, ◌∙◌, arith}
-use Rattle.std.proofs.Math.Nat.{mod-eq_of_lt}
-use Rattle.std.proofs.lemmas.Bool.{le-ltb}
+use Rattle.std.proofs.Common.{◌≡◌, ◌+◌, ◌*◌, ◌/◌, ◌%◌, ◌≤◌, refl, sym, ap, ◌∙◌, arith}
+use Rattle.std.proofs.Math.Nat.{div-add-mod', mod-eq_of_lt}
+use Rattle.std.proofs.lemmas.Nat.{mod_below}
 use Rattle.bittle_bits.proofs.PlainSets.{contains_in, members-past}
-use Rattle.bittle.proofs.set.by_words.has.Goals as goal
+use Rattle.bittle_bits.proofs.Words.{digit_at}
+use Rattle.bittle_bits.specs.BitPatterns.{bit_set}
+use Rattle.bittle_bits.specs.Orders.{read_in}
 use Rattle.bittle_bits.specs.Values.{set_in}
+use Rattle.bittle.proofs.set.by_words.has.Goals as goal
 
-pub returns-then-index-bits_capacity : goal.returns-then-index-bits_capacity
-returns-then-index-bits_capacity g c =
-    let s = set_in g.B.Shape g.E.Endian c.args.bits.now in
-    let low : c.args.index < s.capacity = omega
-    (arith, c.bits_capacity.ensures.value c.requires, c.if-index-bits_capacity.true) in
-    c.test_bit_in.ensures ∙ contains_in s s.capacity c.args.index refl (omega (arith, low))
-    ∙ ap s.has (mod-eq_of_lt low)
-
-pub returns-else-index-bits_capacity : goal.returns-else-index-bits_capacity
-returns-else-index-bits_capacity g c =
+pub returns-then-bits_capacity-index : goal.returns-then-bits_capacity-index
+returns-then-bits_capacity-index g c =
     let x = c.args.bits.now in
     let b = g.met.B.Bits in
     let past : (g.B.Shape.big x).capacity ≤ c.args.index = omega
-    (arith, c.bits_capacity.ensures.value c.requires, c.if-index-bits_capacity.false) in
-    le-ltb _ _ c.if-index-bits_capacity.false
-    ∙ sym (members-past g.E.Endian.mirrored _ _ b.width_positive (b.whole_words x)
-    (b.none_past x) c.args.index past)
+    (arith, c.bits_capacity.ensures.value c.requires, c.if-bits_capacity-index.true) in
+    sym (members-past g.E.Endian.mirrored _ _ b.width_positive (b.whole_words x) (b.none_past x)
+    c.args.index past)
+
+pub returns : goal.returns
+returns g c =
+    let b = g.met.B.Bits in
+    let m = g.E.Endian.mirrored in
+    let w = g.B.Shape.width in
+    let i = c.args.index in
+    let s = g.B.Shape.big c.args.bits.now in
+    let d = g.B.LeafWord.Word.pattern c.nth_leaf_word.result in
+    let word = read_in m w (bit_set w d) in
+    let wide : c.width-width.result ≡ w = c.width-width.ensures ∙ b.leaf_width in
+    let low = mod_below i w b.width_positive in
+    let at : i / w * w + i % w ≡ i = omega (arith, div-add-mod' i w) in
+    (rw (b.leaf_width, wide) at c.test_bit.ensures)
+    ∙ contains_in word w (i % w) refl b.width_positive
+    ∙ ap word.has (mod-eq_of_lt low)
+    ∙ digit_at m w (i / w) s d b.width_positive (rw wide at c.nth_leaf_word.ensures) (i % w) low
+    ∙ ap (set_in g.B.Shape g.E.Endian c.args.bits.now).has at
