@@ -23,6 +23,34 @@ fn words_of_lists(rt: HostRuntime) {
     }
 }
 
+/// A field that holds an index.
+#[derive(Drop)]
+struct Place {
+    x: u32,
+}
+
+/// Returns its argument.
+fn itself(index: u32) -> u32 {
+    index
+}
+
+#[test]
+fn words_of_indexes_beside_others_of_their_form(rt: HostRuntime) {
+    let (a, b, c, d, e) = (1, 3, 6, 2u8, 7u8);
+    let (p, q) = (Place { x: 0 }, Place { x: 5 });
+    let names: u8 = set![a, b, c];
+    let calls: u8 = set![itself(a), itself(b), itself(c)];
+    let brackets: u8 = set![(a), (b), (c)];
+    let fields: u8 = set![p.x, q.x];
+    let casts: u8 = set![d as u32, e as u32];
+    let through: u8 = set![1..=2, 4..=5];
+    let until: u8 = set![1..3, 4..6];
+    same!(rt;
+        [names, calls, brackets, fields, casts, through, until],
+        [0b0100_1010, 0b0100_1010, 0b0100_1010, 0b0010_0001, 0b1000_0100, 0b0011_0110, 0b0011_0110]
+    );
+}
+
 #[test]
 fn words_of_ranges(rt: HostRuntime) {
     let lists: [(&str, u8, u8); 6] = [
