@@ -1,4 +1,4 @@
-//! Runs of requests with the answers that they give.
+//! Runs of requests, with the answer to each.
 
 ghost use Rattle.bittle.specs.Shapes.{Fits};
 

@@ -39,7 +39,7 @@ fn tests_false<B: Bits>(rt: &impl Abort, bits: &B, index: u32)
     assert!(rt; !bits.test_bit_be(index));
 }
 
-// Whether a walk has no item, at either end.
+// Whether an iterator yields nothing, from either end.
 fn is_over<W: DoubleEndedIterator<Item = u32>>(mut walk: W) -> bool
     requires front { (w : W) → W.can_next w }
     requires back { (w : W) → W.can_next_back w }
@@ -204,8 +204,8 @@ fn arrays(rt: HostRuntime) {
     owned::<[[[u8; 0]; 4]; 4]>(&rt);
 }
 
-// What each call of a slice answers, shared and lent, and what is left by operations with another
-// slice.
+// What each call of a slice returns, shared and lent, and what remains after operations with
+// another slice.
 fn slice<'a, T: BitsOwned>(rt: &impl Abort, mut slice: &'a mut [T], other: &'a mut [T]) {
     reads(rt, &&slice[..]);
     writes(rt, &mut slice);

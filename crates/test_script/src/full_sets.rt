@@ -1,4 +1,4 @@
-//! Sets that are filled one by one, in each shape and both orders: their counts and their members.
+//! Sets that are filled one by one, in each shape and both orders: their counts and their indexes.
 
 use crate::checks::same;
 use crate::streams::{Sink, Source, Tally};
@@ -7,13 +7,13 @@ use std::alloc::Global;
 use std::process::Abort;
 use std::test::Fail;
 
-/// Makes the 32 first numbers members.
+/// Sets the 32 first bits.
 const SETS: &[u8] = b"set 0\nset 1\nset 2\nset 3\nset 4\nset 5\nset 6\nset 7\n\
     set 8\nset 9\nset 10\nset 11\nset 12\nset 13\nset 14\nset 15\n\
     set 16\nset 17\nset 18\nset 19\nset 20\nset 21\nset 22\nset 23\n\
     set 24\nset 25\nset 26\nset 27\nset 28\nset 29\nset 30\nset 31\n";
 
-/// Makes the 32 first numbers members, and counts after each.
+/// Sets the 32 first bits, and counts after each.
 const FILLS: &[u8] = b"set 0\ncount\nset 1\ncount\nset 2\ncount\nset 3\ncount\n\
     set 4\ncount\nset 5\ncount\nset 6\ncount\nset 7\ncount\n\
     set 8\ncount\nset 9\ncount\nset 10\ncount\nset 11\ncount\n\
@@ -23,7 +23,7 @@ const FILLS: &[u8] = b"set 0\ncount\nset 1\ncount\nset 2\ncount\nset 3\ncount\n\
     set 24\ncount\nset 25\ncount\nset 26\ncount\nset 27\ncount\n\
     set 28\ncount\nset 29\ncount\nset 30\ncount\nset 31\ncount\n";
 
-/// The members of a full set of 32.
+/// The indexes of a full set of 32.
 const MEMBERS: &[u8] = b"0 1 2 3 4 5 6 7 8 9 10 11 12 13 14 15 16 17 18 19 20 21 22 23 \
     24 25 26 27 28 29 30 31\n";
 
@@ -70,7 +70,7 @@ fn sets_of_32_are_filled(rt: HostRuntime) -> Result<(), Fail> {
 
 #[test]
 fn sets_of_8_are_filled(rt: HostRuntime) -> Result<(), Fail> {
-    // From the ninth on each number wraps to one that is a member.
+    // From the ninth on each index wraps to one that is set.
     let counts = b"1\n2\n3\n4\n5\n6\n7\n8\n\
         8\n8\n8\n8\n8\n8\n8\n8\n8\n8\n8\n8\n8\n8\n8\n8\n8\n8\n8\n8\n8\n8\n8\n8\n";
     for header in [b"be u8\n", b"le u8\n"] {

@@ -5,19 +5,19 @@ use std::cmp::min;
 use std::io;
 use std::io::{Error, ErrorKind, Read, Write};
 
-/// Is interrupted some times, gives some bytes, is interrupted again, gives the others, and then
-/// ends or fails.
+/// Is interrupted some times, returns some bytes, is interrupted again, returns the others, and
+/// then ends or fails.
 #[derive(Drop)]
 pub struct Source<'a> {
     bytes: &'a [u8],
     given: usize,
-    /// How often it is interrupted before it gives a byte.
+    /// How often it is interrupted before it returns a byte.
     pub interruptions: u32,
-    /// How many bytes it gives before it is interrupted again.
+    /// How many bytes it returns before it is interrupted again.
     pub sound: usize,
     /// How often it is interrupted then.
     pub later_interruptions: u32,
-    /// The most bytes that it gives at once.
+    /// The most bytes that it returns at once.
     pub most: usize,
     /// The error that it ends with, or none.
     pub end: Option<ErrorKind>,

@@ -30,22 +30,22 @@ fn a_word_compares_with_a_slice(rt: HostRuntime) {
 
 #[test]
 fn each_side_is_compared_in_its_own_order(rt: HostRuntime) {
-    // The members 0 and 15.
+    // The indexes 0 and 15.
     holds!(rt; !Set::new_le(0x80u8).eq_bits(&Set::new(0x8000u16)));
     holds!(rt; !Set::new(0x8000u16).eq_bits(&Set::new_le(0x80u8)));
-    // The members 0 and 7.
+    // The indexes 0 and 7.
     holds!(rt; !Set::new_le(0x80u8).eq_bits(&0x80u8));
     same!(rt; Set::new_le(0x80u8).cmp_bits(&0x80u8), Ordering::Less);
     same!(rt;
         Set::new(0x80u8).cmp_bits(&Set::new_le(0x80u8)),
         Ordering::Greater
     );
-    // The member 0 on both sides.
+    // The index 0 on both sides.
     holds!(rt; Set::new_le(0x80u8).eq_bits(&Set::new(1u16)));
     holds!(rt; Set::new(1u16).eq_bits(&Set::new_le(0x80u8)));
 }
 
-// Sets in the order of their increasing members: none, 0, 0 1, 0 2, 1, 1 2 3, 1 3, 7.
+// Sets in the order of their increasing indexes: none, 0, 0 1, 0 2, 1, 1 2 3, 1 3, 7.
 const INCREASING: [u8; 8] = [0, 1, 0b11, 0b101, 0b10, 0b1110, 0b1010, 0x80];
 
 #[test]

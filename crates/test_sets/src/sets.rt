@@ -51,21 +51,21 @@ fn an_array_of_sets_is_read_in_the_default_order(rt: HostRuntime) {
     same!(rt; <[Set<u8, LittleEndian>; 2]>::bits(), 16);
 }
 
-// Whether a walk in the order of the type gives just these items.
+// Whether an iterator in the order of the type yields just these items.
 fn walks<B: Bits>(bits: &B, items: &[u32]) -> bool
     requires { ShapeFits B.Shape bits.now }
 {
     bits.iter_ones().eq(items.iter().copied())
 }
 
-// Whether a walk in little-endian order gives just these items.
+// Whether an iterator in little-endian order yields just these items.
 fn walks_le<B: Bits>(bits: &B, items: &[u32]) -> bool
     requires { ShapeFits B.Shape bits.now }
 {
     bits.iter_ones_le().eq(items.iter().copied())
 }
 
-// Whether iteration by value and by reference gives just these items.
+// Whether a loop by value and one by reference take just these items.
 fn iterates<T: BitsOwned, E: Endian>(set: Set<T, E>, items: &[u32]) -> bool {
     (&set).into_iter().eq(items.iter().copied()) && set.into_iter().eq(items.iter().copied())
 }
@@ -78,7 +78,7 @@ fn sets_are_walked_in_their_order(rt: HostRuntime) {
     holds!(rt; iterates(Set::new([8u8, 0]), &[3]));
     holds!(rt; iterates(Set::new_le([8u8, 0]), &[4]));
 
-    // Inside an array a set is walked in the default order.
+    // Inside an array a set is read in the default order.
     let sets = [Set::new_le(0x80u8), Set::new_le(0x01)];
     holds!(rt; walks(&sets, &[7, 8]));
     holds!(rt; walks_le(&sets, &[0, 15]));
@@ -107,7 +107,7 @@ fn an_operator_changes_the_slice_that_was_lent(rt: HostRuntime) {
     same!(rt; right, [4]);
 }
 
-// The members 1 and 65, and the members 65 and 110.
+// The indexes 1 and 65, and the indexes 65 and 110.
 fn two_sets() -> (Set<[u32; 4]>, Set<[u32; 4]>) {
     (set![1, 65], set![65, 110])
 }

@@ -71,7 +71,7 @@ impl Write for Short {
 
 #[test]
 fn a_text_that_was_cut_off_is_an_error(rt: HostRuntime) {
-    // The two braces, the two members and what stands between them.
+    // The two braces, the two indexes and what is between them.
     let set: Set<u16> = set![1, 14];
     for left in 0..5 {
         let mut short = Short { left };
@@ -90,7 +90,7 @@ fn a_text_that_was_cut_off_is_an_error(rt: HostRuntime) {
 
 #[test]
 fn a_long_text_that_was_cut_off_is_an_error(rt: HostRuntime) {
-    // The two braces, the four members and what stands between them.
+    // The two braces, the four indexes and what is between them.
     let set: Set<[u64; 160]> = set![42, 201, 1_000, 10_000];
     for left in 0..9 {
         let mut short = Short { left };

@@ -1,4 +1,4 @@
-//! Sets from lists, with the items of their walks, each worked out by hand.
+//! Sets from lists, with the items of their iterators, each worked out by hand.
 
 use crate::checks::holds;
 use bittle::prelude::*;

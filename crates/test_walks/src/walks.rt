@@ -1,4 +1,4 @@
-//! Walks of each form, and the bounded searches, against values worked out by hand.
+//! Iterators of each form, and the bounded searches, against values worked out by hand.
 
 ghost use Rattle.bittle.specs.Values.{ShapeFits};
 
@@ -8,7 +8,7 @@ use bittle::{BigEndian, LittleEndian, set};
 use std::alloc::AllocError;
 use std::test::Fail;
 
-// Whether a walk answers so at the front, or else at the back.
+// Whether a step of an iterator from the front, or else from the back, returns this.
 fn answers<W: DoubleEndedIterator<Item = u32>>(
     walk: &mut W,
     at_front: bool,
@@ -24,8 +24,8 @@ fn answers<W: DoubleEndedIterator<Item = u32>>(
     }
 }
 
-// Whether a walk gives these items from the front, from the back and from both ends in turn, and
-// then `None` at both ends for good.
+// Whether an iterator yields these items from the front, from the back and from both ends in turn,
+// and then `None` from both ends for good.
 fn gives<W: DoubleEndedIterator<Item = u32> + Clone>(mut walk: W, items: &[u32]) -> bool
     requires front { (w : W) → W.can_next w }
     requires back { (w : W) → W.can_next_back w }
@@ -51,7 +51,7 @@ fn gives<W: DoubleEndedIterator<Item = u32> + Clone>(mut walk: W, items: &[u32])
     good
 }
 
-// The members in big-endian and in little-endian order, and the numbers that are no members.
+// The set bits in big-endian and in little-endian order, and the unset ones.
 #[derive(Drop)]
 struct Expected<'a> {
     ones_be: &'a [u32],
@@ -151,7 +151,7 @@ fn each_form_at_a_nested_array(rt: HostRuntime) {
     holds!(rt; owned([[0u8, 1], [0, 128]], &expected));
 }
 
-// Whether a walk tells nothing of how many items are left, before its first step and after it.
+// Whether an iterator tells nothing of how many items remain, before its first step and after it.
 fn tells_nothing<W: DoubleEndedIterator<Item = u32>>(mut walk: W) -> bool
     requires front { (w : W) → W.can_next w }
 {

@@ -72,7 +72,7 @@ fn at_index<T: BitsOwned, E: Endian>(
     holds!(rt; without == changed.1);
 }
 
-// The searches and the walks of a word whose members in the order are the ones of the byte.
+// The searches and the iterators of a word whose set bits in the order are those of the byte.
 fn walks<T: Word, E: Endian>(rt: &impl Abort, word: T, members: u8) {
     searches::<T, E>(rt, word, members);
     walks_from_the_front::<T, E>(rt, word, members);

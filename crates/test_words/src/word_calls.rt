@@ -136,7 +136,7 @@ fn at_borders<T: Word + Bits>(rt: &impl Abort, width: u32, none: T, all: T, top:
     walks_alone::<T, LittleEndian>(rt, least, width - 1, width);
 }
 
-// The members are the indexes from one on and below another: from the front, and from the back of
+// The set bits are those from one index on and below another: from the front, and from the back of
 // what the other word lacks.
 fn walks_alone<T: Word, E: Endian>(rt: &impl Abort, word: T, from: u32, to: u32) {
     let mut ones = IterOnes::<T, E>::new(word);
