@@ -2,6 +2,12 @@
 #![tactic(auto)]
 
 #[cfg(test)]
+mod changes;
+#[cfg(test)]
 mod checks;
+#[cfg(test)]
+mod combined;
+#[cfg(test)]
+mod made;
 #[cfg(test)]
 mod reads;

@@ -1,0 +1,165 @@
+//! Changes, with values worked out by hand.
+
+use crate::checks::{holds, same};
+use bittle::prelude::*;
+use bittle::{LittleEndian, Set};
+use bittle_ext::prelude::*;
+
+#[test]
+fn one_bit_of_a_word(rt: HostRuntime) {
+    let mut word = 0b0010_0010u8;
+    holds!(rt; word.insert(0));
+    holds!(rt; !word.insert(8));
+    same!(rt; word, 0b0010_0011);
+    holds!(rt; word.remove(13));
+    holds!(rt; !word.remove(5));
+    same!(rt; word, 0b0000_0011);
+}
+
+#[test]
+fn a_bit_by_its_value(rt: HostRuntime) {
+    let mut word = 0b0011u8;
+    same!(rt; (word.replace(1, false), word), (true, 0b0001));
+    same!(rt; (word.replace(9, true), word), (false, 0b0011));
+    word.assign(8, false);
+    same!(rt; word, 0b0010);
+    word.assign(9, true);
+    same!(rt; word, 0b0010);
+    word.toggle(7);
+    word.toggle(1);
+    same!(rt; word, 0b1000_0000);
+}
+
+#[test]
+fn one_bit_from_the_left(rt: HostRuntime) {
+    let mut word = 0b1000_0000u8;
+    holds!(rt; !word.insert_in::<LittleEndian>(0));
+    holds!(rt; word.insert_in::<LittleEndian>(7));
+    same!(rt; word, 0b1000_0001);
+    holds!(rt; word.remove_in::<LittleEndian>(8));
+    same!(rt; word, 0b0000_0001);
+    word.toggle_in::<LittleEndian>(1);
+    same!(rt; word, 0b0100_0001);
+    holds!(rt; word.replace_in::<LittleEndian>(7, false));
+    word.assign_in::<LittleEndian>(2, true);
+    same!(rt; word, 0b0110_0000);
+}
+
+#[test]
+fn one_bit_of_longer_shapes(rt: HostRuntime) {
+    let mut nested = [[0u8; 2]; 2];
+    holds!(rt; nested.insert(17));
+    same!(rt; nested, [[0, 0], [2, 0]]);
+    let mut set = Set::new_le(0i16);
+    holds!(rt; set.insert(0));
+    same!(rt; set.into_bits(), i16::MIN);
+    let mut words = [0u64; 2];
+    let mut lent = words.as_mut_slice();
+    holds!(rt; lent.insert(65));
+    holds!(rt; !lent.insert(193));
+    same!(rt; words, [0, 2]);
+}
+
+#[test]
+fn capacity_0_is_never_changed(rt: HostRuntime) {
+    let mut none: [u8; 0] = [];
+    holds!(rt; none.insert(3));
+    holds!(rt; !none.remove(3));
+    holds!(rt; !none.replace(3, true));
+    none.toggle(0);
+    none.insert_all(&[1, 2]);
+    none.set_range(0, 0);
+    none.complement_assign();
+    same!(rt; (none.pop_first(), none.pop_last()), (None, None));
+    same!(rt; none.take_first_zero(), None);
+}
+
+#[test]
+fn ranges_of_a_row(rt: HostRuntime) {
+    let mut row = [0u8; 3];
+    row.set_range(4, 20);
+    same!(rt; row, [0xF0, 0xFF, 0x0F]);
+    row.clear_range(6, 10);
+    same!(rt; row, [0x30, 0xFC, 0x0F]);
+    row.toggle_range(0, 8);
+    same!(rt; row, [0xCF, 0xFC, 0x0F]);
+    row.assign_range(20, 24, true);
+    same!(rt; row, [0xCF, 0xFC, 0xFF]);
+    row.assign_range(1, 24, false);
+    same!(rt; row, [0x01, 0, 0]);
+}
+
+#[test]
+fn empty_and_whole_ranges(rt: HostRuntime) {
+    let mut word = 0b0101u8;
+    word.set_range(3, 3);
+    word.clear_range(8, 8);
+    word.toggle_range(0, 0);
+    same!(rt; word, 0b0101);
+    word.toggle_range(0, 8);
+    same!(rt; word, 0b1111_1010);
+    word.set_range(0, 8);
+    same!(rt; word, 0xFF);
+    let mut row = [0u8; 2];
+    row.assign_range_in::<LittleEndian>(6, 11, true);
+    same!(rt; row, [0x03, 0xE0]);
+    row.assign_range_in::<LittleEndian>(0, 16, false);
+    same!(rt; row, [0, 0]);
+}
+
+#[test]
+fn every_bit_is_flipped(rt: HostRuntime) {
+    let mut row = [0xCFu8, 0xFC, 0x0F];
+    row.complement_assign();
+    same!(rt; row, [0x30, 0x03, 0xF0]);
+    let mut word = i32::MAX;
+    word.complement_assign();
+    same!(rt; word, i32::MIN);
+    let mut set = Set::new_le(0xF0u8);
+    set.complement_assign();
+    same!(rt; set.into_bits(), 0x0F);
+    let mut words = [0u64, 1];
+    let mut lent = words.as_mut_slice();
+    lent.complement_assign();
+    same!(rt; words, [u64::MAX, u64::MAX - 1]);
+}
+
+#[test]
+fn ends_are_taken_out(rt: HostRuntime) {
+    // Bits 0, 15 and 17 are set.
+    let mut row = [0x8001u16, 2];
+    same!(rt; (row.pop_first(), row), (Some(0), [0x8000, 2]));
+    same!(rt; (row.pop_last(), row), (Some(17), [0x8000, 0]));
+    same!(rt; (row.pop_first(), row), (Some(15), [0, 0]));
+    same!(rt; (row.pop_first(), row.pop_last()), (None, None));
+    // From the left bits 3, 8 and 15 are set.
+    let mut row = [0x10u8, 0x81];
+    same!(rt; row.pop_first_in::<LittleEndian>(), Some(3));
+    same!(rt; row.pop_last_in::<LittleEndian>(), Some(15));
+    same!(rt; row, [0, 0x80]);
+}
+
+#[test]
+fn free_slots_are_taken(rt: HostRuntime) {
+    let mut row = [0xFFu8, 0x0F];
+    same!(rt; (row.take_first_zero(), row), (Some(12), [0xFF, 0x1F]));
+    let mut row = [0xFFu8, 0xC1];
+    same!(rt; row.take_first_zero_in::<LittleEndian>(), Some(10));
+    same!(rt; row, [0xFF, 0xE1]);
+    let mut full = 255u8;
+    same!(rt; (full.take_first_zero(), full), (None, 255));
+}
+
+#[test]
+fn lists_and_iterators_are_set(rt: HostRuntime) {
+    let mut word = 0b0001_0000u8;
+    word.insert_all(&[0, 7, 9, 7]);
+    same!(rt; word, 0b1001_0011);
+    word.insert_all_in::<LittleEndian>(&[2]);
+    same!(rt; word, 0b1011_0011);
+    let mut row = [0u8; 2];
+    row.extend(6..11);
+    same!(rt; row, [0xC0, 0x07]);
+    row.extend_in::<_, LittleEndian>(0b0101u8.iter_ones());
+    same!(rt; row, [0xE0, 0x07]);
+}

@@ -1,0 +1,41 @@
+//! Sets made of a set, of a list and of an iterator, with values worked out by hand.
+
+use crate::checks::same;
+use bittle::prelude::*;
+use bittle::{LittleEndian, Set};
+use bittle_ext::prelude::*;
+
+#[test]
+fn complements(rt: HostRuntime) {
+    same!(rt; [0xFFu8, 0x0F].complement(), [0x00, 0xF0]);
+    same!(rt; 1i8.complement(), -2);
+    same!(rt; Set::new_le(0xF0u8).complement().into_bits(), 0x0F);
+    let none: [u8; 0] = [];
+    same!(rt; none.complement(), none);
+}
+
+#[test]
+fn ranges(rt: HostRuntime) {
+    same!(rt; [0u8; 2].with_range(6, 11), [0xC0, 0x07]);
+    same!(rt; [0xFFu8; 2].without_range(6, 11), [0x3F, 0xF8]);
+    same!(rt; 0b0011_1100u8.with_range_toggled(0, 4), 0b0011_0011);
+    same!(rt; 0u8.with_range(8, 8), 0);
+    same!(rt; 0xFFu8.without_range(0, 8), 0);
+}
+
+#[test]
+fn ranges_from_the_left(rt: HostRuntime) {
+    same!(rt; 0u8.with_range_in::<LittleEndian>(0, 3), 0b1110_0000);
+    same!(rt; 0xFFu8.without_range_in::<LittleEndian>(0, 3), 0b0001_1111);
+    same!(rt; 0b1100_0000u8.with_range_toggled_in::<LittleEndian>(1, 4), 0b1011_0000);
+}
+
+#[test]
+fn indexes(rt: HostRuntime) {
+    same!(rt; u8::from_indexes(&[0, 7, 9]), 0b1000_0011);
+    same!(rt; u8::from_indexes_in::<LittleEndian>(&[0, 7, 9]), 0b1100_0001);
+    same!(rt; <[u8; 2]>::from_indexes(&[]), [0, 0]);
+    same!(rt; u8::from_iter(5..9), 0b1110_0001);
+    same!(rt; u8::from_iter_in::<_, LittleEndian>(5..9), 0b1000_0111);
+    same!(rt; u64::from_iter((0..64).step_by(16)), 0x0001_0001_0001_0001);
+}
