@@ -1,14 +1,16 @@
 //! Changing a set.
 
-ghost use Rattle.std.specs.Prelude.{◌≡◌, ◌≤◌, ℕ, Bool, List, not, IsTrue, MatchOption};
+ghost use Rattle.std.specs.Prelude.{◌≡◌, ◌+◌, ◌≤◌, ℕ, Bool, List, not, IsTrue, MatchOption};
 ghost use Rattle.std.specs.Iterator.{Drains, IsFinite};
 ghost use Rattle.std.specs.Iterator.Runs.{WholeRun};
 ghost use Rattle.std.specs.List.{fold};
+ghost use Rattle.bittle_ext.specs.Runs.{IsFirstRun};
 ghost use Rattle.bittle_ext.specs.Changes.{with_index_assigned, with_index_toggled, with_span_assigned};
 ghost use Rattle.bittle.specs.PlainSet.{contains, complement, with_index, without_index, with_span, without_span, with_span_toggled};
 ghost use Rattle.bittle.specs.Searches.{IsFirstIn, IsLastIn};
 ghost use Rattle.bittle.specs.Values.{set_in, set_mirrored, ShapeFits};
 
+use crate::bits_ext::BitsExt;
 use bittle::{BigEndian, BitsMut, Endian};
 
 /// Everyday changes of any set that can be changed. No change alters the capacity.
@@ -248,6 +250,32 @@ pub trait BitsMutExt: BitsMut {
         let free = self.first_zero_in::<E>(0, self.bits_capacity())?;
         self.set_bit_in::<E>(free);
         Some(free)
+    }
+
+    /// Sets the first `length` unset bits that are neighbours, in the order `E`, and returns the least
+    /// index of them, as an allocator of runs does. If there is no such run, nothing changes, and it
+    /// returns `None`; with `length` 0 nothing changes, and it returns 0.
+    ///
+    /// The shape has to fit. Each run that is too short costs two searches of words.
+    ///
+    /// ```
+    /// let mut word = 0b0100_1101u8;
+    /// word.take_first_zero_run_in::<LittleEndian>(2);     // Some(2): word is 0b0111_1101
+    /// ```
+    #[inline]
+    final fn take_first_zero_run_in<E: Endian>(&mut self, length: u32) -> Option<u32>
+    where
+        Self: Sized,
+        requires { ShapeFits Self.Shape self.old }
+        ensures first { IsFirstRun (complement (set_in Self.Shape E.Endian self.old)) 0 length result }
+        ensures set { MatchOption result (self.new ≡ self.old)
+            (λ from. set_in Self.Shape E.Endian self.new
+            ≡ with_span (set_in Self.Shape E.Endian self.old) from (from + length)) }
+        ensures stays { Self.loan self.old ≡ Self.loan self.new }
+    {
+        let from = self.first_zero_run_in::<E>(length)?;
+        self.set_range_in::<E>(from, from + length);
+        Some(from)
     }
 
     /// Sets the bit at each of the indexes, in the order `E`. An index past the capacity wraps.
@@ -524,6 +552,28 @@ pub trait BitsMutExt: BitsMut {
         ensures stays { Self.loan self.old ≡ Self.loan self.new }
     {
         self.take_first_zero_in::<Self::Order>()
+    }
+
+    /// Sets the first run of unset bits in the order of the type, as
+    /// [`take_first_zero_run_in`](BitsMutExt::take_first_zero_run_in) does.
+    ///
+    /// ```
+    /// let mut word = 0b0100_1101u8;
+    /// word.take_first_zero_run(2);                        // Some(4): word is 0b0111_1101
+    /// ```
+    #[inline]
+    final fn take_first_zero_run(&mut self, length: u32) -> Option<u32>
+    where
+        Self: Sized,
+        requires { ShapeFits Self.Shape self.old }
+        ensures first { IsFirstRun (complement (set_in Self.Shape Self.Order.Endian self.old)) 0
+            length result }
+        ensures set { MatchOption result (self.new ≡ self.old)
+            (λ from. set_in Self.Shape Self.Order.Endian self.new
+            ≡ with_span (set_in Self.Shape Self.Order.Endian self.old) from (from + length)) }
+        ensures stays { Self.loan self.old ≡ Self.loan self.new }
+    {
+        self.take_first_zero_run_in::<Self::Order>(length)
     }
 
     /// Sets the bit at each of the indexes in the order of the type, as
