@@ -1,10 +1,12 @@
 //! How two sets stand to each other.
 
-ghost use Rattle.std.specs.Prelude.{◌↔◌, IsTrue, MatchOption};
+ghost use Rattle.std.specs.Prelude.{◌≡◌, ◌↔◌, IsTrue, MatchOption};
+ghost use Rattle.bittle_ext.specs.Combined.{both_of, first_only_of, just_one_of};
 ghost use Rattle.bittle_ext.specs.Relations.{IsSubset, AreDisjoint, Meet, IsFirstAlone, IsFirstCommon};
+ghost use Rattle.bittle.specs.PlainSet.{size};
 ghost use Rattle.bittle.specs.Values.{set_in, ShapeFits};
 
-use crate::relations;
+use crate::{counts, relations};
 use bittle::{Bits, Endian};
 
 /// What can be asked of two sets, of any two shapes that fit.
@@ -240,6 +242,120 @@ pub trait BitsRelationExt: Bits {
             IsTrue result ↔ Meet ours theirs }
     {
         relations::first_common::<Self, B, Self::Order, B::Order>(self, other).is_some()
+    }
+
+    /// Returns how many indexes are set in both sets, both in the order `E`. No set is made: words of
+    /// one width are counted one by one, else each set bit of this set is tested in the other one.
+    ///
+    /// ```
+    /// 0x81u8.count_common_in::<u16, LittleEndian>(&0x8000); // 1: index 0
+    /// ```
+    #[inline]
+    final fn count_common_in<B: Bits, E: Endian>(&self, other: &B) -> u32
+    where
+        Self: Sized,
+        requires fits { ShapeFits Self.Shape self.now }
+        requires other_fits { ShapeFits B.Shape other.now }
+        ensures { let ours = set_in Self.Shape E.Endian self.now in
+            let theirs = set_in B.Shape E.Endian other.now in
+            result ≡ size (both_of ours theirs) }
+    {
+        counts::count_common::<Self, B, E, E>(self, other)
+    }
+
+    /// Returns how many indexes are set in both sets, each in its own order, as
+    /// [`count_common_in`](BitsRelationExt::count_common_in) does.
+    ///
+    /// ```
+    /// 0b0110u8.count_common(&0x0107u16);                  // 2
+    /// ```
+    #[inline]
+    final fn count_common<B: Bits>(&self, other: &B) -> u32
+    where
+        Self: Sized,
+        requires fits { ShapeFits Self.Shape self.now }
+        requires other_fits { ShapeFits B.Shape other.now }
+        ensures { let ours = set_in Self.Shape Self.Order.Endian self.now in
+            let theirs = set_in B.Shape B.Order.Endian other.now in
+            result ≡ size (both_of ours theirs) }
+    {
+        counts::count_common::<Self, B, Self::Order, B::Order>(self, other)
+    }
+
+    /// Returns how many indexes are set in this set and not in the other one, both in the order `E`.
+    /// It costs a count of this set and [`count_common_in`](BitsRelationExt::count_common_in).
+    ///
+    /// ```
+    /// 0x81u8.count_alone_in::<u16, LittleEndian>(&0x8000); // 1: index 7
+    /// ```
+    #[inline]
+    final fn count_alone_in<B: Bits, E: Endian>(&self, other: &B) -> u32
+    where
+        Self: Sized,
+        requires fits { ShapeFits Self.Shape self.now }
+        requires other_fits { ShapeFits B.Shape other.now }
+        ensures { let ours = set_in Self.Shape E.Endian self.now in
+            let theirs = set_in B.Shape E.Endian other.now in
+            result ≡ size (first_only_of ours theirs) }
+    {
+        counts::count_alone::<Self, B, E, E>(self, other)
+    }
+
+    /// Returns how many indexes are set in this set and not in the other one, each in its own order,
+    /// as [`count_alone_in`](BitsRelationExt::count_alone_in) does.
+    ///
+    /// ```
+    /// 0b0110u8.count_alone(&0x0104u16);                   // 1: index 1
+    /// ```
+    #[inline]
+    final fn count_alone<B: Bits>(&self, other: &B) -> u32
+    where
+        Self: Sized,
+        requires fits { ShapeFits Self.Shape self.now }
+        requires other_fits { ShapeFits B.Shape other.now }
+        ensures { let ours = set_in Self.Shape Self.Order.Endian self.now in
+            let theirs = set_in B.Shape B.Order.Endian other.now in
+            result ≡ size (first_only_of ours theirs) }
+    {
+        counts::count_alone::<Self, B, Self::Order, B::Order>(self, other)
+    }
+
+    /// Returns how many indexes are set in just one of the two sets, both in the order `E`. It costs a
+    /// count of each set and [`count_common_in`](BitsRelationExt::count_common_in).
+    ///
+    /// ```
+    /// 0x81u8.count_different_in::<u16, LittleEndian>(&0x8001); // 2: 7 and 15
+    /// ```
+    #[inline]
+    final fn count_different_in<B: Bits, E: Endian>(&self, other: &B) -> u32
+    where
+        Self: Sized,
+        requires fits { ShapeFits Self.Shape self.now }
+        requires other_fits { ShapeFits B.Shape other.now }
+        ensures { let ours = set_in Self.Shape E.Endian self.now in
+            let theirs = set_in B.Shape E.Endian other.now in
+            result ≡ size (just_one_of ours theirs) }
+    {
+        counts::count_different::<Self, B, E, E>(self, other)
+    }
+
+    /// Returns how many indexes are set in just one of the two sets, each in its own order, as
+    /// [`count_different_in`](BitsRelationExt::count_different_in) does.
+    ///
+    /// ```
+    /// 0b0110u8.count_different(&0x0104u16);               // 2: indexes 1 and 8
+    /// ```
+    #[inline]
+    final fn count_different<B: Bits>(&self, other: &B) -> u32
+    where
+        Self: Sized,
+        requires fits { ShapeFits Self.Shape self.now }
+        requires other_fits { ShapeFits B.Shape other.now }
+        ensures { let ours = set_in Self.Shape Self.Order.Endian self.now in
+            let theirs = set_in B.Shape B.Order.Endian other.now in
+            result ≡ size (just_one_of ours theirs) }
+    {
+        counts::count_different::<Self, B, Self::Order, B::Order>(self, other)
     }
 }
 

@@ -46,7 +46,7 @@ fn word_or_empty<S: Bits>(set: &S, k: u32) -> S::LeafWord
 
 /// Returns word `k` of what an operation makes of two sets.
 #[inline]
-fn word_of_both<A: Bits, B: Bits, O: Operation>(left: &A, right: &B, k: u32) -> A::LeafWord
+pub fn word_of_both<A: Bits, B: Bits, O: Operation>(left: &A, right: &B, k: u32) -> A::LeafWord
     requires width { A.width ≡ B.width }
     requires left_fits { ShapeFits A.Shape left.now }
     requires right_fits { ShapeFits B.Shape right.now }

@@ -29,6 +29,7 @@ mod bits_owned_ext;
 mod bits_relation_ext;
 mod both_words;
 pub mod combined;
+mod counts;
 pub mod prelude;
 #[doc(hidden)]
 pub mod rank_laws;

@@ -12,7 +12,7 @@ use bittle_bits::word::Word;
 
 /// Returns whether two sets are read by words of one width in one order.
 #[inline]
-fn are_alike<A: Bits, B: Bits, E: Endian, F: Endian>() -> bool
+pub fn are_alike<A: Bits, B: Bits, E: Endian, F: Endian>() -> bool
     ensures { IsTrue result → (A.width ≡ B.width) × (E.mirrored ≡ F.mirrored) }
 {
     <A::LeafWord as Word>::width() == <B::LeafWord as Word>::width()

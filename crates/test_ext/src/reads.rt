@@ -301,3 +301,27 @@ fn random_rows_stand_as_plain_arrays_do(rt: HostRuntime) {
         same!(rt; (first.is_disjoint(&row), first.intersects(&row)), (common == None, common != None));
     }
 }
+
+#[test]
+fn counts_of_two_sets(rt: HostRuntime) {
+    let row: [u8; 8] = [0b0110, 0, 0, 0, 0, 0, 0, 1];
+    same!(rt; (row.count_common(&0b1100u16), 0b1100u16.count_common(&row)), (1, 1));
+    same!(rt; (row.count_alone(&0b1100u16), 0b1100u16.count_alone(&row)), (2, 1));
+    same!(rt; row.count_different(&0b1100u16), 3);
+    let long: [u32; 3] = [3, 0, 1];
+    let short: [u32; 2] = [6, 8];
+    same!(rt; (long.count_common(&short), short.count_common(&long)), (1, 1));
+    same!(rt; (long.count_alone(&short), short.count_alone(&long)), (2, 2));
+    same!(rt; long.count_different(&short), 4);
+}
+
+#[test]
+fn counts_in_each_order(rt: HostRuntime) {
+    same!(rt; 0x81u8.count_common_in::<u16, LittleEndian>(&0x8000), 1);
+    same!(rt; 0x81u8.count_alone_in::<u16, LittleEndian>(&0x8000), 1);
+    same!(rt; 0x81u8.count_different_in::<u16, LittleEndian>(&0x8001), 2);
+    same!(rt; Set::new_le(0xC0u8).count_common(&3u8), 2);
+    let none: [u8; 0] = [];
+    same!(rt; (none.count_common(&7u8), none.count_alone(&7u8)), (0, 0));
+    same!(rt; none.count_different(&7u8), 3);
+}

@@ -1,4 +1,3 @@
-use Rattle.std.proofs.Common.{◌≡◌, ℕ, ◌≤◌, false, subst, sym}
 use Rattle.bittle.specs.Orders.{read_in}
 use Rattle.bittle_bits.proofs.PlainSets.{members-past}
 use Rattle.bittle_ext.proofs.RelationFacts.{common_or_none}

@@ -1,0 +1,126 @@
+-- How many numbers are members of two sets.
+use Rattle.std.proofs.Common.{◌≡◌, ℕ, zero, suc, ◌+◌, ◌-◌, ◌≤◌, Bool, true, false, ◌&&◌, cond, min, max, Some, inl, inr, refl, ap, ◌∙◌, arith}
+use Rattle.std.proofs.lemmas.Bool.{cases_lt, and_right}
+use Rattle.bittle.specs.PlainSet.{PlainSet, count_below, members_below, size}
+use Rattle.bittle.specs.SetOperations.{first_alone, just_one}
+use Rattle.bittle.specs.Searches.{NoneIn, IsFirstIn}
+use Rattle.bittle_bits.proofs.Counts.{count-add, count-same, count-never, count-le}
+use Rattle.bittle_ext.specs.Combined.{both_of, first_only_of, just_one_of}
+use Rattle.bittle_ext.proofs.RankFacts.{below_past, below_next}
+
+alone_bit : (a b : Bool) → cond (first_alone a b) 1 0 + cond (a && b) 1 0 ≡ cond a 1 0
+alone_bit true true = refl
+alone_bit true false = refl
+alone_bit false true = refl
+alone_bit false false = refl
+
+-- what is in the first alone and what is in both make up the first
+alone_count : (n : ℕ) (p q : ℕ → Bool) → count_below n (λ k. first_alone (p k) (q k))
+    + count_below n (λ k. p k && q k) ≡ count_below n p
+unfolding count_below
+alone_count zero p q = refl
+alone_count (suc n) p q = omega (arith, alone_count n p q, alone_bit (p n) (q n))
+
+one_bit : (a b : Bool) → cond (just_one a b) 1 0 + cond (a && b) 1 0 + cond (a && b) 1 0
+    ≡ cond a 1 0 + cond b 1 0
+one_bit true true = refl
+one_bit true false = refl
+one_bit false true = refl
+one_bit false false = refl
+
+-- what is in just one, and twice what is in both, are as many as both have
+one_count : (n : ℕ) (p q : ℕ → Bool) → count_below n (λ k. just_one (p k) (q k))
+    + count_below n (λ k. p k && q k) + count_below n (λ k. p k && q k)
+    ≡ count_below n p + count_below n q
+unfolding count_below
+one_count zero p q = refl
+one_count (suc n) p q = omega (arith, one_count n p q, one_bit (p n) (q n))
+
+second_bit : (a b : Bool) → cond (a && b) 1 0 ≤ cond b 1 0
+second_bit true true = omega arith
+second_bit true false = omega arith
+second_bit false true = omega arith
+second_bit false false = omega arith
+
+-- what is in both is in the second
+second_count : (n : ℕ) (p q : ℕ → Bool) → count_below n (λ k. p k && q k) ≤ count_below n q
+unfolding count_below
+second_count zero p q = omega arith
+second_count (suc n) p q = omega (arith, second_count n p q, second_bit (p n) (q n))
+
+-- numbers that are no members count nothing
+pub below_stays : (s : PlainSet) (from to : ℕ) → from ≤ to → NoneIn s from to →
+    members_below s to ≡ members_below s from
+below_stays s from to h none =
+    let d = to - from in
+    let e : from + d ≡ to = omega arith in
+    let sum = rw e at (count-add from d s.has) in
+    let nothing : count_below d (λ k. s.has (from + k)) ≡ 0 = count-same d (λ k. s.has (from + k))
+    (λ _. false) (λ k l. none (from + k) (omega arith) (omega arith)) ∙ count-never d in
+    omega (arith, sum, nothing)
+
+-- the next member of the first set is counted just where it is one of the second
+pub counted_next : (s t : PlainSet) (from to index count next : ℕ) (b : Bool) →
+    IsFirstIn s from to (Some index) → t.has index ≡ b →
+    count ≡ members_below (both_of s t) from → next ≡ count + cond b 1 0 →
+    next ≡ members_below (both_of s t) (index + 1)
+counted_next s t from to index count next b first is before after =
+    let u = both_of s t in
+    let stays = below_stays u from index first.0 (λ k p q. ap (λ a. a && t.has k) (first.3 k p q)) in
+    let one : u.has index ≡ b = ap (λ a. a && t.has index) first.2 ∙ is in
+    omega (arith, after, before, stays, below_next u index ∙ ap (λ a. members_below u index + cond a 1 0) one)
+
+-- where the first set has none left, as many are counted
+pub counted_all : (s t : PlainSet) (from to : ℕ) → from ≤ to → NoneIn s from to →
+    members_below (both_of s t) to ≡ members_below (both_of s t) from
+counted_all s t from to h none =
+    below_stays (both_of s t) from to h (λ k p q. ap (λ a. a && t.has k) (none k p q))
+
+module _ (s t : PlainSet) (past_s : (i : ℕ) → s.capacity ≤ i → s.has i ≡ false)
+    (past_t : (i : ℕ) → t.capacity ≤ i → t.has i ≡ false) where
+  -- no member of both lies past either
+  pub both_past : (i : ℕ) → min s.capacity t.capacity ≤ i → (both_of s t).has i ≡ false
+  both_past i h =
+      elim (cases_lt i s.capacity) [
+        | inl l ↦ ap (λ b. s.has i && b) (past_t i (omega (arith, h))) ∙ and_right (s.has i) false refl
+        | inr g ↦ ap (λ b. b && t.has i) (past_s i g)
+      ]
+
+  -- so their count is that below the lesser capacity
+  pub common_size : (n : ℕ) → n ≡ min s.capacity t.capacity →
+      size (both_of s t) ≡ members_below (both_of s t) n
+  common_size n e = below_past (both_of s t) (min s.capacity t.capacity) (max s.capacity t.capacity)
+      n both_past (omega (arith, e))
+
+  all_of_first : members_below s (max s.capacity t.capacity) ≡ size s
+  all_of_first = below_past s s.capacity (max s.capacity t.capacity) s.capacity past_s (omega arith)
+
+  all_of_second : members_below t (max s.capacity t.capacity) ≡ size t
+  all_of_second = below_past t t.capacity (max s.capacity t.capacity) t.capacity past_t
+      (omega arith)
+
+  -- the members of the first alone are those of the first but those of both
+  pub alone_size : size (first_only_of s t) + size (both_of s t) ≡ size s
+  alone_size = alone_count (max s.capacity t.capacity) s.has t.has ∙ all_of_first
+
+  -- the members of just one are those of each but those of both
+  pub different_size : size (just_one_of s t) + size (both_of s t) + size (both_of s t)
+      ≡ size s + size t
+  different_size = omega (
+    arith,
+    one_count (max s.capacity t.capacity) s.has t.has,
+    all_of_first,
+    all_of_second,
+  )
+
+  -- no more are in both than in the second
+  pub common_few : size (both_of s t) ≤ size t
+  common_few = omega (
+    arith,
+    second_count (max s.capacity t.capacity) s.has t.has,
+    all_of_second,
+  )
+
+  -- they are no more than the greater capacity
+  pub different_few : size (just_one_of s t) ≤ max s.capacity t.capacity
+  different_few = count-le (max s.capacity t.capacity) (just_one_of s t).has

@@ -1,0 +1,89 @@
+//! How many indexes are set in two sets, with no set made: word by word where their words have one
+//! width and are read in one order, else by the set bits of the first.
+
+ghost use Rattle.std.specs.Prelude.{◌≡◌};
+ghost use Rattle.bittle_ext.specs.Combined.{both_of, first_only_of, just_one_of};
+ghost use Rattle.bittle.specs.PlainSet.{size};
+ghost use Rattle.bittle.specs.Values.{set_in, ShapeFits};
+
+use crate::both_words::word_of_both;
+use crate::relations::are_alike;
+use bittle::{Bits, Endian};
+use bittle_bits::operation::Conjunction;
+use bittle_bits::word::Word;
+
+/// Counts the indexes that are set in both, by words.
+#[inline]
+fn count_common_by_words<A: Bits, B: Bits, E: Endian>(left: &A, right: &B) -> u32
+    requires width { A.width ≡ B.width }
+    requires left_fits { ShapeFits A.Shape left.now }
+    requires right_fits { ShapeFits B.Shape right.now }
+    ensures { result
+        ≡ size (both_of (set_in A.Shape E.Endian left.now) (set_in B.Shape E.Endian right.now)) }
+{
+    let common = left.bits_capacity().min(right.bits_capacity());
+    let mut count = 0;
+    for k in 0..common / <A::LeafWord as Word>::width() {
+        count += word_of_both::<A, B, Conjunction>(left, right, k).count_ones();
+    }
+    count
+}
+
+/// Counts the indexes that are set in both, by the set bits of the first.
+fn count_common_by_turns<A: Bits, B: Bits, E: Endian, F: Endian>(left: &A, right: &B) -> u32
+    requires left_fits { ShapeFits A.Shape left.now }
+    requires right_fits { ShapeFits B.Shape right.now }
+    ensures { result
+        ≡ size (both_of (set_in A.Shape E.Endian left.now) (set_in B.Shape F.Endian right.now)) }
+{
+    let end = left.bits_capacity().min(right.bits_capacity());
+    let mut count = 0;
+    let mut from = 0;
+    while let Some(index) = left.first_one_in::<E>(from, end) {
+        if right.test_bit_in::<F>(index) {
+            count += 1;
+        }
+        from = index + 1;
+    }
+    count
+}
+
+/// Counts the indexes that are set in both.
+#[inline]
+pub fn count_common<A: Bits, B: Bits, E: Endian, F: Endian>(left: &A, right: &B) -> u32
+    requires left_fits { ShapeFits A.Shape left.now }
+    requires right_fits { ShapeFits B.Shape right.now }
+    ensures { result
+        ≡ size (both_of (set_in A.Shape E.Endian left.now) (set_in B.Shape F.Endian right.now)) }
+{
+    if are_alike::<A, B, E, F>() {
+        count_common_by_words::<A, B, E>(left, right)
+    } else {
+        count_common_by_turns::<A, B, E, F>(left, right)
+    }
+}
+
+/// Counts the indexes that are set in the first and not in the second.
+#[inline]
+pub fn count_alone<A: Bits, B: Bits, E: Endian, F: Endian>(left: &A, right: &B) -> u32
+    requires left_fits { ShapeFits A.Shape left.now }
+    requires right_fits { ShapeFits B.Shape right.now }
+    ensures { result
+        ≡ size (first_only_of (set_in A.Shape E.Endian left.now)
+        (set_in B.Shape F.Endian right.now)) }
+{
+    left.count_ones() - count_common::<A, B, E, F>(left, right)
+}
+
+/// Counts the indexes that are set in just one of the two.
+#[inline]
+pub fn count_different<A: Bits, B: Bits, E: Endian, F: Endian>(left: &A, right: &B) -> u32
+    requires left_fits { ShapeFits A.Shape left.now }
+    requires right_fits { ShapeFits B.Shape right.now }
+    ensures { result
+        ≡ size (just_one_of (set_in A.Shape E.Endian left.now)
+        (set_in B.Shape F.Endian right.now)) }
+{
+    let common = count_common::<A, B, E, F>(left, right);
+    (left.count_ones() - common) + (right.count_ones() - common)
+}
