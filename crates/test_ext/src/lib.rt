@@ -10,4 +10,6 @@ mod combined;
 #[cfg(test)]
 mod made;
 #[cfg(test)]
+mod random;
+#[cfg(test)]
 mod reads;

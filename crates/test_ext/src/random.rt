@@ -1,0 +1,140 @@
+//! Thousands of drawn calls on a row of three bytes, compared with plain loops over 24 flags.
+
+ghost use Rattle.std.specs.Prelude.{◌<◌, ◌≤◌};
+
+use crate::checks::same;
+use bittle_ext::prelude::*;
+use std::process::Abort;
+
+// Draws a number.
+fn draw(state: &mut u32) -> u32 {
+    *state = state.wrapping_mul(1_664_525).wrapping_add(1_013_904_223);
+    *state >> 8
+}
+
+// Returns the flags of a row, bit by bit.
+fn flags_of(row: &[u8; 3]) -> [bool; 24] {
+    let mut flags = [false; 24];
+    for i in 0..24usize {
+        flags[i] = row[i / 8] >> (i % 8) & 1 == 1;
+    }
+    flags
+}
+
+// Makes a drawn change of one bit of both.
+fn change_one(rt: &impl Abort, kind: u32, index: u32, row: &mut [u8; 3], flags: &mut [bool; 24]) {
+    let at = (index % 24) as usize;
+    let before = flags[at];
+    match kind {
+        0 => {
+            crate::checks::compare(rt, "insert", row.insert(index), !before);
+            flags[at] = true;
+        }
+        1 => {
+            crate::checks::compare(rt, "remove", row.remove(index), before);
+            flags[at] = false;
+        }
+        2 => {
+            crate::checks::compare(rt, "replace", row.replace(index, !before), before);
+            flags[at] = !before;
+        }
+        _ => {
+            row.toggle(index);
+            flags[at] = !before;
+        }
+    }
+}
+
+// Makes a drawn change of a range of both.
+fn change_range(kind: u32, from: u32, to: u32, row: &mut [u8; 3], flags: &mut [bool; 24])
+    requires ordered { from ≤ to }
+    requires within { to ≤ 24 }
+{
+    match kind {
+        0 => row.set_range(from, to),
+        1 => row.clear_range(from, to),
+        _ => row.toggle_range(from, to),
+    }
+    for i in from as usize..to as usize {
+        flags[i] = match kind {
+            0 => true,
+            1 => false,
+            _ => !flags[i],
+        };
+    }
+}
+
+// Takes an end out of both, or takes a free slot.
+fn take_one(rt: &impl Abort, kind: u32, row: &mut [u8; 3], flags: &mut [bool; 24]) {
+    let mut found = None;
+    for i in 0..24usize {
+        let at = if kind == 1 { 23 - i } else { i };
+        if found.is_none() && flags[at] == (kind != 2) {
+            flags[at] = kind == 2;
+            found = Some(at as u32);
+        }
+    }
+    let taken = match kind {
+        0 => row.pop_first(),
+        1 => row.pop_last(),
+        _ => row.take_first_zero(),
+    };
+    crate::checks::compare(rt, "an end is taken", taken, found);
+}
+
+#[test]
+fn drawn_changes_agree_with_plain_loops(rt: HostRuntime) {
+    let mut state = 1;
+    let mut row = [0u8; 3];
+    let mut flags = [false; 24];
+    for _ in 0..3000 {
+        let (kind, index) = (draw(&mut state) % 4, draw(&mut state) % 50);
+        change_one(&rt, kind, index, &mut row, &mut flags);
+        let (one, other) = (draw(&mut state) % 25, draw(&mut state) % 25);
+        change_range(kind, one.min(other), one.max(other), &mut row, &mut flags);
+        take_one(&rt, kind % 3, &mut row, &mut flags);
+        same!(rt; flags_of(&row), flags);
+    }
+}
+
+// Returns the flags that an operation makes of two.
+fn combined(kind: u32, one: bool, other: bool) -> bool {
+    match kind {
+        0 => one || other,
+        1 => one && other,
+        2 => one && !other,
+        _ => one != other,
+    }
+}
+
+// Sets a flag for each index that an iterator yields, which are below 24.
+fn walked(kind: u32, row: &[u8; 3], word: &u8) -> [bool; 24] {
+    let mut made = [0u8; 3];
+    match kind {
+        0 => made.extend(row.iter_union(word)),
+        1 => made.extend(row.iter_conjunction(word)),
+        2 => made.extend(row.iter_difference(word)),
+        _ => made.extend(row.iter_symmetric_difference(word)),
+    }
+    flags_of(&made)
+}
+
+#[test]
+fn drawn_combinations_agree_with_plain_loops(rt: HostRuntime) {
+    let mut state = 7;
+    for _ in 0..2000 {
+        let kind = draw(&mut state) % 4;
+        let (one, two) = (
+            (draw(&mut state) % 256) as u8,
+            (draw(&mut state) % 256) as u8,
+        );
+        let row = [one, two, (draw(&mut state) % 256) as u8];
+        let word = (draw(&mut state) % 256) as u8;
+        let (ours, theirs) = (flags_of(&row), flags_of(&[word, 0, 0]));
+        let mut expected = [false; 24];
+        for i in 0..24usize {
+            expected[i] = combined(kind, ours[i], theirs[i]);
+        }
+        same!(rt; walked(kind, &row, &word), expected);
+    }
+}
