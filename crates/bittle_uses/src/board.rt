@@ -1,4 +1,4 @@
-//! A board of eight rows of eight cells, whose members are the cells that are taken.
+//! A board of eight rows of eight cells, whose set bits are the cells that are taken.
 
 ghost use Rattle.std.specs.Prelude.{◌≡◌, IfOk, reverse};
 ghost use Rattle.bittle.specs.BitPatterns.{bit_set};

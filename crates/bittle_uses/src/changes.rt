@@ -6,8 +6,8 @@ ghost use Rattle.bittle.specs.Values.{set_in};
 
 use bittle::BitsMut;
 
-/// Makes the index, which wraps, a member, and returns whether it was none before. With capacity 0
-/// it was none, and nothing changes.
+/// Sets the bit at an index, which wraps, and returns whether it was unset before. With capacity 0
+/// it returns `true`, and nothing changes.
 pub fn insert<B: BitsMut>(set: &mut B, index: u32) -> bool
     requires { IsTrue B.indexable }
     ensures was_none { result ≡ not (contains (set_in B.Shape B.Order.Endian set.old) index) }
@@ -20,8 +20,8 @@ pub fn insert<B: BitsMut>(set: &mut B, index: u32) -> bool
     was_none
 }
 
-/// Makes the index, which wraps, no member, and returns whether it was one before. With capacity 0
-/// it was none.
+/// Clears the bit at an index, which wraps, and returns whether it was set before. With capacity 0
+/// it returns `false`.
 pub fn remove<B: BitsMut>(set: &mut B, index: u32) -> bool
     requires { IsTrue B.indexable }
     ensures was_member { result ≡ contains (set_in B.Shape B.Order.Endian set.old) index }
@@ -34,8 +34,8 @@ pub fn remove<B: BitsMut>(set: &mut B, index: u32) -> bool
     was_member
 }
 
-/// Makes one index a member in the place of another, and does nothing where that one is none. Both
-/// wrap.
+/// Clears the bit at one index and sets that at another, or changes nothing where the first is
+/// unset. Both wrap.
 pub fn move_bit<B: BitsMut>(set: &mut B, from: u32, to: u32)
     requires { IsTrue B.indexable }
     ensures set { let before = set_in B.Shape B.Order.Endian set.old in

@@ -1,4 +1,4 @@
-//! How many members there are, counted, added and narrowed, and the places of items in a walk.
+//! How many bits are set, counted, added and narrowed, and the positions of items of an iterator.
 
 ghost use Rattle.std.specs.Prelude.{◌≡◌, ◌==◌, ◌+◌, ◌-◌, true, length, position, sum, Some, map, slice_index};
 ghost use Rattle.std.specs.List.{last_or, enumerate_from};
@@ -11,43 +11,42 @@ ghost use Rattle.bittle.specs.Values.{set_in, set_mirrored, ShapeFits};
 
 use bittle::{Bits, BitsOwned, LittleEndian, Set};
 
-/// Counts the members of a word by its walk.
+/// Counts the set bits of a word by its iterator.
 pub fn count_of_word(mask: u64) -> usize
     ensures { result ≡ length (ascending (bit_set 64 mask)) }
 {
     mask.iter_ones().count()
 }
 
-/// Counts the members of four bytes by their walk.
+/// Counts the set bits of four bytes by their iterator.
 pub fn count_of_bytes(mask: [u8; 4]) -> usize
     ensures { result ≡ length (ascending (row_set 4 8 (bit_set 8) mask)) }
 {
     mask.iter_ones().count()
 }
 
-/// Counts the numbers below the capacity of two bytes that are no members, by a walk that owns
-/// them.
+/// Counts the unset bits of two bytes, by an iterator that owns them.
 pub fn count_of_free(mask: [u8; 2]) -> usize
     ensures { result ≡ length (ascending (complement (row_set 2 8 (bit_set 8) mask))) }
 {
     mask.into_iter_zeros_be().count()
 }
 
-/// Counts the members of a set in little-endian order by its walk.
+/// Counts the set bits of a set in little-endian order by its iterator.
 pub fn count_of_set(set: Set<u16, LittleEndian>) -> usize
     ensures { result ≡ length (ascending (read_in true 16 (bit_set 16 set.bits))) }
 {
     set.iter_ones().count()
 }
 
-/// Counts the members of a set by its iteration.
+/// Counts the set bits of a set by a loop over it.
 pub fn count_of_iterated_set(set: Set<u64>) -> usize
     ensures { result ≡ length (ascending (bit_set 64 set.bits)) }
 {
     set.into_iter().count()
 }
 
-/// Counts the members of any set by its walk.
+/// Counts the set bits of any set by its iterator.
 pub fn count_of_any<B: BitsOwned>(set: B) -> usize
     requires { ShapeFits B.Shape set }
     ensures { result ≡ length (ascending (set_in B.Shape B.Order.Endian set)) }
@@ -55,21 +54,21 @@ pub fn count_of_any<B: BitsOwned>(set: B) -> usize
     set.iter_ones().count()
 }
 
-/// Counts the entries of a row that stand at members.
+/// Counts the entries of a row at the indexes of set bits.
 pub fn count_of_joined(mask: u64, row: &[u32; 64]) -> usize
     ensures { result ≡ length (ascending (bit_set 64 mask)) }
 {
     mask.join_ones(row.iter()).count()
 }
 
-/// Returns the place of a member in the increasing list, or `None` where it is no member.
+/// Returns how many set bits lie below one, or `None` where the bit is unset.
 pub fn place_of_member(mask: u64, wanted: u32) -> Option<usize>
     ensures { result ≡ position (λ i. i == wanted) (ascending (bit_set 64 mask)) }
 {
     mask.iter_ones().position(|index| index == wanted)
 }
 
-/// Returns the place of a member in the increasing list of any set, or `None` where it is none.
+/// Returns how many set bits of any set lie below one, or `None` where the bit is unset.
 pub fn place_of_member_of_any<B: BitsOwned>(set: B, wanted: u32) -> Option<usize>
     requires { ShapeFits B.Shape set }
     ensures { result
@@ -78,7 +77,7 @@ pub fn place_of_member_of_any<B: BitsOwned>(set: B, wanted: u32) -> Option<usize
     set.iter_ones().position(|index| index == wanted)
 }
 
-/// Returns the place of an index among those of any set that are no members, counted from the left.
+/// Returns how many unset bits of any set lie before one, counted from the left.
 pub fn place_of_free_of_any<B: BitsOwned>(set: B, wanted: u32) -> Option<usize>
     requires { ShapeFits B.Shape set }
     ensures { result ≡ position (λ i. i == wanted)
@@ -87,7 +86,7 @@ pub fn place_of_free_of_any<B: BitsOwned>(set: B, wanted: u32) -> Option<usize>
     set.into_iter_zeros_le().position(|index| index == wanted)
 }
 
-/// Combines the entries at the last member and at its place, or returns 0.
+/// Combines the entries at the last set bit and at its position, or returns 0.
 pub fn entries_at_place_and_member(mask: u64, row: &[u32; 64]) -> u32
     ensures { Some result ≡ last_or (Some 0) (map
         (λ p. bit_xor (slice_index row.now p.0) (slice_index row.now p.1))
@@ -100,7 +99,7 @@ pub fn entries_at_place_and_member(mask: u64, row: &[u32; 64]) -> u32
     last
 }
 
-/// Returns the place of the last member of any set, or 0.
+/// Returns how many set bits of any set lie below the last one, or 0.
 pub fn last_place_of_any<B: BitsOwned>(set: B) -> usize
     requires { ShapeFits B.Shape set }
     ensures { result ≡ length (ascending (set_in B.Shape B.Order.Endian set)) - 1 }
@@ -119,14 +118,14 @@ pub fn count_of_both(one: u8, other: u8) -> u32
     Bits::count_ones(&one) + Bits::count_ones(&other)
 }
 
-/// Adds the counts of what two bytes lack.
+/// Adds the counts of the unset bits of two bytes.
 pub fn free_of_both(one: u8, other: u8) -> u32
     ensures { result ≡ (8 - size (bit_set 8 one)) + (8 - size (bit_set 8 other)) }
 {
     Bits::count_zeros(&one) + Bits::count_zeros(&other)
 }
 
-/// Narrows the count of four words to 16 digits.
+/// Narrows the count of four words to 16 bits.
 pub fn narrow_count(board: &[u64; 4]) -> u16
     ensures { result ≡ size (row_set 4 64 (bit_set 64) board.now) }
 {
@@ -156,7 +155,7 @@ pub fn count_of_any_both<B: BitsOwned>(one: B, other: B) -> u64
     one.count_ones() as u64 + other.count_ones() as u64
 }
 
-/// Adds the members from the greatest on, wrapping.
+/// Adds the indexes of the set bits from the greatest on, wrapping.
 pub fn wrapping_sum(mask: u32) -> u64
     ensures { result ≡ sum (ascending (bit_set 32 mask)) }
 {

@@ -1,5 +1,5 @@
-//! Entities that have components: for each kind of component a mask, whose members are the entities
-//! that have one.
+//! Entities that have components: for each kind of component a mask, whose set bits are the
+//! entities that have one.
 
 ghost use Rattle.std.specs.Prelude.{◌≡◌, Bool, length, map, take, slice_index};
 ghost use Rattle.bittle.specs.BitPatterns.{bit_set};

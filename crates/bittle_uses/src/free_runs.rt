@@ -6,7 +6,7 @@ ghost use Rattle.bittle.specs.Values.{set_in, ShapeFits};
 
 use bittle::Bits;
 
-/// Returns the least index from which on so many neighbours are no members, or `None` where there
+/// Returns the least index from which on so many neighbours are unset, or `None` where there
 /// is no such run. The shape has to fit.
 pub fn first_free_run<B: Bits>(set: &B, length: u32) -> Option<u32>
     requires { ShapeFits B.Shape set.now }

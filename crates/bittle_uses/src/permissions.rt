@@ -37,7 +37,7 @@ pub fn sort(roles: &mut [Set<u32>])
     roles.sort_unstable();
 }
 
-/// Returns the place in a sorted table of a role that grants just this, or `None` where no role
+/// Returns the index in a sorted table of a role that grants just this, or `None` where no role
 /// does.
 pub fn find(roles: &[Set<u32>], wanted: Set<u32>) -> Option<usize>
     requires { IsSorted ⟦<Set<u32> as Ord>⟧.cmp roles.now }

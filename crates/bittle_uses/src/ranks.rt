@@ -1,4 +1,4 @@
-//! How many members lie below an index, or from it on.
+//! How many set bits lie below an index, or from it on.
 
 ghost use Rattle.std.specs.Prelude.{◌≡◌, ◌==◌, nat_le, position, count_by};
 ghost use Rattle.bittle.specs.PlainSet.{ascending};
@@ -6,7 +6,7 @@ ghost use Rattle.bittle.specs.Values.{set_in, ShapeFits};
 
 use bittle::Bits;
 
-/// Returns how many members are a bound or above it, counted from the greatest on.
+/// Returns how many set bits lie at a bound or above it, counted from the greatest on.
 pub fn how_many_from<B: Bits>(set: &B, bound: u32) -> u32
     requires { ShapeFits B.Shape set.now }
     ensures { result
@@ -22,7 +22,7 @@ pub fn how_many_from<B: Bits>(set: &B, bound: u32) -> u32
     count
 }
 
-/// Returns how many members lie below one, or `None` where it is no member.
+/// Returns how many set bits lie below one, or `None` where the bit is unset.
 pub fn rank_of<B: Bits>(set: &B, index: u32) -> Option<usize>
     requires { ShapeFits B.Shape set.now }
     ensures { result

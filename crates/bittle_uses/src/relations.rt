@@ -1,4 +1,4 @@
-//! How two sets of one type stand to each other.
+//! Whether a set lies in another of its type, has a bit in common with it, or is the same.
 
 ghost use Rattle.std.specs.Prelude.{◌↔◌, IsTrue};
 ghost use Rattle.bittle.specs.Comparison.{AreSame};
@@ -6,21 +6,21 @@ ghost use Rattle.bittle_uses.specs.Relations.{IsSubset, AreDisjoint};
 
 use bittle::{Bits, BitsOwned};
 
-/// Returns whether each member of the first set is one of the second.
+/// Returns whether each bit that is set in the first is set in the second.
 pub fn is_subset<B: BitsOwned>(first: B, second: B) -> bool
     ensures { IsTrue result ↔ IsSubset (B.big first) (B.big second) }
 {
     first.difference(second).all_zeros()
 }
 
-/// Returns whether the sets have no member in common.
+/// Returns whether no bit is set in both.
 pub fn is_disjoint<B: BitsOwned>(first: B, second: B) -> bool
     ensures { IsTrue result ↔ AreDisjoint (B.big first) (B.big second) }
 {
     first.conjunction(second).all_zeros()
 }
 
-/// Returns whether the sets have the same members. Values that are equal are not combined.
+/// Returns whether the same bits are set in both. Values that are equal are not combined.
 pub fn have_same_members<B: BitsOwned>(first: B, second: B) -> bool
     ensures { IsTrue result ↔ AreSame (B.big first) (B.big second) }
 {

@@ -1,4 +1,4 @@
-//! Walks whose items are places of a row, and counts.
+//! Iterators whose items index a row, and counts.
 
 ghost use Rattle.std.specs.Prelude.{◌≡◌, ◌+◌, ◌*◌, ◌<◌, ◌≤◌, length, reverse, slice_get, None, Some, map, slice_index};
 ghost use Rattle.std.specs.List.{last_or};
@@ -8,7 +8,7 @@ ghost use Rattle.bittle.specs.PlainSet.{ascending, size};
 
 use bittle::Bits;
 
-/// Returns the entry at the greatest member, or 0 where there is none.
+/// Returns the entry at the greatest set bit, or 0 where there is none.
 pub fn entry_at_greatest(mask: u64, row: &[u32; 64]) -> u32
     ensures { Some result ≡ last_or (Some 0) (map (λ i. slice_index row.now i)
         (ascending (bit_set 64 mask))) }
@@ -20,7 +20,7 @@ pub fn entry_at_greatest(mask: u64, row: &[u32; 64]) -> u32
     last
 }
 
-/// Returns the greatest member of a slice of words, or `None` where it has none or is too long.
+/// Returns the greatest set bit of a slice of words, or `None` where it has none or is too long.
 pub fn greatest_of_slice(words: &[u64]) -> Option<u32>
     ensures fits { length words.now * 64 < 4294967295 → result ≡ slice_get (reverse (ascending
         (row_set (length words.now) 64 (bit_set 64) words.now))) 0 }
@@ -32,14 +32,14 @@ pub fn greatest_of_slice(words: &[u64]) -> Option<u32>
     words.iter_ones().next_back()
 }
 
-/// Returns how many members there are, by a walk.
+/// Returns how many bits are set, by an iterator.
 pub fn how_many(mask: u64) -> usize
     ensures { result ≡ length (ascending (bit_set 64 mask)) }
 {
     mask.iter_ones().count()
 }
 
-/// Returns how many members two words have, each counted for itself.
+/// Returns how many bits of two words are set, each counted for itself.
 pub fn how_many_in_both(one: u64, other: u64) -> u32
     ensures { result ≡ size (bit_set 64 one) + size (bit_set 64 other) }
 {

@@ -1,5 +1,5 @@
-//! The mask of a scheduler, whose members are the priorities that are ready. The least of them runs
-//! first.
+//! The mask of a scheduler, whose set bits are the priorities that are ready. The least of them
+//! runs first.
 
 ghost use Rattle.std.specs.Prelude.{◌≡◌, ◌<◌, MatchOption};
 ghost use Rattle.bittle.specs.BitPatterns.{bit_set};

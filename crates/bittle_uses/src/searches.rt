@@ -1,4 +1,4 @@
-//! Questions about all members of a set, answered by a walk.
+//! Questions about all set bits of a set, answered by an iterator.
 
 ghost use Rattle.std.specs.List.{list_any, list_all, reduce, zip};
 ghost use Rattle.std.specs.Prelude.{◌≡◌, ◌↔◌, ◌<◌, ℕ, true, IfOk, IsTrue, max, nat_lt, nat_le};
@@ -9,7 +9,7 @@ ghost use Rattle.bittle.specs.Values.{set_in, ShapeFits};
 use bittle::Bits;
 use std::alloc::{AllocError, Global};
 
-/// Returns whether some member is above a bound.
+/// Returns whether a bit above a bound is set.
 pub fn has_any_above<B: Bits>(set: &B, bound: u32) -> bool
     requires { ShapeFits B.Shape set.now }
     ensures { result
@@ -18,7 +18,7 @@ pub fn has_any_above<B: Bits>(set: &B, bound: u32) -> bool
     set.iter_ones().any(|member| bound < member)
 }
 
-/// Returns the greatest member, or `None` where there is none.
+/// Returns the greatest set bit, or `None` where there is none.
 pub fn greatest<B: Bits>(set: &B) -> Option<u32>
     requires { ShapeFits B.Shape set.now }
     ensures { result ≡ reduce max (ascending (set_in B.Shape B.Order.Endian set.now)) }
@@ -26,7 +26,7 @@ pub fn greatest<B: Bits>(set: &B) -> Option<u32>
     set.iter_ones().max()
 }
 
-/// Returns the greatest member, as the last one that a walk yields, or `None` where there is none.
+/// Returns the greatest set bit, as the last item of an iterator, or `None` where there is none.
 pub fn last_of_walk<B: Bits>(set: &B) -> Option<u32>
     requires { ShapeFits B.Shape set.now }
     ensures { let members = set_in B.Shape B.Order.Endian set.now in
@@ -35,7 +35,7 @@ pub fn last_of_walk<B: Bits>(set: &B) -> Option<u32>
     set.iter_ones().next_back()
 }
 
-/// Returns whether each index below the capacity is a member.
+/// Returns whether each bit is set.
 pub fn has_all<B: Bits>(set: &B) -> bool
     ensures { let members = set_in B.Shape B.Order.Endian set.now in
         IsTrue result ↔ ((k : ℕ) → k < members.capacity → members.has k ≡ true) }
@@ -43,7 +43,7 @@ pub fn has_all<B: Bits>(set: &B) -> bool
     set.all_ones()
 }
 
-/// Returns the members, as a vector in increasing order.
+/// Returns the indexes of the set bits, as a vector in increasing order.
 pub fn list_members<B: Bits>(alloc: Global, set: &B) -> Result<Vec<u32>, AllocError>
     requires { ShapeFits B.Shape set.now }
     ensures { IfOk result
@@ -52,8 +52,8 @@ pub fn list_members<B: Bits>(alloc: Global, set: &B) -> Result<Vec<u32>, AllocEr
     set.iter_ones().collect(alloc)
 }
 
-/// Returns whether each member is at most the member of another set at the same place, as far as
-/// both sets go.
+/// Returns whether the first set bit is at most the first of another set, the second at most its
+/// second, and so on, as far as both sets go.
 pub fn is_pairwise_below<A: Bits, B: Bits>(first: &A, second: &B) -> bool
     requires first_fits { ShapeFits A.Shape first.now }
     requires second_fits { ShapeFits B.Shape second.now }

@@ -1,5 +1,5 @@
-//! Walks over slices of words: shared, lent to be changed, and of any element. The fit is asked by
-//! a clause, or tested by `bits_capacity() < u32::MAX`.
+//! Iterators over slices of words: shared, lent to be changed, and of any element. A clause asks
+//! that the slice fits, or a test by `bits_capacity() < u32::MAX`.
 
 ghost use Rattle.std.specs.Prelude.{◌≡◌, ◌≤◌, ◌<◌, ◌*◌, length, slice_get, reverse, MatchOption};
 ghost use Rattle.std.specs.Prelude.{Some, None, true, [], map, slice_index, unwrap_or};
@@ -12,7 +12,7 @@ ghost use Rattle.bittle.specs.Shapes.{Fits};
 
 use bittle::{BigEndian, Bits, BitsOwned, Endian, LittleEndian, Set};
 
-/// Returns the entry at the greatest member of a slice, or 0.
+/// Returns the entry at the greatest set bit of a slice, or 0.
 pub fn entry_at_greatest(mask: &[u64], row: &[u32]) -> u32
     requires fits { length mask.now * 64 < 4294967295 }
     requires long { length mask.now * 64 ≤ length row.now }
@@ -26,7 +26,7 @@ pub fn entry_at_greatest(mask: &[u64], row: &[u32]) -> u32
     last
 }
 
-/// Returns the least member of a slice, or `None` where there is none.
+/// Returns the least set bit of a slice, or `None` where there is none.
 pub fn least_member(mask: &[u64]) -> Option<u32>
     requires { length mask.now * 64 < 4294967295 }
     ensures { result ≡ slice_get (ascending
@@ -35,7 +35,7 @@ pub fn least_member(mask: &[u64]) -> Option<u32>
     mask.iter_ones().next()
 }
 
-/// Returns the least member of a slice, or `None` where there is none or the slice does not fit.
+/// Returns the least set bit of a slice, or `None` where there is none or the slice does not fit.
 pub fn least_member_if_it_fits(mask: &[u64]) -> Option<u32>
     ensures fits { length mask.now * 64 < 4294967295 → result ≡ slice_get (ascending
         (row_set (length mask.now) 64 (bit_set 64) mask.now)) 0 }
@@ -47,7 +47,7 @@ pub fn least_member_if_it_fits(mask: &[u64]) -> Option<u32>
     None
 }
 
-/// Returns the greatest member of a slice, counted from the left, or 0.
+/// Returns the greatest set bit of a slice, counted from the left, or 0.
 pub fn greatest_from_the_left(mask: &[u64]) -> u32
     requires { length mask.now * 64 < 4294967295 }
     ensures { Some result ≡ last_or (Some 0) (ascending
@@ -60,7 +60,7 @@ pub fn greatest_from_the_left(mask: &[u64]) -> u32
     last
 }
 
-/// Returns the greatest index that is no member of a slice, counted from the right, or 0.
+/// Returns the greatest unset bit of a slice, counted from the right, or 0.
 pub fn greatest_free_from_the_right(mask: &[u64]) -> u32
     requires { length mask.now * 64 < 4294967295 }
     ensures { Some result ≡ last_or (Some 0) (ascending
@@ -73,7 +73,7 @@ pub fn greatest_free_from_the_right(mask: &[u64]) -> u32
     last
 }
 
-/// Returns the least index that is no member of triples of bytes, from the back, or 0.
+/// Returns the least unset bit of triples of bytes, from the back, or 0.
 pub fn least_free_of_triples(mask: &[[u8; 3]]) -> u32
     requires { length mask.now * 24 < 4294967295 }
     ensures { result ≡ unwrap_or (slice_get (ascending (complement (read_in true 8
@@ -86,7 +86,7 @@ pub fn least_free_of_triples(mask: &[[u8; 3]]) -> u32
     last
 }
 
-/// Counts the members of triples of bytes by their walk.
+/// Counts the set bits of triples of bytes by their iterator.
 pub fn count_of_triples(mask: &[[u8; 3]]) -> usize
     requires { length mask.now * 24 < 4294967295 }
     ensures { result ≡ length (ascending
@@ -95,7 +95,7 @@ pub fn count_of_triples(mask: &[[u8; 3]]) -> usize
     mask.iter_ones_in::<BigEndian>().count()
 }
 
-/// Returns the greatest member of a slice that is lent to be changed, or 0.
+/// Returns the greatest set bit of a slice that is lent to be changed, or 0.
 pub fn greatest_of_lent(mask: &mut [u64]) -> u32
     requires { length mask.old * 64 < 4294967295 }
     ensures greatest { Some result ≡ last_or (Some 0) (ascending
@@ -109,7 +109,8 @@ pub fn greatest_of_lent(mask: &mut [u64]) -> u32
     last
 }
 
-/// Returns both ends of a slice's members in any order, or `None` where it does not fit.
+/// Returns the least and the greatest set bit of a slice in any order, or `None` where it does not
+/// fit.
 pub fn ends_of_members<T: BitsOwned, E: Endian>(mask: &[T]) -> Option<(u32, u32)>
     ensures { Fits T.indexable (length mask.now * T.type_capacity) → MatchOption result
         (ascending (read_in E.mirrored T.width
@@ -127,7 +128,7 @@ pub fn ends_of_members<T: BitsOwned, E: Endian>(mask: &[T]) -> Option<(u32, u32)
     Some((least, walk.next_back().unwrap_or(least)))
 }
 
-/// Returns the greatest index that is no member of a slice of any sets, in any order, or 0.
+/// Returns the greatest unset bit of a slice of any sets, in any order, or 0.
 pub fn greatest_free_of_any<T: BitsOwned, E: Endian>(mask: &[T]) -> u32
     requires { Fits T.indexable (length mask.now * T.type_capacity) }
     ensures { Some result ≡ last_or (Some 0) (ascending
@@ -141,7 +142,7 @@ pub fn greatest_free_of_any<T: BitsOwned, E: Endian>(mask: &[T]) -> u32
     last
 }
 
-/// Returns the greatest member of a slice of any sets, or 0.
+/// Returns the greatest set bit of a slice of any sets, or 0.
 pub fn greatest_of_any<T: BitsOwned>(mask: &[T]) -> u32
     requires { Fits T.indexable (length mask.now * T.type_capacity) }
     ensures { Some result ≡ last_or (Some 0) (ascending
@@ -154,7 +155,7 @@ pub fn greatest_of_any<T: BitsOwned>(mask: &[T]) -> u32
     last
 }
 
-/// Returns the greatest member of a slice as a set in little-endian order, or 0.
+/// Returns the greatest set bit of a slice as a set in little-endian order, or 0.
 pub fn greatest_of_wrapped(mask: &[u64]) -> u32
     requires { length mask.now * 64 < 4294967295 }
     ensures { Some result ≡ last_or (Some 0) (ascending

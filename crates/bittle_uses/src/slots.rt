@@ -1,4 +1,4 @@
-//! A table of slots over words that a caller lends, whose members are the slots that are taken.
+//! A table of slots over words that a caller lends, whose set bits are the slots that are taken.
 
 ghost use Rattle.std.specs.Prelude.{◌≡◌, ◌*◌, ◌<◌, length, MatchOption};
 ghost use Rattle.bittle.specs.BitPatterns.{bit_set};

@@ -1,4 +1,4 @@
-//! Sums of the members of a set.
+//! Sums of the indexes of the set bits of a set.
 
 ghost use Rattle.std.specs.Prelude.{◌≡◌, sum};
 ghost use Rattle.bittle.specs.BitPatterns.{bit_set};
@@ -7,7 +7,7 @@ ghost use Rattle.bittle.specs.Values.{set_in, ShapeFits};
 
 use bittle::Bits;
 
-/// Returns the sum of the members.
+/// Returns the sum of the indexes of the set bits.
 pub fn sum_of_members<B: Bits>(set: &B) -> u64
     requires { ShapeFits B.Shape set.now }
     ensures { result ≡ sum (ascending (set_in B.Shape B.Order.Endian set.now)) }
@@ -19,7 +19,8 @@ pub fn sum_of_members<B: Bits>(set: &B) -> u64
     total
 }
 
-/// Returns the sum of the members of a word, from the greatest on, by the reversed walk.
+/// Returns the sum of the indexes of the set bits of a word, from the greatest on, by the reversed
+/// iterator.
 pub fn sum_in_reverse(mask: u32) -> u64
     ensures { result ≡ sum (ascending (bit_set 32 mask)) }
 {

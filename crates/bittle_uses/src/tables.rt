@@ -1,4 +1,4 @@
-//! A row with an entry for each number, read at the members of a set: each item is an index.
+//! A row with an entry for each index of a set, read at the set bits.
 
 ghost use Rattle.std.specs.Prelude.{◌≡◌, ◌≤◌, Option, ℕ, length, option_map, slice_index, unwrap_or};
 ghost use Rattle.std.specs.List.{reduce, last_or, filter, fold, slice_index_or};
@@ -14,7 +14,7 @@ ghost use Rattle.bittle.specs.Values.{set_in, ShapeFits};
 use bittle::number::IterOnes;
 use bittle::{BigEndian, Bits, BitsOwned, LittleEndian, Set};
 
-/// Returns the entry at the greatest member of four words, or 0 where there is none.
+/// Returns the entry at the greatest set bit of four words, or 0 where there is none.
 pub fn entry_at_greatest_of_words(mask: &[u64; 4], row: &[u32; 256]) -> u32
     ensures { Some result ≡ last_or (Some 0) (map (λ i. slice_index row.now i)
         (ascending (row_set 4 64 (bit_set 64) mask.now))) }
@@ -26,7 +26,7 @@ pub fn entry_at_greatest_of_words(mask: &[u64; 4], row: &[u32; 256]) -> u32
     last
 }
 
-/// Returns the entry at the greatest index, counted from the left, that is no member, or 0.
+/// Returns the entry at the greatest unset bit, counted from the left, or 0.
 pub fn entry_at_greatest_free(mask: u64, row: &[u32; 64]) -> u32
     ensures { Some result ≡ last_or (Some 0) (map (λ i. slice_index row.now i)
         (ascending (complement (read_in true 64 (bit_set 64 mask))))) }
@@ -38,7 +38,7 @@ pub fn entry_at_greatest_free(mask: u64, row: &[u32; 64]) -> u32
     last
 }
 
-/// Returns the entry at the greatest member of an array that the walk owns, or 0.
+/// Returns the entry at the greatest set bit of an array that the iterator owns, or 0.
 pub fn entry_at_greatest_of_owned(mask: [u16; 4], row: &[u32; 64]) -> u32
     ensures { Some result ≡ last_or (Some 0) (map (λ i. slice_index row.now i)
         (ascending (row_set 4 16 (bit_set 16) mask))) }
@@ -50,7 +50,7 @@ pub fn entry_at_greatest_of_owned(mask: [u16; 4], row: &[u32; 64]) -> u32
     last
 }
 
-/// Returns the entry at the least member, or 0, by a walk from the back.
+/// Returns the entry at the least set bit, or 0, by an iterator from the back.
 pub fn entry_at_least(mask: u64, row: &[u32; 64]) -> u32
     ensures { result ≡ unwrap_or (option_map (λ i. slice_index row.now i)
         (slice_get (ascending (bit_set 64 mask)) 0)) 0 }
@@ -62,7 +62,7 @@ pub fn entry_at_least(mask: u64, row: &[u32; 64]) -> u32
     last
 }
 
-/// Returns the entry at the greatest member of a set in its own order, or 0.
+/// Returns the entry at the greatest set bit of a set in its own order, or 0.
 pub fn entry_at_greatest_of_set(mask: Set<u64, LittleEndian>, row: &[u32; 64]) -> u32
     ensures { Some result ≡ last_or (Some 0) (map (λ i. slice_index row.now i)
         (ascending (read_in true 64 (bit_set 64 mask.bits)))) }
@@ -74,7 +74,7 @@ pub fn entry_at_greatest_of_set(mask: Set<u64, LittleEndian>, row: &[u32; 64]) -
     last
 }
 
-/// Returns the entry at the greatest member of a set that is lent, or 0.
+/// Returns the entry at the greatest set bit of a set that is lent, or 0.
 pub fn entry_at_greatest_of_lent_set(mask: &Set<[u64; 4]>, row: &[u32; 256]) -> u32
     ensures { Some result ≡ last_or (Some 0) (map (λ i. slice_index row.now i)
         (ascending (row_set 4 64 (bit_set 64) mask.now.bits))) }
@@ -86,7 +86,7 @@ pub fn entry_at_greatest_of_lent_set(mask: &Set<[u64; 4]>, row: &[u32; 256]) -> 
     last
 }
 
-/// Returns the entry at the greatest member of a set that is walked by name, or 0.
+/// Returns the entry at the greatest set bit of a set whose iterator has a name, or 0.
 pub fn entry_at_greatest_of_walked_set(mask: Set<u64>, row: &[u32; 64]) -> u32
     ensures { Some result ≡ last_or (Some 0) (map (λ i. slice_index row.now i)
         (ascending (bit_set 64 mask.bits))) }
@@ -98,7 +98,7 @@ pub fn entry_at_greatest_of_walked_set(mask: Set<u64>, row: &[u32; 64]) -> u32
     last
 }
 
-/// Returns the entry at the greatest member of any set, or 0. The row is as long as its capacity.
+/// Returns the entry at the greatest set bit of any set, or 0. The row is as long as its capacity.
 pub fn entry_at_greatest_of_any<B: BitsOwned>(mask: B, row: &[u32]) -> u32
     requires fits { ShapeFits B.Shape mask }
     requires long { (B.big mask).capacity ≤ length row.now }
@@ -112,7 +112,7 @@ pub fn entry_at_greatest_of_any<B: BitsOwned>(mask: B, row: &[u32]) -> u32
     last
 }
 
-/// Returns the entry at the greatest member, or 0, by the walk of one word.
+/// Returns the entry at the greatest set bit, or 0, by the iterator of one word.
 pub fn entry_at_greatest_of_word(mask: u64, row: &[u32; 64]) -> u32
     ensures { Some result ≡ last_or (Some 0) (map (λ i. slice_index row.now i)
         (ascending (bit_set 64 mask))) }
@@ -124,7 +124,7 @@ pub fn entry_at_greatest_of_word(mask: u64, row: &[u32; 64]) -> u32
     last
 }
 
-/// Marks each member in a row.
+/// Marks each set bit in a row.
 pub fn mark_members(mask: u64, row: &mut [bool; 64])
     ensures { (i : ℕ) → i < 64 → slice_index_or row.new i false
         ≡ (slice_index_or row.old i false || (bit_set 64 mask).has i) }
@@ -134,7 +134,7 @@ pub fn mark_members(mask: u64, row: &mut [bool; 64])
     }
 }
 
-/// Returns the word again, put together from its members.
+/// Returns the word again, put together from its set bits.
 pub fn word_of_members(mask: u64) -> u64
     ensures { result ≡ mask }
 {
@@ -145,7 +145,7 @@ pub fn word_of_members(mask: u64) -> u64
     word
 }
 
-/// Combines the cells of a board of eight rows and eight columns that are members.
+/// Combines the set cells of a board of eight rows and eight columns.
 pub fn combine_cells(board: u64, cells: &[[u8; 8]; 8]) -> u8
     ensures { result ≡ fold (λ all i. bit_xor all
         (slice_index (slice_index_or cells.now (i / 8) []) (i % 8))) 0
@@ -158,7 +158,7 @@ pub fn combine_cells(board: u64, cells: &[[u8; 8]; 8]) -> u8
     all
 }
 
-/// Returns the greatest member of four words, which is a byte, or 0 where there is none.
+/// Returns the greatest set bit of four words, which is a byte, or 0 where there is none.
 pub fn greatest_as_byte(mask: &[u64; 4]) -> u8
     ensures { Some result ≡ last_or (Some 0)
         (ascending (row_set 4 64 (bit_set 64) mask.now)) }
@@ -170,7 +170,7 @@ pub fn greatest_as_byte(mask: &[u64; 4]) -> u8
     last
 }
 
-/// Returns the entry at the first item of a walk, or 0.
+/// Returns the entry at the first item of an iterator, or 0.
 pub fn entry_at_first(mask: u64, row: &[u32; 64]) -> u32
     ensures { result ≡ unwrap_or (option_map (λ i. slice_index row.now i)
         (slice_get (ascending (bit_set 64 mask)) 0)) 0 }
@@ -181,7 +181,7 @@ pub fn entry_at_first(mask: u64, row: &[u32; 64]) -> u32
     }
 }
 
-/// Returns the entry at the least index that is no member, or 0 where each is one.
+/// Returns the entry at the least unset bit, or 0 where each is set.
 pub fn entry_at_first_free(mask: u64, row: &[u32; 64]) -> u32
     ensures { result ≡ unwrap_or (option_map (λ i. slice_index row.now i)
         (slice_get (ascending (complement (bit_set 64 mask))) 0)) 0 }
@@ -192,7 +192,7 @@ pub fn entry_at_first_free(mask: u64, row: &[u32; 64]) -> u32
     }
 }
 
-/// Returns the entry at the least member that a bounded search finds, or 0.
+/// Returns the entry at the least set bit that a bounded search finds, or 0.
 pub fn entry_at_found(mask: u64, row: &[u32; 64]) -> u32
     ensures { (found : Option ℕ) × IsFirstIn (bit_set 64 mask) 0 64 found
         × (result ≡ unwrap_or (option_map (λ i. slice_index row.now i) found) 0) }
@@ -203,7 +203,7 @@ pub fn entry_at_found(mask: u64, row: &[u32; 64]) -> u32
     }
 }
 
-/// Returns the entry at the greatest item of a walk, or 0.
+/// Returns the entry at the greatest item of an iterator, or 0.
 pub fn entry_at_maximum(mask: u64, row: &[u32; 64]) -> u32
     ensures { result ≡ unwrap_or (option_map (λ i. slice_index row.now i)
         (reduce max (ascending (bit_set 64 mask)))) 0 }
@@ -214,7 +214,7 @@ pub fn entry_at_maximum(mask: u64, row: &[u32; 64]) -> u32
     }
 }
 
-/// Returns the entry at the greatest member, or 0, by steps of the walk.
+/// Returns the entry at the greatest set bit, or 0, by steps of the iterator.
 pub fn entry_at_last_step(mask: u64, row: &[u32; 64]) -> u32
     ensures { Some result ≡ last_or (Some 0) (map (λ i. slice_index row.now i)
         (ascending (bit_set 64 mask))) }
@@ -227,7 +227,7 @@ pub fn entry_at_last_step(mask: u64, row: &[u32; 64]) -> u32
     last
 }
 
-/// Returns the entry at the last of at most three members, without 7 and the first, or 0.
+/// Returns the entry at the last of at most three set bits, without 7 and the first, or 0.
 pub fn entry_at_chosen(mask: u64, row: &[u32; 64]) -> u32
     ensures { Some result ≡ last_or (Some 0) (map (λ i. slice_index row.now i)
         (take 3 (drop 1 (filter (λ i. not (i == 7)) (ascending (bit_set 64 mask)))))) }
@@ -239,7 +239,7 @@ pub fn entry_at_chosen(mask: u64, row: &[u32; 64]) -> u32
     last
 }
 
-/// Returns the entry at the greatest member, or 0, by a clone of the walk.
+/// Returns the entry at the greatest set bit, or 0, by a clone of the iterator.
 pub fn entry_at_greatest_of_clone(mask: u64, row: &[u32; 64]) -> u32
     ensures { Some result ≡ last_or (Some 0) (map (λ i. slice_index row.now i)
         (ascending (bit_set 64 mask))) }

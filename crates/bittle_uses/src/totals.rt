@@ -1,4 +1,4 @@
-//! Loops over a walk that add up: by a `for`, and written by hand.
+//! Loops over an iterator that add up: by a `for`, and written by hand.
 
 ghost use Rattle.std.specs.Prelude.{◌≡◌, sum};
 ghost use Rattle.bittle.specs.BitPatterns.{bit_set};
@@ -6,7 +6,7 @@ ghost use Rattle.bittle.specs.PlainSet.{ascending};
 
 use bittle::Bits;
 
-/// Returns the sum of the members of a word.
+/// Returns the sum of the indexes of the set bits of a word.
 pub fn sum(mask: u64) -> u64
     ensures { result ≡ sum (ascending (bit_set 64 mask)) }
 {
@@ -17,7 +17,7 @@ pub fn sum(mask: u64) -> u64
     total
 }
 
-/// Returns the sum of the members of a word, from the greatest on.
+/// Returns the sum of the indexes of the set bits of a word, from the greatest on.
 pub fn sum_from_greatest(mask: u32) -> u64
     ensures { result ≡ sum (ascending (bit_set 32 mask)) }
 {

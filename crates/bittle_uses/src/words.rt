@@ -9,7 +9,7 @@ ghost use Rattle.bittle.specs.PlainSet.{ascending, complement};
 use bittle::number::{IterOnes, IterZeros};
 use bittle::{BigEndian, LittleEndian};
 
-/// Counts the members of a word of 32 bits.
+/// Counts the set bits of a word of 32 bits.
 pub fn how_many(word: u32) -> usize
     ensures { result ≡ length (ascending (read_in true 32 (bit_set 32 word))) }
 {
@@ -26,7 +26,7 @@ pub fn how_many_lacking(word: u64, bound: u32) -> usize
         .count()
 }
 
-/// Counts the members of a byte whose half lies above a bound.
+/// Counts the set bits of a byte that have half of their index above a bound.
 pub fn halves_above(word: i8, bound: u32) -> usize
     ensures { result ≡ count_by (λ i. nat_lt bound i)
         (map (λ i. i / 2) (ascending (read_in false 8 (bit_set 8 (cast_unsigned w8 word))))) }

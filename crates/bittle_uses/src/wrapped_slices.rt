@@ -10,7 +10,7 @@ ghost use Rattle.bittle.specs.Machine.{replies_of, final_set};
 use bittle::replay::{Call, Reply, replay};
 use bittle::{BitsMut, BitsOwned, DefaultEndian, Endian, LittleEndian, Set};
 
-/// Makes one index a member and another none, through a set in the default order.
+/// Sets the bit at one index and clears that at another, through a set in the default order.
 pub fn set_and_clear<U: BitsOwned>(slice: &mut [U], set: u32, clear: u32)
     requires { Fits U.indexable (length slice.old * U.type_capacity) }
     ensures { read_in ⟦<DefaultEndian as Endian>⟧.mirrored U.width
@@ -25,7 +25,7 @@ pub fn set_and_clear<U: BitsOwned>(slice: &mut [U], set: u32, clear: u32)
     wrapped.clear_bit(clear);
 }
 
-/// Makes one index a member and another none, through a set in little-endian order.
+/// Sets the bit at one index and clears that at another, through a set in little-endian order.
 pub fn set_and_clear_le<U: BitsOwned>(slice: &mut [U], set: u32, clear: u32)
     requires { Fits U.indexable (length slice.old * U.type_capacity) }
     ensures { read_in ⟦<LittleEndian as Endian>⟧.mirrored U.width
