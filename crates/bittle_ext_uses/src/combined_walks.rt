@@ -10,7 +10,7 @@ ghost use Rattle.bittle.specs.Values.{set_in, ShapeFits};
 ghost use Rattle.bittle_ext.specs.Combined.{both_of, either_of, first_only_of, just_one_of};
 
 use bittle::{Bits, Endian, LittleEndian};
-use bittle_ext::{BitsOwnedExt, BitsCombinedExt};
+use bittle_ext::{BitsCombinedExt, BitsOwnedExt};
 
 /// Counts the indexes that are set in both of two words.
 pub fn count_common(one: u64, other: u64) -> usize
