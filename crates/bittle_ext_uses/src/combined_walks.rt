@@ -47,7 +47,8 @@ pub fn count_different<A: Bits, B: Bits, E: Endian>(one: &A, other: &B) -> usize
     one.iter_symmetric_difference_in::<B, E>(other).count()
 }
 
-/// Returns the last entry of a table at an index that is set in both of two masks.
+/// Returns the last entry of a table at an index that is set in both of two masks: each item is an
+/// index of the table.
 pub fn last_entry(one: u64, other: u64, table: &[u32; 64]) -> u32 {
     let mut last = 0;
     for index in one.iter_conjunction(&other) {
@@ -56,7 +57,7 @@ pub fn last_entry(one: u64, other: u64, table: &[u32; 64]) -> u32 {
     last
 }
 
-/// Returns both ends of what is set in either of two words.
+/// Returns both ends of what is set in either of two words: an iterator steps from both.
 pub fn ends(one: u8, other: u8) -> (Option<u32>, Option<u32>) {
     let mut walk = one.iter_union(&other);
     (walk.next(), walk.next_back())

@@ -39,7 +39,7 @@ pub fn widened(mask: u8) -> u32
     u32::from_iter(mask.iter_ones())
 }
 
-/// Returns the set of each fourth index.
+/// Returns the set of each fourth index: an iterator that ends is all that is asked for.
 pub fn each_fourth() -> u64 {
     u64::from_iter((0..64).step_by(4))
 }

@@ -1,9 +1,9 @@
 //! Reading calls, of words, of longer shapes and of any shape.
 
-ghost use Rattle.std.specs.Prelude.{◌≡◌, ◌↔◌, ◌+◌, ◌-◌, ◌<◌, ◌≤◌, true, IsTrue, MatchBool, MatchOption, slice_get};
+ghost use Rattle.std.specs.Prelude.{◌≡◌, ◌↔◌, ◌+◌, ◌-◌, ◌/◌, ◌<◌, ◌≤◌, true, IsTrue, MatchBool, MatchOption, slice_get};
 ghost use Rattle.bittle.specs.BitPatterns.{bit_set};
 ghost use Rattle.bittle.specs.Orders.{read_in};
-ghost use Rattle.bittle.specs.PlainSet.{ascending, complement, members_below};
+ghost use Rattle.bittle.specs.PlainSet.{ascending, complement, members_below, size};
 ghost use Rattle.bittle.specs.Rows.{row_set};
 ghost use Rattle.bittle.specs.Searches.{IsFirstIn, IsLastIn, NoneIn};
 ghost use Rattle.bittle.specs.Values.{set_in, ShapeFits};
@@ -21,7 +21,7 @@ pub fn least(mask: u64) -> Option<u32>
     mask.first_one()
 }
 
-/// Returns the entry of a row at the greatest member, or 0.
+/// Returns the entry of a row at the greatest member, or 0: the member is an index of the row.
 pub fn entry_at_greatest(mask: u16, row: &[u32; 16]) -> u32 {
     match mask.last_one() {
         Some(index) => row[index as usize],
@@ -118,9 +118,11 @@ pub fn free_from<B: Bits>(pages: &B, from: u32, length: u32) -> Option<u32>
     pages.next_zero_run(from, length)
 }
 
-/// Returns the median member, and the index itself where it is asked for its rank.
+/// Returns the median member, or `None` where there is none.
 pub fn middle<B: Bits, E: Endian>(set: &B) -> Option<u32>
     requires { ShapeFits B.Shape set.now }
+    ensures { result ≡ slice_get (ascending (set_in B.Shape E.Endian set.now))
+        (size (B.big set.now) / 2) }
 {
     set.select_in::<E>(set.count_ones() / 2)
 }

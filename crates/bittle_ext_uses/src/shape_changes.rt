@@ -1,6 +1,6 @@
 //! Changes of arrays, and of sets that remember their order.
 
-ghost use Rattle.std.specs.Prelude.{◌≡◌, ◌≤◌, not, true, MatchOption};
+ghost use Rattle.std.specs.Prelude.{◌≡◌, ◌*◌, ◌+◌, ◌≤◌, not, true, MatchOption};
 ghost use Rattle.bittle.specs.BitPatterns.{bit_set};
 ghost use Rattle.bittle.specs.Orders.{read_in};
 ghost use Rattle.bittle.specs.PlainSet.{complement, contains, with_index, with_span, without_index, without_span};
@@ -60,6 +60,8 @@ pub fn flip(table: &mut [[u8; 2]; 2])
 /// Returns a board with a row of eight squares marked.
 pub fn with_row(board: [u64; 2], row: u32) -> [u64; 2]
     requires { row ≤ 15 }
+    ensures { row_set 2 64 (bit_set 64) result
+        ≡ with_span (row_set 2 64 (bit_set 64) board) (row * 8) (row * 8 + 8) }
 {
     board.with_range(row * 8, row * 8 + 8)
 }

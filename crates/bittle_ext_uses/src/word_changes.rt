@@ -1,5 +1,6 @@
 //! Changes of single words.
 
+ghost use Rattle.std.specs.Int.{w64, cast_unsigned};
 ghost use Rattle.std.specs.Prelude.{◌≡◌, ◌<◌, ◌≤◌, not, true, MatchOption};
 ghost use Rattle.bittle.specs.BitPatterns.{bit_set};
 ghost use Rattle.bittle.specs.Orders.{read_in};
@@ -20,7 +21,11 @@ pub fn add(mask: &mut u64, index: u32) -> bool
 }
 
 /// Clears a bit, and returns whether it was set.
-pub fn take_away(mask: &mut i64, index: u32) -> bool {
+pub fn take_away(mask: &mut i64, index: u32) -> bool
+    ensures was_set { result ≡ contains (bit_set 64 (cast_unsigned w64 mask.old)) index }
+    ensures set { bit_set 64 (cast_unsigned w64 mask.new)
+        ≡ without_index (bit_set 64 (cast_unsigned w64 mask.old)) index }
+{
     mask.remove(index)
 }
 
@@ -84,7 +89,7 @@ pub fn take_slot(slots: &mut u32) -> Option<u32>
     slots.take_first_zero()
 }
 
-/// Returns what remains where both ends are taken out.
+/// Returns what remains where both ends are taken out: neither call asks for anything.
 pub fn without_ends(mask: u64) -> u64 {
     let mut rest = mask;
     rest.pop_first();
