@@ -6,7 +6,7 @@ use Rattle.bittle.specs.SetOperations.{first_alone as only_first}
 use Rattle.bittle_bits.specs.Decided.{NoneDecidedBelow, IsFirstDecided}
 use Rattle.bittle.specs.Searches.{NoneIn, IsFirstIn}
 use Rattle.bittle.proofs.CallerSets.{complement_within}
-use Rattle.bittle_ext.specs.Relations.{IsSubset, AreDisjoint, Meet, IsSubsetBelow, AreDisjointBelow, IsFirstAlone, IsFirstCommon}
+use Rattle.bittle_ext.specs.SetRelations.{IsSubset, AreDisjoint, Meet, IsSubsetBelow, AreDisjointBelow, IsFirstAlone, IsFirstCommon}
 
 not_false : (b : Bool) → not b ≡ false → b ≡ true
 not_false true h = refl

@@ -4,7 +4,7 @@ use Rattle.std.proofs.lemmas.Bool.{cases_lt, le-ltb, true≢false}
 use Rattle.bittle_bits.specs.PlainSet.{PlainSet, complement, lacks}
 use Rattle.bittle_bits.specs.Searches.{IsFirstIn, IsLastIn}
 use Rattle.bittle.proofs.CallerSets.{complement_within}
-use Rattle.bittle_ext.specs.Ranges.{HasAllIn, HasSomeIn}
+use Rattle.bittle_ext.specs.RangeMembers.{HasAllIn, HasSomeIn}
 
 -- no number from the capacity on is in the complement
 pub complement_past : (s : PlainSet) (i : ℕ) → s.capacity ≤ i → (complement s).has i ≡ false

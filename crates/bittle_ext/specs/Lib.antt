@@ -1,6 +1,6 @@
 pub mod Changes
 pub mod Combined
-pub mod Ranges
+pub mod RangeMembers
 pub mod Ranks
-pub mod Relations
 pub mod Runs
+pub mod SetRelations

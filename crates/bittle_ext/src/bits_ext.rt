@@ -1,7 +1,7 @@
 //! Reading a set.
 
 ghost use Rattle.std.specs.Prelude.{◌≡◌, ◌-◌, ◌≤◌, MatchBool, slice_get};
-ghost use Rattle.bittle_ext.specs.Ranges.{HasSomeIn, HasAllIn};
+ghost use Rattle.bittle_ext.specs.RangeMembers.{HasSomeIn, HasAllIn};
 ghost use Rattle.bittle_ext.specs.Runs.{IsFirstRun};
 ghost use Rattle.bittle.specs.PlainSet.{ascending, complement, members_below};
 ghost use Rattle.bittle.specs.Searches.{IsFirstIn, IsLastIn, NoneIn};
@@ -12,9 +12,9 @@ use bittle::{Bits, Endian};
 
 /// What can be asked of any set beyond the calls of [`Bits`].
 ///
-/// Of each shape the capacity, and that of each array type within it, has to be below `u32::MAX`, as
-/// `bits_capacity() < u32::MAX` tells. No index wraps here: past the capacity no bit is set and none
-/// is unset. With capacity 0 nothing is found.
+/// Of each shape the capacity, and that of each array type within it, has to be below `u32::MAX`,
+/// as `bits_capacity() < u32::MAX` tells. No index wraps here: past the capacity no bit is set and
+/// none is unset. With capacity 0 nothing is found.
 pub trait BitsExt: Bits {
     /// Returns the least index of a set bit, in the order of the type, or `None` if there is
     /// none. Words are read from the first word on, up to the answer.
@@ -261,8 +261,8 @@ pub trait BitsExt: Bits {
         self.rank_in::<Self::Order>(index)
     }
 
-    /// Returns the index of the set bit below which `rank` bits are set, in the order `E`, or `None`
-    /// if no more than `rank` bits are set.
+    /// Returns the index of the set bit below which `rank` bits are set, in the order `E`, or
+    /// `None` if no more than `rank` bits are set.
     ///
     /// Words are counted whole up to that of the answer, which halves find: six of a `u64`.
     ///
@@ -279,8 +279,8 @@ pub trait BitsExt: Bits {
         ranks::select::<Self, E>(self, rank)
     }
 
-    /// Returns the index of the set bit below which `rank` bits are set, in the order of the type, as
-    /// [`select_in`](BitsExt::select_in) does.
+    /// Returns the index of the set bit below which `rank` bits are set, in the order of the type,
+    /// as [`select_in`](BitsExt::select_in) does.
     ///
     /// ```
     /// 0b0010_0010u8.select(1);                            // Some(5)
@@ -364,8 +364,8 @@ pub trait BitsExt: Bits {
 
     /// Returns `true` if a bit of `from..to` is set, in the order `E`.
     ///
-    /// The shape has to fit, and `from <= to <= capacity`: nothing wraps. In an empty range none is.
-    /// Words are read up to the first set bit.
+    /// The shape has to fit, and `from <= to <= capacity`: nothing wraps. In an empty range none
+    /// is. Words are read up to the first set bit.
     ///
     /// ```
     /// 0b0110_0000u8.any_in_range_in::<LittleEndian>(3, 8); // false
@@ -406,8 +406,8 @@ pub trait BitsExt: Bits {
 
     /// Returns `true` if each bit of `from..to` is set, in the order `E`.
     ///
-    /// The shape has to fit, and `from <= to <= capacity`: nothing wraps. In an empty range each is.
-    /// Words are read up to the first unset bit.
+    /// The shape has to fit, and `from <= to <= capacity`: nothing wraps. In an empty range each
+    /// is. Words are read up to the first unset bit.
     ///
     /// ```
     /// 0b0110_0000u8.all_in_range_in::<LittleEndian>(1, 3); // true
@@ -449,9 +449,9 @@ pub trait BitsExt: Bits {
     /// Returns the least index from `from` on where `length` unset bits begin, in the order `E`, or
     /// `None` if there is no such run.
     ///
-    /// No run goes past the capacity. A run of no bits begins at each index up to the capacity: with
-    /// `length` 0 it returns `from`, and `None` past the capacity. Each run that is too short costs
-    /// two searches of words.
+    /// No run goes past the capacity. A run of no bits begins at each index up to the capacity:
+    /// with `length` 0 it returns `from`, and `None` past the capacity. Each run that is too short
+    /// costs two searches of words.
     ///
     /// ```
     /// 0b0110_0001u8.next_zero_run_in::<LittleEndian>(1, 2); // Some(3)
@@ -477,13 +477,14 @@ pub trait BitsExt: Bits {
     where
         Self: Sized,
         requires { ShapeFits Self.Shape self.now }
-        ensures { IsFirstRun (complement (set_in Self.Shape Self.Order.Endian self.now)) from length result }
+        ensures { IsFirstRun (complement (set_in Self.Shape Self.Order.Endian self.now)) from length
+            result }
     {
         self.next_zero_run_in::<Self::Order>(from, length)
     }
 
-    /// Returns the least index where `length` unset bits begin, in the order `E`, or `None` if there
-    /// is no such run, as [`next_zero_run_in`](BitsExt::next_zero_run_in) does from 0 on.
+    /// Returns the least index where `length` unset bits begin, in the order `E`, or `None` if
+    /// there is no such run, as [`next_zero_run_in`](BitsExt::next_zero_run_in) does from 0 on.
     ///
     /// ```
     /// 0b0110_0001u8.first_zero_run_in::<LittleEndian>(2);  // Some(3)
@@ -498,8 +499,8 @@ pub trait BitsExt: Bits {
         self.next_zero_run_in::<E>(0, length)
     }
 
-    /// Returns the least index where `length` unset bits begin, in the order of the type, or `None` if
-    /// there is no such run, as [`next_zero_run_in`](BitsExt::next_zero_run_in) does from 0 on.
+    /// Returns the least index where `length` unset bits begin, in the order of the type, or `None`
+    /// if there is no such run, as [`next_zero_run_in`](BitsExt::next_zero_run_in) does from 0 on.
     ///
     /// ```
     /// 0b0100_1101u8.first_zero_run(2);                     // Some(4)
@@ -509,7 +510,8 @@ pub trait BitsExt: Bits {
     where
         Self: Sized,
         requires { ShapeFits Self.Shape self.now }
-        ensures { IsFirstRun (complement (set_in Self.Shape Self.Order.Endian self.now)) 0 length result }
+        ensures { IsFirstRun (complement (set_in Self.Shape Self.Order.Endian self.now)) 0 length
+            result }
     {
         self.next_zero_run_in::<Self::Order>(0, length)
     }
@@ -517,9 +519,9 @@ pub trait BitsExt: Bits {
     /// Returns the least index from `from` on where `length` set bits begin, in the order `E`, or
     /// `None` if there is no such run.
     ///
-    /// No run goes past the capacity. A run of no bits begins at each index up to the capacity: with
-    /// `length` 0 it returns `from`, and `None` past the capacity. Each run that is too short costs
-    /// two searches of words.
+    /// No run goes past the capacity. A run of no bits begins at each index up to the capacity:
+    /// with `length` 0 it returns `from`, and `None` past the capacity. Each run that is too short
+    /// costs two searches of words.
     ///
     /// ```
     /// 0b0110_0011u8.next_one_run_in::<LittleEndian>(2, 2);  // Some(6)
@@ -566,8 +568,8 @@ pub trait BitsExt: Bits {
         self.next_one_run_in::<E>(0, length)
     }
 
-    /// Returns the least index where `length` set bits begin, in the order of the type, or `None` if
-    /// there is no such run, as [`next_one_run_in`](BitsExt::next_one_run_in) does from 0 on.
+    /// Returns the least index where `length` set bits begin, in the order of the type, or `None`
+    /// if there is no such run, as [`next_one_run_in`](BitsExt::next_one_run_in) does from 0 on.
     ///
     /// ```
     /// 0b0110_0001u8.first_one_run(2);                      // Some(5)

@@ -5,8 +5,10 @@ ghost use Rattle.std.specs.Iterator.{Drains, IsFinite};
 ghost use Rattle.std.specs.Iterator.Runs.{WholeRun};
 ghost use Rattle.std.specs.List.{fold};
 ghost use Rattle.bittle_ext.specs.Runs.{IsFirstRun};
-ghost use Rattle.bittle_ext.specs.Changes.{with_index_assigned, with_index_toggled, with_span_assigned};
-ghost use Rattle.bittle.specs.PlainSet.{contains, complement, with_index, without_index, with_span, without_span, with_span_toggled};
+ghost use Rattle.bittle_ext.specs.Changes.{with_index_assigned, with_index_toggled};
+ghost use Rattle.bittle_ext.specs.Changes.{with_span_assigned};
+ghost use Rattle.bittle.specs.PlainSet.{contains, complement, with_index, without_index};
+ghost use Rattle.bittle.specs.PlainSet.{with_span, without_span, with_span_toggled};
 ghost use Rattle.bittle.specs.Searches.{IsFirstIn, IsLastIn};
 ghost use Rattle.bittle.specs.Values.{set_in, set_mirrored, ShapeFits};
 
@@ -252,9 +254,9 @@ pub trait BitsMutExt: BitsMut {
         Some(free)
     }
 
-    /// Sets the first `length` unset bits that are neighbours, in the order `E`, and returns the least
-    /// index of them, as an allocator of runs does. If there is no such run, nothing changes, and it
-    /// returns `None`; with `length` 0 nothing changes, and it returns 0.
+    /// Sets the first `length` unset bits that are neighbours, in the order `E`, and returns the
+    /// least index of them, as an allocator of runs does. If there is no such run, nothing changes,
+    /// and it returns `None`; with `length` 0 nothing changes, and it returns 0.
     ///
     /// The shape has to fit. Each run that is too short costs two searches of words.
     ///
@@ -267,7 +269,8 @@ pub trait BitsMutExt: BitsMut {
     where
         Self: Sized,
         requires { ShapeFits Self.Shape self.old }
-        ensures first { IsFirstRun (complement (set_in Self.Shape E.Endian self.old)) 0 length result }
+        ensures first { IsFirstRun (complement (set_in Self.Shape E.Endian self.old)) 0 length
+            result }
         ensures set { MatchOption result (self.new ≡ self.old)
             (λ from. set_in Self.Shape E.Endian self.new
             ≡ with_span (set_in Self.Shape E.Endian self.old) from (from + length)) }
@@ -379,7 +382,8 @@ pub trait BitsMutExt: BitsMut {
         self.assign_in::<Self::Order>(index, value);
     }
 
-    /// Sets or clears a bit in the order of the type, as [`replace_in`](BitsMutExt::replace_in) does.
+    /// Sets or clears a bit in the order of the type, as [`replace_in`](BitsMutExt::replace_in)
+    /// does.
     ///
     /// ```
     /// let mut word = 0b0001u8;

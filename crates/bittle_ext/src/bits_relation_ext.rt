@@ -2,7 +2,8 @@
 
 ghost use Rattle.std.specs.Prelude.{◌≡◌, ◌↔◌, IsTrue, MatchOption};
 ghost use Rattle.bittle_ext.specs.Combined.{both_of, first_only_of, just_one_of};
-ghost use Rattle.bittle_ext.specs.Relations.{IsSubset, AreDisjoint, Meet, IsFirstAlone, IsFirstCommon};
+ghost use Rattle.bittle_ext.specs.SetRelations.{IsSubset, AreDisjoint, Meet};
+ghost use Rattle.bittle_ext.specs.SetRelations.{IsFirstAlone, IsFirstCommon};
 ghost use Rattle.bittle.specs.PlainSet.{size};
 ghost use Rattle.bittle.specs.Values.{set_in, ShapeFits};
 
@@ -16,8 +17,8 @@ use bittle::{Bits, Endian};
 /// searches go on in turns, each from where the other one stopped. Past its capacity a set has no
 /// index, so capacities may differ. With capacity 0 a set is the empty one.
 pub trait BitsRelationExt: Bits {
-    /// Returns the least index that is set in both sets, both in the order `E`, or `None` if there is
-    /// none. It stops at the answer.
+    /// Returns the least index that is set in both sets, both in the order `E`, or `None` if there
+    /// is none. It stops at the answer.
     ///
     /// ```
     /// 0b0110u8.first_common_in::<u16, LittleEndian>(&0x0600); // Some(5)
@@ -73,8 +74,8 @@ pub trait BitsRelationExt: Bits {
         relations::first_alone::<Self, B, E, E>(self, other)
     }
 
-    /// Returns the least index that is set in this set and not in the other one, each in its own order, as
-    /// [`first_alone_in`](BitsRelationExt::first_alone_in) does.
+    /// Returns the least index that is set in this set and not in the other one, each in its own
+    /// order, as [`first_alone_in`](BitsRelationExt::first_alone_in) does.
     ///
     /// ```
     /// 0b0110u8.first_alone(&0x0102u16);                   // Some(2)
@@ -111,8 +112,8 @@ pub trait BitsRelationExt: Bits {
         relations::first_alone::<Self, B, E, E>(self, other).is_none()
     }
 
-    /// Returns `true` if each bit that is set in this set is set in the other one too, each in its own order, as
-    /// [`is_subset_in`](BitsRelationExt::is_subset_in) does.
+    /// Returns `true` if each bit that is set in this set is set in the other one too, each in its
+    /// own order, as [`is_subset_in`](BitsRelationExt::is_subset_in) does.
     ///
     /// ```
     /// 0b0110u8.is_subset(&0x010Fu16);                     // true
@@ -149,8 +150,8 @@ pub trait BitsRelationExt: Bits {
         relations::first_alone::<B, Self, E, E>(other, self).is_none()
     }
 
-    /// Returns `true` if each bit that is set in the other set is set in this one too, each in its own order, as
-    /// [`is_superset_in`](BitsRelationExt::is_superset_in) does.
+    /// Returns `true` if each bit that is set in the other set is set in this one too, each in its
+    /// own order, as [`is_superset_in`](BitsRelationExt::is_superset_in) does.
     ///
     /// ```
     /// 0b0110u8.is_superset(&0x0106u16);                   // false: index 8 is not in it
@@ -244,8 +245,9 @@ pub trait BitsRelationExt: Bits {
         relations::first_common::<Self, B, Self::Order, B::Order>(self, other).is_some()
     }
 
-    /// Returns how many indexes are set in both sets, both in the order `E`. No set is made: words of
-    /// one width are counted one by one, else each set bit of this set is tested in the other one.
+    /// Returns how many indexes are set in both sets, both in the order `E`. No set is made: words
+    /// of one width are counted one by one, else each set bit of this set is tested in the other
+    /// one.
     ///
     /// ```
     /// 0x81u8.count_common_in::<u16, LittleEndian>(&0x8000); // 1: index 0
@@ -282,8 +284,8 @@ pub trait BitsRelationExt: Bits {
         counts::count_common::<Self, B, Self::Order, B::Order>(self, other)
     }
 
-    /// Returns how many indexes are set in this set and not in the other one, both in the order `E`.
-    /// It costs a count of this set and [`count_common_in`](BitsRelationExt::count_common_in).
+    /// Returns how many indexes are set in this set and not in the other one, both in the order
+    /// `E`. It costs a count of this set and [`count_common_in`](BitsRelationExt::count_common_in).
     ///
     /// ```
     /// 0x81u8.count_alone_in::<u16, LittleEndian>(&0x8000); // 1: index 7
@@ -301,8 +303,8 @@ pub trait BitsRelationExt: Bits {
         counts::count_alone::<Self, B, E, E>(self, other)
     }
 
-    /// Returns how many indexes are set in this set and not in the other one, each in its own order,
-    /// as [`count_alone_in`](BitsRelationExt::count_alone_in) does.
+    /// Returns how many indexes are set in this set and not in the other one, each in its own
+    /// order, as [`count_alone_in`](BitsRelationExt::count_alone_in) does.
     ///
     /// ```
     /// 0b0110u8.count_alone(&0x0104u16);                   // 1: index 1
@@ -320,8 +322,8 @@ pub trait BitsRelationExt: Bits {
         counts::count_alone::<Self, B, Self::Order, B::Order>(self, other)
     }
 
-    /// Returns how many indexes are set in just one of the two sets, both in the order `E`. It costs a
-    /// count of each set and [`count_common_in`](BitsRelationExt::count_common_in).
+    /// Returns how many indexes are set in just one of the two sets, both in the order `E`. It
+    /// costs a count of each set and [`count_common_in`](BitsRelationExt::count_common_in).
     ///
     /// ```
     /// 0x81u8.count_different_in::<u16, LittleEndian>(&0x8001); // 2: 7 and 15

@@ -2,7 +2,8 @@
 
 ghost use Rattle.std.specs.Iterator.{YieldsFirst, YieldsLast, item_count};
 ghost use Rattle.std.specs.Prelude.{◌≡◌, ℕ, ◌*◌, ◌≤◌, max, false};
-ghost use Rattle.bittle_ext.specs.Combined.{decided_set, either_of, both_of, first_only_of, just_one_of};
+ghost use Rattle.bittle_ext.specs.Combined.{decided_set, either_of, both_of};
+ghost use Rattle.bittle_ext.specs.Combined.{first_only_of, just_one_of};
 ghost use Rattle.bittle.specs.PlainSet.{ascending};
 ghost use Rattle.bittle.specs.Values.{set_in, ShapeFits};
 ghost use Rattle.bittle.specs.Walk.{AreBelow, ListsInOrder, ListsInReverse};

@@ -1,5 +1,5 @@
-//! Everyday calls on any set, above the library: the ends of a set and the neighbours of an index, a
-//! change that tells whether the set changed, a range changed at once, the first and the last bit
+//! Everyday calls on any set, above the library: the ends of a set and the neighbours of an index,
+//! a change that tells whether the set changed, a range changed at once, the first and the last bit
 //! taken out, a set made of a list of indexes, a complement.
 //!
 //! They stand in extension traits, which every set of `bittle` has in both orders, and on the

@@ -2,7 +2,7 @@
 //! one order, else by searches in turns, each from where the other one stopped.
 
 ghost use Rattle.std.specs.Prelude.{◌≡◌, IsTrue, MatchOption};
-ghost use Rattle.bittle_ext.specs.Relations.{IsSubset, AreDisjoint, IsFirstAlone, IsFirstCommon};
+ghost use Rattle.bittle_ext.specs.SetRelations.{IsSubset, AreDisjoint, IsFirstAlone, IsFirstCommon};
 ghost use Rattle.bittle.specs.Values.{set_in, ShapeFits};
 
 use bittle::{Bits, Endian};

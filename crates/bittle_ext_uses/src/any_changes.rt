@@ -2,7 +2,8 @@
 
 ghost use Rattle.std.specs.Prelude.{◌≡◌, ◌≤◌, not, Bool, IsTrue, MatchOption};
 ghost use Rattle.std.specs.List.{fold};
-ghost use Rattle.bittle.specs.PlainSet.{ascending, complement, contains, with_index, without_index, without_span};
+ghost use Rattle.bittle.specs.PlainSet.{ascending, complement, contains};
+ghost use Rattle.bittle.specs.PlainSet.{with_index, without_index, without_span};
 ghost use Rattle.bittle.specs.Searches.{IsFirstIn};
 ghost use Rattle.bittle.specs.Values.{set_in, set_mirrored, ShapeFits};
 

@@ -1,6 +1,7 @@
 //! Iterators over what an operation makes of two sets.
 
-ghost use Rattle.std.specs.Prelude.{◌≡◌, length, true};
+ghost use Rattle.std.specs.Iterator.{YieldsFirst, YieldsLast};
+ghost use Rattle.std.specs.Prelude.{◌≡◌, ℕ, List, length, true};
 ghost use Rattle.std.specs.List.{fold};
 ghost use Rattle.bittle.specs.BitPatterns.{bit_set};
 ghost use Rattle.bittle.specs.Orders.{read_in};
@@ -58,7 +59,12 @@ pub fn last_entry(one: u64, other: u64, table: &[u32; 64]) -> u32 {
 }
 
 /// Returns both ends of what is set in either of two words: an iterator steps from both.
-pub fn ends(one: u8, other: u8) -> (Option<u32>, Option<u32>) {
+pub fn ends(one: u8, other: u8) -> (Option<u32>, Option<u32>)
+    ensures { (rest : List ℕ) × (left : List ℕ)
+        × YieldsFirst (λ items. items)
+        (ascending (either_of (bit_set 8 one) (bit_set 8 other))) result.0 rest
+        × YieldsLast (λ items. items) rest result.1 left }
+{
     let mut walk = one.iter_union(&other);
     (walk.next(), walk.next_back())
 }

@@ -4,7 +4,8 @@ ghost use Rattle.std.specs.List.{fold, range_with_len};
 ghost use Rattle.std.specs.Prelude.{◌≡◌, ◌-◌, ◌≤◌, false, true};
 ghost use Rattle.bittle.specs.BitPatterns.{bit_set};
 ghost use Rattle.bittle.specs.Orders.{read_in};
-ghost use Rattle.bittle.specs.PlainSet.{ascending, complement, empty_set, with_index, with_span, without_span, with_span_toggled};
+ghost use Rattle.bittle.specs.PlainSet.{ascending, complement, empty_set, with_index};
+ghost use Rattle.bittle.specs.PlainSet.{with_span, without_span, with_span_toggled};
 
 use bittle::{Bits, LittleEndian};
 use bittle_ext::BitsOwnedExt;

@@ -1,14 +1,16 @@
 //! Reading calls, of words, of longer shapes and of any shape.
 
-ghost use Rattle.std.specs.Prelude.{◌≡◌, ◌↔◌, ◌+◌, ◌-◌, ◌/◌, ◌<◌, ◌≤◌, true, IsTrue, MatchBool, MatchOption, slice_get};
+ghost use Rattle.std.specs.Prelude.{◌≡◌, ◌↔◌, ◌+◌, ◌-◌, ◌/◌, ◌<◌, ◌≤◌, ℕ, true, IsTrue};
+ghost use Rattle.std.specs.Prelude.{MatchBool, MatchOption, Option, Some, slice_get};
 ghost use Rattle.bittle.specs.BitPatterns.{bit_set};
 ghost use Rattle.bittle.specs.Orders.{read_in};
 ghost use Rattle.bittle.specs.PlainSet.{ascending, complement, members_below, size};
 ghost use Rattle.bittle.specs.Rows.{row_set};
 ghost use Rattle.bittle.specs.Searches.{IsFirstIn, IsLastIn, NoneIn};
 ghost use Rattle.bittle.specs.Values.{set_in, ShapeFits};
-ghost use Rattle.bittle_ext.specs.Ranges.{HasSomeIn, HasAllIn};
-ghost use Rattle.bittle_ext.specs.Relations.{IsSubset, AreDisjoint, Meet, IsFirstAlone, IsFirstCommon};
+ghost use Rattle.bittle_ext.specs.RangeMembers.{HasSomeIn, HasAllIn};
+ghost use Rattle.bittle_ext.specs.SetRelations.{IsSubset, AreDisjoint, Meet};
+ghost use Rattle.bittle_ext.specs.SetRelations.{IsFirstAlone, IsFirstCommon};
 ghost use Rattle.bittle_ext.specs.Runs.{IsFirstRun};
 
 use bittle::{Bits, Endian, LittleEndian, Set};
@@ -22,7 +24,10 @@ pub fn least(mask: u64) -> Option<u32>
 }
 
 /// Returns the entry of a row at the greatest member, or 0: the member is an index of the row.
-pub fn entry_at_greatest(mask: u16, row: &[u32; 16]) -> u32 {
+pub fn entry_at_greatest(mask: u16, row: &[u32; 16]) -> u32
+    ensures { (found : Option ℕ) × IsLastIn (bit_set 16 mask) 0 16 found
+        × MatchOption found (result ≡ 0) (λ index. slice_get row.now index ≡ Some result) }
+{
     match mask.last_one() {
         Some(index) => row[index as usize],
         None => 0,

@@ -3,7 +3,8 @@
 ghost use Rattle.std.specs.Prelude.{◌≡◌, ◌*◌, ◌+◌, ◌≤◌, not, true, MatchOption};
 ghost use Rattle.bittle.specs.BitPatterns.{bit_set};
 ghost use Rattle.bittle.specs.Orders.{read_in};
-ghost use Rattle.bittle.specs.PlainSet.{complement, contains, with_index, with_span, without_index, without_span};
+ghost use Rattle.bittle.specs.PlainSet.{complement, contains, with_index, without_index};
+ghost use Rattle.bittle.specs.PlainSet.{with_span, without_span};
 ghost use Rattle.bittle.specs.Rows.{row_set};
 ghost use Rattle.bittle.specs.Searches.{IsFirstIn};
 

@@ -1,10 +1,11 @@
 //! Changes of single words.
 
 ghost use Rattle.std.specs.Int.{w64, cast_unsigned};
-ghost use Rattle.std.specs.Prelude.{◌≡◌, ◌<◌, ◌≤◌, not, true, MatchOption};
+ghost use Rattle.std.specs.Prelude.{◌≡◌, ◌<◌, ◌≤◌, ℕ, not, true, MatchOption, Option};
 ghost use Rattle.bittle.specs.BitPatterns.{bit_set};
 ghost use Rattle.bittle.specs.Orders.{read_in};
-ghost use Rattle.bittle.specs.PlainSet.{complement, contains, with_index, with_span, with_span_toggled, without_index, without_span};
+ghost use Rattle.bittle.specs.PlainSet.{complement, contains, with_index, without_index};
+ghost use Rattle.bittle.specs.PlainSet.{with_span, with_span_toggled, without_span};
 ghost use Rattle.bittle.specs.Searches.{IsFirstIn, IsLastIn};
 ghost use Rattle.bittle_ext.specs.Changes.{with_index_assigned, with_index_toggled};
 
@@ -90,7 +91,15 @@ pub fn take_slot(slots: &mut u32) -> Option<u32>
 }
 
 /// Returns what remains where both ends are taken out: neither call asks for anything.
-pub fn without_ends(mask: u64) -> u64 {
+pub fn without_ends(mask: u64) -> u64
+    ensures { (first : Option ℕ) × (last : Option ℕ) × (middle : ℕ)
+        × IsFirstIn (bit_set 64 mask) 0 64 first
+        × MatchOption first (middle ≡ mask)
+        (λ index. bit_set 64 middle ≡ without_index (bit_set 64 mask) index)
+        × IsLastIn (bit_set 64 middle) 0 64 last
+        × MatchOption last (result ≡ middle)
+        (λ index. bit_set 64 result ≡ without_index (bit_set 64 middle) index) }
+{
     let mut rest = mask;
     rest.pop_first();
     rest.pop_last();

@@ -8,7 +8,7 @@ ghost use Rattle.std.specs.Prelude.{◌≡◌, ◌+◌, ◌≤◌, MatchBool, Ma
 ghost use Rattle.bittle.specs.BitPatterns.{bit_set};
 ghost use Rattle.bittle.specs.PlainSet.{complement, with_span, without_span};
 ghost use Rattle.bittle.specs.Rows.{row_set};
-ghost use Rattle.bittle_ext.specs.Ranges.{HasAllIn};
+ghost use Rattle.bittle_ext.specs.RangeMembers.{HasAllIn};
 ghost use Rattle.bittle_ext.specs.Runs.{IsFirstRun};
 
 use bittle::BitsMut;

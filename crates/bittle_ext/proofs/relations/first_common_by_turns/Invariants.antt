@@ -1,6 +1,6 @@
 use Rattle.std.proofs.Common.{◌-◌, ◌≤◌}
 use Rattle.bittle.specs.Orders.{read_in}
-use Rattle.bittle_ext.specs.Relations.{AreDisjointBelow}
+use Rattle.bittle_ext.specs.SetRelations.{AreDisjointBelow}
 use Rattle.bittle_ext.proofs.relations.first_common_by_turns.Given as goal
 
 abbrev pub invariant-loop-ours : goal.invariant-loop-ours
