@@ -1,5 +1,5 @@
 -- Rows of elements after a change of each index of a span.
-use Rattle.std.proofs.Common.{◌≡◌, ℕ, ◌+◌, ◌-◌, ◌*◌, ◌/◌, ◌<◌, ◌≤◌, ◌≢◌, ◌⊎◌, Bool, inl, inr, sym, ap, ◌∙◌, arith, List, length, get_or, set, min, max}
+use Rattle.std.proofs.Common.{◌≡◌, ℕ, ◌+◌, ◌*◌, ◌/◌, ◌<◌, ◌≤◌, ◌≢◌, ◌⊎◌, Bool, inl, inr, sym, ap, ◌∙◌, arith, List, length, get_or, set}
 use Rattle.std.proofs.Math.Path.{fun_ext}
 use Rattle.std.proofs.Math.Nat.{div-add-mod', mul-le-mul_right}
 use Rattle.std.proofs.lemmas.Nat.{mul-add-lt, mod_below}
@@ -10,7 +10,7 @@ use Rattle.bittle_bits.specs.PlainSet.{PlainSet, with_span_changed}
 use Rattle.bittle_bits.specs.Rows.{row_has, row_set}
 use Rattle.bittle_bits.proofs.PlainSets.{plain_set}
 use Rattle.bittle_bits.proofs.RowSets.{at_element-read, at_element-set_same, at_element-set_other, elements_has_at, elements_placed, by_place}
-use Rattle.bittle_bits.proofs.Spans.{outside_span, inside_span, changed-on}
+use Rattle.bittle_bits.proofs.Spans.{outside_span, inside_span}
 
 -- rows: a span within one element
 module _ {X : Type 0} (change : Bool → Bool) (m : Bool) (w c n q : ℕ) (big : X → PlainSet) (xs : List X) (x y : X)
@@ -89,43 +89,10 @@ module _ {X : Type 0} (change : Bool → Bool) (m : Bool) (w c n q : ℕ) (big :
             ∙ ap (λ f. f k) (placed xs) ∙ row_has-past n c test xs k g)
       ])
 
--- where the span stands before an element: at its start, or nowhere past the span
-abbrev pub span_end_at : ℕ → ℕ → ℕ → ℕ
-span_end_at from to start = max from (min to start)
-
--- one more element
-pub span_reaches : (change : Bool → Bool) (s now next : PlainSet) (from to c q : ℕ) → from < to → q * c < to →
-    from < q * c + c → now ≡ with_span_changed change s from (span_end_at from to (q * c)) →
-    next ≡ with_span_changed change now (q * c + (from - q * c)) (q * c + min c (to - q * c)) →
-    next ≡ with_span_changed change s from (span_end_at from to ((q + 1) * c))
-span_reaches change s now next from to c q h l b so_far is =
-    let start = q * c in
-    let at : max from (min to start) ≡ start + (from - start) = omega arith in
-    let on : start + min c (to - start) ≡ max from (min to ((q + 1) * c)) = omega arith in
-    is ∙ ap (λ u. with_span_changed change u (start + (from - start)) (start + min c (to - start)))
-    (so_far ∙ ap (with_span_changed change s from) at)
-    ∙ changed-on change s from (start + (from - start)) (start + min c (to - start)) (omega arith)
-    (omega arith)
-    ∙ ap (with_span_changed change s from) on
-
 -- a row that holds some index has elements that hold one
 pub some_each : (to n c : ℕ) → 0 < to → to ≤ n * c → 0 < c
 some_each to n c h l = elim (cases_eq c 0)
     [ inl z ↦ absurd (let t : to ≤ n * 0 = rw z at l in omega arith) | inr s ↦ omega arith ]
-
--- the elements of a span begin before its end, and are elements of the row
-pub begins_before : (to n c q : ℕ) → 0 < to → to ≤ n * c → q < (to - 1) / c + 1 →
-    (q * c < to) × (q < n)
-begins_before to n c q h l b =
-    let low : q * c ≤ (to - 1) / c * c = mul-le-mul_right c (omega arith) in
-    let first : q * c < to = omega (arith, low, div-add-mod' (to - 1) c) in (
-      first,
-      elim (cases_lt q n) [
-        | inl e ↦ e
-        | inr g ↦
-            absurd (let t : n * c ≤ q * c = mul-le-mul_right c g in omega arith)
-      ],
-    )
 
 -- an index lies before the end of its element
 pub before_end : (i c : ℕ) → 0 < c → i < i / c * c + c

@@ -1,6 +1,6 @@
 //! The calls on a row of elements, for arrays and for slices.
 
-ghost use Rattle.std.specs.Prelude.{◌≡◌, ◌==◌, ◌*◌, ◌<◌, ◌≤◌, ℕ, Bool, true, cond, get_or, length, IsTrue, MatchOption};
+ghost use Rattle.std.specs.Prelude.{◌≡◌, ◌+◌, ◌==◌, ◌*◌, ◌<◌, ◌≤◌, ℕ, Bool, true, cond, get_or, length, IsTrue, MatchOption};
 ghost use Rattle.bittle_bits.specs.Orders.{read_in};
 ghost use Rattle.bittle_bits.specs.PlainSet.{contains, with_index, with_span_changed, without_index, without_members, size};
 ghost use Rattle.bittle_bits.specs.Rows.{row_set, GoesTo};
@@ -97,8 +97,31 @@ pub fn clear_bits<T: BitsOwned>(elements: &mut [T])
     }
 }
 
-/// Combines each bit from `from` on and before `to` with a set one, of each element those that lie in
-/// it.
+// Combines each bit of one element from its index `from` on and before its index `to` with a set one.
+#[inline]
+fn assign_in_element<T: BitsOwned, E: Endian, O: RangeOperation>(
+    elements: &mut [T],
+    at: u32,
+    from: u32,
+    to: u32,
+)
+    requires element { at < length elements.old }
+    requires ordered { from ≤ to }
+    requires within { to ≤ T.type_capacity }
+    requires fits { IsTrue T.indexable }
+    ensures set { read_in E.mirrored T.width
+        (row_set (length elements.old) T.type_capacity T.big elements.new)
+        ≡ with_span_changed (λ b. O.decide b true)
+        (read_in E.mirrored T.width
+        (row_set (length elements.old) T.type_capacity T.big elements.old))
+        (at * T.type_capacity + from) (at * T.type_capacity + to) }
+    ensures length { length elements.new ≡ length elements.old }
+{
+    elements[at as usize].assign_range_by_operation::<E, O>(from, to);
+}
+
+/// Combines each bit from `from` on and before `to` with a set one. Of the elements between the
+/// first and the last it is each bit, by one mask that is the same for all.
 pub fn assign_range<T: BitsOwned, E: Endian, O: RangeOperation>(
     elements: &mut [T],
     from: u32,
@@ -117,12 +140,18 @@ pub fn assign_range<T: BitsOwned, E: Endian, O: RangeOperation>(
         return;
     }
     let each = T::bits();
-    for at in from / each..(to - 1) / each + 1 {
-        let start = at * each;
-        let end = each.min(to - start);
-        let first = from.saturating_sub(start);
-        elements[at as usize].assign_range_by_operation::<E, O>(first, end);
+    let first = from / each;
+    let last = (to - 1) / each;
+    let end = to - last * each;
+    if first == last {
+        assign_in_element::<T, E, O>(elements, first, from - first * each, end);
+        return;
     }
+    assign_in_element::<T, E, O>(elements, first, from - first * each, each);
+    for at in first + 1..last {
+        assign_in_element::<T, E, O>(elements, at, 0, each);
+    }
+    assign_in_element::<T, E, O>(elements, last, 0, end);
 }
 
 /// Combines the elements of the common beginning, each with its counterpart.
