@@ -17,8 +17,8 @@ mod uses;
 /// sets nothing.
 ///
 /// The type, which the place of use names, has to fit. An index costs O(1), a range one mask for
-/// each word of it. An index past the capacity wraps. With capacity 0 the set is empty. The macro is
-/// no constant: in place of one write a function that returns it.
+/// each word of it. An index past the capacity wraps. With capacity 0 the set is empty. The macro
+/// is no constant: in place of one write a function that returns it.
 ///
 /// ```
 /// let mask: u8 = bittle::set![0, 2..=3, 6..];         // 0b1100_1101

@@ -31,8 +31,8 @@ impl<T: OwnedShape, const N: usize> OwnedShape for [T; N] {
     ghost type_capacity = { N * T.type_capacity };
 }
 
-// The operation on two arrays. One of at most 128 bytes is copied first: the copy lies elsewhere for
-// certain, so that the machine goes over several words at once.
+// The operation on two arrays. One of at most 128 bytes is copied first: the copy lies elsewhere
+// for certain, so that the machine goes over several words at once.
 #[inline]
 fn combine<T: BitsOwned, O: Operation, const N: usize>(elements: &mut [T; N], others: &[T; N])
     ensures { (mirrored : Bool)

@@ -290,7 +290,8 @@ pub trait Bits: Drop + Shape {
     where
         Self: Sized,
         requires { ShapeFits Self.Shape self.now }
-        ensures remaining { result.remaining ≡ ascending (complement (set_in Self.Shape E.Endian self.now)) }
+        ensures remaining { result.remaining
+            ≡ ascending (complement (set_in Self.Shape E.Endian self.now)) }
         ensures fresh { IsFresh ((Self.big self.now).capacity / Self.width) result }
         ensures below { AreBelow (Self.big self.now).capacity result.remaining }
     {
@@ -309,7 +310,8 @@ pub trait Bits: Drop + Shape {
     where
         Self: Sized,
         requires { ShapeFits Self.Shape self.now }
-        ensures remaining { result.remaining ≡ ascending (set_in Self.Shape Self.Order.Endian self.now) }
+        ensures remaining { result.remaining
+            ≡ ascending (set_in Self.Shape Self.Order.Endian self.now) }
         ensures fresh { IsFresh ((Self.big self.now).capacity / Self.width) result }
         ensures below { AreBelow (Self.big self.now).capacity result.remaining }
     {

@@ -55,8 +55,8 @@ pub trait BitsMut: Bits {
         ensures set { Self.big self.new ≡ without_members (Self.big self.old) }
         ensures stays { Self.loan self.old ≡ Self.loan self.new };
 
-    /// Combines each bit from `from` on and before `to` with a set one by an operation, in the order
-    /// `E`. No other bit changes.
+    /// Combines each bit from `from` on and before `to` with a set one by an operation, in the
+    /// order `E`. No other bit changes.
     #[doc(hidden)]
     fn assign_range_by_operation<E: Endian, O: RangeOperation>(&mut self, from: u32, to: u32)
         requires fits { ShapeFits Self.Shape self.old }
@@ -77,8 +77,9 @@ pub trait BitsMut: Bits {
 
     /// Sets each bit at the indexes `from..to`, in the order `E`. No other bit changes.
     ///
-    /// The shape has to fit, and `from <= to <= capacity`: nothing wraps. Only the words of the range
-    /// are written, by one mask each. An empty range, as any with capacity 0, changes nothing.
+    /// The shape has to fit, and `from <= to <= capacity`: nothing wraps. Only the words of the
+    /// range are written, by one mask each. An empty range, as any with capacity 0, changes
+    /// nothing.
     ///
     /// ```
     /// let mut row = [0u8; 2];
@@ -136,8 +137,8 @@ pub trait BitsMut: Bits {
 
     /// Sets each bit that is set in `other`.
     ///
-    /// Always callable, as the three operations after it. Each word is read and written once. Between
-    /// two slices of unequal length only the elements of the common beginning change.
+    /// Always callable, as the three operations after it. Each word is read and written once.
+    /// Between two slices of unequal length only the elements of the common beginning change.
     ///
     /// ```
     /// let mut word = 0b0011u8;

@@ -279,7 +279,8 @@ pub trait BitsOwned: Copy + Eq + BitsMut + OwnedShape {
     where
         Self: Sized,
         requires { ShapeFits Self.Shape self }
-        ensures remaining { result.remaining ≡ ascending (set_in Self.Shape Self.Order.Endian self) }
+        ensures remaining { result.remaining
+            ≡ ascending (set_in Self.Shape Self.Order.Endian self) }
         ensures fresh { IsFresh ((Self.big self).capacity / Self.width) result }
         ensures below { AreBelow (Self.big self).capacity result.remaining }
     {
@@ -297,7 +298,8 @@ pub trait BitsOwned: Copy + Eq + BitsMut + OwnedShape {
     where
         Self: Sized,
         requires { ShapeFits Self.Shape self }
-        ensures remaining { result.remaining ≡ ascending (set_in Self.Shape ⟦<LittleEndian as Endian>⟧ self) }
+        ensures remaining { result.remaining
+            ≡ ascending (set_in Self.Shape ⟦<LittleEndian as Endian>⟧ self) }
         ensures fresh { IsFresh ((Self.big self).capacity / Self.width) result }
         ensures below { AreBelow (Self.big self).capacity result.remaining }
     {
@@ -315,7 +317,8 @@ pub trait BitsOwned: Copy + Eq + BitsMut + OwnedShape {
     where
         Self: Sized,
         requires { ShapeFits Self.Shape self }
-        ensures remaining { result.remaining ≡ ascending (set_in Self.Shape ⟦<BigEndian as Endian>⟧ self) }
+        ensures remaining { result.remaining
+            ≡ ascending (set_in Self.Shape ⟦<BigEndian as Endian>⟧ self) }
         ensures fresh { IsFresh ((Self.big self).capacity / Self.width) result }
         ensures below { AreBelow (Self.big self).capacity result.remaining }
     {
@@ -335,7 +338,8 @@ pub trait BitsOwned: Copy + Eq + BitsMut + OwnedShape {
     where
         Self: Sized,
         requires { ShapeFits Self.Shape self }
-        ensures remaining { result.remaining ≡ ascending (complement (set_in Self.Shape E.Endian self)) }
+        ensures remaining { result.remaining
+            ≡ ascending (complement (set_in Self.Shape E.Endian self)) }
         ensures fresh { IsFresh ((Self.big self).capacity / Self.width) result }
         ensures below { AreBelow (Self.big self).capacity result.remaining }
     {

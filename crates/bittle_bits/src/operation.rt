@@ -18,8 +18,8 @@ pub trait Operation {
             (bit_set T.width (T.pattern word)) (bit_set T.width (T.pattern other)) };
 }
 
-/// An operation that changes no bit where the other set has none, so that with a range of indexes it
-/// changes these alone.
+/// An operation that changes no bit where the other set has none, so that with a range of indexes
+/// it changes these alone.
 pub trait RangeOperation: Operation {
     // A number that is none of the other set's stays as it was.
     ghost keeps_others: { (b : Bool) → Self.decide b false ≡ b };

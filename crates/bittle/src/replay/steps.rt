@@ -30,8 +30,8 @@ enum CountList {
     And(Snapshot<CountList>, Snapshot<Count>),
 }
 
-/// One number for each step of an iterator, the scans made up to it. Contracts alone see them, and they
-/// take no bytes.
+/// One number for each step of an iterator, the scans made up to it. Contracts alone see them, and
+/// they take no bytes.
 #[derive(Drop)]
 pub struct Scans {
     trail: Snapshot<CountList>,
@@ -75,7 +75,8 @@ const _: () = prove!(size_of::<Scans>() == 0);
 #[inline]
 fn take_step<W: Counted>(walk: &mut W, step: Step) -> Option<u32>
     ensures answer { result ≡ answer_of step (W.walk walk.old).remaining }
-    ensures remaining { (W.walk walk.new).remaining ≡ items_left_by step (W.walk walk.old).remaining }
+    ensures remaining { (W.walk walk.new).remaining
+        ≡ items_left_by step (W.walk walk.old).remaining }
     ensures items { (W.walk walk.new).items ≡ count_after (W.walk walk.old).items result }
     ensures scans { (W.walk walk.old).scans ≤ (W.walk walk.new).scans }
     ensures words { (W.walk walk.new).words ≡ (W.walk walk.old).words }
@@ -111,8 +112,8 @@ fn run<W: Counted>(walk: &mut W, steps: &[Step], answers: &mut [Option<u32>]) ->
 /// That is the items of the increasing list from its two ends, and `None` once none remains.
 /// Contracts see in the result the scans made up to each step.
 ///
-/// The shape has to fit, and there is one place for the answer of each step. Each word is fetched at
-/// most once.
+/// The shape has to fit, and there is one place for the answer of each step. Each word is fetched
+/// at most once.
 ///
 /// ```
 /// let mut answers = [None; 3];

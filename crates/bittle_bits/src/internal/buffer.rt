@@ -16,7 +16,8 @@ use crate::word::Word;
 use std::marker::{Model, PhantomData};
 
 // A word of a set, and the index in the set of its first bit. Where none is loaded, or it is
-// exhausted, the word has no bit set, so that a step tests the word alone; the flag serves the count.
+// exhausted, the word has no bit set, so that a step tests the word alone; the flag serves the
+// count.
 #[derive(Clone, Copy)]
 struct BufferedWord<W: Copy> {
     word: W,

@@ -61,8 +61,8 @@ fn first_among<A: Bits, B: Bits, E: Endian, O: Operation>(
     None
 }
 
-/// Returns whether an operation makes no index in the four words from `from` on a member, by one test
-/// for all.
+/// Returns whether an operation makes no index in the four words from `from` on a member, by one
+/// test for all.
 // What it does not find empty is searched, so it promises nothing of `false`.
 #[inline]
 fn are_four_empty<A: Bits, B: Bits, E: Endian, O: Operation>(left: &A, right: &B, from: u32) -> bool
@@ -112,8 +112,8 @@ fn first_below<A: Bits, B: Bits, E: Endian, O: Operation>(
     first_among::<A, B, E, O>(left, right, words / 4 * 4, words)
 }
 
-/// Returns the least index below both capacities that an operation makes a member, of two sets whose
-/// words have one width, or `None`.
+/// Returns the least index below both capacities that an operation makes a member, of two sets
+/// whose words have one width, or `None`.
 #[inline]
 pub fn first_decided<A: Bits, B: Bits, E: Endian, O: Operation>(left: &A, right: &B) -> Option<u32>
     requires width { A.width ≡ B.width }

@@ -97,7 +97,8 @@ pub fn clear_bits<T: BitsOwned>(elements: &mut [T])
     }
 }
 
-// Combines each bit of one element from its index `from` on and before its index `to` with a set one.
+// Combines each bit of one element from its index `from` on and before its index `to` with a set
+// one.
 #[inline]
 fn assign_in_element<T: BitsOwned, E: Endian, O: RangeOperation>(
     elements: &mut [T],
@@ -201,8 +202,8 @@ fn has_none<T: BitsOwned, K: Kind>(element: &T) -> bool
 
 /// Returns how many elements at the beginning have no bit of the kind, by one test for each four.
 // It counts none of a short row, or where the first one decides, since one by one is faster there;
-// nor of elements of more than a word, of which it might ask three without need. It promises nothing of
-// the element that it stops at, which is tested again.
+// nor of elements of more than a word, of which it might ask three without need. It promises
+// nothing of the element that it stops at, which is tested again.
 #[inline]
 fn beginning_without<T: BitsOwned, K: Kind>(elements: &[T]) -> usize
     ensures within { result ≤ length elements.now }

@@ -14,8 +14,8 @@ use crate::internal::kind::{Kind, word_of_kind};
 use crate::shape::Shape;
 use crate::word::Word;
 
-/// A set that an iterator borrows. Of it an iterator learns how many words it has, and each word that
-/// it fetches, and nothing else.
+/// A set that an iterator borrows. Of it an iterator learns how many words it has, and each word
+/// that it fetches, and nothing else.
 #[derive(Drop)]
 pub struct Source<'a, B: Shape> {
     set: &'a B,
