@@ -1,5 +1,6 @@
 //! The text of an error.
 
+use crate::checks::holds;
 use bit_pages::NotTaken;
 use std::fmt;
 use std::fmt::Write;
@@ -23,7 +24,7 @@ impl Write for Short {
 #[test]
 fn a_text_that_was_cut_off_is_an_error(rt: HostRuntime) {
     let mut short = Short { left: 0 };
-    assert!(rt; write!(short, "{NotTaken}").is_err());
+    holds!(rt; write!(short, "{NotTaken}").is_err());
     let mut whole = Short { left: 1 };
-    assert!(rt; write!(whole, "{NotTaken}").is_ok());
+    holds!(rt; write!(whole, "{NotTaken}").is_ok());
 }

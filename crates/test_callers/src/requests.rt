@@ -2,6 +2,7 @@
 
 ghost use Rattle.bittle.specs.Shapes.{Fits};
 
+use crate::checks::{holds, same};
 use bit_pages::{Answer, NotTaken, Pages, Request};
 use bittle::{BitsOwned, LittleEndian, Set};
 use std::test::Fail;
@@ -42,26 +43,26 @@ fn answers_to_some() -> ([Answer; 7], u32) {
 
 #[test]
 fn pages_of_an_integer(rt: HostRuntime) {
-    assert!(rt; serve_some::<u8>() == answers_to_some());
-    assert!(rt; serve_some::<i128>() == answers_to_some());
+    same!(rt; serve_some::<u8>(), answers_to_some());
+    same!(rt; serve_some::<i128>(), answers_to_some());
 }
 
 #[test]
 fn pages_of_an_array(rt: HostRuntime) {
-    assert!(rt; serve_some::<[u8; 1]>() == answers_to_some());
-    assert!(rt; serve_some::<[u16; 3]>() == answers_to_some());
+    same!(rt; serve_some::<[u8; 1]>(), answers_to_some());
+    same!(rt; serve_some::<[u16; 3]>(), answers_to_some());
 }
 
 #[test]
 fn pages_of_a_nested_array(rt: HostRuntime) {
-    assert!(rt; serve_some::<[[u8; 1]; 1]>() == answers_to_some());
-    assert!(rt; serve_some::<[[u16; 2]; 3]>() == answers_to_some());
+    same!(rt; serve_some::<[[u8; 1]; 1]>(), answers_to_some());
+    same!(rt; serve_some::<[[u16; 2]; 3]>(), answers_to_some());
 }
 
 #[test]
 fn pages_of_a_set_of_the_other_order(rt: HostRuntime) {
-    assert!(rt; serve_some::<Set<u8, LittleEndian>>() == answers_to_some());
-    assert!(rt; serve_some::<Set<[[u8; 2]; 2], LittleEndian>>() == answers_to_some());
+    same!(rt; serve_some::<Set<u8, LittleEndian>>(), answers_to_some());
+    same!(rt; serve_some::<Set<[[u8; 2]; 2], LittleEndian>>(), answers_to_some());
 }
 
 #[test]
@@ -69,8 +70,8 @@ fn no_pages_at_all(rt: HostRuntime) {
     let mut pages = Pages::<[u8; 0]>::new();
     let mut answers = [Answer::Given; 2];
     pages.serve(&[Request::Take, Request::GiveBack(0)], &mut answers);
-    assert!(rt; answers == [Answer::Full, Answer::NotTaken]);
-    assert_eq!(rt; pages.taken(), 0);
+    same!(rt; answers, [Answer::Full, Answer::NotTaken]);
+    same!(rt; pages.taken(), 0);
 }
 
 // Takes one page more than eight, gives page 3 back and takes again.
@@ -105,10 +106,10 @@ fn answers_of_eight() -> ([Answer; 11], u32) {
 
 #[test]
 fn all_pages_taken(rt: HostRuntime) {
-    assert!(rt; serve_past_the_last::<[u8; 1]>() == answers_of_eight());
-    assert!(rt; serve_past_the_last::<u8>() == answers_of_eight());
-    assert!(rt; serve_past_the_last::<[[u8; 1]; 1]>() == answers_of_eight());
-    assert!(rt; serve_past_the_last::<Set<i8, LittleEndian>>() == answers_of_eight());
+    same!(rt; serve_past_the_last::<[u8; 1]>(), answers_of_eight());
+    same!(rt; serve_past_the_last::<u8>(), answers_of_eight());
+    same!(rt; serve_past_the_last::<[[u8; 1]; 1]>(), answers_of_eight());
+    same!(rt; serve_past_the_last::<Set<i8, LittleEndian>>(), answers_of_eight());
 }
 
 #[test]
@@ -130,8 +131,8 @@ fn numbers_past_the_last_page(rt: HostRuntime) {
         Answer::Given,
         Answer::Page(0),
     ];
-    assert!(rt; answers == expected);
-    assert_eq!(rt; pages.taken(), 1);
+    same!(rt; answers, expected);
+    same!(rt; pages.taken(), 1);
 }
 
 // Returns an allocator of which two pages were taken and page 0 was given back.
@@ -160,36 +161,36 @@ fn same_and_not<B: BitsOwned, C: BitsOwned>() -> (bool, bool)
 #[test]
 fn the_same_pages_in_two_orders(rt: HostRuntime) {
     let answers = same_and_not::<u16, Set<[u8; 2], LittleEndian>>();
-    assert_eq!(rt; answers, (true, false));
+    same!(rt; answers, (true, false));
     let turned = same_and_not::<Set<[u8; 2], LittleEndian>, u16>();
-    assert_eq!(rt; turned, (true, false));
+    same!(rt; turned, (true, false));
 }
 
 #[test]
 fn the_same_pages_of_fewer_and_more(rt: HostRuntime) {
     let mut few = Pages::<u8>::new();
     let mut many = Pages::<[u8; 4]>::new();
-    assert!(rt; few.same_pages(&many));
+    holds!(rt; few.same_pages(&many));
     for page in 0..8 {
-        assert_eq!(rt; (few.take(), many.take()), (Some(page), Some(page)));
+        same!(rt; (few.take(), many.take()), (Some(page), Some(page)));
     }
-    assert!(rt; few.same_pages(&many) && many.same_pages(&few));
-    assert_eq!(rt; (few.take(), many.take()), (None, Some(8)));
-    assert!(rt; !few.same_pages(&many));
+    holds!(rt; few.same_pages(&many) && many.same_pages(&few));
+    same!(rt; (few.take(), many.take()), (None, Some(8)));
+    holds!(rt; !few.same_pages(&many));
 }
 
 #[test]
 fn what_is_not_taken(rt: HostRuntime) -> Result<(), Fail> {
     let mut pages = Pages::<u8>::new();
-    assert!(rt; pages.give_back(0) == Err(NotTaken));
-    assert_eq!(rt; pages.take(), Some(0));
+    same!(rt; pages.give_back(0), Err(NotTaken));
+    same!(rt; pages.take(), Some(0));
 
     // Page 8 is none, and does not wrap to page 0.
-    assert!(rt; pages.give_back(8) == Err(NotTaken));
-    assert_eq!(rt; pages.taken(), 1);
-    assert!(rt; pages.give_back(0) == Ok(()));
-    assert_eq!(rt; pages.taken(), 0);
+    same!(rt; pages.give_back(8), Err(NotTaken));
+    same!(rt; pages.taken(), 1);
+    same!(rt; pages.give_back(0), Ok(()));
+    same!(rt; pages.taken(), 0);
     let text = format!(in rt.alloc(); "{NotTaken}")?;
-    assert_eq!(rt; text.as_str(), "the page is not taken");
+    same!(rt; text.as_str(), "the page is not taken");
     Ok(())
 }

@@ -1,5 +1,6 @@
 //! Values worked out by hand.
 
+use crate::checks::{holds, same};
 use bittle::Bits;
 use bittle_uses::changes::{insert, move_bit, remove};
 use bittle_uses::free_runs::first_free_run;
@@ -14,53 +15,53 @@ use std::test::Fail;
 #[test]
 fn primes_below_1024(rt: HostRuntime) {
     let numbers = primes();
-    assert_eq!(rt; numbers.count_ones(), 172);
+    same!(rt; numbers.count_ones(), 172);
     let first: [u32; 6] = [2, 3, 5, 7, 11, 13];
-    assert!(rt; numbers.iter_ones().take(6).eq(first.iter().copied()));
-    assert_eq!(rt; numbers.iter_ones().next_back(), Some(1021));
+    holds!(rt; numbers.iter_ones().take(6).eq(first.iter().copied()));
+    same!(rt; numbers.iter_ones().next_back(), Some(1021));
 }
 
 #[test]
 fn changes_tell_what_was_there(rt: HostRuntime) {
     let mut set = 0b1001_0110u8;
-    assert!(rt; insert(&mut set, 0) && !insert(&mut set, 8));
-    assert!(rt; remove(&mut set, 0) && !remove(&mut set, 0));
+    holds!(rt; insert(&mut set, 0) && !insert(&mut set, 8));
+    holds!(rt; remove(&mut set, 0) && !remove(&mut set, 0));
     move_bit(&mut set, 7, 3);
-    assert_eq!(rt; set, 0b0001_1110);
+    same!(rt; set, 0b0001_1110);
     move_bit(&mut set, 7, 0);
-    assert_eq!(rt; set, 0b0001_1110);
+    same!(rt; set, 0b0001_1110);
 }
 
 #[test]
 fn sums_and_ranks(rt: HostRuntime) {
     let set = 0b0001_1110u8;
-    assert_eq!(rt; sum_of_members(&set), 10);
-    assert_eq!(rt;
+    same!(rt; sum_of_members(&set), 10);
+    same!(rt;
         (sum_from_greatest(0b0001_1110), sum_in_reverse(0b0001_1110)),
         (10, 10)
     );
-    assert_eq!(rt; how_many_from(&set, 3), 2);
-    assert_eq!(rt; (rank_of(&set, 3), rank_of(&set, 5)), (Some(2), None));
+    same!(rt; how_many_from(&set, 3), 2);
+    same!(rt; (rank_of(&set, 3), rank_of(&set, 5)), (Some(2), None));
 }
 
 #[test]
 fn searches_of_all_members(rt: HostRuntime) -> Result<(), Fail> {
     let set = 0b0001_1110u8;
-    assert!(rt; has_any_above(&set, 3) && !has_any_above(&set, 4));
-    assert_eq!(rt; greatest(&set), Some(4));
-    assert!(rt; list_members(rt.alloc(), &set)?.as_slice() == [1, 2, 3, 4].as_slice());
-    assert!(rt; is_pairwise_below(&0b11u8, &set) && !is_pairwise_below(&set, &0b11u16));
+    holds!(rt; has_any_above(&set, 3) && !has_any_above(&set, 4));
+    same!(rt; greatest(&set), Some(4));
+    same!(rt; list_members(rt.alloc(), &set)?.as_slice(), [1, 2, 3, 4].as_slice());
+    holds!(rt; is_pairwise_below(&0b11u8, &set) && !is_pairwise_below(&set, &0b11u16));
     Ok(())
 }
 
 #[test]
 fn relations_of_two_sets(rt: HostRuntime) {
-    assert!(rt; is_subset(0b0110u8, 0b1110) && !is_subset(0b0111u8, 0b1110));
-    assert!(rt; is_disjoint(0b0001u8, 0b1110) && !is_disjoint(0b0011u8, 0b1110));
+    holds!(rt; is_subset(0b0110u8, 0b1110) && !is_subset(0b0111u8, 0b1110));
+    holds!(rt; is_disjoint(0b0001u8, 0b1110) && !is_disjoint(0b0011u8, 0b1110));
 }
 
 #[test]
 fn runs_of_free_neighbours(rt: HostRuntime) {
-    assert_eq!(rt; first_free_run(&0b1001_0110u8, 2), Some(5));
-    assert_eq!(rt; first_free_run(&0b1001_0110u8, 3), None);
+    same!(rt; first_free_run(&0b1001_0110u8, 2), Some(5));
+    same!(rt; first_free_run(&0b1001_0110u8, 3), None);
 }

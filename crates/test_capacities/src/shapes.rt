@@ -2,6 +2,7 @@
 
 ghost use Rattle.bittle.specs.Values.{ShapeFits};
 
+use crate::checks::same;
 use bittle::replay::{Call, Reply, replay};
 use bittle::{BigEndian, BitsMut, Endian, LittleEndian};
 use std::process::Abort;
@@ -10,22 +11,22 @@ use std::process::Abort;
 fn nested_arrays(rt: HostRuntime) {
     let mut bytes = [[0u8; 2]; 2];
     put_and_ask::<[[u8; 2]; 2], BigEndian>(&rt, &mut bytes, 49, 32);
-    assert!(rt; bytes == [[0, 0], [2, 0]]);
+    same!(rt; bytes, [[0, 0], [2, 0]]);
     bytes = [[0; 2]; 2];
     put_and_ask::<[[u8; 2]; 2], LittleEndian>(&rt, &mut bytes, 17, 32);
-    assert!(rt; bytes == [[0, 0], [64, 0]]);
+    same!(rt; bytes, [[0, 0], [64, 0]]);
 
     // The same calls on another shape of the same capacity.
     let mut word = 0i32;
     put_and_ask::<i32, BigEndian>(&rt, &mut word, 49, 32);
-    assert_eq!(rt; word, 131_072);
+    same!(rt; word, 131_072);
 
     let mut words = [[[0u16; 3]; 2]; 2];
     put_and_ask::<[[[u16; 3]; 2]; 2], BigEndian>(&rt, &mut words, 100, 192);
-    assert!(rt; words == [[[0, 0, 0], [0, 0, 0]], [[16, 0, 0], [0, 0, 0]]]);
+    same!(rt; words, [[[0, 0, 0], [0, 0, 0]], [[16, 0, 0], [0, 0, 0]]]);
     words = [[[0; 3]; 2]; 2];
     put_and_ask::<[[[u16; 3]; 2]; 2], LittleEndian>(&rt, &mut words, 292, 192);
-    assert!(rt; words == [[[0, 0, 0], [0, 0, 0]], [[2048, 0, 0], [0, 0, 0]]]);
+    same!(rt; words, [[[0, 0, 0], [0, 0, 0]], [[2048, 0, 0], [0, 0, 0]]]);
 }
 
 #[test]
@@ -33,18 +34,18 @@ fn slices(rt: HostRuntime) {
     let mut words = [0i64; 5];
     put_and_ask::<&mut [i64], LittleEndian>(&rt, &mut &mut words[..], 384, 320);
     put_and_ask::<&mut [i64], BigEndian>(&rt, &mut &mut words[..1], 67, 64);
-    assert!(rt; words == [8, i64::MIN, 0, 0, 0]);
+    same!(rt; words, [8, i64::MIN, 0, 0, 0]);
     words = [0; 5];
     put_and_ask::<&mut [i64], BigEndian>(&rt, &mut &mut words[..], 384, 320);
     put_and_ask::<&mut [i64], LittleEndian>(&rt, &mut &mut words[..1], 64, 64);
-    assert!(rt; words == [i64::MIN, 1, 0, 0, 0]);
+    same!(rt; words, [i64::MIN, 1, 0, 0, 0]);
     no_words::<BigEndian>(&rt);
     no_words::<LittleEndian>(&rt);
 
     let mut pairs = [[0u8; 2]; 3];
     put_and_ask::<&mut [[u8; 2]], LittleEndian>(&rt, &mut &mut pairs[..], 40, 48);
     put_and_ask::<&mut [[u8; 2]], BigEndian>(&rt, &mut &mut pairs[..2], 40, 32);
-    assert!(rt; pairs == [[0, 1], [0, 0], [0, 128]]);
+    same!(rt; pairs, [[0, 1], [0, 0], [0, 128]]);
 }
 
 fn no_words<E: Endian>(rt: &impl Abort) {
@@ -65,7 +66,7 @@ fn no_words<E: Endian>(rt: &impl Abort) {
         Reply::Bit(true),
         Reply::Number(0),
     ];
-    assert!(rt; replies == expected);
+    same!(rt; replies, expected);
 }
 
 // Puts an index into an empty set: it is tested, counted, and alone among as many numbers as the
@@ -87,5 +88,5 @@ fn put_and_ask<B: BitsMut, E: Endian>(rt: &impl Abort, bits: &mut B, index: u32,
         Reply::Number(1),
         Reply::Number(capacity),
     ];
-    assert!(rt; replies == expected);
+    same!(rt; replies, expected);
 }

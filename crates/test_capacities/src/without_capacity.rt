@@ -3,6 +3,7 @@
 ghost use Rattle.std.specs.Prelude.{IsTrue};
 ghost use Rattle.bittle.specs.Values.{ShapeFits};
 
+use crate::checks::{holds, same};
 use bittle::prelude::*;
 use bittle::{BigEndian, LittleEndian, Set, set, set_be, set_le};
 use std::alloc::{AllocError, Global};
@@ -14,29 +15,29 @@ const INDEXES: [u32; 6] = [0, 1, 7, 8, 127, u32::MAX];
 
 // What each call that reads answers.
 fn reads<B: Bits>(rt: &impl Abort, bits: &B) {
-    assert_eq!(rt; bits.bits_capacity(), 0);
-    assert_eq!(rt; bits.count_ones(), 0);
-    assert_eq!(rt; bits.count_zeros(), 0);
-    assert!(rt; bits.all_zeros());
-    assert!(rt; bits.all_ones());
+    assert!(rt; bits.bits_capacity() == 0);
+    same!(rt; bits.count_ones(), 0);
+    same!(rt; bits.count_zeros(), 0);
+    holds!(rt; bits.all_zeros());
+    holds!(rt; bits.all_ones());
     for index in INDEXES {
         tests_false(rt, bits, index);
     }
     yields_no_ones(rt, bits);
     yields_no_zeros(rt, bits);
     joins_nothing(rt, bits);
-    assert_eq!(rt; bits.count_ones_in_range_in::<BigEndian>(0, 0), 0);
-    assert_eq!(rt; bits.count_ones_in_range_in::<LittleEndian>(0, 0), 0);
+    same!(rt; bits.count_ones_in_range_in::<BigEndian>(0, 0), 0);
+    same!(rt; bits.count_ones_in_range_in::<LittleEndian>(0, 0), 0);
 }
 
 fn tests_false<B: Bits>(rt: &impl Abort, bits: &B, index: u32)
     requires { IsTrue B.indexable }
 {
-    assert!(rt; !bits.test_bit(index));
-    assert!(rt; !bits.test_bit_in::<BigEndian>(index));
-    assert!(rt; !bits.test_bit_in::<LittleEndian>(index));
-    assert!(rt; !bits.test_bit_le(index));
-    assert!(rt; !bits.test_bit_be(index));
+    holds!(rt; !bits.test_bit(index));
+    holds!(rt; !bits.test_bit_in::<BigEndian>(index));
+    holds!(rt; !bits.test_bit_in::<LittleEndian>(index));
+    holds!(rt; !bits.test_bit_le(index));
+    holds!(rt; !bits.test_bit_be(index));
 }
 
 // Whether an iterator yields nothing, from either end.
@@ -50,28 +51,28 @@ fn is_over<W: DoubleEndedIterator<Item = u32>>(mut walk: W) -> bool
 fn yields_no_ones<B: Bits>(rt: &impl Abort, bits: &B)
     requires { ShapeFits B.Shape bits.now }
 {
-    assert!(rt; is_over(bits.iter_ones()));
-    assert!(rt; is_over(bits.iter_ones_le()));
-    assert!(rt; is_over(bits.iter_ones_be()));
-    assert!(rt; is_over(bits.iter_ones().rev()));
+    holds!(rt; is_over(bits.iter_ones()));
+    holds!(rt; is_over(bits.iter_ones_le()));
+    holds!(rt; is_over(bits.iter_ones_be()));
+    holds!(rt; is_over(bits.iter_ones().rev()));
 }
 
 fn yields_no_zeros<B: Bits>(rt: &impl Abort, bits: &B)
     requires { ShapeFits B.Shape bits.now }
 {
-    assert!(rt; is_over(bits.iter_zeros()));
-    assert!(rt; is_over(bits.iter_zeros_le()));
-    assert!(rt; is_over(bits.iter_zeros_be()));
-    assert!(rt; is_over(bits.iter_zeros().rev()));
+    holds!(rt; is_over(bits.iter_zeros()));
+    holds!(rt; is_over(bits.iter_zeros_le()));
+    holds!(rt; is_over(bits.iter_zeros_be()));
+    holds!(rt; is_over(bits.iter_zeros().rev()));
 }
 
 fn joins_nothing<B: Bits>(rt: &impl Abort, bits: &B)
     requires { ShapeFits B.Shape bits.now }
 {
     let letters = ["a", "b", "c"];
-    assert!(rt; bits.join_ones(letters.iter()).next().is_none());
-    assert!(rt; bits.join_ones_le(letters.iter()).next().is_none());
-    assert!(rt; bits.join_ones_be(letters.iter()).next().is_none());
+    holds!(rt; bits.join_ones(letters.iter()).next().is_none());
+    holds!(rt; bits.join_ones_le(letters.iter()).next().is_none());
+    holds!(rt; bits.join_ones_be(letters.iter()).next().is_none());
 }
 
 // After each call that writes, nothing is held.
@@ -86,7 +87,7 @@ fn writes<B: BitsMut>(rt: &impl Abort, bits: &mut B) {
 }
 
 fn sets_nothing<B: BitsMut>(rt: &impl Abort, bits: &mut B, index: u32) {
-    assert_eq!(rt; bits.bits_capacity(), 0);
+    assert!(rt; bits.bits_capacity() == 0);
     bits.set_bit(index);
     reads(rt, bits);
     bits.set_bit_in::<BigEndian>(index);
@@ -100,7 +101,7 @@ fn sets_nothing<B: BitsMut>(rt: &impl Abort, bits: &mut B, index: u32) {
 }
 
 fn clears_nothing<B: BitsMut>(rt: &impl Abort, bits: &mut B, index: u32) {
-    assert_eq!(rt; bits.bits_capacity(), 0);
+    assert!(rt; bits.bits_capacity() == 0);
     bits.clear_bit(index);
     reads(rt, bits);
     bits.clear_bit_in::<BigEndian>(index);
@@ -126,7 +127,7 @@ fn assigns_nothing<B: BitsMut>(rt: &impl Abort, bits: &mut B, other: &B) {
 
 // What each call of an owned type answers.
 fn owned<B: BitsOwned>(rt: &impl Abort) {
-    assert_eq!(rt; B::bits(), 0);
+    assert!(rt; B::bits() == 0);
     let (mut zeros, mut ones) = (B::zeros(), B::ones());
     writes(rt, &mut zeros);
     writes(rt, &mut ones);
@@ -168,19 +169,19 @@ fn makes_nothing_without<B: BitsOwned>(rt: &impl Abort, bits: B, index: u32)
 fn yields_no_owned_ones<B: BitsOwned>(rt: &impl Abort, bits: B)
     requires { IsTrue B.indexable }
 {
-    assert!(rt; is_over(bits.into_iter_ones()));
-    assert!(rt; is_over(bits.into_iter_ones_le()));
-    assert!(rt; is_over(bits.into_iter_ones_be()));
-    assert!(rt; is_over(bits.into_iter_ones().rev()));
+    holds!(rt; is_over(bits.into_iter_ones()));
+    holds!(rt; is_over(bits.into_iter_ones_le()));
+    holds!(rt; is_over(bits.into_iter_ones_be()));
+    holds!(rt; is_over(bits.into_iter_ones().rev()));
 }
 
 fn yields_no_owned_zeros<B: BitsOwned>(rt: &impl Abort, bits: B)
     requires { IsTrue B.indexable }
 {
-    assert!(rt; is_over(bits.into_iter_zeros()));
-    assert!(rt; is_over(bits.into_iter_zeros_le()));
-    assert!(rt; is_over(bits.into_iter_zeros_be()));
-    assert!(rt; is_over(bits.into_iter_zeros().rev()));
+    holds!(rt; is_over(bits.into_iter_zeros()));
+    holds!(rt; is_over(bits.into_iter_zeros_le()));
+    holds!(rt; is_over(bits.into_iter_zeros_be()));
+    holds!(rt; is_over(bits.into_iter_zeros().rev()));
 }
 
 // What each macro makes of any list.
@@ -236,7 +237,7 @@ fn vectors(rt: HostRuntime) -> Result<(), Fail> {
     slice::<u8>(&rt, &mut bytes[..], &mut others[..]);
     let mut arrays = four_arrays(rt.alloc())?;
     let mut others = four_arrays(rt.alloc())?;
-    assert_eq!(rt; (arrays.len(), others.len()), (4, 4));
+    same!(rt; (arrays.len(), others.len()), (4, 4));
     slice::<[u8; 0]>(&rt, &mut arrays[..], &mut others[..]);
     Ok(())
 }
@@ -265,10 +266,10 @@ fn lists(rt: HostRuntime) -> Result<(), Fail> {
     listed::<[[u8; 0]; 4]>(&rt);
     let bytes: [u8; 0] = set![0, 7, 100, 0..10, 0..=10, 0..];
     let set = Set::new(bytes);
-    assert_eq!(rt; format!(in rt.alloc(); "{set:?}")?.as_str(), "{}");
+    same!(rt; format!(in rt.alloc(); "{set:?}")?.as_str(), "{}");
     let arrays: [[u8; 0]; 4] = set![0, 7, 100, 0..10, 0..=10, 0..];
     let set = Set::new(arrays);
-    assert_eq!(rt; format!(in rt.alloc(); "{set:?}")?.as_str(), "{}");
+    same!(rt; format!(in rt.alloc(); "{set:?}")?.as_str(), "{}");
     Ok(())
 }
 
@@ -276,12 +277,12 @@ fn lists(rt: HostRuntime) -> Result<(), Fail> {
 fn comparisons(rt: HostRuntime) -> Result<(), Fail> {
     let (narrow, nested) = (Set::new([0u8; 0]), Set::new([[0u8; 0]; 4]));
     let none: [u8; 0] = [];
-    assert!(rt; narrow.eq_bits(&nested));
-    assert!(rt; narrow.eq_bits(&[0u128; 0]));
-    assert!(rt; narrow.eq_bits(&Set::from_ref(&none)));
-    assert_eq!(rt; narrow.cmp_bits(&Set::new(1u8)), Ordering::Less);
-    assert_eq!(rt; nested.cmp_bits(&Set::new(1u8)), Ordering::Less);
-    assert_eq!(rt; format!(in rt.alloc(); "{narrow:?}")?.as_str(), "{}");
-    assert_eq!(rt; format!(in rt.alloc(); "{nested:?}")?.as_str(), "{}");
+    holds!(rt; narrow.eq_bits(&nested));
+    holds!(rt; narrow.eq_bits(&[0u128; 0]));
+    holds!(rt; narrow.eq_bits(&Set::from_ref(&none)));
+    same!(rt; narrow.cmp_bits(&Set::new(1u8)), Ordering::Less);
+    same!(rt; nested.cmp_bits(&Set::new(1u8)), Ordering::Less);
+    same!(rt; format!(in rt.alloc(); "{narrow:?}")?.as_str(), "{}");
+    same!(rt; format!(in rt.alloc(); "{nested:?}")?.as_str(), "{}");
     Ok(())
 }
