@@ -171,10 +171,7 @@ pub trait Bits: Drop + Shape {
     }
 
     /// Returns the least index of an unset bit in `from..to`, in the order `E`, or `None` if there
-    /// is none.
-    ///
-    /// The shape has to fit, and `from <= to <= capacity`: nothing wraps. Only the words of the
-    /// range are read, up to the answer. With capacity 0 it returns `None`.
+    /// is none. All else is as with [`first_one_in`](Bits::first_one_in).
     ///
     /// ```
     /// [0x10u8, 0x01].first_zero_in::<BigEndian>(4, 16);   // Some(5)
@@ -192,10 +189,7 @@ pub trait Bits: Drop + Shape {
     }
 
     /// Returns the greatest index of a set bit in `from..to`, in the order `E`, or `None` if there
-    /// is none.
-    ///
-    /// The shape has to fit, and `from <= to <= capacity`: nothing wraps. Only the words of the
-    /// range are read, up to the answer. With capacity 0 it returns `None`.
+    /// is none. All else is as with [`first_one_in`](Bits::first_one_in).
     ///
     /// ```
     /// [0x10u8, 0x01].last_one_in::<BigEndian>(0, 8);      // Some(4)
@@ -213,10 +207,7 @@ pub trait Bits: Drop + Shape {
     }
 
     /// Returns the greatest index of an unset bit in `from..to`, in the order `E`, or `None` if
-    /// there is none.
-    ///
-    /// The shape has to fit, and `from <= to <= capacity`: nothing wraps. Only the words of the
-    /// range are read, up to the answer. With capacity 0 it returns `None`.
+    /// there is none. All else is as with [`first_one_in`](Bits::first_one_in).
     ///
     /// ```
     /// [0x10u8, 0x01].last_zero_in::<BigEndian>(0, 9);     // Some(7)
@@ -277,10 +268,7 @@ pub trait Bits: Drop + Shape {
     }
 
     /// Returns an iterator over the indexes of the unset bits below the capacity in the order `E`,
-    /// increasing, from both ends. The shape has to fit. With capacity 0 it yields nothing.
-    ///
-    /// The iterator borrows the set; of a slice it borrows the slice reference, which has to be
-    /// kept in a variable.
+    /// increasing, from both ends. All else is as with [`iter_ones_in`](Bits::iter_ones_in).
     ///
     /// ```
     /// 0b1101_0000u8.iter_zeros_in::<LittleEndian>();      // yields 2, 4, 5, 6, 7
