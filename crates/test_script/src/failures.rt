@@ -1,8 +1,7 @@
 //! How the program meets readers and writers that fail, by each kind of error and at each time.
 
 use crate::checks::same;
-use crate::streams::{Sink, Source};
-use bittle_script::run;
+use crate::streams::{Sink, Source, ran, status_into, status_of};
 use std::cmp::min;
 use std::io::ErrorKind;
 use std::process::Abort;
@@ -63,9 +62,9 @@ fn a_read_that_fails_is_not_made_again(rt: HostRuntime) {
         let mut input = Source::new(SCRIPT);
         input.end = Some(kind);
         let mut output = Sink::new();
-        same(&rt, run(&mut input, &mut output), 2);
-        same(&rt, output.text(), b"read failed\n");
-        same(&rt, input.calls, 2);
+        same!(rt; status_of(&mut input, &mut output), 2);
+        same!(rt; output.text(), b"read failed\n".as_slice());
+        same!(rt; input.calls, 2);
     }
 }
 
@@ -74,9 +73,9 @@ fn a_write_that_fails_is_not_made_again(rt: HostRuntime) {
     for kind in KINDS {
         let mut output = Sink::new();
         output.write_fault = Some(kind);
-        same(&rt, run(&mut Source::new(SCRIPT), &mut output), 1);
-        same(&rt, output.text(), b"");
-        same(&rt, (output.writes, output.flushes), (1, 0));
+        same!(rt; status_into(SCRIPT, &mut output), 1);
+        same!(rt; output.text(), b"".as_slice());
+        same!(rt; (output.writes, output.flushes), (1, 0));
     }
 }
 
@@ -87,9 +86,9 @@ fn a_flush_that_fails_is_not_made_again(rt: HostRuntime) {
             let mut output = Sink::new();
             output.interruptions = interruptions;
             output.flush_fault = Some(kind);
-            same(&rt, run(&mut Source::new(SCRIPT), &mut output), 1);
-            same(&rt, output.text(), PRINTED);
-            same(&rt, (output.writes, output.flushes), (1 + interruptions, 1));
+            same!(rt; status_into(SCRIPT, &mut output), 1);
+            same!(rt; output.text(), PRINTED);
+            same!(rt; (output.writes, output.flushes), (1 + interruptions, 1));
         }
     }
 }
@@ -99,9 +98,9 @@ fn a_flush_that_is_interrupted_after_a_write_was_fails(rt: HostRuntime) {
     let mut output = Sink::new();
     output.interruptions = 1;
     output.flush_fault = Some(ErrorKind::Interrupted);
-    same(&rt, run(&mut Source::new(SCRIPT), &mut output), 1);
-    same(&rt, output.text(), PRINTED);
-    same(&rt, (output.writes, output.flushes), (2, 1));
+    same!(rt; status_into(SCRIPT, &mut output), 1);
+    same!(rt; output.text(), PRINTED);
+    same!(rt; (output.writes, output.flushes), (2, 1));
 }
 
 #[test]
@@ -119,9 +118,9 @@ fn reads_that_are_interrupted_after_some_bytes_are_made_again(rt: HostRuntime) {
         input.sound = sound;
         input.later_interruptions = 3;
         let mut output = Sink::new();
-        same(&rt, run(&mut input, &mut output), 0);
-        same(&rt, output.text(), PRINTED);
-        same(&rt, input.calls, calls);
+        same!(rt; status_of(&mut input, &mut output), 0);
+        same!(rt; output.text(), PRINTED);
+        same!(rt; input.calls, calls);
     }
 }
 
@@ -132,9 +131,9 @@ fn writes_that_are_each_interrupted_are_made_again(rt: HostRuntime) {
         let mut output = Sink::new();
         output.most = most;
         output.stutters = true;
-        same(&rt, run(&mut Source::new(SCRIPT), &mut output), 0);
-        same(&rt, output.text(), PRINTED);
-        same(&rt, output.writes, writes);
+        same!(rt; status_into(SCRIPT, &mut output), 0);
+        same!(rt; output.text(), PRINTED);
+        same!(rt; output.writes, writes);
     }
 }
 
@@ -146,8 +145,8 @@ fn refuses_when_interrupted(rt: &impl Abort, input: &[u8], printed: &[u8]) {
             output.most = most;
             output.interruptions = interruptions;
             output.stutters = stutters;
-            same(rt, run(&mut Source::new(input), &mut output), 2);
-            same(rt, output.text(), printed);
+            same!(rt; status_into(input, &mut output), 2);
+            same!(rt; output.text(), printed);
         }
     }
 }
@@ -165,9 +164,9 @@ fn a_failed_read_is_told_after_interruptions(rt: HostRuntime) {
         input.end = Some(ErrorKind::TimedOut);
         let mut output = Sink::new();
         output.interruptions = interruptions;
-        same(&rt, run(&mut input, &mut output), 2);
-        same(&rt, output.text(), b"read failed\n");
-        same(&rt, output.writes, 1 + interruptions);
+        same!(rt; status_of(&mut input, &mut output), 2);
+        same!(rt; output.text(), b"read failed\n".as_slice());
+        same!(rt; output.writes, 1 + interruptions);
     }
 }
 
@@ -175,13 +174,8 @@ fn a_failed_read_is_told_after_interruptions(rt: HostRuntime) {
 fn reads_length(rt: &impl Abort, len: usize) {
     let mut text = [b'\n'; 4096];
     text[..13].copy_from_slice(b"be u8\ntest 0\n");
-    let mut output = Sink::new();
-    same(
-        rt,
-        run(&mut Source::new(&text[..min(len, 4096)]), &mut output),
-        0,
-    );
-    same(rt, output.text(), b"false\n");
+    let (status, output) = ran(&text[..min(len, 4096)]);
+    same!(rt; (len, status, output.text()), (len, 0, b"false\n".as_slice()));
 }
 
 #[test]

@@ -1,7 +1,7 @@
 //! Sets that are filled one by one, in each shape and both orders: their counts and their indexes.
 
 use crate::checks::same;
-use crate::streams::{Sink, Source, Tally};
+use crate::streams::{Source, Tally, ran};
 use bittle_script::run;
 use std::alloc::Global;
 use std::process::Abort;
@@ -44,9 +44,8 @@ fn fills(
     script.extend_from_slice(b"ones\n")?;
     let mut printed = Vec::from_slice(alloc, counts)?;
     printed.extend_from_slice(members)?;
-    let mut output = Sink::new();
-    same(rt, run(&mut Source::new(script.as_slice()), &mut output), 0);
-    same(rt, output.text(), printed.as_slice());
+    let (status, output) = ran(script.as_slice());
+    same!(rt; (status, output.text()), (0, printed.as_slice()));
     Ok(())
 }
 
@@ -91,11 +90,7 @@ fn writes_long_answers_in_17_pieces(rt: HostRuntime) -> Result<(), Fail> {
         writes: 0,
         bytes: 0,
     };
-    same(
-        &rt,
-        run(&mut Source::new(script.as_slice()), &mut output),
-        0,
-    );
-    same(&rt, (output.writes, output.bytes), (17, 66_564));
+    let status = run(&mut Source::new(script.as_slice()), &mut output);
+    same!(rt; (status, output.writes, output.bytes), (0, 17, 66_564));
     Ok(())
 }

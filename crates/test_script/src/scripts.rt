@@ -1,7 +1,8 @@
 //! What scripts print, and how the program meets bad readers and writers.
 
-use crate::streams::{Sink, Source};
-use bittle_script::run;
+use crate::checks::{holds, same};
+use crate::streams::{Sink, Source, ran, status_into, status_of};
+use std::alloc::{AllocError, Global};
 use std::io::ErrorKind;
 use std::test::Fail;
 
@@ -31,9 +32,8 @@ fn answers_scripts(rt: HostRuntime) {
         (b"be u8\n\r", b""),
     ];
     for (input, printed) in rows {
-        let mut output = Sink::new();
-        assert_eq!(rt; run(&mut Source::new(input), &mut output), 0, "{input:?}");
-        assert_eq!(rt; output.text(), printed, "{input:?}");
+        let (status, output) = ran(input);
+        same!(rt; (input, status, output.text()), (input, 0, printed));
     }
 }
 
@@ -66,9 +66,8 @@ fn refuses_the_first_bad_line(rt: HostRuntime) {
         ),
     ];
     for (input, printed) in rows {
-        let mut output = Sink::new();
-        assert_eq!(rt; run(&mut Source::new(input), &mut output), 2, "{input:?}");
-        assert_eq!(rt; output.text(), printed, "{input:?}");
+        let (status, output) = ran(input);
+        same!(rt; (input, status, output.text()), (input, 2, printed));
     }
 }
 
@@ -85,24 +84,29 @@ fn knows_each_shape_in_both_orders(rt: HostRuntime) -> Result<(), Fail> {
         for order in [b"be ", b"le "] {
             let mut input = Vec::from_slice(rt.alloc(), order)?;
             input.extend_from_slice(rest)?;
-            let mut output = Sink::new();
-            assert_eq!(rt; run(&mut Source::new(input.as_slice()), &mut output), 0);
-            assert_eq!(rt; output.text(), b"true\nfalse\n1\n".as_slice());
+            let (status, output) = ran(input.as_slice());
+            same!(rt; (status, output.text()), (0, b"true\nfalse\n1\n".as_slice()));
         }
     }
     Ok(())
 }
 
+/// Returns a script of a header, so many empty lines and a last line.
+fn spaced(alloc: Global, empty_lines: u32, last: &str) -> Result<Vec<u8>, AllocError> {
+    let mut text = Vec::from_slice(alloc, b"be u8\n")?;
+    for _ in 0..empty_lines {
+        text.push(b'\n')?;
+    }
+    text.extend_from_slice(last.as_bytes())?;
+    Ok(text)
+}
+
 #[test]
 fn reads_at_most_4096_bytes(rt: HostRuntime) -> Result<(), Fail> {
     for (empty_lines, status, printed) in [(4090, 0, ""), (4091, 2, "input too long\n")] {
-        let mut text = Vec::from_slice(rt.alloc(), b"be u8\n")?;
-        for _ in 0..empty_lines {
-            text.push(b'\n')?;
-        }
-        let mut output = Sink::new();
-        assert_eq!(rt; run(&mut Source::new(text.as_slice()), &mut output), status);
-        assert_eq!(rt; output.text(), printed.as_bytes());
+        let text = spaced(rt.alloc(), empty_lines, "")?;
+        let (ended, output) = ran(text.as_slice());
+        same!(rt; (ended, output.text()), (status, printed.as_bytes()));
     }
     Ok(())
 }
@@ -119,14 +123,9 @@ fn reads_texts_of_every_length(rt: HostRuntime) -> Result<(), Fail> {
         (4083, "test 0\n", 0, "false\n"),
         (4089, "s", 2, "line 4091: not understood\n"),
     ] {
-        let mut text = Vec::from_slice(rt.alloc(), b"be u8\n")?;
-        for _ in 0..empty_lines {
-            text.push(b'\n')?;
-        }
-        text.extend_from_slice(last.as_bytes())?;
-        let mut output = Sink::new();
-        assert_eq!(rt; run(&mut Source::new(text.as_slice()), &mut output), status);
-        assert_eq!(rt; output.text(), printed.as_bytes());
+        let text = spaced(rt.alloc(), empty_lines, last)?;
+        let (ended, output) = ran(text.as_slice());
+        same!(rt; (ended, output.text()), (status, printed.as_bytes()));
     }
     Ok(())
 }
@@ -140,17 +139,14 @@ fn makes_at_most_8192_reads(rt: HostRuntime) -> Result<(), Fail> {
         (4091, 4095, 2, "input too long\n"),
         (4091, 4096, 2, "read failed\n"),
     ] {
-        let mut text = Vec::from_slice(rt.alloc(), b"be u8\n")?;
-        for _ in 0..empty_lines {
-            text.push(b'\n')?;
-        }
+        let text = spaced(rt.alloc(), empty_lines, "")?;
         let mut input = Source::new(text.as_slice());
         input.interruptions = interruptions;
         input.most = 1;
         let mut output = Sink::new();
-        assert_eq!(rt; run(&mut input, &mut output), status);
-        assert_eq!(rt; output.text(), printed.as_bytes());
-        assert_eq!(rt; input.calls, 8192);
+        let ended = status_of(&mut input, &mut output);
+        same!(rt; (ended, output.text()), (status, printed.as_bytes()));
+        same!(rt; input.calls, 8192);
     }
     Ok(())
 }
@@ -160,17 +156,17 @@ fn gives_up_on_bad_readers(rt: HostRuntime) {
     let mut torn = Source::new(b"be u8\n");
     torn.end = Some(ErrorKind::ConnectionReset);
     let mut output = Sink::new();
-    assert_eq!(rt; run(&mut torn, &mut output), 2);
-    assert_eq!(rt; output.text(), b"read failed\n".as_slice());
+    same!(rt; status_of(&mut torn, &mut output), 2);
+    same!(rt; output.text(), b"read failed\n".as_slice());
     // The read that fails comes after the first bytes, and is not made again.
-    assert_eq!(rt; torn.calls, 2);
+    same!(rt; torn.calls, 2);
 
     let mut interrupted = Source::new(b"be u8\n");
     interrupted.interruptions = u32::MAX;
     output = Sink::new();
-    assert_eq!(rt; run(&mut interrupted, &mut output), 2);
-    assert_eq!(rt; output.text(), b"read failed\n".as_slice());
-    assert_eq!(rt; interrupted.calls, 8192);
+    same!(rt; status_of(&mut interrupted, &mut output), 2);
+    same!(rt; output.text(), b"read failed\n".as_slice());
+    same!(rt; interrupted.calls, 8192);
 }
 
 #[test]
@@ -184,10 +180,10 @@ fn writes_all_to_slow_writers(rt: HostRuntime) {
         let mut output = Sink::new();
         output.most = most;
         output.interruptions = interruptions;
-        assert_eq!(rt; run(&mut Source::new(SCRIPT), &mut output), 0);
-        assert_eq!(rt; output.text(), PRINTED);
-        assert_eq!(rt; output.writes, writes);
-        assert_eq!(rt; (output.flushes, output.is_flushed), (1, true));
+        same!(rt; status_into(SCRIPT, &mut output), 0);
+        same!(rt; output.text(), PRINTED);
+        same!(rt; output.writes, writes);
+        same!(rt; (output.flushes, output.is_flushed), (1, true));
     }
 }
 
@@ -200,11 +196,9 @@ fn writes_4096_bytes_at_once(rt: HostRuntime) -> Result<(), Fail> {
         for _ in 0..lines {
             text.extend_from_slice(b"ones\n")?;
         }
-        let mut output = Sink::new();
-        assert_eq!(rt; run(&mut Source::new(text.as_slice()), &mut output), 0);
-        assert_eq!(rt; output.writes, writes);
-        assert_eq!(rt; output.text().len(), len);
-        assert!(rt; output.text().is_empty() || output.text().ends_with(b"0 1 2 3 4 5 6 7\n"));
+        let (status, output) = ran(text.as_slice());
+        same!(rt; (status, output.writes, output.text().len()), (0, writes, len));
+        holds!(rt; output.text().is_empty() || output.text().ends_with(b"0 1 2 3 4 5 6 7\n"));
     }
     Ok(())
 }
@@ -226,9 +220,9 @@ fn gives_up_on_bad_writers(rt: HostRuntime) {
         output.interruptions = interruptions;
         output.write_fault = write_fault;
         output.flush_fault = flush_fault;
-        assert_eq!(rt; run(&mut Source::new(SCRIPT), &mut output), 1);
-        assert_eq!(rt; output.text(), printed);
-        assert_eq!(rt; (output.writes, output.flushes), (writes, flushes));
+        same!(rt; status_into(SCRIPT, &mut output), 1);
+        same!(rt; output.text(), printed);
+        same!(rt; (output.writes, output.flushes), (writes, flushes));
     }
 }
 
@@ -240,9 +234,9 @@ fn gives_up_on_a_write_that_fails_midway(rt: HostRuntime) {
         output.most = most;
         output.sound = sound;
         output.write_fault = Some(ErrorKind::BrokenPipe);
-        assert_eq!(rt; run(&mut Source::new(SCRIPT), &mut output), 1);
-        assert_eq!(rt; output.text(), printed);
-        assert_eq!(rt; (output.writes, output.flushes), (2, 0));
+        same!(rt; status_into(SCRIPT, &mut output), 1);
+        same!(rt; output.text(), printed);
+        same!(rt; (output.writes, output.flushes), (2, 0));
     }
 }
 
@@ -255,9 +249,9 @@ fn counts_interrupted_writes_of_the_whole_run(rt: HostRuntime) {
         output.interruptions = 4096;
         output.sound = 6;
         output.later_interruptions = later;
-        assert_eq!(rt; run(&mut Source::new(SCRIPT), &mut output), status);
-        assert_eq!(rt; output.text(), printed);
-        assert_eq!(rt; output.writes, 8193);
+        same!(rt; status_into(SCRIPT, &mut output), status);
+        same!(rt; output.text(), printed);
+        same!(rt; output.writes, 8193);
     }
 }
 
@@ -269,8 +263,8 @@ fn writes_long_texts_after_an_interruption(rt: HostRuntime) {
         output.interruptions = 1;
         output.sound = 9;
         output.later_interruptions = 1;
-        assert_eq!(rt; run(&mut Source::new(b"be u8\nse"), &mut output), 2);
-        assert_eq!(rt; output.text(), b"line 2: not understood\n".as_slice());
+        same!(rt; status_into(b"be u8\nse", &mut output), 2);
+        same!(rt; output.text(), b"line 2: not understood\n".as_slice());
     }
 }
 
@@ -278,8 +272,7 @@ fn writes_long_texts_after_an_interruption(rt: HostRuntime) {
 fn flushes_once_where_it_refuses(rt: HostRuntime) {
     let rows: [&[u8]; 2] = [b"be u8\nse", b""];
     for input in rows {
-        let mut output = Sink::new();
-        assert_eq!(rt; run(&mut Source::new(input), &mut output), 2);
-        assert_eq!(rt; (output.flushes, output.is_flushed), (1, true));
+        let (status, output) = ran(input);
+        same!(rt; (status, output.flushes, output.is_flushed), (2, 1, true));
     }
 }

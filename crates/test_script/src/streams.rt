@@ -1,6 +1,7 @@
 //! Readers and writers that fail in the ways that a test asks for.
 ghost use Rattle.std.specs.Prelude.{◌≤◌, length};
 
+use bittle_script::run;
 use std::cmp::min;
 use std::io;
 use std::io::{Error, ErrorKind, Read, Write};
@@ -180,4 +181,21 @@ impl Write for Tally {
     fn flush(&mut self) -> io::Result<()> {
         Ok(())
     }
+}
+
+/// Runs the program, and returns its status.
+pub fn status_of(input: &mut Source<'_>, output: &mut Sink) -> u8 {
+    run(input, output)
+}
+
+/// Runs a script into an output, and returns the status.
+pub fn status_into(script: &[u8], output: &mut Sink) -> u8 {
+    run(&mut Source::new(script), output)
+}
+
+/// Runs a script, and returns the status and what got the answers.
+pub fn ran(script: &[u8]) -> (u8, Sink) {
+    let mut output = Sink::new();
+    let status = run(&mut Source::new(script), &mut output);
+    (status, output)
 }
