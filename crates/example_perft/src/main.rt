@@ -97,5 +97,9 @@ fn main(rt: HostRuntime) -> io::Result<()> {
         let games = count_games(start, moves);
         println!(rt; "{moves} moves: {games} games")?;
     }
+    if let Some(next) = start.play(4) {
+        let is_refused = next.play(4).is_none();
+        println!(rt; "a second stone on square 4 is refused: {is_refused}")?;
+    }
     Ok(())
 }

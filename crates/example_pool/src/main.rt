@@ -66,7 +66,7 @@ fn main(rt: HostRuntime) -> io::Result<()> {
             None => println!(rt; "no {pages} free pages in a row")?,
         }
     }
-    for (first, pages) in [(60, 10), (60, 1), (128, 1)] {
+    for (first, pages) in [(60, 10), (59, 2), (128, 1)] {
         let released = pool.release(first, pages);
         println!(rt; "release of {pages} pages from {first} on: {released}")?;
     }
