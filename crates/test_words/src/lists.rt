@@ -1,21 +1,25 @@
 //! Lists, and the sets that they make.
 
+ghost use Rattle.std.specs.Prelude.{IsTrue};
+
 use crate::checks::{holds, same};
 use bittle::prelude::*;
 use bittle::{LittleEndian, Set, set, set_be, set_le};
 
+// One list in the order of the type, in little-endian and in big-endian order.
+fn three_indexes() -> [u8; 3] {
+    [set![0, 1, 3], set_le![0, 1, 3], set_be![0, 1, 3]]
+}
+
 #[test]
 fn words_of_lists(rt: HostRuntime) {
     let index = 4;
+    let [indexes, little, big] = three_indexes();
     let lists: [(&str, u8, u8); 5] = [
         ("no items", set![], 0),
-        ("indexes", set![0, 1, 3], 0b0000_1011),
-        (
-            "indexes in little-endian order",
-            set_le![0, 1, 3],
-            0b1101_0000,
-        ),
-        ("indexes in big-endian order", set_be![0, 1, 3], 0b0000_1011),
+        ("indexes", indexes, 0b0000_1011),
+        ("indexes in little-endian order", little, 0b1101_0000),
+        ("indexes in big-endian order", big, 0b0000_1011),
         ("an expression", set![index / 2, index + 1], 0b0010_0100),
     ];
     for (list, word, want) in lists {
@@ -51,26 +55,29 @@ fn words_of_indexes_beside_others_of_their_form(rt: HostRuntime) {
     );
 }
 
+// A closed and an open range in the order of the type, in little-endian and in big-endian order.
+fn two_ranges() -> [u8; 3] {
+    [set![0..=4, 6..], set_le![0..=4, 6..], set_be![0..=4, 6..]]
+}
+
+// Ranges that end before they start.
+fn reversed_ranges() -> u8 {
+    set_le![5..=4, 255..=0, 3..3]
+}
+
 #[test]
 fn words_of_ranges(rt: HostRuntime) {
+    let [ranges, little, big] = two_ranges();
     let lists: [(&str, u8, u8); 6] = [
-        ("ranges", set![0..=4, 6..], 0b1101_1111),
-        (
-            "ranges in little-endian order",
-            set_le![0..=4, 6..],
-            0b1111_1011,
-        ),
-        (
-            "ranges in big-endian order",
-            set_be![0..=4, 6..],
-            0b1101_1111,
-        ),
+        ("ranges", ranges, 0b1101_1111),
+        ("ranges in little-endian order", little, 0b1111_1011),
+        ("ranges in big-endian order", big, 0b1101_1111),
         (
             "a wrapped index, a reversed range and a comma at the end",
             set![9, 5..2, 7,],
             0b1000_0010,
         ),
-        ("reversed ranges", set_le![5..=4, 255..=0, 3..3], 0),
+        ("reversed ranges", reversed_ranges(), 0),
         ("one index as a range", set![3..=3], 0b0000_1000),
     ];
     for (list, word, want) in lists {
@@ -78,16 +85,22 @@ fn words_of_ranges(rt: HostRuntime) {
     }
 }
 
+// Ranges that end at the greatest index, or before it.
+fn far_ranges() -> [u8; 3] {
+    [
+        set![0..=4294967295],
+        set![0..4294967295],
+        set![4294967290..=4294967295],
+    ]
+}
+
 #[test]
 fn words_of_ranges_past_the_capacity(rt: HostRuntime) {
+    let [each, but_the_last, the_last] = far_ranges();
     let lists: [(&str, u8, u8); 6] = [
-        ("each index", set![0..=4294967295], 255),
-        ("each index but the last", set![0..4294967295], 255),
-        (
-            "the last indexes",
-            set![4294967290..=4294967295],
-            0b1111_1100,
-        ),
+        ("each index", each, 255),
+        ("each index but the last", but_the_last, 255),
+        ("the last indexes", the_last, 0b1111_1100),
         ("from past the capacity", set![9..], 0),
         ("across the capacity", set![6..10], 195),
         (
@@ -101,30 +114,57 @@ fn words_of_ranges_past_the_capacity(rt: HostRuntime) {
     }
 }
 
+// The set of 1 and 12, by a list and by calls.
+fn listed_and_called<B: BitsOwned>() -> (B, B)
+    requires { IsTrue B.indexable }
+{
+    (set![1, 12], B::zeros().with_bit(1).with_bit(12))
+}
+
+// Two arrays of a list.
+fn listed_arrays() -> ([u16; 2], [u8; 2]) {
+    (set![31, 7], set_le![7, 11])
+}
+
+// How many indexes of an array of a list are set, and how many are not.
+fn counts_of_three() -> (u32, u32) {
+    let bytes: [u8; 2] = set![4, 11, 14];
+    (bytes.count_ones(), bytes.count_zeros())
+}
+
 #[test]
 fn other_types(rt: HostRuntime) {
     let signed: i8 = set_le![0];
     same!(rt; signed, i8::MIN);
-    let remembered: Set<u16, LittleEndian> = set![1, 12];
-    same!(rt; remembered.into_bits(), 0b0100_0000_0000_1000);
-    holds!(rt; remembered == Set::zeros().with_bit(1).with_bit(12));
-    let words: [u16; 2] = set![31, 7];
-    same!(rt; words, [128, 32768]);
-    let mirrored: [u8; 2] = set_le![7, 11];
-    same!(rt; mirrored, [1, 16]);
-    let bytes: [u8; 2] = set![4, 11, 14];
-    same!(rt; (bytes.count_ones(), bytes.count_zeros()), (3, 13));
+    let (listed, called) = listed_and_called::<Set<u16, LittleEndian>>();
+    same!(rt; listed.into_bits(), 0b0100_0000_0000_1000);
+    holds!(rt; listed == called);
+    same!(rt; listed_arrays(), ([128, 32768], [1, 16]));
+    same!(rt; counts_of_three(), (3, 13));
+}
+
+// Indexes and ranges of which each kind stands before each other, in the order of the type.
+fn mixed(index: u32, slot: u32) -> [u32; 4] {
+    set![120.., index, 34..=36, 66..68, slot]
+}
+
+// The same in big-endian order.
+fn mixed_be(index: u32, slot: u32) -> [u32; 4] {
+    set_be![120.., index, 34..=36, 66..68, slot]
+}
+
+// The same in little-endian order.
+fn mixed_le(index: u32, slot: u32) -> [u32; 4] {
+    set_le![120.., index, 34..=36, 66..68, slot]
 }
 
 #[test]
 fn each_item_before_another(rt: HostRuntime) {
     let (index, slot) = (0, 97);
-    let words: [u32; 4] = set![120.., index, 34..=36, 66..68, slot];
-    same!(rt; words, [1, 0b1_1100, 0b1100, 0xFF00_0002]);
-    let words: [u32; 4] = set_be![120.., index, 34..=36, 66..68, slot];
-    same!(rt; words, [1, 0b1_1100, 0b1100, 0xFF00_0002]);
-    let words: [u32; 4] = set_le![120.., index, 34..=36, 66..68, slot];
-    same!(rt; words, [0x8000_0000, 0x3800_0000, 0x3000_0000, 0x4000_00FF]);
+    same!(rt; mixed(index, slot), [1, 0b1_1100, 0b1100, 0xFF00_0002]);
+    same!(rt; mixed_be(index, slot), [1, 0b1_1100, 0b1100, 0xFF00_0002]);
+    let little = [0x8000_0000, 0x3800_0000, 0x3000_0000, 0x4000_00FF];
+    same!(rt; mixed_le(index, slot), little);
 }
 
 #[test]
@@ -138,18 +178,23 @@ fn each_item_at_the_end(rt: HostRuntime) {
     same!(rt; word, 0b1010_1101);
 }
 
+// Open ranges from 0 in the order of the type, in little-endian and in big-endian order.
+fn full() -> [[u32; 4]; 3] {
+    [set![0..], set_le![0..], set_be![0..]]
+}
+
+// Open ranges from another index, in the same orders.
+fn open() -> [[u32; 4]; 3] {
+    [set![100..], set_le![100..], set_be![100.., 33..]]
+}
+
 #[test]
 fn open_ranges_in_shapes_of_several_words(rt: HostRuntime) {
-    let words: [u32; 4] = set![0..];
-    same!(rt; words, [u32::MAX; 4]);
-    let words: [u32; 4] = set_le![0..];
-    same!(rt; words, [u32::MAX; 4]);
-    let words: [u32; 4] = set_be![0..];
-    same!(rt; words, [u32::MAX; 4]);
-    let words: [u32; 4] = set![100..];
-    same!(rt; words, [0, 0, 0, 0xFFFF_FFF0]);
-    let words: [u32; 4] = set_le![100..];
-    same!(rt; words, [0, 0, 0, 0x0FFF_FFFF]);
-    let words: [u32; 4] = set_be![100.., 33..];
-    same!(rt; words, [0, 0xFFFF_FFFE, u32::MAX, u32::MAX]);
+    same!(rt; full(), [[u32::MAX; 4]; 3]);
+    let expected = [
+        [0, 0, 0, 0xFFFF_FFF0],
+        [0, 0, 0, 0x0FFF_FFFF],
+        [0, 0xFFFF_FFFE, u32::MAX, u32::MAX],
+    ];
+    same!(rt; open(), expected);
 }

@@ -1,5 +1,7 @@
 //! Operations on two sets, and changes of owned sets, with values worked out by hand.
 
+ghost use Rattle.std.specs.Prelude.{IsTrue};
+
 use crate::checks::{holds, same};
 use bittle::prelude::*;
 use bittle::{LittleEndian, set, set_le};
@@ -47,40 +49,54 @@ fn unions_change_the_common_beginning_alone(rt: HostRuntime) {
     same!(rt; short, [0x0F, 0x00]);
 }
 
+// What the operations make of two sets: the union, the conjunction, what is in the first alone, what
+// is in the second alone, and what is in just one.
+fn operations_of<B: BitsOwned>(one: B, other: B) -> [B; 5] {
+    [
+        one.union(other),
+        one.conjunction(other),
+        one.difference(other),
+        other.difference(one),
+        one.symmetric_difference(other),
+    ]
+}
+
 #[test]
 fn operations_on_words(rt: HostRuntime) {
     let (a, b): (u128, u128) = (set![31, 67], set![31, 62]);
-    same!(rt; a.union(b), set![31, 62, 67]);
-    same!(rt; a.conjunction(b), set![31]);
-    same!(rt; a.difference(b), set![67]);
-    same!(rt; a.symmetric_difference(b), set![62, 67]);
+    let expected = [set![31, 62, 67], set![31], set![67], set![62], set![62, 67]];
+    same!(rt; operations_of(a, b), expected);
 }
 
 #[test]
 fn operations_on_words_in_little_endian_order(rt: HostRuntime) {
     let (a, b): (u128, u128) = (set_le![31, 67], set_le![31, 62]);
-    same!(rt; a.union(b), 1 << 96 | 1 << 65 | 1 << 60);
-    same!(rt; a.conjunction(b), 1 << 96);
-    same!(rt; a.difference(b), 1 << 60);
-    same!(rt; a.symmetric_difference(b), 1 << 65 | 1 << 60);
+    let expected = [
+        1 << 96 | 1 << 65 | 1 << 60,
+        1 << 96,
+        1 << 60,
+        1 << 65,
+        1 << 65 | 1 << 60,
+    ];
+    same!(rt; operations_of(a, b), expected);
 }
 
 #[test]
 fn operations_on_signed_words(rt: HostRuntime) {
-    let (a, b) = (-128i8, -127i8);
-    same!(rt; a.union(b), -127);
-    same!(rt; a.conjunction(b), -128);
-    same!(rt; b.difference(a), 1);
-    same!(rt; a.symmetric_difference(b), 1);
+    same!(rt; operations_of(-128i8, -127i8), [-127, -128, 0, 1, 1]);
 }
 
 #[test]
 fn operations_on_nested_arrays(rt: HostRuntime) {
     let (a, b) = ([[1u8, 2], [4, 0xF0]], [[3u8, 0], [4, 0x0F]]);
-    same!(rt; a.union(b), [[3, 2], [4, 0xFF]]);
-    same!(rt; a.conjunction(b), [[1, 0], [4, 0]]);
-    same!(rt; a.difference(b), [[0, 2], [0, 0xF0]]);
-    same!(rt; a.symmetric_difference(b), [[2, 2], [0, 0xFF]]);
+    let expected = [
+        [[3, 2], [4, 0xFF]],
+        [[1, 0], [4, 0]],
+        [[0, 2], [0, 0xF0]],
+        [[2, 0], [0, 0x0F]],
+        [[2, 2], [0, 0xFF]],
+    ];
+    same!(rt; operations_of(a, b), expected);
 }
 
 #[test]
@@ -95,14 +111,32 @@ fn words_with_and_without_an_index(rt: HostRuntime) {
     same!(rt; 0i128.with_bit_le(u32::MAX), 1);
 }
 
+// The set with one index in big-endian order and with another in little-endian order.
+fn with_each_way<B: BitsOwned>(bits: B, big: u32, little: u32) -> B
+    requires { IsTrue B.indexable }
+{
+    bits.with_bit_be(big).with_bit_le(little)
+}
+
+// The set with an index.
+fn with_one<B: BitsOwned>(bits: B, index: u32) -> B
+    requires { IsTrue B.indexable }
+{
+    bits.with_bit(index)
+}
+
+// Whether the set with an index and without another is empty.
+fn is_empty_with_and_without<B: BitsOwned>(bits: B, with: u32, without: u32) -> bool
+    requires { IsTrue B.indexable }
+{
+    bits.with_bit(with).without_bit_le(without).all_zeros()
+}
+
 #[test]
 fn arrays_with_and_without_an_index(rt: HostRuntime) {
-    same!(rt;
-        [[0u8; 2]; 2].with_bit_be(13).with_bit_le(16),
-        [[0, 0x20], [0x80, 0]]
-    );
+    same!(rt; with_each_way([[0u8; 2]; 2], 13, 16), [[0, 0x20], [0x80, 0]]);
     same!(rt; [0u8; 7].with_bit(u32::MAX), [0, 0, 0, 128, 0, 0, 0]);
     same!(rt; [0u8; 7].with_bit_le(u32::MAX), [0, 0, 0, 1, 0, 0, 0]);
-    same!(rt; [[0u8; 3]; 2].with_bit(u32::MAX), [[0, 128, 0], [0, 0, 0]]);
-    holds!(rt; [[0u8; 0]; 4].with_bit(7).without_bit_le(9).all_zeros());
+    same!(rt; with_one([[0u8; 3]; 2], u32::MAX), [[0, 128, 0], [0, 0, 0]]);
+    holds!(rt; is_empty_with_and_without([[0u8; 0]; 4], 7, 9));
 }

@@ -1,6 +1,6 @@
 //! Ranges that macros list, those that are set, cleared and flipped, and counts of a range.
 
-ghost use Rattle.std.specs.Prelude.{◌≤◌};
+ghost use Rattle.std.specs.Prelude.{◌≤◌, IsTrue};
 ghost use Rattle.bittle.specs.Values.{ShapeFits};
 
 use crate::checks::{holds, same};
@@ -41,70 +41,78 @@ fn ranges_in_signed_words(rt: HostRuntime) {
     same!(rt; wide, 0xFFFF_FFFF_FFFF_FFFF_0000_0000_0000_0000);
 }
 
+// Ranges in the first word, over a border and of whole words.
+fn in_three_words() -> [[u8; 3]; 4] {
+    [set![3..6], set![5..18], set![0..8], set![8..16]]
+}
+
+// Ranges over one border, in the last word and of no index.
+fn at_borders() -> [[u8; 3]; 4] {
+    [set![7..9], set![16..24], set![23..=23], set![8..8]]
+}
+
 #[test]
 fn ranges_in_three_words(rt: HostRuntime) {
-    let rows: [([u8; 3], [u8; 3]); 8] = [
-        (set![3..6], [0x38, 0, 0]),
-        (set![5..18], [0xE0, 0xFF, 0x03]),
-        (set![0..8], [0xFF, 0, 0]),
-        (set![8..16], [0, 0xFF, 0]),
-        (set![7..9], [0x80, 1, 0]),
-        (set![16..24], [0, 0, 0xFF]),
-        (set![23..=23], [0, 0, 0x80]),
-        (set![8..8], [0, 0, 0]),
-    ];
-    for (row, want) in rows {
-        same!(rt; row, want);
-    }
+    let expected = [[0x38, 0, 0], [0xE0, 0xFF, 0x03], [0xFF, 0, 0], [0, 0xFF, 0]];
+    same!(rt; in_three_words(), expected);
+    let expected = [[0x80, 1, 0], [0, 0, 0xFF], [0, 0, 0x80], [0, 0, 0]];
+    same!(rt; at_borders(), expected);
+}
+
+// Ranges in little-endian order in the first word, over a border and of a whole word.
+fn mirrored_in_three_words() -> [[u8; 3]; 3] {
+    [set_le![3..6], set_le![5..18], set_le![8..16]]
+}
+
+// Ranges in little-endian order over one border and in the last word, and one in big-endian order.
+fn mirrored_at_borders() -> [[u8; 3]; 3] {
+    [set_le![7..9], set_le![23..=23], set_be![5..18]]
 }
 
 #[test]
 fn ranges_in_three_words_mirrored(rt: HostRuntime) {
-    let rows: [([u8; 3], [u8; 3]); 6] = [
-        (set_le![3..6], [0x1C, 0, 0]),
-        (set_le![5..18], [0x07, 0xFF, 0xC0]),
-        (set_le![8..16], [0, 0xFF, 0]),
-        (set_le![7..9], [1, 0x80, 0]),
-        (set_le![23..=23], [0, 0, 1]),
-        (set_be![5..18], [0xE0, 0xFF, 0x03]),
-    ];
-    for (row, want) in rows {
-        same!(rt; row, want);
-    }
+    let expected = [[0x1C, 0, 0], [0x07, 0xFF, 0xC0], [0, 0xFF, 0]];
+    same!(rt; mirrored_in_three_words(), expected);
+    let expected = [[1, 0x80, 0], [0, 0, 1], [0xE0, 0xFF, 0x03]];
+    same!(rt; mirrored_at_borders(), expected);
+}
+
+// Ranges that end past the capacity.
+fn past_the_capacity() -> [[u8; 2]; 3] {
+    [set![12..20], set![28..36], set_le![12..20]]
+}
+
+// A range of the last index and the first, and one of the greatest indexes.
+fn past_the_last() -> [[u8; 2]; 2] {
+    [set![15..=16], set![4294967290..=4294967295]]
+}
+
+// The same with a capacity that is no power of two.
+fn past_three_words() -> [[u8; 3]; 2] {
+    [set![20..28], set![4294967290..=4294967295]]
 }
 
 #[test]
 fn ranges_that_wrap(rt: HostRuntime) {
-    let rows: [([u8; 2], [u8; 2]); 5] = [
-        (set![12..20], [0x0F, 0xF0]),
-        (set![28..36], [0x0F, 0xF0]),
-        (set_le![12..20], [0xF0, 0x0F]),
-        (set![15..=16], [1, 0x80]),
-        (set![4294967290..=4294967295], [0, 0xFC]),
-    ];
-    for (row, want) in rows {
-        same!(rt; row, want);
-    }
-    let row: [u8; 3] = set![20..28];
-    same!(rt; row, [0x0F, 0, 0xF0]);
-    let row: [u8; 3] = set![4294967290..=4294967295];
-    same!(rt; row, [0, 0xFC, 0]);
+    same!(rt; past_the_capacity(), [[0x0F, 0xF0], [0x0F, 0xF0], [0xF0, 0x0F]]);
+    same!(rt; past_the_last(), [[1, 0x80], [0, 0xFC]]);
+    same!(rt; past_three_words(), [[0x0F, 0, 0xF0], [0, 0xFC, 0]]);
+}
+
+// Ranges of as many indexes as the capacity, or more.
+fn all_indexes() -> [[u8; 2]; 4] {
+    [set![5..50], set![5..21], set![0..16], set![0..=4294967295]]
+}
+
+// Ranges of one index less than the capacity.
+fn all_but_one() -> [[u8; 2]; 3] {
+    [set![5..20], set_le![5..20], set![1..16]]
 }
 
 #[test]
 fn ranges_as_long_as_the_capacity(rt: HostRuntime) {
-    let rows: [([u8; 2], [u8; 2]); 7] = [
-        (set![5..50], [255, 255]),
-        (set![5..21], [255, 255]),
-        (set![0..16], [255, 255]),
-        (set![5..20], [0xEF, 0xFF]),
-        (set_le![5..20], [0xF7, 0xFF]),
-        (set![0..=4294967295], [255, 255]),
-        (set![1..16], [0xFE, 0xFF]),
-    ];
-    for (row, want) in rows {
-        same!(rt; row, want);
-    }
+    same!(rt; all_indexes(), [[255, 255]; 4]);
+    same!(rt; all_but_one(), [[0xEF, 0xFF], [0xF7, 0xFF], [0xFE, 0xFF]]);
 }
 
 #[test]
@@ -119,18 +127,29 @@ fn ranges_in_long_rows(rt: HostRuntime) {
     same!(rt; words, [0x8000_0000_0000_0000, 1]);
 }
 
+// Ranges over borders of inner and outer elements.
+fn in_nested_rows<B: BitsOwned>() -> [B; 5]
+    requires { IsTrue B.indexable }
+{
+    [
+        set![6..20],
+        set_le![6..20],
+        set![28..36],
+        set![16..32],
+        set![9..11],
+    ]
+}
+
 #[test]
 fn ranges_in_nested_rows(rt: HostRuntime) {
-    let rows: [([[u8; 2]; 2], [[u8; 2]; 2]); 5] = [
-        (set![6..20], [[0xC0, 0xFF], [0x0F, 0]]),
-        (set_le![6..20], [[0x03, 0xFF], [0xF0, 0]]),
-        (set![28..36], [[0x0F, 0], [0, 0xF0]]),
-        (set![16..32], [[0, 0], [0xFF, 0xFF]]),
-        (set![9..11], [[0, 0x06], [0, 0]]),
+    let expected = [
+        [[0xC0, 0xFF], [0x0F, 0]],
+        [[0x03, 0xFF], [0xF0, 0]],
+        [[0x0F, 0], [0, 0xF0]],
+        [[0, 0], [0xFF, 0xFF]],
+        [[0, 0x06], [0, 0]],
     ];
-    for (row, want) in rows {
-        same!(rt; row, want);
-    }
+    same!(rt; in_nested_rows::<[[u8; 2]; 2]>(), expected);
 }
 
 #[test]

@@ -2,7 +2,7 @@
 
 ghost use Rattle.std.specs.Prelude.{◌<◌, IsTrue};
 
-use crate::checks::holds;
+use crate::checks::{holds, same};
 use bittle::number::{IterOnes, IterZeros};
 use bittle::prelude::*;
 use bittle::{BigEndian, Endian, LittleEndian};
@@ -80,10 +80,26 @@ fn walks<T: Word, E: Endian>(rt: &impl Abort, word: T, members: u8) {
 }
 
 fn searches<T: Word, E: Endian>(rt: &impl Abort, word: T, members: u8) {
-    let (least, below_greatest) = (members.trailing_zeros(), members.leading_zeros());
-    holds!(rt; E::zeros(word) == least && E::zeros_rev(word) == below_greatest);
-    let (least, below_greatest) = (members.trailing_ones(), members.leading_ones());
-    holds!(rt; E::ones(word) == least && E::ones_rev(word) == below_greatest);
+    same!(rt; searches_of_zeros::<T, E>(word), zeros_at_the_ends(members));
+    same!(rt; searches_of_ones::<T, E>(word), ones_at_the_ends(members));
+}
+
+fn searches_of_zeros<T: Word, E: Endian>(word: T) -> (u32, u32) {
+    (E::zeros(word), E::zeros_rev(word))
+}
+
+fn searches_of_ones<T: Word, E: Endian>(word: T) -> (u32, u32) {
+    (E::ones(word), E::ones_rev(word))
+}
+
+// How many digits below the least set one, and above the greatest.
+fn zeros_at_the_ends(members: u8) -> (u32, u32) {
+    (members.trailing_zeros(), members.leading_zeros())
+}
+
+// How many digits below the least unset one, and above the greatest.
+fn ones_at_the_ends(members: u8) -> (u32, u32) {
+    (members.trailing_ones(), members.leading_ones())
 }
 
 fn walks_from_the_front<T: Word, E: Endian>(rt: &impl Abort, word: T, members: u8) {

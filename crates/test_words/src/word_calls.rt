@@ -73,26 +73,28 @@ fn clones_go_on_from_their_source(rt: HostRuntime) {
     holds!(rt; source.clone().unwrap().eq([13, 14, 15]));
 }
 
+// Whether the ones of a word in little-endian order are these from the last on.
+fn are_ones_reversed<T: Word>(word: T, items: &[u32]) -> bool {
+    IterOnes::<T, LittleEndian>::new(word)
+        .rev()
+        .eq(items.iter().copied())
+}
+
+// Whether the zeros of a word in little-endian order are these from the last on.
+fn are_zeros_reversed<T: Word>(word: T, items: &[u32]) -> bool {
+    IterZeros::<T, LittleEndian>::new(word)
+        .rev()
+        .eq(items.iter().copied())
+}
+
 #[test]
 fn signed_words_from_the_back(rt: HostRuntime) {
-    holds!(rt;
-        IterOnes::<i8, LittleEndian>::new(-2)
-            .rev()
-            .eq([6, 5, 4, 3, 2, 1, 0])
-    );
-    holds!(rt; IterOnes::<i16, LittleEndian>::new(-32767).rev().eq([15, 0]));
-    holds!(rt; IterZeros::<i32, LittleEndian>::new(-4).rev().eq([31, 30]));
-    holds!(rt;
-        IterOnes::<i64, LittleEndian>::new(i64::MIN + 3)
-            .rev()
-            .eq([63, 62, 0])
-    );
-    holds!(rt; IterOnes::<i128, LittleEndian>::new(5).rev().eq([127, 125]));
-    holds!(rt;
-        IterZeros::<isize, LittleEndian>::new(isize::MAX)
-            .rev()
-            .eq([0])
-    );
+    holds!(rt; are_ones_reversed(-2i8, &[6, 5, 4, 3, 2, 1, 0]));
+    holds!(rt; are_ones_reversed(-32767i16, &[15, 0]));
+    holds!(rt; are_zeros_reversed(-4i32, &[31, 30]));
+    holds!(rt; are_ones_reversed(i64::MIN + 3, &[63, 62, 0]));
+    holds!(rt; are_ones_reversed(5i128, &[127, 125]));
+    holds!(rt; are_zeros_reversed(isize::MAX, &[0]));
 }
 
 #[test]
@@ -139,13 +141,22 @@ fn at_borders<T: Word + Bits>(rt: &impl Abort, width: u32, none: T, all: T, top:
 // The set bits are those from one index on and below another: from the front, and from the back of
 // what the other word lacks.
 fn walks_alone<T: Word, E: Endian>(rt: &impl Abort, word: T, from: u32, to: u32) {
+    ones_alone::<T, E>(rt, word, from, to);
+    zeros_alone::<T, E>(rt, word.not(), from, to);
+}
+
+fn ones_alone<T: Word, E: Endian>(rt: &impl Abort, word: T, from: u32, to: u32) {
     let mut ones = IterOnes::<T, E>::new(word);
-    let mut zeros = IterZeros::<T, E>::new(word.not());
     for index in from..to {
-        holds!(rt; ones.next() == Some(index));
+        same!(rt; ones.next(), Some(index));
     }
+    same!(rt; ones.next(), None);
+}
+
+fn zeros_alone<T: Word, E: Endian>(rt: &impl Abort, word: T, from: u32, to: u32) {
+    let mut zeros = IterZeros::<T, E>::new(word);
     for index in (from..to).rev() {
-        holds!(rt; zeros.next_back() == Some(index));
+        same!(rt; zeros.next_back(), Some(index));
     }
-    holds!(rt; ones.next().is_none() && zeros.next_back().is_none());
+    same!(rt; zeros.next_back(), None);
 }
