@@ -1,4 +1,2 @@
 pub mod Board
-pub mod FreeRuns
 pub mod Primes
-pub mod Relations

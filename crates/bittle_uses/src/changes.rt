@@ -5,6 +5,7 @@ ghost use Rattle.bittle.specs.PlainSet.{contains, with_index, without_index};
 ghost use Rattle.bittle.specs.Values.{set_in};
 
 use bittle::BitsMut;
+use bittle_ext::BitsMutExt;
 
 /// Sets the bit at an index, which wraps, and returns whether it was unset before. With capacity 0
 /// it returns `true`, and nothing changes.
@@ -15,9 +16,7 @@ pub fn insert<B: BitsMut>(set: &mut B, index: u32) -> bool
         ≡ with_index (set_in B.Shape B.Order.Endian set.old) index }
     ensures stays { B.loan set.old ≡ B.loan set.new }
 {
-    let was_none = !set.test_bit(index);
-    set.set_bit(index);
-    was_none
+    set.insert(index)
 }
 
 /// Clears the bit at an index, which wraps, and returns whether it was set before. With capacity 0
@@ -29,9 +28,7 @@ pub fn remove<B: BitsMut>(set: &mut B, index: u32) -> bool
         ≡ without_index (set_in B.Shape B.Order.Endian set.old) index }
     ensures stays { B.loan set.old ≡ B.loan set.new }
 {
-    let was_member = set.test_bit(index);
-    set.clear_bit(index);
-    was_member
+    set.remove(index)
 }
 
 /// Clears the bit at one index and sets that at another, or changes nothing where the first is

@@ -1,5 +1,5 @@
-//! What callers of `bittle` can say and prove of their own values, from the library's contracts
-//! alone.
+//! What callers of `bittle` and `bittle_ext` can say and prove of their own values, from the
+//! contracts of the two alone.
 #![tactic(auto)]
 
 pub mod board;

@@ -7,8 +7,10 @@ ghost use Rattle.bittle.specs.BitPatterns.{bit_set};
 ghost use Rattle.bittle.specs.Comparison.{AreSame};
 ghost use Rattle.bittle.specs.Orders.{read_in};
 ghost use Rattle.bittle.specs.SetOperations.{union_of};
+ghost use Rattle.bittle_ext.specs.SetRelations.{IsSubset};
 
 use bittle::Set;
+use bittle_ext::BitsRelationExt;
 
 /// Returns what two roles grant together, in whichever order they are read.
 pub fn together(one: Set<u32>, other: Set<u32>) -> Set<u32>
@@ -19,14 +21,12 @@ pub fn together(one: Set<u32>, other: Set<u32>) -> Set<u32>
     one | other
 }
 
-/// Returns whether a role grants all that is asked, so that together they grant no more than the
-/// role.
+/// Returns whether a role grants all that is asked.
 pub fn allows(role: Set<u32>, asked: Set<u32>) -> bool
     ensures { IsTrue result
-        ↔ AreSame (union_of (bit_set 32 role.bits) (bit_set 32 asked.bits))
-        (bit_set 32 role.bits) }
+        ↔ IsSubset (bit_set 32 asked.bits) (bit_set 32 role.bits) }
 {
-    role | asked == role
+    asked.is_subset(&role)
 }
 
 /// Brings a table of roles into order.

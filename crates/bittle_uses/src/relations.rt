@@ -1,8 +1,11 @@
 //! Whether a set lies in another of its type, has a bit in common with it, or is the same.
+//!
+//! It shows what an operation tells whose result is empty. So no capacity is too great, where
+//! `is_subset` and `is_disjoint` of `bittle_ext` ask for a shape that fits.
 
 ghost use Rattle.std.specs.Prelude.{◌↔◌, IsTrue};
 ghost use Rattle.bittle.specs.Comparison.{AreSame};
-ghost use Rattle.bittle_uses.specs.Relations.{IsSubset, AreDisjoint};
+ghost use Rattle.bittle_ext.specs.SetRelations.{IsSubset, AreDisjoint};
 
 use bittle::{Bits, BitsOwned};
 

@@ -7,7 +7,8 @@ ghost use Rattle.bittle.specs.PlainSet.{with_index, without_index};
 ghost use Rattle.bittle.specs.Rows.{row_set};
 ghost use Rattle.bittle.specs.Searches.{IsFirstIn};
 
-use bittle::{BigEndian, Bits, BitsMut};
+use bittle::BitsMut;
+use bittle_ext::BitsMutExt;
 
 /// Makes the priority ready.
 pub fn wake(mask: &mut [u64; 4], priority: u32)
@@ -26,7 +27,5 @@ pub fn take(mask: &mut [u64; 4]) -> Option<u32>
         (λ priority. row_set 4 64 (bit_set 64) mask.new
         ≡ without_index (row_set 4 64 (bit_set 64) mask.old) priority) }
 {
-    let priority = mask.first_one_in::<BigEndian>(0, 256)?;
-    mask.clear_bit(priority);
-    Some(priority)
+    mask.pop_first()
 }

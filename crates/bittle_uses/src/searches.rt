@@ -1,4 +1,4 @@
-//! Questions about all set bits of a set, answered by an iterator.
+//! Questions about all set bits of a set: what the methods of an iterator answer, and a search.
 
 ghost use Rattle.std.specs.List.{list_any, list_all, reduce, zip};
 ghost use Rattle.std.specs.Prelude.{◌≡◌, ◌↔◌, ◌<◌, ℕ, true, IfOk, IsTrue, max, nat_lt, nat_le};
@@ -7,6 +7,7 @@ ghost use Rattle.bittle.specs.Searches.{IsLastIn};
 ghost use Rattle.bittle.specs.Values.{set_in, ShapeFits};
 
 use bittle::Bits;
+use bittle_ext::BitsExt;
 use std::alloc::{AllocError, Global};
 
 /// Returns whether a bit above a bound is set.
@@ -26,13 +27,13 @@ pub fn greatest<B: Bits>(set: &B) -> Option<u32>
     set.iter_ones().max()
 }
 
-/// Returns the greatest set bit, as the last item of an iterator, or `None` where there is none.
-pub fn last_of_walk<B: Bits>(set: &B) -> Option<u32>
+/// Returns the greatest set bit, by a search from the last word back, or `None`.
+pub fn last<B: Bits>(set: &B) -> Option<u32>
     requires { ShapeFits B.Shape set.now }
     ensures { let members = set_in B.Shape B.Order.Endian set.now in
         IsLastIn members 0 members.capacity result }
 {
-    set.iter_ones().next_back()
+    set.last_one()
 }
 
 /// Returns whether each bit is set.

@@ -6,7 +6,8 @@ ghost use Rattle.bittle.specs.PlainSet.{complement, contains, with_index, withou
 ghost use Rattle.bittle.specs.Rows.{row_set};
 ghost use Rattle.bittle.specs.Searches.{IsFirstIn};
 
-use bittle::{BigEndian, Bits, BitsMut};
+use bittle::{Bits, BitsMut};
+use bittle_ext::BitsExt;
 
 /// A table of slots. The words that were lent hold the changes.
 #[derive(Drop)]
@@ -46,8 +47,7 @@ impl<'a> Slots<'a> {
             ≡ with_index (row_set (length before) 64 (bit_set 64) before) slot) }
         ensures same_words { self.new.words.ghost_name ≡ self.old.words.ghost_name }
     {
-        let end = self.words.len() as u32 * 64;
-        let slot = self.words.first_zero_in::<BigEndian>(0, end)?;
+        let slot = self.words.first_zero()?;
         self.words.set_bit(slot);
         Some(slot)
     }
