@@ -1,6 +1,6 @@
 -- What a set has between two numbers.
-use Rattle.std.specs.Prelude.{◌≡◌, ℕ, ◌<◌, ◌≤◌, true}
-use Rattle.bittle.specs.PlainSet.{PlainSet}
+use Rattle.std.specs.Prelude.{◌≡◌, ℕ, ◌-◌, ◌<◌, ◌≤◌, ◌&&◌, true, List, length, slice_index}
+use Rattle.bittle.specs.PlainSet.{PlainSet, is_in_span}
 
 -- a number from one on and below another is a member
 abbrev pub HasSomeIn : PlainSet → ℕ → ℕ → Type 0
@@ -9,3 +9,14 @@ HasSomeIn s from to = (k : ℕ) × (from ≤ k) × (k < to) × (s.has k ≡ true
 -- each number from one on and below another is a member
 abbrev pub HasAllIn : PlainSet → ℕ → ℕ → Type 0
 HasAllIn s from to = (k : ℕ) → from ≤ k → k < to → s.has k ≡ true
+
+-- the set of the members from one number on and below another
+abbrev pub members_within : PlainSet → ℕ → ℕ → PlainSet
+members_within s from to =
+    record { capacity = s.capacity; has = λ k. is_in_span from to k && s.has k }
+
+-- each number of the list is from one number on and below another, and it has no more of them than
+-- lie there
+abbrev pub AreWithin : ℕ → ℕ → List ℕ → Type 0
+AreWithin from to xs = (length xs ≤ to - from)
+    × ((k : ℕ) → k < length xs → (from ≤ slice_index xs k) × (slice_index xs k < to))

@@ -30,7 +30,9 @@ mod bits_relation_ext;
 mod both_words;
 pub mod combined;
 mod counts;
+mod kind_searches;
 pub mod prelude;
+pub mod range_iterators;
 #[doc(hidden)]
 pub mod rank_laws;
 mod ranks;
@@ -42,3 +44,4 @@ pub use bits_mut_ext::BitsMutExt;
 pub use bits_owned_ext::BitsOwnedExt;
 pub use bits_relation_ext::BitsRelationExt;
 pub use combined::BitsCombinedExt;
+pub use range_iterators::BitsRangeExt;

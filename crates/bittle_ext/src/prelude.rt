@@ -5,3 +5,4 @@ pub use crate::bits_mut_ext::BitsMutExt;
 pub use crate::bits_owned_ext::BitsOwnedExt;
 pub use crate::bits_relation_ext::BitsRelationExt;
 pub use crate::combined::BitsCombinedExt;
+pub use crate::range_iterators::BitsRangeExt;

@@ -5,6 +5,7 @@ pub mod any_changes;
 pub mod combined_walks;
 pub mod lent_changes;
 pub mod made_sets;
+pub mod range_walks;
 pub mod reads;
 pub mod shape_changes;
 pub mod word_changes;

@@ -12,4 +12,6 @@ mod made;
 #[cfg(test)]
 mod random;
 #[cfg(test)]
+mod ranges;
+#[cfg(test)]
 mod reads;

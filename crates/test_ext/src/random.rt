@@ -3,6 +3,7 @@
 ghost use Rattle.std.specs.Prelude.{◌<◌, ◌≤◌};
 
 use crate::checks::same;
+use bittle::{Bits, BitsMut};
 use bittle_ext::prelude::*;
 use std::process::Abort;
 
@@ -136,5 +137,44 @@ fn drawn_combinations_agree_with_plain_loops(rt: HostRuntime) {
             expected[i] = combined(kind, ours[i], theirs[i]);
         }
         same!(rt; walked(kind, &row, &word), expected);
+    }
+}
+
+// Returns the flags of what a range of a row has of a kind, by a walk from both ends in turn.
+fn walked_range(zeros: bool, row: &[u8; 3], from: u32, to: u32) -> [bool; 24]
+    requires ordered { from ≤ to }
+    requires within { to ≤ 24 }
+{
+    let mut made = [0u8; 3];
+    if zeros {
+        let mut walk = row.iter_zeros_in_range(from, to);
+        while let Some(first) = walk.next() {
+            made.set_bit(first);
+            if let Some(last) = walk.next_back() {
+                made.set_bit(last);
+            }
+        }
+    } else {
+        made.extend(row.iter_ones_in_range(from, to).rev());
+    }
+    flags_of(&made)
+}
+
+#[test]
+fn drawn_ranges_agree_with_plain_loops(rt: HostRuntime) {
+    let mut state = 11;
+    for turn in 0..1000u32 {
+        let row = [
+            (draw(&mut state) % 256) as u8,
+            (draw(&mut state) % 256) as u8,
+            (draw(&mut state) % 256) as u8,
+        ];
+        let (one, other) = (draw(&mut state) % 25, draw(&mut state) % 25);
+        let (from, to, zeros) = (one.min(other), one.max(other), turn % 2 == 0);
+        let mut expected = [false; 24];
+        for i in from as usize..to as usize {
+            expected[i] = row.test_bit(i as u32) != zeros;
+        }
+        same!(rt; walked_range(zeros, &row, from, to), expected);
     }
 }

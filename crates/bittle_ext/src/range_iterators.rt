@@ -1,0 +1,260 @@
+//! Iterators over the set, and over the unset bits of a range.
+
+ghost use Rattle.std.specs.Iterator.{YieldsFirst, YieldsLast, item_count};
+ghost use Rattle.std.specs.Prelude.{◌≡◌, ◌-◌, ◌≤◌, length};
+ghost use Rattle.bittle_bits.specs.Buffers.{members_between};
+ghost use Rattle.bittle_ext.specs.RangeMembers.{members_within, AreWithin};
+ghost use Rattle.bittle.specs.PlainSet.{ascending, complement, members_below};
+ghost use Rattle.bittle.specs.Values.{set_in, ShapeFits};
+ghost use Rattle.bittle.specs.Walk.{ones_or_zeros, ListsInOrder, ListsInReverse};
+
+use crate::kind_searches::{first_of_kind, last_of_kind};
+use bittle::{Bits, Endian, Shape};
+use bittle_bits::internal::kind::{Kind, Ones, Zeros};
+use std::marker::{Model, PhantomData};
+
+/// Yields the indexes of the set bits of a range.
+pub type IterOnesInRange<'a, B, E> = IterInRange<'a, B, E, Ones>;
+
+/// Yields the indexes of the unset bits of a range.
+pub type IterZerosInRange<'a, B, E> = IterInRange<'a, B, E, Zeros>;
+
+/// Iterates over a range of a set that it borrows, for the bits that `K` names, increasing, in the
+/// order `E`, from both ends. Each step is a search by whole words from where it stands. After its
+/// end it returns `None` on both sides.
+#[derive(Drop)]
+pub struct IterInRange<'a, B: Shape, E: Endian, K: Kind> {
+    bits: &'a B,
+    from: u32,
+    to: u32,
+    order: PhantomData<E>,
+    kind: PhantomData<K>,
+}
+
+impl<'a, B: Shape, E: Endian, K: Kind> Model for IterInRange<'a, B, E, K> {
+    ghost use Rattle.std.specs.Prelude.{ℕ, List};
+
+    ghost Value = { List ℕ };
+
+    ghost use Rattle.std.specs.Prelude.{◌≤◌};
+    ghost use Rattle.bittle_bits.specs.Buffers.{members_between};
+    ghost use Rattle.bittle.specs.Values.{set_in, ShapeFits};
+    ghost use Rattle.bittle.specs.Walk.{ones_or_zeros};
+
+    ghost view = { λ i. members_between (ones_or_zeros K.ONES (set_in B.Shape E.Endian i.bits.now))
+        i.from i.to };
+
+    ghost invariant = { λ i. ShapeFits B.Shape i.bits.now × (i.from ≤ i.to)
+        × (i.to ≤ (B.big i.bits.now).capacity) };
+}
+
+impl<'a, B: Bits, E: Endian, K: Kind> IterInRange<'a, B, E, K> {
+    /// Begins an iterator over a range.
+    #[inline]
+    fn new(bits: &'a B, from: u32, to: u32) -> Self
+        requires fits { ShapeFits B.Shape bits.now }
+        requires ordered { from ≤ to }
+        requires within { to ≤ (B.big bits.now).capacity }
+        ensures items { result ≡ ascending (members_within
+            (ones_or_zeros K.ONES (set_in B.Shape E.Endian bits.now)) from to) }
+        ensures count { let ours = ones_or_zeros K.ONES (set_in B.Shape E.Endian bits.now) in
+            length result ≡ members_below ours to - members_below ours from }
+        ensures between { AreWithin from to result }
+        ensures in_order { ListsInOrder }
+        ensures in_reverse { ListsInReverse }
+    {
+        IterInRange {
+            bits,
+            from,
+            to,
+            order: PhantomData,
+            kind: PhantomData,
+        }
+    }
+}
+
+impl<'a, B: Bits, E: Endian, K: Kind> Iterator for IterInRange<'a, B, E, K> {
+    type Item = u32;
+
+    ghost next_gives = { YieldsFirst (λ items. items) };
+
+    ghost remaining = { item_count (λ items. items) };
+
+    #[inline]
+    fn next(&mut self) -> Option<u32> {
+        step_front::<B, E, K>(self.bits, &mut self.from, self.to)
+    }
+}
+
+impl<'a, B: Bits, E: Endian, K: Kind> DoubleEndedIterator for IterInRange<'a, B, E, K> {
+    ghost next_back_gives = { YieldsLast (λ items. items) };
+
+    #[inline]
+    fn next_back(&mut self) -> Option<u32> {
+        step_back::<B, E, K>(self.bits, self.from, &mut self.to)
+    }
+}
+
+/// Returns the least index of the kind that remains, and goes on past it.
+#[inline]
+fn step_front<B: Bits, E: Endian, K: Kind>(bits: &B, from: &mut u32, to: u32) -> Option<u32>
+    requires fits { ShapeFits B.Shape bits.now }
+    requires ordered { from.old ≤ to }
+    requires within { to ≤ (B.big bits.now).capacity }
+    ensures gave { let ours = ones_or_zeros K.ONES (set_in B.Shape E.Endian bits.now) in
+        YieldsFirst (λ at. members_between ours at to) from.old result from.new }
+    ensures ordered { from.new ≤ to }
+{
+    let Some(index) = first_of_kind::<B, E, K>(bits, *from, to) else {
+        *from = to;
+        return None;
+    };
+    *from = index + 1;
+    Some(index)
+}
+
+/// Returns the greatest index of the kind that remains, and goes on below it.
+#[inline]
+fn step_back<B: Bits, E: Endian, K: Kind>(bits: &B, from: u32, to: &mut u32) -> Option<u32>
+    requires fits { ShapeFits B.Shape bits.now }
+    requires ordered { from ≤ to.old }
+    requires within { to.old ≤ (B.big bits.now).capacity }
+    ensures gave { let ours = ones_or_zeros K.ONES (set_in B.Shape E.Endian bits.now) in
+        YieldsLast (λ at. members_between ours from at) to.old result to.new }
+    ensures ordered { from ≤ to.new }
+    ensures within { to.new ≤ to.old }
+{
+    let Some(index) = last_of_kind::<B, E, K>(bits, from, *to) else {
+        *to = from;
+        return None;
+    };
+    *to = index;
+    Some(index)
+}
+
+/// Iterators over a range of a set.
+///
+/// The shape has to fit, and `from <= to <= capacity`: nothing wraps.
+pub trait BitsRangeExt: Bits {
+    /// Returns an iterator over the indexes of the set bits in `from..to`, in the order `E`,
+    /// increasing, from both ends.
+    ///
+    /// The shape has to fit, and `from <= to <= capacity`: nothing wraps. Only the words of the
+    /// range are read, once for each item. With capacity 0 it yields nothing.
+    ///
+    /// ```
+    /// 0b0110_0010u8.iter_ones_in_range_in::<LittleEndian>(2, 8);
+    /// // yields 2, 6
+    /// ```
+    #[inline]
+    final fn iter_ones_in_range_in<E: Endian>(
+        &self,
+        from: u32,
+        to: u32,
+    ) -> IterOnesInRange<'_, Self, E>
+    where
+        Self: Sized,
+        requires fits { ShapeFits Self.Shape self.now }
+        requires ordered { from ≤ to }
+        requires within { to ≤ (Self.big self.now).capacity }
+        ensures items { let ours = set_in Self.Shape E.Endian self.now in
+            result ≡ ascending (members_within ours from to) }
+        ensures count { let ours = set_in Self.Shape E.Endian self.now in
+            length result ≡ members_below ours to - members_below ours from }
+        ensures between { AreWithin from to result }
+        ensures in_order { ListsInOrder }
+        ensures in_reverse { ListsInReverse }
+    {
+        IterInRange::new(self, from, to)
+    }
+
+    /// Returns an iterator over the indexes of the set bits in `from..to`, in the order of the
+    /// type, as [`iter_ones_in_range_in`](BitsRangeExt::iter_ones_in_range_in) does.
+    ///
+    /// The shape has to fit, and `from <= to <= capacity`: nothing wraps.
+    ///
+    /// ```
+    /// 0b0110_0010u8.iter_ones_in_range(1, 6);             // yields 1, 5
+    /// ```
+    #[inline]
+    final fn iter_ones_in_range(&self, from: u32, to: u32) -> IterOnesInRange<'_, Self, Self::Order>
+    where
+        Self: Sized,
+        requires fits { ShapeFits Self.Shape self.now }
+        requires ordered { from ≤ to }
+        requires within { to ≤ (Self.big self.now).capacity }
+        ensures items { let ours = set_in Self.Shape Self.Order.Endian self.now in
+            result ≡ ascending (members_within ours from to) }
+        ensures count { let ours = set_in Self.Shape Self.Order.Endian self.now in
+            length result ≡ members_below ours to - members_below ours from }
+        ensures between { AreWithin from to result }
+        ensures in_order { ListsInOrder }
+        ensures in_reverse { ListsInReverse }
+    {
+        self.iter_ones_in_range_in::<Self::Order>(from, to)
+    }
+
+    /// Returns an iterator over the indexes of the unset bits in `from..to`, in the order `E`,
+    /// increasing, from both ends.
+    ///
+    /// The shape has to fit, and `from <= to <= capacity`: nothing wraps. Only the words of the
+    /// range are read, once for each item. With capacity 0 it yields nothing.
+    ///
+    /// ```
+    /// 0b0110_0010u8.iter_zeros_in_range_in::<LittleEndian>(1, 5);
+    /// // yields 3, 4
+    /// ```
+    #[inline]
+    final fn iter_zeros_in_range_in<E: Endian>(
+        &self,
+        from: u32,
+        to: u32,
+    ) -> IterZerosInRange<'_, Self, E>
+    where
+        Self: Sized,
+        requires fits { ShapeFits Self.Shape self.now }
+        requires ordered { from ≤ to }
+        requires within { to ≤ (Self.big self.now).capacity }
+        ensures items { let ours = complement (set_in Self.Shape E.Endian self.now) in
+            result ≡ ascending (members_within ours from to) }
+        ensures count { let ours = complement (set_in Self.Shape E.Endian self.now) in
+            length result ≡ members_below ours to - members_below ours from }
+        ensures between { AreWithin from to result }
+        ensures in_order { ListsInOrder }
+        ensures in_reverse { ListsInReverse }
+    {
+        IterInRange::new(self, from, to)
+    }
+
+    /// Returns an iterator over the indexes of the unset bits in `from..to`, in the order of the
+    /// type, as [`iter_zeros_in_range_in`](BitsRangeExt::iter_zeros_in_range_in) does.
+    ///
+    /// The shape has to fit, and `from <= to <= capacity`: nothing wraps.
+    ///
+    /// ```
+    /// 0b0110_0010u8.iter_zeros_in_range(1, 5);            // yields 2, 3, 4
+    /// ```
+    #[inline]
+    final fn iter_zeros_in_range(
+        &self,
+        from: u32,
+        to: u32,
+    ) -> IterZerosInRange<'_, Self, Self::Order>
+    where
+        Self: Sized,
+        requires fits { ShapeFits Self.Shape self.now }
+        requires ordered { from ≤ to }
+        requires within { to ≤ (Self.big self.now).capacity }
+        ensures items { let ours = complement (set_in Self.Shape Self.Order.Endian self.now) in
+            result ≡ ascending (members_within ours from to) }
+        ensures count { let ours = complement (set_in Self.Shape Self.Order.Endian self.now) in
+            length result ≡ members_below ours to - members_below ours from }
+        ensures between { AreWithin from to result }
+        ensures in_order { ListsInOrder }
+        ensures in_reverse { ListsInReverse }
+    {
+        self.iter_zeros_in_range_in::<Self::Order>(from, to)
+    }
+}
+
+impl<B: Bits> BitsRangeExt for B {}

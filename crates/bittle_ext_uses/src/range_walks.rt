@@ -1,0 +1,79 @@
+//! Iterators over a range of a set.
+
+ghost use Rattle.std.specs.Iterator.{YieldsFirst, YieldsLast};
+ghost use Rattle.std.specs.Prelude.{◌≡◌, ◌-◌, ◌≤◌, ℕ, List};
+ghost use Rattle.std.specs.List.{fold};
+ghost use Rattle.bittle.specs.BitPatterns.{bit_set};
+ghost use Rattle.bittle.specs.PlainSet.{ascending, complement, empty_set, members_below, with_index};
+ghost use Rattle.bittle.specs.Values.{set_in, ShapeFits};
+ghost use Rattle.bittle_ext.specs.RangeMembers.{members_within};
+
+use bittle::{Bits, Endian};
+use bittle_ext::{BitsExt, BitsOwnedExt, BitsRangeExt};
+
+/// Counts the members of a range by a walk over them.
+pub fn count_walked(mask: u64, from: u32, to: u32) -> usize
+    requires ordered { from ≤ to }
+    requires within { to ≤ 64 }
+    ensures { result
+        ≡ members_below (bit_set 64 mask) to - members_below (bit_set 64 mask) from }
+{
+    mask.iter_ones_in_range(from, to).count()
+}
+
+/// Counts the other numbers of a range in two ways, which agree in any set and any order.
+pub fn count_twice<B: Bits, E: Endian>(set: &B, from: u32, to: u32) -> (usize, u32)
+    requires fits { ShapeFits B.Shape set.now }
+    requires ordered { from ≤ to }
+    requires within { to ≤ (B.big set.now).capacity }
+    ensures { result.0 ≡ result.1 }
+{
+    let walked = set.iter_zeros_in_range_in::<E>(from, to).count();
+    (walked, set.count_zeros_in_range_in::<E>(from, to))
+}
+
+/// Returns the last entry of a table at a member of a range: each item is an index of the table.
+pub fn last_entry(mask: u64, from: u32, to: u32, table: &[u32; 64]) -> u32
+    requires ordered { from ≤ to }
+    requires within { to ≤ 64 }
+{
+    let mut last = 0;
+    for index in mask.iter_ones_in_range(from, to) {
+        last = table[index as usize];
+    }
+    last
+}
+
+/// Returns the last entry of a window at a number that is free: no item is before the range.
+pub fn last_in_window(mask: u64, window: &[u32; 16]) -> u32 {
+    let mut last = 0;
+    for index in mask.iter_zeros_in_range(16, 32) {
+        last = window[index as usize - 16];
+    }
+    last
+}
+
+/// Returns the set of the members of a range.
+pub fn within(mask: u16, from: u32, to: u32) -> u16
+    requires ordered { from ≤ to }
+    requires within { to ≤ 16 }
+    ensures { bit_set 16 result ≡ fold with_index (empty_set 16)
+        (ascending (members_within (bit_set 16 mask) from to)) }
+{
+    u16::from_iter(mask.iter_ones_in_range(from, to))
+}
+
+/// Returns both ends of what is no member in a range of any set.
+pub fn free_ends<B: Bits, E: Endian>(set: &B, from: u32, to: u32) -> (Option<u32>, Option<u32>)
+    requires fits { ShapeFits B.Shape set.now }
+    requires ordered { from ≤ to }
+    requires within { to ≤ (B.big set.now).capacity }
+    ensures { (rest : List ℕ) × (left : List ℕ)
+        × YieldsFirst (λ items. items)
+        (ascending (members_within (complement (set_in B.Shape E.Endian set.now)) from to))
+        result.0 rest
+        × YieldsLast (λ items. items) rest result.1 left }
+{
+    let mut walk = set.iter_zeros_in_range_in::<E>(from, to);
+    (walk.next(), walk.next_back())
+}

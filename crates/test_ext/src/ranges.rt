@@ -1,0 +1,70 @@
+//! Iterators over a range of a set, with values worked out by hand.
+
+use crate::checks::same;
+use bittle::{LittleEndian, Set};
+use bittle_ext::prelude::*;
+
+#[test]
+fn the_ones_of_a_range_of_a_word(rt: HostRuntime) {
+    // The members 1, 5 and 6.
+    let word = 0b0110_0010u8;
+    let mut inner = word.iter_ones_in_range(1, 6);
+    same!(rt; (inner.next(), inner.next()), (Some(1), Some(5)));
+    same!(rt; (inner.next(), inner.next_back()), (None, None));
+    let mut all = word.iter_ones_in_range(0, 8);
+    same!(rt; (all.next_back(), all.next_back()), (Some(6), Some(5)));
+    same!(rt; (all.next_back(), all.next_back()), (Some(1), None));
+    same!(rt; (all.next(), all.next_back()), (None, None));
+}
+
+#[test]
+fn the_zeros_of_a_range_of_a_word(rt: HostRuntime) {
+    // No members are 0, 2, 3, 4 and 7.
+    let mut inner = 0b0110_0010u8.iter_zeros_in_range(1, 4);
+    same!(rt; (inner.next_back(), inner.next()), (Some(3), Some(2)));
+    same!(rt; (inner.next(), inner.next_back()), (None, None));
+}
+
+#[test]
+fn a_range_of_a_word_from_the_left(rt: HostRuntime) {
+    // The members 1, 2 and 6; no members are 0, 3, 4, 5 and 7.
+    let word = 0b0110_0010u8;
+    let mut ones = word.iter_ones_in_range_in::<LittleEndian>(2, 8);
+    same!(rt; (ones.next(), ones.next(), ones.next()), (Some(2), Some(6), None));
+    let mut zeros = word.iter_zeros_in_range_in::<LittleEndian>(1, 5);
+    same!(rt; (zeros.next(), zeros.next(), zeros.next()), (Some(3), Some(4), None));
+}
+
+#[test]
+fn both_ends_of_a_range_of_nested_rows(rt: HostRuntime) {
+    // The members 0, 7, 16 and 31; from the left 0, 7, 23 and 24.
+    let rows = [[0x81u8, 0], [0x01, 0x80]];
+    let mut walk = rows.iter_ones_in_range(1, 32);
+    same!(rt; (walk.next(), walk.next_back()), (Some(7), Some(31)));
+    same!(rt; (walk.next_back(), walk.next()), (Some(16), None));
+    let mut left = rows.iter_ones_in_range_in::<LittleEndian>(7, 24);
+    same!(rt; (left.next_back(), left.next()), (Some(23), Some(7)));
+    same!(rt; (left.next(), left.next_back()), (None, None));
+}
+
+#[test]
+fn a_range_of_a_slice_and_of_a_set(rt: HostRuntime) {
+    // The members 0, 7 and 8.
+    let bytes = [0x81u8, 0x01, 0];
+    let row: &[u8] = &bytes[..];
+    let mut walk = row.iter_ones_in_range(1, 24);
+    same!(rt; (walk.next(), walk.next(), walk.next()), (Some(7), Some(8), None));
+    // From the left 0, 7 and 15.
+    let set = Set::new_le(bytes);
+    same!(rt; set.iter_ones_in_range(8, 24).next(), Some(15));
+    same!(rt; set.iter_zeros_in_range(7, 24).next_back(), Some(23));
+}
+
+#[test]
+fn ranges_with_no_items(rt: HostRuntime) {
+    let none: [u8; 0] = [];
+    same!(rt; (none.iter_ones_in_range(0, 0).next(), none.iter_zeros_in_range(0, 0).next()), (None, None));
+    same!(rt; 0xFFu8.iter_ones_in_range(3, 3).next(), None);
+    same!(rt; 0xFFu8.iter_ones_in_range(8, 8).next_back(), None);
+    same!(rt; 0xFFu8.iter_zeros_in_range(0, 8).next_back(), None);
+}
