@@ -1,32 +1,39 @@
 //! One list of calls on shapes of every nesting, and on slices of the caller.
 
+ghost use Rattle.std.specs.Prelude.{IsTrue};
 ghost use Rattle.bittle.specs.Values.{ShapeFits};
 
 use crate::checks::same;
 use bittle::replay::{Call, Reply, replay};
-use bittle::{BigEndian, BitsMut, Endian, LittleEndian};
+use bittle::{BigEndian, BitsMut, BitsOwned, Endian, LittleEndian};
 use std::process::Abort;
+
+// The sets that an index leaves, put into an empty one in big-endian and in little-endian order.
+fn put_each_way<B: BitsOwned>(rt: &impl Abort, big: u32, little: u32, capacity: u32) -> [B; 2]
+    requires { IsTrue B.indexable }
+{
+    let mut sets = [B::zeros(); 2];
+    put_and_ask::<B, BigEndian>(rt, &mut sets[0], big, capacity);
+    put_and_ask::<B, LittleEndian>(rt, &mut sets[1], little, capacity);
+    sets
+}
 
 #[test]
 fn nested_arrays(rt: HostRuntime) {
-    let mut bytes = [[0u8; 2]; 2];
-    put_and_ask::<[[u8; 2]; 2], BigEndian>(&rt, &mut bytes, 49, 32);
-    same!(rt; bytes, [[0, 0], [2, 0]]);
-    bytes = [[0; 2]; 2];
-    put_and_ask::<[[u8; 2]; 2], LittleEndian>(&rt, &mut bytes, 17, 32);
-    same!(rt; bytes, [[0, 0], [64, 0]]);
+    let bytes: [[[u8; 2]; 2]; 2] = put_each_way(&rt, 49, 17, 32);
+    same!(rt; bytes, [[[0, 0], [2, 0]], [[0, 0], [64, 0]]]);
 
     // The same calls on another shape of the same capacity.
     let mut word = 0i32;
     put_and_ask::<i32, BigEndian>(&rt, &mut word, 49, 32);
     same!(rt; word, 131_072);
 
-    let mut words = [[[0u16; 3]; 2]; 2];
-    put_and_ask::<[[[u16; 3]; 2]; 2], BigEndian>(&rt, &mut words, 100, 192);
-    same!(rt; words, [[[0, 0, 0], [0, 0, 0]], [[16, 0, 0], [0, 0, 0]]]);
-    words = [[[0; 3]; 2]; 2];
-    put_and_ask::<[[[u16; 3]; 2]; 2], LittleEndian>(&rt, &mut words, 292, 192);
-    same!(rt; words, [[[0, 0, 0], [0, 0, 0]], [[2048, 0, 0], [0, 0, 0]]]);
+    let words: [[[[u16; 3]; 2]; 2]; 2] = put_each_way(&rt, 100, 292, 192);
+    let expected = [
+        [[[0, 0, 0], [0, 0, 0]], [[16, 0, 0], [0, 0, 0]]],
+        [[[0, 0, 0], [0, 0, 0]], [[2048, 0, 0], [0, 0, 0]]],
+    ];
+    same!(rt; words, expected);
 }
 
 #[test]

@@ -16,28 +16,29 @@ const INDEXES: [u32; 6] = [0, 1, 7, 8, 127, u32::MAX];
 // What each call that reads answers.
 fn reads<B: Bits>(rt: &impl Abort, bits: &B) {
     assert!(rt; bits.bits_capacity() == 0);
-    same!(rt; bits.count_ones(), 0);
-    same!(rt; bits.count_zeros(), 0);
-    holds!(rt; bits.all_zeros());
-    holds!(rt; bits.all_ones());
+    same!(rt; (bits.count_ones(), bits.count_zeros()), (0, 0));
+    same!(rt; (bits.all_zeros(), bits.all_ones()), (true, true));
     for index in INDEXES {
-        tests_false(rt, bits, index);
+        same!(rt; (index, tests_of(bits, index)), (index, [false; 5]));
     }
-    yields_no_ones(rt, bits);
-    yields_no_zeros(rt, bits);
-    joins_nothing(rt, bits);
+    same!(rt; ones_are_over(bits), [true; 4]);
+    same!(rt; zeros_are_over(bits), [true; 4]);
+    same!(rt; joins_are_over(bits), [true; 3]);
     same!(rt; bits.count_ones_in_range_in::<BigEndian>(0, 0), 0);
     same!(rt; bits.count_ones_in_range_in::<LittleEndian>(0, 0), 0);
 }
 
-fn tests_false<B: Bits>(rt: &impl Abort, bits: &B, index: u32)
+// What each call that tests a bit answers.
+fn tests_of<B: Bits>(bits: &B, index: u32) -> [bool; 5]
     requires { IsTrue B.indexable }
 {
-    holds!(rt; !bits.test_bit(index));
-    holds!(rt; !bits.test_bit_in::<BigEndian>(index));
-    holds!(rt; !bits.test_bit_in::<LittleEndian>(index));
-    holds!(rt; !bits.test_bit_le(index));
-    holds!(rt; !bits.test_bit_be(index));
+    [
+        bits.test_bit(index),
+        bits.test_bit_in::<BigEndian>(index),
+        bits.test_bit_in::<LittleEndian>(index),
+        bits.test_bit_le(index),
+        bits.test_bit_be(index),
+    ]
 }
 
 // Whether an iterator yields nothing, from either end.
@@ -48,31 +49,59 @@ fn is_over<W: DoubleEndedIterator<Item = u32>>(mut walk: W) -> bool
     walk.next().is_none() && walk.next_back().is_none()
 }
 
-fn yields_no_ones<B: Bits>(rt: &impl Abort, bits: &B)
+// Whether each iterator over the ones yields nothing.
+fn ones_are_over<B: Bits>(bits: &B) -> [bool; 4]
     requires { ShapeFits B.Shape bits.now }
 {
-    holds!(rt; is_over(bits.iter_ones()));
-    holds!(rt; is_over(bits.iter_ones_le()));
-    holds!(rt; is_over(bits.iter_ones_be()));
-    holds!(rt; is_over(bits.iter_ones().rev()));
+    [
+        is_over(bits.iter_ones()),
+        is_over(bits.iter_ones_le()),
+        is_over(bits.iter_ones_be()),
+        is_over(bits.iter_ones().rev()),
+    ]
 }
 
-fn yields_no_zeros<B: Bits>(rt: &impl Abort, bits: &B)
+// Whether each iterator over the zeros yields nothing.
+fn zeros_are_over<B: Bits>(bits: &B) -> [bool; 4]
     requires { ShapeFits B.Shape bits.now }
 {
-    holds!(rt; is_over(bits.iter_zeros()));
-    holds!(rt; is_over(bits.iter_zeros_le()));
-    holds!(rt; is_over(bits.iter_zeros_be()));
-    holds!(rt; is_over(bits.iter_zeros().rev()));
+    [
+        is_over(bits.iter_zeros()),
+        is_over(bits.iter_zeros_le()),
+        is_over(bits.iter_zeros_be()),
+        is_over(bits.iter_zeros().rev()),
+    ]
 }
 
-fn joins_nothing<B: Bits>(rt: &impl Abort, bits: &B)
+const LETTERS: [&str; 3] = ["a", "b", "c"];
+
+// Whether each join yields nothing.
+fn joins_are_over<B: Bits>(bits: &B) -> [bool; 3]
     requires { ShapeFits B.Shape bits.now }
 {
-    let letters = ["a", "b", "c"];
-    holds!(rt; bits.join_ones(letters.iter()).next().is_none());
-    holds!(rt; bits.join_ones_le(letters.iter()).next().is_none());
-    holds!(rt; bits.join_ones_be(letters.iter()).next().is_none());
+    [
+        join_is_over(bits),
+        join_le_is_over(bits),
+        join_be_is_over(bits),
+    ]
+}
+
+fn join_is_over<B: Bits>(bits: &B) -> bool
+    requires { ShapeFits B.Shape bits.now }
+{
+    bits.join_ones(LETTERS.iter()).next().is_none()
+}
+
+fn join_le_is_over<B: Bits>(bits: &B) -> bool
+    requires { ShapeFits B.Shape bits.now }
+{
+    bits.join_ones_le(LETTERS.iter()).next().is_none()
+}
+
+fn join_be_is_over<B: Bits>(bits: &B) -> bool
+    requires { ShapeFits B.Shape bits.now }
+{
+    bits.join_ones_be(LETTERS.iter()).next().is_none()
 }
 
 // After each call that writes, nothing is held.
@@ -260,29 +289,56 @@ fn wrapped(rt: HostRuntime) {
     writes(&rt, &mut Set::from_mut_le(&mut arrays));
 }
 
+// The debug text of a set.
+fn text_of<B: Bits>(alloc: Global, bits: B) -> Result<String, AllocError>
+    requires { ShapeFits B.Shape bits }
+{
+    let set = Set::new(bits);
+    format!(in alloc; "{set:?}")
+}
+
+// The debug text of what the macro makes of a list.
+fn text_of_listed<B: BitsOwned>(alloc: Global) -> Result<String, AllocError>
+    requires { IsTrue B.indexable }
+{
+    let bits: B = set![0, 7, 100, 0..10, 0..=10, 0..];
+    text_of(alloc, bits)
+}
+
 #[test]
 fn lists(rt: HostRuntime) -> Result<(), Fail> {
     listed::<[u8; 0]>(&rt);
     listed::<[[u8; 0]; 4]>(&rt);
-    let bytes: [u8; 0] = set![0, 7, 100, 0..10, 0..=10, 0..];
-    let set = Set::new(bytes);
-    same!(rt; format!(in rt.alloc(); "{set:?}")?.as_str(), "{}");
-    let arrays: [[u8; 0]; 4] = set![0, 7, 100, 0..10, 0..=10, 0..];
-    let set = Set::new(arrays);
-    same!(rt; format!(in rt.alloc(); "{set:?}")?.as_str(), "{}");
+    same!(rt; text_of_listed::<[u8; 0]>(rt.alloc())?.as_str(), "{}");
+    same!(rt; text_of_listed::<[[u8; 0]; 4]>(rt.alloc())?.as_str(), "{}");
     Ok(())
+}
+
+// Whether two sets are equal.
+fn are_equal<A: BitsOwned, B: Bits>(one: A, other: &B) -> bool
+    requires one_fits { ShapeFits A.Shape one }
+    requires other_fits { ShapeFits B.Shape other.now }
+{
+    Set::new(one).eq_bits(other)
+}
+
+// How two sets compare.
+fn order_of<A: BitsOwned, B: Bits>(one: A, other: &B) -> Ordering
+    requires one_fits { ShapeFits A.Shape one }
+    requires other_fits { ShapeFits B.Shape other.now }
+{
+    Set::new(one).cmp_bits(other)
 }
 
 #[test]
 fn comparisons(rt: HostRuntime) -> Result<(), Fail> {
-    let (narrow, nested) = (Set::new([0u8; 0]), Set::new([[0u8; 0]; 4]));
-    let none: [u8; 0] = [];
-    holds!(rt; narrow.eq_bits(&nested));
-    holds!(rt; narrow.eq_bits(&[0u128; 0]));
-    holds!(rt; narrow.eq_bits(&Set::from_ref(&none)));
-    same!(rt; narrow.cmp_bits(&Set::new(1u8)), Ordering::Less);
-    same!(rt; nested.cmp_bits(&Set::new(1u8)), Ordering::Less);
-    same!(rt; format!(in rt.alloc(); "{narrow:?}")?.as_str(), "{}");
-    same!(rt; format!(in rt.alloc(); "{nested:?}")?.as_str(), "{}");
+    let (narrow, nested) = ([0u8; 0], [[0u8; 0]; 4]);
+    holds!(rt; are_equal(narrow, &Set::new(nested)));
+    holds!(rt; are_equal(narrow, &[0u128; 0]));
+    holds!(rt; are_equal(narrow, &Set::from_ref(&narrow)));
+    same!(rt; order_of(narrow, &Set::new(1u8)), Ordering::Less);
+    same!(rt; order_of(nested, &Set::new(1u8)), Ordering::Less);
+    same!(rt; text_of(rt.alloc(), narrow)?.as_str(), "{}");
+    same!(rt; text_of(rt.alloc(), nested)?.as_str(), "{}");
     Ok(())
 }
