@@ -1,6 +1,7 @@
 //! Shapes without capacity: each call answers, and nothing is held.
 
-ghost use Rattle.std.specs.Prelude.{IsTrue};
+ghost use Rattle.std.specs.Prelude.{◌*◌, IsTrue, length};
+ghost use Rattle.bittle.specs.Shapes.{Fits};
 ghost use Rattle.bittle.specs.Values.{ShapeFits};
 
 use crate::checks::{holds, same};
@@ -271,22 +272,30 @@ fn vectors(rt: HostRuntime) -> Result<(), Fail> {
     Ok(())
 }
 
+// What each call of a wrapped type answers, in either order.
+fn wrapped_owned<B: BitsOwned>(rt: &impl Abort) {
+    owned::<Set<B>>(rt);
+    owned::<Set<B, LittleEndian>>(rt);
+}
+
+// What each call of a wrapped slice returns, shared and lent, in either order.
+fn wrapped_slice<T: BitsOwned>(rt: &impl Abort, slice: &mut [T])
+    requires { Fits T.indexable (length slice.old * T.type_capacity) }
+{
+    reads(rt, &Set::from_ref(slice));
+    reads(rt, &Set::from_ref_le(slice));
+    writes(rt, &mut Set::from_mut(slice));
+    writes(rt, &mut Set::from_mut_le(slice));
+}
+
 #[test]
 fn wrapped(rt: HostRuntime) {
-    owned::<Set<[u8; 0]>>(&rt);
-    owned::<Set<[u8; 0], LittleEndian>>(&rt);
-    owned::<Set<[[u8; 0]; 4]>>(&rt);
-    owned::<Set<[[u8; 0]; 4], LittleEndian>>(&rt);
+    wrapped_owned::<[u8; 0]>(&rt);
+    wrapped_owned::<[[u8; 0]; 4]>(&rt);
 
     let (mut bytes, mut arrays) = ([0u8; 0], [[0u8; 0]; 4]);
-    reads(&rt, &Set::from_ref(&bytes));
-    reads(&rt, &Set::from_ref_le(&bytes));
-    reads(&rt, &Set::from_ref(&arrays));
-    reads(&rt, &Set::from_ref_le(&arrays));
-    writes(&rt, &mut Set::from_mut(&mut bytes));
-    writes(&rt, &mut Set::from_mut_le(&mut bytes));
-    writes(&rt, &mut Set::from_mut(&mut arrays));
-    writes(&rt, &mut Set::from_mut_le(&mut arrays));
+    wrapped_slice(&rt, &mut bytes);
+    wrapped_slice(&rt, &mut arrays);
 }
 
 // The debug text of a set.
