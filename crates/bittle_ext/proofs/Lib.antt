@@ -4,7 +4,9 @@ mod CombinedWords
 mod Complements
 pub mod CommonCounts
 mod RangeItems
+mod PassingMembers
 pub mod RankFacts
 pub mod RelationFacts
+mod RetainSteps
 pub mod RunFacts
 pub mod SetFacts

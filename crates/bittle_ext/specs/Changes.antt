@@ -1,5 +1,5 @@
--- Sets changed at one index, or at each index of a span.
-use Rattle.std.specs.Prelude.{ℕ, Bool, cond, not}
+-- Sets changed at one index, at each index of a span, or at each member that fails a test.
+use Rattle.std.specs.Prelude.{◌≡◌, ℕ, Bool, cond, ◌&&◌, not}
 use Rattle.bittle.specs.PlainSet.{PlainSet, contains, with_index, without_index, with_span_changed}
 
 -- the set with the index where the answer is yes, and without it where it is no
@@ -13,3 +13,16 @@ with_index_toggled s i = with_index_assigned s i (not (contains s i))
 -- the set with each index of a span where the answer is yes, and without them where it is no
 abbrev pub with_span_assigned : PlainSet → ℕ → ℕ → Bool → PlainSet
 with_span_assigned s from end value = with_span_changed (λ _. value) s from end
+
+-- whether a number is a member that passes the test
+unfoldable pub has_passing : (ℕ → Bool) → PlainSet → ℕ → Bool
+has_passing test s k = s.has k && test k
+
+-- the set of the members that pass the test
+abbrev pub those_passing : (ℕ → Bool) → PlainSet → PlainSet
+those_passing test s = record { capacity = s.capacity; has = has_passing test s }
+
+-- a call of the closure answers by the test, and leaves the closure as it was
+abbrev pub AnswersBy : {F : Type 0} → (F → ℕ → Bool → F → Type 0) → F → (ℕ → Bool) → Type 0
+AnswersBy {F} step keep test =
+    (i : ℕ) (b : Bool) (next : F) → step keep i b next → (b ≡ test i) × (next ≡ keep)

@@ -4,10 +4,11 @@ ghost use Rattle.std.specs.Prelude.{◌≡◌, ◌+◌, ◌≤◌, ℕ, Bool, Li
 ghost use Rattle.std.specs.Iterator.{Drains, IsFinite};
 ghost use Rattle.std.specs.Iterator.Runs.{WholeRun};
 ghost use Rattle.std.specs.List.{fold};
+ghost use Rattle.std.specs.List.Retain.{IsFiltered};
 ghost use Rattle.bittle_ext.specs.Runs.{IsFirstRun};
 ghost use Rattle.bittle_ext.specs.Changes.{with_index_assigned, with_index_toggled};
-ghost use Rattle.bittle_ext.specs.Changes.{with_span_assigned};
-ghost use Rattle.bittle.specs.PlainSet.{contains, complement, with_index, without_index};
+ghost use Rattle.bittle_ext.specs.Changes.{with_span_assigned, those_passing, AnswersBy};
+ghost use Rattle.bittle.specs.PlainSet.{ascending, contains, complement, with_index, without_index};
 ghost use Rattle.bittle.specs.PlainSet.{with_span, without_span, with_span_toggled};
 ghost use Rattle.bittle.specs.Searches.{IsFirstIn, IsLastIn};
 ghost use Rattle.bittle.specs.Values.{set_in, set_mirrored, ShapeFits};
@@ -279,6 +280,41 @@ pub trait BitsMutExt: BitsMut {
         let from = self.first_zero_run_in::<E>(length)?;
         self.set_range_in::<E>(from, from + length);
         Some(from)
+    }
+
+    /// Asks `keep` once for each set bit, from the least index on, and clears those for which it
+    /// returns `false`, in the order `E`. With capacity 0 it asks for none, and nothing changes.
+    ///
+    /// The shape has to fit. Each set bit costs a call and a search that begins at its word, each
+    /// bit that goes one write.
+    ///
+    /// ```
+    /// let mut word = 0b1000_0110u8;
+    /// word.retain_in::<_, LittleEndian>(|index| index < 6); // word is 0b1000_0100
+    /// ```
+    #[inline]
+    final fn retain_in<F: FnMut(u32) -> bool, E: Endian>(&mut self, mut keep: F)
+    where
+        Self: Sized,
+        requires fits { ShapeFits Self.Shape self.old }
+        requires callable { F.IsAlwaysCallable keep }
+        ensures filtered { IsFiltered F.step keep (ascending (set_in Self.Shape E.Endian self.old))
+            (ascending (set_in Self.Shape E.Endian self.new)) }
+        ensures capacity { (Self.big self.new).capacity ≡ (Self.big self.old).capacity }
+        // What that is where the closure is a test.
+        ensures by_test { (test : ℕ → Bool) → AnswersBy F.step keep test →
+            set_in Self.Shape E.Endian self.new
+            ≡ those_passing test (set_in Self.Shape E.Endian self.old) }
+        ensures stays { Self.loan self.old ≡ Self.loan self.new }
+    {
+        let end = self.bits_capacity();
+        let mut from = 0;
+        while let Some(index) = self.first_one_in::<E>(from, end) {
+            if !keep(index) {
+                self.clear_bit_in::<E>(index);
+            }
+            from = index + 1;
+        }
     }
 
     /// Sets the bit at each of the indexes, in the order `E`. An index past the capacity wraps.
@@ -578,6 +614,31 @@ pub trait BitsMutExt: BitsMut {
         ensures stays { Self.loan self.old ≡ Self.loan self.new }
     {
         self.take_first_zero_run_in::<Self::Order>(length)
+    }
+
+    /// Asks `keep` for each set bit and clears those for which it returns `false`, in the order of
+    /// the type, as [`retain_in`](BitsMutExt::retain_in) does.
+    ///
+    /// ```
+    /// let mut row = [0x07u8, 0x81];
+    /// row.retain(|index| index % 2 == 0);                 // row is [0x05, 0x01]
+    /// ```
+    #[inline]
+    final fn retain<F: FnMut(u32) -> bool>(&mut self, keep: F)
+    where
+        Self: Sized,
+        requires fits { ShapeFits Self.Shape self.old }
+        requires callable { F.IsAlwaysCallable keep }
+        ensures filtered { IsFiltered F.step keep
+            (ascending (set_in Self.Shape Self.Order.Endian self.old))
+            (ascending (set_in Self.Shape Self.Order.Endian self.new)) }
+        ensures capacity { (Self.big self.new).capacity ≡ (Self.big self.old).capacity }
+        ensures by_test { (test : ℕ → Bool) → AnswersBy F.step keep test →
+            set_in Self.Shape Self.Order.Endian self.new
+            ≡ those_passing test (set_in Self.Shape Self.Order.Endian self.old) }
+        ensures stays { Self.loan self.old ≡ Self.loan self.new }
+    {
+        self.retain_in::<F, Self::Order>(keep);
     }
 
     /// Sets the bit at each of the indexes in the order of the type, as

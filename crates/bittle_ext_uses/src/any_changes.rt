@@ -1,11 +1,13 @@
 //! Changes of sets of any shape.
 
-ghost use Rattle.std.specs.Prelude.{◌≡◌, ◌≤◌, not, Bool, IsTrue, MatchOption};
+ghost use Rattle.std.specs.Prelude.{◌≡◌, ◌≤◌, nat_lt, not, Bool, IsTrue, MatchOption};
 ghost use Rattle.std.specs.List.{fold};
+ghost use Rattle.std.specs.List.Retain.{IsFiltered};
 ghost use Rattle.bittle.specs.PlainSet.{ascending, complement, contains};
 ghost use Rattle.bittle.specs.PlainSet.{with_index, without_index, without_span};
 ghost use Rattle.bittle.specs.Searches.{IsFirstIn};
 ghost use Rattle.bittle.specs.Values.{set_in, set_mirrored, ShapeFits};
+ghost use Rattle.bittle_ext.specs.Changes.{those_passing};
 
 use bittle::{Bits, BitsMut, BitsOwned, Endian};
 use bittle_ext::{BitsMutExt, BitsOwnedExt};
@@ -40,6 +42,26 @@ pub fn flip<B: BitsMut>(set: &mut B) -> u32
 {
     set.complement_assign();
     set.count_ones()
+}
+
+/// Keeps the bits below a bound.
+pub fn keep_below<B: BitsMut>(set: &mut B, bound: u32)
+    requires { ShapeFits B.Shape set.old }
+    ensures { set_in B.Shape B.Order.Endian set.new
+        ≡ those_passing (λ i. nat_lt i bound) (set_in B.Shape B.Order.Endian set.old) }
+{
+    set.retain(|index| index < bound);
+}
+
+/// Keeps the bits for which a closure of the caller's returns `true`.
+pub fn keep_those<B: BitsMut, E: Endian, F: FnMut(u32) -> bool>(set: &mut B, keep: F)
+    requires fits { ShapeFits B.Shape set.old }
+    requires callable { F.IsAlwaysCallable keep }
+    ensures filtered { IsFiltered F.step keep (ascending (set_in B.Shape E.Endian set.old))
+        (ascending (set_in B.Shape E.Endian set.new)) }
+    ensures stays { B.loan set.old ≡ B.loan set.new }
+{
+    set.retain_in::<F, E>(keep);
 }
 
 /// Takes the least free slot.

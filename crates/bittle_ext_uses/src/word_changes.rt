@@ -1,13 +1,13 @@
 //! Changes of single words.
 
 ghost use Rattle.std.specs.Int.{w64, cast_unsigned};
-ghost use Rattle.std.specs.Prelude.{◌≡◌, ◌<◌, ◌≤◌, ℕ, not, true, MatchOption, Option};
+ghost use Rattle.std.specs.Prelude.{◌≡◌, ◌<◌, ◌≤◌, ◌==◌, ◌%◌, ℕ, not, true, MatchOption, Option};
 ghost use Rattle.bittle.specs.BitPatterns.{bit_set};
 ghost use Rattle.bittle.specs.Orders.{read_in};
 ghost use Rattle.bittle.specs.PlainSet.{complement, contains, with_index, without_index};
 ghost use Rattle.bittle.specs.PlainSet.{with_span, with_span_toggled, without_span};
 ghost use Rattle.bittle.specs.Searches.{IsFirstIn, IsLastIn};
-ghost use Rattle.bittle_ext.specs.Changes.{with_index_assigned, with_index_toggled};
+ghost use Rattle.bittle_ext.specs.Changes.{with_index_assigned, with_index_toggled, those_passing};
 
 use bittle::LittleEndian;
 use bittle_ext::BitsMutExt;
@@ -63,6 +63,13 @@ pub fn ranges(mask: &mut u64)
     mask.set_range(3, 40);
     mask.assign_range(10, 20, false);
     mask.toggle_range(0, 64);
+}
+
+/// Keeps the even indexes.
+pub fn keep_even(mask: &mut u64)
+    ensures { bit_set 64 mask.new ≡ those_passing (λ i. i % 2 == 0) (bit_set 64 mask.old) }
+{
+    mask.retain(|index| index % 2 == 0);
 }
 
 /// Takes the least index.

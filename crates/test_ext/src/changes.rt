@@ -163,3 +163,37 @@ fn lists_and_iterators_are_set(rt: HostRuntime) {
     row.extend_in::<_, LittleEndian>(0b0101u8.iter_ones());
     same!(rt; row, [0xE0, 0x07]);
 }
+
+#[test]
+fn bits_that_are_kept(rt: HostRuntime) {
+    let mut word = 0b1000_0110u8;
+    word.retain_in::<_, LittleEndian>(|index| index < 6);
+    same!(rt; word, 0b1000_0100);
+    let mut row = [0x07u8, 0x81];
+    row.retain(|index| index % 2 == 0);
+    same!(rt; row, [0x05, 0x01]);
+    row.retain(|index| index > 20);
+    same!(rt; row, [0, 0]);
+    let mut none: [u8; 0] = [];
+    none.retain(|_index| false);
+    same!(rt; none, []);
+}
+
+#[test]
+fn each_bit_is_asked_once_from_the_least(rt: HostRuntime) {
+    let mut word = 0b1001_0110u8;
+    let mut asked = 0u32;
+    word.retain(|index| {
+        asked = asked.wrapping_mul(10).wrapping_add(index);
+        asked != 12
+    });
+    same!(rt; (asked, word), (1247, 0b1001_0010));
+}
+
+#[test]
+fn bits_of_a_lent_slice_that_are_kept(rt: HostRuntime) {
+    let mut words = [0b11u64, 0b101];
+    let mut set = Set::from_mut_le(words.as_mut_slice());
+    set.retain(|index| index > 62 && index < 127);
+    same!(rt; words, [0b01, 0b100]);
+}
