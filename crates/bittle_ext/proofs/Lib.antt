@@ -9,4 +9,6 @@ pub mod RankFacts
 pub mod RelationFacts
 mod RetainSteps
 pub mod RunFacts
+mod RunEnds
+mod RunLists
 pub mod SetFacts

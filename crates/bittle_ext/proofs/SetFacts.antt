@@ -26,11 +26,12 @@ last_to s c to at (Some i) past e h = (
   λ k p q. elim (cases_lt k c) [ inl l ↦ h.3 k p (omega (arith, e)) | inr g ↦ past k g ],
 )
 
-not_false : (b : Bool) → not b ≡ false → b ≡ true
+-- what is not false is true, and what is not true is false
+pub not_false : (b : Bool) → not b ≡ false → b ≡ true
 not_false true e = refl
 not_false false e = absurd (true≢false e)
 
-not_true : (b : Bool) → not b ≡ true → b ≡ false
+pub not_true : (b : Bool) → not b ≡ true → b ≡ false
 not_true true e = absurd (true≢false (sym e))
 not_true false e = refl
 

@@ -1,6 +1,10 @@
 -- Runs of neighbours that are members.
-use Rattle.std.specs.Prelude.{◌≡◌, ℕ, ◌+◌, ◌<◌, ◌≤◌, true, Option, Some, None}
+use Rattle.std.specs.Prelude.{◌≡◌, ℕ, zero, suc, ◌+◌, ◌-◌, ◌<◌, ◌≤◌, ◌==◌, Bool, true, false, cond, List, [], ◌∷◌, length, slice_index_or, Option, Some, None}
+use Rattle.std.specs.Iterator.{YieldsFirst, YieldsLast}
+use Rattle.std.specs.Iterator.Runs.{YieldsInOrder, YieldsInReverse}
+use Rattle.std.specs.declared.ops.Range.{Range}
 use Rattle.bittle.specs.PlainSet.{PlainSet}
+use Rattle.bittle_ext.specs.RangeMembers.{HasAllIn}
 
 -- so many numbers from one on are all members, and none of them is past the capacity
 abbrev pub IsRun : PlainSet → ℕ → ℕ → Type 0
@@ -17,3 +21,49 @@ abbrev pub IsFirstRun : PlainSet → ℕ → ℕ → Option ℕ → Type 0
 IsFirstRun s from length None = (k : ℕ) → from ≤ k → IsRun s length k → ⊥
 IsFirstRun s from length (Some i) =
     (from ≤ i) × IsRun s length i × NoRunBegins s length from i
+
+-- the numbers from one on and before another
+abbrev pub run : ℕ → ℕ → Range ℕ
+run start end = record { start = start; end = end }
+
+-- a number joins the run that begins right after it; before any other it is a run of its own
+unfoldable pub joined : ℕ → List (Range ℕ) → List (Range ℕ)
+joined k [] = run k (suc k) ∷ []
+joined k (r ∷ rs) = cond (r.start == suc k) (run k r.end ∷ rs) (run k (suc k) ∷ r ∷ rs)
+
+-- the longest runs, increasing, of those of n numbers from one on that pass the test
+unfoldable pub runs_from : (ℕ → Bool) → ℕ → ℕ → List (Range ℕ)
+runs_from p from zero = []
+runs_from p from (suc n) = cond (p from) (joined from (runs_from p (suc from) n))
+    (runs_from p (suc from) n)
+
+-- the longest runs of members from one number on and below another
+unfoldable pub runs_between : PlainSet → ℕ → ℕ → List (Range ℕ)
+runs_between s from to = runs_from s.has from (to - from)
+
+-- the longest runs of members
+abbrev pub runs : PlainSet → List (Range ℕ)
+runs s = runs_between s 0 s.capacity
+
+-- each run of the list has a number and none from c on, and there are at most c of them
+abbrev pub AreRunsBelow : ℕ → List (Range ℕ) → Type 0
+AreRunsBelow c rs = (length rs ≤ c) × ((k : ℕ) (d : Range ℕ) → k < length rs →
+    ((slice_index_or rs k d).start < (slice_index_or rs k d).end)
+    × ((slice_index_or rs k d).end ≤ c))
+
+-- steps over a list of runs give it from its first item on, and from the back in reverse
+abbrev pub RunsInOrder : Type 0
+RunsInOrder = YieldsInOrder (YieldsFirst (λ (rs : List (Range ℕ)). rs)) (λ rs. rs)
+
+abbrev pub RunsInReverse : Type 0
+RunsInReverse = YieldsInReverse (YieldsLast (λ (rs : List (Range ℕ)). rs)) (λ rs. rs)
+
+-- of the numbers before another one, the members from the first on go up to the end
+abbrev pub EndsRun : PlainSet → ℕ → ℕ → ℕ → Type 0
+EndsRun s start to end = (start < end) × (end ≤ to) × HasAllIn s start end
+    × (end < to → s.has end ≡ false)
+
+-- of the numbers from another one on, the members up to the last begin at the start
+abbrev pub BeginsRun : PlainSet → ℕ → ℕ → ℕ → Type 0
+BeginsRun s from last start = (from ≤ start) × (start ≤ last) × HasAllIn s start (last + 1)
+    × (from < start → s.has (start - 1) ≡ false)

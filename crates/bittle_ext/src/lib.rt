@@ -37,6 +37,7 @@ pub mod range_iterators;
 pub mod rank_laws;
 mod ranks;
 mod relations;
+pub mod run_iterators;
 mod runs;
 
 pub use bits_ext::BitsExt;

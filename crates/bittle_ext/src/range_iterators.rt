@@ -4,11 +4,13 @@ ghost use Rattle.std.specs.Iterator.{YieldsFirst, YieldsLast, item_count};
 ghost use Rattle.std.specs.Prelude.{◌≡◌, ◌-◌, ◌≤◌, length};
 ghost use Rattle.bittle_bits.specs.Buffers.{members_between};
 ghost use Rattle.bittle_ext.specs.RangeMembers.{members_within, AreWithin};
+ghost use Rattle.bittle_ext.specs.Runs.{runs, AreRunsBelow, RunsInOrder, RunsInReverse};
 ghost use Rattle.bittle.specs.PlainSet.{ascending, complement, members_below};
 ghost use Rattle.bittle.specs.Values.{set_in, ShapeFits};
 ghost use Rattle.bittle.specs.Walk.{ones_or_zeros, ListsInOrder, ListsInReverse};
 
 use crate::kind_searches::{first_of_kind, last_of_kind};
+use crate::run_iterators::{IterOneRuns, IterRuns, IterZeroRuns};
 use bittle::{Bits, Endian, Shape};
 use bittle_bits::internal::kind::{Kind, Ones, Zeros};
 use std::marker::{Model, PhantomData};
@@ -132,9 +134,9 @@ fn step_back<B: Bits, E: Endian, K: Kind>(bits: &B, from: u32, to: &mut u32) -> 
     Some(index)
 }
 
-/// Iterators over a range of a set.
+/// Iterators over a range of a set, and over its longest runs of neighbours.
 ///
-/// The shape has to fit, and `from <= to <= capacity`: nothing wraps.
+/// The shape has to fit. Of a range `from <= to <= capacity`: nothing wraps.
 pub trait BitsRangeExt: Bits {
     /// Returns an iterator over the indexes of the set bits in `from..to`, in the order `E`,
     /// increasing, from both ends.
@@ -254,6 +256,88 @@ pub trait BitsRangeExt: Bits {
         ensures in_reverse { ListsInReverse }
     {
         self.iter_zeros_in_range_in::<Self::Order>(from, to)
+    }
+
+    /// Returns an iterator over the longest runs of set bits, each as the range of its indexes, in
+    /// the order `E`, increasing, from both ends.
+    ///
+    /// The shape has to fit. Each step is two searches by whole words. With capacity 0 it yields
+    /// nothing.
+    ///
+    /// ```
+    /// 0b0110_0010u8.iter_one_runs_in::<LittleEndian>();   // yields 1..3, 6..7
+    /// ```
+    #[inline]
+    final fn iter_one_runs_in<E: Endian>(&self) -> IterOneRuns<'_, Self, E>
+    where
+        Self: Sized,
+        requires { ShapeFits Self.Shape self.now }
+        ensures items { result ≡ runs (set_in Self.Shape E.Endian self.now) }
+        ensures below { AreRunsBelow (Self.big self.now).capacity result }
+        ensures in_order { RunsInOrder }
+        ensures in_reverse { RunsInReverse }
+    {
+        IterRuns::new(self)
+    }
+
+    /// Returns an iterator over the longest runs of set bits in the order of the type, as
+    /// [`iter_one_runs_in`](BitsRangeExt::iter_one_runs_in) does.
+    ///
+    /// ```
+    /// 0b0110_0010u8.iter_one_runs();                      // yields 1..2, 5..7
+    /// ```
+    #[inline]
+    final fn iter_one_runs(&self) -> IterOneRuns<'_, Self, Self::Order>
+    where
+        Self: Sized,
+        requires { ShapeFits Self.Shape self.now }
+        ensures items { result ≡ runs (set_in Self.Shape Self.Order.Endian self.now) }
+        ensures below { AreRunsBelow (Self.big self.now).capacity result }
+        ensures in_order { RunsInOrder }
+        ensures in_reverse { RunsInReverse }
+    {
+        self.iter_one_runs_in::<Self::Order>()
+    }
+
+    /// Returns an iterator over the longest runs of unset bits, each as the range of its indexes, in
+    /// the order `E`, increasing, from both ends.
+    ///
+    /// The shape has to fit. Each step is two searches by whole words. With capacity 0 it yields
+    /// nothing.
+    ///
+    /// ```
+    /// 0b0110_0010u8.iter_zero_runs_in::<LittleEndian>();  // yields 0..1, 3..6, 7..8
+    /// ```
+    #[inline]
+    final fn iter_zero_runs_in<E: Endian>(&self) -> IterZeroRuns<'_, Self, E>
+    where
+        Self: Sized,
+        requires { ShapeFits Self.Shape self.now }
+        ensures items { result ≡ runs (complement (set_in Self.Shape E.Endian self.now)) }
+        ensures below { AreRunsBelow (Self.big self.now).capacity result }
+        ensures in_order { RunsInOrder }
+        ensures in_reverse { RunsInReverse }
+    {
+        IterRuns::new(self)
+    }
+
+    /// Returns an iterator over the longest runs of unset bits in the order of the type, as
+    /// [`iter_zero_runs_in`](BitsRangeExt::iter_zero_runs_in) does.
+    ///
+    /// ```
+    /// 0b0110_0010u8.iter_zero_runs();                     // yields 0..1, 2..5, 7..8
+    /// ```
+    #[inline]
+    final fn iter_zero_runs(&self) -> IterZeroRuns<'_, Self, Self::Order>
+    where
+        Self: Sized,
+        requires { ShapeFits Self.Shape self.now }
+        ensures items { result ≡ runs (complement (set_in Self.Shape Self.Order.Endian self.now)) }
+        ensures below { AreRunsBelow (Self.big self.now).capacity result }
+        ensures in_order { RunsInOrder }
+        ensures in_reverse { RunsInReverse }
+    {
+        self.iter_zero_runs_in::<Self::Order>()
     }
 }
 

@@ -7,5 +7,6 @@ pub mod lent_changes;
 pub mod made_sets;
 pub mod range_walks;
 pub mod reads;
+pub mod run_walks;
 pub mod shape_changes;
 pub mod word_changes;

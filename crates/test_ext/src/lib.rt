@@ -15,3 +15,5 @@ mod random;
 mod ranges;
 #[cfg(test)]
 mod reads;
+#[cfg(test)]
+mod walked_runs;

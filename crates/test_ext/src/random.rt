@@ -178,3 +178,40 @@ fn drawn_ranges_agree_with_plain_loops(rt: HostRuntime) {
         same!(rt; walked_range(zeros, &row, from, to), expected);
     }
 }
+
+// Returns where the runs of a kind of a row begin, and where their last bits are.
+fn walked_runs(zeros: bool, row: &[u8; 3]) -> ([bool; 24], [bool; 24]) {
+    let (mut firsts, mut lasts) = ([false; 24], [false; 24]);
+    if zeros {
+        for run in row.iter_zero_runs() {
+            firsts[run.start as usize] = true;
+            lasts[run.end as usize - 1] = true;
+        }
+    } else {
+        for run in row.iter_one_runs().rev() {
+            firsts[run.start as usize] = true;
+            lasts[run.end as usize - 1] = true;
+        }
+    }
+    (firsts, lasts)
+}
+
+#[test]
+fn drawn_runs_agree_with_plain_loops(rt: HostRuntime) {
+    let mut state = 13;
+    for turn in 0..1000u32 {
+        let row = [
+            (draw(&mut state) % 256) as u8,
+            (draw(&mut state) % 256) as u8,
+            (draw(&mut state) % 256) as u8,
+        ];
+        let (flags, zeros) = (flags_of(&row), turn % 2 == 0);
+        let (mut firsts, mut lasts) = ([false; 24], [false; 24]);
+        for i in 0..24usize {
+            firsts[i] = flags[i] != zeros && (i == 0 || flags[i - 1] == zeros);
+            lasts[i] = flags[i] != zeros && (i == 23 || flags[i + 1] == zeros);
+        }
+        let walked = walked_runs(zeros, &row);
+        same!(rt; walked, (firsts, lasts));
+    }
+}

@@ -1,0 +1,163 @@
+-- Where a run begins and ends, and how far the runs of a list reach.
+use Rattle.std.proofs.Common.{◌≡◌, ℕ, zero, suc, ◌+◌, ◌-◌, ◌<◌, ◌≤◌, ◌==◌, Bool, true, false, not, cond, List, [], ◌∷◌, length, Some, inl, inr, refl, sym, ap, ◌∙◌, arith}
+use Rattle.std.proofs.lemmas.Bool.{cases_Bool, cases_eq}
+use Rattle.std.specs.Prelude.{⊤, slice_index_or}
+use Rattle.std.specs.Iterator.{YieldsFirst, YieldsLast}
+use Rattle.std.proofs.iter.runs.Sources.{from_front, from_back, as_is, as_is_back}
+use Rattle.std.specs.declared.ops.Range.{Range}
+use Rattle.bittle_bits.specs.PlainSet.{PlainSet}
+use Rattle.bittle_bits.specs.Searches.{NoneIn, IsFirstIn, IsLastIn}
+use Rattle.bittle_bits.specs.Walk.{ones_or_zeros}
+use Rattle.bittle_ext.specs.RangeMembers.{HasAllIn}
+use Rattle.bittle_ext.specs.Runs.{run, joined, runs_from, runs_between, runs, AreRunsBelow, EndsRun, BeginsRun, RunsInOrder, RunsInReverse}
+use Rattle.bittle_ext.proofs.RunFacts.{AreOpposite, opposite_to_complement, complement_to_opposite}
+use Rattle.bittle_ext.proofs.SetFacts.{not_false, not_true}
+
+-- the bits of one kind are those that are none of the other
+pub others_opposite : (ones : Bool) (s : PlainSet) →
+    AreOpposite (ones_or_zeros ones s) (ones_or_zeros (not ones) s)
+others_opposite true s = opposite_to_complement s
+others_opposite false s = complement_to_opposite s
+
+module _ (s t : PlainSet) (opposite : AreOpposite s t) where
+  member : (k : ℕ) → k < s.capacity → t.has k ≡ false → s.has k ≡ true
+  member k l e = not_false (s.has k) (sym (opposite.1 k l) ∙ e)
+
+  no_member : (k : ℕ) → k < s.capacity → t.has k ≡ true → s.has k ≡ false
+  no_member k l e = not_true (s.has k) (sym (opposite.1 k l) ∙ e)
+
+  all_from : (start end : ℕ) → end ≤ s.capacity → s.has start ≡ true →
+      NoneIn t (start + 1) end → HasAllIn s start end
+  all_from start end within here none k lo hi =
+      elim (cases_eq k start) [
+        | inl e ↦ ap s.has e ∙ here
+        | inr n ↦ member k (omega arith) (none k (omega (arith, n)) hi)
+      ]
+
+  all_to : (start last : ℕ) → last < s.capacity → s.has last ≡ true → NoneIn t start last →
+      HasAllIn s start (last + 1)
+  all_to start last within here none k lo hi =
+      elim (cases_eq k last) [
+        | inl e ↦ ap s.has e ∙ here
+        | inr n ↦ member k (omega arith) (none k lo (omega (arith, n)))
+      ]
+
+  -- the run that begins at a member ends at the first number after it that is none, or with all
+  -- numbers
+  pub end_found : (start to end : ℕ) → to ≤ s.capacity → s.has start ≡ true →
+      IsFirstIn t (start + 1) to (Some end) → EndsRun s start to end
+  end_found start to end within here h = (
+    omega (arith, h.0),
+    omega (arith, h.1),
+    all_from start end (omega (arith, h.1)) here h.3,
+    λ l. no_member end (omega arith) h.2,
+  )
+
+  pub end_none : (start to : ℕ) → start < to → to ≤ s.capacity → s.has start ≡ true →
+      NoneIn t (start + 1) to → EndsRun s start to to
+  end_none start to some within here none =
+      (some, omega arith, all_from start to within here none, λ l. absurd (omega arith))
+
+  -- the run that ends with a member begins past the last number before it that is none, or with the
+  -- first number
+  pub start_found : (from last gap start : ℕ) → start ≡ gap + 1 → last < s.capacity →
+      s.has last ≡ true → IsLastIn t from last (Some gap) → BeginsRun s from last start
+  start_found from last gap start is within here h = (
+    omega (arith, h.0),
+    omega (arith, h.1),
+    all_to start last within here (λ k p q. h.3 k (omega arith) q),
+    λ l. ap s.has (omega arith) ∙ no_member gap (omega (arith, h.1)) h.2,
+  )
+
+  pub start_none : (from last : ℕ) → from ≤ last → last < s.capacity → s.has last ≡ true →
+      NoneIn t from last → BeginsRun s from last from
+  start_none from last some within here none =
+      (omega arith, some, all_to from last within here none, λ l. absurd (omega arith))
+
+-- each run of the list has a number, and lies between two numbers
+abbrev AllWithin : ℕ → ℕ → List (Range ℕ) → Type 0
+AllWithin from to [] = ⊤
+AllWithin from to (r ∷ rs) =
+    (from ≤ r.start) × (r.start < r.end) × (r.end ≤ to) × AllWithin from to rs
+
+within_later : (m n to : ℕ) (rs : List (Range ℕ)) → m ≤ n → AllWithin n to rs → AllWithin m to rs
+within_later m n to [] le h = tt
+within_later m n to (r ∷ rs) le h =
+    (omega (arith, h.0), h.1, h.2, within_later m n to rs le h.3)
+
+joined_within : (k to : ℕ) (rs : List (Range ℕ)) → suc k ≤ to → AllWithin (suc k) to rs →
+    AllWithin k to (joined k rs)
+unfolding joined
+joined_within k to [] le h = (omega arith, omega arith, le, tt)
+joined_within k to (r ∷ rs) le h =
+    elim (r.start == suc k) as (λ b. AllWithin k to (cond b (run k r.end ∷ rs)
+    (run k (suc k) ∷ r ∷ rs))) [
+      | true ↦ (
+        omega arith,
+        omega (arith, h.0, h.1),
+        h.2,
+        within_later k (suc k) to rs (omega arith) h.3,
+      )
+      | false ↦ (
+        omega arith,
+        omega arith,
+        le,
+        within_later k (suc k) to (r ∷ rs) (omega arith) h,
+      )
+    ]
+
+joined_length : (k : ℕ) (rs : List (Range ℕ)) → length (joined k rs) ≤ suc (length rs)
+unfolding joined
+joined_length k [] = omega arith
+joined_length k (r ∷ rs) =
+    elim (r.start == suc k) as (λ b. length (cond b (run k r.end ∷ rs)
+    (run k (suc k) ∷ r ∷ rs)) ≤ suc (suc (length rs))) [ true ↦ omega arith | false ↦ omega arith ]
+
+runs_within : (p : ℕ → Bool) (from n to : ℕ) → from + n ≤ to →
+    AllWithin from to (runs_from p from n)
+unfolding runs_from
+runs_within p from zero to le = tt
+runs_within p from (suc n) to le =
+    let rest = runs_within p (suc from) n to (omega arith) in
+    elim (p from) as (λ b. AllWithin from to (cond b (joined from (runs_from p (suc from) n))
+    (runs_from p (suc from) n))) [
+      | true ↦ joined_within from to (runs_from p (suc from) n) (omega arith) rest
+      | false ↦ within_later from (suc from) to (runs_from p (suc from) n) (omega arith) rest
+    ]
+
+runs_length : (p : ℕ → Bool) (from n : ℕ) → length (runs_from p from n) ≤ n
+unfolding runs_from
+runs_length p from zero = omega arith
+runs_length p from (suc n) =
+    let rest = runs_length p (suc from) n in
+    let more = joined_length from (runs_from p (suc from) n) in
+    elim (p from) as (λ b. length (cond b (joined from (runs_from p (suc from) n))
+    (runs_from p (suc from) n)) ≤ suc n) [ true ↦ omega (arith, more) | false ↦ omega (arith, rest) ]
+
+run_at : (from to : ℕ) (rs : List (Range ℕ)) (k : ℕ) (d : Range ℕ) → k < length rs →
+    AllWithin from to rs →
+    ((slice_index_or rs k d).start < (slice_index_or rs k d).end)
+    × ((slice_index_or rs k d).end ≤ to)
+run_at from to [] k d l h = absurd (omega arith)
+run_at from to (r ∷ rs) zero d l h = (h.1, h.2)
+run_at from to (r ∷ rs) (suc k) d l h = run_at from to rs k d (omega arith) h.3
+
+-- the runs of a set end below its capacity or there, and there are no more of them
+pub are_runs_below : (s : PlainSet) (c : ℕ) (rs : List (Range ℕ)) → s.capacity ≡ c →
+    rs ≡ runs s → AreRunsBelow c rs
+unfolding runs_between
+are_runs_below s c rs is e = rw e (
+  omega (arith, is, runs_length s.has 0 (s.capacity - 0)),
+  λ k d l. run_at 0 c (runs s) k d l
+      (runs_within s.has 0 (s.capacity - 0) c (omega (arith, is))),
+)
+
+-- what steps over a list of runs give
+pub runs_in_order : RunsInOrder
+runs_in_order p seen = as_is p p.from (from_front (YieldsFirst (λ (left : List (Range ℕ)). left))
+    (λ x. x) (λ left. left) (λ s t h. ap length h.0) (λ s x t h. h) p seen)
+
+pub runs_in_reverse : RunsInReverse
+runs_in_reverse p seen = as_is_back p p.from
+    (from_back (YieldsLast (λ (left : List (Range ℕ)). left)) (λ x. x) (λ left. left)
+    (λ s t h. ap length h.0) (λ s x t h. h) p seen)

@@ -1,0 +1,161 @@
+//! Iterators over the longest runs of set bits, and of unset bits.
+
+ghost use Rattle.std.specs.Iterator.{YieldsFirst, YieldsLast, item_count};
+ghost use Rattle.std.specs.Prelude.{◌≡◌, ◌<◌, ◌≤◌, true};
+ghost use Rattle.bittle_ext.specs.Runs.{runs, runs_between, AreRunsBelow};
+ghost use Rattle.bittle_ext.specs.Runs.{BeginsRun, EndsRun, RunsInOrder, RunsInReverse};
+ghost use Rattle.bittle.specs.Values.{set_in, ShapeFits};
+ghost use Rattle.bittle.specs.Walk.{ones_or_zeros};
+
+use crate::kind_searches::{first_of_kind, first_of_other, last_of_kind, last_of_other};
+use bittle::{Bits, Endian, Shape};
+use bittle_bits::internal::kind::{Kind, Ones, Zeros};
+use std::marker::{Model, PhantomData};
+use std::ops::Range;
+
+/// Yields the longest runs of set bits.
+pub type IterOneRuns<'a, B, E> = IterRuns<'a, B, E, Ones>;
+
+/// Yields the longest runs of unset bits.
+pub type IterZeroRuns<'a, B, E> = IterRuns<'a, B, E, Zeros>;
+
+/// Iterates over the longest runs of neighbours in a set that it borrows, of the bits that `K`
+/// names, increasing, in the order `E`, from both ends. Each step is two searches by whole words.
+/// After its end it returns `None` on both sides.
+#[derive(Drop)]
+pub struct IterRuns<'a, B: Shape, E: Endian, K: Kind> {
+    bits: &'a B,
+    from: u32,
+    to: u32,
+    order: PhantomData<E>,
+    kind: PhantomData<K>,
+}
+
+impl<'a, B: Shape, E: Endian, K: Kind> Model for IterRuns<'a, B, E, K> {
+    ghost use Rattle.std.specs.Prelude.{ℕ, List};
+    ghost use Rattle.std.specs.declared.ops.Range.{Range};
+
+    ghost Value = { List (Range ℕ) };
+
+    ghost use Rattle.std.specs.Prelude.{◌≤◌};
+    ghost use Rattle.bittle_ext.specs.Runs.{runs_between};
+    ghost use Rattle.bittle.specs.Values.{set_in, ShapeFits};
+    ghost use Rattle.bittle.specs.Walk.{ones_or_zeros};
+
+    ghost view = { λ i. runs_between (ones_or_zeros K.ONES (set_in B.Shape E.Endian i.bits.now))
+        i.from i.to };
+
+    ghost invariant = { λ i. ShapeFits B.Shape i.bits.now × (i.from ≤ i.to)
+        × (i.to ≤ (B.big i.bits.now).capacity) };
+}
+
+impl<'a, B: Bits, E: Endian, K: Kind> IterRuns<'a, B, E, K> {
+    /// Begins an iterator over the runs of a set.
+    #[inline]
+    pub(crate) fn new(bits: &'a B) -> Self
+        requires { ShapeFits B.Shape bits.now }
+        ensures items { result ≡ runs (ones_or_zeros K.ONES (set_in B.Shape E.Endian bits.now)) }
+        ensures below { AreRunsBelow (B.big bits.now).capacity result }
+        ensures in_order { RunsInOrder }
+        ensures in_reverse { RunsInReverse }
+    {
+        IterRuns {
+            bits,
+            from: 0,
+            to: bits.bits_capacity(),
+            order: PhantomData,
+            kind: PhantomData,
+        }
+    }
+}
+
+impl<'a, B: Bits, E: Endian, K: Kind> Iterator for IterRuns<'a, B, E, K> {
+    type Item = Range<u32>;
+
+    ghost next_gives = { YieldsFirst (λ items. items) };
+
+    ghost remaining = { item_count (λ items. items) };
+
+    #[inline]
+    fn next(&mut self) -> Option<Range<u32>> {
+        step_front::<B, E, K>(self.bits, &mut self.from, self.to)
+    }
+}
+
+impl<'a, B: Bits, E: Endian, K: Kind> DoubleEndedIterator for IterRuns<'a, B, E, K> {
+    ghost next_back_gives = { YieldsLast (λ items. items) };
+
+    #[inline]
+    fn next_back(&mut self) -> Option<Range<u32>> {
+        step_back::<B, E, K>(self.bits, self.from, &mut self.to)
+    }
+}
+
+/// Returns where the run that begins at `start` ends, in `start..to`.
+#[inline]
+fn end_of_run<B: Bits, E: Endian, K: Kind>(bits: &B, start: u32, to: u32) -> u32
+    requires fits { ShapeFits B.Shape bits.now }
+    requires ordered { start < to }
+    requires within { to ≤ (B.big bits.now).capacity }
+    requires member { (ones_or_zeros K.ONES (set_in B.Shape E.Endian bits.now)).has start ≡ true }
+    ensures { EndsRun (ones_or_zeros K.ONES (set_in B.Shape E.Endian bits.now)) start to result }
+{
+    match first_of_other::<B, E, K>(bits, start + 1, to) {
+        Some(end) => end,
+        None => to,
+    }
+}
+
+/// Returns where the run that ends with `last` begins, in `from..=last`.
+#[inline]
+fn start_of_run<B: Bits, E: Endian, K: Kind>(bits: &B, from: u32, last: u32) -> u32
+    requires fits { ShapeFits B.Shape bits.now }
+    requires ordered { from ≤ last }
+    requires within { last < (B.big bits.now).capacity }
+    requires member { (ones_or_zeros K.ONES (set_in B.Shape E.Endian bits.now)).has last ≡ true }
+    ensures { BeginsRun (ones_or_zeros K.ONES (set_in B.Shape E.Endian bits.now)) from last result }
+{
+    match last_of_other::<B, E, K>(bits, from, last) {
+        Some(gap) => gap + 1,
+        None => from,
+    }
+}
+
+/// Returns the first run of the kind that remains, and goes on at its end.
+#[inline]
+fn step_front<B: Bits, E: Endian, K: Kind>(bits: &B, from: &mut u32, to: u32) -> Option<Range<u32>>
+    requires fits { ShapeFits B.Shape bits.now }
+    requires ordered { from.old ≤ to }
+    requires within { to ≤ (B.big bits.now).capacity }
+    ensures gave { let ours = ones_or_zeros K.ONES (set_in B.Shape E.Endian bits.now) in
+        YieldsFirst (λ at. runs_between ours at to) from.old result from.new }
+    ensures ordered { from.new ≤ to }
+{
+    let Some(start) = first_of_kind::<B, E, K>(bits, *from, to) else {
+        *from = to;
+        return None;
+    };
+    let end = end_of_run::<B, E, K>(bits, start, to);
+    *from = end;
+    Some(start..end)
+}
+
+/// Returns the last run of the kind that remains, and goes on before its start.
+#[inline]
+fn step_back<B: Bits, E: Endian, K: Kind>(bits: &B, from: u32, to: &mut u32) -> Option<Range<u32>>
+    requires fits { ShapeFits B.Shape bits.now }
+    requires ordered { from ≤ to.old }
+    requires within { to.old ≤ (B.big bits.now).capacity }
+    ensures gave { let ours = ones_or_zeros K.ONES (set_in B.Shape E.Endian bits.now) in
+        YieldsLast (λ at. runs_between ours from at) to.old result to.new }
+    ensures ordered { from ≤ to.new }
+    ensures within { to.new ≤ to.old }
+{
+    let Some(last) = last_of_kind::<B, E, K>(bits, from, *to) else {
+        *to = from;
+        return None;
+    };
+    let start = start_of_run::<B, E, K>(bits, from, last);
+    *to = start;
+    Some(start..last + 1)
+}

@@ -1,0 +1,57 @@
+//! Iterators over the longest runs of a set.
+
+ghost use Rattle.std.specs.Iterator.{YieldsFirst, YieldsLast};
+ghost use Rattle.std.specs.Prelude.{◌≡◌, ℕ, List, length};
+ghost use Rattle.std.specs.declared.ops.Range.{Range};
+ghost use Rattle.bittle.specs.BitPatterns.{bit_set};
+ghost use Rattle.bittle.specs.PlainSet.{complement};
+ghost use Rattle.bittle.specs.Values.{set_in, ShapeFits};
+ghost use Rattle.bittle_ext.specs.Runs.{runs};
+
+use bittle::{Bits, Endian};
+use bittle_ext::{BitsMutExt, BitsRangeExt};
+use std::ops::Range;
+
+/// Counts the runs of members.
+pub fn count_runs(mask: u64) -> usize
+    ensures { result ≡ length (runs (bit_set 64 mask)) }
+{
+    mask.iter_one_runs().count()
+}
+
+/// Returns the first and the last run of what is no member of any set.
+pub fn free_runs<B: Bits, E: Endian>(set: &B) -> (Option<Range<u32>>, Option<Range<u32>>)
+    requires { ShapeFits B.Shape set.now }
+    ensures { (rest : List (Range ℕ)) × (left : List (Range ℕ))
+        × YieldsFirst (λ items. items) (runs (complement (set_in B.Shape E.Endian set.now)))
+        result.0 rest
+        × YieldsLast (λ items. items) rest result.1 left }
+{
+    let mut walk = set.iter_zero_runs_in::<E>();
+    (walk.next(), walk.next_back())
+}
+
+/// Returns how long the longest run of members is: a run ends past its start.
+pub fn longest(mask: u64) -> u32 {
+    let mut longest = 0;
+    for run in mask.iter_one_runs() {
+        longest = (run.end - run.start).max(longest);
+    }
+    longest
+}
+
+/// Sets each run of a mask in another row: a run ends at most at the capacity.
+pub fn set_runs(mask: u16, row: &mut [u8; 2]) {
+    for run in mask.iter_one_runs() {
+        row.set_range(run.start, run.end);
+    }
+}
+
+/// Returns the last entry of a table at the start of a run: each start is an index of the table.
+pub fn last_start(mask: u16, table: &[u32; 16]) -> u32 {
+    let mut last = 0;
+    for run in mask.iter_one_runs() {
+        last = table[run.start as usize];
+    }
+    last
+}
