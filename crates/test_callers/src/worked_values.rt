@@ -1,14 +1,19 @@
 //! Values worked out by hand.
 
 use crate::checks::{holds, same};
-use bittle::Bits;
+use bittle::{Bits, Set};
+use bittle_uses::board::outer_cells;
 use bittle_uses::changes::{insert, move_bit, remove};
+use bittle_uses::entities::with_both;
 use bittle_uses::free_runs::first_free_run;
+use bittle_uses::permissions::allows;
 use bittle_uses::ranks::{how_many_from, rank_of};
 use bittle_uses::relations::{is_disjoint, is_subset};
 use bittle_uses::searches::{greatest, has_any_above, is_pairwise_below, list_members};
 use bittle_uses::sieve::primes;
+use bittle_uses::slots::Slots;
 use bittle_uses::sums::{sum_in_reverse, sum_of_members};
+use bittle_uses::tables::greatest_as_byte;
 use bittle_uses::totals::sum_from_greatest;
 use std::test::Fail;
 
@@ -64,4 +69,27 @@ fn relations_of_two_sets(rt: HostRuntime) {
 fn runs_of_free_neighbours(rt: HostRuntime) {
     same!(rt; first_free_run(&0b1001_0110u8, 2), Some(5));
     same!(rt; first_free_run(&0b1001_0110u8, 3), None);
+}
+
+#[test]
+fn members_from_the_left(rt: HostRuntime) -> Result<(), Fail> {
+    let set = Set::new_le(0b1101_0000u8);
+    same!(rt; list_members(rt.alloc(), &set)?.as_slice(), [0, 1, 3].as_slice());
+    Ok(())
+}
+
+#[test]
+fn boards_entities_and_roles(rt: HostRuntime) {
+    same!(rt; outer_cells(0b0110_0001), (Some(1), Some(63)));
+    same!(rt; with_both(0b0110, 0b1100), 0b0100);
+    let (reader, writer) = (Set::new(0b0001u32), Set::new(0b0011u32));
+    holds!(rt; allows(writer, reader) && !allows(reader, writer));
+}
+
+#[test]
+fn bytes_and_slots(rt: HostRuntime) {
+    same!(rt; greatest_as_byte(&[1, 0, 0b0100, 0]), 130);
+    let mut words = [u64::MAX ^ 0b1000, 0];
+    let mut slots = Slots::over(&mut words);
+    same!(rt; (slots.take(), slots.take()), (Some(3), Some(64)));
 }
