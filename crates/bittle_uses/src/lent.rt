@@ -1,4 +1,7 @@
 //! Contracts that say what a lent slice, or any set, holds after a change.
+//!
+//! The least free index is the first item of an iterator here; `take_first_zero` of `bittle_ext`
+//! takes it in one call.
 
 ghost use Rattle.std.specs.Prelude.{◌≡◌, ◌*◌, ◌<◌, length, MatchOption, slice_get};
 ghost use Rattle.bittle.specs.BitPatterns.{bit_set};

@@ -1,4 +1,7 @@
 //! How many set bits lie below an index, or from it on.
+//!
+//! It shows how a loop that counts is proved, and `position` of an iterator. `rank` and
+//! `count_ones_in_range` of `bittle_ext` count by words.
 
 ghost use Rattle.std.specs.Prelude.{◌≡◌, ◌==◌, nat_le, position, count_by};
 ghost use Rattle.bittle.specs.PlainSet.{ascending};

@@ -1,4 +1,7 @@
-//! Questions about all set bits of a set: what the methods of an iterator answer, and a search.
+//! Questions about all set bits of a set.
+//!
+//! It shows how what the methods of an iterator answer is proved. The searches of `bittle_ext`
+//! answer by words, as in `last`.
 
 ghost use Rattle.std.specs.List.{list_any, list_all, reduce, zip};
 ghost use Rattle.std.specs.Prelude.{◌≡◌, ◌↔◌, ◌<◌, ℕ, true, IfOk, IsTrue, max, nat_lt, nat_le};
