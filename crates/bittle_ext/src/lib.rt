@@ -38,6 +38,8 @@ pub mod rank_laws;
 mod ranks;
 mod relations;
 pub mod run_iterators;
+#[doc(hidden)]
+pub mod run_laws;
 mod runs;
 
 pub use bits_ext::BitsExt;

@@ -1,0 +1,231 @@
+-- The runs of a set are longest, and each member lies in one of them.
+use Rattle.std.proofs.Common.{◌≡◌, ℕ, zero, suc, ◌+◌, ◌-◌, ◌<◌, ◌≤◌, ◌==◌, Bool, true, false, cond, List, [], ◌∷◌, length, ◌⊎◌, inl, inr, refl, sym, ap, ◌∙◌, arith}
+use Rattle.std.proofs.lemmas.Bool.{cases_Bool, cases_eq, cases_lt, eq-eqb, ne_eqb, true≢false}
+use Rattle.std.specs.Prelude.{⊤, slice_index_or}
+use Rattle.std.specs.declared.ops.Range.{Range}
+use Rattle.bittle_bits.specs.PlainSet.{PlainSet}
+use Rattle.bittle_ext.specs.Runs.{run, joined, runs_from, runs_between, runs, IsLongestRun, HasLongestRuns, RunsAreLongest}
+
+-- the first run begins at a number
+abbrev BeginsAt : ℕ → List (Range ℕ) → Type 0
+BeginsAt n [] = ⊥
+BeginsAt n (r ∷ rs) = r.start ≡ n
+
+joined_at : (k : ℕ) (rs : List (Range ℕ)) → BeginsAt k (joined k rs)
+unfolding joined
+joined_at k [] = refl
+joined_at k (r ∷ rs) =
+    elim (r.start == suc k) as (λ b. BeginsAt k (cond b (run k r.end ∷ rs)
+    (run k (suc k) ∷ r ∷ rs))) [ true ↦ refl | false ↦ refl ]
+
+-- a number lies in a run of the list
+abbrev LiesIn : ℕ → List (Range ℕ) → Type 0
+LiesIn i [] = ⊥
+LiesIn i (r ∷ rs) = ((r.start ≤ i) × (i < r.end)) ⊎ LiesIn i rs
+
+place_in : (i : ℕ) (rs : List (Range ℕ)) → LiesIn i rs → (k : ℕ) × (k < length rs)
+    × ((d : Range ℕ) → ((slice_index_or rs k d).start ≤ i) × (i < (slice_index_or rs k d).end))
+place_in i [] h = absurd h
+place_in i (r ∷ rs) (inl h) = (0, omega arith, λ d. h)
+place_in i (r ∷ rs) (inr h) =
+    let at = place_in i rs h in
+    (suc at.0, omega (arith, at.1), at.2)
+
+module _ (p : ℕ → Bool) where
+  -- the runs of the list, from one number on and below another, cannot be longer
+  abbrev AreLongest : ℕ → ℕ → List (Range ℕ) → Type 0
+  AreLongest from to [] = ⊤
+  AreLongest from to (r ∷ rs) =
+      (from ≤ r.start) × (r.start < r.end) × (r.end ≤ to)
+      × ((k : ℕ) → r.start ≤ k → k < r.end → p k ≡ true)
+      × (from < r.start → p (r.start - 1) ≡ false) × (r.end < to → p r.end ≡ false)
+      × AreLongest r.end to rs
+
+  -- a number that passes begins the first run
+  passing_begins : (from n : ℕ) → 0 < n → p from ≡ true → BeginsAt from (runs_from p from n)
+  unfolding runs_from
+  passing_begins from zero some here = absurd (omega arith)
+  passing_begins from (suc n) some here = rw here (joined_at from (runs_from p (suc from) n))
+
+  -- so where no run begins at a number it does not pass
+  none_begins : (from n : ℕ) → 0 < n → (BeginsAt from (runs_from p from n) → ⊥) → p from ≡ false
+  none_begins from n some h =
+      elim (cases_Bool (p from)) [
+        | inl here ↦ absurd (h (passing_begins from n some here))
+        | inr gone ↦ gone
+      ]
+
+  -- a number that does not pass leaves the runs after it longest
+  gone_before : (from to : ℕ) (rs : List (Range ℕ)) → p from ≡ false →
+      AreLongest (suc from) to rs → AreLongest from to rs
+  gone_before from to [] gone h = tt
+  gone_before from to (r ∷ rs) gone h = (
+    omega (arith, h.0),
+    h.1,
+    h.2,
+    h.3,
+    λ l. elim (cases_eq r.start (suc from)) [
+      | inl e ↦ ap p (omega (arith, e)) ∙ gone
+      | inr n ↦ h.4 (omega (arith, n, h.0))
+    ],
+    h.5,
+    h.6,
+  )
+
+  -- one that passes joins them, or is a run of its own
+  joined_longest : (from to : ℕ) (rs : List (Range ℕ)) → from < to → p from ≡ true →
+      (suc from < to → (BeginsAt (suc from) rs → ⊥) → p (suc from) ≡ false) →
+      AreLongest (suc from) to rs → AreLongest from to (joined from rs)
+  unfolding joined
+  joined_longest from to [] low here next h = (
+    omega arith,
+    omega arith,
+    low,
+    λ k a b. ap p (omega arith) ∙ here,
+    λ l. absurd (omega arith),
+    λ l. next l (λ e. e),
+    tt,
+  )
+  joined_longest from to (r ∷ rs) low here next h =
+      elim (cases_eq r.start (suc from)) [
+        | inl e ↦ rw (eq-eqb r.start (suc from) e) (
+          omega arith,
+          omega (arith, h.0, h.1),
+          h.2,
+          λ k a b. elim (cases_eq k from) [
+            | inl same ↦ ap p same ∙ here
+            | inr other ↦ h.3 k (omega (arith, e, other)) b
+          ],
+          λ l. absurd (omega arith),
+          h.5,
+          h.6,
+        )
+        | inr n ↦ rw (ne_eqb r.start (suc from) n) (
+          omega arith,
+          omega arith,
+          low,
+          λ k a b. ap p (omega arith) ∙ here,
+          λ l. absurd (omega arith),
+          λ l. next l n,
+          h,
+        )
+      ]
+
+  runs_longest : (from n to : ℕ) → to ≡ from + n → AreLongest from to (runs_from p from n)
+  unfolding runs_from
+  runs_longest from zero to e = tt
+  runs_longest from (suc n) to e =
+      let rest = runs_longest (suc from) n to (omega arith) in
+      elim (cases_Bool (p from)) [
+        | inl here ↦ rw here (joined_longest from to (runs_from p (suc from) n) (omega arith) here
+            (λ l. none_begins (suc from) n (omega (arith, e, l))) rest)
+        | inr gone ↦ rw gone (gone_before from to (runs_from p (suc from) n) gone rest)
+      ]
+
+  -- whatever lies in a run lies in one after a number has joined
+  joined_has : (from i : ℕ) (rs : List (Range ℕ)) → suc from ≤ i → LiesIn i rs →
+      LiesIn i (joined from rs)
+  unfolding joined
+  joined_has from i [] low h = absurd h
+  joined_has from i (r ∷ rs) low h =
+      elim (r.start == suc from) as (λ b. LiesIn i (cond b (run from r.end ∷ rs)
+      (run from (suc from) ∷ r ∷ rs))) [
+        | true ↦ by h
+        | false ↦ inr h
+      ]
+    where
+      by : ((r.start ≤ i) × (i < r.end)) ⊎ LiesIn i rs →
+          ((from ≤ i) × (i < r.end)) ⊎ LiesIn i rs
+      by (inl a) = inl (omega arith, a.1)
+      by (inr b) = inr b
+
+  -- the number itself lies in the first
+  joined_own : (from to : ℕ) (rs : List (Range ℕ)) → AreLongest from to (joined from rs) →
+      LiesIn from (joined from rs)
+  joined_own from to rs h = own (joined from rs) (joined_at from rs) h
+    where
+      own : (xs : List (Range ℕ)) → BeginsAt from xs → AreLongest from to xs → LiesIn from xs
+      own [] b l = absurd b
+      own (x ∷ xs) b l = inl (omega (arith, b), omega (arith, b, l.1))
+
+  runs_have : (from n i : ℕ) → from ≤ i → i < from + n → p i ≡ true →
+      LiesIn i (runs_from p from n)
+  unfolding runs_from
+  runs_have from zero i lo hi here = absurd (omega arith)
+  runs_have from (suc n) i lo hi here =
+      elim (cases_eq i from) [
+        | inl same ↦
+            let passes : p from ≡ true = ap p (sym same) ∙ here in
+            let longest = runs_longest from (suc n) (from + suc n) refl in
+            rw same (own passes longest)
+        | inr other ↦
+            let rest = runs_have (suc from) n i (omega (arith, other)) (omega arith) here in
+            elim (p from) as (λ b. LiesIn i (cond b (joined from (runs_from p (suc from) n))
+            (runs_from p (suc from) n))) [
+              | true ↦ joined_has from i (runs_from p (suc from) n) (omega (arith, other)) rest
+              | false ↦ rest
+            ]
+      ]
+    where
+      own : p from ≡ true → AreLongest from (from + suc n) (runs_from p from (suc n)) →
+          LiesIn from (runs_from p from (suc n))
+      own passes longest = first (runs_from p from (suc n))
+          (passing_begins from (suc n) (omega arith) passes) longest
+        where
+          first : (xs : List (Range ℕ)) → BeginsAt from xs → AreLongest from (from + suc n) xs →
+              LiesIn from xs
+          first [] b l = absurd b
+          first (x ∷ xs) b l = inl (omega (arith, b), omega (arith, b, l.1))
+
+-- each run of a list of longest ones is one
+longest_at : (s : PlainSet) (from : ℕ) (rs : List (Range ℕ)) (k : ℕ) (d : Range ℕ) →
+    (0 < from → from < s.capacity → s.has from ≡ true → s.has (from - 1) ≡ false) →
+    k < length rs → AreLongest s.has from s.capacity rs → IsLongestRun s (slice_index_or rs k d)
+longest_at s from [] k d edge l h = absurd (omega arith)
+longest_at s from (r ∷ rs) zero d edge l h = (
+  h.1,
+  h.2,
+  h.3,
+  λ some. elim (cases_eq r.start from) [
+    | inl e ↦ ap s.has (omega (arith, e)) ∙ edge (omega (arith, e, some))
+        (omega (arith, e, h.1, h.2)) (ap s.has (sym e) ∙ h.3 r.start (omega arith) h.1)
+    | inr n ↦ h.4 (omega (arith, n, h.0))
+  ],
+  h.5,
+)
+longest_at s from (r ∷ rs) (suc k) d edge l h =
+    longest_at s r.end rs k d (λ some low here. absurd (true≢false (sym here ∙ h.5 low)))
+    (omega arith) h.6
+
+-- a list begins from its first number on, and a later run begins where the one before ends or later
+starts_from : (p : ℕ → Bool) (from to : ℕ) (rs : List (Range ℕ)) (k : ℕ) (d : Range ℕ) →
+    k < length rs → AreLongest p from to rs → from ≤ (slice_index_or rs k d).start
+starts_from p from to [] k d l h = absurd (omega arith)
+starts_from p from to (r ∷ rs) zero d l h = h.0
+starts_from p from to (r ∷ rs) (suc k) d l h =
+    let later = starts_from p r.end to rs k d (omega arith) h.6 in
+    omega (arith, later, h.0, h.1)
+
+rise : (p : ℕ → Bool) (from to : ℕ) (rs : List (Range ℕ)) (j k : ℕ) (d : Range ℕ) → j < k →
+    k < length rs → AreLongest p from to rs →
+    (slice_index_or rs j d).end ≤ (slice_index_or rs k d).start
+rise p from to [] j k d o l h = absurd (omega arith)
+rise p from to (r ∷ rs) j zero d o l h = absurd (omega arith)
+rise p from to (r ∷ rs) zero (suc k) d o l h = starts_from p r.end to rs k d (omega arith) h.6
+rise p from to (r ∷ rs) (suc j) (suc k) d o l h =
+    rise p r.end to rs j k d (omega arith) (omega arith) h.6
+
+has_longest_runs : (s : PlainSet) → HasLongestRuns s
+unfolding runs_between
+has_longest_runs s =
+    let longest = runs_longest s.has 0 (s.capacity - 0) s.capacity (omega arith) in
+    record {
+      longest = λ k d l. longest_at s 0 (runs s) k d (λ some low here. absurd (omega arith)) l
+          longest;
+      rise = λ j k d o l. rise s.has 0 s.capacity (runs s) j k d o l longest;
+      all = λ i l here. place_in i (runs s) (runs_have s.has 0 (s.capacity - 0) i (omega arith)
+          (omega arith) here);
+    }
+
+pub runs_are_longest : RunsAreLongest
+runs_are_longest s = has_longest_runs s
