@@ -4,25 +4,34 @@ use crate::checks::holds;
 use bittle::prelude::*;
 use bittle::{LittleEndian, set};
 
+// Two sets with one other member.
+fn two_rows() -> ([u32; 4], [u32; 4]) {
+    (set![4, 67, 71, 127], set![4, 63, 71, 127])
+}
+
 #[test]
 fn walks_from_the_back(rt: HostRuntime) {
-    let row: [u32; 4] = set![4, 67, 71, 127];
+    let (row, other) = two_rows();
     holds!(rt; row.iter_ones().rev().eq([127, 71, 67, 4]));
-    let row: [u32; 4] = set![4, 63, 71, 127];
-    holds!(rt; row.into_iter_ones().rev().eq([127, 71, 63, 4]));
+    holds!(rt; other.into_iter_ones().rev().eq([127, 71, 63, 4]));
+}
+
+// Two sets with few zeros and with many.
+fn two_pairs() -> ([u8; 2], [u8; 2]) {
+    (set![3, 7, 13, 14, 15], set![4, 7, 10])
 }
 
 #[test]
 fn walks_of_zeros_from_the_back(rt: HostRuntime) {
-    let pair: [u8; 2] = set![3, 7, 13, 14, 15];
+    let (pair, other) = two_pairs();
     holds!(rt;
         pair.iter_zeros()
             .rev()
             .eq([12, 11, 10, 9, 8, 6, 5, 4, 2, 1, 0])
     );
-    let pair: [u8; 2] = set![4, 7, 10];
     holds!(rt;
-        pair.into_iter_zeros()
+        other
+            .into_iter_zeros()
             .rev()
             .eq([15, 14, 13, 12, 11, 9, 8, 6, 5, 3, 2, 1, 0])
     );

@@ -174,20 +174,38 @@ fn owned_walks_tell_not_how_many_items_are_left(rt: HostRuntime) {
     holds!(rt; tells_nothing((-2i8).into_iter_zeros()));
 }
 
+// What an iterator yields from the front.
+fn front<W: Iterator<Item = u32>>(walk: &mut W) -> Option<u32>
+    requires { (w : W) → W.can_next w }
+{
+    walk.next()
+}
+
+// What an iterator yields from the back.
+fn back<W: DoubleEndedIterator<Item = u32>>(walk: &mut W) -> Option<u32>
+    requires { (w : W) → W.can_next_back w }
+{
+    walk.next_back()
+}
+
+fn four_members() -> [u32; 4] {
+    set![4, 67, 71, 127]
+}
+
 #[test]
 fn a_clone_taken_midway(rt: HostRuntime) -> Result<(), Fail> {
-    let row: [u32; 4] = set![4, 67, 71, 127];
+    let row = four_members();
     let mut walk = row.iter_ones();
-    same!(rt; walk.next(), Some(4));
+    same!(rt; front(&mut walk), Some(4));
     let mut other = walk.clone()?;
-    same!(rt; walk.next_back(), Some(127));
-    same!(rt; walk.next(), Some(67));
-    same!(rt; walk.next(), Some(71));
-    same!(rt; walk.next(), None);
-    same!(rt; other.next(), Some(67));
-    same!(rt; other.next_back(), Some(127));
-    same!(rt; other.next(), Some(71));
-    same!(rt; other.next(), None);
+    same!(rt; back(&mut walk), Some(127));
+    same!(rt; front(&mut walk), Some(67));
+    same!(rt; front(&mut walk), Some(71));
+    same!(rt; front(&mut walk), None);
+    same!(rt; front(&mut other), Some(67));
+    same!(rt; back(&mut other), Some(127));
+    same!(rt; front(&mut other), Some(71));
+    same!(rt; front(&mut other), None);
     Ok(())
 }
 
@@ -195,17 +213,17 @@ fn a_clone_taken_midway(rt: HostRuntime) -> Result<(), Fail> {
 fn a_clone_goes_on_apart(rt: HostRuntime) -> Result<(), Fail> {
     let bits = [0b1001_0010u8, 0, 0b0000_0101];
     let mut walk = bits.iter_ones();
-    same!(rt; walk.next(), Some(1));
-    same!(rt; walk.next_back(), Some(18));
+    same!(rt; front(&mut walk), Some(1));
+    same!(rt; back(&mut walk), Some(18));
     let mut other = walk.clone()?;
-    same!(rt; walk.next(), Some(4));
-    same!(rt; other.next_back(), Some(16));
-    same!(rt; other.next_back(), Some(7));
-    same!(rt; walk.next_back(), Some(16));
-    same!(rt; other.next_back(), Some(4));
-    same!(rt; other.next(), None);
-    same!(rt; walk.next(), Some(7));
-    same!(rt; walk.next(), None);
+    same!(rt; front(&mut walk), Some(4));
+    same!(rt; back(&mut other), Some(16));
+    same!(rt; back(&mut other), Some(7));
+    same!(rt; back(&mut walk), Some(16));
+    same!(rt; back(&mut other), Some(4));
+    same!(rt; front(&mut other), None);
+    same!(rt; front(&mut walk), Some(7));
+    same!(rt; front(&mut walk), None);
     Ok(())
 }
 
