@@ -1,6 +1,6 @@
 -- The runs of a set are longest, and each member lies in one of them.
 use Rattle.std.proofs.Common.{◌≡◌, ℕ, zero, suc, ◌+◌, ◌-◌, ◌<◌, ◌≤◌, ◌==◌, Bool, true, false, cond, List, [], ◌∷◌, length, ◌⊎◌, inl, inr, refl, sym, ap, ◌∙◌, arith}
-use Rattle.std.proofs.lemmas.Bool.{cases_Bool, cases_eq, cases_lt, eq-eqb, ne_eqb, true≢false}
+use Rattle.std.proofs.lemmas.Bool.{cases_Bool, cases_eq, eq-eqb, ne_eqb, true≢false}
 use Rattle.std.specs.Prelude.{⊤, slice_index_or}
 use Rattle.std.specs.declared.ops.Range.{Range}
 use Rattle.bittle_bits.specs.PlainSet.{PlainSet}
@@ -139,25 +139,22 @@ module _ (p : ℕ → Bool) where
       by (inl a) = inl (omega arith, a.1)
       by (inr b) = inr b
 
-  -- the number itself lies in the first
-  joined_own : (from to : ℕ) (rs : List (Range ℕ)) → AreLongest from to (joined from rs) →
-      LiesIn from (joined from rs)
-  joined_own from to rs h = own (joined from rs) (joined_at from rs) h
-    where
-      own : (xs : List (Range ℕ)) → BeginsAt from xs → AreLongest from to xs → LiesIn from xs
-      own [] b l = absurd b
-      own (x ∷ xs) b l = inl (omega (arith, b), omega (arith, b, l.1))
+  -- where the first run begins lies in it
+  start_in : (from to : ℕ) (rs : List (Range ℕ)) → BeginsAt from rs → AreLongest from to rs →
+      LiesIn from rs
+  start_in from to [] b h = absurd b
+  start_in from to (r ∷ rs) b h = inl (omega (arith, b), omega (arith, b, h.1))
 
+  -- each number that passes lies in one
   runs_have : (from n i : ℕ) → from ≤ i → i < from + n → p i ≡ true →
       LiesIn i (runs_from p from n)
   unfolding runs_from
   runs_have from zero i lo hi here = absurd (omega arith)
   runs_have from (suc n) i lo hi here =
       elim (cases_eq i from) [
-        | inl same ↦
-            let passes : p from ≡ true = ap p (sym same) ∙ here in
-            let longest = runs_longest from (suc n) (from + suc n) refl in
-            rw same (own passes longest)
+        | inl same ↦ rw same (start_in from (from + suc n) (runs_from p from (suc n))
+            (passing_begins from (suc n) (omega arith) (ap p (sym same) ∙ here))
+            (runs_longest from (suc n) (from + suc n) refl))
         | inr other ↦
             let rest = runs_have (suc from) n i (omega (arith, other)) (omega arith) here in
             elim (p from) as (λ b. LiesIn i (cond b (joined from (runs_from p (suc from) n))
@@ -166,16 +163,6 @@ module _ (p : ℕ → Bool) where
               | false ↦ rest
             ]
       ]
-    where
-      own : p from ≡ true → AreLongest from (from + suc n) (runs_from p from (suc n)) →
-          LiesIn from (runs_from p from (suc n))
-      own passes longest = first (runs_from p from (suc n))
-          (passing_begins from (suc n) (omega arith) passes) longest
-        where
-          first : (xs : List (Range ℕ)) → BeginsAt from xs → AreLongest from (from + suc n) xs →
-              LiesIn from xs
-          first [] b l = absurd b
-          first (x ∷ xs) b l = inl (omega (arith, b), omega (arith, b, l.1))
 
 -- each run of a list of longest ones is one
 longest_at : (s : PlainSet) (from : ℕ) (rs : List (Range ℕ)) (k : ℕ) (d : Range ℕ) →

@@ -1,9 +1,8 @@
 -- The members of a set between two numbers, as a list: its ends, its length, and what set it is of.
-use Rattle.std.proofs.Common.{◌≡◌, ℕ, suc, ◌+◌, ◌-◌, ◌<◌, ◌≤◌, Bool, true, false, ◌&&◌, List, [], ◌∷◌, ◌++◌, length, length-append, append-nil, get_or, Option, Some, None, inl, inr, refl, sym, ap, ◌∙◌, subst, arith}
+use Rattle.std.proofs.Common.{◌≡◌, ℕ, suc, ◌+◌, ◌-◌, ◌<◌, ◌≤◌, true, ◌&&◌, List, [], ◌∷◌, ◌++◌, length, length-append, append-nil, get_or, Some, inl, inr, refl, sym, ap, ◌∙◌, subst, arith}
 use Rattle.std.proofs.lemmas.Bool.{cases_lt, true≢false}
-use Rattle.std.specs.Iterator.{YieldsFirst, YieldsLast}
 use Rattle.bittle_bits.specs.Buffers.{members_between}
-use Rattle.bittle_bits.specs.PlainSet.{PlainSet, ascending, ascending_from, members_below, is_in_span}
+use Rattle.bittle_bits.specs.PlainSet.{PlainSet, ascending, ascending_from, members_below}
 use Rattle.bittle_bits.specs.Searches.{NoneIn, IsFirstIn, IsLastIn}
 use Rattle.bittle_bits.proofs.AscendingLists.{ascending_from-none, ascending_from-same, ascending_from-length}
 use Rattle.bittle_bits.proofs.FirstItems.{ascending_from-least}

@@ -1,6 +1,6 @@
 //! Everyday calls on any set, above the library: the ends of a set and the neighbours of an index,
 //! a change that tells whether the set changed, a range changed at once, the first and the last bit
-//! taken out, a set made of a list of indexes, a complement.
+//! taken out, a set made of a list of indexes, a complement, iterators over a range and over runs.
 //!
 //! They stand in extension traits, which every set of `bittle` has in both orders, and on the
 //! contracts of the library alone. The twelve words, the orders, searches, iterators, joins and the
@@ -19,6 +19,7 @@
 //! word.insert(0);                   // true: it was unset
 //! word.set_range(2, 4);             // 0b0010_1111
 //! word.pop_last();                  // Some(5)
+//! word.iter_zero_runs();            // yields 4..8
 //! u8::from_iter(2..4).complement(); // 0b1111_0011
 //! ```
 #![tactic(auto)]
