@@ -1,7 +1,7 @@
 //! Sets made of indexes, ranges and other sets.
 
-ghost use Rattle.std.specs.List.{fold, range_with_len};
-ghost use Rattle.std.specs.Prelude.{◌≡◌, ◌-◌, ◌≤◌, false, true};
+ghost use Rattle.std.specs.List.{fold};
+ghost use Rattle.std.specs.Prelude.{◌≡◌, ◌==◌, ◌%◌, ◌≤◌, filter, false, true};
 ghost use Rattle.bittle.specs.BitPatterns.{bit_set};
 ghost use Rattle.bittle.specs.Orders.{read_in};
 ghost use Rattle.bittle.specs.PlainSet.{ascending, complement, empty_set, with_index};
@@ -40,9 +40,12 @@ pub fn widened(mask: u8) -> u32
     u32::from_iter(mask.iter_ones())
 }
 
-/// Returns the set of each fourth index: an iterator that ends is all that is asked for.
-pub fn each_fourth() -> u64 {
-    u64::from_iter((0..64).step_by(4))
+/// Returns the set of each fourth index that is set, by a chain of iterators.
+pub fn each_fourth_of(mask: u64) -> u64
+    ensures { bit_set 64 result ≡ fold with_index (empty_set 64)
+        (filter (λ k. k % 4 == 0) (ascending (bit_set 64 mask))) }
+{
+    u64::from_iter(mask.iter_ones().filter(|index| *index % 4 == 0))
 }
 
 /// Returns a mask of a range.
