@@ -69,26 +69,39 @@ fn lists(rt: HostRuntime) {
     same!(rt; few.conjunction(bittle::set![31, 62]), bittle::set![31]);
 }
 
-#[test]
-fn walks(rt: HostRuntime) -> Result<(), Fail> {
+fn four_members() -> [u32; 4] {
     let row: [u32; 4] = bittle::set![4, 67, 71, 127];
+    row
+}
+
+fn mixed_members(row: &[u32; 4]) -> u32 {
     let mut mixed = 0;
     for index in row.iter_ones() {
         mixed ^= index; // 4, 67, 71, 127
     }
-    same!(rt; mixed, 4 ^ 67 ^ 71 ^ 127);
+    mixed
+}
+
+// A step from the front, one from the back, and one from the back of what is left.
+fn three_steps(row: &[u32; 4]) -> [Option<u32>; 3] {
+    let mut walk = row.iter_ones();
+    let (first, last) = (walk.next(), walk.next_back());
+    [first, last, walk.rev().next()]
+}
+
+#[test]
+fn walks(rt: HostRuntime) -> Result<(), Fail> {
+    let row = four_members();
+    same!(rt; mixed_members(&row), 4 ^ 67 ^ 71 ^ 127);
     let found: Vec<u32> = row.iter_ones().collect(rt.alloc())?;
     same!(rt; found.as_slice(), [4, 67, 71, 127].as_slice());
-    let mut walk = row.iter_ones();
-    same!(rt; walk.next(), Some(4));
-    same!(rt; walk.next_back(), Some(127));
-    same!(rt; walk.rev().next(), Some(71));
+    same!(rt; three_steps(&row), [Some(4), Some(127), Some(71)]);
     Ok(())
 }
 
 #[test]
 fn walks_from_both_ends(rt: HostRuntime) {
-    let row: [u32; 4] = bittle::set![4, 67, 71, 127];
+    let row = four_members();
     let mut walk = row.iter_ones();
     walk.next(); // Some(4)
     walk.next_back(); // Some(127)
@@ -99,7 +112,7 @@ fn walks_from_both_ends(rt: HostRuntime) {
 
 #[test]
 fn searches(rt: HostRuntime) {
-    let row: [u32; 4] = bittle::set![4, 67, 71, 127];
+    let row = four_members();
     0b1101u8.iter_zeros().next(); // Some(1)
     same!(rt; 0b1101u8.iter_zeros().next(), Some(1));
     row.first_one_in::<BigEndian>(5, 128); // Some(67)
