@@ -258,8 +258,8 @@ pub trait BitsRangeExt: Bits {
         self.iter_zeros_in_range_in::<Self::Order>(from, to)
     }
 
-    /// Returns an iterator over the longest runs of set bits, each as the range of its indexes, in
-    /// the order `E`, increasing, from both ends.
+    /// Returns an iterator over the longest runs of set bits, each a range of indexes, in the order
+    /// `E`, increasing, from both ends.
     ///
     /// The shape has to fit. Each step is two searches by whole words. With capacity 0 it yields
     /// nothing.
@@ -299,8 +299,8 @@ pub trait BitsRangeExt: Bits {
         self.iter_one_runs_in::<Self::Order>()
     }
 
-    /// Returns an iterator over the longest runs of unset bits, each as the range of its indexes, in
-    /// the order `E`, increasing, from both ends.
+    /// Returns an iterator over the longest runs of unset bits, each a range of indexes, in the order
+    /// `E`, increasing, from both ends.
     ///
     /// The shape has to fit. Each step is two searches by whole words. With capacity 0 it yields
     /// nothing.

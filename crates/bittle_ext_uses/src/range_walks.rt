@@ -4,7 +4,8 @@ ghost use Rattle.std.specs.Iterator.{YieldsFirst, YieldsLast};
 ghost use Rattle.std.specs.Prelude.{◌≡◌, ◌-◌, ◌≤◌, ℕ, List};
 ghost use Rattle.std.specs.List.{fold};
 ghost use Rattle.bittle.specs.BitPatterns.{bit_set};
-ghost use Rattle.bittle.specs.PlainSet.{ascending, complement, empty_set, members_below, with_index};
+ghost use Rattle.bittle.specs.PlainSet.{ascending, complement, empty_set};
+ghost use Rattle.bittle.specs.PlainSet.{members_below, with_index};
 ghost use Rattle.bittle.specs.Values.{set_in, ShapeFits};
 ghost use Rattle.bittle_ext.specs.RangeMembers.{members_within};
 

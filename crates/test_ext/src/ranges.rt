@@ -63,7 +63,8 @@ fn a_range_of_a_slice_and_of_a_set(rt: HostRuntime) {
 #[test]
 fn ranges_with_no_items(rt: HostRuntime) {
     let none: [u8; 0] = [];
-    same!(rt; (none.iter_ones_in_range(0, 0).next(), none.iter_zeros_in_range(0, 0).next()), (None, None));
+    same!(rt; none.iter_ones_in_range(0, 0).next(), None);
+    same!(rt; none.iter_zeros_in_range(0, 0).next(), None);
     same!(rt; 0xFFu8.iter_ones_in_range(3, 3).next(), None);
     same!(rt; 0xFFu8.iter_ones_in_range(8, 8).next_back(), None);
     same!(rt; 0xFFu8.iter_zeros_in_range(0, 8).next_back(), None);
