@@ -49,8 +49,8 @@ fn unions_change_the_common_beginning_alone(rt: HostRuntime) {
     same!(rt; short, [0x0F, 0x00]);
 }
 
-// What the operations make of two sets: the union, the conjunction, what is in the first alone, what
-// is in the second alone, and what is in just one.
+// What the operations make of two sets: the union, the conjunction, what is in the first alone and
+// in the second alone, and what is in just one.
 fn operations_of<B: BitsOwned>(one: B, other: B) -> [B; 5] {
     [
         one.union(other),
