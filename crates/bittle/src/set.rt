@@ -300,6 +300,11 @@ impl<T: BitsMut, U: Endian> BitsMut for Set<T, U> {
     fn assign_by_operation<O: Operation>(&mut self, other: &Set<T, U>) {
         self.bits.assign_by_operation::<O>(&other.bits);
     }
+
+    #[inline]
+    fn set_nth_leaf_word(&mut self, k: u32, word: T::LeafWord) {
+        self.bits.set_nth_leaf_word(k, word);
+    }
 }
 
 impl<T: BitsOwned, U: Endian> BitsOwned for Set<T, U> {

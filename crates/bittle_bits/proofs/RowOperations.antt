@@ -91,7 +91,8 @@ module _ {X : Type 0} (f : Bool → Bool → Bool) (c : ℕ) (big : X → PlainS
               ∙ row_has-past (length xs) c has xs k g)
         ]))
 
-get_or-any : {X : Type 0} (xs : List X) (n : ℕ) (d e : X) → n < length xs →
+-- an element of the row is there whatever stands for one past its end
+pub get_or-any : {X : Type 0} (xs : List X) (n : ℕ) (d e : X) → n < length xs →
     get_or xs n d ≡ get_or xs n e
 get_or-any [] n d e h = absurd (omega arith)
 get_or-any (x ∷ xs) zero d e h = refl

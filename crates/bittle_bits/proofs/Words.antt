@@ -6,7 +6,7 @@ use Rattle.std.proofs.lemmas.Bool.{cases_lt, lt-ltb, le-ltb}
 use Rattle.bittle_bits.specs.BitPatterns.{bit_has, bit_set}
 use Rattle.bittle_bits.specs.Orders.{place, read_in}
 use Rattle.bittle_bits.specs.PlainSet.{PlainSet}
-use Rattle.bittle_bits.specs.Words.{word_has, word_of}
+use Rattle.bittle_bits.specs.Words.{word_has, word_of, ReplacesWord}
 use Rattle.bittle_bits.proofs.PlaceLemmas.{place_part, place_in_word}
 use Rattle.bittle_bits.proofs.PlainSets.{plain_set}
 
@@ -29,6 +29,20 @@ word_of-pattern w d k h =
       | inr g ↦ rw (le-ltb i w g) refl
     ])
 
+-- replacing a word's only word makes it the other one
+pub word_replaced : (w d e k : ℕ) → k * w < w →
+    ReplacesWord w (bit_set w d) k (bit_set w e) (bit_set w e)
+word_replaced w d e k h = record {
+  capacity = refl;
+  replaced = sym (word_of-pattern w e k h);
+  others = λ j n l. absurd (
+      let one : k * w < 1 * w = omega arith in
+      let also : j * w < 1 * w = omega arith in
+      let low : k < 1 = lt_of_mul-lt-mul_right w one in
+      let low_too : j < 1 = lt_of_mul-lt-mul_right w also in
+      n (omega arith));
+}
+
 -- the members of word k in an order are those of the set from k * w on
 module _ (m : Bool) (w k : ℕ) (s : PlainSet) (d : ℕ) (word : 0 < w) where
   member_at : (i : ℕ) → i < w → (read_in m w s).has (k * w + i) ≡ s.has (k * w + place m w i)
@@ -44,6 +58,15 @@ module _ (m : Bool) (w k : ℕ) (s : PlainSet) (d : ℕ) (word : 0 < w) where
       (read_in m w (bit_set w d)).has i ≡ (read_in m w s).has (k * w + i)
   digit_at is i h = ap (λ t. t.has (place m w i)) is ∙ word_has-at w s k (place m w i)
       (place_in_word m w i h) ∙ sym (member_at i h)
+
+-- sets whose word k is the same have the same members there, in each order
+pub same_word : (m : Bool) (w k : ℕ) (s t : PlainSet) → 0 < w → word_of w s k ≡ word_of w t k →
+    (i : ℕ) → i < w → (read_in m w s).has (k * w + i) ≡ (read_in m w t).has (k * w + i)
+same_word m w k s t word is i h =
+    let low = place_in_word m w i h in
+    member_at m w k s 0 word i h ∙ sym (word_has-at w s k (place m w i) low)
+    ∙ ap (λ u. u.has (place m w i)) is
+    ∙ word_has-at w t k (place m w i) low ∙ sym (member_at m w k t 0 word i h)
 
 -- a word that begins below a capacity of whole words ends below it
 pub word_ends : (w k c : ℕ) → (words : ℕ) × (c ≡ words * w) → k * w < c → k * w + w ≤ c

@@ -116,6 +116,11 @@ impl<T: BitsOwned, const N: usize> BitsMut for [T; N] {
     fn assign_by_operation<O: Operation>(&mut self, other: &[T; N]) {
         combine::<T, O, N>(self, other);
     }
+
+    #[inline]
+    fn set_nth_leaf_word(&mut self, k: u32, word: T::LeafWord) {
+        row::set_leaf_word::<T>(self, k, word);
+    }
 }
 
 impl<T: BitsOwned, const N: usize> BitsOwned for [T; N] {

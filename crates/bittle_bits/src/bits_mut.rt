@@ -1,9 +1,11 @@
 //! Changing a set.
 
-ghost use Rattle.std.specs.Prelude.{◌≡◌, ◌≤◌, Bool, true, IsTrue};
+ghost use Rattle.std.specs.Prelude.{◌≡◌, ◌*◌, ◌<◌, ◌≤◌, Bool, true, IsTrue};
+ghost use Rattle.bittle_bits.specs.BitPatterns.{bit_set};
 ghost use Rattle.bittle_bits.specs.PlainSet.{with_index, without_index, with_span_changed, with_span, without_span, with_span_toggled, without_members};
 ghost use Rattle.bittle_bits.specs.SetOperations.{combination_of, union_of, conjunction_of, difference_of, symmetric_difference_of};
 ghost use Rattle.bittle_bits.specs.Values.{set_in, set_mirrored, ShapeFits};
+ghost use Rattle.bittle_bits.specs.Words.{ReplacesWord};
 
 use crate::bits::Bits;
 use crate::endian::{BigEndian, Endian, LittleEndian};
@@ -73,6 +75,15 @@ pub trait BitsMut: Bits {
         ensures set { (mirrored : Bool) → set_mirrored Self.Shape mirrored self.new
             ≡ combination_of O.decide (set_mirrored Self.Shape mirrored self.old)
             (set_mirrored Self.Shape mirrored other.now) }
+        ensures stays { Self.loan self.old ≡ Self.loan self.new };
+
+    /// Replaces word `k` of the set: its bits are those from `k` times the width on.
+    #[doc(hidden)]
+    fn set_nth_leaf_word(&mut self, k: u32, word: Self::LeafWord)
+        requires fits { ShapeFits Self.Shape self.old }
+        requires within { k * Self.width < (Self.big self.old).capacity }
+        ensures set { ReplacesWord Self.width (Self.big self.old) k
+            (bit_set Self.width (Self.LeafWord.pattern word)) (Self.big self.new) }
         ensures stays { Self.loan self.old ≡ Self.loan self.new };
 
     /// Sets each bit at the indexes `from..to`, in the order `E`. No other bit changes.

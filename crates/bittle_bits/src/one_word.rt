@@ -9,7 +9,7 @@ ghost use Rattle.bittle_bits.specs.Orders.{read_in};
 ghost use Rattle.bittle_bits.specs.PlainSet.{contains, with_index, with_span_changed, without_index, empty_set, without_members, full_set, span_set, size, ascending, IsLeastMember};
 ghost use Rattle.bittle_bits.specs.SetOperations.{combination_of};
 ghost use Rattle.bittle_bits.specs.Shapes.{Fits};
-ghost use Rattle.bittle_bits.specs.Words.{word_of};
+ghost use Rattle.bittle_bits.specs.Words.{ReplacesWord, word_of};
 
 use crate::bits::Bits;
 use crate::bits_mut::BitsMut;
@@ -105,6 +105,11 @@ impl<W: Integer> BitsMut for W {
     #[inline]
     fn assign_by_operation<O: Operation>(&mut self, other: &W) {
         combine::<W, O>(self, *other);
+    }
+
+    #[inline]
+    fn set_nth_leaf_word(&mut self, k: u32, word: W) {
+        set_leaf_word::<W>(self, k, word);
     }
 }
 
@@ -334,4 +339,15 @@ pub fn leaf_word<T: Word>(word: T, k: u32) -> T
 {
     let _ = k;
     word
+}
+
+/// Replaces word `k` of a word, which is its only one.
+#[inline]
+pub fn set_leaf_word<T: Word>(word: &mut T, k: u32, by: T)
+    requires { k * T.width < T.width }
+    ensures { ReplacesWord T.width (bit_set T.width (T.pattern word.old)) k
+        (bit_set T.width (T.pattern by)) (bit_set T.width (T.pattern word.new)) }
+{
+    let _ = k;
+    *word = by;
 }

@@ -151,4 +151,9 @@ impl<'a, T: BitsOwned> BitsMut for &'a mut [T] {
         let others: &[T] = other;
         row::combine::<T, O>(self, others);
     }
+
+    #[inline]
+    fn set_nth_leaf_word(&mut self, k: u32, word: T::LeafWord) {
+        row::set_leaf_word::<T>(self, k, word);
+    }
 }

@@ -9,6 +9,8 @@ mod PassingMembers
 pub mod RankFacts
 pub mod RelationFacts
 mod RetainSteps
+mod Rotations
+mod Windows
 pub mod RunFacts
 mod RunEnds
 mod RunLists

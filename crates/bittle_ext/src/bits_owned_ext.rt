@@ -1,14 +1,16 @@
 //! Making sets that are owned.
 
-ghost use Rattle.std.specs.Prelude.{◌≡◌, ◌≤◌, ℕ, Bool, List, IsTrue};
+ghost use Rattle.std.specs.Prelude.{◌≡◌, ◌+◌, ◌≤◌, ℕ, Bool, List, IsTrue};
 ghost use Rattle.std.specs.Iterator.{Drains, IsFinite};
 ghost use Rattle.std.specs.Iterator.Runs.{WholeRun};
 ghost use Rattle.std.specs.List.{fold};
-ghost use Rattle.bittle.specs.PlainSet.{complement, empty_set, with_index};
+ghost use Rattle.bittle_ext.specs.Rotations.{rotated_down, rotated_up, shifted_down, shifted_up};
+ghost use Rattle.bittle.specs.PlainSet.{complement, contains, empty_set, with_index};
 ghost use Rattle.bittle.specs.PlainSet.{with_span, without_span, with_span_toggled};
 ghost use Rattle.bittle.specs.Values.{set_in, set_mirrored};
 
 use crate::bits_mut_ext::BitsMutExt;
+use crate::rotations::rotate_down;
 use bittle::{BitsOwned, Endian};
 
 /// Sets made of one set, of a list of indexes or of an iterator. The type has to fit.
@@ -92,6 +94,99 @@ pub trait BitsOwnedExt: BitsOwned {
     {
         let mut set = self;
         set.toggle_range_in::<E>(from, to);
+        set
+    }
+
+    /// Returns the set with each bit moved down by `by` indexes, in the order `E`. The bits that
+    /// pass index 0 go on at the last index.
+    ///
+    /// A distance past the capacity wraps. With capacity 0 it returns the same set. Each word is
+    /// read twice and written once.
+    ///
+    /// ```
+    /// 0b0001_0010u8.rotated_down_in::<BigEndian>(2);      // 0b1000_0100
+    /// ```
+    #[inline]
+    final fn rotated_down_in<E: Endian>(self, by: u32) -> Self
+        requires { IsTrue Self.indexable }
+        ensures set { set_in Self.Shape E.Endian result
+            ≡ rotated_down (set_in Self.Shape E.Endian self) by }
+        ensures moved { (i : ℕ) → contains (set_in Self.Shape E.Endian result) i
+            ≡ contains (set_in Self.Shape E.Endian self) (i + by) }
+    {
+        rotate_down::<Self, E>(&self, by)
+    }
+
+    /// Returns the set with each bit moved up by `by` indexes, in the order `E`. The bits that pass
+    /// the last index go on at index 0.
+    ///
+    /// A distance past the capacity wraps. With capacity 0 it returns the same set. Each word is
+    /// read twice and written once.
+    ///
+    /// ```
+    /// 0b0100_1000u8.rotated_up_in::<BigEndian>(2);        // 0b0010_0001
+    /// ```
+    #[inline]
+    final fn rotated_up_in<E: Endian>(self, by: u32) -> Self
+        requires { IsTrue Self.indexable }
+        ensures set { set_in Self.Shape E.Endian result
+            ≡ rotated_up (set_in Self.Shape E.Endian self) by }
+        ensures moved { (i : ℕ) → contains (set_in Self.Shape E.Endian result) (i + by)
+            ≡ contains (set_in Self.Shape E.Endian self) i }
+    {
+        let capacity = Self::bits();
+        let back = if capacity == 0 {
+            0
+        } else {
+            capacity - by % capacity
+        };
+        rotate_down::<Self, E>(&self, back)
+    }
+
+    /// Returns the set with each bit moved down by `by` indexes, in the order `E`. The bits that
+    /// would pass index 0 are left out.
+    ///
+    /// With a distance of the capacity or more, as with capacity 0, the set is empty. Each word is
+    /// read twice and written once.
+    ///
+    /// ```
+    /// 0b0001_0010u8.shifted_down_in::<BigEndian>(2);      // 0b0000_0100
+    /// ```
+    #[inline]
+    final fn shifted_down_in<E: Endian>(self, by: u32) -> Self
+        requires { IsTrue Self.indexable }
+        ensures { set_in Self.Shape E.Endian result
+            ≡ shifted_down (set_in Self.Shape E.Endian self) by }
+    {
+        let capacity = Self::bits();
+        if by >= capacity {
+            return Self::zeros();
+        }
+        let mut set = self.rotated_down_in::<E>(by);
+        set.clear_range_in::<E>(capacity - by, capacity);
+        set
+    }
+
+    /// Returns the set with each bit moved up by `by` indexes, in the order `E`. The bits that
+    /// would reach the capacity are left out.
+    ///
+    /// With a distance of the capacity or more, as with capacity 0, the set is empty. Each word is
+    /// read twice and written once.
+    ///
+    /// ```
+    /// 0b0100_1000u8.shifted_up_in::<BigEndian>(2);        // 0b0010_0000
+    /// ```
+    #[inline]
+    final fn shifted_up_in<E: Endian>(self, by: u32) -> Self
+        requires { IsTrue Self.indexable }
+        ensures { set_in Self.Shape E.Endian result
+            ≡ shifted_up (set_in Self.Shape E.Endian self) by }
+    {
+        if by >= Self::bits() {
+            return Self::zeros();
+        }
+        let mut set = self.rotated_up_in::<E>(by);
+        set.clear_range_in::<E>(0, by);
         set
     }
 
@@ -185,6 +280,70 @@ pub trait BitsOwnedExt: BitsOwned {
             ≡ with_span_toggled (set_in Self.Shape Self.Order.Endian self) from to }
     {
         self.with_range_toggled_in::<Self::Order>(from, to)
+    }
+
+    /// Returns the set with each bit moved down in the order of the type, as
+    /// [`rotated_down_in`](BitsOwnedExt::rotated_down_in) does.
+    ///
+    /// ```
+    /// [0x12u8, 0].rotated_down(2);                        // [0x04, 0x80]
+    /// ```
+    #[inline]
+    final fn rotated_down(self, by: u32) -> Self
+        requires { IsTrue Self.indexable }
+        ensures set { set_in Self.Shape Self.Order.Endian result
+            ≡ rotated_down (set_in Self.Shape Self.Order.Endian self) by }
+        ensures moved { (i : ℕ) → contains (set_in Self.Shape Self.Order.Endian result) i
+            ≡ contains (set_in Self.Shape Self.Order.Endian self) (i + by) }
+    {
+        self.rotated_down_in::<Self::Order>(by)
+    }
+
+    /// Returns the set with each bit moved up in the order of the type, as
+    /// [`rotated_up_in`](BitsOwnedExt::rotated_up_in) does.
+    ///
+    /// ```
+    /// [0u8, 0x48].rotated_up(2);                          // [0x01, 0x20]
+    /// ```
+    #[inline]
+    final fn rotated_up(self, by: u32) -> Self
+        requires { IsTrue Self.indexable }
+        ensures set { set_in Self.Shape Self.Order.Endian result
+            ≡ rotated_up (set_in Self.Shape Self.Order.Endian self) by }
+        ensures moved { (i : ℕ) → contains (set_in Self.Shape Self.Order.Endian result) (i + by)
+            ≡ contains (set_in Self.Shape Self.Order.Endian self) i }
+    {
+        self.rotated_up_in::<Self::Order>(by)
+    }
+
+    /// Returns the set with each bit moved down in the order of the type, as
+    /// [`shifted_down_in`](BitsOwnedExt::shifted_down_in) does.
+    ///
+    /// ```
+    /// [0x12u8, 0x01].shifted_down(2);                     // [0x44, 0]
+    /// ```
+    #[inline]
+    final fn shifted_down(self, by: u32) -> Self
+        requires { IsTrue Self.indexable }
+        ensures { set_in Self.Shape Self.Order.Endian result
+            ≡ shifted_down (set_in Self.Shape Self.Order.Endian self) by }
+    {
+        self.shifted_down_in::<Self::Order>(by)
+    }
+
+    /// Returns the set with each bit moved up in the order of the type, as
+    /// [`shifted_up_in`](BitsOwnedExt::shifted_up_in) does.
+    ///
+    /// ```
+    /// [0x48u8, 0x80].shifted_up(2);                       // [0x20, 0x01]
+    /// ```
+    #[inline]
+    final fn shifted_up(self, by: u32) -> Self
+        requires { IsTrue Self.indexable }
+        ensures { set_in Self.Shape Self.Order.Endian result
+            ≡ shifted_up (set_in Self.Shape Self.Order.Endian self) by }
+    {
+        self.shifted_up_in::<Self::Order>(by)
     }
 
     /// Returns the set of the indexes in the order of the type, as

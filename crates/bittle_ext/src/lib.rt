@@ -38,6 +38,7 @@ pub mod range_iterators;
 pub mod rank_laws;
 mod ranks;
 mod relations;
+mod rotations;
 pub mod run_iterators;
 #[doc(hidden)]
 pub mod run_laws;

@@ -134,6 +134,11 @@ impl<'a> BitsMut for Probe<'a> {
         self.note_other();
         self.bytes.assign_by_operation::<O>(&other.bytes);
     }
+
+    fn set_nth_leaf_word(&mut self, k: u32, word: u8) {
+        self.note_other();
+        self.bytes.set_nth_leaf_word(k, word);
+    }
 }
 
 impl<'a> BitsOwned for Probe<'a> {

@@ -124,6 +124,11 @@ impl<'a> BitsMut for WordProbe<'a> {
         self.note_other();
         self.word.assign_by_operation::<O>(&other.word);
     }
+
+    fn set_nth_leaf_word(&mut self, k: u32, word: u64) {
+        self.note_other();
+        self.word.set_nth_leaf_word(k, word);
+    }
 }
 
 impl<'a> BitsOwned for WordProbe<'a> {

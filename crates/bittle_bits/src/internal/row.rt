@@ -7,7 +7,7 @@ ghost use Rattle.bittle_bits.specs.Rows.{row_set, GoesTo};
 ghost use Rattle.bittle_bits.specs.SetOperations.{combination_of};
 ghost use Rattle.bittle_bits.specs.Shapes.{Fits};
 ghost use Rattle.bittle_bits.specs.BitPatterns.{bit_set};
-ghost use Rattle.bittle_bits.specs.Words.{word_of};
+ghost use Rattle.bittle_bits.specs.Words.{ReplacesWord, word_of};
 
 use crate::bits_owned::BitsOwned;
 use crate::endian::Endian;
@@ -277,4 +277,18 @@ pub fn leaf_word<T: BitsOwned>(elements: &[T], k: u32) -> T::LeafWord
 {
     let each = T::bits() / <T::LeafWord as Word>::width();
     elements[(k / each) as usize].nth_leaf_word(k % each)
+}
+
+/// Replaces word `k` of the row, which lies in one element.
+#[inline]
+pub fn set_leaf_word<T: BitsOwned>(elements: &mut [T], k: u32, word: T::LeafWord)
+    requires fits { Fits T.indexable (length elements.old * T.type_capacity) }
+    requires within { k * T.width < length elements.old * T.type_capacity }
+    ensures { ReplacesWord T.width
+        (row_set (length elements.old) T.type_capacity T.big elements.old) k
+        (bit_set T.width (T.LeafWord.pattern word))
+        (row_set (length elements.new) T.type_capacity T.big elements.new) }
+{
+    let each = T::bits() / <T::LeafWord as Word>::width();
+    elements[(k / each) as usize].set_nth_leaf_word(k % each, word);
 }

@@ -1,0 +1,247 @@
+-- Sets whose members are all moved, word by word.
+use Rattle.std.proofs.Common.{◌≡◌, ℕ, ◌+◌, ◌-◌, ◌*◌, ◌/◌, ◌%◌, ◌<◌, ◌≤◌, ◌≢◌, ◌⊎◌, Bool, true, false, ◌&&◌, nat_lt, nat_le, inl, inr, refl, sym, ap, ◌∙◌, arith}
+use Rattle.std.proofs.Math.Path.{fun_ext}
+use Rattle.std.proofs.Math.Nat.{mod-eq_of_lt, add-mod_left, add-mod_right, add-mod-mod, mod-add-mod, add-mul-mod_self_right, mul-le-mul_right}
+use Rattle.std.proofs.lemmas.Nat.{div-add-mod', mod_below, div_below}
+use Rattle.std.proofs.lemmas.Bool.{cases_eq, cases_lt, lt-ltb, le-ltb, lt-leb, le-leb, and_right}
+use Rattle.bittle_bits.specs.BitPatterns.{bit_set}
+use Rattle.bittle.specs.Orders.{read_in}
+use Rattle.bittle.specs.PlainSet.{PlainSet, contains, empty_set, without_span}
+use Rattle.bittle_bits.specs.Words.{word_of, ReplacesWord}
+use Rattle.bittle_bits.proofs.PlainSets.{plain_set, members-past}
+use Rattle.bittle_bits.proofs.Spans.{outside_span, inside_span}
+use Rattle.bittle_bits.proofs.Words.{digit_at, same_word}
+use Rattle.bittle_ext.specs.Rotations.{has_rotated, rotated_down, rotated_up, has_shifted_down, shifted_down, has_shifted_up, shifted_up, IsWindow, IsWordFrom, IsRotatedBelow}
+
+-- an index that wraps to another one answers as that does
+contains_as : (s : PlainSet) (i j : ℕ) → i % s.capacity ≡ j % s.capacity →
+    contains s i ≡ contains s j
+unfolding contains
+contains_as s i j e = ap (λ k. nat_lt 0 s.capacity && s.has k) e
+
+-- an index below the capacity does not wrap
+contains_below : (s : PlainSet) (i : ℕ) → i < s.capacity → contains s i ≡ s.has i
+unfolding contains
+contains_below s i h = rw (lt-ltb 0 s.capacity (omega arith), mod-eq_of_lt h) refl
+
+-- an index that has wrapped once
+contains_past : (s : PlainSet) (i j : ℕ) → i ≡ s.capacity + j → j < s.capacity →
+    contains s i ≡ s.has j
+contains_past s i j e h =
+    contains_as s i j (ap (λ k. k % s.capacity) e ∙ add-mod_left s.capacity j) ∙ contains_below s j h
+
+-- a window over word `at` and the one after it, or the first after the last, is the word from there
+module _ (m : Bool) (w words at from d e r : ℕ) (s : PlainSet) (word : 0 < w)
+    (whole : words * w ≡ s.capacity) (low : at < words) (within : from < w) where
+  abbrev t : PlainSet
+  t = read_in m w s
+
+  up : (at + 1) * w ≤ words * w
+  up = mul-le-mul_right w (omega arith)
+
+  first_at : bit_set w d ≡ word_of w s at → IsWindow w from (read_in m w (bit_set w d))
+      (read_in m w (bit_set w e)) (read_in m w (bit_set w r)) → (i : ℕ) → i + from < w →
+      (read_in m w (bit_set w r)).has i ≡ contains t (at * w + from + i)
+  first_at ours is i b =
+      is.first i b ∙ digit_at m w at s d word ours (i + from) b
+      ∙ ap t.has (omega arith)
+      ∙ sym (contains_below t (at * w + from + i) (omega (arith, up, whole)))
+
+  pub window_within : (next : ℕ) → next ≡ at + 1 → next < words →
+      bit_set w d ≡ word_of w s at → bit_set w e ≡ word_of w s next →
+      IsWindow w from (read_in m w (bit_set w d)) (read_in m w (bit_set w e))
+      (read_in m w (bit_set w r)) →
+      IsWordFrom w t (at * w + from) (read_in m w (bit_set w r))
+  window_within next one inside ours theirs is i b =
+      elim (cases_lt (i + from) w) [
+        | inl l ↦ first_at ours is i l
+        | inr g ↦
+            let on : next * w ≡ at * w + w = ap (λ k. k * w) one ∙ omega arith in
+            let top : (next + 1) * w ≤ words * w = mul-le-mul_right w (omega arith) in
+            is.second i b g ∙ digit_at m w next s e word theirs (i + from - w) (omega arith)
+            ∙ ap t.has (omega (arith, on))
+            ∙ sym (contains_below t (at * w + from + i) (omega (arith, on, top, whole)))
+      ]
+
+  pub window_around : (next : ℕ) → at + 1 ≡ words → next ≡ 0 →
+      bit_set w d ≡ word_of w s at → bit_set w e ≡ word_of w s next →
+      IsWindow w from (read_in m w (bit_set w d)) (read_in m w (bit_set w e))
+      (read_in m w (bit_set w r)) →
+      IsWordFrom w t (at * w + from) (read_in m w (bit_set w r))
+  window_around next last none ours theirs is i b =
+      elim (cases_lt (i + from) w) [
+        | inl l ↦ first_at ours is i l
+        | inr g ↦
+            let zero : next * w ≡ 0 = ap (λ k. k * w) none ∙ omega arith in
+            let all : at * w + w ≡ words * w = ap (λ k. k * w) last in
+            is.second i b g ∙ digit_at m w next s e word theirs (i + from - w) (omega arith)
+            ∙ ap t.has (omega (arith, zero))
+            ∙ sym (contains_past t (at * w + from + i) (i + from - w) (omega (arith, all, whole))
+            (omega (arith, up, whole)))
+      ]
+
+-- where word `at` lies so many words above word k, and may wrap
+pub wrapped_at : (w c words by skipped from k at : ℕ) → words * w ≡ c → skipped ≡ by % c / w →
+    from ≡ by % c % w → (at ≡ k + skipped) ⊎ (at + words ≡ k + skipped) → (i : ℕ) →
+    (at * w + from + i) % c ≡ (k * w + i + by) % c
+wrapped_at w c words by skipped from k at whole s f where_is i =
+    let parts : skipped * w + from ≡ by % c = rw (s, f) (div-add-mod' (by % c) w) in
+    elim where_is [
+      | inl e ↦
+          let x : at * w + from + i ≡ k * w + i + by % c = omega (arith, ap (λ t. t * w) e, parts) in
+          ap (λ t. t % c) x ∙ add-mod-mod (k * w + i) by c
+      | inr e ↦
+          let x : at * w + from + i + c ≡ k * w + i + by % c =
+              omega (arith, ap (λ t. t * w) e, parts, whole) in
+          sym (add-mod_right (at * w + from + i) c) ∙ ap (λ t. t % c) x
+          ∙ add-mod-mod (k * w + i) by c
+    ]
+
+-- once word k is the word from there, the members below the end of word k are right
+pub more_rotated : (m : Bool) (w k d from by : ℕ) (s b t : PlainSet) → 0 < w → k * w < b.capacity →
+    ReplacesWord w b k (bit_set w d) t → IsWordFrom w s from (read_in m w (bit_set w d)) →
+    ((i : ℕ) → (from + i) % s.capacity ≡ (k * w + i + by) % s.capacity) →
+    IsRotatedBelow s by (read_in m w b) (k * w) → IsRotatedBelow s by (read_in m w t) ((k + 1) * w)
+more_rotated m w k d from by s b t word within is here place done i h =
+    elim (cases_lt i (k * w)) [
+      | inl l ↦
+          let j = i / w in
+          let before : j < k = div_below i w k word l in
+          let start : j * w ≤ k * w = mul-le-mul_right w (omega arith) in
+          let at : j * w + i % w ≡ i = div-add-mod' i w in
+          ap (read_in m w t).has (sym at)
+          ∙ same_word m w j t b word (is.others j (λ e. omega arith) (omega (arith, start)))
+          (i % w) (mod_below i w word)
+          ∙ ap (read_in m w b).has at ∙ done i l
+      | inr g ↦
+          let o = i - k * w in
+          let at : k * w + o ≡ i = omega arith in
+          ap (read_in m w t).has (sym at)
+          ∙ sym (digit_at m w k t d word (sym is.replaced) o (omega arith))
+          ∙ here o (omega arith) ∙ contains_as s (from + o) (k * w + o + by) (place o)
+          ∙ ap (λ n. contains s (n + by)) at
+    ]
+
+rotated-below : (s : PlainSet) (by k : ℕ) → k < s.capacity → has_rotated s by k ≡ contains s (k + by)
+unfolding has_rotated
+rotated-below s by k h = rw (lt-ltb k s.capacity h) refl
+
+rotated-past : (s : PlainSet) (by k : ℕ) → s.capacity ≤ k → has_rotated s by k ≡ false
+unfolding has_rotated
+rotated-past s by k h = rw (le-ltb k s.capacity h) refl
+
+-- once all members below the capacity are right, it is the rotated set
+pub all_rotated : (m : Bool) (w n by : ℕ) (s t : PlainSet) → t.capacity ≡ s.capacity →
+    ((i : ℕ) → t.capacity ≤ i → (read_in m w t).has i ≡ false) → s.capacity ≤ n →
+    IsRotatedBelow s by (read_in m w t) n → read_in m w t ≡ rotated_down s by
+all_rotated m w n by s t same past far done =
+    let each : (read_in m w t).has ≡ has_rotated s by = fun_ext λ k.
+    elim (cases_lt k s.capacity) [
+      | inl l ↦ done k (omega arith) ∙ sym (rotated-below s by k l)
+      | inr g ↦ past k (omega (arith, same)) ∙ sym (rotated-past s by k g)
+    ] in
+    λ j. plain_set (same j) (each j)
+
+contains_none : (s : PlainSet) (i : ℕ) → s.capacity ≡ 0 → contains s i ≡ false
+unfolding contains
+contains_none s i e = rw (le-ltb 0 s.capacity (omega (arith, e))) refl
+
+contains_some : (s : PlainSet) (i : ℕ) → 0 < s.capacity → contains s i ≡ s.has (i % s.capacity)
+unfolding contains
+contains_some s i h = rw (lt-ltb 0 s.capacity h) refl
+
+-- an index of the set rotated down is a member where the one so far above it was one
+pub rotated_from : (s : PlainSet) (by i : ℕ) → contains (rotated_down s by) i ≡ contains s (i + by)
+rotated_from s by i =
+    elim (cases_eq s.capacity 0) [
+      | inl none ↦ contains_none (rotated_down s by) i none ∙ sym (contains_none s (i + by) none)
+      | inr some ↦
+          contains_some (rotated_down s by) i (omega arith)
+          ∙ rotated-below s by (i % s.capacity) (mod_below i s.capacity (omega arith))
+          ∙ contains_as s (i % s.capacity + by) (i + by) (mod-add-mod i s.capacity by)
+    ]
+
+-- an index so far above another one, of the set rotated up, is a member where that one was one
+pub rotated_to : (s : PlainSet) (by i : ℕ) → contains (rotated_up s by) (i + by) ≡ contains s i
+rotated_to s by i =
+    let c = s.capacity in
+    let back = c - by % c in
+    elim (cases_eq c 0) [
+      | inl none ↦ contains_none (rotated_up s by) (i + by) none ∙ sym (contains_none s i none)
+      | inr some ↦
+          let turns : i + by + back ≡ i + (by / c + 1) * c =
+              omega (arith, div-add-mod' by c, mod_below by c (omega arith)) in
+          rotated_from s back (i + by)
+          ∙ contains_as s (i + by + back) i (ap (λ n. n % c) turns
+          ∙ add-mul-mod_self_right i (by / c + 1) c)
+    ]
+
+down-inside : (s : PlainSet) (by k : ℕ) → k + by < s.capacity →
+    has_shifted_down s by k ≡ s.has (k + by)
+unfolding has_shifted_down
+down-inside s by k h = rw (lt-ltb (k + by) s.capacity h) refl
+
+down-past : (s : PlainSet) (by k : ℕ) → s.capacity ≤ k + by → has_shifted_down s by k ≡ false
+unfolding has_shifted_down
+down-past s by k h = rw (le-ltb (k + by) s.capacity h) refl
+
+-- the set rotated down, without the members that came from below, is the set shifted down
+pub cut_down : (s : PlainSet) (by : ℕ) → by < s.capacity →
+    without_span (rotated_down s by) (s.capacity - by) s.capacity ≡ shifted_down s by
+cut_down s by h =
+    let c = s.capacity in
+    let t = rotated_down s by in
+    let none : Bool → Bool = λ _. false in
+    ap (plain_set c) (fun_ext λ k. elim (cases_lt k (c - by)) [
+      | inl l ↦ outside_span none t (c - by) c k (inl l) ∙ rotated-below s by k (omega arith)
+          ∙ contains_below s (k + by) (omega arith) ∙ sym (down-inside s by k (omega arith))
+      | inr g ↦ elim (cases_lt k c) [
+        | inl l ↦ inside_span none t (c - by) c k g l ∙ sym (down-past s by k (omega arith))
+        | inr b ↦ outside_span none t (c - by) c k (inr b) ∙ rotated-past s by k b
+            ∙ sym (down-past s by k (omega arith))
+      ]
+    ])
+
+-- a set shifted down by its capacity or more is empty
+pub all_down : (s : PlainSet) (by : ℕ) → s.capacity ≤ by → empty_set s.capacity ≡ shifted_down s by
+all_down s by h = ap (plain_set s.capacity) (fun_ext λ k. sym (down-past s by k (omega arith)))
+
+up-inside : (s : PlainSet) (by k : ℕ) → by ≤ k → k < s.capacity →
+    has_shifted_up s by k ≡ s.has (k - by)
+unfolding has_shifted_up
+up-inside s by k h l = rw (le-leb by k h, lt-ltb k s.capacity l) refl
+
+up-before : (s : PlainSet) (by k : ℕ) → k < by → has_shifted_up s by k ≡ false
+unfolding has_shifted_up
+up-before s by k h = rw (lt-leb by k h) refl
+
+up-past : (s : PlainSet) (by k : ℕ) → s.capacity ≤ k → has_shifted_up s by k ≡ false
+unfolding has_shifted_up
+up-past s by k h = rw (le-ltb k s.capacity h) (and_right (nat_le by k) false refl)
+
+-- the set rotated up, without the members that came from above, is the set shifted up
+pub cut_up : (s : PlainSet) (by : ℕ) → by < s.capacity →
+    without_span (rotated_up s by) 0 by ≡ shifted_up s by
+cut_up s by h =
+    let c = s.capacity in
+    let back = c - by % c in
+    let t = rotated_up s by in
+    let none : Bool → Bool = λ _. false in
+    let small : by % c ≡ by = mod-eq_of_lt h in
+    ap (plain_set c) (fun_ext λ k. elim (cases_lt k by) [
+      | inl l ↦ inside_span none t 0 by k (omega arith) l ∙ sym (up-before s by k l)
+      | inr g ↦ elim (cases_lt k c) [
+        | inl l ↦ outside_span none t 0 by k (inr g) ∙ rotated-below s back k l
+            ∙ contains_past s (k + back) (k - by) (omega (arith, small)) (omega arith)
+            ∙ sym (up-inside s by k g l)
+        | inr b ↦ outside_span none t 0 by k (inr g) ∙ rotated-past s back k b
+            ∙ sym (up-past s by k b)
+      ]
+    ])
+
+-- a set shifted up by its capacity or more is empty
+pub all_up : (s : PlainSet) (by : ℕ) → s.capacity ≤ by → empty_set s.capacity ≡ shifted_up s by
+all_up s by h = ap (plain_set s.capacity) (fun_ext λ k. sym (elim (cases_lt k by) [
+      | inl l ↦ up-before s by k l
+      | inr g ↦ up-past s by k (omega arith)
+    ]))

@@ -1,0 +1,3 @@
+use Rattle.std.proofs.Common.{◌∙◌}
+use Rattle.bittle_ext.proofs.Windows.{funnel_window}
+use Rattle.bittle_ext.proofs.rotations.funnel.Goals as goal

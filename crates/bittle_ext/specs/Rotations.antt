@@ -1,0 +1,44 @@
+-- Sets whose members are all moved up or down.
+use Rattle.std.specs.Prelude.{◌≡◌, ℕ, ◌+◌, ◌-◌, ◌%◌, ◌<◌, ◌≤◌, Bool, ◌&&◌, nat_lt, nat_le}
+use Rattle.bittle.specs.PlainSet.{PlainSet, contains}
+
+-- whether a number below the capacity has a member so far above it, where an index wraps
+unfoldable pub has_rotated : PlainSet → ℕ → ℕ → Bool
+has_rotated s by k = nat_lt k s.capacity && contains s (k + by)
+
+-- the set with each member moved down, from index 0 on to the last one
+abbrev pub rotated_down : PlainSet → ℕ → PlainSet
+rotated_down s by = record { capacity = s.capacity; has = has_rotated s by }
+
+-- the set with each member moved up, from the last index on to 0
+abbrev pub rotated_up : PlainSet → ℕ → PlainSet
+rotated_up s by = rotated_down s (s.capacity - by % s.capacity)
+
+-- whether a number has a member so far above it
+unfoldable pub has_shifted_down : PlainSet → ℕ → ℕ → Bool
+has_shifted_down s by k = nat_lt (k + by) s.capacity && s.has (k + by)
+
+-- the set with each member moved down; those that would pass index 0 are left out
+abbrev pub shifted_down : PlainSet → ℕ → PlainSet
+shifted_down s by = record { capacity = s.capacity; has = has_shifted_down s by }
+
+-- whether a number below the capacity has a member so far below it
+unfoldable pub has_shifted_up : PlainSet → ℕ → ℕ → Bool
+has_shifted_up s by k = nat_le by k && nat_lt k s.capacity && s.has (k - by)
+
+-- the set with each member moved up; those that would reach the capacity are left out
+abbrev pub shifted_up : PlainSet → ℕ → PlainSet
+shifted_up s by = record { capacity = s.capacity; has = has_shifted_up s by }
+
+-- the members of u are those of two words of w bits, s and then t, from index `from` of s on
+pub record IsWindow (w from : ℕ) (s t u : PlainSet) : Type 0 where
+  pub first : (i : ℕ) → i + from < w → u.has i ≡ s.has (i + from)
+  pub second : (i : ℕ) → i < w → w ≤ i + from → u.has i ≡ t.has (i + from - w)
+
+-- the members of one word of w bits are those of a set from an index on, which wraps
+abbrev pub IsWordFrom : ℕ → PlainSet → ℕ → PlainSet → Type 0
+IsWordFrom w s from u = (i : ℕ) → i < w → u.has i ≡ contains s (from + i)
+
+-- the members below a number are those of a set so far above, where an index wraps
+abbrev pub IsRotatedBelow : PlainSet → ℕ → PlainSet → ℕ → Type 0
+IsRotatedBelow s by t n = (i : ℕ) → i < n → t.has i ≡ contains s (i + by)

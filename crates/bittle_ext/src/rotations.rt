@@ -1,0 +1,80 @@
+//! Sets whose bits are all moved, a word at a time.
+
+ghost use Rattle.std.specs.Prelude.{◌≡◌, ◌+◌, ◌*◌, ◌<◌, IsTrue};
+ghost use Rattle.bittle_bits.specs.BitPatterns.{bit_set};
+ghost use Rattle.bittle_ext.specs.Rotations.{rotated_down, IsWindow, IsWordFrom};
+ghost use Rattle.bittle.specs.Orders.{read_in};
+ghost use Rattle.bittle.specs.Values.{set_in, ShapeFits};
+
+use bittle::{Bits, BitsOwned, Endian};
+use bittle_bits::word::Word;
+
+/// Returns the word of the bits of two words from the weight `2 ^ from` of the first one on.
+#[inline]
+fn funnel<W: Word>(first: W, second: W, from: u32) -> W
+    requires some { 0 < from }
+    requires within { from < W.width }
+    ensures { IsWindow W.width from (bit_set W.width (W.pattern first))
+        (bit_set W.width (W.pattern second)) (bit_set W.width (W.pattern result)) }
+{
+    let upper = second.and(W::low(from)).to_bits() << (W::width() - from);
+    W::from_bits(upper | first.to_bits() >> from)
+}
+
+/// Returns the word of the bits of two words from the index `from` of the first one on.
+#[inline]
+fn window<W: Word, E: Endian>(first: W, second: W, from: u32) -> W
+    requires { from < W.width }
+    ensures { IsWindow W.width from
+        (read_in E.mirrored W.width (bit_set W.width (W.pattern first)))
+        (read_in E.mirrored W.width (bit_set W.width (W.pattern second)))
+        (read_in E.mirrored W.width (bit_set W.width (W.pattern result))) }
+{
+    if from == 0 {
+        return first;
+    }
+    if E::is_mirrored() {
+        return funnel::<W>(second, first, W::width() - from);
+    }
+    funnel::<W>(first, second, from)
+}
+
+/// Returns the word of the bits of a set from an index of its word `at` on. After the last word
+/// comes the first one.
+#[inline]
+fn word_from<B: Bits, E: Endian>(set: &B, words: u32, at: u32, from: u32) -> B::LeafWord
+    requires fits { ShapeFits B.Shape set.now }
+    requires words { words * B.width ≡ (B.big set.now).capacity }
+    requires element { at < words }
+    requires within { from < B.width }
+    ensures { IsWordFrom B.width (set_in B.Shape E.Endian set.now) (at * B.width + from)
+        (read_in E.mirrored B.width (bit_set B.width (B.LeafWord.pattern result))) }
+{
+    let next = if at + 1 == words { 0 } else { at + 1 };
+    window::<B::LeafWord, E>(set.nth_leaf_word(at), set.nth_leaf_word(next), from)
+}
+
+/// Returns the set with each member moved down, from index 0 on to the last one.
+pub fn rotate_down<B: BitsOwned, E: Endian>(set: &B, by: u32) -> B
+    requires { IsTrue B.indexable }
+    ensures { set_in B.Shape E.Endian result ≡ rotated_down (set_in B.Shape E.Endian set.now) by }
+{
+    let mut result = B::zeros();
+    let capacity = B::bits();
+    if capacity == 0 {
+        return result;
+    }
+    let width = <B::LeafWord as Word>::width();
+    let words = capacity / width;
+    let skipped = by % capacity / width;
+    let from = by % capacity % width;
+    for k in 0..words {
+        let at = if k + skipped < words {
+            k + skipped
+        } else {
+            k + skipped - words
+        };
+        result.set_nth_leaf_word(k, word_from::<B, E>(set, words, at, from));
+    }
+    result
+}
