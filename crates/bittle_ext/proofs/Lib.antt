@@ -9,7 +9,7 @@ mod PassingMembers
 pub mod RankFacts
 pub mod RelationFacts
 mod RetainSteps
-mod Rotations
+mod RotatedSets
 mod Windows
 pub mod RunFacts
 mod RunEnds

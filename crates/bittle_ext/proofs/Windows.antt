@@ -1,7 +1,9 @@
 -- The bits of two words, one after the other, from an index on.
-use Rattle.std.proofs.Common.{◌≡◌, ℕ, ◌+◌, ◌-◌, ◌*◌, ◌/◌, ◌%◌, ◌^◌, ◌<◌, ◌≤◌, true, false, inl, inr, refl, sym, ap, ◌∙◌, arith, bit_and, bit_or, shr-shr, shl_exact}
+use Rattle.std.proofs.Common.{◌≡◌, ℕ, ◌+◌, ◌-◌, ◌*◌, ◌/◌, ◌%◌, ◌^◌, ◌<◌, ◌≤◌, true, ◌==◌, inl, inr, sym, ap, ◌∙◌, arith, bit_and, bit_or, pow_mono, shr_lt, shr-shr}
 use Rattle.std.specs.Int.{bit_at}
-use Rattle.std.proofs.lemmas.Nat.{shr_split, and_mask, or_shifted, pow_pos, mod_below}
+use Rattle.std.proofs.Math.Nat.{mul-mod_left}
+use Rattle.std.proofs.Math.Pow.{mod-mod-pow}
+use Rattle.std.proofs.lemmas.Nat.{and_mask, mod_below, mod-pow-add, mul-add-lt, or_shifted, pow_pos, pow-add, shl-shr, shr_split}
 use Rattle.std.proofs.lemmas.Nat.Bits.{bit_at_cat_low, bit_at_cat_high}
 use Rattle.std.proofs.lemmas.Bool.{cases_lt}
 use Rattle.bittle_bits.specs.BitPatterns.{bit_has, bit_set}
@@ -22,23 +24,68 @@ bit_at_masked : (n k i : ℕ) → i < k → bit_at (n % 2 ^ k) i ≡ bit_at n i
 bit_at_masked n k i h =
     sym (bit_at_cat_low (n / 2 ^ k) k (n % 2 ^ k) i h) ∙ ap (λ x. bit_at x i) (shr_split n k)
 
--- the low bits of the second word above the high ones of the first one are the window
-pub funnel_window : (w from rest first second r : ℕ) → from < w → rest ≡ w - from → first < 2 ^ w →
-    r ≡ second % 2 ^ from * 2 ^ rest + first / 2 ^ from → first / 2 ^ from < 2 ^ rest →
-    IsWindow w from (bit_set w first) (bit_set w second) (bit_set w r)
-funnel_window w from rest first second r h left fits is low = record {
-  first = λ i b. bit_has-at w r i (omega arith)
-      ∙ ap (λ x. x == 1) (ap (λ x. bit_at x i) is
-      ∙ bit_at_cat_low (second % 2 ^ from) rest (first / 2 ^ from) i (omega (arith, left))
-      ∙ bit_at_shifted first from i)
-      ∙ sym (bit_has-at w first (i + from) b);
-  second = λ i b g. bit_has-at w r i b
-      ∙ ap (λ x. x == 1) (ap (λ x. bit_at x i) is
-      ∙ bit_at_cat_high (second % 2 ^ from) rest (first / 2 ^ from) i low (omega (arith, left))
-      ∙ bit_at_masked second from (i - rest) (omega (arith, left))
-      ∙ ap (bit_at second) (omega (arith, left)))
-      ∙ sym (bit_has-at w second (i + from - w) (omega arith));
-}
+-- a word whose ones are a number of 128 bits has no more than so many
+pub at_most_128 : (w ones : ℕ) → ones ≡ 2 ^ w - 1 → ones < 2 ^ 128 → w < 129
+at_most_128 w ones all fits =
+    elim (cases_lt w 129) [
+      | inl l ↦ l
+      | inr g ↦ let big : 2 ^ 129 ≤ 2 ^ w = pow_mono g in absurd (omega (arith, all, big))
+    ]
+
+-- a word shifted up and cut to its width: of its low bits nothing is lost
+cut_upper : (w from rest second ones : ℕ) → from ≤ w → rest ≡ w - from → w < 129 →
+    ones ≡ 2 ^ w - 1 →
+    bit_and (second * 2 ^ rest % 2 ^ 128) ones ≡ second % 2 ^ from * 2 ^ rest
+cut_upper w from rest second ones h left small all =
+    let n = second * 2 ^ rest in
+    let wide : 128 - w + w ≡ 128 = omega arith in
+    let parts : from + rest ≡ w = omega (arith, left) in
+    ap (bit_and (n % 2 ^ 128)) all ∙ and_mask (n % 2 ^ 128) w
+    ∙ ap (λ k. n % 2 ^ k % 2 ^ w) (sym wide) ∙ mod-mod-pow n (128 - w) w
+    ∙ ap (λ k. n % 2 ^ k) (sym parts) ∙ mod-pow-add n from rest
+    ∙ omega (
+      arith,
+      ap (λ k. k % 2 ^ from * 2 ^ rest) (shl-shr second rest),
+      mul-mod_left second (2 ^ rest),
+    )
+
+module _ (w from rest first second ones r : ℕ) (h : from < w) (left : rest ≡ w - from)
+    (small : w < 129) (all : ones ≡ 2 ^ w - 1) (fits : first < 2 ^ w)
+    (is : r ≡ bit_or (bit_and (second * 2 ^ rest % 2 ^ 128) ones) (first / 2 ^ from)) where
+  low : first / 2 ^ from < 2 ^ rest
+  low = let parts : rest + from ≡ w = omega (arith, left) in
+      shr_lt rest from (omega (arith, fits, ap (λ k. 2 ^ k) parts))
+
+  value : r ≡ second % 2 ^ from * 2 ^ rest + first / 2 ^ from
+  value = is ∙ ap (λ x. bit_or x (first / 2 ^ from))
+      (cut_upper w from rest second ones (omega arith) left small all)
+      ∙ or_shifted (second % 2 ^ from) rest (first / 2 ^ from) low
+
+  -- the low bits of the second word above the high ones of the first one are a word
+  pub funnel_fits : r < 2 ^ w
+  funnel_fits =
+      let parts : from + rest ≡ w = omega (arith, left) in
+      let high : second % 2 ^ from < 2 ^ from = mod_below second (2 ^ from) (pow_pos from) in
+      let some = mul-add-lt (second % 2 ^ from) (2 ^ rest) (first / 2 ^ from) (2 ^ from) high low in
+      omega (arith, value, some, pow-add 2 from rest, ap (λ k. 2 ^ k) parts)
+
+  -- and that word is the window
+  pub funnel_window : IsWindow w from (bit_set w first) (bit_set w second) (bit_set w r)
+  funnel_window = record {
+    first = λ i b. bit_has-at w r i (omega arith)
+        ∙ ap (λ x. x == 1) (ap (λ x. bit_at x i) value
+        ∙ bit_at_cat_low (second % 2 ^ from) rest (first / 2 ^ from) i (omega (arith, left))
+        ∙ bit_at_shifted first from i)
+        ∙ sym (bit_has-at w first (i + from) b);
+    second = λ i b g.
+        let e : i - rest ≡ i + from - w = omega (arith, left) in
+        bit_has-at w r i b
+        ∙ ap (λ x. x == 1) (ap (λ x. bit_at x i) value
+        ∙ bit_at_cat_high (second % 2 ^ from) rest (first / 2 ^ from) i low (omega (arith, left))
+        ∙ bit_at_masked second from (i - rest) (omega (arith, left))
+        ∙ ap (bit_at second) e)
+        ∙ sym (bit_has-at w second (i + from - w) (omega arith));
+  }
 
 -- a window that begins with the first word is that word
 pub whole_window : (w from : ℕ) (s t : PlainSet) → from ≡ 0 → IsWindow w from s t s

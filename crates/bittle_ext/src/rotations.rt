@@ -17,7 +17,8 @@ fn funnel<W: Word>(first: W, second: W, from: u32) -> W
     ensures { IsWindow W.width from (bit_set W.width (W.pattern first))
         (bit_set W.width (W.pattern second)) (bit_set W.width (W.pattern result)) }
 {
-    let upper = second.and(W::low(from)).to_bits() << (W::width() - from);
+    let ones = W::zero().not().to_bits();
+    let upper = second.to_bits() << (W::width() - from) & ones;
     W::from_bits(upper | first.to_bits() >> from)
 }
 
@@ -68,12 +69,9 @@ pub fn rotate_down<B: BitsOwned, E: Endian>(set: &B, by: u32) -> B
     let words = capacity / width;
     let skipped = by % capacity / width;
     let from = by % capacity % width;
+    let left = words - skipped;
     for k in 0..words {
-        let at = if k + skipped < words {
-            k + skipped
-        } else {
-            k + skipped - words
-        };
+        let at = if k < left { k + skipped } else { k - left };
         result.set_nth_leaf_word(k, word_from::<B, E>(set, words, at, from));
     }
     result

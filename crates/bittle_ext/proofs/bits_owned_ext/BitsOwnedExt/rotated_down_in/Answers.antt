@@ -1,6 +1,6 @@
 use Rattle.std.proofs.Common.{ap, ◌∙◌}
 use Rattle.bittle.specs.PlainSet.{contains}
-use Rattle.bittle_ext.proofs.Rotations.{rotated_from}
+use Rattle.bittle_ext.proofs.RotatedSets.{rotated_from}
 use Rattle.bittle_ext.proofs.bits_owned_ext.BitsOwnedExt.rotated_down_in.Goals as goal
 
 pub returns-clause-moved : goal.returns-clause-moved

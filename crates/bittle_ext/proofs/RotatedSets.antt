@@ -1,5 +1,5 @@
 -- Sets whose members are all moved, word by word.
-use Rattle.std.proofs.Common.{◌≡◌, ℕ, ◌+◌, ◌-◌, ◌*◌, ◌/◌, ◌%◌, ◌<◌, ◌≤◌, ◌≢◌, ◌⊎◌, Bool, true, false, ◌&&◌, nat_lt, nat_le, inl, inr, refl, sym, ap, ◌∙◌, arith}
+use Rattle.std.proofs.Common.{◌≡◌, ℕ, ◌+◌, ◌-◌, ◌*◌, ◌/◌, ◌%◌, ◌<◌, ◌≤◌, ◌≢◌, ◌⊎◌, Bool, false, ◌&&◌, nat_lt, nat_le, inl, inr, refl, sym, ap, ◌∙◌, arith}
 use Rattle.std.proofs.Math.Path.{fun_ext}
 use Rattle.std.proofs.Math.Nat.{mod-eq_of_lt, add-mod_left, add-mod_right, add-mod-mod, mod-add-mod, add-mul-mod_self_right, mul-le-mul_right}
 use Rattle.std.proofs.lemmas.Nat.{div-add-mod', mod_below, div_below}
@@ -8,7 +8,8 @@ use Rattle.bittle_bits.specs.BitPatterns.{bit_set}
 use Rattle.bittle.specs.Orders.{read_in}
 use Rattle.bittle.specs.PlainSet.{PlainSet, contains, empty_set, without_span}
 use Rattle.bittle_bits.specs.Words.{word_of, ReplacesWord}
-use Rattle.bittle_bits.proofs.PlainSets.{plain_set, members-past}
+use Rattle.bittle_bits.proofs.PlainSets.{plain_set}
+use Rattle.bittle_bits.proofs.RowWords.{words_each}
 use Rattle.bittle_bits.proofs.Spans.{outside_span, inside_span}
 use Rattle.bittle_bits.proofs.Words.{digit_at, same_word}
 use Rattle.bittle_ext.specs.Rotations.{has_rotated, rotated_down, rotated_up, has_shifted_down, shifted_down, has_shifted_up, shifted_up, IsWindow, IsWordFrom, IsRotatedBelow}
@@ -30,6 +31,11 @@ contains_past : (s : PlainSet) (i j : ℕ) → i ≡ s.capacity + j → j < s.ca
 contains_past s i j e h =
     contains_as s i j (ap (λ k. k % s.capacity) e ∙ add-mod_left s.capacity j) ∙ contains_below s j h
 
+-- the word after word `at` of so many, and after the last one the first
+abbrev pub IsNext : ℕ → ℕ → ℕ → Type 0
+IsNext words at next =
+    ((at + 1 ≡ words) × (next ≡ 0)) ⊎ ((at + 1 ≢ words) × (next ≡ at + 1))
+
 -- a window over word `at` and the one after it, or the first after the last, is the word from there
 module _ (m : Bool) (w words at from d e r : ℕ) (s : PlainSet) (word : 0 < w)
     (whole : words * w ≡ s.capacity) (low : at < words) (within : from < w) where
@@ -47,38 +53,48 @@ module _ (m : Bool) (w words at from d e r : ℕ) (s : PlainSet) (word : 0 < w)
       ∙ ap t.has (omega arith)
       ∙ sym (contains_below t (at * w + from + i) (omega (arith, up, whole)))
 
-  pub window_within : (next : ℕ) → next ≡ at + 1 → next < words →
+  -- the word after it, or the first one after the last
+  pub window_from : (next : ℕ) → IsNext words at next →
       bit_set w d ≡ word_of w s at → bit_set w e ≡ word_of w s next →
       IsWindow w from (read_in m w (bit_set w d)) (read_in m w (bit_set w e))
       (read_in m w (bit_set w r)) →
       IsWordFrom w t (at * w + from) (read_in m w (bit_set w r))
-  window_within next one inside ours theirs is i b =
+  window_from next where_is ours theirs is i b =
       elim (cases_lt (i + from) w) [
         | inl l ↦ first_at ours is i l
-        | inr g ↦
-            let on : next * w ≡ at * w + w = ap (λ k. k * w) one ∙ omega arith in
-            let top : (next + 1) * w ≤ words * w = mul-le-mul_right w (omega arith) in
-            is.second i b g ∙ digit_at m w next s e word theirs (i + from - w) (omega arith)
-            ∙ ap t.has (omega (arith, on))
-            ∙ sym (contains_below t (at * w + from + i) (omega (arith, on, top, whole)))
+        | inr g ↦ is.second i b g ∙ digit_at m w next s e word theirs (i + from - w) (omega arith)
+            ∙ elim where_is [
+              | inl last ↦
+                  let zero : next * w ≡ 0 = ap (λ k. k * w) last.1 ∙ omega arith in
+                  let all : at * w + w ≡ words * w = omega (arith, ap (λ k. k * w) last.0) in
+                  ap t.has (omega (arith, zero))
+                  ∙ sym (contains_past t (at * w + from + i) (i + from - w)
+                  (omega (arith, all, whole)) (omega (arith, up, whole)))
+              | inr more ↦
+                  let on : next * w ≡ at * w + w = ap (λ k. k * w) more.1 ∙ omega arith in
+                  let top : (next + 1) * w ≤ words * w =
+                  mul-le-mul_right w (omega (arith, more.0, more.1)) in
+                  ap t.has (omega (arith, on))
+                  ∙ sym (contains_below t (at * w + from + i) (omega (arith, on, top, whole)))
+            ]
       ]
 
-  pub window_around : (next : ℕ) → at + 1 ≡ words → next ≡ 0 →
-      bit_set w d ≡ word_of w s at → bit_set w e ≡ word_of w s next →
-      IsWindow w from (read_in m w (bit_set w d)) (read_in m w (bit_set w e))
-      (read_in m w (bit_set w r)) →
-      IsWordFrom w t (at * w + from) (read_in m w (bit_set w r))
-  window_around next last none ours theirs is i b =
-      elim (cases_lt (i + from) w) [
-        | inl l ↦ first_at ours is i l
-        | inr g ↦
-            let zero : next * w ≡ 0 = ap (λ k. k * w) none ∙ omega arith in
-            let all : at * w + w ≡ words * w = ap (λ k. k * w) last in
-            is.second i b g ∙ digit_at m w next s e word theirs (i + from - w) (omega arith)
-            ∙ ap t.has (omega (arith, zero))
-            ∙ sym (contains_past t (at * w + from + i) (i + from - w) (omega (arith, all, whole))
-            (omega (arith, up, whole)))
+  -- that word begins below the capacity
+  pub next_within : (next : ℕ) → IsNext words at next → next * w < s.capacity
+  next_within next where_is =
+      elim where_is [
+        | inl last ↦ omega (arith, ap (λ k. k * w) last.1, up, whole)
+        | inr more ↦
+            let top : (next + 1) * w ≤ words * w =
+            mul-le-mul_right w (omega (arith, more.0, more.1)) in
+            omega (arith, top, whole)
       ]
+
+-- as many words as a capacity holds make it up
+pub words_make : (bits wide c w leaf : ℕ) (whole : (d : ℕ) × (c ≡ d * w)) → 0 < w → bits ≡ c →
+    wide ≡ leaf → leaf ≡ w → bits / wide * w ≡ c
+words_make bits wide c w leaf whole word b v same =
+    rw (words_each bits wide c w leaf whole.0 word b v same whole.1) (sym whole.1)
 
 -- where word `at` lies so many words above word k, and may wrap
 pub wrapped_at : (w c words by skipped from k at : ℕ) → words * w ≡ c → skipped ≡ by % c / w →
@@ -92,7 +108,7 @@ wrapped_at w c words by skipped from k at whole s f where_is i =
           ap (λ t. t % c) x ∙ add-mod-mod (k * w + i) by c
       | inr e ↦
           let x : at * w + from + i + c ≡ k * w + i + by % c =
-              omega (arith, ap (λ t. t * w) e, parts, whole) in
+          omega (arith, ap (λ t. t * w) e, parts, whole) in
           sym (add-mod_right (at * w + from + i) c) ∙ ap (λ t. t % c) x
           ∙ add-mod-mod (k * w + i) by c
     ]
@@ -170,7 +186,7 @@ rotated_to s by i =
       | inl none ↦ contains_none (rotated_up s by) (i + by) none ∙ sym (contains_none s i none)
       | inr some ↦
           let turns : i + by + back ≡ i + (by / c + 1) * c =
-              omega (arith, div-add-mod' by c, mod_below by c (omega arith)) in
+          omega (arith, div-add-mod' by c, mod_below by c (omega arith)) in
           rotated_from s back (i + by)
           ∙ contains_as s (i + by + back) i (ap (λ n. n % c) turns
           ∙ add-mul-mod_self_right i (by / c + 1) c)
@@ -217,7 +233,7 @@ up-before s by k h = rw (lt-leb by k h) refl
 
 up-past : (s : PlainSet) (by k : ℕ) → s.capacity ≤ k → has_shifted_up s by k ≡ false
 unfolding has_shifted_up
-up-past s by k h = rw (le-ltb k s.capacity h) (and_right (nat_le by k) false refl)
+up-past s by k h = rw (le-ltb k s.capacity h) (ap (λ b. b && s.has (k - by)) (and_right (nat_le by k) false refl))
 
 -- the set rotated up, without the members that came from above, is the set shifted up
 pub cut_up : (s : PlainSet) (by : ℕ) → by < s.capacity →
@@ -242,6 +258,6 @@ cut_up s by h =
 -- a set shifted up by its capacity or more is empty
 pub all_up : (s : PlainSet) (by : ℕ) → s.capacity ≤ by → empty_set s.capacity ≡ shifted_up s by
 all_up s by h = ap (plain_set s.capacity) (fun_ext λ k. sym (elim (cases_lt k by) [
-      | inl l ↦ up-before s by k l
-      | inr g ↦ up-past s by k (omega arith)
-    ]))
+  | inl l ↦ up-before s by k l
+  | inr g ↦ up-past s by k (omega arith)
+]))
