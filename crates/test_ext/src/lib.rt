@@ -16,4 +16,6 @@ mod ranges;
 #[cfg(test)]
 mod reads;
 #[cfg(test)]
+mod rotations;
+#[cfg(test)]
 mod walked_runs;

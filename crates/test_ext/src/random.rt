@@ -215,3 +215,45 @@ fn drawn_runs_agree_with_plain_loops(rt: HostRuntime) {
         same!(rt; walked, (firsts, lasts));
     }
 }
+
+// Returns the flag that comes to an index in one of four ways of moving.
+fn flag_after(kind: u32, flags: &[bool; 24], at: usize, by: usize) -> bool
+    requires index { at < 24 }
+    requires distance { by < 50 }
+{
+    match kind {
+        0 => flags[(at + by) % 24],
+        1 => flags[(at + 72 - by) % 24],
+        2 => at + by < 24 && flags[at + by],
+        _ => by <= at && flags[at - by],
+    }
+}
+
+// Returns the row with its bits moved in one of four ways.
+fn moved(kind: u32, row: [u8; 3], by: u32) -> [u8; 3] {
+    match kind {
+        0 => row.rotated_down(by),
+        1 => row.rotated_up(by),
+        2 => row.shifted_down(by),
+        _ => row.shifted_up(by),
+    }
+}
+
+#[test]
+fn drawn_rotations_agree_with_plain_loops(rt: HostRuntime) {
+    let mut state = 17;
+    for _ in 0..2000 {
+        let row = [
+            (draw(&mut state) % 256) as u8,
+            (draw(&mut state) % 256) as u8,
+            (draw(&mut state) % 256) as u8,
+        ];
+        let (kind, by) = (draw(&mut state) % 4, draw(&mut state) % 50);
+        let flags = flags_of(&row);
+        let mut expected = [false; 24];
+        for i in 0..24usize {
+            expected[i] = flag_after(kind, &flags, i, by as usize);
+        }
+        same!(rt; flags_of(&moved(kind, row, by)), expected);
+    }
+}

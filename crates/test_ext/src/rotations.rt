@@ -1,0 +1,225 @@
+//! Sets whose bits are moved, with values worked out by hand and by a loop over their indexes.
+
+ghost use Rattle.std.specs.Prelude.{◌<◌, IsTrue};
+
+use crate::checks::{holds, same};
+use bittle::prelude::*;
+use bittle::{BigEndian, BitsOwned, Endian, LittleEndian, Set};
+use bittle_ext::prelude::*;
+use std::process::Abort;
+
+#[test]
+fn a_word(rt: HostRuntime) {
+    // The members 1 and 4.
+    let word = 0b0001_0010u8;
+    same!(rt; word.rotated_down(2), 0b1000_0100);
+    same!(rt; word.rotated_up(4), 0b0010_0001);
+    same!(rt; word.shifted_down(2), 0b0000_0100);
+    same!(rt; word.shifted_up(4), 0b0010_0000);
+    same!(rt; (word.rotated_up(0), word.shifted_down(0)), (word, word));
+}
+
+#[test]
+fn a_word_from_the_left(rt: HostRuntime) {
+    // From the left the members 1 and 4.
+    let word = 0b0100_1000u8;
+    same!(rt; word.rotated_down_in::<LittleEndian>(2), 0b0010_0001);
+    same!(rt; word.rotated_up_in::<LittleEndian>(4), 0b1000_0100);
+    same!(rt; word.shifted_down_in::<LittleEndian>(2), 0b0010_0000);
+    same!(rt; word.shifted_up_in::<LittleEndian>(4), 0b0000_0100);
+}
+
+#[test]
+fn distances_past_the_capacity(rt: HostRuntime) {
+    // The members 1 and 4; the greatest distance is one of 7.
+    let word = 0b0001_0010u8;
+    same!(rt; (word.rotated_down(8), word.rotated_up(8)), (word, word));
+    same!(rt; word.rotated_down(10), 0b1000_0100);
+    same!(rt; word.rotated_up(u32::MAX), 0b0000_1001);
+    same!(rt; (word.shifted_down(8), word.shifted_up(8)), (0, 0));
+    same!(rt; (word.shifted_down(u32::MAX), word.shifted_up(u32::MAX)), (0, 0));
+}
+
+#[test]
+fn words_of_other_types(rt: HostRuntime) {
+    same!(rt; i16::MIN.rotated_up(1), 1);
+    same!(rt; (-1i16).shifted_down(1), i16::MAX);
+    same!(rt; 3u128.rotated_down(1), 0x8000_0000_0000_0000_0000_0000_0000_0001);
+    same!(rt; 1u128.shifted_up(64), 0x1_0000_0000_0000_0000);
+    same!(rt; 6usize.shifted_down(1), 3);
+}
+
+#[test]
+fn a_row(rt: HostRuntime) {
+    // The members 0, 7 and 23.
+    let row = [0x81u8, 0, 0x80];
+    same!(rt; row.rotated_up(1), [0x03, 0x01, 0]);
+    same!(rt; row.rotated_down(7), [0x01, 0, 0x03]);
+    same!(rt; row.rotated_down(8), [0, 0x80, 0x81]);
+    same!(rt; row.shifted_down(8), [0, 0x80, 0]);
+    same!(rt; row.shifted_up(9), [0, 0x02, 0x01]);
+}
+
+#[test]
+fn a_row_from_the_left(rt: HostRuntime) {
+    // From the left the members 0, 7 and 16.
+    let row = [0x81u8, 0, 0x80];
+    same!(rt; row.rotated_up_in::<LittleEndian>(9), [0x40, 0x40, 0x80]);
+    same!(rt; row.rotated_down_in::<LittleEndian>(1), [0x02, 0x01, 0x01]);
+    same!(rt; row.shifted_up_in::<LittleEndian>(9), [0, 0x40, 0x80]);
+    same!(rt; row.shifted_down_in::<LittleEndian>(7), [0x80, 0x40, 0]);
+}
+
+#[test]
+fn nested_rows(rt: HostRuntime) {
+    // The members 0 and 63.
+    let rows = [[1u16, 0], [0, 0x8000]];
+    same!(rt; rows.rotated_up(17), [[0, 3], [0, 0]]);
+    same!(rt; rows.rotated_down(33), [[0, 0xC000], [0, 0]]);
+    same!(rt; rows.shifted_down(48), [[0x8000, 0], [0, 0]]);
+}
+
+#[test]
+fn sets(rt: HostRuntime) {
+    // The members 0 and 47.
+    let left = Set::new_le([0x8000u16, 0, 1]);
+    same!(rt; left.rotated_up(1).into_bits(), [0xC000, 0, 0]);
+    same!(rt; left.shifted_down(16).into_bits(), [0, 1, 0]);
+    let right = Set::new([1u16, 0, 0x8000]);
+    same!(rt; right.rotated_down(16).into_bits(), [0, 0x8000, 1]);
+    same!(rt; right.shifted_up(33).into_bits(), [0, 0, 2]);
+}
+
+// Returns where a bit is moved in one of four ways, unless it is left out.
+fn target(way: u32, index: u32, by: u32, capacity: u32) -> Option<u32>
+    requires { index < capacity }
+{
+    let (from, far, all) = (index as u64, by as u64, capacity as u64);
+    match way {
+        0 => Some(((from + all - far % all) % all) as u32),
+        1 => Some(((from + far) % all) as u32),
+        2 => if far <= from {
+            Some((from - far) as u32)
+        } else {
+            None
+        },
+        _ => if from + far < all {
+            Some((from + far) as u32)
+        } else {
+            None
+        },
+    }
+}
+
+// Returns the set with its bits moved in one of four ways, index by index.
+fn looped<B: BitsOwned, E: Endian>(way: u32, set: &B, by: u32) -> B
+    requires { IsTrue B.indexable }
+{
+    let mut made = B::zeros();
+    let capacity = B::bits();
+    for index in 0..capacity {
+        if set.test_bit_in::<E>(index) {
+            if let Some(to) = target(way, index, by, capacity) {
+                made.set_bit_in::<E>(to);
+            }
+        }
+    }
+    made
+}
+
+// Returns the set with its bits moved in one of four ways, by one call.
+fn moved_in<B: BitsOwned, E: Endian>(way: u32, set: B, by: u32) -> B
+    requires { IsTrue B.indexable }
+{
+    match way {
+        0 => set.rotated_down_in::<E>(by),
+        1 => set.rotated_up_in::<E>(by),
+        2 => set.shifted_down_in::<E>(by),
+        _ => set.shifted_up_in::<E>(by),
+    }
+}
+
+// Returns the set with its bits moved in the order of the type.
+fn moved<B: BitsOwned>(way: u32, set: B, by: u32) -> B
+    requires { IsTrue B.indexable }
+{
+    match way {
+        0 => set.rotated_down(by),
+        1 => set.rotated_up(by),
+        2 => set.shifted_down(by),
+        _ => set.shifted_up(by),
+    }
+}
+
+// Compares the calls with the loop, at one distance.
+fn agree_at<B: BitsOwned>(rt: &impl Abort, set: B, by: u32)
+    requires { IsTrue B.indexable }
+{
+    for way in 0..4u32 {
+        let left = moved_in::<B, LittleEndian>(way, set, by);
+        crate::checks::ask(rt, "LE", left == looped::<B, LittleEndian>(way, &set, by));
+        let right = moved_in::<B, BigEndian>(way, set, by);
+        crate::checks::ask(rt, "BE", right == looped::<B, BigEndian>(way, &set, by));
+        let own = moved(way, set, by);
+        crate::checks::ask(rt, "own", own == looped::<B, B::Order>(way, &set, by));
+    }
+}
+
+// Asks whether a set is as before where it is rotated up and then down.
+fn comes_back<B: BitsOwned, E: Endian>(set: B, by: u32) -> bool
+    requires { IsTrue B.indexable }
+{
+    set.rotated_up_in::<E>(by).rotated_down_in::<E>(by) == set
+}
+
+// Compares the calls with the loop, at distances beside those of a word and of the set.
+fn agree<B: BitsOwned>(rt: &impl Abort, width: u32, set: B)
+    requires { IsTrue B.indexable }
+{
+    let (word, all) = (width, B::bits());
+    for by in [
+        0,
+        1,
+        word.wrapping_sub(1),
+        word,
+        word.wrapping_add(1),
+        all.wrapping_sub(1),
+        all,
+        all.wrapping_add(1),
+        u32::MAX,
+    ] {
+        agree_at(rt, set, by);
+        crate::checks::ask(rt, "LE comes back", comes_back::<B, LittleEndian>(set, by));
+        crate::checks::ask(rt, "BE comes back", comes_back::<B, BigEndian>(set, by));
+    }
+}
+
+#[test]
+fn words_agree_with_a_loop(rt: HostRuntime) {
+    agree(&rt, 8, 0b1001_0110u8);
+    agree(&rt, 16, -0x5A93i16);
+    agree(&rt, 128, 0x8001_0203_0405_0607_F8F9_FAFB_FCFD_FE01u128);
+    agree(&rt, usize::BITS, 0x8F03usize);
+}
+
+#[test]
+fn rows_agree_with_a_loop(rt: HostRuntime) {
+    agree(&rt, 8, [0xC5u8, 0x3A, 0x91]);
+    agree(&rt, 64, [0x8000_0000_0000_0003u64, 0xF0F0_1234_5678_9ABD]);
+    agree(&rt, 16, [[0x8003u16, 0x1234], [0xFEDC, 0x4001]]);
+}
+
+#[test]
+fn sets_agree_with_a_loop(rt: HostRuntime) {
+    agree(&rt, 16, Set::new_le([0xC001u16, 0x1234, 0xF08D]));
+    agree(&rt, 16, Set::new([0xC001u16, 0x1234, 0xF08D]));
+}
+
+#[test]
+fn capacity_0(rt: HostRuntime) {
+    let none: [u32; 0] = [];
+    agree(&rt, 32, none);
+    same!(rt; (none.rotated_up(3), none.rotated_down(3)), (none, none));
+    same!(rt; (none.shifted_up(3), none.shifted_down(0)), (none, none));
+    holds!(rt; none.rotated_up(u32::MAX).all_zeros());
+}
