@@ -1,13 +1,39 @@
 -- The parts of a step of an iterator over two sets.
-use Rattle.std.proofs.Common.{◌≡◌, ℕ, ◌+◌, ◌-◌, ◌*◌, ◌<◌, ◌≤◌, Bool, List, [], ◌∷◌, ◌++◌, Option, Some, None, refl, sym, ap, ◌∙◌, arith, append_assoc, append-nil}
+use Rattle.std.proofs.Common.{◌≡◌, ℕ, ◌+◌, ◌-◌, ◌*◌, ◌<◌, ◌≤◌, Bool, List, [], ◌∷◌, ◌++◌, Option, Some, None, refl, sym, ap, subst, ◌∙◌, arith, append_assoc, append-nil}
 use Rattle.std.proofs.Math.Nat.{mul-le-mul_right}
+use Rattle.std.proofs.lemmas.List.Elements.{All-nil, All-cons, All-head, All-tail}
 use Rattle.std.specs.Iterator.{YieldsFirst, YieldsLast}
 use Rattle.bittle_bits.specs.Buffers.{members_between}
 use Rattle.bittle_bits.specs.PlainSet.{PlainSet}
 use Rattle.bittle_bits.proofs.Items.{members_between-split, members_between-empty}
-use Rattle.bittle_ext.specs.Combined.{items_of_loaded, items_at}
+use Rattle.bittle_ext.specs.Combined.{items_of_loaded, items_at, AreIndexes, IsPlaced}
 use Rattle.bittle_ext.specs.declared.both_words.Loaded.{Loaded}
 use Rattle.bittle_ext.specs.declared.both_words.Place.{Place}
+
+abbrev IsIndex : ℕ → Type 0
+IsIndex i = i < 4294967296
+
+-- both parts of a list of indexes are lists of indexes
+pub indexes_left : (xs ys : List ℕ) → AreIndexes (xs ++ ys) → AreIndexes xs
+indexes_left [] ys h = All-nil IsIndex
+indexes_left (x ∷ xs) ys h = All-cons IsIndex x xs (All-head IsIndex x (xs ++ ys) h)
+    (indexes_left xs ys (All-tail IsIndex x (xs ++ ys) h))
+
+pub indexes_right : (xs ys : List ℕ) → AreIndexes (xs ++ ys) → AreIndexes ys
+indexes_right [] ys h = h
+indexes_right (x ∷ xs) ys h = indexes_right xs ys (All-tail IsIndex x (xs ++ ys) h)
+
+-- what a step leaves of indexes are indexes
+pub indexes_after_first : {T : Type 0} (items : T → List ℕ) (a b : T) (r : Option ℕ) →
+    YieldsFirst items a r b → AreIndexes (items a) → AreIndexes (items b)
+indexes_after_first items a b None y h = subst AreIndexes (sym y.1) (All-nil IsIndex)
+indexes_after_first items a b (Some x) y h = All-tail IsIndex x (items b) (subst AreIndexes y h)
+
+pub indexes_after_last : {T : Type 0} (items : T → List ℕ) (a b : T) (r : Option ℕ) →
+    YieldsLast items a r b → AreIndexes (items a) → AreIndexes (items b)
+indexes_after_last items a b None y h = subst AreIndexes (sym y.1) (All-nil IsIndex)
+indexes_after_last items a b (Some x) y h =
+    indexes_left (items b) (x ∷ []) (subst AreIndexes y h)
 
 module _ {W : Type 0} (m : Bool) (leaf : ℕ) (pattern : W → ℕ) (w : ℕ) (s : PlainSet) where
   -- the place with another head, or another tail
@@ -22,6 +48,35 @@ module _ {W : Type 0} (m : Bool) (leaf : ℕ) (pattern : W → ℕ) (w : ℕ) (s
 
   abbrev remaining : Place W → List ℕ
   remaining = items_at m leaf pattern w s
+
+  -- what remains of the words at both ends are indexes where all that remains is
+  pub head_indexes : (at : Place W) → AreIndexes (remaining at) → AreIndexes (items at.head)
+  unfolding items_at
+  head_indexes at h = indexes_left (items at.head)
+      (members_between s (at.low * w) (at.high * w) ++ items at.tail) h
+
+  pub tail_indexes : (at : Place W) → AreIndexes (remaining at) → AreIndexes (items at.tail)
+  unfolding items_at
+  tail_indexes at h = indexes_right (members_between s (at.low * w) (at.high * w)) (items at.tail)
+      (indexes_right (items at.head)
+      (members_between s (at.low * w) (at.high * w) ++ items at.tail) h)
+
+  -- a step that loads no word leaves a place
+  pub placed_first : (a b : Place W) (r : Option ℕ) → b.low ≡ a.low → b.high ≡ a.high →
+      YieldsFirst remaining a r b → IsPlaced m leaf pattern w s a → IsPlaced m leaf pattern w s b
+  placed_first a b r low high y p = record {
+    ordered = omega (arith, low, high, p.ordered);
+    between = rw high p.between;
+    indexes = indexes_after_first remaining a b r y p.indexes;
+  }
+
+  pub placed_last : (a b : Place W) (r : Option ℕ) → b.low ≡ a.low → b.high ≡ a.high →
+      YieldsLast remaining a r b → IsPlaced m leaf pattern w s a → IsPlaced m leaf pattern w s b
+  placed_last a b r low high y p = record {
+    ordered = omega (arith, low, high, p.ordered);
+    between = rw high p.between;
+    indexes = indexes_after_last remaining a b r y p.indexes;
+  }
 
   -- a step from a place that has the same items left
   pub front_from : (a b c : Place W) (r : Option ℕ) → remaining a ≡ remaining b →

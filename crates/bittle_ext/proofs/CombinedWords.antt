@@ -1,16 +1,21 @@
 -- What an operation makes of two sets, word by word.
-use Rattle.std.proofs.Common.{◌≡◌, ℕ, ◌*◌, ◌+◌, ◌/◌, ◌<◌, ◌≤◌, Bool, false, inl, inr, refl, sym, ap, ◌∙◌, arith}
+use Rattle.std.proofs.Common.{◌≡◌, ℕ, ◌*◌, ◌+◌, ◌-◌, ◌/◌, ◌<◌, ◌≤◌, Bool, false, inl, inr, refl, sym, ap, ◌∙◌, arith}
 use Rattle.std.proofs.Math.Path.{fun_ext}
 use Rattle.std.proofs.Math.Nat.{mul-div_left, mul-le-mul_right}
 use Rattle.std.proofs.lemmas.Bool.{cases_lt, le-ltb}
 use Rattle.bittle_bits.specs.BitPatterns.{bit_set}
+use Rattle.bittle_bits.specs.Buffers.{members_between, items_of}
+use Rattle.bittle_bits.specs.LawProofs.{one_word}
+use Rattle.bittle_bits.specs.Orders.{place, read_in}
 use Rattle.bittle_bits.specs.PlainSet.{PlainSet}
 use Rattle.bittle_bits.specs.SetOperations.{combination_of}
 use Rattle.bittle_bits.specs.Words.{word_has, word_of}
 use Rattle.bittle_bits.proofs.BitSets.{no_digits}
 use Rattle.bittle_bits.proofs.PlainSets.{plain_set}
-use Rattle.bittle_bits.proofs.SetOperations.{combination-below, combination-outside}
-use Rattle.bittle_bits.proofs.Words.{word_has-at}
+use Rattle.bittle_bits.proofs.AscendingLists.{ascending_from-moved}
+use Rattle.bittle_bits.proofs.PlaceLemmas.{place_past}
+use Rattle.bittle_bits.proofs.SetOperations.{combination-below, combination-outside, members-combination}
+use Rattle.bittle_bits.proofs.Words.{word_has-at, digit_at}
 use Rattle.bittle_ext.specs.Combined.{decided_set}
 
 -- the word 0 is each word past those of a set
@@ -38,3 +43,35 @@ decided_word f w s t k =
           ∙ sym (word_has-at w (decided_set f s t) k i l)
       | inr g ↦ combination-outside f (word_of w s k) (word_of w t k) i g ∙ rw (le-ltb i w g) refl
     ])
+
+-- word k of a set, read in an order, is word k of the set in that order
+pub word_in_order : (m : Bool) (w k : ℕ) (s : PlainSet) (d : ℕ) → 0 < w →
+    bit_set w d ≡ word_of w s k → read_in m w (bit_set w d) ≡ word_of w (read_in m w s) k
+unfolding word_has
+word_in_order m w k s d word is =
+    ap (plain_set w) (fun_ext λ i. elim (cases_lt i w) [
+      | inl l ↦ digit_at m w k s d word is i l ∙ sym (word_has-at w (read_in m w s) k i l)
+      | inr g ↦ let past : 1 * w ≤ place m w i = place_past m w 1 i word (omega arith) in
+          ap (λ t. t.has (place m w i)) is
+          ∙ rw (le-ltb (place m w i) w (omega (arith, past)), le-ltb i w g) refl
+    ])
+
+-- so it is of what an operation makes of a word of each
+pub decided_in_order : (f : Bool → Bool → Bool) (m : Bool) (w k : ℕ) (s t : PlainSet)
+    (d x y : ℕ) → 0 < w → bit_set w d ≡ combination_of f (bit_set w x) (bit_set w y) →
+    read_in m w (bit_set w x) ≡ word_of w s k → read_in m w (bit_set w y) ≡ word_of w t k →
+    read_in m w (bit_set w d) ≡ word_of w (decided_set f s t) k
+decided_in_order f m w k s t d x y word is ours theirs =
+    ap (read_in m w) is
+    ∙ members-combination f m w (bit_set w x) (bit_set w y) word (one_word w) (one_word w)
+    ∙ (λ i. combination_of f (ours i) (theirs i)) ∙ decided_word f w s t k
+
+-- the items of a word that has in an order what word k of a set has are the set's members there
+pub items_in_order : (m : Bool) (w k : ℕ) (s : PlainSet) (d : ℕ) →
+    read_in m w (bit_set w d) ≡ word_of w s k →
+    items_of m w d (k * w) ≡ members_between s (k * w) (k * w + w)
+unfolding members_between
+items_in_order m w k s d is =
+    let n : k * w + w - k * w ≡ w = omega arith in
+    rw n (ascending_from-moved (read_in m w (bit_set w d)).has s.has (k * w) 0 (k * w) w
+    (omega arith) (λ i lo hi. sym (ap (λ t. t.has i) is ∙ word_has-at w s k i (omega arith))))

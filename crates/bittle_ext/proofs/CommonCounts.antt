@@ -1,9 +1,16 @@
 -- How many numbers are members of two sets.
-use Rattle.std.proofs.Common.{◌≡◌, ℕ, zero, suc, ◌+◌, ◌-◌, ◌≤◌, Bool, true, false, ◌&&◌, cond, min, max, Some, inl, inr, refl, ap, ◌∙◌, arith}
+use Rattle.std.proofs.Common.{◌≡◌, ℕ, zero, suc, ◌+◌, ◌-◌, ◌*◌, ◌/◌, ◌<◌, ◌≤◌, Bool, true, false, ◌&&◌, cond, min, max, Some, inl, inr, refl, sym, ap, ◌∙◌, arith}
+use Rattle.std.proofs.Math.Nat.{mul-le-mul_right, div-mul-le_self}
 use Rattle.std.proofs.lemmas.Bool.{cases_lt, and_right}
+use Rattle.bittle.specs.BitPatterns.{bit_set}
+use Rattle.bittle.specs.Orders.{read_in}
+use Rattle.bittle.specs.Words.{word_of}
 use Rattle.bittle.specs.PlainSet.{PlainSet, count_below, members_below, size}
 use Rattle.bittle.specs.SetOperations.{first_alone, just_one}
 use Rattle.bittle.specs.Searches.{NoneIn, IsFirstIn}
+use Rattle.bittle_bits.specs.LawProofs.{one_word}
+use Rattle.bittle_bits.proofs.Sizes.{size-members}
+use Rattle.bittle_bits.proofs.Words.{word_has-at}
 use Rattle.bittle_bits.proofs.Counts.{count-add, count-same, count-never, count-le}
 use Rattle.bittle_ext.specs.Combined.{both_of, first_only_of, just_one_of}
 use Rattle.bittle_ext.proofs.RankFacts.{below_past, below_next}
@@ -47,6 +54,24 @@ second_count : (n : ℕ) (p q : ℕ → Bool) → count_below n (λ k. p k && q 
 unfolding count_below
 second_count zero p q = omega arith
 second_count (suc n) p q = omega (arith, second_count n p q, second_bit (p n) (q n))
+
+-- a word that has in an order what word k of a set has counts its members there
+pub below_next_in_order : (m : Bool) (w k : ℕ) (s : PlainSet) (d n : ℕ) → 0 < w →
+    read_in m w (bit_set w d) ≡ word_of w s k → n ≡ size (bit_set w d) →
+    members_below s ((k + 1) * w) ≡ members_below s (k * w) + n
+below_next_in_order m w k s d n word is count =
+    let next : (k + 1) * w ≡ k * w + w = omega arith in
+    let counted : n ≡ count_below w (λ i. s.has (k * w + i)) =
+    count ∙ sym (size-members m w (bit_set w d) word (one_word w))
+    ∙ count-same w _ _ (λ i b. ap (λ t. t.has i) is ∙ word_has-at w s k i b) in
+    rw next (omega (arith, counted, count-add (k * w) w s.has))
+
+-- a word below those that a number of bits has ends within it
+pub word_inside : (w v c k : ℕ) → v ≡ w → k < c / v → (k + 1) * w ≤ c
+word_inside w v c k same below =
+    let low : k < c / w = rw (← same) below in
+    let up : (k + 1) * w ≤ c / w * w = mul-le-mul_right w (omega (arith, low)) in
+    omega (arith, up, div-mul-le_self c w)
 
 -- numbers that are no members count nothing
 pub below_stays : (s : PlainSet) (from to : ℕ) → from ≤ to → NoneIn s from to →

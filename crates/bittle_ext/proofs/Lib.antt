@@ -2,6 +2,7 @@ mod CombinedStarts
 mod CombinedSteps
 mod CombinedWords
 mod Complements
+mod GatheredWords
 mod LongestRuns
 pub mod CommonCounts
 mod RangeItems

@@ -1,5 +1,6 @@
 -- What an operation makes of two sets, each of its own capacity, and where an iterator over it is.
 use Rattle.std.specs.Prelude.{ℕ, ◌+◌, ◌*◌, ◌<◌, ◌≤◌, max, Bool, ◌||◌, ◌&&◌, List, ◌++◌}
+use Rattle.std.specs.List.{All}
 use Rattle.bittle_bits.specs.Buffers.{members_between, items_of}
 use Rattle.bittle.specs.PlainSet.{PlainSet}
 use Rattle.bittle.specs.SetOperations.{first_alone, just_one}
@@ -38,9 +39,13 @@ module _ {W : Type 0} (mirrored : Bool) (leaf : ℕ) (pattern : W → ℕ) where
   items_at w s at = items_of_loaded at.head
       ++ (members_between s (at.low * w) (at.high * w) ++ items_of_loaded at.tail)
 
--- the indexes of each word that is loaded, or will be, are numbers of 32 bits
-pub record IsPlaced {W : Type 0} (leaf w : ℕ) (at : Place W) : Type 0 where
+-- each item of the list is a number of 32 bits
+abbrev pub AreIndexes : List ℕ → Type 0
+AreIndexes xs = All (λ i. i < 4294967296) xs
+
+-- each index that remains is a number of 32 bits, and so is the first one of each word between
+pub record IsPlaced {W : Type 0} (mirrored : Bool) (leaf : ℕ) (pattern : W → ℕ) (w : ℕ)
+    (s : PlainSet) (at : Place W) : Type 0 where
   pub ordered : at.low ≤ at.high
-  pub between : at.high * w < 4294967295
-  pub head : at.head.base + leaf < 4294967296
-  pub tail : at.tail.base + leaf < 4294967296
+  pub between : at.high * w < 4294967295 + w
+  pub indexes : AreIndexes (items_at mirrored leaf pattern w s at)

@@ -5,10 +5,12 @@ ghost use Rattle.std.specs.Prelude.{◌≡◌, ◌+◌, ◌*◌, ◌<◌};
 ghost use Rattle.bittle_bits.specs.Buffers.{members_between};
 ghost use Rattle.bittle_bits.specs.BitPatterns.{bit_set};
 ghost use Rattle.bittle_bits.specs.Words.{word_of};
-ghost use Rattle.bittle_ext.specs.Combined.{decided_set, items_of_loaded, items_at, IsPlaced};
+ghost use Rattle.bittle_ext.specs.Combined.{decided_set, items_of_loaded, items_at};
+ghost use Rattle.bittle_ext.specs.Combined.{AreIndexes, IsPlaced};
 ghost use Rattle.bittle.specs.Orders.{read_in};
-ghost use Rattle.bittle.specs.Values.{ShapeFits};
+ghost use Rattle.bittle.specs.Values.{set_in, ShapeFits};
 
+use crate::other_words::{other_word, word_or_empty};
 use bittle::{Bits, Endian};
 use bittle_bits::one_word;
 use bittle_bits::operation::Operation;
@@ -31,52 +33,43 @@ pub struct Place<W: Copy> {
     pub high: u32,
 }
 
-/// Returns word `k` of a set, or an empty word from its capacity on.
+/// Returns word `k` of what an operation makes of two sets, each read in an order: the word has it
+/// in the order of the first.
 #[inline]
-fn word_or_empty<S: Bits>(set: &S, k: u32) -> S::LeafWord
-    requires { ShapeFits S.Shape set.now }
-    ensures { bit_set S.width (S.LeafWord.pattern result) ≡ word_of S.width (S.big set.now) k }
-{
-    if k < set.bits_capacity() / <S::LeafWord as Word>::width() {
-        set.nth_leaf_word(k)
-    } else {
-        <S::LeafWord as Word>::zero()
-    }
-}
-
-/// Returns word `k` of what an operation makes of two sets.
-#[inline]
-pub fn word_of_both<A: Bits, B: Bits, O: Operation>(left: &A, right: &B, k: u32) -> A::LeafWord
-    requires width { A.width ≡ B.width }
+pub fn word_of_both<A: Bits, B: Bits, E: Endian, F: Endian, O: Operation>(
+    left: &A,
+    right: &B,
+    k: u32,
+) -> A::LeafWord
     requires left_fits { ShapeFits A.Shape left.now }
     requires right_fits { ShapeFits B.Shape right.now }
-    ensures { bit_set A.width (A.LeafWord.pattern result)
-        ≡ word_of A.width (decided_set O.decide (A.big left.now) (B.big right.now)) k }
+    requires within { k * A.width < 4294967296 }
+    ensures { read_in E.mirrored A.width (bit_set A.width (A.LeafWord.pattern result))
+        ≡ word_of A.width (decided_set O.decide
+        (set_in A.Shape E.Endian left.now) (set_in B.Shape F.Endian right.now)) k }
 {
-    let theirs = word_or_empty(right, k).to_bits();
+    let theirs = other_word::<A, B, E, F>(right, k);
     let ours = word_or_empty(left, k);
-    O::on_words::<A::LeafWord>(ours, <A::LeafWord as Word>::from_bits(theirs))
+    O::on_words::<A::LeafWord>(ours, theirs)
 }
 
 /// Loads word `k` of what an operation makes of two sets.
 #[inline]
-fn load<A: Bits, B: Bits, E: Endian, O: Operation>(
+fn load<A: Bits, B: Bits, E: Endian, F: Endian, O: Operation>(
     left: &A,
     right: &B,
     k: u32,
 ) -> Loaded<A::LeafWord>
-    requires width { A.width ≡ B.width }
     requires left_fits { ShapeFits A.Shape left.now }
     requires right_fits { ShapeFits B.Shape right.now }
-    requires within { k * A.width + A.width < 4294967295 }
-    ensures items { items_of_loaded E.mirrored A.LeafWord.width A.LeafWord.pattern result
-        ≡ members_between (read_in E.mirrored A.width
-        (decided_set O.decide (A.big left.now) (B.big right.now)))
+    requires within { k * A.width < 4294967296 }
+    ensures { items_of_loaded E.mirrored A.LeafWord.width A.LeafWord.pattern result
+        ≡ members_between (decided_set O.decide
+        (set_in A.Shape E.Endian left.now) (set_in B.Shape F.Endian right.now))
         (k * A.width) (k * A.width + A.width) }
-    ensures reach { result.base + A.LeafWord.width < 4294967296 }
 {
     Loaded {
-        word: word_of_both::<A, B, O>(left, right, k),
+        word: word_of_both::<A, B, E, F, O>(left, right, k),
         base: k * <A::LeafWord as Word>::width(),
     }
 }
@@ -84,10 +77,9 @@ fn load<A: Bits, B: Bits, E: Endian, O: Operation>(
 /// Takes the first item of a loaded word.
 #[inline]
 fn scan_first<W: Word, E: Endian>(loaded: &mut Loaded<W>) -> Option<u32>
-    requires { loaded.old.base + W.width < 4294967296 }
-    ensures gave { YieldsFirst (items_of_loaded E.mirrored W.width W.pattern)
+    requires { AreIndexes (items_of_loaded E.mirrored W.width W.pattern loaded.old) }
+    ensures { YieldsFirst (items_of_loaded E.mirrored W.width W.pattern)
         loaded.old result loaded.new }
-    ensures base { loaded.new.base ≡ loaded.old.base }
 {
     let index = one_word::pop_first::<W, E>(&mut loaded.word)?;
     Some(loaded.base + index)
@@ -96,10 +88,9 @@ fn scan_first<W: Word, E: Endian>(loaded: &mut Loaded<W>) -> Option<u32>
 /// Takes the last item of a loaded word.
 #[inline]
 fn scan_last<W: Word, E: Endian>(loaded: &mut Loaded<W>) -> Option<u32>
-    requires { loaded.old.base + W.width < 4294967296 }
-    ensures gave { YieldsLast (items_of_loaded E.mirrored W.width W.pattern)
+    requires { AreIndexes (items_of_loaded E.mirrored W.width W.pattern loaded.old) }
+    ensures { YieldsLast (items_of_loaded E.mirrored W.width W.pattern)
         loaded.old result loaded.new }
-    ensures base { loaded.new.base ≡ loaded.old.base }
 {
     let index = one_word::pop_last::<W, E>(&mut loaded.word)?;
     Some(loaded.base + index)
@@ -129,19 +120,23 @@ pub fn begin<W: Word>(words: u32) -> Place<W>
 
 /// Takes the first item that remains.
 #[inline]
-pub fn step_front<A: Bits, B: Bits, E: Endian, O: Operation>(
+pub fn step_front<A: Bits, B: Bits, E: Endian, F: Endian, O: Operation>(
     left: &A,
     right: &B,
     at: &mut Place<A::LeafWord>,
 ) -> Option<u32>
-    requires width { A.width ≡ B.width }
     requires left_fits { ShapeFits A.Shape left.now }
     requires right_fits { ShapeFits B.Shape right.now }
-    requires placed { IsPlaced A.LeafWord.width A.width at.old }
-    ensures gave { YieldsFirst (items_at E.mirrored A.LeafWord.width A.LeafWord.pattern A.width
-        (read_in E.mirrored A.width (decided_set O.decide (A.big left.now) (B.big right.now))))
+    requires placed { let both = decided_set O.decide
+        (set_in A.Shape E.Endian left.now) (set_in B.Shape F.Endian right.now) in
+        IsPlaced E.mirrored A.LeafWord.width A.LeafWord.pattern A.width both at.old }
+    ensures gave { let both = decided_set O.decide
+        (set_in A.Shape E.Endian left.now) (set_in B.Shape F.Endian right.now) in
+        YieldsFirst (items_at E.mirrored A.LeafWord.width A.LeafWord.pattern A.width both)
         at.old result at.new }
-    ensures placed { IsPlaced A.LeafWord.width A.width at.new }
+    ensures placed { let both = decided_set O.decide
+        (set_in A.Shape E.Endian left.now) (set_in B.Shape F.Endian right.now) in
+        IsPlaced E.mirrored A.LeafWord.width A.LeafWord.pattern A.width both at.new }
 {
     loop {
         if let Some(item) = scan_first::<A::LeafWord, E>(&mut at.head) {
@@ -150,7 +145,7 @@ pub fn step_front<A: Bits, B: Bits, E: Endian, O: Operation>(
         if at.low == at.high {
             break;
         }
-        at.head = load::<A, B, E, O>(left, right, at.low);
+        at.head = load::<A, B, E, F, O>(left, right, at.low);
         at.low += 1;
     }
     scan_first::<A::LeafWord, E>(&mut at.tail)
@@ -158,19 +153,23 @@ pub fn step_front<A: Bits, B: Bits, E: Endian, O: Operation>(
 
 /// Takes the last item that remains.
 #[inline]
-pub fn step_back<A: Bits, B: Bits, E: Endian, O: Operation>(
+pub fn step_back<A: Bits, B: Bits, E: Endian, F: Endian, O: Operation>(
     left: &A,
     right: &B,
     at: &mut Place<A::LeafWord>,
 ) -> Option<u32>
-    requires width { A.width ≡ B.width }
     requires left_fits { ShapeFits A.Shape left.now }
     requires right_fits { ShapeFits B.Shape right.now }
-    requires placed { IsPlaced A.LeafWord.width A.width at.old }
-    ensures gave { YieldsLast (items_at E.mirrored A.LeafWord.width A.LeafWord.pattern A.width
-        (read_in E.mirrored A.width (decided_set O.decide (A.big left.now) (B.big right.now))))
+    requires placed { let both = decided_set O.decide
+        (set_in A.Shape E.Endian left.now) (set_in B.Shape F.Endian right.now) in
+        IsPlaced E.mirrored A.LeafWord.width A.LeafWord.pattern A.width both at.old }
+    ensures gave { let both = decided_set O.decide
+        (set_in A.Shape E.Endian left.now) (set_in B.Shape F.Endian right.now) in
+        YieldsLast (items_at E.mirrored A.LeafWord.width A.LeafWord.pattern A.width both)
         at.old result at.new }
-    ensures placed { IsPlaced A.LeafWord.width A.width at.new }
+    ensures placed { let both = decided_set O.decide
+        (set_in A.Shape E.Endian left.now) (set_in B.Shape F.Endian right.now) in
+        IsPlaced E.mirrored A.LeafWord.width A.LeafWord.pattern A.width both at.new }
 {
     loop {
         if let Some(item) = scan_last::<A::LeafWord, E>(&mut at.tail) {
@@ -180,7 +179,7 @@ pub fn step_back<A: Bits, B: Bits, E: Endian, O: Operation>(
             break;
         }
         at.high -= 1;
-        at.tail = load::<A, B, E, O>(left, right, at.high);
+        at.tail = load::<A, B, E, F, O>(left, right, at.high);
     }
     scan_last::<A::LeafWord, E>(&mut at.head)
 }

@@ -1,7 +1,7 @@
 //! Iterators over what an operation makes of two sets, with no set made of it.
 
 ghost use Rattle.std.specs.Iterator.{YieldsFirst, YieldsLast, item_count};
-ghost use Rattle.std.specs.Prelude.{◌≡◌, ℕ, ◌*◌, ◌≤◌, max, false};
+ghost use Rattle.std.specs.Prelude.{◌≡◌, ℕ, ◌≤◌, max, false, ⊤};
 ghost use Rattle.bittle_ext.specs.Combined.{decided_set, either_of, both_of};
 ghost use Rattle.bittle_ext.specs.Combined.{first_only_of, just_one_of};
 ghost use Rattle.bittle.specs.PlainSet.{ascending};
@@ -12,63 +12,73 @@ use crate::both_words::{Place, begin, step_back, step_front};
 use bittle::{Bits, Endian, Shape};
 use bittle_bits::operation::{Conjunction, Difference, Operation, SymmetricDifference, Union};
 use bittle_bits::word::Word;
+use std::alloc::AllocError;
 use std::marker::{Model, PhantomData};
 
 /// Yields the indexes that are set in either of two sets.
-pub type IterUnion<'a, A, B, E> = IterCombined<'a, A, B, E, Union>;
+pub type IterUnion<'a, A, B, E, F> = IterCombined<'a, A, B, E, F, Union>;
 
 /// Yields the indexes that are set in both of two sets.
-pub type IterConjunction<'a, A, B, E> = IterCombined<'a, A, B, E, Conjunction>;
+pub type IterConjunction<'a, A, B, E, F> = IterCombined<'a, A, B, E, F, Conjunction>;
 
 /// Yields the indexes that are set in the first of two sets and unset in the second.
-pub type IterDifference<'a, A, B, E> = IterCombined<'a, A, B, E, Difference>;
+pub type IterDifference<'a, A, B, E, F> = IterCombined<'a, A, B, E, F, Difference>;
 
 /// Yields the indexes that are set in just one of two sets.
-pub type IterSymmetricDifference<'a, A, B, E> = IterCombined<'a, A, B, E, SymmetricDifference>;
+pub type IterSymmetricDifference<'a, A, B, E, F> = IterCombined<
+    'a,
+    A,
+    B,
+    E,
+    F,
+    SymmetricDifference,
+>;
 
-/// Iterates over what the operation `O` makes of two sets that it borrows, increasing, in the order
-/// `E`, from both ends. It reads each word of both once. After its end it returns `None` on both
-/// sides.
+/// Iterates over what the operation `O` makes of two sets that it borrows, the first read in the
+/// order `E` and the second in `F`, increasing, from both ends. It reads each word of both once;
+/// where their words differ in width or order it searches the second for each of its set bits.
+/// After its end it returns `None` on both sides.
 #[derive(Drop)]
-pub struct IterCombined<'a, A: Shape, B: Shape, E: Endian, O: Operation> {
+pub struct IterCombined<'a, A: Shape, B: Shape, E: Endian, F: Endian, O: Operation> {
     left: &'a A,
     right: &'a B,
     at: Place<A::LeafWord>,
     order: PhantomData<E>,
+    other_order: PhantomData<F>,
     operation: PhantomData<O>,
 }
 
-impl<'a, A: Shape, B: Shape, E: Endian, O: Operation> Model for IterCombined<'a, A, B, E, O> {
+impl<'a, A: Shape, B: Shape, E: Endian, F: Endian, O: Operation> Model
+    for IterCombined<'a, A, B, E, F, O> {
     ghost use Rattle.std.specs.Prelude.{ℕ, List};
 
     ghost Value = { List ℕ };
 
-    ghost use Rattle.std.specs.Prelude.{◌≡◌};
-    ghost use Rattle.bittle.specs.Orders.{read_in};
-    ghost use Rattle.bittle.specs.Values.{ShapeFits};
+    ghost use Rattle.bittle.specs.Values.{set_in, ShapeFits};
     ghost use Rattle.bittle_ext.specs.Combined.{decided_set, items_at, IsPlaced};
 
     ghost view = { λ i. items_at E.mirrored A.LeafWord.width A.LeafWord.pattern A.width
-        (read_in E.mirrored A.width (decided_set O.decide (A.big i.left.now) (B.big i.right.now)))
-        i.at };
+        (decided_set O.decide (set_in A.Shape E.Endian i.left.now)
+        (set_in B.Shape F.Endian i.right.now)) i.at };
 
-    ghost invariant = { λ i. (A.width ≡ B.width) × ShapeFits A.Shape i.left.now
-        × ShapeFits B.Shape i.right.now × IsPlaced A.LeafWord.width A.width i.at };
+    ghost invariant = { λ i. ShapeFits A.Shape i.left.now × ShapeFits B.Shape i.right.now
+        × IsPlaced E.mirrored A.LeafWord.width A.LeafWord.pattern A.width
+        (decided_set O.decide (set_in A.Shape E.Endian i.left.now)
+        (set_in B.Shape F.Endian i.right.now)) i.at };
 }
 
-impl<'a, A: Bits, B: Bits, E: Endian, O: Operation> IterCombined<'a, A, B, E, O> {
+impl<'a, A: Bits, B: Bits, E: Endian, F: Endian, O: Operation> IterCombined<'a, A, B, E, F, O> {
     /// Begins an iterator over the words below an end, past which the operation makes no member.
     #[inline]
     fn new(left: &'a A, right: &'a B, end: u32) -> Self
-        requires width { A.width ≡ B.width }
         requires left_fits { ShapeFits A.Shape left.now }
         requires right_fits { ShapeFits B.Shape right.now }
         requires within { end ≤ max (A.big left.now).capacity (B.big right.now).capacity }
-        requires whole { (words : ℕ) × (end ≡ words * A.width) }
         requires none_past { (i : ℕ) → end ≤ i
-            → O.decide ((A.big left.now).has i) ((B.big right.now).has i) ≡ false }
+            → O.decide ((set_in A.Shape E.Endian left.now).has i)
+            ((set_in B.Shape F.Endian right.now).has i) ≡ false }
         ensures items { result ≡ ascending (decided_set O.decide
-            (set_in A.Shape E.Endian left.now) (set_in B.Shape E.Endian right.now)) }
+            (set_in A.Shape E.Endian left.now) (set_in B.Shape F.Endian right.now)) }
         ensures below { AreBelow (max (A.big left.now).capacity (B.big right.now).capacity) result }
         ensures in_order { ListsInOrder }
         ensures in_reverse { ListsInReverse }
@@ -76,14 +86,16 @@ impl<'a, A: Bits, B: Bits, E: Endian, O: Operation> IterCombined<'a, A, B, E, O>
         IterCombined {
             left,
             right,
-            at: begin::<A::LeafWord>(end / <A::LeafWord as Word>::width()),
+            at: begin::<A::LeafWord>(end.div_ceil(<A::LeafWord as Word>::width())),
             order: PhantomData,
+            other_order: PhantomData,
             operation: PhantomData,
         }
     }
 }
 
-impl<'a, A: Bits, B: Bits, E: Endian, O: Operation> Iterator for IterCombined<'a, A, B, E, O> {
+impl<'a, A: Bits, B: Bits, E: Endian, F: Endian, O: Operation> Iterator
+    for IterCombined<'a, A, B, E, F, O> {
     type Item = u32;
 
     ghost next_gives = { YieldsFirst (λ items. items) };
@@ -92,30 +104,119 @@ impl<'a, A: Bits, B: Bits, E: Endian, O: Operation> Iterator for IterCombined<'a
 
     #[inline]
     fn next(&mut self) -> Option<u32> {
-        step_front::<A, B, E, O>(self.left, self.right, &mut self.at)
+        step_front::<A, B, E, F, O>(self.left, self.right, &mut self.at)
     }
 }
 
-impl<'a, A: Bits, B: Bits, E: Endian, O: Operation> DoubleEndedIterator
-    for IterCombined<'a, A, B, E, O> {
+impl<'a, A: Bits, B: Bits, E: Endian, F: Endian, O: Operation> DoubleEndedIterator
+    for IterCombined<'a, A, B, E, F, O> {
     ghost next_back_gives = { YieldsLast (λ items. items) };
 
     #[inline]
     fn next_back(&mut self) -> Option<u32> {
-        step_back::<A, B, E, O>(self.left, self.right, &mut self.at)
+        step_back::<A, B, E, F, O>(self.left, self.right, &mut self.at)
     }
+}
+
+impl<'a, A: Bits, B: Bits, E: Endian, F: Endian, O: Operation> Clone
+    for IterCombined<'a, A, B, E, F, O> {
+    ghost is_clone = { λ source clone. clone ≡ source };
+
+    ghost is_infallible = { λ _. ⊤ };
+
+    #[inline]
+    fn clone(&self) -> Result<IterCombined<'a, A, B, E, F, O>, AllocError> {
+        Ok(IterCombined {
+            left: self.left,
+            right: self.right,
+            at: self.at,
+            order: PhantomData,
+            other_order: PhantomData,
+            operation: PhantomData,
+        })
+    }
+}
+
+/// Begins an iterator over what is set in either of two sets.
+#[inline]
+fn begin_union<'a, A: Bits, B: Bits, E: Endian, F: Endian>(
+    left: &'a A,
+    right: &'a B,
+) -> IterUnion<'a, A, B, E, F>
+    requires left_fits { ShapeFits A.Shape left.now }
+    requires right_fits { ShapeFits B.Shape right.now }
+    ensures items { result ≡ ascending (either_of
+        (set_in A.Shape E.Endian left.now) (set_in B.Shape F.Endian right.now)) }
+    ensures below { AreBelow (max (A.big left.now).capacity (B.big right.now).capacity) result }
+    ensures in_order { ListsInOrder }
+    ensures in_reverse { ListsInReverse }
+{
+    IterCombined::new(left, right, left.bits_capacity().max(right.bits_capacity()))
+}
+
+/// Begins an iterator over what is set in both of two sets.
+#[inline]
+fn begin_conjunction<'a, A: Bits, B: Bits, E: Endian, F: Endian>(
+    left: &'a A,
+    right: &'a B,
+) -> IterConjunction<'a, A, B, E, F>
+    requires left_fits { ShapeFits A.Shape left.now }
+    requires right_fits { ShapeFits B.Shape right.now }
+    ensures items { result ≡ ascending (both_of
+        (set_in A.Shape E.Endian left.now) (set_in B.Shape F.Endian right.now)) }
+    ensures below { AreBelow (max (A.big left.now).capacity (B.big right.now).capacity) result }
+    ensures in_order { ListsInOrder }
+    ensures in_reverse { ListsInReverse }
+{
+    IterCombined::new(left, right, left.bits_capacity().min(right.bits_capacity()))
+}
+
+/// Begins an iterator over what is set in the first of two sets alone.
+#[inline]
+fn begin_difference<'a, A: Bits, B: Bits, E: Endian, F: Endian>(
+    left: &'a A,
+    right: &'a B,
+) -> IterDifference<'a, A, B, E, F>
+    requires left_fits { ShapeFits A.Shape left.now }
+    requires right_fits { ShapeFits B.Shape right.now }
+    ensures items { result ≡ ascending (first_only_of
+        (set_in A.Shape E.Endian left.now) (set_in B.Shape F.Endian right.now)) }
+    ensures below { AreBelow (max (A.big left.now).capacity (B.big right.now).capacity) result }
+    ensures in_order { ListsInOrder }
+    ensures in_reverse { ListsInReverse }
+{
+    IterCombined::new(left, right, left.bits_capacity())
+}
+
+/// Begins an iterator over what is set in just one of two sets.
+#[inline]
+fn begin_symmetric_difference<'a, A: Bits, B: Bits, E: Endian, F: Endian>(
+    left: &'a A,
+    right: &'a B,
+) -> IterSymmetricDifference<'a, A, B, E, F>
+    requires left_fits { ShapeFits A.Shape left.now }
+    requires right_fits { ShapeFits B.Shape right.now }
+    ensures items { result ≡ ascending (just_one_of
+        (set_in A.Shape E.Endian left.now) (set_in B.Shape F.Endian right.now)) }
+    ensures below { AreBelow (max (A.big left.now).capacity (B.big right.now).capacity) result }
+    ensures in_order { ListsInOrder }
+    ensures in_reverse { ListsInReverse }
+{
+    IterCombined::new(left, right, left.bits_capacity().max(right.bits_capacity()))
 }
 
 /// Iterators over what an operation makes of a set and another one, with no set made of them.
 ///
-/// The two shapes may differ, but their words have one width. Both have to fit. Past its capacity a
-/// set has no bit.
+/// A short form reads each set in the order of its type, a form that ends in `_in` both in one
+/// order. The two shapes may differ, and both have to fit. Past its capacity a set has no bit.
+/// Where the words of the two sets differ in width or order, the second one is searched for each of
+/// its set bits.
 pub trait BitsCombinedExt: Bits {
-    /// Returns an iterator over the indexes that are set in either set, in the order `E`,
+    /// Returns an iterator over the indexes that are set in either set, both in the order `E`,
     /// increasing, from both ends. With capacity 0 on both sides it yields nothing.
     ///
-    /// The words of both have one width, and both shapes have to fit. Each word of both is read
-    /// once.
+    /// Both shapes have to fit. Each word of both is read once; where the words differ in width,
+    /// each set bit of the second set is searched for.
     ///
     /// ```
     /// 0b0011u8.iter_union_in::<_, BigEndian>(&[0b0110u8, 1]);
@@ -125,10 +226,9 @@ pub trait BitsCombinedExt: Bits {
     final fn iter_union_in<'a, B: Bits, E: Endian>(
         &'a self,
         other: &'a B,
-    ) -> IterUnion<'a, Self, B, E>
+    ) -> IterUnion<'a, Self, B, E, E>
     where
         Self: Sized,
-        requires width { Self.width ≡ B.width }
         requires fits { ShapeFits Self.Shape self.now }
         requires other_fits { ShapeFits B.Shape other.now }
         ensures items { result ≡ ascending (either_of
@@ -138,14 +238,14 @@ pub trait BitsCombinedExt: Bits {
         ensures in_order { ListsInOrder }
         ensures in_reverse { ListsInReverse }
     {
-        IterCombined::new(self, other, self.bits_capacity().max(other.bits_capacity()))
+        begin_union::<Self, B, E, E>(self, other)
     }
 
-    /// Returns an iterator over the indexes that are set in both sets, in the order `E`,
+    /// Returns an iterator over the indexes that are set in both sets, both in the order `E`,
     /// increasing, from both ends. With capacity 0 on both sides it yields nothing.
     ///
-    /// The words of both have one width, and both shapes have to fit. Each word that both have is
-    /// read once.
+    /// Both shapes have to fit. Each word that both have is read once; where the words differ in
+    /// width, each set bit of the second set is searched for.
     ///
     /// ```
     /// 0b0011u8.iter_conjunction_in::<_, BigEndian>(&[0b0110u8, 1]);
@@ -155,10 +255,9 @@ pub trait BitsCombinedExt: Bits {
     final fn iter_conjunction_in<'a, B: Bits, E: Endian>(
         &'a self,
         other: &'a B,
-    ) -> IterConjunction<'a, Self, B, E>
+    ) -> IterConjunction<'a, Self, B, E, E>
     where
         Self: Sized,
-        requires width { Self.width ≡ B.width }
         requires fits { ShapeFits Self.Shape self.now }
         requires other_fits { ShapeFits B.Shape other.now }
         ensures items { result ≡ ascending (both_of
@@ -168,15 +267,15 @@ pub trait BitsCombinedExt: Bits {
         ensures in_order { ListsInOrder }
         ensures in_reverse { ListsInReverse }
     {
-        IterCombined::new(self, other, self.bits_capacity().min(other.bits_capacity()))
+        begin_conjunction::<Self, B, E, E>(self, other)
     }
 
     /// Returns an iterator over the indexes that are set in the first set and unset in the second,
-    /// in the order `E`, increasing, from both ends. With capacity 0 on both sides it yields
+    /// both in the order `E`, increasing, from both ends. With capacity 0 on both sides it yields
     /// nothing.
     ///
-    /// The words of both have one width, and both shapes have to fit. Each word of the first is
-    /// read once.
+    /// Both shapes have to fit. Each word of the first is read once; where the words differ in
+    /// width, each set bit of the second set below the first one's capacity is searched for.
     ///
     /// ```
     /// 0b0011u8.iter_difference_in::<_, BigEndian>(&[0b0110u8, 1]);
@@ -186,10 +285,9 @@ pub trait BitsCombinedExt: Bits {
     final fn iter_difference_in<'a, B: Bits, E: Endian>(
         &'a self,
         other: &'a B,
-    ) -> IterDifference<'a, Self, B, E>
+    ) -> IterDifference<'a, Self, B, E, E>
     where
         Self: Sized,
-        requires width { Self.width ≡ B.width }
         requires fits { ShapeFits Self.Shape self.now }
         requires other_fits { ShapeFits B.Shape other.now }
         ensures items { result ≡ ascending (first_only_of
@@ -199,14 +297,14 @@ pub trait BitsCombinedExt: Bits {
         ensures in_order { ListsInOrder }
         ensures in_reverse { ListsInReverse }
     {
-        IterCombined::new(self, other, self.bits_capacity())
+        begin_difference::<Self, B, E, E>(self, other)
     }
 
-    /// Returns an iterator over the indexes that are set in just one of the sets, in the order `E`,
-    /// increasing, from both ends. With capacity 0 on both sides it yields nothing.
+    /// Returns an iterator over the indexes that are set in just one of the sets, both in the order
+    /// `E`, increasing, from both ends. With capacity 0 on both sides it yields nothing.
     ///
-    /// The words of both have one width, and both shapes have to fit. Each word of both is read
-    /// once.
+    /// Both shapes have to fit. Each word of both is read once; where the words differ in width,
+    /// each set bit of the second set is searched for.
     ///
     /// ```
     /// 0b0011u8.iter_symmetric_difference_in::<_, BigEndian>(&[0b0110u8, 1]);
@@ -216,10 +314,9 @@ pub trait BitsCombinedExt: Bits {
     final fn iter_symmetric_difference_in<'a, B: Bits, E: Endian>(
         &'a self,
         other: &'a B,
-    ) -> IterSymmetricDifference<'a, Self, B, E>
+    ) -> IterSymmetricDifference<'a, Self, B, E, E>
     where
         Self: Sized,
-        requires width { Self.width ≡ B.width }
         requires fits { ShapeFits Self.Shape self.now }
         requires other_fits { ShapeFits B.Shape other.now }
         ensures items { result ≡ ascending (just_one_of
@@ -229,116 +326,111 @@ pub trait BitsCombinedExt: Bits {
         ensures in_order { ListsInOrder }
         ensures in_reverse { ListsInReverse }
     {
-        IterCombined::new(self, other, self.bits_capacity().max(other.bits_capacity()))
+        begin_symmetric_difference::<Self, B, E, E>(self, other)
     }
 
-    /// Iterates over the indexes that are set in either set, both read in the order of the
-    /// type of the first, as [`iter_union_in`](BitsCombinedExt::iter_union_in)
-    /// does.
+    /// Iterates over the indexes that are set in either set, each in its own order, as
+    /// [`iter_union_in`](BitsCombinedExt::iter_union_in) does.
     ///
     /// ```
-    /// 0b0011u8.iter_union(&0b0110u8);                     // yields 0, 1, 2
+    /// 0b0011u8.iter_union(&0x0106u16);                    // yields 0, 1, 2, 8
     /// ```
     #[inline]
-    final fn iter_union<'a, B: Bits>(&'a self, other: &'a B) -> IterUnion<'a, Self, B, Self::Order>
+    final fn iter_union<'a, B: Bits>(
+        &'a self,
+        other: &'a B,
+    ) -> IterUnion<'a, Self, B, Self::Order, B::Order>
     where
         Self: Sized,
-        requires width { Self.width ≡ B.width }
         requires fits { ShapeFits Self.Shape self.now }
         requires other_fits { ShapeFits B.Shape other.now }
         ensures items { result ≡ ascending (either_of
             (set_in Self.Shape Self.Order.Endian self.now)
-            (set_in B.Shape Self.Order.Endian other.now)) }
+            (set_in B.Shape B.Order.Endian other.now)) }
         ensures below { AreBelow
             (max (Self.big self.now).capacity (B.big other.now).capacity) result }
         ensures in_order { ListsInOrder }
         ensures in_reverse { ListsInReverse }
     {
-        self.iter_union_in::<B, Self::Order>(other)
+        begin_union::<Self, B, Self::Order, B::Order>(self, other)
     }
 
-    /// Iterates over the indexes that are set in both sets, both read in the order of the
-    /// type of the first, as [`iter_conjunction_in`](BitsCombinedExt::iter_conjunction_in)
-    /// does.
+    /// Iterates over the indexes that are set in both sets, each in its own order, as
+    /// [`iter_conjunction_in`](BitsCombinedExt::iter_conjunction_in) does.
     ///
     /// ```
-    /// 0b0011u8.iter_conjunction(&0b0110u8);               // yields 1
+    /// 0b0011u8.iter_conjunction(&0x0106u16);              // yields 1
     /// ```
     #[inline]
     final fn iter_conjunction<'a, B: Bits>(
         &'a self,
         other: &'a B,
-    ) -> IterConjunction<'a, Self, B, Self::Order>
+    ) -> IterConjunction<'a, Self, B, Self::Order, B::Order>
     where
         Self: Sized,
-        requires width { Self.width ≡ B.width }
         requires fits { ShapeFits Self.Shape self.now }
         requires other_fits { ShapeFits B.Shape other.now }
         ensures items { result ≡ ascending (both_of
             (set_in Self.Shape Self.Order.Endian self.now)
-            (set_in B.Shape Self.Order.Endian other.now)) }
+            (set_in B.Shape B.Order.Endian other.now)) }
         ensures below { AreBelow
             (max (Self.big self.now).capacity (B.big other.now).capacity) result }
         ensures in_order { ListsInOrder }
         ensures in_reverse { ListsInReverse }
     {
-        self.iter_conjunction_in::<B, Self::Order>(other)
+        begin_conjunction::<Self, B, Self::Order, B::Order>(self, other)
     }
 
-    /// Iterates over the indexes that are set in the first set and unset in the second, both read
-    /// in the order of the type of the first, as
-    /// [`iter_difference_in`](BitsCombinedExt::iter_difference_in) does.
+    /// Iterates over the indexes that are set in the first set and unset in the second, each in its
+    /// own order, as [`iter_difference_in`](BitsCombinedExt::iter_difference_in) does.
     ///
     /// ```
-    /// 0b0011u8.iter_difference(&0b0110u8);                // yields 0
+    /// 0b0011u8.iter_difference(&0x0106u16);               // yields 0
     /// ```
     #[inline]
     final fn iter_difference<'a, B: Bits>(
         &'a self,
         other: &'a B,
-    ) -> IterDifference<'a, Self, B, Self::Order>
+    ) -> IterDifference<'a, Self, B, Self::Order, B::Order>
     where
         Self: Sized,
-        requires width { Self.width ≡ B.width }
         requires fits { ShapeFits Self.Shape self.now }
         requires other_fits { ShapeFits B.Shape other.now }
         ensures items { result ≡ ascending (first_only_of
             (set_in Self.Shape Self.Order.Endian self.now)
-            (set_in B.Shape Self.Order.Endian other.now)) }
+            (set_in B.Shape B.Order.Endian other.now)) }
         ensures below { AreBelow
             (max (Self.big self.now).capacity (B.big other.now).capacity) result }
         ensures in_order { ListsInOrder }
         ensures in_reverse { ListsInReverse }
     {
-        self.iter_difference_in::<B, Self::Order>(other)
+        begin_difference::<Self, B, Self::Order, B::Order>(self, other)
     }
 
-    /// Iterates over the indexes that are set in just one of the sets, both read in the order of
-    /// the type of the first, as
+    /// Iterates over the indexes that are set in just one of the sets, each in its own order, as
     /// [`iter_symmetric_difference_in`](BitsCombinedExt::iter_symmetric_difference_in) does.
     ///
     /// ```
-    /// 0b0011u8.iter_symmetric_difference(&0b0110u8);      // yields 0, 2
+    /// 0b0011u8.iter_symmetric_difference(&0x0106u16);     // yields 0, 2, 8
     /// ```
     #[inline]
     final fn iter_symmetric_difference<'a, B: Bits>(
         &'a self,
         other: &'a B,
-    ) -> IterSymmetricDifference<'a, Self, B, Self::Order>
+    ) -> IterSymmetricDifference<'a, Self, B, Self::Order, B::Order>
     where
         Self: Sized,
-        requires width { Self.width ≡ B.width }
         requires fits { ShapeFits Self.Shape self.now }
         requires other_fits { ShapeFits B.Shape other.now }
         ensures items { result ≡ ascending (just_one_of
             (set_in Self.Shape Self.Order.Endian self.now)
-            (set_in B.Shape Self.Order.Endian other.now)) }
+            (set_in B.Shape B.Order.Endian other.now)) }
         ensures below { AreBelow
             (max (Self.big self.now).capacity (B.big other.now).capacity) result }
         ensures in_order { ListsInOrder }
         ensures in_reverse { ListsInReverse }
     {
-        self.iter_symmetric_difference_in::<B, Self::Order>(other)
+        begin_symmetric_difference::<Self, B, Self::Order, B::Order>(self, other)
     }
 }
 

@@ -24,7 +24,7 @@ fn count_common_by_words<A: Bits, B: Bits, E: Endian>(left: &A, right: &B) -> u3
     let common = left.bits_capacity().min(right.bits_capacity());
     let mut count = 0;
     for k in 0..common / <A::LeafWord as Word>::width() {
-        count += word_of_both::<A, B, Conjunction>(left, right, k).count_ones();
+        count += word_of_both::<A, B, E, E, Conjunction>(left, right, k).count_ones();
     }
     count
 }

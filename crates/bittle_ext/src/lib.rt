@@ -32,6 +32,7 @@ mod both_words;
 pub mod combined;
 mod counts;
 mod kind_searches;
+mod other_words;
 pub mod prelude;
 pub mod range_iterators;
 #[doc(hidden)]

@@ -1,7 +1,7 @@
 //! Iterators over the set, and over the unset bits of a range.
 
 ghost use Rattle.std.specs.Iterator.{YieldsFirst, YieldsLast, item_count};
-ghost use Rattle.std.specs.Prelude.{◌≡◌, ◌-◌, ◌≤◌, length};
+ghost use Rattle.std.specs.Prelude.{◌≡◌, ◌-◌, ◌≤◌, length, ⊤};
 ghost use Rattle.bittle_bits.specs.Buffers.{members_between};
 ghost use Rattle.bittle_ext.specs.RangeMembers.{members_within, AreWithin};
 ghost use Rattle.bittle_ext.specs.Runs.{runs, AreRunsBelow, RunsInOrder, RunsInReverse};
@@ -13,6 +13,7 @@ use crate::kind_searches::{first_of_kind, last_of_kind};
 use crate::run_iterators::{IterOneRuns, IterRuns, IterZeroRuns};
 use bittle::{Bits, Endian, Shape};
 use bittle_bits::internal::kind::{Kind, Ones, Zeros};
+use std::alloc::AllocError;
 use std::marker::{Model, PhantomData};
 
 /// Yields the indexes of the set bits of a range.
@@ -94,6 +95,23 @@ impl<'a, B: Bits, E: Endian, K: Kind> DoubleEndedIterator for IterInRange<'a, B,
     #[inline]
     fn next_back(&mut self) -> Option<u32> {
         step_back::<B, E, K>(self.bits, self.from, &mut self.to)
+    }
+}
+
+impl<'a, B: Bits, E: Endian, K: Kind> Clone for IterInRange<'a, B, E, K> {
+    ghost is_clone = { λ source clone. clone ≡ source };
+
+    ghost is_infallible = { λ _. ⊤ };
+
+    #[inline]
+    fn clone(&self) -> Result<IterInRange<'a, B, E, K>, AllocError> {
+        Ok(IterInRange {
+            bits: self.bits,
+            from: self.from,
+            to: self.to,
+            order: PhantomData,
+            kind: PhantomData,
+        })
     }
 }
 

@@ -1,7 +1,7 @@
 //! Iterators over the longest runs of set bits, and of unset bits.
 
 ghost use Rattle.std.specs.Iterator.{YieldsFirst, YieldsLast, item_count};
-ghost use Rattle.std.specs.Prelude.{◌≡◌, ◌<◌, ◌≤◌, true};
+ghost use Rattle.std.specs.Prelude.{◌≡◌, ◌<◌, ◌≤◌, true, ⊤};
 ghost use Rattle.bittle_ext.specs.Runs.{runs, runs_between, AreRunsBelow};
 ghost use Rattle.bittle_ext.specs.Runs.{BeginsRun, EndsRun, RunsInOrder, RunsInReverse};
 ghost use Rattle.bittle.specs.Values.{set_in, ShapeFits};
@@ -10,6 +10,7 @@ ghost use Rattle.bittle.specs.Walk.{ones_or_zeros};
 use crate::kind_searches::{first_of_kind, first_of_other, last_of_kind, last_of_other};
 use bittle::{Bits, Endian, Shape};
 use bittle_bits::internal::kind::{Kind, Ones, Zeros};
+use std::alloc::AllocError;
 use std::marker::{Model, PhantomData};
 use std::ops::Range;
 
@@ -88,6 +89,23 @@ impl<'a, B: Bits, E: Endian, K: Kind> DoubleEndedIterator for IterRuns<'a, B, E,
     #[inline]
     fn next_back(&mut self) -> Option<Range<u32>> {
         step_back::<B, E, K>(self.bits, self.from, &mut self.to)
+    }
+}
+
+impl<'a, B: Bits, E: Endian, K: Kind> Clone for IterRuns<'a, B, E, K> {
+    ghost is_clone = { λ source clone. clone ≡ source };
+
+    ghost is_infallible = { λ _. ⊤ };
+
+    #[inline]
+    fn clone(&self) -> Result<IterRuns<'a, B, E, K>, AllocError> {
+        Ok(IterRuns {
+            bits: self.bits,
+            from: self.from,
+            to: self.to,
+            order: PhantomData,
+            kind: PhantomData,
+        })
     }
 }
 

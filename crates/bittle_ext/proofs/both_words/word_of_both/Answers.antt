@@ -1,22 +1,18 @@
-use Rattle.std.proofs.Common.{◌≡◌, sym, ap, subst, ◌∙◌}
-use Rattle.bittle_bits.specs.BitPatterns.{bit_set}
-use Rattle.bittle_bits.specs.SetOperations.{combination_of}
-use Rattle.bittle_bits.specs.Words.{word_of}
-use Rattle.bittle_ext.proofs.CombinedWords.{decided_word}
+use Rattle.bittle.specs.Values.{set_in}
+use Rattle.bittle_ext.proofs.CombinedWords.{decided_in_order, word_in_order}
 use Rattle.bittle_ext.proofs.both_words.word_of_both.Goals as goal
 
 pub returns : goal.returns
 returns g c =
+    let m = g.E.Endian.mirrored in
     let w = g.A.Shape.width in
-    let k = c.args.k in
-    let s = g.A.Shape.big c.args.left.now in
-    let t = g.B.Shape.big c.args.right.now in
-    let d = g.B.LeafWord.Word.pattern c.word_or_empty.result in
-    let same : bit_set w d ≡ word_of w t k = subst (λ v. bit_set v d ≡ word_of v t k)
-    (sym c.requires.width) c.word_or_empty.ensures in
-    let theirs : bit_set w (g.A.LeafWord.Word.pattern c.from_bits.result)
-    ≡ word_of w t k = ap (bit_set w)
-    (c.from_bits.ensures ∙ c.to_bits-theirs.ensures.pattern) ∙ same in
+    let word = g.met.A.Bits.width_positive in
+    let x = c.args.left.now in
+    let pattern = g.A.LeafWord.Word.pattern in
+    let ours = pattern c.word_or_empty-ours.result in
+    let theirs = pattern c.other_word-theirs.result in
+    decided_in_order g.O.Operation.decide m w c.args.k (set_in g.A.Shape g.E.Endian x)
+    (set_in g.B.Shape g.F.Endian c.args.right.now) (pattern c.on_words.result) ours theirs word
     (rw g.met.A.Bits.leaf_width at c.on_words.ensures)
-    ∙ (λ i. combination_of g.O.Operation.decide (c.word_or_empty-ours.ensures i) (theirs i))
-    ∙ decided_word g.O.Operation.decide w s t k
+    (word_in_order m w c.args.k (g.A.Shape.big x) ours word c.word_or_empty-ours.ensures)
+    c.other_word-theirs.ensures

@@ -6,6 +6,7 @@ use Rattle.bittle_ext.proofs.counts.count_common_by_words.Given as goal
 
 abbrev pub invariant-loop-k : goal.invariant-loop-k
 invariant-loop-k g l =
-    let w = g.A.Shape.width in
-    let both = both_of (g.A.Shape.big l.left) (g.B.Shape.big l.right) in
-    l.count ≡ members_below (read_in g.E.Endian.mirrored w both) (l.k * w)
+    let m = g.E.Endian.mirrored in
+    let ours = read_in m g.A.Shape.width (g.A.Shape.big l.left) in
+    let theirs = read_in m g.B.Shape.width (g.B.Shape.big l.right) in
+    l.count ≡ members_below (both_of ours theirs) (l.k * g.A.Shape.width)

@@ -1,6 +1,6 @@
 use Rattle.std.proofs.Common.{◌∙◌}
 use Rattle.bittle_ext.proofs.CombinedWords.{word_past}
-use Rattle.bittle_ext.proofs.both_words.word_or_empty.Goals as goal
+use Rattle.bittle_ext.proofs.other_words.word_or_empty.Goals as goal
 
 pub returns-else-k-bits_capacity : goal.returns-else-k-bits_capacity
 returns-else-k-bits_capacity g c =

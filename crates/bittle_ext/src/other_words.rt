@@ -1,0 +1,60 @@
+//! The words of a set as another one has its words: of their width, and read in their order.
+
+ghost use Rattle.std.specs.Prelude.{◌≡◌, ◌*◌, ◌<◌};
+ghost use Rattle.bittle_bits.specs.BitPatterns.{bit_set};
+ghost use Rattle.bittle_bits.specs.Words.{word_of};
+ghost use Rattle.bittle.specs.Orders.{read_in};
+ghost use Rattle.bittle.specs.Values.{set_in, ShapeFits};
+
+use crate::relations::are_alike;
+use bittle::{Bits, Endian};
+use bittle_bits::one_word;
+use bittle_bits::word::Word;
+
+/// Returns word `k` of a set, or an empty word from its capacity on.
+#[inline]
+pub fn word_or_empty<S: Bits>(set: &S, k: u32) -> S::LeafWord
+    requires { ShapeFits S.Shape set.now }
+    ensures { bit_set S.width (S.LeafWord.pattern result) ≡ word_of S.width (S.big set.now) k }
+{
+    if k < set.bits_capacity() / <S::LeafWord as Word>::width() {
+        set.nth_leaf_word(k)
+    } else {
+        <S::LeafWord as Word>::zero()
+    }
+}
+
+/// Gathers the word that has in the order `E` what a set has in the order `F`, as its word `k` of
+/// that width, by a search for each set bit.
+fn gathered_word<W: Word, B: Bits, E: Endian, F: Endian>(set: &B, k: u32) -> W
+    requires fits { ShapeFits B.Shape set.now }
+    requires within { k * W.width < 4294967296 }
+    ensures { read_in E.mirrored W.width (bit_set W.width (W.pattern result))
+        ≡ word_of W.width (set_in B.Shape F.Endian set.now) k }
+{
+    let start = k * W::width();
+    let end = start.saturating_add(W::width()).min(set.bits_capacity());
+    let mut word = W::zero();
+    let mut from = start.min(end);
+    while let Some(index) = set.first_one_in::<F>(from, end) {
+        one_word::set_bit::<W, E>(&mut word, index - start);
+        from = index + 1;
+    }
+    word
+}
+
+/// Returns the word that has in the order `E` what a set has in the order `F`, as its word `k` of
+/// the width of another type's words. From the capacity on it is empty.
+#[inline]
+pub fn other_word<A: Bits, B: Bits, E: Endian, F: Endian>(set: &B, k: u32) -> A::LeafWord
+    requires fits { ShapeFits B.Shape set.now }
+    requires within { k * A.width < 4294967296 }
+    ensures { read_in E.mirrored A.width (bit_set A.width (A.LeafWord.pattern result))
+        ≡ word_of A.width (set_in B.Shape F.Endian set.now) k }
+{
+    if are_alike::<A, B, E, F>() {
+        <A::LeafWord as Word>::from_bits(word_or_empty(set, k).to_bits())
+    } else {
+        gathered_word::<A::LeafWord, B, E, F>(set, k)
+    }
+}
