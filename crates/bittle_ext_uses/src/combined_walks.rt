@@ -1,7 +1,7 @@
 //! Iterators over what an operation makes of two sets.
 
 ghost use Rattle.std.specs.Iterator.{YieldsFirst, YieldsLast};
-ghost use Rattle.std.specs.Prelude.{◌≡◌, ℕ, List, length, true};
+ghost use Rattle.std.specs.Prelude.{◌≡◌, ℕ, List, Option, length, option_map, slice_index, true, unwrap_or};
 ghost use Rattle.std.specs.List.{fold};
 ghost use Rattle.bittle.specs.BitPatterns.{bit_set};
 ghost use Rattle.bittle.specs.Orders.{read_in};
@@ -10,7 +10,7 @@ ghost use Rattle.bittle.specs.Rows.{row_set};
 ghost use Rattle.bittle.specs.Values.{set_in, ShapeFits};
 ghost use Rattle.bittle_ext.specs.Combined.{both_of, either_of, first_only_of, just_one_of};
 
-use bittle::{Bits, Endian, LittleEndian};
+use bittle::{Bits, Endian, LittleEndian, Set};
 use bittle_ext::{BitsCombinedExt, BitsOwnedExt};
 
 /// Counts the indexes that are set in both of two words.
@@ -37,9 +37,8 @@ pub fn alone(one: u16, other: u16) -> u16
     u16::from_iter(one.iter_difference(&other))
 }
 
-/// Counts where any two sets of one width differ.
+/// Counts where any two sets differ, both read in one order.
 pub fn count_different<A: Bits, B: Bits, E: Endian>(one: &A, other: &B) -> usize
-    requires width { A.width ≡ B.width }
     requires one_fits { ShapeFits A.Shape one.now }
     requires other_fits { ShapeFits B.Shape other.now }
     ensures { result ≡ length (ascending (just_one_of
@@ -48,14 +47,48 @@ pub fn count_different<A: Bits, B: Bits, E: Endian>(one: &A, other: &B) -> usize
     one.iter_symmetric_difference_in::<B, E>(other).count()
 }
 
-/// Returns the last entry of a table at an index that is set in both of two masks: each item is an
-/// index of the table.
-pub fn last_entry(one: u64, other: u64, table: &[u32; 64]) -> u32 {
-    let mut last = 0;
-    for index in one.iter_conjunction(&other) {
-        last = table[index as usize];
+/// Counts what is set in a byte and not in a row of wider words, which is read from the left.
+pub fn count_alone(byte: u8, row: &Set<[u32; 2], LittleEndian>) -> usize
+    ensures { result ≡ length (ascending (first_only_of (bit_set 8 byte)
+        (read_in true 32 (row_set 2 32 (bit_set 32) row.now.bits)))) }
+{
+    byte.iter_difference(row).count()
+}
+
+/// Returns the entry of a table at the last index that is set in both of two masks, or 0.
+pub fn last_entry(one: u64, other: u64, table: &[u32; 64]) -> u32
+    ensures { (last : Option ℕ) × (rest : List ℕ)
+        × YieldsLast (λ items. items)
+        (ascending (both_of (bit_set 64 one) (bit_set 64 other))) last rest
+        × (result ≡ unwrap_or (option_map (λ i. slice_index table.now i) last) 0) }
+{
+    match one.iter_conjunction(&other).next_back() {
+        Some(index) => table[index as usize],
+        None => 0,
     }
-    last
+}
+
+/// Marks each entry of a table at an index that is set in both of two masks: each item is an index
+/// of the table.
+pub fn mark_common(one: u64, other: u64, table: &mut [bool; 64]) {
+    for index in one.iter_conjunction(&other) {
+        table[index as usize] = true;
+    }
+}
+
+/// Counts what is set in either of two words, and returns the word of it: a clone of an iterator
+/// leaves it as it was.
+pub fn counted(one: u16, other: u16) -> (usize, u16)
+    ensures count { result.0 ≡ length (ascending (either_of (bit_set 16 one) (bit_set 16 other))) }
+    ensures word { bit_set 16 result.1 ≡ fold with_index (empty_set 16)
+        (ascending (either_of (bit_set 16 one) (bit_set 16 other))) }
+{
+    let walk = one.iter_union(&other);
+    let count = match walk.clone() {
+        Ok(again) => again.count(),
+        Err(_) => 0,
+    };
+    (count, u16::from_iter(walk))
 }
 
 /// Returns both ends of what is set in either of two words: an iterator steps from both.

@@ -1,7 +1,8 @@
 //! Iterators over a range of a set.
 
 ghost use Rattle.std.specs.Iterator.{YieldsFirst, YieldsLast};
-ghost use Rattle.std.specs.Prelude.{◌≡◌, ◌-◌, ◌≤◌, ℕ, List};
+ghost use Rattle.std.specs.Prelude.{◌≡◌, ◌-◌, ◌≤◌, ℕ, List, Option};
+ghost use Rattle.std.specs.Prelude.{option_map, slice_index, unwrap_or};
 ghost use Rattle.std.specs.List.{fold};
 ghost use Rattle.bittle.specs.BitPatterns.{bit_set};
 ghost use Rattle.bittle.specs.PlainSet.{ascending, complement, empty_set};
@@ -33,25 +34,57 @@ pub fn count_twice<B: Bits, E: Endian>(set: &B, from: u32, to: u32) -> (usize, u
     (walked, set.count_zeros_in_range_in::<E>(from, to))
 }
 
-/// Returns the last entry of a table at a member of a range: each item is an index of the table.
+/// Returns the entry of a table at the last member of a range, or 0.
 pub fn last_entry(mask: u64, from: u32, to: u32, table: &[u32; 64]) -> u32
     requires ordered { from ≤ to }
     requires within { to ≤ 64 }
+    ensures { (last : Option ℕ) × (rest : List ℕ)
+        × YieldsLast (λ items. items)
+        (ascending (members_within (bit_set 64 mask) from to)) last rest
+        × (result ≡ unwrap_or (option_map (λ i. slice_index table.now i) last) 0) }
 {
-    let mut last = 0;
-    for index in mask.iter_ones_in_range(from, to) {
-        last = table[index as usize];
+    match mask.iter_ones_in_range(from, to).next_back() {
+        Some(index) => table[index as usize],
+        None => 0,
     }
-    last
 }
 
-/// Returns the last entry of a window at a number that is free: no item is before the range.
-pub fn last_in_window(mask: u64, window: &[u32; 16]) -> u32 {
-    let mut last = 0;
-    for index in mask.iter_zeros_in_range(16, 32) {
-        last = window[index as usize - 16];
+/// Returns the entry of a window at the last number that is free, or 0: no item is before the range.
+pub fn last_in_window(mask: u64, window: &[u32; 16]) -> u32
+    ensures { (last : Option ℕ) × (rest : List ℕ)
+        × YieldsLast (λ items. items)
+        (ascending (members_within (complement (bit_set 64 mask)) 16 32)) last rest
+        × (result ≡ unwrap_or (option_map (λ i. slice_index window.now (i - 16)) last) 0) }
+{
+    match mask.iter_zeros_in_range(16, 32).next_back() {
+        Some(index) => window[index as usize - 16],
+        None => 0,
     }
-    last
+}
+
+/// Marks each entry of a window at a number that is free: no item is before the range or past it.
+pub fn mark_free(mask: u64, window: &mut [bool; 16]) {
+    for index in mask.iter_zeros_in_range(16, 32) {
+        window[index as usize - 16] = true;
+    }
+}
+
+/// Counts the members of a range, and returns the set of them: a clone of an iterator leaves it as
+/// it was.
+pub fn counted(mask: u16, from: u32, to: u32) -> (usize, u16)
+    requires ordered { from ≤ to }
+    requires within { to ≤ 16 }
+    ensures count { result.0
+        ≡ members_below (bit_set 16 mask) to - members_below (bit_set 16 mask) from }
+    ensures word { bit_set 16 result.1 ≡ fold with_index (empty_set 16)
+        (ascending (members_within (bit_set 16 mask) from to)) }
+{
+    let walk = mask.iter_ones_in_range(from, to);
+    let count = match walk.clone() {
+        Ok(again) => again.count(),
+        Err(_) => 0,
+    };
+    (count, u16::from_iter(walk))
 }
 
 /// Returns the set of the members of a range.

@@ -31,6 +31,19 @@ pub fn free_runs<B: Bits, E: Endian>(set: &B) -> (Option<Range<u32>>, Option<Ran
     (walk.next(), walk.next_back())
 }
 
+/// Counts the runs of members twice: a clone of an iterator leaves it as it was.
+pub fn counted_twice(mask: u32) -> (usize, usize)
+    ensures first { result.0 ≡ length (runs (bit_set 32 mask)) }
+    ensures second { result.1 ≡ length (runs (bit_set 32 mask)) }
+{
+    let walk = mask.iter_one_runs();
+    let count = match walk.clone() {
+        Ok(again) => again.count(),
+        Err(_) => 0,
+    };
+    (count, walk.count())
+}
+
 /// Returns how long the longest run of members is: a run ends past its start.
 pub fn longest(mask: u64) -> u32 {
     let mut longest = 0;

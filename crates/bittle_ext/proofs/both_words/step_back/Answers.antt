@@ -82,7 +82,8 @@ returns-clause-gave g c =
     let at = c.loop-item.at in
     back_from m leaf pattern w s _ at _ _ c.loop-item.invariant.0
     (head_gave_back m leaf pattern w s at c.scan_last-2.new.loaded c.scan_last.new.loaded
-    c.scan_last-2.result c.in_default.ensures.0 c.in_default.ensures.1 c.if-at.true c.scan_last-2.ensures)
+    c.scan_last-2.result c.in_default.ensures.0 c.in_default.ensures.1 c.if-at.true
+    c.scan_last-2.ensures)
 
 pub returns-clause-placed : goal.returns-clause-placed
 returns-clause-placed g c =
@@ -95,5 +96,6 @@ returns-clause-placed g c =
     let at = c.loop-item.at in
     placed_last m leaf pattern w s at _ c.scan_last-2.result refl refl
     (head_gave_back m leaf pattern w s at c.scan_last-2.new.loaded c.scan_last.new.loaded
-    c.scan_last-2.result c.in_default.ensures.0 c.in_default.ensures.1 c.if-at.true c.scan_last-2.ensures)
+    c.scan_last-2.result c.in_default.ensures.0 c.in_default.ensures.1 c.if-at.true
+    c.scan_last-2.ensures)
     c.loop-item.invariant.1

@@ -80,7 +80,8 @@ returns-clause-gave g c =
     let at = c.loop-item.at in
     front_from m leaf pattern w s _ at _ _ c.loop-item.invariant.0
     (tail_gave m leaf pattern w s at c.scan_first.new.loaded c.scan_first-2.new.loaded
-    c.scan_first-2.result c.in_default.ensures.0 c.in_default.ensures.1 c.if-at.true c.scan_first-2.ensures)
+    c.scan_first-2.result c.in_default.ensures.0 c.in_default.ensures.1 c.if-at.true
+    c.scan_first-2.ensures)
 
 pub returns-clause-placed : goal.returns-clause-placed
 returns-clause-placed g c =
@@ -93,5 +94,6 @@ returns-clause-placed g c =
     let at = c.loop-item.at in
     placed_first m leaf pattern w s at _ c.scan_first-2.result refl refl
     (tail_gave m leaf pattern w s at c.scan_first.new.loaded c.scan_first-2.new.loaded
-    c.scan_first-2.result c.in_default.ensures.0 c.in_default.ensures.1 c.if-at.true c.scan_first-2.ensures)
+    c.scan_first-2.result c.in_default.ensures.0 c.in_default.ensures.1 c.if-at.true
+    c.scan_first-2.ensures)
     c.loop-item.invariant.1
