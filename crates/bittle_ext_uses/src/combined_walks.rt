@@ -1,7 +1,8 @@
 //! Iterators over what an operation makes of two sets.
 
 ghost use Rattle.std.specs.Iterator.{YieldsFirst, YieldsLast};
-ghost use Rattle.std.specs.Prelude.{◌≡◌, ℕ, List, Option, length, option_map, slice_index, true, unwrap_or};
+ghost use Rattle.std.specs.Prelude.{◌≡◌, ℕ, List, Option, length, true};
+ghost use Rattle.std.specs.Prelude.{option_map, slice_index, unwrap_or};
 ghost use Rattle.std.specs.List.{fold};
 ghost use Rattle.bittle.specs.BitPatterns.{bit_set};
 ghost use Rattle.bittle.specs.Orders.{read_in};

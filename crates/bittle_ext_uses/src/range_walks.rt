@@ -34,7 +34,7 @@ pub fn count_twice<B: Bits, E: Endian>(set: &B, from: u32, to: u32) -> (usize, u
     (walked, set.count_zeros_in_range_in::<E>(from, to))
 }
 
-/// Returns the entry of a table at the last member of a range, or 0.
+/// Returns the entry of a table at the last set bit of a range, or 0.
 pub fn last_entry(mask: u64, from: u32, to: u32, table: &[u32; 64]) -> u32
     requires ordered { from ≤ to }
     requires within { to ≤ 64 }
@@ -49,7 +49,7 @@ pub fn last_entry(mask: u64, from: u32, to: u32, table: &[u32; 64]) -> u32
     }
 }
 
-/// Returns the entry of a window at the last number that is free, or 0: no item is before the range.
+/// Returns the entry of a window at the last unset bit of a range, or 0: no item is before it.
 pub fn last_in_window(mask: u64, window: &[u32; 16]) -> u32
     ensures { (last : Option ℕ) × (rest : List ℕ)
         × YieldsLast (λ items. items)
@@ -62,15 +62,15 @@ pub fn last_in_window(mask: u64, window: &[u32; 16]) -> u32
     }
 }
 
-/// Marks each entry of a window at a number that is free: no item is before the range or past it.
+/// Marks each entry of a window at an unset bit of a range: no item is before it, and none past it.
 pub fn mark_free(mask: u64, window: &mut [bool; 16]) {
     for index in mask.iter_zeros_in_range(16, 32) {
         window[index as usize - 16] = true;
     }
 }
 
-/// Counts the members of a range, and returns the set of them: a clone of an iterator leaves it as
-/// it was.
+/// Counts the set bits of a range, and returns the word of them: a clone of an iterator leaves it
+/// as it was.
 pub fn counted(mask: u16, from: u32, to: u32) -> (usize, u16)
     requires ordered { from ≤ to }
     requires within { to ≤ 16 }

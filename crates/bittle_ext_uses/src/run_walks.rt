@@ -31,7 +31,7 @@ pub fn free_runs<B: Bits, E: Endian>(set: &B) -> (Option<Range<u32>>, Option<Ran
     (walk.next(), walk.next_back())
 }
 
-/// Counts the runs of members twice: a clone of an iterator leaves it as it was.
+/// Counts the runs of set bits twice: a clone of an iterator leaves it as it was.
 pub fn counted_twice(mask: u32) -> (usize, usize)
     ensures first { result.0 ≡ length (runs (bit_set 32 mask)) }
     ensures second { result.1 ≡ length (runs (bit_set 32 mask)) }

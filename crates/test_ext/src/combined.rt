@@ -45,6 +45,18 @@ fn two_shapes_from_the_left(rt: HostRuntime) {
 }
 
 #[test]
+fn a_clone_goes_on_from_its_source(rt: HostRuntime) {
+    // Set in either are 0, 1, 2 and 8.
+    let (word, row) = (0b0011u8, [0b0110u8, 1]);
+    let mut walk = word.iter_union(&row);
+    same!(rt; walk.next(), Some(0));
+    let mut clone = walk.clone().unwrap();
+    same!(rt; (walk.next_back(), walk.next()), (Some(8), Some(1)));
+    same!(rt; (clone.next(), clone.next_back()), (Some(1), Some(8)));
+    same!(rt; (clone.next(), clone.next(), walk.next()), (Some(2), None, Some(2)));
+}
+
+#[test]
 fn capacity_0(rt: HostRuntime) {
     let none: [u8; 0] = [];
     same!(rt; none.iter_union(&none).next(), None);

@@ -18,4 +18,6 @@ mod reads;
 #[cfg(test)]
 mod rotations;
 #[cfg(test)]
+mod unlike;
+#[cfg(test)]
 mod walked_runs;

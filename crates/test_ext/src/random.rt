@@ -8,7 +8,7 @@ use bittle_ext::prelude::*;
 use std::process::Abort;
 
 // Draws a number.
-fn draw(state: &mut u32) -> u32 {
+pub(crate) fn draw(state: &mut u32) -> u32 {
     *state = state.wrapping_mul(1_664_525).wrapping_add(1_013_904_223);
     *state >> 8
 }
@@ -99,7 +99,7 @@ fn drawn_changes_agree_with_plain_loops(rt: HostRuntime) {
 }
 
 // Returns the flags that an operation makes of two.
-fn combined(kind: u32, one: bool, other: bool) -> bool {
+pub(crate) fn combined(kind: u32, one: bool, other: bool) -> bool {
     match kind {
         0 => one || other,
         1 => one && other,

@@ -61,6 +61,17 @@ fn a_range_of_a_slice_and_of_a_set(rt: HostRuntime) {
 }
 
 #[test]
+fn a_clone_goes_on_from_its_source(rt: HostRuntime) {
+    // Bits 1, 5 and 6 are set.
+    let word = 0b0110_0010u8;
+    let mut walk = word.iter_ones_in_range(0, 7);
+    same!(rt; walk.next(), Some(1));
+    let mut clone = walk.clone().unwrap();
+    same!(rt; (walk.next_back(), walk.next(), walk.next()), (Some(6), Some(5), None));
+    same!(rt; (clone.next(), clone.next_back(), clone.next()), (Some(5), Some(6), None));
+}
+
+#[test]
 fn ranges_with_no_items(rt: HostRuntime) {
     let none: [u8; 0] = [];
     same!(rt; none.iter_ones_in_range(0, 0).next(), None);

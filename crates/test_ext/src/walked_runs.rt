@@ -59,3 +59,13 @@ fn one_run_or_none(rt: HostRuntime) {
     same!(rt; 0u16.iter_zero_runs().next_back(), Some(0..16));
     same!(rt; 0xFFFFu16.iter_zero_runs().next_back(), None);
 }
+
+#[test]
+fn a_clone_goes_on_from_its_source(rt: HostRuntime) {
+    // Bits 1, 5 and 6 are set.
+    let word = 0b0110_0010u8;
+    let mut walk = word.iter_one_runs();
+    let mut clone = walk.clone().unwrap();
+    same!(rt; (walk.next(), walk.next(), walk.next()), (Some(1..2), Some(5..7), None));
+    same!(rt; (clone.next_back(), clone.next(), clone.next()), (Some(5..7), Some(1..2), None));
+}
