@@ -1,0 +1,95 @@
+//! Sets turned and shifted.
+
+ghost use Rattle.std.specs.Prelude.{◌≡◌, ◌+◌, ◌<◌, ℕ, false, IsTrue};
+ghost use Rattle.bittle.specs.BitPatterns.{bit_set};
+ghost use Rattle.bittle.specs.PlainSet.{contains};
+ghost use Rattle.bittle.specs.Rows.{row_set};
+ghost use Rattle.bittle.specs.Values.{set_in};
+ghost use Rattle.bittle_ext.specs.Rotations.{has_shifted_up, rotated_up, shifted_down, shifted_up};
+
+use bittle::{Bits, Endian};
+use bittle_ext::BitsOwnedExt;
+
+/// Returns a board with each piece some indexes up; those that would leave the board are dropped.
+pub fn raised<B: BitsOwnedExt>(board: B, by: u32) -> B
+    requires { IsTrue B.indexable }
+    ensures { (i : ℕ) → (set_in B.Shape B.Order.Endian result).has i
+        ≡ has_shifted_up (set_in B.Shape B.Order.Endian board) by i }
+{
+    board.shifted_up(by)
+}
+
+/// Returns a chess board with each piece one rank up; those of the last rank leave the board.
+#[tactic(auto, unfolding(bittle_ext::specs::Rotations::has_shifted_up))]
+pub fn one_rank_up(board: u64) -> u64
+    ensures first_rank { (i : ℕ) → i < 8 → (bit_set 64 result).has i ≡ false }
+    ensures others { (i : ℕ) → i < 56 →
+        (bit_set 64 result).has (i + 8) ≡ (bit_set 64 board).has i }
+{
+    raised(board, 8)
+}
+
+/// Returns a chess board with each piece one rank down, as the definition says.
+pub fn one_rank_down(board: u64) -> u64
+    ensures { bit_set 64 result ≡ shifted_down (bit_set 64 board) 8 }
+{
+    board.shifted_down(8)
+}
+
+/// Returns a ring of slots that is turned by one.
+pub fn turned(slots: [u32; 4]) -> [u32; 4]
+    ensures { (i : ℕ) → contains (row_set 4 32 (bit_set 32) result) (i + 1)
+        ≡ contains (row_set 4 32 (bit_set 32) slots) i }
+{
+    slots.rotated_up(1)
+}
+
+/// Returns the slots of a ring, counted from another one.
+pub fn counted_from(ring: u16, first: u32) -> u16
+    ensures { (i : ℕ) → contains (bit_set 16 result) i ≡ contains (bit_set 16 ring) (i + first) }
+{
+    ring.rotated_down(first)
+}
+
+/// Returns a set turned there and back, which has the same members.
+pub fn there_and_back<B: BitsOwnedExt>(ring: B, by: u32) -> B
+    requires { IsTrue B.indexable }
+    ensures { (i : ℕ) → contains (set_in B.Shape B.Order.Endian result) i
+        ≡ contains (set_in B.Shape B.Order.Endian ring) i }
+{
+    ring.rotated_up(by).rotated_down(by)
+}
+
+/// Returns a day's schedule by the hour, as it is read in a zone so many hours east.
+pub fn in_zone(hours: [u8; 3], east: u32) -> [u8; 3]
+    ensures { (i : ℕ) → contains (row_set 3 8 (bit_set 8) result) (i + east)
+        ≡ contains (row_set 3 8 (bit_set 8) hours) i }
+{
+    hours.rotated_up(east)
+}
+
+/// Returns whether the bit at an index is set once its set is turned.
+pub fn is_set_after(ring: u8, by: u32, index: u32) -> bool
+    ensures { result ≡ contains (bit_set 8 ring) (index + by) }
+{
+    ring.rotated_down(by).test_bit(index)
+}
+
+/// Turns a set of any shape, in any order.
+pub fn turn<B: BitsOwnedExt, E: Endian>(set: B, by: u32) -> B
+    requires { IsTrue B.indexable }
+    ensures set { set_in B.Shape E.Endian result ≡ rotated_up (set_in B.Shape E.Endian set) by }
+    ensures moved { (i : ℕ) → contains (set_in B.Shape E.Endian result) (i + by)
+        ≡ contains (set_in B.Shape E.Endian set) i }
+{
+    set.rotated_up_in::<E>(by)
+}
+
+/// Delays the tasks of a timetable of any length; those past its end are dropped.
+pub fn delayed<B: BitsOwnedExt>(tasks: B, hours: u32) -> B
+    requires { IsTrue B.indexable }
+    ensures { set_in B.Shape B.Order.Endian result
+        ≡ shifted_up (set_in B.Shape B.Order.Endian tasks) hours }
+{
+    tasks.shifted_up(hours)
+}
