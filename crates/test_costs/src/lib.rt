@@ -14,6 +14,8 @@ mod probe;
 #[cfg(test)]
 mod replays;
 #[cfg(test)]
+mod rotations;
+#[cfg(test)]
 mod rows;
 #[cfg(test)]
 mod searches;
