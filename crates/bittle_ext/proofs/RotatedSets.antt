@@ -261,3 +261,27 @@ all_up s by h = ap (plain_set s.capacity) (fun_ext λ k. sym (elim (cases_lt k b
   | inl l ↦ up-before s by k l
   | inr g ↦ up-past s by k (omega arith)
 ]))
+
+-- an index of the set shifted down is a member where the one so far above it was one
+pub shifted_from : (s : PlainSet) (by i : ℕ) → i + by < s.capacity →
+    contains (shifted_down s by) i ≡ contains s (i + by)
+shifted_from s by i h = contains_below (shifted_down s by) i (omega arith) ∙ down-inside s by i h
+    ∙ sym (contains_below s (i + by) h)
+
+-- and none where there was none above it
+pub emptied_above : (s : PlainSet) (by i : ℕ) → i < s.capacity → s.capacity ≤ i + by →
+    contains (shifted_down s by) i ≡ false
+emptied_above s by i h g = contains_below (shifted_down s by) i h ∙ down-past s by i g
+
+-- an index so far above another one, of the set shifted up, is a member where that one was one
+pub shifted_to : (s : PlainSet) (by i : ℕ) → i + by < s.capacity →
+    contains (shifted_up s by) (i + by) ≡ contains s i
+shifted_to s by i h =
+    let back : i + by - by ≡ i = omega arith in
+    contains_below (shifted_up s by) (i + by) h ∙ up-inside s by (i + by) (omega arith) h
+    ∙ ap s.has back ∙ sym (contains_below s i (omega arith))
+
+-- and none where there was none below it
+pub emptied_below : (s : PlainSet) (by i : ℕ) → i < s.capacity → i < by →
+    contains (shifted_up s by) i ≡ false
+emptied_below s by i h l = contains_below (shifted_up s by) i h ∙ up-before s by i l

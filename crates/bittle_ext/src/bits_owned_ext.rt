@@ -1,6 +1,6 @@
 //! Making sets that are owned.
 
-ghost use Rattle.std.specs.Prelude.{◌≡◌, ◌+◌, ◌≤◌, ℕ, Bool, List, IsTrue};
+ghost use Rattle.std.specs.Prelude.{◌≡◌, ◌+◌, ◌<◌, ◌≤◌, ℕ, Bool, false, List, IsTrue};
 ghost use Rattle.std.specs.Iterator.{Drains, IsFinite};
 ghost use Rattle.std.specs.Iterator.Runs.{WholeRun};
 ghost use Rattle.std.specs.List.{fold};
@@ -10,7 +10,7 @@ ghost use Rattle.bittle.specs.PlainSet.{with_span, without_span, with_span_toggl
 ghost use Rattle.bittle.specs.Values.{set_in, set_mirrored};
 
 use crate::bits_mut_ext::BitsMutExt;
-use crate::rotations::rotate_down;
+use crate::rotations::{rotate_down, rotate_up, shift_down, shift_up};
 use bittle::{BitsOwned, Endian};
 
 /// Sets made of one set, of a list of indexes or of an iterator. The type has to fit.
@@ -134,13 +134,7 @@ pub trait BitsOwnedExt: BitsOwned {
         ensures moved { (i : ℕ) → contains (set_in Self.Shape E.Endian result) (i + by)
             ≡ contains (set_in Self.Shape E.Endian self) i }
     {
-        let capacity = Self::bits();
-        let back = if capacity == 0 {
-            0
-        } else {
-            capacity - by % capacity
-        };
-        rotate_down::<Self, E>(&self, back)
+        rotate_up::<Self, E>(&self, by)
     }
 
     /// Returns the set with each bit moved down by `by` indexes, in the order `E`. The bits that
@@ -155,16 +149,15 @@ pub trait BitsOwnedExt: BitsOwned {
     #[inline]
     final fn shifted_down_in<E: Endian>(self, by: u32) -> Self
         requires { IsTrue Self.indexable }
-        ensures { set_in Self.Shape E.Endian result
+        ensures set { set_in Self.Shape E.Endian result
             ≡ shifted_down (set_in Self.Shape E.Endian self) by }
+        ensures moved { (i : ℕ) → i + by < Self.type_capacity
+            → contains (set_in Self.Shape E.Endian result) i
+            ≡ contains (set_in Self.Shape E.Endian self) (i + by) }
+        ensures emptied { (i : ℕ) → i < Self.type_capacity → Self.type_capacity ≤ i + by
+            → contains (set_in Self.Shape E.Endian result) i ≡ false }
     {
-        let capacity = Self::bits();
-        if by >= capacity {
-            return Self::zeros();
-        }
-        let mut set = self.rotated_down_in::<E>(by);
-        set.clear_range_in::<E>(capacity - by, capacity);
-        set
+        shift_down::<Self, E>(&self, by)
     }
 
     /// Returns the set with each bit moved up by `by` indexes, in the order `E`. The bits that
@@ -179,15 +172,15 @@ pub trait BitsOwnedExt: BitsOwned {
     #[inline]
     final fn shifted_up_in<E: Endian>(self, by: u32) -> Self
         requires { IsTrue Self.indexable }
-        ensures { set_in Self.Shape E.Endian result
+        ensures set { set_in Self.Shape E.Endian result
             ≡ shifted_up (set_in Self.Shape E.Endian self) by }
+        ensures moved { (i : ℕ) → i + by < Self.type_capacity
+            → contains (set_in Self.Shape E.Endian result) (i + by)
+            ≡ contains (set_in Self.Shape E.Endian self) i }
+        ensures emptied { (i : ℕ) → i < Self.type_capacity → i < by
+            → contains (set_in Self.Shape E.Endian result) i ≡ false }
     {
-        if by >= Self::bits() {
-            return Self::zeros();
-        }
-        let mut set = self.rotated_up_in::<E>(by);
-        set.clear_range_in::<E>(0, by);
-        set
+        shift_up::<Self, E>(&self, by)
     }
 
     /// Returns the set of the indexes, in the order `E`. An index past the capacity wraps. With
@@ -325,8 +318,13 @@ pub trait BitsOwnedExt: BitsOwned {
     #[inline]
     final fn shifted_down(self, by: u32) -> Self
         requires { IsTrue Self.indexable }
-        ensures { set_in Self.Shape Self.Order.Endian result
+        ensures set { set_in Self.Shape Self.Order.Endian result
             ≡ shifted_down (set_in Self.Shape Self.Order.Endian self) by }
+        ensures moved { (i : ℕ) → i + by < Self.type_capacity
+            → contains (set_in Self.Shape Self.Order.Endian result) i
+            ≡ contains (set_in Self.Shape Self.Order.Endian self) (i + by) }
+        ensures emptied { (i : ℕ) → i < Self.type_capacity → Self.type_capacity ≤ i + by
+            → contains (set_in Self.Shape Self.Order.Endian result) i ≡ false }
     {
         self.shifted_down_in::<Self::Order>(by)
     }
@@ -340,8 +338,13 @@ pub trait BitsOwnedExt: BitsOwned {
     #[inline]
     final fn shifted_up(self, by: u32) -> Self
         requires { IsTrue Self.indexable }
-        ensures { set_in Self.Shape Self.Order.Endian result
+        ensures set { set_in Self.Shape Self.Order.Endian result
             ≡ shifted_up (set_in Self.Shape Self.Order.Endian self) by }
+        ensures moved { (i : ℕ) → i + by < Self.type_capacity
+            → contains (set_in Self.Shape Self.Order.Endian result) (i + by)
+            ≡ contains (set_in Self.Shape Self.Order.Endian self) i }
+        ensures emptied { (i : ℕ) → i < Self.type_capacity → i < by
+            → contains (set_in Self.Shape Self.Order.Endian result) i ≡ false }
     {
         self.shifted_up_in::<Self::Order>(by)
     }

@@ -2,7 +2,8 @@
 
 ghost use Rattle.std.specs.Prelude.{◌≡◌, ◌+◌, ◌*◌, ◌<◌, IsTrue};
 ghost use Rattle.bittle_bits.specs.BitPatterns.{bit_set};
-ghost use Rattle.bittle_ext.specs.Rotations.{rotated_down, IsWindow, IsWordFrom};
+ghost use Rattle.bittle_ext.specs.Rotations.{rotated_down, rotated_up, shifted_down, shifted_up};
+ghost use Rattle.bittle_ext.specs.Rotations.{IsWindow, IsWordFrom};
 ghost use Rattle.bittle.specs.Orders.{read_in};
 ghost use Rattle.bittle.specs.Values.{set_in, ShapeFits};
 
@@ -74,5 +75,49 @@ pub fn rotate_down<B: BitsOwned, E: Endian>(set: &B, by: u32) -> B
         let at = if k < left { k + skipped } else { k - left };
         result.set_nth_leaf_word(k, word_from::<B, E>(set, words, at, from));
     }
+    result
+}
+
+/// Returns the set with each member moved up, from the last index on to 0.
+#[inline]
+pub fn rotate_up<B: BitsOwned, E: Endian>(set: &B, by: u32) -> B
+    requires { IsTrue B.indexable }
+    ensures { set_in B.Shape E.Endian result ≡ rotated_up (set_in B.Shape E.Endian set.now) by }
+{
+    let capacity = B::bits();
+    let back = if capacity == 0 {
+        0
+    } else {
+        capacity - by % capacity
+    };
+    rotate_down::<B, E>(set, back)
+}
+
+/// Returns the set with each member moved down; those that would pass index 0 are left out.
+#[inline]
+pub fn shift_down<B: BitsOwned, E: Endian>(set: &B, by: u32) -> B
+    requires { IsTrue B.indexable }
+    ensures { set_in B.Shape E.Endian result ≡ shifted_down (set_in B.Shape E.Endian set.now) by }
+{
+    let capacity = B::bits();
+    if by >= capacity {
+        return B::zeros();
+    }
+    let mut result = rotate_down::<B, E>(set, by);
+    result.clear_range_in::<E>(capacity - by, capacity);
+    result
+}
+
+/// Returns the set with each member moved up; those that would reach the capacity are left out.
+#[inline]
+pub fn shift_up<B: BitsOwned, E: Endian>(set: &B, by: u32) -> B
+    requires { IsTrue B.indexable }
+    ensures { set_in B.Shape E.Endian result ≡ shifted_up (set_in B.Shape E.Endian set.now) by }
+{
+    if by >= B::bits() {
+        return B::zeros();
+    }
+    let mut result = rotate_up::<B, E>(set, by);
+    result.clear_range_in::<E>(0, by);
     result
 }

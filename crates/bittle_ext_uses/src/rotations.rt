@@ -5,28 +5,18 @@ ghost use Rattle.bittle.specs.BitPatterns.{bit_set};
 ghost use Rattle.bittle.specs.PlainSet.{contains};
 ghost use Rattle.bittle.specs.Rows.{row_set};
 ghost use Rattle.bittle.specs.Values.{set_in};
-ghost use Rattle.bittle_ext.specs.Rotations.{has_shifted_up, rotated_up, shifted_down, shifted_up};
+ghost use Rattle.bittle_ext.specs.Rotations.{rotated_up, shifted_down, shifted_up};
 
 use bittle::{Bits, Endian};
 use bittle_ext::BitsOwnedExt;
 
-/// Returns a board with each piece some indexes up; those that would leave the board are dropped.
-pub fn raised<B: BitsOwnedExt>(board: B, by: u32) -> B
-    requires { IsTrue B.indexable }
-    ensures { (i : ℕ) → (set_in B.Shape B.Order.Endian result).has i
-        ≡ has_shifted_up (set_in B.Shape B.Order.Endian board) by i }
-{
-    board.shifted_up(by)
-}
-
 /// Returns a chess board with each piece one rank up; those of the last rank leave the board.
-#[tactic(auto, unfolding(bittle_ext::specs::Rotations::has_shifted_up))]
 pub fn one_rank_up(board: u64) -> u64
-    ensures first_rank { (i : ℕ) → i < 8 → (bit_set 64 result).has i ≡ false }
-    ensures others { (i : ℕ) → i < 56 →
-        (bit_set 64 result).has (i + 8) ≡ (bit_set 64 board).has i }
+    ensures first_rank { (i : ℕ) → i < 8 → contains (bit_set 64 result) i ≡ false }
+    ensures others { (i : ℕ) → i + 8 < 64 →
+        contains (bit_set 64 result) (i + 8) ≡ contains (bit_set 64 board) i }
 {
-    raised(board, 8)
+    board.shifted_up(8)
 }
 
 /// Returns a chess board with each piece one rank down, as the definition says.

@@ -1,29 +1,15 @@
-use Rattle.std.proofs.Common.{◌≡◌, ◌-◌, sym, ap, ◌∙◌, arith}
-use Rattle.bittle.specs.PlainSet.{empty_set, without_span}
-use Rattle.bittle.specs.Values.{set_in}
-use Rattle.bittle_ext.specs.Rotations.{rotated_down}
-use Rattle.bittle_ext.proofs.RotatedSets.{cut_down, all_down}
+use Rattle.std.proofs.Common.{◌+◌, ap, ◌∙◌, arith}
+use Rattle.bittle.specs.PlainSet.{contains}
+use Rattle.bittle_ext.proofs.RotatedSets.{shifted_from, emptied_above}
 use Rattle.bittle_ext.proofs.bits_owned_ext.BitsOwnedExt.shifted_down_in.Goals as goal
 
-pub returns-then-by-capacity : goal.returns-then-by-capacity
-returns-then-by-capacity g c =
-    let own = g.met.Self.BitsOwned in
-    let one = own.one_capacity c.args.self in
-    let cap = c.bits-capacity.ensures.value (c.requires, own.type_fits c.requires) in
-    c.zeros.ensures.in_each_order g.E.Endian.mirrored ∙ ap empty_set (sym one)
-    ∙ all_down (set_in g.Self.Shape g.E.Endian c.args.self) c.args.by
-    (omega (arith, one, cap, c.if-by-capacity.true))
+pub returns-clause-moved : goal.returns-clause-moved
+returns-clause-moved g c i h =
+    ap (λ s. contains s i) c.shift_down.ensures
+    ∙ shifted_from _ _ i (omega (arith, h, g.met.Self.BitsOwned.one_capacity c.args.self))
 
-pub returns : goal.returns
-returns g c =
-    let own = g.met.Self.BitsOwned in
-    let s = set_in g.Self.Shape g.E.Endian c.args.self in
-    let by = c.args.by in
-    let capacity = c.bits-capacity.result in
-    let cap : capacity ≡ s.capacity =
-    c.bits-capacity.ensures.value (c.requires, own.type_fits c.requires)
-    ∙ sym (own.one_capacity c.args.self) in
-    c.clear_range_in.ensures.set
-    ∙ ap (λ t. without_span t (capacity - by) capacity) c.rotated_down_in-set.ensures.set
-    ∙ ap (λ n. without_span (rotated_down s by) (n - by) n) cap
-    ∙ cut_down s by (omega (arith, cap, c.if-by-capacity.false))
+pub returns-clause-emptied : goal.returns-clause-emptied
+returns-clause-emptied g c i h l =
+    ap (λ s. contains s i) c.shift_down.ensures
+    ∙ emptied_above _ _ i (omega (arith, h, g.met.Self.BitsOwned.one_capacity c.args.self))
+    (omega (arith, l, g.met.Self.BitsOwned.one_capacity c.args.self))

@@ -1,26 +1,14 @@
-use Rattle.std.proofs.Common.{◌≡◌, sym, ap, ◌∙◌, arith}
-use Rattle.bittle.specs.PlainSet.{empty_set, without_span}
-use Rattle.bittle.specs.Values.{set_in}
-use Rattle.bittle_ext.proofs.RotatedSets.{cut_up, all_up}
+use Rattle.std.proofs.Common.{◌+◌, ap, ◌∙◌, arith}
+use Rattle.bittle.specs.PlainSet.{contains}
+use Rattle.bittle_ext.proofs.RotatedSets.{shifted_to, emptied_below}
 use Rattle.bittle_ext.proofs.bits_owned_ext.BitsOwnedExt.shifted_up_in.Goals as goal
 
-pub returns-then-by-bits : goal.returns-then-by-bits
-returns-then-by-bits g c =
-    let own = g.met.Self.BitsOwned in
-    let one = own.one_capacity c.args.self in
-    let cap = c.bits.ensures.value (c.requires, own.type_fits c.requires) in
-    c.zeros.ensures.in_each_order g.E.Endian.mirrored ∙ ap empty_set (sym one)
-    ∙ all_up (set_in g.Self.Shape g.E.Endian c.args.self) c.args.by
-    (omega (arith, one, cap, c.if-by-bits.true))
+pub returns-clause-moved : goal.returns-clause-moved
+returns-clause-moved g c i h =
+    ap (λ s. contains s (i + c.args.by)) c.shift_up.ensures
+    ∙ shifted_to _ _ i (omega (arith, h, g.met.Self.BitsOwned.one_capacity c.args.self))
 
-pub returns : goal.returns
-returns g c =
-    let own = g.met.Self.BitsOwned in
-    let s = set_in g.Self.Shape g.E.Endian c.args.self in
-    let by = c.args.by in
-    let cap : c.bits.result ≡ s.capacity =
-    c.bits.ensures.value (c.requires, own.type_fits c.requires)
-    ∙ sym (own.one_capacity c.args.self) in
-    c.clear_range_in.ensures.set
-    ∙ ap (λ t. without_span t 0 by) c.rotated_up_in-set.ensures.set
-    ∙ cut_up s by (omega (arith, cap, c.if-by-bits.false))
+pub returns-clause-emptied : goal.returns-clause-emptied
+returns-clause-emptied g c i h l =
+    ap (λ s. contains s i) c.shift_up.ensures
+    ∙ emptied_below _ _ i (omega (arith, h, g.met.Self.BitsOwned.one_capacity c.args.self)) l
