@@ -79,9 +79,8 @@ fn take<I: Iterator>(iter: &mut I) -> Option<I::Item>
 
 /// Passes over `count` items and takes the next one.
 ///
-/// Where the iterator says that so many are there, it is asked again after each item whether it
-/// now says one less. Over a slice it always does, which the compiler sees: no end is looked for,
-/// and the loop is one addition.
+/// Where the iterator says that more are there, they are counted down here. Over a slice, whose
+/// length the compiler sees, no end is looked for, and the loop is one addition.
 #[inline]
 fn skip_to<I: Iterator>(iter: &mut I, count: usize) -> Option<I::Item>
 where
@@ -90,26 +89,18 @@ where
     ensures ran { SkipsThenYields I.next_gives iter.old count result iter.new }
     ensures keeps { OnSome result (I.can_next iter.new) }
 {
-    let (mut now, _) = iter.size_hint();
-    if now <= count {
+    let (least, _) = iter.size_hint();
+    // Not `least <= count`: of the length less one the compiler sees that the count ends first.
+    if least == 0 || least - 1 <= count {
         return iter.nth(count);
     }
-    // the hint once the wanted item is taken
-    let end = now - count - 1;
+    let mut left = count;
     loop {
         let item = take(iter)?;
-        let (left, _) = iter.size_hint();
-        if left != now - 1 {
-            // not a count: what is left is asked of `nth`
-            if now - 1 == end {
-                return Some(item);
-            }
-            return iter.nth(now - end - 2);
-        }
-        if left <= end {
+        if left == 0 {
             return Some(item);
         }
-        now = left;
+        left -= 1;
     }
 }
 
