@@ -298,7 +298,7 @@ impl<T: BitsMut, U: Endian> BitsMut for Set<T, U> {
 
     #[inline]
     fn assign_by_operation<O: Operation>(&mut self, other: &Set<T, U>) {
-        self.bits.assign_by_operation::<O>(&other.bits);
+        operators::combine::<T, U, O>(self, &other.bits);
     }
 
     #[inline]

@@ -4,10 +4,12 @@ ghost use Rattle.std.specs.Prelude.{◌≡◌};
 ghost use Rattle.bittle_bits.specs.SetOperations.{conjunction_of};
 ghost use Rattle.bittle.specs.SetOperators.{IsInBothOrders};
 
+use super::{combine, combined};
 use crate::set::Set;
 use bittle_bits::bits_mut::BitsMut;
 use bittle_bits::bits_owned::BitsOwned;
 use bittle_bits::endian::Endian;
+use bittle_bits::operation::Conjunction;
 use std::ops::{BitAnd, BitAndAssign};
 
 /// `&` gives the members of both sets.
@@ -19,7 +21,7 @@ impl<T: BitsOwned, E: Endian> BitAnd<Set<T, E>> for Set<T, E> {
 
     #[inline]
     fn bitand(self, rhs: Set<T, E>) -> Set<T, E> {
-        self.conjunction(rhs)
+        Set::new_in(self.bits.conjunction(rhs.bits))
     }
 }
 
@@ -31,9 +33,7 @@ impl<'b, T: BitsOwned, E: Endian> BitAnd<&'b Set<T, E>> for Set<T, E> {
 
     #[inline]
     fn bitand(self, rhs: &'b Set<T, E>) -> Set<T, E> {
-        let mut set = self;
-        set.conjunction_assign(rhs);
-        set
+        combined::<T, E, Conjunction>(self.bits, &rhs.bits)
     }
 }
 
@@ -45,9 +45,7 @@ impl<'a, T: BitsOwned, E: Endian> BitAnd<Set<T, E>> for &'a Set<T, E> {
 
     #[inline]
     fn bitand(self, rhs: Set<T, E>) -> Set<T, E> {
-        let mut set = Set::<T, E>::new_in(self.bits);
-        set.conjunction_assign(&rhs);
-        set
+        combined::<T, E, Conjunction>(self.bits, &rhs.bits)
     }
 }
 
@@ -59,9 +57,7 @@ impl<'a, 'b, T: BitsOwned, E: Endian> BitAnd<&'b Set<T, E>> for &'a Set<T, E> {
 
     #[inline]
     fn bitand(self, rhs: &'b Set<T, E>) -> Set<T, E> {
-        let mut set = Set::<T, E>::new_in(self.bits);
-        set.conjunction_assign(rhs);
-        set
+        combined::<T, E, Conjunction>(self.bits, &rhs.bits)
     }
 }
 
@@ -73,7 +69,7 @@ impl<T: BitsMut, E: Endian> BitAndAssign<Set<T, E>> for Set<T, E> {
 
     #[inline]
     fn bitand_assign(&mut self, rhs: Set<T, E>) {
-        self.conjunction_assign(&rhs);
+        combine::<T, E, Conjunction>(self, &rhs.bits);
     }
 }
 
@@ -83,6 +79,6 @@ impl<'b, T: BitsMut, E: Endian> BitAndAssign<&'b Set<T, E>> for Set<T, E> {
 
     #[inline]
     fn bitand_assign(&mut self, rhs: &'b Set<T, E>) {
-        self.conjunction_assign(rhs);
+        combine::<T, E, Conjunction>(self, &rhs.bits);
     }
 }

@@ -4,10 +4,12 @@ ghost use Rattle.std.specs.Prelude.{◌≡◌};
 ghost use Rattle.bittle_bits.specs.SetOperations.{difference_of};
 ghost use Rattle.bittle.specs.SetOperators.{IsInBothOrders};
 
+use super::{combine, combined};
 use crate::set::Set;
 use bittle_bits::bits_mut::BitsMut;
 use bittle_bits::bits_owned::BitsOwned;
 use bittle_bits::endian::Endian;
+use bittle_bits::operation::Difference;
 use std::ops::{Sub, SubAssign};
 
 /// `-` gives the members of the first set that are none of the second.
@@ -19,7 +21,7 @@ impl<T: BitsOwned, E: Endian> Sub<Set<T, E>> for Set<T, E> {
 
     #[inline]
     fn sub(self, rhs: Set<T, E>) -> Set<T, E> {
-        self.difference(rhs)
+        Set::new_in(self.bits.difference(rhs.bits))
     }
 }
 
@@ -31,9 +33,7 @@ impl<'b, T: BitsOwned, E: Endian> Sub<&'b Set<T, E>> for Set<T, E> {
 
     #[inline]
     fn sub(self, rhs: &'b Set<T, E>) -> Set<T, E> {
-        let mut set = self;
-        set.difference_assign(rhs);
-        set
+        combined::<T, E, Difference>(self.bits, &rhs.bits)
     }
 }
 
@@ -45,9 +45,7 @@ impl<'a, T: BitsOwned, E: Endian> Sub<Set<T, E>> for &'a Set<T, E> {
 
     #[inline]
     fn sub(self, rhs: Set<T, E>) -> Set<T, E> {
-        let mut set = Set::<T, E>::new_in(self.bits);
-        set.difference_assign(&rhs);
-        set
+        combined::<T, E, Difference>(self.bits, &rhs.bits)
     }
 }
 
@@ -59,9 +57,7 @@ impl<'a, 'b, T: BitsOwned, E: Endian> Sub<&'b Set<T, E>> for &'a Set<T, E> {
 
     #[inline]
     fn sub(self, rhs: &'b Set<T, E>) -> Set<T, E> {
-        let mut set = Set::<T, E>::new_in(self.bits);
-        set.difference_assign(rhs);
-        set
+        combined::<T, E, Difference>(self.bits, &rhs.bits)
     }
 }
 
@@ -73,7 +69,7 @@ impl<T: BitsMut, E: Endian> SubAssign<Set<T, E>> for Set<T, E> {
 
     #[inline]
     fn sub_assign(&mut self, rhs: Set<T, E>) {
-        self.difference_assign(&rhs);
+        combine::<T, E, Difference>(self, &rhs.bits);
     }
 }
 
@@ -83,6 +79,6 @@ impl<'b, T: BitsMut, E: Endian> SubAssign<&'b Set<T, E>> for Set<T, E> {
 
     #[inline]
     fn sub_assign(&mut self, rhs: &'b Set<T, E>) {
-        self.difference_assign(rhs);
+        combine::<T, E, Difference>(self, &rhs.bits);
     }
 }
