@@ -138,7 +138,10 @@ impl<'a, U: BitsOwned> Set<&'a [U]> {
         requires { Fits U.indexable (length bits.now * U.type_capacity) }
         ensures { result.bits.now ≡ bits.now }
     {
-        Set::<&'a [U]>::new_in(bits)
+        Set::<&'a [U]> {
+            bits,
+            order: PhantomData,
+        }
     }
 }
 
@@ -155,7 +158,10 @@ impl<'a, U: BitsOwned> Set<&'a [U], LittleEndian> {
         requires { Fits U.indexable (length bits.now * U.type_capacity) }
         ensures { result.bits.now ≡ bits.now }
     {
-        Set::<&'a [U], LittleEndian>::new_in(bits)
+        Set::<&'a [U], LittleEndian> {
+            bits,
+            order: PhantomData,
+        }
     }
 }
 
@@ -174,7 +180,10 @@ impl<'a, U: BitsOwned> Set<&'a mut [U]> {
         ensures same_slice { result.bits.ghost_name ≡ bits.entry.ghost_name }
         ensures value { result.bits.now ≡ bits.old }
     {
-        Set::<&'a mut [U]>::new_in(bits)
+        Set::<&'a mut [U]> {
+            bits,
+            order: PhantomData,
+        }
     }
 }
 
@@ -193,7 +202,10 @@ impl<'a, U: BitsOwned> Set<&'a mut [U], LittleEndian> {
         ensures same_slice { result.bits.ghost_name ≡ bits.entry.ghost_name }
         ensures value { result.bits.now ≡ bits.old }
     {
-        Set::<&'a mut [U], LittleEndian>::new_in(bits)
+        Set::<&'a mut [U], LittleEndian> {
+            bits,
+            order: PhantomData,
+        }
     }
 }
 
