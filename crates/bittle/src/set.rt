@@ -10,12 +10,11 @@ use bittle_bits::bits_mut::BitsMut;
 use bittle_bits::bits_owned::BitsOwned;
 use bittle_bits::endian::{DefaultEndian, Endian, LittleEndian};
 use bittle_bits::internal::sealed::Sealed;
-use bittle_bits::operation::{Operation, RangeOperation};
+use bittle_bits::one_word::{Operation, RangeOperation};
 use bittle_bits::shape::{OwnedShape, Shape};
 use std::alloc::AllocError;
 use std::marker::PhantomData;
 
-mod by_words;
 mod compare;
 mod debug;
 mod from_word;

@@ -1,6 +1,6 @@
 -- A count in unary.
 use Rattle.std.specs.Prelude.{ℕ, ◌+◌}
-use Rattle.bittle_bits.specs.declared.internal.ghost_count.Chain.{Chain, Start, Next'}
+use Rattle.bittle_bits.specs.declared.internal.buffer.Chain.{Chain, Start, Next'}
 
 -- how many
 abbrev pub chain_length : Chain → ℕ

@@ -12,7 +12,7 @@ use crate::bits_owned::BitsOwned;
 use crate::endian::{DefaultEndian, Endian};
 use crate::internal::row;
 use crate::internal::sealed::Sealed;
-use crate::operation::{Operation, RangeOperation};
+use crate::one_word::{Operation, RangeOperation};
 use crate::shape::{OwnedShape, Shape};
 
 impl<T: OwnedShape, const N: usize> Sealed for [T; N] {}

@@ -10,8 +10,7 @@ ghost use Rattle.bittle_bits.specs.Walk.{AreBelow, IsFresh};
 ghost use Rattle.bittle_bits.specs.Words.{word_of};
 
 use crate::endian::{BigEndian, DefaultEndian, Endian, LittleEndian};
-use crate::internal::kind::{Ones, Zeros};
-use crate::internal::source::Source;
+use crate::internal::source::{Ones, Source, Zeros};
 use crate::internal::{range_count, search};
 use crate::join::JoinOnes;
 use crate::shape::Shape;

@@ -3,10 +3,8 @@
 pub(crate) mod buffer;
 pub(crate) mod cursor;
 pub mod decided;
-pub(crate) mod ghost_count;
-pub mod kind;
 pub mod range_count;
 pub(crate) mod row;
 pub mod sealed;
 pub(crate) mod search;
-pub(crate) mod source;
+pub mod source;

@@ -18,8 +18,6 @@ pub mod laws;
 pub mod number;
 #[doc(hidden)]
 pub mod one_word;
-#[doc(hidden)]
-pub mod operation;
 pub mod shape;
 mod slice;
 pub mod walk;

@@ -1,13 +1,14 @@
-//! A word as a set, for every width at once: the calls on it, and its iterators' steps.
+//! A word as a set, for every width at once: the calls on it, its iterators' steps, and the four
+//! operations on two sets, so that each shape has one body for them all.
 
 ghost use Rattle.std.specs.Iterator.{YieldsFirst, YieldsLast};
-ghost use Rattle.std.specs.Prelude.{◌≡◌, ◌==◌, Bool, ◌*◌, ◌<◌, ◌≤◌, true, IfSome, IsTrue};
+ghost use Rattle.std.specs.Prelude.{◌≡◌, ◌==◌, Bool, ◌*◌, ◌<◌, ◌≤◌, ◌||◌, ◌&&◌, true, false, refl, IfSome, IsTrue};
 ghost use Rattle.std.proofs.Common.{sym};
 ghost use Rattle.bittle_bits.specs.BitPatterns.{bit_set};
 ghost use Rattle.bittle_bits.specs.LawProofs.{none_past_word, one_whole_word, one_word_whole, positive_width, word_capacity};
 ghost use Rattle.bittle_bits.specs.Orders.{read_in};
 ghost use Rattle.bittle_bits.specs.PlainSet.{contains, with_index, with_span_changed, without_index, empty_set, without_members, full_set, span_set, size, ascending, IsLeastMember};
-ghost use Rattle.bittle_bits.specs.SetOperations.{combination_of};
+ghost use Rattle.bittle_bits.specs.SetOperations.{combination_of, first_alone, just_one};
 ghost use Rattle.bittle_bits.specs.Shapes.{Fits};
 ghost use Rattle.bittle_bits.specs.Words.{ReplacesWord, word_of};
 
@@ -15,7 +16,6 @@ use crate::bits::Bits;
 use crate::bits_mut::BitsMut;
 use crate::bits_owned::BitsOwned;
 use crate::endian::{DefaultEndian, Endian};
-use crate::operation::{Operation, RangeOperation};
 use crate::shape::{OwnedShape, Shape};
 use crate::word::Word;
 
@@ -350,4 +350,79 @@ pub fn set_leaf_word<T: Word>(word: &mut T, k: u32, by: T)
 {
     let _ = k;
     *word = by;
+}
+
+/// An operation on two sets.
+pub trait Operation {
+    // Whether a number is a member afterwards, by whether it is one of each set.
+    ghost decide: { Bool → Bool → Bool };
+
+    /// Combines the bits of two words by the operation.
+    fn on_words<T: Word>(word: T, other: T) -> T
+        ensures { bit_set T.width (T.pattern result)
+            ≡ combination_of decide
+            (bit_set T.width (T.pattern word)) (bit_set T.width (T.pattern other)) };
+}
+
+/// An operation that changes no bit where the other set has none, so that with a range of indexes
+/// it changes these alone.
+pub trait RangeOperation: Operation {
+    // A number that is none of the other set's stays as it was.
+    ghost keeps_others: { (b : Bool) → Self.decide b false ≡ b };
+}
+
+pub enum Union {}
+
+pub enum Conjunction {}
+
+pub enum Difference {}
+
+pub enum SymmetricDifference {}
+
+impl Operation for Union {
+    ghost decide = { ◌||◌ };
+
+    #[inline]
+    fn on_words<T: Word>(word: T, other: T) -> T {
+        word.or(other)
+    }
+}
+
+impl Operation for Conjunction {
+    ghost decide = { ◌&&◌ };
+
+    #[inline]
+    fn on_words<T: Word>(word: T, other: T) -> T {
+        word.and(other)
+    }
+}
+
+impl Operation for Difference {
+    ghost decide = { first_alone };
+
+    #[inline]
+    fn on_words<T: Word>(word: T, other: T) -> T {
+        word.and(other.not())
+    }
+}
+
+impl Operation for SymmetricDifference {
+    ghost decide = { just_one };
+
+    #[inline]
+    fn on_words<T: Word>(word: T, other: T) -> T {
+        word.xor(other)
+    }
+}
+
+impl RangeOperation for Union {
+    ghost keeps_others = { elim [ true ↦ refl | false ↦ refl ] };
+}
+
+impl RangeOperation for Difference {
+    ghost keeps_others = { elim [ true ↦ refl | false ↦ refl ] };
+}
+
+impl RangeOperation for SymmetricDifference {
+    ghost keeps_others = { elim [ true ↦ refl | false ↦ refl ] };
 }

@@ -3,20 +3,19 @@
 //! An iterator fetches each word at most once, and searches it once for each item in it and once
 //! more when the word is done.
 
-ghost use Rattle.std.specs.Prelude.{◌≡◌, ◌/◌, ⊤, None, IfSome};
+ghost use Rattle.std.specs.Prelude.{◌≡◌, ◌/◌, ⊤, Option, ℕ, None, IfSome};
 ghost use Rattle.std.specs.Iterator.{item_count, UpTo};
 ghost use Rattle.std.specs.Iterator.SizeHint.{IsWithinCount};
 ghost use Rattle.bittle_bits.specs.PlainSet.{ascending};
 ghost use Rattle.bittle_bits.specs.Values.{set_in, ShapeFits};
-ghost use Rattle.bittle_bits.specs.Walk.{ones_or_zeros, AreBelow, IsFresh, ResumesAs, StepsFront, StepsBack};
+ghost use Rattle.bittle_bits.specs.Walk.{Walk, ones_or_zeros, AreBelow, IsFresh, ResumesAs, StepsFront, StepsBack};
 
 use crate::bits::Bits;
 use crate::bits_owned::BitsOwned;
 use crate::endian::Endian;
+use crate::internal::buffer::Count;
 use crate::internal::cursor::{Cursor, begin, duplicate, step_back, step_front};
-use crate::internal::ghost_count::{Count, Counted};
-use crate::internal::kind::{Kind, Ones, Zeros};
-use crate::internal::source::{OwnedSource, Source};
+use crate::internal::source::{Kind, Ones, OwnedSource, Source, Zeros};
 use crate::shape::Shape;
 use std::alloc::AllocError;
 use std::marker::{Model, PhantomData};
@@ -51,6 +50,25 @@ pub type IntoIterOnes<B, E> = IntoIter<B, E, Ones>;
 /// 0xF9u8.into_iter_zeros().rev();                     // yields 2, 1
 /// ```
 pub type IntoIterZeros<B, E> = IntoIter<B, E, Zeros>;
+
+/// An iterator that counts its scans.
+pub trait Counted: DoubleEndedIterator<Item = u32> {
+    // What contracts see of it.
+    ghost walk: { Self → Walk };
+
+    /// Returns how many scans it has made.
+    fn scans(&self) -> &Count
+        ensures { result.now ≡ (walk self.now).scans };
+
+    // It can be stepped from either end at any time.
+    ghost can_step: { (s : Self) → Self.can_next s × Self.can_next_back s };
+
+    ghost steps_front: { (before : Self) (r : Option ℕ) (after : Self)
+        → Self.next_gives before r after → StepsFront (walk before) r (walk after) };
+
+    ghost steps_back: { (before : Self) (r : Option ℕ) (after : Self)
+        → Self.next_back_gives before r after → StepsBack (walk before) r (walk after) };
+}
 
 /// Iterates over a set that it borrows, for the bits that `K` names.
 ///

@@ -10,7 +10,7 @@ ghost use Rattle.bittle.specs.Walk.{AreBelow, ListsInOrder, ListsInReverse};
 
 use crate::both_words::{Place, begin, step_back, step_front};
 use bittle::{Bits, Endian, Shape};
-use bittle_bits::operation::{Conjunction, Difference, Operation, SymmetricDifference, Union};
+use bittle_bits::one_word::{Conjunction, Difference, Operation, SymmetricDifference, Union};
 use bittle_bits::word::Word;
 use std::alloc::AllocError;
 use std::marker::{Model, PhantomData};

@@ -9,7 +9,7 @@ ghost use Rattle.bittle.specs.Values.{set_in, ShapeFits};
 use crate::both_words::word_of_both;
 use crate::relations::are_alike;
 use bittle::{Bits, Endian};
-use bittle_bits::operation::Conjunction;
+use bittle_bits::one_word::Conjunction;
 use bittle_bits::word::Word;
 
 /// Counts the indexes that are set in both, by words.

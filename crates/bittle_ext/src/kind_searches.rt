@@ -6,7 +6,7 @@ ghost use Rattle.bittle.specs.Values.{set_in, ShapeFits};
 ghost use Rattle.bittle.specs.Walk.{ones_or_zeros};
 
 use bittle::{Bits, Endian};
-use bittle_bits::internal::kind::Kind;
+use bittle_bits::internal::source::Kind;
 
 /// Returns the least index of a bit of the kind in `from..to`, in the order `E`, or `None`.
 #[inline]

@@ -7,7 +7,7 @@ ghost use Rattle.bittle.specs.Values.{set_in, ShapeFits};
 
 use bittle::{Bits, Endian};
 use bittle_bits::internal::decided::first_decided;
-use bittle_bits::operation::{Conjunction, Difference};
+use bittle_bits::one_word::{Conjunction, Difference};
 use bittle_bits::word::Word;
 
 /// Returns whether two sets are read by words of one width in one order.

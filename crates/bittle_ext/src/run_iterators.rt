@@ -9,7 +9,7 @@ ghost use Rattle.bittle.specs.Walk.{ones_or_zeros};
 
 use crate::kind_searches::{first_of_kind, first_of_other, last_of_kind, last_of_other};
 use bittle::{Bits, Endian, Shape};
-use bittle_bits::internal::kind::{Kind, Ones, Zeros};
+use bittle_bits::internal::source::{Kind, Ones, Zeros};
 use std::alloc::AllocError;
 use std::marker::{Model, PhantomData};
 use std::ops::Range;

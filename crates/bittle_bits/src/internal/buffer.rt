@@ -8,12 +8,56 @@ ghost use Rattle.bittle_bits.specs.Walk.{ones_or_zeros};
 
 use crate::bits::Bits;
 use crate::endian::Endian;
-use crate::internal::ghost_count::Count;
-use crate::internal::kind::Kind;
-use crate::internal::source::Source;
+use crate::internal::source::{Kind, Source};
 use crate::one_word;
 use crate::word::Word;
 use std::marker::{Model, PhantomData};
+use std::mem::replace;
+use std::snapshot::Snapshot;
+
+// A number in unary, of which snapshots alone are kept.
+#[derive(Drop)]
+enum Chain {
+    Start,
+    Next(Snapshot<Chain>),
+}
+
+/// Counts in contracts alone. It takes no bytes.
+#[derive(Drop)]
+pub struct Count {
+    chain: Snapshot<Chain>,
+}
+
+impl Model for Count {
+    ghost use Rattle.std.specs.Prelude.{ℕ};
+
+    ghost Value = { ℕ };
+
+    ghost use Rattle.bittle_bits.specs.Count.{chain_length};
+
+    ghost view = { λ c. chain_length c.chain.value };
+}
+
+impl Count {
+    /// Returns a count of zero.
+    pub fn new() -> Count
+        ensures { result ≡ 0 }
+    {
+        Count {
+            chain: Snapshot::of(&Chain::Start),
+        }
+    }
+
+    /// Counts one more.
+    pub fn raise(&mut self)
+        ensures { self.new ≡ self.old + 1 }
+    {
+        let Count { chain } = replace(self, Count::new());
+        self.chain = Snapshot::of(&Chain::Next(chain));
+    }
+}
+
+const _: () = prove!(size_of::<Count>() == 0);
 
 // A word of a set, and the index in the set of its first bit. Where none is loaded, or it is
 // exhausted, the word has no bit set, so that a step tests the word alone; the flag serves the

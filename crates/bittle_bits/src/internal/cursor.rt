@@ -9,10 +9,8 @@ ghost use Rattle.bittle_bits.specs.Walk.{ones_or_zeros, AreBelow, IsFresh, Resum
 
 use crate::bits::Bits;
 use crate::endian::Endian;
-use crate::internal::buffer::Buffers;
-use crate::internal::ghost_count::Count;
-use crate::internal::kind::Kind;
-use crate::internal::source::Source;
+use crate::internal::buffer::{Buffers, Count};
+use crate::internal::source::{Kind, Source};
 use crate::shape::Shape;
 
 /// The buffered words of an iterator, and the range of words between them that are not fetched yet.

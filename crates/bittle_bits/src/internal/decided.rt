@@ -10,7 +10,7 @@ ghost use Rattle.bittle_bits.specs.Words.{word_of};
 
 use crate::bits::Bits;
 use crate::endian::Endian;
-use crate::operation::Operation;
+use crate::one_word::Operation;
 use crate::word::Word;
 
 /// Returns word `k` of what an operation makes of two sets.

@@ -11,8 +11,8 @@ ghost use Rattle.bittle_bits.specs.Words.{ReplacesWord, word_of};
 
 use crate::bits_owned::BitsOwned;
 use crate::endian::Endian;
-use crate::internal::kind::{Kind, Ones, Zeros};
-use crate::operation::{Operation, RangeOperation};
+use crate::internal::source::{Kind, Ones, Zeros};
+use crate::one_word::{Operation, RangeOperation};
 use crate::word::Word;
 
 /// Returns the capacity of this many elements, or `u32::MAX` where they do not fit.

@@ -7,7 +7,7 @@ ghost use Rattle.bittle_bits.specs.Walk.{ones_or_zeros};
 
 use crate::bits::Bits;
 use crate::endian::Endian;
-use crate::internal::kind::{Kind, word_of_kind};
+use crate::internal::source::{Kind, word_of_kind};
 use crate::word::Word;
 
 /// Returns the first index from `from` on and below `to` whose bit is of the kind, or `None`.

@@ -2,7 +2,7 @@ use Rattle.std.proofs.Common.{ap, ◌∙◌}
 use Rattle.bittle_bits.specs.Walk.{ones_or_zeros}
 use Rattle.bittle_bits.proofs.OnesOrZeros.{ones_or_zeros-word_of}
 use Rattle.bittle_bits.proofs.Words.{word_ends}
-use Rattle.bittle_bits.proofs.internal.kind.word_of_kind.Goals as goal
+use Rattle.bittle_bits.proofs.internal.source.word_of_kind.Goals as goal
 
 pub returns : goal.returns
 returns g c =
