@@ -1,16 +1,19 @@
-//! Equality and the order of two sets.
+//! Equality and the order of two sets. Sets of words of one width that are read in one order are
+//! compared by words: their first difference decides.
 
 ghost use Rattle.std.specs.Cmp.{partial_equiv_from_equiv, partial_order_from_agreeing_total, on_equiv, on_total};
 ghost use Rattle.std.specs.Cmp.Lexicographic.{nat_list_eq_equiv, nat_list_cmp_total, texts_ties};
 ghost use Rattle.std.specs.Ordering.{MatchOrdering, on, as_partial_cmp};
-ghost use Rattle.std.specs.Prelude.{◌≡◌, ◌↔◌, IsTrue, refl};
+ghost use Rattle.std.specs.Prelude.{◌≡◌, ◌↔◌, IsTrue, MatchBool, MatchOption, refl};
 ghost use Rattle.bittle_bits.specs.PlainSet.{ascending};
 ghost use Rattle.bittle_bits.specs.Values.{set_in, ShapeFits};
-ghost use Rattle.bittle.specs.Comparison.{list_cmp, list_eq, AreSame, Precedes};
+ghost use Rattle.bittle.specs.Comparison.{list_cmp, list_eq, AreSame, HasPast, HasNonePast, IsFirstDifference, Precedes};
 
-use super::{Set, by_words};
+use super::Set;
 use bittle_bits::bits::Bits;
 use bittle_bits::endian::Endian;
+use bittle_bits::internal::decided::first_decided;
+use bittle_bits::one_word::{SymmetricDifference, test_bit};
 use bittle_bits::word::Word;
 use std::cmp::Ordering;
 
@@ -23,20 +26,120 @@ fn are_alike<A: Bits, B: Bits, E: Endian, F: Endian>() -> bool
         && E::is_mirrored() == F::is_mirrored()
 }
 
+// Returns the least index that is in just one of two sets, or `None` where they have the same
+// members.
+fn first_difference<A: Bits, B: Bits, E: Endian>(left: &A, right: &B) -> Option<u32>
+    requires width { A.width ≡ B.width }
+    requires left_fits { ShapeFits A.Shape left.now }
+    requires right_fits { ShapeFits B.Shape right.now }
+    ensures { let ours = set_in A.Shape E.Endian left.now in
+        let theirs = set_in B.Shape E.Endian right.now in
+        MatchOption result (AreSame ours theirs) (λ d. IsFirstDifference ours theirs d) }
+{
+    let difference = first_decided::<A, B, E, SymmetricDifference>(left, right);
+    if difference.is_some() {
+        return difference;
+    }
+    let capacity = left.bits_capacity();
+    let other = right.bits_capacity();
+    // Past the common words just the longer one can have members.
+    if capacity < other {
+        right.first_one_in::<E>(capacity, other)
+    } else if other < capacity {
+        left.first_one_in::<E>(other, capacity)
+    } else {
+        None
+    }
+}
+
+// Returns whether an index is a member. It does not wrap.
+#[inline]
+fn has<B: Bits, E: Endian>(bits: &B, index: u32) -> bool
+    requires { ShapeFits B.Shape bits.now }
+    ensures { result ≡ (set_in B.Shape E.Endian bits.now).has index }
+{
+    if bits.bits_capacity() <= index {
+        return false;
+    }
+    let width = <B::LeafWord as Word>::width();
+    // Of a slice a test of an index that may wrap divides by its length, which the word does not.
+    test_bit::<B::LeafWord, E>(bits.nth_leaf_word(index / width), index % width)
+}
+
+// Returns whether a member lies past an index.
+#[inline]
+fn has_past<B: Bits, E: Endian>(bits: &B, index: u32) -> bool
+    requires { ShapeFits B.Shape bits.now }
+    ensures { MatchBool result (HasPast (set_in B.Shape E.Endian bits.now) index)
+        (HasNonePast (set_in B.Shape E.Endian bits.now) index) }
+{
+    let to = bits.bits_capacity();
+    index < to && bits.first_one_in::<E>(index + 1, to).is_some()
+}
+
+// Compares two sets by their words.
+fn compare_words<A: Bits, B: Bits, E: Endian>(left: &A, right: &B) -> Ordering
+    requires width { A.width ≡ B.width }
+    requires left_fits { ShapeFits A.Shape left.now }
+    requires right_fits { ShapeFits B.Shape right.now }
+    ensures { let ours = set_in A.Shape E.Endian left.now in
+        let theirs = set_in B.Shape E.Endian right.now in
+        MatchOrdering result (Precedes ours theirs) (AreSame ours theirs) (Precedes theirs ours) }
+{
+    match first_difference::<A, B, E>(left, right) {
+        None => Ordering::Equal,
+        Some(index) => {
+            // The side that has the index comes first exactly where the other side goes on past it.
+            if has::<A, E>(left, index) {
+                if has_past::<B, E>(right, index) {
+                    Ordering::Less
+                } else {
+                    Ordering::Greater
+                }
+            } else if has_past::<A, E>(left, index) {
+                Ordering::Greater
+            } else {
+                Ordering::Less
+            }
+        }
+    }
+}
+
 // The order of two sets, each read in its own order. Words decide where they are alike, and else
 // both walk step by step, up to their first difference.
 #[inline]
 fn compare<A: Bits, B: Bits, E: Endian, F: Endian>(left: &A, right: &B) -> Ordering
     requires left_fits { ShapeFits A.Shape left.now }
     requires right_fits { ShapeFits B.Shape right.now }
-    ensures { result
+    ensures value { result
         ≡ list_cmp (ascending (set_in A.Shape E.Endian left.now))
         (ascending (set_in B.Shape F.Endian right.now)) }
+    ensures decided { let ours = set_in A.Shape E.Endian left.now in
+        let theirs = set_in B.Shape F.Endian right.now in
+        MatchOrdering result (Precedes ours theirs) (AreSame ours theirs) (Precedes theirs ours) }
 {
     if are_alike::<A, B, E, F>() {
-        by_words::compare::<A, B, E>(left, right)
+        compare_words::<A, B, E>(left, right)
     } else {
         left.iter_ones_in::<E>().cmp(right.iter_ones_in::<F>())
+    }
+}
+
+// Whether two sets, each read in its own order, have the same bits set.
+#[inline]
+fn are_equal<A: Bits, B: Bits, E: Endian, F: Endian>(left: &A, right: &B) -> bool
+    requires left_fits { ShapeFits A.Shape left.now }
+    requires right_fits { ShapeFits B.Shape right.now }
+    ensures value { result
+        ≡ list_eq (ascending (set_in A.Shape E.Endian left.now))
+        (ascending (set_in B.Shape F.Endian right.now)) }
+    ensures decided { IsTrue result
+        ↔ AreSame (set_in A.Shape E.Endian left.now) (set_in B.Shape F.Endian right.now) }
+{
+    if are_alike::<A, B, E, F>() {
+        first_difference::<A, B, E>(left, right).is_none()
+    } else {
+        compare::<A, B, E, F>(left, right).is_eq()
     }
 }
 
@@ -79,11 +182,7 @@ impl<T: Bits, E: Endian> Set<T, E> {
             ↔ AreSame (set_in T.Shape E.Endian self.now.bits)
             (set_in U.Shape U.Order.Endian other.now) }
     {
-        if are_alike::<T, U, E, U::Order>() {
-            by_words::first_difference::<T, U, E>(&self.bits, other).is_none()
-        } else {
-            self.cmp_bits(other).is_eq()
-        }
+        are_equal::<T, U, E, U::Order>(&self.bits, other)
     }
 }
 
@@ -101,7 +200,7 @@ impl<T: Bits, E: Endian> PartialEq for Set<T, E> {
             ↔ AreSame (set_in T.Shape E.Endian self.now.bits)
             (set_in T.Shape E.Endian other.now.bits) }
     {
-        self.eq_bits(other)
+        are_equal::<T, T, E, E>(&self.bits, &other.bits)
     }
 }
 
@@ -144,6 +243,6 @@ impl<T: Bits, E: Endian> Ord for Set<T, E> {
             MatchOrdering result (Precedes ours theirs) (AreSame ours theirs)
             (Precedes theirs ours) }
     {
-        self.cmp_bits(other)
+        compare::<T, T, E, E>(&self.bits, &other.bits)
     }
 }

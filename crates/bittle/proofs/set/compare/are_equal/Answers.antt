@@ -7,44 +7,44 @@ use Rattle.bittle_bits.proofs.PlainSets.{members-past}
 use Rattle.bittle.specs.Comparison.{AreSame, IsFirstDifference}
 use Rattle.bittle.proofs.FirstDifference.{none_is, none_equal, none_decides}
 use Rattle.bittle.proofs.ListComparison.{equal_iff_same}
-use Rattle.bittle.proofs.set.Set.eq_bits.Goals as goal
+use Rattle.bittle.proofs.set.compare.are_equal.Goals as goal
 
 pub returns-then-are_alike-clause-value : goal.returns-then-are_alike-clause-value
 returns-then-are_alike-clause-value g c =
-    let x = c.args.self.now.bits in
-    let y = c.args.other.now in
-    let t = g.met.T.Bits in
-    let u = g.met.U.Bits in
-    let ours = set_in g.T.Shape g.E.Endian x in
-    let theirs = set_in g.U.Shape g.U.Order.Endian y in
+    let x = c.args.left.now in
+    let y = c.args.right.now in
+    let t = g.met.A.Bits in
+    let u = g.met.B.Bits in
+    let ours = set_in g.A.Shape g.E.Endian x in
+    let theirs = set_in g.B.Shape g.F.Endian y in
     let alike = c.are_alike.ensures c.if-are_alike.true in
     let difference = subst (λ m. MatchOption c.first_difference.result
-    (AreSame ours (set_mirrored g.U.Shape m y))
-    (λ d. IsFirstDifference ours (set_mirrored g.U.Shape m y) d)) alike.1
+    (AreSame ours (set_mirrored g.B.Shape m y))
+    (λ d. IsFirstDifference ours (set_mirrored g.B.Shape m y) d)) alike.1
     c.first_difference.ensures in
     none_is c.first_difference.result _ c.is_none.ensures
     ∙ none_equal ours theirs (members-past g.E.Endian.mirrored _ _ t.width_positive
     (t.whole_words x) (t.none_past x))
-    (members-past g.U.Order.Endian.mirrored _ _ u.width_positive (u.whole_words y)
+    (members-past g.F.Endian.mirrored _ _ u.width_positive (u.whole_words y)
     (u.none_past y)) c.first_difference.result difference
     ∙ sym (texts_ties (ascending ours) (ascending theirs))
 
 pub returns-else-are_alike-clause-value : goal.returns-else-are_alike-clause-value
 returns-else-are_alike-clause-value g c =
-    let ours = set_in g.T.Shape g.E.Endian c.args.self.now.bits in
-    let theirs = set_in g.U.Shape g.U.Order.Endian c.args.other.now
-    in c.is_eq.ensures ∙ ap is_eq c.cmp_bits.ensures.value
+    let ours = set_in g.A.Shape g.E.Endian c.args.left.now in
+    let theirs = set_in g.B.Shape g.F.Endian c.args.right.now
+    in c.is_eq.ensures ∙ ap is_eq c.compare.ensures.value
     ∙ sym (texts_ties (ascending ours) (ascending theirs))
 
 pub returns-then-are_alike-clause-decided : goal.returns-then-are_alike-clause-decided
 returns-then-are_alike-clause-decided g c =
-    let y = c.args.other.now in
-    let ours = set_in g.T.Shape g.E.Endian c.args.self.now.bits in
-    let theirs = set_in g.U.Shape g.U.Order.Endian y in
+    let y = c.args.right.now in
+    let ours = set_in g.A.Shape g.E.Endian c.args.left.now in
+    let theirs = set_in g.B.Shape g.F.Endian y in
     let alike = c.are_alike.ensures c.if-are_alike.true in
     let difference = subst (λ m. MatchOption c.first_difference.result
-    (AreSame ours (set_mirrored g.U.Shape m y))
-    (λ d. IsFirstDifference ours (set_mirrored g.U.Shape m y) d)) alike.1
+    (AreSame ours (set_mirrored g.B.Shape m y))
+    (λ d. IsFirstDifference ours (set_mirrored g.B.Shape m y) d)) alike.1
     c.first_difference.ensures in
     subst (λ r. IsTrue r ↔ AreSame ours theirs)
     (sym (none_is c.first_difference.result _ c.is_none.ensures))
@@ -52,7 +52,7 @@ returns-then-are_alike-clause-decided g c =
 
 pub returns-else-are_alike-clause-decided : goal.returns-else-are_alike-clause-decided
 returns-else-are_alike-clause-decided g c =
-    let ours = set_in g.T.Shape g.E.Endian c.args.self.now.bits in
-    let theirs = set_in g.U.Shape g.U.Order.Endian c.args.other.now
+    let ours = set_in g.A.Shape g.E.Endian c.args.left.now in
+    let theirs = set_in g.B.Shape g.F.Endian c.args.right.now
     in subst (λ x. IsTrue x ↔ AreSame ours theirs) (sym c.is_eq.ensures)
-    (equal_iff_same ours theirs c.cmp_bits.result c.cmp_bits.ensures.decided)
+    (equal_iff_same ours theirs c.compare.result c.compare.ensures.decided)

@@ -1,6 +1,6 @@
 use Rattle.std.proofs.Common.{sym, ◌∙◌}
 use Rattle.bittle.proofs.FirstDifference.{ours_first, ours_last, theirs_first, theirs_last}
-use Rattle.bittle.proofs.set.by_words.compare.Goals as goal
+use Rattle.bittle.proofs.set.compare.compare_words.Goals as goal
 use Rattle.bittle_bits.specs.Values.{set_in}
 
 pub returns-in-None : goal.returns-in-None

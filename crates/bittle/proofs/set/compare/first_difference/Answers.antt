@@ -2,7 +2,7 @@ use Rattle.std.proofs.Common.{sym, ◌∙◌, arith}
 use Rattle.bittle_bits.proofs.PlainSets.{members-past}
 use Rattle.bittle_bits.specs.Values.{set_in}
 use Rattle.bittle.proofs.FirstDifference.{some_among, none_among, first_ends, second_ends, both_end}
-use Rattle.bittle.proofs.set.by_words.first_difference.Goals as goal
+use Rattle.bittle.proofs.set.compare.first_difference.Goals as goal
 
 pub returns-then-is_some : goal.returns-then-is_some
 returns-then-is_some g c =

@@ -6,7 +6,7 @@ use Rattle.bittle_bits.proofs.Words.{digit_at}
 use Rattle.bittle_bits.specs.BitPatterns.{bit_set}
 use Rattle.bittle_bits.specs.Orders.{read_in}
 use Rattle.bittle_bits.specs.Values.{set_in}
-use Rattle.bittle.proofs.set.by_words.has.Goals as goal
+use Rattle.bittle.proofs.set.compare.has.Goals as goal
 
 pub returns-then-bits_capacity-index : goal.returns-then-bits_capacity-index
 returns-then-bits_capacity-index g c =

@@ -2,7 +2,7 @@ use Rattle.std.proofs.Common.{arith}
 use Rattle.std.proofs.lemmas.Bool.{le-ltb}
 use Rattle.bittle_bits.proofs.PlainSets.{members-past}
 use Rattle.bittle.proofs.FirstDifference.{past_found}
-use Rattle.bittle.proofs.set.by_words.has_past.Goals as goal
+use Rattle.bittle.proofs.set.compare.has_past.Goals as goal
 use Rattle.bittle_bits.specs.Values.{set_in}
 
 pub returns-then-index-to : goal.returns-then-index-to
