@@ -1,14 +1,15 @@
 //! Sets that remember the order in which their bits are indexed.
 
-ghost use Rattle.std.specs.Prelude.{◌≡◌, ◌*◌, ◌<◌, length, IsTrue};
+ghost use Rattle.std.specs.Prelude.{◌≡◌, ◌*◌, ◌<◌, false, length, IsTrue};
 ghost use Rattle.bittle_bits.specs.Shapes.{Fits};
 ghost use Rattle.bittle_bits.specs.Values.{ShapeFits};
 ghost use Rattle.bittle.specs.EqualityProof.{equal_sets};
 
+use crate::DefaultEndian;
 use bittle_bits::bits::Bits;
 use bittle_bits::bits_mut::BitsMut;
 use bittle_bits::bits_owned::BitsOwned;
-use bittle_bits::endian::{DefaultEndian, Endian, LittleEndian};
+use bittle_bits::endian::{Endian, LittleEndian};
 use bittle_bits::internal::sealed::Sealed;
 use bittle_bits::one_word::{Operation, RangeOperation};
 use bittle_bits::shape::{OwnedShape, Shape};
@@ -21,8 +22,6 @@ mod from_word;
 mod hash;
 mod iteration;
 mod operators;
-#[doc(hidden)]
-pub mod set_laws;
 
 /// A set that remembers the order in which its bits are indexed.
 ///
@@ -54,6 +53,12 @@ pub struct Set<T: Shape, E: Endian = DefaultEndian> {
     order: PhantomData<E>,
     pub ghost fits: { ShapeFits T.Shape bits },
 }
+
+/// States that the order of a set that names none is the big-endian one.
+#[doc(hidden)]
+pub fn default_order_is_big_endian()
+    ensures { ⟦<DefaultEndian as Endian>⟧.mirrored ≡ false }
+{}
 
 impl<T: Bits> Set<T> {
     /// Wraps `bits`, to be read in [`DefaultEndian`] order.

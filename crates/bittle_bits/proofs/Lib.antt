@@ -28,7 +28,5 @@ pub mod RowSizes
 pub mod RowWords
 pub mod SearchBounds
 pub mod Searches
-pub mod AlgebraLaws
 pub mod RowSpans
-pub mod CountLaws
 pub mod Steps

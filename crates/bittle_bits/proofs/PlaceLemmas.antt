@@ -86,7 +86,3 @@ place_in_word m w i h =
 pub mirror_in_word : (w i : ℕ) → i < w → mirror w i ≡ w - 1 - i
 unfolding mirror
 mirror_in_word w i h = let e = mod-eq_of_lt h in omega arith
-
--- indexes that have one place are the same
-pub place_distinct : (m : Bool) (w i j : ℕ) → 0 < w → place m w i ≡ place m w j → i ≡ j
-place_distinct m w i j h e = sym (place-place m w i h) ∙ ap (place m w) e ∙ place-place m w j h

@@ -1,9 +1,7 @@
 -- Plain sets, and the members in an order.
 use Rattle.std.proofs.Common.{◌≡◌, ℕ, ◌*◌, ◌%◌, ◌<◌, ◌≤◌, Bool, false, not, ◌&&◌, ◌||◌, ◌==◌, nat_lt, refl, sym, ap, ◌∙◌, arith}
 use Rattle.std.proofs.Math.Path.{fun_ext}
-use Rattle.std.proofs.Math.Nat.{mod-eq_of_lt}
 use Rattle.std.proofs.lemmas.Bool.{lt-ltb}
-use Rattle.std.proofs.lemmas.Nat.{mod_below}
 use Rattle.bittle_bits.specs.Orders.{place, read_in}
 use Rattle.bittle_bits.specs.PlainSet.{PlainSet, contains, has_with, with_index, has_without, without_index, full_set, lacks, complement}
 use Rattle.bittle_bits.proofs.PlaceLemmas.{place_past, place_inside}
@@ -36,14 +34,6 @@ module _ (s : PlainSet) (c i : ℕ) (of : s.capacity ≡ c) (some : 0 < c) where
   -- the set without an index has its members but the index modulo the capacity
   pub without_in : without_index s i ≡ plain_set c (λ k. not (k == i % c) && s.has k)
   without_in = λ j. plain_set (of j) (has_without-in j)
-
--- an index and its remainder by the capacity are tested alike
-pub contains-wraps : (s : PlainSet) (i : ℕ) → 0 < s.capacity →
-    contains s i ≡ contains s (i % s.capacity)
-contains-wraps s i some =
-    contains_in s s.capacity i refl some
-    ∙ ap s.has (sym (mod-eq_of_lt (mod_below i s.capacity some)))
-    ∙ sym (contains_in s s.capacity (i % s.capacity) refl some)
 
 -- no index is below a capacity of zero
 module _ (s : PlainSet) (i : ℕ) (none : s.capacity ≡ 0) where

@@ -7,13 +7,10 @@ pub mod Walk
 pub mod Words
 pub mod Buffers
 pub mod Join
-pub mod OrderLaws
 pub mod RowLawProofs
 pub mod Rows
 pub mod Searches
-pub mod AlgebraLaws
 pub mod Shapes
-pub mod CountLaws
 pub mod Cursor
 pub mod Count
 pub mod Values

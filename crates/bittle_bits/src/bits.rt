@@ -445,7 +445,7 @@ pub trait Bits: Drop + Shape {
         I::Item: Drop,
         requires { ShapeFits Self.Shape self.now }
         ensures members { result.mask.remaining
-            ≡ ascending (set_in Self.Shape ⟦<DefaultEndian as Endian>⟧ self.now) }
+            ≡ ascending (set_in Self.Shape ⟦<BigEndian as Endian>⟧ self.now) }
         ensures below { AreBelow (Self.big self.now).capacity result.mask.remaining }
         ensures iter { I.into_iter_gives iter result.iter }
         ensures none_taken { result.taken ≡ 0 }

@@ -13,8 +13,6 @@ mod integers;
 #[doc(hidden)]
 pub mod internal;
 pub mod join;
-#[doc(hidden)]
-pub mod laws;
 pub mod number;
 #[doc(hidden)]
 pub mod one_word;

@@ -1,6 +1,0 @@
-use Rattle.std.specs.Cmp.Lexicographic.{nat_list_eq_equiv}
-use Rattle.bittle_bits.specs.PlainSet.{ascending}
-use Rattle.bittle.proofs.set.set_laws.equality_is_symmetric.Goals as goal
-
-pub returns : goal.returns
-returns c = λ s t. nat_list_eq_equiv.symm (ascending t) (ascending s)

@@ -1,6 +1,0 @@
-use Rattle.std.specs.Cmp.Lexicographic.{nat_list_cmp_total}
-use Rattle.bittle_bits.specs.PlainSet.{ascending}
-use Rattle.bittle.proofs.set.set_laws.order_reverses.Goals as goal
-
-pub returns : goal.returns
-returns c = λ s t. nat_list_cmp_total.antisymm (ascending t) (ascending s)

@@ -1,0 +1,2 @@
+pub mod AlgebraLaws
+pub mod CountLaws

@@ -1,0 +1,4 @@
+pub mod AlgebraLaws
+pub mod ComparisonLaws
+pub mod CountLaws
+pub mod OrderLaws

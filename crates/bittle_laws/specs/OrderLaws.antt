@@ -1,0 +1,38 @@
+-- Laws of the two orders, for words of every width.
+use Rattle.std.specs.Prelude.{◌≡◌, ℕ, ◌*◌, ◌%◌, ◌<◌, Bool}
+use Rattle.bittle.specs.Orders.{mirror, place, read_in}
+use Rattle.bittle.specs.PlainSet.{PlainSet, contains}
+
+-- each index of a word has a place in the word
+abbrev pub PlacesAreInTheWord : Bool → Type 0
+PlacesAreInTheWord mirrored = (w i : ℕ) → i < w → place mirrored w i < w
+
+-- no two indexes have the same place
+abbrev pub PlacesAreDistinct : Bool → Type 0
+PlacesAreDistinct mirrored = (w i j : ℕ) → 0 < w → place mirrored w i ≡ place mirrored w j → i ≡ j
+
+-- the place of an index in one order is that of the mirrored index in the other
+abbrev pub PlacesMirror : Bool → Bool → Type 0
+PlacesMirror one other = (w i : ℕ) → 0 < w → place one w i ≡ place other w (mirror w i)
+
+-- an index is a member in one order exactly if the mirrored index is one in the other
+abbrev pub MembersMirror : Bool → Bool → ℕ → PlainSet → Type 0
+MembersMirror one other w s = (i : ℕ) → (read_in one w s).has i
+    ≡ (read_in other w s).has (mirror w i)
+
+-- mirroring an index twice gives it back
+abbrev pub MirroringTwiceIsNothing : Type 0
+MirroringTwiceIsNothing = (w i : ℕ) → 0 < w → mirror w (mirror w i) ≡ i
+
+-- mirroring takes the indexes below a capacity of whole words to indexes below it
+abbrev pub MirroringStaysBelow : Type 0
+MirroringStaysBelow = (w words i : ℕ) → 0 < w → i < words * w → mirror w i < words * w
+
+-- each index below a capacity of whole words is the mirrored index of one below it
+abbrev pub MirroringReachesAll : Type 0
+MirroringReachesAll = (w words i : ℕ) → 0 < w → i < words * w →
+    (j : ℕ) × (j < words * w) × (mirror w j ≡ i)
+
+-- testing an index is testing it modulo the capacity
+abbrev pub TestingWraps : PlainSet → Type 0
+TestingWraps s = (i : ℕ) → 0 < s.capacity → contains s i ≡ contains s (i % s.capacity)
