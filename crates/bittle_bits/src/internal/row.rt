@@ -25,7 +25,13 @@ pub fn bits_capacity<T: BitsOwned>(len: usize) -> u32
     if each == u32::MAX {
         return u32::MAX;
     }
-    len.saturating_mul(each as usize).min(u32::MAX as usize) as u32
+    if each == 0 {
+        return 0;
+    }
+    if len > (u32::MAX / each) as usize {
+        return u32::MAX;
+    }
+    len as u32 * each
 }
 
 /// Returns the element that an index goes to, and the index there, or `None` with capacity 0.
