@@ -27,7 +27,7 @@ pub fn first_in<B: Bits, E: Endian, K: Kind>(bits: &B, from: u32, to: u32) -> Op
     let mut word = word_of_kind::<B, K>(bits, k).and(E::from_index::<B::LeafWord>(from % width));
     loop {
         let index = E::zeros::<B::LeafWord>(word);
-        if index < width {
+        if index != width {
             let found = k * width + index;
             return if found < to { Some(found) } else { None };
         }
@@ -60,7 +60,7 @@ pub fn last_in<B: Bits, E: Endian, K: Kind>(bits: &B, from: u32, to: u32) -> Opt
     let mut word = word_of_kind::<B, K>(bits, k).and(up_to);
     loop {
         let above = E::zeros_rev::<B::LeafWord>(word);
-        if above < width {
+        if above != width {
             let found = k * width + (width - 1 - above);
             return if from <= found { Some(found) } else { None };
         }

@@ -24,17 +24,21 @@ returns-then-from-found g c =
     let leaf = g.met.B.Bits.leaf_width in
     let wide : c.width-width.result ≡ g.B.Shape.width = c.width-width.ensures
     ∙ g.met.B.Bits.leaf_width in
+    let greatest = rw leaf at c.zeros_rev-above.ensures in
+    let low : c.zeros_rev-above.result < g.B.Shape.width =
+    omega (arith, greatest.within, rw wide at c.if-above-width.true) in
     rw wide (last_found _ _ _ _ g.met.B.Bits.width_positive (g.met.B.Bits.whole_words _) c.args.from
     c.args.to c.loop-found.k _ c.zeros_rev-above.result
-    c.loop-found.invariant.2 (rw leaf at c.zeros_rev-above.ensures)
-    (rw wide at c.if-above-width.true) (rw wide at c.if-from-found.true))
+    c.loop-found.invariant.2 greatest low (rw wide at c.if-from-found.true))
 
 pub returns-else-from-found : goal.returns-else-from-found
 returns-else-from-found g c =
     let leaf = g.met.B.Bits.leaf_width in
     let wide : c.width-width.result ≡ g.B.Shape.width = c.width-width.ensures
     ∙ g.met.B.Bits.leaf_width in
-    let low : c.zeros_rev-above.result < g.B.Shape.width = rw wide at c.if-above-width.true in
+    let greatest = rw leaf at c.zeros_rev-above.ensures in
+    let low : c.zeros_rev-above.result < g.B.Shape.width =
+    omega (arith, greatest.within, rw wide at c.if-above-width.true) in
     let under = rw wide at c.if-from-found.false in
     last_past _ _ _ _ g.met.B.Bits.width_positive (g.met.B.Bits.whole_words _) c.args.from c.args.to
     c.loop-found.k _ c.zeros_rev-above.result
@@ -45,7 +49,8 @@ returns-then-k-first g c =
     let leaf = g.met.B.Bits.leaf_width in
     let wide : c.width-width.result ≡ g.B.Shape.width = c.width-width.ensures
     ∙ g.met.B.Bits.leaf_width in
-    let end : g.B.Shape.width ≤ c.zeros_rev-above.result = rw wide at c.if-above-width.false in
+    let end : g.B.Shape.width ≤ c.zeros_rev-above.result =
+    omega (arith, rw wide at c.if-above-width.false) in
     let first : c.loop-found.k ≡ c.args.from / g.B.Shape.width = rw wide at c.if-k-first.true in
     let low = first_word g.B.Shape.width c.args.from in
     last_past _ _ _ _ g.met.B.Bits.width_positive (g.met.B.Bits.whole_words _) c.args.from c.args.to
@@ -58,7 +63,8 @@ loop-found-preserved g c =
     let wide : c.width-width.result ≡ g.B.Shape.width = c.width-width.ensures
     ∙ g.met.B.Bits.leaf_width in
     let inv = c.loop-found.invariant in
-    let end : g.B.Shape.width ≤ c.zeros_rev-above.result = rw wide at c.if-above-width.false in
+    let end : g.B.Shape.width ≤ c.zeros_rev-above.result =
+    omega (arith, rw wide at c.if-above-width.false) in
     let more = rw wide at c.if-k-first.false in (
       omega (arith, inv.0, more),
       omega (arith, inv.1),
