@@ -12,7 +12,7 @@ ghost use Rattle.bittle.specs.Comparison.{list_cmp, list_eq, AreSame, HasPast, H
 use super::Set;
 use bittle_bits::bits::Bits;
 use bittle_bits::endian::Endian;
-use bittle_bits::internal::decided::first_decided;
+use bittle_bits::internal::decided::first_decided_below;
 use bittle_bits::one_word::{SymmetricDifference, test_bit};
 use bittle_bits::word::Word;
 use std::cmp::Ordering;
@@ -27,21 +27,28 @@ fn are_alike<A: Bits, B: Bits, E: Endian, F: Endian>() -> bool
 }
 
 // Returns the least index that is in just one of two sets, or `None` where they have the same
-// members.
-fn first_difference<A: Bits, B: Bits, E: Endian>(left: &A, right: &B) -> Option<u32>
+// members. `capacity` is that of the left one, and `other` that of the right one.
+#[inline]
+fn first_difference<A: Bits, B: Bits, E: Endian>(
+    left: &A,
+    right: &B,
+    capacity: u32,
+    other: u32,
+) -> Option<u32>
     requires width { A.width ≡ B.width }
     requires left_fits { ShapeFits A.Shape left.now }
     requires right_fits { ShapeFits B.Shape right.now }
+    requires capacity { capacity ≡ (A.big left.now).capacity }
+    requires other { other ≡ (B.big right.now).capacity }
     ensures { let ours = set_in A.Shape E.Endian left.now in
         let theirs = set_in B.Shape E.Endian right.now in
         MatchOption result (AreSame ours theirs) (λ d. IsFirstDifference ours theirs d) }
 {
-    let difference = first_decided::<A, B, E, SymmetricDifference>(left, right);
+    let common = capacity.min(other);
+    let difference = first_decided_below::<A, B, E, SymmetricDifference>(left, right, common);
     if difference.is_some() {
         return difference;
     }
-    let capacity = left.bits_capacity();
-    let other = right.bits_capacity();
     // Past the common words just the longer one can have members.
     if capacity < other {
         right.first_one_in::<E>(capacity, other)
@@ -54,11 +61,12 @@ fn first_difference<A: Bits, B: Bits, E: Endian>(left: &A, right: &B) -> Option<
 
 // Returns whether an index is a member. It does not wrap.
 #[inline]
-fn has<B: Bits, E: Endian>(bits: &B, index: u32) -> bool
-    requires { ShapeFits B.Shape bits.now }
+fn has<B: Bits, E: Endian>(bits: &B, capacity: u32, index: u32) -> bool
+    requires fits { ShapeFits B.Shape bits.now }
+    requires capacity { capacity ≡ (B.big bits.now).capacity }
     ensures { result ≡ (set_in B.Shape E.Endian bits.now).has index }
 {
-    if bits.bits_capacity() <= index {
+    if capacity <= index {
         return false;
     }
     let width = <B::LeafWord as Word>::width();
@@ -68,13 +76,13 @@ fn has<B: Bits, E: Endian>(bits: &B, index: u32) -> bool
 
 // Returns whether a member lies past an index.
 #[inline]
-fn has_past<B: Bits, E: Endian>(bits: &B, index: u32) -> bool
-    requires { ShapeFits B.Shape bits.now }
+fn has_past<B: Bits, E: Endian>(bits: &B, capacity: u32, index: u32) -> bool
+    requires fits { ShapeFits B.Shape bits.now }
+    requires capacity { capacity ≡ (B.big bits.now).capacity }
     ensures { MatchBool result (HasPast (set_in B.Shape E.Endian bits.now) index)
         (HasNonePast (set_in B.Shape E.Endian bits.now) index) }
 {
-    let to = bits.bits_capacity();
-    index < to && bits.first_one_in::<E>(index + 1, to).is_some()
+    index < capacity && bits.first_one_in::<E>(index + 1, capacity).is_some()
 }
 
 // Compares two sets by their words.
@@ -86,17 +94,19 @@ fn compare_words<A: Bits, B: Bits, E: Endian>(left: &A, right: &B) -> Ordering
         let theirs = set_in B.Shape E.Endian right.now in
         MatchOrdering result (Precedes ours theirs) (AreSame ours theirs) (Precedes theirs ours) }
 {
-    match first_difference::<A, B, E>(left, right) {
+    let capacity = left.bits_capacity();
+    let other = right.bits_capacity();
+    match first_difference::<A, B, E>(left, right, capacity, other) {
         None => Ordering::Equal,
         Some(index) => {
             // The side that has the index comes first exactly where the other side goes on past it.
-            if has::<A, E>(left, index) {
-                if has_past::<B, E>(right, index) {
+            if has::<A, E>(left, capacity, index) {
+                if has_past::<B, E>(right, other, index) {
                     Ordering::Less
                 } else {
                     Ordering::Greater
                 }
-            } else if has_past::<A, E>(left, index) {
+            } else if has_past::<A, E>(left, capacity, index) {
                 Ordering::Greater
             } else {
                 Ordering::Less
@@ -137,7 +147,9 @@ fn are_equal<A: Bits, B: Bits, E: Endian, F: Endian>(left: &A, right: &B) -> boo
         ↔ AreSame (set_in A.Shape E.Endian left.now) (set_in B.Shape F.Endian right.now) }
 {
     if are_alike::<A, B, E, F>() {
-        first_difference::<A, B, E>(left, right).is_none()
+        let capacity = left.bits_capacity();
+        let other = right.bits_capacity();
+        first_difference::<A, B, E>(left, right, capacity, other).is_none()
     } else {
         compare::<A, B, E, F>(left, right).is_eq()
     }

@@ -113,6 +113,28 @@ fn first_below<A: Bits, B: Bits, E: Endian, O: Operation>(
 }
 
 /// Returns the least index below both capacities that an operation makes a member, of two sets
+/// whose words have one width, or `None`. `common` is the lesser capacity.
+#[inline]
+pub fn first_decided_below<A: Bits, B: Bits, E: Endian, O: Operation>(
+    left: &A,
+    right: &B,
+    common: u32,
+) -> Option<u32>
+    requires width { A.width ≡ B.width }
+    requires left_fits { ShapeFits A.Shape left.now }
+    requires right_fits { ShapeFits B.Shape right.now }
+    requires common { common ≡ min (A.big left.now).capacity (B.big right.now).capacity }
+    ensures first { let ours = set_in A.Shape E.Endian left.now in
+        let theirs = set_in B.Shape E.Endian right.now in
+        MatchOption result (NoneDecidedBelow O.decide ours theirs common)
+        (IsFirstDecided O.decide ours theirs) }
+    ensures below { IfSome result (λ index. index < common) }
+{
+    let words = common / <A::LeafWord as Word>::width();
+    first_below::<A, B, E, O>(left, right, words)
+}
+
+/// Returns the least index below both capacities that an operation makes a member, of two sets
 /// whose words have one width, or `None`.
 #[inline]
 pub fn first_decided<A: Bits, B: Bits, E: Endian, O: Operation>(left: &A, right: &B) -> Option<u32>
@@ -128,6 +150,5 @@ pub fn first_decided<A: Bits, B: Bits, E: Endian, O: Operation>(left: &A, right:
         (λ index. index < min (A.big left.now).capacity (B.big right.now).capacity) }
 {
     let common = left.bits_capacity().min(right.bits_capacity());
-    let words = common / <A::LeafWord as Word>::width();
-    first_below::<A, B, E, O>(left, right, words)
+    first_decided_below::<A, B, E, O>(left, right, common)
 }

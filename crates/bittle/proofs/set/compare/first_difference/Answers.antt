@@ -1,4 +1,4 @@
-use Rattle.std.proofs.Common.{sym, ◌∙◌, arith}
+use Rattle.std.proofs.Common.{◌≡◌, min, sym, ◌∙◌, arith}
 use Rattle.bittle_bits.proofs.PlainSets.{members-past}
 use Rattle.bittle_bits.specs.Values.{set_in}
 use Rattle.bittle.proofs.FirstDifference.{some_among, none_among, first_ends, second_ends, both_end}
@@ -7,8 +7,8 @@ use Rattle.bittle.proofs.set.compare.first_difference.Goals as goal
 pub returns-then-is_some : goal.returns-then-is_some
 returns-then-is_some g c =
     some_among (set_in g.A.Shape g.E.Endian c.args.left.now)
-    (set_in g.B.Shape g.E.Endian c.args.right.now) _ c.first_decided-difference.result
-    (sym c.is_some.ensures ∙ c.if-is_some.true) c.first_decided-difference.ensures.first
+    (set_in g.B.Shape g.E.Endian c.args.right.now) _ c.first_decided_below-difference.result
+    (sym c.is_some.ensures ∙ c.if-is_some.true) c.first_decided_below-difference.ensures.first
 
 pub returns-then-capacity-other : goal.returns-then-capacity-other
 returns-then-capacity-other g c =
@@ -19,10 +19,12 @@ returns-then-capacity-other g c =
     let y = c.args.right.now in
     let ours = set_in g.A.Shape g.E.Endian x in
     let theirs = set_in g.B.Shape g.E.Endian y in
-    let capacity = c.bits_capacity-capacity.ensures.value c.requires.left_fits in
-    let other = c.bits_capacity-other.ensures.value c.requires.right_fits in
-    let same = none_among ours theirs _ c.first_decided-difference.result
-    (sym c.is_some.ensures ∙ c.if-is_some.false) c.first_decided-difference.ensures.first in
+    let capacity = c.requires.capacity in
+    let other = c.requires.other in
+    let least : c.min-common.result ≡ min (g.A.Shape.big x).capacity (g.B.Shape.big y).capacity =
+    omega (arith, c.min-common.ensures, capacity, other) in
+    let same = rw least at (none_among ours theirs _ c.first_decided_below-difference.result
+    (sym c.is_some.ensures ∙ c.if-is_some.false) c.first_decided_below-difference.ensures.first) in
     let past = members-past m _ _ a.width_positive (a.whole_words x) (a.none_past x) in
     let past-2 = members-past m _ _ b.width_positive (b.whole_words y) (b.none_past y) in
     first_ends ours theirs past past-2 same (omega (arith, capacity, other, c.if-capacity-other.true))
@@ -37,10 +39,12 @@ returns-then-other-capacity g c =
     let y = c.args.right.now in
     let ours = set_in g.A.Shape g.E.Endian x in
     let theirs = set_in g.B.Shape g.E.Endian y in
-    let capacity = c.bits_capacity-capacity.ensures.value c.requires.left_fits in
-    let other = c.bits_capacity-other.ensures.value c.requires.right_fits in
-    let same = none_among ours theirs _ c.first_decided-difference.result
-    (sym c.is_some.ensures ∙ c.if-is_some.false) c.first_decided-difference.ensures.first in
+    let capacity = c.requires.capacity in
+    let other = c.requires.other in
+    let least : c.min-common.result ≡ min (g.A.Shape.big x).capacity (g.B.Shape.big y).capacity =
+    omega (arith, c.min-common.ensures, capacity, other) in
+    let same = rw least at (none_among ours theirs _ c.first_decided_below-difference.result
+    (sym c.is_some.ensures ∙ c.if-is_some.false) c.first_decided_below-difference.ensures.first) in
     let past = members-past m _ _ a.width_positive (a.whole_words x) (a.none_past x) in
     let past-2 = members-past m _ _ b.width_positive (b.whole_words y) (b.none_past y) in
     second_ends ours theirs past past-2 same
@@ -57,10 +61,12 @@ returns-else-other-capacity g c =
     let y = c.args.right.now in
     let ours = set_in g.A.Shape g.E.Endian x in
     let theirs = set_in g.B.Shape g.E.Endian y in
-    let capacity = c.bits_capacity-capacity.ensures.value c.requires.left_fits in
-    let other = c.bits_capacity-other.ensures.value c.requires.right_fits in
-    let same = none_among ours theirs _ c.first_decided-difference.result
-    (sym c.is_some.ensures ∙ c.if-is_some.false) c.first_decided-difference.ensures.first in
+    let capacity = c.requires.capacity in
+    let other = c.requires.other in
+    let least : c.min-common.result ≡ min (g.A.Shape.big x).capacity (g.B.Shape.big y).capacity =
+    omega (arith, c.min-common.ensures, capacity, other) in
+    let same = rw least at (none_among ours theirs _ c.first_decided_below-difference.result
+    (sym c.is_some.ensures ∙ c.if-is_some.false) c.first_decided_below-difference.ensures.first) in
     let past = members-past m _ _ a.width_positive (a.whole_words x) (a.none_past x) in
     let past-2 = members-past m _ _ b.width_positive (b.whole_words y) (b.none_past y) in
     both_end ours theirs past past-2 same (omega (

@@ -8,12 +8,12 @@ use Rattle.bittle_bits.specs.Orders.{read_in}
 use Rattle.bittle_bits.specs.Values.{set_in}
 use Rattle.bittle.proofs.set.compare.has.Goals as goal
 
-pub returns-then-bits_capacity-index : goal.returns-then-bits_capacity-index
-returns-then-bits_capacity-index g c =
+pub returns-then-capacity-index : goal.returns-then-capacity-index
+returns-then-capacity-index g c =
     let x = c.args.bits.now in
     let b = g.met.B.Bits in
     let past : (g.B.Shape.big x).capacity ≤ c.args.index = omega
-    (arith, c.bits_capacity.ensures.value c.requires, c.if-bits_capacity-index.true) in
+    (arith, c.requires.capacity, c.if-capacity-index.true) in
     sym (members-past g.E.Endian.mirrored _ _ b.width_positive (b.whole_words x) (b.none_past x)
     c.args.index past)
 
