@@ -2,12 +2,14 @@
 
 ghost use Rattle.std.specs.Prelude.{Some};
 ghost use Rattle.std.specs.Fmt.{WritesOnOk};
-ghost use Rattle.bittle.specs.DebugText.{index_text, set_text};
+ghost use Rattle.std.specs.Iterator.{IsFinite};
+ghost use Rattle.bittle.specs.DebugText.{index_text, list_text, set_text};
 ghost use Rattle.bittle_bits.specs.Values.{set_in};
 
 use super::Set;
 use bittle_bits::bits::Bits;
 use bittle_bits::endian::Endian;
+use bittle_bits::internal::sealed::Counted;
 use std::fmt;
 
 /// Prints the indexes of the set bits in increasing order between braces, as `{1, 14}`. The flags
@@ -16,14 +18,22 @@ impl<T: Bits, E: Endian> fmt::Debug for Set<T, E> {
     ghost debug_output = { λ s. Some (set_text (set_in T.Shape E.Endian s.bits)) };
 
     fn fmt<W: fmt::Write>(&self, f: &mut fmt::Formatter<W>) -> fmt::Result {
-        f.write_str("{")?;
-        let mut first = true;
-        for index in self.bits.iter_ones_in::<E>() {
-            write_index(f, first, index)?;
-            first = false;
-        }
-        f.write_str("}")
+        write_all(self.bits.iter_ones_in::<E>(), f)
     }
+}
+
+// Writes what a walk yields between braces, with a comma and a space between two.
+fn write_all<I: Counted + Drop, W: fmt::Write>(indexes: I, f: &mut fmt::Formatter<W>) -> fmt::Result
+    requires { IsFinite (I.remaining indexes) }
+    ensures { WritesOnOk W.write_str_gives f.old result (list_text (I.walk indexes).remaining) f.new }
+{
+    f.write_str("{")?;
+    let mut first = true;
+    for index in indexes {
+        write_index(f, first, index)?;
+        first = false;
+    }
+    f.write_str("}")
 }
 
 // Writes an index, after a comma and a space where it is not the first.
