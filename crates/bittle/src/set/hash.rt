@@ -1,7 +1,11 @@
 //! What a hasher is fed of a set.
 
 ghost use Rattle.std.specs.Cmp.Lexicographic.{bytes_decides};
+ghost use Rattle.std.specs.Hash as fed;
 ghost use Rattle.std.specs.Hash.{on_Alike, same_Alike};
+ghost use Rattle.std.specs.Iterator.{IsFinite};
+ghost use Rattle.std.specs.List.{flat_map, fold};
+ghost use Rattle.std.specs.Prelude.{◌≡◌, ◌<◌, length};
 ghost use Rattle.bittle_bits.specs.PlainSet.{ascending};
 ghost use Rattle.bittle_bits.specs.Values.{set_in};
 ghost use Rattle.bittle.specs.Comparison.{feed};
@@ -9,6 +13,7 @@ ghost use Rattle.bittle.specs.Comparison.{feed};
 use super::Set;
 use bittle_bits::bits::Bits;
 use bittle_bits::endian::Endian;
+use bittle_bits::internal::sealed::Counted;
 use std::hash::{Hash, Hasher};
 
 /// Feeds the hasher the index of each set bit in increasing order and then their number, each as a
@@ -20,11 +25,22 @@ impl<T: Bits, E: Endian> Hash for Set<T, E> {
         (same_Alike feed bytes_decides)).fed };
 
     fn hash<H: Hasher>(&self, state: &mut H) {
-        let mut count = 0;
-        for index in self.bits.iter_ones_in::<E>() {
-            state.write_u32(index);
-            count += 1;
-        }
+        let count = feed_all(self.bits.iter_ones_in::<E>(), state);
         state.write_u32(count);
     }
+}
+
+// Feeds what a walk yields, and returns how many items that was.
+fn feed_all<I: Counted + Drop, H: Hasher>(indexes: I, state: &mut H) -> u32
+    requires ends { IsFinite (I.remaining indexes) }
+    requires few { length (I.walk indexes).remaining < 4294967295 }
+    ensures count { result ≡ length (I.walk indexes).remaining }
+    ensures fed { fold H.write state.old (flat_map fed.u32 (I.walk indexes).remaining) ≡ state.new }
+{
+    let mut count = 0;
+    for index in indexes {
+        state.write_u32(index);
+        count += 1;
+    }
+    count
 }
