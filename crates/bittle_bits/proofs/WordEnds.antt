@@ -9,10 +9,10 @@ use Rattle.std.proofs.lemmas.Nat.Bits.{bit_at-suc, bit_at_lowest, bit_at_above, 
 use Rattle.std.proofs.lemmas.Bool.{cases_eq, cases_lt, and_right, eq-eqb, ne_eqb}
 use Rattle.std.proofs.Math.Bool.{and_self}
 use Rattle.bittle_bits.specs.BitPatterns.{bit_has, bit_set}
-use Rattle.bittle_bits.specs.Orders.{read_in}
+use Rattle.bittle_bits.specs.Orders.{mirror, read_in}
 use Rattle.bittle_bits.specs.PlainSet.{PlainSet, without_index, complement, IsLeastMember, IsGreatestMember}
 use Rattle.bittle_bits.proofs.BitSets.{bit_has-at, bit_has-and, bit_has-not, bit_has-zero, top_digit}
-use Rattle.bittle_bits.proofs.PlaceLemmas.{mirror_in_word}
+use Rattle.bittle_bits.proofs.PlaceLemmas.{mirror_in_word, place_eq}
 use Rattle.bittle_bits.proofs.PlainSets.{plain_set, without_in, complement-members}
 
 -- the bits below the least set one are 0, and it is 1
@@ -220,3 +220,35 @@ less_least w d r least h = ap (plain_set w) (bit_has-and w d (d - 1) ∙ fun_ext
             rw (same, mod-eq_of_lt h, ne_eqb k r n) (and_self (bit_has w d k))
       ]
     ]
+
+-- in the mirrored order the greatest member is the least set bit
+pub least_mirrored : (w d r : ℕ) → IsGreatestMember (read_in true w (bit_set w d)) r →
+    IsLeastMember (bit_set w d) r
+least_mirrored w d r greatest = record {
+  within = greatest.within;
+  none_below = λ k l. let low = greatest.within in
+      ap (bit_has w d) (sym (mirror_in_word w (w - 1 - k) (omega arith) ∙ omega arith))
+      ∙ greatest.none_above k l;
+  is_member = λ l.
+      ap (bit_has w d) (sym (mirror_in_word w (w - 1 - r) (omega arith) ∙ omega arith))
+      ∙ greatest.is_member l;
+}
+
+-- so the and of the word and the word less one lacks the greatest member alone
+pub less_greatest : (w d r : ℕ) → IsGreatestMember (read_in true w (bit_set w d)) r → r < w →
+    read_in true w (bit_set w (bit_and d (d - 1)))
+    ≡ without_index (read_in true w (bit_set w d)) (w - 1 - r)
+less_greatest w d r greatest h =
+    ap (read_in true w) (less_least w d r (least_mirrored w d r greatest) h
+    ∙ without_in (bit_set w d) w r refl (omega arith))
+    ∙ ap (plain_set w) (fun_ext each)
+    ∙ sym (without_in (read_in true w (bit_set w d)) w (w - 1 - r) refl (omega arith))
+  where
+    far : r % w ≡ mirror w (w - 1 - r)
+    far = mod-eq_of_lt h ∙ sym (mirror_in_word w (w - 1 - r) (omega arith) ∙ omega arith)
+
+    each : (k : ℕ) → not (mirror w k == r % w) && bit_has w d (mirror w k)
+        ≡ not (k == (w - 1 - r) % w) && bit_has w d (mirror w k)
+    each k = ap (λ b. not b && bit_has w d (mirror w k)) (ap (λ x. mirror w k == x) far
+        ∙ place_eq true w k (w - 1 - r) (omega arith)
+        ∙ ap (λ x. k == x) (sym (mod-eq_of_lt (omega arith))))

@@ -2,12 +2,12 @@
 //! operations on two sets, so that each shape has one body for them all.
 
 ghost use Rattle.std.specs.Iterator.{YieldsFirst, YieldsLast};
-ghost use Rattle.std.specs.Prelude.{◌≡◌, ◌==◌, Bool, ◌*◌, ◌<◌, ◌≤◌, ◌||◌, ◌&&◌, true, false, refl, IfSome, IsTrue};
+ghost use Rattle.std.specs.Prelude.{◌≡◌, ◌==◌, Bool, ◌*◌, ◌-◌, ◌<◌, ◌≤◌, ◌||◌, ◌&&◌, true, false, refl, IfSome, IsTrue};
 ghost use Rattle.std.proofs.Common.{sym};
 ghost use Rattle.bittle_bits.specs.BitPatterns.{bit_set};
 ghost use Rattle.bittle_bits.specs.LawProofs.{none_past_word, one_whole_word, one_word_whole, positive_width, word_capacity};
 ghost use Rattle.bittle_bits.specs.Orders.{read_in};
-ghost use Rattle.bittle_bits.specs.PlainSet.{contains, with_index, with_span_changed, without_index, empty_set, without_members, full_set, span_set, size, ascending, IsLeastMember};
+ghost use Rattle.bittle_bits.specs.PlainSet.{contains, with_index, with_span_changed, without_index, empty_set, without_members, full_set, span_set, size, ascending, IsLeastMember, IsGreatestMember};
 ghost use Rattle.bittle_bits.specs.SetOperations.{combination_of, first_alone, just_one};
 ghost use Rattle.bittle_bits.specs.Shapes.{Fits};
 ghost use Rattle.bittle_bits.specs.Words.{ReplacesWord, word_of};
@@ -297,6 +297,24 @@ fn clear_first<T: Word, E: Endian>(word: &mut T, index: u32)
     }
 }
 
+// Clears the greatest member, given how far it lies below the last index. Where it is the bit of
+// least weight, a step waits for the word less one alone, as in `clear_first`.
+#[inline]
+fn clear_last<T: Word, E: Endian>(word: &mut T, below_last: u32)
+    requires greatest { IsGreatestMember
+        (read_in E.mirrored T.width (bit_set T.width (T.pattern word.old))) below_last }
+    requires within { below_last < T.width }
+    ensures { read_in E.mirrored T.width (bit_set T.width (T.pattern word.new))
+        ≡ without_index (read_in E.mirrored T.width (bit_set T.width (T.pattern word.old)))
+        (T.width - 1 - below_last) }
+{
+    if E::is_mirrored() {
+        *word = word.and(T::from_bits(word.to_bits() - 1));
+    } else {
+        clear_set_bit::<T, E>(word, T::width() - 1 - below_last);
+    }
+}
+
 /// Takes the least member out of the word.
 #[inline]
 pub fn pop_first<T: Word, E: Endian>(word: &mut T) -> Option<u32>
@@ -325,9 +343,8 @@ pub fn pop_last<T: Word, E: Endian>(word: &mut T) -> Option<u32>
     if below_last == T::width() {
         return None;
     }
-    let index = T::width() - 1 - below_last;
-    clear_set_bit::<T, E>(word, index);
-    Some(index)
+    clear_last::<T, E>(word, below_last);
+    Some(T::width() - 1 - below_last)
 }
 
 /// Returns word `k` of a word, which is its only one.

@@ -7,13 +7,8 @@ returns-then-below_last-width-clause-found g c =
     let none = greatest-none _ _ c.zeros_rev-below_last.ensures (omega arith) in
     (none, none)
 
-pub clear_set_bit-requires-clause-set : goal.clear_set_bit-requires-clause-set
-clear_set_bit-requires-clause-set g c =
-    let greatest = c.zeros_rev-below_last.ensures in
-    rw c.width-2.ensures (greatest.is_member (omega (arith, greatest.within)))
-
 pub returns-clause-found : goal.returns-clause-found
 returns-clause-found g c =
     let greatest = c.zeros_rev-below_last.ensures in
     taken_last _ _ _ _ greatest (omega (arith, greatest.within)) (omega arith)
-    c.clear_set_bit.ensures
+    (rw c.width-2.ensures c.clear_last.ensures)
