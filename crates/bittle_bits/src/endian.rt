@@ -51,9 +51,13 @@ pub trait Endian: Drop + Sealed {
     /// BigEndian::ones(0b0000_0111u8);                     // 3
     /// ```
     #[doc(hidden)]
-    fn ones<T: Word>(value: T) -> u32
+    #[inline]
+    final fn ones<T: Word>(value: T) -> u32
         ensures { IsLeastMember
-            (complement (read_in mirrored T.width (bit_set T.width (T.pattern value)))) result };
+            (complement (read_in mirrored T.width (bit_set T.width (T.pattern value)))) result }
+    {
+        Self::zeros::<T>(value.not())
+    }
 
     /// Returns how far the greatest set bit lies below the last index, or the width if no bit is
     /// set.
@@ -73,9 +77,13 @@ pub trait Endian: Drop + Sealed {
     /// BigEndian::ones_rev(0b1110_0000u8);                 // 3
     /// ```
     #[doc(hidden)]
-    fn ones_rev<T: Word>(value: T) -> u32
+    #[inline]
+    final fn ones_rev<T: Word>(value: T) -> u32
         ensures { IsGreatestMember
-            (complement (read_in mirrored T.width (bit_set T.width (T.pattern value)))) result };
+            (complement (read_in mirrored T.width (bit_set T.width (T.pattern value)))) result }
+    {
+        Self::zeros_rev::<T>(value.not())
+    }
 }
 
 /// Counts from the bit of least weight, the rightmost one as a number is written. The default
@@ -127,21 +135,9 @@ impl Endian for BigEndian {
     }
 
     #[inline]
-    fn ones<T: Word>(value: T) -> u32 {
-        // Right of the least index that is no member stand ones alone.
-        value.not().trailing_zeros()
-    }
-
-    #[inline]
     fn zeros_rev<T: Word>(value: T) -> u32 {
         // Left of the greatest member stand zeros alone.
         value.leading_zeros()
-    }
-
-    #[inline]
-    fn ones_rev<T: Word>(value: T) -> u32 {
-        // Left of the greatest index that is no member stand ones alone.
-        value.not().leading_zeros()
     }
 }
 
@@ -171,20 +167,8 @@ impl Endian for LittleEndian {
     }
 
     #[inline]
-    fn ones<T: Word>(value: T) -> u32 {
-        // Left of the least index that is no member stand ones alone.
-        value.not().leading_zeros()
-    }
-
-    #[inline]
     fn zeros_rev<T: Word>(value: T) -> u32 {
         // Right of the greatest member stand zeros alone.
         value.trailing_zeros()
-    }
-
-    #[inline]
-    fn ones_rev<T: Word>(value: T) -> u32 {
-        // Right of the greatest index that is no member stand ones alone.
-        value.not().trailing_zeros()
     }
 }

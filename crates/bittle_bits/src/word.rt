@@ -48,9 +48,14 @@ pub trait Word: Copy + Eq {
         ensures { pattern result ≡ value };
 
     /// Returns the word with each bit flipped.
-    fn not(self) -> Self
+    #[inline]
+    final fn not(self) -> Self
         ensures pattern { pattern result ≡ 2 ^ width - 1 - pattern self }
-        ensures range { pattern self < 2 ^ width };
+        ensures range { pattern self < 2 ^ width }
+    {
+        let top = Self::one_at(Self::width() - 1).to_bits();
+        Self::from_bits(top - 1 + top - self.to_bits())
+    }
 
     /// Returns the bits that are set in both words.
     #[inline]
@@ -88,9 +93,13 @@ pub trait Word: Copy + Eq {
     }
 
     /// Returns how many bits are set.
-    fn count_ones(self) -> u32
+    #[inline]
+    final fn count_ones(self) -> u32
         ensures count { result ≡ count_ones (pattern self) }
-        ensures range { pattern self < 2 ^ width };
+        ensures range { pattern self < 2 ^ width }
+    {
+        self.to_bits().count_ones()
+    }
 
     /// Returns how many unset bits lie below the set one of least weight.
     fn trailing_zeros(self) -> u32

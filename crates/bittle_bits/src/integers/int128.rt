@@ -69,16 +69,6 @@ impl Word for u128 {
     }
 
     #[inline]
-    fn not(self) -> u128 {
-        !self
-    }
-
-    #[inline]
-    fn count_ones(self) -> u32 {
-        self.count_ones()
-    }
-
-    #[inline]
     fn trailing_zeros(self) -> u32 {
         self.trailing_zeros()
     }
@@ -144,16 +134,6 @@ impl Word for i128 {
     #[inline]
     fn from_bits(value: u128) -> i128 {
         value.cast_signed()
-    }
-
-    #[inline]
-    fn not(self) -> i128 {
-        !self
-    }
-
-    #[inline]
-    fn count_ones(self) -> u32 {
-        self.count_ones()
     }
 
     #[inline]

@@ -69,16 +69,6 @@ impl Word for u16 {
     }
 
     #[inline]
-    fn not(self) -> u16 {
-        !self
-    }
-
-    #[inline]
-    fn count_ones(self) -> u32 {
-        self.count_ones()
-    }
-
-    #[inline]
     fn trailing_zeros(self) -> u32 {
         self.trailing_zeros()
     }
@@ -144,16 +134,6 @@ impl Word for i16 {
     #[inline]
     fn from_bits(value: u128) -> i16 {
         (value as u16).cast_signed()
-    }
-
-    #[inline]
-    fn not(self) -> i16 {
-        !self
-    }
-
-    #[inline]
-    fn count_ones(self) -> u32 {
-        self.count_ones()
     }
 
     #[inline]

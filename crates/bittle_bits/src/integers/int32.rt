@@ -69,16 +69,6 @@ impl Word for u32 {
     }
 
     #[inline]
-    fn not(self) -> u32 {
-        !self
-    }
-
-    #[inline]
-    fn count_ones(self) -> u32 {
-        self.count_ones()
-    }
-
-    #[inline]
     fn trailing_zeros(self) -> u32 {
         self.trailing_zeros()
     }
@@ -144,16 +134,6 @@ impl Word for i32 {
     #[inline]
     fn from_bits(value: u128) -> i32 {
         (value as u32).cast_signed()
-    }
-
-    #[inline]
-    fn not(self) -> i32 {
-        !self
-    }
-
-    #[inline]
-    fn count_ones(self) -> u32 {
-        self.count_ones()
     }
 
     #[inline]

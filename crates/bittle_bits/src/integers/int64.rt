@@ -69,16 +69,6 @@ impl Word for u64 {
     }
 
     #[inline]
-    fn not(self) -> u64 {
-        !self
-    }
-
-    #[inline]
-    fn count_ones(self) -> u32 {
-        self.count_ones()
-    }
-
-    #[inline]
     fn trailing_zeros(self) -> u32 {
         self.trailing_zeros()
     }
@@ -144,16 +134,6 @@ impl Word for i64 {
     #[inline]
     fn from_bits(value: u128) -> i64 {
         (value as u64).cast_signed()
-    }
-
-    #[inline]
-    fn not(self) -> i64 {
-        !self
-    }
-
-    #[inline]
-    fn count_ones(self) -> u32 {
-        self.count_ones()
     }
 
     #[inline]

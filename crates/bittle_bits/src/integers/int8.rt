@@ -69,16 +69,6 @@ impl Word for u8 {
     }
 
     #[inline]
-    fn not(self) -> u8 {
-        !self
-    }
-
-    #[inline]
-    fn count_ones(self) -> u32 {
-        self.count_ones()
-    }
-
-    #[inline]
     fn trailing_zeros(self) -> u32 {
         self.trailing_zeros()
     }
@@ -144,16 +134,6 @@ impl Word for i8 {
     #[inline]
     fn from_bits(value: u128) -> i8 {
         (value as u8).cast_signed()
-    }
-
-    #[inline]
-    fn not(self) -> i8 {
-        !self
-    }
-
-    #[inline]
-    fn count_ones(self) -> u32 {
-        self.count_ones()
     }
 
     #[inline]

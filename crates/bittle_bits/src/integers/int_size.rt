@@ -69,16 +69,6 @@ impl Word for usize {
     }
 
     #[inline]
-    fn not(self) -> usize {
-        !self
-    }
-
-    #[inline]
-    fn count_ones(self) -> u32 {
-        self.count_ones()
-    }
-
-    #[inline]
     fn trailing_zeros(self) -> u32 {
         self.trailing_zeros()
     }
@@ -144,16 +134,6 @@ impl Word for isize {
     #[inline]
     fn from_bits(value: u128) -> isize {
         (value as usize).cast_signed()
-    }
-
-    #[inline]
-    fn not(self) -> isize {
-        !self
-    }
-
-    #[inline]
-    fn count_ones(self) -> u32 {
-        self.count_ones()
     }
 
     #[inline]
