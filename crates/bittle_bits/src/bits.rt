@@ -426,7 +426,7 @@ pub trait Bits: Drop + Shape {
         ensures answers { AnswersItemsAtMembers I.IntoIter.next_gives result }
         ensures end { EndsAfterMembers I.IntoIter.next_gives result }
     {
-        JoinOnes::new(self.iter_ones_in::<E>(), iter.into_iter())
+        JoinOnes::new(self, iter.into_iter())
     }
 
     /// Joins in [`DefaultEndian`] order, whatever the order of the type, as

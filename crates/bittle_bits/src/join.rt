@@ -2,7 +2,10 @@
 
 ghost use Rattle.std.specs.Prelude.{◌≡◌, false, length, OnSome};
 ghost use Rattle.std.specs.Iterator.{at_most, SkipsThenYields};
-ghost use Rattle.bittle_bits.specs.Join.{IsAscendingFrom, join_steps, AnswersItemsAtMembers, EndsAfterMembers};
+ghost use Rattle.bittle_bits.specs.Join.{join_steps, AnswersItemsAtMembers, EndsAfterMembers};
+ghost use Rattle.bittle_bits.specs.PlainSet.{ascending};
+ghost use Rattle.bittle_bits.specs.Values.{set_in, ShapeFits};
+ghost use Rattle.bittle_bits.specs.Walk.{AreBelow};
 
 use crate::bits::Bits;
 use crate::endian::Endian;
@@ -46,17 +49,19 @@ impl<'a, A: Bits, E: Endian, I: Iterator> JoinOnes<'a, A, E, I>
 where
     I::Item: Drop,
 {
-    /// Joins a walk over a mask with an iterator.
+    /// Joins the members of a set with an iterator.
     #[inline]
-    pub(crate) fn new(mask: IterOnes<'a, A, E>, iter: I) -> Self
-        requires { IsAscendingFrom 0 mask.remaining }
-        ensures mask { result.mask ≡ mask.entry }
+    pub(crate) fn new(set: &'a A, iter: I) -> Self
+        requires { ShapeFits A.Shape set.now }
+        ensures members { result.mask.remaining ≡ ascending (set_in A.Shape E.Endian set.now) }
+        ensures below { AreBelow (A.big set.now).capacity result.mask.remaining }
         ensures iter { result.iter ≡ iter }
         ensures none_taken { result.taken ≡ 0 }
         ensures goes_on { result.ended ≡ false }
         ensures answers { AnswersItemsAtMembers I.next_gives result }
         ensures end { EndsAfterMembers I.next_gives result }
     {
+        let mask = set.iter_ones_in::<E>();
         JoinOnes {
             mask,
             iter,
