@@ -272,6 +272,17 @@ pub fn all_ones<T: BitsOwned>(elements: &[T]) -> bool
     is_without::<T, Zeros>(elements)
 }
 
+/// Returns the element that word `k` of a row lies in, and which of its words it is.
+#[inline]
+fn locate_word<T: BitsOwned>(len: usize, k: u32) -> (usize, u32)
+    requires fits { Fits T.indexable (len * T.type_capacity) }
+    requires within { k * T.width < len * T.type_capacity }
+    ensures { GoesTo len T.type_capacity (k * T.width) result.0 (result.1 * T.width) }
+{
+    let each = T::bits() / <T::LeafWord as Word>::width();
+    ((k / each) as usize, k % each)
+}
+
 /// Returns word `k` of the row, which lies in one element.
 #[inline]
 pub fn leaf_word<T: BitsOwned>(elements: &[T], k: u32) -> T::LeafWord
@@ -281,8 +292,8 @@ pub fn leaf_word<T: BitsOwned>(elements: &[T], k: u32) -> T::LeafWord
         ≡ word_of T.width
         (row_set (length elements.now) T.type_capacity T.big elements.now) k }
 {
-    let each = T::bits() / <T::LeafWord as Word>::width();
-    elements[(k / each) as usize].nth_leaf_word(k % each)
+    let (element, at) = locate_word::<T>(elements.len(), k);
+    elements[element].nth_leaf_word(at)
 }
 
 /// Replaces word `k` of the row, which lies in one element.
@@ -295,6 +306,6 @@ pub fn set_leaf_word<T: BitsOwned>(elements: &mut [T], k: u32, word: T::LeafWord
         (bit_set T.width (T.LeafWord.pattern word))
         (row_set (length elements.new) T.type_capacity T.big elements.new) }
 {
-    let each = T::bits() / <T::LeafWord as Word>::width();
-    elements[(k / each) as usize].set_nth_leaf_word(k % each, word);
+    let (element, at) = locate_word::<T>(elements.len(), k);
+    elements[element].set_nth_leaf_word(at, word);
 }

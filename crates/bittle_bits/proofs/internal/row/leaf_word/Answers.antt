@@ -1,45 +1,14 @@
-use Rattle.std.proofs.Common.{refl, ◌∙◌, arith, length}
-use Rattle.bittle_bits.proofs.RowWords.{word_element, word_within, row_word, words_each}
+use Rattle.std.proofs.Common.{refl, ◌∙◌, length}
+use Rattle.bittle_bits.proofs.RowWords.{row_word}
 use Rattle.bittle_bits.proofs.internal.row.leaf_word.Goals as goal
 
-pub offset_bounds-elements-k : goal.offset_bounds-elements-k
-offset_bounds-elements-k g c =
-    let w = g.met.T.BitsOwned.type_whole_words in
-    let each = words_each _ _ _ _ _ _ g.met.T.Bits.width_positive
-    (c.bits.ensures.value (c.requires.fits.0, g.met.T.BitsOwned.type_fits c.requires.fits.0))
-    c.width.ensures g.met.T.Bits.leaf_width w.1 in
-    let low = word_element (length c.args.elements.now) g.T.OwnedShape.type_capacity g.T.Shape.width
-    w.0 c.args.k g.T.Shape.big c.args.elements.now g.met.T.Bits.width_positive w.1
-    c.requires.within in
-    rw each (omega (arith, low))
-
-pub bounds-elements-k : goal.bounds-elements-k
-bounds-elements-k g c =
-    let w = g.met.T.BitsOwned.type_whole_words in
-    let each = words_each _ _ _ _ _ _ g.met.T.Bits.width_positive
-    (c.bits.ensures.value (c.requires.fits.0, g.met.T.BitsOwned.type_fits c.requires.fits.0))
-    c.width.ensures g.met.T.Bits.leaf_width w.1 in
-    rw each (word_element (length c.args.elements.now) g.T.OwnedShape.type_capacity g.T.Shape.width
-    w.0 c.args.k g.T.Shape.big c.args.elements.now g.met.T.Bits.width_positive w.1
-    c.requires.within)
-
 pub nth_leaf_word-requires-clause-within : goal.nth_leaf_word-requires-clause-within
-nth_leaf_word-requires-clause-within g c =
-    let w = g.met.T.BitsOwned.type_whole_words in
-    let each = words_each _ _ _ _ _ _ g.met.T.Bits.width_positive
-    (c.bits.ensures.value (c.requires.fits.0, g.met.T.BitsOwned.type_fits c.requires.fits.0))
-    c.width.ensures g.met.T.Bits.leaf_width w.1 in
-    rw (each, g.met.T.BitsOwned.one_capacity c.index-elements-k.result)
-    (word_within (length c.args.elements.now) g.T.OwnedShape.type_capacity g.T.Shape.width w.0
-    c.args.k g.T.Shape.big c.args.elements.now g.met.T.Bits.width_positive w.1 c.requires.within)
+nth_leaf_word-requires-clause-within g c = rw (g.met.T.BitsOwned.one_capacity _)
+    c.locate_word-element.ensures.within
 
 pub returns : goal.returns
-returns g c =
-    let w = g.met.T.BitsOwned.type_whole_words in
-    let each = words_each _ _ _ _ _ _ g.met.T.Bits.width_positive
-    (c.bits.ensures.value (c.requires.fits.0, g.met.T.BitsOwned.type_fits c.requires.fits.0))
-    c.width.ensures g.met.T.Bits.leaf_width w.1 in
-    (rw each at c.nth_leaf_word.ensures) ∙ row_word
-    (length c.args.elements.now) g.T.OwnedShape.type_capacity g.T.Shape.width w.0 c.args.k
-    g.T.Shape.big c.args.elements.now g.met.T.Bits.width_positive w.1 c.requires.within
-    c.index-elements-k.result refl (rw each at c.index-elements-k.is)
+returns g c = c.nth_leaf_word.ensures ∙ row_word
+    (length c.args.elements.now) g.T.OwnedShape.type_capacity g.T.Shape.width c.args.k _ _
+    g.T.Shape.big c.args.elements.now g.met.T.Bits.width_positive g.met.T.BitsOwned.type_whole_words
+    c.requires.within c.locate_word-element.ensures c.index-elements-element.result refl
+    c.index-elements-element.is
