@@ -84,6 +84,13 @@ pub word_within : (k words w c : ℕ) → 0 < w → k < words → words * w ≤ 
 word_within k words w c word below within =
     omega (arith, mul-lt-mul_of_pos_right {k = w} below word, within)
 
+-- four words that are whole within a number of words lie within what those make up
+pub four_within : (four words w c : ℕ) → four < words / 4 → words * w ≤ c →
+    (four * 4 + 4) * w ≤ c
+four_within four words w c below within =
+    let up : (four * 4 + 4) * w ≤ words * w = mul-le-mul_right w (omega (arith, below)) in
+    omega (arith, up, within)
+
 -- a word that is not 0 has a least set bit
 pub some_least : (m : Bool) (w x r : ℕ) → 0 < w → x < 2 ^ w → (x ≡ 0 → ⊥) →
     IsLeastMember (read_in m w (bit_set w x)) r → r < w
