@@ -106,6 +106,17 @@ fn run<W: Counted>(walk: &mut W, steps: &[Step], answers: &mut [Option<u32>]) ->
     scans
 }
 
+// Takes a walk that has given nothing yet through the steps, and drops it.
+fn run_whole<W: Counted + Drop>(walk: W, steps: &[Step], answers: &mut [Option<u32>]) -> Scans
+    requires places { length answers.old ≡ length steps.now }
+    requires fresh { (W.walk walk).items ≡ 0 }
+    ensures answers { answers.new ≡ answers_of steps.now (W.walk walk).remaining }
+    ensures scans { AreScanBounded result answers.new (W.walk walk).words }
+{
+    let mut walk = walk;
+    run(&mut walk, steps, answers)
+}
+
 /// Takes one iterator over a set in the order `E`, of its ones or of its zeros, through the steps,
 /// and writes what each returns.
 ///
@@ -134,11 +145,9 @@ pub fn replay_walk<B: Bits, E: Endian>(
     ensures scans { AreScanBounded result answers.new ((B.big bits.now).capacity / B.width) }
 {
     if ones {
-        let mut walk = bits.iter_ones_in::<E>();
-        run(&mut walk, steps, answers)
+        run_whole(bits.iter_ones_in::<E>(), steps, answers)
     } else {
-        let mut walk = bits.iter_zeros_in::<E>();
-        run(&mut walk, steps, answers)
+        run_whole(bits.iter_zeros_in::<E>(), steps, answers)
     }
 }
 
