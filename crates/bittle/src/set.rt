@@ -342,11 +342,17 @@ impl<T: BitsOwned, U: Endian> BitsOwned for Set<T, U> {
 
     #[inline]
     fn zeros() -> Set<T, U> {
-        Set::new_in(T::zeros())
+        Set {
+            bits: T::zeros(),
+            order: PhantomData,
+        }
     }
 
     #[inline]
     fn ones() -> Set<T, U> {
-        Set::new_in(T::ones())
+        Set {
+            bits: T::ones(),
+            order: PhantomData,
+        }
     }
 }

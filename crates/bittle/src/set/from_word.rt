@@ -8,6 +8,7 @@ use super::Set;
 use bittle_bits::bits_owned::BitsOwned;
 use bittle_bits::endian::Endian;
 use bittle_bits::one_word::Integer;
+use std::marker::PhantomData;
 
 impl<T: Integer, E: Endian> From<T> for Set<T, E> {
     ghost from_gives = { λ word s. s.bits ≡ word };
@@ -25,6 +26,9 @@ impl<T: Integer, E: Endian> Default for Set<T, E> {
 
     #[inline]
     fn default() -> Set<T, E> {
-        Set::new_in(T::zeros())
+        Set {
+            bits: T::zeros(),
+            order: PhantomData,
+        }
     }
 }
