@@ -26,7 +26,6 @@ pub mod RowOperations
 pub mod RowSets
 pub mod RowSizes
 pub mod RowWords
-pub mod SearchBounds
 pub mod Searches
 pub mod RowSpans
 pub mod Steps

@@ -1,8 +1,8 @@
 -- Rows of elements after a change of each index of a span.
-use Rattle.std.proofs.Common.{◌≡◌, ℕ, ◌+◌, ◌*◌, ◌/◌, ◌<◌, ◌≤◌, ◌≢◌, ◌⊎◌, Bool, inl, inr, sym, ap, ◌∙◌, arith, List, length, get_or, set}
+use Rattle.std.proofs.Common.{◌≡◌, ℕ, ◌+◌, ◌*◌, ◌<◌, ◌≤◌, ◌≢◌, ◌⊎◌, Bool, inl, inr, sym, ap, ◌∙◌, arith, List, length, get_or, set}
 use Rattle.std.proofs.Math.Path.{fun_ext}
-use Rattle.std.proofs.Math.Nat.{div-add-mod', mul-le-mul_right}
-use Rattle.std.proofs.lemmas.Nat.{mul-add-lt, mod_below}
+use Rattle.std.proofs.Math.Nat.{mul-le-mul_right}
+use Rattle.std.proofs.lemmas.Nat.{mul-add-lt}
 use Rattle.std.proofs.lemmas.Bool.{cases_eq, cases_lt}
 use Rattle.bittle_bits.specs.RowLawProofs.{row_has-past}
 use Rattle.bittle_bits.specs.Orders.{place, read_in}
@@ -93,7 +93,3 @@ module _ {X : Type 0} (change : Bool → Bool) (m : Bool) (w c n q : ℕ) (big :
 pub some_each : (to n c : ℕ) → 0 < to → to ≤ n * c → 0 < c
 some_each to n c h l = elim (cases_eq c 0)
     [ inl z ↦ absurd (let t : to ≤ n * 0 = rw z at l in omega arith) | inr s ↦ omega arith ]
-
--- an index lies before the end of its element
-pub before_end : (i c : ℕ) → 0 < c → i < i / c * c + c
-before_end i c h = omega (arith, div-add-mod' i c, mod_below i c h)

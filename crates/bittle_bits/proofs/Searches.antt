@@ -1,8 +1,7 @@
 -- A search for the first or the last member between two numbers, word by word.
-use Rattle.std.proofs.Common.{◌≡◌, ℕ, ◌+◌, ◌-◌, ◌*◌, ◌/◌, ◌%◌, ◌^◌, ◌<◌, ◌≤◌, ◌⊎◌, Bool, true, false, not, ◌&&◌, ◌||◌, ◌==◌, nat_lt, inl, inr, Some, None, refl, sym, ap, ◌∙◌, arith, bit_and, bit_or}
-use Rattle.std.proofs.Math.Nat.{div-add-mod', mul-le-mul_right, mod-eq_of_lt}
-use Rattle.std.proofs.lemmas.Nat.{mod_below}
-use Rattle.std.proofs.lemmas.Bool.{cases_lt, cases_eq, eq-eqb, ne_eqb, lt-ltb, le-ltb, ltb-true, and_parts, true≢false}
+use Rattle.std.proofs.Common.{◌≡◌, ℕ, ◌+◌, ◌-◌, ◌*◌, ◌^◌, ◌<◌, ◌≤◌, ◌≢◌, ◌⊎◌, Bool, true, false, not, ◌&&◌, ◌||◌, ◌==◌, nat_lt, inl, inr, Some, None, refl, sym, ap, ◌∙◌, arith, bit_and, bit_or}
+use Rattle.std.proofs.Math.Nat.{mod-eq_of_lt}
+use Rattle.std.proofs.lemmas.Bool.{cases_lt, cases_eq, eq-eqb, ne_eqb, lt-ltb, le-ltb, ltb-true, ltb-false, and_parts, true≢false}
 use Rattle.bittle_bits.specs.BitPatterns.{bit_has, bit_set}
 use Rattle.bittle_bits.specs.Orders.{place, read_in}
 use Rattle.bittle_bits.specs.PlainSet.{PlainSet, full_set_from, with_index, empty_set, lacks, IsLeastMember, IsGreatestMember}
@@ -15,18 +14,27 @@ use Rattle.bittle_bits.proofs.OnesOrZeros.{ones_or_zeros-members}
 use Rattle.bittle_bits.proofs.WordCalls.{at_mask}
 use Rattle.bittle_bits.proofs.Words.{digit_at}
 
--- no member was found up to word k, whose pattern d has the members from one number on
-pub record SearchesForward (m : Bool) (w : ℕ) (s : PlainSet) (from k d : ℕ) : Type 0 where
-  pub none : NoneIn (read_in m w s) from (k * w)
-  pub has : (i : ℕ) → i < w → (read_in m w (bit_set w d)).has i ≡ not (nat_lt (k * w + i) from)
-      && (read_in m w s).has (k * w + i)
+-- the members that are sought in word k, whose masked pattern is d, are those that are inside
+abbrev pub Seeks : Bool → ℕ → PlainSet → (ℕ → Bool) → ℕ → ℕ → Type 0
+Seeks m w t inside k d = (i : ℕ) → i < w →
+    (read_in m w (bit_set w d)).has i ≡ inside (k * w + i) && t.has (k * w + i)
 
--- no member was found from the end of word k on, whose pattern d has the members below another
--- number
-pub record SearchesBackward (m : Bool) (w : ℕ) (s : PlainSet) (to k d : ℕ) : Type 0 where
-  pub none : NoneIn (read_in m w s) (k * w + w) to
-  pub has : (i : ℕ) → i < w → (read_in m w (bit_set w d)).has i ≡ nat_lt (k * w + i) to
-      && (read_in m w s).has (k * w + i)
+-- no member was found from one number on and before word k, whose pattern is d
+pub record SearchesForward (m : Bool) (w : ℕ) (t : PlainSet) (from k d : ℕ) : Type 0 where
+  pub begun : from ≤ k * w + w
+  pub none : NoneIn t from (k * w)
+  pub seeks : Seeks m w t (λ j. not (nat_lt j from)) k d
+
+-- no member was found past word k, whose pattern is d, and before another number
+pub record SearchesBackward (m : Bool) (w : ℕ) (t : PlainSet) (to k d : ℕ) : Type 0 where
+  pub begun : k * w < to
+  pub none : NoneIn t (k * w + w) to
+  pub seeks : Seeks m w t (λ j. nat_lt j to) k d
+
+-- the word before one that is not the first ends where that begins
+pub word_before : (w k : ℕ) → 0 < k → k * w ≡ (k - 1) * w + w
+word_before w k some = let next : (k - 1) + 1 ≡ k = omega arith in
+    ap (λ n. n * w) (sym next) ∙ omega arith
 
 kept_by : (a b : Bool) → a && b ≡ false → a ≡ true → b ≡ false
 kept_by true b h e = h
@@ -38,225 +46,185 @@ swapped true false = refl
 swapped false true = refl
 swapped false false = refl
 
-module _ (m : Bool) (w : ℕ) (s : PlainSet) (word : 0 < w) where
-  abbrev t : PlainSet
-  t = read_in m w s
-
-  -- ---- from the front
-
-  -- a search begins at the word that holds `from`, masked from there on
-  pub search_start : (from k d e : ℕ) → k ≡ from / w → bit_set w d ≡ word_of w s k →
-      read_in m w (bit_set w e) ≡ full_set_from w (from % w) →
-      SearchesForward m w s from k (bit_and d e)
-  search_start from k d e at is mask =
-      let split : from ≡ k * w + from % w = rw at (sym (div-add-mod' from w)) in
-      record {
-        none = λ j lo hi. absurd (omega arith);
-        has = λ i h.
-            ap (λ p. p (place m w i)) (bit_has-and w d e)
-            ∙ ap (λ b. b && bit_has w e (place m w i)) (digit_at m w k s d word is i h)
-            ∙ ap (λ u. t.has (k * w + i) && u.has i) mask
-            ∙ ap (λ b. t.has (k * w + i) && (b && not (nat_lt i (from % w)))) (lt-ltb i w h)
-            ∙ swapped (t.has (k * w + i)) (not (nat_lt i (from % w)))
-            ∙ ap (λ b. not b && t.has (k * w + i)) (same i (cases_lt i (from % w)) split);
-      }
-    where
-      same : (i : ℕ) → (i < from % w) ⊎ (from % w ≤ i) → from ≡ k * w + from % w →
-          nat_lt i (from % w) ≡ nat_lt (k * w + i) from
-      same i (inl l) split = rw (lt-ltb i (from % w) l, lt-ltb (k * w + i) from (omega arith)) refl
-      same i (inr g) split = rw (le-ltb i (from % w) g, le-ltb (k * w + i) from (omega arith)) refl
-
-  -- below a place of word k
-  none_up_to : (from k d r : ℕ) → SearchesForward m w s from k d → r ≤ w →
-      ((i : ℕ) → i < r → (read_in m w (bit_set w d)).has i ≡ false) → NoneIn t from (k * w + r)
-  none_up_to from k d r h low none j lo hi =
-      elim (cases_lt j (k * w)) [
-        | inl l ↦ h.none j lo l
-        | inr g ↦
-            let i = j - k * w in
-            let back : k * w + i ≡ j = omega arith in
-            let here : not (nat_lt j from) && t.has j
-            ≡ false = rw back at (sym (h.has i (omega arith)) ∙ none i (omega arith)) in
-            kept_by (not (nat_lt j from)) (t.has j) here (ap not (le-ltb j from lo))
-      ]
-
-  -- where the word has no member that is sought, the search goes on at the next word
-  pub search_next : (from k d r d' : ℕ) → from / w ≤ k → SearchesForward m w s from k d →
-      IsLeastMember (read_in m w (bit_set w d)) r → w ≤ r → bit_set w d' ≡ word_of w s (k + 1) →
-      SearchesForward m w s from (k + 1) d'
-  search_next from k d r d' past h least end is =
-      let next : (k + 1) * w ≡ k * w + w = omega arith in
-      let up : from / w * w ≤ k * w = mul-le-mul_right w past in
-      record {
-        none = rw next (none_up_to from k d w h (omega arith)
-            (λ i l. least.none_below i (omega arith)));
-        has = λ i l. digit_at m w (k + 1) s d' word is i l
-            ∙ sym (ap (λ b. not b && t.has ((k + 1) * w + i))
-            (le-ltb ((k + 1) * w + i) from
-            (omega (arith, div-add-mod' from w, mod_below from w word))));
-      }
-
-  -- the least member of the word, where it is below `to`, is the first of the range
-  pub search_end : (from to k d r : ℕ) → SearchesForward m w s from k d →
-      IsLeastMember (read_in m w (bit_set w d)) r → r < w → k * w + r < to →
-      IsFirstIn t from to (Some (k * w + r))
-  search_end from to k d r h least low below =
-      let both = and_parts (not (nat_lt (k * w + r) from)) (t.has (k * w + r))
-      (sym (h.has r low) ∙ least.is_member low) in (
-        from_on (cases_lt (k * w + r) from) both.0,
-        below,
-        both.1,
-        none_up_to from k d r h least.within least.none_below,
-      )
-    where
-      from_on : (k * w + r < from) ⊎ (from ≤ k * w + r) → not (nat_lt (k * w + r) from) ≡ true →
-          from ≤ k * w + r
-      from_on (inl l) e = absurd (true≢false (sym (sym (ap not (lt-ltb (k * w + r) from l)) ∙ e)))
-      from_on (inr g) e = g
-
-  -- where the least member of the word is not below `to`, the range has none
-  pub search_past : (from to k d r : ℕ) → SearchesForward m w s from k d →
-      IsLeastMember (read_in m w (bit_set w d)) r → to ≤ k * w + r → IsFirstIn t from to None
-  search_past from to k d r h least past j lo hi = none_up_to from k d r h least.within
-      least.none_below j lo (omega arith)
-
-  -- ---- from the back
-
-  -- a search from the back begins at the word that holds the number below `to`, masked there
-  pub search_back_start : (to k d e n o top : ℕ) → 0 < to → k ≡ (to - 1) / w → top ≡ (to - 1) % w →
-      bit_set w d ≡ word_of w s k → read_in m w (bit_set w e) ≡ full_set_from w top →
-      e < 2 ^ w → n ≡ 2 ^ w - 1 - e → read_in m w (bit_set w o) ≡ with_index (empty_set w) top →
-      SearchesBackward m w s to k (bit_and d (bit_or n o))
-  unfolding lacks
-  search_back_start to k d e n o top some at rest is from fits other one =
-      let split : to ≡ k * w + top + 1 = rw (at, rest) (omega (arith, div-add-mod' (to - 1) w)) in
-      let low : top < w = rw rest (mod_below (to - 1) w word) in
-      record {
-        none = λ j lo hi. absurd (omega arith);
-        has = λ i h.
-            ap (λ p. p (place m w i)) (bit_has-and w d (bit_or n o))
-            ∙ ap (λ b. b && bit_has w (bit_or n o) (place m w i)) (digit_at m w k s d word is i h)
-            ∙ ap (λ p. t.has (k * w + i) && p (place m w i)) (bit_has-or w n o)
-            ∙ ap (λ p. t.has (k * w + i) && (p (place m w i) || bit_has w o (place m w i)))
-            (ap (bit_has w) other ∙ bit_has-not w e fits)
-            ∙ ap (λ b. t.has (k * w + i)
-            && ((b && not (bit_has w e (place m w i))) || bit_has w o (place m w i)))
-            (lt-ltb (place m w i) w (place_in_word m w i h))
-            ∙ ap (λ u. t.has (k * w + i) && (not (u.has i) || bit_has w o (place m w i))) from
-            ∙ ap (λ b. t.has (k * w + i)
-            && (not (b && not (nat_lt i top)) || bit_has w o (place m w i))) (lt-ltb i w h)
-            ∙ ap (λ b. t.has (k * w + i) && (not (not (nat_lt i top)) || b))
-            (at_mask m w d o top word one i ∙ ap (λ j. i == j) (mod-eq_of_lt low))
-            ∙ swapped (t.has (k * w + i)) (not (not (nat_lt i top)) || (i == top))
-            ∙ ap (λ b. b && t.has (k * w + i)) (same i (cases_lt i top) split);
-      }
-    where
-      same : (i : ℕ) → (i < top) ⊎ (top ≤ i) → to ≡ k * w + top + 1 →
-          not (not (nat_lt i top)) || (i == top) ≡ nat_lt (k * w + i) to
-      same i (inl l) split = rw (lt-ltb i top l, lt-ltb (k * w + i) to (omega arith)) refl
-      same i (inr g) split = elim (cases_eq i top) [
-        | inl z ↦ rw (le-ltb i top g, eq-eqb i top z, lt-ltb (k * w + i) to (omega arith)) refl
-        | inr n ↦ rw (le-ltb i top g, ne_eqb i top n, le-ltb (k * w + i) to (omega arith)) refl
-      ]
-
-  -- from a place of word k on
-  none_down_to : (to k d q : ℕ) → SearchesBackward m w s to k d →
-      ((i : ℕ) → q ≤ i → i < w → (read_in m w (bit_set w d)).has i ≡ false) →
-      NoneIn t (k * w + q) to
-  none_down_to to k d q h none j lo hi =
-      elim (cases_lt j (k * w + w)) [
-        | inl l ↦
-            let i = j - k * w in
-            let back : k * w + i ≡ j = omega arith in
-            let here : nat_lt j to && t.has j
-            ≡ false = rw back at (sym (h.has i (omega arith))
-            ∙ none i (omega arith) (omega arith)) in
-            kept_by (nat_lt j to) (t.has j) here (lt-ltb j to hi)
-        | inr g ↦ h.none j g hi
-      ]
-
-  -- above the greatest member of word k
-  none_above_greatest : (to k d r : ℕ) → SearchesBackward m w s to k d →
-      IsGreatestMember (read_in m w (bit_set w d)) r → NoneIn t (k * w + (w - r)) to
-  none_above_greatest to k d r h greatest =
-      let low = greatest.within in
-      none_down_to to k d (w - r) h (λ i lo hi.
-      let turned : w - 1 - (w - 1 - i) ≡ i = omega arith in
-      rw turned at (greatest.none_above (w - 1 - i) (omega arith)))
-
-  -- where the word has no member that is sought, the search goes back to the word before
-  pub search_back_next : (to k d r d' : ℕ) → 0 < k → k ≤ (to - 1) / w →
-      SearchesBackward m w s to k d → IsGreatestMember (read_in m w (bit_set w d)) r → w ≤ r →
-      bit_set w d' ≡ word_of w s (k - 1) → SearchesBackward m w s to (k - 1) d'
-  search_back_next to k d r d' some past h greatest end is =
-      let one_less : (k - 1) + 1 ≡ k = omega arith in
-      let before : k * w ≡ (k - 1) * w + w = ap (λ n. n * w) (sym one_less) ∙ omega arith in
-      let up : k * w ≤ (to - 1) / w * w = mul-le-mul_right w past in
-      let whole : k * w + (w - r) ≡ (k - 1) * w + w = omega (arith, before) in
-      let wide : w ≤ k * w = omega (arith, before) in
-      record {
-        none = rw whole at (none_above_greatest to k d r h greatest);
-        has = λ i l. digit_at m w (k - 1) s d' word is i l
-            ∙ sym (ap (λ b. b && t.has ((k - 1) * w + i))
-            (lt-ltb ((k - 1) * w + i) to (omega (arith, before, div-add-mod' (to - 1) w, up))));
-      }
-
-  -- the greatest member of the word, where it is not below `from`, is the last of the range
-  pub search_back_end : (from to k d r : ℕ) → SearchesBackward m w s to k d →
-      IsGreatestMember (read_in m w (bit_set w d)) r → r < w → from ≤ k * w + (w - 1 - r) →
-      IsLastIn t from to (Some (k * w + (w - 1 - r)))
-  search_back_end from to k d r h greatest low above =
-      let both = and_parts (nat_lt (k * w + (w - 1 - r)) to) (t.has (k * w + (w - 1 - r)))
-      (sym (h.has (w - 1 - r) (omega arith)) ∙ greatest.is_member low) in
-      let next : k * w + (w - r) ≡ k * w + (w - 1 - r) + 1 = omega arith in (
-        above,
-        ltb-true (k * w + (w - 1 - r)) to both.0,
-        both.1,
-        rw next at (none_above_greatest to k d r h greatest),
-      )
-
-  -- where the greatest member of the word is below `from`, the range has none
-  pub search_back_past : (from to k d r : ℕ) → SearchesBackward m w s to k d →
-      IsGreatestMember (read_in m w (bit_set w d)) r → k * w + (w - r) ≤ from →
-      IsLastIn t from to None
-  search_back_past from to k d r h greatest past j lo hi = none_above_greatest to k d r h greatest j
-      (omega arith) hi
+is_false : (b : Bool) → not b ≡ true → b ≡ false
+is_false true h = absurd (true≢false (sym h))
+is_false false h = refl
 
 -- a search for the bits of a kind, in a set in an order
 module _ (ones m : Bool) (w : ℕ) (big : PlainSet) (word : 0 < w)
     (whole : (words : ℕ) × (big.capacity ≡ words * w)) where
-  abbrev of_kind : PlainSet
-  of_kind = ones_or_zeros ones big
+  abbrev s : PlainSet
+  s = ones_or_zeros ones big
 
-  abbrev sought : PlainSet
-  sought = ones_or_zeros ones (read_in m w big)
+  abbrev t : PlainSet
+  t = ones_or_zeros ones (read_in m w big)
 
-  in_order : sought ≡ read_in m w of_kind
-  in_order = ones_or_zeros-members ones m w big word whole
+  -- a place of word k
+  has_at : (k d i : ℕ) → bit_set w d ≡ word_of w s k → i < w →
+      bit_has w d (place m w i) ≡ t.has (k * w + i)
+  has_at k d i is h = digit_at m w k s d word is i h
+      ∙ sym (ap (λ t. t.has (k * w + i)) (ones_or_zeros-members ones m w big word whole))
 
-  -- the least member of the word, where it is below `to`, is the first that is sought
-  pub first_found : (from to k d r : ℕ) → SearchesForward m w of_kind from k d →
-      IsLeastMember (read_in m w (bit_set w d)) r → r < w → k * w + r < to →
-      IsFirstIn sought from to (Some (k * w + r))
-  first_found from to k d r h least low below = rw in_order
-      (search_end m w of_kind word from to k d r h least low below)
+  -- a word that is masked
+  masked : (inside : ℕ → Bool) (k d e : ℕ) → bit_set w d ≡ word_of w s k →
+      ((i : ℕ) → i < w → bit_has w e (place m w i) ≡ inside (k * w + i)) →
+      Seeks m w t inside k (bit_and d e)
+  masked inside k d e is mask i h =
+      ap (λ p. p (place m w i)) (bit_has-and w d e)
+      ∙ ap (λ b. b && bit_has w e (place m w i)) (has_at k d i is h)
+      ∙ ap (λ b. t.has (k * w + i) && b) (mask i h)
+      ∙ swapped (t.has (k * w + i)) (inside (k * w + i))
 
-  -- where the least member of the word is not below `to`, nothing that is sought is there
-  pub first_past : (from to k d r : ℕ) → SearchesForward m w of_kind from k d →
-      IsLeastMember (read_in m w (bit_set w d)) r → to ≤ k * w + r → IsFirstIn sought from to None
-  first_past from to k d r h least past = rw in_order
-      (search_past m w of_kind word from to k d r h least past)
+  -- a word that is inside as a whole
+  unmasked : (inside : ℕ → Bool) (k d : ℕ) → bit_set w d ≡ word_of w s k →
+      ((i : ℕ) → i < w → inside (k * w + i) ≡ true) → Seeks m w t inside k d
+  unmasked inside k d is all i h =
+      has_at k d i is h ∙ sym (ap (λ b. b && t.has (k * w + i)) (all i h))
 
-  -- the greatest member of the word, where it is not below `from`, is the last that is sought
-  pub last_found : (from to k d r : ℕ) → SearchesBackward m w of_kind to k d →
-      IsGreatestMember (read_in m w (bit_set w d)) r → r < w → from ≤ k * w + (w - 1 - r) →
-      IsLastIn sought from to (Some (k * w + (w - 1 - r)))
-  last_found from to k d r h greatest low above = rw in_order
-      (search_back_end m w of_kind word from to k d r h greatest low above)
+  -- a number of word k that is inside, and is no member of its pattern
+  passed : (inside : ℕ → Bool) (k d j : ℕ) → Seeks m w t inside k d → k * w ≤ j → j < k * w + w →
+      (read_in m w (bit_set w d)).has (j - k * w) ≡ false → inside j ≡ true → t.has j ≡ false
+  passed inside k d j h lo hi none within =
+      let back : k * w + (j - k * w) ≡ j = omega arith in
+      kept_by (inside j) (t.has j)
+      (rw back at (sym (h (j - k * w) (omega arith)) ∙ none)) within
 
-  -- where the greatest member of the word is below `from`, nothing that is sought is there
-  pub last_past : (from to k d r : ℕ) → SearchesBackward m w of_kind to k d →
+  -- ---- from the front
+
+  -- a search begins at place r of the word that holds `from`, masked from there on
+  pub search_start : (from k r d e : ℕ) → from ≡ k * w + r → r < w → bit_set w d ≡ word_of w s k →
+      read_in m w (bit_set w e) ≡ full_set_from w r →
+      SearchesForward m w t from k (bit_and d e)
+  search_start from k r d e split low is mask = record {
+    begun = omega arith;
+    none = λ j lo hi. absurd (omega arith);
+    seeks = masked (λ j. not (nat_lt j from)) k d e is (λ i h. ap (λ u. u.has i) mask
+        ∙ ap (λ b. b && not (nat_lt i r)) (lt-ltb i w h) ∙ ap not (same i (cases_lt i r)));
+  }
+    where
+      same : (i : ℕ) → (i < r) ⊎ (r ≤ i) → nat_lt i r ≡ nat_lt (k * w + i) from
+      same i (inl l) = rw (lt-ltb i r l, lt-ltb (k * w + i) from (omega arith)) refl
+      same i (inr g) = rw (le-ltb i r g, le-ltb (k * w + i) from (omega arith)) refl
+
+  -- below the least member of word k
+  none_below_least : (from k d r : ℕ) → SearchesForward m w t from k d →
+      IsLeastMember (read_in m w (bit_set w d)) r → NoneIn t from (k * w + r)
+  none_below_least from k d r h least j lo hi =
+      let within = least.within in
+      elim (cases_lt j (k * w)) [
+        | inl l ↦ h.none j lo l
+        | inr g ↦ passed (λ j. not (nat_lt j from)) k d j h.seeks g (omega arith)
+            (least.none_below (j - k * w) (omega arith)) (ap not (le-ltb j from lo))
+      ]
+
+  -- where the word has no member that is sought, the search goes on at the next word
+  pub search_next : (from k d r d' : ℕ) → SearchesForward m w t from k d →
+      IsLeastMember (read_in m w (bit_set w d)) r → r ≡ w → bit_set w d' ≡ word_of w s (k + 1) →
+      SearchesForward m w t from (k + 1) d'
+  search_next from k d r d' h least end is =
+      let next : (k + 1) * w ≡ k * w + r = omega (arith, end) in
+      record {
+        begun = omega (arith, h.begun, next);
+        none = rw next (none_below_least from k d r h least);
+        seeks = unmasked (λ j. not (nat_lt j from)) (k + 1) d' is
+            (λ i l. ap not (le-ltb ((k + 1) * w + i) from (omega (arith, h.begun, next, end))));
+      }
+
+  -- the least member of the word, where it is below `to`, is the first of the range
+  pub first_found : (from to k d r : ℕ) → SearchesForward m w t from k d →
+      IsLeastMember (read_in m w (bit_set w d)) r → r ≢ w → k * w + r < to →
+      IsFirstIn t from to (Some (k * w + r))
+  first_found from to k d r h least some below =
+      let low : r < w = omega (arith, least.within, some) in
+      let both = and_parts (not (nat_lt (k * w + r) from)) (t.has (k * w + r))
+      (sym (h.seeks r low) ∙ least.is_member low) in (
+        ltb-false (k * w + r) from (is_false (nat_lt (k * w + r) from) both.0),
+        below,
+        both.1,
+        none_below_least from k d r h least,
+      )
+
+  -- where the least member of the word is not below `to`, the range has none
+  pub first_past : (from to k d r : ℕ) → SearchesForward m w t from k d →
+      IsLeastMember (read_in m w (bit_set w d)) r → to ≤ k * w + r → IsFirstIn t from to None
+  first_past from to k d r h least past j lo hi =
+      none_below_least from k d r h least j lo (omega arith)
+
+  -- ---- from the back
+
+  -- a search from the back begins at the word that holds the number below `to`, masked there
+  pub search_back_start : (to k d e n o top : ℕ) → to ≡ k * w + top + 1 → top < w →
+      bit_set w d ≡ word_of w s k → read_in m w (bit_set w e) ≡ full_set_from w top →
+      e < 2 ^ w → n ≡ 2 ^ w - 1 - e → read_in m w (bit_set w o) ≡ with_index (empty_set w) top →
+      SearchesBackward m w t to k (bit_and d (bit_or n o))
+  unfolding lacks
+  search_back_start to k d e n o top split low is from fits other one = record {
+    begun = omega arith;
+    none = λ j lo hi. absurd (omega arith);
+    seeks = masked (λ j. nat_lt j to) k d (bit_or n o) is (λ i h.
+        ap (λ p. p (place m w i)) (bit_has-or w n o)
+        ∙ ap (λ p. p (place m w i) || bit_has w o (place m w i))
+        (ap (bit_has w) other ∙ bit_has-not w e fits)
+        ∙ ap (λ b. (b && not (bit_has w e (place m w i))) || bit_has w o (place m w i))
+        (lt-ltb (place m w i) w (place_in_word m w i h))
+        ∙ ap (λ u. not (u.has i) || bit_has w o (place m w i)) from
+        ∙ ap (λ b. not (b && not (nat_lt i top)) || bit_has w o (place m w i)) (lt-ltb i w h)
+        ∙ ap (λ b. not (not (nat_lt i top)) || b)
+        (at_mask m w d o top word one i ∙ ap (λ j. i == j) (mod-eq_of_lt low))
+        ∙ same i (cases_lt i top));
+  }
+    where
+      same : (i : ℕ) → (i < top) ⊎ (top ≤ i) →
+          not (not (nat_lt i top)) || (i == top) ≡ nat_lt (k * w + i) to
+      same i (inl l) = rw (lt-ltb i top l, lt-ltb (k * w + i) to (omega arith)) refl
+      same i (inr g) = elim (cases_eq i top) [
+        | inl z ↦ rw (le-ltb i top g, eq-eqb i top z, lt-ltb (k * w + i) to (omega arith)) refl
+        | inr n ↦ rw (le-ltb i top g, ne_eqb i top n, le-ltb (k * w + i) to (omega arith)) refl
+      ]
+
+  -- above the greatest member of word k
+  none_above_greatest : (to k d r : ℕ) → SearchesBackward m w t to k d →
+      IsGreatestMember (read_in m w (bit_set w d)) r → NoneIn t (k * w + (w - r)) to
+  none_above_greatest to k d r h greatest j lo hi =
+      let within = greatest.within in
+      elim (cases_lt j (k * w + w)) [
+        | inl l ↦
+            let i = w - 1 - (j - k * w) in
+            let turned : w - 1 - i ≡ j - k * w = omega arith in
+            passed (λ j. nat_lt j to) k d j h.seeks (omega arith) l
+            (rw turned at (greatest.none_above i (omega arith))) (lt-ltb j to hi)
+        | inr g ↦ h.none j g hi
+      ]
+
+  -- where the word has no member that is sought, the search goes back to the word before
+  pub search_back_next : (to k d r d' : ℕ) → 0 < k → SearchesBackward m w t to k d →
+      IsGreatestMember (read_in m w (bit_set w d)) r → r ≡ w →
+      bit_set w d' ≡ word_of w s (k - 1) → SearchesBackward m w t to (k - 1) d'
+  search_back_next to k d r d' some h greatest end is =
+      let before = word_before w k some in
+      let end : k * w + (w - r) ≡ (k - 1) * w + w = omega (arith, before, end) in
+      record {
+        begun = omega (arith, before, h.begun);
+        none = rw end at (none_above_greatest to k d r h greatest);
+        seeks = unmasked (λ j. nat_lt j to) (k - 1) d' is
+            (λ i l. lt-ltb ((k - 1) * w + i) to (omega (arith, before, h.begun)));
+      }
+
+  -- the greatest member of the word, where it is not below `from`, is the last of the range
+  pub last_found : (from to k d r : ℕ) → SearchesBackward m w t to k d →
+      IsGreatestMember (read_in m w (bit_set w d)) r → r ≢ w → from ≤ k * w + (w - 1 - r) →
+      IsLastIn t from to (Some (k * w + (w - 1 - r)))
+  last_found from to k d r h greatest some above =
+      let low : r < w = omega (arith, greatest.within, some) in
+      let i = k * w + (w - 1 - r) in
+      let both = and_parts (nat_lt i to) (t.has i)
+      (sym (h.seeks (w - 1 - r) (omega arith)) ∙ greatest.is_member low) in
+      let next : k * w + (w - r) ≡ i + 1 = omega arith in
+      (above, ltb-true i to both.0, both.1, rw next at (none_above_greatest to k d r h greatest))
+
+  -- where the greatest member of the word is below `from`, the range has none
+  pub last_past : (from to k d r : ℕ) → SearchesBackward m w t to k d →
       IsGreatestMember (read_in m w (bit_set w d)) r → k * w + (w - r) ≤ from →
-      IsLastIn sought from to None
-  last_past from to k d r h greatest past = rw in_order
-      (search_back_past m w of_kind word from to k d r h greatest past)
+      IsLastIn t from to None
+  last_past from to k d r h greatest past j lo hi =
+      none_above_greatest to k d r h greatest j (omega arith) hi

@@ -3,6 +3,7 @@
 pub(crate) mod buffer;
 pub(crate) mod cursor;
 pub mod decided;
+pub(crate) mod ends;
 pub mod range_count;
 pub(crate) mod row;
 pub mod sealed;

@@ -6,19 +6,9 @@ ghost use Rattle.bittle_bits.specs.Values.{set_in, ShapeFits};
 
 use crate::bits::Bits;
 use crate::endian::Endian;
+use crate::internal::ends::ends;
 use crate::one_word::range;
 use crate::word::Word;
-
-/// Counts the set bits of word `k`.
-#[inline]
-pub fn count_word<B: Bits, E: Endian>(bits: &B, k: u32) -> u32
-    requires fits { ShapeFits B.Shape bits.now }
-    requires word { k * B.width < (B.big bits.now).capacity }
-    ensures { let ours = set_in B.Shape E.Endian bits.now in
-        members_below ours (k * B.width) + result ≡ members_below ours ((k + 1) * B.width) }
-{
-    bits.nth_leaf_word(k).count_ones()
-}
 
 /// Counts the set bits of word `k` from one place of it on and before another.
 #[inline]
@@ -49,15 +39,13 @@ pub fn count_ones<B: Bits, E: Endian>(bits: &B, from: u32, to: u32) -> u32
         return 0;
     }
     let width = <B::LeafWord as Word>::width();
-    let first = from / width;
-    let last = (to - 1) / width;
-    let end = to - last * width;
+    let (first, begin, last, top) = ends(width, from, to);
     if first == last {
-        return count_in_word::<B, E>(bits, first, from % width, end);
+        return count_in_word::<B, E>(bits, first, begin, top + 1);
     }
-    let mut count = count_in_word::<B, E>(bits, first, from % width, width);
+    let mut count = count_in_word::<B, E>(bits, first, begin, width);
     for k in first + 1..last {
-        count += count_word::<B, E>(bits, k);
+        count += count_in_word::<B, E>(bits, k, 0, width);
     }
-    count + count_in_word::<B, E>(bits, last, 0, end)
+    count + count_in_word::<B, E>(bits, last, 0, top + 1)
 }

@@ -11,6 +11,7 @@ ghost use Rattle.bittle_bits.specs.Words.{ReplacesWord, word_of};
 
 use crate::bits_owned::BitsOwned;
 use crate::endian::Endian;
+use crate::internal::ends::ends;
 use crate::internal::source::{Kind, Ones, Zeros};
 use crate::one_word::{Operation, RangeOperation};
 use crate::word::Word;
@@ -127,6 +128,26 @@ fn assign_in_element<T: BitsOwned, E: Endian, O: RangeOperation>(
     elements[at as usize].assign_range_by_operation::<E, O>(from, to);
 }
 
+// Returns how many bits an element has, and where the first and the last index of a range lie: the
+// element, and the index in it, of each.
+#[inline]
+fn element_ends<T: BitsOwned>(len: usize, from: u32, to: u32) -> (u32, u32, u32, u32, u32)
+    requires fits { IsTrue T.indexable }
+    requires ordered { from < to }
+    requires within { to ≤ len * T.type_capacity }
+    ensures each { result.0 ≡ T.type_capacity }
+    ensures from { from ≡ result.1 * T.type_capacity + result.2 }
+    ensures begin { result.2 < T.type_capacity }
+    ensures to { to ≡ result.3 * T.type_capacity + result.4 + 1 }
+    ensures top { result.4 < T.type_capacity }
+    ensures in_order { result.1 ≤ result.3 }
+    ensures last { result.3 < len }
+{
+    let each = T::bits();
+    let (first, begin, last, top) = ends(each, from, to);
+    (each, first, begin, last, top)
+}
+
 /// Combines each bit from `from` on and before `to` with a set one. Of the elements between the
 /// first and the last it is each bit, by one mask that is the same for all.
 pub fn assign_range<T: BitsOwned, E: Endian, O: RangeOperation>(
@@ -146,19 +167,16 @@ pub fn assign_range<T: BitsOwned, E: Endian, O: RangeOperation>(
     if from == to {
         return;
     }
-    let each = T::bits();
-    let first = from / each;
-    let last = (to - 1) / each;
-    let end = to - last * each;
+    let (each, first, begin, last, top) = element_ends::<T>(elements.len(), from, to);
     if first == last {
-        assign_in_element::<T, E, O>(elements, first, from - first * each, end);
+        assign_in_element::<T, E, O>(elements, first, begin, top + 1);
         return;
     }
-    assign_in_element::<T, E, O>(elements, first, from - first * each, each);
+    assign_in_element::<T, E, O>(elements, first, begin, each);
     for at in first + 1..last {
         assign_in_element::<T, E, O>(elements, at, 0, each);
     }
-    assign_in_element::<T, E, O>(elements, last, 0, end);
+    assign_in_element::<T, E, O>(elements, last, 0, top + 1);
 }
 
 /// Combines the elements of the common beginning, each with its counterpart.

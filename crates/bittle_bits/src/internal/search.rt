@@ -7,6 +7,7 @@ ghost use Rattle.bittle_bits.specs.Walk.{ones_or_zeros};
 
 use crate::bits::Bits;
 use crate::endian::Endian;
+use crate::internal::ends::ends;
 use crate::internal::source::{Kind, word_of_kind};
 use crate::word::Word;
 
@@ -22,9 +23,10 @@ pub fn first_in<B: Bits, E: Endian, K: Kind>(bits: &B, from: u32, to: u32) -> Op
         return None;
     }
     let width = <B::LeafWord as Word>::width();
-    let last = (to - 1) / width;
-    let mut k = from / width;
-    let mut word = word_of_kind::<B, K>(bits, k).and(E::from_index::<B::LeafWord>(from % width));
+    let (first, begin, last, _) = ends(width, from, to);
+    let since = E::from_index::<B::LeafWord>(begin);
+    let mut k = first;
+    let mut word = word_of_kind::<B, K>(bits, k).and(since);
     loop {
         let index = E::zeros::<B::LeafWord>(word);
         if index != width {
@@ -51,12 +53,11 @@ pub fn last_in<B: Bits, E: Endian, K: Kind>(bits: &B, from: u32, to: u32) -> Opt
         return None;
     }
     let width = <B::LeafWord as Word>::width();
-    let first = from / width;
-    let top = (to - 1) % width;
-    let mut k = (to - 1) / width;
+    let (first, _, last, top) = ends(width, from, to);
     let up_to = E::from_index::<B::LeafWord>(top)
         .not()
         .or(E::mask::<B::LeafWord>(top));
+    let mut k = last;
     let mut word = word_of_kind::<B, K>(bits, k).and(up_to);
     loop {
         let above = E::zeros_rev::<B::LeafWord>(word);
