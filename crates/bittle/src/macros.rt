@@ -1,14 +1,13 @@
 //! The macros that make a set of what they list, and the ranges that they expand to.
 
-ghost use Rattle.std.specs.Prelude.{◌≡◌, ◌+◌};
+ghost use Rattle.std.specs.Prelude.{◌≡◌, ◌+◌, IsTrue};
 ghost use Rattle.bittle_bits.specs.Values.{set_in, ShapeFits};
-ghost use Rattle.bittle.specs.Ranges.{with_range};
+ghost use Rattle.bittle.specs.Ranges.{with_range, listed_set};
 
 use bittle_bits::bits::Bits;
 use bittle_bits::bits_mut::BitsMut;
-use bittle_bits::endian::Endian;
-
-mod uses;
+use bittle_bits::bits_owned::BitsOwned;
+use bittle_bits::endian::{BigEndian, Endian, LittleEndian};
 
 /// Makes a set of what is listed, in the order of its type.
 ///
@@ -177,4 +176,27 @@ pub fn put_through_in<B: BitsMut, E: Endian>(bits: &mut B, from: u32, to: u32)
         bits.set_range_in::<E>(start, capacity);
         bits.set_range_in::<E>(0, count - room);
     }
+}
+
+// A list with two indexes and each kind of range, in each macro. The other lists, with each kind of
+// item before another, are in the crate of proved callers.
+fn listed<B: BitsOwned>(a: u32, b: u32) -> B
+    requires { IsTrue B.indexable }
+    ensures { set_in B.Shape B.Order.Endian result ≡ listed_set B.type_capacity a b }
+{
+    crate::set![a, b, 2..=3, 5..7, 14..]
+}
+
+fn listed_le<B: BitsOwned>(a: u32, b: u32) -> B
+    requires { IsTrue B.indexable }
+    ensures { set_in B.Shape ⟦<LittleEndian as Endian>⟧ result ≡ listed_set B.type_capacity a b }
+{
+    crate::set_le![a, b, 2..=3, 5..7, 14..]
+}
+
+fn listed_be<B: BitsOwned>(a: u32, b: u32) -> B
+    requires { IsTrue B.indexable }
+    ensures { set_in B.Shape ⟦<BigEndian as Endian>⟧ result ≡ listed_set B.type_capacity a b }
+{
+    crate::set_be![a, b, 2..=3, 5..7, 14..]
 }

@@ -8,6 +8,7 @@ pub mod counts;
 pub mod entities;
 pub mod free_runs;
 pub mod lent;
+pub mod macro_lists;
 pub mod nested;
 pub mod permissions;
 pub mod ranks;
