@@ -163,11 +163,7 @@ pub fn put_through_in<B: BitsMut, E: Endian>(bits: &mut B, from: u32, to: u32)
         return;
     }
     // Consecutive indexes, as many as the capacity, name every bit, so no range has more to set.
-    let count = if to - from < capacity {
-        to - from + 1
-    } else {
-        capacity
-    };
+    let count = (to - from).min(capacity - 1) + 1;
     let start = from % capacity;
     let room = capacity - start;
     if count <= room {
