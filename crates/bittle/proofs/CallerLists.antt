@@ -1,14 +1,13 @@
 -- Facts of the increasing list of a set's members that callers cite.
-use Rattle.std.proofs.Common.{◌≡◌, ℕ, zero, suc, ◌+◌, ◌-◌, ◌<◌, ◌≤◌, ◌==◌, Bool, true, false, cond, List, [], ◌∷◌, ◌++◌, length, length-append, get_or, Some, inl, inr, refl, sym, ap, ◌∙◌, subst, arith, IsTrue, ◌↔◌}
+use Rattle.std.proofs.Common.{◌≡◌, ℕ, zero, suc, ◌-◌, ◌<◌, ◌≤◌, ◌==◌, Bool, true, false, cond, List, [], ◌∷◌, length, get_or, Some, inl, inr, refl, sym, ap, ◌∙◌, subst, arith, IsTrue, ◌↔◌}
 use Rattle.std.specs.List.{Contains, list_any}
 use Rattle.std.specs.Ordering.{is_eq}
-use Rattle.std.proofs.lemmas.Bool.{cases_Bool, cases_eq, eqb-true}
+use Rattle.std.proofs.lemmas.Bool.{cases_Bool, eqb-true}
 use Rattle.std.proofs.lemmas.Bool.Decides.{nat_tests}
-use Rattle.std.proofs.lemmas.List.{get_or_push}
 use Rattle.std.proofs.lemmas.List.Elements.{Contains-append_left, Contains-push, at_from_Contains}
 use Rattle.std.proofs.lemmas.List.Folds.{Any-from_list_any, list_any_at}
 use Rattle.bittle_bits.specs.PlainSet.{PlainSet, ascending, ascending_from}
-use Rattle.bittle_bits.specs.Searches.{NoneIn, IsFirstIn, IsLastIn}
+use Rattle.bittle_bits.specs.Searches.{NoneIn, IsFirstIn}
 use Rattle.bittle_bits.proofs.AscendingLists.{ascending-below as below, ascending-at, ascending_from-none}
 use Rattle.bittle.specs.Comparison.{list_cmp, AreSame}
 use Rattle.bittle_bits.proofs.FirstItems.{ascending_from-least, least_or_none}
@@ -71,50 +70,10 @@ item_passes p from (suc n) k h =
     first later is zero l = is
     first later is (suc k) l = later k (omega arith)
 
-item_from : (p : ℕ → Bool) (from n k : ℕ) → k < length (ascending_from p from n) →
-    from ≤ get_or (ascending_from p from n) k 0
-unfolding ascending_from
-item_from p from zero k h = absurd (omega arith)
-item_from p from (suc n) k h = by (p from) (item_from p (suc from) n) k h
-  where
-    by : (b : Bool) → ((k : ℕ) → k < length (ascending_from p (suc from) n) →
-        suc from ≤ get_or (ascending_from p (suc from) n) k 0) → (k : ℕ) →
-        k < length (cond b (from ∷ ascending_from p (suc from) n) (ascending_from p (suc from) n)) →
-        from ≤ get_or (cond b (from ∷ ascending_from p (suc from) n)
-        (ascending_from p (suc from) n)) k 0
-    by true later zero l = omega arith
-    by true later (suc k) l = let b = later k (omega arith) in omega (arith, b)
-    by false later k l = let b = later k l in omega (arith, b)
-
-items_rise : (p : ℕ → Bool) (from n j k : ℕ) → j < k → k < length (ascending_from p from n) →
-    get_or (ascending_from p from n) j 0 < get_or (ascending_from p from n) k 0
-unfolding ascending_from
-items_rise p from zero j k o h = absurd (omega arith)
-items_rise p from (suc n) j k o h = by (p from) (item_from p (suc from) n)
-    (items_rise p (suc from) n) j k o h
-  where
-    by : (b : Bool) → ((k : ℕ) → k < length (ascending_from p (suc from) n) →
-        suc from ≤ get_or (ascending_from p (suc from) n) k 0) →
-        ((j k : ℕ) → j < k → k < length (ascending_from p (suc from) n) →
-        get_or (ascending_from p (suc from) n) j 0 < get_or (ascending_from p (suc from) n) k 0) →
-        (j k : ℕ) → j < k → k < length (cond b (from ∷ ascending_from p (suc from) n)
-        (ascending_from p (suc from) n)) →
-        get_or (cond b (from ∷ ascending_from p (suc from) n) (ascending_from p (suc from) n)) j 0 <
-        get_or (cond b (from ∷ ascending_from p (suc from) n) (ascending_from p (suc from) n)) k 0
-    by true on up j zero o l = absurd (omega arith)
-    by true on up zero (suc k) o l = let b = on k (omega arith) in omega (arith, b)
-    by true on up (suc j) (suc k) o l = up j k (omega arith) (omega arith)
-    by false on up j k o l = up j k o l
-
 -- each item is a member
 pub ascending_member : (s : PlainSet) (k : ℕ) → k < length (ascending s) →
     s.has (get_or (ascending s) k 0) ≡ true
 ascending_member s = item_passes s.has 0 s.capacity
-
--- a later item is greater
-pub ascending_rises : (s : PlainSet) (j k : ℕ) → j < k → k < length (ascending s) →
-    get_or (ascending s) j 0 < get_or (ascending s) k 0
-ascending_rises s = items_rise s.has 0 s.capacity
 
 listed : (s : PlainSet) (i : ℕ) → i < s.capacity → s.has i ≡ true → Contains (ascending s) i
 listed s i inside here =
@@ -146,31 +105,6 @@ ascending_has s i h =
         | inr none ↦ none ∙ sym gone
       ]
     ]
-
--- the last item is the greatest member
-pub ascending_last : (s : PlainSet) (i : ℕ) (front : List ℕ) → ascending s ≡ front ++ i ∷ [] →
-    IsLastIn s 0 s.capacity (Some i)
-ascending_last s i front e =
-    let n = length front in
-    let long : length (ascending s) ≡ n + 1 = ap length e ∙ length-append front (i ∷ []) in
-    let at : get_or (ascending s) n 0 ≡ i = ap (λ xs. get_or xs n 0) e
-    ∙ get_or_push front i 0 n refl in
-    let mine = unlisted s i (subst (λ xs. Contains xs i) (sym e) (Contains-push front i)) in
-    let none : NoneIn s (i + 1) s.capacity = λ k p q.
-    elim (cases_Bool (s.has k)) [
-      | inl here ↦
-          let c = at_from_Contains (ascending s) k (listed s k q here) in
-          let there = c.2 0 in
-          let up = ascending_rises s c.0 n in
-          elim (cases_eq c.0 n) [
-            | inl same ↦ let it = ap (λ t. get_or (ascending s) t 0) same in
-                absurd (omega (arith, it, there, at))
-            | inr other ↦ let before = up (omega (arith, c.1)) (omega arith) in
-                absurd (omega (arith, before, there, at))
-          ]
-      | inr gone ↦ gone
-    ] in
-    (omega arith, mine.0, mine.1, none)
 
 -- two increasing lists are equal in their order exactly where the sets have the same members
 pub equal_iff_same_members : (a b : PlainSet) → ((i : ℕ) → a.capacity ≤ i → a.has i ≡ false) →

@@ -1,2 +1,3 @@
 pub mod AlgebraLaws
 pub mod CountLaws
+pub mod ListLaws

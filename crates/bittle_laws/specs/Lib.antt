@@ -1,4 +1,5 @@
 pub mod AlgebraLaws
 pub mod ComparisonLaws
 pub mod CountLaws
+pub mod ListLaws
 pub mod OrderLaws

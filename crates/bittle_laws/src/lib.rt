@@ -7,6 +7,7 @@
 
 pub mod algebra;
 pub mod comparison;
+pub mod lists;
 pub mod orders;
 pub mod partition;
 pub mod types;
