@@ -1,13 +1,15 @@
 -- How many members a row of elements has.
-use Rattle.std.proofs.Common.{◌≡◌, ◌≢◌, ℕ, zero, suc, ◌+◌, ◌*◌, ◌<◌, ◌≤◌, Bool, true, false, cond, sym, ap, ◌∙◌, arith, List, [], ◌∷◌, length, get_or, take, subst}
+use Rattle.std.proofs.Common.{◌≡◌, ◌≢◌, ℕ, zero, suc, ◌+◌, ◌*◌, ◌<◌, ◌≤◌, Bool, true, false, ◌&&◌, ◌==◌, cond, inl, inr, refl, sym, ap, ◌∙◌, arith, List, [], ◌∷◌, length, get_or, take, subst}
 use Rattle.std.proofs.Math.Path.{fun_ext}
 use Rattle.std.proofs.Math.Nat.{zero-mul, mul-zero}
 use Rattle.std.specs.List.{sum_by}
 use Rattle.std.proofs.lemmas.List.Sums.{sum_by-cons, sum_by_more_le}
 use Rattle.std.proofs.lemmas.List.{take_all}
+use Rattle.std.proofs.lemmas.Bool.{and_cases, and_parts, cases_eq, eq-eqb, eqb-true, eqb-false, ne_eqb}
 use Rattle.bittle_bits.specs.PlainSet.{PlainSet, count_below, size}
 use Rattle.bittle_bits.specs.Rows.{at_element, row_has, row_set}
 use Rattle.bittle_bits.proofs.RowSets.{elements_has_at, by_place}
+use Rattle.bittle_bits.proofs.RowOperations.{get_or-any}
 use Rattle.bittle_bits.proofs.Counts.{count-same, count-le, count-add, count-none}
 use Rattle.bittle_bits.proofs.Sizes.{size-le}
 
@@ -124,3 +126,45 @@ module _ {X : Type 0} (c : ℕ) (big : X → PlainSet) (xs : List X) (owned : (x
       size (row_set (length xs) c big xs) ≢ cond ones 0 (length xs * c)
   row_with true i x at l n = row_some i x at l n
   row_with false i x at l n = row_lacks i x at l (λ e. n (e ∙ owned x))
+
+  -- one more element is asked whether it has a bit of the kind, and its answer is e
+  module _ (ones : Bool) (i : ℕ) (x : X) (at : x ≡ get_or xs i x) (l : i < length xs) (e : Bool)
+      (is : e ≡ (size (big x) == cond ones 0 c)) where
+    -- it has none
+    pub one_without : e ≡ true → (d : X) → size (big (get_or xs i d)) ≡ cond ones 0 c
+    one_without all d = ap (λ y. size (big y)) (get_or-any xs i d x l ∙ sym at)
+        ∙ eqb-true _ _ (sym is ∙ all)
+
+    -- it has one, and so has the row
+    pub one_with : e ≡ false →
+        (size (row_set (length xs) c big xs) == cond ones 0 (length xs * c)) ≡ false
+    one_with some = ne_eqb _ _ (row_with ones i x at l (eqb-false _ _ (sym is ∙ some)))
+
+    -- where b says of those before it, from one on, that none has a bit of the kind
+    module _ (from : ℕ) (b : Bool) where
+      -- if both say so, none of them has one
+      pub part_without : (b ≡ true → (k : ℕ) (d : X) → from ≤ k → k < i →
+          size (big (get_or xs k d)) ≡ cond ones 0 c) → (b && e) ≡ true → (k : ℕ) (d : X) →
+          from ≤ k → k < i + 1 → size (big (get_or xs k d)) ≡ cond ones 0 c
+      part_without done all k d since h =
+          let parts = and_parts b e all in
+          elim (cases_eq k i) [
+            | inl s ↦ rw s (one_without parts.1 d)
+            | inr n ↦ done parts.0 k d since (omega arith)
+          ]
+
+      -- if one does not, the row has one
+      pub part_with : (b ≡ false →
+          (size (row_set (length xs) c big xs) == cond ones 0 (length xs * c)) ≡ false) →
+          (b && e) ≡ false →
+          (size (row_set (length xs) c big xs) == cond ones 0 (length xs * c)) ≡ false
+      part_with before some = elim (and_cases b e some) [ inl y ↦ before y | inr n ↦ one_with n ]
+
+  -- the answer of all elements is that of the row
+  pub whole_without : (ones b : Bool) → (b ≡ true → (k : ℕ) (d : X) → 0 ≤ k → k < length xs →
+      size (big (get_or xs k d)) ≡ cond ones 0 c) → (b ≡ false →
+      (size (row_set (length xs) c big xs) == cond ones 0 (length xs * c)) ≡ false) →
+      b ≡ (size (row_set (length xs) c big xs) == cond ones 0 (length xs * c))
+  whole_without ones true all some = sym (eq-eqb _ _ (row_without ones
+      (λ k d h. all refl k d (omega arith) h)))
+  whole_without ones false all some = sym (some refl)

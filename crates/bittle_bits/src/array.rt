@@ -31,7 +31,7 @@ impl<T: OwnedShape, const N: usize> OwnedShape for [T; N] {
     ghost type_capacity = { N * T.type_capacity };
 }
 
-// The operation on two arrays. One of at most 128 bytes is copied first: the copy lies elsewhere
+// The operation on two arrays. A short one is copied first: the copy lies elsewhere
 // for certain, so that the machine goes over several words at once.
 #[inline]
 fn combine<T: BitsOwned, O: Operation, const N: usize>(elements: &mut [T; N], others: &[T; N])
@@ -41,7 +41,7 @@ fn combine<T: BitsOwned, O: Operation, const N: usize>(elements: &mut [T; N], ot
         (read_in mirrored T.width (row_set N T.type_capacity T.big elements.old))
         (read_in mirrored T.width (row_set N T.type_capacity T.big others.now)) }
 {
-    if row::bits_capacity::<T>(elements.len()) <= 1024 {
+    if row::is_short::<T>(elements.len()) {
         let others = *others;
         row::combine::<T, O>(elements, &others);
     } else {
@@ -72,12 +72,12 @@ impl<T: BitsOwned, const N: usize> Bits for [T; N] {
 
     #[inline]
     fn all_zeros(&self) -> bool {
-        row::all_zeros::<T>(self)
+        row::all_zeros::<T>(self, row::is_short::<T>(self.len()))
     }
 
     #[inline]
     fn all_ones(&self) -> bool {
-        row::all_ones::<T>(self)
+        row::all_ones::<T>(self, row::is_short::<T>(self.len()))
     }
 
     #[inline]

@@ -49,12 +49,12 @@ impl<'a, T: BitsOwned> Bits for &'a [T] {
 
     #[inline]
     fn all_zeros(&self) -> bool {
-        row::all_zeros::<T>(self)
+        row::all_zeros::<T>(self, false)
     }
 
     #[inline]
     fn all_ones(&self) -> bool {
-        row::all_ones::<T>(self)
+        row::all_ones::<T>(self, false)
     }
 
     #[inline]
@@ -106,12 +106,12 @@ impl<'a, T: BitsOwned> Bits for &'a mut [T] {
 
     #[inline]
     fn all_zeros(&self) -> bool {
-        row::all_zeros::<T>(self)
+        row::all_zeros::<T>(self, false)
     }
 
     #[inline]
     fn all_ones(&self) -> bool {
-        row::all_ones::<T>(self)
+        row::all_ones::<T>(self, false)
     }
 
     #[inline]

@@ -12,7 +12,7 @@ fn reading_a_row_asks_each_element_once(rt: HostRuntime) {
     let row = [Probe::of(ONES, &asked); 9];
     same!(rt; (row.count_ones(), asked.other()), (18, 9));
     same!(rt; (row.test_bit(32), asked.other()), (true, 10));
-    same!(rt; (row.all_ones(), asked.other()), (false, 11));
+    same!(rt; (row.all_ones(), asked.other()), (false, 19));
     same!(rt; asked.fetches(), 0);
 }
 
@@ -53,28 +53,37 @@ fn a_range_is_one_call_or_two(rt: HostRuntime) {
 }
 
 // Returns a row of words, whose one bit is in word 9, or is unset there alone.
-fn words_but_one(most: u64, asked: &Asked) -> [WordProbe<'_>; 12] {
-    let mut row = [WordProbe::of(most, asked); 12];
+fn words_but_one(most: u64, asked: &Asked) -> [WordProbe<'_>; 24] {
+    let mut row = [WordProbe::of(most, asked); 24];
     row[9] = WordProbe::of(most ^ 1, asked);
     row
 }
 
 #[test]
-fn words_are_tested_four_at_a_time(rt: HostRuntime) {
-    // The first word decides nothing, and three times four are tested. Of the last four the first
-    // two are tested again.
+fn words_are_tested_eight_at_a_time(rt: HostRuntime) {
+    // The first word decides nothing, and twice eight are tested.
     let asked = Asked::new();
     holds!(rt; !words_but_one(0, &asked).all_zeros());
-    same!(rt; (asked.fetches(), asked.other()), (0, 15));
+    same!(rt; (asked.fetches(), asked.other()), (0, 17));
     let asked = Asked::new();
     holds!(rt; !words_but_one(u64::MAX, &asked).all_ones());
-    same!(rt; (asked.fetches(), asked.other()), (0, 15));
+    same!(rt; (asked.fetches(), asked.other()), (0, 17));
 }
 
 #[test]
 fn words_without_a_bit_are_tested_once(rt: HostRuntime) {
     // The first word is tested by itself before.
     let asked = Asked::new();
-    holds!(rt; [WordProbe::of(0, &asked); 14].all_zeros());
-    same!(rt; (asked.fetches(), asked.other()), (0, 15));
+    holds!(rt; [WordProbe::of(0, &asked); 20].all_zeros());
+    same!(rt; (asked.fetches(), asked.other()), (0, 21));
+}
+
+#[test]
+fn a_short_array_is_tested_whole(rt: HostRuntime) {
+    let asked = Asked::new();
+    let row = [WordProbe::of(1, &asked); 16];
+    same!(rt; (row.all_zeros(), asked.other()), (false, 16));
+    let words: &[WordProbe] = &row;
+    same!(rt; (words.all_zeros(), asked.other()), (false, 17));
+    same!(rt; asked.fetches(), 0);
 }

@@ -1,6 +1,6 @@
 //! The calls on a row of elements, for arrays and for slices.
 
-ghost use Rattle.std.specs.Prelude.{◌≡◌, ◌+◌, ◌==◌, ◌*◌, ◌<◌, ◌≤◌, ℕ, Bool, true, cond, get_or, length, IsTrue, MatchOption};
+ghost use Rattle.std.specs.Prelude.{◌≡◌, ◌+◌, ◌==◌, ◌*◌, ◌<◌, ◌≤◌, ℕ, Bool, true, false, cond, get_or, length, IsTrue, MatchOption};
 ghost use Rattle.bittle_bits.specs.Orders.{read_in};
 ghost use Rattle.bittle_bits.specs.PlainSet.{contains, with_index, with_span_changed, without_index, without_members, size};
 ghost use Rattle.bittle_bits.specs.Rows.{row_set, GoesTo};
@@ -33,6 +33,12 @@ pub fn bits_capacity<T: BitsOwned>(len: usize) -> u32
         return u32::MAX;
     }
     len as u32 * each
+}
+
+/// Returns whether an array of this many elements is short: of at most 128 bytes.
+#[inline]
+pub fn is_short<T: BitsOwned>(len: usize) -> bool {
+    bits_capacity::<T>(len) <= 1024
 }
 
 /// Returns the element that an index goes to, and the index there, or `None` with capacity 0.
@@ -224,43 +230,37 @@ fn has_none<T: BitsOwned, K: Kind>(element: &T) -> bool
     }
 }
 
-/// Returns how many elements at the beginning have no bit of the kind, by one test for each four.
-// It counts none of a short row, or where the first one decides, since one by one is faster there;
-// nor of elements of more than a word, of which it might ask three without need. It promises
-// nothing of the element that it stops at, which is tested again.
+// Returns whether none of the elements from `from` on and before `to` has a bit of the kind. It
+// asks each one, so that the machine goes over several at once.
 #[inline]
-fn beginning_without<T: BitsOwned, K: Kind>(elements: &[T]) -> usize
-    ensures within { result ≤ length elements.now }
-    ensures without { (k : ℕ) (d : T) → k < result
+fn part_is_without<T: BitsOwned, K: Kind>(elements: &[T], from: usize, to: usize) -> bool
+    requires ordered { from ≤ to }
+    requires within { to ≤ length elements.now }
+    ensures all_without { result ≡ true → (k : ℕ) (d : T) → from ≤ k → k < to
         → size (T.big (get_or elements.now k d)) ≡ cond K.ONES 0 T.type_capacity }
+    ensures one_with { result ≡ false → (size
+        (row_set (length elements.now) T.type_capacity T.big elements.now)
+        == cond K.ONES 0 (length elements.now * T.type_capacity)) ≡ false }
 {
-    if elements.len() < 8
-        || T::bits() != <T::LeafWord as Word>::width()
-        || !has_none::<T, K>(&elements[0])
-    {
-        return 0;
+    let mut without = true;
+    for at in from..to {
+        without = without & has_none::<T, K>(&elements[at]);
     }
-    for four in 0..elements.len() / 4 {
-        let at = four * 4;
-        let first = has_none::<T, K>(&elements[at]) & has_none::<T, K>(&elements[at + 1]);
-        let last = has_none::<T, K>(&elements[at + 2]) & has_none::<T, K>(&elements[at + 3]);
-        if !(first & last) {
-            return at;
-        }
-    }
-    elements.len() / 4 * 4
+    without
 }
 
-/// Returns whether no element has a bit of the kind.
-fn is_without<T: BitsOwned, K: Kind>(elements: &[T]) -> bool
-    ensures value { result ≡ (size
+// Returns whether no element has a bit of the kind, where those before `from` have none. It asks one
+// by one.
+#[inline]
+fn rest_is_without<T: BitsOwned, K: Kind>(elements: &[T], from: usize) -> bool
+    requires within { from ≤ length elements.now }
+    requires without { (k : ℕ) (d : T) → k < from
+        → size (T.big (get_or elements.now k d)) ≡ cond K.ONES 0 T.type_capacity }
+    ensures { result ≡ (size
         (row_set (length elements.now) T.type_capacity T.big elements.now)
         == cond K.ONES 0 (length elements.now * T.type_capacity)) }
-    ensures in_each_order { (mirrored : Bool) → result ≡ (size (read_in mirrored T.width
-        (row_set (length elements.now) T.type_capacity T.big elements.now))
-        == cond K.ONES 0 (length elements.now * T.type_capacity)) }
 {
-    for at in beginning_without::<T, K>(elements)..elements.len() {
+    for at in from..elements.len() {
         if !has_none::<T, K>(&elements[at]) {
             return false;
         }
@@ -268,18 +268,71 @@ fn is_without<T: BitsOwned, K: Kind>(elements: &[T]) -> bool
     true
 }
 
+// Returns whether no element has a bit of the kind. The first is asked by itself, since it often
+// decides. Then eight words and more are asked eight at a time, and what is left one by one, as are
+// elements of more than a word, since of eight it might ask seven without need.
+fn is_without_by_turns<T: BitsOwned, K: Kind>(elements: &[T]) -> bool
+    ensures { result ≡ (size
+        (row_set (length elements.now) T.type_capacity T.big elements.now)
+        == cond K.ONES 0 (length elements.now * T.type_capacity)) }
+{
+    if elements.len() == 0 {
+        return true;
+    }
+    if !has_none::<T, K>(&elements[0]) {
+        return false;
+    }
+    if elements.len() < 8 || T::bits() != <T::LeafWord as Word>::width() {
+        return rest_is_without::<T, K>(elements, 1);
+    }
+    for eight in 0..elements.len() / 8 {
+        if !part_is_without::<T, K>(elements, eight * 8, eight * 8 + 8) {
+            return false;
+        }
+    }
+    rest_is_without::<T, K>(elements, elements.len() / 8 * 8)
+}
+
+// Returns whether no element has a bit of the kind, and asks all: for a short array.
+#[inline]
+fn is_without_at_once<T: BitsOwned, K: Kind>(elements: &[T]) -> bool
+    ensures { result ≡ (size
+        (row_set (length elements.now) T.type_capacity T.big elements.now)
+        == cond K.ONES 0 (length elements.now * T.type_capacity)) }
+{
+    part_is_without::<T, K>(elements, 0, elements.len())
+}
+
+/// Returns whether no element has a bit of the kind.
+#[inline]
+fn is_without<T: BitsOwned, K: Kind>(elements: &[T], at_once: bool) -> bool
+    ensures value { result ≡ (size
+        (row_set (length elements.now) T.type_capacity T.big elements.now)
+        == cond K.ONES 0 (length elements.now * T.type_capacity)) }
+    ensures in_each_order { (mirrored : Bool) → result ≡ (size (read_in mirrored T.width
+        (row_set (length elements.now) T.type_capacity T.big elements.now))
+        == cond K.ONES 0 (length elements.now * T.type_capacity)) }
+{
+    if at_once {
+        return is_without_at_once::<T, K>(elements);
+    }
+    is_without_by_turns::<T, K>(elements)
+}
+
 /// Returns whether no bit is set.
-pub fn all_zeros<T: BitsOwned>(elements: &[T]) -> bool
+#[inline]
+pub fn all_zeros<T: BitsOwned>(elements: &[T], at_once: bool) -> bool
     ensures value { result ≡ (size
         (row_set (length elements.now) T.type_capacity T.big elements.now) == 0) }
     ensures in_each_order { (mirrored : Bool) → result ≡ (size (read_in mirrored T.width
         (row_set (length elements.now) T.type_capacity T.big elements.now)) == 0) }
 {
-    is_without::<T, Ones>(elements)
+    is_without::<T, Ones>(elements, at_once)
 }
 
 /// Returns whether every bit is set.
-pub fn all_ones<T: BitsOwned>(elements: &[T]) -> bool
+#[inline]
+pub fn all_ones<T: BitsOwned>(elements: &[T], at_once: bool) -> bool
     ensures value { result ≡ (size
         (row_set (length elements.now) T.type_capacity T.big elements.now)
         == length elements.now * T.type_capacity) }
@@ -287,7 +340,7 @@ pub fn all_ones<T: BitsOwned>(elements: &[T]) -> bool
         (row_set (length elements.now) T.type_capacity T.big elements.now))
         == length elements.now * T.type_capacity) }
 {
-    is_without::<T, Zeros>(elements)
+    is_without::<T, Zeros>(elements, at_once)
 }
 
 /// Returns the element that word `k` of a row lies in, and which of its words it is.
