@@ -178,13 +178,13 @@ some_word w d r least h = elim (cases_eq d 0) [
 ]
 
 -- patterns that are alike are words alike
-digit-same : (w d e k : ℕ) → bit_at e k ≡ bit_at d k → bit_has w e k ≡ bit_has w d k
+bit-same : (w d e k : ℕ) → bit_at e k ≡ bit_at d k → bit_has w e k ≡ bit_has w d k
 unfolding bit_has
-digit-same w d e k is = ap (λ b. nat_lt k w && (b == 1)) is
+bit-same w d e k is = ap (λ b. nat_lt k w && (b == 1)) is
 
-digit-no : (w e k : ℕ) → bit_at e k ≡ 0 → bit_has w e k ≡ false
+bit-none : (w e k : ℕ) → bit_at e k ≡ 0 → bit_has w e k ≡ false
 unfolding bit_has
-digit-no w e k is = ap (λ b. nat_lt k w && (b == 1)) is ∙ and_right (nat_lt k w) false refl
+bit-none w e k is = ap (λ b. nat_lt k w && (b == 1)) is ∙ and_right (nat_lt k w) false refl
 
 -- the and of a word and the word less one lacks the least set bit alone
 pub less_least : (w d r : ℕ) → IsLeastMember (bit_set w d) r → r < w →
@@ -213,10 +213,10 @@ less_least w d r least h = ap (plain_set w) (bit_has-and w d (d - 1) ∙ fun_ext
       | inl l ↦ rw (least.none_below k l) (sym (and_right (not (k == r % w)) false refl))
       | inr g ↦ elim (cases_eq k r) [
         | inl e ↦
-            let gone = digit-no w (d - 1) r low.there in
+            let gone = bit-none w (d - 1) r low.there in
             rw (e, gone, mod-eq_of_lt h, eq-eqb r r refl) (and_right (bit_has w d r) false refl)
         | inr n ↦
-            let same = digit-same w d (d - 1) k (low.above k (omega arith)) in
+            let same = bit-same w d (d - 1) k (low.above k (omega arith)) in
             rw (same, mod-eq_of_lt h, ne_eqb k r n) (and_self (bit_has w d k))
       ]
     ]

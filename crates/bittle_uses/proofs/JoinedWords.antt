@@ -8,11 +8,11 @@ use Rattle.std.proofs.lemmas.Nat.Bits.{bit_at-lt}
 use Rattle.bittle.specs.BitPatterns.{bit_has, bit_set}
 use Rattle.bittle.specs.PlainSet.{ascending, ascending_from}
 
--- a word with its digit i flipped
+-- a word with its bit i flipped
 abbrev pub flip : ℕ → ℕ → ℕ
 flip w i = bit_xor w (2 ^ i)
 
--- a word's digits below k, and the one at k where it is 1, are those below the next place
+-- a word's bits below k, and the one at k where it is set, are those below the next place
 one_more : (m k : ℕ) → k < 64 →
     cond (bit_has 64 m k) (flip (m % 2 ^ k) k) (m % 2 ^ k) ≡ m % 2 ^ suc k
 unfolding bit_has
@@ -33,7 +33,7 @@ taken : (b : Bool) (w i : ℕ) (rest : List ℕ) →
 taken true w i rest = refl
 taken false w i rest = refl
 
--- the members from k on, joined to the digits below k
+-- the members from k on, joined to the bits below k
 joined : (m k n : ℕ) → k + n ≤ 64 →
     fold flip (m % 2 ^ k) (ascending_from (bit_has 64 m) k n) ≡ m % 2 ^ (k + n)
 unfolding ascending_from
@@ -45,7 +45,7 @@ joined m k (suc n) h =
     ∙ ap (λ w. fold flip w rest) (one_more m k (omega arith))
     ∙ joined m (suc k) n (omega arith) ∙ ap (λ j. m % 2 ^ j) same
 
--- the members joined to no digit are the word
+-- the members joined to no bit are the word
 pub members_joined : (m : ℕ) → m < 2 ^ 64 → fold flip 0 (ascending (bit_set 64 m)) ≡ m
 members_joined m h =
     let start : 0 ≡ m % 2 ^ 0 = omega arith in

@@ -30,7 +30,7 @@ pub fn replay_on_slice<T: BitsOwned, E: Endian>(
     replay::<&mut [T], E>(&mut lent.0, calls, replies);
 }
 
-/// Words of 16 digits, read with the digit of greatest weight first.
+/// Words of 16 bits, read with the bit of greatest weight first.
 pub fn replay_on_words(words: &mut [u16], calls: &[Call], replies: &mut [Reply])
     requires fits { length words.old * 16 < 4294967295 }
     requires room { length replies.old ≡ length calls.now }
@@ -41,7 +41,7 @@ pub fn replay_on_words(words: &mut [u16], calls: &[Call], replies: &mut [Reply])
     replay_on_slice::<u16, LittleEndian>(words, calls, replies);
 }
 
-/// Pairs of bytes, read with the digit of least weight first.
+/// Pairs of bytes, read with the bit of least weight first.
 pub fn replay_on_pairs(pairs: &mut [[u8; 2]], calls: &[Call], replies: &mut [Reply])
     requires fits { length pairs.old * 16 < 4294967295 }
     requires room { length replies.old ≡ length calls.now }
