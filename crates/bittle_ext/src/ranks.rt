@@ -6,8 +6,19 @@ ghost use Rattle.bittle.specs.PlainSet.{ascending, members_below};
 ghost use Rattle.bittle.specs.Values.{set_in, ShapeFits};
 
 use bittle::{Bits, Endian};
-use bittle_bits::internal::range_count::{count_in_word, count_word};
+use bittle_bits::internal::range_count::count_in_word;
 use bittle_bits::word::Word;
+
+/// Counts the set bits of word `k`.
+#[inline]
+fn count_word<B: Bits, E: Endian>(bits: &B, k: u32) -> u32
+    requires fits { ShapeFits B.Shape bits.now }
+    requires word { k * B.width < (B.big bits.now).capacity }
+    ensures { let ours = set_in B.Shape E.Endian bits.now in
+        members_below ours (k * B.width) + result ≡ members_below ours ((k + 1) * B.width) }
+{
+    bits.nth_leaf_word(k).count_ones()
+}
 
 /// Returns the word with the set bit of a rank, and how many bits of the word are set below that
 /// one, or `None` if there is no such bit.
