@@ -15,12 +15,7 @@ bit_has-past w d i h = rw (le-ltb i w h)
 pub one_word : (w : ℕ) → (words : ℕ) × (w ≡ words * w)
 one_word w = (1, omega arith)
 
--- the set of a word's bits is made of whole words, namely one
-pub one_whole_word : (w own d : ℕ) (s : PlainSet) → w ≡ own → s ≡ bit_set own d →
-    (words : ℕ) × (s.capacity ≡ words * w)
-one_whole_word w own d s same is = rw (is, same) (one_word own)
-
--- it has no member past the word
+-- the set of a word's bits has no member past the word
 pub none_past_word : (w d : ℕ) (s : PlainSet) → s ≡ bit_set w d → (i : ℕ) → s.capacity ≤ i →
     s.has i ≡ false
 none_past_word w d s is i h = rw (is) (bit_has-past w d i (rw (is) at h))
@@ -29,7 +24,7 @@ none_past_word w d s is i h = rw (is) (bit_has-past w d i (rw (is) at h))
 pub word_capacity : (w d c : ℕ) (s : PlainSet) → s ≡ bit_set w d → c ≡ w → s.capacity ≡ c
 word_capacity w d c s is same = rw (is, same) refl
 
--- a type of words is made of whole words, namely one
+-- a capacity that is the width of a word is whole words, namely one
 pub one_word_whole : (w own c : ℕ) → w ≡ own → c ≡ own → (words : ℕ) × (c ≡ words * w)
 one_word_whole w own c same whole = rw (whole, same) (one_word own)
 

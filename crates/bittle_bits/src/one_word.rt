@@ -5,7 +5,7 @@ ghost use Rattle.std.specs.Iterator.{YieldsFirst, YieldsLast};
 ghost use Rattle.std.specs.Prelude.{◌≡◌, ◌==◌, Bool, ◌*◌, ◌-◌, ◌<◌, ◌≤◌, ◌||◌, ◌&&◌, true, false, refl, IfSome, IsTrue};
 ghost use Rattle.std.proofs.Common.{sym};
 ghost use Rattle.bittle_bits.specs.BitPatterns.{bit_set};
-ghost use Rattle.bittle_bits.specs.LawProofs.{none_past_word, one_whole_word, one_word_whole, positive_width, word_capacity};
+ghost use Rattle.bittle_bits.specs.LawProofs.{none_past_word, one_word_whole, positive_width, word_capacity};
 ghost use Rattle.bittle_bits.specs.Orders.{read_in};
 ghost use Rattle.bittle_bits.specs.PlainSet.{contains, with_index, with_span_changed, without_index, empty_set, without_members, full_set, span_set, size, ascending, IsLeastMember, IsGreatestMember};
 ghost use Rattle.bittle_bits.specs.SetOperations.{combination_of, first_alone, just_one};
@@ -46,7 +46,8 @@ impl<W: Integer> Bits for W {
 
     ghost width_positive = { positive_width _ _ W.same_width W.width_positive };
 
-    ghost whole_words = { λ v. one_whole_word _ _ _ _ W.same_width (W.big_is_pattern v) };
+    ghost whole_words = { λ v. one_word_whole _ _ _ W.same_width
+        (word_capacity _ _ _ _ (W.big_is_pattern v) refl) };
 
     ghost none_past = { λ v. none_past_word _ _ _ (W.big_is_pattern v) };
 
