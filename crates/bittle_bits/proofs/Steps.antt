@@ -1,11 +1,11 @@
--- The parts of a walk's step: a scan that yields an item, a scan that exhausts a word, and a word
--- that is fetched.
-use Rattle.std.proofs.Common.{◌≡◌, ℕ, ◌+◌, ◌-◌, ◌*◌, ◌<◌, ◌≤◌, List, ◌++◌, Option, Some, None, refl, sym, ap, ◌∙◌, arith, append_assoc, append-nil, le_trans}
+-- The parts of a walk's step, from the front or from the back: a scan that yields an item, a scan
+-- that exhausts a word, and a word that is fetched.
+use Rattle.std.proofs.Common.{◌≡◌, ℕ, ◌+◌, ◌-◌, ◌*◌, ◌<◌, ◌≤◌, Bool, true, false, not, List, [], ◌++◌, Option, Some, None, refl, sym, ap, ◌∙◌, subst, arith, append_assoc, append-nil, le_trans}
 use Rattle.std.proofs.Math.Nat.{mul-le-mul_right}
-use Rattle.bittle_bits.specs.Buffers.{BufferPair, members_between, items_in, buffer_count, ScansFirst, ScansLast}
+use Rattle.bittle_bits.specs.Buffers.{BufferPair, members_between, items_in, buffer_count, buffer_of, with_end, YieldsFrom, ScansFrom}
 use Rattle.bittle_bits.specs.PlainSet.{PlainSet}
 use Rattle.bittle_bits.specs.Cursor.{items_left_in, walk_of, IsCounted}
-use Rattle.bittle_bits.specs.Walk.{Walk, IsScanBounded, StepsFront, StepsBack}
+use Rattle.bittle_bits.specs.Walk.{Walk, IsScanBounded, Steps, count_after}
 use Rattle.bittle_bits.specs.declared.internal.cursor.Cursor.{Cursor}
 use Rattle.bittle_bits.proofs.Items.{members_between-split, members_between-empty}
 
@@ -31,21 +31,12 @@ seeks_on u v w a b = record {
 }
 
 -- a step after scans that yielded nothing
-pub front_on : (u v w : Walk) (r : Option ℕ) → Seeks u v → StepsFront v r w → StepsFront u r w
-front_on u v w None a b = record {
-  gave = (sym a.remaining ∙ b.gave.0, b.gave.1);
-  items = b.items
-      ∙ a.items;
-  scans = le_trans a.scans b.scans;
-  fetches = le_trans a.fetches b.fetches;
-  unread = b.unread ∙ a.unread;
-  words = b.words ∙ a.words;
-  bounded = b.bounded;
-}
-front_on u v w (Some x) a b = record {
-  gave = sym a.remaining ∙ b.gave;
-  items = b.items
-      ∙ ap (λ n. n + 1) a.items;
+pub steps_on : (front : Bool) (u v w : Walk) (r : Option ℕ) → Seeks u v →
+    Steps (YieldsFrom front (λ w. w.remaining)) v r w →
+    Steps (YieldsFrom front (λ w. w.remaining)) u r w
+steps_on front u v w r a b = record {
+  gave = subst (λ xs. YieldsFrom front (λ (ys : List ℕ). ys) xs r w.remaining) a.remaining b.gave;
+  items = b.items ∙ ap (λ n. count_after n r) a.items;
   scans = le_trans a.scans b.scans;
   fetches = le_trans a.fetches b.fetches;
   unread = b.unread ∙ a.unread;
@@ -53,28 +44,61 @@ front_on u v w (Some x) a b = record {
   bounded = b.bounded;
 }
 
--- a step from the back after scans that yielded nothing
-pub back_on : (u v w : Walk) (r : Option ℕ) → Seeks u v → StepsBack v r w → StepsBack u r w
-back_on u v w None a b = record {
-  gave = (sym a.remaining ∙ b.gave.0, b.gave.1);
-  items = b.items
-      ∙ a.items;
-  scans = le_trans a.scans b.scans;
-  fetches = le_trans a.fetches b.fetches;
-  unread = b.unread ∙ a.unread;
-  words = b.words ∙ a.words;
-  bounded = b.bounded;
+-- scans that yielded nothing until nothing was left are a step that gave `None`
+pub steps_none : (front : Bool) (u v : Walk) → Seeks u v → v.remaining ≡ [] → IsScanBounded v →
+    Steps (YieldsFrom front (λ w. w.remaining)) u None v
+steps_none front u v a none b = record {
+  gave = (sym a.remaining ∙ none, none);
+  items = a.items;
+  scans = a.scans;
+  fetches = a.fetches;
+  unread = a.unread;
+  words = a.words;
+  bounded = b;
 }
-back_on u v w (Some x) a b = record {
-  gave = sym a.remaining ∙ b.gave;
-  items = b.items
-      ∙ ap (λ n. n + 1) a.items;
-  scans = le_trans a.scans b.scans;
-  fetches = le_trans a.fetches b.fetches;
-  unread = b.unread ∙ a.unread;
-  words = b.words ∙ a.words;
-  bounded = b.bounded;
-}
+
+-- the two buffered words, either one named first
+each : (of_head : Bool) (b c : BufferPair) →
+    buffer_count (buffer_of of_head c) ≡ buffer_count (buffer_of of_head b) →
+    buffer_count (buffer_of (not of_head) c) ≡ buffer_count (buffer_of (not of_head) b) →
+    (buffer_count c.head ≡ buffer_count b.head) × (buffer_count c.tail ≡ buffer_count b.tail)
+each true b c one other = (one, other)
+each false b c one other = (other, one)
+
+-- what is left after a scan
+module _ {B E W : Type 0} (s : PlainSet) (w : ℕ) where
+  -- the word at an end has the item at that end of what is left
+  pub near_left : (front : Bool) (t : Cursor B E W) (c : BufferPair) (i x : ℕ) →
+      ScansFrom front (buffer_of front t.buffers) (Some x) (buffer_of front c) →
+      buffer_of (not front) c ≡ buffer_of (not front) t.buffers →
+      let u : Cursor B E W = record { buffers = c; low = t.low; high = t.high; items = i } in
+      items_left_in s w t ≡ with_end front x (items_left_in s w u)
+  unfolding items_left_in
+  near_left true t c i x f e = rw (f.1, f.2, e) refl
+  near_left false t c i x f e = rw (f.1, f.2, e) (simp append_assoc)
+
+  -- with none loaded at an end and no word between, the word at the other end has the item there
+  pub far_left : (front : Bool) (t : Cursor B E W) (c : BufferPair) (i x : ℕ) →
+      buffer_of front t.buffers ≡ None → t.low ≡ t.high →
+      ScansFrom front (buffer_of (not front) t.buffers) (Some x) (buffer_of (not front) c) →
+      buffer_of (not (not front)) c ≡ buffer_of (not (not front)) t.buffers →
+      let u : Cursor B E W = record { buffers = c; low = t.low; high = t.high; items = i } in
+      items_left_in s w t ≡ with_end front x (items_left_in s w u)
+  unfolding items_left_in
+  far_left true t c i x z b f e = rw (e, z, f.1, f.2, b, members_between-empty s (t.high * w)) refl
+  far_left false t c i x z b f e = rw (e, z, f.1, f.2, b, members_between-empty s (t.high * w))
+      (simp append-nil)
+
+  -- with no word between and neither loaded, nothing is left
+  pub none_left : (front : Bool) (t : Cursor B E W) (c : BufferPair) →
+      buffer_of front t.buffers ≡ None → t.low ≡ t.high →
+      buffer_of (not (not front)) c ≡ buffer_of (not (not front)) t.buffers →
+      buffer_of (not front) c ≡ None →
+      let u : Cursor B E W = record { buffers = c; low = t.low; high = t.high; items = t.items } in
+      items_left_in s w u ≡ []
+  unfolding items_left_in
+  none_left true t c z b e f = rw (e, z, f, b, members_between-empty s (t.high * w)) refl
+  none_left false t c z b e f = rw (e, z, f, b, members_between-empty s (t.high * w)) refl
 
 module _ {B E W : Type 0} (s : PlainSet) (words w : ℕ) where
   -- the scans are within what a walk counts
@@ -83,56 +107,110 @@ module _ {B E W : Type 0} (s : PlainSet) (words w : ℕ) where
 
   -- ---- the scans
 
-  -- a scan that yielded an item
-  counted_gave : (t : Cursor B E W) (c : BufferPair) (i : ℕ) → IsCounted words t →
-      c.scans ≡ t.buffers.scans + 1 → buffer_count c.head ≡ buffer_count t.buffers.head →
-      buffer_count c.tail ≡ buffer_count t.buffers.tail → c.fetches ≡ t.buffers.fetches →
-      i ≡ t.items + 1 → IsCounted words (let u :
-      Cursor B E W = record { buffers = c; low = t.low; high = t.high; items = i } in u)
-  counted_gave t c i r l h e q n = record {
-    ordered = r.ordered;
-    within = omega (arith, r.within);
-    at_least = omega (arith, r.at_least);
-    at_most = omega (arith, r.at_most);
-    once = omega (arith, r.once);
-  }
-
   -- a scan that exhausted a word, or met none
-  counted_met : (t : Cursor B E W) (c : BufferPair) (a b : ℕ) → IsCounted words t →
+  met : (t : Cursor B E W) (c : BufferPair) (a b : ℕ) → IsCounted words t →
       c.scans ≡ t.buffers.scans + (a + b) → buffer_count c.head + a ≡ buffer_count t.buffers.head →
       buffer_count c.tail + b ≡ buffer_count t.buffers.tail → c.fetches ≡ t.buffers.fetches →
-      IsCounted words (let u : Cursor B E W = record
-      { buffers = c; low = t.low; high = t.high; items = t.items } in u)
-  counted_met t c a b r l h e q = record {
-    ordered = r.ordered;
-    within = omega (arith, r.within);
-    at_least = omega (arith, r.at_least);
-    at_most = omega (arith, r.at_most);
-    once = omega (arith, r.once);
-  }
-
-  -- ---- from the front
-
-  -- a scan of the head that finds nothing exhausts its word, if one is loaded
-  pub head_exhausted : (t : Cursor B E W) (c : BufferPair) → IsCounted words t →
-      ScansFirst t.buffers.head None c.head → c.scans ≡ t.buffers.scans + buffer_count t.buffers.head →
-      c.tail ≡ t.buffers.tail → c.fetches ≡ t.buffers.fetches →
+      items_in c.head ≡ items_in t.buffers.head → items_in c.tail ≡ items_in t.buffers.tail →
       let u : Cursor B E W = record { buffers = c; low = t.low; high = t.high; items = t.items } in
       Seeks (walk_of s words w t) (walk_of s words w u) × IsCounted words u
   unfolding items_left_in
-  head_exhausted t c r f l e q =
-      let after : buffer_count c.head ≡ 0 = ap buffer_count f.1 in (
+  met t c a b r l h e q x y = (
+    record {
+      remaining = rw (x, y) refl;
+      items = refl;
+      scans = omega arith;
+      fetches = omega arith;
+      unread = ap (λ n. n + (t.high - t.low)) q;
+      words = refl;
+    },
+    record {
+      ordered = r.ordered;
+      within = omega (arith, r.within);
+      at_least = omega (arith, r.at_least);
+      at_most = omega (arith, r.at_most);
+      once = omega (arith, r.once);
+    },
+  )
+
+  -- a scan that finds nothing exhausts its word, if one is loaded
+  pub exhausted : (of_head : Bool) (t : Cursor B E W) (c : BufferPair) → IsCounted words t →
+      (items_in (buffer_of of_head t.buffers) ≡ []) × (buffer_of of_head c ≡ None) →
+      c.scans ≡ t.buffers.scans + buffer_count (buffer_of of_head t.buffers) →
+      buffer_of (not of_head) c ≡ buffer_of (not of_head) t.buffers → c.fetches ≡ t.buffers.fetches →
+      let u : Cursor B E W = record { buffers = c; low = t.low; high = t.high; items = t.items } in
+      Seeks (walk_of s words w t) (walk_of s words w u) × IsCounted words u
+  exhausted true t c r f l e q =
+      let after : buffer_count c.head ≡ 0 = ap buffer_count f.1 in
+      met t c (buffer_count t.buffers.head) 0 r (omega arith) (omega arith)
+      (omega (arith, ap buffer_count e)) q (ap items_in f.1 ∙ sym f.0) (ap items_in e)
+  exhausted false t c r f l e q =
+      let after : buffer_count c.tail ≡ 0 = ap buffer_count f.1 in
+      met t c 0 (buffer_count t.buffers.tail) r (omega arith)
+      (omega (arith, ap buffer_count e)) (omega arith) q (ap items_in e) (ap items_in f.1 ∙ sym f.0)
+
+  -- a scan that yields the item at an end of what is left is a step
+  pub gave : (front of_head : Bool) (t : Cursor B E W) (c : BufferPair) (i x : ℕ) →
+      IsCounted words t →
+      ScansFrom front (buffer_of of_head t.buffers) (Some x) (buffer_of of_head c) →
+      c.scans ≡ t.buffers.scans + buffer_count (buffer_of of_head t.buffers) →
+      buffer_of (not of_head) c ≡ buffer_of (not of_head) t.buffers → c.fetches ≡ t.buffers.fetches →
+      i ≡ t.items + 1 →
+      let u : Cursor B E W = record { buffers = c; low = t.low; high = t.high; items = i } in
+      items_left_in s w t ≡ with_end front x (items_left_in s w u) →
+      Steps (YieldsFrom front (λ w. w.remaining)) (walk_of s words w t) (Some x)
+      (walk_of s words w u) × IsCounted words u
+  gave front of_head t c i x r f l e q n left =
+      let before : buffer_count (buffer_of of_head t.buffers) ≡ 1 = ap buffer_count f.1 in
+      let after : buffer_count (buffer_of of_head c) ≡ 1 = ap buffer_count f.2 in
+      let counts = each of_head t.buffers c (after ∙ sym before) (ap buffer_count e) in
+      let kept : IsCounted words (let u : Cursor B E W = record
+      { buffers = c; low = t.low; high = t.high; items = i } in u) = record {
+        ordered = r.ordered;
+        within = omega (arith, r.within);
+        at_least = omega (arith, r.at_least);
+        at_most = omega (arith, r.at_most);
+        once = omega (arith, r.once);
+      } in (
         record {
-          remaining = rw (f.0, f.1, e) refl;
-          items = refl;
+          gave = left;
+          items = n;
           scans = omega arith;
           fetches = omega arith;
           unread = ap (λ n. n + (t.high - t.low)) q;
           words = refl;
+          bounded = bounded _ kept;
         },
-        counted_met t c (buffer_count t.buffers.head) 0 r (omega arith) (omega arith)
-            (omega (arith, ap buffer_count e)) q,
+        kept,
       )
+
+  -- ---- the fetches
+
+  -- a word that was unread is loaded, and what is left stays
+  fetched : (t u : Cursor B E W) → IsCounted words t → items_left_in s w u ≡ items_left_in s w t →
+      u.items ≡ t.items → u.buffers.scans ≡ t.buffers.scans →
+      u.buffers.fetches ≡ t.buffers.fetches + 1 → u.high - u.low + 1 ≡ t.high - t.low →
+      buffer_count u.buffers.head + buffer_count u.buffers.tail
+      ≡ buffer_count t.buffers.head + buffer_count t.buffers.tail + 1 →
+      u.low ≤ u.high → u.high + buffer_count u.buffers.tail ≤ words →
+      Seeks (walk_of s words w t) (walk_of s words w u) × IsCounted words u
+  fetched t u r left items scans fetches unread loaded ordered within = (
+    record {
+      remaining = left;
+      items = items;
+      scans = omega arith;
+      fetches = omega arith;
+      unread = omega arith;
+      words = refl;
+    },
+    record {
+      ordered = ordered;
+      within = within;
+      at_least = omega (arith, r.at_least);
+      at_most = omega (arith, r.at_most);
+      once = omega (arith, r.once);
+    },
+  )
 
   -- the next word between is loaded to the head
   pub head_fetched : (t : Cursor B E W) (xs : List ℕ) → IsCounted words t → t.buffers.head ≡ None →
@@ -154,100 +232,13 @@ module _ {B E W : Type 0} (s : PlainSet) (words w : ℕ) where
       let next : (t.low + 1) * w ≡ t.low * w + w = omega arith in
       let up : t.low * w + w ≤ t.high * w = rw (← next) (mul-le-mul_right w (omega arith)) in
       let none : buffer_count t.buffers.head ≡ 0 = ap buffer_count f in
-      let rest = items_in t.buffers.tail in (
-        record {
-          remaining = rw (f, e, next) (sym (append_assoc (members_between s (t.low * w) (t.low * w + w))
-              (members_between s (t.low * w + w) (t.high * w)) rest)
-              ∙ ap (λ xs. xs ++ rest) (sym
-              (members_between-split s (t.low * w) (t.low * w + w) (t.high * w) (omega arith) up)));
-          items = refl;
-          scans = omega arith;
-          fetches = omega arith;
-          unread = omega arith;
-          words = refl;
-        },
-        record {
-          ordered = omega arith;
-          within = r.within;
-          at_least = r.at_least;
-          at_most = omega (arith, r.at_most);
-          once = omega (arith, r.once);
-        },
-      )
-
-  -- no word is left between, and the tail gives
-  pub tail_gave : (t : Cursor B E W) (c : BufferPair) (i x : ℕ) → IsCounted words t →
-      t.buffers.head ≡ None → t.low ≡ t.high → ScansFirst t.buffers.tail (Some x) c.tail →
-      c.scans ≡ t.buffers.scans + buffer_count t.buffers.tail → c.head ≡ t.buffers.head →
-      c.fetches ≡ t.buffers.fetches → i ≡ t.items + 1 →
-      let u : Cursor B E W = record { buffers = c; low = t.low; high = t.high; items = i } in
-      StepsFront (walk_of s words w t) (Some x) (walk_of s words w u) × IsCounted words u
-  unfolding items_left_in
-  tail_gave t c i x r z b f l e q n =
-      let before : buffer_count t.buffers.tail ≡ 1 = ap buffer_count f.1 in
-      let after : buffer_count c.tail ≡ 1 = ap buffer_count f.2 in
-      let kept = counted_gave t c i r (omega arith) (ap buffer_count e) (omega arith) q n in (
-        record {
-          gave = rw (e, z, f.1, f.2, b, members_between-empty s (t.high * w)) refl;
-          items = n;
-          scans = omega arith;
-          fetches = omega arith;
-          unread = ap (λ n. n + (t.high - t.low)) q;
-          words = refl;
-          bounded = bounded _ kept;
-        },
-        kept,
-      )
-
-  -- with no head and no word between, a scan of the tail that finds nothing ends the walk
-  pub front_ended : (t : Cursor B E W) (c : BufferPair) → IsCounted words t → t.buffers.head ≡ None →
-      t.low ≡ t.high → ScansFirst t.buffers.tail None c.tail →
-      c.scans ≡ t.buffers.scans + buffer_count t.buffers.tail → c.head ≡ t.buffers.head →
-      c.fetches ≡ t.buffers.fetches →
-      let u : Cursor B E W = record { buffers = c; low = t.low; high = t.high; items = t.items } in
-      StepsFront (walk_of s words w t) None (walk_of s words w u) × IsCounted words u
-  unfolding items_left_in
-  front_ended t c r z b f l e q =
-      let after : buffer_count c.tail ≡ 0 = ap buffer_count f.1 in
-      let kept = counted_met t c 0 (buffer_count t.buffers.tail) r (omega arith)
-      (omega (arith, ap buffer_count e)) (omega arith) q in (
-        record {
-          gave = (
-            rw (z, f.0, b, members_between-empty s (t.high * w)) refl,
-            rw (e, z, f.1, b, members_between-empty s (t.high * w)) refl,
-          );
-          items = refl;
-          scans = omega arith;
-          fetches = omega arith;
-          unread = ap (λ n. n + (t.high - t.low)) q;
-          words = refl;
-          bounded = bounded _ kept;
-        },
-        kept,
-      )
-
-  -- ---- the same from the back
-
-  -- a scan of the tail that finds nothing exhausts its word, if one is loaded
-  pub tail_exhausted : (t : Cursor B E W) (c : BufferPair) → IsCounted words t →
-      ScansLast t.buffers.tail None c.tail → c.scans ≡ t.buffers.scans + buffer_count t.buffers.tail →
-      c.head ≡ t.buffers.head → c.fetches ≡ t.buffers.fetches →
-      let u : Cursor B E W = record { buffers = c; low = t.low; high = t.high; items = t.items } in
-      Seeks (walk_of s words w t) (walk_of s words w u) × IsCounted words u
-  unfolding items_left_in
-  tail_exhausted t c r f l e q =
-      let after : buffer_count c.tail ≡ 0 = ap buffer_count f.1 in (
-        record {
-          remaining = rw (f.0, f.1, e) refl;
-          items = refl;
-          scans = omega arith;
-          fetches = omega arith;
-          unread = ap (λ n. n + (t.high - t.low)) q;
-          words = refl;
-        },
-        counted_met t c 0 (buffer_count t.buffers.tail) r (omega arith)
-            (omega (arith, ap buffer_count e)) (omega arith) q,
-      )
+      let rest = items_in t.buffers.tail in
+      fetched t _ r (rw (f, e, next) (sym (append_assoc
+      (members_between s (t.low * w) (t.low * w + w))
+      (members_between s (t.low * w + w) (t.high * w)) rest)
+      ∙ ap (λ xs. xs ++ rest) (sym
+      (members_between-split s (t.low * w) (t.low * w + w) (t.high * w) (omega arith) up))))
+      refl refl refl (omega arith) (omega arith) (omega arith) r.within
 
   -- the last word between is loaded to the tail
   pub tail_fetched : (t : Cursor B E W) (xs : List ℕ) → IsCounted words t → t.buffers.tail ≡ None →
@@ -269,75 +260,8 @@ module _ {B E W : Type 0} (s : PlainSet) (words w : ℕ) where
       let one_less : (t.high - 1) + 1 ≡ t.high = omega arith in
       let next : t.high * w ≡ (t.high - 1) * w + w = ap (λ n. n * w) (sym one_less) ∙ omega arith in
       let up : t.low * w ≤ (t.high - 1) * w = mul-le-mul_right w (omega arith) in
-      let none : buffer_count t.buffers.tail ≡ 0 = ap buffer_count f in (
-        record {
-          remaining = rw (f, e, next) (ap (λ xs. items_in t.buffers.head ++ xs)
-              (sym (members_between-split s (t.low * w) ((t.high - 1) * w) ((t.high - 1) * w + w) up
-              (omega arith)) ∙ sym (append-nil
-              (members_between s (t.low * w) ((t.high - 1) * w + w)))));
-          items = refl;
-          scans = omega arith;
-          fetches = omega arith;
-          unread = omega arith;
-          words = refl;
-        },
-        record {
-          ordered = omega arith;
-          within = omega (arith, r.within);
-          at_least = r.at_least;
-          at_most = omega (arith, r.at_most);
-          once = omega (arith, r.once);
-        },
-      )
-
-  -- no word is left between, and the head gives
-  pub head_gave_back : (t : Cursor B E W) (c : BufferPair) (i x : ℕ) → IsCounted words t →
-      t.buffers.tail ≡ None → t.low ≡ t.high → ScansLast t.buffers.head (Some x) c.head →
-      c.scans ≡ t.buffers.scans + buffer_count t.buffers.head → c.tail ≡ t.buffers.tail →
-      c.fetches ≡ t.buffers.fetches → i ≡ t.items + 1 →
-      let u : Cursor B E W = record { buffers = c; low = t.low; high = t.high; items = i } in
-      StepsBack (walk_of s words w t) (Some x) (walk_of s words w u) × IsCounted words u
-  unfolding items_left_in
-  head_gave_back t c i x r z b f l e q n =
-      let before : buffer_count t.buffers.head ≡ 1 = ap buffer_count f.1 in
-      let after : buffer_count c.head ≡ 1 = ap buffer_count f.2 in
-      let kept = counted_gave t c i r (omega arith) (omega arith) (ap buffer_count e) q n in (
-        record {
-          gave = rw (e, z, f.1, f.2, b, members_between-empty s (t.high * w))
-              (simp append-nil);
-          items = n;
-          scans = omega arith;
-          fetches = omega arith;
-          unread = ap (λ n. n + (t.high - t.low)) q;
-          words = refl;
-          bounded = bounded _ kept;
-        },
-        kept,
-      )
-
-  -- with no tail and no word between, a scan of the head that finds nothing ends the walk
-  pub back_ended : (t : Cursor B E W) (c : BufferPair) → IsCounted words t → t.buffers.tail ≡ None →
-      t.low ≡ t.high → ScansLast t.buffers.head None c.head →
-      c.scans ≡ t.buffers.scans + buffer_count t.buffers.head → c.tail ≡ t.buffers.tail →
-      c.fetches ≡ t.buffers.fetches →
-      let u : Cursor B E W = record { buffers = c; low = t.low; high = t.high; items = t.items } in
-      StepsBack (walk_of s words w t) None (walk_of s words w u) × IsCounted words u
-  unfolding items_left_in
-  back_ended t c r z b f l e q =
-      let after : buffer_count c.head ≡ 0 = ap buffer_count f.1 in
-      let kept = counted_met t c (buffer_count t.buffers.head) 0 r (omega arith) (omega arith)
-      (omega (arith, ap buffer_count e)) q in (
-        record {
-          gave = (
-            rw (z, f.0, b, members_between-empty s (t.high * w)) refl,
-            rw (e, z, f.1, b, members_between-empty s (t.high * w)) refl,
-          );
-          items = refl;
-          scans = omega arith;
-          fetches = omega arith;
-          unread = ap (λ n. n + (t.high - t.low)) q;
-          words = refl;
-          bounded = bounded _ kept;
-        },
-        kept,
-      )
+      let none : buffer_count t.buffers.tail ≡ 0 = ap buffer_count f in
+      fetched t _ r (rw (f, e, next) (ap (λ xs. items_in t.buffers.head ++ xs)
+      (sym (members_between-split s (t.low * w) ((t.high - 1) * w) ((t.high - 1) * w + w) up
+      (omega arith)) ∙ sym (append-nil (members_between s (t.low * w) ((t.high - 1) * w + w))))))
+      refl refl refl (omega arith) (omega arith) (omega arith) (omega (arith, r.within))

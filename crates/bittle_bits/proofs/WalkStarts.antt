@@ -1,13 +1,13 @@
--- Where a walk begins: with no word loaded, then with the first, then with the last one too.
-use Rattle.std.proofs.Common.{◌≡◌, ℕ, ◌+◌, ◌-◌, ◌*◌, ◌/◌, ◌<◌, List, Some, None, refl, sym, ap, ◌∙◌, arith, append-nil}
+-- Where a walk begins: with no word loaded, and with one more than another start.
+use Rattle.std.proofs.Common.{◌≡◌, ℕ, ◌*◌, ◌/◌, ◌<◌, ◌≤◌, None, refl, sym, ap, ◌∙◌, arith, append-nil}
 use Rattle.std.proofs.Math.Nat.{mul-div_left, zero-mul}
-use Rattle.bittle_bits.specs.Buffers.{BufferPair, members_between}
+use Rattle.bittle_bits.specs.Buffers.{BufferPair}
 use Rattle.bittle_bits.specs.PlainSet.{PlainSet}
-use Rattle.bittle_bits.specs.Cursor.{items_left_in, IsWalkStart}
+use Rattle.bittle_bits.specs.Cursor.{items_left_in, walk_of, IsCounted, IsWalkStart}
 use Rattle.bittle_bits.specs.declared.internal.cursor.Cursor.{Cursor}
 use Rattle.bittle_bits.proofs.Items.{members_between-all}
 use Rattle.bittle_bits.proofs.IteratorRuns.{is_fresh}
-use Rattle.bittle_bits.proofs.Steps.{head_fetched, tail_fetched}
+use Rattle.bittle_bits.proofs.Steps.{Seeks}
 
 module _ {B E W : Type 0} (s : PlainSet) (words w : ℕ) where
   -- with no word loaded
@@ -33,36 +33,13 @@ module _ {B E W : Type 0} (s : PlainSet) (words w : ℕ) where
         };
       })
 
-  -- with the first word loaded
-  pub walk_start_head : (high i : ℕ) (h h' : BufferPair) (xs : List ℕ) →
-      let t : Cursor B E W = record { buffers = h; low = 0; high = high; items = i } in
-      let u : Cursor B E W = record { buffers = h'; low = 1; high = high; items = i } in
-      IsWalkStart s words w t → h.head ≡ None → h.fetches ≡ 0 → 0 < high →
-      xs ≡ members_between s (0 * w) (0 * w + w) →
-      h' ≡ record { head = Some xs; tail = h.tail; scans = h.scans; fetches = h.fetches + 1 } →
-      IsWalkStart s words w u
-  walk_start_head high i h h' xs at none unread some items is =
-      let t : Cursor B E W = record { buffers = h; low = 0; high = high; items = i } in
-      let one = head_fetched s words w t xs at.counted none some items in
-      rw is (record {
-        remaining = one.0.remaining ∙ at.remaining;
-        fresh = is_fresh words _ at.fresh.scans at.fresh.items (omega arith) refl one.1.once;
-        counted = one.1;
-      })
-
-  -- with the last word loaded too
-  pub walk_start_tail : (high i : ℕ) (h h' : BufferPair) (xs : List ℕ) →
-      let t : Cursor B E W = record { buffers = h; low = 1; high = high; items = i } in
-      let u : Cursor B E W = record { buffers = h'; low = 1; high = high - 1; items = i } in
-      IsWalkStart s words w t → h.tail ≡ None → h.fetches ≡ 1 → 1 < high →
-      xs ≡ members_between s ((high - 1) * w) ((high - 1) * w + w) →
-      h' ≡ record { head = h.head; tail = Some xs; scans = h.scans; fetches = h.fetches + 1 } →
-      IsWalkStart s words w u
-  walk_start_tail high i h h' xs at none one more items is =
-      let t : Cursor B E W = record { buffers = h; low = 1; high = high; items = i } in
-      let two = tail_fetched s words w t xs at.counted none more items in
-      rw is (record {
-        remaining = two.0.remaining ∙ at.remaining;
-        fresh = is_fresh words _ at.fresh.scans at.fresh.items (omega arith) refl two.1.once;
-        counted = two.1;
-      })
+  -- with a word more loaded
+  pub walk_start_on : (t u : Cursor B E W) → IsWalkStart s words w t →
+      Seeks (walk_of s words w t) (walk_of s words w u) × IsCounted words u →
+      u.buffers.scans ≡ t.buffers.scans → u.buffers.fetches ≤ 2 → IsWalkStart s words w u
+  walk_start_on t u at more scans few = record {
+    remaining = more.0.remaining ∙ at.remaining;
+    fresh = is_fresh words _ (scans ∙ at.fresh.scans) (more.0.items ∙ at.fresh.items) few refl
+        more.1.once;
+    counted = more.1;
+  }

@@ -42,14 +42,22 @@ abbrev pub buffer_count : Option (List ℕ) → ℕ
 buffer_count None = 0
 buffer_count (Some xs) = 1
 
--- a scan from the front takes the first item of a loaded word, or finds the word exhausted; where
--- none is loaded it finds nothing
-abbrev pub ScansFirst : Option (List ℕ) → Option ℕ → Option (List ℕ) → Type 0
-ScansFirst before r after = MatchOption r ((items_in before ≡ []) × (after ≡ None))
-    (λ item. (xs : List ℕ) × (before ≡ Some (item ∷ xs)) × (after ≡ Some xs))
+-- the one of two buffered words that is the head, or the tail
+abbrev pub buffer_of : Bool → BufferPair → Option (List ℕ)
+buffer_of true b = b.head
+buffer_of false b = b.tail
 
--- a scan from the back takes the last item of a loaded word, or finds the word exhausted; where
--- none is loaded it finds nothing
-abbrev pub ScansLast : Option (List ℕ) → Option ℕ → Option (List ℕ) → Type 0
-ScansLast before r after = MatchOption r ((items_in before ≡ []) × (after ≡ None))
-    (λ item. (xs : List ℕ) × (before ≡ Some (xs ++ item ∷ [])) × (after ≡ Some xs))
+-- a list with one item more at its front, or at its back
+abbrev pub with_end : Bool → ℕ → List ℕ → List ℕ
+with_end true x xs = x ∷ xs
+with_end false x xs = xs ++ x ∷ []
+
+-- `YieldsFirst` from the front, and `YieldsLast` from the back
+abbrev pub YieldsFrom : {S : Type 0} → Bool → (S → List ℕ) → S → Option ℕ → S → Type 0
+YieldsFrom front rest s r t = MatchOption r ((rest s ≡ []) × (rest t ≡ []))
+    (λ x. rest s ≡ with_end front x (rest t))
+
+-- a scan takes the item at one end of a word, or finds that none is loaded or that it is exhausted
+abbrev pub ScansFrom : Bool → Option (List ℕ) → Option ℕ → Option (List ℕ) → Type 0
+ScansFrom front before r after = MatchOption r ((items_in before ≡ []) × (after ≡ None))
+    (λ item. (xs : List ℕ) × (before ≡ Some (with_end front item xs)) × (after ≡ Some xs))

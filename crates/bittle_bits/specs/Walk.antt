@@ -38,10 +38,10 @@ abbrev pub count_after : ℕ → Option ℕ → ℕ
 count_after n None = n
 count_after n (Some item) = n + 1
 
--- a step from the front: it gave the first item that was left, or None where none was, and each
--- word that it fetched was unread
-pub record StepsFront (before : Walk) (r : Option ℕ) (after : Walk) : Type 0 where
-  pub gave : YieldsFirst (λ w. w.remaining) before r after
+-- a step: what it gave is what `gives` says, and each word that it fetched was unread
+pub record Steps (gives : Walk → Option ℕ → Walk → Type 0) (before : Walk) (r : Option ℕ)
+    (after : Walk) : Type 0 where
+  pub gave : gives before r after
   pub items : after.items ≡ count_after before.items r
   pub scans : before.scans ≤ after.scans
   pub fetches : before.fetches ≤ after.fetches
@@ -49,16 +49,13 @@ pub record StepsFront (before : Walk) (r : Option ℕ) (after : Walk) : Type 0 w
   pub words : after.words ≡ before.words
   pub bounded : IsScanBounded after
 
--- a step from the back: it gave the last item that was left, or None where none was, and each word
--- that it fetched was unread
-pub record StepsBack (before : Walk) (r : Option ℕ) (after : Walk) : Type 0 where
-  pub gave : YieldsLast (λ w. w.remaining) before r after
-  pub items : after.items ≡ count_after before.items r
-  pub scans : before.scans ≤ after.scans
-  pub fetches : before.fetches ≤ after.fetches
-  pub unread : after.fetches + after.unread ≡ before.fetches + before.unread
-  pub words : after.words ≡ before.words
-  pub bounded : IsScanBounded after
+-- a step from the front gave the first item that was left, or None where none was
+abbrev pub StepsFront : Walk → Option ℕ → Walk → Type 0
+StepsFront = Steps (YieldsFirst (λ w. w.remaining))
+
+-- a step from the back gave the last item that was left, or None where none was
+abbrev pub StepsBack : Walk → Option ℕ → Walk → Type 0
+StepsBack = Steps (YieldsLast (λ w. w.remaining))
 
 -- a walk that has not stepped yet: it has fetched a word for each end at most; and what runs of its
 -- steps give

@@ -13,8 +13,8 @@ ghost use Rattle.bittle_bits.specs.Walk.{Walk, ones_or_zeros, AreBelow, IsFresh,
 use crate::bits::Bits;
 use crate::bits_owned::BitsOwned;
 use crate::endian::Endian;
-use crate::internal::buffer::Count;
-use crate::internal::cursor::{Cursor, begin, duplicate, step_back, step_front};
+use crate::internal::buffer::{Back, Count, Front};
+use crate::internal::cursor::{Cursor, begin, duplicate, step};
 use crate::internal::source::{Kind, Ones, OwnedSource, Source, Zeros};
 use crate::shape::Shape;
 use std::alloc::AllocError;
@@ -125,7 +125,7 @@ impl<'a, B: Bits, E: Endian, K: Kind> Iterator for Iter<'a, B, E, K> {
 
     #[inline]
     fn next(&mut self) -> Option<u32> {
-        step_front::<B, E, K>(&self.source, &mut self.at)
+        step::<B, E, K, Front>(&self.source, &mut self.at)
     }
 
     #[inline]
@@ -143,7 +143,7 @@ impl<'a, B: Bits, E: Endian, K: Kind> DoubleEndedIterator for Iter<'a, B, E, K> 
 
     #[inline]
     fn next_back(&mut self) -> Option<u32> {
-        step_back::<B, E, K>(&self.source, &mut self.at)
+        step::<B, E, K, Back>(&self.source, &mut self.at)
     }
 }
 
@@ -232,7 +232,7 @@ impl<B: BitsOwned, E: Endian, K: Kind> Iterator for IntoIter<B, E, K> {
 
     #[inline]
     fn next(&mut self) -> Option<u32> {
-        step_front::<B, E, K>(&self.source.lend(), &mut self.at)
+        step::<B, E, K, Front>(&self.source.lend(), &mut self.at)
     }
 
     #[inline]
@@ -250,7 +250,7 @@ impl<B: BitsOwned, E: Endian, K: Kind> DoubleEndedIterator for IntoIter<B, E, K>
 
     #[inline]
     fn next_back(&mut self) -> Option<u32> {
-        step_back::<B, E, K>(&self.source.lend(), &mut self.at)
+        step::<B, E, K, Back>(&self.source.lend(), &mut self.at)
     }
 }
 

@@ -1,8 +1,11 @@
 //! Buffered words: an iterator reads its set through them alone, and each fetch of a word and each
 //! scan of a buffered one is counted.
 
-ghost use Rattle.std.specs.Prelude.{◌≡◌, ◌+◌, ◌*◌, ◌<◌, Some, None, true};
-ghost use Rattle.bittle_bits.specs.Buffers.{members_between, buffered_items, buffer_count, items_of, IsSound, ScansFirst, ScansLast};
+ghost use Rattle.std.specs.Prelude.{◌≡◌, ◌+◌, ◌*◌, ◌<◌, Bool, true, false, not, cond, IfSome, Some, None};
+ghost use Rattle.bittle_bits.specs.BitPatterns.{bit_set};
+ghost use Rattle.bittle_bits.specs.Buffers.{members_between, buffered_items, buffer_count, buffer_of, items_of, IsSound, YieldsFrom, ScansFrom};
+ghost use Rattle.bittle_bits.specs.Orders.{read_in};
+ghost use Rattle.bittle_bits.specs.PlainSet.{ascending};
 ghost use Rattle.bittle_bits.specs.Values.{set_in, ShapeFits};
 ghost use Rattle.bittle_bits.specs.Walk.{ones_or_zeros};
 
@@ -92,41 +95,61 @@ fn load<B: Bits, E: Endian, K: Kind>(
     }
 }
 
-// Scans a buffered word for its first item.
-#[inline]
-#[tactic(auto, unfolding(crate::specs::Buffers::buffered_items, crate::specs::Buffers::IsSound))]
-fn scan_first<W: Word, E: Endian>(buffered: &mut BufferedWord<W>, scans: &mut Count) -> Option<u32>
-    requires { IsSound E.mirrored W.width W.pattern buffered.old }
-    ensures found { ScansFirst (buffered_items E.mirrored W.width W.pattern buffered.old) result
-        (buffered_items E.mirrored W.width W.pattern buffered.new) }
-    ensures scans { scans.new
-        ≡ scans.old + buffer_count (buffered_items E.mirrored W.width W.pattern buffered.old) }
-    ensures sound { IsSound E.mirrored W.width W.pattern buffered.new }
-{
-    let Some(index) = one_word::pop_first::<W, E>(&mut buffered.word) else {
-        if buffered.is_loaded {
-            scans.raise();
-            buffered.is_loaded = false;
-        }
-        buffered.base = 0;
-        return None;
-    };
-    scans.raise();
-    Some(buffered.base + index)
+/// Names the end that items are taken from: the [`Front`] or the [`Back`].
+pub trait End {
+    ghost FRONT: { Bool };
+
+    const FRONT: bool;
 }
 
-// Scans a buffered word for its last item.
+/// Names the front, where the least item is.
+pub enum Front {}
+
+/// Names the back, where the greatest item is.
+pub enum Back {}
+
+impl End for Front {
+    ghost FRONT = { true };
+
+    const FRONT: bool = true;
+}
+
+impl End for Back {
+    ghost FRONT = { false };
+
+    const FRONT: bool = false;
+}
+
+// Takes the member at the end `N` out of the word.
+#[inline]
+fn pop<W: Word, E: Endian, N: End>(word: &mut W) -> Option<u32>
+    ensures found { YieldsFrom N.FRONT
+        (λ w. ascending (read_in E.mirrored W.width (bit_set W.width (W.pattern w))))
+        word.old result word.new }
+    ensures below { IfSome result (λ index. index < W.width) }
+{
+    if N::FRONT {
+        one_word::pop_first::<W, E>(word)
+    } else {
+        one_word::pop_last::<W, E>(word)
+    }
+}
+
+// Scans a buffered word for its item at the end `N`.
 #[inline]
 #[tactic(auto, unfolding(crate::specs::Buffers::buffered_items, crate::specs::Buffers::IsSound))]
-fn scan_last<W: Word, E: Endian>(buffered: &mut BufferedWord<W>, scans: &mut Count) -> Option<u32>
+fn scan<W: Word, E: Endian, N: End>(
+    buffered: &mut BufferedWord<W>,
+    scans: &mut Count,
+) -> Option<u32>
     requires { IsSound E.mirrored W.width W.pattern buffered.old }
-    ensures found { ScansLast (buffered_items E.mirrored W.width W.pattern buffered.old) result
-        (buffered_items E.mirrored W.width W.pattern buffered.new) }
+    ensures found { ScansFrom N.FRONT (buffered_items E.mirrored W.width W.pattern buffered.old)
+        result (buffered_items E.mirrored W.width W.pattern buffered.new) }
     ensures scans { scans.new
         ≡ scans.old + buffer_count (buffered_items E.mirrored W.width W.pattern buffered.old) }
     ensures sound { IsSound E.mirrored W.width W.pattern buffered.new }
 {
-    let Some(index) = one_word::pop_last::<W, E>(&mut buffered.word) else {
+    let Some(index) = pop::<W, E, N>(&mut buffered.word) else {
         if buffered.is_loaded {
             scans.raise();
             buffered.is_loaded = false;
@@ -211,83 +234,47 @@ impl<W: Word, E: Endian> Buffers<W, E> {
         &self.scans
     }
 
-    /// Loads word `k` to the head, with the bits of the kind.
+    /// Loads word `k` to the head, or else to the tail, with the bits of the kind.
     #[inline]
     #[tactic(auto, unfolding(crate::specs::Buffers::buffered_items, crate::specs::Buffers::IsSound))]
-    pub fn fetch_head<B: Bits<LeafWord = W>, K: Kind>(&mut self, source: &Source<'_, B>, k: u32)
+    pub fn fetch<B: Bits<LeafWord = W>, K: Kind>(
+        &mut self,
+        to_head: bool,
+        source: &Source<'_, B>,
+        k: u32,
+    )
         requires fits { ShapeFits B.Shape source.now.set.now }
         requires within { k * B.width < (B.big source.now.set.now).capacity }
-        ensures { self.new ≡ record {
-          head = Some (members_between
-              (ones_or_zeros K.ONES (set_in B.Shape E.Endian source.now.set.now))
-              (k * B.width) (k * B.width + B.width));
-          tail = self.old.tail;
-          scans = self.old.scans;
-          fetches = self.old.fetches + 1;
-        } }
+        ensures { let loaded = Some (members_between
+            (ones_or_zeros K.ONES (set_in B.Shape E.Endian source.now.set.now))
+            (k * B.width) (k * B.width + B.width)) in
+            self.new ≡ record {
+              head = cond to_head loaded self.old.head;
+              tail = cond to_head self.old.tail loaded;
+              scans = self.old.scans;
+              fetches = self.old.fetches + 1;
+            } }
     {
-        self.head = load::<B, E, K>(source, k, &mut self.fetches);
+        if to_head {
+            self.head = load::<B, E, K>(source, k, &mut self.fetches);
+        } else {
+            self.tail = load::<B, E, K>(source, k, &mut self.fetches);
+        }
     }
 
-    /// Loads word `k` to the tail, with the bits of the kind.
+    /// Scans the head, or else the tail, for its item at the end `N`.
     #[inline]
-    #[tactic(auto, unfolding(crate::specs::Buffers::buffered_items, crate::specs::Buffers::IsSound))]
-    pub fn fetch_tail<B: Bits<LeafWord = W>, K: Kind>(&mut self, source: &Source<'_, B>, k: u32)
-        requires fits { ShapeFits B.Shape source.now.set.now }
-        requires within { k * B.width < (B.big source.now.set.now).capacity }
-        ensures { self.new ≡ record {
-          head = self.old.head;
-          tail = Some (members_between
-              (ones_or_zeros K.ONES (set_in B.Shape E.Endian source.now.set.now))
-              (k * B.width) (k * B.width + B.width));
-          scans = self.old.scans;
-          fetches = self.old.fetches + 1;
-        } }
-    {
-        self.tail = load::<B, E, K>(source, k, &mut self.fetches);
-    }
-
-    /// Scans the head for its first item.
-    #[inline]
-    pub fn first_of_head(&mut self) -> Option<u32>
-        ensures found { ScansFirst self.old.head result self.new.head }
-        ensures scans { self.new.scans ≡ self.old.scans + buffer_count self.old.head }
-        ensures tail { self.new.tail ≡ self.old.tail }
+    pub fn scan<N: End>(&mut self, of_head: bool) -> Option<u32>
+        ensures found { ScansFrom N.FRONT (buffer_of of_head self.old) result
+            (buffer_of of_head self.new) }
+        ensures scans { self.new.scans ≡ self.old.scans + buffer_count (buffer_of of_head self.old) }
+        ensures other { buffer_of (not of_head) self.new ≡ buffer_of (not of_head) self.old }
         ensures fetches { self.new.fetches ≡ self.old.fetches }
     {
-        scan_first::<W, E>(&mut self.head, &mut self.scans)
-    }
-
-    /// Scans the tail for its first item.
-    #[inline]
-    pub fn first_of_tail(&mut self) -> Option<u32>
-        ensures found { ScansFirst self.old.tail result self.new.tail }
-        ensures scans { self.new.scans ≡ self.old.scans + buffer_count self.old.tail }
-        ensures head { self.new.head ≡ self.old.head }
-        ensures fetches { self.new.fetches ≡ self.old.fetches }
-    {
-        scan_first::<W, E>(&mut self.tail, &mut self.scans)
-    }
-
-    /// Scans the head for its last item.
-    #[inline]
-    pub fn last_of_head(&mut self) -> Option<u32>
-        ensures found { ScansLast self.old.head result self.new.head }
-        ensures scans { self.new.scans ≡ self.old.scans + buffer_count self.old.head }
-        ensures tail { self.new.tail ≡ self.old.tail }
-        ensures fetches { self.new.fetches ≡ self.old.fetches }
-    {
-        scan_last::<W, E>(&mut self.head, &mut self.scans)
-    }
-
-    /// Scans the tail for its last item.
-    #[inline]
-    pub fn last_of_tail(&mut self) -> Option<u32>
-        ensures found { ScansLast self.old.tail result self.new.tail }
-        ensures scans { self.new.scans ≡ self.old.scans + buffer_count self.old.tail }
-        ensures head { self.new.head ≡ self.old.head }
-        ensures fetches { self.new.fetches ≡ self.old.fetches }
-    {
-        scan_last::<W, E>(&mut self.tail, &mut self.scans)
+        if of_head {
+            scan::<W, E, N>(&mut self.head, &mut self.scans)
+        } else {
+            scan::<W, E, N>(&mut self.tail, &mut self.scans)
+        }
     }
 }

@@ -3,13 +3,14 @@
 
 ghost use Rattle.std.specs.Prelude.{◌≡◌, ℕ, ◌/◌};
 ghost use Rattle.bittle_bits.specs.PlainSet.{PlainSet};
+ghost use Rattle.bittle_bits.specs.Buffers.{YieldsFrom};
 ghost use Rattle.bittle_bits.specs.Cursor.{items_left_in, walk_of, IsWalkStart, IsCounted};
 ghost use Rattle.bittle_bits.specs.Values.{set_in, ShapeFits};
-ghost use Rattle.bittle_bits.specs.Walk.{ones_or_zeros, AreBelow, IsFresh, ResumesAs, StepsFront, StepsBack};
+ghost use Rattle.bittle_bits.specs.Walk.{ones_or_zeros, AreBelow, IsFresh, ResumesAs, Steps};
 
 use crate::bits::Bits;
 use crate::endian::Endian;
-use crate::internal::buffer::{Buffers, Count};
+use crate::internal::buffer::{Buffers, Count, End};
 use crate::internal::source::{Kind, Source};
 use crate::shape::Shape;
 
@@ -42,13 +43,13 @@ pub fn begin<B: Bits, E: Endian, K: Kind>(source: &Source<'_, B>) -> Cursor<B, E
     if at.low == at.high {
         return at;
     }
-    at.buffers.fetch_head::<B, K>(source, at.low);
+    at.buffers.fetch::<B, K>(true, source, at.low);
     at.low += 1;
     if at.low == at.high {
         return at;
     }
     at.high -= 1;
-    at.buffers.fetch_tail::<B, K>(source, at.high);
+    at.buffers.fetch::<B, K>(false, source, at.high);
     at
 }
 
@@ -78,68 +79,39 @@ pub fn duplicate<B: Bits, E: Endian>(at: &Cursor<B, E>) -> Cursor<B, E>
     }
 }
 
-/// Takes the first item that remains.
+/// Takes the item at the end `N` of those that remain.
 #[inline]
 #[tactic(auto, unfolding(crate::specs::Cursor::items_left_in))]
-pub fn step_front<B: Bits, E: Endian, K: Kind>(
+pub fn step<B: Bits, E: Endian, K: Kind, N: End>(
     source: &Source<'_, B>,
     at: &mut Cursor<B, E>,
 ) -> Option<u32>
     requires fits { ShapeFits B.Shape source.now.set.now }
     requires counted { IsCounted ((B.big source.now.set.now).capacity / B.width) at.old }
-    ensures steps { StepsFront
-        (walk_of (ones_or_zeros K.ONES (set_in B.Shape E.Endian source.now.set.now))
-        ((B.big source.now.set.now).capacity / B.width) B.width at.old) result
-        (walk_of (ones_or_zeros K.ONES (set_in B.Shape E.Endian source.now.set.now))
-        ((B.big source.now.set.now).capacity / B.width) B.width at.new) }
+    ensures steps { let s = ones_or_zeros K.ONES (set_in B.Shape E.Endian source.now.set.now) in
+        let words = (B.big source.now.set.now).capacity / B.width in
+        Steps (YieldsFrom N.FRONT (λ w. w.remaining)) (walk_of s words B.width at.old) result
+        (walk_of s words B.width at.new) }
     ensures counted { IsCounted ((B.big source.now.set.now).capacity / B.width) at.new }
 {
     loop {
-        if let Some(item) = at.buffers.first_of_head() {
+        if let Some(item) = at.buffers.scan::<N>(N::FRONT) {
             at.items.raise();
             return Some(item);
         }
         if at.low == at.high {
             break;
         }
-        at.buffers.fetch_head::<B, K>(source, at.low);
-        at.low += 1;
-    }
-    let Some(item) = at.buffers.first_of_tail() else {
-        return None;
-    };
-    at.items.raise();
-    Some(item)
-}
-
-/// Takes the last item that remains.
-#[inline]
-#[tactic(auto, unfolding(crate::specs::Cursor::items_left_in))]
-pub fn step_back<B: Bits, E: Endian, K: Kind>(
-    source: &Source<'_, B>,
-    at: &mut Cursor<B, E>,
-) -> Option<u32>
-    requires fits { ShapeFits B.Shape source.now.set.now }
-    requires counted { IsCounted ((B.big source.now.set.now).capacity / B.width) at.old }
-    ensures steps { StepsBack
-        (walk_of (ones_or_zeros K.ONES (set_in B.Shape E.Endian source.now.set.now))
-        ((B.big source.now.set.now).capacity / B.width) B.width at.old) result
-        (walk_of (ones_or_zeros K.ONES (set_in B.Shape E.Endian source.now.set.now))
-        ((B.big source.now.set.now).capacity / B.width) B.width at.new) }
-    ensures counted { IsCounted ((B.big source.now.set.now).capacity / B.width) at.new }
-{
-    loop {
-        if let Some(item) = at.buffers.last_of_tail() {
-            at.items.raise();
-            return Some(item);
+        if N::FRONT {
+            at.buffers.fetch::<B, K>(true, source, at.low);
+            at.low += 1;
+        } else {
+            at.high -= 1;
+            at.buffers.fetch::<B, K>(false, source, at.high);
         }
-        if at.low == at.high {
-            break;
-        }
-        at.high -= 1;
-        at.buffers.fetch_tail::<B, K>(source, at.high);
     }
-    let Some(item) = at.buffers.last_of_head() else {
+    // No word is left between, so the buffer at the other end has the last items.
+    let Some(item) = at.buffers.scan::<N>(!N::FRONT) else {
         return None;
     };
     at.items.raise();

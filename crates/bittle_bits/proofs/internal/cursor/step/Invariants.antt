@@ -3,7 +3,7 @@ use Rattle.bittle_bits.specs.Cursor.{walk_of, IsCounted}
 use Rattle.bittle_bits.specs.Values.{set_in}
 use Rattle.bittle_bits.specs.Walk.{ones_or_zeros}
 use Rattle.bittle_bits.proofs.Steps.{Seeks}
-use Rattle.bittle_bits.proofs.internal.cursor.step_front.Given as goal
+use Rattle.bittle_bits.proofs.internal.cursor.step.Given as goal
 
 abbrev pub invariant-loop-item : goal.invariant-loop-item
 invariant-loop-item g l =
