@@ -54,6 +54,44 @@ verdict_more : (A B : ℕ → Bool) (from to : ℕ) (o : Ordering) → A from �
 verdict_more A B from to o e = match_map o (before_more A B from to e) (same_more A B from to e)
     (before_more B A from to (sym e))
 
+-- the first number is in A alone, and the next one of B, if any, decides: either way round
+one_ahead : (A B : ℕ → Bool) (from n : ℕ) → A from ≡ true → B from ≡ false →
+    NonePasses B (suc from) (suc from + n)
+    ⊎ ((v : ℕ) × IsLeastPassing B (suc from) (suc from + n) v) →
+    let ours = ascending_from A from (suc n) in
+    let theirs = ascending_from B from (suc n) in
+    Verdict A B from (from + suc n) (list_cmp ours theirs)
+    × Verdict B A from (from + suc n) (list_cmp theirs ours)
+one_ahead A B from n a b (inl none) =
+    let ours = ascending-yes A from n a in
+    let theirs = ascending-no B from n b ∙ ascending_from-none B (suc from) n none in
+    let w : BeforeIn B A from (from + suc n) = (
+      from,
+      omega arith,
+      omega arith,
+      (λ i p q. absurd (omega arith)),
+      inr (b, a, λ m p q. none m (omega arith) (omega arith)),
+    ) in (rw (ours, theirs) w, rw (theirs, ours) w)
+one_ahead A B from n a b (inr v) =
+    let m = suc from + n - suc v.0 in
+    let g : suc from + n ≡ suc v.0 + m = omega (arith, v.1.1) in
+    let past : from < v.0 = omega (arith, v.1.0) in
+    let ours = ascending-yes A from n a in
+    let theirs = ascending-no B from n b
+    ∙ ascending_from-least B (suc from) n v.0 m v.1.0 g v.1.2 v.1.3 in
+    let xs = ascending_from A (suc from) n in
+    let ys = ascending_from B (suc v.0) m in
+    let w : BeforeIn A B from (from + suc n) = (
+      from,
+      omega arith,
+      omega arith,
+      (λ i p q. absurd (omega arith)),
+      inl (a, b, (v.0, past, v.1.2)),
+    ) in (
+      rw (ours, theirs, less_head from v.0 xs ys past) w,
+      rw (theirs, ours, more_head v.0 from ys xs past) w,
+    )
+
 decide : (A B : ℕ → Bool) (from n : ℕ) →
     Verdict A B from (from + n) (list_cmp (ascending_from A from n) (ascending_from B from n))
 unfolding ascending_from
@@ -64,70 +102,6 @@ decide A B from (suc n) = by (decide A B (suc from) n) (cases_Bool (A from)) (ca
         Verdict A B (suc from) (suc from + n) o → Verdict A B from (from + suc n) o
     more e o q h = verdict_more A B from (from + suc n) o q
         (subst (λ t. Verdict A B (suc from) t o) e h)
-
-    right : A from ≡ true → B from ≡ false →
-        NonePasses B (suc from) (suc from + n)
-        ⊎ ((v : ℕ) × IsLeastPassing B (suc from) (suc from + n) v) →
-        Verdict A B from (from + suc n) (list_cmp (ascending_from A from (suc n))
-        (ascending_from B from (suc n)))
-    right a b (inl none) =
-        let e : list_cmp (ascending_from A from (suc n)) (ascending_from B from (suc n))
-        ≡ Greater = λ i. list_cmp (ascending-yes A from n a i)
-        ((ascending-no B from n b ∙ ascending_from-none B (suc from) n none) i) in
-        subst (Verdict A B from (from + suc n)) (sym e) (
-          from,
-          omega arith,
-          omega arith,
-          (λ i p q. absurd (omega arith)),
-          inr (b, a, λ m p q. none m (omega arith) (omega arith)),
-        )
-    right a b (inr w) =
-        let m = suc from + n - suc w.0 in
-        let g : suc from + n ≡ suc w.0 + m = omega (arith, w.1.1) in
-        let f = ascending_from-least B (suc from) n w.0 m w.1.0 g w.1.2 w.1.3 in
-        let e : list_cmp (ascending_from A from (suc n)) (ascending_from B from (suc n))
-        ≡ Less = (λ i. list_cmp (ascending-yes A from n a i) ((ascending-no B from n b ∙ f) i))
-        ∙ less_head from w.0 (ascending_from A (suc from) n) (ascending_from B (suc w.0) m)
-        (omega (arith, w.1.0)) in
-        subst (Verdict A B from (from + suc n)) (sym e) (
-          from,
-          omega arith,
-          omega arith,
-          (λ i p q. absurd (omega arith)),
-          inl (a, b, (w.0, omega (arith, w.1.0), w.1.2)),
-        )
-
-    left : A from ≡ false → B from ≡ true →
-        NonePasses A (suc from) (suc from + n)
-        ⊎ ((v : ℕ) × IsLeastPassing A (suc from) (suc from + n) v) →
-        Verdict A B from (from + suc n) (list_cmp (ascending_from A from (suc n))
-        (ascending_from B from (suc n)))
-    left a b (inl none) =
-        let e : list_cmp (ascending_from A from (suc n)) (ascending_from B from (suc n))
-        ≡ Less = λ i. list_cmp ((ascending-no A from n a
-        ∙ ascending_from-none A (suc from) n none) i) (ascending-yes B from n b i) in
-        subst (Verdict A B from (from + suc n)) (sym e) (
-          from,
-          omega arith,
-          omega arith,
-          (λ i p q. absurd (omega arith)),
-          inr (a, b, λ m p q. none m (omega arith) (omega arith)),
-        )
-    left a b (inr w) =
-        let m = suc from + n - suc w.0 in
-        let g : suc from + n ≡ suc w.0 + m = omega (arith, w.1.1) in
-        let f = ascending_from-least A (suc from) n w.0 m w.1.0 g w.1.2 w.1.3 in
-        let e : list_cmp (ascending_from A from (suc n)) (ascending_from B from (suc n))
-        ≡ Greater = (λ i. list_cmp ((ascending-no A from n a ∙ f) i)
-        (ascending-yes B from n b i)) ∙ more_head w.0 from (ascending_from A (suc w.0) m)
-        (ascending_from B (suc from) n) (omega (arith, w.1.0)) in
-        subst (Verdict A B from (from + suc n)) (sym e) (
-          from,
-          omega arith,
-          omega arith,
-          (λ i p q. absurd (omega arith)),
-          inl (b, a, (w.0, omega (arith, w.1.0), w.1.2)),
-        )
 
     by : Verdict A B (suc from) (suc from + n)
         (list_cmp (ascending_from A (suc from) n) (ascending_from B (suc from) n)) →
@@ -143,8 +117,8 @@ decide A B from (suc n) = by (decide A B (suc from) n) (cases_Bool (A from)) (ca
         subst (Verdict A B from (from + suc n)) (sym e)
         (more (omega arith) (list_cmp (ascending_from A (suc from) n)
         (ascending_from B (suc from) n)) (a ∙ sym b) h)
-    by h (inl a) (inr b) = right a b (least_or_none B (suc from) n)
-    by h (inr a) (inl b) = left a b (least_or_none A (suc from) n)
+    by h (inl a) (inr b) = (one_ahead A B from n a b (least_or_none B (suc from) n)).0
+    by h (inr a) (inl b) = (one_ahead B A from n b a (least_or_none A (suc from) n)).1
     by h (inr a) (inr b) =
         let e : list_cmp (ascending_from A from (suc n)) (ascending_from B from (suc n))
         ≡ list_cmp (ascending_from A (suc from) n) (ascending_from B (suc from) n) = λ i.
