@@ -69,28 +69,31 @@ past_second s t from to r same none past h = back r
     back (Some d) e = ((λ i p. sym (e.0 i p)), turned (s.has d) (t.has d) ∙ e.1)
 
 -- two sets that are the same as far as both go, each with no member past its capacity
-module _ (s t : PlainSet) (past : (i : ℕ) → s.capacity ≤ i → s.has i ≡ false)
-    (past-2 : (i : ℕ) → t.capacity ≤ i → t.has i ≡ false)
-    (same : AreSameBelow s t (min s.capacity t.capacity)) where
+pub record AreAlikeInCommon (s t : PlainSet) : Type 0 where
+  pub first : EndsAtCapacity s
+  pub second : EndsAtCapacity t
+  pub same : AreSameBelow s t (min s.capacity t.capacity)
+
+module _ (s t : PlainSet) (both : AreAlikeInCommon s t) where
   -- just the second goes on
   pub first_ends : s.capacity < t.capacity → (r : Option ℕ) →
       IsFirstIn t s.capacity t.capacity r →
       MatchOption r (AreSame s t) (λ d. IsFirstDifference s t d)
   first_ends h r found = past_first s t s.capacity t.capacity r
-      (λ i l. same i (omega (arith, h))) past past-2 found
+      (λ i l. both.same i (omega (arith, h))) both.first both.second found
 
   -- just the first goes on
   pub second_ends : t.capacity < s.capacity → (r : Option ℕ) →
       IsFirstIn s t.capacity s.capacity r →
       MatchOption r (AreSame s t) (λ d. IsFirstDifference s t d)
   second_ends h r found = past_second s t t.capacity s.capacity r
-      (λ i l. same i (omega (arith, h))) past-2 past found
+      (λ i l. both.same i (omega (arith, h))) both.second both.first found
 
   -- neither goes on
   pub both_end : s.capacity ≡ t.capacity → AreSame s t
   both_end e i = elim (cases_lt i s.capacity) [
-    | inl l ↦ same i (omega (arith, e))
-    | inr g ↦ past i g ∙ sym (past-2 i (omega (arith, e)))
+    | inl l ↦ both.same i (omega (arith, e))
+    | inr g ↦ both.first i g ∙ sym (both.second i (omega (arith, e)))
   ]
 
 -- a search past a number

@@ -7,48 +7,51 @@ use Rattle.bittle_bits.proofs.PlainSets.{members-past}
 use Rattle.bittle.specs.Comparison.{AreSame, IsFirstDifference}
 use Rattle.bittle.proofs.FirstDifference.{none_is, none_equal, none_decides}
 use Rattle.bittle.proofs.ListComparison.{equal_iff_same}
+use Rattle.bittle.proofs.set.compare.are_equal.Given.{Over}
+use Rattle.bittle.proofs.set.compare.are_equal.Goals.{After-first_difference}
 use Rattle.bittle.proofs.set.compare.are_equal.Goals as goal
+
+-- the first difference, with each side read in its own order
+difference : (g : Over) (c : After-first_difference g) →
+    let ours = set_in g.A.Shape g.E.Endian c.args.left.now in
+    let theirs = set_in g.B.Shape g.F.Endian c.args.right.now in
+    MatchOption c.first_difference.result (AreSame ours theirs) (λ d. IsFirstDifference ours theirs d)
+difference g c =
+    let ours = set_in g.A.Shape g.E.Endian c.args.left.now in
+    subst (λ m. let theirs = set_mirrored g.B.Shape m c.args.right.now in
+    MatchOption c.first_difference.result (AreSame ours theirs) (λ d. IsFirstDifference ours theirs d))
+    (c.are_alike.ensures c.if-are_alike.true).1 c.first_difference.ensures
 
 pub returns-then-are_alike-clause-value : goal.returns-then-are_alike-clause-value
 returns-then-are_alike-clause-value g c =
     let x = c.args.left.now in
     let y = c.args.right.now in
-    let t = g.met.A.Bits in
-    let u = g.met.B.Bits in
+    let a = g.met.A.Bits in
+    let b = g.met.B.Bits in
     let ours = set_in g.A.Shape g.E.Endian x in
     let theirs = set_in g.B.Shape g.F.Endian y in
-    let alike = c.are_alike.ensures c.if-are_alike.true in
-    let difference = subst (λ m. MatchOption c.first_difference.result
-    (AreSame ours (set_mirrored g.B.Shape m y))
-    (λ d. IsFirstDifference ours (set_mirrored g.B.Shape m y) d)) alike.1
-    c.first_difference.ensures in
     none_is c.first_difference.result _ c.is_none.ensures
-    ∙ none_equal ours theirs (members-past g.E.Endian.mirrored _ _ t.width_positive
-    (t.whole_words x) (t.none_past x))
-    (members-past g.F.Endian.mirrored _ _ u.width_positive (u.whole_words y)
-    (u.none_past y)) c.first_difference.result difference
-    ∙ sym (texts_ties (ascending ours) (ascending theirs))
-
-pub returns-else-are_alike-clause-value : goal.returns-else-are_alike-clause-value
-returns-else-are_alike-clause-value g c =
-    let ours = set_in g.A.Shape g.E.Endian c.args.left.now in
-    let theirs = set_in g.B.Shape g.F.Endian c.args.right.now
-    in c.is_eq.ensures ∙ ap is_eq c.compare.ensures.value
+    ∙ none_equal ours theirs
+    (members-past g.E.Endian.mirrored _ _ a.width_positive (a.whole_words x) (a.none_past x))
+    (members-past g.F.Endian.mirrored _ _ b.width_positive (b.whole_words y) (b.none_past y))
+    c.first_difference.result
+    (difference g (goal.at.returns-then-are_alike-clause-value g c).After-first_difference)
     ∙ sym (texts_ties (ascending ours) (ascending theirs))
 
 pub returns-then-are_alike-clause-decided : goal.returns-then-are_alike-clause-decided
 returns-then-are_alike-clause-decided g c =
-    let y = c.args.right.now in
     let ours = set_in g.A.Shape g.E.Endian c.args.left.now in
-    let theirs = set_in g.B.Shape g.F.Endian y in
-    let alike = c.are_alike.ensures c.if-are_alike.true in
-    let difference = subst (λ m. MatchOption c.first_difference.result
-    (AreSame ours (set_mirrored g.B.Shape m y))
-    (λ d. IsFirstDifference ours (set_mirrored g.B.Shape m y) d)) alike.1
-    c.first_difference.ensures in
+    let theirs = set_in g.B.Shape g.F.Endian c.args.right.now in
     subst (λ r. IsTrue r ↔ AreSame ours theirs)
     (sym (none_is c.first_difference.result _ c.is_none.ensures))
-    (none_decides ours theirs c.first_difference.result difference)
+    (none_decides ours theirs c.first_difference.result
+    (difference g (goal.at.returns-then-are_alike-clause-decided g c).After-first_difference))
+
+pub returns-else-are_alike-clause-value : goal.returns-else-are_alike-clause-value
+returns-else-are_alike-clause-value g c =
+    c.is_eq.ensures ∙ ap is_eq c.compare.ensures.value ∙ sym (texts_ties
+    (ascending (set_in g.A.Shape g.E.Endian c.args.left.now))
+    (ascending (set_in g.B.Shape g.F.Endian c.args.right.now)))
 
 pub returns-else-are_alike-clause-decided : goal.returns-else-are_alike-clause-decided
 returns-else-are_alike-clause-decided g c =

@@ -1,29 +1,27 @@
 use Rattle.std.proofs.Common.{◌≡◌, refl, sym, ap, subst, ◌∙◌}
 use Rattle.std.proofs.lemmas.Iterator.Search.{cmp_from_yields_List}
 use Rattle.std.specs.Ordering.{nat_cmp, MatchOrdering}
-use Rattle.bittle_bits.specs.PlainSet.{ascending}
 use Rattle.bittle_bits.specs.Values.{set_mirrored}
 use Rattle.bittle_bits.proofs.PlainSets.{members-past}
-use Rattle.bittle.specs.Comparison.{list_cmp, AreSame, Precedes}
+use Rattle.bittle.specs.Comparison.{AreSame, Precedes}
 use Rattle.bittle.proofs.FirstDifference.{cmp_decided}
-use Rattle.bittle.proofs.ListComparison.{list_cmp-precedes}
+use Rattle.bittle.proofs.ListComparison.{EndsAtCapacity, list_cmp-precedes}
 use Rattle.bittle.proofs.WalkYields.{steps_yield}
+use Rattle.bittle.proofs.set.compare.compare.Given.{Over}
+use Rattle.bittle.proofs.set.compare.compare.Goals.{Start}
 use Rattle.bittle.proofs.set.compare.compare.Goals as goal
 
-pub returns-then-are_alike-clause-value : goal.returns-then-are_alike-clause-value
-returns-then-are_alike-clause-value g c =
+ends : (g : Over) (c : Start g) →
+    EndsAtCapacity (set_mirrored g.A.Shape g.E.Endian.mirrored c.args.left.now)
+    × EndsAtCapacity (set_mirrored g.B.Shape g.F.Endian.mirrored c.args.right.now)
+ends g c =
     let x = c.args.left.now in
     let y = c.args.right.now in
     let a = g.met.A.Bits in
-    let b = g.met.B.Bits in
-    let m = g.E.Endian.mirrored in
-    let ours = set_mirrored g.A.Shape m x in
-    subst (λ n. c.compare_words.result
-    ≡ list_cmp (ascending ours) (ascending (set_mirrored g.B.Shape n y)))
-    (c.are_alike.ensures c.if-are_alike.true).1
-    (cmp_decided ours (set_mirrored g.B.Shape m y)
-    (members-past m _ _ a.width_positive (a.whole_words x) (a.none_past x))
-    (members-past m _ _ b.width_positive (b.whole_words y) (b.none_past y)) _ c.compare_words.ensures)
+    let b = g.met.B.Bits in (
+      members-past g.E.Endian.mirrored _ _ a.width_positive (a.whole_words x) (a.none_past x),
+      members-past g.F.Endian.mirrored _ _ b.width_positive (b.whole_words y) (b.none_past y),
+    )
 
 pub returns-then-are_alike-clause-decided : goal.returns-then-are_alike-clause-decided
 returns-then-are_alike-clause-decided g c =
@@ -31,6 +29,13 @@ returns-then-are_alike-clause-decided g c =
     subst (λ n. let theirs = set_mirrored g.B.Shape n c.args.right.now in
     MatchOrdering c.compare_words.result (Precedes ours theirs) (AreSame ours theirs)
     (Precedes theirs ours)) (c.are_alike.ensures c.if-are_alike.true).1 c.compare_words.ensures
+
+pub returns-then-are_alike-clause-value : goal.returns-then-are_alike-clause-value
+returns-then-are_alike-clause-value g c =
+    let both = ends g (goal.at.returns-then-are_alike-clause-value g c).Start in
+    cmp_decided (set_mirrored g.A.Shape g.E.Endian.mirrored c.args.left.now)
+    (set_mirrored g.B.Shape g.F.Endian.mirrored c.args.right.now) both.0 both.1 _
+    (returns-then-are_alike-clause-decided g c)
 
 pub returns-else-are_alike-clause-value : goal.returns-else-are_alike-clause-value
 returns-else-are_alike-clause-value g c =
@@ -41,14 +46,9 @@ returns-else-are_alike-clause-value g c =
 
 pub returns-else-are_alike-clause-decided : goal.returns-else-are_alike-clause-decided
 returns-else-are_alike-clause-decided g c =
-    let x = c.args.left.now in
-    let y = c.args.right.now in
-    let a = g.met.A.Bits in
-    let b = g.met.B.Bits in
-    let ours = set_mirrored g.A.Shape g.E.Endian.mirrored x in
-    let theirs = set_mirrored g.B.Shape g.F.Endian.mirrored y in
+    let both = ends g (goal.at.returns-else-are_alike-clause-decided g c).Start in
+    let ours = set_mirrored g.A.Shape g.E.Endian.mirrored c.args.left.now in
+    let theirs = set_mirrored g.B.Shape g.F.Endian.mirrored c.args.right.now in
     subst (λ o. MatchOrdering o (Precedes ours theirs) (AreSame ours theirs) (Precedes theirs ours))
     (sym (returns-else-are_alike-clause-value g c))
-    (list_cmp-precedes ours theirs
-    (members-past g.E.Endian.mirrored _ _ a.width_positive (a.whole_words x) (a.none_past x))
-    (members-past g.F.Endian.mirrored _ _ b.width_positive (b.whole_words y) (b.none_past y)))
+    (list_cmp-precedes ours theirs both.0 both.1)

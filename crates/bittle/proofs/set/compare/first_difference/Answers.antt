@@ -1,7 +1,9 @@
 use Rattle.std.proofs.Common.{◌≡◌, min, sym, ◌∙◌, arith}
 use Rattle.bittle_bits.proofs.PlainSets.{members-past}
 use Rattle.bittle_bits.specs.Values.{set_in}
-use Rattle.bittle.proofs.FirstDifference.{some_among, none_among, first_ends, second_ends, both_end}
+use Rattle.bittle.proofs.FirstDifference.{AreAlikeInCommon, some_among, none_among, first_ends, second_ends, both_end}
+use Rattle.bittle.proofs.set.compare.first_difference.Given.{Over}
+use Rattle.bittle.proofs.set.compare.first_difference.Goals.{Else-is_some}
 use Rattle.bittle.proofs.set.compare.first_difference.Goals as goal
 
 pub returns-then-is_some : goal.returns-then-is_some
@@ -10,69 +12,48 @@ returns-then-is_some g c =
     (set_in g.B.Shape g.E.Endian c.args.right.now) _ c.first_decided_below-difference.result
     (sym c.is_some.ensures ∙ c.if-is_some.true) c.first_decided_below-difference.ensures.first
 
-pub returns-then-capacity-other : goal.returns-then-capacity-other
-returns-then-capacity-other g c =
+-- where the search of the common words found none
+alike : (g : Over) (c : Else-is_some g) → AreAlikeInCommon
+    (set_in g.A.Shape g.E.Endian c.args.left.now) (set_in g.B.Shape g.E.Endian c.args.right.now)
+alike g c =
     let a = g.met.A.Bits in
     let b = g.met.B.Bits in
     let m = g.E.Endian.mirrored in
     let x = c.args.left.now in
     let y = c.args.right.now in
-    let ours = set_in g.A.Shape g.E.Endian x in
-    let theirs = set_in g.B.Shape g.E.Endian y in
+    let least : c.min-common.result ≡ min (g.A.Shape.big x).capacity (g.B.Shape.big y).capacity =
+    omega (arith, c.min-common.ensures, c.requires.capacity, c.requires.other) in
+    record {
+      first = members-past m _ _ a.width_positive (a.whole_words x) (a.none_past x);
+      second = members-past m _ _ b.width_positive (b.whole_words y) (b.none_past y);
+      same = rw least at (none_among (set_in g.A.Shape g.E.Endian x) (set_in g.B.Shape g.E.Endian y) _
+          c.first_decided_below-difference.result (sym c.is_some.ensures ∙ c.if-is_some.false)
+          c.first_decided_below-difference.ensures.first);
+    }
+
+pub returns-then-capacity-other : goal.returns-then-capacity-other
+returns-then-capacity-other g c =
     let capacity = c.requires.capacity in
     let other = c.requires.other in
-    let least : c.min-common.result ≡ min (g.A.Shape.big x).capacity (g.B.Shape.big y).capacity =
-    omega (arith, c.min-common.ensures, capacity, other) in
-    let same = rw least at (none_among ours theirs _ c.first_decided_below-difference.result
-    (sym c.is_some.ensures ∙ c.if-is_some.false) c.first_decided_below-difference.ensures.first) in
-    let past = members-past m _ _ a.width_positive (a.whole_words x) (a.none_past x) in
-    let past-2 = members-past m _ _ b.width_positive (b.whole_words y) (b.none_past y) in
-    first_ends ours theirs past past-2 same (omega (arith, capacity, other, c.if-capacity-other.true))
-    c.first_one_in.result (rw (capacity, other) at c.first_one_in.ensures)
+    first_ends _ _ (alike g (goal.at.returns-then-capacity-other g c).Else-is_some)
+    (omega (arith, capacity, other, c.if-capacity-other.true)) c.first_one_in.result
+    (rw (capacity, other) at c.first_one_in.ensures)
 
 pub returns-then-other-capacity : goal.returns-then-other-capacity
 returns-then-other-capacity g c =
-    let a = g.met.A.Bits in
-    let b = g.met.B.Bits in
-    let m = g.E.Endian.mirrored in
-    let x = c.args.left.now in
-    let y = c.args.right.now in
-    let ours = set_in g.A.Shape g.E.Endian x in
-    let theirs = set_in g.B.Shape g.E.Endian y in
     let capacity = c.requires.capacity in
     let other = c.requires.other in
-    let least : c.min-common.result ≡ min (g.A.Shape.big x).capacity (g.B.Shape.big y).capacity =
-    omega (arith, c.min-common.ensures, capacity, other) in
-    let same = rw least at (none_among ours theirs _ c.first_decided_below-difference.result
-    (sym c.is_some.ensures ∙ c.if-is_some.false) c.first_decided_below-difference.ensures.first) in
-    let past = members-past m _ _ a.width_positive (a.whole_words x) (a.none_past x) in
-    let past-2 = members-past m _ _ b.width_positive (b.whole_words y) (b.none_past y) in
-    second_ends ours theirs past past-2 same
+    second_ends _ _ (alike g (goal.at.returns-then-other-capacity g c).Else-is_some)
     (omega (arith, capacity, other, c.if-other-capacity.true))
     c.first_one_in-then-other-capacity.result
     (rw (capacity, other) at c.first_one_in-then-other-capacity.ensures)
 
 pub returns-else-other-capacity : goal.returns-else-other-capacity
 returns-else-other-capacity g c =
-    let a = g.met.A.Bits in
-    let b = g.met.B.Bits in
-    let m = g.E.Endian.mirrored in
-    let x = c.args.left.now in
-    let y = c.args.right.now in
-    let ours = set_in g.A.Shape g.E.Endian x in
-    let theirs = set_in g.B.Shape g.E.Endian y in
-    let capacity = c.requires.capacity in
-    let other = c.requires.other in
-    let least : c.min-common.result ≡ min (g.A.Shape.big x).capacity (g.B.Shape.big y).capacity =
-    omega (arith, c.min-common.ensures, capacity, other) in
-    let same = rw least at (none_among ours theirs _ c.first_decided_below-difference.result
-    (sym c.is_some.ensures ∙ c.if-is_some.false) c.first_decided_below-difference.ensures.first) in
-    let past = members-past m _ _ a.width_positive (a.whole_words x) (a.none_past x) in
-    let past-2 = members-past m _ _ b.width_positive (b.whole_words y) (b.none_past y) in
-    both_end ours theirs past past-2 same (omega (
+    both_end _ _ (alike g (goal.at.returns-else-other-capacity g c).Else-is_some) (omega (
       arith,
-      capacity,
-      other,
+      c.requires.capacity,
+      c.requires.other,
       c.if-capacity-other.false,
       c.if-other-capacity.false,
     ))
