@@ -4,10 +4,10 @@ use Rattle.std.proofs.Math.Nat.{add-mod-mod, div-add-mod'}
 use Rattle.std.proofs.Math.Path.{fun_ext}
 use Rattle.std.proofs.lemmas.Bool.{ltb-true, leb-true, le-leb, and_from, and_parts, and_right, or_cases, or_left, or_right, false_from_ne_true, cases_lt}
 use Rattle.std.proofs.lemmas.Nat.{mod_below, mod-mul-add}
-use Rattle.bittle_bits.specs.PlainSet.{PlainSet, has_with, with_index, with_span}
+use Rattle.bittle_bits.specs.PlainSet.{PlainSet, has_with, empty_set, with_index, with_span}
 use Rattle.bittle_bits.proofs.PlainSets.{plain_set}
 use Rattle.bittle_bits.proofs.Spans.{changed-none, with_span-more}
-use Rattle.bittle.specs.Ranges.{some_below, has_with_range, with_range}
+use Rattle.bittle.specs.Ranges.{some_below, has_with_range, with_range, listed_set}
 
 -- two tests that pass together
 same_answer : (a b : Bool) → (a ≡ true → b ≡ true) → (b ≡ true → a ≡ true) → a ≡ b
@@ -39,6 +39,14 @@ spread false a b h = refl
 spread true true true h = refl
 spread true true false h = refl
 spread true false b h = refl
+
+-- of the indexes from one on and before an end, so many are named: all of them, or as many as the
+-- capacity, which is not 0
+pub record IsEnough (s : PlainSet) (from count end : ℕ) : Type 0 where
+  pub some : 0 < s.capacity
+  pub few : count ≤ s.capacity
+  pub in_range : from + count ≤ end
+  pub short : from + count < end → count ≡ s.capacity
 
 module _ (s : PlainSet) (from : ℕ) where
   -- whether an index of the range goes to the number
@@ -118,23 +126,21 @@ module _ (s : PlainSet) (from : ℕ) where
       ∙ with_span-more s start (start + count) (from + count) some next (omega arith)
       ∙ ap (with_span s start) (omega arith)
 
-  -- as many neighbours as the range has indexes, or as many as the capacity
-  range_whole : (count end : ℕ) (now : PlainSet) → from + count ≤ end →
-      (from + count < end → count ≡ s.capacity) → now ≡ with_range s from (from + count) →
-      now ≡ with_range s from end
-  range_whole count end now le short e =
+  -- as many neighbours as are enough
+  range_whole : (count end : ℕ) (now : PlainSet) → IsEnough s from count end →
+      now ≡ with_range s from (from + count) → now ≡ with_range s from end
+  range_whole count end now r e =
       elim (cases_lt (from + count) end) [
-        | inl l ↦ e ∙ with_range-all (from + count) end (omega (arith, short l)) le
-        | inr g ↦ e ∙ ap (with_range s from) (omega arith)
+        | inl l ↦ e ∙ with_range-all (from + count) end (omega (arith, r.short l)) r.in_range
+        | inr g ↦ e ∙ ap (with_range s from) (omega (arith, r.in_range))
       ]
 
   -- a range that does not wrap, or that ends at the capacity, is one span
-  pub one_span : (start count end : ℕ) (next : PlainSet) → 0 < s.capacity →
-      start ≡ from % s.capacity → start + count ≤ s.capacity → from + count ≤ end →
-      (from + count < end → count ≡ s.capacity) → next ≡ with_span s start (start + count) →
-      next ≡ with_range s from end
-  one_span start count end next some at le in_range short is =
-      range_whole count end next in_range short (is ∙ sym (range_span start count some at le))
+  pub one_span : (start count end : ℕ) (next : PlainSet) → IsEnough s from count end →
+      start ≡ from % s.capacity → start + count ≤ s.capacity →
+      next ≡ with_span s start (start + count) → next ≡ with_range s from end
+  one_span start count end next r at le is =
+      range_whole count end next r (is ∙ sym (range_span start count r.some at le))
 
 -- two ranges, of which the second begins where the first ends, are one
 range_on : (s : PlainSet) (from mid more : ℕ) → from ≤ mid →
@@ -149,24 +155,24 @@ range_on s from mid (suc more) h =
 
 -- a range that wraps is the span up to the capacity and the span of the rest
 pub two_spans : (s : PlainSet) (from start room count end : ℕ) (now next : PlainSet) →
-    0 < s.capacity → start ≡ from % s.capacity → room ≡ s.capacity - start → room ≤ count →
-    count ≤ s.capacity → from + count ≤ end → (from + count < end → count ≡ s.capacity) →
-    now ≡ with_span s start s.capacity → next ≡ with_span now 0 (count - room) →
+    IsEnough s from count end → start ≡ from % s.capacity → room ≡ s.capacity - start →
+    room ≤ count → now ≡ with_span s start s.capacity → next ≡ with_span now 0 (count - room) →
     next ≡ with_range s from end
-two_spans s from start room count end now next some at rest more le in_range short first second =
+two_spans s from start room count end now next r at rest more first second =
     let c = s.capacity in
-    let low = mod_below from c some in
+    let few = r.few in
+    let low = mod_below from c r.some in
     let t = with_range s from (from + room) in
     let around : 0 ≡ (from + room) % c = sym
-    (ap (λ t. t % c) (omega (arith, div-add-mod' from c)) ∙ mod-mul-add (from / c + 1) c 0 some)
+    (ap (λ t. t % c) (omega (arith, div-add-mod' from c)) ∙ mod-mul-add (from / c + 1) c 0 r.some)
     in
     let begins : now ≡ t = first ∙ ap (with_span s start) (omega arith)
-    ∙ sym (range_span s from start room some at (omega arith)) in
+    ∙ sym (range_span s from start room r.some at (omega arith)) in
     let ends : next ≡ with_range t (from + room) (from + room + (count - room)) =
     second ∙ ap (λ (u : PlainSet). with_span u 0 (count - room)) begins
     ∙ ap (with_span t 0) (omega arith)
-    ∙ sym (range_span t (from + room) 0 (count - room) some around (omega arith)) in
-    range_whole s from count end next in_range short
+    ∙ sym (range_span t (from + room) 0 (count - room) r.some around (omega arith)) in
+    range_whole s from count end next r
     (ends ∙ range_on s from (from + room) (count - room) (omega arith)
     ∙ ap (with_range s from) (omega arith))
 
@@ -174,3 +180,10 @@ two_spans s from start room count end now next some at rest more le in_range sho
 pub no_range : (s : PlainSet) (from end : ℕ) → s.capacity ≡ 0 → with_range s from end ≡ s
 unfolding has_with_range
 no_range s from end none = ap (plain_set s.capacity) (fun_ext λ k. rw none refl)
+
+-- what the calls for the list `a, b, 2..=3, 5..7, 14..` leave, one after another
+pub listed_calls : (capacity a b end : ℕ) {none one two three four five : PlainSet} →
+    none ≡ empty_set capacity → one ≡ with_index none a → two ≡ with_index one b →
+    three ≡ with_range two 2 (3 + 1) → four ≡ with_range three 5 7 → end ≡ capacity →
+    five ≡ with_range four 14 end → five ≡ listed_set capacity a b
+listed_calls capacity a b end p q r s t e u = rw (u, t, s, r, q, p, e) refl

@@ -1,17 +1,11 @@
-use Rattle.std.proofs.Common.{refl, ◌∙◌}
+use Rattle.std.proofs.Common.{◌∙◌}
+use Rattle.bittle.proofs.RangeSets.{listed_calls}
 use Rattle.bittle.proofs.macros.listed.Goals as goal
 
 pub returns : goal.returns
 returns g c =
     let one = g.met.B.BitsOwned.one_capacity c.put_until.new.bits in
-    let whole = c.bits_capacity-capacity.ensures.value
-    (rw one (c.requires, g.met.B.BitsOwned.type_fits c.requires)) ∙ one in
-    rw (
-      c.put_until-2.ensures.set,
-      c.put_until.ensures.set,
-      c.put_through.ensures.set,
-      c.set_bit-2.ensures.set,
-      c.set_bit.ensures.set,
-      c.zeros-set.ensures.in_each_order g.B.Order.Endian.mirrored,
-      whole,
-    ) refl
+    listed_calls _ _ _ _ (c.zeros-set.ensures.in_each_order g.B.Order.Endian.mirrored) c.set_bit.ensures.set
+    c.set_bit-2.ensures.set c.put_through.ensures.set c.put_until.ensures.set
+    (c.bits_capacity-capacity.ensures.value
+    (rw one (c.requires, g.met.B.BitsOwned.type_fits c.requires)) ∙ one) c.put_until-2.ensures.set
