@@ -267,7 +267,8 @@ impl<W: Word, E: Endian> Buffers<W, E> {
     pub fn scan<N: End>(&mut self, of_head: bool) -> Option<u32>
         ensures found { ScansFrom N.FRONT (buffer_of of_head self.old) result
             (buffer_of of_head self.new) }
-        ensures scans { self.new.scans ≡ self.old.scans + buffer_count (buffer_of of_head self.old) }
+        ensures scans { self.new.scans
+            ≡ self.old.scans + buffer_count (buffer_of of_head self.old) }
         ensures other { buffer_of (not of_head) self.new ≡ buffer_of (not of_head) self.old }
         ensures fetches { self.new.fetches ≡ self.old.fetches }
     {

@@ -8,4 +8,5 @@ returns g c =
     listed_calls _ _ _ _ (c.zeros-set.ensures.in_each_order true) c.set_bit_le.ensures.set
     c.set_bit_le-2.ensures.set c.put_through_in.ensures.set c.put_until_in.ensures.set
     (c.bits_capacity-capacity.ensures.value
-    (rw one (c.requires, g.met.B.BitsOwned.type_fits c.requires)) ∙ one) c.put_until_in-2.ensures.set
+    (rw one (c.requires, g.met.B.BitsOwned.type_fits c.requires)) ∙ one)
+    c.put_until_in-2.ensures.set

@@ -41,6 +41,6 @@ returns-else-count-room-clause-set g c =
     two_spans (set_in g.B.Shape g.E.Endian c.args.bits.now) _ _ _ _ _ _ _
     (enough g (goal.at.returns-else-count-room-clause-set g c).After-min-count)
     (ap (λ t. c.args.from % t) is) (omega (arith, is)) (omega (arith, c.if-count-room.false))
-    (c.set_range_in-else-count-room.ensures.set ∙ ap (with_span
-    (set_in g.B.Shape g.E.Endian c.args.bits.now) (c.args.from % c.bits_capacity-capacity.result)) is)
+    (c.set_range_in-else-count-room.ensures.set
+    ∙ ap (with_span (set_in g.B.Shape g.E.Endian c.args.bits.now) _) is)
     c.set_range_in-else-count-room-2.ensures.set

@@ -15,11 +15,11 @@ use Rattle.bittle.proofs.set.compare.are_equal.Goals as goal
 difference : (g : Over) (c : After-first_difference g) →
     let ours = set_in g.A.Shape g.E.Endian c.args.left.now in
     let theirs = set_in g.B.Shape g.F.Endian c.args.right.now in
-    MatchOption c.first_difference.result (AreSame ours theirs) (λ d. IsFirstDifference ours theirs d)
+    MatchOption c.first_difference.result (AreSame ours theirs) (IsFirstDifference ours theirs)
 difference g c =
     let ours = set_in g.A.Shape g.E.Endian c.args.left.now in
     subst (λ m. let theirs = set_mirrored g.B.Shape m c.args.right.now in
-    MatchOption c.first_difference.result (AreSame ours theirs) (λ d. IsFirstDifference ours theirs d))
+    MatchOption c.first_difference.result (AreSame ours theirs) (IsFirstDifference ours theirs))
     (c.are_alike.ensures c.if-are_alike.true).1 c.first_difference.ensures
 
 pub returns-then-are_alike-clause-value : goal.returns-then-are_alike-clause-value

@@ -18,17 +18,17 @@ alike : (g : Over) (c : Else-is_some g) → AreAlikeInCommon
 alike g c =
     let a = g.met.A.Bits in
     let b = g.met.B.Bits in
-    let m = g.E.Endian.mirrored in
     let x = c.args.left.now in
     let y = c.args.right.now in
+    let found = c.first_decided_below-difference in
     let least : c.min-common.result ≡ min (g.A.Shape.big x).capacity (g.B.Shape.big y).capacity =
     omega (arith, c.min-common.ensures, c.requires.capacity, c.requires.other) in
     record {
-      first = members-past m _ _ a.width_positive (a.whole_words x) (a.none_past x);
-      second = members-past m _ _ b.width_positive (b.whole_words y) (b.none_past y);
-      same = rw least at (none_among (set_in g.A.Shape g.E.Endian x) (set_in g.B.Shape g.E.Endian y) _
-          c.first_decided_below-difference.result (sym c.is_some.ensures ∙ c.if-is_some.false)
-          c.first_decided_below-difference.ensures.first);
+      first = members-past _ _ _ a.width_positive (a.whole_words x) (a.none_past x);
+      second = members-past _ _ _ b.width_positive (b.whole_words y) (b.none_past y);
+      same = rw least at (none_among (set_in g.A.Shape g.E.Endian x)
+          (set_in g.B.Shape g.E.Endian y) _ found.result
+          (sym c.is_some.ensures ∙ c.if-is_some.false) found.ensures.first);
     }
 
 pub returns-then-capacity-other : goal.returns-then-capacity-other

@@ -1,5 +1,6 @@
 use Rattle.std.proofs.Common.{◌/◌, refl, ap, arith}
 use Rattle.bittle_bits.specs.Cursor.{IsWalkStart}
+use Rattle.bittle_bits.specs.Orders.{read_in}
 use Rattle.bittle_bits.specs.Values.{set_in}
 use Rattle.bittle_bits.specs.Walk.{ones_or_zeros}
 use Rattle.bittle_bits.specs.declared.internal.cursor.Cursor.{Cursor}
@@ -15,7 +16,7 @@ none : (g : Over) (c : After-new g) →
     let big = g.B.Shape.big c.args.source.now.set.now in
     let t : Cursor g.row.B.Denot g.row.E.Denot g.row.B-LeafWord.Denot = record
     { buffers = c.none.result; low = 0; high = c.words.result; items = c.new.result } in
-    IsWalkStart (ones_or_zeros g.K.Kind.ONES (set_in g.B.Shape g.E.Endian c.args.source.now.set.now))
+    IsWalkStart (ones_or_zeros g.K.Kind.ONES (read_in g.E.Endian.mirrored g.B.Shape.width big))
     (big.capacity / g.B.Shape.width) g.B.Shape.width t
 none g c =
     let v = c.args.source.now.set.now in
@@ -28,7 +29,7 @@ first : (g : Over) (c : After-fetch g) →
     let big = g.B.Shape.big c.args.source.now.set.now in
     let t : Cursor g.row.B.Denot g.row.E.Denot g.row.B-LeafWord.Denot = record
     { buffers = c.fetch.new.self; low = 1; high = c.words.result; items = c.new.result } in
-    IsWalkStart (ones_or_zeros g.K.Kind.ONES (set_in g.B.Shape g.E.Endian c.args.source.now.set.now))
+    IsWalkStart (ones_or_zeros g.K.Kind.ONES (read_in g.E.Endian.mirrored g.B.Shape.width big))
     (big.capacity / g.B.Shape.width) g.B.Shape.width t
 first g c =
     let start = none g (goal.at.After-fetch g c).After-new in
