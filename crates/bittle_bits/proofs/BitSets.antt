@@ -2,8 +2,9 @@
 use Rattle.std.proofs.Common.{◌≡◌, ℕ, ◌+◌, ◌-◌, suc, ◌*◌, ◌/◌, ◌^◌, ◌<◌, ◌≤◌, ◌⊎◌, Bool, true, false, not, ◌&&◌, ◌||◌, ◌==◌, nat_lt, inl, inr, refl, sym, ap, ◌∙◌, arith, bit_and, bit_or, min, max}
 use Rattle.std.proofs.Math.Path.{fun_ext}
 use Rattle.std.specs.Int.{bit_at}
-use Rattle.std.proofs.lemmas.Nat.{pow_pos, pow_below, and-not, leading_top, le-div, div_below}
+use Rattle.std.proofs.lemmas.Nat.{pow_pos, pow-add, pow_below, and-not, leading_top, le-div, div_below, shl-shr}
 use Rattle.std.proofs.Math.Nat.{pow-suc}
+use Rattle.std.proofs.Math.Pow.{pow_mono}
 use Rattle.std.proofs.lemmas.Nat.Bits.{and_pow, bit_at_or, bit_at_and, bit_at-pow_same, bit_at-pow_other, bit_at-lt, bit_at-zero}
 use Rattle.std.proofs.lemmas.Bool.{cases_eq, cases_lt, eq-eqb, ne_eqb, lt-ltb, le-ltb, ltb-true, and_parts, and_right}
 use Rattle.bittle_bits.specs.BitPatterns.{bit_has, bit_set}
@@ -86,6 +87,19 @@ bit_has-not w d h = fun_ext λ k.
           (bit_at-complement w d k h l)
       | inr g ↦ rw (le-ltb k w g) refl
     ]
+
+-- a power of two shifted down is that of the difference
+pub shifted_power : (p n : ℕ) → n ≤ p → 2 ^ p / 2 ^ n ≡ 2 ^ (p - n)
+shifted_power p n h =
+    let e : p ≡ p - n + n = omega arith in
+    ap (λ t. 2 ^ t / 2 ^ n) e ∙ ap (λ t. t / 2 ^ n) (pow-add 2 (p - n) n) ∙ shl-shr (2 ^ (p - n)) n
+
+-- of two powers of two the lesser one has the lesser exponent
+pub exponent_below : (p n : ℕ) → 2 ^ p < 2 ^ n → p < n
+exponent_below p n h = elim (cases_lt p n) [
+  | inl l ↦ l
+  | inr g ↦ absurd (omega (arith, pow_mono g))
+]
 
 -- a power of two has one bit set, that of its exponent
 pub bit_has-pow : (w p : ℕ) → p < w → bit_has w (2 ^ p) ≡ (λ k. k == p)

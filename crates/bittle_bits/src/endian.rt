@@ -1,7 +1,8 @@
 //! The two orders in which the bits of a word are indexed.
 
-ghost use Rattle.std.specs.Prelude.{◌≡◌, ◌<◌, Bool, true, false};
+ghost use Rattle.std.specs.Prelude.{◌≡◌, ◌%◌, ◌<◌, Bool, true, false};
 ghost use Rattle.bittle_bits.specs.BitPatterns.{bit_set};
+ghost use Rattle.bittle_bits.specs.Orders as orders;
 ghost use Rattle.bittle_bits.specs.Orders.{read_in};
 ghost use Rattle.bittle_bits.specs.PlainSet.{empty_set, full_set_from, with_index, complement, IsLeastMember, IsGreatestMember};
 
@@ -17,6 +18,16 @@ pub trait Endian: Drop + Sealed {
     #[doc(hidden)]
     fn is_mirrored() -> bool
         ensures { result ≡ mirrored };
+
+    /// Returns of which power of two the bit at `index` has the weight; the index wraps at the width.
+    ///
+    /// ```
+    /// LittleEndian::place::<u8>(9);                       // 6
+    /// ```
+    #[doc(hidden)]
+    fn place<T: Word>(index: u32) -> u32
+        ensures place { result ≡ orders.place mirrored T.width (index % T.width) }
+        ensures within { result < T.width };
 
     /// Returns the word in which the bit at `index` alone is set; the index wraps at the width.
     ///
@@ -119,6 +130,11 @@ impl Endian for BigEndian {
     }
 
     #[inline]
+    fn place<T: Word>(index: u32) -> u32 {
+        index % T::width()
+    }
+
+    #[inline]
     fn mask<T: Word>(index: u32) -> T {
         T::one_at(index % T::width())
     }
@@ -150,8 +166,13 @@ impl Endian for LittleEndian {
     }
 
     #[inline]
+    fn place<T: Word>(index: u32) -> u32 {
+        T::width() - 1 - index % T::width()
+    }
+
+    #[inline]
     fn mask<T: Word>(index: u32) -> T {
-        T::one_at(T::width() - 1 - index % T::width())
+        T::one_below_top(index % T::width())
     }
 
     #[inline]

@@ -145,7 +145,7 @@ pub fn test_bit<T: Word, E: Endian>(word: T, index: u32) -> bool
     ensures { result
         ≡ contains (read_in E.mirrored T.width (bit_set T.width (T.pattern word))) index }
 {
-    !word.and(E::mask::<T>(index)).is_zero()
+    !word.and(T::one_at(E::place::<T>(index))).is_zero()
 }
 
 /// Sets the bit at an index, which wraps.
@@ -278,7 +278,7 @@ fn clear_set_bit<T: Word, E: Endian>(word: &mut T, index: u32)
     ensures { read_in E.mirrored T.width (bit_set T.width (T.pattern word.new))
         ≡ without_index (read_in E.mirrored T.width (bit_set T.width (T.pattern word.old))) index }
 {
-    *word = word.xor(E::mask::<T>(index));
+    *word = word.xor(T::one_at(E::place::<T>(index)));
 }
 
 // Clears the least member. Where it is the bit of least weight, the word less one lacks it, and has

@@ -20,6 +20,16 @@ pub trait Word: Copy + Eq {
         requires { index < width }
         ensures { pattern result ≡ 2 ^ index };
 
+    /// Returns the word whose one set bit lies this many bits below that of greatest weight: the word
+    /// of that one, shifted, which is one instruction fewer than `one_at` of the difference.
+    #[inline]
+    final fn one_below_top(below: u32) -> Self
+        requires { below < width }
+        ensures { pattern result ≡ 2 ^ (width - 1 - below) }
+    {
+        Self::from_bits(Self::one_at(Self::width() - 1).to_bits() >> below)
+    }
+
     /// Returns the word whose set bits are those of weight below `2 ^ index`.
     #[inline]
     final fn low(index: u32) -> Self

@@ -31,6 +31,8 @@ fn single_calls(rt: HostRuntime) {
 #[test]
 fn searches_of_one_word(rt: HostRuntime) {
     same!(rt; LittleEndian::mask::<u8>(9), 0x40);
+    same!(rt; LittleEndian::place::<u8>(9), 6);
+    same!(rt; BigEndian::place::<i16>(17), 1);
     same!(rt; LittleEndian::mask::<i16>(0), -32768);
     same!(rt; BigEndian::zeros_rev(0x10u8), 3);
     same!(rt; LittleEndian::zeros_rev(0x10u8), 4);
