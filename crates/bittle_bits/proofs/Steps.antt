@@ -77,28 +77,13 @@ module _ {B E W : Type 0} (s : PlainSet) (w : ℕ) where
   near_left true t c i x f e = rw (f.1, f.2, e) refl
   near_left false t c i x f e = rw (f.1, f.2, e) (simp append_assoc)
 
-  -- with none loaded at an end and no word between, the word at the other end has the item there
-  pub far_left : (front : Bool) (t : Cursor B E W) (c : BufferPair) (i x : ℕ) →
-      buffer_of front t.buffers ≡ None → t.low ≡ t.high →
-      ScansFrom front (buffer_of (not front) t.buffers) (Some x) (buffer_of (not front) c) →
-      buffer_of (not (not front)) c ≡ buffer_of (not (not front)) t.buffers →
-      let u : Cursor B E W = record { buffers = c; low = t.low; high = t.high; items = i } in
-      items_left_in s w t ≡ with_end front x (items_left_in s w u)
+  -- with no word between and none loaded, nothing is left
+  pub none_left : (front : Bool) (t : Cursor B E W) → t.low ≡ t.high →
+      buffer_of front t.buffers ≡ None → buffer_of (not front) t.buffers ≡ None →
+      items_left_in s w t ≡ []
   unfolding items_left_in
-  far_left true t c i x z b f e = rw (e, z, f.1, f.2, b, members_between-empty s (t.high * w)) refl
-  far_left false t c i x z b f e = rw (e, z, f.1, f.2, b, members_between-empty s (t.high * w))
-      (simp append-nil)
-
-  -- with no word between and neither loaded, nothing is left
-  pub none_left : (front : Bool) (t : Cursor B E W) (c : BufferPair) →
-      buffer_of front t.buffers ≡ None → t.low ≡ t.high →
-      buffer_of (not (not front)) c ≡ buffer_of (not (not front)) t.buffers →
-      buffer_of (not front) c ≡ None →
-      let u : Cursor B E W = record { buffers = c; low = t.low; high = t.high; items = t.items } in
-      items_left_in s w u ≡ []
-  unfolding items_left_in
-  none_left true t c z b e f = rw (e, z, f, b, members_between-empty s (t.high * w)) refl
-  none_left false t c z b e f = rw (e, z, f, b, members_between-empty s (t.high * w)) refl
+  none_left true t b e f = rw (e, f, b, members_between-empty s (t.high * w)) refl
+  none_left false t b e f = rw (e, f, b, members_between-empty s (t.high * w)) refl
 
 module _ {B E W : Type 0} (s : PlainSet) (words w : ℕ) where
   -- the scans are within what a walk counts
@@ -132,6 +117,48 @@ module _ {B E W : Type 0} (s : PlainSet) (words w : ℕ) where
       once = omega (arith, r.once);
     },
   )
+
+  -- with none loaded at an end and no word between, the word at the other end changes its place
+  pub exchanged : (front : Bool) (t : Cursor B E W) → IsCounted words t → t.low ≡ t.high →
+      buffer_of front t.buffers ≡ None →
+      let u : Cursor B E W = record {
+        buffers = record {
+          head = t.buffers.tail;
+          tail = t.buffers.head;
+          scans = t.buffers.scans;
+          fetches = t.buffers.fetches;
+        };
+        low = t.low;
+        high = t.high;
+        items = t.items;
+      } in
+      Seeks (walk_of s words w t) (walk_of s words w u) × IsCounted words u
+  unfolding items_left_in
+  exchanged front t r b e = (
+    record {
+      remaining = by front e;
+      items = refl;
+      scans = omega arith;
+      fetches = omega arith;
+      unread = refl;
+      words = refl;
+    },
+    record {
+      ordered = r.ordered;
+      within = r.within;
+      at_least = r.at_least;
+      at_most = omega (arith, r.at_most);
+      once = r.once;
+    },
+  )
+    where
+      by : (front : Bool) → buffer_of front t.buffers ≡ None →
+          items_in t.buffers.tail
+          ++ (members_between s (t.low * w) (t.high * w) ++ items_in t.buffers.head)
+          ≡ items_in t.buffers.head
+          ++ (members_between s (t.low * w) (t.high * w) ++ items_in t.buffers.tail)
+      by true e = rw (e, b, members_between-empty s (t.high * w)) (append-nil _)
+      by false e = rw (e, b, members_between-empty s (t.high * w)) (sym (append-nil _))
 
   -- a scan that finds nothing exhausts its word, if one is loaded
   pub exhausted : (of_head : Bool) (t : Cursor B E W) (c : BufferPair) → IsCounted words t →
@@ -192,7 +219,7 @@ module _ {B E W : Type 0} (s : PlainSet) (words w : ℕ) where
       u.buffers.fetches ≡ t.buffers.fetches + 1 → u.high - u.low + 1 ≡ t.high - t.low →
       buffer_count u.buffers.head + buffer_count u.buffers.tail
       ≡ buffer_count t.buffers.head + buffer_count t.buffers.tail + 1 →
-      u.low ≤ u.high → u.high + buffer_count u.buffers.tail ≤ words →
+      u.low ≤ u.high → u.high ≤ words →
       Seeks (walk_of s words w t) (walk_of s words w u) × IsCounted words u
   fetched t u r left items scans fetches unread loaded ordered within = (
     record {

@@ -28,7 +28,7 @@ module _ {B E W : Type 0} where
 -- between the buffered ones
 pub record IsCounted {B E W : Type 0} (words : ℕ) (at : Cursor B E W) : Type 0 where
   pub ordered : at.low ≤ at.high
-  pub within : at.high + buffer_count at.buffers.tail ≤ words
+  pub within : at.high ≤ words
   pub at_least : at.items ≤ at.buffers.scans
   pub at_most : at.buffers.scans + buffer_count at.buffers.head + (at.high - at.low) + buffer_count
       at.buffers.tail ≤ at.items + words

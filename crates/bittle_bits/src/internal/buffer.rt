@@ -262,17 +262,32 @@ impl<W: Word, E: Endian> Buffers<W, E> {
         }
     }
 
-    /// Scans the head, or else the tail, for its item at the end `N`.
+    /// Exchanges the head and the tail.
     #[inline]
-    pub fn scan<N: End>(&mut self, of_head: bool) -> Option<u32>
-        ensures found { ScansFrom N.FRONT (buffer_of of_head self.old) result
-            (buffer_of of_head self.new) }
+    pub fn exchange(&mut self)
+        ensures { self.new ≡ record {
+          head = self.old.tail;
+          tail = self.old.head;
+          scans = self.old.scans;
+          fetches = self.old.fetches;
+        } }
+    {
+        let head = self.head;
+        self.head = self.tail;
+        self.tail = head;
+    }
+
+    /// Scans the word at the end `N`, the head or the tail, for its item there.
+    #[inline]
+    pub fn scan<N: End>(&mut self) -> Option<u32>
+        ensures found { ScansFrom N.FRONT (buffer_of N.FRONT self.old) result
+            (buffer_of N.FRONT self.new) }
         ensures scans { self.new.scans
-            ≡ self.old.scans + buffer_count (buffer_of of_head self.old) }
-        ensures other { buffer_of (not of_head) self.new ≡ buffer_of (not of_head) self.old }
+            ≡ self.old.scans + buffer_count (buffer_of N.FRONT self.old) }
+        ensures other { buffer_of (not N.FRONT) self.new ≡ buffer_of (not N.FRONT) self.old }
         ensures fetches { self.new.fetches ≡ self.old.fetches }
     {
-        if of_head {
+        if N::FRONT {
             scan::<W, E, N>(&mut self.head, &mut self.scans)
         } else {
             scan::<W, E, N>(&mut self.tail, &mut self.scans)

@@ -95,7 +95,7 @@ pub fn step<B: Bits, E: Endian, K: Kind, N: End>(
     ensures counted { IsCounted ((B.big source.now.set.now).capacity / B.width) at.new }
 {
     loop {
-        if let Some(item) = at.buffers.scan::<N>(N::FRONT) {
+        if let Some(item) = at.buffers.scan::<N>() {
             at.items.raise();
             return Some(item);
         }
@@ -110,8 +110,10 @@ pub fn step<B: Bits, E: Endian, K: Kind, N: End>(
             at.buffers.fetch::<B, K>(false, source, at.high);
         }
     }
-    // No word is left between, so the buffer at the other end has the last items.
-    let Some(item) = at.buffers.scan::<N>(!N::FRONT) else {
+    // No word is left between, so the one at the other end has all that remains. It changes its
+    // place, so that the next step finds it at once.
+    at.buffers.exchange();
+    let Some(item) = at.buffers.scan::<N>() else {
         return None;
     };
     at.items.raise();
