@@ -4,6 +4,9 @@ use Rattle.std.specs.List.{All}
 use Rattle.bittle_bits.specs.Buffers.{members_between, items_of}
 use Rattle.bittle.specs.PlainSet.{PlainSet}
 use Rattle.bittle.specs.SetOperations.{first_alone, just_one}
+use Rattle.bittle.specs.Values.{set_in}
+use Rattle.bittle_bits.specs.declared.shape.Shape as shape
+use Rattle.bittle_bits.specs.declared.endian.Endian as endian
 use Rattle.bittle_ext.specs.declared.both_words.Loaded.{Loaded}
 use Rattle.bittle_ext.specs.declared.both_words.Place.{Place}
 
@@ -11,6 +14,11 @@ use Rattle.bittle_ext.specs.declared.both_words.Place.{Place}
 abbrev pub decided_set : (Bool → Bool → Bool) → PlainSet → PlainSet → PlainSet
 decided_set decide s t =
     record { capacity = max s.capacity t.capacity; has = λ k. decide (s.has k) (t.has k) }
+
+-- what an operation makes of two values, each read in an order
+abbrev pub decided_of : {A AW E B BW F : Type 0} → (Bool → Bool → Bool) → shape.Ghosts A AW →
+    endian.Ghosts E → A → shape.Ghosts B BW → endian.Ghosts F → B → PlainSet
+decided_of decide a e x b f y = decided_set decide (set_in a e x) (set_in b f y)
 
 -- the members of either set
 abbrev pub either_of : PlainSet → PlainSet → PlainSet

@@ -5,10 +5,10 @@ ghost use Rattle.std.specs.Prelude.{◌≡◌, ◌+◌, ◌*◌, ◌<◌};
 ghost use Rattle.bittle_bits.specs.Buffers.{members_between};
 ghost use Rattle.bittle_bits.specs.BitPatterns.{bit_set};
 ghost use Rattle.bittle_bits.specs.Words.{word_of};
-ghost use Rattle.bittle_ext.specs.Combined.{decided_set, items_of_loaded, items_at};
+ghost use Rattle.bittle_ext.specs.Combined.{decided_of, items_of_loaded, items_at};
 ghost use Rattle.bittle_ext.specs.Combined.{AreIndexes, IsPlaced};
 ghost use Rattle.bittle.specs.Orders.{read_in};
-ghost use Rattle.bittle.specs.Values.{set_in, ShapeFits};
+ghost use Rattle.bittle.specs.Values.{ShapeFits};
 
 use crate::other_words::{other_word, word_or_empty};
 use bittle::{Bits, Endian};
@@ -44,9 +44,8 @@ pub fn word_of_both<A: Bits, B: Bits, E: Endian, F: Endian, O: Operation>(
     requires left_fits { ShapeFits A.Shape left.now }
     requires right_fits { ShapeFits B.Shape right.now }
     requires within { k * A.width < 4294967296 }
-    ensures { read_in E.mirrored A.width (bit_set A.width (A.LeafWord.pattern result))
-        ≡ word_of A.width (decided_set O.decide
-        (set_in A.Shape E.Endian left.now) (set_in B.Shape F.Endian right.now)) k }
+    ensures { read_in E.mirrored A.width (bit_set A.width (A.LeafWord.pattern result)) ≡ word_of
+        A.width (decided_of O.decide A.Shape E.Endian left.now B.Shape F.Endian right.now) k }
 {
     let theirs = other_word::<A, B, E, F>(right, k);
     let ours = word_or_empty(left, k);
@@ -64,8 +63,8 @@ fn load<A: Bits, B: Bits, E: Endian, F: Endian, O: Operation>(
     requires right_fits { ShapeFits B.Shape right.now }
     requires within { k * A.width < 4294967296 }
     ensures { items_of_loaded E.mirrored A.LeafWord.width A.LeafWord.pattern result
-        ≡ members_between (decided_set O.decide
-        (set_in A.Shape E.Endian left.now) (set_in B.Shape F.Endian right.now))
+        ≡ members_between
+        (decided_of O.decide A.Shape E.Endian left.now B.Shape F.Endian right.now)
         (k * A.width) (k * A.width + A.width) }
 {
     Loaded {
@@ -127,16 +126,12 @@ pub fn step_front<A: Bits, B: Bits, E: Endian, F: Endian, O: Operation>(
 ) -> Option<u32>
     requires left_fits { ShapeFits A.Shape left.now }
     requires right_fits { ShapeFits B.Shape right.now }
-    requires placed { let both = decided_set O.decide
-        (set_in A.Shape E.Endian left.now) (set_in B.Shape F.Endian right.now) in
+    requires placed { let both = decided_of O.decide A.Shape E.Endian left.now B.Shape F.Endian right.now in
         IsPlaced E.mirrored A.LeafWord.width A.LeafWord.pattern A.width both at.old }
-    ensures gave { let both = decided_set O.decide
-        (set_in A.Shape E.Endian left.now) (set_in B.Shape F.Endian right.now) in
+    ensures { let both = decided_of O.decide A.Shape E.Endian left.now B.Shape F.Endian right.now in
         YieldsFirst (items_at E.mirrored A.LeafWord.width A.LeafWord.pattern A.width both)
-        at.old result at.new }
-    ensures placed { let both = decided_set O.decide
-        (set_in A.Shape E.Endian left.now) (set_in B.Shape F.Endian right.now) in
-        IsPlaced E.mirrored A.LeafWord.width A.LeafWord.pattern A.width both at.new }
+        at.old result at.new
+        × IsPlaced E.mirrored A.LeafWord.width A.LeafWord.pattern A.width both at.new }
 {
     loop {
         if let Some(item) = scan_first::<A::LeafWord, E>(&mut at.head) {
@@ -160,16 +155,12 @@ pub fn step_back<A: Bits, B: Bits, E: Endian, F: Endian, O: Operation>(
 ) -> Option<u32>
     requires left_fits { ShapeFits A.Shape left.now }
     requires right_fits { ShapeFits B.Shape right.now }
-    requires placed { let both = decided_set O.decide
-        (set_in A.Shape E.Endian left.now) (set_in B.Shape F.Endian right.now) in
+    requires placed { let both = decided_of O.decide A.Shape E.Endian left.now B.Shape F.Endian right.now in
         IsPlaced E.mirrored A.LeafWord.width A.LeafWord.pattern A.width both at.old }
-    ensures gave { let both = decided_set O.decide
-        (set_in A.Shape E.Endian left.now) (set_in B.Shape F.Endian right.now) in
+    ensures { let both = decided_of O.decide A.Shape E.Endian left.now B.Shape F.Endian right.now in
         YieldsLast (items_at E.mirrored A.LeafWord.width A.LeafWord.pattern A.width both)
-        at.old result at.new }
-    ensures placed { let both = decided_set O.decide
-        (set_in A.Shape E.Endian left.now) (set_in B.Shape F.Endian right.now) in
-        IsPlaced E.mirrored A.LeafWord.width A.LeafWord.pattern A.width both at.new }
+        at.old result at.new
+        × IsPlaced E.mirrored A.LeafWord.width A.LeafWord.pattern A.width both at.new }
 {
     loop {
         if let Some(item) = scan_last::<A::LeafWord, E>(&mut at.tail) {

@@ -1,4 +1,4 @@
-use Rattle.std.proofs.Common.{◌+◌, ap, ◌∙◌, arith}
+use Rattle.std.proofs.Common.{ap, ◌∙◌, arith}
 use Rattle.bittle.specs.PlainSet.{contains}
 use Rattle.bittle_ext.proofs.RotatedSets.{shifted_from, emptied_above}
 use Rattle.bittle_ext.proofs.bits_owned_ext.BitsOwnedExt.shifted_down_in.Goals as goal
