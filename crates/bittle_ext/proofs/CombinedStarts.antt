@@ -61,24 +61,3 @@ pub left_indexes : {W : Type 0} (m : Bool) (leaf : ℕ) (pattern : W → ℕ) (w
     AreIndexes (items_at m leaf pattern w s at)
 left_indexes m leaf pattern w s at all small =
     subst AreIndexes (sym all) (indexes_from s.has 0 s.capacity (omega (arith, small)))
-
--- two sets that have nothing from their capacities on
-module _ (s t : PlainSet) (past_s : (i : ℕ) → s.capacity ≤ i → s.has i ≡ false)
-    (past_t : (i : ℕ) → t.capacity ≤ i → t.has i ≡ false) where
-  -- from the greater capacity on neither has a number
-  pub none_in_either : (f : Bool → Bool → Bool) (x y end : ℕ) → f false false ≡ false →
-      x ≡ s.capacity → y ≡ t.capacity → end ≡ max x y → (i : ℕ) → end ≤ i →
-      f (s.has i) (t.has i) ≡ false
-  none_in_either f x y end not first second is i h =
-      (λ j. f (past_s i (omega (arith, is, first, second)) j)
-      (past_t i (omega (arith, is, first, second)) j)) ∙ not
-
-  -- from the lesser capacity on no number is in both
-  pub none_in_both : (x y end : ℕ) → x ≡ s.capacity → y ≡ t.capacity → end ≡ min x y → (i : ℕ) →
-      end ≤ i → s.has i && t.has i ≡ false
-  none_in_both x y end first second is i h =
-      elim (cases_lt i s.capacity) [
-        | inl l ↦ ap (λ b. s.has i && b) (past_t i (omega (arith, is, first, second, l)))
-            ∙ and_right (s.has i) false refl
-        | inr g ↦ ap (λ b. b && t.has i) (past_s i g)
-      ]

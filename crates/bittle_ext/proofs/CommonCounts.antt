@@ -12,8 +12,10 @@ use Rattle.bittle_bits.specs.LawProofs.{one_word}
 use Rattle.bittle_bits.proofs.Sizes.{size-members}
 use Rattle.bittle_bits.proofs.Words.{word_has-at}
 use Rattle.bittle_bits.proofs.Counts.{count-add, count-same, count-never, count-le}
-use Rattle.bittle_ext.specs.Combined.{both_of, first_only_of, just_one_of}
+use Rattle.bittle_ext.specs.Combined.{both_of, first_only_of, just_one_of, CountsBoth}
+use Rattle.bittle_ext.specs.RangeMembers.{EndsAt}
 use Rattle.bittle_ext.proofs.RankFacts.{below_past, below_next}
+use Rattle.bittle_ext.proofs.SetFacts.{none_in_both}
 
 alone_bit : (a b : Bool) → cond (first_alone a b) 1 0 + cond (a && b) 1 0 ≡ cond a 1 0
 alone_bit true true = refl
@@ -101,51 +103,48 @@ pub counted_all : (s t : PlainSet) (from to : ℕ) → from ≤ to → NoneIn s 
 counted_all s t from to h none =
     below_stays (both_of s t) from to h (λ k p q. ap (λ a. a && t.has k) (none k p q))
 
-module _ (s t : PlainSet) (past_s : (i : ℕ) → s.capacity ≤ i → s.has i ≡ false)
-    (past_t : (i : ℕ) → t.capacity ≤ i → t.has i ≡ false) where
-  -- no member of both lies past either
-  pub both_past : (i : ℕ) → min s.capacity t.capacity ≤ i → (both_of s t).has i ≡ false
-  both_past i h =
-      elim (cases_lt i s.capacity) [
-        | inl l ↦ ap (λ b. s.has i && b) (past_t i (omega (arith, h))) ∙ and_right (s.has i) false refl
-        | inr g ↦ ap (λ b. b && t.has i) (past_s i g)
-      ]
-
-  -- so their count is that below the lesser capacity
-  pub common_size : (n : ℕ) → n ≡ min s.capacity t.capacity →
-      size (both_of s t) ≡ members_below (both_of s t) n
-  common_size n e = below_past (both_of s t) (min s.capacity t.capacity) (max s.capacity t.capacity)
-      n both_past (omega (arith, e))
-
+-- two sets of which nothing is a member from their capacities on
+module _ {s t : PlainSet} {a b : ℕ} (x : EndsAt s a) (y : EndsAt t b) where
   all_of_first : members_below s (max s.capacity t.capacity) ≡ size s
-  all_of_first = below_past s s.capacity (max s.capacity t.capacity) s.capacity past_s (omega arith)
+  all_of_first =
+      below_past s s.capacity (max s.capacity t.capacity) s.capacity x.past (omega arith)
 
   all_of_second : members_below t (max s.capacity t.capacity) ≡ size t
-  all_of_second = below_past t t.capacity (max s.capacity t.capacity) t.capacity past_t
-      (omega arith)
+  all_of_second =
+      below_past t t.capacity (max s.capacity t.capacity) t.capacity y.past (omega arith)
 
-  -- the members of the first alone are those of the first but those of both
-  pub alone_size : size (first_only_of s t) + size (both_of s t) ≡ size s
-  alone_size = alone_count (max s.capacity t.capacity) s.has t.has ∙ all_of_first
-
-  -- the members of just one are those of each but those of both
-  pub different_size : size (just_one_of s t) + size (both_of s t) + size (both_of s t)
-      ≡ size s + size t
-  different_size = omega (
-    arith,
-    one_count (max s.capacity t.capacity) s.has t.has,
-    all_of_first,
-    all_of_second,
-  )
-
-  -- no more are in both than in the second
-  pub common_few : size (both_of s t) ≤ size t
-  common_few = omega (
-    arith,
-    second_count (max s.capacity t.capacity) s.has t.has,
-    all_of_second,
-  )
-
-  -- they are no more than the greater capacity
-  pub different_few : size (just_one_of s t) ≤ max s.capacity t.capacity
-  different_few = count-le (max s.capacity t.capacity) (just_one_of s t).has
+  -- as many as are in both below the lesser capacity are in both, and what is left of either follows
+  pub counts_both : (end p q n : ℕ) → end ≡ min a b → p ≡ size s → q ≡ size t →
+      n ≡ members_below (both_of s t) end → CountsBoth s t p q n
+  counts_both end p q n least ours theirs counted =
+      let none = none_in_both x y end least in
+      let all = below_past (both_of s t) end (max s.capacity t.capacity) end none
+      (omega (arith, least, x.capacity, y.capacity)) in
+      let is : n ≡ size (both_of s t) = counted ∙ sym all in
+      record {
+        both = is;
+        first_only = omega (
+          arith,
+          alone_count (max s.capacity t.capacity) s.has t.has,
+          all_of_first,
+          ours,
+          is,
+        );
+        few = omega (
+          arith,
+          second_count (max s.capacity t.capacity) s.has t.has,
+          all_of_second,
+          theirs,
+          is,
+        );
+        just_one = omega (
+          arith,
+          one_count (max s.capacity t.capacity) s.has t.has,
+          all_of_first,
+          all_of_second,
+          ours,
+          theirs,
+          is,
+        );
+        most = count-le (max s.capacity t.capacity) (just_one_of s t).has;
+      }

@@ -1,15 +1,42 @@
 -- Searches that begin or end past the capacity.
-use Rattle.std.proofs.Common.{◌≡◌, ℕ, ◌≤◌, Bool, true, false, not, Option, Some, None, is_some, MatchBool, inl, inr, refl, sym, ◌∙◌, arith, min}
-use Rattle.std.proofs.lemmas.Bool.{cases_lt, le-ltb, true≢false}
+use Rattle.std.proofs.Common.{◌≡◌, ℕ, ◌*◌, ◌<◌, ◌≤◌, Bool, true, false, not, ◌&&◌, Option, Some, None, is_some, MatchBool, inl, inr, refl, sym, ap, ◌∙◌, arith, min, max}
+use Rattle.std.proofs.lemmas.Bool.{cases_lt, le-ltb, true≢false, and_right}
 use Rattle.bittle_bits.specs.PlainSet.{PlainSet, complement, lacks}
+use Rattle.bittle_bits.specs.Orders.{read_in}
 use Rattle.bittle_bits.specs.Searches.{IsFirstIn, IsLastIn}
+use Rattle.bittle_bits.proofs.PlainSets.{members-past}
 use Rattle.bittle.proofs.CallerSets.{complement_within}
-use Rattle.bittle_ext.specs.RangeMembers.{HasAllIn, HasSomeIn}
+use Rattle.bittle_ext.specs.RangeMembers.{EndsAt, HasAllIn, HasSomeIn}
 
 -- no number from the capacity on is in the complement
 pub complement_past : (s : PlainSet) (i : ℕ) → s.capacity ≤ i → (complement s).has i ≡ false
 unfolding lacks
 complement_past s i h = rw (le-ltb i s.capacity h) refl
+
+-- a set of whole words ends at its capacity in each order
+pub ends_in_order : (m : Bool) (w : ℕ) (s : PlainSet) → 0 < w →
+    (words : ℕ) × (s.capacity ≡ words * w) → ((i : ℕ) → s.capacity ≤ i → s.has i ≡ false) →
+    EndsAt (read_in m w s) s.capacity
+ends_in_order m w s word whole past =
+    record { capacity = refl; past = members-past m w s word whole past }
+
+-- two sets of which nothing is a member from their capacities on
+module _ {s t : PlainSet} {a b : ℕ} (x : EndsAt s a) (y : EndsAt t b) (end : ℕ) where
+  -- from the lesser on no number is in both
+  pub none_in_both : end ≡ min a b → (i : ℕ) → end ≤ i → s.has i && t.has i ≡ false
+  none_in_both is i h =
+      elim (cases_lt i s.capacity) [
+        | inl l ↦ ap (λ c. s.has i && c) (y.past i (omega (arith, is, x.capacity, y.capacity, l)))
+            ∙ and_right (s.has i) false refl
+        | inr g ↦ ap (λ c. c && t.has i) (x.past i g)
+      ]
+
+  -- from the greater on no number is in either
+  pub none_in_either : (f : Bool → Bool → Bool) → f false false ≡ false → end ≡ max a b →
+      (i : ℕ) → end ≤ i → f (s.has i) (t.has i) ≡ false
+  none_in_either f none is i h =
+      (λ j. f (x.past i (omega (arith, is, x.capacity)) j)
+      (y.past i (omega (arith, is, y.capacity)) j)) ∙ none
 
 -- a search from the back that begins at the capacity, past which nothing is, begins as far past it
 -- as one likes

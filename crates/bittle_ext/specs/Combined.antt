@@ -1,8 +1,8 @@
 -- What an operation makes of two sets, each of its own capacity, and where an iterator over it is.
-use Rattle.std.specs.Prelude.{ℕ, ◌+◌, ◌*◌, ◌<◌, ◌≤◌, max, Bool, ◌||◌, ◌&&◌, List, ◌++◌}
+use Rattle.std.specs.Prelude.{◌≡◌, ℕ, ◌+◌, ◌*◌, ◌<◌, ◌≤◌, max, Bool, ◌||◌, ◌&&◌, List, ◌++◌}
 use Rattle.std.specs.List.{All}
 use Rattle.bittle_bits.specs.Buffers.{members_between, items_of}
-use Rattle.bittle.specs.PlainSet.{PlainSet}
+use Rattle.bittle.specs.PlainSet.{PlainSet, size}
 use Rattle.bittle.specs.SetOperations.{first_alone, just_one}
 use Rattle.bittle.specs.Values.{set_in}
 use Rattle.bittle_bits.specs.declared.shape.Shape as shape
@@ -35,6 +35,14 @@ first_only_of s t = decided_set first_alone s t
 -- the members of just one of the sets
 abbrev pub just_one_of : PlainSet → PlainSet → PlainSet
 just_one_of s t = decided_set just_one s t
+
+-- so many are in both sets, of which one has a and one has b: what is left of either, and of both
+pub record CountsBoth (s t : PlainSet) (a b n : ℕ) : Type 0 where
+  pub both : n ≡ size (both_of s t)
+  pub first_only : size (first_only_of s t) + n ≡ a
+  pub few : n ≤ b
+  pub just_one : size (just_one_of s t) + n + n ≡ a + b
+  pub most : size (just_one_of s t) ≤ max s.capacity t.capacity
 
 -- the type is that of the words, which have so many bits
 module _ {W : Type 0} (mirrored : Bool) (leaf : ℕ) (pattern : W → ℕ) where

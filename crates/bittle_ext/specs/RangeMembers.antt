@@ -1,6 +1,11 @@
 -- What a set has between two numbers.
-use Rattle.std.specs.Prelude.{◌≡◌, ℕ, ◌-◌, ◌<◌, ◌≤◌, ◌&&◌, true, List, length, slice_index}
+use Rattle.std.specs.Prelude.{◌≡◌, ℕ, ◌-◌, ◌<◌, ◌≤◌, ◌&&◌, true, false, List, length, slice_index}
 use Rattle.bittle.specs.PlainSet.{PlainSet, is_in_span}
+
+-- so many are the capacity, and nothing is a member from there on
+pub record EndsAt (s : PlainSet) (n : ℕ) : Type 0 where
+  pub capacity : n ≡ s.capacity
+  pub past : (i : ℕ) → s.capacity ≤ i → s.has i ≡ false
 
 -- a number from one on and below another is a member
 abbrev pub HasSomeIn : PlainSet → ℕ → ℕ → Type 0

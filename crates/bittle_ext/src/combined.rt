@@ -9,6 +9,7 @@ ghost use Rattle.bittle.specs.Values.{set_in, ShapeFits};
 ghost use Rattle.bittle.specs.Walk.{AreBelow, ListsInOrder, ListsInReverse};
 
 use crate::both_words::{Place, begin, step_back, step_front};
+use crate::capacities::capacity_of;
 use bittle::{Bits, Endian, Shape};
 use bittle_bits::one_word::{Conjunction, Difference, Operation, SymmetricDifference, Union};
 use bittle_bits::word::Word;
@@ -151,7 +152,11 @@ fn begin_union<'a, A: Bits, B: Bits, E: Endian, F: Endian>(
     ensures in_order { ListsInOrder }
     ensures in_reverse { ListsInReverse }
 {
-    IterCombined::new(left, right, left.bits_capacity().max(right.bits_capacity()))
+    IterCombined::new(
+        left,
+        right,
+        capacity_of::<A, E>(left).max(capacity_of::<B, F>(right)),
+    )
 }
 
 /// Begins an iterator over what is set in both of two sets.
@@ -168,7 +173,11 @@ fn begin_conjunction<'a, A: Bits, B: Bits, E: Endian, F: Endian>(
     ensures in_order { ListsInOrder }
     ensures in_reverse { ListsInReverse }
 {
-    IterCombined::new(left, right, left.bits_capacity().min(right.bits_capacity()))
+    IterCombined::new(
+        left,
+        right,
+        capacity_of::<A, E>(left).min(capacity_of::<B, F>(right)),
+    )
 }
 
 /// Begins an iterator over what is set in the first of two sets alone.
@@ -185,7 +194,7 @@ fn begin_difference<'a, A: Bits, B: Bits, E: Endian, F: Endian>(
     ensures in_order { ListsInOrder }
     ensures in_reverse { ListsInReverse }
 {
-    IterCombined::new(left, right, left.bits_capacity())
+    IterCombined::new(left, right, capacity_of::<A, E>(left))
 }
 
 /// Begins an iterator over what is set in just one of two sets.
@@ -202,7 +211,11 @@ fn begin_symmetric_difference<'a, A: Bits, B: Bits, E: Endian, F: Endian>(
     ensures in_order { ListsInOrder }
     ensures in_reverse { ListsInReverse }
 {
-    IterCombined::new(left, right, left.bits_capacity().max(right.bits_capacity()))
+    IterCombined::new(
+        left,
+        right,
+        capacity_of::<A, E>(left).max(capacity_of::<B, F>(right)),
+    )
 }
 
 /// Iterators over what an operation makes of a set and another one, with no set made of them.

@@ -1,16 +1,30 @@
 //! How many indexes are set in two sets, with no set made: word by word where their words have one
 //! width and are read in one order, else by the set bits of the first.
 
-ghost use Rattle.std.specs.Prelude.{◌≡◌};
-ghost use Rattle.bittle_ext.specs.Combined.{both_of, first_only_of, just_one_of};
-ghost use Rattle.bittle.specs.PlainSet.{size};
+ghost use Rattle.std.specs.Prelude.{◌≡◌, ◌+◌, ◌*◌, ◌<◌};
+ghost use Rattle.bittle_ext.specs.Combined.{both_of, first_only_of, just_one_of, CountsBoth};
+ghost use Rattle.bittle.specs.PlainSet.{members_below, size};
 ghost use Rattle.bittle.specs.Values.{set_in, ShapeFits};
 
 use crate::both_words::word_of_both;
+use crate::capacities::capacity_of;
 use crate::relations::are_alike;
 use bittle::{Bits, Endian};
 use bittle_bits::one_word::Conjunction;
 use bittle_bits::word::Word;
+
+/// Counts the indexes of word `k` that are set in both.
+#[inline]
+fn count_common_word<A: Bits, B: Bits, E: Endian>(left: &A, right: &B, k: u32) -> u32
+    requires left_fits { ShapeFits A.Shape left.now }
+    requires right_fits { ShapeFits B.Shape right.now }
+    requires within { k * A.width < 4294967296 }
+    ensures { let both = both_of
+        (set_in A.Shape E.Endian left.now) (set_in B.Shape E.Endian right.now) in
+        members_below both ((k + 1) * A.width) ≡ members_below both (k * A.width) + result }
+{
+    word_of_both::<A, B, E, E, Conjunction>(left, right, k).count_ones()
+}
 
 /// Counts the indexes that are set in both, by words.
 #[inline]
@@ -18,13 +32,13 @@ fn count_common_by_words<A: Bits, B: Bits, E: Endian>(left: &A, right: &B) -> u3
     requires width { A.width ≡ B.width }
     requires left_fits { ShapeFits A.Shape left.now }
     requires right_fits { ShapeFits B.Shape right.now }
-    ensures { result
-        ≡ size (both_of (set_in A.Shape E.Endian left.now) (set_in B.Shape E.Endian right.now)) }
+    ensures { CountsBoth (set_in A.Shape E.Endian left.now) (set_in B.Shape E.Endian right.now)
+        (size (A.big left.now)) (size (B.big right.now)) result }
 {
-    let common = left.bits_capacity().min(right.bits_capacity());
+    let common = capacity_of::<A, E>(left).min(capacity_of::<B, E>(right));
     let mut count = 0;
     for k in 0..common / <A::LeafWord as Word>::width() {
-        count += word_of_both::<A, B, E, E, Conjunction>(left, right, k).count_ones();
+        count += count_common_word::<A, B, E>(left, right, k);
     }
     count
 }
@@ -33,10 +47,10 @@ fn count_common_by_words<A: Bits, B: Bits, E: Endian>(left: &A, right: &B) -> u3
 fn count_common_by_turns<A: Bits, B: Bits, E: Endian, F: Endian>(left: &A, right: &B) -> u32
     requires left_fits { ShapeFits A.Shape left.now }
     requires right_fits { ShapeFits B.Shape right.now }
-    ensures { result
-        ≡ size (both_of (set_in A.Shape E.Endian left.now) (set_in B.Shape F.Endian right.now)) }
+    ensures { CountsBoth (set_in A.Shape E.Endian left.now) (set_in B.Shape F.Endian right.now)
+        (size (A.big left.now)) (size (B.big right.now)) result }
 {
-    let end = left.bits_capacity().min(right.bits_capacity());
+    let end = capacity_of::<A, E>(left).min(capacity_of::<B, F>(right));
     let mut count = 0;
     let mut from = 0;
     while let Some(index) = left.first_one_in::<E>(from, end) {
@@ -53,8 +67,8 @@ fn count_common_by_turns<A: Bits, B: Bits, E: Endian, F: Endian>(left: &A, right
 pub fn count_common<A: Bits, B: Bits, E: Endian, F: Endian>(left: &A, right: &B) -> u32
     requires left_fits { ShapeFits A.Shape left.now }
     requires right_fits { ShapeFits B.Shape right.now }
-    ensures { result
-        ≡ size (both_of (set_in A.Shape E.Endian left.now) (set_in B.Shape F.Endian right.now)) }
+    ensures { CountsBoth (set_in A.Shape E.Endian left.now) (set_in B.Shape F.Endian right.now)
+        (size (A.big left.now)) (size (B.big right.now)) result }
 {
     if are_alike::<A, B, E, F>() {
         count_common_by_words::<A, B, E>(left, right)

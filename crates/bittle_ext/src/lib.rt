@@ -29,6 +29,7 @@ mod bits_mut_ext;
 mod bits_owned_ext;
 mod bits_relation_ext;
 mod both_words;
+mod capacities;
 pub mod combined;
 mod counts;
 mod kind_searches;

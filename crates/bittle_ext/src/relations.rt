@@ -5,6 +5,7 @@ ghost use Rattle.std.specs.Prelude.{◌≡◌, IsTrue, MatchOption};
 ghost use Rattle.bittle_ext.specs.SetRelations.{IsSubset, AreDisjoint, IsFirstAlone, IsFirstCommon};
 ghost use Rattle.bittle.specs.Values.{set_in, ShapeFits};
 
+use crate::capacities::capacity_of;
 use bittle::{Bits, Endian};
 use bittle_bits::internal::decided::first_decided;
 use bittle_bits::one_word::{Conjunction, Difference};
@@ -40,7 +41,7 @@ fn first_common_by_turns<A: Bits, B: Bits, E: Endian, F: Endian>(left: &A, right
         let theirs = set_in B.Shape F.Endian right.now in
         MatchOption result (AreDisjoint ours theirs) (IsFirstCommon ours theirs) }
 {
-    let end = left.bits_capacity().min(right.bits_capacity());
+    let end = capacity_of::<A, E>(left).min(capacity_of::<B, F>(right));
     let mut from = 0;
     while let Some(ours) = left.first_one_in::<E>(from, end) {
         let Some(theirs) = right.first_one_in::<F>(ours, end) else {
@@ -85,8 +86,8 @@ fn first_alone_by_words<A: Bits, B: Bits, E: Endian>(left: &A, right: &B) -> Opt
         return found;
     }
     // Past the second set's capacity nothing is set in it.
-    let end = left.bits_capacity();
-    left.first_one_in::<E>(end.min(right.bits_capacity()), end)
+    let end = capacity_of::<A, E>(left);
+    left.first_one_in::<E>(end.min(capacity_of::<B, E>(right)), end)
 }
 
 /// Returns the least index that is set in the first and not in the second, or `None`, by turns.
@@ -97,8 +98,8 @@ fn first_alone_by_turns<A: Bits, B: Bits, E: Endian, F: Endian>(left: &A, right:
         let theirs = set_in B.Shape F.Endian right.now in
         MatchOption result (IsSubset ours theirs) (IsFirstAlone ours theirs) }
 {
-    let end = left.bits_capacity();
-    let common = end.min(right.bits_capacity());
+    let end = capacity_of::<A, E>(left);
+    let common = end.min(capacity_of::<B, F>(right));
     let mut from = 0;
     while let Some(ours) = left.first_one_in::<E>(from, common) {
         let Some(free) = right.first_zero_in::<F>(ours, common) else {

@@ -1,11 +1,10 @@
-use Rattle.std.proofs.Common.{◌≡◌, ◌<◌, min, sym, ◌∙◌, arith}
+use Rattle.std.proofs.Common.{◌≡◌, ◌<◌, sym, ◌∙◌, arith}
 use Rattle.bittle.specs.Values.{set_in}
 use Rattle.bittle.proofs.CallerSets.{contains_within}
 use Rattle.bittle_bits.proofs.MembersBelow.{below_at_most}
-use Rattle.bittle_bits.proofs.PlainSets.{members-past}
 use Rattle.bittle_ext.specs.Combined.{both_of}
 use Rattle.bittle_ext.proofs.RankFacts.{below_zero}
-use Rattle.bittle_ext.proofs.CommonCounts.{counted_next, counted_all, common_size}
+use Rattle.bittle_ext.proofs.CommonCounts.{counted_next, counted_all, counts_both}
 use Rattle.bittle_ext.proofs.counts.count_common_by_turns.Goals as goal
 use Rattle.bittle_ext.proofs.counts.count_common_by_turns.Goals.{then-test_bit_in, else-test_bit_in}
 
@@ -26,7 +25,7 @@ overflow_add-count g c =
       c.in-Some.ensures.0,
       c.in-Some.ensures.1,
       c.min-end.ensures,
-      c.bits_capacity.ensures.value c.requires.left_fits,
+      c.capacity_of.ensures.ends.capacity,
       c.requires.left_fits.1,
     )
 
@@ -35,12 +34,8 @@ loop-index-preserved g c =
     let s = set_in g.A.Shape g.E.Endian c.args.left.now in
     let t = set_in g.B.Shape g.F.Endian c.args.right.now in
     let e = c.in-Some.ensures in
-    let low : c.in-Some.index < t.capacity = omega (
-      arith,
-      e.1,
-      c.min-end.ensures,
-      c.bits_capacity-2.ensures.value c.requires.right_fits,
-    ) in
+    let low : c.in-Some.index < t.capacity =
+    omega (arith, e.1, c.min-end.ensures, c.capacity_of-2.ensures.ends.capacity) in
     let tested = sym (contains_within t c.in-Some.index low) ∙ sym c.test_bit_in.ensures in
     record {
       within = omega (arith, e.1);
@@ -55,27 +50,10 @@ loop-index-preserved g c =
 
 pub returns : goal.returns
 returns g c =
-    let a = g.met.A.Bits in
-    let b = g.met.B.Bits in
-    let x = c.args.left.now in
-    let y = c.args.right.now in
-    let s = set_in g.A.Shape g.E.Endian x in
-    let t = set_in g.B.Shape g.F.Endian y in
-    let past_x = members-past g.E.Endian.mirrored _ _ a.width_positive (a.whole_words x)
-    (a.none_past x) in
-    let past_y = members-past g.F.Endian.mirrored _ _ b.width_positive (b.whole_words y)
-    (b.none_past y) in
-    let all = counted_all s t c.loop-index.from c.min-end.result c.loop-index.invariant.within
-    c.in_default.ensures in
-    let end : c.min-end.result ≡ min s.capacity t.capacity = omega (
-      arith,
-      c.min-end.ensures,
-      c.bits_capacity.ensures.value c.requires.left_fits,
-      c.bits_capacity-2.ensures.value c.requires.right_fits,
-    ) in
-    omega (
-      arith,
-      all,
-      c.loop-index.invariant.counted,
-      common_size s t past_x past_y c.min-end.result end,
-    )
+    let left = c.capacity_of.ensures in
+    let right = c.capacity_of-2.ensures in
+    counts_both left.ends right.ends c.min-end.result _ _ _ c.min-end.ensures left.as_many
+    right.as_many (c.loop-index.invariant.counted
+    ∙ sym (counted_all (set_in g.A.Shape g.E.Endian c.args.left.now)
+    (set_in g.B.Shape g.F.Endian c.args.right.now) c.loop-index.from c.min-end.result
+    c.loop-index.invariant.within c.in_default.ensures))

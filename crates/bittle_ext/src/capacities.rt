@@ -1,0 +1,18 @@
+//! How many bits a set has.
+
+ghost use Rattle.std.specs.Prelude.{◌≡◌};
+ghost use Rattle.bittle_ext.specs.RangeMembers.{EndsAt};
+ghost use Rattle.bittle.specs.PlainSet.{size};
+ghost use Rattle.bittle.specs.Values.{set_in, ShapeFits};
+
+use bittle::{Bits, Endian};
+
+/// Returns the capacity of a set, from which on it has no bit set in the order `E` either.
+#[inline]
+pub(crate) fn capacity_of<B: Bits, E: Endian>(set: &B) -> u32
+    requires { ShapeFits B.Shape set.now }
+    ensures ends { EndsAt (set_in B.Shape E.Endian set.now) result }
+    ensures as_many { size (B.big set.now) ≡ size (set_in B.Shape E.Endian set.now) }
+{
+    set.bits_capacity()
+}
