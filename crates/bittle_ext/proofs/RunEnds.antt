@@ -21,10 +21,10 @@ others_opposite false s = complement_to_opposite s
 
 module _ (s t : PlainSet) (opposite : AreOpposite s t) where
   member : (k : ℕ) → k < s.capacity → t.has k ≡ false → s.has k ≡ true
-  member k l e = not_false (s.has k) (sym (opposite.1 k l) ∙ e)
+  member k l e = not_false (s.has k) (sym (opposite.other k l) ∙ e)
 
   no_member : (k : ℕ) → k < s.capacity → t.has k ≡ true → s.has k ≡ false
-  no_member k l e = not_true (s.has k) (sym (opposite.1 k l) ∙ e)
+  no_member k l e = not_true (s.has k) (sym (opposite.other k l) ∙ e)
 
   all_from : (start end : ℕ) → end ≤ s.capacity → s.has start ≡ true →
       NoneIn t (start + 1) end → HasAllIn s start end

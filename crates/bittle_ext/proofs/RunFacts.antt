@@ -2,73 +2,82 @@
 use Rattle.std.proofs.Common.{◌≡◌, ℕ, ◌+◌, ◌-◌, ◌<◌, ◌≤◌, Bool, true, false, not, Some, None, inl, inr, refl, sym, ap, ◌∙◌, arith}
 use Rattle.std.proofs.lemmas.Bool.{cases_lt, true≢false}
 use Rattle.bittle.specs.PlainSet.{PlainSet, complement}
-use Rattle.bittle.specs.Searches.{NoneIn, IsFirstIn}
+use Rattle.bittle.specs.Searches.{NoneIn, IsFirstIn, IsLastIn}
 use Rattle.bittle.proofs.CallerSets.{complement_within}
 use Rattle.bittle_ext.specs.Runs.{NoRunBegins, IsFirstRun}
+use Rattle.bittle_ext.proofs.SetFacts.{not_false}
 
 -- t has each number below the capacity that s has not
-abbrev pub AreOpposite : PlainSet → PlainSet → Type 0
-AreOpposite s t = (t.capacity ≡ s.capacity)
-    × ((k : ℕ) → k < s.capacity → t.has k ≡ not (s.has k))
+pub record AreOpposite (s t : PlainSet) : Type 0 where
+  pub other : (k : ℕ) → k < s.capacity → t.has k ≡ not (s.has k)
 
 pub opposite_to_complement : (s : PlainSet) → AreOpposite s (complement s)
-opposite_to_complement s = (refl, λ k h. complement_within s k h)
+opposite_to_complement s = record { other = λ k h. complement_within s k h }
 
 pub complement_to_opposite : (s : PlainSet) → AreOpposite (complement s) s
-complement_to_opposite s = (refl, λ k h. back (s.has k) ∙ sym (ap not (complement_within s k h)))
+complement_to_opposite s =
+    record { other = λ k h. back (s.has k) ∙ sym (ap not (complement_within s k h)) }
   where
     back : (b : Bool) → b ≡ not (not b)
     back true = refl
     back false = refl
 
-module _ (s t : PlainSet) (opposite : AreOpposite s t) (length from end : ℕ)
-    (whole : end ≡ s.capacity) where
-  -- no member of s begins a run from the end on that is to be
-  pub none_begin : (at to : ℕ) → 0 < length → NoRunBegins s length from at → NoneIn s at to →
-      NoRunBegins s length from to
-  none_begin at to some before none k h l run =
+-- as far as searches for a run of so many members have come
+pub record IsSearched (s : PlainSet) (length from end at : ℕ) : Type 0 where
+  pub ordered : from ≤ at
+  pub within : at ≤ end
+  pub whole : end ≡ s.capacity
+  pub some : 0 < length
+  pub none_before : NoRunBegins s length from at
+
+module _ {s : PlainSet} {length from end at : ℕ} (p : IsSearched s length from end at) where
+  -- no member begins a run from the end on that is to be
+  none_begin : (to : ℕ) → NoneIn s at to → NoRunBegins s length from to
+  none_begin to none k h l run =
       elim (cases_lt k at) [
-        | inl b ↦ before k h b run
-        | inr g ↦ true≢false (sym (run.1 k (omega arith) (omega arith)) ∙ none k g l)
+        | inl b ↦ p.none_before k h b run
+        | inr g ↦
+            true≢false (sym (run.1 k (omega arith) (omega (arith, p.some))) ∙ none k g l)
       ]
 
   -- none begins anywhere
-  pub none_left : (at : ℕ) → 0 < length → NoRunBegins s length from at → NoneIn s at end →
-      IsFirstRun s from length None
-  none_left at some before none k h run =
-      none_begin at end some before none k h (omega (arith, whole, run.0)) run
+  pub none_left : NoneIn s at end → IsFirstRun s from length None
+  none_left none k h run =
+      none_begin end none k h (omega (arith, p.whole, p.some, run.0)) run
 
   -- the first member from a number on, after which there is no room
-  pub no_room : (at start : ℕ) → 0 < length → NoRunBegins s length from at →
-      IsFirstIn s at end (Some start) → end - start < length →
+  pub no_room : (start : ℕ) → IsFirstIn s at end (Some start) → end - start < length →
       IsFirstRun s from length None
-  no_room at start some before first short k h run =
-      none_begin at start some before first.3 k h (omega (arith, whole, run.0, short)) run
+  no_room start first short k h run =
+      none_begin start first.3 k h (omega (arith, p.whole, run.0, short)) run
 
   -- it begins a run
-  pub run_found : (at start : ℕ) → 0 < length → from ≤ at → NoRunBegins s length from at →
+  pub run_found : {t : PlainSet} → AreOpposite s t → (start : ℕ) →
       IsFirstIn s at end (Some start) → length ≤ end - start →
       NoneIn t start (start + length) → IsFirstRun s from length (Some start)
-  run_found at start some h before first room none = (
-    omega (arith, first.0),
+  run_found opposite start first room none = (
+    omega (arith, p.ordered, first.0),
     (
-      omega (arith, whole, room, first.1),
-      λ k g l. member (s.has k) (sym (opposite.1 k (omega (arith, whole, room, first.1))) ∙ none k g l),
+      omega (arith, p.whole, room, first.1),
+      λ k g l. not_false (s.has k)
+          (sym (opposite.other k (omega (arith, p.whole, room, first.1))) ∙ none k g l),
     ),
-    none_begin at start some before first.3,
+    none_begin start first.3,
   )
-    where
-      member : (b : Bool) → not b ≡ false → b ≡ true
-      member true e = refl
-      member false e = absurd (true≢false e)
 
   -- a number that is no member follows too soon
-  pub run_broken : (at start last : ℕ) → 0 < length → NoRunBegins s length from at →
+  pub run_broken : {t : PlainSet} → AreOpposite s t → (start last : ℕ) →
       IsFirstIn s at end (Some start) → length ≤ end - start →
-      last < start + length → t.has last ≡ true → NoRunBegins s length from (last + 1)
-  run_broken at start last some before first room soon gone k h l run =
-      elim (cases_lt k start) [
-        | inl b ↦ none_begin at start some before first.3 k h b run
-        | inr g ↦ true≢false (sym gone ∙ opposite.1 last (omega (arith, whole, room, soon))
-            ∙ ap not (run.1 last (omega arith) (omega (arith, soon))))
-      ]
+      IsLastIn t start (start + length) (Some last) → IsSearched s length from end (last + 1)
+  run_broken opposite start last first room gone = record {
+    ordered = omega (arith, p.ordered, first.0, gone.0);
+    within = omega (arith, room, first.1, gone.1);
+    whole = p.whole;
+    some = p.some;
+    none_before = λ k h l run. elim (cases_lt k start) [
+      | inl b ↦ none_begin start first.3 k h b run
+      | inr g ↦
+          true≢false (sym gone.2 ∙ opposite.other last (omega (arith, p.whole, room, gone.1))
+          ∙ ap not (run.1 last (omega arith) (omega (arith, gone.1))))
+    ];
+  }

@@ -9,6 +9,7 @@ ghost use Rattle.bittle.specs.Values.{set_in, ShapeFits};
 
 use crate::{ranks, runs};
 use bittle::{Bits, Endian};
+use bittle_bits::internal::source::{Ones, Zeros};
 
 /// What can be asked of any set beyond the calls of [`Bits`].
 ///
@@ -463,7 +464,7 @@ pub trait BitsExt: Bits {
         requires { ShapeFits Self.Shape self.now }
         ensures { IsFirstRun (complement (set_in Self.Shape E.Endian self.now)) from length result }
     {
-        runs::next_zero_run::<Self, E>(self, from, length)
+        runs::next_run::<Self, E, Zeros>(self, from, length)
     }
 
     /// Returns the least index from `from` on where `length` unset bits begin, in the order of the
@@ -533,7 +534,7 @@ pub trait BitsExt: Bits {
         requires { ShapeFits Self.Shape self.now }
         ensures { IsFirstRun (set_in Self.Shape E.Endian self.now) from length result }
     {
-        runs::next_one_run::<Self, E>(self, from, length)
+        runs::next_run::<Self, E, Ones>(self, from, length)
     }
 
     /// Returns the least index from `from` on where `length` set bits begin, in the order of the

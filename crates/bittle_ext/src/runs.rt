@@ -2,18 +2,21 @@
 
 ghost use Rattle.std.specs.Prelude.{◌<◌, ◌≤◌};
 ghost use Rattle.bittle_ext.specs.Runs.{IsFirstRun};
-ghost use Rattle.bittle.specs.PlainSet.{complement};
 ghost use Rattle.bittle.specs.Values.{set_in, ShapeFits};
+ghost use Rattle.bittle.specs.Walk.{ones_or_zeros};
 
+use crate::kind_searches::{first_of_kind, last_of_other};
 use bittle::{Bits, Endian};
+use bittle_bits::internal::source::Kind;
 
-/// Returns the least index from `from` on where `length` unset bits begin, or `None`.
+/// Returns the least index from `from` on where `length` bits of the kind begin, or `None`.
 ///
-/// A search finds where unset bits begin, another one whether a set bit follows too soon: from past
-/// that bit both go on.
-pub fn next_zero_run<B: Bits, E: Endian>(bits: &B, from: u32, length: u32) -> Option<u32>
+/// A search finds where such bits begin, another one whether a bit of the other kind follows too
+/// soon: from past that bit both go on.
+pub fn next_run<B: Bits, E: Endian, K: Kind>(bits: &B, from: u32, length: u32) -> Option<u32>
     requires { ShapeFits B.Shape bits.now }
-    ensures { IsFirstRun (complement (set_in B.Shape E.Endian bits.now)) from length result }
+    ensures { IsFirstRun (ones_or_zeros K.ONES (set_in B.Shape E.Endian bits.now)) from length
+        result }
 {
     let end = bits.bits_capacity();
     if end < from {
@@ -23,37 +26,11 @@ pub fn next_zero_run<B: Bits, E: Endian>(bits: &B, from: u32, length: u32) -> Op
         return Some(from);
     }
     let mut at = from;
-    while let Some(start) = bits.first_zero_in::<E>(at, end) {
+    while let Some(start) = first_of_kind::<B, E, K>(bits, at, end) {
         if end - start < length {
             return None;
         }
-        let Some(taken) = bits.last_one_in::<E>(start, start + length) else {
-            return Some(start);
-        };
-        at = taken + 1;
-    }
-    None
-}
-
-/// Returns the least index from `from` on where `length` set bits begin, or `None`, as
-/// [`next_zero_run`] does of unset ones.
-pub fn next_one_run<B: Bits, E: Endian>(bits: &B, from: u32, length: u32) -> Option<u32>
-    requires { ShapeFits B.Shape bits.now }
-    ensures { IsFirstRun (set_in B.Shape E.Endian bits.now) from length result }
-{
-    let end = bits.bits_capacity();
-    if end < from {
-        return None;
-    }
-    if length == 0 {
-        return Some(from);
-    }
-    let mut at = from;
-    while let Some(start) = bits.first_one_in::<E>(at, end) {
-        if end - start < length {
-            return None;
-        }
-        let Some(gap) = bits.last_zero_in::<E>(start, start + length) else {
+        let Some(gap) = last_of_other::<B, E, K>(bits, start, start + length) else {
             return Some(start);
         };
         at = gap + 1;
