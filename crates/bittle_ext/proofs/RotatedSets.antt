@@ -12,6 +12,7 @@ use Rattle.bittle_bits.proofs.PlainSets.{plain_set}
 use Rattle.bittle_bits.proofs.RowWords.{words_each}
 use Rattle.bittle_bits.proofs.Spans.{outside_span, inside_span}
 use Rattle.bittle_bits.proofs.Words.{digit_at, same_word}
+use Rattle.bittle_ext.specs.RangeMembers.{EndsAt}
 use Rattle.bittle_ext.specs.Rotations.{has_rotated, rotated_down, rotated_up, has_shifted_down, shifted_down, has_shifted_up, shifted_up, IsWindow, IsWordFrom, IsRotatedBelow}
 
 -- an index that wraps to another one answers as that does
@@ -147,14 +148,12 @@ unfolding has_rotated
 rotated-past s by k h = rw (le-ltb k s.capacity h) refl
 
 -- once all members below the capacity are right, it is the rotated set
-pub all_rotated : (m : Bool) (w n by : ℕ) (s t : PlainSet) → t.capacity ≡ s.capacity →
-    ((i : ℕ) → t.capacity ≤ i → (read_in m w t).has i ≡ false) → s.capacity ≤ n →
-    IsRotatedBelow s by (read_in m w t) n → read_in m w t ≡ rotated_down s by
-all_rotated m w n by s t same past far done =
-    let each : (read_in m w t).has ≡ has_rotated s by = fun_ext λ k.
-    elim (cases_lt k s.capacity) [
-      | inl l ↦ done k (omega arith) ∙ sym (rotated-below s by k l)
-      | inr g ↦ past k (omega (arith, same)) ∙ sym (rotated-past s by k g)
+pub all_rotated : {s t : PlainSet} {a b : ℕ} (n by : ℕ) → EndsAt s a → EndsAt t b →
+    t.capacity ≡ s.capacity → a ≤ n → IsRotatedBelow s by t n → t ≡ rotated_down s by
+all_rotated {s} {t} n by x y same far done =
+    let each : t.has ≡ has_rotated s by = fun_ext λ k. elim (cases_lt k s.capacity) [
+      | inl l ↦ done k (omega (arith, x.capacity)) ∙ sym (rotated-below s by k l)
+      | inr g ↦ y.past k (omega (arith, same)) ∙ sym (rotated-past s by k g)
     ] in
     λ j. plain_set (same j) (each j)
 

@@ -1,14 +1,24 @@
 //! Sets whose bits are all moved, a word at a time.
 
-ghost use Rattle.std.specs.Prelude.{◌≡◌, ◌+◌, ◌*◌, ◌<◌, IsTrue};
+ghost use Rattle.std.specs.Prelude.{◌≡◌, ◌+◌, ◌-◌, ◌*◌, ◌^◌, ◌<◌, IsTrue};
 ghost use Rattle.bittle_bits.specs.BitPatterns.{bit_set};
 ghost use Rattle.bittle_ext.specs.Rotations.{rotated_down, rotated_up, shifted_down, shifted_up};
 ghost use Rattle.bittle_ext.specs.Rotations.{IsWindow, IsWordFrom};
 ghost use Rattle.bittle.specs.Orders.{read_in};
 ghost use Rattle.bittle.specs.Values.{set_in, ShapeFits};
 
+use crate::capacities::capacity_of;
 use bittle::{Bits, BitsOwned, Endian};
 use bittle_bits::word::Word;
+
+/// Returns the number of which each bit of a word is set.
+#[inline]
+fn all_bits<W: Word>() -> u128
+    ensures value { result ≡ 2 ^ W.width - 1 }
+    ensures width { W.width < 129 }
+{
+    W::zero().not().to_bits()
+}
 
 /// Returns the word of the bits of two words from the weight `2 ^ from` of the first one on.
 #[inline]
@@ -18,7 +28,7 @@ fn funnel<W: Word>(first: W, second: W, from: u32) -> W
     ensures { IsWindow W.width from (bit_set W.width (W.pattern first))
         (bit_set W.width (W.pattern second)) (bit_set W.width (W.pattern result)) }
 {
-    let ones = W::zero().not().to_bits();
+    let ones = all_bits::<W>();
     let upper = second.to_bits() << (W::width() - from) & ones;
     W::from_bits(upper | first.to_bits() >> from)
 }
@@ -62,7 +72,7 @@ pub fn rotate_down<B: BitsOwned, E: Endian>(set: &B, by: u32) -> B
     ensures { set_in B.Shape E.Endian result ≡ rotated_down (set_in B.Shape E.Endian set.now) by }
 {
     let mut result = B::zeros();
-    let capacity = B::bits();
+    let capacity = capacity_of::<B, E>(set);
     if capacity == 0 {
         return result;
     }
@@ -84,7 +94,7 @@ pub fn rotate_up<B: BitsOwned, E: Endian>(set: &B, by: u32) -> B
     requires { IsTrue B.indexable }
     ensures { set_in B.Shape E.Endian result ≡ rotated_up (set_in B.Shape E.Endian set.now) by }
 {
-    let capacity = B::bits();
+    let capacity = capacity_of::<B, E>(set);
     let back = if capacity == 0 {
         0
     } else {
@@ -99,7 +109,7 @@ pub fn shift_down<B: BitsOwned, E: Endian>(set: &B, by: u32) -> B
     requires { IsTrue B.indexable }
     ensures { set_in B.Shape E.Endian result ≡ shifted_down (set_in B.Shape E.Endian set.now) by }
 {
-    let capacity = B::bits();
+    let capacity = capacity_of::<B, E>(set);
     if by >= capacity {
         return B::zeros();
     }
@@ -114,7 +124,7 @@ pub fn shift_up<B: BitsOwned, E: Endian>(set: &B, by: u32) -> B
     requires { IsTrue B.indexable }
     ensures { set_in B.Shape E.Endian result ≡ shifted_up (set_in B.Shape E.Endian set.now) by }
 {
-    if by >= B::bits() {
+    if by >= capacity_of::<B, E>(set) {
         return B::zeros();
     }
     let mut result = rotate_up::<B, E>(set, by);

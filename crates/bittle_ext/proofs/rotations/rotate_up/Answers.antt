@@ -1,4 +1,4 @@
-use Rattle.std.proofs.Common.{◌≡◌, ◌-◌, ◌%◌, sym, ap, ◌∙◌, arith}
+use Rattle.std.proofs.Common.{◌≡◌, ◌-◌, ◌%◌, ap, ◌∙◌, arith}
 use Rattle.bittle.specs.Values.{set_in}
 use Rattle.bittle_ext.specs.Rotations.{rotated_down}
 use Rattle.bittle_ext.proofs.rotations.rotate_up.Goals.{then-capacity-eq0, else-capacity-eq0}
@@ -6,12 +6,9 @@ use Rattle.bittle_ext.proofs.rotations.rotate_up.Goals as goal
 
 pub returns : goal.returns
 returns g c =
-    let own = g.met.B.BitsOwned in
     let s = set_in g.B.Shape g.E.Endian c.args.set.now in
     let by = c.args.by in
-    let cap : c.bits-capacity.result ≡ s.capacity =
-    c.bits-capacity.ensures.value (c.requires, own.type_fits c.requires)
-    ∙ sym (own.one_capacity c.args.set.now) in
+    let cap = c.capacity_of-capacity.ensures.ends.capacity in
     let back : c.if-capacity-eq0.back ≡ s.capacity - by % s.capacity =
     elim c.if-capacity-eq0.branch [
       | then-capacity-eq0 t ↦ omega (arith, t.back-is, t.if-capacity-eq0.true, cap)

@@ -1,4 +1,4 @@
-use Rattle.std.proofs.Common.{◌≡◌, ◌-◌, sym, ap, ◌∙◌, arith}
+use Rattle.std.proofs.Common.{◌-◌, sym, ap, ◌∙◌, arith}
 use Rattle.bittle.specs.PlainSet.{empty_set, without_span}
 use Rattle.bittle.specs.Values.{set_in}
 use Rattle.bittle_ext.specs.Rotations.{rotated_down}
@@ -7,22 +7,17 @@ use Rattle.bittle_ext.proofs.rotations.shift_down.Goals as goal
 
 pub returns-then-by-capacity : goal.returns-then-by-capacity
 returns-then-by-capacity g c =
-    let own = g.met.B.BitsOwned in
-    let one = own.one_capacity c.args.set.now in
-    let cap = c.bits-capacity.ensures.value (c.requires, own.type_fits c.requires) in
-    c.zeros.ensures.in_each_order g.E.Endian.mirrored ∙ ap empty_set (sym one)
+    c.zeros.ensures.in_each_order g.E.Endian.mirrored
+    ∙ ap empty_set (sym (g.met.B.BitsOwned.one_capacity c.args.set.now))
     ∙ all_down (set_in g.B.Shape g.E.Endian c.args.set.now) c.args.by
-    (omega (arith, one, cap, c.if-by-capacity.true))
+    (omega (arith, c.capacity_of-capacity.ensures.ends.capacity, c.if-by-capacity.true))
 
 pub returns : goal.returns
 returns g c =
-    let own = g.met.B.BitsOwned in
     let s = set_in g.B.Shape g.E.Endian c.args.set.now in
     let by = c.args.by in
-    let capacity = c.bits-capacity.result in
-    let cap : capacity ≡ s.capacity =
-    c.bits-capacity.ensures.value (c.requires, own.type_fits c.requires)
-    ∙ sym (own.one_capacity c.args.set.now) in
+    let capacity = c.capacity_of-capacity.result in
+    let cap = c.capacity_of-capacity.ensures.ends.capacity in
     c.clear_range_in.ensures.set
     ∙ ap (λ t. without_span t (capacity - by) capacity) c.rotate_down-result.ensures
     ∙ ap (λ n. without_span (rotated_down s by) (n - by) n) cap
