@@ -1,9 +1,7 @@
 -- Where an iterator over two sets begins, and as far as which words it goes.
 use Rattle.std.proofs.Common.{◌≡◌, ℕ, zero, suc, ◌+◌, ◌-◌, ◌*◌, ◌<◌, ◌≤◌, min, max, Bool, true, false, ◌&&◌, cond, ◌∷◌, ◌++◌, append-nil, inl, inr, refl, sym, ap, ◌∙◌, subst, arith}
-use Rattle.std.specs.Int.{div_ceil}
 use Rattle.std.proofs.Math.Nat.{zero-mul}
 use Rattle.std.proofs.lemmas.Bool.{cases_lt, and_right}
-use Rattle.std.proofs.lemmas.Grind.{div_ceil_times}
 use Rattle.std.proofs.lemmas.List.Elements.{All-nil, All-cons}
 use Rattle.bittle_bits.specs.Buffers.{members_between}
 use Rattle.bittle_bits.specs.PlainSet.{PlainSet, ascending_from, ascending}
@@ -11,11 +9,6 @@ use Rattle.bittle_bits.proofs.AscendingLists.{ascending_from-none}
 use Rattle.bittle_bits.proofs.Items.{items_of-none, members_between-all, members_between-split}
 use Rattle.bittle_ext.specs.Combined.{items_at, AreIndexes}
 use Rattle.bittle_ext.specs.declared.both_words.Place.{Place}
-
--- the words that reach an end, and no one more
-pub words_reach : (w end v words high : ℕ) → 0 < w → v ≡ w → words ≡ div_ceil end v →
-    high ≡ words → (end ≤ high * w) × (high * w < end + w)
-words_reach w end v words high word wide is same = rw (same, is, wide) (div_ceil_times end w word)
 
 -- past an end from which on nothing is, there are no more members
 none_more : (s : PlainSet) (end to : ℕ) → end ≤ to → ((i : ℕ) → end ≤ i → s.has i ≡ false) →

@@ -1,7 +1,7 @@
 //! The words that an operation makes of two sets, and the steps of an iterator over them.
 
 ghost use Rattle.std.specs.Iterator.{YieldsFirst, YieldsLast};
-ghost use Rattle.std.specs.Prelude.{◌≡◌, ◌+◌, ◌*◌, ◌<◌};
+ghost use Rattle.std.specs.Prelude.{◌≡◌, ◌+◌, ◌*◌, ◌<◌, ◌≤◌};
 ghost use Rattle.bittle_bits.specs.Buffers.{members_between};
 ghost use Rattle.bittle_bits.specs.BitPatterns.{bit_set};
 ghost use Rattle.bittle_bits.specs.Words.{word_of};
@@ -95,15 +95,15 @@ fn scan_last<W: Word, E: Endian>(loaded: &mut Loaded<W>) -> Option<u32>
     Some(loaded.base + index)
 }
 
-/// Returns the place before the first of so many words.
+/// Returns the place before the first of the words that reach an end.
 #[inline]
-pub fn begin<W: Word>(words: u32) -> Place<W>
+pub fn begin<W: Word>(end: u32) -> Place<W>
     ensures head { W.pattern result.head.word ≡ 0 }
     ensures head_base { result.head.base ≡ 0 }
     ensures tail { W.pattern result.tail.word ≡ 0 }
     ensures tail_base { result.tail.base ≡ 0 }
     ensures low { result.low ≡ 0 }
-    ensures high { result.high ≡ words }
+    ensures high { (end ≤ result.high * W.width) × (result.high * W.width < end + W.width) }
 {
     let none = Loaded {
         word: W::zero(),
@@ -113,7 +113,7 @@ pub fn begin<W: Word>(words: u32) -> Place<W>
         head: none,
         tail: none,
         low: 0,
-        high: words,
+        high: end.div_ceil(W::width()),
     }
 }
 

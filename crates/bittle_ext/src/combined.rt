@@ -87,7 +87,7 @@ impl<'a, A: Bits, B: Bits, E: Endian, F: Endian, O: Operation> IterCombined<'a, 
         IterCombined {
             left,
             right,
-            at: begin::<A::LeafWord>(end.div_ceil(<A::LeafWord as Word>::width())),
+            at: begin::<A::LeafWord>(end),
             order: PhantomData,
             other_order: PhantomData,
             operation: PhantomData,

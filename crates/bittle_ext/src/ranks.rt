@@ -51,9 +51,9 @@ fn place_of_rank<B: Bits, E: Endian>(bits: &B, k: u32, rest: u32) -> u32
     requires has_it { let ours = set_in B.Shape E.Endian bits.now in
         members_below ours (k * B.width) + rest < members_below ours ((k + 1) * B.width) }
     ensures within { result < B.width }
-    ensures is_set { (set_in B.Shape E.Endian bits.now).has (k * B.width + result) ≡ true }
-    ensures rank { let ours = set_in B.Shape E.Endian bits.now in
-        members_below ours (k * B.width + result) ≡ members_below ours (k * B.width) + rest }
+    ensures found { let ours = set_in B.Shape E.Endian bits.now in
+        let index = k * B.width + result in (ours.has index ≡ true)
+        × (members_below ours index ≡ members_below ours (k * B.width) + rest) }
 {
     let mut at = 0;
     let mut span = <B::LeafWord as Word>::width();

@@ -32,7 +32,7 @@ returns-in-Some g c =
       word_ends w c.in-Some.k s.capacity (b.whole_words c.args.bits.now) c.in-Some.ensures.0,
       place.within,
     ))
-    place.is_set (place.rank ∙ c.in-Some.ensures.1))
+    place.found.0 (place.found.1 ∙ c.in-Some.ensures.1))
 
 pub returns-in-None : goal.returns-in-None
 returns-in-None g c =

@@ -1,48 +1,43 @@
-use Rattle.std.proofs.Common.{◌∙◌, arith}
-use Rattle.bittle.specs.Values.{set_in}
+use Rattle.std.proofs.Common.{arith}
 use Rattle.bittle_bits.proofs.AscendingLists.{are_below}
 use Rattle.bittle_bits.proofs.IteratorRuns.{list_in_order, list_in_reverse}
-use Rattle.bittle_ext.specs.Combined.{decided_set}
-use Rattle.bittle_ext.proofs.CombinedStarts.{words_reach, all_left, left_indexes}
+use Rattle.bittle_ext.specs.Combined.{decided_of}
+use Rattle.bittle_ext.proofs.CombinedStarts.{all_left, left_indexes}
 use Rattle.bittle_ext.proofs.combined.IterCombined.new.Goals as goal
 
 pub returns-clause-items : goal.returns-clause-items
 returns-clause-items g c =
-    let w = g.A.Shape.width in
-    let a = g.met.A.Bits in
-    let s = decided_set g.O.Operation.decide (set_in g.A.Shape g.E.Endian c.args.left.now)
-    (set_in g.B.Shape g.F.Endian c.args.right.now) in
-    let e = c.begin.ensures in
-    let reach = words_reach w c.args.end c.width.result c.div_ceil.result c.begin.result.high
-    a.width_positive (c.width.ensures ∙ a.leaf_width) c.div_ceil.ensures e.high in
-    all_left g.E.Endian.mirrored g.A.LeafWord.Word.width g.A.LeafWord.Word.pattern w c.args.end s
-    c.begin.result e.head e.tail e.low reach.0 c.requires.within c.requires.none_past
+    let begun = c.begin.ensures in
+    all_left g.E.Endian.mirrored g.A.LeafWord.Word.width g.A.LeafWord.Word.pattern g.A.Shape.width
+    c.args.end (decided_of g.O.Operation.decide g.A.Shape g.E.Endian c.args.left.now g.B.Shape
+    g.F.Endian c.args.right.now) c.begin.result begun.head begun.tail begun.low
+    (rw g.met.A.Bits.leaf_width at begun.high).0 c.requires.within c.requires.none_past
 
 pub invariant_of-result : goal.invariant_of-result
 invariant_of-result g c =
-    let w = g.A.Shape.width in
-    let a = g.met.A.Bits in
-    let s = decided_set g.O.Operation.decide (set_in g.A.Shape g.E.Endian c.args.left.now)
-    (set_in g.B.Shape g.F.Endian c.args.right.now) in
-    let e = c.begin.ensures in
-    let reach = words_reach w c.args.end c.width.result c.div_ceil.result c.begin.result.high
-    a.width_positive (c.width.ensures ∙ a.leaf_width) c.div_ceil.ensures e.high in
-    let small = c.requires.left_fits.1 in
-    let other = c.requires.right_fits.1 in (
-      c.requires.left_fits,
-      c.requires.right_fits,
+    let fits = c.requires.left_fits in
+    let other = c.requires.right_fits in (
+      fits,
+      other,
       record {
-        ordered = omega (arith, e.low);
-        between = omega (arith, reach.1, c.requires.within, small, other);
+        ordered = omega (arith, c.begin.ensures.low);
+        between = omega (
+          arith,
+          (rw g.met.A.Bits.leaf_width at c.begin.ensures.high).1,
+          c.requires.within,
+          fits.1,
+          other.1,
+        );
         indexes = left_indexes g.E.Endian.mirrored g.A.LeafWord.Word.width
-            g.A.LeafWord.Word.pattern w s c.begin.result (returns-clause-items g c)
-            (omega (arith, small, other));
+            g.A.LeafWord.Word.pattern g.A.Shape.width (decided_of g.O.Operation.decide g.A.Shape
+            g.E.Endian c.args.left.now g.B.Shape g.F.Endian c.args.right.now) c.begin.result
+            (returns-clause-items g c) (omega (arith, fits.1, other.1));
       },
     )
 
 pub returns-clause-below : goal.returns-clause-below
-returns-clause-below g c = are_below (decided_set g.O.Operation.decide
-    (set_in g.A.Shape g.E.Endian c.args.left.now) (set_in g.B.Shape g.F.Endian c.args.right.now)) _
+returns-clause-below g c = are_below (decided_of g.O.Operation.decide g.A.Shape
+    g.E.Endian c.args.left.now g.B.Shape g.F.Endian c.args.right.now) _
     (returns-clause-items g c)
 
 pub returns-clause-in_order : goal.returns-clause-in_order
