@@ -68,7 +68,7 @@ each false b c one other = (other, one)
 -- what is left after a scan
 module _ {B E W : Type 0} (s : PlainSet) (w : ℕ) where
   -- the word at an end has the item at that end of what is left
-  pub near_left : (front : Bool) (t : Cursor B E W) (c : BufferPair) (i x : ℕ) →
+  near_left : (front : Bool) (t : Cursor B E W) (c : BufferPair) (i x : ℕ) →
       ScansFrom front (buffer_of front t.buffers) (Some x) (buffer_of front c) →
       buffer_of (not front) c ≡ buffer_of (not front) t.buffers →
       let u : Cursor B E W = record { buffers = c; low = t.low; high = t.high; items = i } in
@@ -161,10 +161,10 @@ module _ {B E W : Type 0} (s : PlainSet) (words w : ℕ) where
       by false e = rw (e, b, members_between-empty s (t.high * w)) (sym (append-nil _))
 
   -- a scan that finds nothing exhausts its word, if one is loaded
-  pub exhausted : (of_head : Bool) (t : Cursor B E W) (c : BufferPair) → IsCounted words t →
-      (items_in (buffer_of of_head t.buffers) ≡ []) × (buffer_of of_head c ≡ None) →
-      c.scans ≡ t.buffers.scans + buffer_count (buffer_of of_head t.buffers) →
-      buffer_of (not of_head) c ≡ buffer_of (not of_head) t.buffers → c.fetches ≡ t.buffers.fetches →
+  pub exhausted : (front : Bool) (t : Cursor B E W) (c : BufferPair) → IsCounted words t →
+      (items_in (buffer_of front t.buffers) ≡ []) × (buffer_of front c ≡ None) →
+      c.scans ≡ t.buffers.scans + buffer_count (buffer_of front t.buffers) →
+      buffer_of (not front) c ≡ buffer_of (not front) t.buffers → c.fetches ≡ t.buffers.fetches →
       let u : Cursor B E W = record { buffers = c; low = t.low; high = t.high; items = t.items } in
       Seeks (walk_of s words w t) (walk_of s words w u) × IsCounted words u
   exhausted true t c r f l e q =
@@ -176,21 +176,19 @@ module _ {B E W : Type 0} (s : PlainSet) (words w : ℕ) where
       met t c 0 (buffer_count t.buffers.tail) r (omega arith)
       (omega (arith, ap buffer_count e)) (omega arith) q (ap items_in e) (ap items_in f.1 ∙ sym f.0)
 
-  -- a scan that yields the item at an end of what is left is a step
-  pub gave : (front of_head : Bool) (t : Cursor B E W) (c : BufferPair) (i x : ℕ) →
-      IsCounted words t →
-      ScansFrom front (buffer_of of_head t.buffers) (Some x) (buffer_of of_head c) →
-      c.scans ≡ t.buffers.scans + buffer_count (buffer_of of_head t.buffers) →
-      buffer_of (not of_head) c ≡ buffer_of (not of_head) t.buffers → c.fetches ≡ t.buffers.fetches →
+  -- a scan that yields an item is a step
+  pub gave : (front : Bool) (t : Cursor B E W) (c : BufferPair) (i x : ℕ) → IsCounted words t →
+      ScansFrom front (buffer_of front t.buffers) (Some x) (buffer_of front c) →
+      c.scans ≡ t.buffers.scans + buffer_count (buffer_of front t.buffers) →
+      buffer_of (not front) c ≡ buffer_of (not front) t.buffers → c.fetches ≡ t.buffers.fetches →
       i ≡ t.items + 1 →
       let u : Cursor B E W = record { buffers = c; low = t.low; high = t.high; items = i } in
-      items_left_in s w t ≡ with_end front x (items_left_in s w u) →
       Steps (YieldsFrom front (λ w. w.remaining)) (walk_of s words w t) (Some x)
       (walk_of s words w u) × IsCounted words u
-  gave front of_head t c i x r f l e q n left =
-      let before : buffer_count (buffer_of of_head t.buffers) ≡ 1 = ap buffer_count f.1 in
-      let after : buffer_count (buffer_of of_head c) ≡ 1 = ap buffer_count f.2 in
-      let counts = each of_head t.buffers c (after ∙ sym before) (ap buffer_count e) in
+  gave front t c i x r f l e q n =
+      let before : buffer_count (buffer_of front t.buffers) ≡ 1 = ap buffer_count f.1 in
+      let after : buffer_count (buffer_of front c) ≡ 1 = ap buffer_count f.2 in
+      let counts = each front t.buffers c (after ∙ sym before) (ap buffer_count e) in
       let kept : IsCounted words (let u : Cursor B E W = record
       { buffers = c; low = t.low; high = t.high; items = i } in u) = record {
         ordered = r.ordered;
@@ -200,7 +198,7 @@ module _ {B E W : Type 0} (s : PlainSet) (words w : ℕ) where
         once = omega (arith, r.once);
       } in (
         record {
-          gave = left;
+          gave = near_left s w front t c i x f e;
           items = n;
           scans = omega arith;
           fetches = omega arith;

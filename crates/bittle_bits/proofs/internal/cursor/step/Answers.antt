@@ -4,7 +4,7 @@ use Rattle.bittle_bits.specs.Cursor.{walk_of, IsCounted}
 use Rattle.bittle_bits.specs.Values.{set_in}
 use Rattle.bittle_bits.specs.Walk.{ones_or_zeros}
 use Rattle.bittle_bits.specs.declared.internal.cursor.Cursor.{Cursor}
-use Rattle.bittle_bits.proofs.Steps.{Seeks, seeks_on, steps_on, steps_none, bounded, exhausted, exchanged, none_left, gave, near_left, head_fetched, tail_fetched}
+use Rattle.bittle_bits.proofs.Steps.{Seeks, seeks_on, steps_on, steps_none, bounded, exhausted, exchanged, none_left, gave, head_fetched, tail_fetched}
 use Rattle.bittle_bits.proofs.internal.cursor.step.Given.{Over}
 use Rattle.bittle_bits.proofs.internal.cursor.step.Goals.{In_default}
 use Rattle.bittle_bits.proofs.internal.cursor.step.Goals as goal
@@ -41,11 +41,11 @@ met g c =
 
 pub returns-in-Some-clause-steps : goal.returns-in-Some-clause-steps
 returns-in-Some-clause-steps g c =
-    let near = c.in-Some.ensures in
+    let scan = c.in-Some.ensures in
     let front = g.N.End.FRONT in
-    steps_on front _ _ _ _ c.loop-item.invariant.0 (gave _ _ _ front front c.loop-item.at
-    c.scan.new.self c.raise.new.self c.in-Some.item c.loop-item.invariant.1 near.found near.scans
-    near.other near.fetches c.raise.ensures (near_left _ _ front _ _ _ _ near.found near.other)).0
+    steps_on front _ _ _ _ c.loop-item.invariant.0 (gave _ _ _ front c.loop-item.at
+    c.scan.new.self c.raise.new.self c.in-Some.item c.loop-item.invariant.1 scan.found scan.scans
+    scan.other scan.fetches c.raise.ensures).0
 
 pub loop-item-preserved-then-FRONT : goal.loop-item-preserved-then-FRONT
 loop-item-preserved-then-FRONT g c =
@@ -83,6 +83,6 @@ returns-clause-steps g c =
     let front = g.N.End.FRONT in
     let scan = rw c.exchange.ensures at c.in-Some-scan.ensures in
     let moved = exchanged _ _ _ front _ m.1 c.if-at.true m.2 in
-    steps_on front _ _ _ _ (seeks_on _ _ _ m.0 moved.0) (gave _ _ _ front front _ c.scan-2.new.self
+    steps_on front _ _ _ _ (seeks_on _ _ _ m.0 moved.0) (gave _ _ _ front _ c.scan-2.new.self
     c.raise-2.new.self c.in-Some-scan.item moved.1 scan.found scan.scans scan.other scan.fetches
-    c.raise-2.ensures (near_left _ _ front _ _ _ _ scan.found scan.other)).0
+    c.raise-2.ensures).0
