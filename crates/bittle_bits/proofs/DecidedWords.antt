@@ -2,7 +2,7 @@
 use Rattle.std.proofs.Common.{◌≡◌, ℕ, ◌+◌, ◌-◌, ◌*◌, ◌/◌, ◌^◌, ◌<◌, ◌≤◌, Bool, false, inl, inr, sym, ap, ◌∙◌, arith, bit_or, min}
 use Rattle.std.proofs.lemmas.Bool.{cases_lt, true≢false}
 use Rattle.std.proofs.lemmas.Nat.{le_or_l, le_or_r}
-use Rattle.std.proofs.Math.Nat.{mul-div_left, mul-le-mul_right, mul-lt-mul_of_pos_right}
+use Rattle.std.proofs.Math.Nat.{mul-div_left, mul-le-mul_right}
 use Rattle.bittle_bits.specs.BitPatterns.{bit_has, bit_set}
 use Rattle.bittle_bits.specs.Decided.{NoneDecidedBelow, IsFirstDecided}
 use Rattle.bittle_bits.specs.Orders.{place, read_in}
@@ -79,10 +79,11 @@ in_words k words w r below low =
     let up : (k + 1) * w ≤ words * w = mul-le-mul_right w (omega (arith, below)) in
     omega (arith, up, low)
 
--- a word below a number of words lies within what those make up
-pub word_within : (k words w c : ℕ) → 0 < w → k < words → words * w ≤ c → k * w < c
-word_within k words w c word below within =
-    omega (arith, mul-lt-mul_of_pos_right {k = w} below word, within)
+-- a word below a number of words ends within what those make up
+pub word_within : (k words w c : ℕ) → k < words → words * w ≤ c → (k + 1) * w ≤ c
+word_within k words w c below within =
+    let up : (k + 1) * w ≤ words * w = mul-le-mul_right w (omega (arith, below)) in
+    omega (arith, up, within)
 
 -- four words that are whole within a number of words lie within what those make up
 pub four_within : (four words w c : ℕ) → four < words / 4 → words * w ≤ c →

@@ -19,8 +19,8 @@ fn word_of_both<A: Bits, B: Bits, O: Operation>(left: &A, right: &B, k: u32) -> 
     requires width { A.width ≡ B.width }
     requires left_fits { ShapeFits A.Shape left.now }
     requires right_fits { ShapeFits B.Shape right.now }
-    requires in_left { k * A.width < (A.big left.now).capacity }
-    requires in_right { k * B.width < (B.big right.now).capacity }
+    requires in_left { (k + 1) * A.width ≤ (A.big left.now).capacity }
+    requires in_right { (k + 1) * B.width ≤ (B.big right.now).capacity }
     ensures { bit_set A.width (A.LeafWord.pattern result)
         ≡ combination_of O.decide (word_of A.width (A.big left.now) k)
         (word_of A.width (B.big right.now) k) }

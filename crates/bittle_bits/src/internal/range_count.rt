@@ -16,7 +16,7 @@ pub fn count_in_word<B: Bits, E: Endian>(bits: &B, k: u32, from: u32, to: u32) -
     requires fits { ShapeFits B.Shape bits.now }
     requires word { k * B.width < (B.big bits.now).capacity }
     requires ordered { from ≤ to }
-    requires within { to ≤ B.width }
+    requires within { to ≤ B.LeafWord.width }
     ensures { let ours = set_in B.Shape E.Endian bits.now in
         members_below ours (k * B.width + from) + result
         ≡ members_below ours (k * B.width + to) }

@@ -6,13 +6,18 @@ use Rattle.bittle_bits.proofs.internal.decided.first_among.Goals as goal
 
 pub word_of_both-word-requires-clause-in_left : goal.word_of_both-word-requires-clause-in_left
 word_of_both-word-requires-clause-in_left g c =
-    word_within _ c.args.to _ _ g.met.A.Bits.width_positive (omega (arith, c.loop-k-test.true))
-    c.requires.in_left
+    word_within _ c.args.to _ _ (omega (arith, c.loop-k-test.true)) c.requires.in_left
 
 pub word_of_both-word-requires-clause-in_right : goal.word_of_both-word-requires-clause-in_right
 word_of_both-word-requires-clause-in_right g c =
-    word_within _ c.args.to _ _ g.met.B.Bits.width_positive (omega (arith, c.loop-k-test.true))
-    c.requires.in_right
+    word_within _ c.args.to _ _ (omega (arith, c.loop-k-test.true)) c.requires.in_right
+
+pub overflow_mul-result : goal.overflow_mul-result
+overflow_mul-result g c =
+    let within = word_within c.loop-k.k c.args.to _ _ (omega (arith, c.loop-k-test.true))
+    c.requires.in_left in
+    rw (c.width-width.ensures ∙ g.met.A.Bits.leaf_width)
+    (omega (arith, within, c.requires.left_fits.1))
 
 pub returns-then-not-is_zero-clause-first : goal.returns-then-not-is_zero-clause-first
 returns-then-not-is_zero-clause-first g c before =
@@ -38,6 +43,15 @@ returns-then-not-is_zero-clause-below g c =
     let low = some_least g.E.Endian.mirrored w _ c.zeros.result a.width_positive
     (rw a.leaf_width at c.is_zero.ensures.range) some least in
     rw wide (in_words c.loop-k.k c.args.to w c.zeros.result (omega (arith, c.loop-k-test.true)) low)
+
+pub overflow_add-result : goal.overflow_add-result
+overflow_add-result g c =
+    omega (
+      arith,
+      returns-then-not-is_zero-clause-below g c,
+      c.requires.in_left,
+      c.requires.left_fits.1,
+    )
 
 pub loop-k-preserved : goal.loop-k-preserved
 loop-k-preserved g c before =

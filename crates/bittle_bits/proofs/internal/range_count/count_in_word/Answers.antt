@@ -10,4 +10,4 @@ returns g c =
     below_in_word g.E.Endian.mirrored w _ g.met.B.Bits.width_positive c.args.k _ _ r _ c.args.from
     c.args.to c.nth_leaf_word-word.ensures (rw leaf at c.range.ensures) c.and.ensures
     (size-bit_set w r _ c.count_ones.ensures.count (rw leaf at c.count_ones.ensures.range))
-    c.requires.ordered c.requires.within
+    c.requires.ordered (rw leaf at c.requires.within)

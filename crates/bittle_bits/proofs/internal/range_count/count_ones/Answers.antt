@@ -39,6 +39,14 @@ loop-k-init g c =
     let next : at.0 * w + w ≡ (at.0 + 1) * w = omega arith in
     rw (wide, start, next) at c.count_in_word-count.ensures
 
+pub count_in_word-count-requires-in-loop-k-clause-word :
+    goal.count_in_word-count-requires-in-loop-k-clause-word
+count_in_word-count-requires-in-loop-k-clause-word g c =
+    let wide = c.width-width.ensures ∙ g.met.B.Bits.leaf_width in
+    let ends = c.ends-first.ensures in
+    let up = rw wide at (ends.before_last c.loop-k.k c.loop-k-test.true) in
+    omega (arith, up, rw wide at ends.to, c.requires.within)
+
 pub loop-k-preserved : goal.loop-k-preserved
 loop-k-preserved g c =
     let w = g.B.Shape.width in
@@ -66,6 +74,11 @@ overflow_add-count g c =
       c.requires.within,
       c.requires.fits.1,
     )
+
+pub count_in_word-requires-2-clause-word : goal.count_in_word-requires-2-clause-word
+count_in_word-requires-2-clause-word g c =
+    let wide = c.width-width.ensures ∙ g.met.B.Bits.leaf_width in
+    omega (arith, rw wide at c.ends-first.ensures.to, c.requires.within)
 
 pub returns : goal.returns
 returns g c =

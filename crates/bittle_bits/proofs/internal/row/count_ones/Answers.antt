@@ -1,4 +1,6 @@
-use Rattle.std.proofs.Common.{arith}
+use Rattle.std.proofs.Common.{ap, arith}
+use Rattle.std.proofs.lemmas.List.Sums.{sum_by_more}
+use Rattle.bittle_bits.specs.PlainSet.{size}
 use Rattle.bittle_bits.specs.RowLawProofs.{words_of}
 use Rattle.bittle_bits.proofs.RowSizes.{row_count_fits, row_count_all}
 use Rattle.bittle_bits.proofs.Sizes.{size-most, size_in_each_order}
@@ -12,6 +14,18 @@ overflow_add-total g c =
     c.count_ones-total.result x c.count_ones-total.ensures.value c.element-item.is
     (omega arith) c.loop-element.invariant in
     omega (arith, b, c.requires.1)
+
+pub loop-element-preserved : goal.loop-element-preserved
+loop-element-preserved g c =
+    let f = λ (x : g.row.T.Denot). size (g.T.Shape.big x) in
+    omega (
+      arith,
+      c.loop-element.invariant,
+      c.count_ones-total.ensures.value,
+      ap f c.element-item.is,
+      sum_by_more f c.args.elements.now c.loop-element.element-index c.element-item.result
+          (omega arith),
+    )
 
 pub returns-clause-value : goal.returns-clause-value
 returns-clause-value g c = row_count_all _ _ _ g.met.T.BitsOwned.one_capacity
