@@ -82,7 +82,7 @@ impl<T: BitsOwned, const N: usize> Bits for [T; N] {
 
     #[inline]
     fn test_bit_in<E: Endian>(&self, index: u32) -> bool {
-        row::test_bit::<T, E>(self, index)
+        row::test_bit::<T, E>(self, index, true)
     }
 
     #[inline]
@@ -94,12 +94,12 @@ impl<T: BitsOwned, const N: usize> Bits for [T; N] {
 impl<T: BitsOwned, const N: usize> BitsMut for [T; N] {
     #[inline]
     fn set_bit_in<E: Endian>(&mut self, index: u32) {
-        row::set_bit::<T, E>(self, index);
+        row::set_bit::<T, E>(self, index, true);
     }
 
     #[inline]
     fn clear_bit_in<E: Endian>(&mut self, index: u32) {
-        row::clear_bit::<T, E>(self, index);
+        row::clear_bit::<T, E>(self, index, true);
     }
 
     #[inline]

@@ -59,7 +59,7 @@ impl<'a, T: BitsOwned> Bits for &'a [T] {
 
     #[inline]
     fn test_bit_in<E: Endian>(&self, index: u32) -> bool {
-        row::test_bit::<T, E>(self, index)
+        row::test_bit::<T, E>(self, index, false)
     }
 
     #[inline]
@@ -116,7 +116,7 @@ impl<'a, T: BitsOwned> Bits for &'a mut [T] {
 
     #[inline]
     fn test_bit_in<E: Endian>(&self, index: u32) -> bool {
-        row::test_bit::<T, E>(self, index)
+        row::test_bit::<T, E>(self, index, false)
     }
 
     #[inline]
@@ -128,12 +128,12 @@ impl<'a, T: BitsOwned> Bits for &'a mut [T] {
 impl<'a, T: BitsOwned> BitsMut for &'a mut [T] {
     #[inline]
     fn set_bit_in<E: Endian>(&mut self, index: u32) {
-        row::set_bit::<T, E>(self, index);
+        row::set_bit::<T, E>(self, index, false);
     }
 
     #[inline]
     fn clear_bit_in<E: Endian>(&mut self, index: u32) {
-        row::clear_bit::<T, E>(self, index);
+        row::clear_bit::<T, E>(self, index, false);
     }
 
     #[inline]

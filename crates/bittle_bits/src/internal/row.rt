@@ -41,9 +41,10 @@ pub fn is_short<T: BitsOwned>(len: usize) -> bool {
     bits_capacity::<T>(len) <= 1024
 }
 
-/// Returns the element that an index goes to, and the index there, or `None` with capacity 0.
+// Returns the element that an index goes to, and the index there, or `None` with capacity 0. Where
+// the length is a constant, to divide by it costs less than to ask whether the index is past it.
 #[inline]
-fn locate<T: BitsOwned>(len: usize, index: u32) -> Option<(usize, u32)>
+fn locate<T: BitsOwned>(len: usize, index: u32, is_constant: bool) -> Option<(usize, u32)>
     requires { IsTrue T.indexable }
     ensures { MatchOption result (len * T.type_capacity
         ≡ 0) (λ at. GoesTo len T.type_capacity index at.0 at.1) }
@@ -52,27 +53,32 @@ fn locate<T: BitsOwned>(len: usize, index: u32) -> Option<(usize, u32)>
     if each == 0 || len == 0 {
         return None;
     }
-    let element = (index / each) as usize % len;
-    Some((element, index % each))
+    let element = (index / each) as usize;
+    if !is_constant && element < len {
+        return Some((element, index % each));
+    }
+    Some((element % len, index % each))
 }
 
-/// Tests the bit at an index, which wraps. With capacity 0 it returns `false`.
+/// Tests the bit at an index, which wraps, of an array or of a slice. With capacity 0 it returns
+/// `false`.
 #[inline]
-pub fn test_bit<T: BitsOwned, E: Endian>(elements: &[T], index: u32) -> bool
+pub fn test_bit<T: BitsOwned, E: Endian>(elements: &[T], index: u32, is_array: bool) -> bool
     requires { IsTrue T.indexable }
     ensures { result ≡ contains
         (read_in E.mirrored T.width
         (row_set (length elements.now) T.type_capacity T.big elements.now)) index }
 {
-    match locate::<T>(elements.len(), index) {
+    match locate::<T>(elements.len(), index, is_array) {
         Some((element, at)) => elements[element].test_bit_in::<E>(at),
         None => false,
     }
 }
 
-/// Sets the bit at an index, which wraps. With capacity 0 it changes nothing.
+/// Sets the bit at an index, which wraps, of an array or of a slice. With capacity 0 it changes
+/// nothing.
 #[inline]
-pub fn set_bit<T: BitsOwned, E: Endian>(elements: &mut [T], index: u32)
+pub fn set_bit<T: BitsOwned, E: Endian>(elements: &mut [T], index: u32, is_array: bool)
     requires { IsTrue T.indexable }
     ensures { read_in E.mirrored T.width
         (row_set (length elements.new) T.type_capacity T.big elements.new)
@@ -80,14 +86,15 @@ pub fn set_bit<T: BitsOwned, E: Endian>(elements: &mut [T], index: u32)
         (read_in E.mirrored T.width
         (row_set (length elements.old) T.type_capacity T.big elements.old)) index }
 {
-    if let Some((element, at)) = locate::<T>(elements.len(), index) {
+    if let Some((element, at)) = locate::<T>(elements.len(), index, is_array) {
         elements[element].set_bit_in::<E>(at);
     }
 }
 
-/// Clears the bit at an index, which wraps. With capacity 0 it changes nothing.
+/// Clears the bit at an index, which wraps, of an array or of a slice. With capacity 0 it changes
+/// nothing.
 #[inline]
-pub fn clear_bit<T: BitsOwned, E: Endian>(elements: &mut [T], index: u32)
+pub fn clear_bit<T: BitsOwned, E: Endian>(elements: &mut [T], index: u32, is_array: bool)
     requires { IsTrue T.indexable }
     ensures { read_in E.mirrored T.width
         (row_set (length elements.new) T.type_capacity T.big elements.new)
@@ -95,7 +102,7 @@ pub fn clear_bit<T: BitsOwned, E: Endian>(elements: &mut [T], index: u32)
         (read_in E.mirrored T.width
         (row_set (length elements.old) T.type_capacity T.big elements.old)) index }
 {
-    if let Some((element, at)) = locate::<T>(elements.len(), index) {
+    if let Some((element, at)) = locate::<T>(elements.len(), index, is_array) {
         elements[element].clear_bit_in::<E>(at);
     }
 }
