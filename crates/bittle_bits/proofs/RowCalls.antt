@@ -1,13 +1,13 @@
 -- A call on one index of a row, by the call on the element that the index goes to.
-use Rattle.std.proofs.Common.{◌≡◌, ℕ, ◌+◌, ◌*◌, ◌/◌, ◌%◌, ◌<◌, Bool, false, not, ◌&&◌, ◌||◌, ◌==◌, inl, inr, refl, sym, ap, ◌∙◌, arith, List, length, get_or, set}
+use Rattle.std.proofs.Common.{◌≡◌, ℕ, ◌+◌, ◌*◌, ◌/◌, ◌%◌, ◌<◌, Bool, true, false, not, ◌&&◌, ◌||◌, ◌==◌, inl, inr, refl, sym, ap, ◌∙◌, arith, List, length, get_or, set}
 use Rattle.std.proofs.Math.Path.{fun_ext}
 use Rattle.std.proofs.Math.Nat.{div-add-mod', mod-eq_of_lt}
 use Rattle.std.proofs.lemmas.Nat.{mod-mul-add, mod_below, mul-add-lt, same_from_place}
 use Rattle.std.proofs.lemmas.Bool.{eq-eqb, ne_eqb, cases_eq, cases_lt}
 use Rattle.bittle_bits.specs.RowLawProofs.{row_has-past}
 use Rattle.bittle_bits.specs.Orders.{place, read_in}
-use Rattle.bittle_bits.specs.PlainSet.{PlainSet, contains, with_index, without_index}
-use Rattle.bittle_bits.specs.Rows.{row_has, row_set, GoesTo}
+use Rattle.bittle_bits.specs.PlainSet.{PlainSet, contains}
+use Rattle.bittle_bits.specs.Rows.{row_has, row_set, with_bit, GoesTo}
 use Rattle.bittle_bits.proofs.PlainSets.{plain_set, contains_in, with_in, without_in}
 use Rattle.bittle_bits.proofs.RowSets.{at_element-read, at_element-set_same, at_element-set_other, elements_has_at, by_place, elements_placed}
 
@@ -102,18 +102,14 @@ module _ {X : Type 0} (m : Bool) (w c n i q r : ℕ) (big : X → PlainSet) (xs 
       ∙ ap (λ p. (λ k. h (k == p) (row_has n c test xs k))) (sym goes.at)
       ∙ ap (λ p k. h (k == i % (n * c)) (p k)) (sym (placed xs)))
 
-  -- the element with the index set makes the row with the index set
-  pub row_with : (y : X) → read_in m w (big y) ≡ with_index (read_in m w (big x)) r →
+  -- the element with a bit put at the index makes the row with the bit put there
+  pub row_put : (ones : Bool) (y : X) →
+      read_in m w (big y) ≡ with_bit ones (read_in m w (big x)) r →
       read_in m w (row_set n c big (set xs q y))
-      ≡ with_index (read_in m w (row_set n c big xs)) i
-  row_with y is = changed ◌||◌ y (λ _. refl) (is ∙ with_in (read_in m w (big x)) c r owned some)
+      ≡ with_bit ones (read_in m w (row_set n c big xs)) i
+  row_put true y is = changed ◌||◌ y (λ _. refl) (is ∙ with_in (read_in m w (big x)) c r owned some)
       ∙ sym (with_in (read_in m w (row_set n c big xs)) (n * c) i refl there)
-
-  -- the element with the index cleared makes the row with the index cleared
-  pub row_without : (y : X) → read_in m w (big y) ≡ without_index (read_in m w (big x)) r →
-      read_in m w (row_set n c big (set xs q y))
-      ≡ without_index (read_in m w (row_set n c big xs)) i
-  row_without y is = changed (λ t u. not t && u) y (λ _. refl)
+  row_put false y is = changed (λ t u. not t && u) y (λ _. refl)
       (is ∙ without_in (read_in m w (big x)) c r owned some)
       ∙ sym (without_in (read_in m w (row_set n c big xs)) (n * c) i refl there)
 

@@ -1,6 +1,6 @@
 -- A row of elements, as in an array or a slice, as one set.
-use Rattle.std.specs.Prelude.{◌≡◌, ℕ, zero, suc, ◌+◌, ◌<◌, ◌*◌, ◌/◌, ◌%◌, Bool, false, ◌&&◌, nat_lt, List, [], ◌∷◌}
-use Rattle.bittle_bits.specs.PlainSet.{PlainSet}
+use Rattle.std.specs.Prelude.{◌≡◌, ℕ, zero, suc, ◌+◌, ◌<◌, ◌*◌, ◌/◌, ◌%◌, Bool, true, false, ◌&&◌, nat_lt, List, [], ◌∷◌}
+use Rattle.bittle_bits.specs.PlainSet.{PlainSet, with_index, without_index}
 
 -- the test of the element at a place of the row
 unfoldable pub at_element : {X : Type 0} → (X → Bool) → List X → ℕ → Bool
@@ -21,3 +21,8 @@ pub record GoesTo (n c i q r : ℕ) : Type 0 where
   pub is_element : q < n
   pub within : r < c
   pub at : i % (n * c) ≡ q * c + r
+
+-- the set with the index, which wraps at the capacity, where a one is put there, or without it
+abbrev pub with_bit : Bool → PlainSet → ℕ → PlainSet
+with_bit true = with_index
+with_bit false = without_index

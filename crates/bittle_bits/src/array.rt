@@ -12,6 +12,7 @@ use crate::bits_owned::BitsOwned;
 use crate::endian::{DefaultEndian, Endian};
 use crate::internal::row;
 use crate::internal::sealed::Sealed;
+use crate::internal::source::{Ones, Zeros};
 use crate::one_word::{Operation, RangeOperation};
 use crate::shape::{OwnedShape, Shape};
 
@@ -94,12 +95,12 @@ impl<T: BitsOwned, const N: usize> Bits for [T; N] {
 impl<T: BitsOwned, const N: usize> BitsMut for [T; N] {
     #[inline]
     fn set_bit_in<E: Endian>(&mut self, index: u32) {
-        row::set_bit::<T, E>(self, index, true);
+        row::put_bit::<T, E, Ones>(self, index, true);
     }
 
     #[inline]
     fn clear_bit_in<E: Endian>(&mut self, index: u32) {
-        row::clear_bit::<T, E>(self, index, true);
+        row::put_bit::<T, E, Zeros>(self, index, true);
     }
 
     #[inline]

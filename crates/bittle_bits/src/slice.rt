@@ -10,6 +10,7 @@ use crate::bits_owned::BitsOwned;
 use crate::endian::{DefaultEndian, Endian};
 use crate::internal::row;
 use crate::internal::sealed::Sealed;
+use crate::internal::source::{Ones, Zeros};
 use crate::one_word::{Operation, RangeOperation};
 use crate::shape::{OwnedShape, Shape};
 
@@ -128,12 +129,12 @@ impl<'a, T: BitsOwned> Bits for &'a mut [T] {
 impl<'a, T: BitsOwned> BitsMut for &'a mut [T] {
     #[inline]
     fn set_bit_in<E: Endian>(&mut self, index: u32) {
-        row::set_bit::<T, E>(self, index, false);
+        row::put_bit::<T, E, Ones>(self, index, false);
     }
 
     #[inline]
     fn clear_bit_in<E: Endian>(&mut self, index: u32) {
-        row::clear_bit::<T, E>(self, index, false);
+        row::put_bit::<T, E, Zeros>(self, index, false);
     }
 
     #[inline]

@@ -2,8 +2,8 @@
 
 ghost use Rattle.std.specs.Prelude.{◌≡◌, ◌+◌, ◌==◌, ◌*◌, ◌<◌, ◌≤◌, ℕ, Bool, true, false, cond, get_or, length, IsTrue, MatchOption};
 ghost use Rattle.bittle_bits.specs.Orders.{read_in};
-ghost use Rattle.bittle_bits.specs.PlainSet.{contains, with_index, with_span_changed, without_index, without_members, size};
-ghost use Rattle.bittle_bits.specs.Rows.{row_set, GoesTo};
+ghost use Rattle.bittle_bits.specs.PlainSet.{contains, with_span_changed, without_members, size};
+ghost use Rattle.bittle_bits.specs.Rows.{row_set, with_bit, GoesTo};
 ghost use Rattle.bittle_bits.specs.SetOperations.{combination_of};
 ghost use Rattle.bittle_bits.specs.Shapes.{Fits};
 ghost use Rattle.bittle_bits.specs.BitPatterns.{bit_set};
@@ -75,35 +75,23 @@ pub fn test_bit<T: BitsOwned, E: Endian>(elements: &[T], index: u32, is_array: b
     }
 }
 
-/// Sets the bit at an index, which wraps, of an array or of a slice. With capacity 0 it changes
-/// nothing.
+/// Puts a bit of the kind at an index, which wraps, of an array or of a slice: with ones it is set,
+/// with zeros unset. With capacity 0 it changes nothing.
 #[inline]
-pub fn set_bit<T: BitsOwned, E: Endian>(elements: &mut [T], index: u32, is_array: bool)
+pub fn put_bit<T: BitsOwned, E: Endian, K: Kind>(elements: &mut [T], index: u32, is_array: bool)
     requires { IsTrue T.indexable }
     ensures { read_in E.mirrored T.width
         (row_set (length elements.new) T.type_capacity T.big elements.new)
-        ≡ with_index
+        ≡ with_bit K.ONES
         (read_in E.mirrored T.width
         (row_set (length elements.old) T.type_capacity T.big elements.old)) index }
 {
     if let Some((element, at)) = locate::<T>(elements.len(), index, is_array) {
-        elements[element].set_bit_in::<E>(at);
-    }
-}
-
-/// Clears the bit at an index, which wraps, of an array or of a slice. With capacity 0 it changes
-/// nothing.
-#[inline]
-pub fn clear_bit<T: BitsOwned, E: Endian>(elements: &mut [T], index: u32, is_array: bool)
-    requires { IsTrue T.indexable }
-    ensures { read_in E.mirrored T.width
-        (row_set (length elements.new) T.type_capacity T.big elements.new)
-        ≡ without_index
-        (read_in E.mirrored T.width
-        (row_set (length elements.old) T.type_capacity T.big elements.old)) index }
-{
-    if let Some((element, at)) = locate::<T>(elements.len(), index, is_array) {
-        elements[element].clear_bit_in::<E>(at);
+        if K::ONES {
+            elements[element].set_bit_in::<E>(at);
+        } else {
+            elements[element].clear_bit_in::<E>(at);
+        }
     }
 }
 
