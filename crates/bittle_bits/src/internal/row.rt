@@ -2,6 +2,7 @@
 
 ghost use Rattle.std.specs.Prelude.{◌≡◌, ◌+◌, ◌==◌, ◌*◌, ◌<◌, ◌≤◌, ℕ, Bool, true, false, cond, get_or, length, IsTrue, MatchOption};
 ghost use Rattle.bittle_bits.specs.Orders.{read_in};
+ghost use Rattle.bittle_bits.specs.Pieces.{LiesAt};
 ghost use Rattle.bittle_bits.specs.PlainSet.{contains, with_span_changed, without_members, size};
 ghost use Rattle.bittle_bits.specs.Rows.{row_set, with_bit, GoesTo};
 ghost use Rattle.bittle_bits.specs.SetOperations.{combination_of};
@@ -137,11 +138,7 @@ fn element_ends<T: BitsOwned>(len: usize, from: u32, to: u32) -> (u32, u32, u32,
     requires ordered { from < to }
     requires within { to ≤ len * T.type_capacity }
     ensures each { result.0 ≡ T.type_capacity }
-    ensures from { from ≡ result.1 * T.type_capacity + result.2 }
-    ensures begin { result.2 < T.type_capacity }
-    ensures to { to ≡ result.3 * T.type_capacity + result.4 + 1 }
-    ensures top { result.4 < T.type_capacity }
-    ensures in_order { result.1 ≤ result.3 }
+    ensures at { LiesAt T.type_capacity from to result.1 result.2 result.3 result.4 }
     ensures last { result.3 < len }
 {
     let each = T::bits();

@@ -15,14 +15,14 @@ returns-then-from-to g c = sym (changed-none (change g) _ c.args.from c.args.to 
 
 pub assign_in_element-requires-clause-ordered : goal.assign_in_element-requires-clause-ordered
 assign_in_element-requires-clause-ordered g c =
-    let ends = c.element_ends-each.ensures in
+    let ends = c.element_ends-each.ensures.at in
     omega (arith, ends.from, rw (← c.if-first-last.true) at ends.to, c.requires.ordered)
 
 pub returns-then-first-last : goal.returns-then-first-last
 returns-then-first-last g c =
     let e = g.T.OwnedShape.type_capacity in
     let at = c.element_ends-each.result in
-    let ends = c.element_ends-each.ensures in
+    let ends = c.element_ends-each.ensures.at in
     let end : at.1 * e + (at.4 + 1) ≡ c.args.to = omega
     (arith, rw (← c.if-first-last.true) at ends.to) in
     rw c.assign_in_element.ensures.length
@@ -32,12 +32,12 @@ pub loop-at-init : goal.loop-at-init
 loop-at-init g c =
     let e = g.T.OwnedShape.type_capacity in
     let at = c.element_ends-each.result in
-    let ends = c.element_ends-each.ensures in
+    let ends = c.element_ends-each.ensures.at in
     let end : at.1 * e + e ≡ (at.1 + 1) * e = omega arith in
     record {
       same = c.assign_in_element-2.ensures.length;
       begun = omega (arith, ends.from, ends.begin, end);
-      set = rw (ends.each, ← ends.from, end) at c.assign_in_element-2.ensures.set;
+      set = rw (c.element_ends-each.ensures.each, ← ends.from, end) at c.assign_in_element-2.ensures.set;
     }
 
 pub loop-at-preserved : goal.loop-at-preserved
@@ -62,7 +62,7 @@ loop-at-preserved g c =
 pub returns : goal.returns
 returns g c =
     let e = g.T.OwnedShape.type_capacity in
-    let ends = c.element_ends-each.ensures in
+    let ends = c.element_ends-each.ensures.at in
     let last = c.element_ends-each.result.3 in
     let top = c.element_ends-each.result.4 in
     let at : c.loop-at.at ≡ last = omega (arith, ends.in_order) in

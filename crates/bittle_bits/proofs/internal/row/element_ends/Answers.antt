@@ -13,15 +13,10 @@ pub returns : goal.returns
 returns g c =
     let fits = c.requires.fits in
     let each = c.bits-each.ensures.value (fits, g.met.T.BitsOwned.type_fits fits) in
-    let at = c.ends-first.ensures in
-    let to = rw each at at.to in
+    let at = rw each at c.ends-first.ensures in
     record {
       each = each;
-      from = rw each at at.from;
-      begin = rw each at at.begin;
-      to = to;
-      top = rw each at at.top;
-      in_order = at.in_order;
+      at = at;
       last = lt_of_mul-lt-mul_right g.T.OwnedShape.type_capacity
-          (omega (arith, to, c.requires.within));
+          (omega (arith, at.to, c.requires.within));
     }

@@ -1,0 +1,11 @@
+-- Where a range of numbers lies among pieces of one length: words, or elements.
+use Rattle.std.specs.Prelude.{◌≡◌, ℕ, ◌+◌, ◌*◌, ◌<◌, ◌≤◌}
+
+-- the first number of a range from a on and below b is at place i of piece p, the last at j of q
+pub record LiesAt (length a b p i q j : ℕ) : Type 0 where
+  pub from : a ≡ p * length + i
+  pub begin : i < length
+  pub to : b ≡ q * length + j + 1
+  pub top : j < length
+  pub in_order : p ≤ q
+  pub before_last : (k : ℕ) → k < q → (k + 1) * length ≤ q * length
