@@ -1,7 +1,5 @@
-use Rattle.std.proofs.Common.{sym, subst}
-use Rattle.bittle_bits.specs.PlainSet.{IsLeastMember}
 use Rattle.bittle_bits.proofs.WordEnds.{least_digit}
 use Rattle.bittle_bits.proofs.endian.BigEndianEndian.zeros.Goals as goal
 
 pub returns : goal.returns
-returns g c = subst (IsLeastMember _) (sym c.trailing_zeros.ensures.count) (least_digit _ _)
+returns g c = rw c.trailing_zeros.ensures.count (least_digit _ _)

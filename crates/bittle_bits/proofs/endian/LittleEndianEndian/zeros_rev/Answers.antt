@@ -1,8 +1,5 @@
-use Rattle.std.proofs.Common.{sym, subst}
-use Rattle.bittle_bits.specs.PlainSet.{IsGreatestMember}
 use Rattle.bittle_bits.proofs.WordEnds.{least_digit, mirrored_greatest}
 use Rattle.bittle_bits.proofs.endian.LittleEndianEndian.zeros_rev.Goals as goal
 
 pub returns : goal.returns
-returns g c = subst (IsGreatestMember _) (sym c.trailing_zeros.ensures.count)
-    (mirrored_greatest _ _ _ (least_digit _ _))
+returns g c = rw c.trailing_zeros.ensures.count (mirrored_greatest _ _ _ (least_digit _ _))
