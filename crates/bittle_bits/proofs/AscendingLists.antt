@@ -3,7 +3,8 @@ use Rattle.std.proofs.Common.{◌≡◌, ℕ, zero, suc, ◌+◌, ◌-◌, ◌<�
 use Rattle.std.proofs.Math.Nat.{mod-eq_of_lt}
 use Rattle.std.proofs.lemmas.Bool.{eq-eqb, ne_eqb, cases_Bool, cases_eq}
 use Rattle.std.proofs.lemmas.List.{append-nil}
-use Rattle.bittle_bits.specs.PlainSet.{PlainSet, without_index, has_without, count_below, size, ascending_from, ascending, IsLeastMember, IsGreatestMember}
+use Rattle.bittle_bits.specs.Ends.{with_end, IsEndMember}
+use Rattle.bittle_bits.specs.PlainSet.{PlainSet, without_index, has_without, count_below, size, ascending_from, ascending}
 use Rattle.bittle_bits.specs.Walk.{AreBelow}
 use Rattle.bittle_bits.proofs.PlainSets.{has_without-in}
 use Rattle.bittle_bits.proofs.Sizes.{size-le}
@@ -220,50 +221,28 @@ module _ (s : PlainSet) (r : ℕ) (inside : r < s.capacity) (here : s.has r ≡ 
       (ascending_from-same _ _ (suc r) (s.capacity - suc r)
       (λ k lo hi. others k (λ e. absurd (omega arith))))
 
--- the least member is the first item, and the others are left
-pub ascending-first : (s : PlainSet) (r : ℕ) → IsLeastMember s r → r < s.capacity →
-    ascending s ≡ r ∷ ascending (without_index s r)
-ascending-first s r least inside =
-    let none = ascending_from-none s.has 0 r (λ k lo hi. least.none_below k (omega arith)) in
-    let here = least.is_member inside in
-    let rest = ascending_from s.has (suc r) (s.capacity - suc r) in
-    ascending-at s r inside here
-    ∙ ap (λ xs. (xs ++ r ∷ []) ++ rest) none
-    ∙ ap (λ xs. r ∷ xs) (sym (ascending-without s r inside here ∙ ap (λ xs. xs ++ rest) none))
+-- where no member lies at an end, there is none
+pub end-none : (front : Bool) (s : PlainSet) (r : ℕ) → IsEndMember front s r → s.capacity ≤ r →
+    ascending s ≡ []
+end-none true s r least past = ascending-none s (λ k h. least.none_below k (omega arith))
+end-none false s r greatest past = ascending-none s
+    (λ k h. ap s.has (omega arith) ∙ greatest.none_above (s.capacity - 1 - k) (omega arith))
 
--- the greatest member is the last item, and the others are left
-pub ascending-last : (s : PlainSet) (r v : ℕ) → IsGreatestMember s r → r < s.capacity →
-    v ≡ s.capacity - 1 - r → ascending s ≡ ascending (without_index s v) ++ v ∷ []
-ascending-last s r v greatest inside is =
+-- the member at an end is the item there, and any set that has just the others has those left
+pub end-taken : (front : Bool) (s t : PlainSet) (r v : ℕ) → IsEndMember front s r →
+    r < s.capacity → v ≡ cond front r (s.capacity - 1 - r) → t ≡ without_index s v →
+    ascending s ≡ with_end front v (ascending t)
+end-taken true s t r v least inside is left =
+    let none = ascending_from-none s.has 0 v (λ k lo hi. least.none_below k (omega arith)) in
+    let low : v < s.capacity = omega arith in
+    let here : s.has v ≡ true = ap s.has is ∙ least.is_member inside in
+    ascending-at s v low here ∙ rw (left, ascending-without s v low here, none) refl
+end-taken false s t r v greatest inside is left =
     let none : ascending_from s.has (suc v) (s.capacity - suc v) ≡ [] =
     ascending_from-none s.has (suc v) (s.capacity - suc v)
     (λ k lo hi. ap s.has (omega arith) ∙ greatest.none_above (s.capacity - 1 - k) (omega arith))
     in
-    let here : s.has v ≡ true = ap s.has is ∙ greatest.is_member inside in
     let low : v < s.capacity = omega arith in
-    ascending-at s v low here
-    ∙ ap (λ xs. (ascending_from s.has 0 v ++ v ∷ []) ++ xs) none
-    ∙ append-nil (ascending_from s.has 0 v ++ v ∷ [])
-    ∙ sym (ap (λ xs. xs ++ v ∷ []) (ascending-without s v low here
-    ∙ ap (λ xs. ascending_from s.has 0 v ++ xs) none ∙ append-nil (ascending_from s.has 0 v)))
-
--- a search that reaches the capacity found no member
-pub least-none : (s : PlainSet) (r : ℕ) → IsLeastMember s r → s.capacity ≤ r → ascending s ≡ []
-least-none s r least past = ascending-none s (λ k h. least.none_below k (omega arith))
-
--- a search from the back that passes every number found no member
-pub greatest-none : (s : PlainSet) (r : ℕ) → IsGreatestMember s r → s.capacity ≤ r →
-    ascending s ≡ []
-greatest-none s r greatest past =
-    ascending-none s (λ k h. ap s.has (omega arith) ∙ greatest.none_above (s.capacity - 1 - k)
-    (omega arith))
-
--- the same, of any set that has just the others
-pub taken_first : (s t : PlainSet) (r : ℕ) → IsLeastMember s r → r < s.capacity →
-    t ≡ without_index s r → ascending s ≡ r ∷ ascending t
-taken_first s t r least inside is = rw is (ascending-first s r least inside)
-
--- the greatest member is the last item, after those of any set that has just the others
-pub taken_last : (s t : PlainSet) (r v : ℕ) → IsGreatestMember s r → r < s.capacity →
-    v ≡ s.capacity - 1 - r → t ≡ without_index s v → ascending s ≡ ascending t ++ v ∷ []
-taken_last s t r v greatest inside is left = rw left (ascending-last s r v greatest inside is)
+    let here : s.has v ≡ true = ap s.has is ∙ greatest.is_member inside in
+    ascending-at s v low here ∙ rw (left, ascending-without s v low here, none)
+    (append-nil _ ∙ sym (ap (λ xs. xs ++ v ∷ []) (append-nil _)))

@@ -1,11 +1,13 @@
--- A search for the first or the last member between two numbers, word by word.
-use Rattle.std.proofs.Common.{◌≡◌, ℕ, ◌+◌, ◌-◌, ◌*◌, ◌^◌, ◌<◌, ◌≤◌, ◌≢◌, ◌⊎◌, Bool, true, false, not, ◌&&◌, ◌||◌, ◌==◌, nat_lt, inl, inr, Some, None, refl, sym, ap, ◌∙◌, arith, bit_and, bit_or}
-use Rattle.std.proofs.Math.Nat.{mod-eq_of_lt}
+-- A search from an end, the front or the back, for a member between two numbers, word by word.
+use Rattle.std.proofs.Common.{◌≡◌, ℕ, ◌+◌, ◌-◌, ◌*◌, ◌^◌, ◌<◌, ◌≤◌, ◌≢◌, ◌⊎◌, Bool, true, false, not, ◌&&◌, ◌||◌, ◌==◌, cond, nat_lt, inl, inr, Some, None, refl, sym, ap, ◌∙◌, arith, bit_and, bit_or}
+use Rattle.std.proofs.Math.Nat.{mod-eq_of_lt, mul-le-mul_right}
 use Rattle.std.proofs.lemmas.Bool.{cases_lt, cases_eq, eq-eqb, ne_eqb, lt-ltb, le-ltb, ltb-true, ltb-false, and_parts, true≢false}
 use Rattle.bittle_bits.specs.BitPatterns.{bit_has, bit_set}
+use Rattle.bittle_bits.specs.Ends.{is_ahead, IsEndIn, IsEndMember}
 use Rattle.bittle_bits.specs.Orders.{place, read_in}
-use Rattle.bittle_bits.specs.PlainSet.{PlainSet, full_set_from, with_index, empty_set, lacks, IsLeastMember, IsGreatestMember}
-use Rattle.bittle_bits.specs.Searches.{NoneIn, IsFirstIn, IsLastIn}
+use Rattle.bittle_bits.specs.Pieces.{LiesAt}
+use Rattle.bittle_bits.specs.PlainSet.{PlainSet, full_set_from, with_index, empty_set, lacks}
+use Rattle.bittle_bits.specs.Searches.{NoneIn}
 use Rattle.bittle_bits.specs.Walk.{ones_or_zeros}
 use Rattle.bittle_bits.specs.Words.{word_of}
 use Rattle.bittle_bits.proofs.BitSets.{bit_has-and, bit_has-or, bit_has-not}
@@ -14,27 +16,16 @@ use Rattle.bittle_bits.proofs.OnesOrZeros.{ones_or_zeros-members}
 use Rattle.bittle_bits.proofs.WordCalls.{at_mask}
 use Rattle.bittle_bits.proofs.Words.{digit_at}
 
--- the members that are sought in word k, whose masked pattern is d, are those that are inside
-abbrev pub Seeks : Bool → ℕ → PlainSet → (ℕ → Bool) → ℕ → ℕ → Type 0
-Seeks m w t inside k d = (i : ℕ) → i < w →
-    (read_in m w (bit_set w d)).has i ≡ inside (k * w + i) && t.has (k * w + i)
+-- no member of a range lies before place r of word k, seen from the end
+abbrev NoneBefore : Bool → ℕ → PlainSet → ℕ → ℕ → ℕ → ℕ → Type 0
+NoneBefore true w t from to k r = NoneIn t from (k * w + r)
+NoneBefore false w t from to k r = NoneIn t (k * w + (w - r)) to
 
--- no member was found from one number on and before word k, whose pattern is d
-pub record SearchesForward (m : Bool) (w : ℕ) (t : PlainSet) (from k d : ℕ) : Type 0 where
-  pub begun : from ≤ k * w + w
-  pub none : NoneIn t from (k * w)
-  pub seeks : Seeks m w t (λ j. not (nat_lt j from)) k d
-
--- no member was found past word k, whose pattern is d, and before another number
-pub record SearchesBackward (m : Bool) (w : ℕ) (t : PlainSet) (to k d : ℕ) : Type 0 where
-  pub begun : k * w < to
-  pub none : NoneIn t (k * w + w) to
-  pub seeks : Seeks m w t (λ j. nat_lt j to) k d
-
--- the word before one that is not the first ends where that begins
-pub word_before : (w k : ℕ) → 0 < k → k * w ≡ (k - 1) * w + w
-word_before w k some = let next : (k - 1) + 1 ≡ k = omega arith in
-    ap (λ n. n * w) (sym next) ∙ omega arith
+-- a search found no member before word k, and seeks those of the pattern d in it
+pub record Searches (front m : Bool) (w : ℕ) (t : PlainSet) (from to k d : ℕ) : Type 0 where
+  pub none : NoneBefore front w t from to k 0
+  pub seeks : (i : ℕ) → i < w →
+      (read_in m w (bit_set w d)).has i ≡ is_ahead front from to (k * w + i) && t.has (k * w + i)
 
 kept_by : (a b : Bool) → a && b ≡ false → a ≡ true → b ≡ false
 kept_by true b h e = h
@@ -50,14 +41,68 @@ is_false : (b : Bool) → not b ≡ true → b ≡ false
 is_false true h = absurd (true≢false (sym h))
 is_false false h = refl
 
--- a search for the bits of a kind, in a set in an order
+-- a place of a word is below another where its number is
+lt_moved : (base i n : ℕ) → nat_lt i n ≡ nat_lt (base + i) (base + n)
+lt_moved base i n = elim (cases_lt i n) [
+  | inl l ↦ lt-ltb i n l ∙ sym (lt-ltb (base + i) (base + n) (omega arith))
+  | inr g ↦ le-ltb i n g ∙ sym (le-ltb (base + i) (base + n) (omega arith))
+]
+
+-- the indexes of a word up to one are those that are not from it on, and itself
+pub mask_up_to : (m : Bool) (w e n o at : ℕ) → 0 < w → at < w →
+    read_in m w (bit_set w e) ≡ full_set_from w at → e < 2 ^ w → n ≡ 2 ^ w - 1 - e →
+    read_in m w (bit_set w o) ≡ with_index (empty_set w) at → (i : ℕ) → i < w →
+    (read_in m w (bit_set w (bit_or n o))).has i ≡ nat_lt i (at + 1)
+unfolding lacks
+mask_up_to m w e n o at word low from fits other one i h =
+    ap (λ p. p (place m w i)) (bit_has-or w n o)
+    ∙ ap (λ p. p (place m w i) || bit_has w o (place m w i))
+    (ap (bit_has w) other ∙ bit_has-not w e fits)
+    ∙ ap (λ b. (b && not (bit_has w e (place m w i))) || bit_has w o (place m w i))
+    (lt-ltb (place m w i) w (place_in_word m w i h))
+    ∙ ap (λ u. not (u.has i) || bit_has w o (place m w i)) from
+    ∙ ap (λ b. not (b && not (nat_lt i at)) || bit_has w o (place m w i)) (lt-ltb i w h)
+    ∙ ap (λ b. not (not (nat_lt i at)) || b)
+    (at_mask m w e o at word one i ∙ ap (λ j. i == j) (mod-eq_of_lt low))
+    ∙ same (cases_lt i at)
+  where
+    same : (i < at) ⊎ (at ≤ i) → not (not (nat_lt i at)) || (i == at) ≡ nat_lt i (at + 1)
+    same (inl l) = rw (lt-ltb i at l, lt-ltb i (at + 1) (omega arith)) refl
+    same (inr g) = elim (cases_eq i at) [
+      | inl z ↦ rw (le-ltb i at g, eq-eqb i at z, lt-ltb i (at + 1) (omega arith)) refl
+      | inr n ↦ rw (le-ltb i at g, ne_eqb i at n, le-ltb i (at + 1) (omega arith)) refl
+    ]
+
+-- a word begins where the one before it ends
+next_begins : (w k next : ℕ) → next ≡ k + 1 → next * w ≡ k * w + w
+next_begins w k next e = ap (λ n. n * w) e ∙ omega arith
+
+-- a search of a range, for the bits of a kind, in a set in an order
 module _ (ones m : Bool) (w : ℕ) (big : PlainSet) (word : 0 < w)
-    (whole : (words : ℕ) × (big.capacity ≡ words * w)) where
+    (whole : (words : ℕ) × (big.capacity ≡ words * w)) (from to p i q j : ℕ)
+    (at : LiesAt w from to p i q j) where
   abbrev s : PlainSet
   s = ones_or_zeros ones big
 
   abbrev t : PlainSet
   t = ones_or_zeros ones (read_in m w big)
+
+  -- the word that a search comes to after n others
+  abbrev nth : Bool → ℕ → ℕ
+  nth front n = cond front (p + n) (q - n)
+
+  -- it has a number of the range
+  pub nth_within : (front : Bool) (n k : ℕ) → n ≤ q - p → k ≡ nth front n →
+      (from < k * w + w) × (k * w < to)
+  nth_within front n k few is =
+      let between = by front is in
+      let after = mul-le-mul_right w between.0 in
+      let before = mul-le-mul_right w between.1 in
+      (omega (arith, at.from, at.begin, after), omega (arith, at.to, before))
+    where
+      by : (front : Bool) → k ≡ nth front n → (p ≤ k) × (k ≤ q)
+      by true is = (omega arith, omega (arith, at.in_order))
+      by false is = (omega (arith, at.in_order), omega arith)
 
   -- a place of word k
   has_at : (k d i : ℕ) → bit_set w d ≡ word_of w s k → i < w →
@@ -65,166 +110,126 @@ module _ (ones m : Bool) (w : ℕ) (big : PlainSet) (word : 0 < w)
   has_at k d i is h = digit_at m w k s d word is i h
       ∙ sym (ap (λ t. t.has (k * w + i)) (ones_or_zeros-members ones m w big word whole))
 
-  -- a word that is masked
-  masked : (inside : ℕ → Bool) (k d e : ℕ) → bit_set w d ≡ word_of w s k →
-      ((i : ℕ) → i < w → bit_has w e (place m w i) ≡ inside (k * w + i)) →
-      Seeks m w t inside k (bit_and d e)
-  masked inside k d e is mask i h =
-      ap (λ p. p (place m w i)) (bit_has-and w d e)
-      ∙ ap (λ b. b && bit_has w e (place m w i)) (has_at k d i is h)
-      ∙ ap (λ b. t.has (k * w + i) && b) (mask i h)
-      ∙ swapped (t.has (k * w + i)) (inside (k * w + i))
-
-  -- a word that is inside as a whole
-  unmasked : (inside : ℕ → Bool) (k d : ℕ) → bit_set w d ≡ word_of w s k →
-      ((i : ℕ) → i < w → inside (k * w + i) ≡ true) → Seeks m w t inside k d
-  unmasked inside k d is all i h =
-      has_at k d i is h ∙ sym (ap (λ b. b && t.has (k * w + i)) (all i h))
-
-  -- a number of word k that is inside, and is no member of its pattern
-  passed : (inside : ℕ → Bool) (k d j : ℕ) → Seeks m w t inside k d → k * w ≤ j → j < k * w + w →
-      (read_in m w (bit_set w d)).has (j - k * w) ≡ false → inside j ≡ true → t.has j ≡ false
-  passed inside k d j h lo hi none within =
-      let back : k * w + (j - k * w) ≡ j = omega arith in
-      kept_by (inside j) (t.has j)
-      (rw back at (sym (h (j - k * w) (omega arith)) ∙ none)) within
-
-  -- ---- from the front
-
-  -- a search begins at place r of the word that holds `from`, masked from there on
-  pub search_start : (from k r d e : ℕ) → from ≡ k * w + r → r < w → bit_set w d ≡ word_of w s k →
-      read_in m w (bit_set w e) ≡ full_set_from w r →
-      SearchesForward m w t from k (bit_and d e)
-  search_start from k r d e split low is mask = record {
-    begun = omega arith;
-    none = λ j lo hi. absurd (omega arith);
-    seeks = masked (λ j. not (nat_lt j from)) k d e is (λ i h. ap (λ u. u.has i) mask
-        ∙ ap (λ b. b && not (nat_lt i r)) (lt-ltb i w h) ∙ ap not (same i (cases_lt i r)));
+  -- it begins at the word that holds the number at the end, masked from its place on
+  pub search_start : (front : Bool) (d e : ℕ) → bit_set w d ≡ word_of w s (cond front p q) →
+      let o = cond front i j in
+      ((k : ℕ) → k < w → (read_in m w (bit_set w e)).has k ≡ is_ahead front o (o + 1) k) →
+      Searches front m w t from to (cond front p q) (bit_and d e)
+  search_start front d e is mask = record {
+    none = none front;
+    seeks = λ k h. ap (λ p. p (place m w k)) (bit_has-and w d e)
+        ∙ ap (λ b. b && bit_has w e (place m w k)) (has_at (cond front p q) d k is h)
+        ∙ ap (λ b. t.has (cond front p q * w + k) && b) (mask k h ∙ moved front k)
+        ∙ swapped (t.has (cond front p q * w + k)) (is_ahead front from to (cond front p q * w + k));
   }
     where
-      same : (i : ℕ) → (i < r) ⊎ (r ≤ i) → nat_lt i r ≡ nat_lt (k * w + i) from
-      same i (inl l) = rw (lt-ltb i r l, lt-ltb (k * w + i) from (omega arith)) refl
-      same i (inr g) = rw (le-ltb i r g, le-ltb (k * w + i) from (omega arith)) refl
+      none : (front : Bool) → NoneBefore front w t from to (cond front p q) 0
+      none true = λ k lo hi. absurd (omega (arith, at.from))
+      none false = λ k lo hi. absurd (omega (arith, at.to, at.top))
 
-  -- below the least member of word k
-  none_below_least : (from k d r : ℕ) → SearchesForward m w t from k d →
-      IsLeastMember (read_in m w (bit_set w d)) r → NoneIn t from (k * w + r)
-  none_below_least from k d r h least j lo hi =
+      moved : (front : Bool) (k : ℕ) → is_ahead front (cond front i j) (cond front i j + 1) k
+          ≡ is_ahead front from to (cond front p q * w + k)
+      moved true k = ap not (lt_moved (p * w) k i ∙ ap (nat_lt (p * w + k)) (sym at.from))
+      moved false k = lt_moved (q * w) k (j + 1) ∙ ap (nat_lt (q * w + k)) (omega (arith, at.to))
+
+  -- word k, of which the search seeks the members of d
+  module _ (front : Bool) (k d : ℕ) (h : Searches front m w t from to k d) where
+    -- a number of it that is ahead, and is no member of d, is none
+    passed : (j : ℕ) → k * w ≤ j → j < k * w + w →
+        (read_in m w (bit_set w d)).has (j - k * w) ≡ false → is_ahead front from to j ≡ true →
+        t.has j ≡ false
+    passed j lo hi none within =
+        let back : k * w + (j - k * w) ≡ j = omega arith in
+        kept_by (is_ahead front from to j) (t.has j)
+        (rw back at (sym (h.seeks (j - k * w) (omega arith)) ∙ none)) within
+
+  -- before the member of d at the end none is a member
+  none_up_to : (front : Bool) (k d r : ℕ) → Searches front m w t from to k d →
+      IsEndMember front (read_in m w (bit_set w d)) r → NoneBefore front w t from to k r
+  none_up_to true k d r h least = λ j lo hi.
       let within = least.within in
       elim (cases_lt j (k * w)) [
-        | inl l ↦ h.none j lo l
-        | inr g ↦ passed (λ j. not (nat_lt j from)) k d j h.seeks g (omega arith)
-            (least.none_below (j - k * w) (omega arith)) (ap not (le-ltb j from lo))
+        | inl l ↦ h.none j lo (omega arith)
+        | inr g ↦ passed true k d h j g (omega arith) (least.none_below (j - k * w) (omega arith))
+            (ap not (le-ltb j from lo))
       ]
-
-  -- where the word has no member that is sought, the search goes on at the next word
-  pub search_next : (from k d r d' : ℕ) → SearchesForward m w t from k d →
-      IsLeastMember (read_in m w (bit_set w d)) r → r ≡ w → bit_set w d' ≡ word_of w s (k + 1) →
-      SearchesForward m w t from (k + 1) d'
-  search_next from k d r d' h least end is =
-      let next : (k + 1) * w ≡ k * w + r = omega (arith, end) in
-      record {
-        begun = omega (arith, h.begun, next);
-        none = rw next (none_below_least from k d r h least);
-        seeks = unmasked (λ j. not (nat_lt j from)) (k + 1) d' is
-            (λ i l. ap not (le-ltb ((k + 1) * w + i) from (omega (arith, h.begun, next, end))));
-      }
-
-  -- the least member of the word, where it is below `to`, is the first of the range
-  pub first_found : (from to k d r : ℕ) → SearchesForward m w t from k d →
-      IsLeastMember (read_in m w (bit_set w d)) r → r ≢ w → k * w + r < to →
-      IsFirstIn t from to (Some (k * w + r))
-  first_found from to k d r h least some below =
-      let low : r < w = omega (arith, least.within, some) in
-      let both = and_parts (not (nat_lt (k * w + r) from)) (t.has (k * w + r))
-      (sym (h.seeks r low) ∙ least.is_member low) in (
-        ltb-false (k * w + r) from (is_false (nat_lt (k * w + r) from) both.0),
-        below,
-        both.1,
-        none_below_least from k d r h least,
-      )
-
-  -- where the least member of the word is not below `to`, the range has none
-  pub first_past : (from to k d r : ℕ) → SearchesForward m w t from k d →
-      IsLeastMember (read_in m w (bit_set w d)) r → to ≤ k * w + r → IsFirstIn t from to None
-  first_past from to k d r h least past j lo hi =
-      none_below_least from k d r h least j lo (omega arith)
-
-  -- ---- from the back
-
-  -- a search from the back begins at the word that holds the number below `to`, masked there
-  pub search_back_start : (to k d e n o top : ℕ) → to ≡ k * w + top + 1 → top < w →
-      bit_set w d ≡ word_of w s k → read_in m w (bit_set w e) ≡ full_set_from w top →
-      e < 2 ^ w → n ≡ 2 ^ w - 1 - e → read_in m w (bit_set w o) ≡ with_index (empty_set w) top →
-      SearchesBackward m w t to k (bit_and d (bit_or n o))
-  unfolding lacks
-  search_back_start to k d e n o top split low is from fits other one = record {
-    begun = omega arith;
-    none = λ j lo hi. absurd (omega arith);
-    seeks = masked (λ j. nat_lt j to) k d (bit_or n o) is (λ i h.
-        ap (λ p. p (place m w i)) (bit_has-or w n o)
-        ∙ ap (λ p. p (place m w i) || bit_has w o (place m w i))
-        (ap (bit_has w) other ∙ bit_has-not w e fits)
-        ∙ ap (λ b. (b && not (bit_has w e (place m w i))) || bit_has w o (place m w i))
-        (lt-ltb (place m w i) w (place_in_word m w i h))
-        ∙ ap (λ u. not (u.has i) || bit_has w o (place m w i)) from
-        ∙ ap (λ b. not (b && not (nat_lt i top)) || bit_has w o (place m w i)) (lt-ltb i w h)
-        ∙ ap (λ b. not (not (nat_lt i top)) || b)
-        (at_mask m w d o top word one i ∙ ap (λ j. i == j) (mod-eq_of_lt low))
-        ∙ same i (cases_lt i top));
-  }
-    where
-      same : (i : ℕ) → (i < top) ⊎ (top ≤ i) →
-          not (not (nat_lt i top)) || (i == top) ≡ nat_lt (k * w + i) to
-      same i (inl l) = rw (lt-ltb i top l, lt-ltb (k * w + i) to (omega arith)) refl
-      same i (inr g) = elim (cases_eq i top) [
-        | inl z ↦ rw (le-ltb i top g, eq-eqb i top z, lt-ltb (k * w + i) to (omega arith)) refl
-        | inr n ↦ rw (le-ltb i top g, ne_eqb i top n, le-ltb (k * w + i) to (omega arith)) refl
-      ]
-
-  -- above the greatest member of word k
-  none_above_greatest : (to k d r : ℕ) → SearchesBackward m w t to k d →
-      IsGreatestMember (read_in m w (bit_set w d)) r → NoneIn t (k * w + (w - r)) to
-  none_above_greatest to k d r h greatest j lo hi =
+  none_up_to false k d r h greatest = λ j lo hi.
       let within = greatest.within in
       elim (cases_lt j (k * w + w)) [
         | inl l ↦
             let i = w - 1 - (j - k * w) in
             let turned : w - 1 - i ≡ j - k * w = omega arith in
-            passed (λ j. nat_lt j to) k d j h.seeks (omega arith) l
+            passed false k d h j (omega arith) l
             (rw turned at (greatest.none_above i (omega arith))) (lt-ltb j to hi)
-        | inr g ↦ h.none j g hi
+        | inr g ↦ h.none j (omega arith) hi
       ]
 
-  -- where the word has no member that is sought, the search goes back to the word before
-  pub search_back_next : (to k d r d' : ℕ) → 0 < k → SearchesBackward m w t to k d →
-      IsGreatestMember (read_in m w (bit_set w d)) r → r ≡ w →
-      bit_set w d' ≡ word_of w s (k - 1) → SearchesBackward m w t to (k - 1) d'
-  search_back_next to k d r d' some h greatest end is =
-      let before = word_before w k some in
-      let end : k * w + (w - r) ≡ (k - 1) * w + w = omega (arith, before, end) in
-      record {
-        begun = omega (arith, before, h.begun);
-        none = rw end at (none_above_greatest to k d r h greatest);
-        seeks = unmasked (λ j. nat_lt j to) (k - 1) d' is
-            (λ i l. lt-ltb ((k - 1) * w + i) to (omega (arith, before, h.begun)));
-      }
+  -- where the word has no member that is sought, the search goes on at the next one
+  pub search_next : (front : Bool) (n d r e : ℕ) → n < q - p →
+      Searches front m w t from to (nth front n) d →
+      IsEndMember front (read_in m w (bit_set w d)) r → r ≡ w →
+      bit_set w e ≡ word_of w s (nth front (n + 1)) →
+      Searches front m w t from to (nth front (n + 1)) e
+  search_next front n d r e more h member end is = record {
+    none = none front (none_up_to front (nth front n) d r h member);
+    seeks = λ i l. has_at (nth front (n + 1)) e i is l
+        ∙ sym (ap (λ b. b && t.has (nth front (n + 1) * w + i)) (all front i l
+        (nth_within front n (nth front n) (omega arith) refl)));
+  }
+    where
+      none : (front : Bool) → NoneBefore front w t from to (nth front n) r →
+          NoneBefore front w t from to (nth front (n + 1)) 0
+      none true h = λ k lo hi. h k lo (omega (arith, end))
+      none false h = λ k lo hi. h k
+          (omega (arith, end, next_begins w (q - (n + 1)) (q - n) (omega arith))) hi
 
-  -- the greatest member of the word, where it is not below `from`, is the last of the range
-  pub last_found : (from to k d r : ℕ) → SearchesBackward m w t to k d →
-      IsGreatestMember (read_in m w (bit_set w d)) r → r ≢ w → from ≤ k * w + (w - 1 - r) →
-      IsLastIn t from to (Some (k * w + (w - 1 - r)))
-  last_found from to k d r h greatest some above =
-      let low : r < w = omega (arith, greatest.within, some) in
-      let i = k * w + (w - 1 - r) in
-      let both = and_parts (nat_lt i to) (t.has i)
+      all : (front : Bool) (i : ℕ) → i < w →
+          (from < nth front n * w + w) × (nth front n * w < to) →
+          is_ahead front from to (nth front (n + 1) * w + i) ≡ true
+      all true i l within = ap not (le-ltb ((p + (n + 1)) * w + i) from
+          (omega (arith, within.0)))
+      all false i l within = lt-ltb ((q - (n + 1)) * w + i) to
+          (omega (arith, within.1, next_begins w (q - (n + 1)) (q - n) (omega arith)))
+
+  -- the member at the end is that of the range, where it is not past the other end of it
+  pub search_found : (front : Bool) (k d r : ℕ) → Searches front m w t from to k d →
+      IsEndMember front (read_in m w (bit_set w d)) r → r ≢ w →
+      let o = k * w + cond front r (w - 1 - r) in
+      cond front o from ≤ cond front (to - 1) o → IsEndIn front t from to (Some o)
+  search_found true k d r h least other inside =
+      let low : r < w = omega (arith, least.within, other) in
+      let both = and_parts (not (nat_lt (k * w + r) from)) (t.has (k * w + r))
+      (sym (h.seeks r low) ∙ least.is_member low) in (
+        ltb-false (k * w + r) from (is_false (nat_lt (k * w + r) from) both.0),
+        omega (arith, at.to, inside),
+        both.1,
+        none_up_to true k d r h least,
+      )
+  search_found false k d r h greatest other inside =
+      let low : r < w = omega (arith, greatest.within, other) in
+      let o = k * w + (w - 1 - r) in
+      let both = and_parts (nat_lt o to) (t.has o)
       (sym (h.seeks (w - 1 - r) (omega arith)) ∙ greatest.is_member low) in
-      let next : k * w + (w - r) ≡ i + 1 = omega arith in
-      (above, ltb-true i to both.0, both.1, rw next at (none_above_greatest to k d r h greatest))
+      let next : k * w + (w - r) ≡ o + 1 = omega arith in
+      (inside, ltb-true o to both.0, both.1, rw next at (none_up_to false k d r h greatest))
 
-  -- where the greatest member of the word is below `from`, the range has none
-  pub last_past : (from to k d r : ℕ) → SearchesBackward m w t to k d →
-      IsGreatestMember (read_in m w (bit_set w d)) r → k * w + (w - r) ≤ from →
-      IsLastIn t from to None
-  last_past from to k d r h greatest past j lo hi =
-      none_above_greatest to k d r h greatest j (omega arith) hi
+  -- where it is past the other end, the range has no member
+  pub search_past : (front : Bool) (k d r : ℕ) → Searches front m w t from to k d →
+      IsEndMember front (read_in m w (bit_set w d)) r → r ≢ w →
+      let o = k * w + cond front r (w - 1 - r) in
+      cond front (to - 1) o < cond front o from → IsEndIn front t from to None
+  search_past true k d r h least other past = λ j lo hi.
+      none_up_to true k d r h least j lo (omega (arith, past))
+  search_past false k d r h greatest other past = λ j lo hi. none_up_to false k d r h greatest j
+      (omega (arith, past, greatest.within, other)) hi
+
+  -- nor has it one where the last word has no member that is sought
+  pub search_ended : (front : Bool) (n d r : ℕ) → n ≡ q - p →
+      Searches front m w t from to (nth front n) d →
+      IsEndMember front (read_in m w (bit_set w d)) r → r ≡ w → IsEndIn front t from to None
+  search_ended true n d r all h least end = λ k lo hi.
+      let last : p + n ≡ q = omega (arith, at.in_order) in none_up_to true (p + n) d r h least k lo
+      (omega (arith, at.to, at.top, end, ap (λ k. k * w) last))
+  search_ended false n d r all h greatest end = λ k lo hi.
+      let last : q - n ≡ p = omega (arith, at.in_order) in none_up_to false (q - n) d r h greatest k
+      (omega (arith, at.from, end, ap (λ k. k * w) last)) hi

@@ -2,7 +2,8 @@
 -- that exhausts a word, and a word that is fetched.
 use Rattle.std.proofs.Common.{◌≡◌, ℕ, ◌+◌, ◌-◌, ◌*◌, ◌<◌, ◌≤◌, Bool, true, false, not, List, [], ◌++◌, Option, Some, None, refl, sym, ap, ◌∙◌, subst, arith, append_assoc, append-nil, le_trans}
 use Rattle.std.proofs.Math.Nat.{mul-le-mul_right}
-use Rattle.bittle_bits.specs.Buffers.{BufferPair, members_between, items_in, buffer_count, buffer_of, with_end, YieldsFrom, ScansFrom}
+use Rattle.bittle_bits.specs.Buffers.{BufferPair, members_between, items_in, buffer_count, buffer_of, ScansFrom}
+use Rattle.bittle_bits.specs.Ends.{with_end, YieldsFrom}
 use Rattle.bittle_bits.specs.PlainSet.{PlainSet}
 use Rattle.bittle_bits.specs.Cursor.{items_left_in, walk_of, IsCounted}
 use Rattle.bittle_bits.specs.Walk.{Walk, IsScanBounded, Steps, count_after}

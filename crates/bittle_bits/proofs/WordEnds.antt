@@ -1,18 +1,20 @@
 -- The least and the greatest set bit of a word.
-use Rattle.std.proofs.Common.{◌≡◌, ℕ, zero, suc, ◌-◌, ◌*◌, ◌/◌, ◌%◌, ◌^◌, ◌<◌, ◌≤◌, ◌⊎◌, Bool, true, false, not, ◌&&◌, ◌==◌, nat_lt, bit_and, inl, inr, refl, sym, ap, ◌∙◌, arith, subst}
+use Rattle.std.proofs.Common.{◌≡◌, ℕ, zero, suc, ◌-◌, ◌*◌, ◌/◌, ◌%◌, ◌^◌, ◌<◌, ◌≤◌, ◌⊎◌, Bool, true, false, not, ◌&&◌, ◌==◌, cond, nat_lt, bit_and, inl, inr, refl, sym, ap, ◌∙◌, arith, subst}
+use mathlib.Core.Bool.{beq}
 use Rattle.std.proofs.Math.Nat.{mod-eq_of_lt}
 use Rattle.std.proofs.Math.Path.{fun_ext}
 use Rattle.std.specs.Int.{bit_at}
 use Rattle.std.specs.Int.Count.{count_leading_zeros, count_trailing_zeros, leading_of_zero}
 use Rattle.std.proofs.lemmas.Nat.{trailing_le, leading_le, leading_top, mod_below, div-add-mod'}
 use Rattle.std.proofs.lemmas.Nat.Bits.{bit_at-suc, bit_at_lowest, bit_at_above, bit_at-lt, bit_at-zero}
-use Rattle.std.proofs.lemmas.Bool.{cases_eq, cases_lt, and_right, eq-eqb, ne_eqb}
+use Rattle.std.proofs.lemmas.Bool.{cases_eq, cases_lt, and_right, eq-eqb, ne_eqb, true≢false}
 use Rattle.std.proofs.Math.Bool.{and_self}
 use Rattle.bittle_bits.specs.BitPatterns.{bit_has, bit_set}
+use Rattle.bittle_bits.specs.Ends.{IsEndMember}
 use Rattle.bittle_bits.specs.Orders.{mirror, read_in}
 use Rattle.bittle_bits.specs.PlainSet.{PlainSet, without_index, complement, IsLeastMember, IsGreatestMember}
 use Rattle.bittle_bits.proofs.BitSets.{bit_has-at, bit_has-and, bit_has-not, bit_has-zero, top_digit}
-use Rattle.bittle_bits.proofs.PlaceLemmas.{mirror_in_word, place_eq}
+use Rattle.bittle_bits.proofs.PlaceLemmas.{mirror-mirror, mirror_in_word, place_eq}
 use Rattle.bittle_bits.proofs.PlainSets.{plain_set, without_in, complement-members}
 
 -- the bits below the least set one are 0, and it is 1
@@ -170,7 +172,7 @@ lowered (suc r) d below there = up (lowered r (d / 2)
     }
 
 -- a word with a bit set is not 0
-pub some_word : (w d r : ℕ) → IsLeastMember (bit_set w d) r → r < w → 1 ≤ d
+some_word : (w d r : ℕ) → IsLeastMember (bit_set w d) r → r < w → 1 ≤ d
 some_word w d r least h = elim (cases_eq d 0) [
   | inl z ↦ absurd (let none = ap (λ p. p r) (bit_has-zero w d z) in
       let one = least.is_member h in cc)
@@ -187,7 +189,7 @@ unfolding bit_has
 bit-none w e k is = ap (λ b. nat_lt k w && (b == 1)) is ∙ and_right (nat_lt k w) false refl
 
 -- the and of a word and the word less one lacks the least set bit alone
-pub less_least : (w d r : ℕ) → IsLeastMember (bit_set w d) r → r < w →
+less_least : (w d r : ℕ) → IsLeastMember (bit_set w d) r → r < w →
     bit_set w (bit_and d (d - 1)) ≡ without_index (bit_set w d) r
 less_least w d r least h = ap (plain_set w) (bit_has-and w d (d - 1) ∙ fun_ext at)
     ∙ sym (without_in (bit_set w d) w r refl (omega arith))
@@ -222,24 +224,18 @@ less_least w d r least h = ap (plain_set w) (bit_has-and w d (d - 1) ∙ fun_ext
     ]
 
 -- in the mirrored order the greatest member is the least set bit
-pub least_mirrored : (w d r : ℕ) → IsGreatestMember (read_in true w (bit_set w d)) r →
+least_mirrored : (w d r : ℕ) → r < w → IsGreatestMember (read_in true w (bit_set w d)) r →
     IsLeastMember (bit_set w d) r
-least_mirrored w d r greatest = record {
-  within = greatest.within;
-  none_below = λ k l. let low = greatest.within in
-      ap (bit_has w d) (sym (mirror_in_word w (w - 1 - k) (omega arith) ∙ omega arith))
-      ∙ greatest.none_above k l;
-  is_member = λ l.
-      ap (bit_has w d) (sym (mirror_in_word w (w - 1 - r) (omega arith) ∙ omega arith))
-      ∙ greatest.is_member l;
-}
+least_mirrored w d r h greatest = subst (λ p. IsLeastMember (plain_set w p) r)
+    (fun_ext λ k. ap (bit_has w d) (mirror-mirror w k (omega arith)))
+    (mirrored_least w r (λ k. bit_has w d (mirror w k)) greatest)
 
 -- so the and of the word and the word less one lacks the greatest member alone
-pub less_greatest : (w d r : ℕ) → IsGreatestMember (read_in true w (bit_set w d)) r → r < w →
+less_greatest : (w d r : ℕ) → IsGreatestMember (read_in true w (bit_set w d)) r → r < w →
     read_in true w (bit_set w (bit_and d (d - 1)))
     ≡ without_index (read_in true w (bit_set w d)) (w - 1 - r)
 less_greatest w d r greatest h =
-    ap (read_in true w) (less_least w d r (least_mirrored w d r greatest) h
+    ap (read_in true w) (less_least w d r (least_mirrored w d r h greatest) h
     ∙ without_in (bit_set w d) w r refl (omega arith))
     ∙ ap (plain_set w) (fun_ext each)
     ∙ sym (without_in (read_in true w (bit_set w d)) w (w - 1 - r) refl (omega arith))
@@ -252,3 +248,21 @@ less_greatest w d r greatest h =
     each k = ap (λ b. not b && bit_has w d (mirror w k)) (ap (λ x. mirror w k == x) far
         ∙ place_eq true w k (w - 1 - r) (omega arith)
         ∙ ap (λ x. k == x) (sym (mod-eq_of_lt (omega arith))))
+
+-- where the bit of least weight is the member at an end, the word less one tells it
+pub less_end : (front m : Bool) (w d r : ℕ) → beq m front ≡ false →
+    IsEndMember front (read_in m w (bit_set w d)) r → r < w →
+    (1 ≤ d) × (read_in m w (bit_set w (bit_and d (d - 1)))
+    ≡ without_index (read_in m w (bit_set w d)) (cond front r (w - 1 - r)))
+less_end true true w d r apart least h = absurd (true≢false apart)
+less_end true false w d r apart least h = (some_word w d r least h, less_least w d r least h)
+less_end false true w d r apart greatest h =
+    (some_word w d r (least_mirrored w d r h greatest) h, less_greatest w d r greatest h)
+less_end false false w d r apart greatest h = absurd (true≢false apart)
+
+-- the member at an end is a member
+pub end_is_member : (front : Bool) (s : PlainSet) (r : ℕ) → IsEndMember front s r →
+    r < s.capacity →
+    let v = cond front r (s.capacity - 1 - r) in (v < s.capacity) × (s.has v ≡ true)
+end_is_member true s r least h = (h, least.is_member h)
+end_is_member false s r greatest h = (omega arith, greatest.is_member h)

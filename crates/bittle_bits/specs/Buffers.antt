@@ -1,6 +1,7 @@
 -- Buffered words: the items that remain in each, and what a scan takes.
-use Rattle.std.specs.Prelude.{◌≡◌, ℕ, ◌+◌, ◌-◌, ◌<◌, Bool, true, false, cond, List, [], ◌∷◌, ◌++◌, map, Option, Some, None, MatchOption}
+use Rattle.std.specs.Prelude.{◌≡◌, ℕ, ◌+◌, ◌-◌, ◌<◌, Bool, true, false, cond, List, [], map, Option, Some, None, MatchOption}
 use Rattle.bittle_bits.specs.BitPatterns.{bit_set}
+use Rattle.bittle_bits.specs.Ends.{with_end}
 use Rattle.bittle_bits.specs.Orders.{read_in}
 use Rattle.bittle_bits.specs.PlainSet.{PlainSet, ascending_from, ascending}
 use Rattle.bittle_bits.specs.declared.internal.buffer.BufferedWord.{BufferedWord}
@@ -46,16 +47,6 @@ buffer_count (Some xs) = 1
 abbrev pub buffer_of : Bool → BufferPair → Option (List ℕ)
 buffer_of true b = b.head
 buffer_of false b = b.tail
-
--- a list with one item more at its front, or at its back
-abbrev pub with_end : Bool → ℕ → List ℕ → List ℕ
-with_end true x xs = x ∷ xs
-with_end false x xs = xs ++ x ∷ []
-
--- `YieldsFirst` from the front, and `YieldsLast` from the back
-abbrev pub YieldsFrom : {S : Type 0} → Bool → (S → List ℕ) → S → Option ℕ → S → Type 0
-YieldsFrom front rest s r t = MatchOption r ((rest s ≡ []) × (rest t ≡ []))
-    (λ x. rest s ≡ with_end front x (rest t))
 
 -- a scan takes the item at one end of a word, or finds that none is loaded or that it is exhausted
 abbrev pub ScansFrom : Bool → Option (List ℕ) → Option ℕ → Option (List ℕ) → Type 0

@@ -10,6 +10,7 @@ pub mod Join
 pub mod RowLawProofs
 pub mod Rows
 pub mod Searches
+pub mod Ends
 pub mod Pieces
 pub mod Shapes
 pub mod Cursor

@@ -10,6 +10,7 @@ ghost use Rattle.bittle_bits.specs.Walk.{AreBelow, IsFresh};
 ghost use Rattle.bittle_bits.specs.Words.{word_of};
 
 use crate::endian::{BigEndian, DefaultEndian, Endian, LittleEndian};
+use crate::internal::side::{Back, Front};
 use crate::internal::source::{Ones, Source, Zeros};
 use crate::internal::{range_count, search};
 use crate::join::JoinOnes;
@@ -166,7 +167,7 @@ pub trait Bits: Drop + Shape {
         requires within { to ≤ (Self.big self.now).capacity }
         ensures { IsFirstIn (set_in Self.Shape E.Endian self.now) from to result }
     {
-        search::first_in::<Self, E, Ones>(self, from, to)
+        search::end_in::<Self, E, Ones, Front>(self, from, to)
     }
 
     /// Returns the least index of an unset bit in `from..to`, in the order `E`, or `None` if there
@@ -184,7 +185,7 @@ pub trait Bits: Drop + Shape {
         requires within { to ≤ (Self.big self.now).capacity }
         ensures { IsFirstIn (complement (set_in Self.Shape E.Endian self.now)) from to result }
     {
-        search::first_in::<Self, E, Zeros>(self, from, to)
+        search::end_in::<Self, E, Zeros, Front>(self, from, to)
     }
 
     /// Returns the greatest index of a set bit in `from..to`, in the order `E`, or `None` if there
@@ -202,7 +203,7 @@ pub trait Bits: Drop + Shape {
         requires within { to ≤ (Self.big self.now).capacity }
         ensures { IsLastIn (set_in Self.Shape E.Endian self.now) from to result }
     {
-        search::last_in::<Self, E, Ones>(self, from, to)
+        search::end_in::<Self, E, Ones, Back>(self, from, to)
     }
 
     /// Returns the greatest index of an unset bit in `from..to`, in the order `E`, or `None` if
@@ -220,7 +221,7 @@ pub trait Bits: Drop + Shape {
         requires within { to ≤ (Self.big self.now).capacity }
         ensures { IsLastIn (complement (set_in Self.Shape E.Endian self.now)) from to result }
     {
-        search::last_in::<Self, E, Zeros>(self, from, to)
+        search::end_in::<Self, E, Zeros, Back>(self, from, to)
     }
 
     /// Returns how many bits of `from..to` are set, in the order `E`.

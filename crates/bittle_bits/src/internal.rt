@@ -8,4 +8,5 @@ pub mod range_count;
 pub(crate) mod row;
 pub mod sealed;
 pub(crate) mod search;
+pub mod side;
 pub mod source;

@@ -2,12 +2,13 @@
 //! operations on two sets, so that each shape has one body for them all.
 
 ghost use Rattle.std.specs.Iterator.{YieldsFirst, YieldsLast};
-ghost use Rattle.std.specs.Prelude.{◌≡◌, ◌==◌, Bool, ◌*◌, ◌-◌, ◌<◌, ◌≤◌, ◌||◌, ◌&&◌, true, false, refl, IfSome, IsTrue};
+ghost use Rattle.std.specs.Prelude.{◌≡◌, ◌==◌, Bool, ◌*◌, ◌-◌, ◌<◌, ◌≤◌, ◌||◌, ◌&&◌, true, false, cond, refl, IfSome, IsTrue};
 ghost use Rattle.std.proofs.Common.{sym};
 ghost use Rattle.bittle_bits.specs.BitPatterns.{bit_set};
+ghost use Rattle.bittle_bits.specs.Ends.{IsEndMember, YieldsFrom};
 ghost use Rattle.bittle_bits.specs.LawProofs.{none_past_word, one_word_whole, positive_width, word_capacity};
 ghost use Rattle.bittle_bits.specs.Orders.{read_in};
-ghost use Rattle.bittle_bits.specs.PlainSet.{contains, with_index, with_span_changed, without_index, empty_set, without_members, full_set, span_set, size, ascending, IsLeastMember, IsGreatestMember};
+ghost use Rattle.bittle_bits.specs.PlainSet.{contains, with_index, with_span_changed, without_index, empty_set, without_members, full_set, span_set, size, ascending};
 ghost use Rattle.bittle_bits.specs.SetOperations.{combination_of, first_alone, just_one};
 ghost use Rattle.bittle_bits.specs.Shapes.{Fits};
 ghost use Rattle.bittle_bits.specs.Words.{ReplacesWord, word_of};
@@ -16,6 +17,7 @@ use crate::bits::Bits;
 use crate::bits_mut::BitsMut;
 use crate::bits_owned::BitsOwned;
 use crate::endian::{DefaultEndian, Endian};
+use crate::internal::side::{Back, End, Front, at_end};
 use crate::shape::{OwnedShape, Shape};
 use crate::word::Word;
 
@@ -281,39 +283,53 @@ fn clear_set_bit<T: Word, E: Endian>(word: &mut T, index: u32)
     *word = word.xor(T::one_at(E::place::<T>(index)));
 }
 
-// Clears the least member. Where it is the bit of least weight, the word less one lacks it, and has
-// bits below it that the word lacks: a step waits for that alone, and not for the index.
+// Returns how far the member at the end `N` lies from that end, or the width where there is none.
 #[inline]
-fn clear_first<T: Word, E: Endian>(word: &mut T, index: u32)
-    requires least { IsLeastMember
-        (read_in E.mirrored T.width (bit_set T.width (T.pattern word.old))) index }
-    requires within { index < T.width }
-    ensures { read_in E.mirrored T.width (bit_set T.width (T.pattern word.new))
-        ≡ without_index (read_in E.mirrored T.width (bit_set T.width (T.pattern word.old))) index }
+pub fn from_end<T: Word, E: Endian, N: End>(word: T) -> u32
+    ensures member { IsEndMember N.FRONT
+        (read_in E.mirrored T.width (bit_set T.width (T.pattern word))) result }
+    ensures within { result ≤ T.width }
 {
-    if E::is_mirrored() {
-        clear_set_bit::<T, E>(word, index);
+    if N::FRONT {
+        E::zeros::<T>(word)
+    } else {
+        E::zeros_rev::<T>(word)
+    }
+}
+
+// Clears the member at the end `N`, given how far it lies from there. Where it is the bit of least
+// weight, the word less one lacks it, and has bits below it that the word lacks: a step waits for
+// that alone, and not for the index.
+#[inline]
+fn clear_end<T: Word, E: Endian, N: End>(word: &mut T, away: u32)
+    requires member { IsEndMember N.FRONT
+        (read_in E.mirrored T.width (bit_set T.width (T.pattern word.old))) away }
+    requires within { away < T.width }
+    ensures { read_in E.mirrored T.width (bit_set T.width (T.pattern word.new))
+        ≡ without_index (read_in E.mirrored T.width (bit_set T.width (T.pattern word.old)))
+        (cond N.FRONT away (T.width - 1 - away)) }
+{
+    if E::is_mirrored() == N::FRONT {
+        clear_set_bit::<T, E>(word, at_end::<N>(away, T::width() - 1 - away));
     } else {
         *word = word.and(T::from_bits(word.to_bits() - 1));
     }
 }
 
-// Clears the greatest member, given how far it lies below the last index. Where it is the bit of
-// least weight, a step waits for the word less one alone, as in `clear_first`.
+/// Takes the member at the end `N` out of the word.
 #[inline]
-fn clear_last<T: Word, E: Endian>(word: &mut T, below_last: u32)
-    requires greatest { IsGreatestMember
-        (read_in E.mirrored T.width (bit_set T.width (T.pattern word.old))) below_last }
-    requires within { below_last < T.width }
-    ensures { read_in E.mirrored T.width (bit_set T.width (T.pattern word.new))
-        ≡ without_index (read_in E.mirrored T.width (bit_set T.width (T.pattern word.old)))
-        (T.width - 1 - below_last) }
+pub fn pop<T: Word, E: Endian, N: End>(word: &mut T) -> Option<u32>
+    ensures found { YieldsFrom N.FRONT
+        (λ w. ascending (read_in E.mirrored T.width (bit_set T.width (T.pattern w))))
+        word.old result word.new }
+    ensures below { IfSome result (λ index. index < T.width) }
 {
-    if E::is_mirrored() {
-        *word = word.and(T::from_bits(word.to_bits() - 1));
-    } else {
-        clear_set_bit::<T, E>(word, T::width() - 1 - below_last);
+    let away = from_end::<T, E, N>(*word);
+    if away == T::width() {
+        return None;
     }
+    clear_end::<T, E, N>(word, away);
+    Some(at_end::<N>(away, T::width() - 1 - away))
 }
 
 /// Takes the least member out of the word.
@@ -324,12 +340,7 @@ pub fn pop_first<T: Word, E: Endian>(word: &mut T) -> Option<u32>
         word.old result word.new }
     ensures below { IfSome result (λ index. index < T.width) }
 {
-    let index = E::zeros::<T>(*word);
-    if index == T::width() {
-        return None;
-    }
-    clear_first::<T, E>(word, index);
-    Some(index)
+    pop::<T, E, Front>(word)
 }
 
 /// Takes the greatest member out of the word.
@@ -340,12 +351,7 @@ pub fn pop_last<T: Word, E: Endian>(word: &mut T) -> Option<u32>
         word.old result word.new }
     ensures below { IfSome result (λ index. index < T.width) }
 {
-    let below_last = E::zeros_rev::<T>(*word);
-    if below_last == T::width() {
-        return None;
-    }
-    clear_last::<T, E>(word, below_last);
-    Some(T::width() - 1 - below_last)
+    pop::<T, E, Back>(word)
 }
 
 /// Returns word `k` of a word, which is its only one.

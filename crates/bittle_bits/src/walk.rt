@@ -13,8 +13,9 @@ ghost use Rattle.bittle_bits.specs.Walk.{Walk, ones_or_zeros, AreBelow, IsFresh,
 use crate::bits::Bits;
 use crate::bits_owned::BitsOwned;
 use crate::endian::Endian;
-use crate::internal::buffer::{Back, Count, Front};
+use crate::internal::buffer::Count;
 use crate::internal::cursor::{Cursor, begin, duplicate, step};
+use crate::internal::side::{Back, Front};
 use crate::internal::source::{Kind, Ones, OwnedSource, Source, Zeros};
 use crate::shape::Shape;
 use std::alloc::AllocError;

@@ -1,16 +1,14 @@
 //! Buffered words: an iterator reads its set through them alone, and each fetch of a word and each
 //! scan of a buffered one is counted.
 
-ghost use Rattle.std.specs.Prelude.{◌≡◌, ◌+◌, ◌*◌, ◌<◌, Bool, true, false, not, cond, IfSome, Some, None};
-ghost use Rattle.bittle_bits.specs.BitPatterns.{bit_set};
-ghost use Rattle.bittle_bits.specs.Buffers.{members_between, buffered_items, buffer_count, buffer_of, items_of, IsSound, YieldsFrom, ScansFrom};
-ghost use Rattle.bittle_bits.specs.Orders.{read_in};
-ghost use Rattle.bittle_bits.specs.PlainSet.{ascending};
+ghost use Rattle.std.specs.Prelude.{◌≡◌, ◌+◌, ◌*◌, ◌<◌, true, not, cond, Some, None};
+ghost use Rattle.bittle_bits.specs.Buffers.{members_between, buffered_items, buffer_count, buffer_of, items_of, IsSound, ScansFrom};
 ghost use Rattle.bittle_bits.specs.Values.{set_in, ShapeFits};
 ghost use Rattle.bittle_bits.specs.Walk.{ones_or_zeros};
 
 use crate::bits::Bits;
 use crate::endian::Endian;
+use crate::internal::side::End;
 use crate::internal::source::{Kind, Source};
 use crate::one_word;
 use crate::word::Word;
@@ -95,46 +93,6 @@ fn load<B: Bits, E: Endian, K: Kind>(
     }
 }
 
-/// Names the end that items are taken from: the [`Front`] or the [`Back`].
-pub trait End {
-    ghost FRONT: { Bool };
-
-    const FRONT: bool;
-}
-
-/// Names the front, where the least item is.
-pub enum Front {}
-
-/// Names the back, where the greatest item is.
-pub enum Back {}
-
-impl End for Front {
-    ghost FRONT = { true };
-
-    const FRONT: bool = true;
-}
-
-impl End for Back {
-    ghost FRONT = { false };
-
-    const FRONT: bool = false;
-}
-
-// Takes the member at the end `N` out of the word.
-#[inline]
-fn pop<W: Word, E: Endian, N: End>(word: &mut W) -> Option<u32>
-    ensures found { YieldsFrom N.FRONT
-        (λ w. ascending (read_in E.mirrored W.width (bit_set W.width (W.pattern w))))
-        word.old result word.new }
-    ensures below { IfSome result (λ index. index < W.width) }
-{
-    if N::FRONT {
-        one_word::pop_first::<W, E>(word)
-    } else {
-        one_word::pop_last::<W, E>(word)
-    }
-}
-
 // Scans a buffered word for its item at the end `N`.
 #[inline]
 #[tactic(auto, unfolding(crate::specs::Buffers::buffered_items, crate::specs::Buffers::IsSound))]
@@ -149,7 +107,7 @@ fn scan<W: Word, E: Endian, N: End>(
         ≡ scans.old + buffer_count (buffered_items E.mirrored W.width W.pattern buffered.old) }
     ensures sound { IsSound E.mirrored W.width W.pattern buffered.new }
 {
-    let Some(index) = pop::<W, E, N>(&mut buffered.word) else {
+    let Some(index) = one_word::pop::<W, E, N>(&mut buffered.word) else {
         if buffered.is_loaded {
             scans.raise();
             buffered.is_loaded = false;

@@ -3,14 +3,15 @@
 
 ghost use Rattle.std.specs.Prelude.{◌≡◌, ℕ, ◌/◌};
 ghost use Rattle.bittle_bits.specs.PlainSet.{PlainSet};
-ghost use Rattle.bittle_bits.specs.Buffers.{YieldsFrom};
+ghost use Rattle.bittle_bits.specs.Ends.{YieldsFrom};
 ghost use Rattle.bittle_bits.specs.Cursor.{items_left_in, walk_of, IsWalkStart, IsCounted};
 ghost use Rattle.bittle_bits.specs.Values.{set_in, ShapeFits};
 ghost use Rattle.bittle_bits.specs.Walk.{ones_or_zeros, AreBelow, IsFresh, ResumesAs, Steps};
 
 use crate::bits::Bits;
 use crate::endian::Endian;
-use crate::internal::buffer::{Buffers, Count, End};
+use crate::internal::buffer::{Buffers, Count};
+use crate::internal::side::End;
 use crate::internal::source::{Kind, Source};
 use crate::shape::Shape;
 

@@ -1,74 +1,68 @@
-//! The first and the last member between two numbers, found word by word.
+//! The first or the last member between two numbers, found word by word.
 
-ghost use Rattle.std.specs.Prelude.{◌≤◌};
-ghost use Rattle.bittle_bits.specs.Searches.{IsFirstIn, IsLastIn};
+ghost use Rattle.std.specs.Prelude.{◌≡◌, ◌+◌, ◌<◌, ◌≤◌, ℕ};
+ghost use Rattle.bittle_bits.specs.BitPatterns.{bit_set};
+ghost use Rattle.bittle_bits.specs.Ends.{is_ahead, IsEndIn};
+ghost use Rattle.bittle_bits.specs.Orders.{read_in};
 ghost use Rattle.bittle_bits.specs.Values.{set_in, ShapeFits};
 ghost use Rattle.bittle_bits.specs.Walk.{ones_or_zeros};
 
 use crate::bits::Bits;
 use crate::endian::Endian;
 use crate::internal::ends::ends;
+use crate::internal::side::{End, at_end};
 use crate::internal::source::{Kind, word_of_kind};
+use crate::one_word::from_end;
 use crate::word::Word;
 
-/// Returns the first index from `from` on and below `to` whose bit is of the kind, or `None`.
+// Returns the word of the indexes from the place `at` on, seen from the end `N`.
 #[inline]
-pub fn first_in<B: Bits, E: Endian, K: Kind>(bits: &B, from: u32, to: u32) -> Option<u32>
-    requires fits { ShapeFits B.Shape bits.now }
-    requires ordered { from ≤ to }
-    requires within { to ≤ (B.big bits.now).capacity }
-    ensures { IsFirstIn (ones_or_zeros K.ONES (set_in B.Shape E.Endian bits.now)) from to result }
+fn ahead<T: Word, E: Endian, N: End>(at: u32) -> T
+    requires { at < T.width }
+    ensures { (i : ℕ) → i < T.width
+        → (read_in E.mirrored T.width (bit_set T.width (T.pattern result))).has i
+        ≡ is_ahead N.FRONT at (at + 1) i }
 {
-    if from == to {
-        return None;
+    let since = E::from_index::<T>(at);
+    if N::FRONT {
+        return since;
     }
-    let width = <B::LeafWord as Word>::width();
-    let (first, begin, last, _) = ends(width, from, to);
-    let since = E::from_index::<B::LeafWord>(begin);
-    let mut k = first;
-    let mut word = word_of_kind::<B, K>(bits, k).and(since);
-    loop {
-        let index = E::zeros::<B::LeafWord>(word);
-        if index != width {
-            let found = k * width + index;
-            return if found < to { Some(found) } else { None };
-        }
-        if k == last {
-            return None;
-        }
-        k += 1;
-        word = word_of_kind::<B, K>(bits, k);
-    }
+    since.not().or(E::mask::<T>(at))
 }
 
-/// Returns the last index from `from` on and below `to` whose bit is of the kind, or `None`.
+/// Returns the index at the end `N` of those from `from` on and below `to` whose bit is of the
+/// kind, or `None`.
 #[inline]
-pub fn last_in<B: Bits, E: Endian, K: Kind>(bits: &B, from: u32, to: u32) -> Option<u32>
+pub fn end_in<B: Bits, E: Endian, K: Kind, N: End>(bits: &B, from: u32, to: u32) -> Option<u32>
     requires fits { ShapeFits B.Shape bits.now }
     requires ordered { from ≤ to }
     requires within { to ≤ (B.big bits.now).capacity }
-    ensures { IsLastIn (ones_or_zeros K.ONES (set_in B.Shape E.Endian bits.now)) from to result }
+    ensures { IsEndIn N.FRONT (ones_or_zeros K.ONES (set_in B.Shape E.Endian bits.now)) from to
+        result }
 {
     if from == to {
         return None;
     }
     let width = <B::LeafWord as Word>::width();
-    let (first, _, last, top) = ends(width, from, to);
-    let up_to = E::from_index::<B::LeafWord>(top)
-        .not()
-        .or(E::mask::<B::LeafWord>(top));
-    let mut k = last;
-    let mut word = word_of_kind::<B, K>(bits, k).and(up_to);
+    let (first, begin, last, top) = ends(width, from, to);
+    let mask = ahead::<B::LeafWord, E, N>(at_end::<N>(begin, top));
+    let mut word = word_of_kind::<B, K>(bits, at_end::<N>(first, last)).and(mask);
+    let mut passed = 0;
     loop {
-        let above = E::zeros_rev::<B::LeafWord>(word);
-        if above != width {
-            let found = k * width + (width - 1 - above);
-            return if from <= found { Some(found) } else { None };
+        let away = from_end::<B::LeafWord, E, N>(word);
+        if away != width {
+            let k = at_end::<N>(first + passed, last - passed);
+            let found = k * width + at_end::<N>(away, width - 1 - away);
+            return if at_end::<N>(found, from) <= at_end::<N>(to - 1, found) {
+                Some(found)
+            } else {
+                None
+            };
         }
-        if k == first {
+        if passed == last - first {
             return None;
         }
-        k -= 1;
-        word = word_of_kind::<B, K>(bits, k);
+        passed += 1;
+        word = word_of_kind::<B, K>(bits, at_end::<N>(first + passed, last - passed));
     }
 }

@@ -1,7 +1,8 @@
 use Rattle.std.proofs.Common.{◌≡◌, ◌+◌, inl, inr, ℕ, Bool, true, false, List, [], ◌∷◌, refl, sym, ap, ◌∙◌, map, length, length-append, arith, Some, None}
 use Rattle.std.proofs.lemmas.Bool.{cases_Bool, cond-true}
 use Rattle.std.proofs.lemmas.List.{map-append}
-use Rattle.bittle_bits.specs.Buffers.{buffered_items, IsSound, with_end}
+use Rattle.bittle_bits.specs.Buffers.{buffered_items, IsSound}
+use Rattle.bittle_bits.specs.Ends.{with_end}
 use Rattle.bittle_bits.proofs.internal.buffer.scan.Goals as goal
 
 not_empty : (front : Bool) (x : ℕ) (xs : List ℕ) → with_end front x xs ≡ [] → ⊥

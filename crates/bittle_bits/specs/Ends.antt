@@ -1,0 +1,29 @@
+-- The two ends of a set, its front and its back: `true` names the front.
+use Rattle.std.specs.Prelude.{◌≡◌, ℕ, Bool, true, false, not, nat_lt, List, [], ◌∷◌, ◌++◌, Option, MatchOption}
+use Rattle.bittle_bits.specs.PlainSet.{PlainSet, IsLeastMember, IsGreatestMember}
+use Rattle.bittle_bits.specs.Searches.{IsFirstIn, IsLastIn}
+
+-- a list with one item more at its front, or at its back
+abbrev pub with_end : Bool → ℕ → List ℕ → List ℕ
+with_end true x xs = x ∷ xs
+with_end false x xs = xs ++ x ∷ []
+
+-- `YieldsFirst` from the front, and `YieldsLast` from the back
+abbrev pub YieldsFrom : {S : Type 0} → Bool → (S → List ℕ) → S → Option ℕ → S → Type 0
+YieldsFrom front rest s r t = MatchOption r ((rest s ≡ []) × (rest t ≡ []))
+    (λ x. rest s ≡ with_end front x (rest t))
+
+-- how far the least member lies from the front, or the greatest one from the back
+abbrev pub IsEndMember : Bool → PlainSet → ℕ → Type 0
+IsEndMember true = IsLeastMember
+IsEndMember false = IsGreatestMember
+
+-- the first member of a range, or the last one
+abbrev pub IsEndIn : Bool → PlainSet → ℕ → ℕ → Option ℕ → Type 0
+IsEndIn true = IsFirstIn
+IsEndIn false = IsLastIn
+
+-- whether a number is not before the start of a range, seen from the end
+abbrev pub is_ahead : Bool → ℕ → ℕ → ℕ → Bool
+is_ahead true from to k = not (nat_lt k from)
+is_ahead false from to k = nat_lt k to
