@@ -42,12 +42,6 @@ pub words_each : (bits wide c w leaf d : ℕ) → 0 < w → bits ≡ c → wide 
     c ≡ d * w → bits / wide ≡ d
 words_each bits wide c w leaf d word b v same whole = rw (b, v, same, whole) (mul-div_left d word)
 
--- an element of a row of some words has at least one, by the same count
-pub some_each : (bits wide n c w leaf d k : ℕ) → 0 < w → bits ≡ c → wide ≡ leaf → leaf ≡ w →
-    c ≡ d * w → k * w < n * c → 0 < bits / wide
-some_each bits wide n c w leaf d k word b v same whole within =
-    rw (words_each bits wide c w leaf d word b v same whole) (some_words n c w d k whole within)
-
 module _ {X : Type 0} (n c w k q r : ℕ) (big : X → PlainSet) (xs : List X) (word : 0 < w)
     (whole : (d : ℕ) × (c ≡ d * w)) (within : k * w < n * c)
     (goes : GoesTo n c (k * w) q (r * w)) where
