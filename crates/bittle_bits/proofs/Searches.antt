@@ -21,8 +21,10 @@ abbrev NoneBefore : Bool → ℕ → PlainSet → ℕ → ℕ → ℕ → ℕ �
 NoneBefore true w t from to k r = NoneIn t from (k * w + r)
 NoneBefore false w t from to k r = NoneIn t (k * w + (w - r)) to
 
--- a search found no member before word k, and seeks those of the pattern d in it
-pub record Searches (front m : Bool) (w : ℕ) (t : PlainSet) (from to k d : ℕ) : Type 0 where
+-- a search found no member before word k of words p to q, and seeks those of the pattern d in it
+pub record Searches (front m : Bool) (w : ℕ) (t : PlainSet) (from to p q k d : ℕ) : Type 0 where
+  pub first : p ≤ k
+  pub last : k ≤ q
   pub none : NoneBefore front w t from to k 0
   pub seeks : (i : ℕ) → i < w →
       (read_in m w (bit_set w d)).has i ≡ is_ahead front from to (k * w + i) && t.has (k * w + i)
@@ -87,22 +89,12 @@ module _ (ones m : Bool) (w : ℕ) (big : PlainSet) (word : 0 < w)
   abbrev t : PlainSet
   t = ones_or_zeros ones (read_in m w big)
 
-  -- the word that a search comes to after n others
-  abbrev nth : Bool → ℕ → ℕ
-  nth front n = cond front (p + n) (q - n)
-
-  -- it has a number of the range
-  pub nth_within : (front : Bool) (n k : ℕ) → n ≤ q - p → k ≡ nth front n →
-      (from < k * w + w) × (k * w < to)
-  nth_within front n k few is =
-      let between = by front is in
-      let after = mul-le-mul_right w between.0 in
-      let before = mul-le-mul_right w between.1 in
+  -- a word between the first and the last one of the range has a number of it
+  pub word_within : (k : ℕ) → p ≤ k → k ≤ q → (from < k * w + w) × (k * w < to)
+  word_within k lo hi =
+      let after = mul-le-mul_right w lo in
+      let before = mul-le-mul_right w hi in
       (omega (arith, at.from, at.begin, after), omega (arith, at.to, before))
-    where
-      by : (front : Bool) → k ≡ nth front n → (p ≤ k) × (k ≤ q)
-      by true is = (omega arith, omega (arith, at.in_order))
-      by false is = (omega (arith, at.in_order), omega arith)
 
   -- a place of word k
   has_at : (k d i : ℕ) → bit_set w d ≡ word_of w s k → i < w →
@@ -111,29 +103,41 @@ module _ (ones m : Bool) (w : ℕ) (big : PlainSet) (word : 0 < w)
       ∙ sym (ap (λ t. t.has (k * w + i)) (ones_or_zeros-members ones m w big word whole))
 
   -- it begins at the word that holds the number at the end, masked from its place on
-  pub search_start : (front : Bool) (d e : ℕ) → bit_set w d ≡ word_of w s (cond front p q) →
-      let o = cond front i j in
-      ((k : ℕ) → k < w → (read_in m w (bit_set w e)).has k ≡ is_ahead front o (o + 1) k) →
-      Searches front m w t from to (cond front p q) (bit_and d e)
-  search_start front d e is mask = record {
-    none = none front;
-    seeks = λ k h. ap (λ p. p (place m w k)) (bit_has-and w d e)
-        ∙ ap (λ b. b && bit_has w e (place m w k)) (has_at (cond front p q) d k is h)
-        ∙ ap (λ b. t.has (cond front p q * w + k) && b) (mask k h ∙ moved front k)
-        ∙ swapped (t.has (cond front p q * w + k)) (is_ahead front from to (cond front p q * w + k));
-  }
+  pub search_start : (front : Bool) (k o d e : ℕ) → k ≡ cond front p q → o ≡ cond front i j →
+      bit_set w d ≡ word_of w s k →
+      ((n : ℕ) → n < w → (read_in m w (bit_set w e)).has n ≡ is_ahead front o (o + 1) n) →
+      Searches front m w t from to p q k (bit_and d e)
+  search_start front k o d e there here is mask =
+      let at = by front there here in record {
+        first = at.0;
+        last = at.1;
+        none = at.2;
+        seeks = λ n h. ap (λ p. p (place m w n)) (bit_has-and w d e)
+            ∙ ap (λ b. b && bit_has w e (place m w n)) (has_at k d n is h)
+            ∙ ap (λ b. t.has (k * w + n) && b) (mask n h ∙ at.3 n)
+            ∙ swapped (t.has (k * w + n)) (is_ahead front from to (k * w + n));
+      }
     where
-      none : (front : Bool) → NoneBefore front w t from to (cond front p q) 0
-      none true = λ k lo hi. absurd (omega (arith, at.from))
-      none false = λ k lo hi. absurd (omega (arith, at.to, at.top))
-
-      moved : (front : Bool) (k : ℕ) → is_ahead front (cond front i j) (cond front i j + 1) k
-          ≡ is_ahead front from to (cond front p q * w + k)
-      moved true k = ap not (lt_moved (p * w) k i ∙ ap (nat_lt (p * w + k)) (sym at.from))
-      moved false k = lt_moved (q * w) k (j + 1) ∙ ap (nat_lt (q * w + k)) (omega (arith, at.to))
+      by : (front : Bool) → k ≡ cond front p q → o ≡ cond front i j →
+          (p ≤ k) × (k ≤ q) × NoneBefore front w t from to k 0 × ((n : ℕ) →
+          is_ahead front o (o + 1) n ≡ is_ahead front from to (k * w + n))
+      by true there here =
+          let starts : k * w + o ≡ from = omega (arith, at.from, here, ap (λ k. k * w) there) in (
+            omega arith,
+            omega (arith, at.in_order),
+            λ n lo hi. absurd (omega (arith, starts)),
+            λ n. ap not (lt_moved (k * w) n o ∙ ap (nat_lt (k * w + n)) starts),
+          )
+      by false there here =
+          let ends : k * w + (o + 1) ≡ to = omega (arith, at.to, here, ap (λ k. k * w) there) in (
+            omega (arith, at.in_order),
+            omega arith,
+            λ n lo hi. absurd (omega (arith, ends, here, at.top)),
+            λ n. lt_moved (k * w) n (o + 1) ∙ ap (nat_lt (k * w + n)) ends,
+          )
 
   -- word k, of which the search seeks the members of d
-  module _ (front : Bool) (k d : ℕ) (h : Searches front m w t from to k d) where
+  module _ (front : Bool) (k d : ℕ) (h : Searches front m w t from to p q k d) where
     -- a number of it that is ahead, and is no member of d, is none
     passed : (j : ℕ) → k * w ≤ j → j < k * w + w →
         (read_in m w (bit_set w d)).has (j - k * w) ≡ false → is_ahead front from to j ≡ true →
@@ -144,7 +148,7 @@ module _ (ones m : Bool) (w : ℕ) (big : PlainSet) (word : 0 < w)
         (rw back at (sym (h.seeks (j - k * w) (omega arith)) ∙ none)) within
 
   -- before the member of d at the end none is a member
-  none_up_to : (front : Bool) (k d r : ℕ) → Searches front m w t from to k d →
+  none_up_to : (front : Bool) (k d r : ℕ) → Searches front m w t from to p q k d →
       IsEndMember front (read_in m w (bit_set w d)) r → NoneBefore front w t from to k r
   none_up_to true k d r h least = λ j lo hi.
       let within = least.within in
@@ -165,34 +169,42 @@ module _ (ones m : Bool) (w : ℕ) (big : PlainSet) (word : 0 < w)
       ]
 
   -- where the word has no member that is sought, the search goes on at the next one
-  pub search_next : (front : Bool) (n d r e : ℕ) → n < q - p →
-      Searches front m w t from to (nth front n) d →
-      IsEndMember front (read_in m w (bit_set w d)) r → r ≡ w →
-      bit_set w e ≡ word_of w s (nth front (n + 1)) →
-      Searches front m w t from to (nth front (n + 1)) e
-  search_next front n d r e more h member end is = record {
-    none = none front (none_up_to front (nth front n) d r h member);
-    seeks = λ i l. has_at (nth front (n + 1)) e i is l
-        ∙ sym (ap (λ b. b && t.has (nth front (n + 1) * w + i)) (all front i l
-        (nth_within front n (nth front n) (omega arith) refl)));
-  }
+  pub search_next : (front : Bool) (k d r next e : ℕ) → k ≢ cond front q p →
+      next ≡ cond front (k + 1) (k - 1) → Searches front m w t from to p q k d →
+      IsEndMember front (read_in m w (bit_set w d)) r → r ≡ w → bit_set w e ≡ word_of w s next →
+      Searches front m w t from to p q next e
+  search_next front k d r next e more on h member end is =
+      let at = by front more on (none_up_to front k d r h member) in record {
+        first = at.0;
+        last = at.1;
+        none = at.2;
+        seeks = λ i l. has_at next e i is l
+            ∙ sym (ap (λ b. b && t.has (next * w + i)) (at.3 i l));
+      }
     where
-      none : (front : Bool) → NoneBefore front w t from to (nth front n) r →
-          NoneBefore front w t from to (nth front (n + 1)) 0
-      none true h = λ k lo hi. h k lo (omega (arith, end))
-      none false h = λ k lo hi. h k
-          (omega (arith, end, next_begins w (q - (n + 1)) (q - n) (omega arith))) hi
-
-      all : (front : Bool) (i : ℕ) → i < w →
-          (from < nth front n * w + w) × (nth front n * w < to) →
-          is_ahead front from to (nth front (n + 1) * w + i) ≡ true
-      all true i l within = ap not (le-ltb ((p + (n + 1)) * w + i) from
-          (omega (arith, within.0)))
-      all false i l within = lt-ltb ((q - (n + 1)) * w + i) to
-          (omega (arith, within.1, next_begins w (q - (n + 1)) (q - n) (omega arith)))
+      by : (front : Bool) → k ≢ cond front q p → next ≡ cond front (k + 1) (k - 1) →
+          NoneBefore front w t from to k r → (p ≤ next) × (next ≤ q)
+          × NoneBefore front w t from to next 0
+          × ((i : ℕ) → i < w → is_ahead front from to (next * w + i) ≡ true)
+      by true more on none =
+          let begins = next_begins w k next on in
+          let low = (word_within k h.first h.last).0 in (
+            omega (arith, h.first),
+            omega (arith, h.last, more),
+            λ j lo hi. none j lo (omega (arith, begins, end)),
+            λ i l. ap not (le-ltb (next * w + i) from (omega (arith, low, begins))),
+          )
+      by false more on none =
+          let begins = next_begins w next k (omega (arith, h.first, more)) in
+          let high = (word_within k h.first h.last).1 in (
+            omega (arith, h.first, more),
+            omega (arith, h.last),
+            λ j lo hi. none j (omega (arith, begins, end)) hi,
+            λ i l. lt-ltb (next * w + i) to (omega (arith, high, begins)),
+          )
 
   -- the member at the end is that of the range, where it is not past the other end of it
-  pub search_found : (front : Bool) (k d r : ℕ) → Searches front m w t from to k d →
+  pub search_found : (front : Bool) (k d r : ℕ) → Searches front m w t from to p q k d →
       IsEndMember front (read_in m w (bit_set w d)) r → r ≢ w →
       let o = k * w + cond front r (w - 1 - r) in
       cond front o from ≤ cond front (to - 1) o → IsEndIn front t from to (Some o)
@@ -214,7 +226,7 @@ module _ (ones m : Bool) (w : ℕ) (big : PlainSet) (word : 0 < w)
       (inside, ltb-true o to both.0, both.1, rw next at (none_up_to false k d r h greatest))
 
   -- where it is past the other end, the range has no member
-  pub search_past : (front : Bool) (k d r : ℕ) → Searches front m w t from to k d →
+  pub search_past : (front : Bool) (k d r : ℕ) → Searches front m w t from to p q k d →
       IsEndMember front (read_in m w (bit_set w d)) r → r ≢ w →
       let o = k * w + cond front r (w - 1 - r) in
       cond front (to - 1) o < cond front o from → IsEndIn front t from to None
@@ -224,12 +236,10 @@ module _ (ones m : Bool) (w : ℕ) (big : PlainSet) (word : 0 < w)
       (omega (arith, past, greatest.within, other)) hi
 
   -- nor has it one where the last word has no member that is sought
-  pub search_ended : (front : Bool) (n d r : ℕ) → n ≡ q - p →
-      Searches front m w t from to (nth front n) d →
+  pub search_ended : (front : Bool) (k d r : ℕ) → k ≡ cond front q p →
+      Searches front m w t from to p q k d →
       IsEndMember front (read_in m w (bit_set w d)) r → r ≡ w → IsEndIn front t from to None
-  search_ended true n d r all h least end = λ k lo hi.
-      let last : p + n ≡ q = omega (arith, at.in_order) in none_up_to true (p + n) d r h least k lo
+  search_ended true k d r last h least end = λ n lo hi. none_up_to true k d r h least n lo
       (omega (arith, at.to, at.top, end, ap (λ k. k * w) last))
-  search_ended false n d r all h greatest end = λ k lo hi.
-      let last : q - n ≡ p = omega (arith, at.in_order) in none_up_to false (q - n) d r h greatest k
+  search_ended false k d r last h greatest end = λ n lo hi. none_up_to false k d r h greatest n
       (omega (arith, at.from, end, ap (λ k. k * w) last)) hi

@@ -46,12 +46,11 @@ pub fn end_in<B: Bits, E: Endian, K: Kind, N: End>(bits: &B, from: u32, to: u32)
     let width = <B::LeafWord as Word>::width();
     let (first, begin, last, top) = ends(width, from, to);
     let mask = ahead::<B::LeafWord, E, N>(at_end::<N>(begin, top));
-    let mut word = word_of_kind::<B, K>(bits, at_end::<N>(first, last)).and(mask);
-    let mut passed = 0;
+    let mut k = at_end::<N>(first, last);
+    let mut word = word_of_kind::<B, K>(bits, k).and(mask);
     loop {
         let away = from_end::<B::LeafWord, E, N>(word);
         if away != width {
-            let k = at_end::<N>(first + passed, last - passed);
             let found = k * width + at_end::<N>(away, width - 1 - away);
             return if at_end::<N>(found, from) <= at_end::<N>(to - 1, found) {
                 Some(found)
@@ -59,10 +58,10 @@ pub fn end_in<B: Bits, E: Endian, K: Kind, N: End>(bits: &B, from: u32, to: u32)
                 None
             };
         }
-        if passed == last - first {
+        if k == at_end::<N>(last, first) {
             return None;
         }
-        passed += 1;
-        word = word_of_kind::<B, K>(bits, at_end::<N>(first + passed, last - passed));
+        k = if N::FRONT { k + 1 } else { k - 1 };
+        word = word_of_kind::<B, K>(bits, k);
     }
 }

@@ -1,18 +1,15 @@
-use Rattle.std.proofs.Common.{◌+◌, ◌-◌, ◌≤◌, cond}
+use Rattle.std.proofs.Common.{◌-◌, cond}
 use Rattle.bittle_bits.specs.Orders.{read_in}
 use Rattle.bittle_bits.specs.Walk.{ones_or_zeros}
 use Rattle.bittle_bits.proofs.Searches.{Searches}
 use Rattle.bittle_bits.proofs.internal.search.end_in.Given as goal
 
-abbrev pub invariant-loop-k : goal.invariant-loop-k
-invariant-loop-k g l =
+abbrev pub invariant-loop-found : goal.invariant-loop-found
+invariant-loop-found g l =
     let m = g.E.Endian.mirrored in
     let w = g.B.Shape.width in
-    let front = g.N.End.FRONT in
-    (l.passed ≤ l.last - l.first)
-    × Searches front m w (ones_or_zeros g.K.Kind.ONES (read_in m w (g.B.Shape.big l.bits)))
-    l.fn.from l.fn.to (cond front (l.first + l.passed) (l.last - l.passed))
-    (g.B.LeafWord.Word.pattern l.word)
+    Searches g.N.End.FRONT m w (ones_or_zeros g.K.Kind.ONES (read_in m w (g.B.Shape.big l.bits)))
+    l.fn.from l.fn.to l.first l.last l.k (g.B.LeafWord.Word.pattern l.word)
 
-abbrev pub decreases-loop-k : goal.decreases-loop-k
-decreases-loop-k g l = l.last - l.first - l.passed
+abbrev pub decreases-loop-found : goal.decreases-loop-found
+decreases-loop-found g l = cond g.N.End.FRONT (l.last - l.k) (l.k - l.first)
