@@ -37,7 +37,8 @@ loop-at-init g c =
     record {
       same = c.assign_in_element-2.ensures.length;
       begun = omega (arith, ends.from, ends.begin, end);
-      set = rw (c.element_ends-each.ensures.each, ← ends.from, end) at c.assign_in_element-2.ensures.set;
+      set = rw (c.element_ends-each.ensures.each, ← ends.from, end)
+          at c.assign_in_element-2.ensures.set;
     }
 
 pub loop-at-preserved : goal.loop-at-preserved
