@@ -1,14 +1,15 @@
 -- What an operation makes of two sets, word by word.
-use Rattle.std.proofs.Common.{◌≡◌, ℕ, ◌+◌, ◌-◌, ◌*◌, ◌/◌, ◌^◌, ◌<◌, ◌≤◌, Bool, false, inl, inr, sym, ap, ◌∙◌, arith, bit_or, min}
+use Rattle.std.proofs.Common.{◌≡◌, ℕ, ◌+◌, ◌-◌, ◌*◌, ◌/◌, ◌^◌, ◌<◌, ◌≤◌, Bool, false, inl, inr, sym, ap, ◌∙◌, arith, bit_or, min, le_trans}
 use Rattle.std.proofs.lemmas.Bool.{cases_lt, true≢false}
 use Rattle.std.proofs.lemmas.Nat.{le_or_l, le_or_r}
 use Rattle.std.proofs.Math.Nat.{mul-div_left, mul-le-mul_right}
 use Rattle.bittle_bits.specs.BitPatterns.{bit_has, bit_set}
-use Rattle.bittle_bits.specs.Decided.{NoneDecidedBelow, IsFirstDecided}
+use Rattle.bittle_bits.specs.Decided.{HaveWords, NoneDecidedBelow, IsFirstDecided}
 use Rattle.bittle_bits.specs.Orders.{place, read_in}
 use Rattle.bittle_bits.specs.PlainSet.{PlainSet, IsLeastMember}
 use Rattle.bittle_bits.specs.SetOperations.{combination_of}
 use Rattle.bittle_bits.specs.Words.{word_has, word_of}
+use Rattle.bittle_bits.specs.declared.shape.Shape as shape
 use Rattle.bittle_bits.proofs.BitSets.{bit_has-zero, bit_has-below, some_digit}
 use Rattle.bittle_bits.proofs.PlaceLemmas.{place_part, place_in_word, place-place}
 use Rattle.bittle_bits.proofs.SetOperations.{combination-below}
@@ -79,18 +80,16 @@ in_words k words w r below low =
     let up : (k + 1) * w ≤ words * w = mul-le-mul_right w (omega (arith, below)) in
     omega (arith, up, low)
 
--- a word below a number of words ends within what those make up
-pub word_within : (k words w c : ℕ) → k < words → words * w ≤ c → (k + 1) * w ≤ c
-word_within k words w c below within =
-    let up : (k + 1) * w ≤ words * w = mul-le-mul_right w (omega (arith, below)) in
-    omega (arith, up, within)
-
--- four words that are whole within a number of words lie within what those make up
-pub four_within : (four words w c : ℕ) → four < words / 4 → words * w ≤ c →
-    (four * 4 + 4) * w ≤ c
-four_within four words w c below within =
-    let up : (four * 4 + 4) * w ≤ words * w = mul-le-mul_right w (omega (arith, below)) in
-    omega (arith, up, within)
+-- values that have as many words have fewer ones too
+pub fewer : {V W X Y : Type 0} (a : shape.Ghosts V W) (b : shape.Ghosts X Y) (left : V) (right : X)
+    (n k : ℕ) → HaveWords a b left right n → k ≤ n → HaveWords a b left right k
+fewer a b left right n k h le = record {
+  width = h.width;
+  left_fits = h.left_fits;
+  right_fits = h.right_fits;
+  in_left = le_trans (mul-le-mul_right a.width le) h.in_left;
+  in_right = le_trans (mul-le-mul_right b.width le) h.in_right;
+}
 
 -- a word that is not 0 has a least set bit
 pub some_least : (m : Bool) (w x r : ℕ) → 0 < w → x < 2 ^ w → (x ≡ 0 → ⊥) →

@@ -6,7 +6,7 @@ ghost use Rattle.bittle_bits.specs.PlainSet.{PlainSet};
 ghost use Rattle.bittle_bits.specs.Ends.{YieldsFrom};
 ghost use Rattle.bittle_bits.specs.Cursor.{items_left_in, walk_of, IsWalkStart, IsCounted};
 ghost use Rattle.bittle_bits.specs.Values.{set_in, ShapeFits};
-ghost use Rattle.bittle_bits.specs.Walk.{ones_or_zeros, AreBelow, IsFresh, ResumesAs, Steps};
+ghost use Rattle.bittle_bits.specs.Walk.{ones_or_zeros, AreBelow, ResumesAs, Steps};
 
 use crate::bits::Bits;
 use crate::endian::Endian;

@@ -1,8 +1,8 @@
 //! The least index that an operation on two sets makes a member, found word by word.
 
-ghost use Rattle.std.specs.Prelude.{◌≡◌, ◌+◌, ◌*◌, ◌<◌, ◌≤◌, min, IfSome, IsTrue, MatchOption};
+ghost use Rattle.std.specs.Prelude.{◌≡◌, ◌+◌, ◌*◌, ◌<◌, min, IfSome, IsTrue, MatchOption};
 ghost use Rattle.bittle_bits.specs.BitPatterns.{bit_set};
-ghost use Rattle.bittle_bits.specs.Decided.{NoneDecidedBelow, IsFirstDecided};
+ghost use Rattle.bittle_bits.specs.Decided.{HaveWords, NoneDecidedBelow, IsFirstDecided};
 ghost use Rattle.bittle_bits.specs.Orders.{read_in};
 ghost use Rattle.bittle_bits.specs.SetOperations.{combination_of};
 ghost use Rattle.bittle_bits.specs.Values.{set_in, ShapeFits};
@@ -16,11 +16,7 @@ use crate::word::Word;
 /// Returns word `k` of what an operation makes of two sets.
 #[inline]
 fn word_of_both<A: Bits, B: Bits, O: Operation>(left: &A, right: &B, k: u32) -> A::LeafWord
-    requires width { A.width ≡ B.width }
-    requires left_fits { ShapeFits A.Shape left.now }
-    requires right_fits { ShapeFits B.Shape right.now }
-    requires in_left { (k + 1) * A.width ≤ (A.big left.now).capacity }
-    requires in_right { (k + 1) * B.width ≤ (B.big right.now).capacity }
+    requires { HaveWords A.Shape B.Shape left.now right.now (k + 1) }
     ensures { bit_set A.width (A.LeafWord.pattern result)
         ≡ combination_of O.decide (word_of A.width (A.big left.now) k)
         (word_of A.width (B.big right.now) k) }
@@ -33,17 +29,14 @@ fn word_of_both<A: Bits, B: Bits, O: Operation>(left: &A, right: &B, k: u32) -> 
 /// Returns the least index in the words from `from` on and before `to` that an operation makes a
 /// member, or `None`.
 #[inline]
+#[tactic(auto, using(crate::proofs::DecidedWords::fewer))]
 fn first_among<A: Bits, B: Bits, E: Endian, O: Operation>(
     left: &A,
     right: &B,
     from: u32,
     to: u32,
 ) -> Option<u32>
-    requires width { A.width ≡ B.width }
-    requires left_fits { ShapeFits A.Shape left.now }
-    requires right_fits { ShapeFits B.Shape right.now }
-    requires in_left { to * A.width ≤ (A.big left.now).capacity }
-    requires in_right { to * B.width ≤ (B.big right.now).capacity }
+    requires { HaveWords A.Shape B.Shape left.now right.now to }
     ensures first { let ours = set_in A.Shape E.Endian left.now in
         let theirs = read_in E.mirrored A.width (B.big right.now) in
         NoneDecidedBelow O.decide ours theirs (from * A.width)
@@ -65,12 +58,9 @@ fn first_among<A: Bits, B: Bits, E: Endian, O: Operation>(
 /// test for all.
 // What it does not find empty is searched, so it promises nothing of `false`.
 #[inline]
+#[tactic(auto, using(crate::proofs::DecidedWords::fewer))]
 fn are_four_empty<A: Bits, B: Bits, E: Endian, O: Operation>(left: &A, right: &B, from: u32) -> bool
-    requires width { A.width ≡ B.width }
-    requires left_fits { ShapeFits A.Shape left.now }
-    requires right_fits { ShapeFits B.Shape right.now }
-    requires in_left { (from + 4) * A.width ≤ (A.big left.now).capacity }
-    requires in_right { (from + 4) * B.width ≤ (B.big right.now).capacity }
+    requires { HaveWords A.Shape B.Shape left.now right.now (from + 4) }
     ensures { let ours = set_in A.Shape E.Endian left.now in
         let theirs = read_in E.mirrored A.width (B.big right.now) in
         IsTrue result → NoneDecidedBelow O.decide ours theirs (from * A.width)
@@ -85,16 +75,13 @@ fn are_four_empty<A: Bits, B: Bits, E: Endian, O: Operation>(left: &A, right: &B
 
 /// Returns the least index in the first `words` words that an operation makes a member, or `None`.
 #[inline]
+#[tactic(auto, using(crate::proofs::DecidedWords::fewer))]
 fn first_below<A: Bits, B: Bits, E: Endian, O: Operation>(
     left: &A,
     right: &B,
     words: u32,
 ) -> Option<u32>
-    requires width { A.width ≡ B.width }
-    requires left_fits { ShapeFits A.Shape left.now }
-    requires right_fits { ShapeFits B.Shape right.now }
-    requires in_left { words * A.width ≤ (A.big left.now).capacity }
-    requires in_right { words * B.width ≤ (B.big right.now).capacity }
+    requires { HaveWords A.Shape B.Shape left.now right.now words }
     ensures first { let ours = set_in A.Shape E.Endian left.now in
         let theirs = read_in E.mirrored A.width (B.big right.now) in
         MatchOption result (NoneDecidedBelow O.decide ours theirs (words * A.width))

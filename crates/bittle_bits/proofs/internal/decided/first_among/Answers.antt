@@ -1,23 +1,14 @@
-use Rattle.std.proofs.Common.{◌≡◌, ◌≤◌, ◌*◌, sym, ◌∙◌, arith}
+use Rattle.std.proofs.Common.{◌≡◌, ◌+◌, ◌≤◌, ◌*◌, sym, ◌∙◌, arith}
 use Rattle.std.proofs.lemmas.Bool.{eqb-true, eqb-false}
 use Rattle.std.proofs.Math.Nat.{mul-le-mul_right}
-use Rattle.bittle_bits.proofs.DecidedWords.{none_in_word, first_in_word, some_least, word_within, in_words}
+use Rattle.bittle_bits.proofs.DecidedWords.{none_in_word, first_in_word, some_least, fewer, in_words}
 use Rattle.bittle_bits.proofs.internal.decided.first_among.Goals as goal
-
-pub word_of_both-word-requires-clause-in_left : goal.word_of_both-word-requires-clause-in_left
-word_of_both-word-requires-clause-in_left g c =
-    word_within _ c.args.to _ _ (omega (arith, c.loop-k-test.true)) c.requires.in_left
-
-pub word_of_both-word-requires-clause-in_right : goal.word_of_both-word-requires-clause-in_right
-word_of_both-word-requires-clause-in_right g c =
-    word_within _ c.args.to _ _ (omega (arith, c.loop-k-test.true)) c.requires.in_right
 
 pub overflow_mul-result : goal.overflow_mul-result
 overflow_mul-result g c =
-    let within = word_within c.loop-k.k c.args.to _ _ (omega (arith, c.loop-k-test.true))
-    c.requires.in_left in
+    let more = fewer _ _ _ _ _ (c.loop-k.k + 1) c.requires (omega (arith, c.loop-k-test.true)) in
     rw (c.width-width.ensures ∙ g.met.A.Bits.leaf_width)
-    (omega (arith, within, c.requires.left_fits.1))
+    (omega (arith, more.in_left, c.requires.left_fits.1))
 
 pub returns-then-not-is_zero-clause-first : goal.returns-then-not-is_zero-clause-first
 returns-then-not-is_zero-clause-first g c before =
