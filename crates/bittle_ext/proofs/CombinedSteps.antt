@@ -1,12 +1,11 @@
--- The parts of a step of an iterator over two sets.
-use Rattle.std.proofs.Common.{◌≡◌, ℕ, ◌+◌, ◌-◌, ◌*◌, ◌<◌, ◌≤◌, ◌≢◌, Bool, List, [], ◌∷◌, ◌++◌, Option, Some, None, refl, sym, ap, subst, ◌∙◌, arith, append_assoc, append-nil}
+-- The parts of a step of an iterator over two sets, from the front or from the back.
+use Rattle.std.proofs.Common.{◌≡◌, ℕ, ◌+◌, ◌-◌, ◌*◌, ◌<◌, ◌≤◌, ◌≢◌, Bool, true, false, not, List, [], ◌∷◌, ◌++◌, Option, Some, None, MatchOption, refl, sym, ap, subst, ◌∙◌, arith, append_assoc, append-nil}
 use Rattle.std.proofs.Math.Nat.{mul-le-mul_right}
 use Rattle.std.proofs.lemmas.List.Elements.{All-nil, All-cons, All-head, All-tail}
-use Rattle.std.specs.Iterator.{YieldsFirst, YieldsLast}
-use Rattle.bittle_bits.specs.Buffers.{members_between}
+use Rattle.bittle_bits.specs.Buffers.{members_between, with_end, YieldsFrom}
 use Rattle.bittle_bits.specs.PlainSet.{PlainSet}
 use Rattle.bittle_bits.proofs.Items.{members_between-split, members_between-empty}
-use Rattle.bittle_ext.specs.Combined.{items_of_loaded, items_at, AreIndexes, IsPlaced}
+use Rattle.bittle_ext.specs.Combined.{end_of, items_of_loaded, items_at, Scans, AreIndexes, IsPlaced}
 use Rattle.bittle_ext.specs.declared.both_words.Loaded.{Loaded}
 use Rattle.bittle_ext.specs.declared.both_words.Place.{Place}
 
@@ -23,30 +22,11 @@ indexes_right : (xs ys : List ℕ) → AreIndexes (xs ++ ys) → AreIndexes ys
 indexes_right [] ys h = h
 indexes_right (x ∷ xs) ys h = indexes_right xs ys (All-tail IsIndex x (xs ++ ys) h)
 
--- what a step leaves of indexes are indexes
-indexes_after_first : {T : Type 0} (items : T → List ℕ) (a b : T) (r : Option ℕ) →
-    YieldsFirst items a r b → AreIndexes (items a) → AreIndexes (items b)
-indexes_after_first items a b None y h = subst AreIndexes (sym y.1) (All-nil IsIndex)
-indexes_after_first items a b (Some x) y h = All-tail IsIndex x (items b) (subst AreIndexes y h)
-
-indexes_after_last : {T : Type 0} (items : T → List ℕ) (a b : T) (r : Option ℕ) →
-    YieldsLast items a r b → AreIndexes (items a) → AreIndexes (items b)
-indexes_after_last items a b None y h = subst AreIndexes (sym y.1) (All-nil IsIndex)
-indexes_after_last items a b (Some x) y h =
-    indexes_left (items b) (x ∷ []) (subst AreIndexes y h)
-
--- a step of one part of what has items is one of the whole, where both have the same ones
-first_through : {T U : Type 0} (f : T → List ℕ) (h : U → List ℕ) (a b : T) (x y : U)
-    (r : Option ℕ) → f a ≡ h x → f b ≡ h y → YieldsFirst h x r y → YieldsFirst f a r b
-first_through f h a b x y None before after e = (before ∙ e.0, after ∙ e.1)
-first_through f h a b x y (Some i) before after e =
-    before ∙ e ∙ ap (λ xs. i ∷ xs) (sym after)
-
-last_through : {T U : Type 0} (f : T → List ℕ) (h : U → List ℕ) (a b : T) (x y : U)
-    (r : Option ℕ) → f a ≡ h x → f b ≡ h y → YieldsLast h x r y → YieldsLast f a r b
-last_through f h a b x y None before after e = (before ∙ e.0, after ∙ e.1)
-last_through f h a b x y (Some i) before after e =
-    before ∙ e ∙ ap (λ xs. xs ++ i ∷ []) (sym after)
+-- without the one at an end they are indexes too
+indexes_after : (front : Bool) (x : ℕ) (xs : List ℕ) → AreIndexes (with_end front x xs) →
+    AreIndexes xs
+indexes_after true x xs h = All-tail IsIndex x xs h
+indexes_after false x xs h = indexes_left xs (x ∷ []) h
 
 -- a place that steps which load words have reached from one that has the same items left
 pub record IsReached {W : Type 0} (m : Bool) (leaf : ℕ) (pattern : W → ℕ) (w : ℕ) (s : PlainSet)
@@ -59,49 +39,19 @@ module _ {W : Type 0} {m : Bool} {leaf : ℕ} {pattern : W → ℕ} {w : ℕ} {s
   abbrev items : Loaded W → List ℕ
   items = items_of_loaded m leaf pattern
 
-  abbrev remaining : Place W → List ℕ
-  remaining = items_at m leaf pattern w s
+  abbrev left : Place W → List ℕ
+  left = items_at m leaf pattern w s
 
-  abbrev between : List ℕ
-  between = members_between s (at.low * w) (at.high * w)
-
-  -- the place with another head and tail
-  abbrev with_ends : Loaded W → Loaded W → Place W
-  with_ends h t = record { head = h; tail = t; low = at.low; high = at.high }
-
-  -- what remains of the words at both ends are indexes
-  pub head_indexes : AreIndexes (items at.head)
+  -- what remains of the word at an end are indexes
+  pub end_indexes : (front : Bool) → AreIndexes (items (end_of front at))
   unfolding items_at
-  head_indexes = indexes_left (items at.head) (between ++ items at.tail) p.placed.indexes
-
-  pub tail_indexes : AreIndexes (items at.tail)
-  unfolding items_at
-  tail_indexes = indexes_right between (items at.tail)
-      (indexes_right (items at.head) (between ++ items at.tail) p.placed.indexes)
-
-  -- a step that loads no word leads to a place
-  stepped : (h t : Loaded W) → AreIndexes (remaining (with_ends h t)) →
-      IsPlaced m leaf pattern w s (with_ends h t)
-  stepped h t are =
-      record { ordered = p.placed.ordered; between = p.placed.between; indexes = are }
-
-  stepped_first : (h t : Loaded W) (r : Option ℕ) → YieldsFirst remaining at r (with_ends h t) →
-      YieldsFirst remaining start r (with_ends h t) × IsPlaced m leaf pattern w s (with_ends h t)
-  stepped_first h t r y = (
-    first_through remaining remaining start (with_ends h t) at (with_ends h t) r p.same refl y,
-    stepped h t (indexes_after_first remaining at (with_ends h t) r y p.placed.indexes),
-  )
-
-  stepped_last : (h t : Loaded W) (r : Option ℕ) → YieldsLast remaining at r (with_ends h t) →
-      YieldsLast remaining start r (with_ends h t) × IsPlaced m leaf pattern w s (with_ends h t)
-  stepped_last h t r y = (
-    last_through remaining remaining start (with_ends h t) at (with_ends h t) r p.same refl y,
-    stepped h t (indexes_after_last remaining at (with_ends h t) r y p.placed.indexes),
-  )
+  end_indexes true = indexes_left (items at.head) _ p.placed.indexes
+  end_indexes false = indexes_right (members_between s (at.low * w) (at.high * w)) (items at.tail)
+      (indexes_right (items at.head) _ p.placed.indexes)
 
   -- a place that has the same items left is reached too
-  reached : (b : Place W) → b.low ≤ b.high → b.high * w < 4294967295 + w →
-      remaining at ≡ remaining b → IsReached m leaf pattern w s start b
+  reached : (b : Place W) → b.low ≤ b.high → b.high * w < 4294967295 + w → left at ≡ left b →
+      IsReached m leaf pattern w s start b
   reached b ordered few same = record {
     same = p.same ∙ same;
     placed = record {
@@ -111,31 +61,37 @@ module _ {W : Type 0} {m : Bool} {leaf : ℕ} {pattern : W → ℕ} {w : ℕ} {s
     };
   }
 
-  -- with no word between, the items of both ends are left
-  ended : (h t : Loaded W) → at.low ≡ at.high → remaining (with_ends h t) ≡ items h ++ items t
+  -- ---- the scans
+
+  -- a scan that yields an item takes it off what is left, and one that yields none takes nothing
+  after : (front : Bool) (b : Place W) (r : Option ℕ) → Scans m leaf pattern front at r b →
+      MatchOption r (left at ≡ left b) (λ x. left at ≡ with_end front x (left b))
   unfolding items_at
-  ended h t e = rw (e, members_between-empty s (at.high * w)) refl
+  after true b None y = rw (y.gave.0, y.gave.1, y.other, y.low, y.high) refl
+  after false b None y = rw (y.gave.0, y.gave.1, y.other, y.low, y.high) refl
+  after true b (Some x) y = rw (y.gave, y.other, y.low, y.high) refl
+  after false b (Some x) y = rw (y.gave, y.other, y.low, y.high) (simp append_assoc)
 
-  head_ended : (h t : Loaded W) → at.low ≡ at.high → items h ≡ [] →
-      remaining (with_ends h t) ≡ items t
-  head_ended h t e none = ended h t e ∙ ap (λ xs. xs ++ items t) none
+  pub gave : (front : Bool) (b : Place W) (x : ℕ) → Scans m leaf pattern front at (Some x) b →
+      YieldsFrom front left start (Some x) b × IsPlaced m leaf pattern w s b
+  gave front b x y =
+      let now = after front b (Some x) y in (
+        p.same ∙ now,
+        record {
+          ordered = omega (arith, p.placed.ordered, y.low, y.high);
+          between = rw y.high p.placed.between;
+          indexes = indexes_after front x (left b) (subst AreIndexes now p.placed.indexes);
+        },
+      )
 
-  tail_ended : (h t : Loaded W) → at.low ≡ at.high → items t ≡ [] →
-      remaining (with_ends h t) ≡ items h
-  tail_ended h t e none =
-      ended h t e ∙ ap (λ xs. items h ++ xs) none ∙ append-nil (items h)
+  pub exhausted : (front : Bool) (b : Place W) → Scans m leaf pattern front at None b →
+      IsReached m leaf pattern w s start b
+  exhausted front b y = reached b (omega (arith, p.placed.ordered, y.low, y.high))
+      (rw y.high p.placed.between) (after front b None y)
 
-  -- ---- from the front
+  -- ---- the loads
 
-  -- the head gives its first item
-  pub head_gave : (h : Loaded W) (x : ℕ) → items at.head ≡ x ∷ items h →
-      YieldsFirst remaining start (Some x) (with_ends h at.tail)
-      × IsPlaced m leaf pattern w s (with_ends h at.tail)
-  unfolding items_at
-  head_gave h x e =
-      stepped_first h at.tail (Some x) (ap (λ xs. xs ++ (between ++ items at.tail)) e)
-
-  -- the head is empty, and the next word is loaded to it
+  -- the next word between is loaded to the head
   pub head_loaded : (l : Loaded W) → items at.head ≡ [] → at.low ≢ at.high →
       items l ≡ members_between s (at.low * w) (at.low * w + w) →
       IsReached m leaf pattern w s start
@@ -151,26 +107,7 @@ module _ {W : Type 0} {m : Bool} {leaf : ℕ} {pattern : W → ℕ} {w : ℕ} {s
       ∙ append_assoc (members_between s (at.low * w) (at.low * w + w))
       (members_between s (at.low * w + w) (at.high * w)) (items at.tail)))
 
-  -- with the head empty and no word between, the tail gives its first item, or nothing is left
-  pub tail_gave : (h t : Loaded W) (r : Option ℕ) → YieldsFirst items at.head None h →
-      at.low ≡ at.high → YieldsFirst items at.tail r t →
-      YieldsFirst remaining start r (with_ends h t) × IsPlaced m leaf pattern w s (with_ends h t)
-  tail_gave h t r none e y = stepped_first h t r (first_through remaining items at (with_ends h t)
-      at.tail t r (head_ended at.head at.tail e none.0) (head_ended h t e none.1) y)
-
-  -- ---- the same from the back
-
-  -- the tail gives its last item
-  pub tail_gave_back : (t : Loaded W) (x : ℕ) → items at.tail ≡ items t ++ x ∷ [] →
-      YieldsLast remaining start (Some x) (with_ends at.head t)
-      × IsPlaced m leaf pattern w s (with_ends at.head t)
-  unfolding items_at
-  tail_gave_back t x e = stepped_last at.head t (Some x)
-      (ap (λ xs. items at.head ++ (between ++ xs)) e
-      ∙ ap (λ xs. items at.head ++ xs) (sym (append_assoc between (items t) (x ∷ [])))
-      ∙ sym (append_assoc (items at.head) (between ++ items t) (x ∷ [])))
-
-  -- the tail is empty, and the last word between is loaded to it
+  -- the last word between is loaded to the tail
   pub tail_loaded : (l : Loaded W) → items at.tail ≡ [] → at.low ≢ at.high →
       items l ≡ members_between s ((at.high - 1) * w) ((at.high - 1) * w + w) →
       IsReached m leaf pattern w s start
@@ -188,9 +125,36 @@ module _ {W : Type 0} {m : Bool} {leaf : ℕ} {pattern : W → ℕ} {w : ℕ} {s
       ∙ members_between-split s (at.low * w) ((at.high - 1) * w) ((at.high - 1) * w + w) up
       (omega arith))))
 
-  -- with the tail empty and no word between, the head gives its last item, or nothing is left
-  pub head_gave_back : (t h : Loaded W) (r : Option ℕ) → YieldsLast items at.tail None t →
-      at.low ≡ at.high → YieldsLast items at.head r h →
-      YieldsLast remaining start r (with_ends h t) × IsPlaced m leaf pattern w s (with_ends h t)
-  head_gave_back t h r none e y = stepped_last h t r (last_through remaining items at
-      (with_ends h t) at.head h r (tail_ended at.head at.tail e none.0) (tail_ended h t e none.1) y)
+  -- ---- the end
+
+  -- with no word between and none left at the other end, the word at an end has all that is left
+  all_at : (front : Bool) (b : Place W) → b.low ≡ b.high → items (end_of (not front) b) ≡ [] →
+      left b ≡ items (end_of front b)
+  unfolding items_at
+  all_at true b e none = rw (e, none, members_between-empty s (b.high * w)) (append-nil _)
+  all_at false b e none = rw (e, none, members_between-empty s (b.high * w)) refl
+
+  -- so the word at the other end changes its place
+  pub exchanged : (front : Bool) → at.low ≡ at.high → items (end_of front at) ≡ [] →
+      let b : Place W = record { head = at.tail; tail = at.head; low = at.low; high = at.high } in
+      IsReached m leaf pattern w s start b × (items (end_of (not front) b) ≡ [])
+  exchanged true e none = (
+    reached _ p.placed.ordered p.placed.between
+        (all_at false at e none ∙ sym (all_at true _ e none)),
+    none,
+  )
+  exchanged false e none = (
+    reached _ p.placed.ordered p.placed.between
+        (all_at true at e none ∙ sym (all_at false _ e none)),
+    none,
+  )
+
+  -- and the last scan is a step
+  pub ended : (front : Bool) (b : Place W) (r : Option ℕ) → at.low ≡ at.high →
+      items (end_of (not front) at) ≡ [] → Scans m leaf pattern front at r b →
+      YieldsFrom front left start r b × IsPlaced m leaf pattern w s b
+  ended front b None e none y =
+      let now = exhausted front b y in
+      let nothing = p.same ∙ all_at front at e none ∙ y.gave.0 in
+      ((nothing, sym now.same ∙ nothing), now.placed)
+  ended front b (Some x) e none y = gave front b x y

@@ -1,7 +1,7 @@
 -- What an operation makes of two sets, each of its own capacity, and where an iterator over it is.
-use Rattle.std.specs.Prelude.{◌≡◌, ℕ, ◌+◌, ◌*◌, ◌<◌, ◌≤◌, max, Bool, ◌||◌, ◌&&◌, List, ◌++◌}
+use Rattle.std.specs.Prelude.{◌≡◌, ℕ, ◌+◌, ◌*◌, ◌<◌, ◌≤◌, max, Bool, true, false, not, ◌||◌, ◌&&◌, List, ◌++◌, Option}
 use Rattle.std.specs.List.{All}
-use Rattle.bittle_bits.specs.Buffers.{members_between, items_of}
+use Rattle.bittle_bits.specs.Buffers.{members_between, items_of, YieldsFrom}
 use Rattle.bittle.specs.PlainSet.{PlainSet, size}
 use Rattle.bittle.specs.SetOperations.{first_alone, just_one}
 use Rattle.bittle.specs.Values.{set_in}
@@ -44,6 +44,11 @@ pub record CountsBoth (s t : PlainSet) (a b n : ℕ) : Type 0 where
   pub just_one : size (just_one_of s t) + n + n ≡ a + b
   pub most : size (just_one_of s t) ≤ max s.capacity t.capacity
 
+-- what remains of the first of the words of a place, or of the last one
+abbrev pub end_of : {W : Type 0} → Bool → Place W → Loaded W
+end_of true at = at.head
+end_of false at = at.tail
+
 -- the type is that of the words, which have so many bits
 module _ {W : Type 0} (mirrored : Bool) (leaf : ℕ) (pattern : W → ℕ) where
   -- the items of a loaded word
@@ -65,3 +70,12 @@ pub record IsPlaced {W : Type 0} (mirrored : Bool) (leaf : ℕ) (pattern : W →
   pub ordered : at.low ≤ at.high
   pub between : at.high * w < 4294967295 + w
   pub indexes : AreIndexes (items_at mirrored leaf pattern w s at)
+
+-- a scan of the word at an end of a place takes its item there, and changes nothing else
+pub record Scans {W : Type 0} (mirrored : Bool) (leaf : ℕ) (pattern : W → ℕ) (front : Bool)
+    (before : Place W) (r : Option ℕ) (after : Place W) : Type 0 where
+  pub gave : YieldsFrom front (items_of_loaded mirrored leaf pattern) (end_of front before) r
+      (end_of front after)
+  pub other : end_of (not front) after ≡ end_of (not front) before
+  pub low : after.low ≡ before.low
+  pub high : after.high ≡ before.high

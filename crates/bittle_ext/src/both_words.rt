@@ -1,12 +1,11 @@
 //! The words that an operation makes of two sets, and the steps of an iterator over them.
 
-ghost use Rattle.std.specs.Iterator.{YieldsFirst, YieldsLast};
 ghost use Rattle.std.specs.Prelude.{◌≡◌, ◌+◌, ◌*◌, ◌<◌, ◌≤◌};
-ghost use Rattle.bittle_bits.specs.Buffers.{members_between};
+ghost use Rattle.bittle_bits.specs.Buffers.{members_between, YieldsFrom};
 ghost use Rattle.bittle_bits.specs.BitPatterns.{bit_set};
 ghost use Rattle.bittle_bits.specs.Words.{word_of};
 ghost use Rattle.bittle_ext.specs.Combined.{decided_of, items_of_loaded, items_at};
-ghost use Rattle.bittle_ext.specs.Combined.{AreIndexes, IsPlaced};
+ghost use Rattle.bittle_ext.specs.Combined.{end_of, AreIndexes, IsPlaced, Scans};
 ghost use Rattle.bittle.specs.Orders.{read_in};
 ghost use Rattle.bittle.specs.Values.{ShapeFits};
 
@@ -73,26 +72,19 @@ fn load<A: Bits, B: Bits, E: Endian, F: Endian, O: Operation>(
     }
 }
 
-/// Takes the first item of a loaded word.
+/// Takes the item at an end of what remains of the word there: the first one at the front.
 #[inline]
-fn scan_first<W: Word, E: Endian>(loaded: &mut Loaded<W>) -> Option<u32>
-    requires { AreIndexes (items_of_loaded E.mirrored W.width W.pattern loaded.old) }
-    ensures { YieldsFirst (items_of_loaded E.mirrored W.width W.pattern)
-        loaded.old result loaded.new }
+fn scan<W: Word, E: Endian, const FRONT: bool>(at: &mut Place<W>) -> Option<u32>
+    requires { AreIndexes (items_of_loaded E.mirrored W.width W.pattern (end_of FRONT at.old)) }
+    ensures { Scans E.mirrored W.width W.pattern FRONT at.old result at.new }
 {
-    let index = one_word::pop_first::<W, E>(&mut loaded.word)?;
-    Some(loaded.base + index)
-}
-
-/// Takes the last item of a loaded word.
-#[inline]
-fn scan_last<W: Word, E: Endian>(loaded: &mut Loaded<W>) -> Option<u32>
-    requires { AreIndexes (items_of_loaded E.mirrored W.width W.pattern loaded.old) }
-    ensures { YieldsLast (items_of_loaded E.mirrored W.width W.pattern)
-        loaded.old result loaded.new }
-{
-    let index = one_word::pop_last::<W, E>(&mut loaded.word)?;
-    Some(loaded.base + index)
+    if FRONT {
+        let index = one_word::pop_first::<W, E>(&mut at.head.word)?;
+        Some(at.head.base + index)
+    } else {
+        let index = one_word::pop_last::<W, E>(&mut at.tail.word)?;
+        Some(at.tail.base + index)
+    }
 }
 
 /// Returns the place before the first of the words that reach an end.
@@ -117,9 +109,9 @@ pub fn begin<W: Word>(end: u32) -> Place<W>
     }
 }
 
-/// Takes the first item that remains.
+/// Takes the item at an end of those that remain: the first one at the front.
 #[inline]
-pub fn step_front<A: Bits, B: Bits, E: Endian, F: Endian, O: Operation>(
+pub fn step<A: Bits, B: Bits, E: Endian, F: Endian, O: Operation, const FRONT: bool>(
     left: &A,
     right: &B,
     at: &mut Place<A::LeafWord>,
@@ -129,48 +121,29 @@ pub fn step_front<A: Bits, B: Bits, E: Endian, F: Endian, O: Operation>(
     requires placed { let both = decided_of O.decide A.Shape E.Endian left.now B.Shape F.Endian right.now in
         IsPlaced E.mirrored A.LeafWord.width A.LeafWord.pattern A.width both at.old }
     ensures { let both = decided_of O.decide A.Shape E.Endian left.now B.Shape F.Endian right.now in
-        YieldsFirst (items_at E.mirrored A.LeafWord.width A.LeafWord.pattern A.width both)
+        YieldsFrom FRONT (items_at E.mirrored A.LeafWord.width A.LeafWord.pattern A.width both)
         at.old result at.new
         × IsPlaced E.mirrored A.LeafWord.width A.LeafWord.pattern A.width both at.new }
 {
     loop {
-        if let Some(item) = scan_first::<A::LeafWord, E>(&mut at.head) {
+        if let Some(item) = scan::<A::LeafWord, E, FRONT>(at) {
             return Some(item);
         }
         if at.low == at.high {
             break;
         }
-        at.head = load::<A, B, E, F, O>(left, right, at.low);
-        at.low += 1;
-    }
-    scan_first::<A::LeafWord, E>(&mut at.tail)
-}
-
-/// Takes the last item that remains.
-#[inline]
-pub fn step_back<A: Bits, B: Bits, E: Endian, F: Endian, O: Operation>(
-    left: &A,
-    right: &B,
-    at: &mut Place<A::LeafWord>,
-) -> Option<u32>
-    requires left_fits { ShapeFits A.Shape left.now }
-    requires right_fits { ShapeFits B.Shape right.now }
-    requires placed { let both = decided_of O.decide A.Shape E.Endian left.now B.Shape F.Endian right.now in
-        IsPlaced E.mirrored A.LeafWord.width A.LeafWord.pattern A.width both at.old }
-    ensures { let both = decided_of O.decide A.Shape E.Endian left.now B.Shape F.Endian right.now in
-        YieldsLast (items_at E.mirrored A.LeafWord.width A.LeafWord.pattern A.width both)
-        at.old result at.new
-        × IsPlaced E.mirrored A.LeafWord.width A.LeafWord.pattern A.width both at.new }
-{
-    loop {
-        if let Some(item) = scan_last::<A::LeafWord, E>(&mut at.tail) {
-            return Some(item);
+        if FRONT {
+            at.head = load::<A, B, E, F, O>(left, right, at.low);
+            at.low += 1;
+        } else {
+            at.high -= 1;
+            at.tail = load::<A, B, E, F, O>(left, right, at.high);
         }
-        if at.low == at.high {
-            break;
-        }
-        at.high -= 1;
-        at.tail = load::<A, B, E, F, O>(left, right, at.high);
     }
-    scan_last::<A::LeafWord, E>(&mut at.head)
+    // No word is left between, so the one at the other end has all that remains. It changes its
+    // place, so that the next step finds it at once.
+    let head = at.head;
+    at.head = at.tail;
+    at.tail = head;
+    scan::<A::LeafWord, E, FRONT>(at)
 }

@@ -8,7 +8,7 @@ ghost use Rattle.bittle.specs.PlainSet.{ascending};
 ghost use Rattle.bittle.specs.Values.{set_in, ShapeFits};
 ghost use Rattle.bittle.specs.Walk.{AreBelow, ListsInOrder, ListsInReverse};
 
-use crate::both_words::{Place, begin, step_back, step_front};
+use crate::both_words::{Place, begin, step};
 use crate::capacities::capacity_of;
 use bittle::{Bits, Endian, Shape};
 use bittle_bits::one_word::{Conjunction, Difference, Operation, SymmetricDifference, Union};
@@ -105,7 +105,7 @@ impl<'a, A: Bits, B: Bits, E: Endian, F: Endian, O: Operation> Iterator
 
     #[inline]
     fn next(&mut self) -> Option<u32> {
-        step_front::<A, B, E, F, O>(self.left, self.right, &mut self.at)
+        step::<A, B, E, F, O, true>(self.left, self.right, &mut self.at)
     }
 }
 
@@ -115,7 +115,7 @@ impl<'a, A: Bits, B: Bits, E: Endian, F: Endian, O: Operation> DoubleEndedIterat
 
     #[inline]
     fn next_back(&mut self) -> Option<u32> {
-        step_back::<A, B, E, F, O>(self.left, self.right, &mut self.at)
+        step::<A, B, E, F, O, false>(self.left, self.right, &mut self.at)
     }
 }
 

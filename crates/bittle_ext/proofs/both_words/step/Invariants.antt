@@ -1,7 +1,7 @@
 use Rattle.std.proofs.Common.{◌-◌}
 use Rattle.bittle_ext.specs.Combined.{decided_of}
 use Rattle.bittle_ext.proofs.CombinedSteps.{IsReached}
-use Rattle.bittle_ext.proofs.both_words.step_back.Given as goal
+use Rattle.bittle_ext.proofs.both_words.step.Given as goal
 
 abbrev pub invariant-loop-item : goal.invariant-loop-item
 invariant-loop-item g l =
