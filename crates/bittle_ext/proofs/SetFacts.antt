@@ -1,12 +1,12 @@
 -- Searches that begin or end past the capacity.
-use Rattle.std.proofs.Common.{◌≡◌, ℕ, ◌*◌, ◌<◌, ◌≤◌, Bool, true, false, not, ◌&&◌, Option, Some, None, is_some, MatchBool, inl, inr, refl, sym, ap, ◌∙◌, arith, min, max}
+use Rattle.std.proofs.Common.{◌≡◌, ℕ, ◌*◌, ◌<◌, ◌≤◌, Bool, true, false, not, ◌&&◌, List, [], Option, Some, None, is_some, MatchBool, inl, inr, refl, sym, ap, ◌∙◌, arith, min, max}
 use Rattle.std.proofs.lemmas.Bool.{cases_lt, le-ltb, true≢false, and_right}
 use Rattle.bittle_bits.specs.PlainSet.{PlainSet, complement, lacks}
 use Rattle.bittle_bits.specs.Orders.{read_in}
-use Rattle.bittle_bits.specs.Searches.{IsFirstIn, IsLastIn}
+use Rattle.bittle_bits.specs.Searches.{NoneIn, IsFirstIn, IsLastIn}
 use Rattle.bittle_bits.proofs.PlainSets.{members-past}
 use Rattle.bittle.proofs.CallerSets.{complement_within}
-use Rattle.bittle_ext.specs.RangeMembers.{EndsAt, HasAllIn, HasSomeIn}
+use Rattle.bittle_ext.specs.RangeMembers.{EndsAt, HasAllIn, HasSomeIn, IsEndIn, TakesEnd}
 
 -- no number from the capacity on is in the complement
 pub complement_past : (s : PlainSet) (i : ℕ) → s.capacity ≤ i → (complement s).has i ≡ false
@@ -52,6 +52,18 @@ last_to s c to at (Some i) past e h = (
   h.2,
   λ k p q. elim (cases_lt k c) [ inl l ↦ h.3 k p (omega (arith, e)) | inr g ↦ past k g ],
 )
+
+-- a search at an end that found nothing tells that nothing is there, and a step over a list that is
+-- empty takes nothing
+pub none_at : (front : Bool) (s : PlainSet) (from to : ℕ) → IsEndIn front s from to None →
+    NoneIn s from to
+none_at true s from to none = none
+none_at false s from to none = none
+
+pub takes_none : {A : Type 0} (front : Bool) (xs ys : List A) → xs ≡ [] → ys ≡ [] →
+    TakesEnd front xs None ys
+takes_none true xs ys before after = (before, after)
+takes_none false xs ys before after = (before, after)
 
 -- what is not false is true, and what is not true is false
 pub not_false : (b : Bool) → not b ≡ false → b ≡ true

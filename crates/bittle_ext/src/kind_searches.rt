@@ -1,16 +1,33 @@
-//! Searches in a range for the bits of a kind, set or unset.
+//! Searches in a range for the bits of a kind, set or unset, from either end.
 
 ghost use Rattle.std.specs.Prelude.{◌≤◌, not};
-ghost use Rattle.bittle.specs.Searches.{IsFirstIn, IsLastIn};
+ghost use Rattle.bittle_ext.specs.RangeMembers.{IsEndIn};
 ghost use Rattle.bittle.specs.Values.{set_in, ShapeFits};
 ghost use Rattle.bittle.specs.Walk.{ones_or_zeros};
 
 use bittle::{Bits, Endian};
+use bittle_bits::internal::sealed::Sealed;
 use bittle_bits::internal::source::Kind;
+use std::marker::PhantomData;
 
-/// Returns the least index of a bit of the kind in `from..to`, in the order `E`, or `None`.
+/// Names the bits that `K` does not name.
+#[derive(Drop)]
+pub(crate) struct Others<K: Kind> {
+    kind: PhantomData<K>,
+}
+
+impl<K: Kind> Sealed for Others<K> {}
+
+impl<K: Kind> Kind for Others<K> {
+    ghost ONES = { not K.ONES };
+
+    const ONES: bool = !K::ONES;
+}
+
+/// Returns the index of a bit of the kind at an end of `from..to`, in the order `E`, or `None`: at
+/// the front the least one, at the back the greatest.
 #[inline]
-pub(crate) fn first_of_kind<B: Bits, E: Endian, K: Kind>(
+pub(crate) fn search<B: Bits, E: Endian, K: Kind, const FRONT: bool>(
     bits: &B,
     from: u32,
     to: u32,
@@ -18,67 +35,13 @@ pub(crate) fn first_of_kind<B: Bits, E: Endian, K: Kind>(
     requires fits { ShapeFits B.Shape bits.now }
     requires ordered { from ≤ to }
     requires within { to ≤ (B.big bits.now).capacity }
-    ensures { IsFirstIn (ones_or_zeros K.ONES (set_in B.Shape E.Endian bits.now)) from to result }
-{
-    if K::ONES {
-        bits.first_one_in::<E>(from, to)
-    } else {
-        bits.first_zero_in::<E>(from, to)
-    }
-}
-
-/// Returns the greatest index of a bit of the kind in `from..to`, in the order `E`, or `None`.
-#[inline]
-pub(crate) fn last_of_kind<B: Bits, E: Endian, K: Kind>(bits: &B, from: u32, to: u32) -> Option<u32>
-    requires fits { ShapeFits B.Shape bits.now }
-    requires ordered { from ≤ to }
-    requires within { to ≤ (B.big bits.now).capacity }
-    ensures { IsLastIn (ones_or_zeros K.ONES (set_in B.Shape E.Endian bits.now)) from to result }
-{
-    if K::ONES {
-        bits.last_one_in::<E>(from, to)
-    } else {
-        bits.last_zero_in::<E>(from, to)
-    }
-}
-
-/// Returns the least index of a bit of the other kind in `from..to`, in the order `E`, or `None`.
-#[inline]
-pub(crate) fn first_of_other<B: Bits, E: Endian, K: Kind>(
-    bits: &B,
-    from: u32,
-    to: u32,
-) -> Option<u32>
-    requires fits { ShapeFits B.Shape bits.now }
-    requires ordered { from ≤ to }
-    requires within { to ≤ (B.big bits.now).capacity }
-    ensures { IsFirstIn (ones_or_zeros (not K.ONES) (set_in B.Shape E.Endian bits.now)) from to
+    ensures { IsEndIn FRONT (ones_or_zeros K.ONES (set_in B.Shape E.Endian bits.now)) from to
         result }
 {
-    if K::ONES {
-        bits.first_zero_in::<E>(from, to)
-    } else {
-        bits.first_one_in::<E>(from, to)
-    }
-}
-
-/// Returns the greatest index of a bit of the other kind in `from..to`, in the order `E`, or
-/// `None`.
-#[inline]
-pub(crate) fn last_of_other<B: Bits, E: Endian, K: Kind>(
-    bits: &B,
-    from: u32,
-    to: u32,
-) -> Option<u32>
-    requires fits { ShapeFits B.Shape bits.now }
-    requires ordered { from ≤ to }
-    requires within { to ≤ (B.big bits.now).capacity }
-    ensures { IsLastIn (ones_or_zeros (not K.ONES) (set_in B.Shape E.Endian bits.now)) from to
-        result }
-{
-    if K::ONES {
-        bits.last_zero_in::<E>(from, to)
-    } else {
-        bits.last_one_in::<E>(from, to)
+    match (FRONT, K::ONES) {
+        (true, true) => bits.first_one_in::<E>(from, to),
+        (true, false) => bits.first_zero_in::<E>(from, to),
+        (false, true) => bits.last_one_in::<E>(from, to),
+        (false, false) => bits.last_zero_in::<E>(from, to),
     }
 }

@@ -3,13 +3,13 @@
 ghost use Rattle.std.specs.Iterator.{YieldsFirst, YieldsLast, item_count};
 ghost use Rattle.std.specs.Prelude.{◌≡◌, ◌-◌, ◌≤◌, length, ⊤};
 ghost use Rattle.bittle_bits.specs.Buffers.{members_between};
-ghost use Rattle.bittle_ext.specs.RangeMembers.{members_within, AreWithin};
+ghost use Rattle.bittle_ext.specs.RangeMembers.{members_within, AreWithin, TakesEnd};
 ghost use Rattle.bittle_ext.specs.Runs.{runs, AreRunsBelow, RunsInOrder, RunsInReverse};
 ghost use Rattle.bittle.specs.PlainSet.{ascending, complement, members_below};
 ghost use Rattle.bittle.specs.Values.{set_in, ShapeFits};
 ghost use Rattle.bittle.specs.Walk.{ones_or_zeros, ListsInOrder, ListsInReverse};
 
-use crate::kind_searches::{first_of_kind, last_of_kind};
+use crate::kind_searches::search;
 use crate::run_iterators::{IterOneRuns, IterRuns, IterZeroRuns};
 use bittle::{Bits, Endian, Shape};
 use bittle_bits::internal::source::{Kind, Ones, Zeros};
@@ -85,7 +85,7 @@ impl<'a, B: Bits, E: Endian, K: Kind> Iterator for IterInRange<'a, B, E, K> {
 
     #[inline]
     fn next(&mut self) -> Option<u32> {
-        step_front::<B, E, K>(self.bits, &mut self.from, self.to)
+        step::<B, E, K, true>(self.bits, &mut self.from, &mut self.to)
     }
 }
 
@@ -94,7 +94,7 @@ impl<'a, B: Bits, E: Endian, K: Kind> DoubleEndedIterator for IterInRange<'a, B,
 
     #[inline]
     fn next_back(&mut self) -> Option<u32> {
-        step_back::<B, E, K>(self.bits, self.from, &mut self.to)
+        step::<B, E, K, false>(self.bits, &mut self.from, &mut self.to)
     }
 }
 
@@ -115,40 +115,31 @@ impl<'a, B: Bits, E: Endian, K: Kind> Clone for IterInRange<'a, B, E, K> {
     }
 }
 
-/// Returns the least index of the kind that remains, and goes on past it.
+/// Takes the index of the kind at an end of those that remain: the least one at the front.
 #[inline]
-fn step_front<B: Bits, E: Endian, K: Kind>(bits: &B, from: &mut u32, to: u32) -> Option<u32>
+fn step<B: Bits, E: Endian, K: Kind, const FRONT: bool>(
+    bits: &B,
+    from: &mut u32,
+    to: &mut u32,
+) -> Option<u32>
     requires fits { ShapeFits B.Shape bits.now }
-    requires ordered { from.old ≤ to }
-    requires within { to ≤ (B.big bits.now).capacity }
-    ensures gave { let ours = ones_or_zeros K.ONES (set_in B.Shape E.Endian bits.now) in
-        YieldsFirst (λ at. members_between ours at to) from.old result from.new }
-    ensures ordered { from.new ≤ to }
-{
-    let Some(index) = first_of_kind::<B, E, K>(bits, *from, to) else {
-        *from = to;
-        return None;
-    };
-    *from = index + 1;
-    Some(index)
-}
-
-/// Returns the greatest index of the kind that remains, and goes on below it.
-#[inline]
-fn step_back<B: Bits, E: Endian, K: Kind>(bits: &B, from: u32, to: &mut u32) -> Option<u32>
-    requires fits { ShapeFits B.Shape bits.now }
-    requires ordered { from ≤ to.old }
+    requires ordered { from.old ≤ to.old }
     requires within { to.old ≤ (B.big bits.now).capacity }
     ensures gave { let ours = ones_or_zeros K.ONES (set_in B.Shape E.Endian bits.now) in
-        YieldsLast (λ at. members_between ours from at) to.old result to.new }
-    ensures ordered { from ≤ to.new }
+        TakesEnd FRONT (members_between ours from.old to.old) result
+        (members_between ours from.new to.new) }
+    ensures ordered { from.new ≤ to.new }
     ensures within { to.new ≤ to.old }
 {
-    let Some(index) = last_of_kind::<B, E, K>(bits, from, *to) else {
-        *to = from;
+    let Some(index) = search::<B, E, K, FRONT>(bits, *from, *to) else {
+        *from = *to;
         return None;
     };
-    *to = index;
+    if FRONT {
+        *from = index + 1;
+    } else {
+        *to = index;
+    }
     Some(index)
 }
 

@@ -2,12 +2,13 @@
 
 ghost use Rattle.std.specs.Iterator.{YieldsFirst, YieldsLast, item_count};
 ghost use Rattle.std.specs.Prelude.{◌≡◌, ◌<◌, ◌≤◌, true, ⊤};
+ghost use Rattle.bittle_ext.specs.RangeMembers.{TakesEnd};
 ghost use Rattle.bittle_ext.specs.Runs.{runs, runs_between, AreRunsBelow};
 ghost use Rattle.bittle_ext.specs.Runs.{BeginsRun, EndsRun, RunsInOrder, RunsInReverse};
 ghost use Rattle.bittle.specs.Values.{set_in, ShapeFits};
 ghost use Rattle.bittle.specs.Walk.{ones_or_zeros};
 
-use crate::kind_searches::{first_of_kind, first_of_other, last_of_kind, last_of_other};
+use crate::kind_searches::{Others, search};
 use bittle::{Bits, Endian, Shape};
 use bittle_bits::internal::source::{Kind, Ones, Zeros};
 use std::alloc::AllocError;
@@ -79,7 +80,7 @@ impl<'a, B: Bits, E: Endian, K: Kind> Iterator for IterRuns<'a, B, E, K> {
 
     #[inline]
     fn next(&mut self) -> Option<Range<u32>> {
-        step_front::<B, E, K>(self.bits, &mut self.from, self.to)
+        step::<B, E, K, true>(self.bits, &mut self.from, &mut self.to)
     }
 }
 
@@ -88,7 +89,7 @@ impl<'a, B: Bits, E: Endian, K: Kind> DoubleEndedIterator for IterRuns<'a, B, E,
 
     #[inline]
     fn next_back(&mut self) -> Option<Range<u32>> {
-        step_back::<B, E, K>(self.bits, self.from, &mut self.to)
+        step::<B, E, K, false>(self.bits, &mut self.from, &mut self.to)
     }
 }
 
@@ -118,7 +119,7 @@ fn end_of_run<B: Bits, E: Endian, K: Kind>(bits: &B, start: u32, to: u32) -> u32
     requires member { (ones_or_zeros K.ONES (set_in B.Shape E.Endian bits.now)).has start ≡ true }
     ensures { EndsRun (ones_or_zeros K.ONES (set_in B.Shape E.Endian bits.now)) start to result }
 {
-    match first_of_other::<B, E, K>(bits, start + 1, to) {
+    match search::<B, E, Others<K>, true>(bits, start + 1, to) {
         Some(end) => end,
         None => to,
     }
@@ -133,47 +134,39 @@ fn start_of_run<B: Bits, E: Endian, K: Kind>(bits: &B, from: u32, last: u32) -> 
     requires member { (ones_or_zeros K.ONES (set_in B.Shape E.Endian bits.now)).has last ≡ true }
     ensures { BeginsRun (ones_or_zeros K.ONES (set_in B.Shape E.Endian bits.now)) from last result }
 {
-    match last_of_other::<B, E, K>(bits, from, last) {
+    match search::<B, E, Others<K>, false>(bits, from, last) {
         Some(gap) => gap + 1,
         None => from,
     }
 }
 
-/// Returns the first run of the kind that remains, and goes on at its end.
+/// Takes the run of the kind at an end of those that remain: the first one at the front.
 #[inline]
-fn step_front<B: Bits, E: Endian, K: Kind>(bits: &B, from: &mut u32, to: u32) -> Option<Range<u32>>
+fn step<B: Bits, E: Endian, K: Kind, const FRONT: bool>(
+    bits: &B,
+    from: &mut u32,
+    to: &mut u32,
+) -> Option<Range<u32>>
     requires fits { ShapeFits B.Shape bits.now }
-    requires ordered { from.old ≤ to }
-    requires within { to ≤ (B.big bits.now).capacity }
-    ensures gave { let ours = ones_or_zeros K.ONES (set_in B.Shape E.Endian bits.now) in
-        YieldsFirst (λ at. runs_between ours at to) from.old result from.new }
-    ensures ordered { from.new ≤ to }
-{
-    let Some(start) = first_of_kind::<B, E, K>(bits, *from, to) else {
-        *from = to;
-        return None;
-    };
-    let end = end_of_run::<B, E, K>(bits, start, to);
-    *from = end;
-    Some(start..end)
-}
-
-/// Returns the last run of the kind that remains, and goes on before its start.
-#[inline]
-fn step_back<B: Bits, E: Endian, K: Kind>(bits: &B, from: u32, to: &mut u32) -> Option<Range<u32>>
-    requires fits { ShapeFits B.Shape bits.now }
-    requires ordered { from ≤ to.old }
+    requires ordered { from.old ≤ to.old }
     requires within { to.old ≤ (B.big bits.now).capacity }
     ensures gave { let ours = ones_or_zeros K.ONES (set_in B.Shape E.Endian bits.now) in
-        YieldsLast (λ at. runs_between ours from at) to.old result to.new }
-    ensures ordered { from ≤ to.new }
+        TakesEnd FRONT (runs_between ours from.old to.old) result
+        (runs_between ours from.new to.new) }
+    ensures ordered { from.new ≤ to.new }
     ensures within { to.new ≤ to.old }
 {
-    let Some(last) = last_of_kind::<B, E, K>(bits, from, *to) else {
-        *to = from;
+    let Some(index) = search::<B, E, K, FRONT>(bits, *from, *to) else {
+        *from = *to;
         return None;
     };
-    let start = start_of_run::<B, E, K>(bits, from, last);
-    *to = start;
-    Some(start..last + 1)
+    if FRONT {
+        let end = end_of_run::<B, E, K>(bits, index, *to);
+        *from = end;
+        Some(index..end)
+    } else {
+        let start = start_of_run::<B, E, K>(bits, *from, index);
+        *to = start;
+        Some(start..index + 1)
+    }
 }

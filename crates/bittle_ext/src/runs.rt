@@ -5,7 +5,7 @@ ghost use Rattle.bittle_ext.specs.Runs.{IsFirstRun};
 ghost use Rattle.bittle.specs.Values.{set_in, ShapeFits};
 ghost use Rattle.bittle.specs.Walk.{ones_or_zeros};
 
-use crate::kind_searches::{first_of_kind, last_of_other};
+use crate::kind_searches::{Others, search};
 use bittle::{Bits, Endian};
 use bittle_bits::internal::source::Kind;
 
@@ -26,11 +26,11 @@ pub fn next_run<B: Bits, E: Endian, K: Kind>(bits: &B, from: u32, length: u32) -
         return Some(from);
     }
     let mut at = from;
-    while let Some(start) = first_of_kind::<B, E, K>(bits, at, end) {
+    while let Some(start) = search::<B, E, K, true>(bits, at, end) {
         if end - start < length {
             return None;
         }
-        let Some(gap) = last_of_other::<B, E, K>(bits, start, start + length) else {
+        let Some(gap) = search::<B, E, Others<K>, false>(bits, start, start + length) else {
             return Some(start);
         };
         at = gap + 1;

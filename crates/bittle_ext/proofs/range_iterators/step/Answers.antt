@@ -1,0 +1,25 @@
+use Rattle.std.proofs.Common.{◌≡◌, ◌==◌, true, not, ap, refl}
+use Rattle.std.proofs.lemmas.Bool.{ne_eqb}
+use Rattle.bittle.specs.Values.{set_in}
+use Rattle.bittle.specs.Walk.{ones_or_zeros}
+use Rattle.bittle_bits.proofs.Items.{members_between-empty}
+use Rattle.bittle_ext.proofs.RangeItems.{none_between, first_between, last_between}
+use Rattle.bittle_ext.proofs.SetFacts.{none_at, takes_none}
+use Rattle.bittle_ext.proofs.range_iterators.step.Goals as goal
+
+pub returns-in_default-clause-gave : goal.returns-in_default-clause-gave
+returns-in_default-clause-gave g c =
+    let s = ones_or_zeros g.K.Kind.ONES (set_in g.B.Shape g.E.Endian c.args.bits.now) in
+    let front = not (g.row.FRONT == 0) in
+    takes_none front _ _ (none_between s _ _ (none_at front s _ _ c.in_default.ensures))
+    (members_between-empty s c.args.to.now)
+
+pub returns-then-this-ne0-clause-gave : goal.returns-then-this-ne0-clause-gave
+returns-then-this-ne0-clause-gave g c =
+    let is : not (g.row.FRONT == 0) ≡ true = ap not (ne_eqb g.row.FRONT 0 c.if-this-ne0.true) in
+    rw is (first_between _ _ _ c.in-Some.index _ refl (rw is at c.in-Some.ensures))
+
+pub returns-else-this-ne0-clause-gave : goal.returns-else-this-ne0-clause-gave
+returns-else-this-ne0-clause-gave g c =
+    let is = c.if-this-ne0.false in
+    rw is (last_between _ _ _ c.in-Some.index (rw is at c.in-Some.ensures))
