@@ -1,7 +1,6 @@
 -- How many numbers are members of two sets.
-use Rattle.std.proofs.Common.{◌≡◌, ℕ, zero, suc, ◌+◌, ◌-◌, ◌*◌, ◌/◌, ◌<◌, ◌≤◌, Bool, true, false, ◌&&◌, cond, min, max, Some, inl, inr, refl, sym, ap, ◌∙◌, arith}
+use Rattle.std.proofs.Common.{◌≡◌, ℕ, zero, suc, ◌+◌, ◌-◌, ◌*◌, ◌/◌, ◌<◌, ◌≤◌, Bool, true, false, ◌&&◌, cond, min, max, Some, refl, sym, ap, ◌∙◌, arith}
 use Rattle.std.proofs.Math.Nat.{mul-le-mul_right, div-mul-le_self}
-use Rattle.std.proofs.lemmas.Bool.{cases_lt, and_right}
 use Rattle.bittle.specs.BitPatterns.{bit_set}
 use Rattle.bittle.specs.Orders.{read_in}
 use Rattle.bittle.specs.Words.{word_of}
@@ -12,7 +11,7 @@ use Rattle.bittle_bits.specs.LawProofs.{one_word}
 use Rattle.bittle_bits.proofs.Sizes.{size-members}
 use Rattle.bittle_bits.proofs.Words.{word_has-at}
 use Rattle.bittle_bits.proofs.Counts.{count-add, count-same, count-never, count-le}
-use Rattle.bittle_ext.specs.Combined.{both_of, first_only_of, just_one_of, CountsBoth}
+use Rattle.bittle_ext.specs.Combined.{both_of, just_one_of, CountsBoth}
 use Rattle.bittle_ext.specs.RangeMembers.{EndsAt}
 use Rattle.bittle_ext.proofs.RankFacts.{below_past, below_next}
 use Rattle.bittle_ext.proofs.SetFacts.{none_in_both}

@@ -1,13 +1,16 @@
 //! How two sets stand to each other: word by word where their words have one width and are read in
 //! one order, else by searches in turns, each from where the other one stopped.
 
-ghost use Rattle.std.specs.Prelude.{◌≡◌, IsTrue, MatchOption};
-ghost use Rattle.bittle_ext.specs.SetRelations.{IsSubset, AreDisjoint, IsFirstAlone, IsFirstCommon};
+ghost use Rattle.std.specs.Prelude.{◌≡◌, min, not, IsTrue, MatchOption};
+ghost use Rattle.bittle_ext.specs.SetRelations.{IsSubset, AreDisjoint, AgreesBelow};
+ghost use Rattle.bittle_ext.specs.SetRelations.{IsFirstWhere, IsFirstAlone, IsFirstCommon};
 ghost use Rattle.bittle.specs.Values.{set_in, ShapeFits};
 
 use crate::capacities::capacity_of;
+use crate::kind_searches::search;
 use bittle::{Bits, Endian};
-use bittle_bits::internal::decided::first_decided;
+use bittle_bits::internal::decided::first_decided_below;
+use bittle_bits::internal::source::{Kind, Ones, Zeros};
 use bittle_bits::one_word::{Conjunction, Difference};
 use bittle_bits::word::Word;
 
@@ -20,31 +23,24 @@ pub fn are_alike<A: Bits, B: Bits, E: Endian, F: Endian>() -> bool
         && E::is_mirrored() == F::is_mirrored()
 }
 
-/// Returns the least index that is set in both, or `None`, by words.
-#[inline]
-fn first_common_by_words<A: Bits, B: Bits, E: Endian>(left: &A, right: &B) -> Option<u32>
-    requires width { A.width ≡ B.width }
+/// Returns the least index below both capacities that is set in the first and of the kind in the
+/// second, or `None`, by turns.
+fn first_by_turns<A: Bits, B: Bits, E: Endian, F: Endian, K: Kind>(
+    left: &A,
+    right: &B,
+    end: u32,
+) -> Option<u32>
     requires left_fits { ShapeFits A.Shape left.now }
     requires right_fits { ShapeFits B.Shape right.now }
-    ensures { let ours = set_in A.Shape E.Endian left.now in
-        let theirs = set_in B.Shape E.Endian right.now in
-        MatchOption result (AreDisjoint ours theirs) (IsFirstCommon ours theirs) }
-{
-    first_decided::<A, B, E, Conjunction>(left, right)
-}
-
-/// Returns the least index that is set in both, or `None`, by turns.
-fn first_common_by_turns<A: Bits, B: Bits, E: Endian, F: Endian>(left: &A, right: &B) -> Option<u32>
-    requires left_fits { ShapeFits A.Shape left.now }
-    requires right_fits { ShapeFits B.Shape right.now }
+    requires least { end ≡ min (A.big left.now).capacity (B.big right.now).capacity }
     ensures { let ours = set_in A.Shape E.Endian left.now in
         let theirs = set_in B.Shape F.Endian right.now in
-        MatchOption result (AreDisjoint ours theirs) (IsFirstCommon ours theirs) }
+        MatchOption result (AgreesBelow (not K.ONES) ours theirs end)
+        (IsFirstWhere K.ONES ours theirs) }
 {
-    let end = capacity_of::<A, E>(left).min(capacity_of::<B, F>(right));
     let mut from = 0;
     while let Some(ours) = left.first_one_in::<E>(from, end) {
-        let Some(theirs) = right.first_one_in::<F>(ours, end) else {
+        let Some(theirs) = search::<B, F, K, true>(right, ours, end) else {
             return None;
         };
         if theirs == ours {
@@ -53,6 +49,31 @@ fn first_common_by_turns<A: Bits, B: Bits, E: Endian, F: Endian>(left: &A, right
         from = theirs;
     }
     None
+}
+
+/// Returns the least index below both capacities that is set in the first and of the kind in the
+/// second, or `None`.
+#[inline]
+fn first_below<A: Bits, B: Bits, E: Endian, F: Endian, K: Kind>(
+    left: &A,
+    right: &B,
+    end: u32,
+) -> Option<u32>
+    requires left_fits { ShapeFits A.Shape left.now }
+    requires right_fits { ShapeFits B.Shape right.now }
+    requires least { end ≡ min (A.big left.now).capacity (B.big right.now).capacity }
+    ensures { let ours = set_in A.Shape E.Endian left.now in
+        let theirs = set_in B.Shape F.Endian right.now in
+        MatchOption result (AgreesBelow (not K.ONES) ours theirs end)
+        (IsFirstWhere K.ONES ours theirs) }
+{
+    if !are_alike::<A, B, E, F>() {
+        first_by_turns::<A, B, E, F, K>(left, right, end)
+    } else if K::ONES {
+        first_decided_below::<A, B, E, Conjunction>(left, right, end)
+    } else {
+        first_decided_below::<A, B, E, Difference>(left, right, end)
+    }
 }
 
 /// Returns the least index that is set in both, or `None`.
@@ -64,54 +85,8 @@ pub fn first_common<A: Bits, B: Bits, E: Endian, F: Endian>(left: &A, right: &B)
         let theirs = set_in B.Shape F.Endian right.now in
         MatchOption result (AreDisjoint ours theirs) (IsFirstCommon ours theirs) }
 {
-    if are_alike::<A, B, E, F>() {
-        first_common_by_words::<A, B, E>(left, right)
-    } else {
-        first_common_by_turns::<A, B, E, F>(left, right)
-    }
-}
-
-/// Returns the least index that is set in the first and not in the second, or `None`, by words.
-#[inline]
-fn first_alone_by_words<A: Bits, B: Bits, E: Endian>(left: &A, right: &B) -> Option<u32>
-    requires width { A.width ≡ B.width }
-    requires left_fits { ShapeFits A.Shape left.now }
-    requires right_fits { ShapeFits B.Shape right.now }
-    ensures { let ours = set_in A.Shape E.Endian left.now in
-        let theirs = set_in B.Shape E.Endian right.now in
-        MatchOption result (IsSubset ours theirs) (IsFirstAlone ours theirs) }
-{
-    let found = first_decided::<A, B, E, Difference>(left, right);
-    if found.is_some() {
-        return found;
-    }
-    // Past the second set's capacity nothing is set in it.
-    let end = capacity_of::<A, E>(left);
-    left.first_one_in::<E>(end.min(capacity_of::<B, E>(right)), end)
-}
-
-/// Returns the least index that is set in the first and not in the second, or `None`, by turns.
-fn first_alone_by_turns<A: Bits, B: Bits, E: Endian, F: Endian>(left: &A, right: &B) -> Option<u32>
-    requires left_fits { ShapeFits A.Shape left.now }
-    requires right_fits { ShapeFits B.Shape right.now }
-    ensures { let ours = set_in A.Shape E.Endian left.now in
-        let theirs = set_in B.Shape F.Endian right.now in
-        MatchOption result (IsSubset ours theirs) (IsFirstAlone ours theirs) }
-{
-    let end = capacity_of::<A, E>(left);
-    let common = end.min(capacity_of::<B, F>(right));
-    let mut from = 0;
-    while let Some(ours) = left.first_one_in::<E>(from, common) {
-        let Some(free) = right.first_zero_in::<F>(ours, common) else {
-            // Past the second set's capacity nothing is set in it.
-            return left.first_one_in::<E>(common, end);
-        };
-        if free == ours {
-            return Some(ours);
-        }
-        from = free;
-    }
-    left.first_one_in::<E>(common, end)
+    let end = capacity_of::<A, E>(left).min(capacity_of::<B, F>(right));
+    first_below::<A, B, E, F, Ones>(left, right, end)
 }
 
 /// Returns the least index that is set in the first and not in the second, or `None`.
@@ -123,9 +98,11 @@ pub fn first_alone<A: Bits, B: Bits, E: Endian, F: Endian>(left: &A, right: &B) 
         let theirs = set_in B.Shape F.Endian right.now in
         MatchOption result (IsSubset ours theirs) (IsFirstAlone ours theirs) }
 {
-    if are_alike::<A, B, E, F>() {
-        first_alone_by_words::<A, B, E>(left, right)
-    } else {
-        first_alone_by_turns::<A, B, E, F>(left, right)
+    let end = capacity_of::<A, E>(left);
+    let common = end.min(capacity_of::<B, F>(right));
+    if let Some(index) = first_below::<A, B, E, F, Zeros>(left, right, common) {
+        return Some(index);
     }
+    // Past the second set's capacity nothing is set in it.
+    left.first_one_in::<E>(common, end)
 }

@@ -1,4 +1,4 @@
-use Rattle.std.proofs.Common.{◌≡◌, ◌<◌, sym, ◌∙◌, arith}
+use Rattle.std.proofs.Common.{◌<◌, sym, ◌∙◌, arith}
 use Rattle.bittle.specs.Values.{set_in}
 use Rattle.bittle.proofs.CallerSets.{contains_within}
 use Rattle.bittle_bits.proofs.MembersBelow.{below_at_most}

@@ -1,4 +1,4 @@
-use Rattle.std.proofs.Common.{◌≡◌, ◌-◌, ◌^◌, arith}
+use Rattle.std.proofs.Common.{arith}
 use Rattle.bittle_ext.proofs.Windows.{at_most_128}
 use Rattle.bittle_ext.proofs.rotations.all_bits.Goals as goal
 

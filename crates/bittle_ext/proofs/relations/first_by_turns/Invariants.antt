@@ -1,13 +1,13 @@
-use Rattle.std.proofs.Common.{◌-◌, ◌≤◌}
+use Rattle.std.proofs.Common.{◌-◌, ◌≤◌, not}
 use Rattle.bittle.specs.Orders.{read_in}
-use Rattle.bittle_ext.specs.SetRelations.{AreDisjointBelow}
-use Rattle.bittle_ext.proofs.relations.first_common_by_turns.Given as goal
+use Rattle.bittle_ext.specs.SetRelations.{AgreesBelow}
+use Rattle.bittle_ext.proofs.relations.first_by_turns.Given as goal
 
 abbrev pub invariant-loop-ours : goal.invariant-loop-ours
 invariant-loop-ours g l =
     let ours = read_in g.E.Endian.mirrored g.A.Shape.width (g.A.Shape.big l.left) in
     let theirs = read_in g.F.Endian.mirrored g.B.Shape.width (g.B.Shape.big l.right) in
-    record { within : l.from ≤ l.end; before : AreDisjointBelow ours theirs l.from }
+    record { within : l.from ≤ l.end; before : AgreesBelow (not g.K.Kind.ONES) ours theirs l.from }
 
 abbrev pub decreases-loop-ours : goal.decreases-loop-ours
 decreases-loop-ours g l = l.end - l.from
