@@ -16,45 +16,31 @@ use Rattle.bittle_ext.specs.RangeMembers.{EndsAt}
 use Rattle.bittle_ext.proofs.RankFacts.{below_past, below_next}
 use Rattle.bittle_ext.proofs.SetFacts.{none_in_both}
 
-alone_bit : (a b : Bool) → cond (first_alone a b) 1 0 + cond (a && b) 1 0 ≡ cond a 1 0
-alone_bit true true = refl
-alone_bit true false = refl
-alone_bit false true = refl
-alone_bit false false = refl
+-- whether a number is in the first alone, in just one, and in both, as so many
+one_number : (a b : Bool) → (cond (first_alone a b) 1 0 + cond (a && b) 1 0 ≡ cond a 1 0)
+    × (cond (just_one a b) 1 0 + cond (a && b) 1 0 + cond (a && b) 1 0 ≡ cond a 1 0 + cond b 1 0)
+    × (cond (a && b) 1 0 ≤ cond b 1 0)
+one_number true true = (refl, refl, omega arith)
+one_number true false = (refl, refl, omega arith)
+one_number false true = (refl, refl, omega arith)
+one_number false false = (refl, refl, omega arith)
 
--- what is in the first alone and what is in both make up the first
-alone_count : (n : ℕ) (p q : ℕ → Bool) → count_below n (λ k. first_alone (p k) (q k))
-    + count_below n (λ k. p k && q k) ≡ count_below n p
+-- those in the first alone and those in both make up the first; those in just one, and twice those
+-- in both, are as many as both have; and those in both are in the second
+all_numbers : (n : ℕ) (p q : ℕ → Bool) → (count_below n (λ k. first_alone (p k) (q k))
+    + count_below n (λ k. p k && q k) ≡ count_below n p)
+    × (count_below n (λ k. just_one (p k) (q k)) + count_below n (λ k. p k && q k)
+    + count_below n (λ k. p k && q k) ≡ count_below n p + count_below n q)
+    × (count_below n (λ k. p k && q k) ≤ count_below n q)
 unfolding count_below
-alone_count zero p q = refl
-alone_count (suc n) p q = omega (arith, alone_count n p q, alone_bit (p n) (q n))
-
-one_bit : (a b : Bool) → cond (just_one a b) 1 0 + cond (a && b) 1 0 + cond (a && b) 1 0
-    ≡ cond a 1 0 + cond b 1 0
-one_bit true true = refl
-one_bit true false = refl
-one_bit false true = refl
-one_bit false false = refl
-
--- what is in just one, and twice what is in both, are as many as both have
-one_count : (n : ℕ) (p q : ℕ → Bool) → count_below n (λ k. just_one (p k) (q k))
-    + count_below n (λ k. p k && q k) + count_below n (λ k. p k && q k)
-    ≡ count_below n p + count_below n q
-unfolding count_below
-one_count zero p q = refl
-one_count (suc n) p q = omega (arith, one_count n p q, one_bit (p n) (q n))
-
-second_bit : (a b : Bool) → cond (a && b) 1 0 ≤ cond b 1 0
-second_bit true true = omega arith
-second_bit true false = omega arith
-second_bit false true = omega arith
-second_bit false false = omega arith
-
--- what is in both is in the second
-second_count : (n : ℕ) (p q : ℕ → Bool) → count_below n (λ k. p k && q k) ≤ count_below n q
-unfolding count_below
-second_count zero p q = omega arith
-second_count (suc n) p q = omega (arith, second_count n p q, second_bit (p n) (q n))
+all_numbers zero p q = (refl, refl, omega arith)
+all_numbers (suc n) p q =
+    let below = all_numbers n p q in
+    let here = one_number (p n) (q n) in (
+      omega (arith, below.0, here.0),
+      omega (arith, below.1, here.1),
+      omega (arith, below.2, here.2),
+    )
 
 -- a word that has in an order what word k of a set has counts its members there
 pub below_next_in_order : (m : Bool) (w k : ℕ) (s : PlainSet) (d n : ℕ) → 0 < w →
@@ -102,48 +88,23 @@ pub counted_all : (s t : PlainSet) (from to : ℕ) → from ≤ to → NoneIn s 
 counted_all s t from to h none =
     below_stays (both_of s t) from to h (λ k p q. ap (λ a. a && t.has k) (none k p q))
 
--- two sets of which nothing is a member from their capacities on
-module _ {s t : PlainSet} {a b : ℕ} (x : EndsAt s a) (y : EndsAt t b) where
-  all_of_first : members_below s (max s.capacity t.capacity) ≡ size s
-  all_of_first =
-      below_past s s.capacity (max s.capacity t.capacity) s.capacity x.past (omega arith)
-
-  all_of_second : members_below t (max s.capacity t.capacity) ≡ size t
-  all_of_second =
-      below_past t t.capacity (max s.capacity t.capacity) t.capacity y.past (omega arith)
-
-  -- as many as are in both below the lesser capacity are in both, and what is left of either follows
-  pub counts_both : (end p q n : ℕ) → end ≡ min a b → p ≡ size s → q ≡ size t →
-      n ≡ members_below (both_of s t) end → CountsBoth s t p q n
-  counts_both end p q n least ours theirs counted =
-      let none = none_in_both x y end least in
-      let all = below_past (both_of s t) end (max s.capacity t.capacity) end none
-      (omega (arith, least, x.capacity, y.capacity)) in
-      let is : n ≡ size (both_of s t) = counted ∙ sym all in
-      record {
-        both = is;
-        first_only = omega (
-          arith,
-          alone_count (max s.capacity t.capacity) s.has t.has,
-          all_of_first,
-          ours,
-          is,
-        );
-        few = omega (
-          arith,
-          second_count (max s.capacity t.capacity) s.has t.has,
-          all_of_second,
-          theirs,
-          is,
-        );
-        just_one = omega (
-          arith,
-          one_count (max s.capacity t.capacity) s.has t.has,
-          all_of_first,
-          all_of_second,
-          ours,
-          theirs,
-          is,
-        );
-        most = count-le (max s.capacity t.capacity) (just_one_of s t).has;
-      }
+-- of two sets of which nothing is a member from their capacities on, as many as are in both below the
+-- lesser capacity are in both, and what is left of either follows
+pub counts_both : {s t : PlainSet} {a b : ℕ} → EndsAt s a → EndsAt t b → (end p q n : ℕ) →
+    end ≡ min a b → p ≡ size s → q ≡ size t → n ≡ members_below (both_of s t) end →
+    CountsBoth s t p q n
+counts_both {s} {t} x y end p q n least ours theirs counted =
+    let c = max s.capacity t.capacity in
+    let first = below_past s s.capacity c s.capacity x.past (omega arith) in
+    let second = below_past t t.capacity c t.capacity y.past (omega arith) in
+    let is : n ≡ size (both_of s t) = counted
+    ∙ sym (below_past (both_of s t) end c end (none_in_both x y end least)
+    (omega (arith, least, x.capacity, y.capacity))) in
+    let sums = all_numbers c s.has t.has in
+    record {
+      both = is;
+      first_only = omega (arith, sums.0, first, ours, is);
+      few = omega (arith, sums.2, second, theirs, is);
+      just_one = omega (arith, sums.1, first, second, ours, theirs, is);
+      most = count-le c (just_one_of s t).has;
+    }
