@@ -1,5 +1,5 @@
 -- Searches that begin or end past the capacity.
-use Rattle.std.proofs.Common.{◌≡◌, ℕ, ◌*◌, ◌<◌, ◌≤◌, Bool, true, false, not, ◌&&◌, List, [], Option, Some, None, is_some, MatchBool, inl, inr, refl, sym, ap, ◌∙◌, arith, min, max}
+use Rattle.std.proofs.Common.{◌≡◌, ℕ, ◌*◌, ◌<◌, ◌≤◌, Bool, true, false, not, ◌&&◌, List, [], Option, Some, None, is_some, MatchBool, inl, inr, refl, sym, ap, ◌∙◌, arith, min}
 use Rattle.std.proofs.lemmas.Bool.{cases_lt, le-ltb, true≢false, and_right}
 use Rattle.bittle_bits.specs.PlainSet.{PlainSet, complement, lacks}
 use Rattle.bittle_bits.specs.Orders.{read_in}
@@ -30,13 +30,6 @@ module _ {s t : PlainSet} {a b : ℕ} (x : EndsAt s a) (y : EndsAt t b) (end : �
             ∙ and_right (s.has i) false refl
         | inr g ↦ ap (λ c. c && t.has i) (x.past i g)
       ]
-
-  -- from the greater on no number is in either
-  pub none_in_either : (f : Bool → Bool → Bool) → f false false ≡ false → end ≡ max a b →
-      (i : ℕ) → end ≤ i → f (s.has i) (t.has i) ≡ false
-  none_in_either f none is i h =
-      (λ j. f (x.past i (omega (arith, is, x.capacity)) j)
-      (y.past i (omega (arith, is, y.capacity)) j)) ∙ none
 
 -- a search from the back that begins at the capacity, past which nothing is, begins as far past it
 -- as one likes

@@ -4,7 +4,8 @@ ghost use Rattle.std.specs.Iterator.{YieldsFirst, YieldsLast, item_count};
 ghost use Rattle.std.specs.Prelude.{◌≡◌, ℕ, ◌≤◌, max, false, ⊤};
 ghost use Rattle.bittle_ext.specs.Combined.{decided_set, either_of, both_of};
 ghost use Rattle.bittle_ext.specs.Combined.{first_only_of, just_one_of};
-ghost use Rattle.bittle.specs.PlainSet.{ascending};
+ghost use Rattle.bittle_ext.specs.RangeMembers.{EndsAt};
+ghost use Rattle.bittle.specs.PlainSet.{PlainSet, ascending};
 ghost use Rattle.bittle.specs.Values.{set_in, ShapeFits};
 ghost use Rattle.bittle.specs.Walk.{AreBelow, ListsInOrder, ListsInReverse};
 
@@ -68,22 +69,19 @@ impl<'a, A: Shape, B: Shape, E: Endian, F: Endian, O: Operation> Model
         (set_in B.Shape F.Endian i.right.now)) i.at };
 }
 
-impl<'a, A: Bits, B: Bits, E: Endian, F: Endian, O: Operation> IterCombined<'a, A, B, E, F, O> {
-    /// Begins an iterator over the words below an end, past which the operation makes no member.
+impl<'a, A: Bits, B: Bits, E: Endian, F: Endian, O: Ends> IterCombined<'a, A, B, E, F, O> {
+    /// Begins an iterator over what the operation makes of two sets.
     #[inline]
-    fn new(left: &'a A, right: &'a B, end: u32) -> Self
+    fn new(left: &'a A, right: &'a B) -> Self
         requires left_fits { ShapeFits A.Shape left.now }
         requires right_fits { ShapeFits B.Shape right.now }
-        requires within { end ≤ max (A.big left.now).capacity (B.big right.now).capacity }
-        requires none_past { (i : ℕ) → end ≤ i
-            → O.decide ((set_in A.Shape E.Endian left.now).has i)
-            ((set_in B.Shape F.Endian right.now).has i) ≡ false }
         ensures items { result ≡ ascending (decided_set O.decide
             (set_in A.Shape E.Endian left.now) (set_in B.Shape F.Endian right.now)) }
         ensures below { AreBelow (max (A.big left.now).capacity (B.big right.now).capacity) result }
         ensures in_order { ListsInOrder }
         ensures in_reverse { ListsInReverse }
     {
+        let end = O::end(capacity_of::<A, E>(left), capacity_of::<B, F>(right));
         IterCombined {
             left,
             right,
@@ -138,84 +136,41 @@ impl<'a, A: Bits, B: Bits, E: Endian, F: Endian, O: Operation> Clone
     }
 }
 
-/// Begins an iterator over what is set in either of two sets.
-#[inline]
-fn begin_union<'a, A: Bits, B: Bits, E: Endian, F: Endian>(
-    left: &'a A,
-    right: &'a B,
-) -> IterUnion<'a, A, B, E, F>
-    requires left_fits { ShapeFits A.Shape left.now }
-    requires right_fits { ShapeFits B.Shape right.now }
-    ensures items { result ≡ ascending (either_of
-        (set_in A.Shape E.Endian left.now) (set_in B.Shape F.Endian right.now)) }
-    ensures below { AreBelow (max (A.big left.now).capacity (B.big right.now).capacity) result }
-    ensures in_order { ListsInOrder }
-    ensures in_reverse { ListsInReverse }
-{
-    IterCombined::new(
-        left,
-        right,
-        capacity_of::<A, E>(left).max(capacity_of::<B, F>(right)),
-    )
+/// An operation that says, of the capacities of two sets, from where on it makes no member.
+trait Ends: Operation {
+    /// Returns the index from which on it makes none.
+    fn end(left: u32, right: u32) -> u32
+        ensures within { result ≤ max left right }
+        ensures none_past { (s t : PlainSet) → EndsAt s left → EndsAt t right
+            → (i : ℕ) → result ≤ i → Self.decide (s.has i) (t.has i) ≡ false };
 }
 
-/// Begins an iterator over what is set in both of two sets.
-#[inline]
-fn begin_conjunction<'a, A: Bits, B: Bits, E: Endian, F: Endian>(
-    left: &'a A,
-    right: &'a B,
-) -> IterConjunction<'a, A, B, E, F>
-    requires left_fits { ShapeFits A.Shape left.now }
-    requires right_fits { ShapeFits B.Shape right.now }
-    ensures items { result ≡ ascending (both_of
-        (set_in A.Shape E.Endian left.now) (set_in B.Shape F.Endian right.now)) }
-    ensures below { AreBelow (max (A.big left.now).capacity (B.big right.now).capacity) result }
-    ensures in_order { ListsInOrder }
-    ensures in_reverse { ListsInReverse }
-{
-    IterCombined::new(
-        left,
-        right,
-        capacity_of::<A, E>(left).min(capacity_of::<B, F>(right)),
-    )
+impl Ends for Union {
+    #[inline]
+    fn end(left: u32, right: u32) -> u32 {
+        left.max(right)
+    }
 }
 
-/// Begins an iterator over what is set in the first of two sets alone.
-#[inline]
-fn begin_difference<'a, A: Bits, B: Bits, E: Endian, F: Endian>(
-    left: &'a A,
-    right: &'a B,
-) -> IterDifference<'a, A, B, E, F>
-    requires left_fits { ShapeFits A.Shape left.now }
-    requires right_fits { ShapeFits B.Shape right.now }
-    ensures items { result ≡ ascending (first_only_of
-        (set_in A.Shape E.Endian left.now) (set_in B.Shape F.Endian right.now)) }
-    ensures below { AreBelow (max (A.big left.now).capacity (B.big right.now).capacity) result }
-    ensures in_order { ListsInOrder }
-    ensures in_reverse { ListsInReverse }
-{
-    IterCombined::new(left, right, capacity_of::<A, E>(left))
+impl Ends for Conjunction {
+    #[inline]
+    fn end(left: u32, right: u32) -> u32 {
+        left.min(right)
+    }
 }
 
-/// Begins an iterator over what is set in just one of two sets.
-#[inline]
-fn begin_symmetric_difference<'a, A: Bits, B: Bits, E: Endian, F: Endian>(
-    left: &'a A,
-    right: &'a B,
-) -> IterSymmetricDifference<'a, A, B, E, F>
-    requires left_fits { ShapeFits A.Shape left.now }
-    requires right_fits { ShapeFits B.Shape right.now }
-    ensures items { result ≡ ascending (just_one_of
-        (set_in A.Shape E.Endian left.now) (set_in B.Shape F.Endian right.now)) }
-    ensures below { AreBelow (max (A.big left.now).capacity (B.big right.now).capacity) result }
-    ensures in_order { ListsInOrder }
-    ensures in_reverse { ListsInReverse }
-{
-    IterCombined::new(
-        left,
-        right,
-        capacity_of::<A, E>(left).max(capacity_of::<B, F>(right)),
-    )
+impl Ends for Difference {
+    #[inline]
+    fn end(left: u32, _right: u32) -> u32 {
+        left
+    }
+}
+
+impl Ends for SymmetricDifference {
+    #[inline]
+    fn end(left: u32, right: u32) -> u32 {
+        left.max(right)
+    }
 }
 
 /// Iterators over what an operation makes of a set and another one, with no set made of them.
@@ -251,7 +206,7 @@ pub trait BitsCombinedExt: Bits {
         ensures in_order { ListsInOrder }
         ensures in_reverse { ListsInReverse }
     {
-        begin_union::<Self, B, E, E>(self, other)
+        IterCombined::new(self, other)
     }
 
     /// Returns an iterator over the indexes that are set in both sets, both in the order `E`,
@@ -280,7 +235,7 @@ pub trait BitsCombinedExt: Bits {
         ensures in_order { ListsInOrder }
         ensures in_reverse { ListsInReverse }
     {
-        begin_conjunction::<Self, B, E, E>(self, other)
+        IterCombined::new(self, other)
     }
 
     /// Returns an iterator over the indexes that are set in the first set and unset in the second,
@@ -310,7 +265,7 @@ pub trait BitsCombinedExt: Bits {
         ensures in_order { ListsInOrder }
         ensures in_reverse { ListsInReverse }
     {
-        begin_difference::<Self, B, E, E>(self, other)
+        IterCombined::new(self, other)
     }
 
     /// Returns an iterator over the indexes that are set in just one of the sets, both in the order
@@ -339,7 +294,7 @@ pub trait BitsCombinedExt: Bits {
         ensures in_order { ListsInOrder }
         ensures in_reverse { ListsInReverse }
     {
-        begin_symmetric_difference::<Self, B, E, E>(self, other)
+        IterCombined::new(self, other)
     }
 
     /// Iterates over the indexes that are set in either set, each in its own order, as
@@ -365,7 +320,7 @@ pub trait BitsCombinedExt: Bits {
         ensures in_order { ListsInOrder }
         ensures in_reverse { ListsInReverse }
     {
-        begin_union::<Self, B, Self::Order, B::Order>(self, other)
+        IterCombined::new(self, other)
     }
 
     /// Iterates over the indexes that are set in both sets, each in its own order, as
@@ -391,7 +346,7 @@ pub trait BitsCombinedExt: Bits {
         ensures in_order { ListsInOrder }
         ensures in_reverse { ListsInReverse }
     {
-        begin_conjunction::<Self, B, Self::Order, B::Order>(self, other)
+        IterCombined::new(self, other)
     }
 
     /// Iterates over the indexes that are set in the first set and unset in the second, each in its
@@ -417,7 +372,7 @@ pub trait BitsCombinedExt: Bits {
         ensures in_order { ListsInOrder }
         ensures in_reverse { ListsInReverse }
     {
-        begin_difference::<Self, B, Self::Order, B::Order>(self, other)
+        IterCombined::new(self, other)
     }
 
     /// Iterates over the indexes that are set in just one of the sets, each in its own order, as
@@ -443,7 +398,7 @@ pub trait BitsCombinedExt: Bits {
         ensures in_order { ListsInOrder }
         ensures in_reverse { ListsInReverse }
     {
-        begin_symmetric_difference::<Self, B, Self::Order, B::Order>(self, other)
+        IterCombined::new(self, other)
     }
 }
 

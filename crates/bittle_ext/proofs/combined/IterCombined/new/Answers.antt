@@ -8,10 +8,14 @@ use Rattle.bittle_ext.proofs.combined.IterCombined.new.Goals as goal
 pub returns-clause-items : goal.returns-clause-items
 returns-clause-items g c =
     let begun = c.begin.ensures in
+    let x = c.capacity_of.ensures.ends in
+    let y = c.capacity_of-2.ensures.ends in
+    let end = c.end-end.ensures in
     all_left g.E.Endian.mirrored g.A.LeafWord.Word.width g.A.LeafWord.Word.pattern g.A.Shape.width
-    c.args.end (decided_of g.O.Operation.decide g.A.Shape g.E.Endian c.args.left.now g.B.Shape
+    c.end-end.result (decided_of g.O.Operation.decide g.A.Shape g.E.Endian c.args.left.now g.B.Shape
     g.F.Endian c.args.right.now) c.begin.result begun.head begun.tail begun.low
-    (rw g.met.A.Bits.leaf_width at begun.high).0 c.requires.within c.requires.none_past
+    (rw g.met.A.Bits.leaf_width at begun.high).0
+    (omega (arith, end.within, x.capacity, y.capacity)) (end.none_past _ _ x y)
 
 pub invariant_of-result : goal.invariant_of-result
 invariant_of-result g c =
@@ -24,7 +28,9 @@ invariant_of-result g c =
         between = omega (
           arith,
           (rw g.met.A.Bits.leaf_width at c.begin.ensures.high).1,
-          c.requires.within,
+          c.end-end.ensures.within,
+          c.capacity_of.ensures.ends.capacity,
+          c.capacity_of-2.ensures.ends.capacity,
           fits.1,
           other.1,
         );
