@@ -8,6 +8,7 @@ use Rattle.std.specs.declared.ops.Range.{Range}
 use Rattle.bittle_bits.specs.PlainSet.{PlainSet}
 use Rattle.bittle_bits.specs.Searches.{NoneIn, IsFirstIn, IsLastIn}
 use Rattle.bittle_bits.specs.Walk.{ones_or_zeros}
+use Rattle.bittle_bits.proofs.OnesOrZeros.{ones_or_zeros-capacity}
 use Rattle.bittle_ext.specs.RangeMembers.{HasAllIn}
 use Rattle.bittle_ext.specs.Runs.{run, joined, runs_from, runs_between, runs, AreRunsBelow, EndsRun, BeginsRun, RunsInOrder, RunsInReverse}
 use Rattle.bittle_ext.proofs.RunFacts.{AreOpposite, opposite_to_complement, complement_to_opposite}
@@ -19,14 +20,24 @@ pub others_opposite : (ones : Bool) (s : PlainSet) →
 others_opposite true s = opposite_to_complement s
 others_opposite false s = complement_to_opposite s
 
-module _ (s t : PlainSet) (opposite : AreOpposite s t) where
-  member : (k : ℕ) → k < s.capacity → t.has k ≡ false → s.has k ≡ true
-  member k l e = not_false (s.has k) (sym (opposite.other k l) ∙ e)
+-- the bits of a kind of a set, and those of the other kind
+module _ (kind : Bool) (set : PlainSet) where
+  abbrev s : PlainSet
+  s = ones_or_zeros kind set
 
-  no_member : (k : ℕ) → k < s.capacity → t.has k ≡ true → s.has k ≡ false
-  no_member k l e = not_true (s.has k) (sym (opposite.other k l) ∙ e)
+  abbrev t : PlainSet
+  t = ones_or_zeros (not kind) set
 
-  all_from : (start end : ℕ) → end ≤ s.capacity → s.has start ≡ true →
+  -- what is none of the other kind is of the kind, and so the other way round
+  member : (k : ℕ) → k < set.capacity → t.has k ≡ false → s.has k ≡ true
+  member k l e = not_false (s.has k) (sym ((others_opposite kind set).other k
+      (omega (arith, ones_or_zeros-capacity kind set))) ∙ e)
+
+  no_member : (k : ℕ) → k < set.capacity → t.has k ≡ true → s.has k ≡ false
+  no_member k l e = not_true (s.has k) (sym ((others_opposite kind set).other k
+      (omega (arith, ones_or_zeros-capacity kind set))) ∙ e)
+
+  all_from : (start end : ℕ) → end ≤ set.capacity → s.has start ≡ true →
       NoneIn t (start + 1) end → HasAllIn s start end
   all_from start end within here none k lo hi =
       elim (cases_eq k start) [
@@ -34,7 +45,7 @@ module _ (s t : PlainSet) (opposite : AreOpposite s t) where
         | inr n ↦ member k (omega arith) (none k (omega (arith, n)) hi)
       ]
 
-  all_to : (start last : ℕ) → last < s.capacity → s.has last ≡ true → NoneIn t start last →
+  all_to : (start last : ℕ) → last < set.capacity → s.has last ≡ true → NoneIn t start last →
       HasAllIn s start (last + 1)
   all_to start last within here none k lo hi =
       elim (cases_eq k last) [
@@ -44,7 +55,7 @@ module _ (s t : PlainSet) (opposite : AreOpposite s t) where
 
   -- the run that begins at a member ends at the first number after it that is none, or with all
   -- numbers
-  pub end_found : (start to end : ℕ) → to ≤ s.capacity → s.has start ≡ true →
+  pub end_found : (start to end : ℕ) → to ≤ set.capacity → s.has start ≡ true →
       IsFirstIn t (start + 1) to (Some end) → EndsRun s start to end
   end_found start to end within here h = (
     omega (arith, h.0),
@@ -53,14 +64,14 @@ module _ (s t : PlainSet) (opposite : AreOpposite s t) where
     λ l. no_member end (omega arith) h.2,
   )
 
-  pub end_none : (start to : ℕ) → start < to → to ≤ s.capacity → s.has start ≡ true →
+  pub end_none : (start to : ℕ) → start < to → to ≤ set.capacity → s.has start ≡ true →
       NoneIn t (start + 1) to → EndsRun s start to to
   end_none start to some within here none =
       (some, omega arith, all_from start to within here none, λ l. absurd (omega arith))
 
   -- the run that ends with a member begins past the last number before it that is none, or with the
   -- first number
-  pub start_found : (from last gap start : ℕ) → start ≡ gap + 1 → last < s.capacity →
+  pub start_found : (from last gap start : ℕ) → start ≡ gap + 1 → last < set.capacity →
       s.has last ≡ true → IsLastIn t from last (Some gap) → BeginsRun s from last start
   start_found from last gap start is within here h = (
     omega (arith, h.0),
@@ -69,7 +80,7 @@ module _ (s t : PlainSet) (opposite : AreOpposite s t) where
     λ l. ap s.has (omega arith) ∙ no_member gap (omega (arith, h.1)) h.2,
   )
 
-  pub start_none : (from last : ℕ) → from ≤ last → last < s.capacity → s.has last ≡ true →
+  pub start_none : (from last : ℕ) → from ≤ last → last < set.capacity → s.has last ≡ true →
       NoneIn t from last → BeginsRun s from last from
   start_none from last some within here none =
       (omega arith, some, all_to from last within here none, λ l. absurd (omega arith))

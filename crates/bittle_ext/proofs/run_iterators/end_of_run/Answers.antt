@@ -1,24 +1,13 @@
-use Rattle.std.proofs.Common.{◌≤◌, not, subst, sym}
 use Rattle.bittle.specs.Values.{set_in}
-use Rattle.bittle.specs.Walk.{ones_or_zeros}
-use Rattle.bittle_bits.proofs.OnesOrZeros.{ones_or_zeros-capacity}
-use Rattle.bittle_ext.proofs.RunEnds.{others_opposite, end_found, end_none}
+use Rattle.bittle_ext.proofs.RunEnds.{end_found, end_none}
 use Rattle.bittle_ext.proofs.run_iterators.end_of_run.Goals as goal
 
 pub returns-in-Some : goal.returns-in-Some
 returns-in-Some g c =
-    let kind = g.K.Kind.ONES in
-    let ours = set_in g.B.Shape g.E.Endian c.args.bits.now in
-    end_found (ones_or_zeros kind ours) (ones_or_zeros (not kind) ours) (others_opposite kind ours)
-    c.args.start c.args.to c.in-Some.end
-    (subst (λ n. c.args.to ≤ n) (sym (ones_or_zeros-capacity kind ours)) c.requires.within)
-    c.requires.member c.in-Some.ensures
+    end_found g.K.Kind.ONES (set_in g.B.Shape g.E.Endian c.args.bits.now) c.args.start c.args.to
+    c.in-Some.end c.requires.within c.requires.member c.in-Some.ensures
 
 pub returns-in-None : goal.returns-in-None
 returns-in-None g c =
-    let kind = g.K.Kind.ONES in
-    let ours = set_in g.B.Shape g.E.Endian c.args.bits.now in
-    end_none (ones_or_zeros kind ours) (ones_or_zeros (not kind) ours) (others_opposite kind ours)
-    c.args.start c.args.to c.requires.ordered
-    (subst (λ n. c.args.to ≤ n) (sym (ones_or_zeros-capacity kind ours)) c.requires.within)
-    c.requires.member c.in-None.ensures
+    end_none g.K.Kind.ONES (set_in g.B.Shape g.E.Endian c.args.bits.now) c.args.start c.args.to
+    c.requires.ordered c.requires.within c.requires.member c.in-None.ensures
