@@ -74,10 +74,6 @@ snoc : (p : ℕ → Bool) (n : ℕ) → ascending_from p 0 (suc n)
 unfolding ascending_from
 snoc p n = ascending_from-add p 0 n 1 (suc n) n (omega arith) (omega arith)
 
-length_bit : (b : Bool) (x : ℕ) → length (cond b (x ∷ []) []) ≡ cond b 1 0
-length_bit true x = refl
-length_bit false x = refl
-
 get_at_end : (xs : List ℕ) (x k : ℕ) → k ≡ length xs → slice_get (xs ++ x ∷ []) k ≡ Some x
 get_at_end xs x k e =
     rw e (slice_get-get_or (xs ++ x ∷ []) (length xs) 0

@@ -12,6 +12,7 @@ use Rattle.bittle_bits.proofs.PlainSets.{plain_set}
 use Rattle.bittle_bits.proofs.RowWords.{words_each}
 use Rattle.bittle_bits.proofs.Spans.{outside_span, inside_span}
 use Rattle.bittle_bits.proofs.Words.{digit_at, same_word}
+use Rattle.bittle.proofs.CallerSets.{contains_within}
 use Rattle.bittle_ext.specs.RangeMembers.{EndsAt}
 use Rattle.bittle_ext.specs.Rotations.{has_rotated, rotated_down, rotated_up, has_shifted_down, shifted_down, has_shifted_up, shifted_up, IsWindow, IsWordFrom, IsRotatedBelow}
 
@@ -21,16 +22,11 @@ contains_as : (s : PlainSet) (i j : ℕ) → i % s.capacity ≡ j % s.capacity �
 unfolding contains
 contains_as s i j e = ap (λ k. nat_lt 0 s.capacity && s.has k) e
 
--- an index below the capacity does not wrap
-contains_below : (s : PlainSet) (i : ℕ) → i < s.capacity → contains s i ≡ s.has i
-unfolding contains
-contains_below s i h = rw (lt-ltb 0 s.capacity (omega arith), mod-eq_of_lt h) refl
-
 -- an index that has wrapped once
 contains_past : (s : PlainSet) (i j : ℕ) → i ≡ s.capacity + j → j < s.capacity →
     contains s i ≡ s.has j
 contains_past s i j e h =
-    contains_as s i j (ap (λ k. k % s.capacity) e ∙ add-mod_left s.capacity j) ∙ contains_below s j h
+    contains_as s i j (ap (λ k. k % s.capacity) e ∙ add-mod_left s.capacity j) ∙ contains_within s j h
 
 -- the word after word `at` of so many, and after the last one the first
 abbrev pub IsNext : ℕ → ℕ → ℕ → Type 0
@@ -52,7 +48,7 @@ module _ (m : Bool) (w words at from d e r : ℕ) (s : PlainSet) (word : 0 < w)
   first_at ours is i b =
       is.first i b ∙ digit_at m w at s d word ours (i + from) b
       ∙ ap t.has (omega arith)
-      ∙ sym (contains_below t (at * w + from + i) (omega (arith, up, whole)))
+      ∙ sym (contains_within t (at * w + from + i) (omega (arith, up, whole)))
 
   -- the word after it, or the first one after the last
   pub window_from : (next : ℕ) → IsNext words at next →
@@ -76,7 +72,7 @@ module _ (m : Bool) (w words at from d e r : ℕ) (s : PlainSet) (word : 0 < w)
                   let top : (next + 1) * w ≤ words * w =
                   mul-le-mul_right w (omega (arith, more.0, more.1)) in
                   ap t.has (omega (arith, on))
-                  ∙ sym (contains_below t (at * w + from + i) (omega (arith, on, top, whole)))
+                  ∙ sym (contains_within t (at * w + from + i) (omega (arith, on, top, whole)))
             ]
       ]
 
@@ -209,7 +205,7 @@ cut_down s by h =
     let none : Bool → Bool = λ _. false in
     ap (plain_set c) (fun_ext λ k. elim (cases_lt k (c - by)) [
       | inl l ↦ outside_span none t (c - by) c k (inl l) ∙ rotated-below s by k (omega arith)
-          ∙ contains_below s (k + by) (omega arith) ∙ sym (down-inside s by k (omega arith))
+          ∙ contains_within s (k + by) (omega arith) ∙ sym (down-inside s by k (omega arith))
       | inr g ↦ elim (cases_lt k c) [
         | inl l ↦ inside_span none t (c - by) c k g l ∙ sym (down-past s by k (omega arith))
         | inr b ↦ outside_span none t (c - by) c k (inr b) ∙ rotated-past s by k b
@@ -264,23 +260,23 @@ all_up s by h = ap (plain_set s.capacity) (fun_ext λ k. sym (elim (cases_lt k b
 -- an index of the set shifted down is a member where the one so far above it was one
 pub shifted_from : (s : PlainSet) (by i : ℕ) → i + by < s.capacity →
     contains (shifted_down s by) i ≡ contains s (i + by)
-shifted_from s by i h = contains_below (shifted_down s by) i (omega arith) ∙ down-inside s by i h
-    ∙ sym (contains_below s (i + by) h)
+shifted_from s by i h = contains_within (shifted_down s by) i (omega arith) ∙ down-inside s by i h
+    ∙ sym (contains_within s (i + by) h)
 
 -- and none where there was none above it
 pub emptied_above : (s : PlainSet) (by i : ℕ) → i < s.capacity → s.capacity ≤ i + by →
     contains (shifted_down s by) i ≡ false
-emptied_above s by i h g = contains_below (shifted_down s by) i h ∙ down-past s by i g
+emptied_above s by i h g = contains_within (shifted_down s by) i h ∙ down-past s by i g
 
 -- an index so far above another one, of the set shifted up, is a member where that one was one
 pub shifted_to : (s : PlainSet) (by i : ℕ) → i + by < s.capacity →
     contains (shifted_up s by) (i + by) ≡ contains s i
 shifted_to s by i h =
     let back : i + by - by ≡ i = omega arith in
-    contains_below (shifted_up s by) (i + by) h ∙ up-inside s by (i + by) (omega arith) h
-    ∙ ap s.has back ∙ sym (contains_below s i (omega arith))
+    contains_within (shifted_up s by) (i + by) h ∙ up-inside s by (i + by) (omega arith) h
+    ∙ ap s.has back ∙ sym (contains_within s i (omega arith))
 
 -- and none where there was none below it
 pub emptied_below : (s : PlainSet) (by i : ℕ) → i < s.capacity → i < by →
     contains (shifted_up s by) i ≡ false
-emptied_below s by i h l = contains_below (shifted_up s by) i h ∙ up-before s by i l
+emptied_below s by i h l = contains_within (shifted_up s by) i h ∙ up-before s by i l

@@ -3,7 +3,7 @@ use Rattle.std.proofs.Common.{◌≡◌, ℕ, ◌*◌, ◌<◌, ◌≤◌, Bool,
 use Rattle.std.proofs.lemmas.Bool.{cases_lt, le-ltb, true≢false, and_right}
 use Rattle.bittle_bits.specs.PlainSet.{PlainSet, complement, lacks}
 use Rattle.bittle_bits.specs.Orders.{read_in}
-use Rattle.bittle_bits.specs.Searches.{NoneIn, IsFirstIn, IsLastIn}
+use Rattle.bittle_bits.specs.Searches.{NoneIn, IsFirstIn}
 use Rattle.bittle_bits.proofs.PlainSets.{members-past}
 use Rattle.bittle.proofs.CallerSets.{complement_within}
 use Rattle.bittle_ext.specs.RangeMembers.{EndsAt, HasAllIn, HasSomeIn, IsEndIn, TakesEnd}
@@ -30,21 +30,6 @@ module _ {s t : PlainSet} {a b : ℕ} (x : EndsAt s a) (y : EndsAt t b) (end : �
             ∙ and_right (s.has i) false refl
         | inr g ↦ ap (λ c. c && t.has i) (x.past i g)
       ]
-
--- a search from the back that begins at the capacity, past which nothing is, begins as far past it
--- as one likes
-pub last_to : (s : PlainSet) (c to at : ℕ) (r : Option ℕ) →
-    ((i : ℕ) → c ≤ i → s.has i ≡ false) → at ≡ min to c → IsLastIn s 0 at r → IsLastIn s 0 to r
-last_to s c to at None past e h = λ k p q. elim (cases_lt k c) [
-  | inl l ↦ h k p (omega (arith, e))
-  | inr g ↦ past k g
-]
-last_to s c to at (Some i) past e h = (
-  h.0,
-  omega (arith, e, h.1),
-  h.2,
-  λ k p q. elim (cases_lt k c) [ inl l ↦ h.3 k p (omega (arith, e)) | inr g ↦ past k g ],
-)
 
 -- a search at an end that found nothing tells that nothing is there, and a step over a list that is
 -- empty takes nothing

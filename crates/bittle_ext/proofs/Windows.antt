@@ -8,7 +8,6 @@ use Rattle.std.proofs.lemmas.Nat.Bits.{bit_at_cat_low, bit_at_cat_high}
 use Rattle.std.proofs.lemmas.Bool.{cases_lt}
 use Rattle.bittle_bits.specs.BitPatterns.{bit_has, bit_set}
 use Rattle.bittle.specs.Orders.{read_in}
-use Rattle.bittle.specs.PlainSet.{PlainSet}
 use Rattle.bittle_bits.proofs.BitSets.{bit_has-at}
 use Rattle.bittle_bits.proofs.PlaceLemmas.{mirror_in_word}
 use Rattle.bittle_ext.specs.Rotations.{IsWindow}
@@ -86,13 +85,6 @@ module _ (w from rest first second ones r : ℕ) (h : from < w) (left : rest ≡
         ∙ ap (bit_at second) e)
         ∙ sym (bit_has-at w second (i + from - w) (omega arith));
   }
-
--- a window that begins with the first word is that word
-pub whole_window : (w from : ℕ) (s t : PlainSet) → from ≡ 0 → IsWindow w from s t s
-whole_window w from s t none = record {
-  first = λ i b. ap s.has (omega (arith, none));
-  second = λ i b g. absurd (omega (arith, none));
-}
 
 -- mirrored words have their window from the other side
 pub mirrored_window : (w from rest first second r : ℕ) → 0 < from → from < w → rest ≡ w - from →

@@ -7,6 +7,7 @@ ghost use Rattle.bittle.specs.PlainSet.{ascending, complement, members_below};
 ghost use Rattle.bittle.specs.Searches.{IsFirstIn, IsLastIn, NoneIn};
 ghost use Rattle.bittle.specs.Values.{set_in, ShapeFits};
 
+use crate::capacities::capacity_of;
 use crate::{ranks, runs};
 use bittle::{Bits, Endian};
 use bittle_bits::internal::source::{Ones, Zeros};
@@ -172,7 +173,7 @@ pub trait BitsExt: Bits {
         ensures { let ours = set_in Self.Shape E.Endian self.now in
             IsLastIn ours 0 to result }
     {
-        self.last_one_in::<E>(0, to.min(self.bits_capacity()))
+        self.last_one_in::<E>(0, to.min(capacity_of::<Self, E>(self)))
     }
 
     /// Returns the greatest index of a set bit below `to`, in the order of the type, as
@@ -207,7 +208,7 @@ pub trait BitsExt: Bits {
         ensures { let ours = set_in Self.Shape E.Endian self.now in
             IsLastIn (complement ours) 0 to result }
     {
-        self.last_zero_in::<E>(0, to.min(self.bits_capacity()))
+        self.last_zero_in::<E>(0, to.min(capacity_of::<Self, E>(self)))
     }
 
     /// Returns the greatest index of an unset bit below `to`, in the order of the type, as
@@ -241,7 +242,7 @@ pub trait BitsExt: Bits {
         ensures value { result ≡ members_below (set_in Self.Shape E.Endian self.now) index }
         ensures at_most { result ≤ (Self.big self.now).capacity }
     {
-        self.count_ones_in_range_in::<E>(0, index.min(self.bits_capacity()))
+        self.count_ones_in_range_in::<E>(0, index.min(capacity_of::<Self, E>(self)))
     }
 
     /// Returns how many set bits lie below `index`, in the order of the type, as
