@@ -24,34 +24,6 @@ pub fn are_alike<A: Bits, B: Bits, E: Endian, F: Endian>() -> bool
 }
 
 /// Returns the least index below both capacities that is set in the first and of the kind in the
-/// second, or `None`, by turns.
-fn first_by_turns<A: Bits, B: Bits, E: Endian, F: Endian, K: Kind>(
-    left: &A,
-    right: &B,
-    end: u32,
-) -> Option<u32>
-    requires left_fits { ShapeFits A.Shape left.now }
-    requires right_fits { ShapeFits B.Shape right.now }
-    requires least { end ≡ min (A.big left.now).capacity (B.big right.now).capacity }
-    ensures { let ours = set_in A.Shape E.Endian left.now in
-        let theirs = set_in B.Shape F.Endian right.now in
-        MatchOption result (AgreesBelow (not K.ONES) ours theirs end)
-        (IsFirstWhere K.ONES ours theirs) }
-{
-    let mut from = 0;
-    while let Some(ours) = left.first_one_in::<E>(from, end) {
-        let Some(theirs) = search::<B, F, K, true>(right, ours, end) else {
-            return None;
-        };
-        if theirs == ours {
-            return Some(ours);
-        }
-        from = theirs;
-    }
-    None
-}
-
-/// Returns the least index below both capacities that is set in the first and of the kind in the
 /// second, or `None`.
 #[inline]
 fn first_below<A: Bits, B: Bits, E: Endian, F: Endian, K: Kind>(
@@ -67,13 +39,24 @@ fn first_below<A: Bits, B: Bits, E: Endian, F: Endian, K: Kind>(
         MatchOption result (AgreesBelow (not K.ONES) ours theirs end)
         (IsFirstWhere K.ONES ours theirs) }
 {
-    if !are_alike::<A, B, E, F>() {
-        first_by_turns::<A, B, E, F, K>(left, right, end)
-    } else if K::ONES {
-        first_decided_below::<A, B, E, Conjunction>(left, right, end)
-    } else {
-        first_decided_below::<A, B, E, Difference>(left, right, end)
+    if are_alike::<A, B, E, F>() {
+        return if K::ONES {
+            first_decided_below::<A, B, E, Conjunction>(left, right, end)
+        } else {
+            first_decided_below::<A, B, E, Difference>(left, right, end)
+        };
     }
+    let mut from = 0;
+    while let Some(ours) = left.first_one_in::<E>(from, end) {
+        let Some(theirs) = search::<B, F, K, true>(right, ours, end) else {
+            return None;
+        };
+        if theirs == ours {
+            return Some(ours);
+        }
+        from = theirs;
+    }
+    None
 }
 
 /// Returns the least index that is set in both, or `None`.

@@ -1,7 +1,7 @@
 use Rattle.std.proofs.Common.{◌-◌, ◌≤◌, not}
 use Rattle.bittle.specs.Orders.{read_in}
 use Rattle.bittle_ext.specs.SetRelations.{AgreesBelow}
-use Rattle.bittle_ext.proofs.relations.first_by_turns.Given as goal
+use Rattle.bittle_ext.proofs.relations.first_below.Given as goal
 
 abbrev pub invariant-loop-ours : goal.invariant-loop-ours
 invariant-loop-ours g l =

@@ -1,7 +1,7 @@
 use Rattle.std.proofs.Common.{arith}
 use Rattle.bittle.specs.Values.{set_in}
 use Rattle.bittle_ext.proofs.RelationFacts.{turned, met}
-use Rattle.bittle_ext.proofs.relations.first_by_turns.Goals as goal
+use Rattle.bittle_ext.proofs.relations.first_below.Goals as goal
 
 pub returns-in_default-search : goal.returns-in_default-search
 returns-in_default-search g c =
