@@ -15,51 +15,15 @@ use bittle_bits::word::Word;
 
 /// Counts the indexes of word `k` that are set in both.
 #[inline]
-fn count_common_word<A: Bits, B: Bits, E: Endian>(left: &A, right: &B, k: u32) -> u32
+fn count_common_word<A: Bits, B: Bits, E: Endian, F: Endian>(left: &A, right: &B, k: u32) -> u32
     requires left_fits { ShapeFits A.Shape left.now }
     requires right_fits { ShapeFits B.Shape right.now }
     requires within { k * A.width < 4294967296 }
     ensures { let both = both_of
-        (set_in A.Shape E.Endian left.now) (set_in B.Shape E.Endian right.now) in
+        (set_in A.Shape E.Endian left.now) (set_in B.Shape F.Endian right.now) in
         members_below both ((k + 1) * A.width) ≡ members_below both (k * A.width) + result }
 {
-    word_of_both::<A, B, E, E, Conjunction>(left, right, k).count_ones()
-}
-
-/// Counts the indexes that are set in both, by words.
-#[inline]
-fn count_common_by_words<A: Bits, B: Bits, E: Endian>(left: &A, right: &B) -> u32
-    requires width { A.width ≡ B.width }
-    requires left_fits { ShapeFits A.Shape left.now }
-    requires right_fits { ShapeFits B.Shape right.now }
-    ensures { CountsBoth (set_in A.Shape E.Endian left.now) (set_in B.Shape E.Endian right.now)
-        (size (A.big left.now)) (size (B.big right.now)) result }
-{
-    let common = capacity_of::<A, E>(left).min(capacity_of::<B, E>(right));
-    let mut count = 0;
-    for k in 0..common / <A::LeafWord as Word>::width() {
-        count += count_common_word::<A, B, E>(left, right, k);
-    }
-    count
-}
-
-/// Counts the indexes that are set in both, by the set bits of the first.
-fn count_common_by_turns<A: Bits, B: Bits, E: Endian, F: Endian>(left: &A, right: &B) -> u32
-    requires left_fits { ShapeFits A.Shape left.now }
-    requires right_fits { ShapeFits B.Shape right.now }
-    ensures { CountsBoth (set_in A.Shape E.Endian left.now) (set_in B.Shape F.Endian right.now)
-        (size (A.big left.now)) (size (B.big right.now)) result }
-{
-    let end = capacity_of::<A, E>(left).min(capacity_of::<B, F>(right));
-    let mut count = 0;
-    let mut from = 0;
-    while let Some(index) = left.first_one_in::<E>(from, end) {
-        if right.test_bit_in::<F>(index) {
-            count += 1;
-        }
-        from = index + 1;
-    }
-    count
+    word_of_both::<A, B, E, F, Conjunction>(left, right, k).count_ones()
 }
 
 /// Counts the indexes that are set in both.
@@ -70,11 +34,22 @@ pub fn count_common<A: Bits, B: Bits, E: Endian, F: Endian>(left: &A, right: &B)
     ensures { CountsBoth (set_in A.Shape E.Endian left.now) (set_in B.Shape F.Endian right.now)
         (size (A.big left.now)) (size (B.big right.now)) result }
 {
+    let common = capacity_of::<A, E>(left).min(capacity_of::<B, F>(right));
+    let mut count = 0;
     if are_alike::<A, B, E, F>() {
-        count_common_by_words::<A, B, E>(left, right)
-    } else {
-        count_common_by_turns::<A, B, E, F>(left, right)
+        for k in 0..common / <A::LeafWord as Word>::width() {
+            count += count_common_word::<A, B, E, F>(left, right, k);
+        }
+        return count;
     }
+    let mut from = 0;
+    while let Some(index) = left.first_one_in::<E>(from, common) {
+        if right.test_bit_in::<F>(index) {
+            count += 1;
+        }
+        from = index + 1;
+    }
+    count
 }
 
 /// Counts the indexes that are set in the first and not in the second.
