@@ -88,8 +88,8 @@ pub counted_all : (s t : PlainSet) (from to : ℕ) → from ≤ to → NoneIn s 
 counted_all s t from to h none =
     below_stays (both_of s t) from to h (λ k p q. ap (λ a. a && t.has k) (none k p q))
 
--- of two sets of which nothing is a member from their capacities on, as many as are in both below the
--- lesser capacity are in both, and what is left of either follows
+-- of two sets that end at their capacities, as many as are in both below the lesser one are in both,
+-- and what is left of either follows
 pub counts_both : {s t : PlainSet} {a b : ℕ} → EndsAt s a → EndsAt t b → (end p q n : ℕ) →
     end ≡ min a b → p ≡ size s → q ≡ size t → n ≡ members_below (both_of s t) end →
     CountsBoth s t p q n

@@ -8,8 +8,8 @@ use Rattle.bittle.proofs.CallerSets.{complement_within}
 use Rattle.bittle_ext.specs.SetRelations.{AgreesBelow, IsFirstWhere}
 use Rattle.bittle_ext.proofs.SetFacts.{not_false, not_true}
 
--- what each member of the first has in the second below a number, it has below a later one too, where
--- the first has none from there on
+-- what is so of each member of the first below a number is so below a later one too, where the
+-- first has none from there on
 pub further : (v : Bool) (s t : PlainSet) (from to : ℕ) → AgreesBelow v s t from →
     NoneIn s from to → AgreesBelow v s t to
 further v s t from to before none i h m =
@@ -32,7 +32,8 @@ of_other false t i l h = not_false (t.has i) (sym (complement_within t i l) ∙ 
 module _ (v : Bool) (s t : PlainSet) (from end ours theirs : ℕ) (within : end ≤ t.capacity)
     (before : AgreesBelow (not v) s t from) (first : IsFirstIn s from end (Some ours)) where
   -- the second set goes on from a member of the first: to a later number
-  pub turned : theirs ≤ end → NoneIn (ones_or_zeros v t) ours theirs → AgreesBelow (not v) s t theirs
+  pub turned : theirs ≤ end → NoneIn (ones_or_zeros v t) ours theirs →
+      AgreesBelow (not v) s t theirs
   turned up none i h m =
       elim (cases_lt i ours) [
         | inl l ↦ further (not v) s t from ours before first.3 i l m

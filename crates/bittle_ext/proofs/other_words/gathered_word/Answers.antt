@@ -41,7 +41,8 @@ returns g c =
     let t = set_in g.B.Shape g.F.Endian set in
     let past = members-past g.F.Endian.mirrored _ _ b.width_positive (b.whole_words set)
     (b.none_past set) in
-    let last : c.min-end.result ≡ min (c.args.k * c.width.result + g.W.Word.width) t.capacity = omega (
+    let end = c.args.k * c.width.result + g.W.Word.width in
+    let last : c.min-end.result ≡ min end t.capacity = omega (
       arith,
       c.min-end.ensures,
       c.saturating_add.ensures,
