@@ -2,7 +2,8 @@
 use Rattle.std.proofs.Common.{◌≡◌, ℕ, ◌+◌, ◌-◌, ◌*◌, ◌<◌, ◌≤◌, ◌≢◌, Bool, true, false, not, List, [], ◌∷◌, ◌++◌, Option, Some, None, MatchOption, refl, sym, ap, subst, ◌∙◌, arith, append_assoc, append-nil}
 use Rattle.std.proofs.Math.Nat.{mul-le-mul_right}
 use Rattle.std.proofs.lemmas.List.Elements.{All-nil, All-cons, All-head, All-tail}
-use Rattle.bittle_bits.specs.Buffers.{members_between, with_end, YieldsFrom}
+use Rattle.bittle_bits.specs.Buffers.{members_between}
+use Rattle.bittle_bits.specs.Ends.{with_end, YieldsFrom}
 use Rattle.bittle_bits.specs.PlainSet.{PlainSet}
 use Rattle.bittle_bits.proofs.Items.{members_between-split, members_between-empty}
 use Rattle.bittle_ext.specs.Combined.{end_of, items_of_loaded, items_at, Scans, AreIndexes, IsPlaced}

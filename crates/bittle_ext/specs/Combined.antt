@@ -1,7 +1,8 @@
 -- What an operation makes of two sets, each of its own capacity, and where an iterator over it is.
 use Rattle.std.specs.Prelude.{◌≡◌, ℕ, ◌+◌, ◌*◌, ◌<◌, ◌≤◌, max, Bool, true, false, not, ◌||◌, ◌&&◌, List, ◌++◌, Option}
 use Rattle.std.specs.List.{All}
-use Rattle.bittle_bits.specs.Buffers.{members_between, items_of, YieldsFrom}
+use Rattle.bittle_bits.specs.Buffers.{members_between, items_of}
+use Rattle.bittle_bits.specs.Ends.{YieldsFrom}
 use Rattle.bittle.specs.PlainSet.{PlainSet, size}
 use Rattle.bittle.specs.SetOperations.{first_alone, just_one}
 use Rattle.bittle.specs.Values.{set_in}

@@ -2,7 +2,6 @@
 use Rattle.std.specs.Iterator.{YieldsFirst, YieldsLast}
 use Rattle.std.specs.Prelude.{◌≡◌, ℕ, ◌-◌, ◌<◌, ◌≤◌, Bool, ◌&&◌, true, false, List, length, slice_index, Option}
 use Rattle.bittle.specs.PlainSet.{PlainSet, is_in_span}
-use Rattle.bittle.specs.Searches.{IsFirstIn, IsLastIn}
 
 -- so many are the capacity, and nothing is a member from there on
 pub record EndsAt (s : PlainSet) (n : ℕ) : Type 0 where
@@ -16,11 +15,6 @@ HasSomeIn s from to = (k : ℕ) × (from ≤ k) × (k < to) × (s.has k ≡ true
 -- each number from one on and below another is a member
 abbrev pub HasAllIn : PlainSet → ℕ → ℕ → Type 0
 HasAllIn s from to = (k : ℕ) → from ≤ k → k < to → s.has k ≡ true
-
--- the least member from one number on and below another, or else the greatest one
-abbrev pub IsEndIn : Bool → PlainSet → ℕ → ℕ → Option ℕ → Type 0
-IsEndIn true = IsFirstIn
-IsEndIn false = IsLastIn
 
 -- a step over a list took its first item, or else its last one
 abbrev pub TakesEnd : {A : Type 0} → Bool → List A → Option A → List A → Type 0

@@ -1,7 +1,8 @@
 //! The words that an operation makes of two sets, and the steps of an iterator over them.
 
 ghost use Rattle.std.specs.Prelude.{◌≡◌, ◌+◌, ◌*◌, ◌<◌, ◌≤◌};
-ghost use Rattle.bittle_bits.specs.Buffers.{members_between, YieldsFrom};
+ghost use Rattle.bittle_bits.specs.Buffers.{members_between};
+ghost use Rattle.bittle_bits.specs.Ends.{YieldsFrom};
 ghost use Rattle.bittle_bits.specs.BitPatterns.{bit_set};
 ghost use Rattle.bittle_bits.specs.Words.{word_of};
 ghost use Rattle.bittle_ext.specs.Combined.{decided_of, items_of_loaded, items_at};

@@ -1,7 +1,7 @@
 //! Searches in a range for the bits of a kind, set or unset, from either end.
 
 ghost use Rattle.std.specs.Prelude.{◌≤◌, not};
-ghost use Rattle.bittle_ext.specs.RangeMembers.{IsEndIn};
+ghost use Rattle.bittle_bits.specs.Ends.{IsEndIn};
 ghost use Rattle.bittle.specs.Values.{set_in, ShapeFits};
 ghost use Rattle.bittle.specs.Walk.{ones_or_zeros};
 
