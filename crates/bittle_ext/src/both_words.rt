@@ -142,9 +142,12 @@ pub fn step<A: Bits, B: Bits, E: Endian, F: Endian, O: Operation, const FRONT: b
         }
     }
     // No word is left between, so the one at the other end has all that remains. It changes its
-    // place, so that the next step finds it at once.
-    let head = at.head;
-    at.head = at.tail;
-    at.tail = head;
+    // place, so that the next step finds it at once; without its padding, which would go through
+    // memory.
+    let Loaded { word, base } = at.head;
+    at.head.word = at.tail.word;
+    at.head.base = at.tail.base;
+    at.tail.word = word;
+    at.tail.base = base;
     scan::<A::LeafWord, E, FRONT>(at)
 }

@@ -230,9 +230,14 @@ impl<W: Word, E: Endian> Buffers<W, E> {
           fetches = self.old.fetches;
         } }
     {
-        let head = self.head;
-        self.head = self.tail;
-        self.tail = head;
+        // Without the padding of the words, which would go through memory.
+        let BufferedWord { word, base, is_loaded } = self.head;
+        self.head.word = self.tail.word;
+        self.head.base = self.tail.base;
+        self.head.is_loaded = self.tail.is_loaded;
+        self.tail.word = word;
+        self.tail.base = base;
+        self.tail.is_loaded = is_loaded;
     }
 
     /// Scans the word at the end `N`, the head or the tail, for its item there.
