@@ -45,6 +45,21 @@ steps_on front u v w r a b = record {
   bounded = b.bounded;
 }
 
+-- a step, and what leaves all that remains, are a step
+pub steps_then : (front : Bool) (u v w : Walk) (r : Option ℕ) →
+    Steps (YieldsFrom front (λ w. w.remaining)) u r v → Seeks v w → IsScanBounded w →
+    Steps (YieldsFrom front (λ w. w.remaining)) u r w
+steps_then front u v w r a b c = record {
+  gave = subst (λ ys. YieldsFrom front (λ (xs : List ℕ). xs) u.remaining r ys) (sym b.remaining)
+      a.gave;
+  items = b.items ∙ a.items;
+  scans = le_trans a.scans b.scans;
+  fetches = le_trans a.fetches b.fetches;
+  unread = b.unread ∙ a.unread;
+  words = b.words ∙ a.words;
+  bounded = c;
+}
+
 -- scans that yielded nothing until nothing was left are a step that gave `None`
 pub steps_none : (front : Bool) (u v : Walk) → Seeks u v → v.remaining ≡ [] → IsScanBounded v →
     Steps (YieldsFrom front (λ w. w.remaining)) u None v

@@ -112,9 +112,13 @@ pub fn step<B: Bits, E: Endian, K: Kind, N: End>(
         }
     }
     // No word is left between, so the one at the other end has all that remains. It changes its
-    // place, so that the next step finds it at once.
+    // place, so that the next step finds it at once; the word of a set of one word stays.
     at.buffers.exchange();
-    let Some(item) = at.buffers.scan::<N>() else {
+    let found = at.buffers.scan::<N>();
+    if source.words() == 1 {
+        at.buffers.exchange();
+    }
+    let Some(item) = found else {
         return None;
     };
     at.items.raise();

@@ -1,12 +1,12 @@
-use Rattle.std.proofs.Common.{◌≡◌, ◌<◌, ◌/◌, Bool, true, false, not, None, refl, sym, ◌∙◌, arith}
+use Rattle.std.proofs.Common.{◌≡◌, ◌+◌, ◌<◌, ◌/◌, Bool, true, false, not, None, refl, sym, ◌∙◌, arith}
 use Rattle.bittle_bits.specs.Buffers.{BufferPair, buffer_of}
 use Rattle.bittle_bits.specs.Cursor.{walk_of, IsCounted}
 use Rattle.bittle_bits.specs.Values.{set_in}
 use Rattle.bittle_bits.specs.Walk.{ones_or_zeros}
 use Rattle.bittle_bits.specs.declared.internal.cursor.Cursor.{Cursor}
-use Rattle.bittle_bits.proofs.Steps.{Seeks, seeks_on, steps_on, steps_none, bounded, exhausted, exchanged, none_left, gave, head_fetched, tail_fetched}
+use Rattle.bittle_bits.proofs.Steps.{Seeks, seeks_on, steps_on, steps_then, steps_none, bounded, exhausted, exchanged, none_left, gave, head_fetched, tail_fetched}
 use Rattle.bittle_bits.proofs.internal.cursor.step.Given.{Over}
-use Rattle.bittle_bits.proofs.internal.cursor.step.Goals.{In_default}
+use Rattle.bittle_bits.proofs.internal.cursor.step.Goals.{In_default, then-words-eq1, else-words-eq1}
 use Rattle.bittle_bits.proofs.internal.cursor.step.Goals as goal
 
 -- what stands at an end stands at the other one after an exchange
@@ -65,24 +65,37 @@ loop-item-preserved g c =
     let loaded = tail_fetched _ _ _ _ _ m.1 (rw back at m.2) some refl in
     rw c.fetch-else-FRONT.ensures (seeks_on _ _ _ m.0 loaded.0, loaded.1)
 
-pub returns-in_default-scan-clause-steps : goal.returns-in_default-scan-clause-steps
-returns-in_default-scan-clause-steps g c =
-    let m = met g (goal.at.returns-in_default-scan-clause-steps g c).In_default in
+pub returns-in_default-found-clause-steps : goal.returns-in_default-found-clause-steps
+returns-in_default-found-clause-steps g c =
+    let m = met g (goal.at.returns-in_default-found-clause-steps g c).In_default in
     let front = g.N.End.FRONT in
-    let scan = rw c.exchange.ensures at c.in_default-scan.ensures in
+    let scan = rw c.exchange.ensures at c.in_default-found.ensures in
     let moved = exchanged _ _ _ front _ m.1 c.if-at.true m.2 in
-    let ended = exhausted _ _ _ front _ c.scan-2.new.self moved.1 scan.found scan.scans scan.other
-    scan.fetches in
-    steps_none front _ _ (seeks_on _ _ _ (seeks_on _ _ _ m.0 moved.0) ended.0)
-    (none_left _ _ front _ c.if-at.true scan.found.1 (scan.other ∙ others front _ m.2))
-    (bounded _ _ _ _ ended.1)
+    let ended = exhausted _ _ _ front _ c.scan-found.new.self moved.1 scan.found scan.scans
+    scan.other scan.fetches in
+    let other = scan.other ∙ others front _ m.2 in
+    let done = steps_none front _ _ (seeks_on _ _ _ (seeks_on _ _ _ m.0 moved.0) ended.0)
+    (none_left _ _ front _ c.if-at.true scan.found.1 other) (bounded _ _ _ _ ended.1) in
+    let back = exchanged _ _ _ (not front) _ ended.1 c.if-at.true other in
+    elim c.if-words-eq1.branch [
+      then-words-eq1 w ↦ rw (w.at-is, w.exchange-then-words-eq1.ensures)
+          (steps_then front _ _ _ _ done back.0 (bounded _ _ _ _ back.1))
+      | else-words-eq1 w ↦ rw w.at-is done
+    ]
 
 pub returns-clause-steps : goal.returns-clause-steps
 returns-clause-steps g c =
     let m = met g (goal.at.returns-clause-steps g c).In_default in
     let front = g.N.End.FRONT in
-    let scan = rw c.exchange.ensures at c.in-Some-scan.ensures in
+    let scan = rw c.exchange.ensures at c.in-Some-found.ensures in
     let moved = exchanged _ _ _ front _ m.1 c.if-at.true m.2 in
-    steps_on front _ _ _ _ (seeks_on _ _ _ m.0 moved.0) (gave _ _ _ front _ c.scan-2.new.self
-    c.raise-2.new.self c.in-Some-scan.item moved.1 scan.found scan.scans scan.other scan.fetches
-    c.raise-2.ensures).0
+    let step = gave _ _ _ front _ c.scan-found.new.self (c.loop-item.at.items + 1)
+    c.in-Some-found.item moved.1 scan.found scan.scans scan.other scan.fetches refl in
+    let done = steps_on front _ _ _ _ (seeks_on _ _ _ m.0 moved.0) step.0 in
+    let other = scan.other ∙ others front _ m.2 in
+    let back = exchanged _ _ _ (not front) _ step.1 c.if-at.true other in
+    elim c.if-words-eq1.branch [
+      then-words-eq1 w ↦ rw (c.raise-2.ensures, w.at-is, w.exchange-then-words-eq1.ensures)
+          (steps_then front _ _ _ _ done back.0 (bounded _ _ _ _ back.1))
+      | else-words-eq1 w ↦ rw (c.raise-2.ensures, w.at-is) done
+    ]
