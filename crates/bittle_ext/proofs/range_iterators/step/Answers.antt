@@ -1,4 +1,4 @@
-use Rattle.std.proofs.Common.{◌≡◌, ◌==◌, true, not, ap, refl}
+use Rattle.std.proofs.Common.{◌≡◌, ◌==◌, true, not, ap, arith}
 use Rattle.std.proofs.lemmas.Bool.{ne_eqb}
 use Rattle.bittle.specs.Values.{set_in}
 use Rattle.bittle.specs.Walk.{ones_or_zeros}
@@ -17,7 +17,7 @@ returns-in_default-clause-gave g c =
 pub returns-then-this-ne0-clause-gave : goal.returns-then-this-ne0-clause-gave
 returns-then-this-ne0-clause-gave g c =
     let is : not (g.row.FRONT == 0) ≡ true = ap not (ne_eqb g.row.FRONT 0 c.if-this-ne0.true) in
-    rw is (first_between _ _ _ c.in-Some.index _ refl (rw is at c.in-Some.ensures))
+    rw is (first_between _ _ _ c.in-Some.index _ (omega arith) (rw is at c.in-Some.ensures))
 
 pub returns-else-this-ne0-clause-gave : goal.returns-else-this-ne0-clause-gave
 returns-else-this-ne0-clause-gave g c =
