@@ -1,3 +1,4 @@
+pub mod MacroLists
 pub mod JoinedWords
 pub mod SieveSteps
 pub mod RoleOrder

@@ -1,7 +1,13 @@
 -- Lists with each kind of item.
-use Rattle.std.specs.Prelude.{ℕ, ◌+◌}
+use Rattle.std.specs.Prelude.{◌≡◌, ℕ, ◌+◌, Bool, true, false}
 use Rattle.bittle.specs.PlainSet.{PlainSet, empty_set, with_index}
 use Rattle.bittle.specs.Ranges.{with_range}
+
+-- what `set!`, `set_le!` and `set_be!` made of a list is one set, each read in its order: the order
+-- of the type, mirrored or not, mirrored, and not mirrored
+abbrev pub AreListed : {V : Type 0} → (Bool → V → PlainSet) → Bool → V × V × V → PlainSet → Type 0
+AreListed read own made s = (read own made.0 ≡ s) × (read true made.1 ≡ s)
+    × (read false made.2 ≡ s)
 
 -- the set of a capacity that the list `index, 2..=3, 5..7, 9..4, 14..` names
 abbrev pub listed_set : ℕ → ℕ → PlainSet

@@ -1,0 +1,82 @@
+//! Uses of each macro with indexes alone, of which each form stands beside one of its own.
+
+ghost use Rattle.std.specs.Prelude.{◌≡◌, IsTrue};
+ghost use Rattle.bittle.specs.Values.{set_mirrored};
+ghost use Rattle.bittle_uses.specs.MacroLists.{AreListed, listed_two_set, listed_three_set};
+
+use bittle::BitsOwned;
+
+// What `set!`, `set_le!` and `set_be!` make of one list.
+macro_rules! by_each {
+    ($($list:tt)*) => {
+        (bittle::set![$($list)*], bittle::set_le![$($list)*], bittle::set_be![$($list)*])
+    };
+}
+
+/// A place with a number.
+#[derive(Drop)]
+pub struct Place {
+    /// The number.
+    pub x: u32,
+}
+
+/// Returns its argument.
+pub fn same(index: u32) -> u32
+    ensures { result ≡ index }
+{
+    index
+}
+
+/// Lists names beside one another, and a call.
+pub fn listed_names<B: BitsOwned>(a: u32, b: u32, c: u32) -> (B, B, B)
+    requires { IsTrue B.indexable }
+    ensures { AreListed (set_mirrored B.Shape) B.Order.Endian.mirrored result
+        (listed_three_set B.type_capacity a b c) }
+{
+    by_each![a, b, same(c)]
+}
+
+/// Lists an index in brackets, a field and a cast.
+pub fn listed_shapes<B: BitsOwned>(d: u32, p: Place, e: u8) -> (B, B, B)
+    requires { IsTrue B.indexable }
+    ensures { AreListed (set_mirrored B.Shape) B.Order.Endian.mirrored result
+        (listed_three_set B.type_capacity d p.x e) }
+{
+    by_each![(d), p.x, e as u32]
+}
+
+/// Lists two calls beside one another.
+pub fn listed_calls<B: BitsOwned>(a: u32, b: u32) -> (B, B, B)
+    requires { IsTrue B.indexable }
+    ensures { AreListed (set_mirrored B.Shape) B.Order.Endian.mirrored result
+        (listed_two_set B.type_capacity a b) }
+{
+    by_each![same(a), same(b)]
+}
+
+/// Lists two indexes in brackets beside one another.
+pub fn listed_brackets<B: BitsOwned>(a: u32, b: u32) -> (B, B, B)
+    requires { IsTrue B.indexable }
+    ensures { AreListed (set_mirrored B.Shape) B.Order.Endian.mirrored result
+        (listed_two_set B.type_capacity a b) }
+{
+    by_each![(a), (b)]
+}
+
+/// Lists two fields beside one another.
+pub fn listed_fields<B: BitsOwned>(p: Place, q: Place) -> (B, B, B)
+    requires { IsTrue B.indexable }
+    ensures { AreListed (set_mirrored B.Shape) B.Order.Endian.mirrored result
+        (listed_two_set B.type_capacity p.x q.x) }
+{
+    by_each![p.x, q.x]
+}
+
+/// Lists two casts beside one another.
+pub fn listed_casts<B: BitsOwned>(a: u8, b: u8) -> (B, B, B)
+    requires { IsTrue B.indexable }
+    ensures { AreListed (set_mirrored B.Shape) B.Order.Endian.mirrored result
+        (listed_two_set B.type_capacity a b) }
+{
+    by_each![a as u32, b as u32]
+}
