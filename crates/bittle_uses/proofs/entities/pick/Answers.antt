@@ -4,34 +4,28 @@ use Rattle.std.specs.Prelude.{slice_index}
 use Rattle.bittle.specs.BitPatterns.{bit_set}
 use Rattle.bittle.specs.PlainSet.{ascending}
 use Rattle.bittle.proofs.CallerJoins.{answers_below, all_answers_at_members, members_are_places}
+use Rattle.bittle_uses.proofs.entities.pick.Goals.{In-Some}
 use Rattle.bittle_uses.proofs.entities.pick.Goals as goal
 
-pub bounds-row-count : goal.bounds-row-count
-bounds-row-count c =
+few : (c : In-Some) → c.loop-component.count < 64
+few c =
     let join = c.join_ones-component-items in
     let start = c.into_iter-component-iterator.ensures.into_iter_gives in
-    let b : c.loop-component.count < 64 = answers_below (λ i. i.rest.now) join.result
-    c.loop-component.component-iterator c.next.new.self c.loop-component.yielded
-    c.in-Some.component (bit_set 64 c.args.mask) c.loop-component.count join.ensures.members
-    c.loop-component.invariant.count join.ensures.answers
-    (rw start at c.loop-component.yielded_by) c.in-Some.ensures.steps in
-    b
+    answers_below (λ i. i.rest.now) join.result c.loop-component.component-iterator
+    c.next.new.self c.loop-component.yielded c.in-Some.component (bit_set 64 c.args.mask)
+    c.loop-component.count join.ensures.members c.loop-component.invariant.count
+    join.ensures.answers (rw start at c.loop-component.yielded_by) c.in-Some.ensures.steps
+
+pub bounds-row-count : goal.bounds-row-count
+bounds-row-count c = few (goal.at.bounds-row-count c).In-Some
 
 pub offset_bounds-row-count : goal.offset_bounds-row-count
-offset_bounds-row-count c =
-    let join = c.join_ones-component-items in
-    let start = c.into_iter-component-iterator.ensures.into_iter_gives in
-    let b : c.loop-component.count < 64 = answers_below (λ i. i.rest.now) join.result
-    c.loop-component.component-iterator c.next.new.self c.loop-component.yielded
-    c.in-Some.component (bit_set 64 c.args.mask) c.loop-component.count join.ensures.members
-    c.loop-component.invariant.count join.ensures.answers
-    (rw start at c.loop-component.yielded_by) c.in-Some.ensures.steps in
-    search rules
+offset_bounds-row-count c = let b = few (goal.at.offset_bounds-row-count c).In-Some in search rules
 
 pub loop-component-preserved : goal.loop-component-preserved
 loop-component-preserved c =
     let t = c.loop-component.invariant in
-    let b = bounds-row-count c in
+    let b = few (goal.at.loop-component-preserved c).In-Some in
     let now = λ (x : Bor ℕ). x.now in
     record {
       room = omega (arith, b);
