@@ -1,6 +1,6 @@
 //! Changes of sets of any shape.
 
-ghost use Rattle.std.specs.Prelude.{◌≡◌, ◌≤◌, nat_lt, not, Bool, IsTrue, MatchOption};
+ghost use Rattle.std.specs.Prelude.{◌≡◌, ◌≤◌, nat_lt, Bool, IsTrue, MatchOption};
 ghost use Rattle.std.specs.List.{fold};
 ghost use Rattle.std.specs.List.Retain.{IsFiltered};
 ghost use Rattle.bittle.specs.PlainSet.{ascending, complement, contains};
@@ -11,16 +11,6 @@ ghost use Rattle.bittle_ext.specs.Changes.{those_passing};
 
 use bittle::{Bits, BitsMut, BitsOwned, Endian};
 use bittle_ext::{BitsMutExt, BitsOwnedExt};
-
-/// Sets a bit, and returns whether it was unset.
-pub fn add_new<B: BitsMut>(set: &mut B, index: u32) -> bool
-    requires { IsTrue B.indexable }
-    ensures was_unset { result ≡ not (contains (set_in B.Shape B.Order.Endian set.old) index) }
-    ensures set { set_in B.Shape B.Order.Endian set.new
-        ≡ with_index (set_in B.Shape B.Order.Endian set.old) index }
-{
-    set.insert(index)
-}
 
 /// Clears the bits of a range.
 pub fn clear<B: BitsMut, E: Endian>(set: &mut B, from: u32, to: u32)
