@@ -231,7 +231,11 @@ impl<W: Word, E: Endian> Buffers<W, E> {
         } }
     {
         // Without the padding of the words, which would go through memory.
-        let BufferedWord { word, base, is_loaded } = self.head;
+        let BufferedWord {
+            word,
+            base,
+            is_loaded,
+        } = self.head;
         self.head.word = self.tail.word;
         self.head.base = self.tail.base;
         self.head.is_loaded = self.tail.is_loaded;

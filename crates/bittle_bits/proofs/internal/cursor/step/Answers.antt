@@ -78,7 +78,7 @@ returns-in_default-found-clause-steps g c =
     (none_left _ _ front _ c.if-at.true scan.found.1 other) (bounded _ _ _ _ ended.1) in
     let back = exchanged _ _ _ (not front) _ ended.1 c.if-at.true other in
     elim c.if-words-eq1.branch [
-      then-words-eq1 w ↦ rw (w.at-is, w.exchange-then-words-eq1.ensures)
+      | then-words-eq1 w ↦ rw (w.at-is, w.exchange-then-words-eq1.ensures)
           (steps_then front _ _ _ _ done back.0 (bounded _ _ _ _ back.1))
       | else-words-eq1 w ↦ rw w.at-is done
     ]
@@ -95,7 +95,7 @@ returns-clause-steps g c =
     let other = scan.other ∙ others front _ m.2 in
     let back = exchanged _ _ _ (not front) _ step.1 c.if-at.true other in
     elim c.if-words-eq1.branch [
-      then-words-eq1 w ↦ rw (c.raise-2.ensures, w.at-is, w.exchange-then-words-eq1.ensures)
+      | then-words-eq1 w ↦ rw (c.raise-2.ensures, w.at-is, w.exchange-then-words-eq1.ensures)
           (steps_then front _ _ _ _ done back.0 (bounded _ _ _ _ back.1))
       | else-words-eq1 w ↦ rw (c.raise-2.ensures, w.at-is) done
     ]
