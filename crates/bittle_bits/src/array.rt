@@ -12,9 +12,9 @@ use crate::bits_owned::BitsOwned;
 use crate::endian::{DefaultEndian, Endian};
 use crate::internal::row;
 use crate::internal::sealed::Sealed;
-use crate::internal::source::{Ones, Zeros};
 use crate::one_word::{Operation, RangeOperation};
 use crate::shape::{OwnedShape, Shape};
+use crate::word::{Ones, Zeros};
 
 impl<T: OwnedShape, const N: usize> Sealed for [T; N] {}
 

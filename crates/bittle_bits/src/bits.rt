@@ -10,12 +10,13 @@ ghost use Rattle.bittle_bits.specs.Walk.{AreBelow, IsFresh};
 ghost use Rattle.bittle_bits.specs.Words.{word_of};
 
 use crate::endian::{BigEndian, DefaultEndian, Endian, LittleEndian};
-use crate::internal::side::{Back, Front};
-use crate::internal::source::{Ones, Source, Zeros};
+use crate::internal::source::Source;
 use crate::internal::{range_count, search};
 use crate::join::JoinOnes;
+use crate::one_word::{Back, Front};
 use crate::shape::Shape;
 use crate::walk::{Iter, IterOnes, IterZeros};
+use crate::word::{Ones, Zeros};
 
 /// A set of bits, each named by a `u32` index below the capacity.
 ///

@@ -8,5 +8,4 @@ pub mod range_count;
 pub(crate) mod row;
 pub mod sealed;
 pub(crate) mod search;
-pub mod side;
 pub mod source;

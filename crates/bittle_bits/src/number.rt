@@ -9,9 +9,8 @@ ghost use Rattle.bittle_bits.specs.PlainSet.{ascending};
 ghost use Rattle.bittle_bits.specs.Walk.{ones_or_zeros, AreBelow, ListsInOrder, ListsInReverse};
 
 use crate::endian::Endian;
-use crate::internal::source::{Kind, Ones, Zeros, bits_of_kind};
 use crate::one_word;
-use crate::word::Word;
+use crate::word::{Kind, Ones, Word, Zeros, bits_of_kind};
 use std::alloc::AllocError;
 use std::marker::{Model, PhantomData};
 

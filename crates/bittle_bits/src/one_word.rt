@@ -1,5 +1,6 @@
-//! A word as a set, for every width at once: the calls on it, its iterators' steps, and the four
-//! operations on two sets, so that each shape has one body for them all.
+//! A word as a set, for every width at once: the calls on it and its iterators' steps. Beside them
+//! stand what they are over, so that each shape has one body for them all: the four operations on
+//! two sets, and the two ends of a set.
 
 ghost use Rattle.std.specs.Iterator.{YieldsFirst, YieldsLast};
 ghost use Rattle.std.specs.Prelude.{◌≡◌, ◌==◌, Bool, ◌*◌, ◌-◌, ◌<◌, ◌≤◌, ◌||◌, ◌&&◌, true, false, cond, refl, IfSome, IsTrue};
@@ -17,7 +18,6 @@ use crate::bits::Bits;
 use crate::bits_mut::BitsMut;
 use crate::bits_owned::BitsOwned;
 use crate::endian::{DefaultEndian, Endian};
-use crate::internal::side::{Back, End, Front, at_end};
 use crate::shape::{OwnedShape, Shape};
 use crate::word::Word;
 
@@ -449,4 +449,37 @@ impl RangeOperation for Difference {
 
 impl RangeOperation for SymmetricDifference {
     ghost keeps_others = { elim [ true ↦ refl | false ↦ refl ] };
+}
+
+/// Names an end of a set: the [`Front`] or the [`Back`].
+pub trait End {
+    ghost FRONT: { Bool };
+
+    const FRONT: bool;
+}
+
+/// Names the front, where the least member is.
+pub enum Front {}
+
+/// Names the back, where the greatest member is.
+pub enum Back {}
+
+impl End for Front {
+    ghost FRONT = { true };
+
+    const FRONT: bool = true;
+}
+
+impl End for Back {
+    ghost FRONT = { false };
+
+    const FRONT: bool = false;
+}
+
+/// Returns the one of two numbers that is for the end `N`.
+#[inline]
+pub fn at_end<N: End>(front: u32, back: u32) -> u32
+    ensures { result ≡ cond N.FRONT front back }
+{
+    if N::FRONT { front } else { back }
 }

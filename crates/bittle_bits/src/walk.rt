@@ -15,9 +15,10 @@ use crate::bits_owned::BitsOwned;
 use crate::endian::Endian;
 use crate::internal::buffer::Count;
 use crate::internal::cursor::{Cursor, begin, duplicate, step};
-use crate::internal::side::{Back, Front};
-use crate::internal::source::{Kind, Ones, OwnedSource, Source, Zeros};
+use crate::internal::source::{OwnedSource, Source};
+use crate::one_word::{Back, Front};
 use crate::shape::Shape;
+use crate::word::{Kind, Ones, Zeros};
 use std::alloc::AllocError;
 use std::marker::{Model, PhantomData};
 

@@ -1,7 +1,12 @@
-//! A word: one of the twelve integers, with what a processor does to one.
+//! A word: one of the twelve integers, with what a processor does to one. An iterator or a search
+//! is over one kind of its bits, the ones or the zeros.
 
-ghost use Rattle.std.specs.Prelude.{◌≡◌, ℕ, ◌-◌, ◌<◌, ◌^◌, ◌==◌, bit_and, bit_or, bit_xor, count_ones};
+ghost use Rattle.std.specs.Prelude.{◌≡◌, ℕ, Bool, true, false, ◌-◌, ◌<◌, ◌^◌, ◌==◌, bit_and, bit_or, bit_xor, count_ones};
 ghost use Rattle.std.specs.Int.Count.{count_leading_zeros, count_trailing_zeros};
+ghost use Rattle.bittle_bits.specs.BitPatterns.{bit_set};
+ghost use Rattle.bittle_bits.specs.Walk.{ones_or_zeros};
+
+use crate::internal::sealed::Sealed;
 
 /// A word: one of the twelve integers, with what a processor does to one.
 pub trait Word: Copy + Eq {
@@ -123,4 +128,45 @@ pub trait Word: Copy + Eq {
 
     // A word has a bit.
     ghost width_positive: { 0 < width };
+}
+
+/// Names the bits that an iterator yields: the [`Ones`] or the [`Zeros`] of its set.
+pub trait Kind: Drop + Sealed {
+    ghost ONES: { Bool };
+
+    const ONES: bool;
+}
+
+/// Names the set bits.
+#[derive(Drop)]
+pub enum Ones {}
+
+/// Names the unset bits below the capacity.
+#[derive(Drop)]
+pub enum Zeros {}
+
+impl Sealed for Ones {}
+
+impl Sealed for Zeros {}
+
+impl Kind for Ones {
+    ghost ONES = { true };
+
+    const ONES: bool = true;
+}
+
+impl Kind for Zeros {
+    ghost ONES = { false };
+
+    const ONES: bool = false;
+}
+
+/// Returns a word whose ones are the bits of the kind: for zeros, each bit flipped.
+#[doc(hidden)]
+#[inline]
+pub fn bits_of_kind<T: Word, K: Kind>(word: T) -> T
+    ensures { bit_set T.width (T.pattern result)
+        ≡ ones_or_zeros K.ONES (bit_set T.width (T.pattern word)) }
+{
+    if K::ONES { word } else { word.not() }
 }

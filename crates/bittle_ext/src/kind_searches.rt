@@ -7,7 +7,7 @@ ghost use Rattle.bittle.specs.Walk.{ones_or_zeros};
 
 use bittle::{Bits, Endian};
 use bittle_bits::internal::sealed::Sealed;
-use bittle_bits::internal::source::Kind;
+use bittle_bits::word::Kind;
 use std::marker::PhantomData;
 
 /// Names the bits that `K` does not name.

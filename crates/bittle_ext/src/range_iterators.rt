@@ -12,7 +12,7 @@ ghost use Rattle.bittle.specs.Walk.{ones_or_zeros, ListsInOrder, ListsInReverse}
 use crate::kind_searches::search;
 use crate::run_iterators::{IterOneRuns, IterRuns, IterZeroRuns};
 use bittle::{Bits, Endian, Shape};
-use bittle_bits::internal::source::{Kind, Ones, Zeros};
+use bittle_bits::word::{Kind, Ones, Zeros};
 use std::alloc::AllocError;
 use std::marker::{Model, PhantomData};
 

@@ -10,9 +10,8 @@ use crate::capacities::capacity_of;
 use crate::kind_searches::search;
 use bittle::{Bits, Endian};
 use bittle_bits::internal::decided::first_decided_below;
-use bittle_bits::internal::source::{Kind, Ones, Zeros};
 use bittle_bits::one_word::{Conjunction, Difference};
-use bittle_bits::word::Word;
+use bittle_bits::word::{Kind, Ones, Word, Zeros};
 
 /// Returns whether two sets are read by words of one width in one order.
 #[inline]

@@ -10,7 +10,7 @@ ghost use Rattle.bittle.specs.Walk.{ones_or_zeros};
 
 use crate::kind_searches::{Others, search};
 use bittle::{Bits, Endian, Shape};
-use bittle_bits::internal::source::{Kind, Ones, Zeros};
+use bittle_bits::word::{Kind, Ones, Zeros};
 use std::alloc::AllocError;
 use std::marker::{Model, PhantomData};
 use std::ops::Range;

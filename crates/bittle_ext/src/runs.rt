@@ -7,7 +7,7 @@ ghost use Rattle.bittle.specs.Walk.{ones_or_zeros};
 
 use crate::kind_searches::{Others, search};
 use bittle::{Bits, Endian};
-use bittle_bits::internal::source::Kind;
+use bittle_bits::word::Kind;
 
 /// Returns the least index from `from` on where `length` bits of the kind begin, or `None`.
 ///

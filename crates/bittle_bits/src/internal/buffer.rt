@@ -8,10 +8,9 @@ ghost use Rattle.bittle_bits.specs.Walk.{ones_or_zeros};
 
 use crate::bits::Bits;
 use crate::endian::Endian;
-use crate::internal::side::End;
-use crate::internal::source::{Kind, Source};
-use crate::one_word;
-use crate::word::Word;
+use crate::internal::source::Source;
+use crate::one_word::{self, End};
+use crate::word::{Kind, Word};
 use std::marker::{Model, PhantomData};
 use std::mem::replace;
 use std::snapshot::Snapshot;

@@ -11,9 +11,10 @@ ghost use Rattle.bittle_bits.specs.Walk.{ones_or_zeros, AreBelow, ResumesAs, Ste
 use crate::bits::Bits;
 use crate::endian::Endian;
 use crate::internal::buffer::{Buffers, Count};
-use crate::internal::side::End;
-use crate::internal::source::{Kind, Source};
+use crate::internal::source::Source;
+use crate::one_word::End;
 use crate::shape::Shape;
+use crate::word::Kind;
 
 /// The buffered words of an iterator, and the range of words between them that are not fetched yet.
 #[derive(Drop)]

@@ -13,9 +13,8 @@ ghost use Rattle.bittle_bits.specs.Words.{ReplacesWord, word_of};
 use crate::bits_owned::BitsOwned;
 use crate::endian::Endian;
 use crate::internal::ends::ends;
-use crate::internal::source::{Kind, Ones, Zeros};
 use crate::one_word::{Operation, RangeOperation};
-use crate::word::Word;
+use crate::word::{Kind, Ones, Word, Zeros};
 
 /// Returns the capacity of this many elements, or `u32::MAX` where they do not fit.
 #[inline]

@@ -10,10 +10,9 @@ ghost use Rattle.bittle_bits.specs.Walk.{ones_or_zeros};
 use crate::bits::Bits;
 use crate::endian::Endian;
 use crate::internal::ends::ends;
-use crate::internal::side::{End, at_end};
-use crate::internal::source::{Kind, word_of_kind};
-use crate::one_word::from_end;
-use crate::word::Word;
+use crate::internal::source::word_of_kind;
+use crate::one_word::{End, at_end, from_end};
+use crate::word::{Kind, Word};
 
 // Returns the word of the indexes from the place `at` on, seen from the end `N`.
 #[inline]
