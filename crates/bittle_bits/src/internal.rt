@@ -7,5 +7,5 @@ pub(crate) mod ends;
 pub mod range_count;
 pub(crate) mod row;
 pub mod sealed;
-pub(crate) mod search;
+pub mod search;
 pub mod source;

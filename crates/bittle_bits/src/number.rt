@@ -9,7 +9,7 @@ ghost use Rattle.bittle_bits.specs.PlainSet.{ascending};
 ghost use Rattle.bittle_bits.specs.Walk.{ones_or_zeros, AreBelow, ListsInOrder, ListsInReverse};
 
 use crate::endian::Endian;
-use crate::one_word;
+use crate::one_word::{self, Back, Front};
 use crate::word::{Kind, Ones, Word, Zeros, bits_of_kind};
 use std::alloc::AllocError;
 use std::marker::{Model, PhantomData};
@@ -97,7 +97,7 @@ impl<T: Word, E: Endian, K: Kind> Iterator for Iter<T, E, K> {
 
     #[inline]
     fn next(&mut self) -> Option<u32> {
-        one_word::pop_first::<T, E>(&mut self.remaining)
+        one_word::pop::<T, E, Front>(&mut self.remaining)
     }
 
     #[inline]
@@ -116,7 +116,7 @@ impl<T: Word, E: Endian, K: Kind> DoubleEndedIterator for Iter<T, E, K> {
 
     #[inline]
     fn next_back(&mut self) -> Option<u32> {
-        one_word::pop_last::<T, E>(&mut self.remaining)
+        one_word::pop::<T, E, Back>(&mut self.remaining)
     }
 }
 

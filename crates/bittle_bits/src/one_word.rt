@@ -2,7 +2,6 @@
 //! stand what they are over, so that each shape has one body for them all: the four operations on
 //! two sets, and the two ends of a set.
 
-ghost use Rattle.std.specs.Iterator.{YieldsFirst, YieldsLast};
 ghost use Rattle.std.specs.Prelude.{◌≡◌, ◌==◌, Bool, ◌*◌, ◌-◌, ◌<◌, ◌≤◌, ◌||◌, ◌&&◌, true, false, cond, refl, IfSome, IsTrue};
 ghost use Rattle.std.proofs.Common.{sym};
 ghost use Rattle.bittle_bits.specs.BitPatterns.{bit_set};
@@ -330,28 +329,6 @@ pub fn pop<T: Word, E: Endian, N: End>(word: &mut T) -> Option<u32>
     }
     clear_end::<T, E, N>(word, away);
     Some(at_end::<N>(away, T::width() - 1 - away))
-}
-
-/// Takes the least member out of the word.
-#[inline]
-pub fn pop_first<T: Word, E: Endian>(word: &mut T) -> Option<u32>
-    ensures found { YieldsFirst
-        (λ w. ascending (read_in E.mirrored T.width (bit_set T.width (T.pattern w))))
-        word.old result word.new }
-    ensures below { IfSome result (λ index. index < T.width) }
-{
-    pop::<T, E, Front>(word)
-}
-
-/// Takes the greatest member out of the word.
-#[inline]
-pub fn pop_last<T: Word, E: Endian>(word: &mut T) -> Option<u32>
-    ensures found { YieldsLast
-        (λ w. ascending (read_in E.mirrored T.width (bit_set T.width (T.pattern w))))
-        word.old result word.new }
-    ensures below { IfSome result (λ index. index < T.width) }
-{
-    pop::<T, E, Back>(word)
 }
 
 /// Returns word `k` of a word, which is its only one.

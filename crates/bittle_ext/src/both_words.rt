@@ -12,8 +12,7 @@ ghost use Rattle.bittle.specs.Values.{ShapeFits};
 
 use crate::other_words::{other_word, word_or_empty};
 use bittle::{Bits, Endian};
-use bittle_bits::one_word;
-use bittle_bits::one_word::Operation;
+use bittle_bits::one_word::{self, End, Operation};
 use bittle_bits::word::Word;
 
 /// What remains of a word, and the index of its first bit.
@@ -75,15 +74,15 @@ fn load<A: Bits, B: Bits, E: Endian, F: Endian, O: Operation>(
 
 /// Takes the item at an end of what remains of the word there: the first one at the front.
 #[inline]
-fn scan<W: Word, E: Endian, const FRONT: bool>(at: &mut Place<W>) -> Option<u32>
-    requires { AreIndexes (items_of_loaded E.mirrored W.width W.pattern (end_of FRONT at.old)) }
-    ensures { Scans E.mirrored W.width W.pattern FRONT at.old result at.new }
+fn scan<W: Word, E: Endian, N: End>(at: &mut Place<W>) -> Option<u32>
+    requires { AreIndexes (items_of_loaded E.mirrored W.width W.pattern (end_of N.FRONT at.old)) }
+    ensures { Scans E.mirrored W.width W.pattern N.FRONT at.old result at.new }
 {
-    if FRONT {
-        let index = one_word::pop_first::<W, E>(&mut at.head.word)?;
+    if N::FRONT {
+        let index = one_word::pop::<W, E, N>(&mut at.head.word)?;
         Some(at.head.base + index)
     } else {
-        let index = one_word::pop_last::<W, E>(&mut at.tail.word)?;
+        let index = one_word::pop::<W, E, N>(&mut at.tail.word)?;
         Some(at.tail.base + index)
     }
 }
@@ -112,7 +111,7 @@ pub fn begin<W: Word>(end: u32) -> Place<W>
 
 /// Takes the item at an end of those that remain: the first one at the front.
 #[inline]
-pub fn step<A: Bits, B: Bits, E: Endian, F: Endian, O: Operation, const FRONT: bool>(
+pub fn step<A: Bits, B: Bits, E: Endian, F: Endian, O: Operation, N: End>(
     left: &A,
     right: &B,
     at: &mut Place<A::LeafWord>,
@@ -122,18 +121,18 @@ pub fn step<A: Bits, B: Bits, E: Endian, F: Endian, O: Operation, const FRONT: b
     requires placed { let both = decided_of O.decide A.Shape E.Endian left.now B.Shape F.Endian right.now in
         IsPlaced E.mirrored A.LeafWord.width A.LeafWord.pattern A.width both at.old }
     ensures { let both = decided_of O.decide A.Shape E.Endian left.now B.Shape F.Endian right.now in
-        YieldsFrom FRONT (items_at E.mirrored A.LeafWord.width A.LeafWord.pattern A.width both)
+        YieldsFrom N.FRONT (items_at E.mirrored A.LeafWord.width A.LeafWord.pattern A.width both)
         at.old result at.new
         × IsPlaced E.mirrored A.LeafWord.width A.LeafWord.pattern A.width both at.new }
 {
     loop {
-        if let Some(item) = scan::<A::LeafWord, E, FRONT>(at) {
+        if let Some(item) = scan::<A::LeafWord, E, N>(at) {
             return Some(item);
         }
         if at.low == at.high {
             break;
         }
-        if FRONT {
+        if N::FRONT {
             at.head = load::<A, B, E, F, O>(left, right, at.low);
             at.low += 1;
         } else {
@@ -149,5 +148,5 @@ pub fn step<A: Bits, B: Bits, E: Endian, F: Endian, O: Operation, const FRONT: b
     at.head.base = at.tail.base;
     at.tail.word = word;
     at.tail.base = base;
-    scan::<A::LeafWord, E, FRONT>(at)
+    scan::<A::LeafWord, E, N>(at)
 }

@@ -12,7 +12,9 @@ ghost use Rattle.bittle.specs.Walk.{AreBelow, ListsInOrder, ListsInReverse};
 use crate::both_words::{Place, begin, step};
 use crate::capacities::capacity_of;
 use bittle::{Bits, Endian, Shape};
-use bittle_bits::one_word::{Conjunction, Difference, Operation, SymmetricDifference, Union};
+use bittle_bits::one_word::{
+    Back, Conjunction, Difference, Front, Operation, SymmetricDifference, Union,
+};
 use bittle_bits::word::Word;
 use std::alloc::AllocError;
 use std::marker::{Model, PhantomData};
@@ -69,7 +71,14 @@ impl<'a, A: Shape, B: Shape, E: Endian, F: Endian, O: Operation> Model
         (set_in B.Shape F.Endian i.right.now)) i.at };
 }
 
-impl<'a, A: Bits, B: Bits, E: Endian, F: Endian, O: Ends> IterCombined<'a, A, B, E, F, O> {
+impl<'a, A: Bits, B: Bits, E: Endian, F: Endian, O: BoundedOperation> IterCombined<
+    'a,
+    A,
+    B,
+    E,
+    F,
+    O,
+> {
     /// Begins an iterator over what the operation makes of two sets.
     #[inline]
     fn new(left: &'a A, right: &'a B) -> Self
@@ -103,7 +112,7 @@ impl<'a, A: Bits, B: Bits, E: Endian, F: Endian, O: Operation> Iterator
 
     #[inline]
     fn next(&mut self) -> Option<u32> {
-        step::<A, B, E, F, O, true>(self.left, self.right, &mut self.at)
+        step::<A, B, E, F, O, Front>(self.left, self.right, &mut self.at)
     }
 }
 
@@ -113,7 +122,7 @@ impl<'a, A: Bits, B: Bits, E: Endian, F: Endian, O: Operation> DoubleEndedIterat
 
     #[inline]
     fn next_back(&mut self) -> Option<u32> {
-        step::<A, B, E, F, O, false>(self.left, self.right, &mut self.at)
+        step::<A, B, E, F, O, Back>(self.left, self.right, &mut self.at)
     }
 }
 
@@ -137,7 +146,7 @@ impl<'a, A: Bits, B: Bits, E: Endian, F: Endian, O: Operation> Clone
 }
 
 /// An operation that says, of the capacities of two sets, from where on it makes no member.
-trait Ends: Operation {
+trait BoundedOperation: Operation {
     /// Returns the index from which on it makes none.
     fn end(left: u32, right: u32) -> u32
         ensures within { result ≤ max left right }
@@ -145,28 +154,28 @@ trait Ends: Operation {
             → (i : ℕ) → result ≤ i → Self.decide (s.has i) (t.has i) ≡ false };
 }
 
-impl Ends for Union {
+impl BoundedOperation for Union {
     #[inline]
     fn end(left: u32, right: u32) -> u32 {
         left.max(right)
     }
 }
 
-impl Ends for Conjunction {
+impl BoundedOperation for Conjunction {
     #[inline]
     fn end(left: u32, right: u32) -> u32 {
         left.min(right)
     }
 }
 
-impl Ends for Difference {
+impl BoundedOperation for Difference {
     #[inline]
     fn end(left: u32, _right: u32) -> u32 {
         left
     }
 }
 
-impl Ends for SymmetricDifference {
+impl BoundedOperation for SymmetricDifference {
     #[inline]
     fn end(left: u32, right: u32) -> u32 {
         left.max(right)

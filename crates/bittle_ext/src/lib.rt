@@ -32,7 +32,6 @@ mod both_words;
 mod capacities;
 pub mod combined;
 mod counts;
-mod kind_searches;
 mod other_words;
 pub mod prelude;
 pub mod range_iterators;

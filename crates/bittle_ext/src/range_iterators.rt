@@ -9,9 +9,10 @@ ghost use Rattle.bittle.specs.PlainSet.{ascending, complement, members_below};
 ghost use Rattle.bittle.specs.Values.{set_in, ShapeFits};
 ghost use Rattle.bittle.specs.Walk.{ones_or_zeros, ListsInOrder, ListsInReverse};
 
-use crate::kind_searches::search;
 use crate::run_iterators::{IterOneRuns, IterRuns, IterZeroRuns};
 use bittle::{Bits, Endian, Shape};
+use bittle_bits::internal::search::end_in;
+use bittle_bits::one_word::{Back, End, Front};
 use bittle_bits::word::{Kind, Ones, Zeros};
 use std::alloc::AllocError;
 use std::marker::{Model, PhantomData};
@@ -85,7 +86,7 @@ impl<'a, B: Bits, E: Endian, K: Kind> Iterator for IterInRange<'a, B, E, K> {
 
     #[inline]
     fn next(&mut self) -> Option<u32> {
-        step::<B, E, K, true>(self.bits, &mut self.from, &mut self.to)
+        step::<B, E, K, Front>(self.bits, &mut self.from, &mut self.to)
     }
 }
 
@@ -94,7 +95,7 @@ impl<'a, B: Bits, E: Endian, K: Kind> DoubleEndedIterator for IterInRange<'a, B,
 
     #[inline]
     fn next_back(&mut self) -> Option<u32> {
-        step::<B, E, K, false>(self.bits, &mut self.from, &mut self.to)
+        step::<B, E, K, Back>(self.bits, &mut self.from, &mut self.to)
     }
 }
 
@@ -117,25 +118,21 @@ impl<'a, B: Bits, E: Endian, K: Kind> Clone for IterInRange<'a, B, E, K> {
 
 /// Takes the index of the kind at an end of those that remain: the least one at the front.
 #[inline]
-fn step<B: Bits, E: Endian, K: Kind, const FRONT: bool>(
-    bits: &B,
-    from: &mut u32,
-    to: &mut u32,
-) -> Option<u32>
+fn step<B: Bits, E: Endian, K: Kind, N: End>(bits: &B, from: &mut u32, to: &mut u32) -> Option<u32>
     requires fits { ShapeFits B.Shape bits.now }
     requires ordered { from.old ≤ to.old }
     requires within { to.old ≤ (B.big bits.now).capacity }
     ensures gave { let ours = ones_or_zeros K.ONES (set_in B.Shape E.Endian bits.now) in
-        TakesEnd FRONT (members_between ours from.old to.old) result
+        TakesEnd N.FRONT (members_between ours from.old to.old) result
         (members_between ours from.new to.new) }
     ensures ordered { from.new ≤ to.new }
     ensures within { to.new ≤ to.old }
 {
-    let Some(index) = search::<B, E, K, FRONT>(bits, *from, *to) else {
+    let Some(index) = end_in::<B, E, K, N>(bits, *from, *to) else {
         *from = *to;
         return None;
     };
-    if FRONT {
+    if N::FRONT {
         *from = index + 1;
     } else {
         *to = index;

@@ -7,10 +7,10 @@ ghost use Rattle.bittle_ext.specs.SetRelations.{IsFirstWhere, IsFirstAlone, IsFi
 ghost use Rattle.bittle.specs.Values.{set_in, ShapeFits};
 
 use crate::capacities::capacity_of;
-use crate::kind_searches::search;
 use bittle::{Bits, Endian};
 use bittle_bits::internal::decided::first_decided_below;
-use bittle_bits::one_word::{Conjunction, Difference};
+use bittle_bits::internal::search::end_in;
+use bittle_bits::one_word::{Conjunction, Difference, Front};
 use bittle_bits::word::{Kind, Ones, Word, Zeros};
 
 /// Returns whether two sets are read by words of one width in one order.
@@ -47,7 +47,7 @@ fn first_below<A: Bits, B: Bits, E: Endian, F: Endian, K: Kind>(
     }
     let mut from = 0;
     while let Some(ours) = left.first_one_in::<E>(from, end) {
-        let Some(theirs) = search::<B, F, K, true>(right, ours, end) else {
+        let Some(theirs) = end_in::<B, F, K, Front>(right, ours, end) else {
             return None;
         };
         if theirs == ours {

@@ -8,8 +8,10 @@ ghost use Rattle.bittle_ext.specs.Runs.{BeginsRun, EndsRun, RunsInOrder, RunsInR
 ghost use Rattle.bittle.specs.Values.{set_in, ShapeFits};
 ghost use Rattle.bittle.specs.Walk.{ones_or_zeros};
 
-use crate::kind_searches::{Others, search};
+use crate::runs::Others;
 use bittle::{Bits, Endian, Shape};
+use bittle_bits::internal::search::end_in;
+use bittle_bits::one_word::{Back, End, Front};
 use bittle_bits::word::{Kind, Ones, Zeros};
 use std::alloc::AllocError;
 use std::marker::{Model, PhantomData};
@@ -80,7 +82,7 @@ impl<'a, B: Bits, E: Endian, K: Kind> Iterator for IterRuns<'a, B, E, K> {
 
     #[inline]
     fn next(&mut self) -> Option<Range<u32>> {
-        step::<B, E, K, true>(self.bits, &mut self.from, &mut self.to)
+        step::<B, E, K, Front>(self.bits, &mut self.from, &mut self.to)
     }
 }
 
@@ -89,7 +91,7 @@ impl<'a, B: Bits, E: Endian, K: Kind> DoubleEndedIterator for IterRuns<'a, B, E,
 
     #[inline]
     fn next_back(&mut self) -> Option<Range<u32>> {
-        step::<B, E, K, false>(self.bits, &mut self.from, &mut self.to)
+        step::<B, E, K, Back>(self.bits, &mut self.from, &mut self.to)
     }
 }
 
@@ -119,7 +121,7 @@ fn end_of_run<B: Bits, E: Endian, K: Kind>(bits: &B, start: u32, to: u32) -> u32
     requires member { (ones_or_zeros K.ONES (set_in B.Shape E.Endian bits.now)).has start ≡ true }
     ensures { EndsRun (ones_or_zeros K.ONES (set_in B.Shape E.Endian bits.now)) start to result }
 {
-    match search::<B, E, Others<K>, true>(bits, start + 1, to) {
+    match end_in::<B, E, Others<K>, Front>(bits, start + 1, to) {
         Some(end) => end,
         None => to,
     }
@@ -134,7 +136,7 @@ fn start_of_run<B: Bits, E: Endian, K: Kind>(bits: &B, from: u32, last: u32) -> 
     requires member { (ones_or_zeros K.ONES (set_in B.Shape E.Endian bits.now)).has last ≡ true }
     ensures { BeginsRun (ones_or_zeros K.ONES (set_in B.Shape E.Endian bits.now)) from last result }
 {
-    match search::<B, E, Others<K>, false>(bits, from, last) {
+    match end_in::<B, E, Others<K>, Back>(bits, from, last) {
         Some(gap) => gap + 1,
         None => from,
     }
@@ -142,7 +144,7 @@ fn start_of_run<B: Bits, E: Endian, K: Kind>(bits: &B, from: u32, last: u32) -> 
 
 /// Takes the run of the kind at an end of those that remain: the first one at the front.
 #[inline]
-fn step<B: Bits, E: Endian, K: Kind, const FRONT: bool>(
+fn step<B: Bits, E: Endian, K: Kind, N: End>(
     bits: &B,
     from: &mut u32,
     to: &mut u32,
@@ -151,16 +153,16 @@ fn step<B: Bits, E: Endian, K: Kind, const FRONT: bool>(
     requires ordered { from.old ≤ to.old }
     requires within { to.old ≤ (B.big bits.now).capacity }
     ensures gave { let ours = ones_or_zeros K.ONES (set_in B.Shape E.Endian bits.now) in
-        TakesEnd FRONT (runs_between ours from.old to.old) result
+        TakesEnd N.FRONT (runs_between ours from.old to.old) result
         (runs_between ours from.new to.new) }
     ensures ordered { from.new ≤ to.new }
     ensures within { to.new ≤ to.old }
 {
-    let Some(index) = search::<B, E, K, FRONT>(bits, *from, *to) else {
+    let Some(index) = end_in::<B, E, K, N>(bits, *from, *to) else {
         *from = *to;
         return None;
     };
-    if FRONT {
+    if N::FRONT {
         let end = end_of_run::<B, E, K>(bits, index, *to);
         *from = end;
         Some(index..end)

@@ -1,13 +1,30 @@
 //! Runs of neighbours that are all set, or all unset.
 
-ghost use Rattle.std.specs.Prelude.{◌<◌, ◌≤◌};
+ghost use Rattle.std.specs.Prelude.{◌<◌, ◌≤◌, not};
 ghost use Rattle.bittle_ext.specs.Runs.{IsFirstRun};
 ghost use Rattle.bittle.specs.Values.{set_in, ShapeFits};
 ghost use Rattle.bittle.specs.Walk.{ones_or_zeros};
 
-use crate::kind_searches::{Others, search};
 use bittle::{Bits, Endian};
+use bittle_bits::internal::sealed::Sealed;
+use bittle_bits::internal::search::end_in;
+use bittle_bits::one_word::{Back, Front};
 use bittle_bits::word::Kind;
+use std::marker::PhantomData;
+
+/// Names the bits that `K` does not name.
+#[derive(Drop)]
+pub(crate) struct Others<K: Kind> {
+    kind: PhantomData<K>,
+}
+
+impl<K: Kind> Sealed for Others<K> {}
+
+impl<K: Kind> Kind for Others<K> {
+    ghost ONES = { not K.ONES };
+
+    const ONES: bool = !K::ONES;
+}
 
 /// Returns the least index from `from` on where `length` bits of the kind begin, or `None`.
 ///
@@ -26,11 +43,11 @@ pub fn next_run<B: Bits, E: Endian, K: Kind>(bits: &B, from: u32, length: u32) -
         return Some(from);
     }
     let mut at = from;
-    while let Some(start) = search::<B, E, K, true>(bits, at, end) {
+    while let Some(start) = end_in::<B, E, K, Front>(bits, at, end) {
         if end - start < length {
             return None;
         }
-        let Some(gap) = search::<B, E, Others<K>, false>(bits, start, start + length) else {
+        let Some(gap) = end_in::<B, E, Others<K>, Back>(bits, start, start + length) else {
             return Some(start);
         };
         at = gap + 1;

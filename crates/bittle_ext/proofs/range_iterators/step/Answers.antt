@@ -1,5 +1,4 @@
-use Rattle.std.proofs.Common.{◌≡◌, ◌==◌, true, not, ap, arith}
-use Rattle.std.proofs.lemmas.Bool.{ne_eqb}
+use Rattle.std.proofs.Common.{◌≡◌, true, false, sym, ◌∙◌, arith}
 use Rattle.bittle.specs.Values.{set_in}
 use Rattle.bittle.specs.Walk.{ones_or_zeros}
 use Rattle.bittle_bits.proofs.Items.{members_between-empty}
@@ -10,16 +9,16 @@ use Rattle.bittle_ext.proofs.range_iterators.step.Goals as goal
 pub returns-in_default-clause-gave : goal.returns-in_default-clause-gave
 returns-in_default-clause-gave g c =
     let s = ones_or_zeros g.K.Kind.ONES (set_in g.B.Shape g.E.Endian c.args.bits.now) in
-    let front = not (g.row.FRONT == 0) in
+    let front = g.N.End.FRONT in
     takes_none front _ _ (none_between s _ _ (none_at front s _ _ c.in_default.ensures))
     (members_between-empty s c.args.to.now)
 
-pub returns-then-this-ne0-clause-gave : goal.returns-then-this-ne0-clause-gave
-returns-then-this-ne0-clause-gave g c =
-    let is : not (g.row.FRONT == 0) ≡ true = ap not (ne_eqb g.row.FRONT 0 c.if-this-ne0.true) in
+pub returns-then-FRONT-clause-gave : goal.returns-then-FRONT-clause-gave
+returns-then-FRONT-clause-gave g c =
+    let is : g.N.End.FRONT ≡ true = sym c.FRONT.ensures ∙ c.if-FRONT.true in
     rw is (first_between _ _ _ c.in-Some.index _ (omega arith) (rw is at c.in-Some.ensures))
 
-pub returns-else-this-ne0-clause-gave : goal.returns-else-this-ne0-clause-gave
-returns-else-this-ne0-clause-gave g c =
-    let is = c.if-this-ne0.false in
+pub returns-else-FRONT-clause-gave : goal.returns-else-FRONT-clause-gave
+returns-else-FRONT-clause-gave g c =
+    let is : g.N.End.FRONT ≡ false = sym c.FRONT.ensures ∙ c.if-FRONT.false in
     rw is (last_between _ _ _ c.in-Some.index (rw is at c.in-Some.ensures))

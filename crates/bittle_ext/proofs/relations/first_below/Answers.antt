@@ -3,27 +3,27 @@ use Rattle.bittle.specs.Values.{set_in}
 use Rattle.bittle_ext.proofs.RelationFacts.{turned, met}
 use Rattle.bittle_ext.proofs.relations.first_below.Goals as goal
 
-pub returns-in_default-search : goal.returns-in_default-search
-returns-in_default-search g c =
+pub returns-in_default-end_in : goal.returns-in_default-end_in
+returns-in_default-end_in g c =
     turned g.K.Kind.ONES (set_in g.A.Shape g.E.Endian c.args.left.now)
     (set_in g.B.Shape g.F.Endian c.args.right.now) c.loop-ours.from c.args.end c.in-Some.ours
     c.args.end (omega (arith, c.requires.least)) c.loop-ours.invariant.before c.in-Some.ensures
-    (omega arith) c.in_default-search.ensures
+    (omega arith) c.in_default-end_in.ensures
 
 pub returns-then-theirs-ours : goal.returns-then-theirs-ours
 returns-then-theirs-ours g c =
     met g.K.Kind.ONES (set_in g.A.Shape g.E.Endian c.args.left.now)
     (set_in g.B.Shape g.F.Endian c.args.right.now) c.loop-ours.from c.args.end c.in-Some.ours
-    c.in-Some-search.theirs (omega (arith, c.requires.least)) c.loop-ours.invariant.before
-    c.in-Some.ensures c.in-Some-search.ensures c.if-theirs-ours.true
+    c.in-Some-end_in.theirs (omega (arith, c.requires.least)) c.loop-ours.invariant.before
+    c.in-Some.ensures c.in-Some-end_in.ensures c.if-theirs-ours.true
 
 pub loop-ours-preserved : goal.loop-ours-preserved
 loop-ours-preserved g c =
-    let next = c.in-Some-search.ensures in
+    let next = c.in-Some-end_in.ensures in
     record {
       within = omega (arith, next.1);
       before = turned g.K.Kind.ONES (set_in g.A.Shape g.E.Endian c.args.left.now)
           (set_in g.B.Shape g.F.Endian c.args.right.now) c.loop-ours.from c.args.end c.in-Some.ours
-          c.in-Some-search.theirs (omega (arith, c.requires.least)) c.loop-ours.invariant.before
+          c.in-Some-end_in.theirs (omega (arith, c.requires.least)) c.loop-ours.invariant.before
           c.in-Some.ensures (omega (arith, next.1)) next.3;
     }

@@ -19,18 +19,18 @@ pub returns-then-end-start : goal.returns-then-end-start
 returns-then-end-start g c =
     no_room c.loop-start.invariant c.in-Some.start c.in-Some.ensures c.if-end-start.true
 
-pub returns-in_default-search : goal.returns-in_default-search
-returns-in_default-search g c =
+pub returns-in_default-end_in : goal.returns-in_default-end_in
+returns-in_default-end_in g c =
     run_found c.loop-start.invariant
     (others_opposite g.K.Kind.ONES (set_in g.B.Shape g.E.Endian c.args.bits.now)) c.in-Some.start
-    c.in-Some.ensures (omega (arith, c.if-end-start.false)) c.in_default-search.ensures
+    c.in-Some.ensures (omega (arith, c.if-end-start.false)) c.in_default-end_in.ensures
 
 pub loop-start-preserved : goal.loop-start-preserved
 loop-start-preserved g c =
     run_broken c.loop-start.invariant
     (others_opposite g.K.Kind.ONES (set_in g.B.Shape g.E.Endian c.args.bits.now)) c.in-Some.start
-    c.in-Some-search.gap c.in-Some.ensures (omega (arith, c.if-end-start.false))
-    c.in-Some-search.ensures
+    c.in-Some-end_in.gap c.in-Some.ensures (omega (arith, c.if-end-start.false))
+    c.in-Some-end_in.ensures
 
 pub returns : goal.returns
 returns g c = none_left c.loop-start.invariant c.in_default.ensures
