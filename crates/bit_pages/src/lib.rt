@@ -12,7 +12,7 @@ ghost use Rattle.bit_pages.specs.Pages.{request_answers, final_state};
 #[doc(hidden)]
 pub mod page_laws;
 
-use bittle::{BitsOwned, OwnedShape, Set};
+use bittle::{BitsOwned, Set, Shape};
 use std::error::Error;
 use std::fmt;
 
@@ -58,7 +58,7 @@ impl Error for NotTaken {}
 ///
 /// The type keeps that it fits: `B::bits()` is below `u32::MAX`.
 #[derive(Drop)]
-pub struct Pages<B: OwnedShape> {
+pub struct Pages<B: Shape> {
     // Its members, in the order of the type, are the pages that are taken.
     map: B,
     pub ghost fits: { Fits B.indexable B.type_capacity },

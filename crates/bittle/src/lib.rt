@@ -129,6 +129,6 @@ pub use bittle_bits::bits::Bits;
 pub use bittle_bits::bits_mut::BitsMut;
 pub use bittle_bits::bits_owned::BitsOwned;
 pub use bittle_bits::endian::{BigEndian, DefaultEndian, Endian, LittleEndian};
-pub use bittle_bits::shape::{OwnedShape, Shape};
+pub use bittle_bits::shape::Shape;
 pub use bittle_bits::{join, number, walk};
 pub use set::Set;

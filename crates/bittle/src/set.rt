@@ -12,7 +12,7 @@ use bittle_bits::bits_owned::BitsOwned;
 use bittle_bits::endian::{Endian, LittleEndian};
 use bittle_bits::internal::sealed::Sealed;
 use bittle_bits::one_word::{Operation, RangeOperation};
-use bittle_bits::shape::{OwnedShape, Shape};
+use bittle_bits::shape::Shape;
 use std::alloc::AllocError;
 use std::marker::PhantomData;
 
@@ -231,8 +231,6 @@ impl<T: Shape + Copy, E: Endian> Clone for Set<T, E> {
 
 impl<T: Shape + Copy, E: Endian> Copy for Set<T, E> {}
 
-impl<T: Shape, E: Endian> Sealed for Set<T, E> {}
-
 impl<T: Shape, E: Endian> Shape for Set<T, E> {
     type LeafWord = T::LeafWord;
 
@@ -242,11 +240,11 @@ impl<T: Shape, E: Endian> Shape for Set<T, E> {
 
     ghost big = { λ s. T.big s.bits };
 
-    ghost loan = { λ s. T.loan s.bits };
-}
-
-impl<T: OwnedShape, E: Endian> OwnedShape for Set<T, E> {
     ghost type_capacity = { T.type_capacity };
+
+    ghost loan = { λ s. T.loan s.bits };
+
+    fn seal(_: Sealed) {}
 }
 
 impl<T: Bits, U: Endian> Bits for Set<T, U> {

@@ -13,12 +13,10 @@ use crate::endian::{DefaultEndian, Endian};
 use crate::internal::row;
 use crate::internal::sealed::Sealed;
 use crate::one_word::{Operation, RangeOperation};
-use crate::shape::{OwnedShape, Shape};
+use crate::shape::Shape;
 use crate::word::{Ones, Zeros};
 
-impl<T: OwnedShape, const N: usize> Sealed for [T; N] {}
-
-impl<T: OwnedShape, const N: usize> Shape for [T; N] {
+impl<T: Shape, const N: usize> Shape for [T; N] {
     type LeafWord = T::LeafWord;
 
     ghost width = { T.width };
@@ -26,10 +24,10 @@ impl<T: OwnedShape, const N: usize> Shape for [T; N] {
     ghost indexable = { T.indexable && nat_lt (N * T.type_capacity) 4294967295 };
 
     ghost big = { λ v. row_set N T.type_capacity T.big v };
-}
 
-impl<T: OwnedShape, const N: usize> OwnedShape for [T; N] {
     ghost type_capacity = { N * T.type_capacity };
+
+    fn seal(_: Sealed) {}
 }
 
 // The operation on two arrays. A short one is copied first: the copy lies elsewhere

@@ -10,11 +10,10 @@ ghost use Rattle.bittle_bits.specs.Walk.{AreBelow, IsFresh};
 use crate::bits_mut::BitsMut;
 use crate::endian::{BigEndian, Endian, LittleEndian};
 use crate::internal::source::OwnedSource;
-use crate::shape::OwnedShape;
 use crate::walk::{IntoIter, IntoIterOnes, IntoIterZeros};
 
 /// A set that is copied with its value. All values of the type have one capacity.
-pub trait BitsOwned: Copy + Eq + BitsMut + OwnedShape {
+pub trait BitsOwned: Copy + Eq + BitsMut {
     /// Returns how many bits a set of the type has, or `u32::MAX` if the type does not fit.
     ///
     /// Always callable.

@@ -10,9 +10,13 @@ use crate::internal::sealed::Sealed;
 use crate::word::Word;
 
 /// An order in which the bits of each word are indexed: [`BigEndian`] or [`LittleEndian`].
-pub trait Endian: Drop + Sealed {
+pub trait Endian: Drop {
     // Whether the first index is the bit of greatest weight.
     ghost mirrored: { Bool };
+
+    /// Takes what only this project can name, so that no other crate can implement the trait.
+    #[doc(hidden)]
+    fn seal(_: Sealed);
 
     /// Returns `true` if index 0 is the bit of greatest weight.
     #[doc(hidden)]
@@ -117,12 +121,10 @@ pub enum LittleEndian {}
 /// The order of calls that name none: [`BigEndian`].
 pub type DefaultEndian = BigEndian;
 
-impl Sealed for BigEndian {}
-
-impl Sealed for LittleEndian {}
-
 impl Endian for BigEndian {
     ghost mirrored = { false };
+
+    fn seal(_: Sealed) {}
 
     #[inline]
     fn is_mirrored() -> bool {
@@ -159,6 +161,8 @@ impl Endian for BigEndian {
 
 impl Endian for LittleEndian {
     ghost mirrored = { true };
+
+    fn seal(_: Sealed) {}
 
     #[inline]
     fn is_mirrored() -> bool {

@@ -17,11 +17,11 @@ use crate::bits::Bits;
 use crate::bits_mut::BitsMut;
 use crate::bits_owned::BitsOwned;
 use crate::endian::{DefaultEndian, Endian};
-use crate::shape::{OwnedShape, Shape};
+use crate::shape::Shape;
 use crate::word::Word;
 
 /// A word that is a set: that of its bits.
-pub trait Integer: Word + OwnedShape + Shape<LeafWord = Self> {
+pub trait Integer: Word + Eq + Shape<LeafWord = Self> {
     ghost same_width: { ⟦<Self as Shape>⟧.width ≡ ⟦<Self as Word>⟧.width };
 
     ghost same_capacity: { Self.type_capacity ≡ ⟦<Self as Word>⟧.width };

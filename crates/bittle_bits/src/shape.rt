@@ -14,7 +14,7 @@ use crate::word::Word;
 ///
 /// A struct over any set names this bound, and its functions name [`Bits`](crate::bits::Bits) or a
 /// trait above it. Only the types of this project are shapes.
-pub trait Shape: Drop + Sealed {
+pub trait Shape: Drop {
     /// The integer type that the set is made of.
     #[doc(hidden)]
     type LeafWord: Word;
@@ -28,12 +28,13 @@ pub trait Shape: Drop + Sealed {
     // The set in big-endian order.
     ghost big: { Self → PlainSet };
 
+    // The capacity of each value of a type that owns its bits. Of a slice it says nothing.
+    ghost type_capacity: { ℕ } = { 0 };
+
     // Which loan a lent slice is: a change leaves the same one. It is 0 of a value that is owned.
     ghost loan: { Self → ℕ } = { λ _. 0 };
-}
 
-/// A shape whose values all have one capacity: what a struct over any owned set names.
-pub trait OwnedShape: Shape {
-    // The capacity of each value.
-    ghost type_capacity: { ℕ };
+    /// Takes what only this project can name, so that no other crate can implement the trait.
+    #[doc(hidden)]
+    fn seal(_: Sealed);
 }

@@ -11,12 +11,10 @@ use crate::endian::{DefaultEndian, Endian};
 use crate::internal::row;
 use crate::internal::sealed::Sealed;
 use crate::one_word::{Operation, RangeOperation};
-use crate::shape::{OwnedShape, Shape};
+use crate::shape::Shape;
 use crate::word::{Ones, Zeros};
 
-impl<'a, T: OwnedShape> Sealed for &'a [T] {}
-
-impl<'a, T: OwnedShape> Shape for &'a [T] {
+impl<'a, T: Shape> Shape for &'a [T] {
     type LeafWord = T::LeafWord;
 
     ghost width = { T.width };
@@ -24,6 +22,8 @@ impl<'a, T: OwnedShape> Shape for &'a [T] {
     ghost indexable = { T.indexable };
 
     ghost big = { λ v. row_set (length v.now) T.type_capacity T.big v.now };
+
+    fn seal(_: Sealed) {}
 }
 
 impl<'a, T: BitsOwned> Bits for &'a [T] {
@@ -69,9 +69,7 @@ impl<'a, T: BitsOwned> Bits for &'a [T] {
     }
 }
 
-impl<'a, T: OwnedShape> Sealed for &'a mut [T] {}
-
-impl<'a, T: OwnedShape> Shape for &'a mut [T] {
+impl<'a, T: Shape> Shape for &'a mut [T] {
     type LeafWord = T::LeafWord;
 
     ghost width = { T.width };
@@ -81,6 +79,8 @@ impl<'a, T: OwnedShape> Shape for &'a mut [T] {
     ghost big = { λ v. row_set (length v.now) T.type_capacity T.big v.now };
 
     ghost loan = { λ v. v.ghost_name };
+
+    fn seal(_: Sealed) {}
 }
 
 impl<'a, T: BitsOwned> Bits for &'a mut [T] {

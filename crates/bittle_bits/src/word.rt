@@ -9,7 +9,7 @@ ghost use Rattle.bittle_bits.specs.Walk.{ones_or_zeros};
 use crate::internal::sealed::Sealed;
 
 /// A word: one of the twelve integers, with what a processor does to one.
-pub trait Word: Copy + Eq {
+pub trait Word: Copy {
     // How many bits a word has.
     ghost width: { ℕ };
 
@@ -131,10 +131,14 @@ pub trait Word: Copy + Eq {
 }
 
 /// Names the bits that an iterator yields: the [`Ones`] or the [`Zeros`] of its set.
-pub trait Kind: Drop + Sealed {
+pub trait Kind: Drop {
     ghost ONES: { Bool };
 
     const ONES: bool;
+
+    /// Takes what only this project can name, so that no other crate can implement the trait.
+    #[doc(hidden)]
+    fn seal(_: Sealed);
 }
 
 /// Names the set bits.
@@ -145,20 +149,20 @@ pub enum Ones {}
 #[derive(Drop)]
 pub enum Zeros {}
 
-impl Sealed for Ones {}
-
-impl Sealed for Zeros {}
-
 impl Kind for Ones {
     ghost ONES = { true };
 
     const ONES: bool = true;
+
+    fn seal(_: Sealed) {}
 }
 
 impl Kind for Zeros {
     ghost ONES = { false };
 
     const ONES: bool = false;
+
+    fn seal(_: Sealed) {}
 }
 
 /// Returns a word whose ones are the bits of the kind: for zeros, each bit flipped.

@@ -18,12 +18,12 @@ pub(crate) struct Others<K: Kind> {
     kind: PhantomData<K>,
 }
 
-impl<K: Kind> Sealed for Others<K> {}
-
 impl<K: Kind> Kind for Others<K> {
     ghost ONES = { not K.ONES };
 
     const ONES: bool = !K::ONES;
+
+    fn seal(_: Sealed) {}
 }
 
 /// Returns the least index from `from` on where `length` bits of the kind begin, or `None`.

@@ -12,7 +12,7 @@ use crate::asked::Asked;
 use bittle::{Bits, BitsMut, BitsOwned, DefaultEndian, Endian};
 use bittle_bits::internal::sealed::Sealed;
 use bittle_bits::one_word::{Operation, RangeOperation};
-use bittle_bits::shape::{OwnedShape, Shape};
+use bittle_bits::shape::Shape;
 
 /// Of these bytes the members are 0 and 31, and in little-endian order 7 and 24.
 pub(crate) const ONES: [u8; 4] = [1, 0, 0, 128];
@@ -52,8 +52,6 @@ impl<'a> Probe<'a> {
     }
 }
 
-impl<'a> Sealed for Probe<'a> {}
-
 impl<'a> Shape for Probe<'a> {
     type LeafWord = u8;
 
@@ -62,10 +60,10 @@ impl<'a> Shape for Probe<'a> {
     ghost indexable = { true };
 
     ghost big = { λ p. ⟦<[u8; 4] as Shape>⟧.big p.bytes };
-}
 
-impl<'a> OwnedShape for Probe<'a> {
     ghost type_capacity = { 4 * 8 };
+
+    fn seal(_: Sealed) {}
 }
 
 impl<'a> Bits for Probe<'a> {

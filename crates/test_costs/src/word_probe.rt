@@ -9,7 +9,7 @@ use crate::asked::Asked;
 use bittle::{Bits, BitsMut, BitsOwned, DefaultEndian, Endian};
 use bittle_bits::internal::sealed::Sealed;
 use bittle_bits::one_word::{Operation, RangeOperation};
-use bittle_bits::shape::{OwnedShape, Shape};
+use bittle_bits::shape::Shape;
 
 /// A word that is a set, and the counts of the calls that reach it.
 #[derive(Clone, Copy)]
@@ -42,8 +42,6 @@ impl<'a> WordProbe<'a> {
     }
 }
 
-impl<'a> Sealed for WordProbe<'a> {}
-
 impl<'a> Shape for WordProbe<'a> {
     type LeafWord = u64;
 
@@ -52,10 +50,10 @@ impl<'a> Shape for WordProbe<'a> {
     ghost indexable = { true };
 
     ghost big = { λ p. ⟦<u64 as Shape>⟧.big p.word };
-}
 
-impl<'a> OwnedShape for WordProbe<'a> {
     ghost type_capacity = { 64 };
+
+    fn seal(_: Sealed) {}
 }
 
 impl<'a> Bits for WordProbe<'a> {

@@ -8,10 +8,8 @@ ghost use Rattle.bittle_bits.specs.LawProofs.{equal_words, equal_signed_words};
 
 use crate::internal::sealed::Sealed;
 use crate::one_word::Integer;
-use crate::shape::{OwnedShape, Shape};
+use crate::shape::Shape;
 use crate::word::Word;
-
-impl Sealed for u128 {}
 
 impl Shape for u128 {
     type LeafWord = u128;
@@ -21,10 +19,10 @@ impl Shape for u128 {
     ghost indexable = { true };
 
     ghost big = { λ x. bit_set 128 x };
-}
 
-impl OwnedShape for u128 {
     ghost type_capacity = { 128 };
+
+    fn seal(_: Sealed) {}
 }
 
 impl Integer for u128 {
@@ -79,8 +77,6 @@ impl Word for u128 {
     }
 }
 
-impl Sealed for i128 {}
-
 impl Shape for i128 {
     type LeafWord = i128;
 
@@ -89,10 +85,10 @@ impl Shape for i128 {
     ghost indexable = { true };
 
     ghost big = { λ x. bit_set 128 (cast_unsigned w128 x) };
-}
 
-impl OwnedShape for i128 {
     ghost type_capacity = { 128 };
+
+    fn seal(_: Sealed) {}
 }
 
 impl Integer for i128 {

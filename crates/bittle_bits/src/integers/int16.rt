@@ -8,10 +8,8 @@ ghost use Rattle.bittle_bits.specs.LawProofs.{equal_words, equal_signed_words};
 
 use crate::internal::sealed::Sealed;
 use crate::one_word::Integer;
-use crate::shape::{OwnedShape, Shape};
+use crate::shape::Shape;
 use crate::word::Word;
-
-impl Sealed for u16 {}
 
 impl Shape for u16 {
     type LeafWord = u16;
@@ -21,10 +19,10 @@ impl Shape for u16 {
     ghost indexable = { true };
 
     ghost big = { λ x. bit_set 16 x };
-}
 
-impl OwnedShape for u16 {
     ghost type_capacity = { 16 };
+
+    fn seal(_: Sealed) {}
 }
 
 impl Integer for u16 {
@@ -79,8 +77,6 @@ impl Word for u16 {
     }
 }
 
-impl Sealed for i16 {}
-
 impl Shape for i16 {
     type LeafWord = i16;
 
@@ -89,10 +85,10 @@ impl Shape for i16 {
     ghost indexable = { true };
 
     ghost big = { λ x. bit_set 16 (cast_unsigned w16 x) };
-}
 
-impl OwnedShape for i16 {
     ghost type_capacity = { 16 };
+
+    fn seal(_: Sealed) {}
 }
 
 impl Integer for i16 {

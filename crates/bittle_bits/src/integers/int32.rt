@@ -8,10 +8,8 @@ ghost use Rattle.bittle_bits.specs.LawProofs.{equal_words, equal_signed_words};
 
 use crate::internal::sealed::Sealed;
 use crate::one_word::Integer;
-use crate::shape::{OwnedShape, Shape};
+use crate::shape::Shape;
 use crate::word::Word;
-
-impl Sealed for u32 {}
 
 impl Shape for u32 {
     type LeafWord = u32;
@@ -21,10 +19,10 @@ impl Shape for u32 {
     ghost indexable = { true };
 
     ghost big = { λ x. bit_set 32 x };
-}
 
-impl OwnedShape for u32 {
     ghost type_capacity = { 32 };
+
+    fn seal(_: Sealed) {}
 }
 
 impl Integer for u32 {
@@ -79,8 +77,6 @@ impl Word for u32 {
     }
 }
 
-impl Sealed for i32 {}
-
 impl Shape for i32 {
     type LeafWord = i32;
 
@@ -89,10 +85,10 @@ impl Shape for i32 {
     ghost indexable = { true };
 
     ghost big = { λ x. bit_set 32 (cast_unsigned w32 x) };
-}
 
-impl OwnedShape for i32 {
     ghost type_capacity = { 32 };
+
+    fn seal(_: Sealed) {}
 }
 
 impl Integer for i32 {

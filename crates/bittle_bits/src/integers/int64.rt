@@ -8,10 +8,8 @@ ghost use Rattle.bittle_bits.specs.LawProofs.{equal_words, equal_signed_words};
 
 use crate::internal::sealed::Sealed;
 use crate::one_word::Integer;
-use crate::shape::{OwnedShape, Shape};
+use crate::shape::Shape;
 use crate::word::Word;
-
-impl Sealed for u64 {}
 
 impl Shape for u64 {
     type LeafWord = u64;
@@ -21,10 +19,10 @@ impl Shape for u64 {
     ghost indexable = { true };
 
     ghost big = { λ x. bit_set 64 x };
-}
 
-impl OwnedShape for u64 {
     ghost type_capacity = { 64 };
+
+    fn seal(_: Sealed) {}
 }
 
 impl Integer for u64 {
@@ -79,8 +77,6 @@ impl Word for u64 {
     }
 }
 
-impl Sealed for i64 {}
-
 impl Shape for i64 {
     type LeafWord = i64;
 
@@ -89,10 +85,10 @@ impl Shape for i64 {
     ghost indexable = { true };
 
     ghost big = { λ x. bit_set 64 (cast_unsigned w64 x) };
-}
 
-impl OwnedShape for i64 {
     ghost type_capacity = { 64 };
+
+    fn seal(_: Sealed) {}
 }
 
 impl Integer for i64 {

@@ -8,10 +8,8 @@ ghost use Rattle.bittle_bits.specs.LawProofs.{equal_words, equal_signed_words};
 
 use crate::internal::sealed::Sealed;
 use crate::one_word::Integer;
-use crate::shape::{OwnedShape, Shape};
+use crate::shape::Shape;
 use crate::word::Word;
-
-impl Sealed for u8 {}
 
 impl Shape for u8 {
     type LeafWord = u8;
@@ -21,10 +19,10 @@ impl Shape for u8 {
     ghost indexable = { true };
 
     ghost big = { λ x. bit_set 8 x };
-}
 
-impl OwnedShape for u8 {
     ghost type_capacity = { 8 };
+
+    fn seal(_: Sealed) {}
 }
 
 impl Integer for u8 {
@@ -79,8 +77,6 @@ impl Word for u8 {
     }
 }
 
-impl Sealed for i8 {}
-
 impl Shape for i8 {
     type LeafWord = i8;
 
@@ -89,10 +85,10 @@ impl Shape for i8 {
     ghost indexable = { true };
 
     ghost big = { λ x. bit_set 8 (cast_unsigned w8 x) };
-}
 
-impl OwnedShape for i8 {
     ghost type_capacity = { 8 };
+
+    fn seal(_: Sealed) {}
 }
 
 impl Integer for i8 {

@@ -8,10 +8,8 @@ ghost use Rattle.bittle_bits.specs.LawProofs.{equal_words, equal_signed_words};
 
 use crate::internal::sealed::Sealed;
 use crate::one_word::Integer;
-use crate::shape::{OwnedShape, Shape};
+use crate::shape::Shape;
 use crate::word::Word;
-
-impl Sealed for usize {}
 
 impl Shape for usize {
     type LeafWord = usize;
@@ -21,10 +19,10 @@ impl Shape for usize {
     ghost indexable = { true };
 
     ghost big = { λ x. bit_set 64 x };
-}
 
-impl OwnedShape for usize {
     ghost type_capacity = { 64 };
+
+    fn seal(_: Sealed) {}
 }
 
 impl Integer for usize {
@@ -79,8 +77,6 @@ impl Word for usize {
     }
 }
 
-impl Sealed for isize {}
-
 impl Shape for isize {
     type LeafWord = isize;
 
@@ -89,10 +85,10 @@ impl Shape for isize {
     ghost indexable = { true };
 
     ghost big = { λ x. bit_set 64 (cast_unsigned w64 x) };
-}
 
-impl OwnedShape for isize {
     ghost type_capacity = { 64 };
+
+    fn seal(_: Sealed) {}
 }
 
 impl Integer for isize {

@@ -1,8 +1,9 @@
-//! A sealed trait and ghost types that the public signatures mention; not part of the API.
+//! What seals the traits, and ghost types that the public signatures mention; not part of the API.
 
 pub use crate::internal::buffer::Count;
 pub use crate::walk::Counted;
 
-/// Holds of the types of this project alone, so that a crate which names `bittle` alone can
-/// implement none of the traits above it.
-pub trait Sealed {}
+/// A type that no crate which names `bittle` alone can name, and that has no value: such a crate can
+/// implement no trait with a function over it.
+#[derive(Drop)]
+pub enum Sealed {}

@@ -20,7 +20,7 @@ assign_in_element-requires-clause-ordered g c =
 
 pub returns-then-first-last : goal.returns-then-first-last
 returns-then-first-last g c =
-    let e = g.T.OwnedShape.type_capacity in
+    let e = g.T.Shape.type_capacity in
     let at = c.element_ends-each.result in
     let ends = c.element_ends-each.ensures.at in
     let end : at.1 * e + (at.4 + 1) ≡ c.args.to = omega
@@ -30,7 +30,7 @@ returns-then-first-last g c =
 
 pub loop-at-init : goal.loop-at-init
 loop-at-init g c =
-    let e = g.T.OwnedShape.type_capacity in
+    let e = g.T.Shape.type_capacity in
     let at = c.element_ends-each.result in
     let ends = c.element_ends-each.ensures.at in
     let end : at.1 * e + e ≡ (at.1 + 1) * e = omega arith in
@@ -43,7 +43,7 @@ loop-at-init g c =
 
 pub loop-at-preserved : goal.loop-at-preserved
 loop-at-preserved g c =
-    let e = g.T.OwnedShape.type_capacity in
+    let e = g.T.Shape.type_capacity in
     let at = c.loop-at.at in
     let inv = c.loop-at.invariant in
     let before = read_in g.E.Endian.mirrored g.T.Shape.width
@@ -62,7 +62,7 @@ loop-at-preserved g c =
 
 pub returns : goal.returns
 returns g c =
-    let e = g.T.OwnedShape.type_capacity in
+    let e = g.T.Shape.type_capacity in
     let ends = c.element_ends-each.ensures.at in
     let last = c.element_ends-each.result.3 in
     let top = c.element_ends-each.result.4 in

@@ -8,7 +8,7 @@ abbrev pub invariant-loop-at : goal.invariant-loop-at
 invariant-loop-at g l =
     let m = g.E.Endian.mirrored in
     let w = g.T.Shape.width in
-    let c = g.T.OwnedShape.type_capacity in
+    let c = g.T.Shape.type_capacity in
     let n = length l.fn.elements in
     record {
       same : length l.elements ≡ n;

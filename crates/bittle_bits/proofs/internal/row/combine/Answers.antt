@@ -25,7 +25,7 @@ returns g c mirrored =
     let T = g.met.T in
     let done = c.loop-at.invariant in
     let whole = T.BitsOwned.type_whole_words in
-    let all = row_combined g.O.Operation.decide g.T.OwnedShape.type_capacity g.T.Shape.big
+    let all = row_combined g.O.Operation.decide g.T.Shape.type_capacity g.T.Shape.big
     c.args.elements.now c.args.others.now c.loop-at.elements T.BitsOwned.one_capacity
     (omega arith) (λ k d a b. done.done k d (omega arith))
     (λ k d b. done.rest k d (omega arith)) in

@@ -9,7 +9,7 @@ use Rattle.bittle_bits.proofs.internal.row.count_ones.Goals as goal
 pub overflow_add-total : goal.overflow_add-total
 overflow_add-total g c =
     let x = c.element-item.result in
-    let b = row_count_fits g.T.OwnedShape.type_capacity g.T.Shape.big c.args.elements.now
+    let b = row_count_fits g.T.Shape.type_capacity g.T.Shape.big c.args.elements.now
     g.met.T.BitsOwned.one_capacity c.loop-element.element-index c.loop-element.total
     c.count_ones-total.result x c.count_ones-total.ensures.value c.element-item.is
     (omega arith) c.loop-element.invariant in

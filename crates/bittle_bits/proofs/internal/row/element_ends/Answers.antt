@@ -17,6 +17,6 @@ returns g c =
     record {
       each = each;
       at = at;
-      last = lt_of_mul-lt-mul_right g.T.OwnedShape.type_capacity
+      last = lt_of_mul-lt-mul_right g.T.Shape.type_capacity
           (omega (arith, at.to, c.requires.within));
     }

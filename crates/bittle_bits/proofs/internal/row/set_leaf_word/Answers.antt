@@ -11,7 +11,7 @@ returns g c =
     let xs = c.args.elements.now in
     let q = c.locate_word-element.result.0 in
     let x = get_or xs q c.index-elements-element.result in
-    rw length-set (row_word_replaced (length xs) g.T.OwnedShape.type_capacity g.T.Shape.width
+    rw length-set (row_word_replaced (length xs) g.T.Shape.type_capacity g.T.Shape.width
     c.args.k q c.locate_word-element.result.1 g.T.Shape.big xs x c.set_nth_leaf_word.new.self
     g.met.T.Bits.width_positive g.met.T.BitsOwned.type_whole_words c.requires.within
     c.locate_word-element.ensures refl
