@@ -1,9 +1,14 @@
 //! Changes, with values worked out by hand.
 
+ghost use Rattle.std.specs.Prelude.{IsTrue};
+ghost use Rattle.bittle.specs.Values.{ShapeFits};
+
+use crate::calls::{flip, inserted};
 use crate::checks::{holds, same};
 use bittle::prelude::*;
-use bittle::{LittleEndian, Set};
+use bittle::{Endian, LittleEndian, Set};
 use bittle_ext::prelude::*;
+use std::process::Abort;
 
 #[test]
 fn one_bit_of_a_word(rt: HostRuntime) {
@@ -48,30 +53,36 @@ fn one_bit_from_the_left(rt: HostRuntime) {
 #[test]
 fn one_bit_of_longer_shapes(rt: HostRuntime) {
     let mut nested = [[0u8; 2]; 2];
-    holds!(rt; nested.insert(17));
+    same!(rt; inserted(&mut nested, [17]), [true]);
     same!(rt; nested, [[0, 0], [2, 0]]);
     let mut set = Set::new_le(0i16);
-    holds!(rt; set.insert(0));
+    same!(rt; inserted(&mut set, [0]), [true]);
     same!(rt; set.into_bits(), i16::MIN);
     let mut words = [0u64; 2];
     let mut lent = words.as_mut_slice();
-    holds!(rt; lent.insert(65));
-    holds!(rt; !lent.insert(193));
+    same!(rt; inserted(&mut lent, [65, 193]), [true, false]);
     same!(rt; words, [0, 2]);
 }
 
-#[test]
-fn capacity_0_is_never_changed(rt: HostRuntime) {
-    let mut none: [u8; 0] = [];
-    holds!(rt; none.insert(3));
-    holds!(rt; !none.remove(3));
-    holds!(rt; !none.replace(3, true));
+/// Changes a set of capacity 0 in each way.
+fn never_changed<B: BitsOwned>(rt: &impl Abort, mut none: B)
+    requires { IsTrue B.indexable }
+{
+    holds!(*rt; none.insert(3));
+    holds!(*rt; !none.remove(3));
+    holds!(*rt; !none.replace(3, true));
     none.toggle(0);
     none.insert_all(&[1, 2]);
     none.set_range(0, 0);
     none.complement_assign();
-    same!(rt; (none.pop_first(), none.pop_last()), (None, None));
-    same!(rt; none.take_first_zero(), None);
+    same!(*rt; (none.pop_first(), none.pop_last()), (None, None));
+    same!(*rt; none.take_first_zero(), None);
+}
+
+#[test]
+fn capacity_0_is_never_changed(rt: HostRuntime) {
+    let none: [u8; 0] = [];
+    never_changed(&rt, none);
 }
 
 #[test]
@@ -110,33 +121,47 @@ fn empty_and_whole_ranges(rt: HostRuntime) {
 #[test]
 fn every_bit_is_flipped(rt: HostRuntime) {
     let mut row = [0xCFu8, 0xFC, 0x0F];
-    row.complement_assign();
+    flip(&mut row);
     same!(rt; row, [0x30, 0x03, 0xF0]);
     let mut word = i32::MAX;
-    word.complement_assign();
+    flip(&mut word);
     same!(rt; word, i32::MIN);
     let mut set = Set::new_le(0xF0u8);
-    set.complement_assign();
+    flip(&mut set);
     same!(rt; set.into_bits(), 0x0F);
     let mut words = [0u64, 1];
     let mut lent = words.as_mut_slice();
-    lent.complement_assign();
+    flip(&mut lent);
     same!(rt; words, [u64::MAX, u64::MAX - 1]);
+}
+
+/// Takes out the first bit, the last and the first, each with what is left, and then none.
+fn popped<B: BitsOwned>(mut row: B) -> ([(Option<u32>, B); 3], [Option<u32>; 2])
+    requires { IsTrue B.indexable }
+{
+    let first = (row.pop_first(), row);
+    let second = (row.pop_last(), row);
+    let third = (row.pop_first(), row);
+    ([first, second, third], [row.pop_first(), row.pop_last()])
+}
+
+/// Takes out the first bit and then the last, in the order `E`, with what is left.
+fn popped_in<B: BitsOwned, E: Endian>(mut row: B) -> ([Option<u32>; 2], B)
+    requires { IsTrue B.indexable }
+{
+    let ends = [row.pop_first_in::<E>(), row.pop_last_in::<E>()];
+    (ends, row)
 }
 
 #[test]
 fn ends_are_taken_out(rt: HostRuntime) {
     // Bits 0, 15 and 17 are set.
-    let mut row = [0x8001u16, 2];
-    same!(rt; (row.pop_first(), row), (Some(0), [0x8000, 2]));
-    same!(rt; (row.pop_last(), row), (Some(17), [0x8000, 0]));
-    same!(rt; (row.pop_first(), row), (Some(15), [0, 0]));
-    same!(rt; (row.pop_first(), row.pop_last()), (None, None));
+    let (ends, none) = popped([0x8001u16, 2]);
+    same!(rt; ends, [(Some(0), [0x8000, 2]), (Some(17), [0x8000, 0]), (Some(15), [0, 0])]);
+    same!(rt; none, [None, None]);
     // From the left bits 3, 8 and 15 are set.
-    let mut row = [0x10u8, 0x81];
-    same!(rt; row.pop_first_in::<LittleEndian>(), Some(3));
-    same!(rt; row.pop_last_in::<LittleEndian>(), Some(15));
-    same!(rt; row, [0, 0x80]);
+    let left = popped_in::<_, LittleEndian>([0x10u8, 0x81]);
+    same!(rt; left, ([Some(3), Some(15)], [0, 0x80]));
 }
 
 #[test]
@@ -190,10 +215,17 @@ fn each_bit_is_asked_once_from_the_least(rt: HostRuntime) {
     same!(rt; (asked, word), (1247, 0b1001_0010));
 }
 
+/// Keeps the bits of the indexes 63 to 126.
+fn keep_some<B: BitsMut>(set: &mut B)
+    requires { ShapeFits B.Shape set.old }
+{
+    set.retain(|index| index > 62 && index < 127);
+}
+
 #[test]
 fn bits_of_a_lent_slice_that_are_kept(rt: HostRuntime) {
     let mut words = [0b11u64, 0b101];
     let mut set = Set::from_mut_le(words.as_mut_slice());
-    set.retain(|index| index > 62 && index < 127);
+    keep_some(&mut set);
     same!(rt; words, [0b01, 0b100]);
 }

@@ -1,66 +1,74 @@
 //! Iterators over what an operation makes of two sets, with values worked out by hand.
 
+ghost use Rattle.bittle.specs.Values.{ShapeFits};
+
+use crate::calls::{BACK, FRONT, conjunction, difference, symmetric_difference, union, union_in};
 use crate::checks::same;
-use bittle::LittleEndian;
+use bittle::{Bits, LittleEndian};
 use bittle_ext::prelude::*;
 
 #[test]
 fn either_of_two_shapes(rt: HostRuntime) {
     // The members 0 and 1, and the members 1, 2 and 8.
     let (word, row) = (0b0011u8, [0b0110u8, 1]);
-    let mut either = word.iter_union(&row);
-    same!(rt; (either.next(), either.next()), (Some(0), Some(1)));
-    same!(rt; (either.next(), either.next()), (Some(2), Some(8)));
-    same!(rt; (either.next(), either.next_back()), (None, None));
+    let turns = [FRONT, FRONT, FRONT, FRONT, FRONT, BACK];
+    let either = union(&word, &row, turns);
+    same!(rt; either, [Some(0), Some(1), Some(2), Some(8), None, None]);
 }
 
 #[test]
 fn both_and_one_of_two_shapes(rt: HostRuntime) {
     let (word, row) = (0b0011u8, [0b0110u8, 1]);
-    let mut both = word.iter_conjunction(&row);
-    same!(rt; (both.next(), both.next()), (Some(1), None));
-    let mut first = word.iter_difference(&row);
-    same!(rt; (first.next(), first.next()), (Some(0), None));
-    let mut second = row.iter_difference(&word);
-    same!(rt; (second.next(), second.next()), (Some(2), Some(8)));
-    same!(rt; second.next(), None);
+    same!(rt; conjunction(&word, &row, [FRONT; 2]), [Some(1), None]);
+    same!(rt; difference(&word, &row, [FRONT; 2]), [Some(0), None]);
+    same!(rt; difference(&row, &word, [FRONT; 3]), [Some(2), Some(8), None]);
 }
 
 #[test]
 fn just_one_from_both_ends(rt: HostRuntime) {
     let (word, row) = (0b0011u8, [0b0110u8, 1]);
-    let mut one = word.iter_symmetric_difference(&row);
-    same!(rt; (one.next_back(), one.next()), (Some(8), Some(0)));
-    same!(rt; (one.next_back(), one.next_back()), (Some(2), None));
+    let one = symmetric_difference(&word, &row, [BACK, FRONT, BACK, BACK]);
+    same!(rt; one, [Some(8), Some(0), Some(2), None]);
 }
 
 #[test]
 fn two_shapes_from_the_left(rt: HostRuntime) {
     // From the left the members 0 and 1, and the members 1, 2 and 8.
     let (word, row) = (0b1100_0000u8, [0b0110_0000u8, 0x80]);
-    let mut either = row.iter_union_in::<_, LittleEndian>(&word);
-    same!(rt; (either.next_back(), either.next_back()), (Some(8), Some(2)));
-    same!(rt; (either.next_back(), either.next_back()), (Some(1), Some(0)));
-    same!(rt; either.next_back(), None);
+    let either = union_in::<_, _, LittleEndian, 5>(&row, &word, [BACK; 5]);
+    same!(rt; either, [Some(8), Some(2), Some(1), Some(0), None]);
+}
+
+/// Takes an item of a walk and clones it, and returns what both yield then.
+fn source_and_clone<A: Bits, B: Bits>(
+    one: &A,
+    other: &B,
+) -> (Option<u32>, [Option<u32>; 2], [Option<u32>; 4], Option<u32>)
+    requires one_fits { ShapeFits A.Shape one.now }
+    requires other_fits { ShapeFits B.Shape other.now }
+{
+    let mut walk = one.iter_union(other);
+    let first = walk.next();
+    let mut clone = walk.clone().unwrap();
+    let source = [walk.next_back(), walk.next()];
+    let items = [clone.next(), clone.next_back(), clone.next(), clone.next()];
+    (first, source, items, walk.next())
 }
 
 #[test]
 fn a_clone_goes_on_from_its_source(rt: HostRuntime) {
     // Set in either are 0, 1, 2 and 8.
     let (word, row) = (0b0011u8, [0b0110u8, 1]);
-    let mut walk = word.iter_union(&row);
-    same!(rt; walk.next(), Some(0));
-    let mut clone = walk.clone().unwrap();
-    same!(rt; (walk.next_back(), walk.next()), (Some(8), Some(1)));
-    same!(rt; (clone.next(), clone.next_back()), (Some(1), Some(8)));
-    same!(rt; (clone.next(), clone.next(), walk.next()), (Some(2), None, Some(2)));
+    let (first, source, clone, then) = source_and_clone(&word, &row);
+    same!(rt; (first, source), (Some(0), [Some(8), Some(1)]));
+    same!(rt; (clone, then), ([Some(1), Some(8), Some(2), None], Some(2)));
 }
 
 #[test]
 fn capacity_0(rt: HostRuntime) {
     let none: [u8; 0] = [];
-    same!(rt; none.iter_union(&none).next(), None);
-    same!(rt; none.iter_union(&0b1000u8).next(), Some(3));
-    same!(rt; 0b1000u8.iter_difference(&none).next_back(), Some(3));
-    same!(rt; 0b1000u8.iter_conjunction(&none).next(), None);
+    same!(rt; union(&none, &none, [FRONT]), [None]);
+    same!(rt; union(&none, &0b1000u8, [FRONT]), [Some(3)]);
+    same!(rt; difference(&0b1000u8, &none, [BACK]), [Some(3)]);
+    same!(rt; conjunction(&0b1000u8, &none, [FRONT]), [None]);
 }

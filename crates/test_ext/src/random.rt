@@ -1,9 +1,11 @@
 //! Thousands of drawn calls on a row of three bytes, compared with plain loops over 24 flags.
 
-ghost use Rattle.std.specs.Prelude.{◌<◌, ◌≤◌};
+ghost use Rattle.std.specs.Prelude.{◌<◌, ◌≤◌, IsTrue};
+ghost use Rattle.bittle.specs.Values.{ShapeFits};
 
 use crate::checks::same;
-use bittle::{Bits, BitsMut};
+use crate::rotations::moved;
+use bittle::{Bits, BitsMut, BitsOwned};
 use bittle_ext::prelude::*;
 use std::process::Abort;
 
@@ -23,7 +25,15 @@ fn flags_of(row: &[u8; 3]) -> [bool; 24] {
 }
 
 // Makes a drawn change of one bit of both.
-fn change_one(rt: &impl Abort, kind: u32, index: u32, row: &mut [u8; 3], flags: &mut [bool; 24]) {
+fn change_one<B: BitsMut>(
+    rt: &impl Abort,
+    kind: u32,
+    index: u32,
+    row: &mut B,
+    flags: &mut [bool; 24],
+)
+    requires { IsTrue B.indexable }
+{
     let at = (index % 24) as usize;
     let before = flags[at];
     match kind {
@@ -47,9 +57,11 @@ fn change_one(rt: &impl Abort, kind: u32, index: u32, row: &mut [u8; 3], flags: 
 }
 
 // Makes a drawn change of a range of both.
-fn change_range(kind: u32, from: u32, to: u32, row: &mut [u8; 3], flags: &mut [bool; 24])
+fn change_range<B: BitsMut>(kind: u32, from: u32, to: u32, row: &mut B, flags: &mut [bool; 24])
+    requires fits { ShapeFits B.Shape row.old }
     requires ordered { from ≤ to }
-    requires within { to ≤ 24 }
+    requires within { to ≤ (B.big row.old).capacity }
+    requires below { to ≤ 24 }
 {
     match kind {
         0 => row.set_range(from, to),
@@ -66,7 +78,9 @@ fn change_range(kind: u32, from: u32, to: u32, row: &mut [u8; 3], flags: &mut [b
 }
 
 // Takes an end out of both, or takes a free slot.
-fn take_one(rt: &impl Abort, kind: u32, row: &mut [u8; 3], flags: &mut [bool; 24]) {
+fn take_one<B: BitsMut>(rt: &impl Abort, kind: u32, row: &mut B, flags: &mut [bool; 24])
+    requires { ShapeFits B.Shape row.old }
+{
     let mut found = None;
     for i in 0..24usize {
         let at = if kind == 1 { 23 - i } else { i };
@@ -108,16 +122,19 @@ pub(crate) fn combined(kind: u32, one: bool, other: bool) -> bool {
     }
 }
 
-// Sets a flag for each index that an iterator yields, which are below 24.
-fn walked(kind: u32, row: &[u8; 3], word: &u8) -> [bool; 24] {
-    let mut made = [0u8; 3];
+// Makes the set of the indexes that an iterator yields, which are below the capacity.
+fn walked<A: BitsOwned, B: Bits>(kind: u32, row: &A, word: &B) -> A
+    requires indexable { IsTrue A.indexable }
+    requires fits { ShapeFits B.Shape word.now }
+{
+    let mut made = A::zeros();
     match kind {
         0 => made.extend(row.iter_union(word)),
         1 => made.extend(row.iter_conjunction(word)),
         2 => made.extend(row.iter_difference(word)),
         _ => made.extend(row.iter_symmetric_difference(word)),
     }
-    flags_of(&made)
+    made
 }
 
 #[test]
@@ -136,16 +153,17 @@ fn drawn_combinations_agree_with_plain_loops(rt: HostRuntime) {
         for i in 0..24usize {
             expected[i] = combined(kind, ours[i], theirs[i]);
         }
-        same!(rt; walked(kind, &row, &word), expected);
+        same!(rt; flags_of(&walked(kind, &row, &word)), expected);
     }
 }
 
-// Returns the flags of what a range of a row has of a kind, by a walk from both ends in turn.
-fn walked_range(zeros: bool, row: &[u8; 3], from: u32, to: u32) -> [bool; 24]
+// Makes the set of what a range of a row has of a kind, by a walk from both ends in turn.
+fn walked_range<B: BitsOwned>(zeros: bool, row: &B, from: u32, to: u32) -> B
+    requires indexable { IsTrue B.indexable }
     requires ordered { from ≤ to }
-    requires within { to ≤ 24 }
+    requires within { to ≤ (B.big row.now).capacity }
 {
-    let mut made = [0u8; 3];
+    let mut made = B::zeros();
     if zeros {
         let mut walk = row.iter_zeros_in_range(from, to);
         while let Some(first) = walk.next() {
@@ -157,7 +175,7 @@ fn walked_range(zeros: bool, row: &[u8; 3], from: u32, to: u32) -> [bool; 24]
     } else {
         made.extend(row.iter_ones_in_range(from, to).rev());
     }
-    flags_of(&made)
+    made
 }
 
 #[test]
@@ -175,22 +193,33 @@ fn drawn_ranges_agree_with_plain_loops(rt: HostRuntime) {
         for i in from as usize..to as usize {
             expected[i] = row.test_bit(i as u32) != zeros;
         }
-        same!(rt; walked_range(zeros, &row, from, to), expected);
+        same!(rt; flags_of(&walked_range(zeros, &row, from, to)), expected);
+    }
+}
+
+// Sets the flag of an index, which is below 24.
+fn mark(rt: &impl Abort, flags: &mut [bool; 24], index: u32) {
+    if index < 24 {
+        flags[index as usize] = true;
+    } else {
+        rt.panic("an index past the capacity")
     }
 }
 
 // Returns where the runs of a kind of a row begin, and where their last bits are.
-fn walked_runs(zeros: bool, row: &[u8; 3]) -> ([bool; 24], [bool; 24]) {
+fn walked_runs<B: Bits>(rt: &impl Abort, zeros: bool, row: &B) -> ([bool; 24], [bool; 24])
+    requires { ShapeFits B.Shape row.now }
+{
     let (mut firsts, mut lasts) = ([false; 24], [false; 24]);
     if zeros {
         for run in row.iter_zero_runs() {
-            firsts[run.start as usize] = true;
-            lasts[run.end as usize - 1] = true;
+            mark(rt, &mut firsts, run.start);
+            mark(rt, &mut lasts, run.end.wrapping_sub(1));
         }
     } else {
         for run in row.iter_one_runs().rev() {
-            firsts[run.start as usize] = true;
-            lasts[run.end as usize - 1] = true;
+            mark(rt, &mut firsts, run.start);
+            mark(rt, &mut lasts, run.end.wrapping_sub(1));
         }
     }
     (firsts, lasts)
@@ -211,7 +240,7 @@ fn drawn_runs_agree_with_plain_loops(rt: HostRuntime) {
             firsts[i] = flags[i] != zeros && (i == 0 || flags[i - 1] == zeros);
             lasts[i] = flags[i] != zeros && (i == 23 || flags[i + 1] == zeros);
         }
-        let walked = walked_runs(zeros, &row);
+        let walked = walked_runs(&rt, zeros, &row);
         same!(rt; walked, (firsts, lasts));
     }
 }
@@ -226,16 +255,6 @@ fn flag_after(kind: u32, flags: &[bool; 24], at: usize, by: usize) -> bool
         1 => flags[(at + 72 - by) % 24],
         2 => at + by < 24 && flags[at + by],
         _ => by <= at && flags[at - by],
-    }
-}
-
-// Returns the row with its bits moved in one of four ways.
-fn moved(kind: u32, row: [u8; 3], by: u32) -> [u8; 3] {
-    match kind {
-        0 => row.rotated_down(by),
-        1 => row.rotated_up(by),
-        2 => row.shifted_down(by),
-        _ => row.shifted_up(by),
     }
 }
 

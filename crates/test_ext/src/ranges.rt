@@ -1,5 +1,6 @@
 //! Iterators over a range of a set, with values worked out by hand.
 
+use crate::calls::{BACK, FRONT, ones_in_range, ones_in_range_in, zeros_in_range};
 use crate::checks::same;
 use bittle::{LittleEndian, Set};
 use bittle_ext::prelude::*;
@@ -39,12 +40,11 @@ fn a_range_of_a_word_from_the_left(rt: HostRuntime) {
 fn both_ends_of_a_range_of_nested_rows(rt: HostRuntime) {
     // The members 0, 7, 16 and 31; from the left 0, 7, 23 and 24.
     let rows = [[0x81u8, 0], [0x01, 0x80]];
-    let mut walk = rows.iter_ones_in_range(1, 32);
-    same!(rt; (walk.next(), walk.next_back()), (Some(7), Some(31)));
-    same!(rt; (walk.next_back(), walk.next()), (Some(16), None));
-    let mut left = rows.iter_ones_in_range_in::<LittleEndian>(7, 24);
-    same!(rt; (left.next_back(), left.next()), (Some(23), Some(7)));
-    same!(rt; (left.next(), left.next_back()), (None, None));
+    let turns = [FRONT, BACK, BACK, FRONT];
+    same!(rt; ones_in_range(&rows, 1, 32, turns), [Some(7), Some(31), Some(16), None]);
+    let turns = [BACK, FRONT, FRONT, BACK];
+    let left = ones_in_range_in::<_, LittleEndian, 4>(&rows, 7, 24, turns);
+    same!(rt; left, [Some(23), Some(7), None, None]);
 }
 
 #[test]
@@ -52,12 +52,11 @@ fn a_range_of_a_slice_and_of_a_set(rt: HostRuntime) {
     // The members 0, 7 and 8.
     let bytes = [0x81u8, 0x01, 0];
     let row: &[u8] = &bytes[..];
-    let mut walk = row.iter_ones_in_range(1, 24);
-    same!(rt; (walk.next(), walk.next(), walk.next()), (Some(7), Some(8), None));
+    same!(rt; ones_in_range(&row, 1, 24, [FRONT; 3]), [Some(7), Some(8), None]);
     // From the left 0, 7 and 15.
     let set = Set::new_le(bytes);
-    same!(rt; set.iter_ones_in_range(8, 24).next(), Some(15));
-    same!(rt; set.iter_zeros_in_range(7, 24).next_back(), Some(23));
+    same!(rt; ones_in_range(&set, 8, 24, [FRONT]), [Some(15)]);
+    same!(rt; zeros_in_range(&set, 7, 24, [BACK]), [Some(23)]);
 }
 
 #[test]

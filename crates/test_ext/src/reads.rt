@@ -1,5 +1,6 @@
 //! Reading calls, with values worked out by hand.
 
+use crate::calls::{counts, ends, firsts, relations};
 use crate::checks::{holds, same};
 use bittle::prelude::*;
 use bittle::{LittleEndian, Set};
@@ -18,15 +19,13 @@ fn ends_of_a_word(rt: HostRuntime) {
 #[test]
 fn ends_of_longer_shapes(rt: HostRuntime) {
     let row: [u16; 3] = [0, 0x0180, 0];
-    same!(rt; (row.first_one(), row.last_one()), (Some(23), Some(24)));
-    same!(rt; (row.first_zero(), row.last_zero()), (Some(0), Some(47)));
+    same!(rt; ends(&row), [Some(23), Some(24), Some(0), Some(47)]);
     let nested: [[u8; 2]; 2] = [[255, 255], [255, 127]];
-    same!(rt; (nested.first_zero(), nested.last_zero()), (Some(31), Some(31)));
+    same!(rt; ends(&nested), [Some(0), Some(30), Some(31), Some(31)]);
     let set = Set::new_le(0b0010_0010u8);
-    same!(rt; (set.first_one(), set.last_one()), (Some(2), Some(6)));
+    same!(rt; ends(&set), [Some(2), Some(6), Some(0), Some(7)]);
     let none: [u8; 0] = [];
-    same!(rt; (none.first_one(), none.last_zero()), (None, None));
-    same!(rt; (none.first_zero(), none.last_one()), (None, None));
+    same!(rt; ends(&none), [None; 4]);
 }
 
 #[test]
@@ -229,25 +228,28 @@ fn random_rows_are_read_as_plain_arrays(rt: HostRuntime) {
 #[test]
 fn relations_of_two_shapes(rt: HostRuntime) {
     let row: [u8; 8] = [0b0110, 0, 0, 0, 0, 0, 0, 1];
-    holds!(rt; 0b0110u64.is_subset(&row) && !0b0111u64.is_subset(&row));
-    holds!(rt; row.is_superset(&6u8) && !row.is_subset(&6u8));
-    holds!(rt; 0b1001u64.is_disjoint(&row) && row.intersects(&0b1100u16));
-    same!(rt; row.first_common(&0b1100u16), Some(2));
-    same!(rt; (row.first_alone(&6u8), 6u8.first_alone(&row)), (Some(56), None));
-    same!(rt; 0b1110u32.first_alone(&row), Some(3));
+    // The members 1, 2 and 56. Each line asks for a subset, a superset, disjoint, intersecting.
+    same!(rt; relations(&0b0110u64, &row), [true, false, false, true]);
+    same!(rt; relations(&0b0111u64, &row), [false, false, false, true]);
+    same!(rt; relations(&0b1001u64, &row), [false, false, true, false]);
+    same!(rt; relations(&row, &6u8), [false, true, false, true]);
+    same!(rt; relations(&row, &0b1100u16), [false, false, false, true]);
+    same!(rt; firsts(&row, &0b1100u16), [Some(2), Some(1)]);
+    same!(rt; (firsts(&row, &6u8), firsts(&6u8, &row)), ([Some(1), Some(56)], [Some(1), None]));
+    same!(rt; firsts(&0b1110u32, &row), [Some(1), Some(3)]);
 }
 
 #[test]
 fn relations_of_like_words(rt: HostRuntime) {
     let long: [u32; 3] = [1, 0, 1];
     let short: [u32; 2] = [1, 0];
-    holds!(rt; short.is_subset(&long) && !long.is_subset(&short));
-    holds!(rt; long.is_superset(&short) && !short.is_superset(&long));
-    same!(rt; (long.first_alone(&short), short.first_alone(&long)), (Some(64), None));
-    same!(rt; long.first_common(&short), Some(0));
+    // Each line asks for a subset, a superset, disjoint, intersecting.
+    same!(rt; relations(&short, &long), [true, false, false, true]);
+    same!(rt; relations(&long, &short), [false, true, false, true]);
+    same!(rt; (firsts(&long, &short), firsts(&short, &long)), ([Some(0), Some(64)], [Some(0), None]));
     let other: [u32; 1] = [2];
-    holds!(rt; long.is_disjoint(&other) && !long.intersects(&other));
-    same!(rt; long.first_common(&other), None);
+    same!(rt; relations(&long, &other), [false, false, true, false]);
+    same!(rt; firsts(&long, &other), [None, Some(0)]);
 }
 
 #[test]
@@ -307,14 +309,12 @@ fn random_rows_stand_as_plain_arrays_do(rt: HostRuntime) {
 #[test]
 fn counts_of_two_sets(rt: HostRuntime) {
     let row: [u8; 8] = [0b0110, 0, 0, 0, 0, 0, 0, 1];
-    same!(rt; (row.count_common(&0b1100u16), 0b1100u16.count_common(&row)), (1, 1));
-    same!(rt; (row.count_alone(&0b1100u16), 0b1100u16.count_alone(&row)), (2, 1));
-    same!(rt; row.count_different(&0b1100u16), 3);
+    same!(rt; counts(&row, &0b1100u16), [1, 2, 3]);
+    same!(rt; counts(&0b1100u16, &row), [1, 1, 3]);
     let long: [u32; 3] = [3, 0, 1];
     let short: [u32; 2] = [6, 8];
-    same!(rt; (long.count_common(&short), short.count_common(&long)), (1, 1));
-    same!(rt; (long.count_alone(&short), short.count_alone(&long)), (2, 2));
-    same!(rt; long.count_different(&short), 4);
+    same!(rt; counts(&long, &short), [1, 2, 4]);
+    same!(rt; counts(&short, &long), [1, 2, 4]);
 }
 
 #[test]

@@ -140,7 +140,7 @@ fn moved_in<B: BitsOwned, E: Endian>(way: u32, set: B, by: u32) -> B
 }
 
 // Returns the set with its bits moved in the order of the type.
-fn moved<B: BitsOwned>(way: u32, set: B, by: u32) -> B
+pub(crate) fn moved<B: BitsOwned>(way: u32, set: B, by: u32) -> B
     requires { IsTrue B.indexable }
 {
     match way {

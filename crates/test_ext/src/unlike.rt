@@ -3,6 +3,7 @@
 
 ghost use Rattle.bittle.specs.Values.{ShapeFits};
 
+use crate::calls::{BACK, FRONT, conjunction, difference, symmetric_difference, union, union_in};
 use crate::checks::same;
 use crate::random::{combined, draw};
 use bittle::{Bits, BitsMut, LittleEndian, Set};
@@ -12,28 +13,23 @@ use bittle_ext::prelude::*;
 fn a_byte_and_a_wider_word(rt: HostRuntime) {
     // Bits 0 and 1 are set, and bits 1, 2 and 8.
     let (byte, word) = (0b0011u8, 0x0106u16);
-    let mut either = byte.iter_union(&word);
-    same!(rt; (either.next(), either.next()), (Some(0), Some(1)));
-    same!(rt; (either.next(), either.next(), either.next()), (Some(2), Some(8), None));
-    let mut both = byte.iter_conjunction(&word);
-    same!(rt; (both.next(), both.next()), (Some(1), None));
-    let mut alone = byte.iter_difference(&word);
-    same!(rt; (alone.next_back(), alone.next_back()), (Some(0), None));
-    let mut one = byte.iter_symmetric_difference(&word);
-    same!(rt; (one.next(), one.next(), one.next(), one.next()), (Some(0), Some(2), Some(8), None));
+    let either = union(&byte, &word, [FRONT; 5]);
+    same!(rt; either, [Some(0), Some(1), Some(2), Some(8), None]);
+    same!(rt; conjunction(&byte, &word, [FRONT; 2]), [Some(1), None]);
+    same!(rt; difference(&byte, &word, [BACK; 2]), [Some(0), None]);
+    let one = symmetric_difference(&byte, &word, [FRONT; 4]);
+    same!(rt; one, [Some(0), Some(2), Some(8), None]);
 }
 
 #[test]
 fn a_byte_and_a_row_of_long_words_from_both_ends(rt: HostRuntime) {
     // Bits 0 and 7 are set, and bits 1, 7, 8 and 64.
     let (byte, row) = (0x81u8, [0x0182u64, 1]);
-    let mut either = byte.iter_union(&row);
-    same!(rt; (either.next(), either.next_back()), (Some(0), Some(64)));
-    same!(rt; (either.next_back(), either.next()), (Some(8), Some(1)));
-    same!(rt; (either.next(), either.next(), either.next_back()), (Some(7), None, None));
-    let mut alone = row.iter_difference(&byte);
-    same!(rt; (alone.next_back(), alone.next(), alone.next()), (Some(64), Some(1), Some(8)));
-    same!(rt; (alone.next(), alone.next_back()), (None, None));
+    let turns = [FRONT, BACK, BACK, FRONT, FRONT, FRONT, BACK];
+    let either = union(&byte, &row, turns);
+    same!(rt; either, [Some(0), Some(64), Some(8), Some(1), Some(7), None, None]);
+    let alone = difference(&row, &byte, [BACK, FRONT, FRONT, FRONT, BACK]);
+    same!(rt; alone, [Some(64), Some(1), Some(8), None, None]);
 }
 
 #[test]
@@ -41,15 +37,11 @@ fn two_rows_each_in_its_own_order(rt: HostRuntime) {
     // Bits 0, 15 and 33 are set, and from the left bits 0, 33 and 63.
     let row = [0x8001u16, 0, 2];
     let set: Set<[u32; 2], LittleEndian> = Set::new_le([0x8000_0000, 0x4000_0001]);
-    let mut either = row.iter_union(&set);
-    same!(rt; (either.next_back(), either.next()), (Some(63), Some(0)));
-    same!(rt; (either.next_back(), either.next(), either.next()), (Some(33), Some(15), None));
-    let mut both = set.iter_conjunction(&row);
-    same!(rt; (both.next(), both.next_back(), both.next()), (Some(0), Some(33), None));
-    let mut first = row.iter_difference(&set);
-    same!(rt; (first.next(), first.next()), (Some(15), None));
-    let mut one = set.iter_symmetric_difference(&row);
-    same!(rt; (one.next_back(), one.next_back(), one.next_back()), (Some(63), Some(15), None));
+    let either = union(&row, &set, [BACK, FRONT, BACK, FRONT, FRONT]);
+    same!(rt; either, [Some(63), Some(0), Some(33), Some(15), None]);
+    same!(rt; conjunction(&set, &row, [FRONT, BACK, FRONT]), [Some(0), Some(33), None]);
+    same!(rt; difference(&row, &set, [FRONT; 2]), [Some(15), None]);
+    same!(rt; symmetric_difference(&set, &row, [BACK; 3]), [Some(63), Some(15), None]);
 }
 
 #[test]
@@ -59,29 +51,27 @@ fn two_widths_from_the_left(rt: HostRuntime) {
         0b1100_0000u8,
         [0x6000_0000_0000_0000u64, 0x8000_0000_0000_0000],
     );
-    let mut either = byte.iter_union_in::<_, LittleEndian>(&row);
-    same!(rt; (either.next(), either.next_back()), (Some(0), Some(64)));
-    same!(rt; (either.next_back(), either.next(), either.next()), (Some(2), Some(1), None));
+    let turns = [FRONT, BACK, BACK, FRONT, FRONT];
+    let either = union_in::<_, _, LittleEndian, 5>(&byte, &row, turns);
+    same!(rt; either, [Some(0), Some(64), Some(2), Some(1), None]);
 }
 
 #[test]
 fn a_capacity_of_no_whole_words_of_the_other(rt: HostRuntime) {
     // Bit 63 is set, and bits 8 and 71 of a capacity of 72.
     let (word, bytes) = (0x8000_0000_0000_0000u64, [0u8, 1, 0, 0, 0, 0, 0, 0, 0x80]);
-    let mut either = word.iter_union(&bytes);
-    same!(rt; (either.next_back(), either.next_back()), (Some(71), Some(63)));
-    same!(rt; (either.next_back(), either.next()), (Some(8), None));
-    let mut both = bytes.iter_conjunction(&word);
-    same!(rt; (both.next(), both.next_back()), (None, None));
+    let either = union(&word, &bytes, [BACK, BACK, BACK, FRONT]);
+    same!(rt; either, [Some(71), Some(63), Some(8), None]);
+    same!(rt; conjunction(&bytes, &word, [FRONT, BACK]), [None, None]);
 }
 
 #[test]
 fn capacity_0(rt: HostRuntime) {
     let (none, wide): ([u8; 0], [u64; 0]) = ([], []);
-    same!(rt; none.iter_union(&wide).next(), None);
-    same!(rt; none.iter_union(&0x8000u16).next(), Some(15));
-    same!(rt; 0x8000u16.iter_symmetric_difference(&none).next_back(), Some(15));
-    same!(rt; wide.iter_difference(&0xFFu8).next_back(), None);
+    same!(rt; union(&none, &wide, [FRONT]), [None]);
+    same!(rt; union(&none, &0x8000u16, [FRONT]), [Some(15)]);
+    same!(rt; symmetric_difference(&0x8000u16, &none, [BACK]), [Some(15)]);
+    same!(rt; difference(&wide, &0xFFu8, [BACK]), [None]);
 }
 
 // Makes the set of what an operation makes of two sets, by a walk from both ends in turn or from

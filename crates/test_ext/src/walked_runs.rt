@@ -1,5 +1,6 @@
 //! Iterators over the longest runs of a set, with values worked out by hand.
 
+use crate::calls::{BACK, FRONT, one_runs, zero_runs};
 use crate::checks::same;
 use bittle::{LittleEndian, Set};
 use bittle_ext::prelude::*;
@@ -31,11 +32,10 @@ fn the_zero_runs_of_a_word(rt: HostRuntime) {
 fn runs_across_the_words_of_nested_rows(rt: HostRuntime) {
     // The members 7 to 16 and 31.
     let rows = [[0x80u8, 0xFF], [0x01, 0x80]];
-    let mut ones = rows.iter_one_runs();
-    same!(rt; (ones.next_back(), ones.next_back()), (Some(31..32), Some(7..17)));
-    same!(rt; (ones.next_back(), ones.next()), (None, None));
-    let mut zeros = rows.iter_zero_runs();
-    same!(rt; (zeros.next(), zeros.next_back(), zeros.next()), (Some(0..7), Some(17..31), None));
+    let ones = one_runs(&rows, [BACK, BACK, BACK, FRONT]);
+    same!(rt; ones, [Some((31, 32)), Some((7, 17)), None, None]);
+    let zeros = zero_runs(&rows, [FRONT, BACK, FRONT]);
+    same!(rt; zeros, [Some((0, 7)), Some((17, 31)), None]);
 }
 
 #[test]
@@ -43,12 +43,10 @@ fn runs_of_a_slice_and_of_a_set(rt: HostRuntime) {
     // The members 7 and 8; from the left 0 and 15.
     let bytes = [0x80u8, 0x01];
     let row: &[u8] = &bytes[..];
-    let mut walk = row.iter_one_runs();
-    same!(rt; (walk.next(), walk.next_back()), (Some(7..9), None));
+    same!(rt; one_runs(&row, [FRONT, BACK]), [Some((7, 9)), None]);
     let set = Set::new_le(bytes);
-    let mut left = set.iter_one_runs();
-    same!(rt; (left.next(), left.next(), left.next()), (Some(0..1), Some(15..16), None));
-    same!(rt; set.iter_zero_runs().next_back(), Some(1..15));
+    same!(rt; one_runs(&set, [FRONT; 3]), [Some((0, 1)), Some((15, 16)), None]);
+    same!(rt; zero_runs(&set, [BACK]), [Some((1, 15))]);
 }
 
 #[test]

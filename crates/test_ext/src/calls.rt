@@ -1,0 +1,246 @@
+//! Calls on sets of any shape, which return what was answered. Such a function is proved once for
+//! each shape, while a call that a test makes itself is proved anew at the shape of the test.
+
+ghost use Rattle.std.specs.Prelude.{◌≤◌, IsTrue};
+ghost use Rattle.bittle.specs.Values.{ShapeFits};
+
+use bittle::prelude::*;
+use bittle::{Bits, BitsMut, Endian};
+use bittle_ext::prelude::*;
+use std::ops::Range;
+
+/// Says that an item is taken from the front.
+pub(crate) const FRONT: bool = true;
+
+/// Says that an item is taken from the back.
+pub(crate) const BACK: bool = false;
+
+/// Takes an item from an end.
+fn item<W: DoubleEndedIterator>(walk: &mut W, at_front: bool) -> Option<W::Item>
+    requires front { (w : W) → W.can_next w }
+    requires back { (w : W) → W.can_next_back w }
+{
+    if at_front {
+        walk.next()
+    } else {
+        walk.next_back()
+    }
+}
+
+/// Takes an item from each of these ends in turn.
+fn taken<W: DoubleEndedIterator<Item = u32>, const N: usize>(
+    walk: &mut W,
+    ends: [bool; N],
+) -> [Option<u32>; N]
+    requires front { (w : W) → W.can_next w }
+    requires back { (w : W) → W.can_next_back w }
+{
+    let mut items = [None; N];
+    for k in 0..N {
+        items[k] = item(walk, ends[k]);
+    }
+    items
+}
+
+/// Takes a run from each of these ends in turn, as where it begins and where it ends.
+fn runs_taken<W: DoubleEndedIterator<Item = Range<u32>>, const N: usize>(
+    walk: &mut W,
+    ends: [bool; N],
+) -> [Option<(u32, u32)>; N]
+    requires front { (w : W) → W.can_next w }
+    requires back { (w : W) → W.can_next_back w }
+{
+    let mut runs = [None; N];
+    for k in 0..N {
+        runs[k] = match item(walk, ends[k]) {
+            Some(run) => Some((run.start, run.end)),
+            None => None,
+        };
+    }
+    runs
+}
+
+/// Walks over the set bits of a range.
+pub(crate) fn ones_in_range<B: Bits, const N: usize>(
+    bits: &B,
+    from: u32,
+    to: u32,
+    ends: [bool; N],
+) -> [Option<u32>; N]
+    requires fits { ShapeFits B.Shape bits.now }
+    requires ordered { from ≤ to }
+    requires within { to ≤ (B.big bits.now).capacity }
+{
+    taken(&mut bits.iter_ones_in_range(from, to), ends)
+}
+
+/// Walks over the set bits of a range, in the order `E`.
+pub(crate) fn ones_in_range_in<B: Bits, E: Endian, const N: usize>(
+    bits: &B,
+    from: u32,
+    to: u32,
+    ends: [bool; N],
+) -> [Option<u32>; N]
+    requires fits { ShapeFits B.Shape bits.now }
+    requires ordered { from ≤ to }
+    requires within { to ≤ (B.big bits.now).capacity }
+{
+    taken(&mut bits.iter_ones_in_range_in::<E>(from, to), ends)
+}
+
+/// Walks over the unset bits of a range.
+pub(crate) fn zeros_in_range<B: Bits, const N: usize>(
+    bits: &B,
+    from: u32,
+    to: u32,
+    ends: [bool; N],
+) -> [Option<u32>; N]
+    requires fits { ShapeFits B.Shape bits.now }
+    requires ordered { from ≤ to }
+    requires within { to ≤ (B.big bits.now).capacity }
+{
+    taken(&mut bits.iter_zeros_in_range(from, to), ends)
+}
+
+/// Walks over the runs of set bits.
+pub(crate) fn one_runs<B: Bits, const N: usize>(
+    bits: &B,
+    ends: [bool; N],
+) -> [Option<(u32, u32)>; N]
+    requires { ShapeFits B.Shape bits.now }
+{
+    runs_taken(&mut bits.iter_one_runs(), ends)
+}
+
+/// Walks over the runs of unset bits.
+pub(crate) fn zero_runs<B: Bits, const N: usize>(
+    bits: &B,
+    ends: [bool; N],
+) -> [Option<(u32, u32)>; N]
+    requires { ShapeFits B.Shape bits.now }
+{
+    runs_taken(&mut bits.iter_zero_runs(), ends)
+}
+
+/// Walks over the indexes in either of two sets.
+pub(crate) fn union<A: Bits, B: Bits, const N: usize>(
+    one: &A,
+    other: &B,
+    ends: [bool; N],
+) -> [Option<u32>; N]
+    requires one_fits { ShapeFits A.Shape one.now }
+    requires other_fits { ShapeFits B.Shape other.now }
+{
+    taken(&mut one.iter_union(other), ends)
+}
+
+/// Walks over the indexes in either of two sets, in the order `E`.
+pub(crate) fn union_in<A: Bits, B: Bits, E: Endian, const N: usize>(
+    one: &A,
+    other: &B,
+    ends: [bool; N],
+) -> [Option<u32>; N]
+    requires one_fits { ShapeFits A.Shape one.now }
+    requires other_fits { ShapeFits B.Shape other.now }
+{
+    taken(&mut one.iter_union_in::<_, E>(other), ends)
+}
+
+/// Walks over the indexes in both of two sets.
+pub(crate) fn conjunction<A: Bits, B: Bits, const N: usize>(
+    one: &A,
+    other: &B,
+    ends: [bool; N],
+) -> [Option<u32>; N]
+    requires one_fits { ShapeFits A.Shape one.now }
+    requires other_fits { ShapeFits B.Shape other.now }
+{
+    taken(&mut one.iter_conjunction(other), ends)
+}
+
+/// Walks over the indexes in the first of two sets alone.
+pub(crate) fn difference<A: Bits, B: Bits, const N: usize>(
+    one: &A,
+    other: &B,
+    ends: [bool; N],
+) -> [Option<u32>; N]
+    requires one_fits { ShapeFits A.Shape one.now }
+    requires other_fits { ShapeFits B.Shape other.now }
+{
+    taken(&mut one.iter_difference(other), ends)
+}
+
+/// Walks over the indexes in just one of two sets.
+pub(crate) fn symmetric_difference<A: Bits, B: Bits, const N: usize>(
+    one: &A,
+    other: &B,
+    ends: [bool; N],
+) -> [Option<u32>; N]
+    requires one_fits { ShapeFits A.Shape one.now }
+    requires other_fits { ShapeFits B.Shape other.now }
+{
+    taken(&mut one.iter_symmetric_difference(other), ends)
+}
+
+/// Returns the first and the last set bit, and the first and the last unset one.
+pub(crate) fn ends<B: Bits>(bits: &B) -> [Option<u32>; 4]
+    requires { ShapeFits B.Shape bits.now }
+{
+    [
+        bits.first_one(),
+        bits.last_one(),
+        bits.first_zero(),
+        bits.last_zero(),
+    ]
+}
+
+/// Counts what two sets have in common, what the first has alone, and in what they differ.
+pub(crate) fn counts<A: Bits, B: Bits>(one: &A, other: &B) -> [u32; 3]
+    requires one_fits { ShapeFits A.Shape one.now }
+    requires other_fits { ShapeFits B.Shape other.now }
+{
+    [
+        one.count_common(other),
+        one.count_alone(other),
+        one.count_different(other),
+    ]
+}
+
+/// Asks whether one set is a subset of another, a superset, disjoint, and whether it intersects.
+pub(crate) fn relations<A: Bits, B: Bits>(one: &A, other: &B) -> [bool; 4]
+    requires one_fits { ShapeFits A.Shape one.now }
+    requires other_fits { ShapeFits B.Shape other.now }
+{
+    [
+        one.is_subset(other),
+        one.is_superset(other),
+        one.is_disjoint(other),
+        one.intersects(other),
+    ]
+}
+
+/// Returns the first index of two sets in common, and the first of the first set alone.
+pub(crate) fn firsts<A: Bits, B: Bits>(one: &A, other: &B) -> [Option<u32>; 2]
+    requires one_fits { ShapeFits A.Shape one.now }
+    requires other_fits { ShapeFits B.Shape other.now }
+{
+    [one.first_common(other), one.first_alone(other)]
+}
+
+/// Inserts each of these indexes, and returns what each call answered.
+pub(crate) fn inserted<B: BitsMut, const N: usize>(set: &mut B, indexes: [u32; N]) -> [bool; N]
+    requires { IsTrue B.indexable }
+{
+    let mut answers = [false; N];
+    for k in 0..N {
+        answers[k] = set.insert(indexes[k]);
+    }
+    answers
+}
+
+/// Flips each bit.
+pub(crate) fn flip<B: BitsMut>(set: &mut B)
+    requires { ShapeFits B.Shape set.old }
+{
+    set.complement_assign();
+}
