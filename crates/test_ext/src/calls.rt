@@ -28,7 +28,7 @@ fn item<W: DoubleEndedIterator>(walk: &mut W, at_front: bool) -> Option<W::Item>
 }
 
 /// Takes an item from each of these ends in turn.
-fn taken<W: DoubleEndedIterator<Item = u32>, const N: usize>(
+pub(crate) fn taken<W: DoubleEndedIterator<Item = u32>, const N: usize>(
     walk: &mut W,
     ends: [bool; N],
 ) -> [Option<u32>; N]
@@ -182,6 +182,37 @@ pub(crate) fn symmetric_difference<A: Bits, B: Bits, const N: usize>(
     taken(&mut one.iter_symmetric_difference(other), ends)
 }
 
+/// Walks over what one of the four operations makes of two sets.
+pub(crate) fn combination<A: Bits, B: Bits, const N: usize>(
+    kind: u32,
+    one: &A,
+    other: &B,
+    ends: [bool; N],
+) -> [Option<u32>; N]
+    requires one_fits { ShapeFits A.Shape one.now }
+    requires other_fits { ShapeFits B.Shape other.now }
+{
+    match kind {
+        0 => union(one, other, ends),
+        1 => conjunction(one, other, ends),
+        2 => difference(one, other, ends),
+        _ => symmetric_difference(one, other, ends),
+    }
+}
+
+/// Makes the set of these items, which are below its capacity.
+pub(crate) fn set_of<B: BitsOwned, const N: usize>(items: [Option<u32>; N]) -> B
+    requires { IsTrue B.indexable }
+{
+    let mut made = B::zeros();
+    for k in 0..N {
+        if let Some(index) = items[k] {
+            made.set_bit(index);
+        }
+    }
+    made
+}
+
 /// Returns the first and the last set bit, and the first and the last unset one.
 pub(crate) fn ends<B: Bits>(bits: &B) -> [Option<u32>; 4]
     requires { ShapeFits B.Shape bits.now }
@@ -204,6 +235,40 @@ pub(crate) fn counts<A: Bits, B: Bits>(one: &A, other: &B) -> [u32; 3]
         one.count_alone(other),
         one.count_different(other),
     ]
+}
+
+/// Counts the same, in the order `E`.
+pub(crate) fn counts_in<A: Bits, B: Bits, E: Endian>(one: &A, other: &B) -> [u32; 3]
+    requires one_fits { ShapeFits A.Shape one.now }
+    requires other_fits { ShapeFits B.Shape other.now }
+{
+    [
+        one.count_common_in::<B, E>(other),
+        one.count_alone_in::<B, E>(other),
+        one.count_different_in::<B, E>(other),
+    ]
+}
+
+/// Returns the ranks of these indexes.
+pub(crate) fn ranks<B: Bits, const N: usize>(bits: &B, indexes: [u32; N]) -> [u32; N]
+    requires { ShapeFits B.Shape bits.now }
+{
+    let mut answers = [0; N];
+    for k in 0..N {
+        answers[k] = bits.rank(indexes[k]);
+    }
+    answers
+}
+
+/// Selects by these ranks.
+pub(crate) fn selected<B: Bits, const N: usize>(bits: &B, ranks: [u32; N]) -> [Option<u32>; N]
+    requires { ShapeFits B.Shape bits.now }
+{
+    let mut answers = [None; N];
+    for k in 0..N {
+        answers[k] = bits.select(ranks[k]);
+    }
+    answers
 }
 
 /// Asks whether one set is a subset of another, a superset, disjoint, and whether it intersects.

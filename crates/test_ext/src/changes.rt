@@ -64,8 +64,8 @@ fn one_bit_of_longer_shapes(rt: HostRuntime) {
     same!(rt; words, [0, 2]);
 }
 
-/// Changes a set of capacity 0 in each way.
-fn never_changed<B: BitsOwned>(rt: &impl Abort, mut none: B)
+/// Changes the bits of a set of capacity 0 in each way.
+fn no_bit_is_changed<B: BitsMut>(rt: &impl Abort, none: &mut B)
     requires { IsTrue B.indexable }
 {
     holds!(*rt; none.insert(3));
@@ -73,16 +73,22 @@ fn never_changed<B: BitsOwned>(rt: &impl Abort, mut none: B)
     holds!(*rt; !none.replace(3, true));
     none.toggle(0);
     none.insert_all(&[1, 2]);
+}
+
+/// Changes a set of capacity 0 as a whole, and takes nothing out.
+fn nothing_is_taken<B: BitsOwned>(mut none: B) -> [Option<u32>; 3]
+    requires { IsTrue B.indexable }
+{
     none.set_range(0, 0);
     none.complement_assign();
-    same!(*rt; (none.pop_first(), none.pop_last()), (None, None));
-    same!(*rt; none.take_first_zero(), None);
+    [none.pop_first(), none.pop_last(), none.take_first_zero()]
 }
 
 #[test]
 fn capacity_0_is_never_changed(rt: HostRuntime) {
-    let none: [u8; 0] = [];
-    never_changed(&rt, none);
+    let mut none: [u8; 0] = [];
+    no_bit_is_changed(&rt, &mut none);
+    same!(rt; nothing_is_taken(none), [None; 3]);
 }
 
 #[test]

@@ -2,7 +2,9 @@
 
 ghost use Rattle.bittle.specs.Values.{ShapeFits};
 
-use crate::calls::{BACK, FRONT, conjunction, difference, symmetric_difference, union, union_in};
+use crate::calls::{
+    BACK, FRONT, conjunction, difference, symmetric_difference, taken, union, union_in,
+};
 use crate::checks::same;
 use bittle::{Bits, LittleEndian};
 use bittle_ext::prelude::*;
@@ -50,8 +52,8 @@ fn source_and_clone<A: Bits, B: Bits>(
     let mut walk = one.iter_union(other);
     let first = walk.next();
     let mut clone = walk.clone().unwrap();
-    let source = [walk.next_back(), walk.next()];
-    let items = [clone.next(), clone.next_back(), clone.next(), clone.next()];
+    let source = taken(&mut walk, [BACK, FRONT]);
+    let items = taken(&mut clone, [FRONT, BACK, FRONT, FRONT]);
     (first, source, items, walk.next())
 }
 

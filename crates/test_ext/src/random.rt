@@ -3,6 +3,7 @@
 ghost use Rattle.std.specs.Prelude.{◌<◌, ◌≤◌, IsTrue};
 ghost use Rattle.bittle.specs.Values.{ShapeFits};
 
+use crate::calls::{BACK, FRONT, combination, one_runs, set_of, zero_runs, zeros_in_range};
 use crate::checks::same;
 use crate::rotations::moved;
 use bittle::{Bits, BitsMut, BitsOwned};
@@ -127,14 +128,13 @@ fn walked<A: BitsOwned, B: Bits>(kind: u32, row: &A, word: &B) -> A
     requires indexable { IsTrue A.indexable }
     requires fits { ShapeFits B.Shape word.now }
 {
-    let mut made = A::zeros();
-    match kind {
-        0 => made.extend(row.iter_union(word)),
-        1 => made.extend(row.iter_conjunction(word)),
-        2 => made.extend(row.iter_difference(word)),
-        _ => made.extend(row.iter_symmetric_difference(word)),
+    if kind == 0 {
+        let mut made = A::zeros();
+        made.extend(row.iter_union(word));
+        made
+    } else {
+        set_of(combination(kind, row, word, [FRONT; 25]))
     }
-    made
 }
 
 #[test]
@@ -163,19 +163,17 @@ fn walked_range<B: BitsOwned>(zeros: bool, row: &B, from: u32, to: u32) -> B
     requires ordered { from ≤ to }
     requires within { to ≤ (B.big row.now).capacity }
 {
-    let mut made = B::zeros();
     if zeros {
-        let mut walk = row.iter_zeros_in_range(from, to);
-        while let Some(first) = walk.next() {
-            made.set_bit(first);
-            if let Some(last) = walk.next_back() {
-                made.set_bit(last);
-            }
+        let mut turns = [FRONT; 25];
+        for k in 0..12usize {
+            turns[2 * k + 1] = BACK;
         }
+        set_of(zeros_in_range(row, from, to, turns))
     } else {
+        let mut made = B::zeros();
         made.extend(row.iter_ones_in_range(from, to).rev());
+        made
     }
-    made
 }
 
 #[test]
@@ -211,15 +209,15 @@ fn walked_runs<B: Bits>(rt: &impl Abort, zeros: bool, row: &B) -> ([bool; 24], [
     requires { ShapeFits B.Shape row.now }
 {
     let (mut firsts, mut lasts) = ([false; 24], [false; 24]);
-    if zeros {
-        for run in row.iter_zero_runs() {
-            mark(rt, &mut firsts, run.start);
-            mark(rt, &mut lasts, run.end.wrapping_sub(1));
-        }
+    let runs = if zeros {
+        zero_runs(row, [FRONT; 13])
     } else {
-        for run in row.iter_one_runs().rev() {
-            mark(rt, &mut firsts, run.start);
-            mark(rt, &mut lasts, run.end.wrapping_sub(1));
+        one_runs(row, [BACK; 13])
+    };
+    for k in 0..13usize {
+        if let Some((start, end)) = runs[k] {
+            mark(rt, &mut firsts, start);
+            mark(rt, &mut lasts, end.wrapping_sub(1));
         }
     }
     (firsts, lasts)

@@ -9,13 +9,10 @@ use bittle_ext::prelude::*;
 fn the_ones_of_a_range_of_a_word(rt: HostRuntime) {
     // The members 1, 5 and 6.
     let word = 0b0110_0010u8;
-    let mut inner = word.iter_ones_in_range(1, 6);
-    same!(rt; (inner.next(), inner.next()), (Some(1), Some(5)));
-    same!(rt; (inner.next(), inner.next_back()), (None, None));
-    let mut all = word.iter_ones_in_range(0, 8);
-    same!(rt; (all.next_back(), all.next_back()), (Some(6), Some(5)));
-    same!(rt; (all.next_back(), all.next_back()), (Some(1), None));
-    same!(rt; (all.next(), all.next_back()), (None, None));
+    let inner = ones_in_range(&word, 1, 6, [FRONT, FRONT, FRONT, BACK]);
+    same!(rt; inner, [Some(1), Some(5), None, None]);
+    let all = ones_in_range(&word, 0, 8, [BACK, BACK, BACK, BACK, FRONT, BACK]);
+    same!(rt; all, [Some(6), Some(5), Some(1), None, None, None]);
 }
 
 #[test]

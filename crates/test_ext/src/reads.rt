@@ -1,10 +1,13 @@
 //! Reading calls, with values worked out by hand.
 
-use crate::calls::{counts, ends, firsts, relations};
+ghost use Rattle.bittle.specs.Values.{ShapeFits};
+
+use crate::calls::{counts, counts_in, ends, firsts, ranks, relations, selected};
 use crate::checks::{holds, same};
 use bittle::prelude::*;
 use bittle::{LittleEndian, Set};
 use bittle_ext::prelude::*;
+use std::process::Abort;
 
 #[test]
 fn ends_of_a_word(rt: HostRuntime) {
@@ -62,11 +65,10 @@ fn neighbours_in_other_words(rt: HostRuntime) {
 #[test]
 fn ranks_and_selection(rt: HostRuntime) {
     let row: [u64; 3] = [u64::MAX, 0, 0b1011];
-    same!(rt; (row.rank(0), row.rank(63), row.rank(64)), (0, 63, 64));
-    same!(rt; (row.rank(128), row.rank(130), row.rank(9999)), (64, 66, 67));
-    same!(rt; (row.select(0), row.select(63), row.select(64)), (Some(0), Some(63), Some(128)));
-    same!(rt; (row.select(65), row.select(66)), (Some(129), Some(131)));
-    same!(rt; (row.select(67), row.select(u32::MAX)), (None, None));
+    same!(rt; ranks(&row, [0, 63, 64, 128, 130, 9999]), [0, 63, 64, 64, 66, 67]);
+    same!(rt; selected(&row, [0, 63, 64]), [Some(0), Some(63), Some(128)]);
+    same!(rt; selected(&row, [65, 66]), [Some(129), Some(131)]);
+    same!(rt; selected(&row, [67, u32::MAX]), [None, None]);
     let none: [u8; 0] = [];
     same!(rt; (none.rank(3), none.select(0)), (0, None));
 }
@@ -194,6 +196,21 @@ fn plain_zero_run(bits: &[bool; 64], from: u32, length: u32) -> Option<u32> {
     None
 }
 
+/// Compares what a set of 64 bits answers with the plain functions.
+fn read_as_plain<B: Bits>(rt: &impl Abort, set: &B, bits: &[bool; 64], from: u32, length: u32)
+    requires { ShapeFits B.Shape set.now }
+{
+    same!(*rt; set.next_one(from), plain_next(bits, from, true));
+    same!(*rt; set.next_zero(from), plain_next(bits, from, false));
+    same!(*rt; set.prev_one(from), plain_prev(bits, from, true));
+    same!(*rt; set.prev_zero(from), plain_prev(bits, from, false));
+    same!(*rt; set.rank(from), plain_rank(bits, from));
+    same!(*rt; set.next_zero_run(from, length), plain_zero_run(bits, from, length));
+    if let Some(index) = set.next_one(from) {
+        same!(*rt; set.select(plain_rank(bits, index)), Some(index));
+    }
+}
+
 #[test]
 fn random_rows_are_read_as_plain_arrays(rt: HostRuntime) {
     let mut state = 1u64;
@@ -211,17 +228,8 @@ fn random_rows_are_read_as_plain_arrays(rt: HostRuntime) {
         state = step(state);
         let from = (state >> 33) as u32 % 70;
         let length = (state >> 40) as u32 % 9 + 1;
-        same!(rt; row.next_one(from), plain_next(&bits, from, true));
-        same!(rt; row.next_zero(from), plain_next(&bits, from, false));
-        same!(rt; row.prev_one(from), plain_prev(&bits, from, true));
-        same!(rt; row.prev_zero(from), plain_prev(&bits, from, false));
-        same!(rt; row.rank(from), plain_rank(&bits, from));
-        same!(rt; word.rank(from), plain_rank(&bits, from));
-        same!(rt; row.next_zero_run(from, length), plain_zero_run(&bits, from, length));
-        if let Some(index) = row.next_one(from) {
-            same!(rt; row.select(plain_rank(&bits, index)), Some(index));
-            same!(rt; word.select(plain_rank(&bits, index)), Some(index));
-        }
+        read_as_plain(&rt, &row, &bits, from, length);
+        read_as_plain(&rt, &word, &bits, from, length);
     }
 }
 
@@ -246,7 +254,8 @@ fn relations_of_like_words(rt: HostRuntime) {
     // Each line asks for a subset, a superset, disjoint, intersecting.
     same!(rt; relations(&short, &long), [true, false, false, true]);
     same!(rt; relations(&long, &short), [false, true, false, true]);
-    same!(rt; (firsts(&long, &short), firsts(&short, &long)), ([Some(0), Some(64)], [Some(0), None]));
+    same!(rt; firsts(&long, &short), [Some(0), Some(64)]);
+    same!(rt; firsts(&short, &long), [Some(0), None]);
     let other: [u32; 1] = [2];
     same!(rt; relations(&long, &other), [false, false, true, false]);
     same!(rt; firsts(&long, &other), [None, Some(0)]);
@@ -272,6 +281,33 @@ fn relations_of_no_capacity(rt: HostRuntime) {
     same!(rt; (5u32.first_alone(&none), none.first_common(&5u32)), (Some(0), None));
 }
 
+/// Returns the first index of two sets in common, and the first of the first alone, one by one.
+fn plain_firsts(ours: &[bool; 64], theirs: &[bool; 64]) -> [Option<u32>; 2] {
+    let mut common = None;
+    let mut alone = None;
+    for k in (0..64usize).rev() {
+        if ours[k] && theirs[k] {
+            common = Some(k as u32);
+        }
+        if ours[k] && !theirs[k] {
+            alone = Some(k as u32);
+        }
+    }
+    [common, alone]
+}
+
+/// Compares how a set stands to another with the plain function.
+fn stand_as_plain<A: Bits, B: Bits>(rt: &impl Abort, one: &A, other: &B, expected: [Option<u32>; 2])
+    requires one_fits { ShapeFits A.Shape one.now }
+    requires other_fits { ShapeFits B.Shape other.now }
+{
+    let [common, alone] = expected;
+    same!(*rt; firsts(one, other), [common, alone]);
+    same!(*rt; one.is_subset(other), alone == None);
+    same!(*rt; one.is_disjoint(other), common == None);
+    same!(*rt; one.intersects(other), common != None);
+}
+
 #[test]
 fn random_rows_stand_as_plain_arrays_do(rt: HostRuntime) {
     let mut state = 7u64;
@@ -287,22 +323,9 @@ fn random_rows_stand_as_plain_arrays_do(rt: HostRuntime) {
         let row = second.to_le_bytes();
         let ours = plain(&first.to_le_bytes());
         let theirs = plain(&row);
-        let mut common = None;
-        let mut alone = None;
-        for k in (0..64usize).rev() {
-            if ours[k] && theirs[k] {
-                common = Some(k as u32);
-            }
-            if ours[k] && !theirs[k] {
-                alone = Some(k as u32);
-            }
-        }
-        same!(rt; (first.first_common(&second), first.first_common(&row)), (common, common));
-        same!(rt; (first.first_alone(&second), first.first_alone(&row)), (alone, alone));
-        same!(rt; first.is_subset(&second), alone == None);
-        same!(rt; first.is_subset(&row), alone == None);
-        same!(rt; first.is_disjoint(&row), common == None);
-        same!(rt; first.intersects(&row), common != None);
+        let expected = plain_firsts(&ours, &theirs);
+        stand_as_plain(&rt, &first, &second, expected);
+        stand_as_plain(&rt, &first, &row, expected);
     }
 }
 
@@ -319,11 +342,10 @@ fn counts_of_two_sets(rt: HostRuntime) {
 
 #[test]
 fn counts_in_each_order(rt: HostRuntime) {
-    same!(rt; 0x81u8.count_common_in::<u16, LittleEndian>(&0x8000), 1);
-    same!(rt; 0x81u8.count_alone_in::<u16, LittleEndian>(&0x8000), 1);
-    same!(rt; 0x81u8.count_different_in::<u16, LittleEndian>(&0x8001), 2);
-    same!(rt; Set::new_le(0xC0u8).count_common(&3u8), 2);
+    // From the left the members 0 and 7, and the member 0, then 0 and 15.
+    same!(rt; counts_in::<u8, u16, LittleEndian>(&0x81, &0x8000), [1, 1, 1]);
+    same!(rt; counts_in::<u8, u16, LittleEndian>(&0x81, &0x8001), [1, 1, 2]);
+    same!(rt; counts(&Set::new_le(0xC0u8), &3u8), [2, 0, 0]);
     let none: [u8; 0] = [];
-    same!(rt; (none.count_common(&7u8), none.count_alone(&7u8)), (0, 0));
-    same!(rt; none.count_different(&7u8), 3);
+    same!(rt; counts(&none, &7u8), [0, 0, 3]);
 }

@@ -70,24 +70,35 @@ fn a_row_from_the_left(rt: HostRuntime) {
     same!(rt; row.shifted_down_in::<LittleEndian>(7), [0x80, 0x40, 0]);
 }
 
+// Returns the set rotated down, rotated up, shifted down and shifted up, each by its distance.
+fn moved_each_way<B: BitsOwned>(set: B, by: [u32; 4]) -> [B; 4]
+    requires { IsTrue B.indexable }
+{
+    [
+        moved(0, set, by[0]),
+        moved(1, set, by[1]),
+        moved(2, set, by[2]),
+        moved(3, set, by[3]),
+    ]
+}
+
 #[test]
 fn nested_rows(rt: HostRuntime) {
     // The members 0 and 63.
-    let rows = [[1u16, 0], [0, 0x8000]];
-    same!(rt; rows.rotated_up(17), [[0, 3], [0, 0]]);
-    same!(rt; rows.rotated_down(33), [[0, 0xC000], [0, 0]]);
-    same!(rt; rows.shifted_down(48), [[0x8000, 0], [0, 0]]);
+    let rows = moved_each_way([[1u16, 0], [0, 0x8000]], [33, 17, 48, 1]);
+    same!(rt; (rows[0], rows[1]), ([[0, 0xC000], [0, 0]], [[0, 3], [0, 0]]));
+    same!(rt; (rows[2], rows[3]), ([[0x8000, 0], [0, 0]], [[2, 0], [0, 0]]));
 }
 
 #[test]
 fn sets(rt: HostRuntime) {
     // The members 0 and 47.
-    let left = Set::new_le([0x8000u16, 0, 1]);
-    same!(rt; left.rotated_up(1).into_bits(), [0xC000, 0, 0]);
-    same!(rt; left.shifted_down(16).into_bits(), [0, 1, 0]);
-    let right = Set::new([1u16, 0, 0x8000]);
-    same!(rt; right.rotated_down(16).into_bits(), [0, 0x8000, 1]);
-    same!(rt; right.shifted_up(33).into_bits(), [0, 0, 2]);
+    let [down, up, below, above] = moved_each_way(Set::new_le([0x8000u16, 0, 1]), [16, 1, 16, 33]);
+    same!(rt; (down.into_bits(), up.into_bits()), ([0, 1, 0x8000], [0xC000, 0, 0]));
+    same!(rt; (below.into_bits(), above.into_bits()), ([0, 1, 0], [0, 0, 0x4000]));
+    let [down, up, below, above] = moved_each_way(Set::new([1u16, 0, 0x8000]), [16, 1, 16, 33]);
+    same!(rt; (down.into_bits(), up.into_bits()), ([0, 0x8000, 1], [3, 0, 0]));
+    same!(rt; (below.into_bits(), above.into_bits()), ([0, 0x8000, 0], [0, 0, 2]));
 }
 
 // Returns where a bit is moved in one of four ways, unless it is left out.

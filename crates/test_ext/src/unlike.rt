@@ -3,7 +3,10 @@
 
 ghost use Rattle.bittle.specs.Values.{ShapeFits};
 
-use crate::calls::{BACK, FRONT, conjunction, difference, symmetric_difference, union, union_in};
+use crate::calls::{
+    BACK, FRONT, combination, conjunction, difference, set_of, symmetric_difference, union,
+    union_in,
+};
 use crate::checks::same;
 use crate::random::{combined, draw};
 use bittle::{Bits, BitsMut, LittleEndian, Set};
@@ -80,22 +83,18 @@ fn walked<A: Bits, B: Bits>(kind: u32, one: &A, other: &B) -> [u64; 2]
     requires one_fits { ShapeFits A.Shape one.now }
     requires other_fits { ShapeFits B.Shape other.now }
 {
-    let mut made = [0u64; 2];
-    match kind {
-        0 => {
-            let mut walk = one.iter_union(other);
-            while let Some(first) = walk.next() {
-                made.set_bit(first);
-                if let Some(last) = walk.next_back() {
-                    made.set_bit(last);
-                }
-            }
-        }
-        1 => made.extend(one.iter_conjunction(other).rev()),
-        2 => made.extend(one.iter_difference(other)),
-        _ => made.extend(one.iter_symmetric_difference(other).rev()),
+    if kind == 1 {
+        let mut made = [0u64; 2];
+        made.extend(one.iter_conjunction(other).rev());
+        return made;
     }
-    made
+    let mut turns = [kind != 3; 129];
+    if kind == 0 {
+        for k in 0..64usize {
+            turns[2 * k + 1] = BACK;
+        }
+    }
+    set_of(combination(kind, one, other, turns))
 }
 
 // Makes the same by a test of each bit of both.
