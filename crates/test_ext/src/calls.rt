@@ -272,7 +272,7 @@ pub(crate) fn selected<B: Bits, const N: usize>(bits: &B, ranks: [u32; N]) -> [O
 }
 
 /// Asks whether one set is a subset of another, a superset, disjoint, and whether it intersects.
-pub(crate) fn relations<A: Bits, B: Bits>(one: &A, other: &B) -> [bool; 4]
+fn relations<A: Bits, B: Bits>(one: &A, other: &B) -> [bool; 4]
     requires one_fits { ShapeFits A.Shape one.now }
     requires other_fits { ShapeFits B.Shape other.now }
 {
@@ -282,6 +282,14 @@ pub(crate) fn relations<A: Bits, B: Bits>(one: &A, other: &B) -> [bool; 4]
         one.is_disjoint(other),
         one.intersects(other),
     ]
+}
+
+/// Returns how one set stands to another: the four relations, and then the two first indexes.
+pub(crate) fn stand<A: Bits, B: Bits>(one: &A, other: &B) -> ([bool; 4], [Option<u32>; 2])
+    requires one_fits { ShapeFits A.Shape one.now }
+    requires other_fits { ShapeFits B.Shape other.now }
+{
+    (relations(one, other), firsts(one, other))
 }
 
 /// Returns the first index of two sets in common, and the first of the first set alone.

@@ -4,7 +4,7 @@ ghost use Rattle.std.specs.Prelude.{IsTrue};
 
 use crate::checks::same;
 use bittle::prelude::*;
-use bittle::{LittleEndian, Set};
+use bittle::{Endian, LittleEndian, Set};
 use bittle_ext::prelude::*;
 
 /// Returns the complement of a set.
@@ -14,11 +14,18 @@ fn complement_of<B: BitsOwned>(set: B) -> B
     set.complement()
 }
 
+/// Returns the bits of the complement of a set.
+fn complement_of_set<T: BitsOwned, E: Endian>(set: Set<T, E>) -> T
+    requires { IsTrue T.indexable }
+{
+    set.complement().into_bits()
+}
+
 #[test]
 fn complements(rt: HostRuntime) {
     same!(rt; complement_of([0xFFu8, 0x0F]), [0x00, 0xF0]);
     same!(rt; complement_of(1i8), -2);
-    same!(rt; complement_of(Set::new_le(0xF0u8)).into_bits(), 0x0F);
+    same!(rt; complement_of_set(Set::new_le(0xF0u8)), 0x0F);
     let none: [u8; 0] = [];
     same!(rt; complement_of(none), none);
 }

@@ -16,6 +16,13 @@ pub(crate) fn draw(state: &mut u32) -> u32 {
     *state >> 8
 }
 
+// Draws a row.
+fn draw_row(state: &mut u32) -> [u8; 3] {
+    let one = (draw(state) % 256) as u8;
+    let two = (draw(state) % 256) as u8;
+    [one, two, (draw(state) % 256) as u8]
+}
+
 // Returns the flags of a row, bit by bit.
 fn flags_of(row: &[u8; 3]) -> [bool; 24] {
     let mut flags = [false; 24];
@@ -78,10 +85,8 @@ fn change_range<B: BitsMut>(kind: u32, from: u32, to: u32, row: &mut B, flags: &
     }
 }
 
-// Takes an end out of both, or takes a free slot.
-fn take_one<B: BitsMut>(rt: &impl Abort, kind: u32, row: &mut B, flags: &mut [bool; 24])
-    requires { ShapeFits B.Shape row.old }
-{
+// Takes an end out of flags, or takes a free slot.
+fn take_flag(kind: u32, flags: &mut [bool; 24]) -> Option<u32> {
     let mut found = None;
     for i in 0..24usize {
         let at = if kind == 1 { 23 - i } else { i };
@@ -90,6 +95,14 @@ fn take_one<B: BitsMut>(rt: &impl Abort, kind: u32, row: &mut B, flags: &mut [bo
             found = Some(at as u32);
         }
     }
+    found
+}
+
+// Takes an end out of both, or takes a free slot.
+fn take_one<B: BitsMut>(rt: &impl Abort, kind: u32, row: &mut B, flags: &mut [bool; 24])
+    requires { ShapeFits B.Shape row.old }
+{
+    let found = take_flag(kind, flags);
     let taken = match kind {
         0 => row.pop_first(),
         1 => row.pop_last(),
@@ -142,11 +155,7 @@ fn drawn_combinations_agree_with_plain_loops(rt: HostRuntime) {
     let mut state = 7;
     for _ in 0..2000 {
         let kind = draw(&mut state) % 4;
-        let (one, two) = (
-            (draw(&mut state) % 256) as u8,
-            (draw(&mut state) % 256) as u8,
-        );
-        let row = [one, two, (draw(&mut state) % 256) as u8];
+        let row = draw_row(&mut state);
         let word = (draw(&mut state) % 256) as u8;
         let (ours, theirs) = (flags_of(&row), flags_of(&[word, 0, 0]));
         let mut expected = [false; 24];
@@ -180,11 +189,7 @@ fn walked_range<B: BitsOwned>(zeros: bool, row: &B, from: u32, to: u32) -> B
 fn drawn_ranges_agree_with_plain_loops(rt: HostRuntime) {
     let mut state = 11;
     for turn in 0..1000u32 {
-        let row = [
-            (draw(&mut state) % 256) as u8,
-            (draw(&mut state) % 256) as u8,
-            (draw(&mut state) % 256) as u8,
-        ];
+        let row = draw_row(&mut state);
         let (one, other) = (draw(&mut state) % 25, draw(&mut state) % 25);
         let (from, to, zeros) = (one.min(other), one.max(other), turn % 2 == 0);
         let mut expected = [false; 24];
@@ -227,11 +232,7 @@ fn walked_runs<B: Bits>(rt: &impl Abort, zeros: bool, row: &B) -> ([bool; 24], [
 fn drawn_runs_agree_with_plain_loops(rt: HostRuntime) {
     let mut state = 13;
     for turn in 0..1000u32 {
-        let row = [
-            (draw(&mut state) % 256) as u8,
-            (draw(&mut state) % 256) as u8,
-            (draw(&mut state) % 256) as u8,
-        ];
+        let row = draw_row(&mut state);
         let (flags, zeros) = (flags_of(&row), turn % 2 == 0);
         let (mut firsts, mut lasts) = ([false; 24], [false; 24]);
         for i in 0..24usize {
@@ -260,11 +261,7 @@ fn flag_after(kind: u32, flags: &[bool; 24], at: usize, by: usize) -> bool
 fn drawn_rotations_agree_with_plain_loops(rt: HostRuntime) {
     let mut state = 17;
     for _ in 0..2000 {
-        let row = [
-            (draw(&mut state) % 256) as u8,
-            (draw(&mut state) % 256) as u8,
-            (draw(&mut state) % 256) as u8,
-        ];
+        let row = draw_row(&mut state);
         let (kind, by) = (draw(&mut state) % 4, draw(&mut state) % 50);
         let flags = flags_of(&row);
         let mut expected = [false; 24];

@@ -2,7 +2,7 @@
 
 ghost use Rattle.bittle.specs.Values.{ShapeFits};
 
-use crate::calls::{counts, counts_in, ends, firsts, ranks, relations, selected};
+use crate::calls::{counts, counts_in, ends, firsts, ranks, selected, stand};
 use crate::checks::{holds, same};
 use bittle::prelude::*;
 use bittle::{LittleEndian, Set};
@@ -236,29 +236,27 @@ fn random_rows_are_read_as_plain_arrays(rt: HostRuntime) {
 #[test]
 fn relations_of_two_shapes(rt: HostRuntime) {
     let row: [u8; 8] = [0b0110, 0, 0, 0, 0, 0, 0, 1];
-    // The members 1, 2 and 56. Each line asks for a subset, a superset, disjoint, intersecting.
-    same!(rt; relations(&0b0110u64, &row), [true, false, false, true]);
-    same!(rt; relations(&0b0111u64, &row), [false, false, false, true]);
-    same!(rt; relations(&0b1001u64, &row), [false, false, true, false]);
-    same!(rt; relations(&row, &6u8), [false, true, false, true]);
-    same!(rt; relations(&row, &0b1100u16), [false, false, false, true]);
-    same!(rt; firsts(&row, &0b1100u16), [Some(2), Some(1)]);
-    same!(rt; (firsts(&row, &6u8), firsts(&6u8, &row)), ([Some(1), Some(56)], [Some(1), None]));
-    same!(rt; firsts(&0b1110u32, &row), [Some(1), Some(3)]);
+    // The members 1, 2 and 56. Each line asks for a subset, a superset, disjoint, intersecting,
+    // and for the first index of both and of the first alone.
+    same!(rt; stand(&0b0110u64, &row), ([true, false, false, true], [Some(1), None]));
+    same!(rt; stand(&0b0111u64, &row), ([false, false, false, true], [Some(1), Some(0)]));
+    same!(rt; stand(&0b1001u64, &row), ([false, false, true, false], [None, Some(0)]));
+    same!(rt; stand(&row, &6u8), ([false, true, false, true], [Some(1), Some(56)]));
+    same!(rt; stand(&row, &0b1100u16), ([false, false, false, true], [Some(2), Some(1)]));
+    same!(rt; stand(&6u8, &row), ([true, false, false, true], [Some(1), None]));
+    same!(rt; stand(&0b1110u32, &row), ([false, false, false, true], [Some(1), Some(3)]));
 }
 
 #[test]
 fn relations_of_like_words(rt: HostRuntime) {
     let long: [u32; 3] = [1, 0, 1];
     let short: [u32; 2] = [1, 0];
-    // Each line asks for a subset, a superset, disjoint, intersecting.
-    same!(rt; relations(&short, &long), [true, false, false, true]);
-    same!(rt; relations(&long, &short), [false, true, false, true]);
-    same!(rt; firsts(&long, &short), [Some(0), Some(64)]);
-    same!(rt; firsts(&short, &long), [Some(0), None]);
+    // Each line asks for a subset, a superset, disjoint, intersecting, and for the first index of
+    // both and of the first alone.
+    same!(rt; stand(&short, &long), ([true, false, false, true], [Some(0), None]));
+    same!(rt; stand(&long, &short), ([false, true, false, true], [Some(0), Some(64)]));
     let other: [u32; 1] = [2];
-    same!(rt; relations(&long, &other), [false, false, true, false]);
-    same!(rt; firsts(&long, &other), [None, Some(0)]);
+    same!(rt; stand(&long, &other), ([false, false, true, false], [None, Some(0)]));
 }
 
 #[test]

@@ -90,15 +90,22 @@ fn nested_rows(rt: HostRuntime) {
     same!(rt; (rows[2], rows[3]), ([[0x8000, 0], [0, 0]], [[2, 0], [0, 0]]));
 }
 
+// Returns the bits of a set moved in one of four ways.
+fn set_moved<T: BitsOwned, E: Endian>(way: u32, set: Set<T, E>, by: u32) -> T
+    requires { IsTrue T.indexable }
+{
+    moved(way, set, by).into_bits()
+}
+
 #[test]
 fn sets(rt: HostRuntime) {
     // The members 0 and 47.
-    let [down, up, below, above] = moved_each_way(Set::new_le([0x8000u16, 0, 1]), [16, 1, 16, 33]);
-    same!(rt; (down.into_bits(), up.into_bits()), ([0, 1, 0x8000], [0xC000, 0, 0]));
-    same!(rt; (below.into_bits(), above.into_bits()), ([0, 1, 0], [0, 0, 0x4000]));
-    let [down, up, below, above] = moved_each_way(Set::new([1u16, 0, 0x8000]), [16, 1, 16, 33]);
-    same!(rt; (down.into_bits(), up.into_bits()), ([0, 0x8000, 1], [3, 0, 0]));
-    same!(rt; (below.into_bits(), above.into_bits()), ([0, 0x8000, 0], [0, 0, 2]));
+    let left = Set::new_le([0x8000u16, 0, 1]);
+    same!(rt; set_moved(1, left, 1), [0xC000, 0, 0]);
+    same!(rt; set_moved(2, left, 16), [0, 1, 0]);
+    let right = Set::new([1u16, 0, 0x8000]);
+    same!(rt; set_moved(0, right, 16), [0, 0x8000, 1]);
+    same!(rt; set_moved(3, right, 33), [0, 0, 2]);
 }
 
 // Returns where a bit is moved in one of four ways, unless it is left out.
