@@ -293,7 +293,7 @@ pub(crate) fn stand<A: Bits, B: Bits>(one: &A, other: &B) -> ([bool; 4], [Option
 }
 
 /// Returns the first index of two sets in common, and the first of the first set alone.
-pub(crate) fn firsts<A: Bits, B: Bits>(one: &A, other: &B) -> [Option<u32>; 2]
+fn firsts<A: Bits, B: Bits>(one: &A, other: &B) -> [Option<u32>; 2]
     requires one_fits { ShapeFits A.Shape one.now }
     requires other_fits { ShapeFits B.Shape other.now }
 {

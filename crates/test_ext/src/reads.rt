@@ -2,7 +2,7 @@
 
 ghost use Rattle.bittle.specs.Values.{ShapeFits};
 
-use crate::calls::{counts, counts_in, ends, firsts, ranks, selected, stand};
+use crate::calls::{counts, counts_in, ends, ranks, selected, stand};
 use crate::checks::{holds, same};
 use bittle::prelude::*;
 use bittle::{LittleEndian, Set};
@@ -300,10 +300,11 @@ fn stand_as_plain<A: Bits, B: Bits>(rt: &impl Abort, one: &A, other: &B, expecte
     requires other_fits { ShapeFits B.Shape other.now }
 {
     let [common, alone] = expected;
-    same!(*rt; firsts(one, other), [common, alone]);
-    same!(*rt; one.is_subset(other), alone == None);
-    same!(*rt; one.is_disjoint(other), common == None);
-    same!(*rt; one.intersects(other), common != None);
+    let ([is_subset, _, is_disjoint, intersects], firsts) = stand(one, other);
+    same!(*rt; firsts, expected);
+    same!(*rt; is_subset, alone == None);
+    same!(*rt; is_disjoint, common == None);
+    same!(*rt; intersects, common != None);
 }
 
 #[test]
