@@ -6,6 +6,7 @@ use crate::checks::{holds, same};
 use bittle::prelude::*;
 use bittle::{BigEndian, LittleEndian, set};
 use std::alloc::AllocError;
+use std::process::Abort;
 use std::test::Fail;
 
 // Whether a step of an iterator from the front, or else from the back, returns this.
@@ -60,36 +61,75 @@ struct Expected<'a> {
     zeros_le: &'a [u32],
 }
 
+// Whether each of two iterators yields these items.
+fn both_give<W: DoubleEndedIterator<Item = u32> + Clone>(one: W, other: W, items: &[u32]) -> bool
+    requires front { (w : W) → W.can_next w }
+    requires back { (w : W) → W.can_next_back w }
+{
+    gives(one, items) & gives(other, items)
+}
+
+// Whether each of three iterators yields these items.
+fn all_give<W: DoubleEndedIterator<Item = u32> + Clone>(
+    one: W,
+    other: W,
+    third: W,
+    items: &[u32],
+) -> bool
+    requires front { (w : W) → W.can_next w }
+    requires back { (w : W) → W.can_next_back w }
+{
+    gives(one, items) & gives(other, items) & gives(third, items)
+}
+
 // Each borrowing form once.
 fn borrowed<B: Bits<Order = BigEndian>>(bits: &B, expected: &Expected<'_>) -> bool
     requires { ShapeFits B.Shape bits.now }
 {
-    gives(bits.iter_ones(), expected.ones_be)
-        && gives(bits.iter_ones_in::<BigEndian>(), expected.ones_be)
-        && gives(bits.iter_ones_be(), expected.ones_be)
-        && gives(bits.iter_ones_in::<LittleEndian>(), expected.ones_le)
-        && gives(bits.iter_ones_le(), expected.ones_le)
-        && gives(bits.iter_zeros(), expected.zeros_be)
-        && gives(bits.iter_zeros_in::<BigEndian>(), expected.zeros_be)
-        && gives(bits.iter_zeros_be(), expected.zeros_be)
-        && gives(bits.iter_zeros_in::<LittleEndian>(), expected.zeros_le)
-        && gives(bits.iter_zeros_le(), expected.zeros_le)
+    all_give(
+        bits.iter_ones(),
+        bits.iter_ones_in::<BigEndian>(),
+        bits.iter_ones_be(),
+        expected.ones_be,
+    ) && both_give(
+        bits.iter_ones_in::<LittleEndian>(),
+        bits.iter_ones_le(),
+        expected.ones_le,
+    ) && all_give(
+        bits.iter_zeros(),
+        bits.iter_zeros_in::<BigEndian>(),
+        bits.iter_zeros_be(),
+        expected.zeros_be,
+    ) && both_give(
+        bits.iter_zeros_in::<LittleEndian>(),
+        bits.iter_zeros_le(),
+        expected.zeros_le,
+    )
 }
 
 // Each owning form once.
 fn owned<B: BitsOwned<Order = BigEndian>>(bits: B, expected: &Expected<'_>) -> bool
     requires { ShapeFits B.Shape bits }
 {
-    gives(bits.into_iter_ones(), expected.ones_be)
-        && gives(bits.into_iter_ones_in::<BigEndian>(), expected.ones_be)
-        && gives(bits.into_iter_ones_be(), expected.ones_be)
-        && gives(bits.into_iter_ones_in::<LittleEndian>(), expected.ones_le)
-        && gives(bits.into_iter_ones_le(), expected.ones_le)
-        && gives(bits.into_iter_zeros(), expected.zeros_be)
-        && gives(bits.into_iter_zeros_in::<BigEndian>(), expected.zeros_be)
-        && gives(bits.into_iter_zeros_be(), expected.zeros_be)
-        && gives(bits.into_iter_zeros_in::<LittleEndian>(), expected.zeros_le)
-        && gives(bits.into_iter_zeros_le(), expected.zeros_le)
+    all_give(
+        bits.into_iter_ones(),
+        bits.into_iter_ones_in::<BigEndian>(),
+        bits.into_iter_ones_be(),
+        expected.ones_be,
+    ) && both_give(
+        bits.into_iter_ones_in::<LittleEndian>(),
+        bits.into_iter_ones_le(),
+        expected.ones_le,
+    ) && all_give(
+        bits.into_iter_zeros(),
+        bits.into_iter_zeros_in::<BigEndian>(),
+        bits.into_iter_zeros_be(),
+        expected.zeros_be,
+    ) && both_give(
+        bits.into_iter_zeros_in::<LittleEndian>(),
+        bits.into_iter_zeros_le(),
+        expected.zeros_le,
+    )
 }
 
 #[test]
@@ -174,18 +214,58 @@ fn owned_walks_tell_not_how_many_items_are_left(rt: HostRuntime) {
     holds!(rt; tells_nothing((-2i8).into_iter_zeros()));
 }
 
-// What an iterator yields from the front.
-fn front<W: Iterator<Item = u32>>(walk: &mut W) -> Option<u32>
-    requires { (w : W) → W.can_next w }
-{
-    walk.next()
+// The end of an iterator that a step is taken at.
+#[derive(Clone, Copy)]
+enum End {
+    Front,
+    Back,
 }
 
-// What an iterator yields from the back.
-fn back<W: DoubleEndedIterator<Item = u32>>(walk: &mut W) -> Option<u32>
-    requires { (w : W) → W.can_next_back w }
+// Asks for a step of an iterator.
+fn take<W: DoubleEndedIterator<Item = u32>>(
+    rt: &impl Abort,
+    walk: &mut W,
+    end: End,
+    item: Option<u32>,
+)
+    requires front { (w : W) → W.can_next w }
+    requires back { (w : W) → W.can_next_back w }
 {
-    walk.next_back()
+    match end {
+        End::Front => same!(rt; walk.next(), item),
+        End::Back => same!(rt; walk.next_back(), item),
+    }
+}
+
+// An iterator, or the clone that was taken of it.
+#[derive(Clone, Copy)]
+enum Taker {
+    Source,
+    Clone,
+}
+
+// Asks for the first steps of an iterator, and then for steps of it and of its clone in turn.
+fn go_on_apart<W: DoubleEndedIterator<Item = u32> + Clone>(
+    rt: &impl Abort,
+    mut walk: W,
+    before: &[(End, Option<u32>)],
+    after: &[(Taker, End, Option<u32>)],
+) -> Result<(), AllocError>
+    requires front { (w : W) → W.can_next w }
+    requires back { (w : W) → W.can_next_back w }
+{
+    for (end, item) in before {
+        take(rt, &mut walk, *end, *item);
+    }
+    let clone: Result<W, AllocError> = walk.clone();
+    let mut clone = clone?;
+    for (taker, end, item) in after {
+        match taker {
+            Taker::Source => take(rt, &mut walk, *end, *item),
+            Taker::Clone => take(rt, &mut clone, *end, *item),
+        }
+    }
+    Ok(())
 }
 
 fn four_members() -> [u32; 4] {
@@ -195,35 +275,36 @@ fn four_members() -> [u32; 4] {
 #[test]
 fn a_clone_taken_midway(rt: HostRuntime) -> Result<(), Fail> {
     let row = four_members();
-    let mut walk = row.iter_ones();
-    same!(rt; front(&mut walk), Some(4));
-    let mut other = walk.clone()?;
-    same!(rt; back(&mut walk), Some(127));
-    same!(rt; front(&mut walk), Some(67));
-    same!(rt; front(&mut walk), Some(71));
-    same!(rt; front(&mut walk), None);
-    same!(rt; front(&mut other), Some(67));
-    same!(rt; back(&mut other), Some(127));
-    same!(rt; front(&mut other), Some(71));
-    same!(rt; front(&mut other), None);
+    let before = [(End::Front, Some(4))];
+    let after = [
+        (Taker::Source, End::Back, Some(127)),
+        (Taker::Source, End::Front, Some(67)),
+        (Taker::Source, End::Front, Some(71)),
+        (Taker::Source, End::Front, None),
+        (Taker::Clone, End::Front, Some(67)),
+        (Taker::Clone, End::Back, Some(127)),
+        (Taker::Clone, End::Front, Some(71)),
+        (Taker::Clone, End::Front, None),
+    ];
+    go_on_apart(&rt, row.iter_ones(), &before, &after)?;
     Ok(())
 }
 
 #[test]
 fn a_clone_goes_on_apart(rt: HostRuntime) -> Result<(), Fail> {
     let bits = [0b1001_0010u8, 0, 0b0000_0101];
-    let mut walk = bits.iter_ones();
-    same!(rt; front(&mut walk), Some(1));
-    same!(rt; back(&mut walk), Some(18));
-    let mut other = walk.clone()?;
-    same!(rt; front(&mut walk), Some(4));
-    same!(rt; back(&mut other), Some(16));
-    same!(rt; back(&mut other), Some(7));
-    same!(rt; back(&mut walk), Some(16));
-    same!(rt; back(&mut other), Some(4));
-    same!(rt; front(&mut other), None);
-    same!(rt; front(&mut walk), Some(7));
-    same!(rt; front(&mut walk), None);
+    let before = [(End::Front, Some(1)), (End::Back, Some(18))];
+    let after = [
+        (Taker::Source, End::Front, Some(4)),
+        (Taker::Clone, End::Back, Some(16)),
+        (Taker::Clone, End::Back, Some(7)),
+        (Taker::Source, End::Back, Some(16)),
+        (Taker::Clone, End::Back, Some(4)),
+        (Taker::Clone, End::Front, None),
+        (Taker::Source, End::Front, Some(7)),
+        (Taker::Source, End::Front, None),
+    ];
+    go_on_apart(&rt, bits.iter_ones(), &before, &after)?;
     Ok(())
 }
 
