@@ -5,6 +5,14 @@ ghost use Rattle.std.specs.Prelude.{IsTrue};
 use crate::checks::{holds, same};
 use bittle::prelude::*;
 use bittle::{LittleEndian, Set, set, set_be, set_le};
+use std::process::Abort;
+
+// Asks for the words of lists, each by its name.
+fn each_is(rt: &impl Abort, lists: &[(&str, u8, u8)]) {
+    for (list, word, want) in lists {
+        same!(rt; (*list, *word), (*list, *want));
+    }
+}
 
 // One list in the order of the type, in little-endian and in big-endian order.
 fn three_indexes() -> [u8; 3] {
@@ -22,9 +30,7 @@ fn words_of_lists(rt: HostRuntime) {
         ("indexes in big-endian order", big, 0b0000_1011),
         ("an expression", set![index / 2, index + 1], 0b0010_0100),
     ];
-    for (list, word, want) in lists {
-        same!(rt; (list, word), (list, want));
-    }
+    each_is(&rt, &lists);
 }
 
 /// A field that holds an index.
@@ -80,9 +86,7 @@ fn words_of_ranges(rt: HostRuntime) {
         ("reversed ranges", reversed_ranges(), 0),
         ("one index as a range", set![3..=3], 0b0000_1000),
     ];
-    for (list, word, want) in lists {
-        same!(rt; (list, word), (list, want));
-    }
+    each_is(&rt, &lists);
 }
 
 // Ranges that end at the greatest index, or before it.
@@ -109,16 +113,16 @@ fn words_of_ranges_past_the_capacity(rt: HostRuntime) {
             195,
         ),
     ];
-    for (list, word, want) in lists {
-        same!(rt; (list, word), (list, want));
-    }
+    each_is(&rt, &lists);
 }
 
-// The set of 1 and 12, by a list and by calls.
-fn listed_and_called<B: BitsOwned>() -> (B, B)
+// The set of 1 and 12, by a list, which is asked to be the one by calls.
+fn listed_as_called<B: BitsOwned>(rt: &impl Abort) -> B
     requires { IsTrue B.indexable }
 {
-    (set![1, 12], B::zeros().with_bit(1).with_bit(12))
+    let listed: B = set![1, 12];
+    holds!(rt; listed == B::zeros().with_bit(1).with_bit(12));
+    listed
 }
 
 // Two arrays of a list.
@@ -136,9 +140,8 @@ fn counts_of_three() -> (u32, u32) {
 fn other_types(rt: HostRuntime) {
     let signed: i8 = set_le![0];
     same!(rt; signed, i8::MIN);
-    let (listed, called) = listed_and_called::<Set<u16, LittleEndian>>();
+    let listed = listed_as_called::<Set<u16, LittleEndian>>(&rt);
     same!(rt; listed.into_bits(), 0b0100_0000_0000_1000);
-    holds!(rt; listed == called);
     same!(rt; listed_arrays(), ([128, 32768], [1, 16]));
     same!(rt; counts_of_three(), (3, 13));
 }

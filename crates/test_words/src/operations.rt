@@ -5,25 +5,43 @@ ghost use Rattle.std.specs.Prelude.{IsTrue};
 use crate::checks::{holds, same};
 use bittle::prelude::*;
 use bittle::{LittleEndian, set, set_le};
+use std::fmt::Debug;
+use std::process::Abort;
+
+// Names the operations that change a set by another one.
+#[derive(Clone, Copy)]
+enum Change {
+    Union,
+    Conjunction,
+    Difference,
+    SymmetricDifference,
+}
+
+// Changes a set by another one.
+fn alter<B: BitsMut>(set: &mut B, by: Change, other: &B) {
+    match by {
+        Change::Union => set.union_assign(other),
+        Change::Conjunction => set.conjunction_assign(other),
+        Change::Difference => set.difference_assign(other),
+        Change::SymmetricDifference => set.symmetric_difference_assign(other),
+    }
+}
+
+// Changes a slice by another one.
+fn change_slice<'a>(mut set: &'a mut [u8], by: Change, other: &'a mut [u8]) {
+    alter(&mut set, by, &other);
+}
 
 #[test]
 fn conjunction_and_difference_change_the_common_beginning_alone(rt: HostRuntime) {
     let mut long = [255u8, 255];
     let mut short = [15u8];
-    {
-        let mut set: &mut [u8] = &mut long;
-        let other: &mut [u8] = &mut short;
-        set.conjunction_assign(&other);
-    }
+    change_slice(&mut long, Change::Conjunction, &mut short);
     same!(rt; long, [15, 255]);
 
     let mut long = [0x0Fu8, 0xFF];
     let mut short = [0x05u8];
-    {
-        let mut set: &mut [u8] = &mut long;
-        let other: &mut [u8] = &mut short;
-        set.difference_assign(&other);
-    }
+    change_slice(&mut long, Change::Difference, &mut short);
     same!(rt; long, [0x0A, 0xFF]);
 }
 
@@ -31,41 +49,34 @@ fn conjunction_and_difference_change_the_common_beginning_alone(rt: HostRuntime)
 fn unions_change_the_common_beginning_alone(rt: HostRuntime) {
     let mut short = [1u8];
     let mut long = [2u8, 4];
-    {
-        let mut set: &mut [u8] = &mut short;
-        let other: &mut [u8] = &mut long;
-        set.union_assign(&other);
-    }
+    change_slice(&mut short, Change::Union, &mut long);
     same!(rt; short, [3]);
     same!(rt; long, [2, 4]);
 
     let mut short = [0xF0u8, 0x01];
     let mut long = [0xFFu8, 0x01, 0x01];
-    {
-        let mut set: &mut [u8] = &mut short;
-        let other: &mut [u8] = &mut long;
-        set.symmetric_difference_assign(&other);
-    }
+    change_slice(&mut short, Change::SymmetricDifference, &mut long);
     same!(rt; short, [0x0F, 0x00]);
 }
 
-// What the operations make of two sets: the union, the conjunction, what is in the first alone and
-// in the second alone, and what is in just one.
-fn operations_of<B: BitsOwned>(one: B, other: B) -> [B; 5] {
-    [
+// Asks for what the operations make of two sets: the union, the conjunction, what is in the first
+// alone and in the second alone, and what is in just one.
+fn operations_of<B: BitsOwned + Debug>(rt: &impl Abort, one: B, other: B, expected: [B; 5]) {
+    let made = [
         one.union(other),
         one.conjunction(other),
         one.difference(other),
         other.difference(one),
         one.symmetric_difference(other),
-    ]
+    ];
+    same!(rt; made, expected);
 }
 
 #[test]
 fn operations_on_words(rt: HostRuntime) {
     let (a, b): (u128, u128) = (set![31, 67], set![31, 62]);
     let expected = [set![31, 62, 67], set![31], set![67], set![62], set![62, 67]];
-    same!(rt; operations_of(a, b), expected);
+    operations_of(&rt, a, b, expected);
 }
 
 #[test]
@@ -78,17 +89,16 @@ fn operations_on_words_in_little_endian_order(rt: HostRuntime) {
         1 << 65,
         1 << 65 | 1 << 60,
     ];
-    same!(rt; operations_of(a, b), expected);
+    operations_of(&rt, a, b, expected);
 }
 
 #[test]
 fn operations_on_signed_words(rt: HostRuntime) {
-    same!(rt; operations_of(-128i8, -127i8), [-127, -128, 0, 1, 1]);
+    operations_of(&rt, -128i8, -127, [-127, -128, 0, 1, 1]);
 }
 
 #[test]
 fn operations_on_nested_arrays(rt: HostRuntime) {
-    let (a, b) = ([[1u8, 2], [4, 0xF0]], [[3u8, 0], [4, 0x0F]]);
     let expected = [
         [[3, 2], [4, 0xFF]],
         [[1, 0], [4, 0]],
@@ -96,7 +106,7 @@ fn operations_on_nested_arrays(rt: HostRuntime) {
         [[2, 0], [0, 0x0F]],
         [[2, 2], [0, 0xFF]],
     ];
-    same!(rt; operations_of(a, b), expected);
+    operations_of(&rt, [[1u8, 2], [4, 0xF0]], [[3, 0], [4, 0x0F]], expected);
 }
 
 #[test]
@@ -111,18 +121,19 @@ fn words_with_and_without_an_index(rt: HostRuntime) {
     same!(rt; 0i128.with_bit_le(u32::MAX), 1);
 }
 
-// The set with one index in big-endian order and with another in little-endian order.
-fn with_each_way<B: BitsOwned>(bits: B, big: u32, little: u32) -> B
+// Asks for the set with one index in big-endian order and with another in little-endian order.
+fn with_each_way<B: BitsOwned + Debug>(rt: &impl Abort, bits: B, big: u32, little: u32, want: B)
     requires { IsTrue B.indexable }
 {
-    bits.with_bit_be(big).with_bit_le(little)
+    same!(rt; bits.with_bit_be(big).with_bit_le(little), want);
 }
 
-// The set with an index.
-fn with_one<B: BitsOwned>(bits: B, index: u32) -> B
+// Asks for the set with an index, in the order of the type and in little-endian order.
+fn with_one<B: BitsOwned + Debug>(rt: &impl Abort, bits: B, index: u32, want: B, little: B)
     requires { IsTrue B.indexable }
 {
-    bits.with_bit(index)
+    same!(rt; bits.with_bit(index), want);
+    same!(rt; bits.with_bit_le(index), little);
 }
 
 // Whether the set with an index and without another is empty.
@@ -134,9 +145,10 @@ fn is_empty_with_and_without<B: BitsOwned>(bits: B, with: u32, without: u32) -> 
 
 #[test]
 fn arrays_with_and_without_an_index(rt: HostRuntime) {
-    same!(rt; with_each_way([[0u8; 2]; 2], 13, 16), [[0, 0x20], [0x80, 0]]);
-    same!(rt; [0u8; 7].with_bit(u32::MAX), [0, 0, 0, 128, 0, 0, 0]);
-    same!(rt; [0u8; 7].with_bit_le(u32::MAX), [0, 0, 0, 1, 0, 0, 0]);
-    same!(rt; with_one([[0u8; 3]; 2], u32::MAX), [[0, 128, 0], [0, 0, 0]]);
+    with_each_way(&rt, [[0u8; 2]; 2], 13, 16, [[0, 0x20], [0x80, 0]]);
+    let (big, little) = ([0, 0, 0, 128, 0, 0, 0], [0, 0, 0, 1, 0, 0, 0]);
+    with_one(&rt, [0u8; 7], u32::MAX, big, little);
+    let (big, little) = ([[0, 128, 0], [0, 0, 0]], [[0, 1, 0], [0, 0, 0]]);
+    with_one(&rt, [[0u8; 3]; 2], u32::MAX, big, little);
     holds!(rt; is_empty_with_and_without([[0u8; 0]; 4], 7, 9));
 }

@@ -6,6 +6,8 @@ ghost use Rattle.bittle.specs.Values.{ShapeFits};
 use crate::checks::{holds, same};
 use bittle::prelude::*;
 use bittle::{BigEndian, Endian, LittleEndian, Set, macros, set, set_be, set_le};
+use std::fmt::Debug;
+use std::process::Abort;
 
 #[test]
 fn ranges_in_one_word(rt: HostRuntime) {
@@ -127,49 +129,63 @@ fn ranges_in_long_rows(rt: HostRuntime) {
     same!(rt; words, [0x8000_0000_0000_0000, 1]);
 }
 
-// Ranges over borders of inner and outer elements.
-fn in_nested_rows<B: BitsOwned>() -> [B; 5]
+// Asks for ranges over borders of inner and outer elements.
+fn in_nested_rows<B: BitsOwned + Debug>(rt: &impl Abort, expected: [B; 5])
     requires { IsTrue B.indexable }
 {
-    [
+    let ranges = [
         set![6..20],
         set_le![6..20],
         set![28..36],
         set![16..32],
         set![9..11],
-    ]
+    ];
+    same!(rt; ranges, expected);
 }
 
 #[test]
 fn ranges_in_nested_rows(rt: HostRuntime) {
     let expected = [
-        [[0xC0, 0xFF], [0x0F, 0]],
+        [[0xC0u8, 0xFF], [0x0F, 0]],
         [[0x03, 0xFF], [0xF0, 0]],
         [[0x0F, 0], [0, 0xF0]],
         [[0, 0], [0xFF, 0xFF]],
         [[0, 0x06], [0, 0]],
     ];
-    same!(rt; in_nested_rows::<[[u8; 2]; 2]>(), expected);
+    in_nested_rows(&rt, expected);
+}
+
+// Lists ranges beside other items, and one alone.
+fn beside_members<B: BitsOwned>() -> [B; 3]
+    requires { IsTrue B.indexable }
+{
+    [set![0, 9, 4..12], set![2..5, 3..12, 15], set![4..12]]
 }
 
 #[test]
 fn ranges_beside_members(rt: HostRuntime) {
-    let row: [u8; 2] = set![0, 9, 4..12];
-    same!(rt; row, [0xF1, 0x0F]);
-    let row: [u8; 2] = set![2..5, 3..12, 15];
-    same!(rt; row, [0xFC, 0x8F]);
-    let remembered: Set<[u8; 2], LittleEndian> = set![4..12];
+    let expected = [[0xF1, 0x0F], [0xFC, 0x8F], [0xF0, 0x0F]];
+    same!(rt; beside_members::<[u8; 2]>(), expected);
+    let [_, _, remembered] = beside_members::<Set<[u8; 2], LittleEndian>>();
     same!(rt; remembered.into_bits(), [0x0F, 0xF0]);
+}
+
+// Asks that ranges have no index in a set without capacity.
+fn without_capacity<B: BitsOwned + Debug>(rt: &impl Abort, expected: [B; 3])
+    requires { IsTrue B.indexable }
+{
+    let ranges = [
+        set![0..9, 3..=3, 0..=4294967295, 1..],
+        set_le![7..8],
+        set![5..70],
+    ];
+    same!(rt; ranges, expected);
 }
 
 #[test]
 fn ranges_without_capacity(rt: HostRuntime) {
-    let none: [u8; 0] = set![0..9, 3..=3, 0..=4294967295, 1..];
-    same!(rt; none, []);
-    let none: [u8; 0] = set_le![7..8];
-    same!(rt; none, []);
-    let none: [[u32; 0]; 3] = set![5..70];
-    same!(rt; none, [[], [], []]);
+    without_capacity(&rt, [[0u8; 0]; 3]);
+    without_capacity(&rt, [[[0u32; 0]; 3]; 3]);
 }
 
 #[test]
@@ -184,8 +200,14 @@ fn ranges_in_slices(rt: HostRuntime) {
     same!(rt; bytes, [0xF0, 0, 0x0F, 0]);
 }
 
-// The set after `from..to` is set, cleared and flipped.
-fn changed<B: BitsOwned, E: Endian>(bits: B, from: u32, to: u32) -> [B; 3]
+// Asks for the set after `from..to` is set, cleared and flipped.
+fn changes<B: BitsOwned + Debug, E: Endian>(
+    rt: &impl Abort,
+    bits: B,
+    from: u32,
+    to: u32,
+    want: [B; 3],
+)
     requires fits { ShapeFits B.Shape bits }
     requires ordered { from ≤ to }
     requires within { to ≤ (B.big bits).capacity }
@@ -194,7 +216,7 @@ fn changed<B: BitsOwned, E: Endian>(bits: B, from: u32, to: u32) -> [B; 3]
     set.set_range_in::<E>(from, to);
     cleared.clear_range_in::<E>(from, to);
     flipped.toggle_range_in::<E>(from, to);
-    [set, cleared, flipped]
+    same!(rt; [set, cleared, flipped], want);
 }
 
 #[test]
@@ -209,43 +231,39 @@ fn ranges_of_a_word_change(rt: HostRuntime) {
     ];
     for (from, to, want) in rows {
         assert!(rt; from <= to && to <= 8);
-        same!(rt; changed::<u8, BigEndian>(0b0011_1100, from, to), want);
+        changes::<u8, BigEndian>(&rt, 0b0011_1100, from, to, want);
     }
 }
 
 #[test]
 fn ranges_of_a_signed_word_change(rt: HostRuntime) {
-    same!(rt; changed::<i8, BigEndian>(0, 7, 8), [i8::MIN, 0, i8::MIN]);
-    same!(rt; changed::<i8, LittleEndian>(-1, 1, 8), [-1, i8::MIN, i8::MIN]);
-    same!(rt; changed::<i16, LittleEndian>(1, 0, 1), [i16::MIN + 1, 1, i16::MIN + 1]);
-    same!(rt; changed::<u128, BigEndian>(1, 127, 128), [1 << 127 | 1, 1, 1 << 127 | 1]);
+    changes::<i8, BigEndian>(&rt, 0, 7, 8, [i8::MIN, 0, i8::MIN]);
+    changes::<i8, LittleEndian>(&rt, -1, 1, 8, [-1, i8::MIN, i8::MIN]);
+    changes::<i16, LittleEndian>(&rt, 1, 0, 1, [i16::MIN + 1, 1, i16::MIN + 1]);
+    changes::<u128, BigEndian>(&rt, 1, 127, 128, [1 << 127 | 1, 1, 1 << 127 | 1]);
 }
 
 #[test]
 fn ranges_of_rows_change(rt: HostRuntime) {
     let row = [0xF0u8, 0xF0, 0xF0];
-    same!(rt;
-        changed::<[u8; 3], BigEndian>(row, 6, 18),
-        [[0xF0, 0xFF, 0xF3], [0x30, 0x00, 0xF0], [0x30, 0x0F, 0xF3]]
-    );
-    same!(rt;
-        changed::<[u8; 3], LittleEndian>(row, 6, 18),
-        [[0xF3, 0xFF, 0xF0], [0xF0, 0x00, 0x30], [0xF3, 0x0F, 0x30]]
-    );
-    same!(rt;
-        changed::<[u8; 3], LittleEndian>(row, 8, 16),
-        [[0xF0, 0xFF, 0xF0], [0xF0, 0x00, 0xF0], [0xF0, 0x0F, 0xF0]]
-    );
-    same!(rt;
-        changed::<[[u8; 2]; 2], BigEndian>([[1, 2], [4, 8]], 9, 24),
-        [[[1, 0xFE], [0xFF, 8]], [[1, 0], [0, 8]], [[1, 0xFC], [0xFB, 8]]]
-    );
+    let want = [[0xF0, 0xFF, 0xF3], [0x30, 0x00, 0xF0], [0x30, 0x0F, 0xF3]];
+    changes::<[u8; 3], BigEndian>(&rt, row, 6, 18, want);
+    let want = [[0xF3, 0xFF, 0xF0], [0xF0, 0x00, 0x30], [0xF3, 0x0F, 0x30]];
+    changes::<[u8; 3], LittleEndian>(&rt, row, 6, 18, want);
+    let want = [[0xF0, 0xFF, 0xF0], [0xF0, 0x00, 0xF0], [0xF0, 0x0F, 0xF0]];
+    changes::<[u8; 3], LittleEndian>(&rt, row, 8, 16, want);
+    let want = [
+        [[1, 0xFE], [0xFF, 8]],
+        [[1, 0], [0, 8]],
+        [[1, 0xFC], [0xFB, 8]],
+    ];
+    changes::<[[u8; 2]; 2], BigEndian>(&rt, [[1, 2], [4, 8]], 9, 24, want);
 }
 
 #[test]
 fn ranges_without_capacity_change_nothing(rt: HostRuntime) {
-    same!(rt; changed::<[u8; 0], BigEndian>([], 0, 0), [[], [], []]);
-    same!(rt; changed::<[[u32; 0]; 2], LittleEndian>([[], []], 0, 0), [[[], []]; 3]);
+    changes::<[u8; 0], BigEndian>(&rt, [], 0, 0, [[]; 3]);
+    changes::<[[u32; 0]; 2], LittleEndian>(&rt, [[], []], 0, 0, [[[], []]; 3]);
 }
 
 #[test]

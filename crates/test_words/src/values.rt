@@ -16,40 +16,52 @@ const ONES_OF_HALF: [u8; 16] = [0, 1, 1, 2, 1, 2, 2, 3, 1, 2, 2, 3, 2, 3, 3, 4];
 fn every_byte(rt: HostRuntime) {
     for byte in 0..=u8::MAX {
         let signed = byte.cast_signed();
-        let high = ONES_OF_HALF[(byte / 16) as usize];
-        let low = ONES_OF_HALF[(byte % 16) as usize];
-        let count = u32::from(high) + u32::from(low);
-        holds!(rt; Bits::count_ones(&byte) == count && Bits::count_ones(&signed) == count);
-        holds!(rt;
-            Bits::count_zeros(&byte) == 8u32.wrapping_sub(count)
-                && Bits::count_zeros(&signed) == 8u32.wrapping_sub(count)
-        );
-        holds!(rt; byte.all_zeros() == (byte == 0) && signed.all_zeros() == (byte == 0));
-        holds!(rt; byte.all_ones() == (byte == 255) && signed.all_ones() == (byte == 255));
+        counts(&rt, byte, signed);
         walks::<u8, BigEndian>(&rt, byte, byte);
         walks::<i8, BigEndian>(&rt, signed, byte);
         walks::<u8, LittleEndian>(&rt, byte, byte.reverse_bits());
         walks::<i8, LittleEndian>(&rt, signed, byte.reverse_bits());
         for index in 0..8 {
-            let weight = 1u8 << index;
-            let digit = byte / weight % 2 == 1;
-            let with = if digit {
-                byte
-            } else {
-                byte.wrapping_add(weight)
-            };
-            let without = if digit {
-                byte.wrapping_sub(weight)
-            } else {
-                byte
-            };
-            let signed_two = (with.cast_signed(), without.cast_signed());
-            at_index::<u8, BigEndian>(&rt, byte, index, digit, (with, without));
-            at_index::<i8, BigEndian>(&rt, signed, index, digit, signed_two);
-            at_index::<u8, LittleEndian>(&rt, byte, 7 - index, digit, (with, without));
-            at_index::<i8, LittleEndian>(&rt, signed, 7 - index, digit, signed_two);
+            at_digit(&rt, byte, signed, index);
         }
     }
+}
+
+// Asks for the counts of a byte and of the signed one of the same digits.
+fn counts(rt: &impl Abort, byte: u8, signed: i8) {
+    let high = ONES_OF_HALF[(byte / 16) as usize];
+    let low = ONES_OF_HALF[(byte % 16) as usize];
+    let count = u32::from(high) + u32::from(low);
+    holds!(rt; Bits::count_ones(&byte) == count && Bits::count_ones(&signed) == count);
+    holds!(rt;
+        Bits::count_zeros(&byte) == 8u32.wrapping_sub(count)
+            && Bits::count_zeros(&signed) == 8u32.wrapping_sub(count)
+    );
+    holds!(rt; byte.all_zeros() == (byte == 0) && signed.all_zeros() == (byte == 0));
+    holds!(rt; byte.all_ones() == (byte == 255) && signed.all_ones() == (byte == 255));
+}
+
+// Makes the calls on one digit of a byte and of the signed one of the same digits, in both orders.
+fn at_digit(rt: &impl Abort, byte: u8, signed: i8, index: u32)
+    requires { index < 8 }
+{
+    let weight = 1u8 << index;
+    let digit = byte / weight % 2 == 1;
+    let with = if digit {
+        byte
+    } else {
+        byte.wrapping_add(weight)
+    };
+    let without = if digit {
+        byte.wrapping_sub(weight)
+    } else {
+        byte
+    };
+    let signed_two = (with.cast_signed(), without.cast_signed());
+    at_index::<u8, BigEndian>(rt, byte, index, digit, (with, without));
+    at_index::<i8, BigEndian>(rt, signed, index, digit, signed_two);
+    at_index::<u8, LittleEndian>(rt, byte, 7 - index, digit, (with, without));
+    at_index::<i8, LittleEndian>(rt, signed, 7 - index, digit, signed_two);
 }
 
 // The calls on one index, and on one that wraps to it.
@@ -75,8 +87,10 @@ fn at_index<T: BitsOwned, E: Endian>(
 // The searches and the iterators of a word whose set bits in the order are those of the byte.
 fn walks<T: Word, E: Endian>(rt: &impl Abort, word: T, members: u8) {
     searches::<T, E>(rt, word, members);
-    walks_from_the_front::<T, E>(rt, word, members);
-    walks_from_the_back::<T, E>(rt, word, members);
+    walks_from_the_front(rt, IterOnes::<T, E>::new(word), members);
+    walks_from_the_front(rt, IterZeros::<T, E>::new(word), !members);
+    walks_from_the_back(rt, IterOnes::<T, E>::new(word), members);
+    walks_from_the_back(rt, IterZeros::<T, E>::new(word), !members);
 }
 
 fn searches<T: Word, E: Endian>(rt: &impl Abort, word: T, members: u8) {
@@ -102,26 +116,44 @@ fn ones_at_the_ends(members: u8) -> (u32, u32) {
     (members.trailing_ones(), members.leading_ones())
 }
 
-fn walks_from_the_front<T: Word, E: Endian>(rt: &impl Abort, word: T, members: u8) {
-    let (mut ones, mut zeros) = (IterOnes::<T, E>::new(word), IterZeros::<T, E>::new(word));
-    for index in 0..8 {
-        if (members >> index) % 2 == 1 {
-            holds!(rt; ones.next() == Some(index));
-        } else {
-            holds!(rt; zeros.next() == Some(index));
-        }
-    }
-    holds!(rt; ones.next().is_none() && zeros.next().is_none());
+// Takes what an iterator yields from the front.
+fn front<W: Iterator<Item = u32>>(walk: &mut W) -> Option<u32>
+    requires { (w : W) → W.can_next w }
+{
+    walk.next()
 }
 
-fn walks_from_the_back<T: Word, E: Endian>(rt: &impl Abort, word: T, members: u8) {
-    let (mut ones, mut zeros) = (IterOnes::<T, E>::new(word), IterZeros::<T, E>::new(word));
-    for index in (0..8).rev() {
+// Takes what an iterator yields from the back.
+fn back<W: DoubleEndedIterator<Item = u32>>(walk: &mut W) -> Option<u32>
+    requires { (w : W) → W.can_next_back w }
+{
+    walk.next_back()
+}
+
+// Asks an iterator for the digits of a byte that are one, from the least on.
+fn walks_from_the_front<W: Iterator<Item = u32>>(rt: &impl Abort, mut walk: W, members: u8)
+    requires { (w : W) → W.can_next w }
+{
+    for index in 0..8 {
         if (members >> index) % 2 == 1 {
-            holds!(rt; ones.next_back() == Some(index));
-        } else {
-            holds!(rt; zeros.next_back() == Some(index));
+            same!(rt; front(&mut walk), Some(index));
         }
     }
-    holds!(rt; ones.next_back().is_none() && zeros.next_back().is_none());
+    same!(rt; front(&mut walk), None);
+}
+
+// Asks an iterator for the digits of a byte that are one, from the greatest on.
+fn walks_from_the_back<W: DoubleEndedIterator<Item = u32>>(
+    rt: &impl Abort,
+    mut walk: W,
+    members: u8,
+)
+    requires { (w : W) → W.can_next_back w }
+{
+    for index in (0..8).rev() {
+        if (members >> index) % 2 == 1 {
+            same!(rt; back(&mut walk), Some(index));
+        }
+    }
+    same!(rt; back(&mut walk), None);
 }

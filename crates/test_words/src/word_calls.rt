@@ -129,8 +129,7 @@ fn at_borders<T: Word + Bits>(rt: &impl Abort, width: u32, none: T, all: T, top:
     requires none_fits { ShapeFits T.Shape none }
     requires all_fits { ShapeFits T.Shape all }
 {
-    holds!(rt; Bits::count_ones(&none) == 0 && Bits::count_ones(&all) == width);
-    holds!(rt; none.all_zeros() && !none.all_ones() && all.all_ones() && !all.all_zeros());
+    counts(rt, width, none, all);
     walks_alone::<T, BigEndian>(rt, all, 0, width);
     walks_alone::<T, LittleEndian>(rt, all, 0, width);
     walks_alone::<T, BigEndian>(rt, none, 0, 0);
@@ -138,6 +137,15 @@ fn at_borders<T: Word + Bits>(rt: &impl Abort, width: u32, none: T, all: T, top:
     walks_alone::<T, LittleEndian>(rt, top, 0, 1);
     walks_alone::<T, BigEndian>(rt, least, 0, 1);
     walks_alone::<T, LittleEndian>(rt, least, width - 1, width);
+}
+
+// Asks for the counts of the word without a digit and with all.
+fn counts<T: Bits>(rt: &impl Abort, width: u32, none: T, all: T)
+    requires none_fits { ShapeFits T.Shape none }
+    requires all_fits { ShapeFits T.Shape all }
+{
+    holds!(rt; Bits::count_ones(&none) == 0 && Bits::count_ones(&all) == width);
+    holds!(rt; none.all_zeros() && !none.all_ones() && all.all_ones() && !all.all_zeros());
 }
 
 // The set bits are those from one index on and below another: from the front, and from the back of
