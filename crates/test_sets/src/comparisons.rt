@@ -6,6 +6,7 @@ use bittle::{Set, set};
 use std::cmp::Ordering;
 use std::hash::{Hash, Hasher};
 use std::marker::Model;
+use std::process::Abort;
 
 #[test]
 fn shapes_compare_by_their_members(rt: HostRuntime) {
@@ -102,21 +103,22 @@ impl Hasher for Fed {
     }
 }
 
-fn feed_of<T: Hash>(value: &T) -> ([u32; 4], usize) {
+// Asks for the numbers that a hasher is fed, and for their count.
+fn feeds<T: Hash>(rt: &impl Abort, value: &T, want: [u32; 4], count: usize) {
     let mut hasher = Fed {
         numbers: [0; 4],
         len: 0,
     };
     value.hash(&mut hasher);
     let Fed { numbers, len } = hasher;
-    (numbers, len)
+    same!(rt; (numbers, len), (want, count));
 }
 
 #[test]
 fn a_hasher_is_fed_the_members_and_their_count(rt: HostRuntime) {
-    same!(rt; feed_of(&Set::new(0b1001u8)), ([0, 3, 2, 0], 3));
-    same!(rt; feed_of(&Set::new_le(0b1001u8)), ([4, 7, 2, 0], 3));
-    same!(rt; feed_of(&Set::new([0u8; 0])), ([0, 0, 0, 0], 1));
-    same!(rt; feed_of(&Set::from_ref(&[1u8])), ([0, 1, 0, 0], 2));
-    same!(rt; feed_of(&Set::from_ref(&[1u8, 0])), ([0, 1, 0, 0], 2));
+    feeds(&rt, &Set::new(0b1001u8), [0, 3, 2, 0], 3);
+    feeds(&rt, &Set::new_le(0b1001u8), [4, 7, 2, 0], 3);
+    feeds(&rt, &Set::new([0u8; 0]), [0, 0, 0, 0], 1);
+    feeds(&rt, &Set::from_ref(&[1u8]), [0, 1, 0, 0], 2);
+    feeds(&rt, &Set::from_ref(&[1u8, 0]), [0, 1, 0, 0], 2);
 }

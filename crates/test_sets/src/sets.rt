@@ -1,10 +1,14 @@
 //! Sets and what they answer, with values worked out by hand.
 
+ghost use Rattle.std.specs.Iterator.{IsFinite};
+ghost use Rattle.std.specs.Prelude.{IsTrue};
 ghost use Rattle.bittle.specs.Values.{ShapeFits};
 
 use crate::checks::{holds, same};
 use bittle::prelude::*;
 use bittle::{BigEndian, Endian, LittleEndian, Set, set};
+use std::fmt::Debug;
+use std::process::Abort;
 use std::test::Fail;
 
 #[test]
@@ -40,34 +44,57 @@ fn a_set_of_an_array(rt: HostRuntime) {
     );
 }
 
+// Asks for members in the order of the type, and sets another index.
+fn gains<B: BitsMut>(rt: &impl Abort, bits: &mut B, members: &[u32], index: u32)
+    requires { IsTrue B.indexable }
+{
+    for member in members {
+        same!(rt; (*member, bits.test_bit(*member)), (*member, true));
+    }
+    same!(rt; (index, bits.test_bit(index)), (index, false));
+    bits.set_bit(index);
+}
+
 #[test]
 fn an_array_of_sets_is_read_in_the_default_order(rt: HostRuntime) {
     let mut sets = [Set::new_le(0x80u8), Set::new_le(0x01)];
-    holds!(rt; sets.test_bit(7));
-    holds!(rt; sets.test_bit(8));
-    holds!(rt; !sets.test_bit(0));
-    sets.set_bit(0);
+    gains(&rt, &mut sets, &[7, 8], 0);
     same!(rt; sets[0].into_bits(), 0x81);
     same!(rt; <[Set<u8, LittleEndian>; 2]>::bits(), 16);
+}
+
+// Whether an iterator yields just these items.
+fn yields<W: Iterator<Item = u32>>(walk: W, items: &[u32]) -> bool
+    requires can { W.can_next walk }
+    requires finite { IsFinite (W.remaining walk) }
+{
+    walk.eq(items.iter().copied())
 }
 
 // Whether an iterator in the order of the type yields just these items.
 fn walks<B: Bits>(bits: &B, items: &[u32]) -> bool
     requires { ShapeFits B.Shape bits.now }
 {
-    bits.iter_ones().eq(items.iter().copied())
+    yields(bits.iter_ones(), items)
 }
 
 // Whether an iterator in little-endian order yields just these items.
 fn walks_le<B: Bits>(bits: &B, items: &[u32]) -> bool
     requires { ShapeFits B.Shape bits.now }
 {
-    bits.iter_ones_le().eq(items.iter().copied())
+    yields(bits.iter_ones_le(), items)
+}
+
+// Whether iterators in the order of the type and in little-endian order yield just these items.
+fn walks_each_way<B: Bits>(bits: &B, items: &[u32], little: &[u32]) -> bool
+    requires { ShapeFits B.Shape bits.now }
+{
+    walks(bits, items) && walks_le(bits, little)
 }
 
 // Whether a loop by value and one by reference take just these items.
 fn iterates<T: BitsOwned, E: Endian>(set: Set<T, E>, items: &[u32]) -> bool {
-    (&set).into_iter().eq(items.iter().copied()) && set.into_iter().eq(items.iter().copied())
+    yields((&set).into_iter(), items) && yields(set.into_iter(), items)
 }
 
 #[test]
@@ -80,8 +107,7 @@ fn sets_are_walked_in_their_order(rt: HostRuntime) {
 
     // Inside an array a set is read in the default order.
     let sets = [Set::new_le(0x80u8), Set::new_le(0x01)];
-    holds!(rt; walks(&sets, &[7, 8]));
-    holds!(rt; walks_le(&sets, &[0, 15]));
+    holds!(rt; walks_each_way(&sets, &[7, 8], &[0, 15]));
 }
 
 #[test]
@@ -112,40 +138,197 @@ fn two_sets() -> (Set<[u32; 4]>, Set<[u32; 4]>) {
     (set![1, 65], set![65, 110])
 }
 
+// Asks that a set has the members of another one, and these bits.
+fn is<T: BitsOwned + Debug, E: Endian>(
+    rt: &impl Abort,
+    set: Set<T, E>,
+    wanted: &Set<T, E>,
+    bits: T,
+) {
+    holds!(rt; set == *wanted);
+    same!(rt; set.into_bits(), bits);
+}
+
+// Asks for the union by value and by reference.
+fn unions<T: BitsOwned + Debug, E: Endian>(rt: &impl Abort, a: T, b: T, wanted: &Set<T, E>, bits: T)
+    requires left { ShapeFits T.Shape a }
+    requires right { ShapeFits T.Shape b }
+{
+    is(
+        rt,
+        Set::<T, E>::new_in(a) | Set::<T, E>::new_in(b),
+        wanted,
+        bits,
+    );
+    is(
+        rt,
+        Set::<T, E>::new_in(a) | &Set::<T, E>::new_in(b),
+        wanted,
+        bits,
+    );
+    is(
+        rt,
+        &Set::<T, E>::new_in(a) | Set::<T, E>::new_in(b),
+        wanted,
+        bits,
+    );
+    is(
+        rt,
+        &Set::<T, E>::new_in(a) | &Set::<T, E>::new_in(b),
+        wanted,
+        bits,
+    );
+}
+
 #[test]
 fn unions_of_values_and_references(rt: HostRuntime) {
     let (a, b) = two_sets();
-    for union in [a | b, a | &b, &a | b, &a | &b] {
-        holds!(rt; union == set![1, 65, 110]);
-        same!(rt; union.into_bits(), [2, 0, 2, 0x4000]);
-    }
+    let wanted: Set<[u32; 4]> = set![1, 65, 110];
+    unions(
+        &rt,
+        a.into_bits(),
+        b.into_bits(),
+        &wanted,
+        [2, 0, 2, 0x4000],
+    );
+}
+
+// Asks for the conjunction by value and by reference.
+fn conjunctions<T: BitsOwned + Debug, E: Endian>(
+    rt: &impl Abort,
+    a: T,
+    b: T,
+    wanted: &Set<T, E>,
+    bits: T,
+)
+    requires left { ShapeFits T.Shape a }
+    requires right { ShapeFits T.Shape b }
+{
+    is(
+        rt,
+        Set::<T, E>::new_in(a) & Set::<T, E>::new_in(b),
+        wanted,
+        bits,
+    );
+    is(
+        rt,
+        Set::<T, E>::new_in(a) & &Set::<T, E>::new_in(b),
+        wanted,
+        bits,
+    );
+    is(
+        rt,
+        &Set::<T, E>::new_in(a) & Set::<T, E>::new_in(b),
+        wanted,
+        bits,
+    );
+    is(
+        rt,
+        &Set::<T, E>::new_in(a) & &Set::<T, E>::new_in(b),
+        wanted,
+        bits,
+    );
 }
 
 #[test]
 fn conjunctions_of_values_and_references(rt: HostRuntime) {
     let (a, b) = two_sets();
-    for conjunction in [a & b, a & &b, &a & b, &a & &b] {
-        holds!(rt; conjunction == set![65]);
-        same!(rt; conjunction.into_bits(), [0, 0, 2, 0]);
-    }
+    let wanted: Set<[u32; 4]> = set![65];
+    conjunctions(&rt, a.into_bits(), b.into_bits(), &wanted, [0, 0, 2, 0]);
+}
+
+// Asks for the symmetric difference by value and by reference.
+fn symmetric_differences<T: BitsOwned + Debug, E: Endian>(
+    rt: &impl Abort,
+    a: T,
+    b: T,
+    wanted: &Set<T, E>,
+    bits: T,
+)
+    requires left { ShapeFits T.Shape a }
+    requires right { ShapeFits T.Shape b }
+{
+    is(
+        rt,
+        Set::<T, E>::new_in(a) ^ Set::<T, E>::new_in(b),
+        wanted,
+        bits,
+    );
+    is(
+        rt,
+        Set::<T, E>::new_in(a) ^ &Set::<T, E>::new_in(b),
+        wanted,
+        bits,
+    );
+    is(
+        rt,
+        &Set::<T, E>::new_in(a) ^ Set::<T, E>::new_in(b),
+        wanted,
+        bits,
+    );
+    is(
+        rt,
+        &Set::<T, E>::new_in(a) ^ &Set::<T, E>::new_in(b),
+        wanted,
+        bits,
+    );
 }
 
 #[test]
 fn symmetric_differences_of_values_and_references(rt: HostRuntime) {
     let (a, b) = two_sets();
-    for just_one in [a ^ b, a ^ &b, &a ^ b, &a ^ &b] {
-        holds!(rt; just_one == set![1, 110]);
-        same!(rt; just_one.into_bits(), [2, 0, 0, 0x4000]);
-    }
+    let wanted: Set<[u32; 4]> = set![1, 110];
+    symmetric_differences(
+        &rt,
+        a.into_bits(),
+        b.into_bits(),
+        &wanted,
+        [2, 0, 0, 0x4000],
+    );
+}
+
+// Asks for the difference by value and by reference.
+fn differences<T: BitsOwned + Debug, E: Endian>(
+    rt: &impl Abort,
+    a: T,
+    b: T,
+    wanted: &Set<T, E>,
+    bits: T,
+)
+    requires left { ShapeFits T.Shape a }
+    requires right { ShapeFits T.Shape b }
+{
+    is(
+        rt,
+        Set::<T, E>::new_in(a) - Set::<T, E>::new_in(b),
+        wanted,
+        bits,
+    );
+    is(
+        rt,
+        Set::<T, E>::new_in(a) - &Set::<T, E>::new_in(b),
+        wanted,
+        bits,
+    );
+    is(
+        rt,
+        &Set::<T, E>::new_in(a) - Set::<T, E>::new_in(b),
+        wanted,
+        bits,
+    );
+    is(
+        rt,
+        &Set::<T, E>::new_in(a) - &Set::<T, E>::new_in(b),
+        wanted,
+        bits,
+    );
 }
 
 #[test]
 fn differences_of_values_and_references(rt: HostRuntime) {
     let (a, b) = two_sets();
-    for difference in [a - b, a - &b, &a - b, &a - &b] {
-        holds!(rt; difference == set![1]);
-        same!(rt; difference.into_bits(), [2, 0, 0, 0]);
-    }
+    let wanted: Set<[u32; 4]> = set![1];
+    differences(&rt, a.into_bits(), b.into_bits(), &wanted, [2, 0, 0, 0]);
 }
 
 #[test]
@@ -186,22 +369,46 @@ fn sets_of_integers_in_either_order(rt: HostRuntime) -> Result<(), Fail> {
     Ok(())
 }
 
+// Takes the next item of an iterator.
+fn next<W: Iterator>(walk: &mut W) -> Option<W::Item>
+    requires { (w : W) → W.can_next w }
+{
+    walk.next()
+}
+
+// Asks for the steps of an iterator over references.
+fn steps<'a, W: Iterator<Item = &'a u8>>(rt: &impl Abort, mut walk: W, expected: &[Option<u8>])
+    requires { (w : W) → W.can_next w }
+{
+    for item in expected {
+        same!(rt; next(&mut walk).copied(), *item);
+    }
+}
+
+// Asks for the steps of a join in the default order.
+fn joins<B: Bits>(rt: &impl Abort, mask: &B, items: &[u8], expected: &[Option<u8>])
+    requires { ShapeFits B.Shape mask.now }
+{
+    steps(rt, mask.join_ones(items.iter()), expected);
+}
+
+// Asks for the steps of a join in little-endian order.
+fn joins_le<B: Bits>(rt: &impl Abort, mask: &B, items: &[u8], expected: &[Option<u8>])
+    requires { ShapeFits B.Shape mask.now }
+{
+    steps(rt, mask.join_ones_le(items.iter()), expected);
+}
+
 #[test]
 fn a_join_reads_its_mask_in_the_default_order(rt: HostRuntime) {
     let set = Set::new_le(0b1101_0000u8);
-    let letters = *b"abcdefgh";
-    let mut join = set.join_ones(letters.iter());
-    for expected in [Some(b'e'), Some(b'g'), Some(b'h'), None, None] {
-        same!(rt; join.next().copied(), expected);
-    }
+    let expected = [Some(b'e'), Some(b'g'), Some(b'h'), None, None];
+    joins(&rt, &set, b"abcdefgh", &expected);
 }
 
 #[test]
 fn a_join_reads_its_mask_in_the_order_that_is_named(rt: HostRuntime) {
     let set = Set::new_le(0b1101_0000u8);
-    let letters = *b"abcdefgh";
-    let mut join = set.join_ones_le(letters.iter());
-    for expected in [Some(b'a'), Some(b'b'), Some(b'd'), None, None] {
-        same!(rt; join.next().copied(), expected);
-    }
+    let expected = [Some(b'a'), Some(b'b'), Some(b'd'), None, None];
+    joins_le(&rt, &set, b"abcdefgh", &expected);
 }

@@ -2,9 +2,22 @@
 
 use crate::checks::{holds, same};
 use bittle::{Set, set};
+use std::alloc::{AllocError, Global};
 use std::fmt;
-use std::fmt::Write;
+use std::fmt::{Debug, Write};
+use std::process::Abort;
 use std::test::Fail;
+
+// Asks for the debug text of a value.
+fn reads<S: Debug>(
+    rt: &impl Abort,
+    alloc: Global,
+    value: &S,
+    text: &str,
+) -> Result<(), AllocError> {
+    same!(rt; format!(in alloc; "{value:?}")?.as_str(), text);
+    Ok(())
+}
 
 #[test]
 fn the_text_of_a_set_is_one_line(rt: HostRuntime) -> Result<(), Fail> {
@@ -21,20 +34,15 @@ fn the_text_of_a_set_is_one_line(rt: HostRuntime) -> Result<(), Fail> {
 #[test]
 fn a_text_names_each_member(rt: HostRuntime) -> Result<(), Fail> {
     let set: Set<[u32; 4]> = set![100, 99, 9, 10, 127];
-    same!(rt;
-        format!(in rt.alloc(); "{set:?}")?.as_str(),
-        "{9, 10, 99, 100, 127}"
-    );
+    reads(&rt, rt.alloc(), &set, "{9, 10, 99, 100, 127}")?;
     Ok(())
 }
 
 #[test]
 fn a_text_names_members_of_each_length(rt: HostRuntime) -> Result<(), Fail> {
     let set: Set<[u64; 160]> = set![7, 42, 200, 201, 999, 1_000, 1_234, 9_999, 10_000];
-    same!(rt;
-        format!(in rt.alloc(); "{set:?}")?.as_str(),
-        "{7, 42, 200, 201, 999, 1000, 1234, 9999, 10000}"
-    );
+    let text = "{7, 42, 200, 201, 999, 1000, 1234, 9999, 10000}";
+    reads(&rt, rt.alloc(), &set, text)?;
     Ok(())
 }
 
@@ -69,34 +77,31 @@ impl Write for Short {
     }
 }
 
+// Asks that a text of some pieces is an error before each of them, and none after the last.
+fn is_cut_off<S: Debug>(rt: &impl Abort, value: &S, pieces: u32) {
+    for left in 0..pieces {
+        let mut short = Short { left };
+        same!(rt; (left, write!(short, "{value:?}").is_err()), (left, true));
+    }
+    let mut whole = Short { left: pieces };
+    holds!(rt; write!(whole, "{value:?}").is_ok());
+    same!(rt; whole.left, 0);
+}
+
 #[test]
 fn a_text_that_was_cut_off_is_an_error(rt: HostRuntime) {
     // The two braces, the two indexes and what is between them.
     let set: Set<u16> = set![1, 14];
-    for left in 0..5 {
-        let mut short = Short { left };
-        same!(rt; (left, write!(short, "{set:?}").is_err()), (left, true));
-    }
-    let mut whole = Short { left: 5 };
-    holds!(rt; write!(whole, "{set:?}").is_ok());
-    same!(rt; whole.left, 0);
+    is_cut_off(&rt, &set, 5);
 
+    // The two braces.
     let set: Set<u16> = set![];
-    for left in 0..2 {
-        let mut short = Short { left };
-        same!(rt; (left, write!(short, "{set:?}").is_err()), (left, true));
-    }
+    is_cut_off(&rt, &set, 2);
 }
 
 #[test]
 fn a_long_text_that_was_cut_off_is_an_error(rt: HostRuntime) {
     // The two braces, the four indexes and what is between them.
     let set: Set<[u64; 160]> = set![42, 201, 1_000, 10_000];
-    for left in 0..9 {
-        let mut short = Short { left };
-        same!(rt; (left, write!(short, "{set:?}").is_err()), (left, true));
-    }
-    let mut whole = Short { left: 9 };
-    holds!(rt; write!(whole, "{set:?}").is_ok());
-    same!(rt; whole.left, 0);
+    is_cut_off(&rt, &set, 9);
 }
