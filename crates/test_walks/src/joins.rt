@@ -2,6 +2,7 @@
 
 ghost use Rattle.std.specs.Prelude.{◌-◌};
 ghost use Rattle.std.specs.Iterator.{at_most};
+ghost use Rattle.bittle.specs.Values.{ShapeFits};
 
 use crate::checks::same;
 use bittle::prelude::*;
@@ -66,24 +67,63 @@ fn steps_to<'a, T: Copy + Debug + PartialEq + 'a, W: Iterator<Item = &'a T>>(
     }
 }
 
+// Asks for the steps of a join with values, in the order of a call that names none.
+fn joins<T: Copy + Debug + PartialEq, B: Bits, I: IntoIterator<Item = T>>(
+    rt: &impl Abort,
+    mask: &B,
+    iter: I,
+    expected: &[Option<T>],
+)
+    requires fits { ShapeFits B.Shape mask.now }
+    requires can { (w : I.IntoIter) → I.IntoIter.can_next w }
+{
+    steps(rt, mask.join_ones(iter), expected);
+}
+
+// Asks for the steps of a join with references, in the order of a call that names none.
+fn joins_to<'a, T: Copy + Debug + PartialEq + 'a, B: Bits, I: IntoIterator<Item = &'a T>>(
+    rt: &impl Abort,
+    mask: &B,
+    iter: I,
+    expected: &[Option<T>],
+)
+    requires fits { ShapeFits B.Shape mask.now }
+    requires can { (w : I.IntoIter) → I.IntoIter.can_next w }
+{
+    steps_to(rt, mask.join_ones(iter), expected);
+}
+
 #[test]
 fn gives_the_items_at_the_members(rt: HostRuntime) {
     let mask: u8 = set![0, 2, 5];
-    steps(
+    joins(
         &rt,
-        mask.join_ones([10u8, 20, 30]),
+        &mask,
+        [10u8, 20, 30],
         &[Some(10), Some(30), None, None],
     );
 }
 
+// Asks for the steps of joins in little-endian and in big-endian order.
+fn joins_each_way<T: Copy + Debug + PartialEq, B: Bits>(
+    rt: &impl Abort,
+    mask: &B,
+    items: &[T],
+    little: &[Option<T>],
+    big: &[Option<T>],
+)
+    requires { ShapeFits B.Shape mask.now }
+{
+    steps_to(rt, mask.join_ones_le(items.iter()), little);
+    steps_to(rt, mask.join_ones_be(items.iter()), big);
+}
+
 #[test]
 fn reads_its_mask_in_the_order_that_is_named(rt: HostRuntime) {
-    let mask = 0b1101_0000u8;
     let letters = ['a', 'b', 'c', 'd', 'e', 'f', 'g', 'h'];
-    let join = mask.join_ones_le(letters.iter());
-    steps_to(&rt, join, &[Some('a'), Some('b'), Some('d'), None]);
-    let join = mask.join_ones_be(letters.iter());
-    steps_to(&rt, join, &[Some('e'), Some('g'), Some('h'), None]);
+    let little = [Some('a'), Some('b'), Some('d'), None];
+    let big = [Some('e'), Some('g'), Some('h'), None];
+    joins_each_way(&rt, &0b1101_0000u8, &letters, &little, &big);
 }
 
 #[test]
@@ -91,19 +131,16 @@ fn joins_a_mask_of_a_wide_word(rt: HostRuntime) {
     let mut mask = 0u128;
     mask.set_bit(0);
     mask.set_bit(2);
-    steps_to(
-        &rt,
-        mask.join_ones(&[10, 48, 101]),
-        &[Some(10), Some(101), None],
-    );
+    joins_to(&rt, &mask, &[10, 48, 101], &[Some(10), Some(101), None]);
 }
 
 #[test]
 fn joins_a_mask_of_a_nested_array(rt: HostRuntime) {
     let mask = [[16u8, 0], [0, 0x81]];
-    steps(
+    joins(
         &rt,
-        mask.join_ones(100..132),
+        &mask,
+        100..132,
         &[Some(104), Some(124), Some(131), None],
     );
 }
@@ -113,11 +150,7 @@ fn takes_nothing_past_the_greatest_member(rt: HostRuntime) {
     let items = [10u8, 48, 101, 7, 8];
     let mut iter = items.iter();
     let mask: u8 = set![0, 2];
-    steps_to(
-        &rt,
-        mask.join_ones(&mut iter),
-        &[Some(10), Some(101), None, None],
-    );
+    joins_to(&rt, &mask, &mut iter, &[Some(10), Some(101), None, None]);
     same!(rt; iter.as_slice(), [7, 8].as_slice());
 }
 
@@ -125,7 +158,7 @@ fn takes_nothing_past_the_greatest_member(rt: HostRuntime) {
 fn takes_nothing_where_there_are_no_members(rt: HostRuntime) {
     let items = [10u8, 20];
     let mut iter = items.iter();
-    steps_to(&rt, 0u8.join_ones(&mut iter), &[None]);
+    joins_to(&rt, &0u8, &mut iter, &[None]);
     same!(rt; iter.as_slice(), [10, 20].as_slice());
 }
 
@@ -147,20 +180,21 @@ fn joins_an_iterator_whose_count_of_items_grows(rt: HostRuntime) {
     // Flattened arrays tell of the items of one array at a time.
     let pairs = [[1u32, 2, 3, 4], [5, 6, 7, 8]];
     let mask: u16 = set![0, 3, 6, 7, 10, 11];
-    let join = mask.join_ones(pairs.into_iter().flatten().chain([9, 10, 11]));
-    steps(
+    joins(
         &rt,
-        join,
+        &mask,
+        pairs.into_iter().flatten().chain([9, 10, 11]),
         &[Some(1), Some(4), Some(7), Some(8), Some(11), None],
     );
 }
 
 #[test]
 fn ends_with_its_iterator(rt: HostRuntime) {
-    steps_to(&rt, u8::MAX.join_ones([0u8; 0].iter()), &[None]);
-    steps(
+    joins_to(&rt, &u8::MAX, [0u8; 0].iter(), &[None]);
+    joins(
         &rt,
-        0xFFu8.join_ones(["a", "b"]),
+        &0xFFu8,
+        ["a", "b"],
         &[Some("a"), Some("b"), None, None],
     );
 }
@@ -168,11 +202,7 @@ fn ends_with_its_iterator(rt: HostRuntime) {
 #[test]
 fn asks_no_more_after_the_end_of_its_iterator(rt: HostRuntime) {
     let mut stutter = Stutter { asked: 0 };
-    steps(
-        &rt,
-        u8::MAX.join_ones(&mut stutter),
-        &[Some(1), None, None, None],
-    );
+    joins(&rt, &u8::MAX, &mut stutter, &[Some(1), None, None, None]);
     same!(rt; stutter.asked, 2);
 }
 
