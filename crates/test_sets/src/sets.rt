@@ -7,7 +7,6 @@ ghost use Rattle.bittle.specs.Values.{ShapeFits};
 use crate::checks::{holds, same};
 use bittle::prelude::*;
 use bittle::{BigEndian, Endian, LittleEndian, Set, set};
-use std::fmt::Debug;
 use std::process::Abort;
 use std::test::Fail;
 
@@ -138,197 +137,40 @@ fn two_sets() -> (Set<[u32; 4]>, Set<[u32; 4]>) {
     (set![1, 65], set![65, 110])
 }
 
-// Asks that a set has the members of another one, and these bits.
-fn is<T: BitsOwned + Debug, E: Endian>(
-    rt: &impl Abort,
-    set: Set<T, E>,
-    wanted: &Set<T, E>,
-    bits: T,
-) {
-    holds!(rt; set == *wanted);
-    same!(rt; set.into_bits(), bits);
-}
-
-// Asks for the union by value and by reference.
-fn unions<T: BitsOwned + Debug, E: Endian>(rt: &impl Abort, a: T, b: T, wanted: &Set<T, E>, bits: T)
-    requires left { ShapeFits T.Shape a }
-    requires right { ShapeFits T.Shape b }
-{
-    is(
-        rt,
-        Set::<T, E>::new_in(a) | Set::<T, E>::new_in(b),
-        wanted,
-        bits,
-    );
-    is(
-        rt,
-        Set::<T, E>::new_in(a) | &Set::<T, E>::new_in(b),
-        wanted,
-        bits,
-    );
-    is(
-        rt,
-        &Set::<T, E>::new_in(a) | Set::<T, E>::new_in(b),
-        wanted,
-        bits,
-    );
-    is(
-        rt,
-        &Set::<T, E>::new_in(a) | &Set::<T, E>::new_in(b),
-        wanted,
-        bits,
-    );
-}
-
 #[test]
 fn unions_of_values_and_references(rt: HostRuntime) {
     let (a, b) = two_sets();
-    let wanted: Set<[u32; 4]> = set![1, 65, 110];
-    unions(
-        &rt,
-        a.into_bits(),
-        b.into_bits(),
-        &wanted,
-        [2, 0, 2, 0x4000],
-    );
-}
-
-// Asks for the conjunction by value and by reference.
-fn conjunctions<T: BitsOwned + Debug, E: Endian>(
-    rt: &impl Abort,
-    a: T,
-    b: T,
-    wanted: &Set<T, E>,
-    bits: T,
-)
-    requires left { ShapeFits T.Shape a }
-    requires right { ShapeFits T.Shape b }
-{
-    is(
-        rt,
-        Set::<T, E>::new_in(a) & Set::<T, E>::new_in(b),
-        wanted,
-        bits,
-    );
-    is(
-        rt,
-        Set::<T, E>::new_in(a) & &Set::<T, E>::new_in(b),
-        wanted,
-        bits,
-    );
-    is(
-        rt,
-        &Set::<T, E>::new_in(a) & Set::<T, E>::new_in(b),
-        wanted,
-        bits,
-    );
-    is(
-        rt,
-        &Set::<T, E>::new_in(a) & &Set::<T, E>::new_in(b),
-        wanted,
-        bits,
-    );
+    for union in [a | b, a | &b, &a | b, &a | &b] {
+        holds!(rt; union == set![1, 65, 110]);
+        same!(rt; union.into_bits(), [2, 0, 2, 0x4000]);
+    }
 }
 
 #[test]
 fn conjunctions_of_values_and_references(rt: HostRuntime) {
     let (a, b) = two_sets();
-    let wanted: Set<[u32; 4]> = set![65];
-    conjunctions(&rt, a.into_bits(), b.into_bits(), &wanted, [0, 0, 2, 0]);
-}
-
-// Asks for the symmetric difference by value and by reference.
-fn symmetric_differences<T: BitsOwned + Debug, E: Endian>(
-    rt: &impl Abort,
-    a: T,
-    b: T,
-    wanted: &Set<T, E>,
-    bits: T,
-)
-    requires left { ShapeFits T.Shape a }
-    requires right { ShapeFits T.Shape b }
-{
-    is(
-        rt,
-        Set::<T, E>::new_in(a) ^ Set::<T, E>::new_in(b),
-        wanted,
-        bits,
-    );
-    is(
-        rt,
-        Set::<T, E>::new_in(a) ^ &Set::<T, E>::new_in(b),
-        wanted,
-        bits,
-    );
-    is(
-        rt,
-        &Set::<T, E>::new_in(a) ^ Set::<T, E>::new_in(b),
-        wanted,
-        bits,
-    );
-    is(
-        rt,
-        &Set::<T, E>::new_in(a) ^ &Set::<T, E>::new_in(b),
-        wanted,
-        bits,
-    );
+    for conjunction in [a & b, a & &b, &a & b, &a & &b] {
+        holds!(rt; conjunction == set![65]);
+        same!(rt; conjunction.into_bits(), [0, 0, 2, 0]);
+    }
 }
 
 #[test]
 fn symmetric_differences_of_values_and_references(rt: HostRuntime) {
     let (a, b) = two_sets();
-    let wanted: Set<[u32; 4]> = set![1, 110];
-    symmetric_differences(
-        &rt,
-        a.into_bits(),
-        b.into_bits(),
-        &wanted,
-        [2, 0, 0, 0x4000],
-    );
-}
-
-// Asks for the difference by value and by reference.
-fn differences<T: BitsOwned + Debug, E: Endian>(
-    rt: &impl Abort,
-    a: T,
-    b: T,
-    wanted: &Set<T, E>,
-    bits: T,
-)
-    requires left { ShapeFits T.Shape a }
-    requires right { ShapeFits T.Shape b }
-{
-    is(
-        rt,
-        Set::<T, E>::new_in(a) - Set::<T, E>::new_in(b),
-        wanted,
-        bits,
-    );
-    is(
-        rt,
-        Set::<T, E>::new_in(a) - &Set::<T, E>::new_in(b),
-        wanted,
-        bits,
-    );
-    is(
-        rt,
-        &Set::<T, E>::new_in(a) - Set::<T, E>::new_in(b),
-        wanted,
-        bits,
-    );
-    is(
-        rt,
-        &Set::<T, E>::new_in(a) - &Set::<T, E>::new_in(b),
-        wanted,
-        bits,
-    );
+    for just_one in [a ^ b, a ^ &b, &a ^ b, &a ^ &b] {
+        holds!(rt; just_one == set![1, 110]);
+        same!(rt; just_one.into_bits(), [2, 0, 0, 0x4000]);
+    }
 }
 
 #[test]
 fn differences_of_values_and_references(rt: HostRuntime) {
     let (a, b) = two_sets();
-    let wanted: Set<[u32; 4]> = set![1];
-    differences(&rt, a.into_bits(), b.into_bits(), &wanted, [2, 0, 0, 0]);
+    for difference in [a - b, a - &b, &a - b, &a - &b] {
+        holds!(rt; difference == set![1]);
+        same!(rt; difference.into_bits(), [2, 0, 0, 0]);
+    }
 }
 
 #[test]
