@@ -44,9 +44,11 @@ pub fn take_least(words: &mut [u64]) -> Option<u32>
 {
     let mut held = (words,);
     let lent = &mut held;
-    let index = lent.0.iter_zeros().next()?;
-    lent.0.set_bit(index);
-    Some(index)
+    let least = lent.0.iter_zeros().next();
+    if let Some(index) = least {
+        lent.0.set_bit(index);
+    }
+    least
 }
 
 /// Sets a bit of any set, read in any order.

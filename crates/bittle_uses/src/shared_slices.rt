@@ -9,6 +9,7 @@ ghost use Rattle.bittle.specs.BitPatterns.{bit_set};
 ghost use Rattle.bittle.specs.PlainSet.{ascending, complement};
 ghost use Rattle.bittle.specs.Rows.{row_set};
 ghost use Rattle.bittle.specs.Shapes.{Fits};
+ghost use Rattle.bittle.specs.Values.{set_in, ShapeFits};
 
 use bittle::{BigEndian, Bits, BitsOwned, Endian, LittleEndian, Set};
 
@@ -79,8 +80,17 @@ pub fn least_free_of_triples(mask: &[[u8; 3]]) -> u32
     ensures { result ≡ unwrap_or (slice_get (ascending (complement (read_in true 8
         (row_set (length mask.now) 24 (row_set 3 8 (bit_set 8)) mask.now)))) 0) 0 }
 {
+    least_free_of::<&[[u8; 3]], LittleEndian>(&mask)
+}
+
+// Returns the least unset bit of any set, from the back, or 0.
+fn least_free_of<B: Bits, E: Endian>(set: &B) -> u32
+    requires { ShapeFits B.Shape set.now }
+    ensures { result ≡ unwrap_or
+        (slice_get (ascending (complement (set_in B.Shape E.Endian set.now))) 0) 0 }
+{
     let mut last = 0;
-    for index in mask.iter_zeros_in::<LittleEndian>().rev() {
+    for index in set.iter_zeros_in::<E>().rev() {
         last = index;
     }
     last
@@ -123,9 +133,22 @@ pub fn ends_of_members<T: BitsOwned, E: Endian>(mask: &[T]) -> Option<(u32, u32)
     if mask.bits_capacity() == u32::MAX {
         return None;
     }
-    let mut walk = mask.iter_ones_in::<E>();
-    let least = walk.next()?;
-    Some((least, walk.next_back().unwrap_or(least)))
+    ends_of::<&[T], E>(&mask)
+}
+
+// Returns the least and the greatest set bit of any set, or `None` where there is none.
+fn ends_of<B: Bits, E: Endian>(set: &B) -> Option<(u32, u32)>
+    requires { ShapeFits B.Shape set.now }
+    ensures { let members = ascending (set_in B.Shape E.Endian set.now) in
+        MatchOption result (members ≡ [])
+        (λ ends. (slice_get members 0 ≡ Some ends.0)
+        × (slice_get (reverse members) 0 ≡ Some ends.1)) }
+{
+    let mut walk = set.iter_ones_in::<E>();
+    match walk.next() {
+        Some(least) => Some((least, walk.next_back().unwrap_or(least))),
+        None => None,
+    }
 }
 
 /// Returns the greatest unset bit of a slice of any sets, in any order, or 0.
@@ -135,8 +158,17 @@ pub fn greatest_free_of_any<T: BitsOwned, E: Endian>(mask: &[T]) -> u32
         (complement (read_in E.mirrored T.width
         (row_set (length mask.now) T.type_capacity T.big mask.now)))) }
 {
+    greatest_free_of::<&[T], E>(&mask)
+}
+
+// Returns the greatest unset bit of any set, or 0.
+fn greatest_free_of<B: Bits, E: Endian>(set: &B) -> u32
+    requires { ShapeFits B.Shape set.now }
+    ensures { Some result
+        ≡ last_or (Some 0) (ascending (complement (set_in B.Shape E.Endian set.now))) }
+{
     let mut last = 0;
-    for index in mask.iter_zeros_in::<E>() {
+    for index in set.iter_zeros_in::<E>() {
         last = index;
     }
     last

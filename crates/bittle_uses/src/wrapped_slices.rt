@@ -6,6 +6,7 @@ ghost use Rattle.bittle.specs.PlainSet.{with_index, without_index};
 ghost use Rattle.bittle.specs.Rows.{row_set};
 ghost use Rattle.bittle.specs.Shapes.{Fits};
 ghost use Rattle.bittle.specs.Machine.{replies_of, final_set};
+ghost use Rattle.bittle.specs.Values.{set_in};
 
 use bittle::replay::{Call, Reply, replay};
 use bittle::{BitsMut, BitsOwned, DefaultEndian, Endian, LittleEndian, Set};
@@ -21,8 +22,7 @@ pub fn set_and_clear<U: BitsOwned>(slice: &mut [U], set: u32, clear: u32)
         clear }
 {
     let mut wrapped = Set::from_mut(slice);
-    wrapped.set_bit(set);
-    wrapped.clear_bit(clear);
+    set_then_clear(&mut wrapped, set, clear);
 }
 
 /// Sets the bit at one index and clears that at another, through a set in little-endian order.
@@ -36,6 +36,15 @@ pub fn set_and_clear_le<U: BitsOwned>(slice: &mut [U], set: u32, clear: u32)
         clear }
 {
     let mut wrapped = Set::from_mut_le(slice);
+    set_then_clear(&mut wrapped, set, clear);
+}
+
+// Sets the bit at one index and clears that at another, through a set of any shape.
+fn set_then_clear<T: BitsMut, E: Endian>(wrapped: &mut Set<T, E>, set: u32, clear: u32)
+    ensures set { set_in T.Shape E.Endian wrapped.new.bits
+        ≡ without_index (with_index (set_in T.Shape E.Endian wrapped.old.bits) set) clear }
+    ensures stays { T.loan wrapped.old.bits ≡ T.loan wrapped.new.bits }
+{
     wrapped.set_bit(set);
     wrapped.clear_bit(clear);
 }
