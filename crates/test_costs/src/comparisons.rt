@@ -1,23 +1,86 @@
 //! What comparisons ask of the two sets: each word once, and nothing past the first difference.
 
+ghost use Rattle.std.specs.Prelude.{◌*◌};
+ghost use Rattle.bittle.specs.Shapes.{Fits};
+ghost use Rattle.bittle.specs.Values.{ShapeFits};
+
 use crate::asked::Asked;
 use crate::checks::{holds, same};
 use crate::probe::{ONES, Probe};
 use crate::word_probe::WordProbe;
-use bittle::{Bits, Set};
+use bittle::{Bits, BitsOwned, Set, Shape};
 use std::cmp::Ordering;
+
+// Returns whether two sets are equal.
+fn are_equal<A: Bits, B: Bits>(one: A, other: &B) -> bool
+    requires one { ShapeFits A.Shape one }
+    requires other { ShapeFits B.Shape other.now }
+{
+    Set::new(one).eq_bits(other)
+}
+
+// Returns how two sets compare.
+fn order_of<A: Bits, B: Bits>(one: A, other: &B) -> Ordering
+    requires one { ShapeFits A.Shape one }
+    requires other { ShapeFits B.Shape other.now }
+{
+    Set::new(one).cmp_bits(other)
+}
+
+fn rows_are_equal<T: BitsOwned, U: BitsOwned>(one: [T; 2], other: [U; 2]) -> bool
+    requires one { Fits ⟦<[T; 2] as Shape>⟧.indexable (2 * T.type_capacity) }
+    requires other { Fits ⟦<[U; 2] as Shape>⟧.indexable (2 * U.type_capacity) }
+{
+    are_equal(one, &other)
+}
+
+fn order_of_rows<T: BitsOwned, U: BitsOwned>(one: [T; 2], other: [U; 2]) -> Ordering
+    requires one { Fits ⟦<[T; 2] as Shape>⟧.indexable (2 * T.type_capacity) }
+    requires other { Fits ⟦<[U; 2] as Shape>⟧.indexable (2 * U.type_capacity) }
+{
+    order_of(one, &other)
+}
+
+fn is_equal_to_row<T: BitsOwned>(one: T, other: [T; 2]) -> bool
+    requires one { ShapeFits T.Shape one }
+    requires other { Fits ⟦<[T; 2] as Shape>⟧.indexable (2 * T.type_capacity) }
+{
+    are_equal(one, &other)
+}
+
+fn row_is_equal_to<T: BitsOwned>(one: [T; 2], other: T) -> bool
+    requires one { Fits ⟦<[T; 2] as Shape>⟧.indexable (2 * T.type_capacity) }
+    requires other { ShapeFits T.Shape other }
+{
+    are_equal(one, &other)
+}
+
+// Returns a set of these eight bytes, with these counts.
+fn pair<'a>(bytes: [[u8; 4]; 2], asked: &'a Asked) -> [Probe<'a>; 2] {
+    [Probe::of(bytes[0], asked), Probe::of(bytes[1], asked)]
+}
+
+// Returns whether two sets of eight bytes are equal.
+fn pairs_are_equal(one: [[u8; 4]; 2], left: &Asked, other: [[u8; 4]; 2], right: &Asked) -> bool {
+    rows_are_equal(pair(one, left), pair(other, right))
+}
+
+// Returns how two sets of eight bytes compare.
+fn order_of_pairs(one: [[u8; 4]; 2], left: &Asked, other: [[u8; 4]; 2], right: &Asked) -> Ordering {
+    order_of_rows(pair(one, left), pair(other, right))
+}
 
 #[test]
 fn equality_fetches_each_word_once(rt: HostRuntime) {
     let (left, right) = (Asked::new(), Asked::new());
-    let set = Set::new(Probe::of(ONES, &left));
-    holds!(rt; set.eq_bits(&Set::new(Probe::of(ONES, &right))));
+    let other = Set::new(Probe::of(ONES, &right));
+    holds!(rt; are_equal(Probe::of(ONES, &left), &other));
     holds!(rt; left.is_at_most(4) && right.is_at_most(4));
 
     // Each side in an order of its own.
     let (left, right) = (Asked::new(), Asked::new());
-    let set = Set::new(Probe::of(ONES, &left));
-    holds!(rt; set.eq_bits(&Set::new_le(Probe::of([128, 0, 0, 1], &right))));
+    let other = Set::new_le(Probe::of([128, 0, 0, 1], &right));
+    holds!(rt; are_equal(Probe::of(ONES, &left), &other));
     holds!(rt; left.is_at_most(4) && right.is_at_most(4));
 }
 
@@ -25,9 +88,8 @@ fn equality_fetches_each_word_once(rt: HostRuntime) {
 fn equality_ends_with_the_four_words_that_differ(rt: HostRuntime) {
     // Eight words. The first four are fetched for one test, and two of them again for the index.
     let (left, right) = (Asked::new(), Asked::new());
-    let set = Set::new([Probe::of(ONES, &left), Probe::of(ONES, &left)]);
-    let other = [Probe::of([1, 2, 0, 128], &right), Probe::of(ONES, &right)];
-    holds!(rt; !set.eq_bits(&other));
+    let other = [[1, 2, 0, 128], ONES];
+    holds!(rt; !pairs_are_equal([ONES; 2], &left, other, &right));
     holds!(rt; left.is_at_most(6) && right.is_at_most(6));
 }
 
@@ -36,9 +98,8 @@ fn comparisons_end_with_the_four_words_that_differ(rt: HostRuntime) {
     // The index 9 is in the right one alone: the left one is asked for its word, and for a member
     // past it.
     let (left, right) = (Asked::new(), Asked::new());
-    let set = Set::new([Probe::of(ONES, &left), Probe::of(ONES, &left)]);
-    let other = [Probe::of([1, 2, 0, 128], &right), Probe::of(ONES, &right)];
-    same!(rt; set.cmp_bits(&other), Ordering::Greater);
+    let other = [[1, 2, 0, 128], ONES];
+    same!(rt; order_of_pairs([ONES; 2], &left, other, &right), Ordering::Greater);
     holds!(rt; left.is_at_most(10));
     holds!(rt; right.is_at_most(6));
 }
@@ -46,16 +107,14 @@ fn comparisons_end_with_the_four_words_that_differ(rt: HostRuntime) {
 #[test]
 fn words_after_the_last_four_are_compared_one_by_one(rt: HostRuntime) {
     let left = Asked::new();
-    let set = Set::new(Probe::of(ONES, &left));
-    holds!(rt; !set.eq_bits(&[1u8, 2, 0]));
+    holds!(rt; !are_equal(Probe::of(ONES, &left), &[1u8, 2, 0]));
     holds!(rt; left.is_at_most(2));
 }
 
 #[test]
 fn comparisons_of_eight_words_fetch_each_once(rt: HostRuntime) {
     let (left, right) = (Asked::new(), Asked::new());
-    let set = Set::new([Probe::of(ONES, &left); 2]);
-    holds!(rt; set.eq_bits(&[Probe::of(ONES, &right); 2]));
+    holds!(rt; pairs_are_equal([ONES; 2], &left, [ONES; 2], &right));
     holds!(rt; left.is_at_most(8) && right.is_at_most(8));
 }
 
@@ -63,8 +122,8 @@ fn comparisons_of_eight_words_fetch_each_once(rt: HostRuntime) {
 fn comparisons_with_a_longer_side_fetch_each_word_once(rt: HostRuntime) {
     // The right side has no member in its second element.
     let (left, right) = (Asked::new(), Asked::new());
-    let set = Set::new(Probe::of(ONES, &left));
-    holds!(rt; set.eq_bits(&[Probe::of(ONES, &right), Probe::of([0; 4], &right)]));
+    let other = pair([ONES, [0; 4]], &right);
+    holds!(rt; is_equal_to_row(Probe::of(ONES, &left), other));
     holds!(rt; left.is_at_most(4) && right.is_at_most(8));
 }
 
@@ -72,8 +131,8 @@ fn comparisons_with_a_longer_side_fetch_each_word_once(rt: HostRuntime) {
 fn comparisons_ask_the_other_side_for_a_member_past_the_index(rt: HostRuntime) {
     // The index 9 is in the left one alone.
     let (left, right) = (Asked::new(), Asked::new());
-    let set = Set::new(Probe::of([1, 2, 0, 128], &left));
-    same!(rt; set.cmp_bits(&Probe::of(ONES, &right)), Ordering::Less);
+    let other = Probe::of(ONES, &right);
+    same!(rt; order_of(Probe::of([1, 2, 0, 128], &left), &other), Ordering::Less);
     same!(rt; right.other(), 0);
 }
 
@@ -81,9 +140,8 @@ fn comparisons_ask_the_other_side_for_a_member_past_the_index(rt: HostRuntime) {
 fn a_difference_in_the_first_word_ends_a_comparison(rt: HostRuntime) {
     // Eight words. The first four are tested at once, and the first is searched again.
     let (left, right) = (Asked::new(), Asked::new());
-    let set = Set::new([Probe::of(ONES, &left); 2]);
-    let other = [Probe::of([2, 0, 0, 128], &right), Probe::of(ONES, &right)];
-    holds!(rt; !set.eq_bits(&other));
+    let other = [[2, 0, 0, 128], ONES];
+    holds!(rt; !pairs_are_equal([ONES; 2], &left, other, &right));
     same!(rt; (left.fetches(), left.other()), (5, 0));
     same!(rt; (right.fetches(), right.other()), (5, 0));
 }
@@ -92,9 +150,8 @@ fn a_difference_in_the_first_word_ends_a_comparison(rt: HostRuntime) {
 fn wide_words_are_compared_by_words(rt: HostRuntime) {
     // The first words differ: neither side is asked for its second one.
     let (left, right) = (Asked::new(), Asked::new());
-    let set = Set::new([WordProbe::of(1, &left); 2]);
     let other = [WordProbe::of(2, &right), WordProbe::of(1, &right)];
-    holds!(rt; !set.eq_bits(&other));
+    holds!(rt; !rows_are_equal([WordProbe::of(1, &left); 2], other));
     same!(rt; (left.fetches(), left.other()), (1, 0));
     same!(rt; (right.fetches(), right.other()), (1, 0));
 }
@@ -104,8 +161,8 @@ fn comparisons_ask_this_side_for_an_index_of_the_other(rt: HostRuntime) {
     // The index 9 is in the right one alone: past the four words and the two that are searched, the
     // left one is asked for its word, and for the three words past it.
     let (left, right) = (Asked::new(), Asked::new());
-    let set = Set::new(Probe::of(ONES, &left));
-    same!(rt; set.cmp_bits(&Probe::of([1, 2, 0, 128], &right)), Ordering::Greater);
+    let other = Probe::of([1, 2, 0, 128], &right);
+    same!(rt; order_of(Probe::of(ONES, &left), &other), Ordering::Greater);
     same!(rt; (left.fetches(), left.other()), (10, 0));
     same!(rt; (right.fetches(), right.other()), (6, 0));
 }
@@ -114,7 +171,7 @@ fn comparisons_ask_this_side_for_an_index_of_the_other(rt: HostRuntime) {
 fn comparisons_with_a_shorter_side_fetch_each_word_once(rt: HostRuntime) {
     // The left side has no member in its second element.
     let (left, right) = (Asked::new(), Asked::new());
-    let set = Set::new([Probe::of(ONES, &left), Probe::of([0; 4], &left)]);
-    holds!(rt; set.eq_bits(&Probe::of(ONES, &right)));
+    let other = Probe::of(ONES, &right);
+    holds!(rt; row_is_equal_to(pair([ONES, [0; 4]], &left), other));
     holds!(rt; left.is_at_most(8) && right.is_at_most(4));
 }

@@ -1,15 +1,17 @@
 //! What an allocator asks of its map: a page is found by a search, and changed by one call.
 
+ghost use Rattle.bittle.specs.Shapes.{Fits};
+
 use crate::asked::Asked;
 use crate::checks::{holds, same};
 use crate::probe::{ONES, Probe, ZEROS};
 use bit_pages::{Answer, NotTaken, Pages, Request};
+use bittle::BitsOwned;
+use std::process::Abort;
 
-#[test]
-fn taking_a_page_is_a_search_and_a_call(rt: HostRuntime) {
+// Takes the pages 0 and 31, and then none.
+fn take_two<B: BitsOwned>(rt: &impl Abort, mut pages: Pages<B>, asked: &Asked) {
     // Page 0 is free, in the first word. A search begins with the first word and the last.
-    let asked = Asked::new();
-    let mut pages = Pages::with_taken(Probe::of(ZEROS, &asked));
     same!(rt; pages.take(), Some(0));
     same!(rt; (asked.fetches(), asked.other()), (2, 1));
 
@@ -21,9 +23,13 @@ fn taking_a_page_is_a_search_and_a_call(rt: HostRuntime) {
 }
 
 #[test]
-fn giving_a_page_back_is_two_calls(rt: HostRuntime) {
+fn taking_a_page_is_a_search_and_a_call(rt: HostRuntime) {
     let asked = Asked::new();
-    let mut pages = Pages::with_taken(Probe::of(ONES, &asked));
+    take_two(&rt, Pages::with_taken(Probe::of(ZEROS, &asked)), &asked);
+}
+
+// Gives page 31 back, and two that are not taken.
+fn give_one_back<B: BitsOwned>(rt: &impl Abort, mut pages: Pages<B>, asked: &Asked) {
     holds!(rt; pages.give_back(31) == Ok(()));
     same!(rt; (asked.fetches(), asked.other()), (0, 2));
 
@@ -35,32 +41,57 @@ fn giving_a_page_back_is_two_calls(rt: HostRuntime) {
 }
 
 #[test]
-fn counting_the_taken_pages_is_one_call(rt: HostRuntime) {
+fn giving_a_page_back_is_two_calls(rt: HostRuntime) {
     let asked = Asked::new();
-    let pages = Pages::with_taken(Probe::of(ONES, &asked));
-    same!(rt; pages.taken(), 2);
-    same!(rt; (asked.fetches(), asked.other()), (0, 1));
+    give_one_back(&rt, Pages::with_taken(Probe::of(ONES, &asked)), &asked);
+}
+
+// Returns how many pages are taken.
+fn taken<B: BitsOwned>(map: B) -> u32
+    requires { Fits B.indexable B.type_capacity }
+{
+    Pages::with_taken(map).taken()
 }
 
 #[test]
-fn a_run_of_requests_asks_what_each_asks(rt: HostRuntime) {
+fn counting_the_taken_pages_is_one_call(rt: HostRuntime) {
     let asked = Asked::new();
-    let mut pages = Pages::with_taken(Probe::of(ONES, &asked));
+    same!(rt; taken(Probe::of(ONES, &asked)), 2);
+    same!(rt; (asked.fetches(), asked.other()), (0, 1));
+}
+
+// Returns the answers to a page given back, one taken, and one given back that is not taken.
+fn serve_three<B: BitsOwned>(map: B) -> [Answer; 3]
+    requires { Fits B.indexable B.type_capacity }
+{
+    let mut pages = Pages::with_taken(map);
     let mut answers = [Answer::Full; 3];
     pages.serve(
         &[Request::GiveBack(0), Request::Take, Request::GiveBack(9)],
         &mut answers,
     );
+    answers
+}
+
+#[test]
+fn a_run_of_requests_asks_what_each_asks(rt: HostRuntime) {
+    let asked = Asked::new();
+    let answers = serve_three(Probe::of(ONES, &asked));
     holds!(rt; answers == [Answer::Given, Answer::Page(0), Answer::NotTaken]);
     same!(rt; (asked.fetches(), asked.other()), (2, 4));
+}
+
+// Returns whether two allocators have the same pages.
+fn have_the_same<B: BitsOwned>(ours: B, theirs: B) -> bool
+    requires { Fits B.indexable B.type_capacity }
+{
+    Pages::with_taken(ours).same_pages(&Pages::with_taken(theirs))
 }
 
 #[test]
 fn two_allocators_are_compared_word_by_word(rt: HostRuntime) {
     let (left, right) = (Asked::new(), Asked::new());
-    let ours = Pages::with_taken(Probe::of(ONES, &left));
-    let theirs = Pages::with_taken(Probe::of(ONES, &right));
-    holds!(rt; ours.same_pages(&theirs));
+    holds!(rt; have_the_same(Probe::of(ONES, &left), Probe::of(ONES, &right)));
     same!(rt; (left.fetches(), left.other()), (4, 0));
     same!(rt; (right.fetches(), right.other()), (4, 0));
 }

@@ -1,19 +1,50 @@
 //! What searches ask of their set: the words from one bound to the item, each once.
 
+ghost use Rattle.std.specs.Prelude.{◌≤◌};
+
 use crate::asked::Asked;
 use crate::checks::{holds, same};
 use crate::probe::Probe;
-use bittle::{BigEndian, Bits, LittleEndian};
+use bittle::{BigEndian, Bits, Endian, LittleEndian};
 
-// What a search of these bytes answers, and the words that it fetched, or `None` where it fetched
-// one twice or asked anything else.
-macro_rules! search_of {
-    ($bytes:expr, $search:ident::<$order:ident>($from:literal, $to:literal)) => {{
-        let asked = Asked::new();
-        let probe = Probe::of($bytes, &asked);
-        let found = probe.$search::<$order>($from, $to);
-        (found, asked.words_once())
-    }};
+// What a search answers, and the words that it fetched, or `None` where it fetched one twice or
+// asked anything else.
+type Found = (Option<u32>, Option<u64>);
+
+fn first_one<E: Endian>(bytes: [u8; 4], from: u32, to: u32) -> Found
+    requires ordered { from ≤ to }
+    requires within { to ≤ 32 }
+{
+    let asked = Asked::new();
+    let found = Probe::of(bytes, &asked).first_one_in::<E>(from, to);
+    (found, asked.words_once())
+}
+
+fn last_one<E: Endian>(bytes: [u8; 4], from: u32, to: u32) -> Found
+    requires ordered { from ≤ to }
+    requires within { to ≤ 32 }
+{
+    let asked = Asked::new();
+    let found = Probe::of(bytes, &asked).last_one_in::<E>(from, to);
+    (found, asked.words_once())
+}
+
+fn first_zero<E: Endian>(bytes: [u8; 4], from: u32, to: u32) -> Found
+    requires ordered { from ≤ to }
+    requires within { to ≤ 32 }
+{
+    let asked = Asked::new();
+    let found = Probe::of(bytes, &asked).first_zero_in::<E>(from, to);
+    (found, asked.words_once())
+}
+
+fn last_zero<E: Endian>(bytes: [u8; 4], from: u32, to: u32) -> Found
+    requires ordered { from ≤ to }
+    requires within { to ≤ 32 }
+{
+    let asked = Asked::new();
+    let found = Probe::of(bytes, &asked).last_zero_in::<E>(from, to);
+    (found, asked.words_once())
 }
 
 // The members are 4, 8 and 31, and in little-endian order 3, 15 and 24.
@@ -24,49 +55,49 @@ const MOST: [u8; 4] = [0xEF, 0xFE, 0xFF, 0x7F];
 
 #[test]
 fn searches_of_the_first_one_fetch_up_to_it(rt: HostRuntime) {
-    let found = search_of!(FEW, first_one_in::<BigEndian>(5, 32));
+    let found = first_one::<BigEndian>(FEW, 5, 32);
     same!(rt; found, (Some(8), Some(0b0011)));
-    let found = search_of!(FEW, first_one_in::<BigEndian>(9, 24));
+    let found = first_one::<BigEndian>(FEW, 9, 24);
     same!(rt; found, (None, Some(0b0110)));
-    let found = search_of!(FEW, first_one_in::<LittleEndian>(4, 32));
+    let found = first_one::<LittleEndian>(FEW, 4, 32);
     same!(rt; found, (Some(15), Some(0b0011)));
-    let found = search_of!(FEW, first_one_in::<LittleEndian>(4, 4));
+    let found = first_one::<LittleEndian>(FEW, 4, 4);
     same!(rt; found, (None, Some(0)));
 }
 
 #[test]
 fn searches_of_the_last_one_fetch_down_to_it(rt: HostRuntime) {
-    let found = search_of!(FEW, last_one_in::<BigEndian>(0, 31));
+    let found = last_one::<BigEndian>(FEW, 0, 31);
     same!(rt; found, (Some(8), Some(0b1110)));
-    let found = search_of!(FEW, last_one_in::<BigEndian>(9, 24));
+    let found = last_one::<BigEndian>(FEW, 9, 24);
     same!(rt; found, (None, Some(0b0110)));
-    let found = search_of!(FEW, last_one_in::<LittleEndian>(0, 24));
+    let found = last_one::<LittleEndian>(FEW, 0, 24);
     same!(rt; found, (Some(15), Some(0b0110)));
-    let found = search_of!(FEW, last_one_in::<LittleEndian>(15, 15));
+    let found = last_one::<LittleEndian>(FEW, 15, 15);
     same!(rt; found, (None, Some(0)));
 }
 
 #[test]
 fn searches_of_the_first_zero_fetch_up_to_it(rt: HostRuntime) {
-    let found = search_of!(MOST, first_zero_in::<BigEndian>(5, 32));
+    let found = first_zero::<BigEndian>(MOST, 5, 32);
     same!(rt; found, (Some(8), Some(0b0011)));
-    let found = search_of!(MOST, first_zero_in::<BigEndian>(9, 24));
+    let found = first_zero::<BigEndian>(MOST, 9, 24);
     same!(rt; found, (None, Some(0b0110)));
-    let found = search_of!(MOST, first_zero_in::<LittleEndian>(4, 32));
+    let found = first_zero::<LittleEndian>(MOST, 4, 32);
     same!(rt; found, (Some(15), Some(0b0011)));
-    let found = search_of!(MOST, first_zero_in::<LittleEndian>(4, 4));
+    let found = first_zero::<LittleEndian>(MOST, 4, 4);
     same!(rt; found, (None, Some(0)));
 }
 
 #[test]
 fn searches_of_the_last_zero_fetch_down_to_it(rt: HostRuntime) {
-    let found = search_of!(MOST, last_zero_in::<BigEndian>(0, 31));
+    let found = last_zero::<BigEndian>(MOST, 0, 31);
     same!(rt; found, (Some(8), Some(0b1110)));
-    let found = search_of!(MOST, last_zero_in::<BigEndian>(9, 24));
+    let found = last_zero::<BigEndian>(MOST, 9, 24);
     same!(rt; found, (None, Some(0b0110)));
-    let found = search_of!(MOST, last_zero_in::<LittleEndian>(0, 24));
+    let found = last_zero::<LittleEndian>(MOST, 0, 24);
     same!(rt; found, (Some(15), Some(0b0110)));
-    let found = search_of!(MOST, last_zero_in::<LittleEndian>(15, 15));
+    let found = last_zero::<LittleEndian>(MOST, 15, 15);
     same!(rt; found, (None, Some(0)));
 }
 

@@ -1,11 +1,15 @@
 //! What iterators and joins ask of their set: each word once.
 
+ghost use Rattle.std.specs.Prelude.{IsTrue};
+
 use crate::asked::Asked;
 use crate::checks::{holds, same};
 use crate::probe::{ONES, Probe, ZEROS};
 use bittle::replay::{Step, replay_walk};
-use bittle::{BigEndian, Bits, BitsOwned};
+use bittle::{BigEndian, Bits, BitsOwned, Shape};
 use std::alloc::AllocError;
+use std::ops::Range;
+use std::process::Abort;
 
 // A step, what it answers, and how many words were fetched at most after it.
 type Stepped = (Step, Option<u32>, u32);
@@ -76,52 +80,100 @@ fn each_way(first: u32, last: u32) -> [[Stepped; 4]; 4] {
     ]
 }
 
+fn ones_be<B: BitsOwned>(set: B, asked: &Asked, steps: [Stepped; 4]) -> bool
+    requires { IsTrue B.indexable }
+{
+    is_frugal(set.iter_ones_be(), asked, steps)
+}
+
+fn ones_le<B: BitsOwned>(set: B, asked: &Asked, steps: [Stepped; 4]) -> bool
+    requires { IsTrue B.indexable }
+{
+    is_frugal(set.iter_ones_le(), asked, steps)
+}
+
+fn zeros_be<B: BitsOwned>(set: B, asked: &Asked, steps: [Stepped; 4]) -> bool
+    requires { IsTrue B.indexable }
+{
+    is_frugal(set.iter_zeros_be(), asked, steps)
+}
+
+fn zeros_le<B: BitsOwned>(set: B, asked: &Asked, steps: [Stepped; 4]) -> bool
+    requires { IsTrue B.indexable }
+{
+    is_frugal(set.iter_zeros_le(), asked, steps)
+}
+
+fn owned_ones_be<B: BitsOwned>(set: B, asked: &Asked, steps: [Stepped; 4]) -> bool
+    requires { IsTrue B.indexable }
+{
+    is_frugal(set.into_iter_ones_be(), asked, steps)
+}
+
+fn owned_ones_le<B: BitsOwned>(set: B, asked: &Asked, steps: [Stepped; 4]) -> bool
+    requires { IsTrue B.indexable }
+{
+    is_frugal(set.into_iter_ones_le(), asked, steps)
+}
+
+fn owned_zeros_be<B: BitsOwned>(set: B, asked: &Asked, steps: [Stepped; 4]) -> bool
+    requires { IsTrue B.indexable }
+{
+    is_frugal(set.into_iter_zeros_be(), asked, steps)
+}
+
+fn owned_zeros_le<B: BitsOwned>(set: B, asked: &Asked, steps: [Stepped; 4]) -> bool
+    requires { IsTrue B.indexable }
+{
+    is_frugal(set.into_iter_zeros_le(), asked, steps)
+}
+
 // Whether a walk of this form over these bytes is frugal.
 macro_rules! walks_frugally {
     ($form:ident, $bytes:expr, $steps:expr) => {{
         let asked = Asked::new();
         let probe = Probe::of($bytes, &asked);
-        is_frugal(probe.$form(), &asked, $steps)
+        $form(probe, &asked, $steps)
     }};
 }
 
 #[test]
 fn walks_of_ones_fetch_each_word_once(rt: HostRuntime) {
     for steps in each_way(0, 31) {
-        holds!(rt; walks_frugally!(iter_ones_be, ONES, steps));
+        holds!(rt; walks_frugally!(ones_be, ONES, steps));
     }
     for steps in each_way(7, 24) {
-        holds!(rt; walks_frugally!(iter_ones_le, ONES, steps));
+        holds!(rt; walks_frugally!(ones_le, ONES, steps));
     }
 }
 
 #[test]
 fn owned_walks_of_ones_fetch_each_word_once(rt: HostRuntime) {
     for steps in each_way(0, 31) {
-        holds!(rt; walks_frugally!(into_iter_ones_be, ONES, steps));
+        holds!(rt; walks_frugally!(owned_ones_be, ONES, steps));
     }
     for steps in each_way(7, 24) {
-        holds!(rt; walks_frugally!(into_iter_ones_le, ONES, steps));
+        holds!(rt; walks_frugally!(owned_ones_le, ONES, steps));
     }
 }
 
 #[test]
 fn walks_of_zeros_fetch_each_word_once(rt: HostRuntime) {
     for steps in each_way(0, 31) {
-        holds!(rt; walks_frugally!(iter_zeros_be, ZEROS, steps));
+        holds!(rt; walks_frugally!(zeros_be, ZEROS, steps));
     }
     for steps in each_way(7, 24) {
-        holds!(rt; walks_frugally!(iter_zeros_le, ZEROS, steps));
+        holds!(rt; walks_frugally!(zeros_le, ZEROS, steps));
     }
 }
 
 #[test]
 fn owned_walks_of_zeros_fetch_each_word_once(rt: HostRuntime) {
     for steps in each_way(0, 31) {
-        holds!(rt; walks_frugally!(into_iter_zeros_be, ZEROS, steps));
+        holds!(rt; walks_frugally!(owned_zeros_be, ZEROS, steps));
     }
     for steps in each_way(7, 24) {
-        holds!(rt; walks_frugally!(into_iter_zeros_le, ZEROS, steps));
+        holds!(rt; walks_frugally!(owned_zeros_le, ZEROS, steps));
     }
 }
 
@@ -145,60 +197,121 @@ fn clones_frugally<W: DoubleEndedIterator<Item = u32> + Clone>(mut walk: W, aske
     good && answers(&mut walk, asked, (Step::Front, None, 6))
 }
 
-#[test]
-fn clones_fetch_what_their_source_has_left(rt: HostRuntime) {
-    let asked = Asked::new();
-    holds!(rt; clones_frugally(Probe::of(ONES, &asked).iter_ones_be(), &asked));
-    let asked = Asked::new();
-    holds!(rt; clones_frugally(Probe::of(ZEROS, &asked).iter_zeros_be(), &asked));
-    let asked = Asked::new();
-    holds!(rt; clones_frugally(Probe::of(ONES, &asked).into_iter_ones_be(), &asked));
-    let asked = Asked::new();
-    holds!(rt; clones_frugally(Probe::of(ZEROS, &asked).into_iter_zeros_be(), &asked));
+fn clones_of_ones<B: BitsOwned>(set: B, asked: &Asked) -> bool
+    requires { IsTrue B.indexable }
+{
+    clones_frugally(set.iter_ones_be(), asked)
+}
+
+fn clones_of_zeros<B: BitsOwned>(set: B, asked: &Asked) -> bool
+    requires { IsTrue B.indexable }
+{
+    clones_frugally(set.iter_zeros_be(), asked)
+}
+
+fn clones_of_owned_ones<B: BitsOwned>(set: B, asked: &Asked) -> bool
+    requires { IsTrue B.indexable }
+{
+    clones_frugally(set.into_iter_ones_be(), asked)
+}
+
+fn clones_of_owned_zeros<B: BitsOwned>(set: B, asked: &Asked) -> bool
+    requires { IsTrue B.indexable }
+{
+    clones_frugally(set.into_iter_zeros_be(), asked)
 }
 
 #[test]
-fn joins_fetch_each_word_of_their_mask_once(rt: HostRuntime) {
+fn clones_fetch_what_their_source_has_left(rt: HostRuntime) {
     let asked = Asked::new();
-    let probe = Probe::of(ONES, &asked);
-    let mut join = probe.join_ones(100..140);
-    for (item, words) in [(Some(100), 2), (Some(131), 4), (None, 4), (None, 4)] {
+    holds!(rt; clones_of_ones(Probe::of(ONES, &asked), &asked));
+    let asked = Asked::new();
+    holds!(rt; clones_of_zeros(Probe::of(ZEROS, &asked), &asked));
+    let asked = Asked::new();
+    holds!(rt; clones_of_owned_ones(Probe::of(ONES, &asked), &asked));
+    let asked = Asked::new();
+    holds!(rt; clones_of_owned_zeros(Probe::of(ZEROS, &asked), &asked));
+}
+
+// Asks for each item of a join, with how many words were fetched at most after it.
+fn join<B: BitsOwned>(
+    rt: &impl Abort,
+    mask: B,
+    numbers: Range<u32>,
+    asked: &Asked,
+    steps: [(Option<u32>, u32); 4],
+)
+    requires { IsTrue B.indexable }
+{
+    let mut join = mask.join_ones(numbers);
+    for (item, words) in steps {
         same!(rt; join.next(), item);
         holds!(rt; asked.is_at_most(words));
     }
 }
 
 #[test]
-fn joins_fetch_nothing_after_the_end_of_their_iterator(rt: HostRuntime) {
+fn joins_fetch_each_word_of_their_mask_once(rt: HostRuntime) {
     let asked = Asked::new();
-    let probe = Probe::of([3, 0, 0, 128], &asked);
-    let mut join = probe.join_ones(100..101);
-    for item in [Some(100), None, None, None] {
-        same!(rt; join.next(), item);
-        holds!(rt; asked.is_at_most(2));
-    }
+    let steps = [(Some(100), 2), (Some(131), 4), (None, 4), (None, 4)];
+    join(&rt, Probe::of(ONES, &asked), 100..140, &asked, steps);
 }
 
 #[test]
-fn walks_of_twelve_words_fetch_each_once(rt: HostRuntime) {
+fn joins_fetch_nothing_after_the_end_of_their_iterator(rt: HostRuntime) {
     let asked = Asked::new();
-    let row = [Probe::of(ONES, &asked); 3];
-    let mut walk = row.iter_ones();
+    let steps = [(Some(100), 2), (None, 2), (None, 2), (None, 2)];
+    join(
+        &rt,
+        Probe::of([3, 0, 0, 128], &asked),
+        100..101,
+        &asked,
+        steps,
+    );
+}
+
+fn walk_ones<B: BitsOwned>(rt: &impl Abort, set: B, asked: &Asked)
+    requires { IsTrue B.indexable }
+{
+    let mut walk = set.iter_ones();
     for item in [0, 31, 32, 63, 64, 95] {
         same!(rt; walk.next(), Some(item));
     }
     holds!(rt; walk.next().is_none() && asked.is_at_most(12));
 }
 
+fn walk_ones_of_row<T: BitsOwned>(rt: &impl Abort, row: [T; 3], asked: &Asked)
+    requires { IsTrue ⟦<[T; 3] as Shape>⟧.indexable }
+{
+    walk_ones(rt, row, asked);
+}
+
 #[test]
-fn owned_walks_of_twelve_words_fetch_each_once(rt: HostRuntime) {
+fn walks_of_twelve_words_fetch_each_once(rt: HostRuntime) {
     let asked = Asked::new();
-    let row = [Probe::of(ONES, &asked); 3];
-    let mut walk = row.into_iter_ones();
+    walk_ones_of_row(&rt, [Probe::of(ONES, &asked); 3], &asked);
+}
+
+fn walk_owned_ones<B: BitsOwned>(rt: &impl Abort, set: B, asked: &Asked)
+    requires { IsTrue B.indexable }
+{
+    let mut walk = set.into_iter_ones();
     for item in [95, 64, 63, 32, 31, 0] {
         same!(rt; walk.next_back(), Some(item));
     }
     holds!(rt; walk.next_back().is_none() && asked.is_at_most(12));
+}
+
+fn walk_owned_ones_of_row<T: BitsOwned>(rt: &impl Abort, row: [T; 3], asked: &Asked)
+    requires { IsTrue ⟦<[T; 3] as Shape>⟧.indexable }
+{
+    walk_owned_ones(rt, row, asked);
+}
+
+#[test]
+fn owned_walks_of_twelve_words_fetch_each_once(rt: HostRuntime) {
+    let asked = Asked::new();
+    walk_owned_ones_of_row(&rt, [Probe::of(ONES, &asked); 3], &asked);
 }
 
 #[test]
@@ -225,12 +338,34 @@ fn clones_for_nothing<W: Iterator<Item = u32> + Clone>(walk: W, asked: &Asked) -
     asked.is_at_most(2) && other.next() == Some(0) && asked.is_at_most(2)
 }
 
+fn ones_clone_for_nothing<B: BitsOwned>(set: B, asked: &Asked) -> bool
+    requires { IsTrue B.indexable }
+{
+    clones_for_nothing(set.iter_ones(), asked)
+}
+
+fn owned_ones_clone_for_nothing<B: BitsOwned>(set: B, asked: &Asked) -> bool
+    requires { IsTrue B.indexable }
+{
+    clones_for_nothing(set.into_iter_ones(), asked)
+}
+
+fn ones_of_row_clone_for_nothing<T: BitsOwned>(row: [T; 3], asked: &Asked) -> bool
+    requires { IsTrue ⟦<[T; 3] as Shape>⟧.indexable }
+{
+    ones_clone_for_nothing(row, asked)
+}
+
+fn owned_ones_of_row_clone_for_nothing<T: BitsOwned>(row: [T; 3], asked: &Asked) -> bool
+    requires { IsTrue ⟦<[T; 3] as Shape>⟧.indexable }
+{
+    owned_ones_clone_for_nothing(row, asked)
+}
+
 #[test]
 fn a_clone_of_an_iterator_over_twelve_words_asks_nothing(rt: HostRuntime) {
     let asked = Asked::new();
-    let row = [Probe::of(ONES, &asked); 3];
-    holds!(rt; clones_for_nothing(row.iter_ones(), &asked));
+    holds!(rt; ones_of_row_clone_for_nothing([Probe::of(ONES, &asked); 3], &asked));
     let asked = Asked::new();
-    let row = [Probe::of(ONES, &asked); 3];
-    holds!(rt; clones_for_nothing(row.into_iter_ones(), &asked));
+    holds!(rt; owned_ones_of_row_clone_for_nothing([Probe::of(ONES, &asked); 3], &asked));
 }
