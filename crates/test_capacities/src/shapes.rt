@@ -1,57 +1,76 @@
 //! One list of calls on shapes of every nesting, and on slices of the caller.
 
-ghost use Rattle.std.specs.Prelude.{IsTrue};
+ghost use Rattle.std.specs.Prelude.{◌*◌, IsTrue, length};
+ghost use Rattle.bittle.specs.Shapes.{Fits};
 ghost use Rattle.bittle.specs.Values.{ShapeFits};
 
 use crate::checks::same;
 use bittle::replay::{Call, Reply, replay};
 use bittle::{BigEndian, BitsMut, BitsOwned, Endian, LittleEndian};
+use std::fmt::Debug;
 use std::process::Abort;
 
-// The sets that an index leaves, put into an empty one in big-endian and in little-endian order.
-fn put_each_way<B: BitsOwned>(rt: &impl Abort, big: u32, little: u32, capacity: u32) -> [B; 2]
+// Puts an index into an empty set in big-endian order, and one in little-endian order.
+fn put_each_way<B: BitsOwned + Debug>(
+    rt: &impl Abort,
+    big: u32,
+    little: u32,
+    capacity: u32,
+    expected: [B; 2],
+)
     requires { IsTrue B.indexable }
 {
     let mut sets = [B::zeros(); 2];
     put_and_ask::<B, BigEndian>(rt, &mut sets[0], big, capacity);
     put_and_ask::<B, LittleEndian>(rt, &mut sets[1], little, capacity);
-    sets
+    same!(rt; sets, expected);
 }
 
 #[test]
 fn nested_arrays(rt: HostRuntime) {
-    let bytes: [[[u8; 2]; 2]; 2] = put_each_way(&rt, 49, 17, 32);
-    same!(rt; bytes, [[[0, 0], [2, 0]], [[0, 0], [64, 0]]]);
+    let expected: [[[u8; 2]; 2]; 2] = [[[0, 0], [2, 0]], [[0, 0], [64, 0]]];
+    put_each_way(&rt, 49, 17, 32, expected);
 
     // The same calls on another shape of the same capacity.
     let mut word = 0i32;
     put_and_ask::<i32, BigEndian>(&rt, &mut word, 49, 32);
     same!(rt; word, 131_072);
 
-    let words: [[[[u16; 3]; 2]; 2]; 2] = put_each_way(&rt, 100, 292, 192);
-    let expected = [
+    let expected: [[[[u16; 3]; 2]; 2]; 2] = [
         [[[0, 0, 0], [0, 0, 0]], [[16, 0, 0], [0, 0, 0]]],
         [[[0, 0, 0], [0, 0, 0]], [[2048, 0, 0], [0, 0, 0]]],
     ];
-    same!(rt; words, expected);
+    put_each_way(&rt, 100, 292, 192, expected);
+}
+
+// Puts an index into a slice without members.
+fn put_into<T: BitsOwned, E: Endian>(
+    rt: &impl Abort,
+    mut slice: &mut [T],
+    index: u32,
+    capacity: u32,
+)
+    requires { Fits T.indexable (length slice.old * T.type_capacity) }
+{
+    put_and_ask::<&mut [T], E>(rt, &mut slice, index, capacity);
 }
 
 #[test]
 fn slices(rt: HostRuntime) {
     let mut words = [0i64; 5];
-    put_and_ask::<&mut [i64], LittleEndian>(&rt, &mut &mut words[..], 384, 320);
-    put_and_ask::<&mut [i64], BigEndian>(&rt, &mut &mut words[..1], 67, 64);
+    put_into::<i64, LittleEndian>(&rt, &mut words[..], 384, 320);
+    put_into::<i64, BigEndian>(&rt, &mut words[..1], 67, 64);
     same!(rt; words, [8, i64::MIN, 0, 0, 0]);
     words = [0; 5];
-    put_and_ask::<&mut [i64], BigEndian>(&rt, &mut &mut words[..], 384, 320);
-    put_and_ask::<&mut [i64], LittleEndian>(&rt, &mut &mut words[..1], 64, 64);
+    put_into::<i64, BigEndian>(&rt, &mut words[..], 384, 320);
+    put_into::<i64, LittleEndian>(&rt, &mut words[..1], 64, 64);
     same!(rt; words, [i64::MIN, 1, 0, 0, 0]);
     no_words::<BigEndian>(&rt);
     no_words::<LittleEndian>(&rt);
 
     let mut pairs = [[0u8; 2]; 3];
-    put_and_ask::<&mut [[u8; 2]], LittleEndian>(&rt, &mut &mut pairs[..], 40, 48);
-    put_and_ask::<&mut [[u8; 2]], BigEndian>(&rt, &mut &mut pairs[..2], 40, 32);
+    put_into::<[u8; 2], LittleEndian>(&rt, &mut pairs[..], 40, 48);
+    put_into::<[u8; 2], BigEndian>(&rt, &mut pairs[..2], 40, 32);
     same!(rt; pairs, [[0, 1], [0, 0], [0, 128]]);
 }
 

@@ -6,7 +6,8 @@ ghost use Rattle.bittle.specs.Values.{ShapeFits};
 
 use crate::checks::{holds, same};
 use bittle::prelude::*;
-use bittle::{BigEndian, LittleEndian, Set, set, set_be, set_le};
+use bittle::walk::{IntoIterOnes, IntoIterZeros, IterOnes, IterZeros};
+use bittle::{BigEndian, Endian, LittleEndian, Set, set, set_be, set_le};
 use std::alloc::{AllocError, Global};
 use std::cmp::Ordering;
 use std::process::Abort;
@@ -50,15 +51,47 @@ fn is_over<W: DoubleEndedIterator<Item = u32>>(mut walk: W) -> bool
     walk.next().is_none() && walk.next_back().is_none()
 }
 
+fn no_ones<B: Bits, E: Endian>(walk: IterOnes<'_, B, E>) -> bool {
+    is_over(walk)
+}
+
+fn no_ones_turned<B: Bits, E: Endian>(walk: IterOnes<'_, B, E>) -> bool {
+    is_over(walk.rev())
+}
+
+fn no_zeros<B: Bits, E: Endian>(walk: IterZeros<'_, B, E>) -> bool {
+    is_over(walk)
+}
+
+fn no_zeros_turned<B: Bits, E: Endian>(walk: IterZeros<'_, B, E>) -> bool {
+    is_over(walk.rev())
+}
+
+fn no_owned_ones<B: BitsOwned, E: Endian>(walk: IntoIterOnes<B, E>) -> bool {
+    is_over(walk)
+}
+
+fn no_owned_ones_turned<B: BitsOwned, E: Endian>(walk: IntoIterOnes<B, E>) -> bool {
+    is_over(walk.rev())
+}
+
+fn no_owned_zeros<B: BitsOwned, E: Endian>(walk: IntoIterZeros<B, E>) -> bool {
+    is_over(walk)
+}
+
+fn no_owned_zeros_turned<B: BitsOwned, E: Endian>(walk: IntoIterZeros<B, E>) -> bool {
+    is_over(walk.rev())
+}
+
 // Whether each iterator over the ones yields nothing.
 fn ones_are_over<B: Bits>(bits: &B) -> [bool; 4]
     requires { ShapeFits B.Shape bits.now }
 {
     [
-        is_over(bits.iter_ones()),
-        is_over(bits.iter_ones_le()),
-        is_over(bits.iter_ones_be()),
-        is_over(bits.iter_ones().rev()),
+        no_ones(bits.iter_ones()),
+        no_ones(bits.iter_ones_le()),
+        no_ones(bits.iter_ones_be()),
+        no_ones_turned(bits.iter_ones()),
     ]
 }
 
@@ -67,10 +100,10 @@ fn zeros_are_over<B: Bits>(bits: &B) -> [bool; 4]
     requires { ShapeFits B.Shape bits.now }
 {
     [
-        is_over(bits.iter_zeros()),
-        is_over(bits.iter_zeros_le()),
-        is_over(bits.iter_zeros_be()),
-        is_over(bits.iter_zeros().rev()),
+        no_zeros(bits.iter_zeros()),
+        no_zeros(bits.iter_zeros_le()),
+        no_zeros(bits.iter_zeros_be()),
+        no_zeros_turned(bits.iter_zeros()),
     ]
 }
 
@@ -199,19 +232,19 @@ fn makes_nothing_without<B: BitsOwned>(rt: &impl Abort, bits: B, index: u32)
 fn yields_no_owned_ones<B: BitsOwned>(rt: &impl Abort, bits: B)
     requires { IsTrue B.indexable }
 {
-    holds!(rt; is_over(bits.into_iter_ones()));
-    holds!(rt; is_over(bits.into_iter_ones_le()));
-    holds!(rt; is_over(bits.into_iter_ones_be()));
-    holds!(rt; is_over(bits.into_iter_ones().rev()));
+    holds!(rt; no_owned_ones(bits.into_iter_ones()));
+    holds!(rt; no_owned_ones(bits.into_iter_ones_le()));
+    holds!(rt; no_owned_ones(bits.into_iter_ones_be()));
+    holds!(rt; no_owned_ones_turned(bits.into_iter_ones()));
 }
 
 fn yields_no_owned_zeros<B: BitsOwned>(rt: &impl Abort, bits: B)
     requires { IsTrue B.indexable }
 {
-    holds!(rt; is_over(bits.into_iter_zeros()));
-    holds!(rt; is_over(bits.into_iter_zeros_le()));
-    holds!(rt; is_over(bits.into_iter_zeros_be()));
-    holds!(rt; is_over(bits.into_iter_zeros().rev()));
+    holds!(rt; no_owned_zeros(bits.into_iter_zeros()));
+    holds!(rt; no_owned_zeros(bits.into_iter_zeros_le()));
+    holds!(rt; no_owned_zeros(bits.into_iter_zeros_be()));
+    holds!(rt; no_owned_zeros_turned(bits.into_iter_zeros()));
 }
 
 // What each macro makes of any list.
@@ -278,14 +311,22 @@ fn wrapped_owned<B: BitsOwned>(rt: &impl Abort) {
     owned::<Set<B, LittleEndian>>(rt);
 }
 
+fn reads_wrapped<B: Bits, E: Endian>(rt: &impl Abort, set: &Set<B, E>) {
+    reads(rt, set);
+}
+
+fn writes_wrapped<B: BitsMut, E: Endian>(rt: &impl Abort, set: &mut Set<B, E>) {
+    writes(rt, set);
+}
+
 // What each call of a wrapped slice returns, shared and lent, in either order.
 fn wrapped_slice<T: BitsOwned>(rt: &impl Abort, slice: &mut [T])
     requires { Fits T.indexable (length slice.old * T.type_capacity) }
 {
-    reads(rt, &Set::from_ref(slice));
-    reads(rt, &Set::from_ref_le(slice));
-    writes(rt, &mut Set::from_mut(slice));
-    writes(rt, &mut Set::from_mut_le(slice));
+    reads_wrapped(rt, &Set::from_ref(slice));
+    reads_wrapped(rt, &Set::from_ref_le(slice));
+    writes_wrapped(rt, &mut Set::from_mut(slice));
+    writes_wrapped(rt, &mut Set::from_mut_le(slice));
 }
 
 #[test]
