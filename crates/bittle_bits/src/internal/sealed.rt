@@ -3,7 +3,7 @@
 pub use crate::internal::buffer::Count;
 pub use crate::walk::Counted;
 
-/// A type that no crate which names `bittle` alone can name, and that has no value: such a crate can
-/// implement no trait with a function over it.
+/// A type that no crate which names `bittle` alone can name: such a crate can implement no trait
+/// with a function over it.
 #[derive(Drop)]
-pub enum Sealed {}
+pub struct Sealed {}
