@@ -259,6 +259,11 @@ impl<T: Bits, U: Endian> Bits for Set<T, U> {
     ghost none_past = { λ s. T.none_past s.bits };
 
     #[inline]
+    fn is_fixed() -> bool {
+        T::is_fixed()
+    }
+
+    #[inline]
     fn bits_capacity(&self) -> u32 {
         self.bits.bits_capacity()
     }

@@ -2,12 +2,12 @@
 use Rattle.std.proofs.Common.{◌≡◌, ℕ, zero, suc, ◌+◌, ◌*◌, ◌<◌, ◌≤◌, Bool, inl, inr, refl, sym, ap, ◌∙◌, arith, List, [], ◌∷◌, length, get_or, set}
 use Rattle.std.proofs.Math.Path.{fun_ext}
 use Rattle.std.proofs.Math.Nat.{mul-le-mul_right}
-use Rattle.std.proofs.lemmas.List.{get_or-set_same, get_or-set_other}
+use Rattle.std.proofs.lemmas.List.{get_or-set_same, get_or-set_other, length-set}
 use Rattle.std.proofs.lemmas.Nat.{mul-add-lt}
 use Rattle.std.proofs.lemmas.Bool.{cases_eq, cases_lt}
 use Rattle.bittle_bits.specs.RowLawProofs.{row_has-past}
 use Rattle.bittle_bits.specs.PlainSet.{PlainSet}
-use Rattle.bittle_bits.specs.Rows.{at_element, row_has, row_set}
+use Rattle.bittle_bits.specs.Rows.{at_element, row_has, row_set, IsCombinedBelow}
 use Rattle.bittle_bits.specs.SetOperations.{combination_has, combination_of}
 use Rattle.bittle_bits.proofs.PlainSets.{plain_set}
 use Rattle.bittle_bits.proofs.RowSets.{elements_has_at, by_place}
@@ -98,29 +98,23 @@ get_or-any [] n d e h = absurd (omega arith)
 get_or-any (x ∷ xs) zero d e h = refl
 get_or-any (x ∷ xs) (suc n) d e h = get_or-any xs n d e (omega arith)
 
--- one more element of a row: of the row xs, now zs, the elements below i are done and the later
--- ones as they were
-module _ {X : Type 0} (f : Bool → Bool → Bool) (big : X → PlainSet) (xs ys zs : List X) (i : ℕ)
-    (x y z : X) (same : length zs ≡ length xs) (within : i < length xs) (rest : (k : ℕ) (d : X) →
-    i ≤ k → get_or zs k d ≡ get_or xs k d) where
-  -- once element i is combined, it and the elements before it are done
-  pub more_done : i < length ys → y ≡ get_or ys i y →
-      big z ≡ combination_of f (big (get_or zs i x)) (big y) →
-      ((k : ℕ) (d : X) → k < i → big (get_or zs k d) ≡ combination_of f (big (get_or xs k d))
-      (big (get_or ys k d))) → (k : ℕ) (d : X) → k < i + 1 →
-      big (get_or (set zs i z) k d) ≡ combination_of f (big (get_or xs k d)) (big (get_or ys k d))
-  more_done also beside is done k d h =
-      elim (cases_eq k i) [
-        | inl e ↦
-            let first : get_or zs i x ≡ get_or xs i d = get_or-any zs i x d (omega arith)
-            ∙ rest i d (omega arith) in
-            let second : y ≡ get_or ys i d = beside ∙ get_or-any ys i y d also in
-            rw e (ap big (get_or-set_same zs i z d (omega arith)) ∙ is
-            ∙ ap (λ u. combination_of f (big u) (big y)) first
-            ∙ ap (λ u. combination_of f (big (get_or xs i d)) (big u)) second)
-        | inr n ↦ ap big (get_or-set_other zs i k z d n) ∙ done k d (omega arith)
-      ]
-
-  -- the elements past it are as they were
-  pub still_rest : (k : ℕ) (d : X) → i + 1 ≤ k → get_or (set zs i z) k d ≡ get_or xs k d
-  still_rest k d h = get_or-set_other zs i k z d (λ e. omega arith) ∙ rest k d (omega arith)
+-- one more element of a row: of the row xs, now zs, the elements below i are combined with those of
+-- ys, and the one at i becomes z, which is combined with its counterpart y
+pub one_more_combined : {X : Type 0} (f : Bool → Bool → Bool) (big : X → PlainSet)
+    (xs ys zs : List X) (i : ℕ) (x y z : X) → i < length zs → i < length ys → get_or ys i y ≡ y →
+    big z ≡ combination_of f (big (get_or zs i x)) (big y) → IsCombinedBelow f big xs ys zs i →
+    IsCombinedBelow f big xs ys (set zs i z) (i + 1)
+one_more_combined f big xs ys zs i x y z within also beside is old = record {
+  same = length-set zs i z ∙ old.same;
+  done = λ k d h. elim (cases_eq k i) [
+    | inl e ↦
+        let first : get_or zs i x ≡ get_or xs i d = get_or-any zs i x d within
+        ∙ old.rest i d (omega arith) in
+        let second : y ≡ get_or ys i d = sym beside ∙ get_or-any ys i y d also in
+        rw e (ap big (get_or-set_same zs i z d within) ∙ is
+        ∙ ap (λ u. combination_of f (big u) (big y)) first
+        ∙ ap (λ u. combination_of f (big (get_or xs i d)) (big u)) second)
+    | inr n ↦ ap big (get_or-set_other zs i k z d n) ∙ old.done k d (omega arith)
+  ];
+  rest = λ k d h. get_or-set_other zs i k z d (λ e. omega arith) ∙ old.rest k d (omega arith);
+}

@@ -1,6 +1,7 @@
 -- A row of elements, as in an array or a slice, as one set.
-use Rattle.std.specs.Prelude.{◌≡◌, ℕ, zero, suc, ◌+◌, ◌<◌, ◌*◌, ◌/◌, ◌%◌, Bool, true, false, ◌&&◌, nat_lt, List, [], ◌∷◌}
+use Rattle.std.specs.Prelude.{◌≡◌, ℕ, zero, suc, ◌+◌, ◌<◌, ◌≤◌, ◌*◌, ◌/◌, ◌%◌, Bool, true, false, ◌&&◌, nat_lt, List, [], ◌∷◌, length, get_or}
 use Rattle.bittle_bits.specs.PlainSet.{PlainSet, with_index, without_index}
+use Rattle.bittle_bits.specs.SetOperations.{combination_of}
 
 -- the test of the element at a place of the row
 unfoldable pub at_element : {X : Type 0} → (X → Bool) → List X → ℕ → Bool
@@ -26,3 +27,12 @@ pub record GoesTo (n c i q r : ℕ) : Type 0 where
 abbrev pub with_bit : Bool → PlainSet → ℕ → PlainSet
 with_bit true = with_index
 with_bit false = without_index
+
+-- the row xs, now zs, has its elements below n combined with those of ys, and its later ones as they
+-- were
+pub record IsCombinedBelow {X : Type 0} (f : Bool → Bool → Bool) (big : X → PlainSet)
+    (xs ys zs : List X) (n : ℕ) : Type 0 where
+  pub same : length zs ≡ length xs
+  pub done : (k : ℕ) (d : X) → k < n →
+      big (get_or zs k d) ≡ combination_of f (big (get_or xs k d)) (big (get_or ys k d))
+  pub rest : (k : ℕ) (d : X) → n ≤ k → get_or zs k d ≡ get_or xs k d

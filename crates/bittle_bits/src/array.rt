@@ -60,6 +60,11 @@ impl<T: BitsOwned, const N: usize> Bits for [T; N] {
     ghost none_past = { λ v i h. row_has-past N T.type_capacity (λ x. (T.big x).has) v i h };
 
     #[inline]
+    fn is_fixed() -> bool {
+        true
+    }
+
+    #[inline]
     fn bits_capacity(&self) -> u32 {
         row::bits_capacity::<T>(self.len())
     }

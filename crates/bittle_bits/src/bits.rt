@@ -41,6 +41,14 @@ pub trait Bits: Drop + Shape {
         ensures value { ShapeFits Self.Shape self.now → result ≡ (Self.big self.now).capacity }
         ensures fits { result < 4294967295 → ShapeFits Self.Shape self.now };
 
+    /// Returns `true` if each value of the type has as many words. It decides the speed of an iterator
+    /// alone, so no clause speaks of it.
+    #[doc(hidden)]
+    #[inline]
+    fn is_fixed() -> bool {
+        false
+    }
+
     /// Returns how many bits are set, the same in both orders. The shape has to fit. With capacity
     /// 0 it returns 0.
     ///

@@ -53,6 +53,11 @@ impl<W: Integer> Bits for W {
     ghost none_past = { λ v. none_past_word _ _ _ (W.big_is_pattern v) };
 
     #[inline]
+    fn is_fixed() -> bool {
+        true
+    }
+
+    #[inline]
     fn bits_capacity(&self) -> u32 {
         W::width()
     }

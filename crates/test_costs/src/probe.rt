@@ -77,6 +77,10 @@ impl<'a> Bits for Probe<'a> {
 
     ghost none_past = { λ p i h. row_has-past 4 8 (λ x. (bit_set 8 x).has) p.bytes i h };
 
+    fn is_fixed() -> bool {
+        true
+    }
+
     fn bits_capacity(&self) -> u32 {
         self.bytes.bits_capacity()
     }

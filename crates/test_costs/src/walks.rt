@@ -1,6 +1,8 @@
 //! What iterators and joins ask of their set: each word once.
 
-ghost use Rattle.std.specs.Prelude.{IsTrue};
+ghost use Rattle.std.specs.Prelude.{◌*◌, length, IsTrue};
+ghost use Rattle.bittle.specs.Shapes.{Fits};
+ghost use Rattle.bittle.specs.Values.{ShapeFits};
 
 use crate::asked::Asked;
 use crate::checks::{holds, same};
@@ -368,4 +370,25 @@ fn a_clone_of_an_iterator_over_twelve_words_asks_nothing(rt: HostRuntime) {
     holds!(rt; ones_of_row_clone_for_nothing([Probe::of(ONES, &asked); 3], &asked));
     let asked = Asked::new();
     holds!(rt; owned_ones_of_row_clone_for_nothing([Probe::of(ONES, &asked); 3], &asked));
+}
+
+// Whether an iterator over a set fetches nothing at its start, and then one word for its first item.
+fn starts_for_nothing<B: Bits>(set: &B, asked: &Asked) -> bool
+    requires { ShapeFits B.Shape set.now }
+{
+    let mut walk = set.iter_ones_be();
+    asked.is_at_most(0) && walk.next() == Some(0) && asked.is_at_most(1)
+}
+
+fn slice_starts_for_nothing<T: BitsOwned>(row: &[T], asked: &Asked) -> bool
+    requires { Fits T.indexable (length row.now * T.type_capacity) }
+{
+    starts_for_nothing(&row, asked)
+}
+
+#[test]
+fn an_iterator_over_a_slice_fetches_nothing_at_its_start(rt: HostRuntime) {
+    let asked = Asked::new();
+    let row = [Probe::of(ONES, &asked); 3];
+    holds!(rt; slice_starts_for_nothing(&row, &asked));
 }

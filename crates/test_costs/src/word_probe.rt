@@ -67,6 +67,10 @@ impl<'a> Bits for WordProbe<'a> {
 
     ghost none_past = { λ p i h. bit_has-past 64 p.word i h };
 
+    fn is_fixed() -> bool {
+        true
+    }
+
     fn bits_capacity(&self) -> u32 {
         self.word.bits_capacity()
     }

@@ -25,8 +25,9 @@ pub struct Cursor<B: Shape, E: Endian> {
     pub items: Count,
 }
 
-/// Begins an iterator: loads the first word to the head, and the last one to the tail where there
-/// are two or more.
+/// Begins an iterator. Of a type of fixed length it loads the first word to the head, and the last one
+/// to the tail where there are two or more. Of a slice it loads none, so that an iterator which is
+/// stepped from one end alone has a buffer at that end alone.
 #[inline]
 pub fn begin<B: Bits, E: Endian, K: Kind>(source: &Source<'_, B>) -> Cursor<B, E>
     requires { ShapeFits B.Shape source.now.set.now }
@@ -43,6 +44,9 @@ pub fn begin<B: Bits, E: Endian, K: Kind>(source: &Source<'_, B>) -> Cursor<B, E
         items: Count::new(),
     };
     if at.low == at.high {
+        return at;
+    }
+    if !B::is_fixed() {
         return at;
     }
     at.buffers.fetch::<B, K>(true, source, at.low);
@@ -112,13 +116,11 @@ pub fn step<B: Bits, E: Endian, K: Kind, N: End>(
             at.buffers.fetch::<B, K>(false, source, at.high);
         }
     }
-    // No word is left between, so the one at the other end has all that remains. It changes its
-    // place, so that the next step finds it at once; the word of a set of one word stays.
+    // No word is left between, so the one at the other end has all that remains. It is scanned from
+    // this end, and stays where it is: nothing is moved where the exchanges are compiled.
     at.buffers.exchange();
     let found = at.buffers.scan::<N>();
-    if source.words() == 1 {
-        at.buffers.exchange();
-    }
+    at.buffers.exchange();
     let Some(item) = found else {
         return None;
     };

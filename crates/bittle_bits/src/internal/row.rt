@@ -1,10 +1,10 @@
 //! The calls on a row of elements, for arrays and for slices.
 
-ghost use Rattle.std.specs.Prelude.{◌≡◌, ◌+◌, ◌==◌, ◌*◌, ◌<◌, ◌≤◌, ℕ, Bool, true, false, cond, get_or, length, IsTrue, MatchOption};
+ghost use Rattle.std.specs.Prelude.{◌≡◌, ◌+◌, ◌==◌, ◌*◌, ◌<◌, ◌≤◌, ℕ, Bool, true, false, cond, get_or, length, IsTrue, List, MatchOption};
 ghost use Rattle.bittle_bits.specs.Orders.{read_in};
 ghost use Rattle.bittle_bits.specs.Pieces.{LiesAt};
 ghost use Rattle.bittle_bits.specs.PlainSet.{contains, with_span_changed, without_members, size};
-ghost use Rattle.bittle_bits.specs.Rows.{row_set, with_bit, GoesTo};
+ghost use Rattle.bittle_bits.specs.Rows.{row_set, with_bit, GoesTo, IsCombinedBelow};
 ghost use Rattle.bittle_bits.specs.SetOperations.{combination_of};
 ghost use Rattle.bittle_bits.specs.Shapes.{Fits};
 ghost use Rattle.bittle_bits.specs.BitPatterns.{bit_set};
@@ -176,7 +176,69 @@ pub fn assign_range<T: BitsOwned, E: Endian, O: RangeOperation>(
     assign_in_element::<T, E, O>(elements, last, 0, top + 1);
 }
 
-/// Combines the elements of the common beginning, each with its counterpart.
+// Combines the element at an index with another one. Where the row is `xs` with the elements before
+// that index combined with those of `ys`, and the other one is the counterpart, one more is.
+#[inline]
+fn combine_element<T: BitsOwned, O: Operation>(elements: &mut [T], at: usize, other: &T)
+    requires { at < length elements.old }
+    ensures one_more { (xs ys : List T) → at < length ys → get_or ys at other.now ≡ other.now
+        → IsCombinedBelow O.decide T.big xs ys elements.old at
+        → IsCombinedBelow O.decide T.big xs ys elements.new (at + 1) }
+    ensures length { length elements.new ≡ length elements.old }
+{
+    elements[at].assign_by_operation::<O>(other);
+}
+
+// Combines four elements with their counterparts, which are read before any is changed: so the
+// machine need not ask whether the two rows overlap.
+#[inline]
+fn combine_four<T: BitsOwned, O: Operation>(elements: &mut [T], others: &[T], from: usize)
+    requires elements { from + 4 ≤ length elements.old }
+    requires others { from + 4 ≤ length others.now }
+    ensures four_more { (xs : List T) → IsCombinedBelow O.decide T.big xs others.now elements.old from
+        → IsCombinedBelow O.decide T.big xs others.now elements.new (from + 4) }
+    ensures length { length elements.new ≡ length elements.old }
+{
+    let first = others[from];
+    let second = others[from + 1];
+    let third = others[from + 2];
+    let fourth = others[from + 3];
+    combine_element::<T, O>(elements, from, &first);
+    combine_element::<T, O>(elements, from + 1, &second);
+    combine_element::<T, O>(elements, from + 2, &third);
+    combine_element::<T, O>(elements, from + 3, &fourth);
+}
+
+// Combines the elements of the common beginning four at a time.
+#[inline]
+fn combine_by_fours<T: BitsOwned, O: Operation>(elements: &mut [T], others: &[T], common: usize)
+    requires elements { common ≤ length elements.old }
+    requires others { common ≤ length others.now }
+    ensures { IsCombinedBelow O.decide T.big elements.old others.now elements.new common }
+{
+    for four in 0..common / 4 {
+        combine_four::<T, O>(elements, others, four * 4);
+    }
+    let done = common / 4 * 4;
+    for rest in 0..common % 4 {
+        combine_element::<T, O>(elements, done + rest, &others[done + rest]);
+    }
+}
+
+// Combines the elements of the common beginning one by one.
+#[inline]
+fn combine_each<T: BitsOwned, O: Operation>(elements: &mut [T], others: &[T], common: usize)
+    requires elements { common ≤ length elements.old }
+    requires others { common ≤ length others.now }
+    ensures { IsCombinedBelow O.decide T.big elements.old others.now elements.new common }
+{
+    for at in 0..common {
+        combine_element::<T, O>(elements, at, &others[at]);
+    }
+}
+
+/// Combines the elements of the common beginning, each with its counterpart: words of 32 bits and
+/// more four at a time.
 pub fn combine<T: BitsOwned, O: Operation>(elements: &mut [T], others: &[T])
     ensures { (mirrored : Bool)
         → read_in mirrored T.width
@@ -188,8 +250,11 @@ pub fn combine<T: BitsOwned, O: Operation>(elements: &mut [T], others: &[T])
         (row_set (length others.now) T.type_capacity T.big others.now)) }
 {
     let common = elements.len().min(others.len());
-    for at in 0..common {
-        elements[at].assign_by_operation::<O>(&others[at]);
+    let width = <T::LeafWord as Word>::width();
+    if T::bits() == width && 32 <= width {
+        combine_by_fours::<T, O>(elements, others, common);
+    } else {
+        combine_each::<T, O>(elements, others, common);
     }
 }
 

@@ -45,6 +45,15 @@ returns-then-at-clause-below g c = ones_or_zeros-below g.K.Kind.ONES
     (set_in g.B.Shape g.E.Endian c.args.source.now.set.now) _
     (returns-then-at-clause-starts g c).remaining
 
+pub returns-then-not-is_fixed-clause-starts : goal.returns-then-not-is_fixed-clause-starts
+returns-then-not-is_fixed-clause-starts g c =
+    none g (goal.at.returns-then-not-is_fixed-clause-starts g c).After-new
+
+pub returns-then-not-is_fixed-clause-below : goal.returns-then-not-is_fixed-clause-below
+returns-then-not-is_fixed-clause-below g c = ones_or_zeros-below g.K.Kind.ONES
+    (set_in g.B.Shape g.E.Endian c.args.source.now.set.now) _
+    (returns-then-not-is_fixed-clause-starts g c).remaining
+
 pub returns-then-at-2-clause-starts : goal.returns-then-at-2-clause-starts
 returns-then-at-2-clause-starts g c =
     first g (goal.at.returns-then-at-2-clause-starts g c).After-fetch

@@ -6,7 +6,7 @@ use Rattle.bittle_bits.specs.Walk.{ones_or_zeros}
 use Rattle.bittle_bits.specs.declared.internal.cursor.Cursor.{Cursor}
 use Rattle.bittle_bits.proofs.Steps.{Seeks, seeks_on, steps_on, steps_then, steps_none, bounded, exhausted, exchanged, none_left, gave, head_fetched, tail_fetched}
 use Rattle.bittle_bits.proofs.internal.cursor.step.Given.{Over}
-use Rattle.bittle_bits.proofs.internal.cursor.step.Goals.{In_default, then-words-eq1, else-words-eq1}
+use Rattle.bittle_bits.proofs.internal.cursor.step.Goals.{In_default}
 use Rattle.bittle_bits.proofs.internal.cursor.step.Goals as goal
 
 -- what stands at an end stands at the other one after an exchange
@@ -77,11 +77,7 @@ returns-in_default-found-clause-steps g c =
     let done = steps_none front _ _ (seeks_on _ _ _ (seeks_on _ _ _ m.0 moved.0) ended.0)
     (none_left _ _ front _ c.if-at.true scan.found.1 other) (bounded _ _ _ _ ended.1) in
     let back = exchanged _ _ _ (not front) _ ended.1 c.if-at.true other in
-    elim c.if-words-eq1.branch [
-      | then-words-eq1 w ↦ rw (w.at-is, w.exchange-then-words-eq1.ensures)
-          (steps_then front _ _ _ _ done back.0 (bounded _ _ _ _ back.1))
-      | else-words-eq1 w ↦ rw w.at-is done
-    ]
+    rw c.exchange-2.ensures (steps_then front _ _ _ _ done back.0 (bounded _ _ _ _ back.1))
 
 pub returns-clause-steps : goal.returns-clause-steps
 returns-clause-steps g c =
@@ -94,8 +90,5 @@ returns-clause-steps g c =
     let done = steps_on front _ _ _ _ (seeks_on _ _ _ m.0 moved.0) step.0 in
     let other = scan.other ∙ others front _ m.2 in
     let back = exchanged _ _ _ (not front) _ step.1 c.if-at.true other in
-    elim c.if-words-eq1.branch [
-      | then-words-eq1 w ↦ rw (c.raise-2.ensures, w.at-is, w.exchange-then-words-eq1.ensures)
-          (steps_then front _ _ _ _ done back.0 (bounded _ _ _ _ back.1))
-      | else-words-eq1 w ↦ rw (c.raise-2.ensures, w.at-is) done
-    ]
+    rw (c.raise-2.ensures, c.exchange-2.ensures)
+    (steps_then front _ _ _ _ done back.0 (bounded _ _ _ _ back.1))

@@ -1,35 +1,31 @@
-use Rattle.std.proofs.Common.{false, length, ap, ◌∙◌, arith}
-use Rattle.bittle_bits.specs.RowLawProofs.{words_of}
+use Rattle.std.proofs.Common.{◌≡◌, ℕ, Bool, List, length, min, ap, ◌∙◌, arith}
 use Rattle.bittle_bits.specs.Orders.{read_in}
-use Rattle.bittle_bits.proofs.RowOperations.{row_combined, more_done, still_rest}
+use Rattle.bittle_bits.specs.RowLawProofs.{words_of}
+use Rattle.bittle_bits.specs.Rows.{row_set, IsCombinedBelow}
+use Rattle.bittle_bits.specs.SetOperations.{combination_of}
+use Rattle.bittle_bits.proofs.RowOperations.{row_combined}
 use Rattle.bittle_bits.proofs.SetOperations.{members-combination}
+use Rattle.bittle_bits.proofs.internal.row.combine.Given.{Over}
 use Rattle.bittle_bits.proofs.internal.row.combine.Goals as goal
 
-pub loop-at-preserved : goal.loop-at-preserved
-loop-at-preserved g c =
-    let f = g.O.Operation.decide in
-    let old = c.loop-at.invariant in record {
-      done = more_done f g.T.Shape.big c.args.elements.now c.args.others.now c.loop-at.elements
-          c.loop-at.at c.index-elements-at.result c.index-others-at.result
-          c.assign_by_operation.new.self
-          (omega arith) (omega arith) old.rest (omega arith) c.index-others-at.is
-          (c.assign_by_operation.ensures.set false) old.done;
-      rest = still_rest f g.T.Shape.big c.args.elements.now c.args.others.now c.loop-at.elements
-          c.loop-at.at c.index-elements-at.result c.index-others-at.result
-          c.assign_by_operation.new.self
-          (omega arith) (omega arith) old.rest;
-    }
-
-pub returns : goal.returns
-returns g c mirrored =
+-- where the elements of the common beginning are combined, so are the rows, in each order
+rows : (g : Over) (xs ys zs : List g.row.T.Denot) (common : ℕ) (mirrored : Bool) →
+    common ≡ min (length xs) (length ys) →
+    IsCombinedBelow g.O.Operation.decide g.T.Shape.big xs ys zs common →
+    let row = λ (us : List g.row.T.Denot). read_in mirrored g.T.Shape.width
+    (row_set (length us) g.T.Shape.type_capacity g.T.Shape.big us) in
+    row zs ≡ combination_of g.O.Operation.decide (row xs) (row ys)
+rows g xs ys zs common mirrored least all =
     let T = g.met.T in
-    let done = c.loop-at.invariant in
     let whole = T.BitsOwned.type_whole_words in
-    let all = row_combined g.O.Operation.decide g.T.Shape.type_capacity g.T.Shape.big
-    c.args.elements.now c.args.others.now c.loop-at.elements T.BitsOwned.one_capacity
-    (omega arith) (λ k d a b. done.done k d (omega arith))
-    (λ k d b. done.rest k d (omega arith)) in
-    ap (read_in mirrored g.T.Shape.width) all
+    ap (read_in mirrored g.T.Shape.width) (row_combined g.O.Operation.decide
+    g.T.Shape.type_capacity g.T.Shape.big xs ys zs T.BitsOwned.one_capacity all.same
+    (λ k d a b. all.done k d (omega arith)) (λ k d b. all.rest k d (omega arith)))
     ∙ members-combination _ mirrored _ _ _ T.Bits.width_positive
-    (words_of (length c.args.elements.now) _ _ whole)
-    (words_of (length c.args.others.now) _ _ whole)
+    (words_of (length xs) _ _ whole) (words_of (length ys) _ _ whole)
+
+pub returns-then-width-ge32 : goal.returns-then-width-ge32
+returns-then-width-ge32 g c mirrored = rows g _ _ _ _ mirrored (omega arith) c.combine_by_fours.ensures
+
+pub returns-else-bits-width : goal.returns-else-bits-width
+returns-else-bits-width g c mirrored = rows g _ _ _ _ mirrored (omega arith) c.combine_each.ensures
