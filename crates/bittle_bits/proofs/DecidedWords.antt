@@ -1,5 +1,5 @@
 -- What an operation makes of two sets, word by word.
-use Rattle.std.proofs.Common.{◌≡◌, ℕ, ◌+◌, ◌-◌, ◌*◌, ◌/◌, ◌^◌, ◌<◌, ◌≤◌, Bool, false, inl, inr, sym, ap, ◌∙◌, arith, bit_or, min, le_trans}
+use Rattle.std.proofs.Common.{◌≡◌, ℕ, ◌+◌, ◌-◌, ◌*◌, ◌/◌, ◌^◌, ◌<◌, ◌≤◌, Bool, false, inl, inr, sym, ap, ◌∙◌, arith, bit_or, min, le_trans, Option, Some, None, MatchOption}
 use Rattle.std.proofs.lemmas.Bool.{cases_lt, true≢false}
 use Rattle.std.proofs.lemmas.Nat.{le_or_l, le_or_r}
 use Rattle.std.proofs.Math.Nat.{mul-div_left, mul-le-mul_right}
@@ -125,3 +125,10 @@ common_words w a b word ours theirs =
       | inl l ↦ let e : min a b ≡ a = omega (arith, l) in rw (e, ours.1) (ap (λ n. n * w) (mul-div_left ours.0 word))
       | inr g ↦ let e : min a b ≡ b = omega (arith, g) in rw (e, theirs.1) (ap (λ n. n * w) (mul-div_left theirs.0 word))
     ]
+
+-- a search that finds the least number finds it, however far it was to go
+pub none_or_first : (f : Bool → Bool → Bool) (s t : PlainSet) (n : ℕ) (r : Option ℕ) →
+    MatchOption r (NoneDecidedBelow f s t n) (IsFirstDecided f s t) →
+    MatchOption r (NoneDecidedBelow f s t 0) (IsFirstDecided f s t)
+none_or_first f s t n None h = λ i p. absurd (omega arith)
+none_or_first f s t n (Some d) h = h

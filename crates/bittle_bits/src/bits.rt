@@ -41,8 +41,8 @@ pub trait Bits: Drop + Shape {
         ensures value { ShapeFits Self.Shape self.now → result ≡ (Self.big self.now).capacity }
         ensures fits { result < 4294967295 → ShapeFits Self.Shape self.now };
 
-    /// Returns `true` if each value of the type has as many words. It decides the speed of an iterator
-    /// alone, so no clause speaks of it.
+    /// Returns `true` if each value of the type has as many words. It decides speed alone, how an
+    /// iterator begins and what a comparison asks first, so no clause speaks of it.
     #[doc(hidden)]
     #[inline]
     fn is_fixed() -> bool {

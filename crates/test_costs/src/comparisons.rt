@@ -1,6 +1,6 @@
 //! What comparisons ask of the two sets: each word once, and nothing past the first difference.
 
-ghost use Rattle.std.specs.Prelude.{◌*◌};
+ghost use Rattle.std.specs.Prelude.{◌*◌, length};
 ghost use Rattle.bittle.specs.Shapes.{Fits};
 ghost use Rattle.bittle.specs.Values.{ShapeFits};
 
@@ -174,4 +174,20 @@ fn comparisons_with_a_shorter_side_fetch_each_word_once(rt: HostRuntime) {
     let other = Probe::of(ONES, &right);
     holds!(rt; row_is_equal_to(pair([ONES, [0; 4]], &left), other));
     holds!(rt; left.is_at_most(8) && right.is_at_most(4));
+}
+
+fn slices_are_equal<T: BitsOwned>(one: &[T], other: &[T]) -> bool
+    requires one { Fits T.indexable (length one.now * T.type_capacity) }
+    requires other { Fits T.indexable (length other.now * T.type_capacity) }
+{
+    Set::from_ref(one) == Set::from_ref(other)
+}
+
+#[test]
+fn the_first_word_of_a_slice_is_asked_before_all(rt: HostRuntime) {
+    let (left, right) = (Asked::new(), Asked::new());
+    let other = pair([[2, 0, 0, 128], ONES], &right);
+    holds!(rt; !slices_are_equal(&pair([ONES; 2], &left), &other));
+    same!(rt; (left.fetches(), left.other()), (1, 0));
+    same!(rt; (right.fetches(), right.other()), (1, 0));
 }

@@ -12,7 +12,7 @@ ghost use Rattle.bittle.specs.Comparison.{list_cmp, list_eq, AreSame, HasPast, H
 use super::Set;
 use bittle_bits::bits::Bits;
 use bittle_bits::endian::Endian;
-use bittle_bits::internal::decided::first_decided_below;
+use bittle_bits::internal::decided::{first_decided_at_once, first_decided_below};
 use bittle_bits::one_word::{SymmetricDifference, test_bit};
 use bittle_bits::word::Word;
 use std::cmp::Ordering;
@@ -29,7 +29,7 @@ fn are_alike<A: Bits, B: Bits, E: Endian, F: Endian>() -> bool
 // Returns the least index that is in just one of two sets, or `None` where they have the same
 // members. `capacity` is that of the left one, and `other` that of the right one.
 #[inline]
-fn first_difference<A: Bits, B: Bits, E: Endian>(
+fn difference_by_words<A: Bits, B: Bits, E: Endian>(
     left: &A,
     right: &B,
     capacity: u32,
@@ -57,6 +57,55 @@ fn first_difference<A: Bits, B: Bits, E: Endian>(
     } else {
         None
     }
+}
+
+// Returns the same, by a call in any case: so what is compiled into a caller is the question of the
+// first word alone.
+#[inline(never)]
+fn difference_out_of_line<A: Bits, B: Bits, E: Endian>(
+    left: &A,
+    right: &B,
+    capacity: u32,
+    other: u32,
+) -> Option<u32>
+    requires width { A.width ≡ B.width }
+    requires left_fits { ShapeFits A.Shape left.now }
+    requires right_fits { ShapeFits B.Shape right.now }
+    requires capacity { capacity ≡ (A.big left.now).capacity }
+    requires other { other ≡ (B.big right.now).capacity }
+    ensures { let ours = set_in A.Shape E.Endian left.now in
+        let theirs = set_in B.Shape E.Endian right.now in
+        MatchOption result (AreSame ours theirs) (λ d. IsFirstDifference ours theirs d) }
+{
+    difference_by_words::<A, B, E>(left, right, capacity, other)
+}
+
+// Returns the same. Of a slice the first word is asked before all, since it often decides.
+#[inline]
+fn first_difference<A: Bits, B: Bits, E: Endian>(
+    left: &A,
+    right: &B,
+    capacity: u32,
+    other: u32,
+) -> Option<u32>
+    requires width { A.width ≡ B.width }
+    requires left_fits { ShapeFits A.Shape left.now }
+    requires right_fits { ShapeFits B.Shape right.now }
+    requires capacity { capacity ≡ (A.big left.now).capacity }
+    requires other { other ≡ (B.big right.now).capacity }
+    ensures { let ours = set_in A.Shape E.Endian left.now in
+        let theirs = set_in B.Shape E.Endian right.now in
+        MatchOption result (AreSame ours theirs) (λ d. IsFirstDifference ours theirs d) }
+{
+    if A::is_fixed() {
+        return difference_by_words::<A, B, E>(left, right, capacity, other);
+    }
+    let common = capacity.min(other);
+    let first = first_decided_at_once::<A, B, E, SymmetricDifference>(left, right, common);
+    if first.is_some() {
+        return first;
+    }
+    difference_out_of_line::<A, B, E>(left, right, capacity, other)
 }
 
 // Returns whether an index is a member. It does not wrap.

@@ -99,6 +99,31 @@ fn first_below<A: Bits, B: Bits, E: Endian, O: Operation>(
     first_among::<A, B, E, O>(left, right, words / 4 * 4, words)
 }
 
+/// Returns the least index in the first word that an operation makes a member, of two sets whose words
+/// have one width, or `None`. `common` is the lesser capacity.
+// It is small, so that a caller for whom the first word decides calls nothing. What it does not find
+// is searched, so it promises nothing of `None`.
+#[inline]
+pub fn first_decided_at_once<A: Bits, B: Bits, E: Endian, O: Operation>(
+    left: &A,
+    right: &B,
+    common: u32,
+) -> Option<u32>
+    requires width { A.width ≡ B.width }
+    requires left_fits { ShapeFits A.Shape left.now }
+    requires right_fits { ShapeFits B.Shape right.now }
+    requires common { common ≡ min (A.big left.now).capacity (B.big right.now).capacity }
+    ensures { let ours = set_in A.Shape E.Endian left.now in
+        let theirs = set_in B.Shape E.Endian right.now in
+        MatchOption result (NoneDecidedBelow O.decide ours theirs 0)
+        (IsFirstDecided O.decide ours theirs) }
+{
+    if common / <A::LeafWord as Word>::width() == 0 {
+        return None;
+    }
+    first_among::<A, B, E, O>(left, right, 0, 1)
+}
+
 /// Returns the least index below both capacities that an operation makes a member, of two sets
 /// whose words have one width, or `None`. `common` is the lesser capacity.
 #[inline]
