@@ -28,8 +28,8 @@ abbrev pub with_bit : Bool → PlainSet → ℕ → PlainSet
 with_bit true = with_index
 with_bit false = without_index
 
--- the row xs, now zs, has its elements below n combined with those of ys, and its later ones as they
--- were
+-- the row xs, now zs, has its elements below n combined with those of ys, and its later ones as
+-- they were
 pub record IsCombinedBelow {X : Type 0} (f : Bool → Bool → Bool) (big : X → PlainSet)
     (xs ys zs : List X) (n : ℕ) : Type 0 where
   pub same : length zs ≡ length xs

@@ -42,7 +42,8 @@ pub trait Bits: Drop + Shape {
         ensures fits { result < 4294967295 → ShapeFits Self.Shape self.now };
 
     /// Returns `true` if each value of the type has as many words. It decides speed alone, how an
-    /// iterator begins and what a comparison asks first, so no clause speaks of it.
+    /// iterator begins and whether a comparison asks the first word by itself, so no clause speaks
+    /// of it.
     #[doc(hidden)]
     #[inline]
     fn is_fixed() -> bool {

@@ -1,4 +1,5 @@
-//! What comparisons ask of the two sets: each word once, and nothing past the first difference.
+//! What comparisons ask of the two sets: each word once, but of slices the first one twice, and
+//! nothing past the first difference.
 
 ghost use Rattle.std.specs.Prelude.{◌*◌, length};
 ghost use Rattle.bittle.specs.Shapes.{Fits};

@@ -372,7 +372,7 @@ fn a_clone_of_an_iterator_over_twelve_words_asks_nothing(rt: HostRuntime) {
     holds!(rt; owned_ones_of_row_clone_for_nothing([Probe::of(ONES, &asked); 3], &asked));
 }
 
-// Whether an iterator over a set fetches nothing at its start, and then one word for its first item.
+// Whether an iterator over a set fetches nothing at its start, and one word for its first item.
 fn starts_for_nothing<B: Bits>(set: &B, asked: &Asked) -> bool
     requires { ShapeFits B.Shape set.now }
 {

@@ -80,7 +80,8 @@ fn difference_out_of_line<A: Bits, B: Bits, E: Endian>(
     difference_by_words::<A, B, E>(left, right, capacity, other)
 }
 
-// Returns the same. Of a slice the first word is asked before all, since it often decides.
+// Returns the same. Of a slice the first word is asked before all, since it often decides; where it
+// does not, it is asked again with the others.
 #[inline]
 fn first_difference<A: Bits, B: Bits, E: Endian>(
     left: &A,

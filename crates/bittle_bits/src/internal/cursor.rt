@@ -25,9 +25,9 @@ pub struct Cursor<B: Shape, E: Endian> {
     pub items: Count,
 }
 
-/// Begins an iterator. Of a type of fixed length it loads the first word to the head, and the last one
-/// to the tail where there are two or more. Of a slice it loads none, so that an iterator which is
-/// stepped from one end alone has a buffer at that end alone.
+/// Begins an iterator. Of a type of fixed length it loads the first word to the head, and the last
+/// one to the tail where there are two or more. Of a slice it loads none, so that an iterator which
+/// is stepped from one end alone has a buffer at that end alone.
 #[inline]
 pub fn begin<B: Bits, E: Endian, K: Kind>(source: &Source<'_, B>) -> Cursor<B, E>
     requires { ShapeFits B.Shape source.now.set.now }

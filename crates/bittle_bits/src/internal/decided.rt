@@ -99,10 +99,10 @@ fn first_below<A: Bits, B: Bits, E: Endian, O: Operation>(
     first_among::<A, B, E, O>(left, right, words / 4 * 4, words)
 }
 
-/// Returns the least index in the first word that an operation makes a member, of two sets whose words
-/// have one width, or `None`. `common` is the lesser capacity.
-// It is small, so that a caller for whom the first word decides calls nothing. What it does not find
-// is searched, so it promises nothing of `None`.
+/// Returns the least index in the first word that an operation makes a member, of two sets whose
+/// words have one width, or `None`. `common` is the lesser capacity.
+// It is small, so that a caller for whom the first word decides calls nothing. What it does not
+// find is searched, so it promises nothing of `None`.
 #[inline]
 pub fn first_decided_at_once<A: Bits, B: Bits, E: Endian, O: Operation>(
     left: &A,

@@ -195,7 +195,8 @@ fn combine_element<T: BitsOwned, O: Operation>(elements: &mut [T], at: usize, ot
 fn combine_four<T: BitsOwned, O: Operation>(elements: &mut [T], others: &[T], from: usize)
     requires elements { from + 4 ≤ length elements.old }
     requires others { from + 4 ≤ length others.now }
-    ensures four_more { (xs : List T) → IsCombinedBelow O.decide T.big xs others.now elements.old from
+    ensures four_more { (xs : List T)
+        → IsCombinedBelow O.decide T.big xs others.now elements.old from
         → IsCombinedBelow O.decide T.big xs others.now elements.new (from + 4) }
     ensures length { length elements.new ≡ length elements.old }
 {

@@ -25,7 +25,8 @@ rows g xs ys zs common mirrored least all =
     (words_of (length xs) _ _ whole) (words_of (length ys) _ _ whole)
 
 pub returns-then-width-ge32 : goal.returns-then-width-ge32
-returns-then-width-ge32 g c mirrored = rows g _ _ _ _ mirrored (omega arith) c.combine_by_fours.ensures
+returns-then-width-ge32 g c mirrored =
+    rows g _ _ _ _ mirrored (omega arith) c.combine_by_fours.ensures
 
 pub returns-else-bits-width : goal.returns-else-bits-width
 returns-else-bits-width g c mirrored = rows g _ _ _ _ mirrored (omega arith) c.combine_each.ensures
