@@ -1,5 +1,6 @@
 -- The first difference of two sets of words of one width, read in one order, and what it decides.
-use Rattle.std.proofs.Common.{◌≡◌, ℕ, ◌+◌, ◌<◌, ◌≤◌, ◌⊎◌, ◌↔◌, Bool, true, false, not, IsTrue, inl, inr, Option, Some, None, is_none, is_some, MatchOption, MatchBool, min, refl, sym, ap, ◌∙◌, arith}
+use mathlib.Core.Bool.{beq}
+use Rattle.std.proofs.Common.{◌≡◌, ℕ, ◌<◌, ◌≤◌, ◌⊎◌, ◌↔◌, Bool, true, false, not, IsTrue, inl, inr, Option, Some, None, is_none, is_some, MatchOption, MatchBool, min, refl, sym, ap, ◌∙◌, arith}
 use Rattle.std.proofs.lemmas.Bool.{cases_eq, cases_lt, true≢false}
 use Rattle.std.specs.declared.cmp.Ordering.{Ordering}
 use Rattle.std.specs.declared.cmp.Ordering.TheVariants.{Less, Equal, Greater}
@@ -8,7 +9,7 @@ use Rattle.bittle_bits.specs.Decided.{NoneDecidedBelow, IsFirstDecided}
 use Rattle.bittle_bits.specs.PlainSet.{PlainSet, ascending}
 use Rattle.bittle_bits.specs.Searches.{IsFirstIn}
 use Rattle.bittle_bits.specs.SetOperations.{just_one}
-use Rattle.bittle.specs.Comparison.{list_cmp, AreSame, AreSameBelow, HasPast, HasNonePast, Precedes, IsFirstDifference}
+use Rattle.bittle.specs.Comparison.{list_cmp, AreSame, AreSameBelow, GoesOn, HasPast, HasNonePast, Precedes, IsFirstDifference}
 use Rattle.bittle.proofs.ListComparison.{EndsAtCapacity, list_cmp-precedes, equal_iff_same, not_both}
 
 alike : (a b : Bool) → just_one a b ≡ false → a ≡ b
@@ -96,12 +97,18 @@ module _ (s t : PlainSet) (both : AreAlikeInCommon s t) where
     | inr g ↦ both.first i g ∙ sym (both.second i (omega (arith, e)))
   ]
 
--- a search past a number
-pub past_found : (s : PlainSet) (d to : ℕ) (r : Option ℕ) → ((i : ℕ) → to ≤ i → s.has i ≡ false) →
-    IsFirstIn s (d + 1) to r → MatchBool (is_some r) (HasPast s d) (HasNonePast s d)
-past_found s d to None past h = λ m p. elim (cases_lt m to)
+-- a search from a number on that is no member
+pub past_found : (s : PlainSet) (d to : ℕ) (r : Option ℕ) → s.has d ≡ false →
+    ((i : ℕ) → to ≤ i → s.has i ≡ false) → IsFirstIn s d to r →
+    MatchBool (is_some r) (HasPast s d) (HasNonePast s d)
+past_found s d to None lacks past h = λ m p. elim (cases_lt m to)
     [ inl l ↦ h m (omega arith) l | inr g ↦ past m g ]
-past_found s d to (Some m) past h = (m, omega (arith, h.0), h.2)
+past_found s d to (Some m) lacks past h = elim (cases_lt d m) [
+  | inl l ↦ (m, l, h.2)
+  | inr g ↦
+      let same : m ≡ d = omega (arith, h.0) in
+      absurd (true≢false (sym h.2 ∙ ap s.has same ∙ lacks))
+]
 
 -- ---- what it decides
 
@@ -122,21 +129,29 @@ second_only true b h e = absurd (true≢false e)
 
 -- the first index in just one, by the side that has it
 module _ (s t : PlainSet) (d : ℕ) (at : IsFirstDifference s t d) where
-  -- the first set has that index and the second has a member past it: the first precedes
-  pub ours_first : s.has d ≡ true → HasPast t d → Precedes s t
-  ours_first a p = (d, at.0, inl (a, first_only _ _ at.1 a, p))
+  -- the side that has it comes first exactly where the other goes on past it
+  pub before : (ours goes_on : Bool) → ours ≡ s.has d → GoesOn ours s t d goes_on →
+      beq ours goes_on ≡ true → Precedes s t
+  before true true a p e = (d, at.0, inl (sym a, first_only _ _ at.1 (sym a), p))
+  before false false a p e = (d, at.0, inr (sym a, second_only _ _ at.1 (sym a), p))
+  before true false a p e = absurd (true≢false (sym e))
+  before false true a p e = absurd (true≢false (sym e))
 
-  -- the first set has that index and the second has none past it: the second precedes
-  pub ours_last : s.has d ≡ true → HasNonePast t d → Precedes t s
-  ours_last a p = (d, (λ i l. sym (at.0 i l)), inr (first_only _ _ at.1 a, a, p))
-
-  -- the second set has that index and the first has a member past it: the second precedes
-  pub theirs_first : s.has d ≡ false → HasPast s d → Precedes t s
-  theirs_first a p = (d, (λ i l. sym (at.0 i l)), inl (second_only _ _ at.1 a, a, p))
-
-  -- the second set has that index and the first has none past it: the first precedes
-  pub theirs_last : s.has d ≡ false → HasNonePast s d → Precedes s t
-  theirs_last a p = (d, at.0, inr (a, second_only _ _ at.1 a, p))
+  -- and the other side exactly where it does not
+  pub after : (ours goes_on : Bool) → ours ≡ s.has d → GoesOn ours s t d goes_on →
+      beq ours goes_on ≡ false → Precedes t s
+  after true false a p e = (
+    d,
+    (λ i l. sym (at.0 i l)),
+    inr (first_only _ _ at.1 (sym a), sym a, p),
+  )
+  after false true a p e = (
+    d,
+    (λ i l. sym (at.0 i l)),
+    inl (second_only _ _ at.1 (sym a), sym a, p),
+  )
+  after true true a p e = absurd (true≢false e)
+  after false false a p e = absurd (true≢false e)
 
 -- no two sets precede each other
 abbrev Decides : PlainSet → PlainSet → ℕ → Type 0

@@ -1,5 +1,5 @@
 -- How two sets compare, and what a hasher is fed of one: by their increasing lists of members.
-use Rattle.std.specs.Prelude.{◌≡◌, ℕ, ◌<◌, ◌⊎◌, Bool, true, false, nat_eq, List, ◌++◌, length}
+use Rattle.std.specs.Prelude.{◌≡◌, ℕ, ◌<◌, ◌⊎◌, Bool, true, false, cond, MatchBool, nat_eq, List, ◌++◌, length}
 use Rattle.std.specs.Cmp.Lexicographic.{slice_cmp, pointwise}
 use Rattle.std.specs.Hash as fed
 use Rattle.std.specs.List.{flat_map}
@@ -35,6 +35,11 @@ HasPast s d = (m : ℕ) × (d < m) × (s.has m ≡ true)
 -- no member lies past the number
 abbrev pub HasNonePast : PlainSet → ℕ → Type 0
 HasNonePast s d = (m : ℕ) → d < m → s.has m ≡ false
+
+-- whether the set that lacks the number goes on past it: t where it is in s, and else s
+abbrev pub GoesOn : Bool → PlainSet → PlainSet → ℕ → Bool → Type 0
+GoesOn is_first s t d b = MatchBool b
+    (HasPast (cond is_first t s) d) (HasNonePast (cond is_first t s) d)
 
 -- with d the least number that is in just one: it is in s and t has a member past it, or it is in t
 -- and s has none past it

@@ -4,10 +4,10 @@
 ghost use Rattle.std.specs.Cmp.{partial_equiv_from_equiv, partial_order_from_agreeing_total, on_equiv, on_total};
 ghost use Rattle.std.specs.Cmp.Lexicographic.{nat_list_eq_equiv, nat_list_cmp_total, texts_ties};
 ghost use Rattle.std.specs.Ordering.{MatchOrdering, on, as_partial_cmp};
-ghost use Rattle.std.specs.Prelude.{◌≡◌, ◌↔◌, IsTrue, MatchBool, MatchOption, refl};
+ghost use Rattle.std.specs.Prelude.{◌≡◌, ◌↔◌, false, not, IsTrue, MatchBool, MatchOption, refl};
 ghost use Rattle.bittle_bits.specs.PlainSet.{ascending};
 ghost use Rattle.bittle_bits.specs.Values.{set_in, ShapeFits};
-ghost use Rattle.bittle.specs.Comparison.{list_cmp, list_eq, AreSame, HasPast, HasNonePast, IsFirstDifference, Precedes};
+ghost use Rattle.bittle.specs.Comparison.{list_cmp, list_eq, AreSame, GoesOn, HasPast, HasNonePast, IsFirstDifference, Precedes};
 
 use super::Set;
 use bittle_bits::bits::Bits;
@@ -124,15 +124,44 @@ fn has<B: Bits, E: Endian>(bits: &B, capacity: u32, index: u32) -> bool
     test_bit::<B::LeafWord, E>(bits.nth_leaf_word(index / width), index % width)
 }
 
-// Returns whether a member lies past an index.
+// Returns whether a member lies past an index that is none. The search begins at the index, since it
+// is the place of a bit in any case, where the next one may be past the word.
 #[inline]
 fn has_past<B: Bits, E: Endian>(bits: &B, capacity: u32, index: u32) -> bool
     requires fits { ShapeFits B.Shape bits.now }
     requires capacity { capacity ≡ (B.big bits.now).capacity }
+    requires lacks { (set_in B.Shape E.Endian bits.now).has index ≡ false }
     ensures { MatchBool result (HasPast (set_in B.Shape E.Endian bits.now) index)
         (HasNonePast (set_in B.Shape E.Endian bits.now) index) }
 {
-    index < capacity && bits.first_one_in::<E>(index + 1, capacity).is_some()
+    index < capacity && bits.first_one_in::<E>(index, capacity).is_some()
+}
+
+// Returns whether the side that lacks an index has a member past it. `is_left` says that the left one
+// has the index.
+#[inline]
+fn other_goes_on<A: Bits, B: Bits, E: Endian>(
+    left: &A,
+    right: &B,
+    capacity: u32,
+    other: u32,
+    index: u32,
+    is_left: bool,
+) -> bool
+    requires left_fits { ShapeFits A.Shape left.now }
+    requires right_fits { ShapeFits B.Shape right.now }
+    requires capacity { capacity ≡ (A.big left.now).capacity }
+    requires other { other ≡ (B.big right.now).capacity }
+    requires is_left { is_left ≡ (set_in A.Shape E.Endian left.now).has index }
+    requires is_right { is_left ≡ not ((set_in B.Shape E.Endian right.now).has index) }
+    ensures { GoesOn is_left (set_in A.Shape E.Endian left.now)
+        (set_in B.Shape E.Endian right.now) index result }
+{
+    if is_left {
+        has_past::<B, E>(right, other, index)
+    } else {
+        has_past::<A, E>(left, capacity, index)
+    }
 }
 
 // Compares two sets by their words.
@@ -149,17 +178,14 @@ fn compare_words<A: Bits, B: Bits, E: Endian>(left: &A, right: &B) -> Ordering
     match first_difference::<A, B, E>(left, right, capacity, other) {
         None => Ordering::Equal,
         Some(index) => {
+            let is_left = has::<A, E>(left, capacity, index);
+            let goes_on = other_goes_on::<A, B, E>(left, right, capacity, other, index, is_left);
             // The side that has the index comes first exactly where the other side goes on past it.
-            if has::<A, E>(left, capacity, index) {
-                if has_past::<B, E>(right, other, index) {
-                    Ordering::Less
-                } else {
-                    Ordering::Greater
-                }
-            } else if has_past::<A, E>(left, capacity, index) {
-                Ordering::Greater
-            } else {
+            // Asked so, two words are compared without a jump on their bits.
+            if is_left == goes_on {
                 Ordering::Less
+            } else {
+                Ordering::Greater
             }
         }
     }

@@ -17,7 +17,7 @@ past g c i h =
 pub returns-then-index-capacity : goal.returns-then-index-capacity
 returns-then-index-capacity g c =
     rw c.is_some.ensures (past_found (set_in g.B.Shape g.E.Endian c.args.bits.now)
-    c.args.index c.args.capacity c.first_one_in.result
+    c.args.index c.args.capacity c.first_one_in.result c.requires.lacks
     (past g (goal.at.returns-then-index-capacity g c).Start) c.first_one_in.ensures)
 
 pub returns-else-index-capacity : goal.returns-else-index-capacity
