@@ -7,6 +7,8 @@ use Rattle.std.specs.Ordering.{nat_cmp}
 use Rattle.std.specs.declared.cmp.Ordering.{Ordering}
 use Rattle.bittle_bits.specs.PlainSet.{PlainSet}
 use Rattle.bittle_bits.specs.SetOperations.{just_one}
+use Rattle.bittle_bits.specs.Values.{ShapeFits}
+use Rattle.bittle_bits.specs.declared.shape.Shape as shape
 
 -- the order of two increasing lists, by their first items that differ
 abbrev pub list_cmp : List ℕ → List ℕ → Ordering
@@ -23,6 +25,15 @@ AreSame s t = (i : ℕ) → s.has i ≡ t.has i
 -- each number below n is a member of both or of neither
 abbrev pub AreSameBelow : PlainSet → PlainSet → ℕ → Type 0
 AreSameBelow s t n = (i : ℕ) → i < n → s.has i ≡ t.has i
+
+-- two values that fit, whose words have one width, and their capacities
+pub record AreCompared {V W X Y : Type 0} (a : shape.Ghosts V W) (b : shape.Ghosts X Y) (left : V)
+    (right : X) (n m : ℕ) : Type 0 where
+  pub width : a.width ≡ b.width
+  pub left_fits : ShapeFits a left
+  pub right_fits : ShapeFits b right
+  pub capacity : n ≡ (a.big left).capacity
+  pub other : m ≡ (b.big right).capacity
 
 -- d is the least number that is in just one
 abbrev pub IsFirstDifference : PlainSet → PlainSet → ℕ → Type 0

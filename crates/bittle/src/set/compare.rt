@@ -7,7 +7,7 @@ ghost use Rattle.std.specs.Ordering.{MatchOrdering, on, as_partial_cmp};
 ghost use Rattle.std.specs.Prelude.{◌≡◌, ◌↔◌, false, not, IsTrue, MatchBool, MatchOption, refl};
 ghost use Rattle.bittle_bits.specs.PlainSet.{ascending};
 ghost use Rattle.bittle_bits.specs.Values.{set_in, ShapeFits};
-ghost use Rattle.bittle.specs.Comparison.{list_cmp, list_eq, AreSame, GoesOn, HasPast, HasNonePast, IsFirstDifference, Precedes};
+ghost use Rattle.bittle.specs.Comparison.{list_cmp, list_eq, AreCompared, AreSame, GoesOn, HasPast, HasNonePast, IsFirstDifference, Precedes};
 
 use super::Set;
 use bittle_bits::bits::Bits;
@@ -35,11 +35,7 @@ fn difference_by_words<A: Bits, B: Bits, E: Endian>(
     capacity: u32,
     other: u32,
 ) -> Option<u32>
-    requires width { A.width ≡ B.width }
-    requires left_fits { ShapeFits A.Shape left.now }
-    requires right_fits { ShapeFits B.Shape right.now }
-    requires capacity { capacity ≡ (A.big left.now).capacity }
-    requires other { other ≡ (B.big right.now).capacity }
+    requires { AreCompared A.Shape B.Shape left.now right.now capacity other }
     ensures { let ours = set_in A.Shape E.Endian left.now in
         let theirs = set_in B.Shape E.Endian right.now in
         MatchOption result (AreSame ours theirs) (λ d. IsFirstDifference ours theirs d) }
@@ -68,11 +64,7 @@ fn difference_out_of_line<A: Bits, B: Bits, E: Endian>(
     capacity: u32,
     other: u32,
 ) -> Option<u32>
-    requires width { A.width ≡ B.width }
-    requires left_fits { ShapeFits A.Shape left.now }
-    requires right_fits { ShapeFits B.Shape right.now }
-    requires capacity { capacity ≡ (A.big left.now).capacity }
-    requires other { other ≡ (B.big right.now).capacity }
+    requires { AreCompared A.Shape B.Shape left.now right.now capacity other }
     ensures { let ours = set_in A.Shape E.Endian left.now in
         let theirs = set_in B.Shape E.Endian right.now in
         MatchOption result (AreSame ours theirs) (λ d. IsFirstDifference ours theirs d) }
@@ -89,11 +81,7 @@ fn first_difference<A: Bits, B: Bits, E: Endian>(
     capacity: u32,
     other: u32,
 ) -> Option<u32>
-    requires width { A.width ≡ B.width }
-    requires left_fits { ShapeFits A.Shape left.now }
-    requires right_fits { ShapeFits B.Shape right.now }
-    requires capacity { capacity ≡ (A.big left.now).capacity }
-    requires other { other ≡ (B.big right.now).capacity }
+    requires { AreCompared A.Shape B.Shape left.now right.now capacity other }
     ensures { let ours = set_in A.Shape E.Endian left.now in
         let theirs = set_in B.Shape E.Endian right.now in
         MatchOption result (AreSame ours theirs) (λ d. IsFirstDifference ours theirs d) }
@@ -148,10 +136,7 @@ fn other_goes_on<A: Bits, B: Bits, E: Endian>(
     index: u32,
     is_left: bool,
 ) -> bool
-    requires left_fits { ShapeFits A.Shape left.now }
-    requires right_fits { ShapeFits B.Shape right.now }
-    requires capacity { capacity ≡ (A.big left.now).capacity }
-    requires other { other ≡ (B.big right.now).capacity }
+    requires compared { AreCompared A.Shape B.Shape left.now right.now capacity other }
     requires is_left { is_left ≡ (set_in A.Shape E.Endian left.now).has index }
     requires is_right { is_left ≡ not ((set_in B.Shape E.Endian right.now).has index) }
     ensures { GoesOn is_left (set_in A.Shape E.Endian left.now)
