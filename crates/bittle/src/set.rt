@@ -289,7 +289,7 @@ impl<T: Bits, U: Endian> Bits for Set<T, U> {
     }
 
     #[inline]
-    fn nth_leaf_word(&self, k: u32) -> T::LeafWord {
+    fn nth_leaf_word(&self, k: usize) -> T::LeafWord {
         self.bits.nth_leaf_word(k)
     }
 }
@@ -321,7 +321,7 @@ impl<T: BitsMut, U: Endian> BitsMut for Set<T, U> {
     }
 
     #[inline]
-    fn set_nth_leaf_word(&mut self, k: u32, word: T::LeafWord) {
+    fn set_nth_leaf_word(&mut self, k: usize, word: T::LeafWord) {
         self.bits.set_nth_leaf_word(k, word);
     }
 }

@@ -1,8 +1,8 @@
 -- The increasing list of the members: its ends, what is left without one of them, and its length.
-use Rattle.std.proofs.Common.{◌≡◌, ℕ, zero, suc, ◌+◌, ◌-◌, ◌<◌, ◌≤◌, Bool, true, false, not, ◌&&◌, ◌==◌, cond, List, [], ◌∷◌, ◌++◌, length, map, get_or, length-append, ◌⊎◌, inl, inr, refl, sym, ap, ◌∙◌, arith}
+use Rattle.std.proofs.Common.{◌≡◌, ◌≢◌, ℕ, zero, suc, ◌+◌, ◌-◌, ◌<◌, ◌≤◌, Bool, true, false, not, ◌&&◌, ◌==◌, cond, List, [], ◌∷◌, ◌++◌, length, map, get_or, length-append, ◌⊎◌, inl, inr, refl, sym, ap, ◌∙◌, arith}
 use Rattle.std.proofs.Math.Nat.{mod-eq_of_lt}
-use Rattle.std.proofs.lemmas.Bool.{eq-eqb, ne_eqb, cases_Bool, cases_eq}
-use Rattle.std.proofs.lemmas.List.{append-nil}
+use Rattle.std.proofs.lemmas.Bool.{eq-eqb, eqb-true, ne_eqb, true≢false, cases_Bool, cases_eq}
+use Rattle.std.proofs.lemmas.List.{append-nil, nil_from_length}
 use Rattle.bittle_bits.specs.Ends.{with_end, IsEndMember}
 use Rattle.bittle_bits.specs.PlainSet.{PlainSet, without_index, has_without, count_below, size, ascending_from, ascending}
 use Rattle.bittle_bits.specs.Walk.{AreBelow}
@@ -140,6 +140,16 @@ ascending_from-length p (suc n) =
 -- as many items as members
 pub ascending-length : (s : PlainSet) → length (ascending s) ≡ size s
 ascending-length s = ascending_from-length s.has s.capacity
+
+-- a set with no members lists none
+pub ascending-empty : (s : PlainSet) → true ≡ (size s == 0) → ascending s ≡ []
+ascending-empty s none =
+    nil_from_length _ (ascending-length s ∙ eqb-true (size s) 0 (sym none))
+
+-- a set that has a member lists some
+pub ascending-some : (s : PlainSet) → false ≡ (size s == 0) → ascending s ≢ []
+ascending-some s some none =
+    true≢false (sym (eq-eqb (size s) 0 (sym (ascending-length s) ∙ ap length none)) ∙ sym some)
 
 -- no more items than the capacity
 pub ascending-few : (s : PlainSet) → length (ascending s) ≤ s.capacity

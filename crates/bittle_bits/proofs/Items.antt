@@ -1,12 +1,11 @@
 -- The members of a set between two numbers, and the items of a buffered word, as lists.
-use Rattle.std.proofs.Common.{◌≡◌, ℕ, ◌+◌, ◌-◌, ◌*◌, ◌<◌, ◌≤◌, Bool, false, [], ◌++◌, map, refl, sym, ap, ◌∙◌, arith}
+use Rattle.std.proofs.Common.{◌≡◌, ℕ, ◌+◌, ◌-◌, ◌*◌, ◌<◌, ◌≤◌, Bool, [], ◌++◌, refl, sym, arith}
 use Rattle.bittle_bits.specs.Buffers.{members_between, items_of}
 use Rattle.bittle_bits.specs.BitPatterns.{bit_set}
 use Rattle.bittle_bits.specs.Orders.{read_in}
 use Rattle.bittle_bits.specs.PlainSet.{PlainSet, ascending}
 use Rattle.bittle_bits.specs.Words.{word_of}
 use Rattle.bittle_bits.proofs.AscendingLists.{ascending_from-add, ascending_from-none, ascending_from-moved}
-use Rattle.bittle_bits.proofs.BitSets.{no_digits}
 use Rattle.bittle_bits.proofs.Words.{digit_at}
 
 -- those between two numbers are those up to a third and those from it on
@@ -36,9 +35,3 @@ items_of-word m w k s d word is =
     let n : k * w + w - k * w ≡ w = omega arith in
     rw n (ascending_from-moved (read_in m w (bit_set w d)).has (read_in m w s).has (k * w) 0
     (k * w) w (omega arith) (λ i lo hi. sym (digit_at m w k s d word is i (omega arith))))
-
--- the word 0 has no items
-pub items_of-none : (m : Bool) (w d base : ℕ) → d ≡ 0 → items_of m w d base ≡ []
-items_of-none m w d base is =
-    ap (λ s. map (λ i. base + i) (ascending (read_in m w s))) (no_digits w d is)
-    ∙ ap (map (λ i. base + i)) (ascending_from-none (λ _. false) 0 w (λ k lo hi. refl))

@@ -6,6 +6,7 @@ pub mod MembersBelow
 pub mod BitSets
 pub mod WordEnds
 pub mod FromIndex
+pub mod Halves
 pub mod PlaceLemmas
 pub mod PlainSets
 pub mod IteratorRuns
@@ -29,3 +30,5 @@ pub mod RowWords
 pub mod Searches
 pub mod RowSpans
 pub mod Steps
+pub mod BufferedWords
+pub mod Rotations

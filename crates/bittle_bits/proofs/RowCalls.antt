@@ -1,8 +1,8 @@
 -- A call on one index of a row, by the call on the element that the index goes to.
-use Rattle.std.proofs.Common.{◌≡◌, ℕ, ◌+◌, ◌*◌, ◌/◌, ◌%◌, ◌<◌, Bool, true, false, not, ◌&&◌, ◌||◌, ◌==◌, inl, inr, refl, sym, ap, ◌∙◌, arith, List, length, get_or, set}
+use Rattle.std.proofs.Common.{◌≡◌, ℕ, ◌+◌, ◌*◌, ◌/◌, ◌%◌, ◌^◌, ◌<◌, ◌≤◌, Bool, true, false, not, ◌&&◌, ◌||◌, ◌==◌, inl, inr, refl, sym, ap, ◌∙◌, arith, mul-pos, List, length, get_or, set}
 use Rattle.std.proofs.Math.Path.{fun_ext}
 use Rattle.std.proofs.Math.Nat.{div-add-mod', mod-eq_of_lt}
-use Rattle.std.proofs.lemmas.Nat.{mod-mul-add, mod_below, mul-add-lt, same_from_place}
+use Rattle.std.proofs.lemmas.Nat.{div_below, mod-mul-add, mod_below, pow-add, mul-add-lt, same_from_place}
 use Rattle.std.proofs.lemmas.Bool.{eq-eqb, ne_eqb, cases_eq, cases_lt}
 use Rattle.bittle_bits.specs.RowLawProofs.{row_has-past}
 use Rattle.bittle_bits.specs.Orders.{place, read_in}
@@ -122,3 +122,27 @@ goes_to n c each i q asked some any is =
       within = mod_below i c any;
       at = wraps_at n c i some any;
     })
+
+-- where an index goes that wraps at the capacity before it is divided
+pub goes_wrapped : (n c each i j : ℕ) → each ≡ c → 0 < n → 0 < c → j ≡ i % (n * c) →
+    GoesTo n c i (j / each) (j % each)
+goes_wrapped n c each i j asked filled any is =
+    let full : 0 < n * c = mul-pos filled any in
+    rw asked (record {
+      is_element = div_below j c n any (rw is (mod_below i (n * c) full));
+      within = mod_below j c any;
+      at = sym is ∙ sym (div-add-mod' j c);
+    })
+
+-- a row of whole words, each of whole bytes, has an even capacity
+pub even_capacity : (n c w log : ℕ) → w ≡ 2 ^ (3 + log) → (d : ℕ) × (c ≡ d * w) →
+    (half : ℕ) × (n * c ≡ half * 2)
+even_capacity n c w log bytes whole = (
+  n * whole.0 * 2 ^ log * 4,
+  rw (whole.1, bytes ∙ pow-add 2 3 log) (omega arith),
+)
+
+-- no index of 32 bits is past an even capacity that is not below `u32::MAX`
+pub wraps_nowhere : (n i : ℕ) → (half : ℕ) × (n ≡ half * 2) → 4294967295 ≤ n → i < 4294967296 →
+    i ≡ i % n
+wraps_nowhere n i even all small = sym (mod-eq_of_lt (omega (arith, even.1)))

@@ -7,7 +7,7 @@ use Rattle.bittle_bits.specs.Cursor.{items_left_in, walk_of, IsCounted, IsWalkSt
 use Rattle.bittle_bits.specs.declared.internal.cursor.Cursor.{Cursor}
 use Rattle.bittle_bits.proofs.Items.{members_between-all}
 use Rattle.bittle_bits.proofs.IteratorRuns.{is_fresh}
-use Rattle.bittle_bits.proofs.Steps.{Seeks}
+use Rattle.bittle_bits.specs.Walk.{Seeks}
 
 module _ {B E W : Type 0} (s : PlainSet) (words w : ℕ) where
   -- with no word loaded

@@ -1,17 +1,14 @@
 -- The calls on one index of a word, by a mask whose one member it is.
-use Rattle.std.proofs.Common.{◌≡◌, ℕ, ◌-◌, ◌%◌, ◌^◌, ◌<◌, Bool, true, false, not, ◌&&◌, ◌||◌, ◌==◌, nat_lt, ◌⊎◌, inl, inr, refl, sym, ap, ◌∙◌, subst, arith, bit_and, bit_or, bit_xor}
+use Rattle.std.proofs.Common.{◌≡◌, ℕ, ◌-◌, ◌%◌, ◌^◌, ◌<◌, Bool, true, false, not, ◌&&◌, ◌||◌, ◌==◌, nat_lt, ◌⊎◌, inl, inr, refl, sym, ap, ◌∙◌, arith, bit_and, bit_or}
 use Rattle.std.proofs.Math.Path.{fun_ext}
 use Rattle.std.proofs.Math.Nat.{mod-eq_of_lt}
 use Rattle.std.proofs.lemmas.Nat.{mod_below}
-use Rattle.std.proofs.lemmas.Bool.{cases_eq, cases_lt, eq-eqb, ne_eqb, eqb-true, and_parts, true≢false}
+use Rattle.std.proofs.lemmas.Bool.{cases_eq, eq-eqb, ne_eqb, eqb-true, and_parts}
 use Rattle.bittle_bits.specs.BitPatterns.{bit_has, bit_set}
 use Rattle.bittle_bits.specs.Orders.{place, read_in}
 use Rattle.bittle_bits.specs.PlainSet.{contains, with_index, without_index, empty_set, lacks}
 use Rattle.bittle_bits.proofs.BitSets.{bit_has-and, bit_has-or, bit_has-not, bit_has-pow, bit_has-zero, some_digit}
 use Rattle.bittle_bits.proofs.PlaceLemmas.{place_eq, place_in_word, place-place, mirror_in_word}
-use Rattle.bittle_bits.specs.SetOperations.{combination_has, just_one}
-use Rattle.bittle_bits.proofs.SetOperations.{combination-below, combination-outside}
-use Rattle.bittle_bits.proofs.WordOperations.{digits_just_one, word_combined}
 use Rattle.bittle_bits.proofs.PlainSets.{plain_set, contains_in, has_with-in, with_in, without_in}
 
 or_false : (b : Bool) → b || false ≡ b
@@ -78,35 +75,6 @@ module _ (m : Bool) (w d e i : ℕ) (h : 0 < w)
       (k == i % w))
       ∙ sym (without_in (read_in m w (bit_set w d)) w i refl h))
 
-  flips : (x here : Bool) → (here ≡ true → x ≡ true) → just_one x here ≡ not here && x
-  flips true true is = refl
-  flips true false is = refl
-  flips false true is = absurd (true≢false (sym (is refl)))
-  flips false false is = refl
-
-  -- the exclusive or with the mask of a member clears it
-  pub word_flipped : i < w → (read_in m w (bit_set w d)).has i ≡ true →
-      read_in m w (bit_set w (bit_xor d e)) ≡ without_index (read_in m w (bit_set w d)) i
-  word_flipped inside is =
-      word_combined just_one w d e (bit_xor d e) m h (digits_just_one w d e)
-      ∙ ap (plain_set w) (fun_ext each)
-      ∙ sym (without_in (read_in m w (bit_set w d)) w i refl h)
-    where
-      each : (k : ℕ) → combination_has just_one (read_in m w (bit_set w d))
-          (read_in m w (bit_set w e)) k ≡ not (k == i % w) && bit_has w d (place m w k)
-      each k = elim (cases_lt k w) [
-        | inl l ↦ combination-below just_one (read_in m w (bit_set w d))
-            (read_in m w (bit_set w e)) k l l
-            ∙ ap (just_one (bit_has w d (place m w k))) (at_mask k)
-            ∙ flips (bit_has w d (place m w k)) (k == i % w)
-            (λ e. subst (λ j. bit_has w d (place m w j) ≡ true)
-            (sym (eqb-true k (i % w) e ∙ mod-eq_of_lt inside)) is)
-        | inr g ↦ combination-outside just_one (read_in m w (bit_set w d))
-            (read_in m w (bit_set w e)) k g
-            ∙ ap (λ b. not b && bit_has w d (place m w k))
-            (sym (ne_eqb k (i % w) (λ e. absurd (omega (arith, e, mod_below i w h)))))
-      ]
-
   -- the bits that the word and the mask share
   shared : (k : ℕ) → bit_has w (bit_and d e) (place m w k) ≡ bit_has w d (place m w k)
       && (k == i % w)
@@ -143,3 +111,13 @@ module _ (m : Bool) (w d e i : ℕ) (h : 0 < w)
           ∙ sym (sym here ∙ ap (λ p. p (place m w (i % w))) (bit_has-zero w (bit_and d e) z))
       by (inr n) = let t = some_digit w (bit_and d e) fits n in
           ap not (ne_eqb _ _ n) ∙ found t.0 t.1
+
+-- the and with the inverted word of one bit clears the index of which that is the place
+pub place_cleared : (m : Bool) (w d e mask p : ℕ) → p < w → e ≡ 2 ^ p → e < 2 ^ w →
+    mask ≡ 2 ^ w - 1 - e → read_in m w (bit_set w (bit_and d mask))
+    ≡ without_index (read_in m w (bit_set w d)) (place m w p)
+place_cleared m w d e mask p h one fits inverted =
+    let back : place m w (place m w p % w) ≡ p = ap (place m w)
+    (mod-eq_of_lt (place_in_word m w p h)) ∙ place-place m w p (omega arith) in
+    let at = mask_set m w (place m w p) e (omega arith) (one ∙ ap (λ k. 2 ^ k) (sym back)) in
+    word_cleared m w d e (place m w p) (omega arith) at mask fits inverted

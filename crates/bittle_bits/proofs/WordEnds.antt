@@ -1,21 +1,24 @@
 -- The least and the greatest set bit of a word.
-use Rattle.std.proofs.Common.{◌≡◌, ℕ, zero, suc, ◌-◌, ◌*◌, ◌/◌, ◌%◌, ◌^◌, ◌<◌, ◌≤◌, ◌⊎◌, Bool, true, false, not, ◌&&◌, ◌==◌, cond, nat_lt, bit_and, inl, inr, refl, sym, ap, ◌∙◌, arith, subst}
+use Rattle.std.proofs.Common.{◌≡◌, ℕ, zero, suc, ◌-◌, ◌*◌, ◌/◌, ◌%◌, ◌^◌, ◌<◌, ◌⊎◌, Bool, true, false, not, ◌&&◌, ◌==◌, cond, nat_lt, bit_and, inl, inr, refl, sym, ap, ◌∙◌, arith, subst}
 use mathlib.Core.Bool.{beq}
 use Rattle.std.proofs.Math.Nat.{mod-eq_of_lt}
 use Rattle.std.proofs.Math.Path.{fun_ext}
 use Rattle.std.specs.Int.{bit_at}
 use Rattle.std.specs.Int.Count.{count_leading_zeros, count_trailing_zeros, leading_of_zero}
 use Rattle.std.proofs.lemmas.Nat.{trailing_le, leading_le, leading_top, mod_below, div-add-mod'}
-use Rattle.std.proofs.lemmas.Nat.Bits.{bit_at-suc, bit_at_lowest, bit_at_above, bit_at-lt, bit_at-zero}
+use Rattle.std.proofs.lemmas.Nat.Bits.{bit_at-suc, bit_at_lowest, bit_at_above, bit_at-lt, bit_at-zero, bit_at-pow_same, bit_at-pow_other}
 use Rattle.std.proofs.lemmas.Bool.{cases_eq, cases_lt, and_right, eq-eqb, ne_eqb, true≢false}
 use Rattle.std.proofs.Math.Bool.{and_self}
 use Rattle.bittle_bits.specs.BitPatterns.{bit_has, bit_set}
-use Rattle.bittle_bits.specs.Ends.{IsEndMember}
-use Rattle.bittle_bits.specs.Orders.{mirror, read_in}
-use Rattle.bittle_bits.specs.PlainSet.{PlainSet, without_index, complement, IsLeastMember, IsGreatestMember}
-use Rattle.bittle_bits.proofs.BitSets.{bit_has-at, bit_has-and, bit_has-not, bit_has-zero, top_digit}
+use Rattle.bittle_bits.specs.Ends.{with_end, IsEndMember}
+use Rattle.bittle_bits.specs.Orders.{mirror, place, read_in}
+use Rattle.bittle_bits.specs.PlainSet.{PlainSet, without_index, complement, ascending, IsLeastMember, IsGreatestMember}
+use Rattle.bittle_bits.proofs.AscendingLists.{end-none, end-taken}
+use Rattle.bittle_bits.proofs.BitSets.{bit_has-at, bit_has-and, bit_has-not, top_digit}
 use Rattle.bittle_bits.proofs.PlaceLemmas.{mirror-mirror, mirror_in_word, place_eq}
 use Rattle.bittle_bits.proofs.PlainSets.{plain_set, without_in, complement-members}
+use Rattle.bittle_bits.proofs.WordCalls.{place_cleared}
+use Rattle.bittle_bits.proofs.WordSizes.{none_listed}
 
 -- the bits below the least set one are 0, and it is 1
 record Lowest (k d r : ℕ) : Type 0 where
@@ -41,6 +44,19 @@ lowest (suc k) d = by (lowest k (d / 2)) (cases_eq (d % 2) 0)
     by rest (inr n) =
         let e : d % 2 ≡ 1 = omega (arith, mod_below d 2 (omega arith)) in
         rw e (record { below = λ i h. absurd (omega arith); there = λ h. bit_at_lowest d ∙ e })
+
+-- the one set bit of a power of two is its exponent's
+pub trailing_of_pow : (k n : ℕ) → n < k → count_trailing_zeros k (2 ^ n) ≡ n
+trailing_of_pow k n within =
+    let r = count_trailing_zeros k (2 ^ n) in
+    let at = lowest k (2 ^ n) in
+    elim (cases_eq r n) [
+      | inl e ↦ e
+      | inr other ↦ elim (cases_lt r n) [
+        | inl lo ↦ absurd cc (at.there (omega arith), bit_at-pow_other n r other)
+        | inr hi ↦ absurd cc (at.below n (omega arith), bit_at-pow_same n)
+      ]
+    ]
 
 -- the trailing zeros of a word are the index of its least set bit
 pub least_digit : (w d : ℕ) → IsLeastMember (bit_set w d) (count_trailing_zeros w d)
@@ -171,14 +187,6 @@ lowered (suc r) d below there = up (lowered r (d / 2)
       above = above rest;
     }
 
--- a word with a bit set is not 0
-some_word : (w d r : ℕ) → IsLeastMember (bit_set w d) r → r < w → 1 ≤ d
-some_word w d r least h = elim (cases_eq d 0) [
-  | inl z ↦ absurd (let none = ap (λ p. p r) (bit_has-zero w d z) in
-      let one = least.is_member h in cc)
-  | inr n ↦ omega arith
-]
-
 -- patterns that are alike are words alike
 bit-same : (w d e k : ℕ) → bit_at e k ≡ bit_at d k → bit_has w e k ≡ bit_has w d k
 unfolding bit_has
@@ -250,15 +258,56 @@ less_greatest w d r greatest h =
         ∙ ap (λ x. k == x) (sym (mod-eq_of_lt (omega arith))))
 
 -- where the bit of least weight is the member at an end, the word less one tells it
-pub less_end : (front m : Bool) (w d r : ℕ) → beq m front ≡ false →
+less_end : (front m : Bool) (w d r : ℕ) → beq m front ≡ false →
     IsEndMember front (read_in m w (bit_set w d)) r → r < w →
-    (1 ≤ d) × (read_in m w (bit_set w (bit_and d (d - 1)))
-    ≡ without_index (read_in m w (bit_set w d)) (cond front r (w - 1 - r)))
+    read_in m w (bit_set w (bit_and d (d - 1)))
+    ≡ without_index (read_in m w (bit_set w d)) (cond front r (w - 1 - r))
 less_end true true w d r apart least h = absurd (true≢false apart)
-less_end true false w d r apart least h = (some_word w d r least h, less_least w d r least h)
-less_end false true w d r apart greatest h =
-    (some_word w d r (least_mirrored w d r h greatest) h, less_greatest w d r greatest h)
+less_end true false w d r apart least h = less_least w d r least h
+less_end false true w d r apart greatest h = less_greatest w d r greatest h
 less_end false false w d r apart greatest h = absurd (true≢false apart)
+
+-- the member at an end of a word that is not 0 lies in it
+pub end_within : (front m : Bool) (w d r : ℕ) → 0 < w → d < 2 ^ w → (d ≡ 0 → ⊥) →
+    IsEndMember front (read_in m w (bit_set w d)) r → r < w
+end_within front m w d r word fits some end = elim (cases_lt r w) [
+  | inl l ↦ l
+  | inr g ↦ absurd (some (none_listed m w d word fits
+      (end-none front (read_in m w (bit_set w d)) r end g)))
+]
+
+-- where the bit of least weight is the member at an end, the word less one takes it out
+pub least_taken : (front m : Bool) (w d r : ℕ) → beq m front ≡ false →
+    IsEndMember front (read_in m w (bit_set w d)) r → r < w →
+    ascending (read_in m w (bit_set w d)) ≡ with_end front (place m w r)
+    (ascending (read_in m w (bit_set w (bit_and d (d - 1)))))
+least_taken front m w d r apart end h = end-taken front (read_in m w (bit_set w d))
+    (read_in m w (bit_set w (bit_and d (d - 1)))) r (place m w r) end h (at front m apart)
+    (less_end front m w d r apart end h ∙ ap (without_index (read_in m w (bit_set w d)))
+    (sym (at front m apart)))
+  where
+    at : (front m : Bool) → beq m front ≡ false → place m w r ≡ cond front r (w - 1 - r)
+    at true true apart = absurd (true≢false apart)
+    at true false apart = refl
+    at false true apart = mirror_in_word w r h
+    at false false apart = absurd (true≢false apart)
+
+-- where the bit of greatest weight is the member at an end, the inverted mask takes it out
+pub greatest_taken : (front m : Bool) (w d e mask r : ℕ) → beq m front ≡ true →
+    e ≡ 2 ^ (w - 1 - r) → e < 2 ^ w → mask ≡ 2 ^ w - 1 - e →
+    IsEndMember front (read_in m w (bit_set w d)) r → r < w →
+    ascending (read_in m w (bit_set w d)) ≡ with_end front (place m w (w - 1 - r))
+    (ascending (read_in m w (bit_set w (bit_and d mask))))
+greatest_taken front m w d e mask r alike one fits inverted end h =
+    end-taken front (read_in m w (bit_set w d)) (read_in m w (bit_set w (bit_and d mask))) r
+    (place m w (w - 1 - r)) end h (at front m alike)
+    (place_cleared m w d e mask (w - 1 - r) (omega arith) one fits inverted)
+  where
+    at : (front m : Bool) → beq m front ≡ true → place m w (w - 1 - r) ≡ cond front r (w - 1 - r)
+    at true true alike = mirror_in_word w (w - 1 - r) (omega arith) ∙ omega arith
+    at true false alike = absurd (true≢false (sym alike))
+    at false true alike = absurd (true≢false (sym alike))
+    at false false alike = refl
 
 -- the member at an end is a member
 pub end_is_member : (front : Bool) (s : PlainSet) (r : ℕ) → IsEndMember front s r →

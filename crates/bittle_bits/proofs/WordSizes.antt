@@ -1,16 +1,19 @@
--- How many bits of a word are set.
-use Rattle.std.proofs.Common.{◌≡◌, ℕ, zero, suc, ◌+◌, ◌-◌, ◌*◌, ◌%◌, ◌^◌, ◌<◌, ◌&&◌, ◌==◌, cond, inl, inr, sym, ap, ◌∙◌, arith, add_comm}
+-- How many bits of a word are set, and whether any is.
+use Rattle.std.proofs.Common.{◌≡◌, ℕ, zero, suc, ◌+◌, ◌-◌, ◌*◌, ◌%◌, ◌^◌, ◌<◌, Bool, ◌&&◌, ◌==◌, cond, [], length, inl, inr, sym, ap, ◌∙◌, arith, add_comm}
 use Rattle.std.proofs.Math.Nat.{mod-eq_of_lt}
 use Rattle.std.specs.Int.{bit_at}
 use Rattle.std.specs.Int.Count.{ones, ones-ones}
 use Rattle.std.proofs.lemmas.Nat.{ones_cat, mod-pow-add, mod_below, pow_pos}
 use Rattle.std.proofs.lemmas.Nat.Bits.{bit_at-lt}
-use Rattle.std.proofs.lemmas.Bool.{cases_eq, lt-ltb, eq-eqb, ne_eqb}
+use Rattle.std.proofs.lemmas.Bool.{cases_eq, lt-ltb, eq-eqb, eqb-true, ne_eqb}
 use Rattle.bittle_bits.specs.BitPatterns.{bit_has, bit_set}
-use Rattle.bittle_bits.specs.PlainSet.{count_below, size, complement}
+use Rattle.bittle_bits.specs.LawProofs.{one_word}
+use Rattle.bittle_bits.specs.Orders.{place, read_in}
+use Rattle.bittle_bits.specs.PlainSet.{count_below, size, complement, ascending}
+use Rattle.bittle_bits.proofs.AscendingLists.{ascending-length, ascending-none}
 use Rattle.bittle_bits.proofs.BitSets.{bit_has-zero, bit_has-not, bit_has-below, some_digit}
 use Rattle.bittle_bits.proofs.Counts.{count-same, count-some, count-never}
-use Rattle.bittle_bits.proofs.Sizes.{size-complement}
+use Rattle.bittle_bits.proofs.Sizes.{size-complement, size_in_each_order}
 
 -- the bits of a word
 one_digit : (b : ℕ) → b < 2 → ones b ≡ cond (b == 1) 1 0
@@ -60,3 +63,17 @@ word_full w d e fits low is =
       | inl y ↦ eq-eqb _ 0 (omega arith) ∙ sym (eq-eqb _ w y)
       | inr n ↦ ne_eqb _ 0 (λ z. n (omega arith)) ∙ sym (ne_eqb _ w n)
     ]
+
+-- the word 0 lists nothing in any order
+pub zero_lists_none : (m : Bool) (w d : ℕ) → d ≡ 0 → ascending (read_in m w (bit_set w d)) ≡ []
+zero_lists_none m w d is = ascending-none (read_in m w (bit_set w d))
+    (λ k h. ap (λ p. p (place m w k)) (bit_has-zero w d is))
+
+-- a word that lists nothing in an order is 0
+pub none_listed : (m : Bool) (w d : ℕ) → 0 < w → d < 2 ^ w →
+    ascending (read_in m w (bit_set w d)) ≡ [] → d ≡ 0
+none_listed m w d word fits none =
+    let sized = size_in_each_order w (bit_set w d) (λ n. n == 0) (d == 0) word (one_word w)
+    (word_empty w d fits) m in
+    eqb-true d 0 (sized ∙ eq-eqb _ 0 (sym (ascending-length (read_in m w (bit_set w d)))
+    ∙ ap length none))

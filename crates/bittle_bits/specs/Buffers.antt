@@ -1,5 +1,5 @@
 -- Buffered words: the items that remain in each, and what a scan takes.
-use Rattle.std.specs.Prelude.{◌≡◌, ℕ, ◌+◌, ◌-◌, ◌<◌, Bool, true, false, cond, List, [], map, Option, Some, None, MatchOption}
+use Rattle.std.specs.Prelude.{◌≡◌, ◌≢◌, ℕ, ◌+◌, ◌-◌, ◌<◌, Bool, true, false, cond, List, [], map, Option, Some, None, MatchBool, MatchOption}
 use Rattle.bittle_bits.specs.BitPatterns.{bit_set}
 use Rattle.bittle_bits.specs.Ends.{with_end}
 use Rattle.bittle_bits.specs.Orders.{read_in}
@@ -16,15 +16,22 @@ abbrev pub items_of : Bool → ℕ → ℕ → ℕ → List ℕ
 items_of mirrored w pattern base = map (λ i. base + i)
     (ascending (read_in mirrored w (bit_set w pattern)))
 
+-- how far the index of the first bit of a word lies below that of its bit of least weight
+abbrev pub edge_from_first : Bool → ℕ → ℕ
+edge_from_first false w = 0
+edge_from_first true w = w - 1
+
 -- the items of a buffered word, if one is loaded
 unfoldable pub buffered_items : {W : Type 0} → Bool → ℕ → (W → ℕ) → BufferedWord W → Option (List ℕ)
-buffered_items mirrored w pattern c = cond c.is_loaded (Some (items_of mirrored w (pattern c.word) c.base))
+buffered_items mirrored w pattern c = cond c.is_loaded
+    (Some (items_of mirrored w (pattern c.word) (c.edge - edge_from_first mirrored w)))
     None
 
--- the indexes of a loaded word are numbers of 32 bits, and a buffer with none loaded has no items
+-- the indexes of a loaded word are numbers of 32 bits, and a buffer with none loaded has no item
 unfoldable pub IsSound : {W : Type 0} → Bool → ℕ → (W → ℕ) → BufferedWord W → Type 0
-IsSound mirrored w pattern c = (c.is_loaded ≡ true → c.base + w < 4294967296) × (c.is_loaded ≡ false →
-    items_of mirrored w (pattern c.word) c.base ≡ [])
+IsSound mirrored w pattern c = (c.is_loaded ≡ true →
+    (first : ℕ) × (c.edge ≡ first + edge_from_first mirrored w) × (first + w < 4294967296))
+    × (c.is_loaded ≡ false → ascending (read_in mirrored w (bit_set w (pattern c.word))) ≡ [])
 
 -- two buffered words, by the items that remain in each, the scans of them, and the fetches of words
 pub record BufferPair : Type 0 where
@@ -52,3 +59,25 @@ buffer_of false b = b.tail
 abbrev pub ScansFrom : Bool → Option (List ℕ) → Option ℕ → Option (List ℕ) → Type 0
 ScansFrom front before r after = MatchOption r ((items_in before ≡ []) × (after ≡ None))
     (λ item. (xs : List ℕ) × (before ≡ Some (with_end front item xs)) × (after ≡ Some xs))
+
+-- a word at an end is found to have no item, and is dropped then, or it has one and stays
+abbrev pub TellsExhausted : Bool → Option (List ℕ) → Option (List ℕ) → Type 0
+TellsExhausted r before after = MatchBool r ((items_in before ≡ []) × (after ≡ None))
+    ((items_in before ≢ []) × (after ≡ before))
+
+-- a word that is fetched for an end has items, and is loaded there, or it has none, and this was its
+-- scan
+abbrev pub Refills : Bool → List ℕ → Bool → BufferPair → BufferPair → Type 0
+Refills front xs r b c = MatchBool r
+    ((xs ≢ []) × (c ≡ record {
+      head = cond front (Some xs) b.head;
+      tail = cond front b.tail (Some xs);
+      scans = b.scans;
+      fetches = b.fetches + 1;
+    }))
+    ((xs ≡ []) × (c ≡ record {
+      head = b.head;
+      tail = b.tail;
+      scans = b.scans + 1;
+      fetches = b.fetches + 1;
+    }))

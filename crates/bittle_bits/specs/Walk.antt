@@ -49,6 +49,15 @@ pub record Steps (gives : Walk → Option ℕ → Walk → Type 0) (before : Wal
   pub words : after.words ≡ before.words
   pub bounded : IsScanBounded after
 
+-- what a walk keeps while a step has given nothing yet
+pub record Seeks (before after : Walk) : Type 0 where
+  pub remaining : after.remaining ≡ before.remaining
+  pub items : after.items ≡ before.items
+  pub scans : before.scans ≤ after.scans
+  pub fetches : before.fetches ≤ after.fetches
+  pub unread : after.fetches + after.unread ≡ before.fetches + before.unread
+  pub words : after.words ≡ before.words
+
 -- a step from the front gave the first item that was left, or None where none was
 abbrev pub StepsFront : Walk → Option ℕ → Walk → Type 0
 StepsFront = Steps (YieldsFirst (λ w. w.remaining))

@@ -90,7 +90,7 @@ impl<T: BitsOwned, const N: usize> Bits for [T; N] {
     }
 
     #[inline]
-    fn nth_leaf_word(&self, k: u32) -> T::LeafWord {
+    fn nth_leaf_word(&self, k: usize) -> T::LeafWord {
         row::leaf_word::<T>(self, k)
     }
 }
@@ -122,7 +122,7 @@ impl<T: BitsOwned, const N: usize> BitsMut for [T; N] {
     }
 
     #[inline]
-    fn set_nth_leaf_word(&mut self, k: u32, word: T::LeafWord) {
+    fn set_nth_leaf_word(&mut self, k: usize, word: T::LeafWord) {
         row::set_leaf_word::<T>(self, k, word);
     }
 }

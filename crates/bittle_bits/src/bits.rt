@@ -113,7 +113,7 @@ pub trait Bits: Drop + Shape {
 
     /// Returns word `k` of the set: its bits are those from `k` times the width on.
     #[doc(hidden)]
-    fn nth_leaf_word(&self, k: u32) -> Self::LeafWord
+    fn nth_leaf_word(&self, k: usize) -> Self::LeafWord
         requires fits { ShapeFits Self.Shape self.now }
         requires within { k * Self.width < (Self.big self.now).capacity }
         ensures { bit_set Self.width (Self.LeafWord.pattern result)

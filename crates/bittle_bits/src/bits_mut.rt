@@ -79,7 +79,7 @@ pub trait BitsMut: Bits {
 
     /// Replaces word `k` of the set: its bits are those from `k` times the width on.
     #[doc(hidden)]
-    fn set_nth_leaf_word(&mut self, k: u32, word: Self::LeafWord)
+    fn set_nth_leaf_word(&mut self, k: usize, word: Self::LeafWord)
         requires fits { ShapeFits Self.Shape self.old }
         requires within { k * Self.width < (Self.big self.old).capacity }
         ensures set { ReplacesWord Self.width (Self.big self.old) k

@@ -2,12 +2,12 @@
 //! stand what they are over, so that each shape has one body for them all: the four operations on
 //! two sets, and the two ends of a set.
 
-ghost use Rattle.std.specs.Prelude.{◌≡◌, ◌==◌, Bool, ◌*◌, ◌-◌, ◌<◌, ◌≤◌, ◌||◌, ◌&&◌, true, false, cond, refl, IfSome, IsTrue};
+ghost use Rattle.std.specs.Prelude.{◌≡◌, ◌==◌, Bool, ◌+◌, ◌*◌, ◌-◌, ◌^◌, ◌<◌, ◌≤◌, ◌||◌, ◌&&◌, true, false, cond, refl, [], IfSome, IsTrue, MatchOption};
 ghost use Rattle.std.proofs.Common.{sym};
 ghost use Rattle.bittle_bits.specs.BitPatterns.{bit_set};
-ghost use Rattle.bittle_bits.specs.Ends.{IsEndMember, YieldsFrom};
+ghost use Rattle.bittle_bits.specs.Ends.{IsEndMember, YieldsFrom, with_end};
 ghost use Rattle.bittle_bits.specs.LawProofs.{none_past_word, one_word_whole, positive_width, word_capacity};
-ghost use Rattle.bittle_bits.specs.Orders.{read_in};
+ghost use Rattle.bittle_bits.specs.Orders.{place, read_in};
 ghost use Rattle.bittle_bits.specs.PlainSet.{contains, with_index, with_span_changed, without_index, empty_set, without_members, full_set, span_set, size, ascending};
 ghost use Rattle.bittle_bits.specs.SetOperations.{combination_of, first_alone, just_one};
 ghost use Rattle.bittle_bits.specs.Shapes.{Fits};
@@ -83,7 +83,7 @@ impl<W: Integer> Bits for W {
     }
 
     #[inline]
-    fn nth_leaf_word(&self, k: u32) -> W {
+    fn nth_leaf_word(&self, k: usize) -> W {
         leaf_word::<W>(*self, k)
     }
 }
@@ -115,7 +115,7 @@ impl<W: Integer> BitsMut for W {
     }
 
     #[inline]
-    fn set_nth_leaf_word(&mut self, k: u32, word: W) {
+    fn set_nth_leaf_word(&mut self, k: usize, word: W) {
         set_leaf_word::<W>(self, k, word);
     }
 }
@@ -212,7 +212,8 @@ pub fn clear_bits<T: Word>(word: &mut T)
     *word = T::zero();
 }
 
-/// Combines a word with another, bit by bit.
+/// Combines a word with another, bit by bit: one of 128 bits by its halves, each as a processor
+/// holds it.
 #[inline]
 pub fn combine<T: Word, O: Operation>(word: &mut T, other: T)
     ensures { (mirrored : Bool) → read_in mirrored T.width (bit_set T.width (T.pattern word.new))
@@ -220,6 +221,13 @@ pub fn combine<T: Word, O: Operation>(word: &mut T, other: T)
         (read_in mirrored T.width (bit_set T.width (T.pattern word.old)))
         (read_in mirrored T.width (bit_set T.width (T.pattern other))) }
 {
+    if T::width() == 128 {
+        let (low, high) = halves::<T>(*word);
+        let (other_low, other_high) = halves::<T>(other);
+        let low = O::on_words::<u64>(low, other_low);
+        *word = joined::<T>(low, O::on_words::<u64>(high, other_high));
+        return;
+    }
     *word = O::on_words::<T>(*word, other);
 }
 
@@ -274,19 +282,6 @@ pub fn ones<T: Word>() -> T
     T::zero().not()
 }
 
-// Clears a bit that is set. An exclusive or turns it by one instruction, where an and of the
-// inverted mask takes two.
-#[inline]
-fn clear_set_bit<T: Word, E: Endian>(word: &mut T, index: u32)
-    requires within { index < T.width }
-    requires set { IsTrue
-        ((read_in E.mirrored T.width (bit_set T.width (T.pattern word.old))).has index) }
-    ensures { read_in E.mirrored T.width (bit_set T.width (T.pattern word.new))
-        ≡ without_index (read_in E.mirrored T.width (bit_set T.width (T.pattern word.old))) index }
-{
-    *word = word.xor(T::one_at(E::place::<T>(index)));
-}
-
 // Returns how far the member at the end `N` lies from that end, or the width where there is none.
 #[inline]
 pub fn from_end<T: Word, E: Endian, N: End>(word: T) -> u32
@@ -301,22 +296,103 @@ pub fn from_end<T: Word, E: Endian, N: End>(word: T) -> u32
     }
 }
 
-// Clears the member at the end `N`, given how far it lies from there. Where it is the bit of least
-// weight, the word less one lacks it, and has bits below it that the word lacks: a step waits for
-// that alone, and not for the index.
+// Takes the member at the end `N` out of the word, and returns its place: of which power of two its
+// weight is. Where that is the bit of least weight, the word less one lacks it, and has bits below
+// it that the word lacks: a step waits for that alone, and not for the place.
 #[inline]
-fn clear_end<T: Word, E: Endian, N: End>(word: &mut T, away: u32)
-    requires member { IsEndMember N.FRONT
-        (read_in E.mirrored T.width (bit_set T.width (T.pattern word.old))) away }
-    requires within { away < T.width }
-    ensures { read_in E.mirrored T.width (bit_set T.width (T.pattern word.new))
-        ≡ without_index (read_in E.mirrored T.width (bit_set T.width (T.pattern word.old)))
-        (cond N.FRONT away (T.width - 1 - away)) }
+fn pop_at_once<T: Word, E: Endian, N: End>(word: &mut T) -> Option<u32>
+    ensures found { MatchOption result
+        ((ascending (read_in E.mirrored T.width (bit_set T.width (T.pattern word.old))) ≡ [])
+        × (word.new ≡ word.old))
+        (λ at. ascending (read_in E.mirrored T.width (bit_set T.width (T.pattern word.old)))
+        ≡ with_end N.FRONT (place E.mirrored T.width at)
+        (ascending (read_in E.mirrored T.width (bit_set T.width (T.pattern word.new))))) }
+    ensures within { IfSome result (λ at. at < T.width) }
 {
+    if word.is_zero() {
+        return None;
+    }
+    let away = from_end::<T, E, N>(*word);
     if E::is_mirrored() == N::FRONT {
-        clear_set_bit::<T, E>(word, at_end::<N>(away, T::width() - 1 - away));
+        let place = T::width() - 1 - away;
+        *word = word.and(T::one_at(place).not());
+        Some(place)
     } else {
         *word = word.and(T::from_bits(word.to_bits() - 1));
+        Some(away)
+    }
+}
+
+// Returns the halves of a word of 128 bits: that of the lesser weights, and that of the greater.
+#[inline]
+fn halves<T: Word>(word: T) -> (u64, u64)
+    requires { T.width ≡ 128 }
+    ensures pattern { T.pattern word ≡ result.1 * 2 ^ 64 + result.0 }
+    ensures range { (result.0 < 2 ^ 64) × (result.1 < 2 ^ 64) }
+{
+    let bits = word.to_bits();
+    ((bits % (1 << 64)) as u64, (bits / (1 << 64)) as u64)
+}
+
+// Returns the word of 128 bits that has these halves.
+#[inline]
+fn joined<T: Word>(low: u64, high: u64) -> T
+    requires { T.width ≡ 128 }
+    ensures pattern { T.pattern result ≡ high * 2 ^ 64 + low }
+    ensures range { low < 2 ^ 64 }
+{
+    T::from_bits(high as u128 * (1 << 64) + low as u128)
+}
+
+// Takes the member at the end `N` out of a word of 128 bits by the half that it lies in, and
+// returns its place. A processor searches and changes a half by an instruction each, and both by
+// some ten.
+#[inline]
+fn pop_from_half<T: Word, E: Endian, N: End>(word: &mut T) -> Option<u32>
+    requires { T.width ≡ 128 }
+    ensures found { MatchOption result
+        ((ascending (read_in E.mirrored T.width (bit_set T.width (T.pattern word.old))) ≡ [])
+        × (word.new ≡ word.old))
+        (λ at. ascending (read_in E.mirrored T.width (bit_set T.width (T.pattern word.old)))
+        ≡ with_end N.FRONT (place E.mirrored T.width at)
+        (ascending (read_in E.mirrored T.width (bit_set T.width (T.pattern word.new))))) }
+    ensures within { IfSome result (λ at. at < T.width) }
+{
+    let (low, high) = halves::<T>(*word);
+    let is_high = if E::is_mirrored() == N::FRONT {
+        high != 0
+    } else {
+        low == 0
+    };
+    if is_high {
+        let mut half = high;
+        let place = pop_at_once::<u64, E, N>(&mut half)?;
+        *word = joined::<T>(low, half);
+        Some(64 + place)
+    } else {
+        let mut half = low;
+        let place = pop_at_once::<u64, E, N>(&mut half)?;
+        *word = joined::<T>(half, high);
+        Some(place)
+    }
+}
+
+/// Takes the member at the end `N` out of the word, and returns its place: of which power of two
+/// its weight is.
+#[inline]
+pub fn pop_place<T: Word, E: Endian, N: End>(word: &mut T) -> Option<u32>
+    ensures found { MatchOption result
+        ((ascending (read_in E.mirrored T.width (bit_set T.width (T.pattern word.old))) ≡ [])
+        × (word.new ≡ word.old))
+        (λ at. ascending (read_in E.mirrored T.width (bit_set T.width (T.pattern word.old)))
+        ≡ with_end N.FRONT (place E.mirrored T.width at)
+        (ascending (read_in E.mirrored T.width (bit_set T.width (T.pattern word.new))))) }
+    ensures within { IfSome result (λ at. at < T.width) }
+{
+    if T::width() == 128 {
+        pop_from_half::<T, E, N>(word)
+    } else {
+        pop_at_once::<T, E, N>(word)
     }
 }
 
@@ -328,17 +404,17 @@ pub fn pop<T: Word, E: Endian, N: End>(word: &mut T) -> Option<u32>
         word.old result word.new }
     ensures below { IfSome result (λ index. index < T.width) }
 {
-    let away = from_end::<T, E, N>(*word);
-    if away == T::width() {
-        return None;
-    }
-    clear_end::<T, E, N>(word, away);
-    Some(at_end::<N>(away, T::width() - 1 - away))
+    let place = pop_place::<T, E, N>(word)?;
+    Some(if E::is_mirrored() {
+        T::width() - 1 - place
+    } else {
+        place
+    })
 }
 
 /// Returns word `k` of a word, which is its only one.
 #[inline]
-pub fn leaf_word<T: Word>(word: T, k: u32) -> T
+pub fn leaf_word<T: Word>(word: T, k: usize) -> T
     requires { k * T.width < T.width }
     ensures { bit_set T.width (T.pattern result)
         ≡ word_of T.width (bit_set T.width (T.pattern word)) k }
@@ -349,7 +425,7 @@ pub fn leaf_word<T: Word>(word: T, k: u32) -> T
 
 /// Replaces word `k` of a word, which is its only one.
 #[inline]
-pub fn set_leaf_word<T: Word>(word: &mut T, k: u32, by: T)
+pub fn set_leaf_word<T: Word>(word: &mut T, k: usize, by: T)
     requires { k * T.width < T.width }
     ensures { ReplacesWord T.width (bit_set T.width (T.pattern word.old)) k
         (bit_set T.width (T.pattern by)) (bit_set T.width (T.pattern word.new)) }

@@ -64,7 +64,7 @@ impl<'a, T: BitsOwned> Bits for &'a [T] {
     }
 
     #[inline]
-    fn nth_leaf_word(&self, k: u32) -> T::LeafWord {
+    fn nth_leaf_word(&self, k: usize) -> T::LeafWord {
         row::leaf_word::<T>(self, k)
     }
 }
@@ -121,7 +121,7 @@ impl<'a, T: BitsOwned> Bits for &'a mut [T] {
     }
 
     #[inline]
-    fn nth_leaf_word(&self, k: u32) -> T::LeafWord {
+    fn nth_leaf_word(&self, k: usize) -> T::LeafWord {
         row::leaf_word::<T>(self, k)
     }
 }
@@ -154,7 +154,7 @@ impl<'a, T: BitsOwned> BitsMut for &'a mut [T] {
     }
 
     #[inline]
-    fn set_nth_leaf_word(&mut self, k: u32, word: T::LeafWord) {
+    fn set_nth_leaf_word(&mut self, k: usize, word: T::LeafWord) {
         row::set_leaf_word::<T>(self, k, word);
     }
 }

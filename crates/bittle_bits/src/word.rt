@@ -1,7 +1,7 @@
 //! A word: one of the twelve integers, with what a processor does to one. An iterator or a search
 //! is over one kind of its bits, the ones or the zeros.
 
-ghost use Rattle.std.specs.Prelude.{◌≡◌, ℕ, Bool, true, false, ◌-◌, ◌<◌, ◌^◌, ◌==◌, bit_and, bit_or, bit_xor, count_ones};
+ghost use Rattle.std.specs.Prelude.{◌≡◌, ℕ, Bool, true, false, ◌+◌, ◌-◌, ◌<◌, ◌^◌, ◌==◌, bit_and, bit_or, bit_xor, count_ones};
 ghost use Rattle.std.specs.Int.Count.{count_leading_zeros, count_trailing_zeros};
 ghost use Rattle.bittle_bits.specs.BitPatterns.{bit_set};
 ghost use Rattle.bittle_bits.specs.Walk.{ones_or_zeros};
@@ -128,6 +128,9 @@ pub trait Word: Copy {
 
     // A word has a bit.
     ghost width_positive: { 0 < width };
+
+    // Its bytes, of eight bits each, are a power of two.
+    ghost whole_bytes: { (log : ℕ) × (width ≡ 2 ^ (3 + log)) };
 }
 
 /// Names the bits that an iterator yields: the [`Ones`] or the [`Zeros`] of its set.

@@ -18,7 +18,7 @@ pub fn word_or_empty<S: Bits>(set: &S, k: u32) -> S::LeafWord
     ensures { bit_set S.width (S.LeafWord.pattern result) ≡ word_of S.width (S.big set.now) k }
 {
     if k < set.bits_capacity() / <S::LeafWord as Word>::width() {
-        set.nth_leaf_word(k)
+        set.nth_leaf_word(k as usize)
     } else {
         <S::LeafWord as Word>::zero()
     }

@@ -17,7 +17,7 @@ fn count_word<B: Bits, E: Endian>(bits: &B, k: u32) -> u32
     ensures { let ours = set_in B.Shape E.Endian bits.now in
         members_below ours (k * B.width) + result ≡ members_below ours ((k + 1) * B.width) }
 {
-    bits.nth_leaf_word(k).count_ones()
+    bits.nth_leaf_word(k as usize).count_ones()
 }
 
 /// Returns the word with the set bit of a rank, and how many bits of the word are set below that

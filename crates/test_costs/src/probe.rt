@@ -39,7 +39,7 @@ impl<'a> Probe<'a> {
         }
     }
 
-    fn note_word(&self, k: u32) {
+    fn note_word(&self, k: usize) {
         if let Some(asked) = self.asked {
             asked.note_word(k);
         }
@@ -105,7 +105,7 @@ impl<'a> Bits for Probe<'a> {
         self.bytes.test_bit_in::<E>(index)
     }
 
-    fn nth_leaf_word(&self, k: u32) -> u8 {
+    fn nth_leaf_word(&self, k: usize) -> u8 {
         self.note_word(k);
         self.bytes.nth_leaf_word(k)
     }
@@ -137,7 +137,7 @@ impl<'a> BitsMut for Probe<'a> {
         self.bytes.assign_by_operation::<O>(&other.bytes);
     }
 
-    fn set_nth_leaf_word(&mut self, k: u32, word: u8) {
+    fn set_nth_leaf_word(&mut self, k: usize, word: u8) {
         self.note_other();
         self.bytes.set_nth_leaf_word(k, word);
     }

@@ -29,7 +29,7 @@ impl<'a> WordProbe<'a> {
         }
     }
 
-    fn note_word(&self, k: u32) {
+    fn note_word(&self, k: usize) {
         if let Some(asked) = self.asked {
             asked.note_word(k);
         }
@@ -95,7 +95,7 @@ impl<'a> Bits for WordProbe<'a> {
         self.word.test_bit_in::<E>(index)
     }
 
-    fn nth_leaf_word(&self, k: u32) -> u64 {
+    fn nth_leaf_word(&self, k: usize) -> u64 {
         self.note_word(k);
         self.word.nth_leaf_word(k)
     }
@@ -127,7 +127,7 @@ impl<'a> BitsMut for WordProbe<'a> {
         self.word.assign_by_operation::<O>(&other.word);
     }
 
-    fn set_nth_leaf_word(&mut self, k: u32, word: u64) {
+    fn set_nth_leaf_word(&mut self, k: usize, word: u64) {
         self.note_other();
         self.word.set_nth_leaf_word(k, word);
     }

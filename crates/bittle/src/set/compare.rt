@@ -109,7 +109,7 @@ fn has<B: Bits, E: Endian>(bits: &B, capacity: u32, index: u32) -> bool
     }
     let width = <B::LeafWord as Word>::width();
     // Of a slice a test of an index that may wrap divides by its length, which the word does not.
-    test_bit::<B::LeafWord, E>(bits.nth_leaf_word(index / width), index % width)
+    test_bit::<B::LeafWord, E>(bits.nth_leaf_word((index / width) as usize), index % width)
 }
 
 // Returns whether a member lies past an index that is none. The search begins at the index, since it

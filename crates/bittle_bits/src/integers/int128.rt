@@ -46,6 +46,8 @@ impl Word for u128 {
 
     ghost width_positive = { lit< tt };
 
+    ghost whole_bytes = { (4, refl) };
+
     #[inline]
     fn width() -> u32 {
         u128::BITS
@@ -111,6 +113,8 @@ impl Word for i128 {
     ghost pattern = { cast_unsigned w128 };
 
     ghost width_positive = { lit< tt };
+
+    ghost whole_bytes = { (4, refl) };
 
     #[inline]
     fn width() -> u32 {

@@ -46,6 +46,8 @@ impl Word for u16 {
 
     ghost width_positive = { lit< tt };
 
+    ghost whole_bytes = { (1, refl) };
+
     #[inline]
     fn width() -> u32 {
         u16::BITS
@@ -111,6 +113,8 @@ impl Word for i16 {
     ghost pattern = { cast_unsigned w16 };
 
     ghost width_positive = { lit< tt };
+
+    ghost whole_bytes = { (1, refl) };
 
     #[inline]
     fn width() -> u32 {

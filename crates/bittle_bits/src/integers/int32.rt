@@ -46,6 +46,8 @@ impl Word for u32 {
 
     ghost width_positive = { lit< tt };
 
+    ghost whole_bytes = { (2, refl) };
+
     #[inline]
     fn width() -> u32 {
         u32::BITS
@@ -111,6 +113,8 @@ impl Word for i32 {
     ghost pattern = { cast_unsigned w32 };
 
     ghost width_positive = { lit< tt };
+
+    ghost whole_bytes = { (2, refl) };
 
     #[inline]
     fn width() -> u32 {

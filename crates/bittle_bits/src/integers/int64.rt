@@ -46,6 +46,8 @@ impl Word for u64 {
 
     ghost width_positive = { lit< tt };
 
+    ghost whole_bytes = { (3, refl) };
+
     #[inline]
     fn width() -> u32 {
         u64::BITS
@@ -111,6 +113,8 @@ impl Word for i64 {
     ghost pattern = { cast_unsigned w64 };
 
     ghost width_positive = { lit< tt };
+
+    ghost whole_bytes = { (3, refl) };
 
     #[inline]
     fn width() -> u32 {

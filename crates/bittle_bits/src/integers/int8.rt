@@ -46,6 +46,8 @@ impl Word for u8 {
 
     ghost width_positive = { lit< tt };
 
+    ghost whole_bytes = { (0, refl) };
+
     #[inline]
     fn width() -> u32 {
         u8::BITS
@@ -111,6 +113,8 @@ impl Word for i8 {
     ghost pattern = { cast_unsigned w8 };
 
     ghost width_positive = { lit< tt };
+
+    ghost whole_bytes = { (0, refl) };
 
     #[inline]
     fn width() -> u32 {

@@ -46,6 +46,8 @@ impl Word for usize {
 
     ghost width_positive = { lit< tt };
 
+    ghost whole_bytes = { (3, refl) };
+
     #[inline]
     fn width() -> u32 {
         usize::BITS
@@ -111,6 +113,8 @@ impl Word for isize {
     ghost pattern = { cast_unsigned w64 };
 
     ghost width_positive = { lit< tt };
+
+    ghost whole_bytes = { (3, refl) };
 
     #[inline]
     fn width() -> u32 {

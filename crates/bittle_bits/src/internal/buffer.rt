@@ -1,8 +1,9 @@
 //! Buffered words: an iterator reads its set through them alone, and each fetch of a word and each
 //! scan of a buffered one is counted.
 
-ghost use Rattle.std.specs.Prelude.{◌≡◌, ◌+◌, ◌*◌, ◌<◌, true, not, cond, Some, None};
-ghost use Rattle.bittle_bits.specs.Buffers.{members_between, buffered_items, buffer_count, buffer_of, items_of, IsSound, ScansFrom};
+ghost use Rattle.std.specs.Prelude.{◌≡◌, ℕ, ◌+◌, ◌-◌, ◌*◌, ◌<◌, not, cond, false, Some, None};
+ghost use Rattle.bittle_bits.specs.Buffers.{members_between, edge_from_first, buffered_items, buffer_count, buffer_of, items_of, IsSound, Refills, ScansFrom, TellsExhausted};
+ghost use Rattle.bittle_bits.specs.Orders.{place};
 ghost use Rattle.bittle_bits.specs.Values.{set_in, ShapeFits};
 ghost use Rattle.bittle_bits.specs.Walk.{ones_or_zeros};
 
@@ -59,42 +60,104 @@ impl Count {
 
 const _: () = prove!(size_of::<Count>() == 0);
 
-// A word of a set, and the index in the set of its first bit. Where none is loaded, or it is
-// exhausted, the word has no bit set, so that a step tests the word alone; the flag serves the
-// count.
+// A word of a set, and the index in the set of its bit of least weight, from which those of the others
+// go up or, mirrored, down. Where none is loaded, or it is exhausted, the word has no bit set, so that
+// a step tests the word alone; the flag serves the count.
 #[derive(Clone, Copy)]
 struct BufferedWord<W: Copy> {
     word: W,
-    base: u32,
+    edge: u32,
     is_loaded: bool,
 }
 
-// Loads word `k`, with the bits of the kind.
+// Returns how many bits so many words have. It is the product, as a rotation: a product the compiler
+// would keep as a sum of its own in each turn of a loop over words, where it is wanted after the loop.
 #[inline]
-fn load<B: Bits, E: Endian, K: Kind>(
-    source: &Source<'_, B>,
-    k: u32,
-    fetches: &mut Count,
-) -> BufferedWord<B::LeafWord>
-    requires fits { ShapeFits B.Shape source.now.set.now }
-    requires within { k * B.width < (B.big source.now.set.now).capacity }
-    ensures items { items_of E.mirrored B.LeafWord.width (B.LeafWord.pattern result.word) result.base
-        ≡ members_between (ones_or_zeros K.ONES (set_in B.Shape E.Endian source.now.set.now))
-        (k * B.width) (k * B.width + B.width) }
-    ensures reach { result.base + B.LeafWord.width < 4294967296 }
-    ensures loaded { result.is_loaded ≡ true }
-    ensures fetches { fetches.new ≡ fetches.old + 1 }
+fn bits_of<W: Word>(words: usize) -> u32
+    requires { words * W.width < 4294967296 }
+    ensures { result ≡ words * W.width }
 {
+    words.rotate_left(W::width().trailing_zeros()) as u32
+}
+
+// Returns word `k` of a set as it is buffered at the end `N`. From the front its bits are counted with
+// those of the words before it, as the cursor counts them by then.
+#[inline]
+fn buffered<W: Word, E: Endian, N: End>(word: W, k: usize) -> BufferedWord<W>
+    requires { k * W.width + W.width < 4294967296 }
+    ensures items { buffered_items E.mirrored W.width W.pattern result
+        ≡ Some (items_of E.mirrored W.width (W.pattern word) (k * W.width)) }
+    ensures sound { IsSound E.mirrored W.width W.pattern result }
+{
+    let first = if N::FRONT {
+        bits_of::<W>(k + 1) - W::width()
+    } else {
+        bits_of::<W>(k)
+    };
     BufferedWord {
-        word: source.fetch::<K>(k, fetches),
-        base: k * <B::LeafWord as Word>::width(),
+        word,
+        edge: if E::is_mirrored() {
+            first + (W::width() - 1)
+        } else {
+            first
+        },
         is_loaded: true,
     }
 }
 
+// Drops a buffered word, which has no item. If it was loaded, this was its last scan.
+#[inline]
+fn unload<W: Copy>(buffered: &mut BufferedWord<W>, scans: &mut Count)
+    ensures dropped { buffered.new ≡ record {
+      word = buffered.old.word;
+      edge = buffered.old.edge;
+      is_loaded = false;
+    } }
+    ensures scans { scans.new ≡ scans.old + cond buffered.old.is_loaded 1 0 }
+{
+    if buffered.is_loaded {
+        scans.raise();
+        buffered.is_loaded = false;
+    }
+}
+
+// Returns the index in the set of the bit at a place of a buffered word, by the index of its bit of
+// least weight.
+#[inline]
+fn index_at<W: Word, E: Endian>(edge: u32, at: u32) -> u32
+    requires edge { (first : ℕ) × (edge ≡ first + edge_from_first E.mirrored W.width)
+        × (first + W.width < 4294967296) }
+    requires within { at < W.width }
+    ensures { result
+        ≡ edge - edge_from_first E.mirrored W.width + place E.mirrored W.width at }
+{
+    if E::is_mirrored() {
+        edge - at
+    } else {
+        edge + at
+    }
+}
+
+// Returns whether a buffered word has no item. One that was loaded is dropped then: this was its last
+// scan.
+#[inline]
+fn is_exhausted<W: Word, E: Endian>(buffered: &mut BufferedWord<W>, scans: &mut Count) -> bool
+    requires { IsSound E.mirrored W.width W.pattern buffered.old }
+    ensures told { TellsExhausted result (buffered_items E.mirrored W.width W.pattern buffered.old)
+        (buffered_items E.mirrored W.width W.pattern buffered.new) }
+    ensures scans { scans.new ≡ scans.old + cond result
+        (buffer_count (buffered_items E.mirrored W.width W.pattern buffered.old)) 0 }
+    ensures sound { IsSound E.mirrored W.width W.pattern buffered.new }
+{
+    if !one_word::all_zeros::<W>(buffered.word) {
+        return false;
+    }
+    unload(buffered, scans);
+    true
+}
+
 // Scans a buffered word for its item at the end `N`.
 #[inline]
-#[tactic(auto, unfolding(crate::specs::Buffers::buffered_items, crate::specs::Buffers::IsSound))]
 fn scan<W: Word, E: Endian, N: End>(
     buffered: &mut BufferedWord<W>,
     scans: &mut Count,
@@ -106,16 +169,12 @@ fn scan<W: Word, E: Endian, N: End>(
         ≡ scans.old + buffer_count (buffered_items E.mirrored W.width W.pattern buffered.old) }
     ensures sound { IsSound E.mirrored W.width W.pattern buffered.new }
 {
-    let Some(index) = one_word::pop::<W, E, N>(&mut buffered.word) else {
-        if buffered.is_loaded {
-            scans.raise();
-            buffered.is_loaded = false;
-        }
-        buffered.base = 0;
+    let Some(at) = one_word::pop_place::<W, E, N>(&mut buffered.word) else {
+        unload(buffered, scans);
         return None;
     };
     scans.raise();
-    Some(buffered.base + index)
+    Some(index_at::<W, E>(buffered.edge, at))
 }
 
 /// The two buffered words of an iterator, its head and its tail: for one over unset bits, with each
@@ -150,13 +209,13 @@ impl<W: Word, E: Endian> Model for Buffers<W, E> {
 impl<W: Word, E: Endian> Buffers<W, E> {
     /// Makes two buffers with no word loaded, no scans and no fetches yet.
     #[inline]
-    #[tactic(auto, unfolding(crate::specs::Buffers::buffered_items, crate::specs::Buffers::IsSound))]
+    #[tactic(auto, unfolding(crate::specs::Buffers::buffered_items))]
     pub fn none() -> Buffers<W, E>
         ensures { result ≡ record { head = None; tail = None; scans = 0; fetches = 0 } }
     {
         let none = BufferedWord {
-            word: W::zero(),
-            base: 0,
+            word: one_word::zeros::<W>(),
+            edge: 0,
             is_loaded: false,
         };
         Buffers {
@@ -191,37 +250,89 @@ impl<W: Word, E: Endian> Buffers<W, E> {
         &self.scans
     }
 
-    /// Loads word `k` to the head, or else to the tail, with the bits of the kind.
+    // Puts word `k` of a set at the end `N`.
     #[inline]
-    #[tactic(auto, unfolding(crate::specs::Buffers::buffered_items, crate::specs::Buffers::IsSound))]
-    pub fn fetch<B: Bits<LeafWord = W>, K: Kind>(
-        &mut self,
-        to_head: bool,
-        source: &Source<'_, B>,
-        k: u32,
-    )
+    fn put<N: End>(&mut self, word: W, k: usize)
+        requires { k * W.width + W.width < 4294967296 }
+        ensures { let loaded = Some (items_of E.mirrored W.width (W.pattern word) (k * W.width)) in
+            self.new ≡ record {
+              head = cond N.FRONT loaded self.old.head;
+              tail = cond N.FRONT self.old.tail loaded;
+              scans = self.old.scans;
+              fetches = self.old.fetches;
+            } }
+    {
+        if N::FRONT {
+            self.head = buffered::<W, E, N>(word, k);
+        } else {
+            self.tail = buffered::<W, E, N>(word, k);
+        }
+    }
+
+    // Fetches word `k`, with the bits of the kind.
+    #[inline]
+    fn fetch<B: Bits<LeafWord = W>, K: Kind>(&mut self, source: &Source<'_, B>, k: usize) -> W
+        requires fits { ShapeFits B.Shape source.now.set.now }
+        requires within { k * B.width < (B.big source.now.set.now).capacity }
+        ensures items { items_of E.mirrored W.width (W.pattern result) (k * W.width)
+            ≡ members_between (ones_or_zeros K.ONES (set_in B.Shape E.Endian source.now.set.now))
+            (k * B.width) (k * B.width + B.width) }
+        ensures reach { k * W.width + W.width < 4294967296 }
+        ensures counted { self.new ≡ record {
+          head = self.old.head;
+          tail = self.old.tail;
+          scans = self.old.scans;
+          fetches = self.old.fetches + 1;
+        } }
+    {
+        source.fetch::<K>(k, &mut self.fetches)
+    }
+
+    /// Fetches word `k`, with the bits of the kind, and loads it at the end `N`.
+    #[inline]
+    pub fn load<B: Bits<LeafWord = W>, K: Kind, N: End>(&mut self, source: &Source<'_, B>, k: usize)
         requires fits { ShapeFits B.Shape source.now.set.now }
         requires within { k * B.width < (B.big source.now.set.now).capacity }
         ensures { let loaded = Some (members_between
             (ones_or_zeros K.ONES (set_in B.Shape E.Endian source.now.set.now))
             (k * B.width) (k * B.width + B.width)) in
             self.new ≡ record {
-              head = cond to_head loaded self.old.head;
-              tail = cond to_head self.old.tail loaded;
+              head = cond N.FRONT loaded self.old.head;
+              tail = cond N.FRONT self.old.tail loaded;
               scans = self.old.scans;
               fetches = self.old.fetches + 1;
             } }
     {
-        if to_head {
-            self.head = load::<B, E, K>(source, k, &mut self.fetches);
-        } else {
-            self.tail = load::<B, E, K>(source, k, &mut self.fetches);
-        }
+        let word = self.fetch::<B, K>(source, k);
+        self.put::<N>(word, k);
     }
 
-    /// Exchanges the head and the tail.
+    /// Fetches word `k`, with the bits of the kind, and returns whether it has an item. It is loaded
+    /// then at the end `N`, where none was; else this was its scan, and it is not loaded.
     #[inline]
-    pub fn exchange(&mut self)
+    pub fn refill<B: Bits<LeafWord = W>, K: Kind, N: End>(
+        &mut self,
+        source: &Source<'_, B>,
+        k: usize,
+    ) -> bool
+        requires fits { ShapeFits B.Shape source.now.set.now }
+        requires within { k * B.width < (B.big source.now.set.now).capacity }
+        ensures { Refills N.FRONT (members_between
+            (ones_or_zeros K.ONES (set_in B.Shape E.Endian source.now.set.now))
+            (k * B.width) (k * B.width + B.width)) result self.old self.new }
+    {
+        let word = self.fetch::<B, K>(source, k);
+        if one_word::all_zeros::<W>(word) {
+            self.scans.raise();
+            return false;
+        }
+        self.put::<N>(word, k);
+        true
+    }
+
+    // Exchanges the head and the tail.
+    #[inline]
+    fn exchange(&mut self)
         ensures { self.new ≡ record {
           head = self.old.tail;
           tail = self.old.head;
@@ -232,15 +343,33 @@ impl<W: Word, E: Endian> Buffers<W, E> {
         // Without the padding of the words, which would go through memory.
         let BufferedWord {
             word,
-            base,
+            edge,
             is_loaded,
         } = self.head;
         self.head.word = self.tail.word;
-        self.head.base = self.tail.base;
+        self.head.edge = self.tail.edge;
         self.head.is_loaded = self.tail.is_loaded;
         self.tail.word = word;
-        self.tail.base = base;
+        self.tail.edge = edge;
         self.tail.is_loaded = is_loaded;
+    }
+
+    /// Returns whether the word at the end `N`, the head or the tail, has no item. One that was loaded
+    /// is dropped then: that was its last scan.
+    #[inline]
+    pub fn is_exhausted<N: End>(&mut self) -> bool
+        ensures told { TellsExhausted result (buffer_of N.FRONT self.old)
+            (buffer_of N.FRONT self.new) }
+        ensures scans { self.new.scans
+            ≡ self.old.scans + cond result (buffer_count (buffer_of N.FRONT self.old)) 0 }
+        ensures other { buffer_of (not N.FRONT) self.new ≡ buffer_of (not N.FRONT) self.old }
+        ensures fetches { self.new.fetches ≡ self.old.fetches }
+    {
+        if N::FRONT {
+            is_exhausted::<W, E>(&mut self.head, &mut self.scans)
+        } else {
+            is_exhausted::<W, E>(&mut self.tail, &mut self.scans)
+        }
     }
 
     /// Scans the word at the end `N`, the head or the tail, for its item there.
@@ -258,5 +387,22 @@ impl<W: Word, E: Endian> Buffers<W, E> {
         } else {
             scan::<W, E, N>(&mut self.tail, &mut self.scans)
         }
+    }
+
+    /// Scans the word at the other end than `N` for its item at the end `N`. The word stays where it
+    /// is: nothing is moved where the exchanges are compiled.
+    #[inline]
+    pub fn scan_across<N: End>(&mut self) -> Option<u32>
+        ensures found { ScansFrom N.FRONT (buffer_of (not N.FRONT) self.old) result
+            (buffer_of (not N.FRONT) self.new) }
+        ensures scans { self.new.scans
+            ≡ self.old.scans + buffer_count (buffer_of (not N.FRONT) self.old) }
+        ensures other { buffer_of N.FRONT self.new ≡ buffer_of N.FRONT self.old }
+        ensures fetches { self.new.fetches ≡ self.old.fetches }
+    {
+        self.exchange();
+        let found = self.scan::<N>();
+        self.exchange();
+        found
     }
 }

@@ -1,18 +1,19 @@
 //! Where an iterator is, and its steps: one core for those over set bits and over unset bits,
 //! borrowed and owned.
 
-ghost use Rattle.std.specs.Prelude.{◌≡◌, ℕ, ◌/◌};
+ghost use Rattle.std.specs.Prelude.{◌≡◌, ◌≢◌, ℕ, ◌+◌, ◌-◌, ◌/◌, ◌<◌, cond, [], None, MatchBool};
+ghost use Rattle.bittle_bits.specs.Buffers.{buffer_of, items_in};
 ghost use Rattle.bittle_bits.specs.PlainSet.{PlainSet};
 ghost use Rattle.bittle_bits.specs.Ends.{YieldsFrom};
 ghost use Rattle.bittle_bits.specs.Cursor.{items_left_in, walk_of, IsWalkStart, IsCounted};
 ghost use Rattle.bittle_bits.specs.Values.{set_in, ShapeFits};
-ghost use Rattle.bittle_bits.specs.Walk.{ones_or_zeros, AreBelow, ResumesAs, Steps};
+ghost use Rattle.bittle_bits.specs.Walk.{ones_or_zeros, AreBelow, ResumesAs, Seeks, Steps};
 
 use crate::bits::Bits;
 use crate::endian::Endian;
 use crate::internal::buffer::{Buffers, Count};
 use crate::internal::source::Source;
-use crate::one_word::End;
+use crate::one_word::{End, Front};
 use crate::shape::Shape;
 use crate::word::Kind;
 
@@ -20,14 +21,13 @@ use crate::word::Kind;
 #[derive(Drop)]
 pub struct Cursor<B: Shape, E: Endian> {
     pub buffers: Buffers<B::LeafWord, E>,
-    pub low: u32,
-    pub high: u32,
+    pub low: usize,
+    pub high: usize,
     pub items: Count,
 }
 
-/// Begins an iterator. Of a type of fixed length it loads the first word to the head, and the last
-/// one to the tail where there are two or more. Of a slice it loads none, so that an iterator which
-/// is stepped from one end alone has a buffer at that end alone.
+/// Begins an iterator. Of a type of fixed length it loads the first word to the head. Of a slice it
+/// loads none, so that an iterator which is stepped from one end alone has a buffer at that end alone.
 #[inline]
 pub fn begin<B: Bits, E: Endian, K: Kind>(source: &Source<'_, B>) -> Cursor<B, E>
     requires { ShapeFits B.Shape source.now.set.now }
@@ -40,22 +40,14 @@ pub fn begin<B: Bits, E: Endian, K: Kind>(source: &Source<'_, B>) -> Cursor<B, E
     let mut at = Cursor {
         buffers: Buffers::none(),
         low: 0,
-        high: source.words(),
+        high: source.words() as usize,
         items: Count::new(),
     };
-    if at.low == at.high {
+    if !B::is_fixed() || at.low == at.high {
         return at;
     }
-    if !B::is_fixed() {
-        return at;
-    }
-    at.buffers.fetch::<B, K>(true, source, at.low);
-    at.low += 1;
-    if at.low == at.high {
-        return at;
-    }
-    at.high -= 1;
-    at.buffers.fetch::<B, K>(false, source, at.high);
+    at.buffers.load::<B, K, Front>(source, 0);
+    at.low = 1;
     at
 }
 
@@ -85,6 +77,56 @@ pub fn duplicate<B: Bits, E: Endian>(at: &Cursor<B, E>) -> Cursor<B, E>
     }
 }
 
+// Takes the word at the end `N` of those between the buffered ones, and returns its number.
+#[inline]
+fn take_word<B: Shape, E: Endian, N: End>(at: &mut Cursor<B, E>) -> usize
+    requires { at.old.low < at.old.high }
+    ensures number { result ≡ cond N.FRONT at.old.low (at.old.high - 1) }
+    ensures taken { at.new
+        ≡ record {
+          buffers = at.old.buffers;
+          low = cond N.FRONT (at.old.low + 1) at.old.low;
+          high = cond N.FRONT at.old.high (at.old.high - 1);
+          items = at.old.items;
+        } }
+{
+    if N::FRONT {
+        at.low += 1;
+        at.low - 1
+    } else {
+        at.high -= 1;
+        at.high
+    }
+}
+
+// Returns whether the word at the end `N` has an item, where words without one are passed over. If
+// not, no word is left between the buffered ones.
+#[inline]
+#[tactic(auto, unfolding(crate::specs::Cursor::items_left_in))]
+fn seek<B: Bits, E: Endian, K: Kind, N: End>(source: &Source<'_, B>, at: &mut Cursor<B, E>) -> bool
+    requires fits { ShapeFits B.Shape source.now.set.now }
+    requires counted { IsCounted ((B.big source.now.set.now).capacity / B.width) at.old }
+    ensures sought { let s = ones_or_zeros K.ONES (set_in B.Shape E.Endian source.now.set.now) in
+        let words = (B.big source.now.set.now).capacity / B.width in
+        Seeks (walk_of s words B.width at.old) (walk_of s words B.width at.new) }
+    ensures counted { IsCounted ((B.big source.now.set.now).capacity / B.width) at.new }
+    ensures told { MatchBool result (items_in (buffer_of N.FRONT at.new.buffers) ≢ [])
+        ((buffer_of N.FRONT at.new.buffers ≡ None) × (at.new.low ≡ at.new.high)) }
+{
+    if !at.buffers.is_exhausted::<N>() {
+        return true;
+    }
+    loop {
+        if at.low == at.high {
+            return false;
+        }
+        let k = take_word::<B, E, N>(at);
+        if at.buffers.refill::<B, K, N>(source, k) {
+            return true;
+        }
+    }
+}
+
 /// Takes the item at the end `N` of those that remain.
 #[inline]
 #[tactic(auto, unfolding(crate::specs::Cursor::items_left_in))]
@@ -100,30 +142,17 @@ pub fn step<B: Bits, E: Endian, K: Kind, N: End>(
         (walk_of s words B.width at.new) }
     ensures counted { IsCounted ((B.big source.now.set.now).capacity / B.width) at.new }
 {
-    loop {
-        if let Some(item) = at.buffers.scan::<N>() {
+    if seek::<B, E, K, N>(source, at) {
+        let found = at.buffers.scan::<N>();
+        if found.is_some() {
             at.items.raise();
-            return Some(item);
         }
-        if at.low == at.high {
-            break;
-        }
-        if N::FRONT {
-            at.buffers.fetch::<B, K>(true, source, at.low);
-            at.low += 1;
-        } else {
-            at.high -= 1;
-            at.buffers.fetch::<B, K>(false, source, at.high);
-        }
+        return found;
     }
-    // No word is left between, so the one at the other end has all that remains. It is scanned from
-    // this end, and stays where it is: nothing is moved where the exchanges are compiled.
-    at.buffers.exchange();
-    let found = at.buffers.scan::<N>();
-    at.buffers.exchange();
-    let Some(item) = found else {
-        return None;
-    };
-    at.items.raise();
-    Some(item)
+    // No word is left between, so the one at the other end has all that remains.
+    let found = at.buffers.scan_across::<N>();
+    if found.is_some() {
+        at.items.raise();
+    }
+    found
 }

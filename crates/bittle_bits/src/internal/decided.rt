@@ -21,8 +21,8 @@ fn word_of_both<A: Bits, B: Bits, O: Operation>(left: &A, right: &B, k: u32) -> 
         ≡ combination_of O.decide (word_of A.width (A.big left.now) k)
         (word_of A.width (B.big right.now) k) }
 {
-    let theirs = right.nth_leaf_word(k).to_bits();
-    let word = left.nth_leaf_word(k);
+    let theirs = right.nth_leaf_word(k as usize).to_bits();
+    let word = left.nth_leaf_word(k as usize);
     O::on_words::<A::LeafWord>(word, <A::LeafWord as Word>::from_bits(theirs))
 }
 

@@ -21,7 +21,7 @@ pub fn count_in_word<B: Bits, E: Endian>(bits: &B, k: u32, from: u32, to: u32) -
         members_below ours (k * B.width + from) + result
         ≡ members_below ours (k * B.width + to) }
 {
-    let word = bits.nth_leaf_word(k);
+    let word = bits.nth_leaf_word(k as usize);
     word.and(range::<B::LeafWord, E>(from, to)).count_ones()
 }
 

@@ -1,6 +1,6 @@
 //! The calls on a row of elements, for arrays and for slices.
 
-ghost use Rattle.std.specs.Prelude.{◌≡◌, ◌+◌, ◌==◌, ◌*◌, ◌<◌, ◌≤◌, ℕ, Bool, true, false, cond, get_or, length, IsTrue, List, MatchOption};
+ghost use Rattle.std.specs.Prelude.{◌≡◌, ◌+◌, ◌==◌, ◌*◌, ◌%◌, ◌<◌, ◌≤◌, ℕ, Bool, true, false, cond, get_or, length, IsTrue, List, MatchOption};
 ghost use Rattle.bittle_bits.specs.Orders.{read_in};
 ghost use Rattle.bittle_bits.specs.Pieces.{LiesAt};
 ghost use Rattle.bittle_bits.specs.PlainSet.{contains, with_span_changed, without_members, size};
@@ -41,8 +41,24 @@ pub fn is_short<T: BitsOwned>(len: usize) -> bool {
     bits_capacity::<T>(len) <= 1024
 }
 
+// Returns an index that wraps at a capacity. It is the index where the capacity is past all numbers
+// of 32 bits, and that of a row may be.
+#[inline]
+fn wrapped(index: u32, capacity: u32) -> u32
+    requires { 0 < capacity }
+    ensures wraps { capacity < 4294967295 → result ≡ index % capacity }
+    ensures past { capacity ≡ 4294967295 → result ≡ index }
+{
+    if index < capacity || capacity == u32::MAX {
+        index
+    } else {
+        index % capacity
+    }
+}
+
 // Returns the element that an index goes to, and the index there, or `None` with capacity 0. Where
-// the length is a constant, to divide by it costs less than to ask whether the index is past it.
+// the length is a constant, to divide by it costs less than to ask whether the index is past the
+// capacity.
 #[inline]
 fn locate<T: BitsOwned>(len: usize, index: u32, is_constant: bool) -> Option<(usize, u32)>
     requires { IsTrue T.indexable }
@@ -53,11 +69,11 @@ fn locate<T: BitsOwned>(len: usize, index: u32, is_constant: bool) -> Option<(us
     if each == 0 || len == 0 {
         return None;
     }
-    let element = (index / each) as usize;
-    if !is_constant && element < len {
-        return Some((element, index % each));
+    if is_constant {
+        return Some(((index / each) as usize % len, index % each));
     }
-    Some((element % len, index % each))
+    let within = wrapped(index, bits_capacity::<T>(len));
+    Some(((within / each) as usize, within % each))
 }
 
 /// Tests the bit at an index, which wraps, of an array or of a slice. With capacity 0 it returns
@@ -402,18 +418,18 @@ pub fn all_ones<T: BitsOwned>(elements: &[T], at_once: bool) -> bool
 
 /// Returns the element that word `k` of a row lies in, and which of its words it is.
 #[inline]
-fn locate_word<T: BitsOwned>(len: usize, k: u32) -> (usize, u32)
+fn locate_word<T: BitsOwned>(len: usize, k: usize) -> (usize, usize)
     requires fits { Fits T.indexable (len * T.type_capacity) }
     requires within { k * T.width < len * T.type_capacity }
     ensures { GoesTo len T.type_capacity (k * T.width) result.0 (result.1 * T.width) }
 {
-    let each = T::bits() / <T::LeafWord as Word>::width();
-    ((k / each) as usize, k % each)
+    let each = (T::bits() / <T::LeafWord as Word>::width()) as usize;
+    (k / each, k % each)
 }
 
 /// Returns word `k` of the row, which lies in one element.
 #[inline]
-pub fn leaf_word<T: BitsOwned>(elements: &[T], k: u32) -> T::LeafWord
+pub fn leaf_word<T: BitsOwned>(elements: &[T], k: usize) -> T::LeafWord
     requires fits { Fits T.indexable (length elements.now * T.type_capacity) }
     requires within { k * T.width < length elements.now * T.type_capacity }
     ensures { bit_set T.width (T.LeafWord.pattern result)
@@ -426,7 +442,7 @@ pub fn leaf_word<T: BitsOwned>(elements: &[T], k: u32) -> T::LeafWord
 
 /// Replaces word `k` of the row, which lies in one element.
 #[inline]
-pub fn set_leaf_word<T: BitsOwned>(elements: &mut [T], k: u32, word: T::LeafWord)
+pub fn set_leaf_word<T: BitsOwned>(elements: &mut [T], k: usize, word: T::LeafWord)
     requires fits { Fits T.indexable (length elements.old * T.type_capacity) }
     requires within { k * T.width < length elements.old * T.type_capacity }
     ensures { ReplacesWord T.width

@@ -46,7 +46,7 @@ pub fn end_in<B: Bits, E: Endian, K: Kind, N: End>(bits: &B, from: u32, to: u32)
     let (first, begin, last, top) = ends(width, from, to);
     let mask = ahead::<B::LeafWord, E, N>(at_end::<N>(begin, top));
     let mut k = at_end::<N>(first, last);
-    let mut word = word_of_kind::<B, K>(bits, k).and(mask);
+    let mut word = word_of_kind::<B, K>(bits, k as usize).and(mask);
     loop {
         let away = from_end::<B::LeafWord, E, N>(word);
         if away != width {
@@ -61,6 +61,6 @@ pub fn end_in<B: Bits, E: Endian, K: Kind, N: End>(bits: &B, from: u32, to: u32)
             return None;
         }
         k = if N::FRONT { k + 1 } else { k - 1 };
-        word = word_of_kind::<B, K>(bits, k);
+        word = word_of_kind::<B, K>(bits, k as usize);
     }
 }

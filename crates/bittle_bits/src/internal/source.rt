@@ -15,7 +15,7 @@ use crate::word::{Kind, Word, bits_of_kind};
 
 /// Returns word `k` of a set, as a word whose ones are the bits of the kind.
 #[inline]
-pub(crate) fn word_of_kind<B: Bits, K: Kind>(bits: &B, k: u32) -> B::LeafWord
+pub(crate) fn word_of_kind<B: Bits, K: Kind>(bits: &B, k: usize) -> B::LeafWord
     requires fits { ShapeFits B.Shape bits.now }
     requires within { k * B.width < (B.big bits.now).capacity }
     ensures { bit_set B.width (B.LeafWord.pattern result)
@@ -59,7 +59,7 @@ impl<'a, B: Bits> Source<'a, B> {
 
     /// Fetches word `k`, as a word whose ones are the bits of the kind, and counts the fetch.
     #[inline]
-    pub fn fetch<K: Kind>(&self, k: u32, fetches: &mut Count) -> B::LeafWord
+    pub fn fetch<K: Kind>(&self, k: usize, fetches: &mut Count) -> B::LeafWord
         requires fits { ShapeFits B.Shape self.now.set.now }
         requires within { k * B.width < (B.big self.now.set.now).capacity }
         ensures word { bit_set B.width (B.LeafWord.pattern result)

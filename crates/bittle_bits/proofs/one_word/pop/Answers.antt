@@ -1,19 +1,13 @@
-use Rattle.std.proofs.Common.{arith}
-use Rattle.bittle_bits.proofs.AscendingLists.{end-none, end-taken}
-use Rattle.bittle_bits.proofs.WordEnds.{end_is_member}
+use Rattle.std.proofs.Common.{◌≡◌, ◌∙◌, ◌-◌, ap, sym}
+use Rattle.bittle_bits.specs.Orders.{place}
+use Rattle.bittle_bits.proofs.PlaceLemmas.{mirror_in_word}
 use Rattle.bittle_bits.proofs.one_word.pop.Goals as goal
 
-pub returns-then-away-width-clause-found : goal.returns-then-away-width-clause-found
-returns-then-away-width-clause-found g c =
-    let none = end-none g.N.End.FRONT _ _ c.from_end-away.ensures.member (omega arith) in
-    (none, none)
-
-pub returns-clause-found : goal.returns-clause-found
-returns-clause-found g c =
-    let is = rw c.width-2.ensures at c.at_end.ensures in
-    end-taken g.N.End.FRONT _ _ _ _ c.from_end-away.ensures.member (omega arith) is
-    (rw (← is) at c.clear_end.ensures)
-
-pub returns-clause-below : goal.returns-clause-below
-returns-clause-below g c = rw (c.at_end.ensures, c.width-2.ensures)
-    (end_is_member g.N.End.FRONT _ _ c.from_end-away.ensures.member (omega arith)).0
+pub returns-then-is_mirrored-clause-found : goal.returns-then-is_mirrored-clause-found
+returns-then-is_mirrored-clause-found g c =
+    let at = c.in_ok-place.place in
+    let index : place g.E.Endian.mirrored g.T.Word.width at ≡ c.width.result - 1 - at =
+    ap (λ m. place m g.T.Word.width at) (sym c.is_mirrored.ensures ∙ c.if-is_mirrored.true)
+    ∙ mirror_in_word g.T.Word.width at c.in_ok-place.ensures.within
+    ∙ ap (λ w. w - 1 - at) (sym c.width.ensures) in
+    rw (← index) c.in_ok-place.ensures.found

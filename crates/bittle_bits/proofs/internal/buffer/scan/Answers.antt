@@ -1,26 +1,45 @@
-use Rattle.std.proofs.Common.{◌≡◌, ◌+◌, inl, inr, ℕ, Bool, true, false, List, [], ◌∷◌, refl, sym, ap, ◌∙◌, map, length, length-append, arith, Some, None}
-use Rattle.std.proofs.lemmas.Bool.{cases_Bool, cond-true}
-use Rattle.std.proofs.lemmas.List.{map-append}
-use Rattle.bittle_bits.specs.Buffers.{buffered_items, IsSound}
-use Rattle.bittle_bits.specs.Ends.{with_end}
+use Rattle.std.proofs.Common.{◌≡◌, true, ◌∙◌, refl, sym}
+use Rattle.bittle_bits.specs.Buffers.{IsSound}
+use Rattle.bittle_bits.proofs.BufferedWords.{dropped, loaded_count, not_empty, taken, with_member, without_items}
+use Rattle.bittle_bits.proofs.internal.buffer.scan.Given.{Over}
+use Rattle.bittle_bits.proofs.internal.buffer.scan.Goals.{In-Some}
 use Rattle.bittle_bits.proofs.internal.buffer.scan.Goals as goal
 
-not_empty : (front : Bool) (x : ℕ) (xs : List ℕ) → with_end front x xs ≡ [] → ⊥
-not_empty true x xs none = cc
-not_empty false x xs none = let e = ap length none in omega (arith, e, length-append xs (x ∷ []))
+-- a word that gave a member was loaded
+loaded : (g : Over) (c : In-Some g) → c.args.buffered.now.is_loaded ≡ true
+loaded g c = with_member _ _ _ _ c.requires
+    (λ none. not_empty g.N.End.FRONT _ _ (sym c.in-Some.ensures.found ∙ none))
 
-moved_end : (front : Bool) (base x : ℕ) (xs : List ℕ) →
-    map (λ i. base + i) (with_end front x xs) ≡ with_end front (base + x) (map (λ i. base + i) xs)
-moved_end true base x xs = refl
-moved_end false base x xs = map-append _ _ _
+pub returns-in_default-clause-found : goal.returns-in_default-clause-found
+returns-in_default-clause-found g c =
+    let none = c.in_default.ensures.found.0 in (
+      without_items _ _ _ _ none,
+      (dropped _ _ _ _ _ _ (rw c.in_default.ensures.found.1 none) c.unload.ensures.dropped).0,
+    )
+
+pub returns-in_default-clause-scans : goal.returns-in_default-clause-scans
+returns-in_default-clause-scans g c = rw loaded_count c.unload.ensures.scans
+
+pub returns-in_default-clause-sound : goal.returns-in_default-clause-sound
+returns-in_default-clause-sound g c =
+    (dropped _ _ _ _ _ _ (rw c.in_default.ensures.found.1 c.in_default.ensures.found.0)
+    c.unload.ensures.dropped).1
+
+pub index_at-requires-clause-edge : goal.index_at-requires-clause-edge
+unfolding IsSound
+index_at-requires-clause-edge g c = c.requires.0 (loaded g (goal.at.index_at-requires-clause-edge g c).In-Some)
 
 pub returns-clause-found : goal.returns-clause-found
-unfolding buffered_items IsSound
 returns-clause-found g c =
-    let buffered = c.args.buffered.now in
-    let items = ap (map (λ i. buffered.base + i)) c.in-Some.ensures.found
-    ∙ moved_end g.N.End.FRONT buffered.base c.in-Some.index _ in
-    elim (cases_Bool buffered.is_loaded) [
-      | inl is ↦ (_, cond-true buffered.is_loaded _ None is ∙ ap Some items, cond-true buffered.is_loaded _ None is)
-      | inr is ↦ absurd (not_empty _ _ _ (sym items ∙ c.requires.1 is))
-    ]
+    let is = loaded g (goal.at.returns-clause-found g c).In-Some in
+    rw c.index_at.ensures (taken _ _ _ g.N.End.FRONT _ _ _ is is refl c.in-Some.ensures.found)
+
+pub returns-clause-scans : goal.returns-clause-scans
+returns-clause-scans g c =
+    rw (loaded_count, loaded g (goal.at.returns-clause-scans g c).In-Some) c.raise.ensures
+
+pub returns-clause-sound : goal.returns-clause-sound
+unfolding IsSound
+returns-clause-sound g c =
+    let is = loaded g (goal.at.returns-clause-sound g c).In-Some in
+    (c.requires.0, λ none. absurd cc (sym is ∙ none))

@@ -1,0 +1,87 @@
+-- Buffered words: what one without an item is, and what a scan takes.
+use Rattle.std.proofs.Common.{◌≡◌, ◌≢◌, inl, inr, ℕ, ◌+◌, ◌-◌, Bool, true, false, cond, List, [], ◌∷◌, length, length-append, map, Some, None, refl, ap, arith}
+use Rattle.std.proofs.lemmas.Bool.{cases_Bool}
+use Rattle.std.proofs.lemmas.List.{map-append}
+use Rattle.bittle_bits.specs.BitPatterns.{bit_set}
+use Rattle.bittle_bits.specs.Buffers.{edge_from_first, buffered_items, buffer_count, items_in, IsSound}
+use Rattle.bittle_bits.specs.Ends.{with_end}
+use Rattle.bittle_bits.specs.Orders.{read_in}
+use Rattle.bittle_bits.specs.PlainSet.{ascending}
+use Rattle.bittle_bits.specs.declared.internal.buffer.BufferedWord.{BufferedWord}
+
+-- a list with an item at an end is not the empty one
+pub not_empty : (front : Bool) (x : ℕ) (xs : List ℕ) → with_end front x xs ≢ []
+not_empty true x xs none = cc
+not_empty false x xs none = let e = ap length none in omega (arith, e, length-append xs (x ∷ []))
+
+-- items that are moved by a base stand at the end where they stood
+moved_end : (front : Bool) (base x : ℕ) (xs : List ℕ) →
+    map (λ i. base + i) (with_end front x xs) ≡ with_end front (base + x) (map (λ i. base + i) xs)
+moved_end true base x xs = refl
+moved_end false base x xs = map-append _ _ _
+
+-- a list of no items is moved to one, and no other is
+pub moved_none : (base : ℕ) (xs : List ℕ) → map (λ i. base + i) xs ≡ [] → xs ≡ []
+moved_none base [] e = refl
+moved_none base (x ∷ xs) e = cc
+
+module _ {W : Type 0} (m : Bool) (w : ℕ) (pattern : W → ℕ) where
+  -- a word counts if it is loaded
+  pub loaded_count : (c : BufferedWord W) →
+      buffer_count (buffered_items m w pattern c) ≡ cond c.is_loaded 1 0
+  unfolding buffered_items
+  loaded_count c = elim (cases_Bool c.is_loaded) [
+    | inl is ↦ rw is refl
+    | inr is ↦ rw is refl
+  ]
+
+  -- a word without a member has no item
+  pub without_items : (c : BufferedWord W) →
+      ascending (read_in m w (bit_set w (pattern c.word))) ≡ [] →
+      items_in (buffered_items m w pattern c) ≡ []
+  unfolding buffered_items
+  without_items c none = elim (cases_Bool c.is_loaded) [
+    | inl is ↦ rw (is, none) refl
+    | inr is ↦ rw is refl
+  ]
+
+  -- a word with a member is loaded
+  pub with_member : (c : BufferedWord W) → IsSound m w pattern c →
+      ascending (read_in m w (bit_set w (pattern c.word))) ≢ [] → c.is_loaded ≡ true
+  unfolding IsSound
+  with_member c sound some = elim (cases_Bool c.is_loaded) [
+    | inl is ↦ is
+    | inr is ↦ absurd (some (sound.1 is))
+  ]
+
+  -- a word with a member has an item
+  pub with_items : (c : BufferedWord W) → IsSound m w pattern c →
+      ascending (read_in m w (bit_set w (pattern c.word))) ≢ [] →
+      items_in (buffered_items m w pattern c) ≢ []
+  unfolding buffered_items
+  with_items c sound some none =
+      some (moved_none _ _ (rw (with_member c sound some) at none))
+
+  -- a word that was dropped, of those without a member
+  pub dropped : (word : W) (edge : ℕ) (d : BufferedWord W) →
+      ascending (read_in m w (bit_set w (pattern word))) ≡ [] →
+      d ≡ record { word = word; edge = edge; is_loaded = false } →
+      (buffered_items m w pattern d ≡ None) × IsSound m w pattern d
+  unfolding buffered_items IsSound
+  dropped word edge d none e = rw e (refl, ((λ is. absurd cc), (λ is. none)))
+
+  -- a loaded word that has one member less than before, at an end, has one item less at that end
+  pub taken : (front : Bool) (c d : BufferedWord W) (x : ℕ) → c.is_loaded ≡ true →
+      d.is_loaded ≡ true → d.edge ≡ c.edge →
+      ascending (read_in m w (bit_set w (pattern c.word)))
+      ≡ with_end front x (ascending (read_in m w (bit_set w (pattern d.word)))) →
+      (xs : List ℕ)
+      × (buffered_items m w pattern c
+      ≡ Some (with_end front (c.edge - edge_from_first m w + x) xs))
+      × (buffered_items m w pattern d ≡ Some xs)
+  unfolding buffered_items
+  taken front c d x is after edge found = (
+    map (λ i. c.edge - edge_from_first m w + i) (ascending (read_in m w (bit_set w (pattern d.word)))),
+    rw (is, found) (ap Some (moved_end front (c.edge - edge_from_first m w) x _)),
+    rw (after, edge) refl,
+  )

@@ -1,0 +1,35 @@
+use Rattle.std.proofs.Common.{◌/◌, ◌<◌, arith}
+use Rattle.bittle_bits.specs.Values.{set_in}
+use Rattle.bittle_bits.specs.Walk.{ones_or_zeros}
+use Rattle.bittle_bits.proofs.Steps.{passed_over, refilled, seeks_on}
+use Rattle.bittle_bits.proofs.internal.cursor.seek.Goals as goal
+
+pub returns-then-refill-clause-sought : goal.returns-then-refill-clause-sought
+returns-then-refill-clause-sought g c =
+    let s = ones_or_zeros g.K.Kind.ONES (set_in g.B.Shape g.E.Endian c.args.source.now.set.now) in
+    let words = (g.B.Shape.big c.args.source.now.set.now).capacity / g.B.Shape.width in
+    let before = c.loop-at.invariant in
+    let some : c.loop-at.at.low < c.loop-at.at.high =
+    omega (arith, before.1.ordered, c.if-at.false) in
+    let taken = c.take_word-k.ensures in
+    rw taken.taken (seeks_on _ _ _ before.0 (refilled s words g.B.Shape.width g.N.End.FRONT
+    c.loop-at.at c.refill.new.self c.refill.result before.1 some before.2
+    (rw (taken.taken, taken.number) at c.refill.ensures)).0)
+
+pub loop-at-preserved : goal.loop-at-preserved
+loop-at-preserved g c =
+    let s = ones_or_zeros g.K.Kind.ONES (set_in g.B.Shape g.E.Endian c.args.source.now.set.now) in
+    let words = (g.B.Shape.big c.args.source.now.set.now).capacity / g.B.Shape.width in
+    let before = c.loop-at.invariant in
+    let some : c.loop-at.at.low < c.loop-at.at.high =
+    omega (arith, before.1.ordered, c.if-at.false) in
+    let taken = c.take_word-k.ensures in
+    let fills = (rw (taken.taken, taken.number) at c.refill.ensures) in
+    let after = refilled s words g.B.Shape.width g.N.End.FRONT c.loop-at.at c.refill.new.self
+    c.refill.result before.1 some before.2 fills in
+    rw taken.taken (
+      seeks_on _ _ _ before.0 after.0,
+      after.1,
+      passed_over g.N.End.FRONT c.refill.result _ c.loop-at.at.buffers c.refill.new.self before.2
+          fills c.if-refill.false,
+    )
