@@ -1,11 +1,12 @@
 -- Where an iterator over two sets begins, and as far as which words it goes.
-use Rattle.std.proofs.Common.{◌≡◌, ℕ, zero, suc, ◌+◌, ◌-◌, ◌*◌, ◌<◌, ◌≤◌, Bool, true, false, cond, ◌∷◌, ◌++◌, append-nil, refl, sym, ap, ◌∙◌, subst, arith}
+use Rattle.std.proofs.Common.{◌≡◌, ℕ, zero, suc, ◌+◌, ◌-◌, ◌*◌, ◌<◌, ◌≤◌, Bool, true, false, cond, [], map, ◌∷◌, ◌++◌, append-nil, refl, sym, ap, ◌∙◌, subst, arith}
 use Rattle.std.proofs.Math.Nat.{zero-mul}
 use Rattle.std.proofs.lemmas.List.Elements.{All-nil, All-cons}
-use Rattle.bittle_bits.specs.Buffers.{members_between}
+use Rattle.bittle_bits.specs.Buffers.{items_of, members_between}
 use Rattle.bittle_bits.specs.PlainSet.{PlainSet, ascending_from, ascending}
 use Rattle.bittle_bits.proofs.AscendingLists.{ascending_from-none}
-use Rattle.bittle_bits.proofs.Items.{items_of-none, members_between-all, members_between-split}
+use Rattle.bittle_bits.proofs.Items.{members_between-all, members_between-split}
+use Rattle.bittle_bits.proofs.WordSizes.{zero_lists_none}
 use Rattle.bittle_ext.specs.Combined.{items_at, AreIndexes}
 use Rattle.bittle_ext.specs.declared.both_words.Place.{Place}
 
@@ -18,6 +19,10 @@ none_more s end to h none =
     ∙ ap (λ xs. members_between s 0 end ++ xs)
     (ascending_from-none s.has end (to - end) (λ k lo hi. none k lo))
     ∙ append-nil (members_between s 0 end)
+
+-- the word 0 has no items
+items_of-none : (m : Bool) (w d base : ℕ) → d ≡ 0 → items_of m w d base ≡ []
+items_of-none m w d base is = ap (map (λ i. base + i)) (zero_lists_none m w d is)
 
 -- with no word loaded, and all words below an end left, past which nothing is, all members are left
 pub all_left : {W : Type 0} (m : Bool) (leaf : ℕ) (pattern : W → ℕ) (w end : ℕ) (s : PlainSet)
