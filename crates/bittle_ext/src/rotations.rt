@@ -63,7 +63,11 @@ fn word_from<B: Bits, E: Endian>(set: &B, words: u32, at: u32, from: u32) -> B::
         (read_in E.mirrored B.width (bit_set B.width (B.LeafWord.pattern result))) }
 {
     let next = if at + 1 == words { 0 } else { at + 1 };
-    window::<B::LeafWord, E>(set.nth_leaf_word(at as usize), set.nth_leaf_word(next as usize), from)
+    window::<B::LeafWord, E>(
+        set.nth_leaf_word(at as usize),
+        set.nth_leaf_word(next as usize),
+        from,
+    )
 }
 
 /// Returns the set with each member moved down, from index 0 on to the last one.

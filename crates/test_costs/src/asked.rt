@@ -23,7 +23,8 @@ impl Asked {
 
     /// Counts a fetch of word `k`.
     pub(crate) fn note_word(&self, k: usize) {
-        self.words.set(self.words.get() | 1u64.wrapping_shl((k % 64) as u32));
+        self.words
+            .set(self.words.get() | 1u64.wrapping_shl((k % 64) as u32));
         self.fetches.set(self.fetches.get().wrapping_add(1));
     }
 
