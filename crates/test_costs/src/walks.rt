@@ -56,7 +56,7 @@ fn each_way(first: u32, last: u32) -> [[Stepped; 4]; 4] {
     let (first, last) = (Some(first), Some(last));
     [
         [
-            (Step::Front, first, 2),
+            (Step::Front, first, 1),
             (Step::Back, last, 2),
             (Step::Front, None, 4),
             (Step::Front, None, 4),
@@ -68,7 +68,7 @@ fn each_way(first: u32, last: u32) -> [[Stepped; 4]; 4] {
             (Step::Back, None, 4),
         ],
         [
-            (Step::Front, first, 2),
+            (Step::Front, first, 1),
             (Step::Front, last, 4),
             (Step::Front, None, 4),
             (Step::Back, None, 4),
@@ -185,18 +185,18 @@ fn clones_frugally<W: DoubleEndedIterator<Item = u32> + Clone>(mut walk: W, aske
     requires front { (w : W) → W.can_next w }
     requires back { (w : W) → W.can_next_back w }
 {
-    let mut good = answers(&mut walk, asked, (Step::Front, Some(0), 2));
+    let mut good = answers(&mut walk, asked, (Step::Front, Some(0), 1));
     let other: Result<W, AllocError> = walk.clone();
     let Ok(mut other) = other else {
         return false;
     };
-    good &= asked.is_at_most(2);
+    good &= asked.is_at_most(1);
     good &= answers(&mut other, asked, (Step::Back, Some(31), 2));
     good &= answers(&mut other, asked, (Step::Front, None, 4));
     good &= answers(&mut other, asked, (Step::Back, None, 4));
-    good &= answers(&mut walk, asked, (Step::Front, Some(31), 6));
-    good &= answers(&mut walk, asked, (Step::Back, None, 6));
-    good && answers(&mut walk, asked, (Step::Front, None, 6))
+    good &= answers(&mut walk, asked, (Step::Front, Some(31), 7));
+    good &= answers(&mut walk, asked, (Step::Back, None, 7));
+    good && answers(&mut walk, asked, (Step::Front, None, 7))
 }
 
 fn clones_of_ones<B: BitsOwned>(set: B, asked: &Asked) -> bool
@@ -255,14 +255,14 @@ fn join<B: BitsOwned>(
 #[test]
 fn joins_fetch_each_word_of_their_mask_once(rt: HostRuntime) {
     let asked = Asked::new();
-    let steps = [(Some(100), 2), (Some(131), 4), (None, 4), (None, 4)];
+    let steps = [(Some(100), 1), (Some(131), 4), (None, 4), (None, 4)];
     join(&rt, Probe::of(ONES, &asked), 100..140, &asked, steps);
 }
 
 #[test]
 fn joins_fetch_nothing_after_the_end_of_their_iterator(rt: HostRuntime) {
     let asked = Asked::new();
-    let steps = [(Some(100), 2), (None, 2), (None, 2), (None, 2)];
+    let steps = [(Some(100), 1), (None, 1), (None, 1), (None, 1)];
     join(
         &rt,
         Probe::of([3, 0, 0, 128], &asked),
@@ -337,7 +337,7 @@ fn clones_for_nothing<W: Iterator<Item = u32> + Clone>(walk: W, asked: &Asked) -
     let Ok(mut other) = cloned else {
         return false;
     };
-    asked.is_at_most(2) && other.next() == Some(0) && asked.is_at_most(2)
+    asked.is_at_most(1) && other.next() == Some(0) && asked.is_at_most(1)
 }
 
 fn ones_clone_for_nothing<B: BitsOwned>(set: B, asked: &Asked) -> bool
