@@ -4,6 +4,7 @@ mod CombinedWords
 mod Complements
 mod GatheredWords
 mod LongestRuns
+mod OneBit
 pub mod CommonCounts
 mod RangeItems
 mod PassingMembers

@@ -17,7 +17,7 @@ use Rattle.bittle_ext.specs.RangeMembers.{EndsAt}
 use Rattle.bittle_ext.specs.Rotations.{has_rotated, rotated_down, rotated_up, has_shifted_down, shifted_down, has_shifted_up, shifted_up, IsWindow, IsWordFrom, IsRotatedBelow}
 
 -- an index that wraps to another one answers as that does
-contains_as : (s : PlainSet) (i j : ℕ) → i % s.capacity ≡ j % s.capacity →
+pub contains_as : (s : PlainSet) (i j : ℕ) → i % s.capacity ≡ j % s.capacity →
     contains s i ≡ contains s j
 unfolding contains
 contains_as s i j e = ap (λ k. nat_lt 0 s.capacity && s.has k) e

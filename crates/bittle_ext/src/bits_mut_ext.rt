@@ -14,7 +14,9 @@ ghost use Rattle.bittle.specs.Searches.{IsFirstIn, IsLastIn};
 ghost use Rattle.bittle.specs.Values.{set_in, set_mirrored, ShapeFits};
 
 use crate::bits_ext::BitsExt;
+use crate::one_bit;
 use bittle::{BigEndian, BitsMut, Endian};
+use bittle_bits::one_word::{Difference, SymmetricDifference, Union};
 
 /// Everyday changes of any set that can be changed. No change alters the capacity.
 pub trait BitsMutExt: BitsMut {
@@ -36,6 +38,9 @@ pub trait BitsMutExt: BitsMut {
             ≡ with_index (set_in Self.Shape E.Endian self.old) index }
         ensures stays { Self.loan self.old ≡ Self.loan self.new }
     {
+        if one_bit::has_bits(self) {
+            return !one_bit::combine_bit::<Self, E, Union>(self, index);
+        }
         let was_unset = !self.test_bit_in::<E>(index);
         self.set_bit_in::<E>(index);
         was_unset
@@ -59,6 +64,9 @@ pub trait BitsMutExt: BitsMut {
             ≡ without_index (set_in Self.Shape E.Endian self.old) index }
         ensures stays { Self.loan self.old ≡ Self.loan self.new }
     {
+        if one_bit::has_bits(self) {
+            return one_bit::combine_bit::<Self, E, Difference>(self, index);
+        }
         let was_set = self.test_bit_in::<E>(index);
         self.clear_bit_in::<E>(index);
         was_set
@@ -126,8 +134,12 @@ pub trait BitsMutExt: BitsMut {
             ≡ with_index_toggled (set_in Self.Shape E.Endian self.old) index }
         ensures stays { Self.loan self.old ≡ Self.loan self.new }
     {
-        let value = !self.test_bit_in::<E>(index);
-        self.assign_in::<E>(index, value);
+        if one_bit::has_bits(self) {
+            one_bit::combine_bit::<Self, E, SymmetricDifference>(self, index);
+        } else {
+            let value = !self.test_bit_in::<E>(index);
+            self.assign_in::<E>(index, value);
+        }
     }
 
     /// Sets each bit at the indexes `from..to` if `value` is `true`, else clears each, in the order

@@ -32,6 +32,7 @@ mod both_words;
 mod capacities;
 pub mod combined;
 mod counts;
+mod one_bit;
 mod other_words;
 pub mod prelude;
 pub mod range_iterators;

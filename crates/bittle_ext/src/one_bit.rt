@@ -1,0 +1,57 @@
+//! One bit of a set, changed in its word by a mask: no jump hangs on what the bit was.
+
+ghost use Rattle.std.specs.Prelude.{◌≡◌, ◌<◌, true, IsTrue};
+ghost use Rattle.bittle_ext.specs.Changes.{with_index_assigned};
+ghost use Rattle.bittle.specs.PlainSet.{contains};
+ghost use Rattle.bittle.specs.Values.{set_in, ShapeFits};
+
+use bittle::{Bits, BitsMut, Endian};
+use bittle_bits::one_word::RangeOperation;
+use bittle_bits::word::Word;
+
+/// Returns whether the shape of a set fits, and it has a bit.
+#[inline]
+pub fn has_bits<B: Bits>(set: &B) -> bool
+    ensures { IsTrue result → ShapeFits B.Shape set.now × (0 < (B.big set.now).capacity) }
+{
+    let capacity = set.bits_capacity();
+    0 < capacity && capacity < u32::MAX
+}
+
+/// Combines the bit at an index below the capacity with a set one, and returns whether it was set.
+#[inline]
+fn combine_within<B: BitsMut, E: Endian, O: RangeOperation>(set: &mut B, index: u32) -> bool
+    requires fits { ShapeFits B.Shape set.old }
+    requires within { index < (B.big set.old).capacity }
+    ensures was_set { result ≡ contains (set_in B.Shape E.Endian set.old) index }
+    ensures set { let before = set_in B.Shape E.Endian set.old in
+        set_in B.Shape E.Endian set.new
+        ≡ with_index_assigned before index (O.decide (contains before index) true) }
+    ensures stays { B.loan set.old ≡ B.loan set.new }
+{
+    let k = (index / <B::LeafWord as Word>::width()) as usize;
+    let mask = E::mask::<B::LeafWord>(index);
+    let word = set.nth_leaf_word(k);
+    set.set_nth_leaf_word(k, O::on_words::<B::LeafWord>(word, mask));
+    !word.and(mask).is_zero()
+}
+
+/// Combines the bit at an index, which wraps, with a set one, and returns whether it was set.
+#[inline]
+pub fn combine_bit<B: BitsMut, E: Endian, O: RangeOperation>(set: &mut B, index: u32) -> bool
+    requires fits { ShapeFits B.Shape set.old }
+    requires some { 0 < (B.big set.old).capacity }
+    ensures was_set { result ≡ contains (set_in B.Shape E.Endian set.old) index }
+    ensures set { let before = set_in B.Shape E.Endian set.old in
+        set_in B.Shape E.Endian set.new
+        ≡ with_index_assigned before index (O.decide (contains before index) true) }
+    ensures stays { B.loan set.old ≡ B.loan set.new }
+{
+    let capacity = set.bits_capacity();
+    let index = if index < capacity {
+        index
+    } else {
+        index % capacity
+    };
+    combine_within::<B, E, O>(set, index)
+}
