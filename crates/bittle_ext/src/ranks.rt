@@ -43,7 +43,7 @@ fn word_of_rank<B: Bits, E: Endian>(bits: &B, rank: u32) -> Option<(u32, u32)>
 /// Returns the place in word `k` of the set bit below which `rest` bits of the word are set.
 ///
 /// It lies in a span of the word, which is halved: the lower half has it if more than `rest` bits
-/// are set below the half's end.
+/// are set below the half's end. No jump hangs on which half has it.
 #[inline]
 fn place_of_rank<B: Bits, E: Endian>(bits: &B, k: u32, rest: u32) -> u32
     requires fits { ShapeFits B.Shape bits.now }
@@ -59,11 +59,9 @@ fn place_of_rank<B: Bits, E: Endian>(bits: &B, k: u32, rest: u32) -> u32
     let mut span = <B::LeafWord as Word>::width();
     while span > 1 {
         let half = span / 2;
-        if rest < count_in_word::<B, E>(bits, k, 0, at + half) {
-            span = half;
-        } else {
+        span -= half;
+        if count_in_word::<B, E>(bits, k, 0, at + half) <= rest {
             at += half;
-            span -= half;
         }
     }
     at
