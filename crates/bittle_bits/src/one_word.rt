@@ -214,7 +214,7 @@ pub fn clear_bits<T: Word>(word: &mut T)
 
 /// Combines a word with another, bit by bit: one of 128 bits by its halves, each as a processor
 /// holds it.
-#[inline]
+#[inline(always)]
 pub fn combine<T: Word, O: Operation>(word: &mut T, other: T)
     ensures { (mirrored : Bool) → read_in mirrored T.width (bit_set T.width (T.pattern word.new))
         ≡ combination_of O.decide
@@ -283,7 +283,7 @@ pub fn ones<T: Word>() -> T
 }
 
 // Returns how far the member at the end `N` lies from that end, or the width where there is none.
-#[inline]
+#[inline(always)]
 pub fn from_end<T: Word, E: Endian, N: End>(word: T) -> u32
     ensures member { IsEndMember N.FRONT
         (read_in E.mirrored T.width (bit_set T.width (T.pattern word))) result }
@@ -299,7 +299,7 @@ pub fn from_end<T: Word, E: Endian, N: End>(word: T) -> u32
 // Takes the member at the end `N` out of the word, and returns its place: of which power of two its
 // weight is. Where that is the bit of least weight, the word less one lacks it, and has bits below
 // it that the word lacks: a step waits for that alone, and not for the place.
-#[inline]
+#[inline(always)]
 fn pop_at_once<T: Word, E: Endian, N: End>(word: &mut T) -> Option<u32>
     ensures found { MatchOption result
         ((ascending (read_in E.mirrored T.width (bit_set T.width (T.pattern word.old))) ≡ [])
@@ -324,30 +324,30 @@ fn pop_at_once<T: Word, E: Endian, N: End>(word: &mut T) -> Option<u32>
 }
 
 // Returns the halves of a word of 128 bits: that of the lesser weights, and that of the greater.
-#[inline]
+#[inline(always)]
 fn halves<T: Word>(word: T) -> (u64, u64)
     requires { T.width ≡ 128 }
     ensures pattern { T.pattern word ≡ result.1 * 2 ^ 64 + result.0 }
     ensures range { (result.0 < 2 ^ 64) × (result.1 < 2 ^ 64) }
 {
     let bits = word.to_bits();
-    ((bits % (1 << 64)) as u64, (bits / (1 << 64)) as u64)
+    ((bits & u64::MAX as u128) as u64, (bits >> 64) as u64)
 }
 
 // Returns the word of 128 bits that has these halves.
-#[inline]
+#[inline(always)]
 fn joined<T: Word>(low: u64, high: u64) -> T
     requires { T.width ≡ 128 }
     ensures pattern { T.pattern result ≡ high * 2 ^ 64 + low }
     ensures range { low < 2 ^ 64 }
 {
-    T::from_bits(high as u128 * (1 << 64) + low as u128)
+    T::from_bits(((high as u128) << 64) + low as u128)
 }
 
 // Takes the member at the end `N` out of a word of 128 bits by the half that it lies in, and
 // returns its place. A processor searches and changes a half by an instruction each, and both by
 // some ten.
-#[inline]
+#[inline(always)]
 fn pop_from_half<T: Word, E: Endian, N: End>(word: &mut T) -> Option<u32>
     requires { T.width ≡ 128 }
     ensures found { MatchOption result
@@ -379,7 +379,7 @@ fn pop_from_half<T: Word, E: Endian, N: End>(word: &mut T) -> Option<u32>
 
 /// Takes the member at the end `N` out of the word, and returns its place: of which power of two
 /// its weight is.
-#[inline]
+#[inline(always)]
 pub fn pop_place<T: Word, E: Endian, N: End>(word: &mut T) -> Option<u32>
     ensures found { MatchOption result
         ((ascending (read_in E.mirrored T.width (bit_set T.width (T.pattern word.old))) ≡ [])
@@ -397,7 +397,7 @@ pub fn pop_place<T: Word, E: Endian, N: End>(word: &mut T) -> Option<u32>
 }
 
 /// Takes the member at the end `N` out of the word.
-#[inline]
+#[inline(always)]
 pub fn pop<T: Word, E: Endian, N: End>(word: &mut T) -> Option<u32>
     ensures found { YieldsFrom N.FRONT
         (λ w. ascending (read_in E.mirrored T.width (bit_set T.width (T.pattern w))))

@@ -72,7 +72,7 @@ struct BufferedWord<W: Copy> {
 
 // Returns how many bits so many words have. It is the product, as a rotation: a product the compiler
 // would keep as a sum of its own in each turn of a loop over words, where it is wanted after the loop.
-#[inline]
+#[inline(always)]
 fn bits_of<W: Word>(words: usize) -> u32
     requires { words * W.width < 4294967296 }
     ensures { result ≡ words * W.width }
@@ -82,7 +82,7 @@ fn bits_of<W: Word>(words: usize) -> u32
 
 // Returns word `k` of a set as it is buffered at the end `N`. From the front its bits are counted with
 // those of the words before it, as the cursor counts them by then.
-#[inline]
+#[inline(always)]
 fn buffered<W: Word, E: Endian, N: End>(word: W, k: usize) -> BufferedWord<W>
     requires { k * W.width + W.width < 4294967296 }
     ensures items { buffered_items E.mirrored W.width W.pattern result
@@ -106,7 +106,7 @@ fn buffered<W: Word, E: Endian, N: End>(word: W, k: usize) -> BufferedWord<W>
 }
 
 // Drops a buffered word, which has no item. If it was loaded, this was its last scan.
-#[inline]
+#[inline(always)]
 fn unload<W: Copy>(buffered: &mut BufferedWord<W>, scans: &mut Count)
     ensures dropped { buffered.new ≡ record {
       word = buffered.old.word;
@@ -123,7 +123,7 @@ fn unload<W: Copy>(buffered: &mut BufferedWord<W>, scans: &mut Count)
 
 // Returns the index in the set of the bit at a place of a buffered word, by the index of its bit of
 // least weight.
-#[inline]
+#[inline(always)]
 fn index_at<W: Word, E: Endian>(edge: u32, at: u32) -> u32
     requires edge { (first : ℕ) × (edge ≡ first + edge_from_first E.mirrored W.width)
         × (first + W.width < 4294967296) }
@@ -140,7 +140,7 @@ fn index_at<W: Word, E: Endian>(edge: u32, at: u32) -> u32
 
 // Returns whether a buffered word has no item. One that was loaded is dropped then: this was its last
 // scan.
-#[inline]
+#[inline(always)]
 fn is_exhausted<W: Word, E: Endian>(buffered: &mut BufferedWord<W>, scans: &mut Count) -> bool
     requires { IsSound E.mirrored W.width W.pattern buffered.old }
     ensures told { TellsExhausted result (buffered_items E.mirrored W.width W.pattern buffered.old)
@@ -157,7 +157,7 @@ fn is_exhausted<W: Word, E: Endian>(buffered: &mut BufferedWord<W>, scans: &mut 
 }
 
 // Scans a buffered word for its item at the end `N`.
-#[inline]
+#[inline(always)]
 fn scan<W: Word, E: Endian, N: End>(
     buffered: &mut BufferedWord<W>,
     scans: &mut Count,
@@ -208,7 +208,7 @@ impl<W: Word, E: Endian> Model for Buffers<W, E> {
 
 impl<W: Word, E: Endian> Buffers<W, E> {
     /// Makes two buffers with no word loaded, no scans and no fetches yet.
-    #[inline]
+    #[inline(always)]
     #[tactic(auto, unfolding(crate::specs::Buffers::buffered_items))]
     pub fn none() -> Buffers<W, E>
         ensures { result ≡ record { head = None; tail = None; scans = 0; fetches = 0 } }
@@ -228,7 +228,7 @@ impl<W: Word, E: Endian> Buffers<W, E> {
     }
 
     /// Returns the same buffered words, with no scans and no fetches yet.
-    #[inline]
+    #[inline(always)]
     pub fn duplicate(&self) -> Buffers<W, E>
         ensures { result
             ≡ record { head = self.now.head; tail = self.now.tail; scans = 0; fetches = 0 } }
@@ -243,7 +243,7 @@ impl<W: Word, E: Endian> Buffers<W, E> {
     }
 
     /// Returns how many scans there were.
-    #[inline]
+    #[inline(always)]
     pub fn scans(&self) -> &Count
         ensures { result.now ≡ self.now.scans }
     {
@@ -251,7 +251,7 @@ impl<W: Word, E: Endian> Buffers<W, E> {
     }
 
     // Puts word `k` of a set at the end `N`.
-    #[inline]
+    #[inline(always)]
     fn put<N: End>(&mut self, word: W, k: usize)
         requires { k * W.width + W.width < 4294967296 }
         ensures { let loaded = Some (items_of E.mirrored W.width (W.pattern word) (k * W.width)) in
@@ -270,7 +270,7 @@ impl<W: Word, E: Endian> Buffers<W, E> {
     }
 
     // Fetches word `k`, with the bits of the kind.
-    #[inline]
+    #[inline(always)]
     fn fetch<B: Bits<LeafWord = W>, K: Kind>(&mut self, source: &Source<'_, B>, k: usize) -> W
         requires fits { ShapeFits B.Shape source.now.set.now }
         requires within { k * B.width < (B.big source.now.set.now).capacity }
@@ -289,7 +289,7 @@ impl<W: Word, E: Endian> Buffers<W, E> {
     }
 
     /// Fetches word `k`, with the bits of the kind, and loads it at the end `N`.
-    #[inline]
+    #[inline(always)]
     pub fn load<B: Bits<LeafWord = W>, K: Kind, N: End>(&mut self, source: &Source<'_, B>, k: usize)
         requires fits { ShapeFits B.Shape source.now.set.now }
         requires within { k * B.width < (B.big source.now.set.now).capacity }
@@ -309,7 +309,7 @@ impl<W: Word, E: Endian> Buffers<W, E> {
 
     /// Fetches word `k`, with the bits of the kind, and returns whether it has an item. It is loaded
     /// then at the end `N`, where none was; else this was its scan, and it is not loaded.
-    #[inline]
+    #[inline(always)]
     pub fn refill<B: Bits<LeafWord = W>, K: Kind, N: End>(
         &mut self,
         source: &Source<'_, B>,
@@ -331,7 +331,7 @@ impl<W: Word, E: Endian> Buffers<W, E> {
     }
 
     // Exchanges the head and the tail.
-    #[inline]
+    #[inline(always)]
     fn exchange(&mut self)
         ensures { self.new ≡ record {
           head = self.old.tail;
@@ -356,7 +356,7 @@ impl<W: Word, E: Endian> Buffers<W, E> {
 
     /// Returns whether the word at the end `N`, the head or the tail, has no item. One that was loaded
     /// is dropped then: that was its last scan.
-    #[inline]
+    #[inline(always)]
     pub fn is_exhausted<N: End>(&mut self) -> bool
         ensures told { TellsExhausted result (buffer_of N.FRONT self.old)
             (buffer_of N.FRONT self.new) }
@@ -373,7 +373,7 @@ impl<W: Word, E: Endian> Buffers<W, E> {
     }
 
     /// Scans the word at the end `N`, the head or the tail, for its item there.
-    #[inline]
+    #[inline(always)]
     pub fn scan<N: End>(&mut self) -> Option<u32>
         ensures found { ScansFrom N.FRONT (buffer_of N.FRONT self.old) result
             (buffer_of N.FRONT self.new) }
@@ -391,7 +391,7 @@ impl<W: Word, E: Endian> Buffers<W, E> {
 
     /// Scans the word at the other end than `N` for its item at the end `N`. The word stays where it
     /// is: nothing is moved where the exchanges are compiled.
-    #[inline]
+    #[inline(always)]
     pub fn scan_across<N: End>(&mut self) -> Option<u32>
         ensures found { ScansFrom N.FRONT (buffer_of (not N.FRONT) self.old) result
             (buffer_of (not N.FRONT) self.new) }

@@ -78,7 +78,7 @@ pub fn duplicate<B: Bits, E: Endian>(at: &Cursor<B, E>) -> Cursor<B, E>
 }
 
 // Takes the word at the end `N` of those between the buffered ones, and returns its number.
-#[inline]
+#[inline(always)]
 fn take_word<B: Shape, E: Endian, N: End>(at: &mut Cursor<B, E>) -> usize
     requires { at.old.low < at.old.high }
     ensures number { result ≡ cond N.FRONT at.old.low (at.old.high - 1) }
@@ -101,7 +101,7 @@ fn take_word<B: Shape, E: Endian, N: End>(at: &mut Cursor<B, E>) -> usize
 
 // Returns whether the word at the end `N` has an item, where words without one are passed over. If
 // not, no word is left between the buffered ones.
-#[inline]
+#[inline(always)]
 #[tactic(auto, unfolding(crate::specs::Cursor::items_left_in))]
 fn seek<B: Bits, E: Endian, K: Kind, N: End>(source: &Source<'_, B>, at: &mut Cursor<B, E>) -> bool
     requires fits { ShapeFits B.Shape source.now.set.now }
@@ -128,7 +128,7 @@ fn seek<B: Bits, E: Endian, K: Kind, N: End>(source: &Source<'_, B>, at: &mut Cu
 }
 
 /// Takes the item at the end `N` of those that remain.
-#[inline]
+#[inline(always)]
 #[tactic(auto, unfolding(crate::specs::Cursor::items_left_in))]
 pub fn step<B: Bits, E: Endian, K: Kind, N: End>(
     source: &Source<'_, B>,

@@ -14,7 +14,7 @@ use crate::shape::Shape;
 use crate::word::{Kind, Word, bits_of_kind};
 
 /// Returns word `k` of a set, as a word whose ones are the bits of the kind.
-#[inline]
+#[inline(always)]
 pub(crate) fn word_of_kind<B: Bits, K: Kind>(bits: &B, k: usize) -> B::LeafWord
     requires fits { ShapeFits B.Shape bits.now }
     requires within { k * B.width < (B.big bits.now).capacity }
@@ -58,7 +58,7 @@ impl<'a, B: Bits> Source<'a, B> {
     }
 
     /// Fetches word `k`, as a word whose ones are the bits of the kind, and counts the fetch.
-    #[inline]
+    #[inline(always)]
     pub fn fetch<K: Kind>(&self, k: usize, fetches: &mut Count) -> B::LeafWord
         requires fits { ShapeFits B.Shape self.now.set.now }
         requires within { k * B.width < (B.big self.now.set.now).capacity }
