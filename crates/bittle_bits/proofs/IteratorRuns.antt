@@ -15,7 +15,7 @@ in_reverse p seen = as_is_back p p.from.remaining
     (λ s x t h. h.gave) p seen)
 
 -- a walk that has counted no scans and no items, and has fetched a word for each end at most
-pub is_fresh : (words : ℕ) (w : Walk) → w.scans ≡ 0 → w.items ≡ 0 → w.fetches ≤ 2 →
+pub is_fresh : (words : ℕ) (w : Walk) → w.scans ≡ 0 → w.items ≡ 0 → w.fetches ≤ 1 →
     w.words ≡ words → w.fetches + w.unread ≤ words → IsFresh words w
 is_fresh words w l i f n u = record {
   scans = l;

@@ -31,4 +31,4 @@ pub mod Searches
 pub mod RowSpans
 pub mod Steps
 pub mod BufferedWords
-pub mod Rotations
+pub mod RotatedProducts

@@ -52,11 +52,12 @@ steps_none front u v a none b = record {
   bounded = b;
 }
 
--- what a step counts, by whether it gave an item
+-- a step that gave an item counts one more
 pub counts_on : (n : ℕ) (r : Option ℕ) → is_some r ≡ true → n + 1 ≡ count_after n r
 counts_on n None e = absurd (true≢false (sym e))
 counts_on n (Some x) e = refl
 
+-- and one that gave none counts none
 pub counts_none : (n : ℕ) (r : Option ℕ) → is_some r ≡ false → n ≡ count_after n r
 counts_none n None e = refl
 counts_none n (Some x) e = absurd (true≢false e)

@@ -36,7 +36,7 @@ module _ {B E W : Type 0} (s : PlainSet) (words w : ℕ) where
   -- with a word more loaded
   pub walk_start_on : (t u : Cursor B E W) → IsWalkStart s words w t →
       Seeks (walk_of s words w t) (walk_of s words w u) × IsCounted words u →
-      u.buffers.scans ≡ t.buffers.scans → u.buffers.fetches ≤ 2 → IsWalkStart s words w u
+      u.buffers.scans ≡ t.buffers.scans → u.buffers.fetches ≤ 1 → IsWalkStart s words w u
   walk_start_on t u at more scans few = record {
     remaining = more.0.remaining ∙ at.remaining;
     fresh = is_fresh words _ (scans ∙ at.fresh.scans) (more.0.items ∙ at.fresh.items) few refl

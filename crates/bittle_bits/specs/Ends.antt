@@ -13,6 +13,11 @@ abbrev pub YieldsFrom : {S : Type 0} → Bool → (S → List ℕ) → S → Opt
 YieldsFrom front rest s r t = MatchOption r ((rest s ≡ []) × (rest t ≡ []))
     (λ x. rest s ≡ with_end front x (rest t))
 
+-- the item at an end is taken, told by its place, or none was left and nothing changed
+abbrev pub YieldsPlace : {S : Type 0} → Bool → (ℕ → ℕ) → (S → List ℕ) → S → Option ℕ → S → Type 0
+YieldsPlace front index rest s r t = MatchOption r ((rest s ≡ []) × (t ≡ s))
+    (λ at. rest s ≡ with_end front (index at) (rest t))
+
 -- how far the least member lies from the front, or the greatest one from the back
 abbrev pub IsEndMember : Bool → PlainSet → ℕ → Type 0
 IsEndMember true = IsLeastMember

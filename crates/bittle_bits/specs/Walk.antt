@@ -66,12 +66,11 @@ StepsFront = Steps (YieldsFirst (λ w. w.remaining))
 abbrev pub StepsBack : Walk → Option ℕ → Walk → Type 0
 StepsBack = Steps (YieldsLast (λ w. w.remaining))
 
--- a walk that has not stepped yet: it has fetched a word for each end at most; and what runs of its
--- steps give
+-- a walk that has not stepped yet: it has fetched one word at most; and what runs of its steps give
 pub record IsFresh (words : ℕ) (w : Walk) : Type 0 where
   pub scans : w.scans ≡ 0
   pub items : w.items ≡ 0
-  pub fetches : w.fetches ≤ 2
+  pub fetches : w.fetches ≤ 1
   pub words_are : w.words ≡ words
   pub bounded : IsScanBounded w
   pub in_order : YieldsInOrder StepsFront (λ s. s.remaining)

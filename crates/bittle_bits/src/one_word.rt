@@ -2,10 +2,10 @@
 //! stand what they are over, so that each shape has one body for them all: the four operations on
 //! two sets, and the two ends of a set.
 
-ghost use Rattle.std.specs.Prelude.{◌≡◌, ◌==◌, Bool, ◌+◌, ◌*◌, ◌-◌, ◌^◌, ◌<◌, ◌≤◌, ◌||◌, ◌&&◌, true, false, cond, refl, [], IfSome, IsTrue, MatchOption};
+ghost use Rattle.std.specs.Prelude.{◌≡◌, ◌==◌, Bool, ◌+◌, ◌*◌, ◌-◌, ◌^◌, ◌<◌, ◌≤◌, ◌||◌, ◌&&◌, true, false, cond, refl, IfSome, IsTrue};
 ghost use Rattle.std.proofs.Common.{sym};
 ghost use Rattle.bittle_bits.specs.BitPatterns.{bit_set};
-ghost use Rattle.bittle_bits.specs.Ends.{IsEndMember, YieldsFrom, with_end};
+ghost use Rattle.bittle_bits.specs.Ends.{IsEndMember, YieldsFrom, YieldsPlace};
 ghost use Rattle.bittle_bits.specs.LawProofs.{none_past_word, one_word_whole, positive_width, word_capacity};
 ghost use Rattle.bittle_bits.specs.Orders.{place, read_in};
 ghost use Rattle.bittle_bits.specs.PlainSet.{contains, with_index, with_span_changed, without_index, empty_set, without_members, full_set, span_set, size, ascending};
@@ -301,12 +301,9 @@ pub fn from_end<T: Word, E: Endian, N: End>(word: T) -> u32
 // it that the word lacks: a step waits for that alone, and not for the place.
 #[inline(always)]
 fn pop_at_once<T: Word, E: Endian, N: End>(word: &mut T) -> Option<u32>
-    ensures found { MatchOption result
-        ((ascending (read_in E.mirrored T.width (bit_set T.width (T.pattern word.old))) ≡ [])
-        × (word.new ≡ word.old))
-        (λ at. ascending (read_in E.mirrored T.width (bit_set T.width (T.pattern word.old)))
-        ≡ with_end N.FRONT (place E.mirrored T.width at)
-        (ascending (read_in E.mirrored T.width (bit_set T.width (T.pattern word.new))))) }
+    ensures found { YieldsPlace N.FRONT (place E.mirrored T.width)
+        (λ w. ascending (read_in E.mirrored T.width (bit_set T.width (T.pattern w))))
+        word.old result word.new }
     ensures within { IfSome result (λ at. at < T.width) }
 {
     if word.is_zero() {
@@ -350,12 +347,9 @@ fn joined<T: Word>(low: u64, high: u64) -> T
 #[inline(always)]
 fn pop_from_half<T: Word, E: Endian, N: End>(word: &mut T) -> Option<u32>
     requires { T.width ≡ 128 }
-    ensures found { MatchOption result
-        ((ascending (read_in E.mirrored T.width (bit_set T.width (T.pattern word.old))) ≡ [])
-        × (word.new ≡ word.old))
-        (λ at. ascending (read_in E.mirrored T.width (bit_set T.width (T.pattern word.old)))
-        ≡ with_end N.FRONT (place E.mirrored T.width at)
-        (ascending (read_in E.mirrored T.width (bit_set T.width (T.pattern word.new))))) }
+    ensures found { YieldsPlace N.FRONT (place E.mirrored T.width)
+        (λ w. ascending (read_in E.mirrored T.width (bit_set T.width (T.pattern w))))
+        word.old result word.new }
     ensures within { IfSome result (λ at. at < T.width) }
 {
     let (low, high) = halves::<T>(*word);
@@ -381,12 +375,9 @@ fn pop_from_half<T: Word, E: Endian, N: End>(word: &mut T) -> Option<u32>
 /// its weight is.
 #[inline(always)]
 pub fn pop_place<T: Word, E: Endian, N: End>(word: &mut T) -> Option<u32>
-    ensures found { MatchOption result
-        ((ascending (read_in E.mirrored T.width (bit_set T.width (T.pattern word.old))) ≡ [])
-        × (word.new ≡ word.old))
-        (λ at. ascending (read_in E.mirrored T.width (bit_set T.width (T.pattern word.old)))
-        ≡ with_end N.FRONT (place E.mirrored T.width at)
-        (ascending (read_in E.mirrored T.width (bit_set T.width (T.pattern word.new))))) }
+    ensures found { YieldsPlace N.FRONT (place E.mirrored T.width)
+        (λ w. ascending (read_in E.mirrored T.width (bit_set T.width (T.pattern w))))
+        word.old result word.new }
     ensures within { IfSome result (λ at. at < T.width) }
 {
     if T::width() == 128 {

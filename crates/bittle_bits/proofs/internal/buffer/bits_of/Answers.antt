@@ -1,5 +1,5 @@
 use Rattle.std.proofs.Common.{◌≡◌, ◌+◌, ◌*◌, ◌∙◌, arith}
-use Rattle.bittle_bits.proofs.Rotations.{rotated_product}
+use Rattle.bittle_bits.proofs.RotatedProducts.{rotated_product}
 use Rattle.bittle_bits.proofs.internal.buffer.bits_of.Given.{Over}
 use Rattle.bittle_bits.proofs.internal.buffer.bits_of.Goals.{After-rotate_left}
 use Rattle.bittle_bits.proofs.internal.buffer.bits_of.Goals as goal
@@ -10,8 +10,9 @@ product : (g : Over) (c : After-rotate_left g) →
 product g c =
     let e = g.met.W.Word.whole_bytes in
     let is = c.width.ensures ∙ e.1 in
-    rw (e.1) ((rw is at c.rotate_left.ensures) ∙ rotated_product c.args.words (3 + e.0) (omega arith)
-    (rw is at c.width.type_inv) (rw e.1 at c.requires))
+    rw e.1 ((rw is at c.rotate_left.ensures)
+    ∙ rotated_product c.args.words (3 + e.0) (omega arith) (rw is at c.width.type_inv)
+    (rw e.1 at c.requires))
 
 pub overflow_cast-result : goal.overflow_cast-result
 overflow_cast-result g c = rw (product g c) (omega (arith, c.requires))
