@@ -81,7 +81,8 @@ module _ {W : Type 0} (m : Bool) (w : ℕ) (pattern : W → ℕ) where
       × (buffered_items m w pattern d ≡ Some xs)
   unfolding buffered_items
   taken front c d x is after edge found = (
-    map (λ i. c.edge - edge_from_first m w + i) (ascending (read_in m w (bit_set w (pattern d.word)))),
+    map (λ i. c.edge - edge_from_first m w + i)
+        (ascending (read_in m w (bit_set w (pattern d.word)))),
     rw (is, found) (ap Some (moved_end front (c.edge - edge_from_first m w) x _)),
     rw (after, edge) refl,
   )

@@ -65,8 +65,8 @@ abbrev pub TellsExhausted : Bool → Option (List ℕ) → Option (List ℕ) →
 TellsExhausted r before after = MatchBool r ((items_in before ≡ []) × (after ≡ None))
     ((items_in before ≢ []) × (after ≡ before))
 
--- a word that is fetched for an end has items, and is loaded there, or it has none, and this was its
--- scan
+-- a word that is fetched for an end has items, and is loaded there, or it has none, and this was
+-- its scan
 abbrev pub Refills : Bool → List ℕ → Bool → BufferPair → BufferPair → Type 0
 Refills front xs r b c = MatchBool r
     ((xs ≢ []) × (c ≡ record {

@@ -25,8 +25,8 @@ pub trait Word: Copy {
         requires { index < width }
         ensures { pattern result ≡ 2 ^ index };
 
-    /// Returns the word whose one set bit lies this many bits below that of greatest weight: the word
-    /// of that one, shifted, which is one instruction fewer than `one_at` of the difference.
+    /// Returns the word whose one set bit lies this many bits below that of greatest weight: the
+    /// word of that one, shifted, which is one instruction fewer than `one_at` of the difference.
     #[inline]
     final fn one_below_top(below: u32) -> Self
         requires { below < width }

@@ -112,8 +112,8 @@ fn has<B: Bits, E: Endian>(bits: &B, capacity: u32, index: u32) -> bool
     test_bit::<B::LeafWord, E>(bits.nth_leaf_word((index / width) as usize), index % width)
 }
 
-// Returns whether a member lies past an index that is none. The search begins at the index, since it
-// is the place of a bit in any case, where the next one may be past the word.
+// Returns whether a member lies past an index that is none. The search begins at the index, since
+// it is the place of a bit in any case, where the next one may be past the word.
 #[inline]
 fn has_past<B: Bits, E: Endian>(bits: &B, capacity: u32, index: u32) -> bool
     requires fits { ShapeFits B.Shape bits.now }
@@ -125,8 +125,8 @@ fn has_past<B: Bits, E: Endian>(bits: &B, capacity: u32, index: u32) -> bool
     index < capacity && bits.first_one_in::<E>(index, capacity).is_some()
 }
 
-// Returns whether the side that lacks an index has a member past it. `is_left` says that the left one
-// has the index.
+// Returns whether the side that lacks an index has a member past it. `is_left` says that the left
+// one has the index.
 #[inline]
 fn other_goes_on<A: Bits, B: Bits, E: Endian>(
     left: &A,

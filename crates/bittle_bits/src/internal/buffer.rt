@@ -60,9 +60,9 @@ impl Count {
 
 const _: () = prove!(size_of::<Count>() == 0);
 
-// A word of a set, and the index in the set of its bit of least weight, from which those of the others
-// go up or, mirrored, down. Where none is loaded, or it is exhausted, the word has no bit set, so that
-// a step tests the word alone; the flag serves the count.
+// A word of a set, and the index in the set of its bit of least weight, from which those of the
+// others go up or, mirrored, down. Where none is loaded, or it is exhausted, the word has no bit
+// set, so that a step tests the word alone; the flag serves the count.
 #[derive(Clone, Copy)]
 struct BufferedWord<W: Copy> {
     word: W,
@@ -70,8 +70,9 @@ struct BufferedWord<W: Copy> {
     is_loaded: bool,
 }
 
-// Returns how many bits so many words have. It is the product, as a rotation: a product the compiler
-// would keep as a sum of its own in each turn of a loop over words, where it is wanted after the loop.
+// Returns how many bits so many words have. It is the product, as a rotation: a product the
+// compiler would keep as a sum of its own in each turn of a loop over words, where it is wanted
+// after the loop.
 #[inline(always)]
 fn bits_of<W: Word>(words: usize) -> u32
     requires { words * W.width < 4294967296 }
@@ -80,8 +81,8 @@ fn bits_of<W: Word>(words: usize) -> u32
     words.rotate_left(W::width().trailing_zeros()) as u32
 }
 
-// Returns word `k` of a set as it is buffered at the end `N`. From the front its bits are counted with
-// those of the words before it, as the cursor counts them by then.
+// Returns word `k` of a set as it is buffered at the end `N`. From the front its bits are counted
+// with those of the words before it, as the cursor counts them by then.
 #[inline(always)]
 fn buffered<W: Word, E: Endian, N: End>(word: W, k: usize) -> BufferedWord<W>
     requires { k * W.width + W.width < 4294967296 }
@@ -138,8 +139,8 @@ fn index_at<W: Word, E: Endian>(edge: u32, at: u32) -> u32
     }
 }
 
-// Returns whether a buffered word has no item. One that was loaded is dropped then: this was its last
-// scan.
+// Returns whether a buffered word has no item. One that was loaded is dropped then: this was its
+// last scan.
 #[inline(always)]
 fn is_exhausted<W: Word, E: Endian>(buffered: &mut BufferedWord<W>, scans: &mut Count) -> bool
     requires { IsSound E.mirrored W.width W.pattern buffered.old }
@@ -307,8 +308,8 @@ impl<W: Word, E: Endian> Buffers<W, E> {
         self.put::<N>(word, k);
     }
 
-    /// Fetches word `k`, with the bits of the kind, and returns whether it has an item. It is loaded
-    /// then at the end `N`, where none was; else this was its scan, and it is not loaded.
+    /// Fetches word `k`, with the bits of the kind, and returns whether it has an item. It is
+    /// loaded then at the end `N`, where none was; else this was its scan, and it is not loaded.
     #[inline(always)]
     pub fn refill<B: Bits<LeafWord = W>, K: Kind, N: End>(
         &mut self,
@@ -354,8 +355,8 @@ impl<W: Word, E: Endian> Buffers<W, E> {
         self.tail.is_loaded = is_loaded;
     }
 
-    /// Returns whether the word at the end `N`, the head or the tail, has no item. One that was loaded
-    /// is dropped then: that was its last scan.
+    /// Returns whether the word at the end `N`, the head or the tail, has no item. One that was
+    /// loaded is dropped then: that was its last scan.
     #[inline(always)]
     pub fn is_exhausted<N: End>(&mut self) -> bool
         ensures told { TellsExhausted result (buffer_of N.FRONT self.old)
@@ -389,8 +390,8 @@ impl<W: Word, E: Endian> Buffers<W, E> {
         }
     }
 
-    /// Scans the word at the other end than `N` for its item at the end `N`. The word stays where it
-    /// is: nothing is moved where the exchanges are compiled.
+    /// Scans the word at the other end than `N` for its item at the end `N`. The word stays where
+    /// it is: both exchanges together are compiled to nothing.
     #[inline(always)]
     pub fn scan_across<N: End>(&mut self) -> Option<u32>
         ensures found { ScansFrom N.FRONT (buffer_of (not N.FRONT) self.old) result

@@ -27,7 +27,8 @@ pub struct Cursor<B: Shape, E: Endian> {
 }
 
 /// Begins an iterator. Of a type of fixed length it loads the first word to the head. Of a slice it
-/// loads none, so that an iterator which is stepped from one end alone has a buffer at that end alone.
+/// loads none, so that an iterator which is stepped from one end alone has a buffer at that end
+/// alone.
 #[inline]
 pub fn begin<B: Bits, E: Endian, K: Kind>(source: &Source<'_, B>) -> Cursor<B, E>
     requires { ShapeFits B.Shape source.now.set.now }

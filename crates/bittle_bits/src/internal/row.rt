@@ -35,7 +35,8 @@ pub fn bits_capacity<T: BitsOwned>(len: usize) -> u32
     len as u32 * each
 }
 
-/// Returns whether an array of this many elements is short: of at most 128 bytes.
+/// Returns whether an array of this many elements is short: of at most 128 bytes. Who asks it does
+/// the same either way, by other steps: no clause hangs on the answer.
 #[inline]
 pub fn is_short<T: BitsOwned>(len: usize) -> bool {
     bits_capacity::<T>(len) <= 1024
@@ -322,8 +323,8 @@ fn part_is_without<T: BitsOwned, K: Kind>(elements: &[T], from: usize, to: usize
     without
 }
 
-// Returns whether no element has a bit of the kind, where those before `from` have none. It asks one
-// by one.
+// Returns whether no element has a bit of the kind, where those before `from` have none. It asks
+// one by one.
 #[inline]
 fn rest_is_without<T: BitsOwned, K: Kind>(elements: &[T], from: usize) -> bool
     requires within { from ≤ length elements.now }

@@ -1,5 +1,5 @@
-//! What an iterator or a search reads: the ones of a set, or its zeros, word by word. Each fetch of an
-//! iterator is counted.
+//! What an iterator or a search reads: the ones of a set, or its zeros, word by word. Each fetch of
+//! an iterator is counted.
 
 ghost use Rattle.std.specs.Prelude.{◌≡◌, ◌+◌, ◌*◌, ◌/◌, ◌<◌};
 ghost use Rattle.bittle_bits.specs.BitPatterns.{bit_set};

@@ -16,7 +16,8 @@ edge : (g : Over) (c : Joined-is_mirrored g) → c.if-is_mirrored.result
     ≡ c.args.k * g.W.Word.width + edge_from_first g.E.Endian.mirrored g.W.Word.width
 edge g c = elim c.if-is_mirrored.branch [
   | then-is_mirrored w ↦ rw (← w.if-is_mirrored.ensures)
-      (w.result-is ∙ omega (arith, first g c, w.width-then-is_mirrored.ensures, g.met.W.Word.width_positive))
+      (w.result-is ∙ omega
+      (arith, first g c, w.width-then-is_mirrored.ensures, g.met.W.Word.width_positive))
   | else-is_mirrored w ↦ rw (← w.if-is_mirrored.ensures) (w.result-is ∙ omega (arith, first g c))
 ]
 

@@ -27,7 +27,8 @@ returns-in_default-clause-sound g c =
 
 pub index_at-requires-clause-edge : goal.index_at-requires-clause-edge
 unfolding IsSound
-index_at-requires-clause-edge g c = c.requires.0 (loaded g (goal.at.index_at-requires-clause-edge g c).In-Some)
+index_at-requires-clause-edge g c =
+    c.requires.0 (loaded g (goal.at.index_at-requires-clause-edge g c).In-Some)
 
 pub returns-clause-found : goal.returns-clause-found
 returns-clause-found g c =
