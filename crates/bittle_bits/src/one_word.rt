@@ -212,8 +212,21 @@ pub fn clear_bits<T: Word>(word: &mut T)
     *word = T::zero();
 }
 
-/// Combines a word with another, bit by bit: one of 128 bits by its halves, each as a processor
-/// holds it.
+// Combines the bits of two words of 128 bits by their halves, each as a processor holds it.
+#[inline]
+fn on_halves<T: Word, O: Operation>(word: T, other: T) -> T
+    requires { T.width ≡ 128 }
+    ensures { bit_set T.width (T.pattern result)
+        ≡ combination_of O.decide
+        (bit_set T.width (T.pattern word)) (bit_set T.width (T.pattern other)) }
+{
+    let (low, high) = halves::<T>(word);
+    let (other_low, other_high) = halves::<T>(other);
+    let low = O::on_words::<u64>(low, other_low);
+    joined::<T>(low, O::on_words::<u64>(high, other_high))
+}
+
+/// Combines a word with another, bit by bit.
 #[inline(always)]
 pub fn combine<T: Word, O: Operation>(word: &mut T, other: T)
     ensures { (mirrored : Bool) → read_in mirrored T.width (bit_set T.width (T.pattern word.new))
@@ -221,14 +234,11 @@ pub fn combine<T: Word, O: Operation>(word: &mut T, other: T)
         (read_in mirrored T.width (bit_set T.width (T.pattern word.old)))
         (read_in mirrored T.width (bit_set T.width (T.pattern other))) }
 {
-    if T::width() == 128 {
-        let (low, high) = halves::<T>(*word);
-        let (other_low, other_high) = halves::<T>(other);
-        let low = O::on_words::<u64>(low, other_low);
-        *word = joined::<T>(low, O::on_words::<u64>(high, other_high));
-        return;
-    }
-    *word = O::on_words::<T>(*word, other);
+    *word = if T::width() == 128 {
+        on_halves::<T, O>(*word, other)
+    } else {
+        O::on_words::<T>(*word, other)
+    };
 }
 
 /// Counts the set bits.

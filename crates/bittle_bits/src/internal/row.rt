@@ -257,6 +257,7 @@ fn combine_each<T: BitsOwned, O: Operation>(elements: &mut [T], others: &[T], co
 
 /// Combines the elements of the common beginning, each with its counterpart: words of 32 bits and
 /// more four at a time.
+#[inline(always)]
 pub fn combine<T: BitsOwned, O: Operation>(elements: &mut [T], others: &[T])
     ensures { (mirrored : Bool)
         → read_in mirrored T.width
