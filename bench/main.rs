@@ -132,7 +132,7 @@ impl<'a> Cell<'a> {
         self.ranges.iter().fold(0, |sum: u64, range| {
             let (a, b) = (self.left.as_mut_ptr(), self.right.as_ptr());
             // The lengths are those of the vectors, and the range lies below the capacity.
-            let it = unsafe { ours(a, n, b, m, self.indexes.as_ptr(), k, range.start, range.end) };
+            let it = unsafe { ours(a, n, range.start, range.end, b, m, self.indexes.as_ptr(), k) };
             sum.wrapping_mul(3).wrapping_add(it)
         })
     }
