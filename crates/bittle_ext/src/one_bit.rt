@@ -12,7 +12,8 @@ use bittle_bits::word::Word;
 /// Returns whether the shape of a set fits, and it has a bit.
 #[inline]
 pub fn has_bits<B: Bits>(set: &B) -> bool
-    ensures { IsTrue result → ShapeFits B.Shape set.now × (0 < (B.big set.now).capacity) }
+    ensures fits { IsTrue result → ShapeFits B.Shape set.now × (0 < (B.big set.now).capacity) }
+    ensures has { ShapeFits B.Shape set.now → 0 < (B.big set.now).capacity → IsTrue result }
 {
     let capacity = set.bits_capacity();
     0 < capacity && capacity < u32::MAX
