@@ -1,10 +1,12 @@
 -- Proofs of the laws that the impls of the traits give.
-use Rattle.std.proofs.Common.{◌≡◌, ℕ, ◌*◌, ◌≤◌, ◌<◌, ℤ, refl, false, nat_eq, IsTrue, ap, arith}
+use Rattle.std.proofs.Common.{◌≡◌, ℕ, ◌+◌, ◌*◌, ◌^◌, ◌≤◌, ◌<◌, ℤ, Bool, refl, true, false, nat_eq, IsTrue, ap, arith}
 use Rattle.std.proofs.lemmas.Bool.{le-ltb, eqb-true}
+use Rattle.std.proofs.lemmas.Nat.{pow_pos}
 use Rattle.std.specs.Cmp.{signed_Decides}
 use Rattle.std.specs.Ordering.{int_eq}
 use Rattle.bittle_bits.specs.BitPatterns.{bit_has, bit_set}
 use Rattle.bittle_bits.specs.PlainSet.{PlainSet}
+use Rattle.bittle_bits.specs.Shapes.{Fits}
 
 -- no bit lies past the word
 pub bit_has-past : (w d i : ℕ) → w ≤ i → bit_has w d i ≡ false
@@ -40,3 +42,42 @@ equal_words w u v h = ap (bit_set w) (eqb-true u v h)
 pub equal_signed_words : (w : ℕ) (pattern : ℤ → ℕ) (u v : ℤ) → IsTrue (int_eq u v) →
     bit_set w (pattern u) ≡ bit_set w (pattern v)
 equal_signed_words w pattern u v h = ap (λ x. bit_set w (pattern x)) ((signed_Decides u v).0 h)
+
+-- an integer type is a word that is the set of its bits: its shape has the word's width and
+-- capacity, an index finds each bit, no value is a loan, and equal values are one set
+pub record IsWord {V : Type 0} (eq : V → V → Bool) (indexable : Bool) (capacity width own : ℕ)
+    (big : V → PlainSet) (pattern loan : V → ℕ) : Type 0 where
+  pub same_width : width ≡ own
+  pub same_capacity : capacity ≡ own
+  pub is_owned : (u v : V) → loan u ≡ loan v
+  pub fits : Fits indexable capacity
+  pub big_is_pattern : (v : V) → big v ≡ bit_set own (pattern v)
+  pub same_pattern : (u v : V) → IsTrue (eq u v) → big u ≡ big v
+
+-- an unsigned integer, whose pattern is its number
+pub unsigned_word : (w : ℕ) → w < 4294967295 →
+    IsWord nat_eq true w w w (λ x. bit_set w x) (λ x. x) (λ _. 0)
+unsigned_word w few = record {
+  same_width = refl;
+  same_capacity = refl;
+  is_owned = λ u v. refl;
+  fits = (refl, few);
+  big_is_pattern = λ v. refl;
+  same_pattern = equal_words w;
+}
+
+-- a signed integer
+pub signed_word : (w : ℕ) (pattern : ℤ → ℕ) → w < 4294967295 →
+    IsWord int_eq true w w w (λ x. bit_set w (pattern x)) pattern (λ _. 0)
+signed_word w pattern few = record {
+  same_width = refl;
+  same_capacity = refl;
+  is_owned = λ u v. refl;
+  fits = (refl, few);
+  big_is_pattern = λ v. refl;
+  same_pattern = equal_signed_words w pattern;
+}
+
+-- whole bytes have a bit
+pub positive_bytes : (w : ℕ) → (log : ℕ) × (w ≡ 2 ^ (3 + log)) → 0 < w
+positive_bytes w bytes = rw bytes.1 (pow_pos (3 + bytes.0))

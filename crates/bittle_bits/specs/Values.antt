@@ -1,10 +1,13 @@
 -- What a value stands for.
-use Rattle.std.specs.Prelude.{Bool}
+use Rattle.std.specs.Prelude.{Bool, List, length}
 use Rattle.bittle_bits.specs.Orders.{read_in}
 use Rattle.bittle_bits.specs.PlainSet.{PlainSet}
+use Rattle.bittle_bits.specs.Rows.{row_set}
 use Rattle.bittle_bits.specs.Shapes.{Fits}
+use Rattle.bittle_bits.specs.WordSets.{word_mirrored}
 use Rattle.bittle_bits.specs.declared.shape.Shape as shape
 use Rattle.bittle_bits.specs.declared.endian.Endian as endian
+use Rattle.bittle_bits.specs.declared.word.Word as word
 
 -- the set of a value, read in an order
 abbrev pub set_in : {V W E : Type 0} → shape.Ghosts V W → endian.Ghosts E → V → PlainSet
@@ -17,3 +20,19 @@ set_mirrored b mirrored v = read_in mirrored b.width (b.big v)
 -- the shape of a value fits
 abbrev pub ShapeFits : {V W : Type 0} → shape.Ghosts V W → V → Type 0
 ShapeFits b v = Fits b.indexable (b.big v).capacity
+
+-- the set of a word, read in an order
+abbrev pub word_in : {W E : Type 0} → word.Ghosts W → endian.Ghosts E → W → PlainSet
+word_in t e v = word_mirrored t e.mirrored v
+
+-- the set of a row of elements
+abbrev pub row_of : {V W : Type 0} → shape.Ghosts V W → List V → PlainSet
+row_of b xs = row_set (length xs) b.type_capacity b.big xs
+
+-- the same, mirrored within each word or not
+abbrev pub row_mirrored : {V W : Type 0} → shape.Ghosts V W → Bool → List V → PlainSet
+row_mirrored b mirrored xs = read_in mirrored b.width (row_of b xs)
+
+-- the set of a row of elements, read in an order
+abbrev pub row_in : {V W E : Type 0} → shape.Ghosts V W → endian.Ghosts E → List V → PlainSet
+row_in b e xs = row_mirrored b e.mirrored xs

@@ -1,10 +1,9 @@
 //! The two orders in which the bits of a word are indexed.
 
 ghost use Rattle.std.specs.Prelude.{◌≡◌, ◌%◌, ◌<◌, Bool, true, false};
-ghost use Rattle.bittle_bits.specs.BitPatterns.{bit_set};
 ghost use Rattle.bittle_bits.specs.Orders as orders;
-ghost use Rattle.bittle_bits.specs.Orders.{read_in};
 ghost use Rattle.bittle_bits.specs.PlainSet.{empty_set, full_set_from, with_index, complement, IsLeastMember, IsGreatestMember};
+ghost use Rattle.bittle_bits.specs.WordSets.{word_mirrored};
 
 use crate::internal::sealed::Sealed;
 use crate::word::Word;
@@ -40,15 +39,13 @@ pub trait Endian: Drop {
     /// ```
     #[doc(hidden)]
     fn mask<T: Word>(index: u32) -> T
-        ensures { read_in mirrored T.width (bit_set T.width (T.pattern result))
-            ≡ with_index (empty_set T.width) index };
+        ensures { word_mirrored T.Word mirrored result ≡ with_index (empty_set T.width) index };
 
     /// Returns the word in which each bit from `index` on is set.
     #[doc(hidden)]
     fn from_index<T: Word>(index: u32) -> T
         requires { index < T.width }
-        ensures { read_in mirrored T.width (bit_set T.width (T.pattern result))
-            ≡ full_set_from T.width index };
+        ensures { word_mirrored T.Word mirrored result ≡ full_set_from T.width index };
 
     /// Returns the least index of a set bit, or the width if there is none.
     ///
@@ -57,8 +54,7 @@ pub trait Endian: Drop {
     /// ```
     #[doc(hidden)]
     fn zeros<T: Word>(value: T) -> u32
-        ensures { IsLeastMember
-            (read_in mirrored T.width (bit_set T.width (T.pattern value))) result };
+        ensures { IsLeastMember (word_mirrored T.Word mirrored value) result };
 
     /// Returns the least index of an unset bit, or the width if there is none.
     ///
@@ -68,8 +64,7 @@ pub trait Endian: Drop {
     #[doc(hidden)]
     #[inline]
     final fn ones<T: Word>(value: T) -> u32
-        ensures { IsLeastMember
-            (complement (read_in mirrored T.width (bit_set T.width (T.pattern value)))) result }
+        ensures { IsLeastMember (complement (word_mirrored T.Word mirrored value)) result }
     {
         Self::zeros::<T>(value.not())
     }
@@ -82,8 +77,7 @@ pub trait Endian: Drop {
     /// ```
     #[doc(hidden)]
     fn zeros_rev<T: Word>(value: T) -> u32
-        ensures { IsGreatestMember
-            (read_in mirrored T.width (bit_set T.width (T.pattern value))) result };
+        ensures { IsGreatestMember (word_mirrored T.Word mirrored value) result };
 
     /// Returns how far the greatest unset bit lies below the last index, or the width if every bit
     /// is set.
@@ -94,8 +88,7 @@ pub trait Endian: Drop {
     #[doc(hidden)]
     #[inline]
     final fn ones_rev<T: Word>(value: T) -> u32
-        ensures { IsGreatestMember
-            (complement (read_in mirrored T.width (bit_set T.width (T.pattern value)))) result }
+        ensures { IsGreatestMember (complement (word_mirrored T.Word mirrored value)) result }
     {
         Self::zeros_rev::<T>(value.not())
     }

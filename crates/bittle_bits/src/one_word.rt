@@ -4,14 +4,15 @@
 
 ghost use Rattle.std.specs.Prelude.{◌≡◌, ◌==◌, Bool, ◌+◌, ◌*◌, ◌-◌, ◌^◌, ◌<◌, ◌≤◌, ◌||◌, ◌&&◌, true, false, cond, refl, IfSome, IsTrue};
 ghost use Rattle.std.proofs.Common.{sym};
-ghost use Rattle.bittle_bits.specs.BitPatterns.{bit_set};
 ghost use Rattle.bittle_bits.specs.Ends.{IsEndMember, YieldsFrom, YieldsPlace};
-ghost use Rattle.bittle_bits.specs.LawProofs.{none_past_word, one_word_whole, positive_width, word_capacity};
-ghost use Rattle.bittle_bits.specs.Orders.{place, read_in};
+ghost use Rattle.bittle_bits.specs.LawProofs.{IsWord, none_past_word, one_word_whole, positive_width, word_capacity};
+ghost use Rattle.bittle_bits.specs.Orders.{place};
 ghost use Rattle.bittle_bits.specs.PlainSet.{contains, with_index, with_span_changed, without_index, empty_set, without_members, full_set, span_set, size, ascending};
 ghost use Rattle.bittle_bits.specs.SetOperations.{combination_of, first_alone, just_one};
 ghost use Rattle.bittle_bits.specs.Shapes.{Fits};
 ghost use Rattle.bittle_bits.specs.Words.{ReplacesWord, word_of};
+ghost use Rattle.bittle_bits.specs.Values.{word_in};
+ghost use Rattle.bittle_bits.specs.WordSets.{bits_of, word_mirrored};
 
 use crate::bits::Bits;
 use crate::bits_mut::BitsMut;
@@ -22,35 +23,22 @@ use crate::word::Word;
 
 /// A word that is a set: that of its bits.
 pub trait Integer: Word + Eq + Shape<LeafWord = Self> {
-    ghost same_width: { ⟦<Self as Shape>⟧.width ≡ ⟦<Self as Word>⟧.width };
-
-    ghost same_capacity: { Self.type_capacity ≡ ⟦<Self as Word>⟧.width };
-
-    // No word is a loan.
-    ghost is_owned: { (u v : Self) → Self.loan u ≡ Self.loan v };
-
-    // An index finds each bit.
-    ghost fits: { Fits Self.indexable Self.type_capacity };
-
-    // A word is the set of its bits.
-    ghost big_is_pattern: { (v : Self) → Self.big v
-        ≡ bit_set ⟦<Self as Word>⟧.width (Self.pattern v) };
-
-    // Equal words are one set, whatever number a law calls a word.
-    ghost same_pattern: { (u v : Self) → IsTrue (Self.eq u v) → Self.big u ≡ Self.big v };
+    // It is a word, and the set of its bits.
+    ghost is_word: { IsWord Self.eq Self.indexable Self.type_capacity
+        ⟦<Self as Shape>⟧.width ⟦<Self as Word>⟧.width Self.big Self.pattern Self.loan };
 }
 
 impl<W: Integer> Bits for W {
     type Order = DefaultEndian;
 
-    ghost leaf_width = { sym W.same_width };
+    ghost leaf_width = { sym W.is_word.same_width };
 
-    ghost width_positive = { positive_width _ _ W.same_width W.width_positive };
+    ghost width_positive = { positive_width _ _ W.is_word.same_width W.width_positive };
 
-    ghost whole_words = { λ v. one_word_whole _ _ _ W.same_width
-        (word_capacity _ _ _ _ (W.big_is_pattern v) refl) };
+    ghost whole_words = { λ v. one_word_whole _ _ _ W.is_word.same_width
+        (word_capacity _ _ _ _ (W.is_word.big_is_pattern v) refl) };
 
-    ghost none_past = { λ v. none_past_word _ _ _ (W.big_is_pattern v) };
+    ghost none_past = { λ v. none_past_word _ _ _ (W.is_word.big_is_pattern v) };
 
     #[inline]
     fn is_fixed() -> bool {
@@ -121,13 +109,13 @@ impl<W: Integer> BitsMut for W {
 }
 
 impl<W: Integer> BitsOwned for W {
-    ghost one_capacity = { λ v. word_capacity _ _ _ _ (W.big_is_pattern v) W.same_capacity };
+    ghost one_capacity = { λ v. word_capacity _ _ _ _ (W.is_word.big_is_pattern v) W.is_word.same_capacity };
 
-    ghost type_whole_words = { one_word_whole _ _ _ W.same_width W.same_capacity };
+    ghost type_whole_words = { one_word_whole _ _ _ W.is_word.same_width W.is_word.same_capacity };
 
-    ghost type_fits = { λ _. W.fits.1 };
+    ghost type_fits = { λ _. W.is_word.fits.1 };
 
-    ghost eq_is_same = { W.same_pattern };
+    ghost eq_is_same = { W.is_word.same_pattern };
 
     #[inline]
     fn bits() -> u32 {
@@ -148,8 +136,7 @@ impl<W: Integer> BitsOwned for W {
 /// Tests the bit at an index, which wraps.
 #[inline]
 pub fn test_bit<T: Word, E: Endian>(word: T, index: u32) -> bool
-    ensures { result
-        ≡ contains (read_in E.mirrored T.width (bit_set T.width (T.pattern word))) index }
+    ensures { result ≡ contains (word_in T.Word E.Endian word) index }
 {
     !word.and(T::one_at(E::place::<T>(index))).is_zero()
 }
@@ -157,8 +144,8 @@ pub fn test_bit<T: Word, E: Endian>(word: T, index: u32) -> bool
 /// Sets the bit at an index, which wraps.
 #[inline]
 pub fn set_bit<T: Word, E: Endian>(word: &mut T, index: u32)
-    ensures { read_in E.mirrored T.width (bit_set T.width (T.pattern word.new))
-        ≡ with_index (read_in E.mirrored T.width (bit_set T.width (T.pattern word.old))) index }
+    ensures { word_in T.Word E.Endian word.new ≡ with_index
+        (word_in T.Word E.Endian word.old) index }
 {
     *word = word.or(E::mask::<T>(index));
 }
@@ -166,8 +153,8 @@ pub fn set_bit<T: Word, E: Endian>(word: &mut T, index: u32)
 /// Clears the bit at an index, which wraps.
 #[inline]
 pub fn clear_bit<T: Word, E: Endian>(word: &mut T, index: u32)
-    ensures { read_in E.mirrored T.width (bit_set T.width (T.pattern word.new))
-        ≡ without_index (read_in E.mirrored T.width (bit_set T.width (T.pattern word.old))) index }
+    ensures { word_in T.Word E.Endian word.new ≡ without_index
+        (word_in T.Word E.Endian word.old) index }
 {
     *word = word.and(E::mask::<T>(index).not());
 }
@@ -178,8 +165,7 @@ pub fn clear_bit<T: Word, E: Endian>(word: &mut T, index: u32)
 pub fn range<T: Word, E: Endian>(from: u32, to: u32) -> T
     requires ordered { from ≤ to }
     requires within { to ≤ T.width }
-    ensures { read_in E.mirrored T.width (bit_set T.width (T.pattern result))
-        ≡ span_set T.width from to }
+    ensures { word_in T.Word E.Endian result ≡ span_set T.width from to }
 {
     if from == to {
         return T::zero();
@@ -196,9 +182,8 @@ pub fn range<T: Word, E: Endian>(from: u32, to: u32) -> T
 pub fn assign_range<T: Word, E: Endian, O: RangeOperation>(word: &mut T, from: u32, to: u32)
     requires ordered { from ≤ to }
     requires within { to ≤ T.width }
-    ensures { read_in E.mirrored T.width (bit_set T.width (T.pattern word.new))
-        ≡ with_span_changed (λ b. O.decide b true)
-        (read_in E.mirrored T.width (bit_set T.width (T.pattern word.old))) from to }
+    ensures { word_in T.Word E.Endian word.new ≡ with_span_changed (λ b. O.decide b true)
+        (word_in T.Word E.Endian word.old) from to }
 {
     *word = O::on_words::<T>(*word, range::<T, E>(from, to));
 }
@@ -206,8 +191,7 @@ pub fn assign_range<T: Word, E: Endian, O: RangeOperation>(word: &mut T, from: u
 /// Clears every bit.
 #[inline]
 pub fn clear_bits<T: Word>(word: &mut T)
-    ensures { bit_set T.width (T.pattern word.new)
-        ≡ without_members (bit_set T.width (T.pattern word.old)) }
+    ensures { bits_of T.Word word.new ≡ without_members (bits_of T.Word word.old) }
 {
     *word = T::zero();
 }
@@ -216,9 +200,8 @@ pub fn clear_bits<T: Word>(word: &mut T)
 #[inline]
 fn on_halves<T: Word, O: Operation>(word: T, other: T) -> T
     requires { T.width ≡ 128 }
-    ensures { bit_set T.width (T.pattern result)
-        ≡ combination_of O.decide
-        (bit_set T.width (T.pattern word)) (bit_set T.width (T.pattern other)) }
+    ensures { bits_of T.Word result ≡ combination_of O.decide (bits_of T.Word word)
+        (bits_of T.Word other) }
 {
     let (low, high) = halves::<T>(word);
     let (other_low, other_high) = halves::<T>(other);
@@ -229,10 +212,8 @@ fn on_halves<T: Word, O: Operation>(word: T, other: T) -> T
 /// Combines a word with another, bit by bit.
 #[inline(always)]
 pub fn combine<T: Word, O: Operation>(word: &mut T, other: T)
-    ensures { (mirrored : Bool) → read_in mirrored T.width (bit_set T.width (T.pattern word.new))
-        ≡ combination_of O.decide
-        (read_in mirrored T.width (bit_set T.width (T.pattern word.old)))
-        (read_in mirrored T.width (bit_set T.width (T.pattern other))) }
+    ensures { (mirrored : Bool) → word_mirrored T.Word mirrored word.new ≡ combination_of O.decide
+        (word_mirrored T.Word mirrored word.old) (word_mirrored T.Word mirrored other) }
 {
     *word = if T::width() == 128 {
         on_halves::<T, O>(*word, other)
@@ -244,9 +225,8 @@ pub fn combine<T: Word, O: Operation>(word: &mut T, other: T)
 /// Counts the set bits.
 #[inline]
 pub fn count_ones<T: Word>(word: T) -> u32
-    ensures value { result ≡ size (bit_set T.width (T.pattern word)) }
-    ensures in_each_order { (mirrored : Bool) →
-        result ≡ size (read_in mirrored T.width (bit_set T.width (T.pattern word))) }
+    ensures value { result ≡ size (bits_of T.Word word) }
+    ensures in_each_order { (mirrored : Bool) → result ≡ size (word_mirrored T.Word mirrored word) }
     ensures at_most { result ≤ T.width }
 {
     word.count_ones()
@@ -255,9 +235,9 @@ pub fn count_ones<T: Word>(word: T) -> u32
 /// Returns whether no bit is set.
 #[inline]
 pub fn all_zeros<T: Word>(word: T) -> bool
-    ensures value { result ≡ (size (bit_set T.width (T.pattern word)) == 0) }
-    ensures in_each_order { (mirrored : Bool) →
-        result ≡ (size (read_in mirrored T.width (bit_set T.width (T.pattern word))) == 0) }
+    ensures value { result ≡ (size (bits_of T.Word word) == 0) }
+    ensures in_each_order { (mirrored : Bool) → result ≡ (size
+        (word_mirrored T.Word mirrored word) == 0) }
 {
     word.is_zero()
 }
@@ -265,9 +245,9 @@ pub fn all_zeros<T: Word>(word: T) -> bool
 /// Returns whether every bit is set.
 #[inline]
 pub fn all_ones<T: Word>(word: T) -> bool
-    ensures value { result ≡ (size (bit_set T.width (T.pattern word)) == T.width) }
-    ensures in_each_order { (mirrored : Bool) →
-        result ≡ (size (read_in mirrored T.width (bit_set T.width (T.pattern word))) == T.width) }
+    ensures value { result ≡ (size (bits_of T.Word word) == T.width) }
+    ensures in_each_order { (mirrored : Bool) → result ≡ (size
+        (word_mirrored T.Word mirrored word) == T.width) }
 {
     word.not().is_zero()
 }
@@ -275,9 +255,9 @@ pub fn all_ones<T: Word>(word: T) -> bool
 /// Returns the word with no bit set.
 #[inline]
 pub fn zeros<T: Word>() -> T
-    ensures value { bit_set T.width (T.pattern result) ≡ empty_set T.width }
-    ensures in_each_order { (mirrored : Bool) →
-        read_in mirrored T.width (bit_set T.width (T.pattern result)) ≡ empty_set T.width }
+    ensures value { bits_of T.Word result ≡ empty_set T.width }
+    ensures in_each_order { (mirrored : Bool) → word_mirrored T.Word mirrored result
+        ≡ empty_set T.width }
 {
     T::zero()
 }
@@ -285,9 +265,9 @@ pub fn zeros<T: Word>() -> T
 /// Returns the word with every bit set.
 #[inline]
 pub fn ones<T: Word>() -> T
-    ensures value { bit_set T.width (T.pattern result) ≡ full_set T.width }
-    ensures in_each_order { (mirrored : Bool) →
-        read_in mirrored T.width (bit_set T.width (T.pattern result)) ≡ full_set T.width }
+    ensures value { bits_of T.Word result ≡ full_set T.width }
+    ensures in_each_order { (mirrored : Bool) → word_mirrored T.Word mirrored result
+        ≡ full_set T.width }
 {
     T::zero().not()
 }
@@ -295,8 +275,7 @@ pub fn ones<T: Word>() -> T
 // Returns how far the member at the end `N` lies from that end, or the width where there is none.
 #[inline(always)]
 pub fn from_end<T: Word, E: Endian, N: End>(word: T) -> u32
-    ensures member { IsEndMember N.FRONT
-        (read_in E.mirrored T.width (bit_set T.width (T.pattern word))) result }
+    ensures member { IsEndMember N.FRONT (word_in T.Word E.Endian word) result }
     ensures within { result ≤ T.width }
 {
     if N::FRONT {
@@ -311,9 +290,8 @@ pub fn from_end<T: Word, E: Endian, N: End>(word: T) -> u32
 // it that the word lacks: a step waits for that alone, and not for the place.
 #[inline(always)]
 fn pop_at_once<T: Word, E: Endian, N: End>(word: &mut T) -> Option<u32>
-    ensures found { YieldsPlace N.FRONT (place E.mirrored T.width)
-        (λ w. ascending (read_in E.mirrored T.width (bit_set T.width (T.pattern w))))
-        word.old result word.new }
+    ensures found { YieldsPlace N.FRONT (place E.mirrored T.width) (λ w. ascending
+        (word_in T.Word E.Endian w)) word.old result word.new }
     ensures within { IfSome result (λ at. at < T.width) }
 {
     if word.is_zero() {
@@ -357,9 +335,8 @@ fn joined<T: Word>(low: u64, high: u64) -> T
 #[inline(always)]
 fn pop_from_half<T: Word, E: Endian, N: End>(word: &mut T) -> Option<u32>
     requires { T.width ≡ 128 }
-    ensures found { YieldsPlace N.FRONT (place E.mirrored T.width)
-        (λ w. ascending (read_in E.mirrored T.width (bit_set T.width (T.pattern w))))
-        word.old result word.new }
+    ensures found { YieldsPlace N.FRONT (place E.mirrored T.width) (λ w. ascending
+        (word_in T.Word E.Endian w)) word.old result word.new }
     ensures within { IfSome result (λ at. at < T.width) }
 {
     let (low, high) = halves::<T>(*word);
@@ -385,9 +362,8 @@ fn pop_from_half<T: Word, E: Endian, N: End>(word: &mut T) -> Option<u32>
 /// its weight is.
 #[inline(always)]
 pub fn pop_place<T: Word, E: Endian, N: End>(word: &mut T) -> Option<u32>
-    ensures found { YieldsPlace N.FRONT (place E.mirrored T.width)
-        (λ w. ascending (read_in E.mirrored T.width (bit_set T.width (T.pattern w))))
-        word.old result word.new }
+    ensures found { YieldsPlace N.FRONT (place E.mirrored T.width) (λ w. ascending
+        (word_in T.Word E.Endian w)) word.old result word.new }
     ensures within { IfSome result (λ at. at < T.width) }
 {
     if T::width() == 128 {
@@ -400,9 +376,8 @@ pub fn pop_place<T: Word, E: Endian, N: End>(word: &mut T) -> Option<u32>
 /// Takes the member at the end `N` out of the word.
 #[inline(always)]
 pub fn pop<T: Word, E: Endian, N: End>(word: &mut T) -> Option<u32>
-    ensures found { YieldsFrom N.FRONT
-        (λ w. ascending (read_in E.mirrored T.width (bit_set T.width (T.pattern w))))
-        word.old result word.new }
+    ensures found { YieldsFrom N.FRONT (λ w. ascending
+        (word_in T.Word E.Endian w)) word.old result word.new }
     ensures below { IfSome result (λ index. index < T.width) }
 {
     let place = pop_place::<T, E, N>(word)?;
@@ -417,8 +392,7 @@ pub fn pop<T: Word, E: Endian, N: End>(word: &mut T) -> Option<u32>
 #[inline]
 pub fn leaf_word<T: Word>(word: T, k: usize) -> T
     requires { k * T.width < T.width }
-    ensures { bit_set T.width (T.pattern result)
-        ≡ word_of T.width (bit_set T.width (T.pattern word)) k }
+    ensures { bits_of T.Word result ≡ word_of T.width (bits_of T.Word word) k }
 {
     let _ = k;
     word
@@ -428,8 +402,8 @@ pub fn leaf_word<T: Word>(word: T, k: usize) -> T
 #[inline]
 pub fn set_leaf_word<T: Word>(word: &mut T, k: usize, by: T)
     requires { k * T.width < T.width }
-    ensures { ReplacesWord T.width (bit_set T.width (T.pattern word.old)) k
-        (bit_set T.width (T.pattern by)) (bit_set T.width (T.pattern word.new)) }
+    ensures { ReplacesWord T.width (bits_of T.Word word.old) k (bits_of T.Word by)
+        (bits_of T.Word word.new) }
 {
     let _ = k;
     *word = by;
@@ -442,9 +416,8 @@ pub trait Operation {
 
     /// Combines the bits of two words by the operation.
     fn on_words<T: Word>(word: T, other: T) -> T
-        ensures { bit_set T.width (T.pattern result)
-            ≡ combination_of decide
-            (bit_set T.width (T.pattern word)) (bit_set T.width (T.pattern other)) };
+        ensures { bits_of T.Word result ≡ combination_of decide (bits_of T.Word word)
+            (bits_of T.Word other) };
 }
 
 /// An operation that changes no bit where the other set has none, so that with a range of indexes

@@ -4,6 +4,7 @@
 ghost use Rattle.std.specs.Prelude.{◌≡◌, ℕ, Bool, true, false, ◌+◌, ◌-◌, ◌<◌, ◌^◌, ◌==◌, bit_and, bit_or, bit_xor, count_ones};
 ghost use Rattle.std.specs.Int.Count.{count_leading_zeros, count_trailing_zeros};
 ghost use Rattle.bittle_bits.specs.BitPatterns.{bit_set};
+ghost use Rattle.bittle_bits.specs.LawProofs.{positive_bytes};
 ghost use Rattle.bittle_bits.specs.Walk.{ones_or_zeros};
 
 use crate::internal::sealed::Sealed;
@@ -126,11 +127,11 @@ pub trait Word: Copy {
         ensures count { result ≡ count_leading_zeros width (pattern self) }
         ensures range { pattern self < 2 ^ width };
 
-    // A word has a bit.
-    ghost width_positive: { 0 < width };
-
     // Its bytes, of eight bits each, are a power of two.
     ghost whole_bytes: { (log : ℕ) × (width ≡ 2 ^ (3 + log)) };
+
+    // So it has a bit.
+    ghost width_positive: { 0 < width } = { positive_bytes width whole_bytes };
 }
 
 /// Names the bits that an iterator yields: the [`Ones`] or the [`Zeros`] of its set.

@@ -4,7 +4,7 @@ ghost use Rattle.std.specs.Prelude.{true, refl};
 ghost use Rattle.std.specs.Int.{w8, cast_unsigned};
 ghost use Rattle.std.proofs.Common.{lit<};
 ghost use Rattle.bittle_bits.specs.BitPatterns.{bit_set};
-ghost use Rattle.bittle_bits.specs.LawProofs.{equal_words, equal_signed_words};
+ghost use Rattle.bittle_bits.specs.LawProofs.{unsigned_word, signed_word};
 
 use crate::internal::sealed::Sealed;
 use crate::one_word::Integer;
@@ -26,25 +26,13 @@ impl Shape for u8 {
 }
 
 impl Integer for u8 {
-    ghost same_width = { refl };
-
-    ghost same_capacity = { refl };
-
-    ghost is_owned = { λ _ _. refl };
-
-    ghost fits = { (refl, lit< tt) };
-
-    ghost big_is_pattern = { λ _. refl };
-
-    ghost same_pattern = { equal_words 8 };
+    ghost is_word = { unsigned_word 8 (lit< tt) };
 }
 
 impl Word for u8 {
     ghost width = { 8 };
 
     ghost pattern = { λ x. x };
-
-    ghost width_positive = { lit< tt };
 
     ghost whole_bytes = { (0, refl) };
 
@@ -94,25 +82,13 @@ impl Shape for i8 {
 }
 
 impl Integer for i8 {
-    ghost same_width = { refl };
-
-    ghost same_capacity = { refl };
-
-    ghost is_owned = { λ _ _. refl };
-
-    ghost fits = { (refl, lit< tt) };
-
-    ghost big_is_pattern = { λ _. refl };
-
-    ghost same_pattern = { equal_signed_words 8 (cast_unsigned w8) };
+    ghost is_word = { signed_word 8 (cast_unsigned w8) (lit< tt) };
 }
 
 impl Word for i8 {
     ghost width = { 8 };
 
     ghost pattern = { cast_unsigned w8 };
-
-    ghost width_positive = { lit< tt };
 
     ghost whole_bytes = { (0, refl) };
 

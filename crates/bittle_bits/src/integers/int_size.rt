@@ -4,7 +4,7 @@ ghost use Rattle.std.specs.Prelude.{true, refl};
 ghost use Rattle.std.specs.Int.{w64, cast_unsigned};
 ghost use Rattle.std.proofs.Common.{lit<};
 ghost use Rattle.bittle_bits.specs.BitPatterns.{bit_set};
-ghost use Rattle.bittle_bits.specs.LawProofs.{equal_words, equal_signed_words};
+ghost use Rattle.bittle_bits.specs.LawProofs.{unsigned_word, signed_word};
 
 use crate::internal::sealed::Sealed;
 use crate::one_word::Integer;
@@ -26,25 +26,13 @@ impl Shape for usize {
 }
 
 impl Integer for usize {
-    ghost same_width = { refl };
-
-    ghost same_capacity = { refl };
-
-    ghost is_owned = { λ _ _. refl };
-
-    ghost fits = { (refl, lit< tt) };
-
-    ghost big_is_pattern = { λ _. refl };
-
-    ghost same_pattern = { equal_words 64 };
+    ghost is_word = { unsigned_word 64 (lit< tt) };
 }
 
 impl Word for usize {
     ghost width = { 64 };
 
     ghost pattern = { λ x. x };
-
-    ghost width_positive = { lit< tt };
 
     ghost whole_bytes = { (3, refl) };
 
@@ -94,25 +82,13 @@ impl Shape for isize {
 }
 
 impl Integer for isize {
-    ghost same_width = { refl };
-
-    ghost same_capacity = { refl };
-
-    ghost is_owned = { λ _ _. refl };
-
-    ghost fits = { (refl, lit< tt) };
-
-    ghost big_is_pattern = { λ _. refl };
-
-    ghost same_pattern = { equal_signed_words 64 (cast_unsigned w64) };
+    ghost is_word = { signed_word 64 (cast_unsigned w64) (lit< tt) };
 }
 
 impl Word for isize {
     ghost width = { 64 };
 
     ghost pattern = { cast_unsigned w64 };
-
-    ghost width_positive = { lit< tt };
 
     ghost whole_bytes = { (3, refl) };
 

@@ -9,6 +9,7 @@ ghost use Rattle.bittle_bits.specs.SetOperations.{combination_of};
 ghost use Rattle.bittle_bits.specs.Shapes.{Fits};
 ghost use Rattle.bittle_bits.specs.BitPatterns.{bit_set};
 ghost use Rattle.bittle_bits.specs.Words.{ReplacesWord, word_of};
+ghost use Rattle.bittle_bits.specs.Values.{row_of, row_mirrored, row_in};
 
 use crate::bits_owned::BitsOwned;
 use crate::endian::Endian;
@@ -82,9 +83,7 @@ fn locate<T: BitsOwned>(len: usize, index: u32, is_constant: bool) -> Option<(us
 #[inline]
 pub fn test_bit<T: BitsOwned, E: Endian>(elements: &[T], index: u32, is_array: bool) -> bool
     requires { IsTrue T.indexable }
-    ensures { result ≡ contains
-        (read_in E.mirrored T.width
-        (row_set (length elements.now) T.type_capacity T.big elements.now)) index }
+    ensures { result ≡ contains (row_in T.Shape E.Endian elements.now) index }
 {
     match locate::<T>(elements.len(), index, is_array) {
         Some((element, at)) => elements[element].test_bit_in::<E>(at),
@@ -97,11 +96,8 @@ pub fn test_bit<T: BitsOwned, E: Endian>(elements: &[T], index: u32, is_array: b
 #[inline]
 pub fn put_bit<T: BitsOwned, E: Endian, K: Kind>(elements: &mut [T], index: u32, is_array: bool)
     requires { IsTrue T.indexable }
-    ensures { read_in E.mirrored T.width
-        (row_set (length elements.new) T.type_capacity T.big elements.new)
-        ≡ with_bit K.ONES
-        (read_in E.mirrored T.width
-        (row_set (length elements.old) T.type_capacity T.big elements.old)) index }
+    ensures { row_in T.Shape E.Endian elements.new ≡ with_bit K.ONES
+        (row_in T.Shape E.Endian elements.old) index }
 {
     if let Some((element, at)) = locate::<T>(elements.len(), index, is_array) {
         if K::ONES {
@@ -114,8 +110,7 @@ pub fn put_bit<T: BitsOwned, E: Endian, K: Kind>(elements: &mut [T], index: u32,
 
 /// Clears every bit.
 pub fn clear_bits<T: BitsOwned>(elements: &mut [T])
-    ensures { row_set (length elements.new) T.type_capacity T.big elements.new
-        ≡ without_members (row_set (length elements.old) T.type_capacity T.big elements.old) }
+    ensures { row_of T.Shape elements.new ≡ without_members (row_of T.Shape elements.old) }
 {
     for element in elements.iter_mut() {
         element.clear_bits();
@@ -135,12 +130,10 @@ fn assign_in_element<T: BitsOwned, E: Endian, O: RangeOperation>(
     requires ordered { from ≤ to }
     requires within { to ≤ T.type_capacity }
     requires fits { IsTrue T.indexable }
-    ensures set { read_in E.mirrored T.width
-        (row_set (length elements.old) T.type_capacity T.big elements.new)
-        ≡ with_span_changed (λ b. O.decide b true)
-        (read_in E.mirrored T.width
-        (row_set (length elements.old) T.type_capacity T.big elements.old))
-        (at * T.type_capacity + from) (at * T.type_capacity + to) }
+    ensures set { read_in E.mirrored T.width (row_set
+        (length elements.old) T.type_capacity T.big elements.new) ≡ with_span_changed
+        (λ b. O.decide b true) (row_in T.Shape E.Endian elements.old) (at * T.type_capacity + from)
+        (at * T.type_capacity + to) }
     ensures length { length elements.new ≡ length elements.old }
 {
     elements[at as usize].assign_range_by_operation::<E, O>(from, to);
@@ -172,11 +165,8 @@ pub fn assign_range<T: BitsOwned, E: Endian, O: RangeOperation>(
     requires fits { Fits T.indexable (length elements.old * T.type_capacity) }
     requires ordered { from ≤ to }
     requires within { to ≤ length elements.old * T.type_capacity }
-    ensures { read_in E.mirrored T.width
-        (row_set (length elements.new) T.type_capacity T.big elements.new)
-        ≡ with_span_changed (λ b. O.decide b true)
-        (read_in E.mirrored T.width
-        (row_set (length elements.old) T.type_capacity T.big elements.old)) from to }
+    ensures { row_in T.Shape E.Endian elements.new ≡ with_span_changed (λ b. O.decide b true)
+        (row_in T.Shape E.Endian elements.old) from to }
 {
     if from == to {
         return;
@@ -259,14 +249,9 @@ fn combine_each<T: BitsOwned, O: Operation>(elements: &mut [T], others: &[T], co
 /// more four at a time.
 #[inline(always)]
 pub fn combine<T: BitsOwned, O: Operation>(elements: &mut [T], others: &[T])
-    ensures { (mirrored : Bool)
-        → read_in mirrored T.width
-        (row_set (length elements.new) T.type_capacity T.big elements.new)
-        ≡ combination_of O.decide
-        (read_in mirrored T.width
-        (row_set (length elements.old) T.type_capacity T.big elements.old))
-        (read_in mirrored T.width
-        (row_set (length others.now) T.type_capacity T.big others.now)) }
+    ensures { (mirrored : Bool) → row_mirrored T.Shape mirrored elements.new
+        ≡ combination_of O.decide (row_mirrored T.Shape mirrored elements.old)
+        (row_mirrored T.Shape mirrored others.now) }
 {
     let common = elements.len().min(others.len());
     let width = <T::LeafWord as Word>::width();
@@ -280,10 +265,9 @@ pub fn combine<T: BitsOwned, O: Operation>(elements: &mut [T], others: &[T])
 /// Counts the set bits.
 pub fn count_ones<T: BitsOwned>(elements: &[T]) -> u32
     requires { Fits T.indexable (length elements.now * T.type_capacity) }
-    ensures value { result ≡ size
-        (row_set (length elements.now) T.type_capacity T.big elements.now) }
-    ensures in_each_order { (mirrored : Bool) → result ≡ size (read_in mirrored T.width
-        (row_set (length elements.now) T.type_capacity T.big elements.now)) }
+    ensures value { result ≡ size (row_of T.Shape elements.now) }
+    ensures in_each_order { (mirrored : Bool) → result ≡ size
+        (row_mirrored T.Shape mirrored elements.now) }
     ensures at_most { result ≤ length elements.now * T.type_capacity }
 {
     let mut total = 0;
@@ -313,9 +297,8 @@ fn part_is_without<T: BitsOwned, K: Kind>(elements: &[T], from: usize, to: usize
     requires within { to ≤ length elements.now }
     ensures all_without { result ≡ true → (k : ℕ) (d : T) → from ≤ k → k < to
         → size (T.big (get_or elements.now k d)) ≡ cond K.ONES 0 T.type_capacity }
-    ensures one_with { result ≡ false → (size
-        (row_set (length elements.now) T.type_capacity T.big elements.now)
-        == cond K.ONES 0 (length elements.now * T.type_capacity)) ≡ false }
+    ensures one_with { result ≡ false → (size (row_of T.Shape elements.now) == cond K.ONES 0
+        (length elements.now * T.type_capacity)) ≡ false }
 {
     let mut without = true;
     for at in from..to {
@@ -331,9 +314,8 @@ fn rest_is_without<T: BitsOwned, K: Kind>(elements: &[T], from: usize) -> bool
     requires within { from ≤ length elements.now }
     requires without { (k : ℕ) (d : T) → k < from
         → size (T.big (get_or elements.now k d)) ≡ cond K.ONES 0 T.type_capacity }
-    ensures { result ≡ (size
-        (row_set (length elements.now) T.type_capacity T.big elements.now)
-        == cond K.ONES 0 (length elements.now * T.type_capacity)) }
+    ensures { result ≡ (size (row_of T.Shape elements.now) == cond K.ONES 0
+        (length elements.now * T.type_capacity)) }
 {
     for at in from..elements.len() {
         if !has_none::<T, K>(&elements[at]) {
@@ -347,9 +329,8 @@ fn rest_is_without<T: BitsOwned, K: Kind>(elements: &[T], from: usize) -> bool
 // decides. Then eight words and more are asked eight at a time, and what is left one by one, as are
 // elements of more than a word, since of eight it might ask seven without need.
 fn is_without_by_turns<T: BitsOwned, K: Kind>(elements: &[T]) -> bool
-    ensures { result ≡ (size
-        (row_set (length elements.now) T.type_capacity T.big elements.now)
-        == cond K.ONES 0 (length elements.now * T.type_capacity)) }
+    ensures { result ≡ (size (row_of T.Shape elements.now) == cond K.ONES 0
+        (length elements.now * T.type_capacity)) }
 {
     if elements.len() == 0 {
         return true;
@@ -371,9 +352,8 @@ fn is_without_by_turns<T: BitsOwned, K: Kind>(elements: &[T]) -> bool
 // Returns whether no element has a bit of the kind, and asks all: for a short array.
 #[inline]
 fn is_without_at_once<T: BitsOwned, K: Kind>(elements: &[T]) -> bool
-    ensures { result ≡ (size
-        (row_set (length elements.now) T.type_capacity T.big elements.now)
-        == cond K.ONES 0 (length elements.now * T.type_capacity)) }
+    ensures { result ≡ (size (row_of T.Shape elements.now) == cond K.ONES 0
+        (length elements.now * T.type_capacity)) }
 {
     part_is_without::<T, K>(elements, 0, elements.len())
 }
@@ -381,12 +361,11 @@ fn is_without_at_once<T: BitsOwned, K: Kind>(elements: &[T]) -> bool
 /// Returns whether no element has a bit of the kind.
 #[inline]
 fn is_without<T: BitsOwned, K: Kind>(elements: &[T], at_once: bool) -> bool
-    ensures value { result ≡ (size
-        (row_set (length elements.now) T.type_capacity T.big elements.now)
-        == cond K.ONES 0 (length elements.now * T.type_capacity)) }
-    ensures in_each_order { (mirrored : Bool) → result ≡ (size (read_in mirrored T.width
-        (row_set (length elements.now) T.type_capacity T.big elements.now))
-        == cond K.ONES 0 (length elements.now * T.type_capacity)) }
+    ensures value { result ≡ (size (row_of T.Shape elements.now) == cond K.ONES 0
+        (length elements.now * T.type_capacity)) }
+    ensures in_each_order { (mirrored : Bool) → result ≡ (size
+        (row_mirrored T.Shape mirrored elements.now) == cond K.ONES 0
+        (length elements.now * T.type_capacity)) }
 {
     if at_once {
         return is_without_at_once::<T, K>(elements);
@@ -397,10 +376,9 @@ fn is_without<T: BitsOwned, K: Kind>(elements: &[T], at_once: bool) -> bool
 /// Returns whether no bit is set.
 #[inline]
 pub fn all_zeros<T: BitsOwned>(elements: &[T], at_once: bool) -> bool
-    ensures value { result ≡ (size
-        (row_set (length elements.now) T.type_capacity T.big elements.now) == 0) }
-    ensures in_each_order { (mirrored : Bool) → result ≡ (size (read_in mirrored T.width
-        (row_set (length elements.now) T.type_capacity T.big elements.now)) == 0) }
+    ensures value { result ≡ (size (row_of T.Shape elements.now) == 0) }
+    ensures in_each_order { (mirrored : Bool) → result ≡ (size
+        (row_mirrored T.Shape mirrored elements.now) == 0) }
 {
     is_without::<T, Ones>(elements, at_once)
 }
@@ -409,11 +387,9 @@ pub fn all_zeros<T: BitsOwned>(elements: &[T], at_once: bool) -> bool
 #[inline]
 pub fn all_ones<T: BitsOwned>(elements: &[T], at_once: bool) -> bool
     ensures value { result ≡ (size
-        (row_set (length elements.now) T.type_capacity T.big elements.now)
-        == length elements.now * T.type_capacity) }
-    ensures in_each_order { (mirrored : Bool) → result ≡ (size (read_in mirrored T.width
-        (row_set (length elements.now) T.type_capacity T.big elements.now))
-        == length elements.now * T.type_capacity) }
+        (row_of T.Shape elements.now) == length elements.now * T.type_capacity) }
+    ensures in_each_order { (mirrored : Bool) → result ≡ (size
+        (row_mirrored T.Shape mirrored elements.now) == length elements.now * T.type_capacity) }
 {
     is_without::<T, Zeros>(elements, at_once)
 }
@@ -434,9 +410,8 @@ fn locate_word<T: BitsOwned>(len: usize, k: usize) -> (usize, usize)
 pub fn leaf_word<T: BitsOwned>(elements: &[T], k: usize) -> T::LeafWord
     requires fits { Fits T.indexable (length elements.now * T.type_capacity) }
     requires within { k * T.width < length elements.now * T.type_capacity }
-    ensures { bit_set T.width (T.LeafWord.pattern result)
-        ≡ word_of T.width
-        (row_set (length elements.now) T.type_capacity T.big elements.now) k }
+    ensures { bit_set T.width (T.LeafWord.pattern result) ≡ word_of T.width
+        (row_of T.Shape elements.now) k }
 {
     let (element, at) = locate_word::<T>(elements.len(), k);
     elements[element].nth_leaf_word(at)
@@ -447,10 +422,8 @@ pub fn leaf_word<T: BitsOwned>(elements: &[T], k: usize) -> T::LeafWord
 pub fn set_leaf_word<T: BitsOwned>(elements: &mut [T], k: usize, word: T::LeafWord)
     requires fits { Fits T.indexable (length elements.old * T.type_capacity) }
     requires within { k * T.width < length elements.old * T.type_capacity }
-    ensures { ReplacesWord T.width
-        (row_set (length elements.old) T.type_capacity T.big elements.old) k
-        (bit_set T.width (T.LeafWord.pattern word))
-        (row_set (length elements.new) T.type_capacity T.big elements.new) }
+    ensures { ReplacesWord T.width (row_of T.Shape elements.old) k (bit_set T.width
+        (T.LeafWord.pattern word)) (row_of T.Shape elements.new) }
 {
     let (element, at) = locate_word::<T>(elements.len(), k);
     elements[element].set_nth_leaf_word(at, word);

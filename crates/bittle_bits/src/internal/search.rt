@@ -1,10 +1,8 @@
 //! The first or the last member between two numbers, found word by word.
 
 ghost use Rattle.std.specs.Prelude.{◌≡◌, ◌+◌, ◌<◌, ◌≤◌, ℕ};
-ghost use Rattle.bittle_bits.specs.BitPatterns.{bit_set};
 ghost use Rattle.bittle_bits.specs.Ends.{is_ahead, IsEndIn};
-ghost use Rattle.bittle_bits.specs.Orders.{read_in};
-ghost use Rattle.bittle_bits.specs.Values.{set_in, ShapeFits};
+ghost use Rattle.bittle_bits.specs.Values.{word_in, set_in, ShapeFits};
 ghost use Rattle.bittle_bits.specs.Walk.{ones_or_zeros};
 
 use crate::bits::Bits;
@@ -18,9 +16,8 @@ use crate::word::{Kind, Word};
 #[inline]
 fn ahead<T: Word, E: Endian, N: End>(at: u32) -> T
     requires { at < T.width }
-    ensures { (i : ℕ) → i < T.width
-        → (read_in E.mirrored T.width (bit_set T.width (T.pattern result))).has i
-        ≡ is_ahead N.FRONT at (at + 1) i }
+    ensures { (i : ℕ) → i < T.width → (word_in T.Word E.Endian result).has i ≡ is_ahead N.FRONT at
+        (at + 1) i }
 {
     let since = E::from_index::<T>(at);
     if N::FRONT {
