@@ -1,6 +1,5 @@
 //! Values worked out by hand.
 
-use crate::checks::{holds, same};
 use bittle::{Bits, Set};
 use bittle_uses::board::outer_cells;
 use bittle_uses::changes::{insert, move_bit, remove};
@@ -15,6 +14,7 @@ use bittle_uses::slots::Slots;
 use bittle_uses::sums::{sum_in_reverse, sum_of_members};
 use bittle_uses::tables::greatest_as_byte;
 use bittle_uses::totals::sum_from_greatest;
+use checks::{holds, same};
 use std::test::Fail;
 
 #[test]

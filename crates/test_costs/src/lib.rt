@@ -4,8 +4,6 @@
 #[cfg(test)]
 mod asked;
 #[cfg(test)]
-mod checks;
-#[cfg(test)]
 mod comparisons;
 #[cfg(test)]
 mod pages;

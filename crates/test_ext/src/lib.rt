@@ -6,8 +6,6 @@ mod calls;
 #[cfg(test)]
 mod changes;
 #[cfg(test)]
-mod checks;
-#[cfg(test)]
 mod combined;
 #[cfg(test)]
 mod made;

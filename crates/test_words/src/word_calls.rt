@@ -3,10 +3,10 @@
 ghost use Rattle.std.specs.Prelude.{◌<◌};
 ghost use Rattle.bittle.specs.Values.{ShapeFits};
 
-use crate::checks::{holds, same};
 use bittle::number::{IterOnes, IterZeros};
 use bittle::{BigEndian, Bits, BitsMut, Endian, LittleEndian};
 use bittle_bits::word::Word;
+use checks::{holds, same};
 use std::process::Abort;
 
 #[test]
