@@ -12,6 +12,7 @@ use bittle_bits::bits_owned::BitsOwned;
 use bittle_bits::endian::{Endian, LittleEndian};
 use bittle_bits::internal::sealed::Sealed;
 use bittle_bits::one_word::{Operation, RangeOperation};
+use bittle_bits::read_words::ReadWords;
 use bittle_bits::shape::Shape;
 use std::alloc::AllocError;
 use std::marker::PhantomData;
@@ -247,9 +248,7 @@ impl<T: Shape, E: Endian> Shape for Set<T, E> {
     fn seal(_: Sealed) {}
 }
 
-impl<T: Bits, U: Endian> Bits for Set<T, U> {
-    type Order = U;
-
+impl<T: ReadWords, U: Endian> ReadWords for Set<T, U> {
     ghost leaf_width = { T.leaf_width };
 
     ghost width_positive = { T.width_positive };
@@ -264,9 +263,18 @@ impl<T: Bits, U: Endian> Bits for Set<T, U> {
     }
 
     #[inline]
-    fn bits_capacity(&self) -> u32 {
-        self.bits.bits_capacity()
+    fn capacity(&self) -> u32 {
+        self.bits.capacity()
     }
+
+    #[inline]
+    fn nth_leaf_word(&self, k: usize) -> T::LeafWord {
+        self.bits.nth_leaf_word(k)
+    }
+}
+
+impl<T: Bits, U: Endian> Bits for Set<T, U> {
+    type Order = U;
 
     #[inline]
     fn count_ones(&self) -> u32 {
@@ -286,11 +294,6 @@ impl<T: Bits, U: Endian> Bits for Set<T, U> {
     #[inline]
     fn test_bit_in<E: Endian>(&self, index: u32) -> bool {
         self.bits.test_bit_in::<E>(index)
-    }
-
-    #[inline]
-    fn nth_leaf_word(&self, k: usize) -> T::LeafWord {
-        self.bits.nth_leaf_word(k)
     }
 }
 

@@ -13,6 +13,7 @@ use crate::endian::{DefaultEndian, Endian};
 use crate::internal::row;
 use crate::internal::sealed::Sealed;
 use crate::one_word::{Operation, RangeOperation};
+use crate::read_words::ReadWords;
 use crate::shape::Shape;
 use crate::word::{Ones, Zeros};
 
@@ -48,9 +49,7 @@ fn combine<T: BitsOwned, O: Operation, const N: usize>(elements: &mut [T; N], ot
     }
 }
 
-impl<T: BitsOwned, const N: usize> Bits for [T; N] {
-    type Order = DefaultEndian;
-
+impl<T: BitsOwned, const N: usize> ReadWords for [T; N] {
     ghost leaf_width = { T.leaf_width };
 
     ghost width_positive = { T.width_positive };
@@ -65,9 +64,18 @@ impl<T: BitsOwned, const N: usize> Bits for [T; N] {
     }
 
     #[inline]
-    fn bits_capacity(&self) -> u32 {
+    fn capacity(&self) -> u32 {
         row::bits_capacity::<T>(self.len())
     }
+
+    #[inline]
+    fn nth_leaf_word(&self, k: usize) -> T::LeafWord {
+        row::leaf_word::<T>(self, k)
+    }
+}
+
+impl<T: BitsOwned, const N: usize> Bits for [T; N] {
+    type Order = DefaultEndian;
 
     #[inline]
     fn count_ones(&self) -> u32 {
@@ -87,11 +95,6 @@ impl<T: BitsOwned, const N: usize> Bits for [T; N] {
     #[inline]
     fn test_bit_in<E: Endian>(&self, index: u32) -> bool {
         row::test_bit::<T, E>(self, index, true)
-    }
-
-    #[inline]
-    fn nth_leaf_word(&self, k: usize) -> T::LeafWord {
-        row::leaf_word::<T>(self, k)
     }
 }
 

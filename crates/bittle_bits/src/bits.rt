@@ -14,7 +14,7 @@ use crate::internal::source::Source;
 use crate::internal::{range_count, search};
 use crate::join::JoinOnes;
 use crate::one_word::{Back, Front};
-use crate::shape::Shape;
+use crate::read_words::ReadWords;
 use crate::walk::{Iter, IterOnes, IterZeros};
 use crate::word::{Ones, Zeros};
 
@@ -27,7 +27,7 @@ use crate::word::{Ones, Zeros};
 /// A shape *fits* if its capacity, and that of each array type within it, is below `u32::MAX`;
 /// `bits_capacity() < u32::MAX` tells. Calls that count, iterate, join or search ask for that. A
 /// call on one index asks of a slice only that its element type fits, so it works at any length.
-pub trait Bits: Drop + Shape {
+pub trait Bits: Drop + ReadWords {
     /// The order of the calls that name none: [`DefaultEndian`], but of a `Set` the one it
     /// remembers.
     type Order: Endian;
@@ -37,17 +37,12 @@ pub trait Bits: Drop + Shape {
     /// ```
     /// [0u16; 2].bits_capacity();                          // 32
     /// ```
-    fn bits_capacity(&self) -> u32
-        ensures value { ShapeFits Self.Shape self.now → result ≡ (Self.big self.now).capacity }
-        ensures fits { result < 4294967295 → ShapeFits Self.Shape self.now };
-
-    /// Returns `true` if each value of the type has as many words. It decides speed alone, how an
-    /// iterator begins and whether a comparison asks the first word by itself, so no clause speaks
-    /// of it.
-    #[doc(hidden)]
     #[inline]
-    fn is_fixed() -> bool {
-        false
+    final fn bits_capacity(&self) -> u32
+        ensures value { ShapeFits Self.Shape self.now → result ≡ (Self.big self.now).capacity }
+        ensures fits { result < 4294967295 → ShapeFits Self.Shape self.now }
+    {
+        self.capacity()
     }
 
     /// Returns how many bits are set, the same in both orders. The shape has to fit. With capacity
@@ -110,14 +105,6 @@ pub trait Bits: Drop + Shape {
     fn test_bit_in<E: Endian>(&self, index: u32) -> bool
         requires { IsTrue Self.indexable }
         ensures { result ≡ contains (set_in Self.Shape E.Endian self.now) index };
-
-    /// Returns word `k` of the set: its bits are those from `k` times the width on.
-    #[doc(hidden)]
-    fn nth_leaf_word(&self, k: usize) -> Self::LeafWord
-        requires fits { ShapeFits Self.Shape self.now }
-        requires within { k * Self.width < (Self.big self.now).capacity }
-        ensures { bit_set Self.width (Self.LeafWord.pattern result)
-            ≡ word_of Self.width (Self.big self.now) k };
 
     /// Tests a bit in the order of the type, as [`test_bit_in`](Bits::test_bit_in) does.
     ///
@@ -518,17 +505,4 @@ pub trait Bits: Drop + Shape {
     {
         self.join_ones_in::<I, BigEndian>(iter)
     }
-
-    // The integers that the set is made of have the width of its words.
-    ghost leaf_width: { Self.LeafWord.width ≡ Self.width };
-
-    // A word has a bit.
-    ghost width_positive: { 0 < Self.width };
-
-    // The capacity is whole words.
-    ghost whole_words: { (v : Self) → (words : ℕ) × ((Self.big v).capacity ≡ words * Self.width) };
-
-    // No number from the capacity on is a member.
-    ghost none_past: { (v : Self) (i : ℕ) → (Self.big v).capacity ≤ i → (Self.big v).has i
-        ≡ false };
 }

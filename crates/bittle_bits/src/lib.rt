@@ -16,6 +16,7 @@ pub mod join;
 pub mod number;
 #[doc(hidden)]
 pub mod one_word;
+pub mod read_words;
 pub mod shape;
 mod slice;
 pub mod walk;

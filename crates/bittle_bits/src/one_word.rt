@@ -18,6 +18,7 @@ use crate::bits::Bits;
 use crate::bits_mut::BitsMut;
 use crate::bits_owned::BitsOwned;
 use crate::endian::{DefaultEndian, Endian};
+use crate::read_words::ReadWords;
 use crate::shape::Shape;
 use crate::word::Word;
 
@@ -28,9 +29,7 @@ pub trait Integer: Word + Eq + Shape<LeafWord = Self> {
         ⟦<Self as Shape>⟧.width ⟦<Self as Word>⟧.width Self.big Self.pattern Self.loan };
 }
 
-impl<W: Integer> Bits for W {
-    type Order = DefaultEndian;
-
+impl<W: Integer> ReadWords for W {
     ghost leaf_width = { sym W.is_word.same_width };
 
     ghost width_positive = { positive_width _ _ W.is_word.same_width W.width_positive };
@@ -46,9 +45,18 @@ impl<W: Integer> Bits for W {
     }
 
     #[inline]
-    fn bits_capacity(&self) -> u32 {
+    fn capacity(&self) -> u32 {
         W::width()
     }
+
+    #[inline]
+    fn nth_leaf_word(&self, k: usize) -> W {
+        leaf_word::<W>(*self, k)
+    }
+}
+
+impl<W: Integer> Bits for W {
+    type Order = DefaultEndian;
 
     #[inline]
     fn count_ones(&self) -> u32 {
@@ -68,11 +76,6 @@ impl<W: Integer> Bits for W {
     #[inline]
     fn test_bit_in<E: Endian>(&self, index: u32) -> bool {
         test_bit::<W, E>(*self, index)
-    }
-
-    #[inline]
-    fn nth_leaf_word(&self, k: usize) -> W {
-        leaf_word::<W>(*self, k)
     }
 }
 

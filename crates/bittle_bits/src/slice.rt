@@ -11,6 +11,7 @@ use crate::endian::{DefaultEndian, Endian};
 use crate::internal::row;
 use crate::internal::sealed::Sealed;
 use crate::one_word::{Operation, RangeOperation};
+use crate::read_words::ReadWords;
 use crate::shape::Shape;
 use crate::word::{Ones, Zeros};
 
@@ -26,9 +27,7 @@ impl<'a, T: Shape> Shape for &'a [T] {
     fn seal(_: Sealed) {}
 }
 
-impl<'a, T: BitsOwned> Bits for &'a [T] {
-    type Order = DefaultEndian;
-
+impl<'a, T: BitsOwned> ReadWords for &'a [T] {
     ghost leaf_width = { T.leaf_width };
 
     ghost width_positive = { T.width_positive };
@@ -39,9 +38,18 @@ impl<'a, T: BitsOwned> Bits for &'a [T] {
         (λ x. (T.big x).has) v.now i h };
 
     #[inline]
-    fn bits_capacity(&self) -> u32 {
+    fn capacity(&self) -> u32 {
         row::bits_capacity::<T>(self.len())
     }
+
+    #[inline]
+    fn nth_leaf_word(&self, k: usize) -> T::LeafWord {
+        row::leaf_word::<T>(self, k)
+    }
+}
+
+impl<'a, T: BitsOwned> Bits for &'a [T] {
+    type Order = DefaultEndian;
 
     #[inline]
     fn count_ones(&self) -> u32 {
@@ -61,11 +69,6 @@ impl<'a, T: BitsOwned> Bits for &'a [T] {
     #[inline]
     fn test_bit_in<E: Endian>(&self, index: u32) -> bool {
         row::test_bit::<T, E>(self, index, false)
-    }
-
-    #[inline]
-    fn nth_leaf_word(&self, k: usize) -> T::LeafWord {
-        row::leaf_word::<T>(self, k)
     }
 }
 
@@ -83,9 +86,7 @@ impl<'a, T: Shape> Shape for &'a mut [T] {
     fn seal(_: Sealed) {}
 }
 
-impl<'a, T: BitsOwned> Bits for &'a mut [T] {
-    type Order = DefaultEndian;
-
+impl<'a, T: BitsOwned> ReadWords for &'a mut [T] {
     ghost leaf_width = { T.leaf_width };
 
     ghost width_positive = { T.width_positive };
@@ -96,9 +97,18 @@ impl<'a, T: BitsOwned> Bits for &'a mut [T] {
         (λ x. (T.big x).has) v.now i h };
 
     #[inline]
-    fn bits_capacity(&self) -> u32 {
+    fn capacity(&self) -> u32 {
         row::bits_capacity::<T>(self.len())
     }
+
+    #[inline]
+    fn nth_leaf_word(&self, k: usize) -> T::LeafWord {
+        row::leaf_word::<T>(self, k)
+    }
+}
+
+impl<'a, T: BitsOwned> Bits for &'a mut [T] {
+    type Order = DefaultEndian;
 
     #[inline]
     fn count_ones(&self) -> u32 {
@@ -118,11 +128,6 @@ impl<'a, T: BitsOwned> Bits for &'a mut [T] {
     #[inline]
     fn test_bit_in<E: Endian>(&self, index: u32) -> bool {
         row::test_bit::<T, E>(self, index, false)
-    }
-
-    #[inline]
-    fn nth_leaf_word(&self, k: usize) -> T::LeafWord {
-        row::leaf_word::<T>(self, k)
     }
 }
 

@@ -10,13 +10,12 @@ ghost use Rattle.bittle_bits.specs.PlainSet.{ascending};
 ghost use Rattle.bittle_bits.specs.Values.{set_in, ShapeFits};
 ghost use Rattle.bittle_bits.specs.Walk.{Walk, ones_or_zeros, AreBelow, IsFresh, ResumesAs, StepsFront, StepsBack};
 
-use crate::bits::Bits;
-use crate::bits_owned::BitsOwned;
 use crate::endian::Endian;
 use crate::internal::buffer::Count;
 use crate::internal::cursor::{Cursor, begin, duplicate, step};
 use crate::internal::source::{OwnedSource, Source};
 use crate::one_word::{Back, Front};
+use crate::read_words::ReadWords;
 use crate::shape::Shape;
 use crate::word::{Kind, Ones, Zeros};
 use std::alloc::AllocError;
@@ -99,7 +98,7 @@ impl<'a, B: Shape, E: Endian, K: Kind> Model for Iter<'a, B, E, K> {
         × IsCounted ((B.big w.source.set.now).capacity / B.width) w.at };
 }
 
-impl<'a, B: Bits, E: Endian, K: Kind> Iter<'a, B, E, K> {
+impl<'a, B: ReadWords, E: Endian, K: Kind> Iter<'a, B, E, K> {
     /// Begins an iterator over all of its set.
     #[inline]
     pub(crate) fn new(source: Source<'a, B>) -> Self
@@ -118,7 +117,7 @@ impl<'a, B: Bits, E: Endian, K: Kind> Iter<'a, B, E, K> {
     }
 }
 
-impl<'a, B: Bits, E: Endian, K: Kind> Iterator for Iter<'a, B, E, K> {
+impl<'a, B: ReadWords, E: Endian, K: Kind> Iterator for Iter<'a, B, E, K> {
     type Item = u32;
 
     ghost next_gives = { StepsFront };
@@ -140,7 +139,7 @@ impl<'a, B: Bits, E: Endian, K: Kind> Iterator for Iter<'a, B, E, K> {
     }
 }
 
-impl<'a, B: Bits, E: Endian, K: Kind> DoubleEndedIterator for Iter<'a, B, E, K> {
+impl<'a, B: ReadWords, E: Endian, K: Kind> DoubleEndedIterator for Iter<'a, B, E, K> {
     ghost next_back_gives = { StepsBack };
 
     #[inline]
@@ -149,7 +148,7 @@ impl<'a, B: Bits, E: Endian, K: Kind> DoubleEndedIterator for Iter<'a, B, E, K> 
     }
 }
 
-impl<'a, B: Bits, E: Endian, K: Kind> Clone for Iter<'a, B, E, K> {
+impl<'a, B: ReadWords, E: Endian, K: Kind> Clone for Iter<'a, B, E, K> {
     ghost is_clone = { ResumesAs };
 
     ghost is_infallible = { λ _. ⊤ };
@@ -164,7 +163,7 @@ impl<'a, B: Bits, E: Endian, K: Kind> Clone for Iter<'a, B, E, K> {
     }
 }
 
-impl<'a, B: Bits, E: Endian, K: Kind> Counted for Iter<'a, B, E, K> {
+impl<'a, B: ReadWords, E: Endian, K: Kind> Counted for Iter<'a, B, E, K> {
     ghost walk = { λ w. w };
 
     ghost can_step = { λ _. (tt, tt) };
@@ -206,7 +205,7 @@ impl<B: Shape, E: Endian, K: Kind> Model for IntoIter<B, E, K> {
         × IsCounted ((B.big w.source.set).capacity / B.width) w.at };
 }
 
-impl<B: BitsOwned, E: Endian, K: Kind> IntoIter<B, E, K> {
+impl<B: ReadWords, E: Endian, K: Kind> IntoIter<B, E, K> {
     /// Begins an iterator over all of its set.
     #[inline]
     pub(crate) fn new(source: OwnedSource<B>) -> Self
@@ -225,7 +224,7 @@ impl<B: BitsOwned, E: Endian, K: Kind> IntoIter<B, E, K> {
     }
 }
 
-impl<B: BitsOwned, E: Endian, K: Kind> Iterator for IntoIter<B, E, K> {
+impl<B: ReadWords, E: Endian, K: Kind> Iterator for IntoIter<B, E, K> {
     type Item = u32;
 
     ghost next_gives = { StepsFront };
@@ -247,7 +246,7 @@ impl<B: BitsOwned, E: Endian, K: Kind> Iterator for IntoIter<B, E, K> {
     }
 }
 
-impl<B: BitsOwned, E: Endian, K: Kind> DoubleEndedIterator for IntoIter<B, E, K> {
+impl<B: ReadWords, E: Endian, K: Kind> DoubleEndedIterator for IntoIter<B, E, K> {
     ghost next_back_gives = { StepsBack };
 
     #[inline]
@@ -256,7 +255,7 @@ impl<B: BitsOwned, E: Endian, K: Kind> DoubleEndedIterator for IntoIter<B, E, K>
     }
 }
 
-impl<B: BitsOwned, E: Endian, K: Kind> Clone for IntoIter<B, E, K> {
+impl<B: ReadWords + Copy, E: Endian, K: Kind> Clone for IntoIter<B, E, K> {
     ghost is_clone = { ResumesAs };
 
     ghost is_infallible = { λ _. ⊤ };
@@ -271,7 +270,7 @@ impl<B: BitsOwned, E: Endian, K: Kind> Clone for IntoIter<B, E, K> {
     }
 }
 
-impl<B: BitsOwned, E: Endian, K: Kind> Counted for IntoIter<B, E, K> {
+impl<B: ReadWords, E: Endian, K: Kind> Counted for IntoIter<B, E, K> {
     ghost walk = { λ w. w };
 
     ghost can_step = { λ _. (tt, tt) };

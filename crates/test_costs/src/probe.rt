@@ -12,6 +12,7 @@ use crate::asked::Asked;
 use bittle::{Bits, BitsMut, BitsOwned, DefaultEndian, Endian};
 use bittle_bits::internal::sealed::Sealed;
 use bittle_bits::one_word::{Operation, RangeOperation};
+use bittle_bits::read_words::ReadWords;
 use bittle_bits::shape::Shape;
 
 /// Of these bytes the members are 0 and 31, and in little-endian order 7 and 24.
@@ -66,9 +67,7 @@ impl<'a> Shape for Probe<'a> {
     fn seal(_: Sealed) {}
 }
 
-impl<'a> Bits for Probe<'a> {
-    type Order = DefaultEndian;
-
+impl<'a> ReadWords for Probe<'a> {
     ghost leaf_width = { refl };
 
     ghost width_positive = { lit< tt };
@@ -81,9 +80,18 @@ impl<'a> Bits for Probe<'a> {
         true
     }
 
-    fn bits_capacity(&self) -> u32 {
+    fn capacity(&self) -> u32 {
         self.bytes.bits_capacity()
     }
+
+    fn nth_leaf_word(&self, k: usize) -> u8 {
+        self.note_word(k);
+        self.bytes.nth_leaf_word(k)
+    }
+}
+
+impl<'a> Bits for Probe<'a> {
+    type Order = DefaultEndian;
 
     fn count_ones(&self) -> u32 {
         self.note_other();
@@ -103,11 +111,6 @@ impl<'a> Bits for Probe<'a> {
     fn test_bit_in<E: Endian>(&self, index: u32) -> bool {
         self.note_other();
         self.bytes.test_bit_in::<E>(index)
-    }
-
-    fn nth_leaf_word(&self, k: usize) -> u8 {
-        self.note_word(k);
-        self.bytes.nth_leaf_word(k)
     }
 }
 

@@ -9,6 +9,7 @@ use crate::asked::Asked;
 use bittle::{Bits, BitsMut, BitsOwned, DefaultEndian, Endian};
 use bittle_bits::internal::sealed::Sealed;
 use bittle_bits::one_word::{Operation, RangeOperation};
+use bittle_bits::read_words::ReadWords;
 use bittle_bits::shape::Shape;
 
 /// A word that is a set, and the counts of the calls that reach it.
@@ -56,9 +57,7 @@ impl<'a> Shape for WordProbe<'a> {
     fn seal(_: Sealed) {}
 }
 
-impl<'a> Bits for WordProbe<'a> {
-    type Order = DefaultEndian;
-
+impl<'a> ReadWords for WordProbe<'a> {
     ghost leaf_width = { refl };
 
     ghost width_positive = { lit< tt };
@@ -71,9 +70,18 @@ impl<'a> Bits for WordProbe<'a> {
         true
     }
 
-    fn bits_capacity(&self) -> u32 {
+    fn capacity(&self) -> u32 {
         self.word.bits_capacity()
     }
+
+    fn nth_leaf_word(&self, k: usize) -> u64 {
+        self.note_word(k);
+        self.word.nth_leaf_word(k)
+    }
+}
+
+impl<'a> Bits for WordProbe<'a> {
+    type Order = DefaultEndian;
 
     fn count_ones(&self) -> u32 {
         self.note_other();
@@ -93,11 +101,6 @@ impl<'a> Bits for WordProbe<'a> {
     fn test_bit_in<E: Endian>(&self, index: u32) -> bool {
         self.note_other();
         self.word.test_bit_in::<E>(index)
-    }
-
-    fn nth_leaf_word(&self, k: usize) -> u64 {
-        self.note_word(k);
-        self.word.nth_leaf_word(k)
     }
 }
 

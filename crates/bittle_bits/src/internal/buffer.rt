@@ -7,10 +7,10 @@ ghost use Rattle.bittle_bits.specs.Orders.{place};
 ghost use Rattle.bittle_bits.specs.Values.{set_in, ShapeFits};
 ghost use Rattle.bittle_bits.specs.Walk.{ones_or_zeros};
 
-use crate::bits::Bits;
 use crate::endian::Endian;
 use crate::internal::source::Source;
 use crate::one_word::{self, End};
+use crate::read_words::ReadWords;
 use crate::word::{Kind, Word};
 use std::marker::{Model, PhantomData};
 use std::mem::replace;
@@ -272,7 +272,7 @@ impl<W: Word, E: Endian> Buffers<W, E> {
 
     // Fetches word `k`, with the bits of the kind.
     #[inline(always)]
-    fn fetch<B: Bits<LeafWord = W>, K: Kind>(&mut self, source: &Source<'_, B>, k: usize) -> W
+    fn fetch<B: ReadWords<LeafWord = W>, K: Kind>(&mut self, source: &Source<'_, B>, k: usize) -> W
         requires fits { ShapeFits B.Shape source.now.set.now }
         requires within { k * B.width < (B.big source.now.set.now).capacity }
         ensures items { items_of E.mirrored W.width (W.pattern result) (k * W.width)
@@ -291,7 +291,11 @@ impl<W: Word, E: Endian> Buffers<W, E> {
 
     /// Fetches word `k`, with the bits of the kind, and loads it at the end `N`.
     #[inline(always)]
-    pub fn load<B: Bits<LeafWord = W>, K: Kind, N: End>(&mut self, source: &Source<'_, B>, k: usize)
+    pub fn load<B: ReadWords<LeafWord = W>, K: Kind, N: End>(
+        &mut self,
+        source: &Source<'_, B>,
+        k: usize,
+    )
         requires fits { ShapeFits B.Shape source.now.set.now }
         requires within { k * B.width < (B.big source.now.set.now).capacity }
         ensures { let loaded = Some (members_between
@@ -311,7 +315,7 @@ impl<W: Word, E: Endian> Buffers<W, E> {
     /// Fetches word `k`, with the bits of the kind, and returns whether it has an item. It is
     /// loaded then at the end `N`, where none was; else this was its scan, and it is not loaded.
     #[inline(always)]
-    pub fn refill<B: Bits<LeafWord = W>, K: Kind, N: End>(
+    pub fn refill<B: ReadWords<LeafWord = W>, K: Kind, N: End>(
         &mut self,
         source: &Source<'_, B>,
         k: usize,

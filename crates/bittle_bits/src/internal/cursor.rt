@@ -9,11 +9,11 @@ ghost use Rattle.bittle_bits.specs.Cursor.{items_left_in, walk_of, IsWalkStart, 
 ghost use Rattle.bittle_bits.specs.Values.{set_in, ShapeFits};
 ghost use Rattle.bittle_bits.specs.Walk.{ones_or_zeros, AreBelow, ResumesAs, Seeks, Steps};
 
-use crate::bits::Bits;
 use crate::endian::Endian;
 use crate::internal::buffer::{Buffers, Count};
 use crate::internal::source::Source;
 use crate::one_word::{End, Front};
+use crate::read_words::ReadWords;
 use crate::shape::Shape;
 use crate::word::Kind;
 
@@ -30,7 +30,7 @@ pub struct Cursor<B: Shape, E: Endian> {
 /// loads none, so that an iterator which is stepped from one end alone has a buffer at that end
 /// alone.
 #[inline]
-pub fn begin<B: Bits, E: Endian, K: Kind>(source: &Source<'_, B>) -> Cursor<B, E>
+pub fn begin<B: ReadWords, E: Endian, K: Kind>(source: &Source<'_, B>) -> Cursor<B, E>
     requires { ShapeFits B.Shape source.now.set.now }
     ensures starts { IsWalkStart (ones_or_zeros K.ONES (set_in B.Shape E.Endian source.now.set.now))
         ((B.big source.now.set.now).capacity / B.width) B.width result }
@@ -54,7 +54,7 @@ pub fn begin<B: Bits, E: Endian, K: Kind>(source: &Source<'_, B>) -> Cursor<B, E
 
 /// Returns the same place with its counters at zero, for `clone`.
 #[inline]
-pub fn duplicate<B: Bits, E: Endian>(at: &Cursor<B, E>) -> Cursor<B, E>
+pub fn duplicate<B: ReadWords, E: Endian>(at: &Cursor<B, E>) -> Cursor<B, E>
     ensures resumes { (s : PlainSet) (words w : ℕ) → IsCounted words at.now
         → ResumesAs (walk_of s words w at.now) (walk_of s words w result) }
     ensures same { result
@@ -104,7 +104,10 @@ fn take_word<B: Shape, E: Endian, N: End>(at: &mut Cursor<B, E>) -> usize
 // not, no word is left between the buffered ones.
 #[inline(always)]
 #[tactic(auto, unfolding(crate::specs::Cursor::items_left_in))]
-fn seek<B: Bits, E: Endian, K: Kind, N: End>(source: &Source<'_, B>, at: &mut Cursor<B, E>) -> bool
+fn seek<B: ReadWords, E: Endian, K: Kind, N: End>(
+    source: &Source<'_, B>,
+    at: &mut Cursor<B, E>,
+) -> bool
     requires fits { ShapeFits B.Shape source.now.set.now }
     requires counted { IsCounted ((B.big source.now.set.now).capacity / B.width) at.old }
     ensures sought { let s = ones_or_zeros K.ONES (set_in B.Shape E.Endian source.now.set.now) in
@@ -131,7 +134,7 @@ fn seek<B: Bits, E: Endian, K: Kind, N: End>(source: &Source<'_, B>, at: &mut Cu
 /// Takes the item at the end `N` of those that remain.
 #[inline(always)]
 #[tactic(auto, unfolding(crate::specs::Cursor::items_left_in))]
-pub fn step<B: Bits, E: Endian, K: Kind, N: End>(
+pub fn step<B: ReadWords, E: Endian, K: Kind, N: End>(
     source: &Source<'_, B>,
     at: &mut Cursor<B, E>,
 ) -> Option<u32>

@@ -8,14 +8,18 @@ ghost use Rattle.bittle_bits.specs.SetOperations.{combination_of};
 ghost use Rattle.bittle_bits.specs.Values.{set_in, ShapeFits};
 ghost use Rattle.bittle_bits.specs.Words.{word_of};
 
-use crate::bits::Bits;
 use crate::endian::Endian;
 use crate::one_word::Operation;
+use crate::read_words::ReadWords;
 use crate::word::Word;
 
 /// Returns word `k` of what an operation makes of two sets.
 #[inline]
-fn word_of_both<A: Bits, B: Bits, O: Operation>(left: &A, right: &B, k: u32) -> A::LeafWord
+fn word_of_both<A: ReadWords, B: ReadWords, O: Operation>(
+    left: &A,
+    right: &B,
+    k: u32,
+) -> A::LeafWord
     requires { HaveWords A.Shape B.Shape left.now right.now (k + 1) }
     ensures { bit_set A.width (A.LeafWord.pattern result)
         ≡ combination_of O.decide (word_of A.width (A.big left.now) k)
@@ -30,7 +34,7 @@ fn word_of_both<A: Bits, B: Bits, O: Operation>(left: &A, right: &B, k: u32) -> 
 /// member, or `None`.
 #[inline]
 #[tactic(auto, using(crate::proofs::DecidedWords::fewer))]
-fn first_among<A: Bits, B: Bits, E: Endian, O: Operation>(
+fn first_among<A: ReadWords, B: ReadWords, E: Endian, O: Operation>(
     left: &A,
     right: &B,
     from: u32,
@@ -59,7 +63,11 @@ fn first_among<A: Bits, B: Bits, E: Endian, O: Operation>(
 // What it does not find empty is searched, so it promises nothing of `false`.
 #[inline]
 #[tactic(auto, using(crate::proofs::DecidedWords::fewer))]
-fn are_four_empty<A: Bits, B: Bits, E: Endian, O: Operation>(left: &A, right: &B, from: u32) -> bool
+fn are_four_empty<A: ReadWords, B: ReadWords, E: Endian, O: Operation>(
+    left: &A,
+    right: &B,
+    from: u32,
+) -> bool
     requires { HaveWords A.Shape B.Shape left.now right.now (from + 4) }
     ensures { let ours = set_in A.Shape E.Endian left.now in
         let theirs = read_in E.mirrored A.width (B.big right.now) in
@@ -76,7 +84,7 @@ fn are_four_empty<A: Bits, B: Bits, E: Endian, O: Operation>(left: &A, right: &B
 /// Returns the least index in the first `words` words that an operation makes a member, or `None`.
 #[inline]
 #[tactic(auto, using(crate::proofs::DecidedWords::fewer))]
-fn first_below<A: Bits, B: Bits, E: Endian, O: Operation>(
+fn first_below<A: ReadWords, B: ReadWords, E: Endian, O: Operation>(
     left: &A,
     right: &B,
     words: u32,
@@ -104,7 +112,7 @@ fn first_below<A: Bits, B: Bits, E: Endian, O: Operation>(
 // It is small, so that a caller for whom the first word decides calls nothing. What it does not
 // find is searched, so it promises nothing of `None`.
 #[inline]
-pub fn first_decided_at_once<A: Bits, B: Bits, E: Endian, O: Operation>(
+pub fn first_decided_at_once<A: ReadWords, B: ReadWords, E: Endian, O: Operation>(
     left: &A,
     right: &B,
     common: u32,
@@ -127,7 +135,7 @@ pub fn first_decided_at_once<A: Bits, B: Bits, E: Endian, O: Operation>(
 /// Returns the least index below both capacities that an operation makes a member, of two sets
 /// whose words have one width, or `None`. `common` is the lesser capacity.
 #[inline]
-pub fn first_decided_below<A: Bits, B: Bits, E: Endian, O: Operation>(
+pub fn first_decided_below<A: ReadWords, B: ReadWords, E: Endian, O: Operation>(
     left: &A,
     right: &B,
     common: u32,
@@ -149,7 +157,10 @@ pub fn first_decided_below<A: Bits, B: Bits, E: Endian, O: Operation>(
 /// Returns the least index below both capacities that an operation makes a member, of two sets
 /// whose words have one width, or `None`.
 #[inline]
-pub fn first_decided<A: Bits, B: Bits, E: Endian, O: Operation>(left: &A, right: &B) -> Option<u32>
+pub fn first_decided<A: ReadWords, B: ReadWords, E: Endian, O: Operation>(
+    left: &A,
+    right: &B,
+) -> Option<u32>
     requires width { A.width ≡ B.width }
     requires left_fits { ShapeFits A.Shape left.now }
     requires right_fits { ShapeFits B.Shape right.now }
@@ -161,6 +172,6 @@ pub fn first_decided<A: Bits, B: Bits, E: Endian, O: Operation>(left: &A, right:
     ensures below { IfSome result
         (λ index. index < min (A.big left.now).capacity (B.big right.now).capacity) }
 {
-    let common = left.bits_capacity().min(right.bits_capacity());
+    let common = left.capacity().min(right.capacity());
     first_decided_below::<A, B, E, O>(left, right, common)
 }

@@ -4,15 +4,15 @@ ghost use Rattle.std.specs.Prelude.{◌≡◌, ◌+◌, ◌*◌, ◌<◌, ◌≤
 ghost use Rattle.bittle_bits.specs.PlainSet.{members_below};
 ghost use Rattle.bittle_bits.specs.Values.{set_in, ShapeFits};
 
-use crate::bits::Bits;
 use crate::endian::Endian;
 use crate::internal::ends::ends;
 use crate::one_word::range;
+use crate::read_words::ReadWords;
 use crate::word::Word;
 
 /// Counts the set bits of word `k` from one place of it on and before another.
 #[inline]
-pub fn count_in_word<B: Bits, E: Endian>(bits: &B, k: u32, from: u32, to: u32) -> u32
+pub fn count_in_word<B: ReadWords, E: Endian>(bits: &B, k: u32, from: u32, to: u32) -> u32
     requires fits { ShapeFits B.Shape bits.now }
     requires word { k * B.width < (B.big bits.now).capacity }
     requires ordered { from ≤ to }
@@ -28,7 +28,7 @@ pub fn count_in_word<B: Bits, E: Endian>(bits: &B, k: u32, from: u32, to: u32) -
 /// Counts the set bits of `from..to`, in the order `E`: of its first and its last word those that a
 /// mask keeps, and of any word between them all.
 #[inline]
-pub fn count_ones<B: Bits, E: Endian>(bits: &B, from: u32, to: u32) -> u32
+pub fn count_ones<B: ReadWords, E: Endian>(bits: &B, from: u32, to: u32) -> u32
     requires fits { ShapeFits B.Shape bits.now }
     requires ordered { from ≤ to }
     requires within { to ≤ (B.big bits.now).capacity }

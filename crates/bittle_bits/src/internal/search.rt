@@ -5,11 +5,11 @@ ghost use Rattle.bittle_bits.specs.Ends.{is_ahead, IsEndIn};
 ghost use Rattle.bittle_bits.specs.Values.{word_in, set_in, ShapeFits};
 ghost use Rattle.bittle_bits.specs.Walk.{ones_or_zeros};
 
-use crate::bits::Bits;
 use crate::endian::Endian;
 use crate::internal::ends::ends;
 use crate::internal::source::word_of_kind;
 use crate::one_word::{End, at_end, from_end};
+use crate::read_words::ReadWords;
 use crate::word::{Kind, Word};
 
 // Returns the word of the indexes from the place `at` on, seen from the end `N`.
@@ -29,7 +29,7 @@ fn ahead<T: Word, E: Endian, N: End>(at: u32) -> T
 /// Returns the index at the end `N` of those from `from` on and below `to` whose bit is of the
 /// kind, or `None`.
 #[inline]
-pub fn end_in<B: Bits, E: Endian, K: Kind, N: End>(bits: &B, from: u32, to: u32) -> Option<u32>
+pub fn end_in<B: ReadWords, E: Endian, K: Kind, N: End>(bits: &B, from: u32, to: u32) -> Option<u32>
     requires fits { ShapeFits B.Shape bits.now }
     requires ordered { from ≤ to }
     requires within { to ≤ (B.big bits.now).capacity }

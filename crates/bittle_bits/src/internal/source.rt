@@ -7,15 +7,14 @@ ghost use Rattle.bittle_bits.specs.Values.{ShapeFits};
 ghost use Rattle.bittle_bits.specs.Walk.{ones_or_zeros};
 ghost use Rattle.bittle_bits.specs.Words.{word_of};
 
-use crate::bits::Bits;
-use crate::bits_owned::BitsOwned;
 use crate::internal::buffer::Count;
+use crate::read_words::ReadWords;
 use crate::shape::Shape;
 use crate::word::{Kind, Word, bits_of_kind};
 
 /// Returns word `k` of a set, as a word whose ones are the bits of the kind.
 #[inline(always)]
-pub(crate) fn word_of_kind<B: Bits, K: Kind>(bits: &B, k: usize) -> B::LeafWord
+pub(crate) fn word_of_kind<B: ReadWords, K: Kind>(bits: &B, k: usize) -> B::LeafWord
     requires fits { ShapeFits B.Shape bits.now }
     requires within { k * B.width < (B.big bits.now).capacity }
     ensures { bit_set B.width (B.LeafWord.pattern result)
@@ -31,7 +30,7 @@ pub struct Source<'a, B: Shape> {
     set: &'a B,
 }
 
-impl<'a, B: Bits> Source<'a, B> {
+impl<'a, B: ReadWords> Source<'a, B> {
     /// Lends the words of a set.
     #[inline]
     pub fn new(set: &'a B) -> Source<'a, B>
@@ -54,7 +53,7 @@ impl<'a, B: Bits> Source<'a, B> {
         requires { ShapeFits B.Shape self.now.set.now }
         ensures { result ≡ (B.big self.now.set.now).capacity / B.width }
     {
-        self.set.bits_capacity() / <B::LeafWord as Word>::width()
+        self.set.capacity() / <B::LeafWord as Word>::width()
     }
 
     /// Fetches word `k`, as a word whose ones are the bits of the kind, and counts the fetch.
@@ -77,7 +76,7 @@ pub struct OwnedSource<B: Shape> {
     set: B,
 }
 
-impl<B: BitsOwned> OwnedSource<B> {
+impl<B: ReadWords> OwnedSource<B> {
     /// Takes the set.
     #[inline]
     pub fn new(set: B) -> OwnedSource<B>
@@ -97,6 +96,8 @@ impl<B: BitsOwned> OwnedSource<B> {
     /// Returns the same set.
     #[inline]
     pub fn duplicate(&self) -> OwnedSource<B>
+    where
+        B: Copy,
         ensures { result.set ≡ self.now.set }
     {
         OwnedSource { set: self.set }

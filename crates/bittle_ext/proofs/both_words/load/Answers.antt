@@ -7,7 +7,7 @@ use Rattle.bittle_ext.proofs.both_words.load.Goals as goal
 pub returns : goal.returns
 returns g c =
     let w = g.A.Shape.width in
-    let leaf = g.met.A.Bits.leaf_width in
+    let leaf = g.met.A.ReadWords.leaf_width in
     let wide : c.width.result ≡ w = c.width.ensures ∙ leaf in
     rw (wide, leaf) (items_in_order g.E.Endian.mirrored w c.args.k
     (decided_set g.O.Operation.decide (set_in g.A.Shape g.E.Endian c.args.left.now)

@@ -5,7 +5,7 @@ use Rattle.bittle_ext.proofs.capacities.capacity_of.Goals as goal
 
 pub returns-clause-ends : goal.returns-clause-ends
 returns-clause-ends g c =
-    let b = g.met.B.Bits in
+    let b = g.met.B.ReadWords in
     let set = c.args.set.now in
     record {
       capacity = c.bits_capacity.ensures.value c.requires;
@@ -15,5 +15,5 @@ returns-clause-ends g c =
 
 pub returns-clause-as_many : goal.returns-clause-as_many
 returns-clause-as_many g c =
-    let b = g.met.B.Bits in
+    let b = g.met.B.ReadWords in
     sym (size-members g.E.Endian.mirrored _ _ b.width_positive (b.whole_words c.args.set.now))

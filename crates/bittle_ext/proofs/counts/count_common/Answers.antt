@@ -24,7 +24,7 @@ overflow_add-count g c =
     let both = both_of (set_in g.A.Shape g.E.Endian c.args.left.now)
     (set_in g.B.Shape g.F.Endian c.args.right.now) in
     let inside = word_inside g.A.Shape.width c.width.result c.min-common.result c.loop-k.k
-    (c.width.ensures ∙ g.met.A.Bits.leaf_width) c.loop-k-test.true in
+    (c.width.ensures ∙ g.met.A.ReadWords.leaf_width) c.loop-k-test.true in
     omega (
       arith,
       inside,
@@ -37,11 +37,11 @@ overflow_add-count g c =
 pub returns-then-are_alike : goal.returns-then-are_alike
 returns-then-are_alike g c =
     let w = g.A.Shape.width in
-    let a = g.met.A.Bits in
+    let a = g.met.A.ReadWords in
     let left = c.capacity_of.ensures in
     let right = c.capacity_of-2.ensures in
     let ours = a.whole_words c.args.left.now in
-    let theirs = g.met.B.Bits.whole_words c.args.right.now in
+    let theirs = g.met.B.ReadWords.whole_words c.args.right.now in
     let least = min c.capacity_of.result c.capacity_of-2.result in
     let width = (c.are_alike.ensures c.if-are_alike.true).0 in
     let whole = common_words w _ _ a.width_positive (ours.0, left.ends.capacity ∙ ours.1)

@@ -10,6 +10,6 @@ returns g c =
     let both = both_of (set_in g.A.Shape g.E.Endian c.args.left.now)
     (set_in g.B.Shape g.F.Endian c.args.right.now) in
     let d = g.A.LeafWord.Word.pattern c.word_of_both.result in
-    below_next_in_order g.E.Endian.mirrored w c.args.k both d _ g.met.A.Bits.width_positive
+    below_next_in_order g.E.Endian.mirrored w c.args.k both d _ g.met.A.ReadWords.width_positive
     c.word_of_both.ensures (size-bit_set w d _ c.count_ones.ensures.count
-    (rw g.met.A.Bits.leaf_width at c.count_ones.ensures.range))
+    (rw g.met.A.ReadWords.leaf_width at c.count_ones.ensures.range))

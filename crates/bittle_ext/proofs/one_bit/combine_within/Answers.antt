@@ -5,7 +5,7 @@ use Rattle.bittle_ext.proofs.one_bit.combine_within.Goals as goal
 
 pub returns-clause-was_set : goal.returns-clause-was_set
 returns-clause-was_set g c =
-    let b = g.met.B.Bits in
+    let b = g.met.B.ReadWords in
     let w = g.B.Shape.width in
     let m = g.E.Endian.mirrored in
     let wide = b.leaf_width in
@@ -19,7 +19,7 @@ returns-clause-was_set g c =
 
 pub returns-clause-set : goal.returns-clause-set
 returns-clause-set g c =
-    let b = g.met.B.Bits in
+    let b = g.met.B.ReadWords in
     let w = g.B.Shape.width in
     let m = g.E.Endian.mirrored in
     let wide = b.leaf_width in

@@ -36,7 +36,7 @@ loop-index-preserved g c =
 
 pub returns : goal.returns
 returns g c =
-    let b = g.met.B.Bits in
+    let b = g.met.B.ReadWords in
     let set = c.args.set.now in
     let t = set_in g.B.Shape g.F.Endian set in
     let past = members-past g.F.Endian.mirrored _ _ b.width_positive (b.whole_words set)

@@ -18,5 +18,5 @@ returns-then-are_alike g c =
     (sym (alike.0)) c.word_or_empty.ensures in
     let whole : bit_set w d ≡ word_of w t k = ap (bit_set w)
     (c.from_bits.ensures ∙ c.to_bits.ensures.pattern) ∙ same in
-    word_in_order m w k t d g.met.A.Bits.width_positive whole
+    word_in_order m w k t d g.met.A.ReadWords.width_positive whole
     ∙ (λ i. word_of w (read_in (alike.1 i) (alike.0 i) t) k)

@@ -4,7 +4,7 @@ use Rattle.bittle_ext.proofs.other_words.word_or_empty.Goals as goal
 
 pub returns-else-k-bits_capacity : goal.returns-else-k-bits_capacity
 returns-else-k-bits_capacity g c =
-    let b = g.met.S.Bits in
+    let b = g.met.S.ReadWords in
     let set = c.args.set.now in
     word_past _ _ _ _ _ (g.S.Shape.big set) b.width_positive (b.whole_words set) (b.none_past set)
     (c.bits_capacity.ensures.value c.requires) (c.width.ensures ∙ b.leaf_width)

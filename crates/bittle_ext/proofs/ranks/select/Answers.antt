@@ -6,7 +6,7 @@ use Rattle.bittle_ext.proofs.ranks.select.Goals as goal
 
 pub overflow_add-result : goal.overflow_add-result
 overflow_add-result g c =
-    let b = g.met.B.Bits in
+    let b = g.met.B.ReadWords in
     let w = g.B.Shape.width in
     let s = set_in g.B.Shape g.E.Endian c.args.bits.now in
     let wide : c.width-width.result ≡ w = c.width-width.ensures ∙ b.leaf_width in
@@ -21,7 +21,7 @@ overflow_add-result g c =
 
 pub returns-in-Some : goal.returns-in-Some
 returns-in-Some g c =
-    let b = g.met.B.Bits in
+    let b = g.met.B.ReadWords in
     let w = g.B.Shape.width in
     let s = set_in g.B.Shape g.E.Endian c.args.bits.now in
     let wide : c.width-width.result ≡ w = c.width-width.ensures ∙ b.leaf_width in

@@ -12,7 +12,7 @@ loop-k-init g c =
 
 pub returns : goal.returns
 returns g c =
-    let b = g.met.B.Bits in
+    let b = g.met.B.ReadWords in
     let s = set_in g.B.Shape g.E.Endian c.args.bits.now in
     let end = end_of_words g.B.Shape.width s.capacity _ _ c.loop-k.k b.width_positive
     (b.whole_words c.args.bits.now) (c.bits_capacity.ensures.value c.requires)

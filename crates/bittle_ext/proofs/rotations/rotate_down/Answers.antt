@@ -9,7 +9,7 @@ use Rattle.bittle_ext.proofs.rotations.rotate_down.Goals as goal
 
 pub returns-then-capacity-eq0 : goal.returns-then-capacity-eq0
 returns-then-capacity-eq0 g c =
-    let b = g.met.B.Bits in
+    let b = g.met.B.ReadWords in
     let own = g.met.B.BitsOwned in
     let made = c.zeros-result.result in
     all_rotated 0 c.args.by c.capacity_of-capacity.ensures.ends
@@ -19,7 +19,7 @@ returns-then-capacity-eq0 g c =
 
 pub word_from-requires-clause-words : goal.word_from-requires-clause-words
 word_from-requires-clause-words g c =
-    let b = g.met.B.Bits in
+    let b = g.met.B.ReadWords in
     words_make _ _ _ _ _ (b.whole_words c.args.set.now) b.width_positive
     c.capacity_of-capacity.ensures.ends.capacity c.width-width.ensures b.leaf_width
 
@@ -28,7 +28,7 @@ loop-k-preserved g c =
     let w = g.B.Shape.width in
     let m = g.E.Endian.mirrored in
     let k = c.loop-k.k in
-    let b = g.met.B.Bits in
+    let b = g.met.B.ReadWords in
     let own = g.met.B.BitsOwned in
     let set = c.args.set.now in
     let at = c.if-k-left.at in
@@ -66,7 +66,7 @@ loop-k-preserved g c =
 
 pub returns : goal.returns
 returns g c =
-    let b = g.met.B.Bits in
+    let b = g.met.B.ReadWords in
     let own = g.met.B.BitsOwned in
     let made = c.loop-k.result in
     let ends = c.capacity_of-capacity.ensures.ends in

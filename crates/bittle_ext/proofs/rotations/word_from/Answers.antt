@@ -10,7 +10,7 @@ nth_leaf_word-requires-2-clause-within g c =
       | else-at-words w ↦ inr (w.if-at-words.false, w.next-is)
     ] in
     next_within g.E.Endian.mirrored g.B.Shape.width c.args.words c.args.at c.args.from 0 0 0
-    (g.B.Shape.big c.args.set.now) g.met.B.Bits.width_positive c.requires.words c.requires.element
+    (g.B.Shape.big c.args.set.now) g.met.B.ReadWords.width_positive c.requires.words c.requires.element
     c.requires.within _ next
 
 pub returns : goal.returns
@@ -19,8 +19,8 @@ returns g c =
       | then-at-words w ↦ inl (w.if-at-words.true, w.next-is)
       | else-at-words w ↦ inr (w.if-at-words.false, w.next-is)
     ] in
-    let leaf = g.met.B.Bits.leaf_width in
+    let leaf = g.met.B.ReadWords.leaf_width in
     window_from g.E.Endian.mirrored g.B.Shape.width c.args.words c.args.at c.args.from _ _ _
-    (g.B.Shape.big c.args.set.now) g.met.B.Bits.width_positive c.requires.words c.requires.element
+    (g.B.Shape.big c.args.set.now) g.met.B.ReadWords.width_positive c.requires.words c.requires.element
     c.requires.within _ next c.nth_leaf_word.ensures c.nth_leaf_word-2.ensures
     (rw leaf at c.window.ensures)

@@ -26,8 +26,8 @@ pub returns-then-are_alike-clause-value : goal.returns-then-are_alike-clause-val
 returns-then-are_alike-clause-value g c =
     let x = c.args.left.now in
     let y = c.args.right.now in
-    let a = g.met.A.Bits in
-    let b = g.met.B.Bits in
+    let a = g.met.A.ReadWords in
+    let b = g.met.B.ReadWords in
     let ours = set_in g.A.Shape g.E.Endian x in
     let theirs = set_in g.B.Shape g.F.Endian y in
     none_is c.first_difference.result _ c.is_none.ensures

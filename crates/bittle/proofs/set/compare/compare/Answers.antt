@@ -17,8 +17,8 @@ ends : (g : Over) (c : Start g) →
 ends g c =
     let x = c.args.left.now in
     let y = c.args.right.now in
-    let a = g.met.A.Bits in
-    let b = g.met.B.Bits in (
+    let a = g.met.A.ReadWords in
+    let b = g.met.B.ReadWords in (
       members-past g.E.Endian.mirrored _ _ a.width_positive (a.whole_words x) (a.none_past x),
       members-past g.F.Endian.mirrored _ _ b.width_positive (b.whole_words y) (b.none_past y),
     )

@@ -16,8 +16,8 @@ returns-then-is_some g c =
 alike : (g : Over) (c : Else-is_some g) → AreAlikeInCommon
     (set_in g.A.Shape g.E.Endian c.args.left.now) (set_in g.B.Shape g.E.Endian c.args.right.now)
 alike g c =
-    let a = g.met.A.Bits in
-    let b = g.met.B.Bits in
+    let a = g.met.A.ReadWords in
+    let b = g.met.B.ReadWords in
     let x = c.args.left.now in
     let y = c.args.right.now in
     let found = c.first_decided_below-difference in

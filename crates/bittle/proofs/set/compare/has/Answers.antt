@@ -11,7 +11,7 @@ use Rattle.bittle.proofs.set.compare.has.Goals as goal
 pub returns-then-capacity-index : goal.returns-then-capacity-index
 returns-then-capacity-index g c =
     let x = c.args.bits.now in
-    let b = g.met.B.Bits in
+    let b = g.met.B.ReadWords in
     let past : (g.B.Shape.big x).capacity ≤ c.args.index = omega
     (arith, c.requires.capacity, c.if-capacity-index.true) in
     sym (members-past g.E.Endian.mirrored _ _ b.width_positive (b.whole_words x) (b.none_past x)
@@ -19,7 +19,7 @@ returns-then-capacity-index g c =
 
 pub returns : goal.returns
 returns g c =
-    let b = g.met.B.Bits in
+    let b = g.met.B.ReadWords in
     let m = g.E.Endian.mirrored in
     let w = g.B.Shape.width in
     let i = c.args.index in

@@ -10,7 +10,7 @@ use Rattle.bittle_bits.specs.Values.{set_in}
 past : (g : Over) (c : Start g) (i : ℕ) → c.args.capacity ≤ i →
     (set_in g.B.Shape g.E.Endian c.args.bits.now).has i ≡ false
 past g c i h =
-    let b = g.met.B.Bits in
+    let b = g.met.B.ReadWords in
     members-past g.E.Endian.mirrored _ _ b.width_positive (b.whole_words c.args.bits.now)
     (b.none_past c.args.bits.now) i (omega (arith, c.requires.capacity, h))
 

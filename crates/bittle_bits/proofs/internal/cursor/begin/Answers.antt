@@ -20,9 +20,9 @@ none : (g : Over) (c : After-new g) →
     (big.capacity / g.B.Shape.width) g.B.Shape.width t
 none g c =
     let v = c.args.source.now.set.now in
-    walk_start _ _ _ (g.B.Shape.big v).capacity _ _ _ g.met.B.Bits.width_positive
+    walk_start _ _ _ (g.B.Shape.big v).capacity _ _ _ g.met.B.ReadWords.width_positive
     (ones_or_zeros-capacity g.K.Kind.ONES (set_in g.B.Shape g.E.Endian v))
-    (g.met.B.Bits.whole_words v) refl c.none.ensures c.words.ensures c.new.ensures
+    (g.met.B.ReadWords.whole_words v) refl c.none.ensures c.words.ensures c.new.ensures
 
 pub returns-then-not-is_fixed-clause-starts : goal.returns-then-not-is_fixed-clause-starts
 returns-then-not-is_fixed-clause-starts g c =

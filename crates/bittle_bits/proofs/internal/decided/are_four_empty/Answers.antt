@@ -11,7 +11,7 @@ returns g c empty before =
     c.or-3.ensures (eqb-true _ _ (sym c.is_zero.ensures.zero ∙ empty)) in
     let k = c.args.from in
     let next = none_next g.O.Operation.decide g.E.Endian.mirrored g.A.Shape.width
-    (g.A.Shape.big c.args.left.now) (g.B.Shape.big c.args.right.now) g.met.A.Bits.width_positive in
+    (g.A.Shape.big c.args.left.now) (g.B.Shape.big c.args.right.now) g.met.A.ReadWords.width_positive in
     next (k + 3) (k + 4) _ c.word_of_both-fourth.ensures (omega arith)
     (next (k + 2) (k + 3) _ c.word_of_both-third.ensures (omega arith)
     (next (k + 1) (k + 2) _ c.word_of_both-second.ensures (omega arith)

@@ -6,8 +6,8 @@ use Rattle.bittle_bits.proofs.internal.decided.first_decided_below.Goals as goal
 
 pub returns-clause-first : goal.returns-clause-first
 returns-clause-first g c =
-    let a = g.met.A.Bits in
-    let b = g.met.B.Bits in
+    let a = g.met.A.ReadWords in
+    let b = g.met.B.ReadWords in
     let f = g.O.Operation.decide in
     let m = g.E.Endian.mirrored in
     let w = g.A.Shape.width in

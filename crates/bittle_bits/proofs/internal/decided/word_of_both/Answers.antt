@@ -15,5 +15,5 @@ returns g c =
     let theirs : bit_set w (g.A.LeafWord.Word.pattern c.from_bits.result)
     ≡ word_of w t k = ap (bit_set w)
     (c.from_bits.ensures ∙ c.to_bits-theirs.ensures.pattern) ∙ same in
-    (rw g.met.A.Bits.leaf_width at c.on_words.ensures)
+    (rw g.met.A.ReadWords.leaf_width at c.on_words.ensures)
     ∙ (λ i. combination_of g.O.Operation.decide (c.nth_leaf_word-word.ensures i) (theirs i))

@@ -21,7 +21,7 @@ rows g xs ys zs common mirrored least all =
     ap (read_in mirrored g.T.Shape.width) (row_combined g.O.Operation.decide
     g.T.Shape.type_capacity g.T.Shape.big xs ys zs T.BitsOwned.one_capacity all.same
     (λ k d a b. all.done k d (omega arith)) (λ k d b. all.rest k d (omega arith)))
-    ∙ members-combination _ mirrored _ _ _ T.Bits.width_positive
+    ∙ members-combination _ mirrored _ _ _ T.ReadWords.width_positive
     (words_of (length xs) _ _ whole) (words_of (length ys) _ _ whole)
 
 pub returns-then-width-ge32 : goal.returns-then-width-ge32

@@ -18,7 +18,7 @@ wraps g c =
           let past : c.bits_capacity.result < 4294967295 → ⊥ =
           λ low. omega (arith, (row.fits low).1, large) in
           let even = even_capacity c.args.len _ _ _
-          (sym g.met.T.Bits.leaf_width ∙ g.met.T.LeafWord.Word.whole_bytes.1)
+          (sym g.met.T.ReadWords.leaf_width ∙ g.met.T.LeafWord.Word.whole_bytes.1)
           g.met.T.BitsOwned.type_whole_words in
           c.wrapped-within.ensures.past (omega (arith, past, c.bits_capacity.type_inv))
           ∙ wraps_nowhere _ _ even large (omega (arith, c.ranges.index))

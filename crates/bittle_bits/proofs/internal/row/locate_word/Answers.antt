@@ -7,9 +7,9 @@ use Rattle.bittle_bits.proofs.internal.row.locate_word.Goals as goal
 -- an element has so many words
 each : (g : Over) (c : After-width g) →
     c.bits.result / c.width.result ≡ g.met.T.BitsOwned.type_whole_words.0
-each g c = words_each _ _ _ _ _ _ g.met.T.Bits.width_positive
+each g c = words_each _ _ _ _ _ _ g.met.T.ReadWords.width_positive
     (c.bits.ensures.value (c.requires.fits.0, g.met.T.BitsOwned.type_fits c.requires.fits.0))
-    c.width.ensures g.met.T.Bits.leaf_width g.met.T.BitsOwned.type_whole_words.1
+    c.width.ensures g.met.T.ReadWords.leaf_width g.met.T.BitsOwned.type_whole_words.1
 
 pub nonzero_div-result : goal.nonzero_div-result
 nonzero_div-result g c = rw (each g (goal.at.nonzero_div-result g c).After-width)
@@ -23,4 +23,4 @@ pub returns : goal.returns
 returns g c =
     let w = g.met.T.BitsOwned.type_whole_words in
     rw (each g (goal.at.returns g c).After-width)
-    (word_goes _ _ _ w.0 _ g.met.T.Bits.width_positive w.1 c.requires.within)
+    (word_goes _ _ _ w.0 _ g.met.T.ReadWords.width_positive w.1 c.requires.within)

@@ -13,7 +13,7 @@ returns g c =
     let x = get_or xs q c.index-elements-element.result in
     rw length-set (row_word_replaced (length xs) g.T.Shape.type_capacity g.T.Shape.width
     c.args.k q c.locate_word-element.result.1 g.T.Shape.big xs x c.set_nth_leaf_word.new.self
-    g.met.T.Bits.width_positive g.met.T.BitsOwned.type_whole_words c.requires.within
+    g.met.T.ReadWords.width_positive g.met.T.BitsOwned.type_whole_words c.requires.within
     c.locate_word-element.ensures refl
     (ap (λ (d : g.row.T.Denot). get_or xs q d) c.index-elements-element.is) _
     c.set_nth_leaf_word.ensures.set (g.met.T.BitsOwned.one_capacity x))

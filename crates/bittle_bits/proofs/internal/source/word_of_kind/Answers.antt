@@ -9,8 +9,8 @@ returns g c =
     let w = g.B.Shape.width in
     let s = g.B.Shape.big c.args.bits.now in
     let ones = g.K.Kind.ONES in
-    (rw g.met.B.Bits.leaf_width at c.bits_of_kind.ensures)
+    (rw g.met.B.ReadWords.leaf_width at c.bits_of_kind.ensures)
     ∙ ap (ones_or_zeros ones) c.nth_leaf_word.ensures
     ∙ ones_or_zeros-word_of ones w c.args.k s
-    (word_ends w c.args.k s.capacity (g.met.B.Bits.whole_words c.args.bits.now)
+    (word_ends w c.args.k s.capacity (g.met.B.ReadWords.whole_words c.args.bits.now)
     c.requires.within)

@@ -11,10 +11,10 @@ returns-clause-set g c =
     ◌∙◌ {b = with_span_toggled (g.Self.Shape.big old) 0 c.bits_capacity-capacity.result}
     c.toggle_range_in.ensures.set
     (all_toggled (g.Self.Shape.big old) _ (c.bits_capacity-capacity.ensures.value c.requires)
-    (g.met.Self.Bits.none_past old))
+    (g.met.Self.ReadWords.none_past old))
 
 pub returns-clause-in_each_order : goal.returns-clause-in_each_order
 returns-clause-in_each_order g c m =
     let old = c.args.self.now in
     ap (read_in m g.Self.Shape.width) (returns-clause-set g c)
-    ∙ sym (complement-members m _ _ g.met.Self.Bits.width_positive (g.met.Self.Bits.whole_words old))
+    ∙ sym (complement-members m _ _ g.met.Self.ReadWords.width_positive (g.met.Self.ReadWords.whole_words old))

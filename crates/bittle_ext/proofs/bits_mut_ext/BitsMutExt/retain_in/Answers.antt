@@ -58,7 +58,7 @@ returns-clause-capacity g c = c.loop-index.invariant.retains.capacity
 pub returns-clause-by_test : goal.returns-clause-by_test
 returns-clause-by_test g c test answers =
     let m = g.E.Endian.mirrored in
-    let b = g.met.Self.Bits in
+    let b = g.met.Self.ReadWords in
     let old = c.args.self.now in
     let new = c.loop-index.self in
     kept_by_test (goal.F-step g) c.args.keep (set_in g.Self.Shape g.E.Endian old)

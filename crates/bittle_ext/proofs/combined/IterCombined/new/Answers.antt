@@ -14,7 +14,7 @@ returns-clause-items g c =
     all_left g.E.Endian.mirrored g.A.LeafWord.Word.width g.A.LeafWord.Word.pattern g.A.Shape.width
     c.end-end.result (decided_of g.O.Operation.decide g.A.Shape g.E.Endian c.args.left.now g.B.Shape
     g.F.Endian c.args.right.now) c.begin.result begun.head begun.tail begun.low
-    (rw g.met.A.Bits.leaf_width at begun.high).0
+    (rw g.met.A.ReadWords.leaf_width at begun.high).0
     (omega (arith, end.within, x.capacity, y.capacity)) (end.none_past _ _ x y)
 
 pub invariant_of-result : goal.invariant_of-result
@@ -27,7 +27,7 @@ invariant_of-result g c =
         ordered = omega (arith, c.begin.ensures.low);
         between = omega (
           arith,
-          (rw g.met.A.Bits.leaf_width at c.begin.ensures.high).1,
+          (rw g.met.A.ReadWords.leaf_width at c.begin.ensures.high).1,
           c.end-end.ensures.within,
           c.capacity_of.ensures.ends.capacity,
           c.capacity_of-2.ensures.ends.capacity,

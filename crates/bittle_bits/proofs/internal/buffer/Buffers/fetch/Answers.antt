@@ -13,15 +13,15 @@ returns-clause-items g c =
     let m = g.E.Endian.mirrored in
     let ones = g.K.Kind.ONES in
     let big = g.B.Shape.big c.args.source.now.set.now in
-    let word = g.met.B.Bits.width_positive in
-    rw g.met.B.Bits.leaf_width (items_of-word m w k (ones_or_zeros ones big) _ word
+    let word = g.met.B.ReadWords.width_positive in
+    rw g.met.B.ReadWords.leaf_width (items_of-word m w k (ones_or_zeros ones big) _ word
     c.fetch.ensures.word
     ∙ ap (λ s. members_between s (k * w) (k * w + w))
     (sym (ones_or_zeros-members ones m w big word
-    (g.met.B.Bits.whole_words c.args.source.now.set.now))))
+    (g.met.B.ReadWords.whole_words c.args.source.now.set.now))))
 
 pub returns-clause-reach : goal.returns-clause-reach
 returns-clause-reach g c =
     let e = word_ends g.B.Shape.width c.args.k _
-    (g.met.B.Bits.whole_words c.args.source.now.set.now) c.requires.within in
-    rw g.met.B.Bits.leaf_width (omega (arith, e, c.requires.fits.1))
+    (g.met.B.ReadWords.whole_words c.args.source.now.set.now) c.requires.within in
+    rw g.met.B.ReadWords.leaf_width (omega (arith, e, c.requires.fits.1))

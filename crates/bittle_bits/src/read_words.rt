@@ -1,0 +1,50 @@
+//! Reading a set word by word: all that a search, a count or an iterator asks of it.
+
+ghost use Rattle.std.specs.Prelude.{◌≡◌, ℕ, ◌*◌, ◌<◌, ◌≤◌, false};
+ghost use Rattle.bittle_bits.specs.BitPatterns.{bit_set};
+ghost use Rattle.bittle_bits.specs.Values.{ShapeFits};
+ghost use Rattle.bittle_bits.specs.Words.{word_of};
+
+use crate::shape::Shape;
+
+/// A set that is read word by word.
+///
+/// Searches, counts and iterators are over this trait, so that one body of each serves plain
+/// shapes, owned sets, and views of sets.
+pub trait ReadWords: Drop + Shape {
+    /// Returns `true` if each value of the type has as many words. It decides speed alone, how an
+    /// iterator begins and whether a comparison asks the first word by itself, so no clause speaks
+    /// of it.
+    #[doc(hidden)]
+    #[inline]
+    fn is_fixed() -> bool {
+        false
+    }
+
+    /// Returns how many bits the set has, or `u32::MAX` if its shape does not fit. Always callable.
+    #[doc(hidden)]
+    fn capacity(&self) -> u32
+        ensures value { ShapeFits Self.Shape self.now → result ≡ (Self.big self.now).capacity }
+        ensures fits { result < 4294967295 → ShapeFits Self.Shape self.now };
+
+    /// Returns word `k` of the set: its bits are those from `k` times the width on.
+    #[doc(hidden)]
+    fn nth_leaf_word(&self, k: usize) -> Self::LeafWord
+        requires fits { ShapeFits Self.Shape self.now }
+        requires within { k * Self.width < (Self.big self.now).capacity }
+        ensures { bit_set Self.width (Self.LeafWord.pattern result)
+            ≡ word_of Self.width (Self.big self.now) k };
+
+    // The integers that the set is made of have the width of its words.
+    ghost leaf_width: { Self.LeafWord.width ≡ Self.width };
+
+    // A word has a bit.
+    ghost width_positive: { 0 < Self.width };
+
+    // The capacity is whole words.
+    ghost whole_words: { (v : Self) → (words : ℕ) × ((Self.big v).capacity ≡ words * Self.width) };
+
+    // No number from the capacity on is a member.
+    ghost none_past: { (v : Self) (i : ℕ) → (Self.big v).capacity ≤ i → (Self.big v).has i
+        ≡ false };
+}
