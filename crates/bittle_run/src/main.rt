@@ -2,8 +2,8 @@
 //! very text, one stored with a script that is answered, the other with one that is refused.
 #![tactic(auto)]
 
-use bittle_script::{RunStatus, run_program};
+use bittle_script::{RunStatus, run};
 
 fn main(rt: HostRuntime) -> RunStatus {
-    run_program(&mut rt.stdin(), &mut rt.stdout())
+    run(&mut rt.stdin(), &mut rt.stdout())
 }

@@ -17,6 +17,7 @@ ghost use Rattle.bittle_script.specs.ProgramRuns.{IsRun};
 
 use answering::Outcome;
 use std::io::{Eprint, Read, Write};
+use std::marker::Model;
 use std::process::{ExitCode, Termination};
 use writing::{Output, WriteFailed};
 
@@ -25,38 +26,46 @@ const OUTPUT_FAILED: u8 = 1;
 
 /// Reads a script, writes the answers to it, and returns the status that the program ends with: 0,
 /// or 2 where the input is refused, or 1 where the output failed.
-pub fn run<R: Read, W: Write>(input: &mut R, output: &mut W) -> u8
+pub fn run<R: Read, W: Write>(input: &mut R, output: &mut W) -> RunStatus
     ensures status { result ≤ 2 }
     ensures answered { IsRun (R.remaining input.old) (W.contents output.old)
         (W.contents output.new) result }
 {
     let mut output = Output::new(output);
-    match answer_and_flush(input, &mut output) {
+    RunStatus(match answer_and_flush(input, &mut output) {
         Ok(outcome) => outcome.status(),
         Err(_) => OUTPUT_FAILED,
-    }
+    })
 }
 
-/// The status of a run. Only [`run_program`] makes one, so that a `main` which returns it ends as a
-/// run did.
+/// The status that a program ends with. Only [`run`] makes one, so that a `main` which returns it
+/// ends as a run did.
 #[derive(Drop)]
 pub struct RunStatus(u8);
 
-impl Termination for RunStatus {
-    fn report<R: Eprint>(self, _rt: &R) -> ExitCode
-        ensures { exit_status result ≡ self.0 }
+impl Model for RunStatus {
+    ghost use Rattle.std.specs.Prelude.{ℕ};
+
+    ghost Value = { ℕ };
+
+    ghost view = { λ status. status.0 };
+}
+
+impl RunStatus {
+    /// Returns the status as a number.
+    pub fn code(&self) -> u8
+        ensures { result ≡ self.now }
     {
-        ExitCode::from(self.0)
+        self.0
     }
 }
 
-/// Runs a script as [`run`] does, and returns the status in the form that a `main` returns.
-pub fn run_program<R: Read, W: Write>(input: &mut R, output: &mut W) -> RunStatus
-    ensures status { result.0 ≤ 2 }
-    ensures answered { IsRun (R.remaining input.old)
-        (W.contents output.old) (W.contents output.new) result.0 }
-{
-    RunStatus(run(input, output))
+impl Termination for RunStatus {
+    fn report<R: Eprint>(self, _rt: &R) -> ExitCode
+        ensures { exit_status result ≡ self }
+    {
+        ExitCode::from(self.code())
+    }
 }
 
 /// Answers the input, and flushes.

@@ -91,6 +91,6 @@ fn writes_long_answers_in_17_pieces(rt: HostRuntime) -> Result<(), Fail> {
         bytes: 0,
     };
     let status = run(&mut Source::new(script.as_slice()), &mut output);
-    same!(rt; (status, output.writes, output.bytes), (0, 17, 66_564));
+    same!(rt; (status.code(), output.writes, output.bytes), (0, 17, 66_564));
     Ok(())
 }

@@ -185,17 +185,17 @@ impl Write for Tally {
 
 /// Runs the program, and returns its status.
 pub fn status_of(input: &mut Source<'_>, output: &mut Sink) -> u8 {
-    run(input, output)
+    run(input, output).code()
 }
 
 /// Runs a script into an output, and returns the status.
 pub fn status_into(script: &[u8], output: &mut Sink) -> u8 {
-    run(&mut Source::new(script), output)
+    run(&mut Source::new(script), output).code()
 }
 
 /// Runs a script, and returns the status and what got the answers.
 pub fn ran(script: &[u8]) -> (u8, Sink) {
     let mut output = Sink::new();
     let status = run(&mut Source::new(script), &mut output);
-    (status, output)
+    (status.code(), output)
 }
