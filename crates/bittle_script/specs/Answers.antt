@@ -1,12 +1,8 @@
 -- The answers to a script: those of a plain set of numbers, line by line.
-use Rattle.std.specs.Prelude.{ℕ, List, [], ◌∷◌, ◌++◌, Option, None, Some, length, drop, codes, ◌==◌, if◌then◌else◌}
+use Rattle.std.specs.Prelude.{ℕ, Bool, List, [], ◌∷◌, ◌++◌, Option, None, Some, length, drop, codes, ◌==◌, if◌then◌else◌}
 use Rattle.std.specs.List.{enumerate_from, join_by}
 use Rattle.std.specs.Fmt.{decimal}
-use Rattle.bittle.specs.PlainSet.{PlainSet, empty_set, ascending}
-use Rattle.bittle.specs.Machine.{reply_to, set_after}
-use Rattle.bittle.specs.declared.replay.Call.TheVariants.{Test as Test_call, Put, Clear as Clear_call, CountOnes}
-use Rattle.bittle.specs.declared.replay.Reply.{Reply}
-use Rattle.bittle.specs.declared.replay.Reply.TheVariants.{Done, Bit, Number}
+use Rattle.bittle.specs.PlainSet.{PlainSet, empty_set, contains, with_index, without_index, size, ascending}
 use Rattle.bittle_script.specs.declared.command.Command.{Command}
 use Rattle.bittle_script.specs.declared.command.Command.TheVariants.{Set, Clear, Test, Count, Ones}
 use Rattle.bittle_script.specs.declared.header.Header.{Header}
@@ -16,11 +12,13 @@ use Rattle.bittle_script.specs.Commands.{command_of}
 use Rattle.bittle_script.specs.Headers.{header_of, capacity_of}
 use Rattle.bittle_script.specs.Texts.{script_lines}
 
--- what is printed of a reply
-abbrev pub text_of : Reply → List ℕ
-text_of Done = []
-text_of (Bit b) = if b then codes "true\n" else codes "false\n"
-text_of (Number n) = decimal n ++ codes "\n"
+-- whether a bit is set, on a line
+abbrev pub line_of_bit : Bool → List ℕ
+line_of_bit is_set = if is_set then codes "true\n" else codes "false\n"
+
+-- a number on a line
+abbrev pub line_of_number : ℕ → List ℕ
+line_of_number n = decimal n ++ codes "\n"
 
 -- the members on a line, in increasing order and with one space between
 abbrev pub line_of_members : PlainSet → List ℕ
@@ -28,18 +26,18 @@ line_of_members s = join_by decimal (codes " ") (ascending s) ++ codes "\n"
 
 -- what is printed at a command
 abbrev pub command_text : PlainSet → Command → List ℕ
-command_text s (Set i) = text_of (reply_to s (Put i))
-command_text s (Clear i) = text_of (reply_to s (Clear_call i))
-command_text s (Test i) = text_of (reply_to s (Test_call i))
-command_text s Count = text_of (reply_to s CountOnes)
+command_text s (Set i) = []
+command_text s (Clear i) = []
+command_text s (Test i) = line_of_bit (contains s i)
+command_text s Count = line_of_number (size s)
 command_text s Ones = line_of_members s
 
 -- the set after a command
 abbrev pub after_command : PlainSet → Command → PlainSet
-after_command s (Set i) = set_after s (Put i)
-after_command s (Clear i) = set_after s (Clear_call i)
-after_command s (Test i) = set_after s (Test_call i)
-after_command s Count = set_after s CountOnes
+after_command s (Set i) = with_index s i
+after_command s (Clear i) = without_index s i
+after_command s (Test i) = s
+after_command s Count = s
 after_command s Ones = s
 
 -- what is printed of a line that is not understood

@@ -1,8 +1,7 @@
 //! The answers to a script.
 ghost use Rattle.std.specs.Prelude.{◌≡◌, ◌≤◌, length, drop, OnSome, IsTrue};
 ghost use Rattle.bittle.specs.PlainSet.{empty_set};
-ghost use Rattle.bittle.specs.Machine.{reply_to, set_after};
-ghost use Rattle.bittle_script.specs.Answers.{line_answers, script_answers, header_answers, header_in, text_of, line_of_members, command_text, after_command, refusal_at};
+ghost use Rattle.bittle_script.specs.Answers.{line_answers, script_answers, header_answers, header_in, line_of_bit, line_of_number, line_of_members, command_text, after_command, refusal_at};
 ghost use Rattle.bittle_script.specs.GivenAnswers.{IsGiven};
 ghost use Rattle.bittle_script.specs.Headers.{capacity_of};
 ghost use Rattle.bittle_script.specs.Lines.{lines_left};
@@ -14,8 +13,7 @@ use crate::command::Command;
 use crate::header::{Header, Order, Shape};
 use crate::lines::Lines;
 use crate::writing::{Output, WriteFailed};
-use bittle::replay::{Call, Reply, replay};
-use bittle::{BigEndian, Bits, BitsOwned, Endian, LittleEndian, Set, set};
+use bittle::{BigEndian, Bits, BitsMut, BitsOwned, Endian, LittleEndian, Set, set};
 use std::io::Write;
 
 /// How a run ended whose output did not fail.
@@ -125,7 +123,7 @@ fn empty_value<B: BitsOwned>() -> B
     set![]
 }
 
-/// Does what a command asks for, and prints the reply.
+/// Does what a command asks for, and prints what it answers.
 fn obey<B: BitsOwned, E: Endian, W: Write>(
     command: Command,
     bits: &mut B,
@@ -138,43 +136,42 @@ fn obey<B: BitsOwned, E: Endian, W: Write>(
     ensures prints { Puts W.contents output.old output.new result
         (command_text (set_in B.Shape E.Endian bits.old) command) }
 {
-    let call = match command {
-        Command::Set(index) => Call::Put(index),
-        Command::Clear(index) => Call::Clear(index),
-        Command::Test(index) => Call::Test(index),
-        Command::Count => Call::CountOnes,
-        Command::Ones => return print_members::<B, E, W>(&Set::new_in(*bits), output),
-    };
-    print(ask::<B, E>(bits, call), output)
+    match command {
+        Command::Set(index) => {
+            bits.set_bit_in::<E>(index);
+            Ok(())
+        }
+        Command::Clear(index) => {
+            bits.clear_bit_in::<E>(index);
+            Ok(())
+        }
+        Command::Test(index) => print_bit(bits.test_bit_in::<E>(index), output),
+        Command::Count => print_number(bits.count_ones(), output),
+        Command::Ones => print_members::<B, E, W>(&Set::new_in(*bits), output),
+    }
 }
 
-/// Makes one call, and returns its reply.
-fn ask<B: BitsOwned, E: Endian>(bits: &mut B, call: Call) -> Reply
-    requires { IsTrue B.indexable }
-    ensures reply { result ≡ reply_to (set_in B.Shape E.Endian bits.old) call }
-    ensures set { set_in B.Shape E.Endian bits.new
-        ≡ set_after (set_in B.Shape E.Endian bits.old) call }
-{
-    let mut replies = [Reply::Done];
-    replay::<B, E>(bits, &[call], &mut replies);
-    replies[0]
-}
-
-/// Prints a reply on a line, if it says anything.
-fn print<W: Write>(reply: Reply, output: &mut Output<'_, W>) -> Result<(), WriteFailed>
+/// Prints on a line whether a bit is set.
+fn print_bit<W: Write>(is_set: bool, output: &mut Output<'_, W>) -> Result<(), WriteFailed>
     ensures same_writer { output.new.writer.ghost_name ≡ output.old.writer.ghost_name }
     ensures prints { Puts W.contents output.old output.new result
-        (text_of reply) }
+        (line_of_bit is_set) }
 {
-    match reply {
-        Reply::Done => Ok(()),
-        Reply::Bit(true) => output.put(b"true\n"),
-        Reply::Bit(false) => output.put(b"false\n"),
-        Reply::Number(number) => {
-            output.put_number(number)?;
-            output.put(b"\n")
-        }
+    if is_set {
+        output.put(b"true\n")
+    } else {
+        output.put(b"false\n")
     }
+}
+
+/// Prints a number on a line.
+fn print_number<W: Write>(number: u32, output: &mut Output<'_, W>) -> Result<(), WriteFailed>
+    ensures same_writer { output.new.writer.ghost_name ≡ output.old.writer.ghost_name }
+    ensures prints { Puts W.contents output.old output.new result
+        (line_of_number number) }
+{
+    output.put_number(number)?;
+    output.put(b"\n")
 }
 
 /// Prints the members of a set, in increasing order and with one space between, on a line.
