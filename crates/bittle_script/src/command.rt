@@ -1,7 +1,10 @@
 //! What a line asks for.
 ghost use Rattle.std.specs.Prelude.{◌≡◌};
+ghost use Rattle.std.specs.Char.{is_ascii_digit};
+ghost use Rattle.std.specs.List.{list_all};
+ghost use Rattle.bittle_script.specs.Numbers.{number_of};
 
-use crate::decimal;
+use std::str::from_utf8;
 
 /// What a line asks for.
 #[derive(Clone, Copy)]
@@ -37,13 +40,33 @@ impl Command {
         ensures { result ≡ indexed_command_of line.now }
     {
         if let Some(digits) = line.strip_prefix(b"set ") {
-            Some(Command::Set(decimal::parse(digits)?))
+            Some(Command::Set(parse_number(digits)?))
         } else if let Some(digits) = line.strip_prefix(b"clear ") {
-            Some(Command::Clear(decimal::parse(digits)?))
+            Some(Command::Clear(parse_number(digits)?))
         } else if let Some(digits) = line.strip_prefix(b"test ") {
-            Some(Command::Test(decimal::parse(digits)?))
+            Some(Command::Test(parse_number(digits)?))
         } else {
             None
         }
     }
+}
+
+/// Returns the number that one or more digits say, or `None` where it does not fit.
+fn parse_number(digits: &[u8]) -> Option<u32>
+    ensures { result ≡ number_of digits.now }
+{
+    if !are_digits(digits) {
+        return None;
+    }
+    let Ok(text) = from_utf8(digits) else {
+        return None;
+    };
+    text.parse().ok()
+}
+
+// The parser of integers takes a sign too.
+fn are_digits(text: &[u8]) -> bool
+    ensures { result ≡ list_all is_ascii_digit text.now }
+{
+    text.iter().all(|byte| byte.is_ascii_digit())
 }

@@ -3,7 +3,6 @@
 
 mod answering;
 mod command;
-mod decimal;
 mod header;
 mod lines;
 mod reading;

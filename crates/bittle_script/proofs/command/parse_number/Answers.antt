@@ -1,6 +1,6 @@
 use Rattle.std.proofs.Common.{sym, ◌∙◌}
 use Rattle.bittle_script.proofs.DecimalDigits.{number_parsed, text_from_digits}
-use Rattle.bittle_script.proofs.decimal.parse.Goals as goal
+use Rattle.bittle_script.proofs.command.parse_number.Goals as goal
 
 pub returns-in_default : goal.returns-in_default
 returns-in_default c = absurd (c.in_default.ensures.cases.0
