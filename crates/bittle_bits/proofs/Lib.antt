@@ -20,6 +20,7 @@ pub mod WordSizes
 pub mod Words
 pub mod WalkStarts
 pub mod FirstItems
+pub mod FirstOnes
 pub mod Items
 pub mod Joins
 pub mod RowCalls

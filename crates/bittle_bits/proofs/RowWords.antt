@@ -38,9 +38,9 @@ word_goes n c w d k word whole within =
     }
 
 -- how many words an element of a capacity has
-pub words_each : (bits wide c w leaf d : ℕ) → 0 < w → bits ≡ c → wide ≡ leaf → leaf ≡ w →
-    c ≡ d * w → bits / wide ≡ d
-words_each bits wide c w leaf d word b v same whole = rw (b, v, same, whole) (mul-div_left d word)
+pub words_each : (bits wide c w d : ℕ) → 0 < w → bits ≡ c → wide ≡ w → c ≡ d * w →
+    bits / wide ≡ d
+words_each bits wide c w d word b v whole = rw (b, v, whole) (mul-div_left d word)
 
 module _ {X : Type 0} (n c w k q r : ℕ) (big : X → PlainSet) (xs : List X) (word : 0 < w)
     (whole : (d : ℕ) × (c ≡ d * w)) (within : k * w < n * c)

@@ -1,10 +1,11 @@
 -- Proofs of the laws that the impls of the traits give.
-use Rattle.std.proofs.Common.{◌≡◌, ℕ, ◌+◌, ◌*◌, ◌^◌, ◌≤◌, ◌<◌, ℤ, Bool, refl, true, false, nat_eq, IsTrue, ap, arith}
-use Rattle.std.proofs.lemmas.Bool.{le-ltb, eqb-true}
+use Rattle.std.proofs.Common.{◌≡◌, ℕ, ◌+◌, ◌*◌, ◌^◌, ◌≤◌, ◌<◌, ℤ, Bool, ◌&&◌, refl, true, false, nat_eq, min, IsTrue, inl, inr, sym, ap, ◌∙◌, arith}
+use Rattle.std.proofs.lemmas.Bool.{cases_lt, le-ltb, eqb-true}
 use Rattle.std.proofs.lemmas.Nat.{pow_pos}
 use Rattle.std.specs.Cmp.{signed_Decides}
 use Rattle.std.specs.Ordering.{int_eq}
 use Rattle.bittle_bits.specs.BitPatterns.{bit_has, bit_set}
+use Rattle.bittle_bits.specs.Decided.{has_decided}
 use Rattle.bittle_bits.specs.PlainSet.{PlainSet}
 use Rattle.bittle_bits.specs.Shapes.{Fits}
 
@@ -81,3 +82,19 @@ signed_word w pattern few = record {
 -- whole bytes have a bit
 pub positive_bytes : (w : ℕ) → (log : ℕ) × (w ≡ 2 ^ (3 + log)) → 0 < w
 positive_bytes w bytes = rw bytes.1 (pow_pos (3 + bytes.0))
+
+-- of what an operation makes of two sets below n, no number from n on is a member
+pub none_past_decided : (f : Bool → Bool → Bool) (n : ℕ) (s t : PlainSet) (i : ℕ) → n ≤ i →
+    has_decided f n s t i ≡ false
+unfolding has_decided
+none_past_decided f n s t i past = ap (λ b. b && f (s.has i) (t.has i)) (le-ltb i n past)
+
+-- the lesser of two capacities of whole words of one width is whole words
+pub whole_lesser : (a b w v c : ℕ) → w ≡ v → c ≡ min a b → (words : ℕ) × (a ≡ words * w) →
+    (words : ℕ) × (b ≡ words * v) → (words : ℕ) × (c ≡ words * w)
+whole_lesser a b w v c same is ours theirs =
+    elim (cases_lt a b) [
+      | inl l ↦ let e : c ≡ a = omega (arith, is, l) in (ours.0, e ∙ ours.1)
+      | inr g ↦ let e : c ≡ b = omega (arith, is, g) in
+          (theirs.0, e ∙ theirs.1 ∙ ap (λ n. theirs.0 * n) (sym same))
+    ]

@@ -1,5 +1,5 @@
 -- What a value stands for.
-use Rattle.std.specs.Prelude.{Bool, List, length}
+use Rattle.std.specs.Prelude.{ℕ, ◌/◌, Bool, List, length}
 use Rattle.bittle_bits.specs.Orders.{read_in}
 use Rattle.bittle_bits.specs.PlainSet.{PlainSet}
 use Rattle.bittle_bits.specs.Rows.{row_set}
@@ -20,6 +20,10 @@ set_mirrored b mirrored v = read_in mirrored b.width (b.big v)
 -- the shape of a value fits
 abbrev pub ShapeFits : {V W : Type 0} → shape.Ghosts V W → V → Type 0
 ShapeFits b v = Fits b.indexable (b.big v).capacity
+
+-- how many words a value has
+abbrev pub word_count : {V W : Type 0} → shape.Ghosts V W → V → ℕ
+word_count b v = (b.big v).capacity / b.width
 
 -- the set of a word, read in an order
 abbrev pub word_in : {W E : Type 0} → word.Ghosts W → endian.Ghosts E → W → PlainSet

@@ -1,11 +1,11 @@
 //! Reading a set.
 
-ghost use Rattle.std.specs.Prelude.{◌≡◌, ◌==◌, ℕ, ◌*◌, ◌-◌, ◌/◌, ◌<◌, ◌≤◌, Bool, false, IsTrue};
+ghost use Rattle.std.specs.Prelude.{◌≡◌, ◌==◌, ℕ, ◌*◌, ◌-◌, ◌<◌, ◌≤◌, Bool, false, IsTrue};
 ghost use Rattle.bittle_bits.specs.BitPatterns.{bit_set};
 ghost use Rattle.bittle_bits.specs.Join.{AnswersItemsAtMembers, EndsAfterMembers};
 ghost use Rattle.bittle_bits.specs.PlainSet.{contains, size, members_below, ascending, complement};
 ghost use Rattle.bittle_bits.specs.Searches.{IsFirstIn, IsLastIn};
-ghost use Rattle.bittle_bits.specs.Values.{set_in, set_mirrored, ShapeFits};
+ghost use Rattle.bittle_bits.specs.Values.{set_in, set_mirrored, ShapeFits, word_count};
 ghost use Rattle.bittle_bits.specs.Walk.{AreBelow, IsFresh};
 ghost use Rattle.bittle_bits.specs.Words.{word_of};
 
@@ -258,7 +258,7 @@ pub trait Bits: Drop + ReadWords {
         Self: Sized,
         requires { ShapeFits Self.Shape self.now }
         ensures remaining { result.remaining ≡ ascending (set_in Self.Shape E.Endian self.now) }
-        ensures fresh { IsFresh ((Self.big self.now).capacity / Self.width) result }
+        ensures fresh { IsFresh (word_count Self.Shape self.now) result }
         ensures below { AreBelow (Self.big self.now).capacity result.remaining }
     {
         Iter::new(Source::new(self))
@@ -277,7 +277,7 @@ pub trait Bits: Drop + ReadWords {
         requires { ShapeFits Self.Shape self.now }
         ensures remaining { result.remaining
             ≡ ascending (complement (set_in Self.Shape E.Endian self.now)) }
-        ensures fresh { IsFresh ((Self.big self.now).capacity / Self.width) result }
+        ensures fresh { IsFresh (word_count Self.Shape self.now) result }
         ensures below { AreBelow (Self.big self.now).capacity result.remaining }
     {
         Iter::new(Source::new(self))
@@ -297,7 +297,7 @@ pub trait Bits: Drop + ReadWords {
         requires { ShapeFits Self.Shape self.now }
         ensures remaining { result.remaining
             ≡ ascending (set_in Self.Shape Self.Order.Endian self.now) }
-        ensures fresh { IsFresh ((Self.big self.now).capacity / Self.width) result }
+        ensures fresh { IsFresh (word_count Self.Shape self.now) result }
         ensures below { AreBelow (Self.big self.now).capacity result.remaining }
     {
         self.iter_ones_in::<Self::Order>()
@@ -316,7 +316,7 @@ pub trait Bits: Drop + ReadWords {
         requires { ShapeFits Self.Shape self.now }
         ensures remaining { result.remaining
             ≡ ascending (set_in Self.Shape ⟦<LittleEndian as Endian>⟧ self.now) }
-        ensures fresh { IsFresh ((Self.big self.now).capacity / Self.width) result }
+        ensures fresh { IsFresh (word_count Self.Shape self.now) result }
         ensures below { AreBelow (Self.big self.now).capacity result.remaining }
     {
         self.iter_ones_in::<LittleEndian>()
@@ -335,7 +335,7 @@ pub trait Bits: Drop + ReadWords {
         requires { ShapeFits Self.Shape self.now }
         ensures remaining { result.remaining
             ≡ ascending (set_in Self.Shape ⟦<BigEndian as Endian>⟧ self.now) }
-        ensures fresh { IsFresh ((Self.big self.now).capacity / Self.width) result }
+        ensures fresh { IsFresh (word_count Self.Shape self.now) result }
         ensures below { AreBelow (Self.big self.now).capacity result.remaining }
     {
         self.iter_ones_in::<BigEndian>()
@@ -354,7 +354,7 @@ pub trait Bits: Drop + ReadWords {
         requires { ShapeFits Self.Shape self.now }
         ensures remaining { result.remaining
             ≡ ascending (complement (set_in Self.Shape Self.Order.Endian self.now)) }
-        ensures fresh { IsFresh ((Self.big self.now).capacity / Self.width) result }
+        ensures fresh { IsFresh (word_count Self.Shape self.now) result }
         ensures below { AreBelow (Self.big self.now).capacity result.remaining }
     {
         self.iter_zeros_in::<Self::Order>()
@@ -373,7 +373,7 @@ pub trait Bits: Drop + ReadWords {
         requires { ShapeFits Self.Shape self.now }
         ensures remaining { result.remaining
             ≡ ascending (complement (set_in Self.Shape ⟦<LittleEndian as Endian>⟧ self.now)) }
-        ensures fresh { IsFresh ((Self.big self.now).capacity / Self.width) result }
+        ensures fresh { IsFresh (word_count Self.Shape self.now) result }
         ensures below { AreBelow (Self.big self.now).capacity result.remaining }
     {
         self.iter_zeros_in::<LittleEndian>()
@@ -392,7 +392,7 @@ pub trait Bits: Drop + ReadWords {
         requires { ShapeFits Self.Shape self.now }
         ensures remaining { result.remaining
             ≡ ascending (complement (set_in Self.Shape ⟦<BigEndian as Endian>⟧ self.now)) }
-        ensures fresh { IsFresh ((Self.big self.now).capacity / Self.width) result }
+        ensures fresh { IsFresh (word_count Self.Shape self.now) result }
         ensures below { AreBelow (Self.big self.now).capacity result.remaining }
     {
         self.iter_zeros_in::<BigEndian>()

@@ -1,10 +1,10 @@
 //! Sets that are owned.
 
-ghost use Rattle.std.specs.Prelude.{◌≡◌, ℕ, ◌*◌, ◌<◌, Bool, IsTrue, ◌/◌};
+ghost use Rattle.std.specs.Prelude.{◌≡◌, ℕ, ◌*◌, ◌<◌, Bool, IsTrue};
 ghost use Rattle.bittle_bits.specs.PlainSet.{empty_set, full_set, with_index, without_index, ascending, complement};
 ghost use Rattle.bittle_bits.specs.SetOperations.{union_of, conjunction_of, difference_of, symmetric_difference_of};
 ghost use Rattle.bittle_bits.specs.Shapes.{Fits};
-ghost use Rattle.bittle_bits.specs.Values.{set_in, set_mirrored, ShapeFits};
+ghost use Rattle.bittle_bits.specs.Values.{set_in, set_mirrored, ShapeFits, word_count};
 ghost use Rattle.bittle_bits.specs.Walk.{AreBelow, IsFresh};
 
 use crate::bits_mut::BitsMut;
@@ -261,7 +261,7 @@ pub trait BitsOwned: Copy + Eq + BitsMut {
         Self: Sized,
         requires { ShapeFits Self.Shape self }
         ensures remaining { result.remaining ≡ ascending (set_in Self.Shape E.Endian self) }
-        ensures fresh { IsFresh ((Self.big self).capacity / Self.width) result }
+        ensures fresh { IsFresh (word_count Self.Shape self) result }
         ensures below { AreBelow (Self.big self).capacity result.remaining }
     {
         IntoIter::new(OwnedSource::new(self))
@@ -280,7 +280,7 @@ pub trait BitsOwned: Copy + Eq + BitsMut {
         requires { ShapeFits Self.Shape self }
         ensures remaining { result.remaining
             ≡ ascending (set_in Self.Shape Self.Order.Endian self) }
-        ensures fresh { IsFresh ((Self.big self).capacity / Self.width) result }
+        ensures fresh { IsFresh (word_count Self.Shape self) result }
         ensures below { AreBelow (Self.big self).capacity result.remaining }
     {
         self.into_iter_ones_in::<Self::Order>()
@@ -299,7 +299,7 @@ pub trait BitsOwned: Copy + Eq + BitsMut {
         requires { ShapeFits Self.Shape self }
         ensures remaining { result.remaining
             ≡ ascending (set_in Self.Shape ⟦<LittleEndian as Endian>⟧ self) }
-        ensures fresh { IsFresh ((Self.big self).capacity / Self.width) result }
+        ensures fresh { IsFresh (word_count Self.Shape self) result }
         ensures below { AreBelow (Self.big self).capacity result.remaining }
     {
         self.into_iter_ones_in::<LittleEndian>()
@@ -318,7 +318,7 @@ pub trait BitsOwned: Copy + Eq + BitsMut {
         requires { ShapeFits Self.Shape self }
         ensures remaining { result.remaining
             ≡ ascending (set_in Self.Shape ⟦<BigEndian as Endian>⟧ self) }
-        ensures fresh { IsFresh ((Self.big self).capacity / Self.width) result }
+        ensures fresh { IsFresh (word_count Self.Shape self) result }
         ensures below { AreBelow (Self.big self).capacity result.remaining }
     {
         self.into_iter_ones_in::<BigEndian>()
@@ -339,7 +339,7 @@ pub trait BitsOwned: Copy + Eq + BitsMut {
         requires { ShapeFits Self.Shape self }
         ensures remaining { result.remaining
             ≡ ascending (complement (set_in Self.Shape E.Endian self)) }
-        ensures fresh { IsFresh ((Self.big self).capacity / Self.width) result }
+        ensures fresh { IsFresh (word_count Self.Shape self) result }
         ensures below { AreBelow (Self.big self).capacity result.remaining }
     {
         IntoIter::new(OwnedSource::new(self))
@@ -358,7 +358,7 @@ pub trait BitsOwned: Copy + Eq + BitsMut {
         requires { ShapeFits Self.Shape self }
         ensures remaining { result.remaining
             ≡ ascending (complement (set_in Self.Shape Self.Order.Endian self)) }
-        ensures fresh { IsFresh ((Self.big self).capacity / Self.width) result }
+        ensures fresh { IsFresh (word_count Self.Shape self) result }
         ensures below { AreBelow (Self.big self).capacity result.remaining }
     {
         self.into_iter_zeros_in::<Self::Order>()
@@ -377,7 +377,7 @@ pub trait BitsOwned: Copy + Eq + BitsMut {
         requires { ShapeFits Self.Shape self }
         ensures remaining { result.remaining
             ≡ ascending (complement (set_in Self.Shape ⟦<LittleEndian as Endian>⟧ self)) }
-        ensures fresh { IsFresh ((Self.big self).capacity / Self.width) result }
+        ensures fresh { IsFresh (word_count Self.Shape self) result }
         ensures below { AreBelow (Self.big self).capacity result.remaining }
     {
         self.into_iter_zeros_in::<LittleEndian>()
@@ -396,7 +396,7 @@ pub trait BitsOwned: Copy + Eq + BitsMut {
         requires { ShapeFits Self.Shape self }
         ensures remaining { result.remaining
             ≡ ascending (complement (set_in Self.Shape ⟦<BigEndian as Endian>⟧ self)) }
-        ensures fresh { IsFresh ((Self.big self).capacity / Self.width) result }
+        ensures fresh { IsFresh (word_count Self.Shape self) result }
         ensures below { AreBelow (Self.big self).capacity result.remaining }
     {
         self.into_iter_zeros_in::<BigEndian>()

@@ -1,6 +1,7 @@
 //! The parts that the public modules stand on; no user names them.
 
 pub(crate) mod buffer;
+pub mod by_fours;
 pub(crate) mod cursor;
 pub mod decided;
 pub(crate) mod ends;

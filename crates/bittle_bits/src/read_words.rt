@@ -6,6 +6,7 @@ ghost use Rattle.bittle_bits.specs.Values.{ShapeFits};
 ghost use Rattle.bittle_bits.specs.Words.{word_of};
 
 use crate::shape::Shape;
+use crate::word::Word;
 
 /// A set that is read word by word.
 ///
@@ -47,4 +48,13 @@ pub trait ReadWords: Drop + Shape {
     // No number from the capacity on is a member.
     ghost none_past: { (v : Self) (i : ℕ) → (Self.big v).capacity ≤ i → (Self.big v).has i
         ≡ false };
+}
+
+/// Returns how many bits each word of a set has.
+#[doc(hidden)]
+#[inline(always)]
+pub fn word_width<B: ReadWords>() -> u32
+    ensures { result ≡ B.width }
+{
+    <B::LeafWord as Word>::width()
 }

@@ -3,11 +3,11 @@
 //! An iterator fetches each word at most once, and searches it once for each item in it and once
 //! more when the word is done.
 
-ghost use Rattle.std.specs.Prelude.{◌≡◌, ◌/◌, ⊤, Option, ℕ, None, IfSome};
+ghost use Rattle.std.specs.Prelude.{◌≡◌, ⊤, Option, ℕ, None, IfSome};
 ghost use Rattle.std.specs.Iterator.{item_count, UpTo};
 ghost use Rattle.std.specs.Iterator.SizeHint.{IsWithinCount};
 ghost use Rattle.bittle_bits.specs.PlainSet.{ascending};
-ghost use Rattle.bittle_bits.specs.Values.{set_in, ShapeFits};
+ghost use Rattle.bittle_bits.specs.Values.{set_in, ShapeFits, word_count};
 ghost use Rattle.bittle_bits.specs.Walk.{Walk, ones_or_zeros, AreBelow, IsFresh, ResumesAs, StepsFront, StepsBack};
 
 use crate::endian::Endian;
@@ -87,15 +87,14 @@ impl<'a, B: Shape, E: Endian, K: Kind> Model for Iter<'a, B, E, K> {
 
     ghost Value = { Walk };
 
-    ghost use Rattle.std.specs.Prelude.{◌/◌};
-    ghost use Rattle.bittle_bits.specs.Values.{set_in, ShapeFits};
+    ghost use Rattle.bittle_bits.specs.Values.{set_in, ShapeFits, word_count};
     ghost use Rattle.bittle_bits.specs.Cursor.{walk_of, IsCounted};
 
     ghost view = { λ w. walk_of (ones_or_zeros K.ONES (set_in B.Shape E.Endian w.source.set.now))
-        ((B.big w.source.set.now).capacity / B.width) B.width w.at };
+        (word_count B.Shape w.source.set.now) B.width w.at };
 
     ghost invariant = { λ w. ShapeFits B.Shape w.source.set.now
-        × IsCounted ((B.big w.source.set.now).capacity / B.width) w.at };
+        × IsCounted (word_count B.Shape w.source.set.now) w.at };
 }
 
 impl<'a, B: ReadWords, E: Endian, K: Kind> Iter<'a, B, E, K> {
@@ -105,7 +104,7 @@ impl<'a, B: ReadWords, E: Endian, K: Kind> Iter<'a, B, E, K> {
         requires { ShapeFits B.Shape source.set.now }
         ensures remaining { result.remaining
             ≡ ascending (ones_or_zeros K.ONES (set_in B.Shape E.Endian source.entry.set.now)) }
-        ensures fresh { IsFresh ((B.big source.entry.set.now).capacity / B.width) result }
+        ensures fresh { IsFresh (word_count B.Shape source.entry.set.now) result }
         ensures below { AreBelow (B.big source.entry.set.now).capacity result.remaining }
     {
         let at = begin::<B, E, K>(&source);
@@ -194,15 +193,14 @@ impl<B: Shape, E: Endian, K: Kind> Model for IntoIter<B, E, K> {
 
     ghost Value = { Walk };
 
-    ghost use Rattle.std.specs.Prelude.{◌/◌};
-    ghost use Rattle.bittle_bits.specs.Values.{set_in, ShapeFits};
+    ghost use Rattle.bittle_bits.specs.Values.{set_in, ShapeFits, word_count};
     ghost use Rattle.bittle_bits.specs.Cursor.{walk_of, IsCounted};
 
     ghost view = { λ w. walk_of (ones_or_zeros K.ONES (set_in B.Shape E.Endian w.source.set))
-        ((B.big w.source.set).capacity / B.width) B.width w.at };
+        (word_count B.Shape w.source.set) B.width w.at };
 
     ghost invariant = { λ w. ShapeFits B.Shape w.source.set
-        × IsCounted ((B.big w.source.set).capacity / B.width) w.at };
+        × IsCounted (word_count B.Shape w.source.set) w.at };
 }
 
 impl<B: ReadWords, E: Endian, K: Kind> IntoIter<B, E, K> {
@@ -212,7 +210,7 @@ impl<B: ReadWords, E: Endian, K: Kind> IntoIter<B, E, K> {
         requires { ShapeFits B.Shape source.set }
         ensures remaining { result.remaining
             ≡ ascending (ones_or_zeros K.ONES (set_in B.Shape E.Endian source.set)) }
-        ensures fresh { IsFresh ((B.big source.set).capacity / B.width) result }
+        ensures fresh { IsFresh (word_count B.Shape source.set) result }
         ensures below { AreBelow (B.big source.set).capacity result.remaining }
     {
         let at = begin::<B, E, K>(&source.lend());

@@ -1,10 +1,10 @@
 //! The main theorem on iterators, the contract of [`replay_walk`]: one iterator through a list of
 //! steps yields an increasing list from its two ends, and makes few scans of words.
 
-ghost use Rattle.std.specs.Prelude.{◌≡◌, ℕ, ◌+◌, ◌/◌, ◌≤◌, ◌∷◌, ◌++◌, [], List, length, slice_index};
+ghost use Rattle.std.specs.Prelude.{◌≡◌, ℕ, ◌+◌, ◌≤◌, ◌∷◌, ◌++◌, [], List, length, slice_index};
 ghost use Rattle.bittle_bits.specs.PlainSet.{ascending};
 ghost use Rattle.bittle_bits.specs.Walk.{ones_or_zeros, count_after, IsScanBounded};
-ghost use Rattle.bittle_bits.specs.Values.{set_in, ShapeFits};
+ghost use Rattle.bittle_bits.specs.Values.{set_in, ShapeFits, word_count};
 ghost use Rattle.bittle.specs.ListEnds.{answer_of, items_left_by, answers_of, AreScanBounded, KeepsAll};
 
 use bittle_bits::bits::Bits;
@@ -142,7 +142,7 @@ pub fn replay_walk<B: Bits, E: Endian>(
     requires places { length answers.old ≡ length steps.now }
     ensures answers { answers.new
         ≡ answers_of steps.now (ascending (ones_or_zeros ones (set_in B.Shape E.Endian bits.now))) }
-    ensures scans { AreScanBounded result answers.new ((B.big bits.now).capacity / B.width) }
+    ensures scans { AreScanBounded result answers.new (word_count B.Shape bits.now) }
 {
     if ones {
         run_whole(bits.iter_ones_in::<E>(), steps, answers)

@@ -14,7 +14,7 @@ use bittle_bits::bits::Bits;
 use bittle_bits::endian::Endian;
 use bittle_bits::internal::decided::{first_decided_at_once, first_decided_below};
 use bittle_bits::one_word::{SymmetricDifference, test_bit};
-use bittle_bits::word::Word;
+use bittle_bits::read_words::word_width;
 use std::cmp::Ordering;
 
 // Whether two sets are read by words of one width in one order.
@@ -22,8 +22,7 @@ use std::cmp::Ordering;
 fn are_alike<A: Bits, B: Bits, E: Endian, F: Endian>() -> bool
     ensures { IsTrue result → (A.width ≡ B.width) × (E.mirrored ≡ F.mirrored) }
 {
-    <A::LeafWord as Word>::width() == <B::LeafWord as Word>::width()
-        && E::is_mirrored() == F::is_mirrored()
+    word_width::<A>() == word_width::<B>() && E::is_mirrored() == F::is_mirrored()
 }
 
 // Returns the least index that is in just one of two sets, or `None` where they have the same
@@ -107,7 +106,7 @@ fn has<B: Bits, E: Endian>(bits: &B, capacity: u32, index: u32) -> bool
     if capacity <= index {
         return false;
     }
-    let width = <B::LeafWord as Word>::width();
+    let width = word_width::<B>();
     // Of a slice a test of an index that may wrap divides by its length, which the word does not.
     test_bit::<B::LeafWord, E>(bits.nth_leaf_word((index / width) as usize), index % width)
 }

@@ -1,8 +1,8 @@
 //! Iteration over the members of a set, in the order that it remembers.
 
-ghost use Rattle.std.specs.Prelude.{◌≡◌, ◌/◌};
+ghost use Rattle.std.specs.Prelude.{◌≡◌};
 ghost use Rattle.bittle_bits.specs.PlainSet.{ascending};
-ghost use Rattle.bittle_bits.specs.Values.{set_in};
+ghost use Rattle.bittle_bits.specs.Values.{set_in, word_count};
 ghost use Rattle.bittle_bits.specs.Walk.{AreBelow, IsFresh};
 
 use super::Set;
@@ -18,7 +18,7 @@ impl<T: BitsOwned, E: Endian> IntoIterator for Set<T, E> {
     type IntoIter = IntoIterOnes<Set<T, E>, E>;
 
     ghost into_iter_gives = { λ s w. (w.remaining ≡ ascending (set_in T.Shape E.Endian s.bits))
-        × IsFresh ((T.big s.bits).capacity / T.width) w × AreBelow (T.big s.bits).capacity w.remaining };
+        × IsFresh (word_count T.Shape s.bits) w × AreBelow (T.big s.bits).capacity w.remaining };
 
     #[inline]
     fn into_iter(self) -> IntoIterOnes<Set<T, E>, E> {
@@ -33,7 +33,7 @@ impl<'a, T: Bits, E: Endian> IntoIterator for &'a Set<T, E> {
     type IntoIter = IterOnes<'a, Set<T, E>, E>;
 
     ghost into_iter_gives = { λ s w. (w.remaining ≡ ascending (set_in T.Shape E.Endian s.now.bits))
-        × IsFresh ((T.big s.now.bits).capacity / T.width) w
+        × IsFresh (word_count T.Shape s.now.bits) w
         × AreBelow (T.big s.now.bits).capacity w.remaining };
 
     #[inline]

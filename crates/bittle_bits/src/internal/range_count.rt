@@ -7,7 +7,7 @@ ghost use Rattle.bittle_bits.specs.Values.{set_in, ShapeFits};
 use crate::endian::Endian;
 use crate::internal::ends::ends;
 use crate::one_word::range;
-use crate::read_words::ReadWords;
+use crate::read_words::{ReadWords, word_width};
 use crate::word::Word;
 
 /// Counts the set bits of word `k` from one place of it on and before another.
@@ -38,7 +38,7 @@ pub fn count_ones<B: ReadWords, E: Endian>(bits: &B, from: u32, to: u32) -> u32
     if from == to {
         return 0;
     }
-    let width = <B::LeafWord as Word>::width();
+    let width = word_width::<B>();
     let (first, begin, last, top) = ends(width, from, to);
     if first == last {
         return count_in_word::<B, E>(bits, first, begin, top + 1);

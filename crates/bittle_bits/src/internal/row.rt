@@ -15,7 +15,8 @@ use crate::bits_owned::BitsOwned;
 use crate::endian::Endian;
 use crate::internal::ends::ends;
 use crate::one_word::{Operation, RangeOperation};
-use crate::word::{Kind, Ones, Word, Zeros};
+use crate::read_words::word_width;
+use crate::word::{Kind, Ones, Zeros};
 
 /// Returns the capacity of this many elements, or `u32::MAX` where they do not fit.
 #[inline]
@@ -254,7 +255,7 @@ pub fn combine<T: BitsOwned, O: Operation>(elements: &mut [T], others: &[T])
         (row_mirrored T.Shape mirrored others.now) }
 {
     let common = elements.len().min(others.len());
-    let width = <T::LeafWord as Word>::width();
+    let width = word_width::<T>();
     if T::bits() == width && 32 <= width {
         combine_by_fours::<T, O>(elements, others, common);
     } else {
@@ -338,7 +339,7 @@ fn is_without_by_turns<T: BitsOwned, K: Kind>(elements: &[T]) -> bool
     if !has_none::<T, K>(&elements[0]) {
         return false;
     }
-    if elements.len() < 8 || T::bits() != <T::LeafWord as Word>::width() {
+    if elements.len() < 8 || T::bits() != word_width::<T>() {
         return rest_is_without::<T, K>(elements, 1);
     }
     for eight in 0..elements.len() / 8 {
@@ -401,7 +402,7 @@ fn locate_word<T: BitsOwned>(len: usize, k: usize) -> (usize, usize)
     requires within { k * T.width < len * T.type_capacity }
     ensures { GoesTo len T.type_capacity (k * T.width) result.0 (result.1 * T.width) }
 {
-    let each = (T::bits() / <T::LeafWord as Word>::width()) as usize;
+    let each = (T::bits() / word_width::<T>()) as usize;
     (k / each, k % each)
 }
 

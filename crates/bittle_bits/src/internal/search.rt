@@ -9,7 +9,7 @@ use crate::endian::Endian;
 use crate::internal::ends::ends;
 use crate::internal::source::word_of_kind;
 use crate::one_word::{End, at_end, from_end};
-use crate::read_words::ReadWords;
+use crate::read_words::{ReadWords, word_width};
 use crate::word::{Kind, Word};
 
 // Returns the word of the indexes from the place `at` on, seen from the end `N`.
@@ -39,7 +39,7 @@ pub fn end_in<B: ReadWords, E: Endian, K: Kind, N: End>(bits: &B, from: u32, to:
     if from == to {
         return None;
     }
-    let width = <B::LeafWord as Word>::width();
+    let width = word_width::<B>();
     let (first, begin, last, top) = ends(width, from, to);
     let mask = ahead::<B::LeafWord, E, N>(at_end::<N>(begin, top));
     let mut k = at_end::<N>(first, last);

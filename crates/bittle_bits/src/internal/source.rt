@@ -3,14 +3,14 @@
 
 ghost use Rattle.std.specs.Prelude.{◌≡◌, ◌+◌, ◌*◌, ◌/◌, ◌<◌};
 ghost use Rattle.bittle_bits.specs.BitPatterns.{bit_set};
-ghost use Rattle.bittle_bits.specs.Values.{ShapeFits};
+ghost use Rattle.bittle_bits.specs.Values.{ShapeFits, word_count};
 ghost use Rattle.bittle_bits.specs.Walk.{ones_or_zeros};
 ghost use Rattle.bittle_bits.specs.Words.{word_of};
 
 use crate::internal::buffer::Count;
-use crate::read_words::ReadWords;
+use crate::read_words::{ReadWords, word_width};
 use crate::shape::Shape;
-use crate::word::{Kind, Word, bits_of_kind};
+use crate::word::{Kind, bits_of_kind};
 
 /// Returns word `k` of a set, as a word whose ones are the bits of the kind.
 #[inline(always)]
@@ -51,9 +51,9 @@ impl<'a, B: ReadWords> Source<'a, B> {
     #[inline]
     pub fn words(&self) -> u32
         requires { ShapeFits B.Shape self.now.set.now }
-        ensures { result ≡ (B.big self.now.set.now).capacity / B.width }
+        ensures { result ≡ word_count B.Shape self.now.set.now }
     {
-        self.set.capacity() / <B::LeafWord as Word>::width()
+        self.set.capacity() / word_width::<B>()
     }
 
     /// Fetches word `k`, as a word whose ones are the bits of the kind, and counts the fetch.

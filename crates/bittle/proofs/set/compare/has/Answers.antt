@@ -26,7 +26,7 @@ returns g c =
     let s = g.B.Shape.big c.args.bits.now in
     let d = g.B.LeafWord.Word.pattern c.nth_leaf_word.result in
     let word = read_in m w (bit_set w d) in
-    let wide : c.width-width.result ≡ w = c.width-width.ensures ∙ b.leaf_width in
+    let wide : c.word_width-width.result ≡ w = c.word_width-width.ensures in
     let low = mod_below i w b.width_positive in
     let at : i / w * w + i % w ≡ i = omega (arith, div-add-mod' i w) in
     (rw (b.leaf_width, wide) at c.test_bit.ensures)

@@ -1,18 +1,28 @@
-use Rattle.std.proofs.Common.{MatchOption, subst, arith}
+use Rattle.std.proofs.Common.{◌≡◌, ◌*◌, ◌≤◌, MatchOption, subst, ◌∙◌, arith}
 use Rattle.bittle_bits.specs.Decided.{NoneDecidedBelow, IsFirstDecided}
+use Rattle.bittle_bits.specs.LawProofs.{whole_lesser}
 use Rattle.bittle_bits.specs.Orders.{read_in}
-use Rattle.bittle_bits.proofs.DecidedWords.{none_or_first}
+use Rattle.bittle_bits.proofs.DecidedWords.{first_decided, none_or_first, first_word_within}
 use Rattle.bittle_bits.proofs.internal.decided.first_decided_at_once.Goals as goal
 
 pub returns : goal.returns
 returns g c =
+    let a = g.met.A.ReadWords in
     let f = g.O.Operation.decide in
     let m = g.E.Endian.mirrored in
     let w = g.A.Shape.width in
     let x = g.A.Shape.big c.args.left.now in
     let y = g.B.Shape.big c.args.right.now in
-    subst (λ v. MatchOption c.first_among.result
+    let n = c.args.common in
+    let whole = whole_lesser x.capacity y.capacity w g.B.Shape.width n c.requires.width
+    c.requires.common (a.whole_words c.args.left.now)
+    (g.met.B.ReadWords.whole_words c.args.right.now) in
+    let some = rw (c.word_width.ensures) at c.if-common-word_width-eq0.false in
+    let found = rw (c.of.ensures.left, c.of.ensures.right, c.of.ensures.common)
+    at c.first_one.ensures in
+    subst (λ v. MatchOption c.first_one.result
     (NoneDecidedBelow f (read_in m w x) (read_in m v y) 0)
     (IsFirstDecided f (read_in m w x) (read_in m v y))) c.requires.width
-    (none_or_first f (read_in m w x) (read_in m w y) _ c.first_among.result
-    (c.first_among.ensures.first (λ i p. absurd (omega arith))))
+    (none_or_first f (read_in m w x) (read_in m w y) _ c.first_one.result
+    (first_decided f m w n x y a.width_positive whole (1 * w) c.first_one.result
+    (first_word_within w n some) found))

@@ -5,7 +5,7 @@ use Rattle.bittle_bits.proofs.internal.range_count.count_ones.Goals as goal
 
 pub count_in_word-requires-clause-word : goal.count_in_word-requires-clause-word
 count_in_word-requires-clause-word g c =
-    let wide = c.width-width.ensures ∙ g.met.B.ReadWords.leaf_width in
+    let wide = c.word_width-width.ensures in
     omega (arith, rw (wide, ← c.if-first-last.true) at c.ends-first.ensures.to, c.requires.within)
 
 pub count_in_word-requires-clause-ordered : goal.count_in_word-requires-clause-ordered
@@ -16,7 +16,7 @@ count_in_word-requires-clause-ordered g c =
 pub returns-then-first-last : goal.returns-then-first-last
 returns-then-first-last g c =
     let w = g.B.Shape.width in
-    let wide = c.width-width.ensures ∙ g.met.B.ReadWords.leaf_width in
+    let wide = c.word_width-width.ensures in
     let at = c.ends-first.result in
     let start : at.0 * w + at.1 ≡ c.args.from = omega
     (arith, rw wide at c.ends-first.ensures.from) in
@@ -26,13 +26,13 @@ returns-then-first-last g c =
 
 pub count_in_word-count-requires-clause-word : goal.count_in_word-count-requires-clause-word
 count_in_word-count-requires-clause-word g c =
-    let wide = c.width-width.ensures ∙ g.met.B.ReadWords.leaf_width in
+    let wide = c.word_width-width.ensures in
     omega (arith, rw wide at c.ends-first.ensures.from, c.requires.within)
 
 pub loop-k-init : goal.loop-k-init
 loop-k-init g c =
     let w = g.B.Shape.width in
-    let wide = c.width-width.ensures ∙ g.met.B.ReadWords.leaf_width in
+    let wide = c.word_width-width.ensures in
     let at = c.ends-first.result in
     let start : at.0 * w + at.1 ≡ c.args.from = omega
     (arith, rw wide at c.ends-first.ensures.from) in
@@ -42,7 +42,7 @@ loop-k-init g c =
 pub count_in_word-count-requires-in-loop-k-clause-word :
     goal.count_in_word-count-requires-in-loop-k-clause-word
 count_in_word-count-requires-in-loop-k-clause-word g c =
-    let wide = c.width-width.ensures ∙ g.met.B.ReadWords.leaf_width in
+    let wide = c.word_width-width.ensures in
     let ends = c.ends-first.ensures in
     let up = rw wide at (ends.before_last c.loop-k.k c.loop-k-test.true) in
     omega (arith, up, rw wide at ends.to, c.requires.within)
@@ -51,7 +51,7 @@ pub loop-k-preserved : goal.loop-k-preserved
 loop-k-preserved g c =
     let w = g.B.Shape.width in
     let k = c.loop-k.k in
-    let wide = c.width-width.ensures ∙ g.met.B.ReadWords.leaf_width in
+    let wide = c.word_width-width.ensures in
     let start : k * w + 0 ≡ k * w = omega arith in
     let next : k * w + w ≡ (k + 1) * w = omega arith in
     let one = rw (wide, start, next) at c.count_in_word-count-in-loop-k.ensures in
@@ -59,7 +59,7 @@ loop-k-preserved g c =
 
 pub overflow_add-count : goal.overflow_add-count
 overflow_add-count g c =
-    let wide = c.width-width.ensures ∙ g.met.B.ReadWords.leaf_width in
+    let wide = c.word_width-width.ensures in
     let w = g.B.Shape.width in
     let ends = c.ends-first.ensures in
     let up = rw wide at (ends.before_last c.loop-k.k c.loop-k-test.true) in
@@ -77,13 +77,13 @@ overflow_add-count g c =
 
 pub count_in_word-requires-2-clause-word : goal.count_in_word-requires-2-clause-word
 count_in_word-requires-2-clause-word g c =
-    let wide = c.width-width.ensures ∙ g.met.B.ReadWords.leaf_width in
+    let wide = c.word_width-width.ensures in
     omega (arith, rw wide at c.ends-first.ensures.to, c.requires.within)
 
 pub returns : goal.returns
 returns g c =
     let w = g.B.Shape.width in
-    let wide = c.width-width.ensures ∙ g.met.B.ReadWords.leaf_width in
+    let wide = c.word_width-width.ensures in
     let at = c.ends-first.result in
     let last : c.loop-k.k ≡ at.2 = omega (arith, c.ends-first.ensures.in_order) in
     let start : at.2 * w + 0 ≡ at.2 * w = omega arith in

@@ -8,7 +8,7 @@ use Rattle.bittle_bits.proofs.internal.search.end_in.Goals as goal
 pub loop-found-init : goal.loop-found-init
 loop-found-init g c =
     let law = g.met.B.ReadWords in
-    let at = rw (c.width-width.ensures ∙ law.leaf_width) at c.ends-first.ensures in
+    let at = rw (c.word_width-width.ensures) at c.ends-first.ensures in
     rw c.and-word.ensures (search_start g.K.Kind.ONES _ _ (g.B.Shape.big c.args.bits.now)
     law.width_positive (law.whole_words _) _ _ _ _ _ _ at g.N.End.FRONT _ _ _ _ c.at_end-k.ensures
     c.at_end.ensures c.word_of_kind.ensures (rw law.leaf_width at c.ahead-mask.ensures))
@@ -16,7 +16,7 @@ loop-found-init g c =
 pub overflow_add-found : goal.overflow_add-found
 overflow_add-found g c =
     let law = g.met.B.ReadWords in
-    let wide = c.width-width.ensures ∙ law.leaf_width in
+    let wide = c.word_width-width.ensures in
     let inv = c.loop-found.invariant in
     let k = word_within g.K.Kind.ONES g.E.Endian.mirrored _ (g.B.Shape.big c.args.bits.now)
     law.width_positive (law.whole_words _) _ _ _ _ _ _ (rw wide at c.ends-first.ensures)
@@ -30,7 +30,7 @@ overflow_add-found g c =
 pub returns-then-at_end : goal.returns-then-at_end
 returns-then-at_end g c =
     let law = g.met.B.ReadWords in
-    let wide = c.width-width.ensures ∙ law.leaf_width in
+    let wide = c.word_width-width.ensures in
     rw (c.at_end-then-away-width.ensures, wide) (search_found g.K.Kind.ONES g.E.Endian.mirrored
     g.B.Shape.width (g.B.Shape.big c.args.bits.now) law.width_positive (law.whole_words _) _ _ _ _
     _ _ (rw wide at c.ends-first.ensures) g.N.End.FRONT c.loop-found.k _ c.from_end-away.result
@@ -45,7 +45,7 @@ returns-then-at_end g c =
 pub returns-else-at_end : goal.returns-else-at_end
 returns-else-at_end g c =
     let law = g.met.B.ReadWords in
-    let wide = c.width-width.ensures ∙ law.leaf_width in
+    let wide = c.word_width-width.ensures in
     search_past g.K.Kind.ONES g.E.Endian.mirrored g.B.Shape.width (g.B.Shape.big c.args.bits.now)
     law.width_positive (law.whole_words _) _ _ _ _ _ _ (rw wide at c.ends-first.ensures)
     g.N.End.FRONT c.loop-found.k _ c.from_end-away.result c.loop-found.invariant
@@ -60,7 +60,7 @@ returns-else-at_end g c =
 pub returns-then-k-at_end : goal.returns-then-k-at_end
 returns-then-k-at_end g c =
     let law = g.met.B.ReadWords in
-    let wide = c.width-width.ensures ∙ law.leaf_width in
+    let wide = c.word_width-width.ensures in
     search_ended g.K.Kind.ONES g.E.Endian.mirrored g.B.Shape.width (g.B.Shape.big c.args.bits.now)
     law.width_positive (law.whole_words _) _ _ _ _ _ _ (rw wide at c.ends-first.ensures)
     g.N.End.FRONT c.loop-found.k _ c.from_end-away.result
@@ -70,7 +70,7 @@ returns-then-k-at_end g c =
 pub loop-found-preserved : goal.loop-found-preserved
 loop-found-preserved g c =
     let law = g.met.B.ReadWords in
-    let wide = c.width-width.ensures ∙ law.leaf_width in
+    let wide = c.word_width-width.ensures in
     let next : c.if-FRONT.k ≡ cond g.N.End.FRONT (c.loop-found.k + 1) (c.loop-found.k - 1) =
     elim c.if-FRONT.branch [
       | then-FRONT w ↦ rw (sym c.FRONT.ensures ∙ w.if-FRONT.true) w.k-is

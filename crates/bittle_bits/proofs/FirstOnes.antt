@@ -1,0 +1,93 @@
+-- The first member in whole words of a set.
+use Rattle.std.proofs.Common.{◌≡◌, ℕ, ◌+◌, ◌-◌, ◌*◌, ◌^◌, ◌<◌, ◌≤◌, Bool, true, false, inl, inr, Option, Some, None, is_some, sym, ap, ◌∙◌, arith, bit_or}
+use Rattle.std.proofs.lemmas.Bool.{cases_lt, true≢false}
+use Rattle.std.proofs.lemmas.Nat.{le_or_l, le_or_r}
+use Rattle.std.proofs.Math.Nat.{mul-le-mul_right}
+use Rattle.bittle_bits.specs.BitPatterns.{bit_has, bit_set}
+use Rattle.bittle_bits.specs.Orders.{place, read_in}
+use Rattle.bittle_bits.specs.PlainSet.{PlainSet, IsLeastMember}
+use Rattle.bittle_bits.specs.Searches.{IsFirstIn, NoneIn}
+use Rattle.bittle_bits.specs.Words.{word_of}
+use Rattle.bittle_bits.proofs.BitSets.{bit_has-zero, bit_has-below, some_digit}
+use Rattle.bittle_bits.proofs.PlaceLemmas.{place_in_word, place-place}
+use Rattle.bittle_bits.proofs.Words.{digit_at}
+
+-- the word x is word k of a set, and none of the set is known from one number on up to the word
+module _ (m : Bool) (w : ℕ) (s : PlainSet) (word : 0 < w) (from k x : ℕ)
+    (is : bit_set w x ≡ word_of w s k) (before : NoneIn (read_in m w s) from (k * w)) where
+  none_up_to : (r : ℕ) → r ≤ w →
+      ((i : ℕ) → i < r → (read_in m w (bit_set w x)).has i ≡ false) →
+      NoneIn (read_in m w s) from (k * w + r)
+  none_up_to r low none i after h =
+      elim (cases_lt i (k * w)) [
+        | inl l ↦ before i after l
+        | inr g ↦
+            let j = i - k * w in
+            let back : k * w + j ≡ i = omega arith in
+            rw back at (sym (digit_at m w k s x word is j (omega arith)) ∙ none j (omega arith))
+      ]
+
+  -- the word has none
+  pub none_next : (next : ℕ) → next ≡ k + 1 → x ≡ 0 → NoneIn (read_in m w s) from (next * w)
+  none_next next e zero = rw e (λ i after h. none_up_to w (omega arith)
+      (λ j l. ap (λ p. p (place m w j)) (bit_has-zero w x zero)) i after (omega arith))
+
+  -- its least member is the first of the set
+  pub first_in_word : (r to : ℕ) → from ≤ k * w → IsLeastMember (read_in m w (bit_set w x)) r →
+      r < w → k * w + r < to → IsFirstIn (read_in m w s) from to (Some (k * w + r))
+  first_in_word r to begun least low within = (
+    omega arith,
+    within,
+    sym (digit_at m w k s x word is r low) ∙ least.is_member low,
+    none_up_to r least.within least.none_below,
+  )
+
+-- an index of a word below a number of words lies within what those make up
+pub in_words : (k words w r : ℕ) → k < words → r < w → k * w + r < words * w
+in_words k words w r below low =
+    let up : (k + 1) * w ≤ words * w = mul-le-mul_right w (omega (arith, below)) in
+    omega (arith, up, low)
+
+-- a word that is not 0 has a least set bit
+pub some_least : (m : Bool) (w x r : ℕ) → 0 < w → x < 2 ^ w → (x ≡ 0 → ⊥) →
+    IsLeastMember (read_in m w (bit_set w x)) r → r < w
+some_least m w x r word fits some least =
+    elim (cases_lt r w) [
+      | inl l ↦ l
+      | inr g ↦
+          let t = some_digit w x fits some in
+          let i = place m w t.0 in
+          let low : i < w = place_in_word m w t.0 (bit_has-below w x t.0 t.1) in
+          absurd (true≢false (sym t.1 ∙ ap (bit_has w x) (sym (place-place m w t.0 word))
+          ∙ least.none_below i (omega arith)))
+    ]
+
+-- the or of four words is 0 only where each is
+pub each_is_zero : (a b c d ab cd all : ℕ) → ab ≡ bit_or a b → cd ≡ bit_or c d →
+    all ≡ bit_or ab cd → all ≡ 0 → (a ≡ 0) × (b ≡ 0) × (c ≡ 0) × (d ≡ 0)
+each_is_zero a b c d ab cd all one two both none =
+    let first : ab ≡ 0 = omega (arith, none, both, le_or_l ab cd) in
+    let second : cd ≡ 0 = omega (arith, none, both, le_or_r ab cd) in (
+      omega (arith, first, one, le_or_l a b),
+      omega (arith, first, one, le_or_r a b),
+      omega (arith, second, two, le_or_l c d),
+      omega (arith, second, two, le_or_r c d),
+    )
+
+-- where none lies before a number, the first from there on is the first of all
+pub first_after : (s : PlainSet) (from to : ℕ) (r : Option ℕ) → NoneIn s 0 from → from ≤ to →
+    IsFirstIn s from to r → IsFirstIn s 0 to r
+first_after s from to None before order none = λ i z l.
+    elim (cases_lt i from) [ inl b ↦ before i z b | inr g ↦ none i g l ]
+first_after s from to (Some d) before order first = (
+  omega arith,
+  first.1,
+  first.2,
+  λ i z l. elim (cases_lt i from) [ inl b ↦ before i z b | inr g ↦ first.3 i g l ],
+)
+
+-- a member that is the first below a number is the first below a greater one
+pub first_further : (s : PlainSet) (from to end d : ℕ) → to ≤ end → IsFirstIn s from to (Some d) →
+    IsFirstIn s from end (Some d)
+first_further s from to end d further first =
+    (first.0, omega (arith, first.1, further), first.2, first.3)
