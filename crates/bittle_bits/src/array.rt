@@ -12,7 +12,7 @@ use crate::bits_owned::BitsOwned;
 use crate::endian::{DefaultEndian, Endian};
 use crate::internal::row;
 use crate::internal::sealed::Sealed;
-use crate::one_word::{Operation, RangeOperation};
+use crate::operation::{Operation, RangeOperation};
 use crate::read_words::ReadWords;
 use crate::shape::Shape;
 use crate::word::{Ones, Zeros};

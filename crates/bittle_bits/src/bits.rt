@@ -9,11 +9,11 @@ ghost use Rattle.bittle_bits.specs.Values.{set_in, set_mirrored, ShapeFits, word
 ghost use Rattle.bittle_bits.specs.Walk.{AreBelow, IsFresh};
 ghost use Rattle.bittle_bits.specs.Words.{word_of};
 
+use crate::end::{Back, Front};
 use crate::endian::{BigEndian, DefaultEndian, Endian, LittleEndian};
 use crate::internal::source::Source;
 use crate::internal::{range_count, search};
 use crate::join::JoinOnes;
-use crate::one_word::{Back, Front};
 use crate::read_words::ReadWords;
 use crate::walk::{Iter, IterOnes, IterZeros};
 use crate::word::{Ones, Zeros};

@@ -9,7 +9,7 @@ ghost use Rattle.bittle_bits.specs.Words.{ReplacesWord};
 
 use crate::bits::Bits;
 use crate::endian::{BigEndian, Endian, LittleEndian};
-use crate::one_word::{
+use crate::operation::{
     Conjunction, Difference, Operation, RangeOperation, SymmetricDifference, Union,
 };
 

@@ -5,6 +5,7 @@ pub mod by_fours;
 pub(crate) mod cursor;
 pub mod decided;
 pub(crate) mod ends;
+pub(crate) mod halves;
 pub mod range_count;
 pub(crate) mod row;
 pub mod sealed;

@@ -8,7 +8,11 @@ mod array;
 pub mod bits;
 pub mod bits_mut;
 pub mod bits_owned;
+#[doc(hidden)]
+pub mod end;
 pub mod endian;
+#[doc(hidden)]
+pub mod integer;
 mod integers;
 #[doc(hidden)]
 pub mod internal;
@@ -16,6 +20,8 @@ pub mod join;
 pub mod number;
 #[doc(hidden)]
 pub mod one_word;
+pub mod operation;
+#[doc(hidden)]
 pub mod read_words;
 pub mod shape;
 mod slice;

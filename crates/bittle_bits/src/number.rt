@@ -8,8 +8,9 @@ ghost use Rattle.bittle_bits.specs.Orders.{read_in};
 ghost use Rattle.bittle_bits.specs.PlainSet.{ascending};
 ghost use Rattle.bittle_bits.specs.Walk.{ones_or_zeros, AreBelow, ListsInOrder, ListsInReverse};
 
+use crate::end::{Back, Front};
 use crate::endian::Endian;
-use crate::one_word::{self, Back, Front};
+use crate::one_word;
 use crate::word::{Kind, Ones, Word, Zeros, bits_of_kind};
 use std::alloc::AllocError;
 use std::marker::{Model, PhantomData};

@@ -1,140 +1,19 @@
-//! A word as a set, for every width at once: the calls on it and its iterators' steps. Beside them
-//! stand what they are over, so that each shape has one body for them all: the four operations on
-//! two sets, and the two ends of a set.
+//! The calls on a word, for every width at once, and its iterators' steps.
 
-ghost use Rattle.std.specs.Prelude.{◌≡◌, ◌==◌, Bool, ◌+◌, ◌*◌, ◌-◌, ◌^◌, ◌<◌, ◌≤◌, ◌||◌, ◌&&◌, true, false, cond, refl, IfSome, IsTrue};
-ghost use Rattle.std.proofs.Common.{sym};
+ghost use Rattle.std.specs.Prelude.{◌≡◌, ◌==◌, Bool, ◌+◌, ◌*◌, ◌-◌, ◌^◌, ◌<◌, ◌≤◌, true, cond, IfSome};
 ghost use Rattle.bittle_bits.specs.Ends.{IsEndMember, YieldsFrom, YieldsPlace};
-ghost use Rattle.bittle_bits.specs.LawProofs.{IsWord, none_past_word, one_word_whole, positive_width, word_capacity};
 ghost use Rattle.bittle_bits.specs.Orders.{place};
 ghost use Rattle.bittle_bits.specs.PlainSet.{contains, with_index, with_span_changed, without_index, empty_set, without_members, full_set, span_set, size, ascending};
-ghost use Rattle.bittle_bits.specs.SetOperations.{combination_of, first_alone, just_one};
-ghost use Rattle.bittle_bits.specs.Shapes.{Fits};
+ghost use Rattle.bittle_bits.specs.SetOperations.{combination_of};
 ghost use Rattle.bittle_bits.specs.Words.{ReplacesWord, word_of};
 ghost use Rattle.bittle_bits.specs.Values.{word_in};
 ghost use Rattle.bittle_bits.specs.WordSets.{bits_of, word_mirrored};
 
-use crate::bits::Bits;
-use crate::bits_mut::BitsMut;
-use crate::bits_owned::BitsOwned;
-use crate::endian::{DefaultEndian, Endian};
-use crate::read_words::ReadWords;
-use crate::shape::Shape;
+use crate::end::End;
+use crate::endian::Endian;
+use crate::internal::halves::{halves, joined, on_halves};
+use crate::operation::{Operation, RangeOperation};
 use crate::word::Word;
-
-/// A word that is a set: that of its bits.
-pub trait Integer: Word + Eq + Shape<LeafWord = Self> {
-    // It is a word, and the set of its bits.
-    ghost is_word: { IsWord Self.eq Self.indexable Self.type_capacity
-        ⟦<Self as Shape>⟧.width ⟦<Self as Word>⟧.width Self.big Self.pattern Self.loan };
-}
-
-impl<W: Integer> ReadWords for W {
-    ghost leaf_width = { sym W.is_word.same_width };
-
-    ghost width_positive = { positive_width _ _ W.is_word.same_width W.width_positive };
-
-    ghost whole_words = { λ v. one_word_whole _ _ _ W.is_word.same_width
-        (word_capacity _ _ _ _ (W.is_word.big_is_pattern v) refl) };
-
-    ghost none_past = { λ v. none_past_word _ _ _ (W.is_word.big_is_pattern v) };
-
-    #[inline]
-    fn is_fixed() -> bool {
-        true
-    }
-
-    #[inline]
-    fn capacity(&self) -> u32 {
-        W::width()
-    }
-
-    #[inline]
-    fn nth_leaf_word(&self, k: usize) -> W {
-        leaf_word::<W>(*self, k)
-    }
-}
-
-impl<W: Integer> Bits for W {
-    type Order = DefaultEndian;
-
-    #[inline]
-    fn count_ones(&self) -> u32 {
-        count_ones::<W>(*self)
-    }
-
-    #[inline]
-    fn all_zeros(&self) -> bool {
-        all_zeros::<W>(*self)
-    }
-
-    #[inline]
-    fn all_ones(&self) -> bool {
-        all_ones::<W>(*self)
-    }
-
-    #[inline]
-    fn test_bit_in<E: Endian>(&self, index: u32) -> bool {
-        test_bit::<W, E>(*self, index)
-    }
-}
-
-impl<W: Integer> BitsMut for W {
-    #[inline]
-    fn set_bit_in<E: Endian>(&mut self, index: u32) {
-        set_bit::<W, E>(self, index);
-    }
-
-    #[inline]
-    fn clear_bit_in<E: Endian>(&mut self, index: u32) {
-        clear_bit::<W, E>(self, index);
-    }
-
-    #[inline]
-    fn clear_bits(&mut self) {
-        clear_bits::<W>(self);
-    }
-
-    #[inline]
-    fn assign_range_by_operation<E: Endian, O: RangeOperation>(&mut self, from: u32, to: u32) {
-        assign_range::<W, E, O>(self, from, to);
-    }
-
-    #[inline]
-    fn assign_by_operation<O: Operation>(&mut self, other: &W) {
-        combine::<W, O>(self, *other);
-    }
-
-    #[inline]
-    fn set_nth_leaf_word(&mut self, k: usize, word: W) {
-        set_leaf_word::<W>(self, k, word);
-    }
-}
-
-impl<W: Integer> BitsOwned for W {
-    ghost one_capacity = { λ v. word_capacity _ _ _ _ (W.is_word.big_is_pattern v) W.is_word.same_capacity };
-
-    ghost type_whole_words = { one_word_whole _ _ _ W.is_word.same_width W.is_word.same_capacity };
-
-    ghost type_fits = { λ _. W.is_word.fits.1 };
-
-    ghost eq_is_same = { W.is_word.same_pattern };
-
-    #[inline]
-    fn bits() -> u32 {
-        W::width()
-    }
-
-    #[inline]
-    fn zeros() -> W {
-        zeros::<W>()
-    }
-
-    #[inline]
-    fn ones() -> W {
-        ones::<W>()
-    }
-}
 
 /// Tests the bit at an index, which wraps.
 #[inline]
@@ -197,19 +76,6 @@ pub fn clear_bits<T: Word>(word: &mut T)
     ensures { bits_of T.Word word.new ≡ without_members (bits_of T.Word word.old) }
 {
     *word = T::zero();
-}
-
-// Combines the bits of two words of 128 bits by their halves, each as a processor holds it.
-#[inline]
-fn on_halves<T: Word, O: Operation>(word: T, other: T) -> T
-    requires { T.width ≡ 128 }
-    ensures { bits_of T.Word result ≡ combination_of O.decide (bits_of T.Word word)
-        (bits_of T.Word other) }
-{
-    let (low, high) = halves::<T>(word);
-    let (other_low, other_high) = halves::<T>(other);
-    let low = O::on_words::<u64>(low, other_low);
-    joined::<T>(low, O::on_words::<u64>(high, other_high))
 }
 
 /// Combines a word with another, bit by bit.
@@ -311,27 +177,6 @@ fn pop_at_once<T: Word, E: Endian, N: End>(word: &mut T) -> Option<u32>
     }
 }
 
-// Returns the halves of a word of 128 bits: that of the lesser weights, and that of the greater.
-#[inline(always)]
-fn halves<T: Word>(word: T) -> (u64, u64)
-    requires { T.width ≡ 128 }
-    ensures pattern { T.pattern word ≡ result.1 * 2 ^ 64 + result.0 }
-    ensures range { (result.0 < 2 ^ 64) × (result.1 < 2 ^ 64) }
-{
-    let bits = word.to_bits();
-    ((bits & u64::MAX as u128) as u64, (bits >> 64) as u64)
-}
-
-// Returns the word of 128 bits that has these halves.
-#[inline(always)]
-fn joined<T: Word>(low: u64, high: u64) -> T
-    requires { T.width ≡ 128 }
-    ensures pattern { T.pattern result ≡ high * 2 ^ 64 + low }
-    ensures range { low < 2 ^ 64 }
-{
-    T::from_bits(((high as u128) << 64) + low as u128)
-}
-
 // Takes the member at the end `N` out of a word of 128 bits by the half that it lies in, and
 // returns its place. A processor searches and changes a half by an instruction each, and both by
 // some ten.
@@ -410,111 +255,4 @@ pub fn set_leaf_word<T: Word>(word: &mut T, k: usize, by: T)
 {
     let _ = k;
     *word = by;
-}
-
-/// An operation on two sets.
-pub trait Operation {
-    // Whether a number is a member afterwards, by whether it is one of each set.
-    ghost decide: { Bool → Bool → Bool };
-
-    /// Combines the bits of two words by the operation.
-    fn on_words<T: Word>(word: T, other: T) -> T
-        ensures { bits_of T.Word result ≡ combination_of decide (bits_of T.Word word)
-            (bits_of T.Word other) };
-}
-
-/// An operation that changes no bit where the other set has none, so that with a range of indexes
-/// it changes these alone.
-pub trait RangeOperation: Operation {
-    // A number that is none of the other set's stays as it was.
-    ghost keeps_others: { (b : Bool) → Self.decide b false ≡ b };
-}
-
-pub enum Union {}
-
-pub enum Conjunction {}
-
-pub enum Difference {}
-
-pub enum SymmetricDifference {}
-
-impl Operation for Union {
-    ghost decide = { ◌||◌ };
-
-    #[inline]
-    fn on_words<T: Word>(word: T, other: T) -> T {
-        word.or(other)
-    }
-}
-
-impl Operation for Conjunction {
-    ghost decide = { ◌&&◌ };
-
-    #[inline]
-    fn on_words<T: Word>(word: T, other: T) -> T {
-        word.and(other)
-    }
-}
-
-impl Operation for Difference {
-    ghost decide = { first_alone };
-
-    #[inline]
-    fn on_words<T: Word>(word: T, other: T) -> T {
-        word.and(other.not())
-    }
-}
-
-impl Operation for SymmetricDifference {
-    ghost decide = { just_one };
-
-    #[inline]
-    fn on_words<T: Word>(word: T, other: T) -> T {
-        word.xor(other)
-    }
-}
-
-impl RangeOperation for Union {
-    ghost keeps_others = { elim [ true ↦ refl | false ↦ refl ] };
-}
-
-impl RangeOperation for Difference {
-    ghost keeps_others = { elim [ true ↦ refl | false ↦ refl ] };
-}
-
-impl RangeOperation for SymmetricDifference {
-    ghost keeps_others = { elim [ true ↦ refl | false ↦ refl ] };
-}
-
-/// Names an end of a set: the [`Front`] or the [`Back`].
-pub trait End {
-    ghost FRONT: { Bool };
-
-    const FRONT: bool;
-}
-
-/// Names the front, where the least member is.
-pub enum Front {}
-
-/// Names the back, where the greatest member is.
-pub enum Back {}
-
-impl End for Front {
-    ghost FRONT = { true };
-
-    const FRONT: bool = true;
-}
-
-impl End for Back {
-    ghost FRONT = { false };
-
-    const FRONT: bool = false;
-}
-
-/// Returns the one of two numbers that is for the end `N`.
-#[inline]
-pub fn at_end<N: End>(front: u32, back: u32) -> u32
-    ensures { result ≡ cond N.FRONT front back }
-{
-    if N::FRONT { front } else { back }
 }

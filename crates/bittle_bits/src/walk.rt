@@ -10,11 +10,11 @@ ghost use Rattle.bittle_bits.specs.PlainSet.{ascending};
 ghost use Rattle.bittle_bits.specs.Values.{set_in, ShapeFits, word_count};
 ghost use Rattle.bittle_bits.specs.Walk.{Walk, ones_or_zeros, AreBelow, IsFresh, ResumesAs, StepsFront, StepsBack};
 
+use crate::end::{Back, Front};
 use crate::endian::Endian;
 use crate::internal::buffer::Count;
 use crate::internal::cursor::{Cursor, begin, duplicate, step};
 use crate::internal::source::{OwnedSource, Source};
-use crate::one_word::{Back, Front};
 use crate::read_words::ReadWords;
 use crate::shape::Shape;
 use crate::word::{Kind, Ones, Zeros};

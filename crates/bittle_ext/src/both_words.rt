@@ -12,7 +12,9 @@ ghost use Rattle.bittle.specs.Values.{ShapeFits};
 
 use crate::other_words::{other_word, word_or_empty};
 use bittle::{Bits, Endian};
-use bittle_bits::one_word::{self, End, Operation};
+use bittle_bits::end::End;
+use bittle_bits::one_word;
+use bittle_bits::operation::Operation;
 use bittle_bits::word::Word;
 
 /// What remains of a word, and the index of its first bit.

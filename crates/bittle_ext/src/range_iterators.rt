@@ -11,8 +11,8 @@ ghost use Rattle.bittle.specs.Walk.{ones_or_zeros, ListsInOrder, ListsInReverse}
 
 use crate::run_iterators::{IterOneRuns, IterRuns, IterZeroRuns};
 use bittle::{Bits, Endian, Shape};
+use bittle_bits::end::{Back, End, Front};
 use bittle_bits::internal::search::end_in;
-use bittle_bits::one_word::{Back, End, Front};
 use bittle_bits::word::{Kind, Ones, Zeros};
 use std::alloc::AllocError;
 use std::marker::{Model, PhantomData};

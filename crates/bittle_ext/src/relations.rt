@@ -8,9 +8,10 @@ ghost use Rattle.bittle.specs.Values.{set_in, ShapeFits};
 
 use crate::capacities::capacity_of;
 use bittle::{Bits, Endian};
+use bittle_bits::end::Front;
 use bittle_bits::internal::decided::first_decided_below;
 use bittle_bits::internal::search::end_in;
-use bittle_bits::one_word::{Conjunction, Difference, Front};
+use bittle_bits::operation::{Conjunction, Difference};
 use bittle_bits::word::{Kind, Ones, Word, Zeros};
 
 /// Returns whether two sets are read by words of one width in one order.

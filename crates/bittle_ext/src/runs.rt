@@ -6,9 +6,9 @@ ghost use Rattle.bittle.specs.Values.{set_in, ShapeFits};
 ghost use Rattle.bittle.specs.Walk.{ones_or_zeros};
 
 use bittle::{Bits, Endian};
+use bittle_bits::end::{Back, Front};
 use bittle_bits::internal::sealed::Sealed;
 use bittle_bits::internal::search::end_in;
-use bittle_bits::one_word::{Back, Front};
 use bittle_bits::word::Kind;
 use std::marker::PhantomData;
 

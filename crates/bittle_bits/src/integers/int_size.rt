@@ -6,8 +6,8 @@ ghost use Rattle.std.proofs.Common.{lit<};
 ghost use Rattle.bittle_bits.specs.BitPatterns.{bit_set};
 ghost use Rattle.bittle_bits.specs.LawProofs.{unsigned_word, signed_word};
 
+use crate::integer::Integer;
 use crate::internal::sealed::Sealed;
-use crate::one_word::Integer;
 use crate::shape::Shape;
 use crate::word::Word;
 

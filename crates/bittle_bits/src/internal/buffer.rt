@@ -7,9 +7,10 @@ ghost use Rattle.bittle_bits.specs.Orders.{place};
 ghost use Rattle.bittle_bits.specs.Values.{set_in, ShapeFits};
 ghost use Rattle.bittle_bits.specs.Walk.{ones_or_zeros};
 
+use crate::end::End;
 use crate::endian::Endian;
 use crate::internal::source::Source;
-use crate::one_word::{self, End};
+use crate::one_word;
 use crate::read_words::ReadWords;
 use crate::word::{Kind, Word};
 use std::marker::{Model, PhantomData};

@@ -9,10 +9,10 @@ ghost use Rattle.bittle_bits.specs.Cursor.{items_left_in, walk_of, IsWalkStart, 
 ghost use Rattle.bittle_bits.specs.Values.{set_in, ShapeFits, word_count};
 ghost use Rattle.bittle_bits.specs.Walk.{ones_or_zeros, AreBelow, ResumesAs, Seeks, Steps};
 
+use crate::end::{End, Front};
 use crate::endian::Endian;
 use crate::internal::buffer::{Buffers, Count};
 use crate::internal::source::Source;
-use crate::one_word::{End, Front};
 use crate::read_words::ReadWords;
 use crate::shape::Shape;
 use crate::word::Kind;

@@ -8,7 +8,7 @@ ghost use Rattle.bittle_bits.specs.Values.{set_in, ShapeFits};
 use crate::endian::Endian;
 use crate::internal::by_fours::first_one;
 use crate::internal::sealed::Sealed;
-use crate::one_word::Operation;
+use crate::operation::Operation;
 use crate::read_words::{ReadWords, word_width};
 use crate::shape::Shape;
 use crate::word::Word;

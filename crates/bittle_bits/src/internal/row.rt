@@ -14,7 +14,7 @@ ghost use Rattle.bittle_bits.specs.Values.{row_of, row_mirrored, row_in};
 use crate::bits_owned::BitsOwned;
 use crate::endian::Endian;
 use crate::internal::ends::ends;
-use crate::one_word::{Operation, RangeOperation};
+use crate::operation::{Operation, RangeOperation};
 use crate::read_words::word_width;
 use crate::word::{Kind, Ones, Zeros};
 

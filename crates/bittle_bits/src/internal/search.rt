@@ -5,10 +5,11 @@ ghost use Rattle.bittle_bits.specs.Ends.{is_ahead, IsEndIn};
 ghost use Rattle.bittle_bits.specs.Values.{word_in, set_in, ShapeFits};
 ghost use Rattle.bittle_bits.specs.Walk.{ones_or_zeros};
 
+use crate::end::{End, at_end};
 use crate::endian::Endian;
 use crate::internal::ends::ends;
 use crate::internal::source::word_of_kind;
-use crate::one_word::{End, at_end, from_end};
+use crate::one_word::from_end;
 use crate::read_words::{ReadWords, word_width};
 use crate::word::{Kind, Word};
 

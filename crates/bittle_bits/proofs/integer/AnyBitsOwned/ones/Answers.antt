@@ -1,4 +1,4 @@
-use Rattle.bittle_bits.proofs.one_word.AnyBitsOwned.ones.Goals as goal
+use Rattle.bittle_bits.proofs.integer.AnyBitsOwned.ones.Goals as goal
 
 pub returns-clause-in_each_order : goal.returns-clause-in_each_order
 returns-clause-in_each_order g c m =

@@ -1,5 +1,5 @@
 use Rattle.bittle_bits.proofs.Halves.{halves_combined}
-use Rattle.bittle_bits.proofs.one_word.on_halves.Goals as goal
+use Rattle.bittle_bits.proofs.internal.halves.on_halves.Goals as goal
 
 pub returns : goal.returns
 returns g c = halves_combined g.O.Operation.decide 64 _ _ _ _ _ _ _ _ _ _ c.requires

@@ -1,0 +1,36 @@
+//! The two ends of a set, so that each shape has one body for both.
+
+ghost use Rattle.std.specs.Prelude.{◌≡◌, Bool, true, false, cond};
+
+/// Names an end of a set: the [`Front`] or the [`Back`].
+pub trait End {
+    ghost FRONT: { Bool };
+
+    const FRONT: bool;
+}
+
+/// Names the front, where the least member is.
+pub enum Front {}
+
+/// Names the back, where the greatest member is.
+pub enum Back {}
+
+impl End for Front {
+    ghost FRONT = { true };
+
+    const FRONT: bool = true;
+}
+
+impl End for Back {
+    ghost FRONT = { false };
+
+    const FRONT: bool = false;
+}
+
+/// Returns the one of two numbers that is for the end `N`.
+#[inline]
+pub fn at_end<N: End>(front: u32, back: u32) -> u32
+    ensures { result ≡ cond N.FRONT front back }
+{
+    if N::FRONT { front } else { back }
+}
