@@ -12,10 +12,10 @@ use crate::bits_owned::BitsOwned;
 use crate::endian::{DefaultEndian, Endian};
 use crate::internal::row;
 use crate::internal::sealed::Sealed;
+use crate::kind::{Ones, Zeros};
 use crate::operation::{Operation, RangeOperation};
 use crate::read_words::ReadWords;
 use crate::shape::Shape;
-use crate::word::{Ones, Zeros};
 
 impl<T: Shape, const N: usize> Shape for [T; N] {
     type LeafWord = T::LeafWord;

@@ -15,8 +15,8 @@ use crate::internal::source::Source;
 use crate::internal::{range_count, search};
 use crate::join::JoinOnes;
 use crate::read_words::ReadWords;
+use crate::kind::{Ones, Zeros};
 use crate::walk::{Iter, IterOnes, IterZeros};
-use crate::word::{Ones, Zeros};
 
 /// A set of bits, each named by a `u32` index below the capacity.
 ///

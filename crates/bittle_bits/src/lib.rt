@@ -17,6 +17,8 @@ mod integers;
 #[doc(hidden)]
 pub mod internal;
 pub mod join;
+#[doc(hidden)]
+pub mod kind;
 pub mod number;
 #[doc(hidden)]
 pub mod one_word;

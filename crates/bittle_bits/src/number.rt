@@ -10,8 +10,9 @@ ghost use Rattle.bittle_bits.specs.Walk.{ones_or_zeros, AreBelow, ListsInOrder, 
 
 use crate::end::{Back, Front};
 use crate::endian::Endian;
+use crate::kind::{Kind, Ones, Zeros, bits_of_kind};
 use crate::one_word;
-use crate::word::{Kind, Ones, Word, Zeros, bits_of_kind};
+use crate::word::Word;
 use std::alloc::AllocError;
 use std::marker::{Model, PhantomData};
 

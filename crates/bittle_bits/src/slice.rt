@@ -10,10 +10,10 @@ use crate::bits_owned::BitsOwned;
 use crate::endian::{DefaultEndian, Endian};
 use crate::internal::row;
 use crate::internal::sealed::Sealed;
+use crate::kind::{Ones, Zeros};
 use crate::operation::{Operation, RangeOperation};
 use crate::read_words::ReadWords;
 use crate::shape::Shape;
-use crate::word::{Ones, Zeros};
 
 impl<'a, T: Shape> Shape for &'a [T] {
     type LeafWord = T::LeafWord;

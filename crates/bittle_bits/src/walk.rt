@@ -16,8 +16,8 @@ use crate::internal::buffer::Count;
 use crate::internal::cursor::{Cursor, begin, duplicate, step};
 use crate::internal::source::{OwnedSource, Source};
 use crate::read_words::ReadWords;
+use crate::kind::{Kind, Ones, Zeros};
 use crate::shape::Shape;
-use crate::word::{Kind, Ones, Zeros};
 use std::alloc::AllocError;
 use std::marker::{Model, PhantomData};
 

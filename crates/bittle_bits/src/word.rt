@@ -1,13 +1,8 @@
-//! A word: one of the twelve integers, with what a processor does to one. An iterator or a search
-//! is over one kind of its bits, the ones or the zeros.
+//! A word: one of the twelve integers, with what a processor does to one.
 
-ghost use Rattle.std.specs.Prelude.{◌≡◌, ℕ, Bool, true, false, ◌+◌, ◌-◌, ◌<◌, ◌^◌, ◌==◌, bit_and, bit_or, bit_xor, count_ones};
+ghost use Rattle.std.specs.Prelude.{◌≡◌, ℕ, ◌+◌, ◌-◌, ◌<◌, ◌^◌, ◌==◌, bit_and, bit_or, bit_xor, count_ones};
 ghost use Rattle.std.specs.Int.Count.{count_leading_zeros, count_trailing_zeros};
-ghost use Rattle.bittle_bits.specs.BitPatterns.{bit_set};
 ghost use Rattle.bittle_bits.specs.LawProofs.{positive_bytes};
-ghost use Rattle.bittle_bits.specs.Walk.{ones_or_zeros};
-
-use crate::internal::sealed::Sealed;
 
 /// A word: one of the twelve integers, with what a processor does to one.
 pub trait Word: Copy {
@@ -132,49 +127,4 @@ pub trait Word: Copy {
 
     // So it has a bit.
     ghost width_positive: { 0 < width } = { positive_bytes width whole_bytes };
-}
-
-/// Names the bits that an iterator yields: the [`Ones`] or the [`Zeros`] of its set.
-pub trait Kind: Drop {
-    ghost ONES: { Bool };
-
-    const ONES: bool;
-
-    /// Takes what only this project can name, so that no other crate can implement the trait.
-    #[doc(hidden)]
-    fn seal(_: Sealed);
-}
-
-/// Names the set bits.
-#[derive(Drop)]
-pub enum Ones {}
-
-/// Names the unset bits below the capacity.
-#[derive(Drop)]
-pub enum Zeros {}
-
-impl Kind for Ones {
-    ghost ONES = { true };
-
-    const ONES: bool = true;
-
-    fn seal(_: Sealed) {}
-}
-
-impl Kind for Zeros {
-    ghost ONES = { false };
-
-    const ONES: bool = false;
-
-    fn seal(_: Sealed) {}
-}
-
-/// Returns a word whose ones are the bits of the kind: for zeros, each bit flipped.
-#[doc(hidden)]
-#[inline]
-pub fn bits_of_kind<T: Word, K: Kind>(word: T) -> T
-    ensures { bit_set T.width (T.pattern result)
-        ≡ ones_or_zeros K.ONES (bit_set T.width (T.pattern word)) }
-{
-    if K::ONES { word } else { word.not() }
 }

@@ -13,7 +13,7 @@ use crate::run_iterators::{IterOneRuns, IterRuns, IterZeroRuns};
 use bittle::{Bits, Endian, Shape};
 use bittle_bits::end::{Back, End, Front};
 use bittle_bits::internal::search::end_in;
-use bittle_bits::word::{Kind, Ones, Zeros};
+use bittle_bits::kind::{Kind, Ones, Zeros};
 use std::alloc::AllocError;
 use std::marker::{Model, PhantomData};
 

@@ -11,8 +11,9 @@ use bittle::{Bits, Endian};
 use bittle_bits::end::Front;
 use bittle_bits::internal::decided::first_decided_below;
 use bittle_bits::internal::search::end_in;
+use bittle_bits::kind::{Kind, Ones, Zeros};
 use bittle_bits::operation::{Conjunction, Difference};
-use bittle_bits::word::{Kind, Ones, Word, Zeros};
+use bittle_bits::word::Word;
 
 /// Returns whether two sets are read by words of one width in one order.
 #[inline]

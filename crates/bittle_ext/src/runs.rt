@@ -9,7 +9,7 @@ use bittle::{Bits, Endian};
 use bittle_bits::end::{Back, Front};
 use bittle_bits::internal::sealed::Sealed;
 use bittle_bits::internal::search::end_in;
-use bittle_bits::word::Kind;
+use bittle_bits::kind::Kind;
 use std::marker::PhantomData;
 
 /// Names the bits that `K` does not name.

@@ -14,8 +14,8 @@ use crate::endian::Endian;
 use crate::internal::buffer::{Buffers, Count};
 use crate::internal::source::Source;
 use crate::read_words::ReadWords;
+use crate::kind::Kind;
 use crate::shape::Shape;
-use crate::word::Kind;
 
 /// The buffered words of an iterator, and the range of words between them that are not fetched yet.
 #[derive(Drop)]

@@ -14,9 +14,9 @@ ghost use Rattle.bittle_bits.specs.Values.{row_of, row_mirrored, row_in};
 use crate::bits_owned::BitsOwned;
 use crate::endian::Endian;
 use crate::internal::ends::ends;
+use crate::kind::{Kind, Ones, Zeros};
 use crate::operation::{Operation, RangeOperation};
 use crate::read_words::word_width;
-use crate::word::{Kind, Ones, Zeros};
 
 /// Returns the capacity of this many elements, or `u32::MAX` where they do not fit.
 #[inline]

@@ -9,9 +9,10 @@ use crate::end::{End, at_end};
 use crate::endian::Endian;
 use crate::internal::ends::ends;
 use crate::internal::source::word_of_kind;
+use crate::kind::Kind;
 use crate::one_word::from_end;
 use crate::read_words::{ReadWords, word_width};
-use crate::word::{Kind, Word};
+use crate::word::Word;
 
 // Returns the word of the indexes from the place `at` on, seen from the end `N`.
 #[inline]

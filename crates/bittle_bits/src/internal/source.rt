@@ -9,8 +9,9 @@ ghost use Rattle.bittle_bits.specs.Words.{word_of};
 
 use crate::internal::buffer::Count;
 use crate::read_words::{ReadWords, word_width};
+use crate::kind::{Kind, bits_of_kind};
 use crate::shape::Shape;
-use crate::word::{Kind, bits_of_kind};
+
 
 /// Returns word `k` of a set, as a word whose ones are the bits of the kind.
 #[inline(always)]

@@ -2,7 +2,7 @@ use Rattle.std.proofs.Common.{Bool, sym, ap, ◌∙◌}
 use Rattle.bittle_bits.specs.BitPatterns.{bit_set}
 use Rattle.bittle_bits.specs.Walk.{ones_or_zeros}
 use Rattle.bittle_bits.proofs.OnesOrZeros.{digits_of_complement}
-use Rattle.bittle_bits.proofs.word.bits_of_kind.Goals as goal
+use Rattle.bittle_bits.proofs.kind.bits_of_kind.Goals as goal
 
 pub returns-else-ONES : goal.returns-else-ONES
 returns-else-ONES g c =
