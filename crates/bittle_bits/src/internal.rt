@@ -3,11 +3,11 @@
 pub(crate) mod buffer;
 pub mod by_fours;
 pub(crate) mod cursor;
-pub mod decided;
+pub(crate) mod decided;
 pub(crate) mod ends;
 pub(crate) mod halves;
-pub mod range_count;
+pub(crate) mod range_count;
 pub(crate) mod row;
-pub mod sealed;
-pub mod search;
-pub mod source;
+pub(crate) mod sealed;
+pub(crate) mod search;
+pub(crate) mod source;

@@ -12,16 +12,17 @@ pub mod bits_owned;
 pub mod end;
 pub mod endian;
 #[doc(hidden)]
+pub mod extension;
+#[doc(hidden)]
 pub mod integer;
 mod integers;
-#[doc(hidden)]
-pub mod internal;
+mod internal;
 pub mod join;
 #[doc(hidden)]
 pub mod kind;
 pub mod number;
 #[doc(hidden)]
-pub mod one_word;
+mod one_word;
 pub mod operation;
 #[doc(hidden)]
 pub mod read_words;

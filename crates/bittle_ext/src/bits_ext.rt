@@ -10,7 +10,7 @@ ghost use Rattle.bittle.specs.Values.{set_in, ShapeFits};
 use crate::capacities::capacity_of;
 use crate::{ranks, runs};
 use bittle::{Bits, Endian};
-use bittle_bits::kind::{Ones, Zeros};
+use bittle_bits::extension::{Ones, Zeros};
 
 /// What can be asked of any set beyond the calls of [`Bits`].
 ///

@@ -16,7 +16,7 @@ ghost use Rattle.bittle.specs.Values.{set_in, set_mirrored, ShapeFits};
 use crate::bits_ext::BitsExt;
 use crate::one_bit;
 use bittle::{BigEndian, BitsMut, Endian};
-use bittle_bits::operation::{Difference, SymmetricDifference, Union};
+use bittle_bits::extension::{Difference, SymmetricDifference, Union};
 
 /// Everyday changes of any set that can be changed. No change alters the capacity.
 pub trait BitsMutExt: BitsMut {

@@ -12,10 +12,7 @@ ghost use Rattle.bittle.specs.Values.{ShapeFits};
 
 use crate::other_words::{other_word, word_or_empty};
 use bittle::{Bits, Endian};
-use bittle_bits::end::End;
-use bittle_bits::one_word;
-use bittle_bits::operation::Operation;
-use bittle_bits::word::Word;
+use bittle_bits::extension::{End, Operation, Word, pop};
 
 /// What remains of a word, and the index of its first bit.
 #[derive(Clone, Copy)]
@@ -81,10 +78,10 @@ fn scan<W: Word, E: Endian, N: End>(at: &mut Place<W>) -> Option<u32>
     ensures { Scans E.mirrored W.width W.pattern N.FRONT at.old result at.new }
 {
     if N::FRONT {
-        let index = one_word::pop::<W, E, N>(&mut at.head.word)?;
+        let index = pop::<W, E, N>(&mut at.head.word)?;
         Some(at.head.base + index)
     } else {
-        let index = one_word::pop::<W, E, N>(&mut at.tail.word)?;
+        let index = pop::<W, E, N>(&mut at.tail.word)?;
         Some(at.tail.base + index)
     }
 }

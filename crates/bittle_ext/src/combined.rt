@@ -12,9 +12,9 @@ ghost use Rattle.bittle.specs.Walk.{AreBelow, ListsInOrder, ListsInReverse};
 use crate::both_words::{Place, begin, step};
 use crate::capacities::capacity_of;
 use bittle::{Bits, Endian, Shape};
-use bittle_bits::end::{Back, Front};
-use bittle_bits::operation::{Conjunction, Difference, Operation, SymmetricDifference, Union};
-use bittle_bits::word::Word;
+use bittle_bits::extension::{
+    Back, Conjunction, Difference, Front, Operation, SymmetricDifference, Union, Word,
+};
 use std::alloc::AllocError;
 use std::marker::{Model, PhantomData};
 

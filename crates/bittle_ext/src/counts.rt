@@ -10,8 +10,7 @@ use crate::both_words::word_of_both;
 use crate::capacities::capacity_of;
 use crate::relations::are_alike;
 use bittle::{Bits, Endian};
-use bittle_bits::operation::Conjunction;
-use bittle_bits::word::Word;
+use bittle_bits::extension::{Conjunction, Word};
 
 /// Counts the indexes of word `k` that are set in both.
 #[inline]

@@ -6,8 +6,7 @@ ghost use Rattle.bittle.specs.PlainSet.{contains};
 ghost use Rattle.bittle.specs.Values.{set_in, ShapeFits};
 
 use bittle::{Bits, BitsMut, Endian};
-use bittle_bits::operation::RangeOperation;
-use bittle_bits::word::Word;
+use bittle_bits::extension::{RangeOperation, Word};
 
 /// Returns whether the shape of a set fits, and it has a bit.
 #[inline]

@@ -8,8 +8,7 @@ ghost use Rattle.bittle.specs.Values.{set_in, ShapeFits};
 
 use crate::relations::are_alike;
 use bittle::{Bits, Endian};
-use bittle_bits::one_word;
-use bittle_bits::word::Word;
+use bittle_bits::extension::{Word, set_bit};
 
 /// Returns word `k` of a set, or an empty word from its capacity on.
 #[inline]
@@ -37,7 +36,7 @@ fn gathered_word<W: Word, B: Bits, E: Endian, F: Endian>(set: &B, k: u32) -> W
     let mut word = W::zero();
     let mut from = start.min(end);
     while let Some(index) = set.first_one_in::<F>(from, end) {
-        one_word::set_bit::<W, E>(&mut word, index - start);
+        set_bit::<W, E>(&mut word, index - start);
         from = index + 1;
     }
     word

@@ -6,8 +6,7 @@ ghost use Rattle.bittle.specs.PlainSet.{ascending, members_below};
 ghost use Rattle.bittle.specs.Values.{set_in, ShapeFits};
 
 use bittle::{Bits, Endian};
-use bittle_bits::internal::range_count::count_in_word;
-use bittle_bits::word::Word;
+use bittle_bits::extension::{Word, count_in_word};
 
 /// Counts the set bits of word `k`.
 #[inline]

@@ -8,12 +8,9 @@ ghost use Rattle.bittle.specs.Values.{set_in, ShapeFits};
 
 use crate::capacities::capacity_of;
 use bittle::{Bits, Endian};
-use bittle_bits::end::Front;
-use bittle_bits::internal::decided::first_decided_below;
-use bittle_bits::internal::search::end_in;
-use bittle_bits::kind::{Kind, Ones, Zeros};
-use bittle_bits::operation::{Conjunction, Difference};
-use bittle_bits::word::Word;
+use bittle_bits::extension::{
+    Conjunction, Difference, Front, Kind, Ones, Word, Zeros, end_in, first_decided_below,
+};
 
 /// Returns whether two sets are read by words of one width in one order.
 #[inline]

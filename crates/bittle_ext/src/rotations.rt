@@ -9,7 +9,7 @@ ghost use Rattle.bittle.specs.Values.{set_in, ShapeFits};
 
 use crate::capacities::capacity_of;
 use bittle::{Bits, BitsOwned, Endian};
-use bittle_bits::word::Word;
+use bittle_bits::extension::Word;
 
 /// Returns the number of which each bit of a word is set.
 #[inline]

@@ -10,9 +10,7 @@ ghost use Rattle.bittle.specs.Walk.{ones_or_zeros};
 
 use crate::runs::Others;
 use bittle::{Bits, Endian, Shape};
-use bittle_bits::end::{Back, End, Front};
-use bittle_bits::internal::search::end_in;
-use bittle_bits::kind::{Kind, Ones, Zeros};
+use bittle_bits::extension::{Back, End, Front, Kind, Ones, Zeros, end_in};
 use std::alloc::AllocError;
 use std::marker::{Model, PhantomData};
 use std::ops::Range;

@@ -6,10 +6,7 @@ ghost use Rattle.bittle.specs.Values.{set_in, ShapeFits};
 ghost use Rattle.bittle.specs.Walk.{ones_or_zeros};
 
 use bittle::{Bits, Endian};
-use bittle_bits::end::{Back, Front};
-use bittle_bits::internal::sealed::Sealed;
-use bittle_bits::internal::search::end_in;
-use bittle_bits::kind::Kind;
+use bittle_bits::extension::{Back, Front, Kind, Sealed, end_in};
 use std::marker::PhantomData;
 
 /// Names the bits that `K` does not name.

@@ -9,7 +9,7 @@ ghost use Rattle.bittle_bits.specs.Rows.{row_set};
 ghost use Rattle.bittle.specs.Values.{set_in, ShapeFits};
 
 use bittle::{Bits, BitsOwned, Endian, LittleEndian, number};
-use bittle_bits::word::Word;
+use bittle_bits::extension::Word;
 use std::alloc::{AllocError, Global};
 
 /// Counts the set bits of any set by a `for`.

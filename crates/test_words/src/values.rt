@@ -5,8 +5,8 @@ ghost use Rattle.std.specs.Prelude.{◌<◌, IsTrue};
 use bittle::number::{IterOnes, IterZeros};
 use bittle::prelude::*;
 use bittle::{BigEndian, Endian, LittleEndian};
-use bittle_bits::word::Word;
 use checks::{holds, same};
+use bittle_bits::extension::Word;
 use std::process::Abort;
 
 // How many ones the numbers from 0 to 15 have.

@@ -5,8 +5,8 @@ ghost use Rattle.bittle.specs.Values.{ShapeFits};
 
 use bittle::number::{IterOnes, IterZeros};
 use bittle::{BigEndian, Bits, BitsMut, Endian, LittleEndian};
-use bittle_bits::word::Word;
 use checks::{holds, same};
+use bittle_bits::extension::Word;
 use std::process::Abort;
 
 #[test]

@@ -9,7 +9,7 @@ ghost use Rattle.bittle.specs.ListEnds.{answer_of, items_left_by, answers_of, Ar
 
 use bittle_bits::bits::Bits;
 use bittle_bits::endian::Endian;
-use bittle_bits::internal::sealed::{Count, Counted};
+use bittle_bits::extension::{Count, Counted};
 use std::marker::Model;
 use std::mem::replace;
 use std::snapshot::Snapshot;

@@ -9,7 +9,7 @@ ghost use Rattle.bittle_bits.specs.Values.{set_in};
 use super::Set;
 use bittle_bits::bits::Bits;
 use bittle_bits::endian::Endian;
-use bittle_bits::internal::sealed::Counted;
+use bittle_bits::extension::Counted;
 use std::fmt;
 
 /// Prints the indexes of the set bits in increasing order between braces, as `{1, 14}`. The flags

@@ -7,7 +7,7 @@ ghost use Rattle.bittle_bits.specs.Values.{set_mirrored};
 use super::Set;
 use bittle_bits::bits_owned::BitsOwned;
 use bittle_bits::endian::Endian;
-use bittle_bits::integer::Integer;
+use bittle_bits::extension::Integer;
 use std::marker::PhantomData;
 
 impl<T: Integer, E: Endian> From<T> for Set<T, E> {

@@ -13,7 +13,7 @@ ghost use Rattle.bittle.specs.Comparison.{feed};
 use super::Set;
 use bittle_bits::bits::Bits;
 use bittle_bits::endian::Endian;
-use bittle_bits::internal::sealed::Counted;
+use bittle_bits::extension::Counted;
 use std::hash::{Hash, Hasher};
 
 /// Feeds the hasher the index of each set bit in increasing order and then their number, each as a

@@ -13,7 +13,7 @@ use super::Set;
 use bittle_bits::bits_mut::BitsMut;
 use bittle_bits::bits_owned::BitsOwned;
 use bittle_bits::endian::Endian;
-use bittle_bits::operation::Operation;
+use bittle_bits::extension::Operation;
 
 // Returns a value combined with another one by an operation.
 #[inline]

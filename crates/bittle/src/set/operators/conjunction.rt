@@ -9,7 +9,7 @@ use crate::set::Set;
 use bittle_bits::bits_mut::BitsMut;
 use bittle_bits::bits_owned::BitsOwned;
 use bittle_bits::endian::Endian;
-use bittle_bits::operation::Conjunction;
+use bittle_bits::extension::Conjunction;
 use std::ops::{BitAnd, BitAndAssign};
 
 /// `&` gives the members of both sets.

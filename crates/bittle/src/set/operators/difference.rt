@@ -9,7 +9,7 @@ use crate::set::Set;
 use bittle_bits::bits_mut::BitsMut;
 use bittle_bits::bits_owned::BitsOwned;
 use bittle_bits::endian::Endian;
-use bittle_bits::operation::Difference;
+use bittle_bits::extension::Difference;
 use std::ops::{Sub, SubAssign};
 
 /// `-` gives the members of the first set that are none of the second.

@@ -9,7 +9,7 @@ use crate::set::Set;
 use bittle_bits::bits_mut::BitsMut;
 use bittle_bits::bits_owned::BitsOwned;
 use bittle_bits::endian::Endian;
-use bittle_bits::operation::SymmetricDifference;
+use bittle_bits::extension::SymmetricDifference;
 use std::ops::{BitXor, BitXorAssign};
 
 /// `^` gives the members of just one of the sets.

@@ -9,7 +9,7 @@ use crate::set::Set;
 use bittle_bits::bits_mut::BitsMut;
 use bittle_bits::bits_owned::BitsOwned;
 use bittle_bits::endian::Endian;
-use bittle_bits::operation::Union;
+use bittle_bits::extension::Union;
 use std::ops::{BitOr, BitOrAssign};
 
 /// `|` gives the members of either set.

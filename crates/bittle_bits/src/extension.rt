@@ -1,0 +1,17 @@
+//! What the project's own crates above stand on, and no other: `Set` of `bittle`, the everyday
+//! calls of `bittle_ext`, and the tests with probes.
+
+pub use crate::end::{Back, End, Front};
+pub use crate::integer::Integer;
+pub use crate::internal::buffer::Count;
+pub use crate::internal::decided::{first_decided_at_once, first_decided_below};
+pub use crate::internal::range_count::count_in_word;
+pub use crate::internal::sealed::Sealed;
+pub use crate::internal::search::end_in;
+pub use crate::kind::{Kind, Ones, Zeros};
+pub use crate::one_word::{pop, set_bit, test_bit};
+pub use crate::operation::{
+    Conjunction, Difference, Operation, RangeOperation, SymmetricDifference, Union,
+};
+pub use crate::walk::Counted;
+pub use crate::word::Word;
