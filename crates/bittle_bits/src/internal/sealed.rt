@@ -1,7 +1,4 @@
-//! What seals the traits, and ghost types that the public signatures mention; not part of the API.
-
-pub use crate::internal::buffer::Count;
-pub use crate::walk::Counted;
+//! What seals the traits.
 
 /// A type that no crate which names `bittle` alone can name: such a crate can implement no trait
 /// with a function over it.
