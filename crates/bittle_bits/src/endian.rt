@@ -13,7 +13,7 @@ pub trait Endian: Drop {
     // Whether the first index is the bit of greatest weight.
     ghost mirrored: { Bool };
 
-    /// Takes what only this project can name, so that no other crate can implement the trait.
+    /// Takes what a crate that names `bittle` alone cannot name, so that none implements the trait.
     #[doc(hidden)]
     fn seal(_: Sealed);
 

@@ -1,4 +1,5 @@
-//! The parts that the public modules stand on; no user names them.
+//! The parts that the public modules stand on. [`extension`](crate::extension) hands on those that
+//! the project's crates above need.
 
 pub(crate) mod buffer;
 pub mod by_fours;

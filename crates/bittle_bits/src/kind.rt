@@ -13,7 +13,7 @@ pub trait Kind: Drop {
 
     const ONES: bool;
 
-    /// Takes what only this project can name, so that no other crate can implement the trait.
+    /// Takes what a crate that names `bittle` alone cannot name, so that none implements the trait.
     #[doc(hidden)]
     fn seal(_: Sealed);
 }

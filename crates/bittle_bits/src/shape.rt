@@ -13,7 +13,7 @@ use crate::word::Word;
 /// A type whose values stand for sets. Its members are ghosts: contracts speak of them.
 ///
 /// A struct over any set names this bound, and its functions name [`Bits`](crate::bits::Bits) or a
-/// trait above it. Only the types of this project are shapes.
+/// trait above it. No crate that names `bittle` alone has a shape of its own.
 pub trait Shape: Drop {
     /// The integer type that the set is made of.
     #[doc(hidden)]
@@ -34,7 +34,7 @@ pub trait Shape: Drop {
     // Which loan a lent slice is: a change leaves the same one. It is 0 of a value that is owned.
     ghost loan: { Self → ℕ } = { λ _. 0 };
 
-    /// Takes what only this project can name, so that no other crate can implement the trait.
+    /// Takes what a crate that names `bittle` alone cannot name, so that none implements the trait.
     #[doc(hidden)]
     fn seal(_: Sealed);
 }

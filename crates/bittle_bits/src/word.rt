@@ -1,4 +1,5 @@
-//! A word: one of the twelve integers, with what a processor does to one.
+//! A word: one of the twelve integers, with what a processor does to one. Users name the integers;
+//! the project's own crates name the trait, by [`extension`](crate::extension).
 
 ghost use Rattle.std.specs.Prelude.{◌≡◌, ℕ, ◌+◌, ◌-◌, ◌<◌, ◌^◌, ◌==◌, bit_and, bit_or, bit_xor, count_ones};
 ghost use Rattle.std.specs.Int.Count.{count_leading_zeros, count_trailing_zeros};

@@ -2,10 +2,11 @@
 //! a change that tells whether the set changed, a range changed at once, the first and the last bit
 //! taken out, a set made of a list of indexes, a complement, iterators over a range and over runs.
 //!
-//! They stand in extension traits, which every set of `bittle` has in both orders, and on the
-//! contracts of the library alone. The twelve words, the orders, searches, iterators, joins and the
-//! operations on two sets stand in `bittle`. A call that ends in `_in` names its order; without the
-//! ending it is the order of the type.
+//! They stand in extension traits, which every set of `bittle` has in both orders. They are proved
+//! from contracts alone: those that users see, and those of the parts in `bittle_bits::extension`,
+//! which the library keeps for crates of this project. The twelve words, the orders, searches,
+//! iterators, joins and the operations on two sets stand in `bittle`. A call that ends in `_in`
+//! names its order; without the ending it is the order of the type.
 //!
 //! ```rust
 //! use bittle::prelude::*;
