@@ -14,8 +14,8 @@ use crate::endian::{BigEndian, DefaultEndian, Endian, LittleEndian};
 use crate::internal::source::Source;
 use crate::internal::{range_count, search};
 use crate::join::JoinOnes;
-use crate::read_words::ReadWords;
 use crate::kind::{Ones, Zeros};
+use crate::read_words::ReadWords;
 use crate::walk::{Iter, IterOnes, IterZeros};
 
 /// A set of bits, each named by a `u32` index below the capacity.

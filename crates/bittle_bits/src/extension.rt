@@ -4,6 +4,7 @@
 pub use crate::end::{Back, End, Front};
 pub use crate::integer::Integer;
 pub use crate::internal::buffer::Count;
+pub use crate::internal::by_fours::first_one;
 pub use crate::internal::decided::{first_decided_at_once, first_decided_below};
 pub use crate::internal::range_count::count_in_word;
 pub use crate::internal::sealed::Sealed;
@@ -13,5 +14,6 @@ pub use crate::one_word::{pop, set_bit, test_bit};
 pub use crate::operation::{
     Conjunction, Difference, Operation, RangeOperation, SymmetricDifference, Union,
 };
+pub use crate::read_words::{ReadWords, word_width};
 pub use crate::walk::Counted;
 pub use crate::word::Word;

@@ -2,7 +2,7 @@
 //! the project's crates above need.
 
 pub(crate) mod buffer;
-pub mod by_fours;
+pub(crate) mod by_fours;
 pub(crate) mod cursor;
 pub(crate) mod decided;
 pub(crate) mod ends;

@@ -22,8 +22,8 @@ pub mod join;
 #[doc(hidden)]
 pub mod kind;
 pub mod number;
-#[doc(hidden)]
 mod one_word;
+#[doc(hidden)]
 pub mod operation;
 #[doc(hidden)]
 pub mod read_words;

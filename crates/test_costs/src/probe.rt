@@ -10,8 +10,7 @@ ghost use Rattle.bittle_bits.specs.Shapes.{Fits};
 
 use crate::asked::Asked;
 use bittle::{Bits, BitsMut, BitsOwned, DefaultEndian, Endian};
-use bittle_bits::read_words::ReadWords;
-use bittle_bits::extension::{Operation, RangeOperation, Sealed};
+use bittle_bits::extension::{Operation, RangeOperation, ReadWords, Sealed};
 use bittle_bits::shape::Shape;
 
 /// Of these bytes the members are 0 and 31, and in little-endian order 7 and 24.

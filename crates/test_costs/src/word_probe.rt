@@ -7,8 +7,7 @@ ghost use Rattle.bittle_bits.specs.Shapes.{Fits};
 
 use crate::asked::Asked;
 use bittle::{Bits, BitsMut, BitsOwned, DefaultEndian, Endian};
-use bittle_bits::read_words::ReadWords;
-use bittle_bits::extension::{Operation, RangeOperation, Sealed};
+use bittle_bits::extension::{Operation, RangeOperation, ReadWords, Sealed};
 use bittle_bits::shape::Shape;
 
 /// A word that is a set, and the counts of the calls that reach it.

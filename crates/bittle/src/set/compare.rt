@@ -12,8 +12,9 @@ ghost use Rattle.bittle.specs.Comparison.{list_cmp, list_eq, AreCompared, AreSam
 use super::Set;
 use bittle_bits::bits::Bits;
 use bittle_bits::endian::Endian;
-use bittle_bits::read_words::word_width;
-use bittle_bits::extension::{SymmetricDifference, Word, first_decided_at_once, first_decided_below, test_bit};
+use bittle_bits::extension::{
+    SymmetricDifference, first_decided_at_once, first_decided_below, test_bit, word_width,
+};
 use std::cmp::Ordering;
 
 // Whether two sets are read by words of one width in one order.

@@ -13,8 +13,8 @@ use crate::end::{End, Front};
 use crate::endian::Endian;
 use crate::internal::buffer::{Buffers, Count};
 use crate::internal::source::Source;
-use crate::read_words::ReadWords;
 use crate::kind::Kind;
+use crate::read_words::ReadWords;
 use crate::shape::Shape;
 
 /// The buffered words of an iterator, and the range of words between them that are not fetched yet.

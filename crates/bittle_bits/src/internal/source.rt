@@ -8,10 +8,9 @@ ghost use Rattle.bittle_bits.specs.Walk.{ones_or_zeros};
 ghost use Rattle.bittle_bits.specs.Words.{word_of};
 
 use crate::internal::buffer::Count;
-use crate::read_words::{ReadWords, word_width};
 use crate::kind::{Kind, bits_of_kind};
+use crate::read_words::{ReadWords, word_width};
 use crate::shape::Shape;
-
 
 /// Returns word `k` of a set, as a word whose ones are the bits of the kind.
 #[inline(always)]
