@@ -1,10 +1,15 @@
 -- Buffered words: the items that remain in each, and what a scan takes.
-use Rattle.std.specs.Prelude.{◌≡◌, ◌≢◌, ℕ, ◌+◌, ◌-◌, ◌<◌, Bool, true, false, cond, List, [], map, Option, Some, None, MatchBool, MatchOption}
+use Rattle.std.specs.Prelude.{◌≡◌, ◌≢◌, ℕ, ◌+◌, ◌-◌, ◌*◌, ◌<◌, Bool, true, false, cond, List, [], map, Option, Some, None, MatchBool, MatchOption}
 use Rattle.bittle_bits.specs.BitPatterns.{bit_set}
 use Rattle.bittle_bits.specs.Ends.{with_end}
 use Rattle.bittle_bits.specs.Orders.{read_in}
 use Rattle.bittle_bits.specs.PlainSet.{PlainSet, ascending_from, ascending}
+use Rattle.bittle_bits.specs.Values.{kind_in}
+use Rattle.bittle_bits.specs.declared.endian.Endian as endian
 use Rattle.bittle_bits.specs.declared.internal.buffer.BufferedWord.{BufferedWord}
+use Rattle.bittle_bits.specs.declared.kind.Kind as kind
+use Rattle.bittle_bits.specs.declared.shape.Shape as shape
+use Rattle.bittle_bits.specs.declared.word.Word as word
 
 -- the members of a set from one number on and below another, in increasing order
 unfoldable pub members_between : PlainSet → ℕ → ℕ → List ℕ
@@ -32,6 +37,24 @@ unfoldable pub IsSound : {W : Type 0} → Bool → ℕ → (W → ℕ) → Buffe
 IsSound mirrored w pattern c = (c.is_loaded ≡ true →
     (first : ℕ) × (c.edge ≡ first + edge_from_first mirrored w) × (first + w < 4294967296))
     × (c.is_loaded ≡ false → ascending (read_in mirrored w (bit_set w (pattern c.word))) ≡ [])
+
+-- the items of a word that is word k of a set
+abbrev pub word_items : {W E : Type 0} → word.Ghosts W → endian.Ghosts E → W → ℕ → List ℕ
+word_items t e v k = items_of e.mirrored t.width (t.pattern v) (k * t.width)
+
+-- the members of word k of a value, of its bits of a kind in an order
+abbrev pub members_in_word : {V W E K : Type 0} → shape.Ghosts V W → endian.Ghosts E →
+    kind.Ghosts K → V → ℕ → List ℕ
+members_in_word b e k v n = members_between (kind_in b e k v) (n * b.width) (n * b.width + b.width)
+
+-- the items of a buffered word, if one is loaded
+abbrev pub items_held : {W E : Type 0} → word.Ghosts W → endian.Ghosts E → BufferedWord W →
+    Option (List ℕ)
+items_held t e c = buffered_items e.mirrored t.width t.pattern c
+
+-- a buffered word is sound
+abbrev pub HoldsSound : {W E : Type 0} → word.Ghosts W → endian.Ghosts E → BufferedWord W → Type 0
+HoldsSound t e c = IsSound e.mirrored t.width t.pattern c
 
 -- two buffered words, by the items that remain in each, the scans of them, and the fetches of words
 pub record BufferPair : Type 0 where

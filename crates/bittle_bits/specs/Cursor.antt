@@ -3,7 +3,11 @@ use Rattle.std.specs.Prelude.{◌≡◌, ℕ, ◌+◌, ◌-◌, ◌*◌, ◌≤�
 use Rattle.bittle_bits.specs.Buffers.{members_between, items_in, buffer_count}
 use Rattle.bittle_bits.specs.PlainSet.{PlainSet, ascending}
 use Rattle.bittle_bits.specs.Walk.{Walk, IsFresh}
+use Rattle.bittle_bits.specs.Values.{kind_in, word_count}
+use Rattle.bittle_bits.specs.declared.endian.Endian as endian
 use Rattle.bittle_bits.specs.declared.internal.cursor.Cursor.{Cursor}
+use Rattle.bittle_bits.specs.declared.kind.Kind as kind
+use Rattle.bittle_bits.specs.declared.shape.Shape as shape
 
 -- the types are those of the set, of the order of the walk, and of the words of the set
 module _ {B E W : Type 0} where
@@ -40,3 +44,17 @@ pub record IsWalkStart {B E W : Type 0} (s : PlainSet) (words w : ℕ) (t : Curs
   pub remaining : items_left_in s w t ≡ ascending s
   pub fresh : IsFresh words (walk_of s words w t)
   pub counted : IsCounted words t
+
+-- the walk at a place in the words of a value, over its bits of a kind in an order
+abbrev pub walk_at : {V W E K L : Type 0} → shape.Ghosts V W → endian.Ghosts E → kind.Ghosts K → V →
+    Cursor V E L → Walk
+walk_at b e k v at = walk_of (kind_in b e k v) (word_count b v) b.width at
+
+-- the counts of a place in the words of a value
+abbrev pub IsCountedIn : {V W E L : Type 0} → shape.Ghosts V W → V → Cursor V E L → Type 0
+IsCountedIn b v at = IsCounted (word_count b v) at
+
+-- an iterator over the bits of a kind of a value begins at a place
+abbrev pub Begins : {V W E K L : Type 0} → shape.Ghosts V W → endian.Ghosts E → kind.Ghosts K → V →
+    Cursor V E L → Type 0
+Begins b e k v at = IsWalkStart (kind_in b e k v) (word_count b v) b.width at

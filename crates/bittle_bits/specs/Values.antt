@@ -4,9 +4,11 @@ use Rattle.bittle_bits.specs.Orders.{read_in}
 use Rattle.bittle_bits.specs.PlainSet.{PlainSet}
 use Rattle.bittle_bits.specs.Rows.{row_set}
 use Rattle.bittle_bits.specs.Shapes.{Fits}
+use Rattle.bittle_bits.specs.Walk.{ones_or_zeros}
 use Rattle.bittle_bits.specs.WordSets.{word_mirrored}
 use Rattle.bittle_bits.specs.declared.shape.Shape as shape
 use Rattle.bittle_bits.specs.declared.endian.Endian as endian
+use Rattle.bittle_bits.specs.declared.kind.Kind as kind
 use Rattle.bittle_bits.specs.declared.word.Word as word
 
 -- the set of a value, read in an order
@@ -16,6 +18,11 @@ set_in b e v = read_in e.mirrored b.width (b.big v)
 -- the set of a value, mirrored within each word or not
 abbrev pub set_mirrored : {V W : Type 0} → shape.Ghosts V W → Bool → V → PlainSet
 set_mirrored b mirrored v = read_in mirrored b.width (b.big v)
+
+-- the bits of a kind of a value, read in an order: its set, or the complement
+abbrev pub kind_in : {V W E K : Type 0} → shape.Ghosts V W → endian.Ghosts E → kind.Ghosts K → V →
+    PlainSet
+kind_in b e k v = ones_or_zeros k.ONES (set_in b e v)
 
 -- the shape of a value fits
 abbrev pub ShapeFits : {V W : Type 0} → shape.Ghosts V W → V → Type 0

@@ -7,8 +7,8 @@ ghost use Rattle.std.specs.Prelude.{◌≡◌, ⊤, Option, ℕ, None, IfSome};
 ghost use Rattle.std.specs.Iterator.{item_count, UpTo};
 ghost use Rattle.std.specs.Iterator.SizeHint.{IsWithinCount};
 ghost use Rattle.bittle_bits.specs.PlainSet.{ascending};
-ghost use Rattle.bittle_bits.specs.Values.{set_in, ShapeFits, word_count};
-ghost use Rattle.bittle_bits.specs.Walk.{Walk, ones_or_zeros, AreBelow, IsFresh, ResumesAs, StepsFront, StepsBack};
+ghost use Rattle.bittle_bits.specs.Values.{kind_in, ShapeFits, word_count};
+ghost use Rattle.bittle_bits.specs.Walk.{Walk, AreBelow, IsFresh, ResumesAs, StepsFront, StepsBack};
 
 use crate::end::{Back, Front};
 use crate::endian::Endian;
@@ -83,18 +83,17 @@ pub struct Iter<'a, B: Shape, E: Endian, K: Kind> {
 }
 
 impl<'a, B: Shape, E: Endian, K: Kind> Model for Iter<'a, B, E, K> {
-    ghost use Rattle.bittle_bits.specs.Walk.{Walk, ones_or_zeros};
+    ghost use Rattle.bittle_bits.specs.Walk.{Walk};
 
     ghost Value = { Walk };
 
-    ghost use Rattle.bittle_bits.specs.Values.{set_in, ShapeFits, word_count};
-    ghost use Rattle.bittle_bits.specs.Cursor.{walk_of, IsCounted};
+    ghost use Rattle.bittle_bits.specs.Values.{ShapeFits};
+    ghost use Rattle.bittle_bits.specs.Cursor.{walk_at, IsCountedIn};
 
-    ghost view = { λ w. walk_of (ones_or_zeros K.ONES (set_in B.Shape E.Endian w.source.set.now))
-        (word_count B.Shape w.source.set.now) B.width w.at };
+    ghost view = { λ w. walk_at B.Shape E.Endian K.Kind w.source.set.now w.at };
 
     ghost invariant = { λ w. ShapeFits B.Shape w.source.set.now
-        × IsCounted (word_count B.Shape w.source.set.now) w.at };
+        × IsCountedIn B.Shape w.source.set.now w.at };
 }
 
 impl<'a, B: ReadWords, E: Endian, K: Kind> Iter<'a, B, E, K> {
@@ -103,7 +102,7 @@ impl<'a, B: ReadWords, E: Endian, K: Kind> Iter<'a, B, E, K> {
     pub(crate) fn new(source: Source<'a, B>) -> Self
         requires { ShapeFits B.Shape source.set.now }
         ensures remaining { result.remaining
-            ≡ ascending (ones_or_zeros K.ONES (set_in B.Shape E.Endian source.entry.set.now)) }
+            ≡ ascending (kind_in B.Shape E.Endian K.Kind source.entry.set.now) }
         ensures fresh { IsFresh (word_count B.Shape source.entry.set.now) result }
         ensures below { AreBelow (B.big source.entry.set.now).capacity result.remaining }
     {
@@ -189,18 +188,17 @@ pub struct IntoIter<B: Shape, E: Endian, K: Kind> {
 }
 
 impl<B: Shape, E: Endian, K: Kind> Model for IntoIter<B, E, K> {
-    ghost use Rattle.bittle_bits.specs.Walk.{Walk, ones_or_zeros};
+    ghost use Rattle.bittle_bits.specs.Walk.{Walk};
 
     ghost Value = { Walk };
 
-    ghost use Rattle.bittle_bits.specs.Values.{set_in, ShapeFits, word_count};
-    ghost use Rattle.bittle_bits.specs.Cursor.{walk_of, IsCounted};
+    ghost use Rattle.bittle_bits.specs.Values.{ShapeFits};
+    ghost use Rattle.bittle_bits.specs.Cursor.{walk_at, IsCountedIn};
 
-    ghost view = { λ w. walk_of (ones_or_zeros K.ONES (set_in B.Shape E.Endian w.source.set))
-        (word_count B.Shape w.source.set) B.width w.at };
+    ghost view = { λ w. walk_at B.Shape E.Endian K.Kind w.source.set w.at };
 
     ghost invariant = { λ w. ShapeFits B.Shape w.source.set
-        × IsCounted (word_count B.Shape w.source.set) w.at };
+        × IsCountedIn B.Shape w.source.set w.at };
 }
 
 impl<B: ReadWords, E: Endian, K: Kind> IntoIter<B, E, K> {
@@ -209,7 +207,7 @@ impl<B: ReadWords, E: Endian, K: Kind> IntoIter<B, E, K> {
     pub(crate) fn new(source: OwnedSource<B>) -> Self
         requires { ShapeFits B.Shape source.set }
         ensures remaining { result.remaining
-            ≡ ascending (ones_or_zeros K.ONES (set_in B.Shape E.Endian source.set)) }
+            ≡ ascending (kind_in B.Shape E.Endian K.Kind source.set) }
         ensures fresh { IsFresh (word_count B.Shape source.set) result }
         ensures below { AreBelow (B.big source.set).capacity result.remaining }
     {

@@ -2,10 +2,9 @@
 //! scan of a buffered one is counted.
 
 ghost use Rattle.std.specs.Prelude.{◌≡◌, ℕ, ◌+◌, ◌-◌, ◌*◌, ◌<◌, not, cond, false, Some, None};
-ghost use Rattle.bittle_bits.specs.Buffers.{members_between, edge_from_first, buffered_items, buffer_count, buffer_of, items_of, IsSound, Refills, ScansFrom, TellsExhausted};
+ghost use Rattle.bittle_bits.specs.Buffers.{edge_from_first, buffer_count, buffer_of, items_held, members_in_word, word_items, HoldsSound, Refills, ScansFrom, TellsExhausted};
 ghost use Rattle.bittle_bits.specs.Orders.{place};
-ghost use Rattle.bittle_bits.specs.Values.{set_in, ShapeFits};
-ghost use Rattle.bittle_bits.specs.Walk.{ones_or_zeros};
+ghost use Rattle.bittle_bits.specs.Values.{ShapeFits};
 
 use crate::end::End;
 use crate::endian::Endian;
@@ -88,9 +87,9 @@ fn bits_of<W: Word>(words: usize) -> u32
 #[inline(always)]
 fn buffered<W: Word, E: Endian, N: End>(word: W, k: usize) -> BufferedWord<W>
     requires { k * W.width + W.width < 4294967296 }
-    ensures items { buffered_items E.mirrored W.width W.pattern result
-        ≡ Some (items_of E.mirrored W.width (W.pattern word) (k * W.width)) }
-    ensures sound { IsSound E.mirrored W.width W.pattern result }
+    ensures items { items_held W.Word E.Endian result
+        ≡ Some (word_items W.Word E.Endian word k) }
+    ensures sound { HoldsSound W.Word E.Endian result }
 {
     let first = if N::FRONT {
         bits_of::<W>(k + 1) - W::width()
@@ -145,12 +144,12 @@ fn index_at<W: Word, E: Endian>(edge: u32, at: u32) -> u32
 // last scan.
 #[inline(always)]
 fn is_exhausted<W: Word, E: Endian>(buffered: &mut BufferedWord<W>, scans: &mut Count) -> bool
-    requires { IsSound E.mirrored W.width W.pattern buffered.old }
-    ensures told { TellsExhausted result (buffered_items E.mirrored W.width W.pattern buffered.old)
-        (buffered_items E.mirrored W.width W.pattern buffered.new) }
+    requires { HoldsSound W.Word E.Endian buffered.old }
+    ensures told { TellsExhausted result (items_held W.Word E.Endian buffered.old)
+        (items_held W.Word E.Endian buffered.new) }
     ensures scans { scans.new ≡ scans.old + cond result
-        (buffer_count (buffered_items E.mirrored W.width W.pattern buffered.old)) 0 }
-    ensures sound { IsSound E.mirrored W.width W.pattern buffered.new }
+        (buffer_count (items_held W.Word E.Endian buffered.old)) 0 }
+    ensures sound { HoldsSound W.Word E.Endian buffered.new }
 {
     if !one_word::all_zeros::<W>(buffered.word) {
         return false;
@@ -165,12 +164,12 @@ fn scan<W: Word, E: Endian, N: End>(
     buffered: &mut BufferedWord<W>,
     scans: &mut Count,
 ) -> Option<u32>
-    requires { IsSound E.mirrored W.width W.pattern buffered.old }
-    ensures found { ScansFrom N.FRONT (buffered_items E.mirrored W.width W.pattern buffered.old)
-        result (buffered_items E.mirrored W.width W.pattern buffered.new) }
+    requires { HoldsSound W.Word E.Endian buffered.old }
+    ensures found { ScansFrom N.FRONT (items_held W.Word E.Endian buffered.old)
+        result (items_held W.Word E.Endian buffered.new) }
     ensures scans { scans.new
-        ≡ scans.old + buffer_count (buffered_items E.mirrored W.width W.pattern buffered.old) }
-    ensures sound { IsSound E.mirrored W.width W.pattern buffered.new }
+        ≡ scans.old + buffer_count (items_held W.Word E.Endian buffered.old) }
+    ensures sound { HoldsSound W.Word E.Endian buffered.new }
 {
     let Some(at) = one_word::pop_place::<W, E, N>(&mut buffered.word) else {
         unload(buffered, scans);
@@ -194,19 +193,19 @@ pub struct Buffers<W: Word, E: Endian> {
 }
 
 impl<W: Word, E: Endian> Model for Buffers<W, E> {
-    ghost use Rattle.bittle_bits.specs.Buffers.{BufferPair, buffered_items, IsSound};
+    ghost use Rattle.bittle_bits.specs.Buffers.{BufferPair, items_held, HoldsSound};
 
     ghost Value = { BufferPair };
 
     ghost view = { λ c. record {
-      head = buffered_items E.mirrored W.width W.pattern c.head;
-      tail = buffered_items E.mirrored W.width W.pattern c.tail;
+      head = items_held W.Word E.Endian c.head;
+      tail = items_held W.Word E.Endian c.tail;
       scans = c.scans;
       fetches = c.fetches;
     } };
 
-    ghost invariant = { λ c. IsSound E.mirrored W.width W.pattern c.head
-        × IsSound E.mirrored W.width W.pattern c.tail };
+    ghost invariant = { λ c. HoldsSound W.Word E.Endian c.head
+        × HoldsSound W.Word E.Endian c.tail };
 }
 
 impl<W: Word, E: Endian> Buffers<W, E> {
@@ -257,7 +256,7 @@ impl<W: Word, E: Endian> Buffers<W, E> {
     #[inline(always)]
     fn put<N: End>(&mut self, word: W, k: usize)
         requires { k * W.width + W.width < 4294967296 }
-        ensures { let loaded = Some (items_of E.mirrored W.width (W.pattern word) (k * W.width)) in
+        ensures { let loaded = Some (word_items W.Word E.Endian word k) in
             self.new ≡ record {
               head = cond N.FRONT loaded self.old.head;
               tail = cond N.FRONT self.old.tail loaded;
@@ -277,9 +276,8 @@ impl<W: Word, E: Endian> Buffers<W, E> {
     fn fetch<B: ReadWords<LeafWord = W>, K: Kind>(&mut self, source: &Source<'_, B>, k: usize) -> W
         requires fits { ShapeFits B.Shape source.now.set.now }
         requires within { k * B.width < (B.big source.now.set.now).capacity }
-        ensures items { items_of E.mirrored W.width (W.pattern result) (k * W.width)
-            ≡ members_between (ones_or_zeros K.ONES (set_in B.Shape E.Endian source.now.set.now))
-            (k * B.width) (k * B.width + B.width) }
+        ensures items { word_items W.Word E.Endian result k
+            ≡ members_in_word B.Shape E.Endian K.Kind source.now.set.now k }
         ensures reach { k * W.width + W.width < 4294967296 }
         ensures counted { self.new ≡ record {
           head = self.old.head;
@@ -300,9 +298,7 @@ impl<W: Word, E: Endian> Buffers<W, E> {
     )
         requires fits { ShapeFits B.Shape source.now.set.now }
         requires within { k * B.width < (B.big source.now.set.now).capacity }
-        ensures { let loaded = Some (members_between
-            (ones_or_zeros K.ONES (set_in B.Shape E.Endian source.now.set.now))
-            (k * B.width) (k * B.width + B.width)) in
+        ensures { let loaded = Some (members_in_word B.Shape E.Endian K.Kind source.now.set.now k) in
             self.new ≡ record {
               head = cond N.FRONT loaded self.old.head;
               tail = cond N.FRONT self.old.tail loaded;
@@ -324,9 +320,8 @@ impl<W: Word, E: Endian> Buffers<W, E> {
     ) -> bool
         requires fits { ShapeFits B.Shape source.now.set.now }
         requires within { k * B.width < (B.big source.now.set.now).capacity }
-        ensures { Refills N.FRONT (members_between
-            (ones_or_zeros K.ONES (set_in B.Shape E.Endian source.now.set.now))
-            (k * B.width) (k * B.width + B.width)) result self.old self.new }
+        ensures { Refills N.FRONT (members_in_word B.Shape E.Endian K.Kind source.now.set.now k) result
+            self.old self.new }
     {
         let word = self.fetch::<B, K>(source, k);
         if one_word::all_zeros::<W>(word) {

@@ -5,9 +5,9 @@ ghost use Rattle.std.specs.Prelude.{◌≡◌, ◌≢◌, ℕ, ◌+◌, ◌-◌,
 ghost use Rattle.bittle_bits.specs.Buffers.{buffer_of, items_in};
 ghost use Rattle.bittle_bits.specs.PlainSet.{PlainSet};
 ghost use Rattle.bittle_bits.specs.Ends.{YieldsFrom};
-ghost use Rattle.bittle_bits.specs.Cursor.{items_left_in, walk_of, IsWalkStart, IsCounted};
-ghost use Rattle.bittle_bits.specs.Values.{set_in, ShapeFits, word_count};
-ghost use Rattle.bittle_bits.specs.Walk.{ones_or_zeros, AreBelow, ResumesAs, Seeks, Steps};
+ghost use Rattle.bittle_bits.specs.Cursor.{walk_at, walk_of, Begins, IsCounted, IsCountedIn};
+ghost use Rattle.bittle_bits.specs.Values.{ShapeFits};
+ghost use Rattle.bittle_bits.specs.Walk.{AreBelow, ResumesAs, Seeks, Steps};
 
 use crate::end::{End, Front};
 use crate::endian::Endian;
@@ -32,11 +32,9 @@ pub struct Cursor<B: Shape, E: Endian> {
 #[inline]
 pub fn begin<B: ReadWords, E: Endian, K: Kind>(source: &Source<'_, B>) -> Cursor<B, E>
     requires { ShapeFits B.Shape source.now.set.now }
-    ensures starts { IsWalkStart (ones_or_zeros K.ONES (set_in B.Shape E.Endian source.now.set.now))
-        (word_count B.Shape source.now.set.now) B.width result }
+    ensures starts { Begins B.Shape E.Endian K.Kind source.now.set.now result }
     ensures below { AreBelow (B.big source.now.set.now).capacity
-        (items_left_in (ones_or_zeros K.ONES (set_in B.Shape E.Endian source.now.set.now)) B.width
-        result) }
+        (walk_at B.Shape E.Endian K.Kind source.now.set.now result).remaining }
 {
     let mut at = Cursor {
         buffers: Buffers::none(),
@@ -109,11 +107,10 @@ fn seek<B: ReadWords, E: Endian, K: Kind, N: End>(
     at: &mut Cursor<B, E>,
 ) -> bool
     requires fits { ShapeFits B.Shape source.now.set.now }
-    requires counted { IsCounted (word_count B.Shape source.now.set.now) at.old }
-    ensures sought { let s = ones_or_zeros K.ONES (set_in B.Shape E.Endian source.now.set.now) in
-        let words = word_count B.Shape source.now.set.now in
-        Seeks (walk_of s words B.width at.old) (walk_of s words B.width at.new) }
-    ensures counted { IsCounted (word_count B.Shape source.now.set.now) at.new }
+    requires counted { IsCountedIn B.Shape source.now.set.now at.old }
+    ensures sought { let walk = walk_at B.Shape E.Endian K.Kind source.now.set.now in
+        Seeks (walk at.old) (walk at.new) }
+    ensures counted { IsCountedIn B.Shape source.now.set.now at.new }
     ensures told { MatchBool result (items_in (buffer_of N.FRONT at.new.buffers) ≢ [])
         ((buffer_of N.FRONT at.new.buffers ≡ None) × (at.new.low ≡ at.new.high)) }
 {
@@ -139,12 +136,10 @@ pub fn step<B: ReadWords, E: Endian, K: Kind, N: End>(
     at: &mut Cursor<B, E>,
 ) -> Option<u32>
     requires fits { ShapeFits B.Shape source.now.set.now }
-    requires counted { IsCounted (word_count B.Shape source.now.set.now) at.old }
-    ensures steps { let s = ones_or_zeros K.ONES (set_in B.Shape E.Endian source.now.set.now) in
-        let words = word_count B.Shape source.now.set.now in
-        Steps (YieldsFrom N.FRONT (λ w. w.remaining)) (walk_of s words B.width at.old) result
-        (walk_of s words B.width at.new) }
-    ensures counted { IsCounted (word_count B.Shape source.now.set.now) at.new }
+    requires counted { IsCountedIn B.Shape source.now.set.now at.old }
+    ensures steps { let walk = walk_at B.Shape E.Endian K.Kind source.now.set.now in
+        Steps (YieldsFrom N.FRONT (λ w. w.remaining)) (walk at.old) result (walk at.new) }
+    ensures counted { IsCountedIn B.Shape source.now.set.now at.new }
 {
     if seek::<B, E, K, N>(source, at) {
         let found = at.buffers.scan::<N>();

@@ -2,8 +2,7 @@
 
 ghost use Rattle.std.specs.Prelude.{◌≡◌, ◌+◌, ◌<◌, ◌≤◌, ℕ};
 ghost use Rattle.bittle_bits.specs.Ends.{is_ahead, IsEndIn};
-ghost use Rattle.bittle_bits.specs.Values.{word_in, set_in, ShapeFits};
-ghost use Rattle.bittle_bits.specs.Walk.{ones_or_zeros};
+ghost use Rattle.bittle_bits.specs.Values.{kind_in, word_in, ShapeFits};
 
 use crate::end::{End, at_end};
 use crate::endian::Endian;
@@ -35,7 +34,7 @@ pub fn end_in<B: ReadWords, E: Endian, K: Kind, N: End>(bits: &B, from: u32, to:
     requires fits { ShapeFits B.Shape bits.now }
     requires ordered { from ≤ to }
     requires within { to ≤ (B.big bits.now).capacity }
-    ensures { IsEndIn N.FRONT (ones_or_zeros K.ONES (set_in B.Shape E.Endian bits.now)) from to
+    ensures { IsEndIn N.FRONT (kind_in B.Shape E.Endian K.Kind bits.now) from to
         result }
 {
     if from == to {
