@@ -1,6 +1,7 @@
 -- Proofs of the laws that the impls of the traits give.
 use Rattle.std.proofs.Common.{◌≡◌, ℕ, ◌+◌, ◌*◌, ◌^◌, ◌≤◌, ◌<◌, ℤ, Bool, ◌&&◌, refl, true, false, nat_eq, min, IsTrue, inl, inr, sym, ap, ◌∙◌, arith}
 use Rattle.std.proofs.lemmas.Bool.{cases_lt, le-ltb, eqb-true}
+use Rattle.std.proofs.Common.{◌≡◌, ℕ, ◌+◌, ◌*◌, ◌^◌, ◌≤◌, ◌<◌, ℤ, Bool, List, [], refl, true, false, nat_eq, IsTrue, ap, arith}
 use Rattle.std.proofs.lemmas.Nat.{pow_pos}
 use Rattle.std.specs.Cmp.{signed_Decides}
 use Rattle.std.specs.Ordering.{int_eq}
@@ -47,7 +48,7 @@ equal_signed_words w pattern u v h = ap (λ x. bit_set w (pattern x)) ((signed_D
 -- an integer type is a word that is the set of its bits: its shape has the word's width and
 -- capacity, an index finds each bit, no value is a loan, and equal values are one set
 pub record IsWord {V : Type 0} (eq : V → V → Bool) (indexable : Bool) (capacity width own : ℕ)
-    (big : V → PlainSet) (pattern loan : V → ℕ) : Type 0 where
+    (big : V → PlainSet) (pattern : V → ℕ) (loan : V → List ℕ) : Type 0 where
   pub same_width : width ≡ own
   pub same_capacity : capacity ≡ own
   pub is_owned : (u v : V) → loan u ≡ loan v
@@ -57,7 +58,7 @@ pub record IsWord {V : Type 0} (eq : V → V → Bool) (indexable : Bool) (capac
 
 -- an unsigned integer, whose pattern is its number
 pub unsigned_word : (w : ℕ) → w < 4294967295 →
-    IsWord nat_eq true w w w (λ x. bit_set w x) (λ x. x) (λ _. 0)
+    IsWord nat_eq true w w w (λ x. bit_set w x) (λ x. x) (λ _. [])
 unsigned_word w few = record {
   same_width = refl;
   same_capacity = refl;
@@ -69,7 +70,7 @@ unsigned_word w few = record {
 
 -- a signed integer
 pub signed_word : (w : ℕ) (pattern : ℤ → ℕ) → w < 4294967295 →
-    IsWord int_eq true w w w (λ x. bit_set w (pattern x)) pattern (λ _. 0)
+    IsWord int_eq true w w w (λ x. bit_set w (pattern x)) pattern (λ _. [])
 signed_word w pattern few = record {
   same_width = refl;
   same_capacity = refl;

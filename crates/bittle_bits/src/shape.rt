@@ -4,7 +4,7 @@
 //! met by two impls of [`Bits`](crate::bits::Bits), that of the words and its own, and only the
 //! first asks for more. So the checker knows what a `Shape` is without asking which of them holds.
 
-ghost use Rattle.std.specs.Prelude.{ℕ, Bool};
+ghost use Rattle.std.specs.Prelude.{ℕ, Bool, List, []};
 ghost use Rattle.bittle_bits.specs.PlainSet.{PlainSet};
 
 use crate::internal::sealed::Sealed;
@@ -31,8 +31,9 @@ pub trait Shape: Drop {
     // The capacity of each value of a type that owns its bits. Of a slice it says nothing.
     ghost type_capacity: { ℕ } = { 0 };
 
-    // Which loan a lent slice is: a change leaves the same one. It is 0 of a value that is owned.
-    ghost loan: { Self → ℕ } = { λ _. 0 };
+    // Which loans a value holds, the outer one first, as a lent slice is one: a change leaves the
+    // same ones. A value that is owned has none.
+    ghost loan: { Self → List ℕ } = { λ _. [] };
 
     /// Takes what a crate that names `bittle` alone cannot name, so that none implements the trait.
     #[doc(hidden)]

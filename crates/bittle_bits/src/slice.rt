@@ -1,6 +1,6 @@
 //! Slices as sets: a shared one is read, and one that is lent for a change is read and changed.
 
-ghost use Rattle.std.specs.Prelude.{length};
+ghost use Rattle.std.specs.Prelude.{length, ◌∷◌, []};
 ghost use Rattle.bittle_bits.specs.RowLawProofs.{row_has-past, words_of};
 ghost use Rattle.bittle_bits.specs.Rows.{row_set};
 
@@ -81,7 +81,7 @@ impl<'a, T: Shape> Shape for &'a mut [T] {
 
     ghost big = { λ v. row_set (length v.now) T.type_capacity T.big v.now };
 
-    ghost loan = { λ v. v.ghost_name };
+    ghost loan = { λ v. v.ghost_name ∷ [] };
 
     fn seal(_: Sealed) {}
 }
