@@ -46,6 +46,7 @@ pub mod run_iterators;
 #[doc(hidden)]
 pub mod run_laws;
 mod runs;
+pub mod views;
 
 pub use bits_ext::BitsExt;
 pub use bits_mut_ext::BitsMutExt;
@@ -53,3 +54,5 @@ pub use bits_owned_ext::BitsOwnedExt;
 pub use bits_relation_ext::BitsRelationExt;
 pub use combined::BitsCombinedExt;
 pub use range_iterators::BitsRangeExt;
+pub use views::BitsViewExt;
+pub use views::in_order_mut::BitsMutViewExt;

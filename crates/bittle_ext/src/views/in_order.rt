@@ -1,0 +1,89 @@
+//! A set that is borrowed and read in an order.
+
+ghost use Rattle.std.specs.Prelude.{◌≡◌};
+
+use bittle::{Bits, Endian, Shape};
+use bittle_bits::internal::sealed::Sealed;
+use bittle_bits::read_words::ReadWords;
+use std::marker::PhantomData;
+
+/// A set that is borrowed and read in the order `E`: calls that name no order take it.
+#[derive(Drop)]
+pub struct InOrder<'a, B: Shape, E: Endian> {
+    set: &'a B,
+    order: PhantomData<E>,
+}
+
+impl<'a, B: Shape, E: Endian> InOrder<'a, B, E> {
+    /// Borrows a set.
+    #[inline]
+    pub(crate) fn of(set: &'a B) -> InOrder<'a, B, E>
+        ensures { result.set.now ≡ set.now }
+    {
+        InOrder {
+            set,
+            order: PhantomData,
+        }
+    }
+}
+
+impl<'a, B: Shape, E: Endian> Shape for InOrder<'a, B, E> {
+    type LeafWord = B::LeafWord;
+
+    ghost width = { B.width };
+
+    ghost indexable = { B.indexable };
+
+    ghost big = { λ v. B.big v.set.now };
+
+    fn seal(_: Sealed) {}
+}
+
+impl<'a, B: ReadWords, E: Endian> ReadWords for InOrder<'a, B, E> {
+    ghost leaf_width = { B.leaf_width };
+
+    ghost width_positive = { B.width_positive };
+
+    ghost whole_words = { λ v. B.whole_words v.set.now };
+
+    ghost none_past = { λ v. B.none_past v.set.now };
+
+    #[inline]
+    fn is_fixed() -> bool {
+        B::is_fixed()
+    }
+
+    #[inline]
+    fn capacity(&self) -> u32 {
+        self.set.capacity()
+    }
+
+    #[inline]
+    fn nth_leaf_word(&self, k: usize) -> B::LeafWord {
+        self.set.nth_leaf_word(k)
+    }
+}
+
+impl<'a, B: Bits, U: Endian> Bits for InOrder<'a, B, U> {
+    type Order = U;
+
+    #[inline]
+    fn count_ones(&self) -> u32 {
+        self.set.count_ones()
+    }
+
+    #[inline]
+    fn all_zeros(&self) -> bool {
+        self.set.all_zeros()
+    }
+
+    #[inline]
+    fn all_ones(&self) -> bool {
+        self.set.all_ones()
+    }
+
+    #[inline]
+    fn test_bit_in<E: Endian>(&self, index: u32) -> bool {
+        self.set.test_bit_in::<E>(index)
+    }
+}
