@@ -9,7 +9,7 @@ ghost use Rattle.bittle.specs.Values.{set_in, ShapeFits};
 
 use crate::capacities::capacity_of;
 use crate::{ranks, runs};
-use bittle::{Bits, Endian};
+use bittle::Bits;
 use bittle_bits::extension::{Ones, Zeros};
 
 /// What can be asked of any set beyond the calls of [`Bits`].
@@ -86,27 +86,9 @@ pub trait BitsExt: Bits {
         self.last_zero_in::<Self::Order>(0, self.bits_capacity())
     }
 
-    /// Returns the least index of a set bit from `from` on, in the order `E`, or `None` if
-    /// there is none. A `from` at or past the capacity finds none.
-    /// Words are read from that of `from` on, up to the answer.
-    ///
-    /// ```
-    /// 0b0001_0010u8.next_one_in::<LittleEndian>(4);       // Some(6)
-    /// ```
-    #[inline]
-    final fn next_one_in<E: Endian>(&self, from: u32) -> Option<u32>
-    where
-        Self: Sized,
-        requires { ShapeFits Self.Shape self.now }
-        ensures { let ours = set_in Self.Shape E.Endian self.now in
-            IsFirstIn ours from ours.capacity result }
-    {
-        let capacity = self.bits_capacity();
-        self.first_one_in::<E>(from.min(capacity), capacity)
-    }
-
-    /// Returns the least index of a set bit from `from` on, in the order of the type, as
-    /// [`next_one_in`](BitsExt::next_one_in) does.
+    /// Returns the least index of a set bit from `from` on, in the order of the type, or `None` if
+    /// there is none. A `from` at or past the capacity finds none. Words are read from that of
+    /// `from` on, up to the answer.
     ///
     /// ```
     /// 0b0010_0010u8.next_one(2);                          // Some(5)
@@ -119,30 +101,13 @@ pub trait BitsExt: Bits {
         ensures { let ours = set_in Self.Shape Self.Order.Endian self.now in
             IsFirstIn ours from ours.capacity result }
     {
-        self.next_one_in::<Self::Order>(from)
-    }
-
-    /// Returns the least index of an unset bit from `from` on, in the order `E`, or `None` if
-    /// there is none. A `from` at or past the capacity finds none.
-    /// Words are read from that of `from` on, up to the answer.
-    ///
-    /// ```
-    /// 0b1011_1111u8.next_zero_in::<LittleEndian>(1);      // Some(1)
-    /// ```
-    #[inline]
-    final fn next_zero_in<E: Endian>(&self, from: u32) -> Option<u32>
-    where
-        Self: Sized,
-        requires { ShapeFits Self.Shape self.now }
-        ensures { let ours = set_in Self.Shape E.Endian self.now in
-            IsFirstIn (complement ours) from ours.capacity result }
-    {
         let capacity = self.bits_capacity();
-        self.first_zero_in::<E>(from.min(capacity), capacity)
+        self.first_one_in::<Self::Order>(from.min(capacity), capacity)
     }
 
-    /// Returns the least index of an unset bit from `from` on, in the order of the type, as
-    /// [`next_zero_in`](BitsExt::next_zero_in) does.
+    /// Returns the least index of an unset bit from `from` on, in the order of the type, or `None`
+    /// if there is none. A `from` at or past the capacity finds none. Words are read from that of
+    /// `from` on, up to the answer.
     ///
     /// ```
     /// 0b0001_1110u8.next_zero(1);                         // Some(5)
@@ -155,29 +120,13 @@ pub trait BitsExt: Bits {
         ensures { let ours = set_in Self.Shape Self.Order.Endian self.now in
             IsFirstIn (complement ours) from ours.capacity result }
     {
-        self.next_zero_in::<Self::Order>(from)
+        let capacity = self.bits_capacity();
+        self.first_zero_in::<Self::Order>(from.min(capacity), capacity)
     }
 
-    /// Returns the greatest index of a set bit below `to`, in the order `E`, or `None` if
-    /// there is none. A `to` past the capacity means the capacity.
-    /// Words are read from that below `to` back, down to the answer.
-    ///
-    /// ```
-    /// 0b0001_0010u8.prev_one_in::<LittleEndian>(6);       // Some(3)
-    /// ```
-    #[inline]
-    final fn prev_one_in<E: Endian>(&self, to: u32) -> Option<u32>
-    where
-        Self: Sized,
-        requires { ShapeFits Self.Shape self.now }
-        ensures { let ours = set_in Self.Shape E.Endian self.now in
-            IsLastIn ours 0 to result }
-    {
-        self.last_one_in::<E>(0, to.min(capacity_of::<Self, E>(self)))
-    }
-
-    /// Returns the greatest index of a set bit below `to`, in the order of the type, as
-    /// [`prev_one_in`](BitsExt::prev_one_in) does.
+    /// Returns the greatest index of a set bit below `to`, in the order of the type, or `None` if
+    /// there is none. A `to` past the capacity means the capacity. Words are read from that below
+    /// `to` back, down to the answer.
     ///
     /// ```
     /// 0b0010_0010u8.prev_one(5);                          // Some(1)
@@ -190,29 +139,12 @@ pub trait BitsExt: Bits {
         ensures { let ours = set_in Self.Shape Self.Order.Endian self.now in
             IsLastIn ours 0 to result }
     {
-        self.prev_one_in::<Self::Order>(to)
+        self.last_one_in::<Self::Order>(0, to.min(capacity_of::<Self, Self::Order>(self)))
     }
 
-    /// Returns the greatest index of an unset bit below `to`, in the order `E`, or `None` if
-    /// there is none. A `to` past the capacity means the capacity.
-    /// Words are read from that below `to` back, down to the answer.
-    ///
-    /// ```
-    /// 0b1011_1110u8.prev_zero_in::<LittleEndian>(7);      // Some(1)
-    /// ```
-    #[inline]
-    final fn prev_zero_in<E: Endian>(&self, to: u32) -> Option<u32>
-    where
-        Self: Sized,
-        requires { ShapeFits Self.Shape self.now }
-        ensures { let ours = set_in Self.Shape E.Endian self.now in
-            IsLastIn (complement ours) 0 to result }
-    {
-        self.last_zero_in::<E>(0, to.min(capacity_of::<Self, E>(self)))
-    }
-
-    /// Returns the greatest index of an unset bit below `to`, in the order of the type, as
-    /// [`prev_zero_in`](BitsExt::prev_zero_in) does.
+    /// Returns the greatest index of an unset bit below `to`, in the order of the type, or `None`
+    /// if there is none. A `to` past the capacity means the capacity. Words are read from that
+    /// below `to` back, down to the answer.
     ///
     /// ```
     /// 0b0001_1110u8.prev_zero(5);                         // Some(0)
@@ -225,28 +157,11 @@ pub trait BitsExt: Bits {
         ensures { let ours = set_in Self.Shape Self.Order.Endian self.now in
             IsLastIn (complement ours) 0 to result }
     {
-        self.prev_zero_in::<Self::Order>(to)
+        self.last_zero_in::<Self::Order>(0, to.min(capacity_of::<Self, Self::Order>(self)))
     }
 
-    /// Returns how many set bits lie below `index`, in the order `E`. An `index` past the capacity
-    /// means the capacity. Words are counted whole, the last one by a mask.
-    ///
-    /// ```
-    /// 0b1100_0001u8.rank_in::<LittleEndian>(7);           // 2
-    /// ```
-    #[inline]
-    final fn rank_in<E: Endian>(&self, index: u32) -> u32
-    where
-        Self: Sized,
-        requires { ShapeFits Self.Shape self.now }
-        ensures value { result ≡ members_below (set_in Self.Shape E.Endian self.now) index }
-        ensures at_most { result ≤ (Self.big self.now).capacity }
-    {
-        self.count_ones_in_range_in::<E>(0, index.min(capacity_of::<Self, E>(self)))
-    }
-
-    /// Returns how many set bits lie below `index`, in the order of the type, as
-    /// [`rank_in`](BitsExt::rank_in) does.
+    /// Returns how many set bits lie below `index`, in the order of the type. An `index` past the
+    /// capacity means the capacity. Words are counted whole, the last one by a mask.
     ///
     /// ```
     /// 0b0010_0010u8.rank(5);                              // 1
@@ -260,29 +175,16 @@ pub trait BitsExt: Bits {
             ≡ members_below (set_in Self.Shape Self.Order.Endian self.now) index }
         ensures at_most { result ≤ (Self.big self.now).capacity }
     {
-        self.rank_in::<Self::Order>(index)
-    }
-
-    /// Returns the index of the set bit below which `rank` bits are set, in the order `E`, or
-    /// `None` if no more than `rank` bits are set.
-    ///
-    /// Words are counted whole up to that of the answer, which halves find: six of a `u64`.
-    ///
-    /// ```
-    /// 0b1100_0001u8.select_in::<LittleEndian>(2);         // Some(7)
-    /// ```
-    #[inline]
-    final fn select_in<E: Endian>(&self, rank: u32) -> Option<u32>
-    where
-        Self: Sized,
-        requires { ShapeFits Self.Shape self.now }
-        ensures { result ≡ slice_get (ascending (set_in Self.Shape E.Endian self.now)) rank }
-    {
-        ranks::select::<Self, E>(self, rank)
+        self.count_ones_in_range_in::<Self::Order>(
+            0,
+            index.min(capacity_of::<Self, Self::Order>(self)),
+        )
     }
 
     /// Returns the index of the set bit below which `rank` bits are set, in the order of the type,
-    /// as [`select_in`](BitsExt::select_in) does.
+    /// or `None` if no more than `rank` bits are set.
+    ///
+    /// Words are counted whole up to that of the answer, which halves find: six of a `u64`.
     ///
     /// ```
     /// 0b0010_0010u8.select(1);                            // Some(5)
@@ -295,7 +197,7 @@ pub trait BitsExt: Bits {
         ensures { result
             ≡ slice_get (ascending (set_in Self.Shape Self.Order.Endian self.now)) rank }
     {
-        self.select_in::<Self::Order>(rank)
+        ranks::select::<Self, Self::Order>(self, rank)
     }
 
     /// Returns how many bits of `from..to` are set, in the order of the type, as
@@ -320,32 +222,10 @@ pub trait BitsExt: Bits {
         self.count_ones_in_range_in::<Self::Order>(from, to)
     }
 
-    /// Returns how many bits of `from..to` are unset, in the order `E`.
+    /// Returns how many bits of `from..to` are unset, in the order of the type.
     ///
     /// The shape has to fit, and `from <= to <= capacity`: nothing wraps. Each word of the range is
     /// counted at once. With capacity 0 it returns 0.
-    ///
-    /// ```
-    /// 0b0110_0010u8.count_zeros_in_range_in::<LittleEndian>(1, 6); // 3: bits 3, 4 and 5
-    /// ```
-    #[inline]
-    final fn count_zeros_in_range_in<E: Endian>(&self, from: u32, to: u32) -> u32
-    where
-        Self: Sized,
-        requires fits { ShapeFits Self.Shape self.now }
-        requires ordered { from ≤ to }
-        requires within { to ≤ (Self.big self.now).capacity }
-        ensures value { let others = complement (set_in Self.Shape E.Endian self.now) in
-            result ≡ members_below others to - members_below others from }
-        ensures at_most { result ≤ to - from }
-    {
-        to - from - self.count_ones_in_range_in::<E>(from, to)
-    }
-
-    /// Returns how many bits of `from..to` are unset, in the order of the type, as
-    /// [`count_zeros_in_range_in`](BitsExt::count_zeros_in_range_in) does.
-    ///
-    /// The shape has to fit, and `from <= to <= capacity`: nothing wraps.
     ///
     /// ```
     /// 0b0110_0010u8.count_zeros_in_range(1, 6);           // 3: bits 2, 3 and 4
@@ -361,34 +241,13 @@ pub trait BitsExt: Bits {
             result ≡ members_below others to - members_below others from }
         ensures at_most { result ≤ to - from }
     {
-        self.count_zeros_in_range_in::<Self::Order>(from, to)
+        to - from - self.count_ones_in_range_in::<Self::Order>(from, to)
     }
 
-    /// Returns `true` if a bit of `from..to` is set, in the order `E`.
+    /// Returns `true` if a bit of `from..to` is set, in the order of the type.
     ///
     /// The shape has to fit, and `from <= to <= capacity`: nothing wraps. In an empty range none
     /// is. Words are read up to the first set bit.
-    ///
-    /// ```
-    /// 0b0110_0000u8.any_in_range_in::<LittleEndian>(3, 8); // false
-    /// ```
-    #[inline]
-    final fn any_in_range_in<E: Endian>(&self, from: u32, to: u32) -> bool
-    where
-        Self: Sized,
-        requires fits { ShapeFits Self.Shape self.now }
-        requires ordered { from ≤ to }
-        requires within { to ≤ (Self.big self.now).capacity }
-        ensures { let ours = set_in Self.Shape E.Endian self.now in
-            MatchBool result (HasSomeIn ours from to) (NoneIn ours from to) }
-    {
-        self.first_one_in::<E>(from, to).is_some()
-    }
-
-    /// Returns `true` if a bit of `from..to` is set, in the order of the type, as
-    /// [`any_in_range_in`](BitsExt::any_in_range_in) does.
-    ///
-    /// The shape has to fit, and `from <= to <= capacity`: nothing wraps.
     ///
     /// ```
     /// 0b0110_0000u8.any_in_range(3, 6);                   // true: bit 5
@@ -403,34 +262,13 @@ pub trait BitsExt: Bits {
         ensures { let ours = set_in Self.Shape Self.Order.Endian self.now in
             MatchBool result (HasSomeIn ours from to) (NoneIn ours from to) }
     {
-        self.any_in_range_in::<Self::Order>(from, to)
+        self.first_one_in::<Self::Order>(from, to).is_some()
     }
 
-    /// Returns `true` if each bit of `from..to` is set, in the order `E`.
+    /// Returns `true` if each bit of `from..to` is set, in the order of the type.
     ///
     /// The shape has to fit, and `from <= to <= capacity`: nothing wraps. In an empty range each
     /// is. Words are read up to the first unset bit.
-    ///
-    /// ```
-    /// 0b0110_0000u8.all_in_range_in::<LittleEndian>(1, 3); // true
-    /// ```
-    #[inline]
-    final fn all_in_range_in<E: Endian>(&self, from: u32, to: u32) -> bool
-    where
-        Self: Sized,
-        requires fits { ShapeFits Self.Shape self.now }
-        requires ordered { from ≤ to }
-        requires within { to ≤ (Self.big self.now).capacity }
-        ensures { let ours = set_in Self.Shape E.Endian self.now in
-            MatchBool result (HasAllIn ours from to) (HasSomeIn (complement ours) from to) }
-    {
-        self.first_zero_in::<E>(from, to).is_none()
-    }
-
-    /// Returns `true` if each bit of `from..to` is set, in the order of the type, as
-    /// [`all_in_range_in`](BitsExt::all_in_range_in) does.
-    ///
-    /// The shape has to fit, and `from <= to <= capacity`: nothing wraps.
     ///
     /// ```
     /// 0b0110_0000u8.all_in_range(5, 8);                   // false: bit 7 is unset
@@ -445,31 +283,15 @@ pub trait BitsExt: Bits {
         ensures { let ours = set_in Self.Shape Self.Order.Endian self.now in
             MatchBool result (HasAllIn ours from to) (HasSomeIn (complement ours) from to) }
     {
-        self.all_in_range_in::<Self::Order>(from, to)
+        self.first_zero_in::<Self::Order>(from, to).is_none()
     }
 
-    /// Returns the least index from `from` on where `length` unset bits begin, in the order `E`, or
-    /// `None` if there is no such run.
+    /// Returns the least index from `from` on where `length` unset bits begin, in the order of the
+    /// type, or `None` if there is no such run.
     ///
     /// No run goes past the capacity. A run of no bits begins at each index up to the capacity:
     /// with `length` 0 it returns `from`, and `None` past the capacity. Each run that is too short
     /// costs two searches of words.
-    ///
-    /// ```
-    /// 0b0110_0001u8.next_zero_run_in::<LittleEndian>(1, 2); // Some(3)
-    /// ```
-    #[inline]
-    final fn next_zero_run_in<E: Endian>(&self, from: u32, length: u32) -> Option<u32>
-    where
-        Self: Sized,
-        requires { ShapeFits Self.Shape self.now }
-        ensures { IsFirstRun (complement (set_in Self.Shape E.Endian self.now)) from length result }
-    {
-        runs::next_run::<Self, E, Zeros>(self, from, length)
-    }
-
-    /// Returns the least index from `from` on where `length` unset bits begin, in the order of the
-    /// type, as [`next_zero_run_in`](BitsExt::next_zero_run_in) does.
     ///
     /// ```
     /// 0b0010_0001u8.next_zero_run(2, 2);                   // Some(2)
@@ -482,27 +304,11 @@ pub trait BitsExt: Bits {
         ensures { IsFirstRun (complement (set_in Self.Shape Self.Order.Endian self.now)) from length
             result }
     {
-        self.next_zero_run_in::<Self::Order>(from, length)
-    }
-
-    /// Returns the least index where `length` unset bits begin, in the order `E`, or `None` if
-    /// there is no such run, as [`next_zero_run_in`](BitsExt::next_zero_run_in) does from 0 on.
-    ///
-    /// ```
-    /// 0b0110_0001u8.first_zero_run_in::<LittleEndian>(2);  // Some(3)
-    /// ```
-    #[inline]
-    final fn first_zero_run_in<E: Endian>(&self, length: u32) -> Option<u32>
-    where
-        Self: Sized,
-        requires { ShapeFits Self.Shape self.now }
-        ensures { IsFirstRun (complement (set_in Self.Shape E.Endian self.now)) 0 length result }
-    {
-        self.next_zero_run_in::<E>(0, length)
+        runs::next_run::<Self, Self::Order, Zeros>(self, from, length)
     }
 
     /// Returns the least index where `length` unset bits begin, in the order of the type, or `None`
-    /// if there is no such run, as [`next_zero_run_in`](BitsExt::next_zero_run_in) does from 0 on.
+    /// if there is no such run, as [`next_zero_run`](BitsExt::next_zero_run) does from 0 on.
     ///
     /// ```
     /// 0b0100_1101u8.first_zero_run(2);                     // Some(4)
@@ -515,31 +321,15 @@ pub trait BitsExt: Bits {
         ensures { IsFirstRun (complement (set_in Self.Shape Self.Order.Endian self.now)) 0 length
             result }
     {
-        self.next_zero_run_in::<Self::Order>(0, length)
+        self.next_zero_run(0, length)
     }
 
-    /// Returns the least index from `from` on where `length` set bits begin, in the order `E`, or
-    /// `None` if there is no such run.
+    /// Returns the least index from `from` on where `length` set bits begin, in the order of the
+    /// type, or `None` if there is no such run.
     ///
     /// No run goes past the capacity. A run of no bits begins at each index up to the capacity:
     /// with `length` 0 it returns `from`, and `None` past the capacity. Each run that is too short
     /// costs two searches of words.
-    ///
-    /// ```
-    /// 0b0110_0011u8.next_one_run_in::<LittleEndian>(2, 2);  // Some(6)
-    /// ```
-    #[inline]
-    final fn next_one_run_in<E: Endian>(&self, from: u32, length: u32) -> Option<u32>
-    where
-        Self: Sized,
-        requires { ShapeFits Self.Shape self.now }
-        ensures { IsFirstRun (set_in Self.Shape E.Endian self.now) from length result }
-    {
-        runs::next_run::<Self, E, Ones>(self, from, length)
-    }
-
-    /// Returns the least index from `from` on where `length` set bits begin, in the order of the
-    /// type, as [`next_one_run_in`](BitsExt::next_one_run_in) does.
     ///
     /// ```
     /// 0b0110_0011u8.next_one_run(1, 2);                    // Some(5)
@@ -551,27 +341,11 @@ pub trait BitsExt: Bits {
         requires { ShapeFits Self.Shape self.now }
         ensures { IsFirstRun (set_in Self.Shape Self.Order.Endian self.now) from length result }
     {
-        self.next_one_run_in::<Self::Order>(from, length)
-    }
-
-    /// Returns the least index where `length` set bits begin, in the order `E`, or `None` if there
-    /// is no such run, as [`next_one_run_in`](BitsExt::next_one_run_in) does from 0 on.
-    ///
-    /// ```
-    /// 0b0010_0011u8.first_one_run_in::<LittleEndian>(2);   // Some(6)
-    /// ```
-    #[inline]
-    final fn first_one_run_in<E: Endian>(&self, length: u32) -> Option<u32>
-    where
-        Self: Sized,
-        requires { ShapeFits Self.Shape self.now }
-        ensures { IsFirstRun (set_in Self.Shape E.Endian self.now) 0 length result }
-    {
-        self.next_one_run_in::<E>(0, length)
+        runs::next_run::<Self, Self::Order, Ones>(self, from, length)
     }
 
     /// Returns the least index where `length` set bits begin, in the order of the type, or `None`
-    /// if there is no such run, as [`next_one_run_in`](BitsExt::next_one_run_in) does from 0 on.
+    /// if there is no such run, as [`next_one_run`](BitsExt::next_one_run) does from 0 on.
     ///
     /// ```
     /// 0b0110_0001u8.first_one_run(2);                      // Some(5)
@@ -583,7 +357,7 @@ pub trait BitsExt: Bits {
         requires { ShapeFits Self.Shape self.now }
         ensures { IsFirstRun (set_in Self.Shape Self.Order.Endian self.now) 0 length result }
     {
-        self.next_one_run_in::<Self::Order>(0, length)
+        self.next_one_run(0, length)
     }
 }
 

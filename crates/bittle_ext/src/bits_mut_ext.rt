@@ -15,156 +15,157 @@ ghost use Rattle.bittle.specs.Values.{set_in, set_mirrored, ShapeFits};
 
 use crate::bits_ext::BitsExt;
 use crate::one_bit;
-use bittle::{BigEndian, BitsMut, Endian};
+use bittle::{BigEndian, BitsMut};
 use bittle_bits::extension::{Difference, SymmetricDifference, Union};
 
 /// Everyday changes of any set that can be changed. No change alters the capacity.
 pub trait BitsMutExt: BitsMut {
-    /// Sets the bit at `index`, in the order `E`, and returns `true` if it was unset. An index past
-    /// the capacity wraps. With capacity 0 nothing changes, and it returns `true`.
+    /// Sets the bit at `index`, in the order of the type, and returns `true` if it was unset. An
+    /// index past the capacity wraps. With capacity 0 nothing changes, and it returns `true`.
     ///
     /// The type has to fit; of a slice its element type.
     ///
     /// ```
-    /// let mut word = 0b1000_0000u8;
-    /// word.insert_in::<LittleEndian>(0);                  // false: it was set
-    /// word.insert_in::<LittleEndian>(7);                  // true: word is 0b1000_0001
+    /// let mut row = [0u16, 1];
+    /// row.insert(16);                                     // false: it was set
+    /// row.insert(33);                                     // true: 33 wraps to 1, row is [2, 1]
     /// ```
     #[inline]
-    final fn insert_in<E: Endian>(&mut self, index: u32) -> bool
+    final fn insert(&mut self, index: u32) -> bool
         requires { IsTrue Self.indexable }
-        ensures was_unset { result ≡ not (contains (set_in Self.Shape E.Endian self.old) index) }
-        ensures set { set_in Self.Shape E.Endian self.new
-            ≡ with_index (set_in Self.Shape E.Endian self.old) index }
+        ensures was_unset { result
+            ≡ not (contains (set_in Self.Shape Self.Order.Endian self.old) index) }
+        ensures set { set_in Self.Shape Self.Order.Endian self.new
+            ≡ with_index (set_in Self.Shape Self.Order.Endian self.old) index }
         ensures stays { Self.loan self.old ≡ Self.loan self.new }
     {
         if one_bit::has_bits(self) {
-            return !one_bit::combine_bit::<Self, E, Union>(self, index);
+            return !one_bit::combine_bit::<Self, Self::Order, Union>(self, index);
         }
-        let was_unset = !self.test_bit_in::<E>(index);
-        self.set_bit_in::<E>(index);
+        let was_unset = !self.test_bit_in::<Self::Order>(index);
+        self.set_bit_in::<Self::Order>(index);
         was_unset
     }
 
-    /// Clears the bit at `index`, in the order `E`, and returns `true` if it was set. An index past
-    /// the capacity wraps. With capacity 0 nothing changes, and it returns `false`.
+    /// Clears the bit at `index`, in the order of the type, and returns `true` if it was set. An
+    /// index past the capacity wraps. With capacity 0 nothing changes, and it returns `false`.
     ///
     /// The type has to fit; of a slice its element type.
     ///
     /// ```
-    /// let mut word = 0b1000_0001u8;
-    /// word.remove_in::<LittleEndian>(0);                  // true: word is 0b0000_0001
-    /// word.remove_in::<LittleEndian>(0);                  // false: it was unset
+    /// let mut row = [0u16, 1];
+    /// row.remove(16);                                     // true: row is [0, 0]
+    /// row.remove(16);                                     // false: it was unset
     /// ```
     #[inline]
-    final fn remove_in<E: Endian>(&mut self, index: u32) -> bool
+    final fn remove(&mut self, index: u32) -> bool
         requires { IsTrue Self.indexable }
-        ensures was_set { result ≡ contains (set_in Self.Shape E.Endian self.old) index }
-        ensures set { set_in Self.Shape E.Endian self.new
-            ≡ without_index (set_in Self.Shape E.Endian self.old) index }
+        ensures was_set { result ≡ contains (set_in Self.Shape Self.Order.Endian self.old) index }
+        ensures set { set_in Self.Shape Self.Order.Endian self.new
+            ≡ without_index (set_in Self.Shape Self.Order.Endian self.old) index }
         ensures stays { Self.loan self.old ≡ Self.loan self.new }
     {
         if one_bit::has_bits(self) {
-            return one_bit::combine_bit::<Self, E, Difference>(self, index);
+            return one_bit::combine_bit::<Self, Self::Order, Difference>(self, index);
         }
-        let was_set = self.test_bit_in::<E>(index);
-        self.clear_bit_in::<E>(index);
+        let was_set = self.test_bit_in::<Self::Order>(index);
+        self.clear_bit_in::<Self::Order>(index);
         was_set
     }
 
-    /// Sets the bit at `index` if `value` is `true`, else clears it, in the order `E`. An index
-    /// past the capacity wraps. With capacity 0 nothing changes.
+    /// Sets the bit at `index` if `value` is `true`, else clears it, in the order of the type. An
+    /// index past the capacity wraps. With capacity 0 nothing changes.
     ///
     /// The type has to fit; of a slice its element type.
     ///
     /// ```
-    /// let mut word = 0b1000_0000u8;
-    /// word.assign_in::<LittleEndian>(0, false);           // word is 0
+    /// let mut word = 0b0001u8;
+    /// word.assign(1, true);                               // word is 0b0011
     /// ```
     #[inline]
-    final fn assign_in<E: Endian>(&mut self, index: u32, value: bool)
+    final fn assign(&mut self, index: u32, value: bool)
         requires { IsTrue Self.indexable }
-        ensures set { set_in Self.Shape E.Endian self.new
-            ≡ with_index_assigned (set_in Self.Shape E.Endian self.old) index value }
+        ensures set { set_in Self.Shape Self.Order.Endian self.new
+            ≡ with_index_assigned (set_in Self.Shape Self.Order.Endian self.old) index value }
         ensures stays { Self.loan self.old ≡ Self.loan self.new }
     {
         if value {
-            self.set_bit_in::<E>(index);
+            self.set_bit_in::<Self::Order>(index);
         } else {
-            self.clear_bit_in::<E>(index);
+            self.clear_bit_in::<Self::Order>(index);
         }
     }
 
-    /// Sets the bit at `index` if `value` is `true`, else clears it, in the order `E`, and returns
-    /// `true` if it was set before. An index past the capacity wraps. With capacity 0 nothing
-    /// changes, and it returns `false`.
+    /// Sets the bit at `index` if `value` is `true`, else clears it, in the order of the type, and
+    /// returns `true` if it was set before. An index past the capacity wraps. With capacity 0
+    /// nothing changes, and it returns `false`.
     ///
     /// The type has to fit; of a slice its element type.
     ///
     /// ```
-    /// let mut word = 0b1000_0000u8;
-    /// word.replace_in::<LittleEndian>(0, false);          // true: word is 0
+    /// let mut word = 0b0001u8;
+    /// word.replace(0, false);                             // true: word is 0
     /// ```
     #[inline]
-    final fn replace_in<E: Endian>(&mut self, index: u32, value: bool) -> bool
+    final fn replace(&mut self, index: u32, value: bool) -> bool
         requires { IsTrue Self.indexable }
-        ensures was_set { result ≡ contains (set_in Self.Shape E.Endian self.old) index }
-        ensures set { set_in Self.Shape E.Endian self.new
-            ≡ with_index_assigned (set_in Self.Shape E.Endian self.old) index value }
+        ensures was_set { result ≡ contains (set_in Self.Shape Self.Order.Endian self.old) index }
+        ensures set { set_in Self.Shape Self.Order.Endian self.new
+            ≡ with_index_assigned (set_in Self.Shape Self.Order.Endian self.old) index value }
         ensures stays { Self.loan self.old ≡ Self.loan self.new }
     {
-        let before = self.test_bit_in::<E>(index);
-        self.assign_in::<E>(index, value);
+        let before = self.test_bit_in::<Self::Order>(index);
+        self.assign(index, value);
         before
     }
 
-    /// Flips the bit at `index`, in the order `E`. An index past the capacity wraps. With
+    /// Flips the bit at `index`, in the order of the type. An index past the capacity wraps. With
     /// capacity 0 nothing changes.
     ///
     /// The type has to fit; of a slice its element type.
     ///
     /// ```
-    /// let mut word = 0b1000_0000u8;
-    /// word.toggle_in::<LittleEndian>(0);                  // word is 0
+    /// let mut row = [0u8; 2];
+    /// row.toggle(9);                                      // row is [0, 2]
     /// ```
     #[inline]
-    final fn toggle_in<E: Endian>(&mut self, index: u32)
+    final fn toggle(&mut self, index: u32)
         requires { IsTrue Self.indexable }
-        ensures set { set_in Self.Shape E.Endian self.new
-            ≡ with_index_toggled (set_in Self.Shape E.Endian self.old) index }
+        ensures set { set_in Self.Shape Self.Order.Endian self.new
+            ≡ with_index_toggled (set_in Self.Shape Self.Order.Endian self.old) index }
         ensures stays { Self.loan self.old ≡ Self.loan self.new }
     {
         if one_bit::has_bits(self) {
-            one_bit::combine_bit::<Self, E, SymmetricDifference>(self, index);
+            one_bit::combine_bit::<Self, Self::Order, SymmetricDifference>(self, index);
         } else {
-            let value = !self.test_bit_in::<E>(index);
-            self.assign_in::<E>(index, value);
+            let value = !self.test_bit_in::<Self::Order>(index);
+            self.assign(index, value);
         }
     }
 
     /// Sets each bit at the indexes `from..to` if `value` is `true`, else clears each, in the order
-    /// `E`, by one mask a word.
+    /// of the type, by one mask a word.
     ///
     /// The shape has to fit, and `from <= to <= capacity`: nothing wraps. Only the words of the
     /// range are written. An empty range, as any with capacity 0, changes nothing.
     ///
     /// ```
     /// let mut word = 0b1111_1111u8;
-    /// word.assign_range_in::<LittleEndian>(0, 3, false);  // word is 0b0001_1111
+    /// word.assign_range(0, 3, false);                     // word is 0b1111_1000
     /// ```
     #[inline]
-    final fn assign_range_in<E: Endian>(&mut self, from: u32, to: u32, value: bool)
+    final fn assign_range(&mut self, from: u32, to: u32, value: bool)
         requires fits { ShapeFits Self.Shape self.old }
         requires ordered { from ≤ to }
         requires within { to ≤ (Self.big self.old).capacity }
-        ensures set { set_in Self.Shape E.Endian self.new
-            ≡ with_span_assigned (set_in Self.Shape E.Endian self.old) from to value }
+        ensures set { set_in Self.Shape Self.Order.Endian self.new
+            ≡ with_span_assigned (set_in Self.Shape Self.Order.Endian self.old) from to value }
         ensures stays { Self.loan self.old ≡ Self.loan self.new }
     {
         if value {
-            self.set_range_in::<E>(from, to);
+            self.set_range(from, to);
         } else {
-            self.clear_range_in::<E>(from, to);
+            self.clear_range(from, to);
         }
     }
 
@@ -188,280 +189,196 @@ pub trait BitsMutExt: BitsMut {
         self.toggle_range_in::<BigEndian>(0, capacity);
     }
 
-    /// Clears the least set bit, in the order `E`, and returns its index. If no bit is set, as with
-    /// capacity 0, nothing changes, and it returns `None`.
+    /// Clears the least set bit, in the order of the type, and returns its index. If no bit is set,
+    /// as with capacity 0, nothing changes, and it returns `None`.
     ///
     /// The shape has to fit. The words up to the answer are read.
     ///
     /// ```
-    /// let mut row = [0x10u8, 0x81];
-    /// row.pop_first_in::<LittleEndian>();                 // Some(3): row is [0x00, 0x81]
-    /// row.pop_first_in::<LittleEndian>();                 // Some(8): row is [0x00, 0x01]
+    /// let mut row = [0x00u8, 0x81];
+    /// row.pop_first();                                    // Some(8): row is [0x00, 0x80]
     /// ```
     #[inline]
-    final fn pop_first_in<E: Endian>(&mut self) -> Option<u32>
+    final fn pop_first(&mut self) -> Option<u32>
     where
         Self: Sized,
         requires { ShapeFits Self.Shape self.old }
-        ensures least { let before = set_in Self.Shape E.Endian self.old in
+        ensures least { let before = set_in Self.Shape Self.Order.Endian self.old in
             IsFirstIn before 0 before.capacity result }
         ensures set { MatchOption result (self.new ≡ self.old)
-            (λ index. set_in Self.Shape E.Endian self.new
-            ≡ without_index (set_in Self.Shape E.Endian self.old) index) }
+            (λ index. set_in Self.Shape Self.Order.Endian self.new
+            ≡ without_index (set_in Self.Shape Self.Order.Endian self.old) index) }
         ensures stays { Self.loan self.old ≡ Self.loan self.new }
     {
-        let first = self.first_one_in::<E>(0, self.bits_capacity())?;
-        self.clear_bit_in::<E>(first);
+        let first = self.first_one_in::<Self::Order>(0, self.bits_capacity())?;
+        self.clear_bit_in::<Self::Order>(first);
         Some(first)
     }
 
-    /// Clears the greatest set bit, in the order `E`, and returns its index. If no bit is set, as
-    /// with capacity 0, nothing changes, and it returns `None`.
+    /// Clears the greatest set bit, in the order of the type, and returns its index. If no bit is
+    /// set, as with capacity 0, nothing changes, and it returns `None`.
     ///
     /// The shape has to fit. The words from the answer on are read.
     ///
     /// ```
-    /// let mut row = [0x10u8, 0x81];
-    /// row.pop_last_in::<LittleEndian>();                  // Some(15): row is [0x10, 0x80]
+    /// let mut row = [0x00u8, 0x81];
+    /// row.pop_last();                                     // Some(15): row is [0x00, 0x01]
     /// ```
     #[inline]
-    final fn pop_last_in<E: Endian>(&mut self) -> Option<u32>
+    final fn pop_last(&mut self) -> Option<u32>
     where
         Self: Sized,
         requires { ShapeFits Self.Shape self.old }
-        ensures greatest { let before = set_in Self.Shape E.Endian self.old in
+        ensures greatest { let before = set_in Self.Shape Self.Order.Endian self.old in
             IsLastIn before 0 before.capacity result }
         ensures set { MatchOption result (self.new ≡ self.old)
-            (λ index. set_in Self.Shape E.Endian self.new
-            ≡ without_index (set_in Self.Shape E.Endian self.old) index) }
+            (λ index. set_in Self.Shape Self.Order.Endian self.new
+            ≡ without_index (set_in Self.Shape Self.Order.Endian self.old) index) }
         ensures stays { Self.loan self.old ≡ Self.loan self.new }
     {
-        let last = self.last_one_in::<E>(0, self.bits_capacity())?;
-        self.clear_bit_in::<E>(last);
+        let last = self.last_one_in::<Self::Order>(0, self.bits_capacity())?;
+        self.clear_bit_in::<Self::Order>(last);
         Some(last)
     }
 
-    /// Sets the least unset bit, in the order `E`, and returns its index, as an allocator of slots
-    /// does. If each bit is set, as with capacity 0, nothing changes, and it returns `None`.
+    /// Sets the least unset bit, in the order of the type, and returns its index, as an allocator
+    /// of slots does. If each bit is set, as with capacity 0, nothing changes, and it returns
+    /// `None`.
     ///
     /// The shape has to fit. The words up to the answer are read.
     ///
     /// ```
-    /// let mut row = [0xFFu8, 0xC1];
-    /// row.take_first_zero_in::<LittleEndian>();           // Some(10): row is [0xFF, 0xE1]
+    /// let mut row = [0xFFu8, 0x0F];
+    /// row.take_first_zero();                              // Some(12): row is [0xFF, 0x1F]
     /// ```
     #[inline]
-    final fn take_first_zero_in<E: Endian>(&mut self) -> Option<u32>
+    final fn take_first_zero(&mut self) -> Option<u32>
     where
         Self: Sized,
         requires { ShapeFits Self.Shape self.old }
-        ensures least { let before = complement (set_in Self.Shape E.Endian self.old) in
+        ensures least { let before = complement (set_in Self.Shape Self.Order.Endian self.old) in
             IsFirstIn before 0 before.capacity result }
         ensures set { MatchOption result (self.new ≡ self.old)
-            (λ index. set_in Self.Shape E.Endian self.new
-            ≡ with_index (set_in Self.Shape E.Endian self.old) index) }
+            (λ index. set_in Self.Shape Self.Order.Endian self.new
+            ≡ with_index (set_in Self.Shape Self.Order.Endian self.old) index) }
         ensures stays { Self.loan self.old ≡ Self.loan self.new }
     {
-        let free = self.first_zero_in::<E>(0, self.bits_capacity())?;
-        self.set_bit_in::<E>(free);
+        let free = self.first_zero_in::<Self::Order>(0, self.bits_capacity())?;
+        self.set_bit_in::<Self::Order>(free);
         Some(free)
     }
 
-    /// Sets the first `length` unset bits that are neighbours, in the order `E`, and returns the
-    /// least index of them, as an allocator of runs does. If there is no such run, nothing changes,
-    /// and it returns `None`; with `length` 0 nothing changes, and it returns 0.
+    /// Sets the first `length` unset bits that are neighbours, in the order of the type, and
+    /// returns the least index of them, as an allocator of runs does. If there is no such run,
+    /// nothing changes, and it returns `None`; with `length` 0 nothing changes, and it returns 0.
     ///
     /// The shape has to fit. Each run that is too short costs two searches of words.
     ///
     /// ```
     /// let mut word = 0b0100_1101u8;
-    /// word.take_first_zero_run_in::<LittleEndian>(2);     // Some(2): word is 0b0111_1101
+    /// word.take_first_zero_run(2);                        // Some(4): word is 0b0111_1101
     /// ```
     #[inline]
-    final fn take_first_zero_run_in<E: Endian>(&mut self, length: u32) -> Option<u32>
+    final fn take_first_zero_run(&mut self, length: u32) -> Option<u32>
     where
         Self: Sized,
         requires { ShapeFits Self.Shape self.old }
-        ensures first { IsFirstRun (complement (set_in Self.Shape E.Endian self.old)) 0 length
-            result }
+        ensures first { IsFirstRun (complement (set_in Self.Shape Self.Order.Endian self.old)) 0
+            length result }
         ensures set { MatchOption result (self.new ≡ self.old)
-            (λ from. set_in Self.Shape E.Endian self.new
-            ≡ with_span (set_in Self.Shape E.Endian self.old) from (from + length)) }
+            (λ from. set_in Self.Shape Self.Order.Endian self.new
+            ≡ with_span (set_in Self.Shape Self.Order.Endian self.old) from (from + length)) }
         ensures stays { Self.loan self.old ≡ Self.loan self.new }
     {
-        let from = self.first_zero_run_in::<E>(length)?;
-        self.set_range_in::<E>(from, from + length);
+        let from = self.first_zero_run(length)?;
+        self.set_range_in::<Self::Order>(from, from + length);
         Some(from)
     }
 
     /// Asks `keep` once for each set bit, from the least index on, and clears those for which it
-    /// returns `false`, in the order `E`. With capacity 0 it asks for none, and nothing changes.
+    /// returns `false`, in the order of the type. With capacity 0 it asks for none, and nothing
+    /// changes.
     ///
     /// The shape has to fit. Each set bit costs a call and a search that begins at its word, each
     /// bit that goes one write.
     ///
     /// ```
-    /// let mut word = 0b1000_0110u8;
-    /// word.retain_in::<_, LittleEndian>(|index| index < 6); // word is 0b1000_0100
+    /// let mut row = [0x07u8, 0x81];
+    /// row.retain(|index| index % 2 == 0);                 // row is [0x05, 0x01]
     /// ```
     #[inline]
-    final fn retain_in<F: FnMut(u32) -> bool, E: Endian>(&mut self, mut keep: F)
+    final fn retain<F: FnMut(u32) -> bool>(&mut self, mut keep: F)
     where
         Self: Sized,
         requires fits { ShapeFits Self.Shape self.old }
         requires callable { F.IsAlwaysCallable keep }
-        ensures filtered { IsFiltered F.step keep (ascending (set_in Self.Shape E.Endian self.old))
-            (ascending (set_in Self.Shape E.Endian self.new)) }
+        ensures filtered { IsFiltered F.step keep
+            (ascending (set_in Self.Shape Self.Order.Endian self.old))
+            (ascending (set_in Self.Shape Self.Order.Endian self.new)) }
         ensures capacity { (Self.big self.new).capacity ≡ (Self.big self.old).capacity }
         // What that is where the closure is a test.
         ensures by_test { (test : ℕ → Bool) → AnswersBy F.step keep test →
-            set_in Self.Shape E.Endian self.new
-            ≡ those_passing test (set_in Self.Shape E.Endian self.old) }
+            set_in Self.Shape Self.Order.Endian self.new
+            ≡ those_passing test (set_in Self.Shape Self.Order.Endian self.old) }
         ensures stays { Self.loan self.old ≡ Self.loan self.new }
     {
         let end = self.bits_capacity();
         let mut from = 0;
-        while let Some(index) = self.first_one_in::<E>(from, end) {
+        while let Some(index) = self.first_one_in::<Self::Order>(from, end) {
             if !keep(index) {
-                self.clear_bit_in::<E>(index);
+                self.clear_bit_in::<Self::Order>(index);
             }
             from = index + 1;
         }
     }
 
-    /// Sets the bit at each of the indexes, in the order `E`. An index past the capacity wraps.
-    /// With capacity 0 nothing changes.
+    /// Sets the bit at each of the indexes, in the order of the type. An index past the capacity
+    /// wraps. With capacity 0 nothing changes.
     ///
     /// The type has to fit; of a slice its element type.
     ///
     /// ```
-    /// let mut word = 0u8;
-    /// word.insert_all_in::<LittleEndian>(&[0, 7, 9]);     // word is 0b1100_0001: 9 wraps to 1
+    /// let mut row = [0u8; 2];
+    /// row.insert_all(&[0, 7, 9]);                         // row is [0x81, 0x02]
     /// ```
     #[inline]
-    final fn insert_all_in<E: Endian>(&mut self, indexes: &[u32])
+    final fn insert_all(&mut self, indexes: &[u32])
         requires { IsTrue Self.indexable }
-        ensures set { set_in Self.Shape E.Endian self.new
-            ≡ fold with_index (set_in Self.Shape E.Endian self.old) indexes.now }
+        ensures set { set_in Self.Shape Self.Order.Endian self.new
+            ≡ fold with_index (set_in Self.Shape Self.Order.Endian self.old) indexes.now }
         ensures stays { Self.loan self.old ≡ Self.loan self.new }
     {
         for index in indexes {
-            self.set_bit_in::<E>(*index);
+            self.set_bit_in::<Self::Order>(*index);
         }
     }
 
-    /// Sets the bit at each index that the iterator yields, in the order `E`. An index past the
-    /// capacity wraps. With capacity 0 nothing changes.
+    /// Sets the bit at each index that the iterator yields, in the order of the type. An index past
+    /// the capacity wraps. With capacity 0 nothing changes.
     ///
     /// The type has to fit; of a slice its element type. The iterator has to end.
     ///
     /// ```
-    /// let mut word = 0u8;
-    /// word.extend_in::<_, LittleEndian>(5..9);            // word is 0b1000_0111: 8 wraps to 0
+    /// let mut row = [0u8; 2];
+    /// row.extend(0b0010_0001u8.iter_ones());              // row is [0x21, 0x00]
     /// ```
     #[inline]
-    final fn extend_in<I: Iterator<Item = u32>, E: Endian>(&mut self, indexes: I)
+    final fn extend<I: Iterator<Item = u32>>(&mut self, indexes: I)
         requires indexable { IsTrue Self.indexable }
         requires can { I.can_next indexes }
         requires finite { IsFinite (I.remaining indexes) }
         ensures set { (items : List ℕ) × Drains I.next_gives indexes items
-            × (set_in Self.Shape E.Endian self.new
-            ≡ fold with_index (set_in Self.Shape E.Endian self.old) items) }
-        ensures runs { WholeRun I.next_gives indexes (λ run. set_in Self.Shape E.Endian self.new
-            ≡ fold with_index (set_in Self.Shape E.Endian self.old) run.items) }
+            × (set_in Self.Shape Self.Order.Endian self.new
+            ≡ fold with_index (set_in Self.Shape Self.Order.Endian self.old) items) }
+        ensures runs { WholeRun I.next_gives indexes
+            (λ run. set_in Self.Shape Self.Order.Endian self.new
+            ≡ fold with_index (set_in Self.Shape Self.Order.Endian self.old) run.items) }
         ensures stays { Self.loan self.old ≡ Self.loan self.new }
     {
         let mut rest = indexes;
         while let Some(index) = rest.next() {
-            self.set_bit_in::<E>(index);
+            self.set_bit_in::<Self::Order>(index);
         }
-    }
-
-    /// Sets a bit in the order of the type, as [`insert_in`](BitsMutExt::insert_in) does.
-    ///
-    /// ```
-    /// let mut row = [0u16, 1];
-    /// row.insert(16);                                     // false: it was set
-    /// row.insert(33);                                     // true: 33 wraps to 1, row is [2, 1]
-    /// ```
-    #[inline]
-    final fn insert(&mut self, index: u32) -> bool
-        requires { IsTrue Self.indexable }
-        ensures was_unset { result
-            ≡ not (contains (set_in Self.Shape Self.Order.Endian self.old) index) }
-        ensures set { set_in Self.Shape Self.Order.Endian self.new
-            ≡ with_index (set_in Self.Shape Self.Order.Endian self.old) index }
-        ensures stays { Self.loan self.old ≡ Self.loan self.new }
-    {
-        self.insert_in::<Self::Order>(index)
-    }
-
-    /// Clears a bit in the order of the type, as [`remove_in`](BitsMutExt::remove_in) does.
-    ///
-    /// ```
-    /// let mut row = [0u16, 1];
-    /// row.remove(16);                                     // true: row is [0, 0]
-    /// row.remove(16);                                     // false: it was unset
-    /// ```
-    #[inline]
-    final fn remove(&mut self, index: u32) -> bool
-        requires { IsTrue Self.indexable }
-        ensures was_set { result ≡ contains (set_in Self.Shape Self.Order.Endian self.old) index }
-        ensures set { set_in Self.Shape Self.Order.Endian self.new
-            ≡ without_index (set_in Self.Shape Self.Order.Endian self.old) index }
-        ensures stays { Self.loan self.old ≡ Self.loan self.new }
-    {
-        self.remove_in::<Self::Order>(index)
-    }
-
-    /// Sets or clears a bit in the order of the type, as [`assign_in`](BitsMutExt::assign_in) does.
-    ///
-    /// ```
-    /// let mut word = 0b0001u8;
-    /// word.assign(1, true);                               // word is 0b0011
-    /// ```
-    #[inline]
-    final fn assign(&mut self, index: u32, value: bool)
-        requires { IsTrue Self.indexable }
-        ensures set { set_in Self.Shape Self.Order.Endian self.new
-            ≡ with_index_assigned (set_in Self.Shape Self.Order.Endian self.old) index value }
-        ensures stays { Self.loan self.old ≡ Self.loan self.new }
-    {
-        self.assign_in::<Self::Order>(index, value);
-    }
-
-    /// Sets or clears a bit in the order of the type, as [`replace_in`](BitsMutExt::replace_in)
-    /// does.
-    ///
-    /// ```
-    /// let mut word = 0b0001u8;
-    /// word.replace(0, false);                             // true: word is 0
-    /// ```
-    #[inline]
-    final fn replace(&mut self, index: u32, value: bool) -> bool
-        requires { IsTrue Self.indexable }
-        ensures was_set { result ≡ contains (set_in Self.Shape Self.Order.Endian self.old) index }
-        ensures set { set_in Self.Shape Self.Order.Endian self.new
-            ≡ with_index_assigned (set_in Self.Shape Self.Order.Endian self.old) index value }
-        ensures stays { Self.loan self.old ≡ Self.loan self.new }
-    {
-        self.replace_in::<Self::Order>(index, value)
-    }
-
-    /// Flips a bit in the order of the type, as [`toggle_in`](BitsMutExt::toggle_in) does.
-    ///
-    /// ```
-    /// let mut row = [0u8; 2];
-    /// row.toggle(9);                                      // row is [0, 2]
-    /// ```
-    #[inline]
-    final fn toggle(&mut self, index: u32)
-        requires { IsTrue Self.indexable }
-        ensures set { set_in Self.Shape Self.Order.Endian self.new
-            ≡ with_index_toggled (set_in Self.Shape Self.Order.Endian self.old) index }
-        ensures stays { Self.loan self.old ≡ Self.loan self.new }
-    {
-        self.toggle_in::<Self::Order>(index);
     }
 
     /// Sets the bits of a range in the order of the type, as
@@ -519,178 +436,6 @@ pub trait BitsMutExt: BitsMut {
         ensures stays { Self.loan self.old ≡ Self.loan self.new }
     {
         self.toggle_range_in::<Self::Order>(from, to);
-    }
-
-    /// Sets or clears the bits of a range in the order of the type, as
-    /// [`assign_range_in`](BitsMutExt::assign_range_in) does.
-    ///
-    /// ```
-    /// let mut word = 0b1111_1111u8;
-    /// word.assign_range(0, 3, false);                     // word is 0b1111_1000
-    /// ```
-    #[inline]
-    final fn assign_range(&mut self, from: u32, to: u32, value: bool)
-        requires fits { ShapeFits Self.Shape self.old }
-        requires ordered { from ≤ to }
-        requires within { to ≤ (Self.big self.old).capacity }
-        ensures set { set_in Self.Shape Self.Order.Endian self.new
-            ≡ with_span_assigned (set_in Self.Shape Self.Order.Endian self.old) from to value }
-        ensures stays { Self.loan self.old ≡ Self.loan self.new }
-    {
-        self.assign_range_in::<Self::Order>(from, to, value);
-    }
-
-    /// Clears the least set bit in the order of the type, as
-    /// [`pop_first_in`](BitsMutExt::pop_first_in) does.
-    ///
-    /// ```
-    /// let mut row = [0x00u8, 0x81];
-    /// row.pop_first();                                    // Some(8): row is [0x00, 0x80]
-    /// ```
-    #[inline]
-    final fn pop_first(&mut self) -> Option<u32>
-    where
-        Self: Sized,
-        requires { ShapeFits Self.Shape self.old }
-        ensures least { let before = set_in Self.Shape Self.Order.Endian self.old in
-            IsFirstIn before 0 before.capacity result }
-        ensures set { MatchOption result (self.new ≡ self.old)
-            (λ index. set_in Self.Shape Self.Order.Endian self.new
-            ≡ without_index (set_in Self.Shape Self.Order.Endian self.old) index) }
-        ensures stays { Self.loan self.old ≡ Self.loan self.new }
-    {
-        self.pop_first_in::<Self::Order>()
-    }
-
-    /// Clears the greatest set bit in the order of the type, as
-    /// [`pop_last_in`](BitsMutExt::pop_last_in) does.
-    ///
-    /// ```
-    /// let mut row = [0x00u8, 0x81];
-    /// row.pop_last();                                     // Some(15): row is [0x00, 0x01]
-    /// ```
-    #[inline]
-    final fn pop_last(&mut self) -> Option<u32>
-    where
-        Self: Sized,
-        requires { ShapeFits Self.Shape self.old }
-        ensures greatest { let before = set_in Self.Shape Self.Order.Endian self.old in
-            IsLastIn before 0 before.capacity result }
-        ensures set { MatchOption result (self.new ≡ self.old)
-            (λ index. set_in Self.Shape Self.Order.Endian self.new
-            ≡ without_index (set_in Self.Shape Self.Order.Endian self.old) index) }
-        ensures stays { Self.loan self.old ≡ Self.loan self.new }
-    {
-        self.pop_last_in::<Self::Order>()
-    }
-
-    /// Sets the least unset bit in the order of the type, as
-    /// [`take_first_zero_in`](BitsMutExt::take_first_zero_in) does.
-    ///
-    /// ```
-    /// let mut row = [0xFFu8, 0x0F];
-    /// row.take_first_zero();                              // Some(12): row is [0xFF, 0x1F]
-    /// ```
-    #[inline]
-    final fn take_first_zero(&mut self) -> Option<u32>
-    where
-        Self: Sized,
-        requires { ShapeFits Self.Shape self.old }
-        ensures least { let before = complement (set_in Self.Shape Self.Order.Endian self.old) in
-            IsFirstIn before 0 before.capacity result }
-        ensures set { MatchOption result (self.new ≡ self.old)
-            (λ index. set_in Self.Shape Self.Order.Endian self.new
-            ≡ with_index (set_in Self.Shape Self.Order.Endian self.old) index) }
-        ensures stays { Self.loan self.old ≡ Self.loan self.new }
-    {
-        self.take_first_zero_in::<Self::Order>()
-    }
-
-    /// Sets the first run of unset bits in the order of the type, as
-    /// [`take_first_zero_run_in`](BitsMutExt::take_first_zero_run_in) does.
-    ///
-    /// ```
-    /// let mut word = 0b0100_1101u8;
-    /// word.take_first_zero_run(2);                        // Some(4): word is 0b0111_1101
-    /// ```
-    #[inline]
-    final fn take_first_zero_run(&mut self, length: u32) -> Option<u32>
-    where
-        Self: Sized,
-        requires { ShapeFits Self.Shape self.old }
-        ensures first { IsFirstRun (complement (set_in Self.Shape Self.Order.Endian self.old)) 0
-            length result }
-        ensures set { MatchOption result (self.new ≡ self.old)
-            (λ from. set_in Self.Shape Self.Order.Endian self.new
-            ≡ with_span (set_in Self.Shape Self.Order.Endian self.old) from (from + length)) }
-        ensures stays { Self.loan self.old ≡ Self.loan self.new }
-    {
-        self.take_first_zero_run_in::<Self::Order>(length)
-    }
-
-    /// Asks `keep` for each set bit and clears those for which it returns `false`, in the order of
-    /// the type, as [`retain_in`](BitsMutExt::retain_in) does.
-    ///
-    /// ```
-    /// let mut row = [0x07u8, 0x81];
-    /// row.retain(|index| index % 2 == 0);                 // row is [0x05, 0x01]
-    /// ```
-    #[inline]
-    final fn retain<F: FnMut(u32) -> bool>(&mut self, keep: F)
-    where
-        Self: Sized,
-        requires fits { ShapeFits Self.Shape self.old }
-        requires callable { F.IsAlwaysCallable keep }
-        ensures filtered { IsFiltered F.step keep
-            (ascending (set_in Self.Shape Self.Order.Endian self.old))
-            (ascending (set_in Self.Shape Self.Order.Endian self.new)) }
-        ensures capacity { (Self.big self.new).capacity ≡ (Self.big self.old).capacity }
-        ensures by_test { (test : ℕ → Bool) → AnswersBy F.step keep test →
-            set_in Self.Shape Self.Order.Endian self.new
-            ≡ those_passing test (set_in Self.Shape Self.Order.Endian self.old) }
-        ensures stays { Self.loan self.old ≡ Self.loan self.new }
-    {
-        self.retain_in::<F, Self::Order>(keep);
-    }
-
-    /// Sets the bit at each of the indexes in the order of the type, as
-    /// [`insert_all_in`](BitsMutExt::insert_all_in) does.
-    ///
-    /// ```
-    /// let mut row = [0u8; 2];
-    /// row.insert_all(&[0, 7, 9]);                         // row is [0x81, 0x02]
-    /// ```
-    #[inline]
-    final fn insert_all(&mut self, indexes: &[u32])
-        requires { IsTrue Self.indexable }
-        ensures set { set_in Self.Shape Self.Order.Endian self.new
-            ≡ fold with_index (set_in Self.Shape Self.Order.Endian self.old) indexes.now }
-        ensures stays { Self.loan self.old ≡ Self.loan self.new }
-    {
-        self.insert_all_in::<Self::Order>(indexes);
-    }
-
-    /// Sets the bit at each index that the iterator yields in the order of the type, as
-    /// [`extend_in`](BitsMutExt::extend_in) does.
-    ///
-    /// ```
-    /// let mut row = [0u8; 2];
-    /// row.extend(0b0010_0001u8.iter_ones());              // row is [0x21, 0x00]
-    /// ```
-    #[inline]
-    final fn extend<I: Iterator<Item = u32>>(&mut self, indexes: I)
-        requires indexable { IsTrue Self.indexable }
-        requires can { I.can_next indexes }
-        requires finite { IsFinite (I.remaining indexes) }
-        ensures set { (items : List ℕ) × Drains I.next_gives indexes items
-            × (set_in Self.Shape Self.Order.Endian self.new
-            ≡ fold with_index (set_in Self.Shape Self.Order.Endian self.old) items) }
-        ensures runs { WholeRun I.next_gives indexes
-            (λ run. set_in Self.Shape Self.Order.Endian self.new
-            ≡ fold with_index (set_in Self.Shape Self.Order.Endian self.old) run.items) }
-        ensures stays { Self.loan self.old ≡ Self.loan self.new }
-    {
-        self.extend_in::<I, Self::Order>(indexes);
     }
 }
 

@@ -11,7 +11,7 @@ ghost use Rattle.bittle.specs.Values.{set_in, set_mirrored};
 
 use crate::bits_mut_ext::BitsMutExt;
 use crate::rotations::{rotate_down, rotate_up, shift_down, shift_up};
-use bittle::{BitsOwned, Endian};
+use bittle::BitsOwned;
 
 /// Sets made of one set, of a list of indexes or of an iterator. The type has to fit.
 pub trait BitsOwnedExt: BitsOwned {
@@ -31,201 +31,11 @@ pub trait BitsOwnedExt: BitsOwned {
         Self::ones().difference(self)
     }
 
-    /// Returns the set with each bit at the indexes `from..to` set, in the order `E`, by one mask a
-    /// word.
+    /// Returns the set with each bit at the indexes `from..to` set, in the order of the type, by
+    /// one mask a word.
     ///
     /// `from <= to <= capacity`: nothing wraps. An empty range, as any with capacity 0, changes
     /// nothing.
-    ///
-    /// ```
-    /// 0u8.with_range_in::<LittleEndian>(0, 3);            // 0b1110_0000
-    /// ```
-    #[inline]
-    final fn with_range_in<E: Endian>(self, from: u32, to: u32) -> Self
-        requires indexable { IsTrue Self.indexable }
-        requires ordered { from ≤ to }
-        requires within { to ≤ Self.type_capacity }
-        ensures { set_in Self.Shape E.Endian result
-            ≡ with_span (set_in Self.Shape E.Endian self) from to }
-    {
-        let mut set = self;
-        set.set_range_in::<E>(from, to);
-        set
-    }
-
-    /// Returns the set with each bit at the indexes `from..to` unset, in the order `E`, by one mask
-    /// a word.
-    ///
-    /// `from <= to <= capacity`: nothing wraps. An empty range, as any with capacity 0, changes
-    /// nothing.
-    ///
-    /// ```
-    /// 0xFFu8.without_range_in::<LittleEndian>(0, 3);      // 0b0001_1111
-    /// ```
-    #[inline]
-    final fn without_range_in<E: Endian>(self, from: u32, to: u32) -> Self
-        requires indexable { IsTrue Self.indexable }
-        requires ordered { from ≤ to }
-        requires within { to ≤ Self.type_capacity }
-        ensures { set_in Self.Shape E.Endian result
-            ≡ without_span (set_in Self.Shape E.Endian self) from to }
-    {
-        let mut set = self;
-        set.clear_range_in::<E>(from, to);
-        set
-    }
-
-    /// Returns the set with each bit at the indexes `from..to` flipped, in the order `E`, by one
-    /// mask a word.
-    ///
-    /// `from <= to <= capacity`: nothing wraps. An empty range, as any with capacity 0, changes
-    /// nothing.
-    ///
-    /// ```
-    /// 0b1100_0000u8.with_range_toggled_in::<LittleEndian>(1, 4);    // 0b1011_0000
-    /// ```
-    #[inline]
-    final fn with_range_toggled_in<E: Endian>(self, from: u32, to: u32) -> Self
-        requires indexable { IsTrue Self.indexable }
-        requires ordered { from ≤ to }
-        requires within { to ≤ Self.type_capacity }
-        ensures { set_in Self.Shape E.Endian result
-            ≡ with_span_toggled (set_in Self.Shape E.Endian self) from to }
-    {
-        let mut set = self;
-        set.toggle_range_in::<E>(from, to);
-        set
-    }
-
-    /// Returns the set with each bit moved down by `by` indexes, in the order `E`. The bits that
-    /// pass index 0 go on at the last index.
-    ///
-    /// A distance past the capacity wraps. With capacity 0 it returns the same set. Each word is
-    /// read twice and written once.
-    ///
-    /// ```
-    /// 0b0001_0010u8.rotated_down_in::<BigEndian>(2);      // 0b1000_0100
-    /// ```
-    #[inline]
-    final fn rotated_down_in<E: Endian>(self, by: u32) -> Self
-        requires { IsTrue Self.indexable }
-        ensures set { set_in Self.Shape E.Endian result
-            ≡ rotated_down (set_in Self.Shape E.Endian self) by }
-        ensures moved { (i : ℕ) → contains (set_in Self.Shape E.Endian result) i
-            ≡ contains (set_in Self.Shape E.Endian self) (i + by) }
-    {
-        rotate_down::<Self, E>(&self, by)
-    }
-
-    /// Returns the set with each bit moved up by `by` indexes, in the order `E`. The bits that pass
-    /// the last index go on at index 0.
-    ///
-    /// A distance past the capacity wraps. With capacity 0 it returns the same set. Each word is
-    /// read twice and written once.
-    ///
-    /// ```
-    /// 0b0100_1000u8.rotated_up_in::<BigEndian>(2);        // 0b0010_0001
-    /// ```
-    #[inline]
-    final fn rotated_up_in<E: Endian>(self, by: u32) -> Self
-        requires { IsTrue Self.indexable }
-        ensures set { set_in Self.Shape E.Endian result
-            ≡ rotated_up (set_in Self.Shape E.Endian self) by }
-        ensures moved { (i : ℕ) → contains (set_in Self.Shape E.Endian result) (i + by)
-            ≡ contains (set_in Self.Shape E.Endian self) i }
-    {
-        rotate_up::<Self, E>(&self, by)
-    }
-
-    /// Returns the set with each bit moved down by `by` indexes, in the order `E`. The bits that
-    /// would pass index 0 are left out.
-    ///
-    /// With a distance of the capacity or more, as with capacity 0, the set is empty. Each word is
-    /// read twice and written once.
-    ///
-    /// ```
-    /// 0b0001_0010u8.shifted_down_in::<BigEndian>(2);      // 0b0000_0100
-    /// ```
-    #[inline]
-    final fn shifted_down_in<E: Endian>(self, by: u32) -> Self
-        requires { IsTrue Self.indexable }
-        ensures set { set_in Self.Shape E.Endian result
-            ≡ shifted_down (set_in Self.Shape E.Endian self) by }
-        ensures moved { (i : ℕ) → i + by < Self.type_capacity
-            → contains (set_in Self.Shape E.Endian result) i
-            ≡ contains (set_in Self.Shape E.Endian self) (i + by) }
-        ensures emptied { (i : ℕ) → i < Self.type_capacity → Self.type_capacity ≤ i + by
-            → contains (set_in Self.Shape E.Endian result) i ≡ false }
-    {
-        shift_down::<Self, E>(&self, by)
-    }
-
-    /// Returns the set with each bit moved up by `by` indexes, in the order `E`. The bits that
-    /// would reach the capacity are left out.
-    ///
-    /// With a distance of the capacity or more, as with capacity 0, the set is empty. Each word is
-    /// read twice and written once.
-    ///
-    /// ```
-    /// 0b0100_1000u8.shifted_up_in::<BigEndian>(2);        // 0b0010_0000
-    /// ```
-    #[inline]
-    final fn shifted_up_in<E: Endian>(self, by: u32) -> Self
-        requires { IsTrue Self.indexable }
-        ensures set { set_in Self.Shape E.Endian result
-            ≡ shifted_up (set_in Self.Shape E.Endian self) by }
-        ensures moved { (i : ℕ) → i + by < Self.type_capacity
-            → contains (set_in Self.Shape E.Endian result) (i + by)
-            ≡ contains (set_in Self.Shape E.Endian self) i }
-        ensures emptied { (i : ℕ) → i < Self.type_capacity → i < by
-            → contains (set_in Self.Shape E.Endian result) i ≡ false }
-    {
-        shift_up::<Self, E>(&self, by)
-    }
-
-    /// Returns the set of the indexes, in the order `E`. An index past the capacity wraps. With
-    /// capacity 0 the set is empty.
-    ///
-    /// ```
-    /// u8::from_indexes_in::<LittleEndian>(&[0, 7, 9]);    // 0b1100_0001: 9 wraps to 1
-    /// ```
-    #[inline]
-    final fn from_indexes_in<E: Endian>(indexes: &[u32]) -> Self
-        requires { IsTrue Self.indexable }
-        ensures { set_in Self.Shape E.Endian result
-            ≡ fold with_index (empty_set Self.type_capacity) indexes.now }
-    {
-        let mut set = Self::zeros();
-        set.insert_all_in::<E>(indexes);
-        set
-    }
-
-    /// Returns the set of the indexes that the iterator yields, in the order `E`. An index past the
-    /// capacity wraps. With capacity 0 the set is empty.
-    ///
-    /// The iterator has to end.
-    ///
-    /// ```
-    /// u8::from_iter_in::<_, LittleEndian>(5..9);          // 0b1000_0111: 8 wraps to 0
-    /// ```
-    #[inline]
-    final fn from_iter_in<I: Iterator<Item = u32>, E: Endian>(indexes: I) -> Self
-        requires indexable { IsTrue Self.indexable }
-        requires can { I.can_next indexes }
-        requires finite { IsFinite (I.remaining indexes) }
-        ensures set { (items : List ℕ) × Drains I.next_gives indexes items
-            × (set_in Self.Shape E.Endian result
-            ≡ fold with_index (empty_set Self.type_capacity) items) }
-        ensures runs { WholeRun I.next_gives indexes (λ run. set_in Self.Shape E.Endian result
-            ≡ fold with_index (empty_set Self.type_capacity) run.items) }
-    {
-        let mut set = Self::zeros();
-        set.extend_in::<I, E>(indexes);
-        set
-    }
-
-    /// Returns the set with the bits of a range set in the order of the type, as
-    /// [`with_range_in`](BitsOwnedExt::with_range_in) does.
     ///
     /// ```
     /// [0u8; 2].with_range(6, 11);                         // [0xC0, 0x07]
@@ -238,11 +48,16 @@ pub trait BitsOwnedExt: BitsOwned {
         ensures { set_in Self.Shape Self.Order.Endian result
             ≡ with_span (set_in Self.Shape Self.Order.Endian self) from to }
     {
-        self.with_range_in::<Self::Order>(from, to)
+        let mut set = self;
+        set.set_range_in::<Self::Order>(from, to);
+        set
     }
 
-    /// Returns the set with the bits of a range unset in the order of the type, as
-    /// [`without_range_in`](BitsOwnedExt::without_range_in) does.
+    /// Returns the set with each bit at the indexes `from..to` unset, in the order of the type, by
+    /// one mask a word.
+    ///
+    /// `from <= to <= capacity`: nothing wraps. An empty range, as any with capacity 0, changes
+    /// nothing.
     ///
     /// ```
     /// [0xFFu8; 2].without_range(6, 11);                   // [0x3F, 0xF8]
@@ -255,11 +70,16 @@ pub trait BitsOwnedExt: BitsOwned {
         ensures { set_in Self.Shape Self.Order.Endian result
             ≡ without_span (set_in Self.Shape Self.Order.Endian self) from to }
     {
-        self.without_range_in::<Self::Order>(from, to)
+        let mut set = self;
+        set.clear_range_in::<Self::Order>(from, to);
+        set
     }
 
-    /// Returns the set with the bits of a range flipped in the order of the type, as
-    /// [`with_range_toggled_in`](BitsOwnedExt::with_range_toggled_in) does.
+    /// Returns the set with each bit at the indexes `from..to` flipped, in the order of the type,
+    /// by one mask a word.
+    ///
+    /// `from <= to <= capacity`: nothing wraps. An empty range, as any with capacity 0, changes
+    /// nothing.
     ///
     /// ```
     /// 0b0011_1100u8.with_range_toggled(0, 4);             // 0b0011_0011
@@ -272,11 +92,16 @@ pub trait BitsOwnedExt: BitsOwned {
         ensures { set_in Self.Shape Self.Order.Endian result
             ≡ with_span_toggled (set_in Self.Shape Self.Order.Endian self) from to }
     {
-        self.with_range_toggled_in::<Self::Order>(from, to)
+        let mut set = self;
+        set.toggle_range_in::<Self::Order>(from, to);
+        set
     }
 
-    /// Returns the set with each bit moved down in the order of the type, as
-    /// [`rotated_down_in`](BitsOwnedExt::rotated_down_in) does.
+    /// Returns the set with each bit moved down by `by` indexes, in the order of the type. The bits
+    /// that pass index 0 go on at the last index.
+    ///
+    /// A distance past the capacity wraps. With capacity 0 it returns the same set. Each word is
+    /// read twice and written once.
     ///
     /// ```
     /// [0x12u8, 0].rotated_down(2);                        // [0x04, 0x80]
@@ -289,11 +114,14 @@ pub trait BitsOwnedExt: BitsOwned {
         ensures moved { (i : ℕ) → contains (set_in Self.Shape Self.Order.Endian result) i
             ≡ contains (set_in Self.Shape Self.Order.Endian self) (i + by) }
     {
-        self.rotated_down_in::<Self::Order>(by)
+        rotate_down::<Self, Self::Order>(&self, by)
     }
 
-    /// Returns the set with each bit moved up in the order of the type, as
-    /// [`rotated_up_in`](BitsOwnedExt::rotated_up_in) does.
+    /// Returns the set with each bit moved up by `by` indexes, in the order of the type. The bits
+    /// that pass the last index go on at index 0.
+    ///
+    /// A distance past the capacity wraps. With capacity 0 it returns the same set. Each word is
+    /// read twice and written once.
     ///
     /// ```
     /// [0u8, 0x48].rotated_up(2);                          // [0x01, 0x20]
@@ -306,11 +134,14 @@ pub trait BitsOwnedExt: BitsOwned {
         ensures moved { (i : ℕ) → contains (set_in Self.Shape Self.Order.Endian result) (i + by)
             ≡ contains (set_in Self.Shape Self.Order.Endian self) i }
     {
-        self.rotated_up_in::<Self::Order>(by)
+        rotate_up::<Self, Self::Order>(&self, by)
     }
 
-    /// Returns the set with each bit moved down in the order of the type, as
-    /// [`shifted_down_in`](BitsOwnedExt::shifted_down_in) does.
+    /// Returns the set with each bit moved down by `by` indexes, in the order of the type. The bits
+    /// that would pass index 0 are left out.
+    ///
+    /// With a distance of the capacity or more, as with capacity 0, the set is empty. Each word is
+    /// read twice and written once.
     ///
     /// ```
     /// [0x12u8, 0x01].shifted_down(2);                     // [0x44, 0]
@@ -326,11 +157,14 @@ pub trait BitsOwnedExt: BitsOwned {
         ensures emptied { (i : ℕ) → i < Self.type_capacity → Self.type_capacity ≤ i + by
             → contains (set_in Self.Shape Self.Order.Endian result) i ≡ false }
     {
-        self.shifted_down_in::<Self::Order>(by)
+        shift_down::<Self, Self::Order>(&self, by)
     }
 
-    /// Returns the set with each bit moved up in the order of the type, as
-    /// [`shifted_up_in`](BitsOwnedExt::shifted_up_in) does.
+    /// Returns the set with each bit moved up by `by` indexes, in the order of the type. The bits
+    /// that would reach the capacity are left out.
+    ///
+    /// With a distance of the capacity or more, as with capacity 0, the set is empty. Each word is
+    /// read twice and written once.
     ///
     /// ```
     /// [0x48u8, 0x80].shifted_up(2);                       // [0x20, 0x01]
@@ -346,11 +180,11 @@ pub trait BitsOwnedExt: BitsOwned {
         ensures emptied { (i : ℕ) → i < Self.type_capacity → i < by
             → contains (set_in Self.Shape Self.Order.Endian result) i ≡ false }
     {
-        self.shifted_up_in::<Self::Order>(by)
+        shift_up::<Self, Self::Order>(&self, by)
     }
 
-    /// Returns the set of the indexes in the order of the type, as
-    /// [`from_indexes_in`](BitsOwnedExt::from_indexes_in) does.
+    /// Returns the set of the indexes, in the order of the type. An index past the capacity wraps.
+    /// With capacity 0 the set is empty.
     ///
     /// ```
     /// <[u8; 2]>::from_indexes(&[0, 7, 9]);                // [0x81, 0x02]
@@ -361,11 +195,15 @@ pub trait BitsOwnedExt: BitsOwned {
         ensures { set_in Self.Shape Self.Order.Endian result
             ≡ fold with_index (empty_set Self.type_capacity) indexes.now }
     {
-        Self::from_indexes_in::<Self::Order>(indexes)
+        let mut set = Self::zeros();
+        set.insert_all(indexes);
+        set
     }
 
-    /// Returns the set of the indexes that the iterator yields in the order of the type, as
-    /// [`from_iter_in`](BitsOwnedExt::from_iter_in) does.
+    /// Returns the set of the indexes that the iterator yields, in the order of the type. An index
+    /// past the capacity wraps. With capacity 0 the set is empty.
+    ///
+    /// The iterator has to end.
     ///
     /// ```
     /// <[u8; 2]>::from_iter(6..11);                        // [0xC0, 0x07]
@@ -382,7 +220,9 @@ pub trait BitsOwnedExt: BitsOwned {
             (λ run. set_in Self.Shape Self.Order.Endian result
             ≡ fold with_index (empty_set Self.type_capacity) run.items) }
     {
-        Self::from_iter_in::<I, Self::Order>(indexes)
+        let mut set = Self::zeros();
+        set.extend(indexes);
+        set
     }
 }
 

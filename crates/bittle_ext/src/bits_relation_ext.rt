@@ -8,36 +8,22 @@ ghost use Rattle.bittle.specs.PlainSet.{size};
 ghost use Rattle.bittle.specs.Values.{set_in, ShapeFits};
 
 use crate::{counts, relations};
-use bittle::{Bits, Endian};
+use bittle::Bits;
 
 /// What can be asked of two sets, of any two shapes that fit.
 ///
-/// A short form reads each set in the order of its type, a form that ends in `_in` both in one
-/// order. Words decide where both sets have words of one width that are read in one order; else
-/// searches go on in turns, each from where the other one stopped. Past its capacity a set has no
-/// index, so capacities may differ. With capacity 0 a set is the empty one.
+/// Each set is read in the order of its type; a view has the order that it names. Words decide where
+/// both sets have words of one width that are read in one order; else searches go on in turns, each
+/// from where the other one stopped. Past its capacity a set has no index, so capacities may differ.
+/// With capacity 0 a set is the empty one.
+///
+/// ```
+/// let view = 0x80u8.in_order::<LittleEndian>();
+/// view.is_subset(&0x8000u16.in_order::<LittleEndian>()); // true: each has index 0
+/// ```
 pub trait BitsRelationExt: Bits {
-    /// Returns the least index that is set in both sets, both in the order `E`, or `None` if there
+    /// Returns the least index that is set in both sets, each in its own order, or `None` if there
     /// is none. It stops at the answer.
-    ///
-    /// ```
-    /// 0b0110u8.first_common_in::<u16, LittleEndian>(&0x0600); // Some(5)
-    /// ```
-    #[inline]
-    final fn first_common_in<B: Bits, E: Endian>(&self, other: &B) -> Option<u32>
-    where
-        Self: Sized,
-        requires fits { ShapeFits Self.Shape self.now }
-        requires other_fits { ShapeFits B.Shape other.now }
-        ensures { let ours = set_in Self.Shape E.Endian self.now in
-            let theirs = set_in B.Shape E.Endian other.now in
-            MatchOption result (AreDisjoint ours theirs) (IsFirstCommon ours theirs) }
-    {
-        relations::first_common::<Self, B, E, E>(self, other)
-    }
-
-    /// Returns the least index that is set in both sets, each in its own order, as
-    /// [`first_common_in`](BitsRelationExt::first_common_in) does.
     ///
     /// ```
     /// 0b0110u8.first_common(&0x0104u16);                  // Some(2)
@@ -55,27 +41,8 @@ pub trait BitsRelationExt: Bits {
         relations::first_common::<Self, B, Self::Order, B::Order>(self, other)
     }
 
-    /// Returns the least index that is set in this set and not in the other one, both in the order
-    /// `E`, or `None` if there is none. It stops at the answer.
-    ///
-    /// ```
-    /// 0b0110u8.first_alone_in::<u8, LittleEndian>(&0b0100); // Some(6)
-    /// ```
-    #[inline]
-    final fn first_alone_in<B: Bits, E: Endian>(&self, other: &B) -> Option<u32>
-    where
-        Self: Sized,
-        requires fits { ShapeFits Self.Shape self.now }
-        requires other_fits { ShapeFits B.Shape other.now }
-        ensures { let ours = set_in Self.Shape E.Endian self.now in
-            let theirs = set_in B.Shape E.Endian other.now in
-            MatchOption result (IsSubset ours theirs) (IsFirstAlone ours theirs) }
-    {
-        relations::first_alone::<Self, B, E, E>(self, other)
-    }
-
     /// Returns the least index that is set in this set and not in the other one, each in its own
-    /// order, as [`first_alone_in`](BitsRelationExt::first_alone_in) does.
+    /// order, or `None` if there is none. It stops at the answer.
     ///
     /// ```
     /// 0b0110u8.first_alone(&0x0102u16);                   // Some(2)
@@ -93,27 +60,8 @@ pub trait BitsRelationExt: Bits {
         relations::first_alone::<Self, B, Self::Order, B::Order>(self, other)
     }
 
-    /// Returns `true` if each bit that is set in this set is set in the other one too, both in the
-    /// order `E`. It stops at the first bit that is not.
-    ///
-    /// ```
-    /// 0x80u8.is_subset_in::<u16, LittleEndian>(&0x8000);  // true: each has index 0
-    /// ```
-    #[inline]
-    final fn is_subset_in<B: Bits, E: Endian>(&self, other: &B) -> bool
-    where
-        Self: Sized,
-        requires fits { ShapeFits Self.Shape self.now }
-        requires other_fits { ShapeFits B.Shape other.now }
-        ensures { let ours = set_in Self.Shape E.Endian self.now in
-            let theirs = set_in B.Shape E.Endian other.now in
-            IsTrue result ↔ IsSubset ours theirs }
-    {
-        relations::first_alone::<Self, B, E, E>(self, other).is_none()
-    }
-
     /// Returns `true` if each bit that is set in this set is set in the other one too, each in its
-    /// own order, as [`is_subset_in`](BitsRelationExt::is_subset_in) does.
+    /// own order. It stops at the first bit that is not.
     ///
     /// ```
     /// 0b0110u8.is_subset(&0x010Fu16);                     // true
@@ -131,27 +79,8 @@ pub trait BitsRelationExt: Bits {
         relations::first_alone::<Self, B, Self::Order, B::Order>(self, other).is_none()
     }
 
-    /// Returns `true` if each bit that is set in the other set is set in this one too, both in the
-    /// order `E`. It stops at the first bit that is not.
-    ///
-    /// ```
-    /// 0x8000u16.is_superset_in::<u8, LittleEndian>(&0x80); // true: each has index 0
-    /// ```
-    #[inline]
-    final fn is_superset_in<B: Bits, E: Endian>(&self, other: &B) -> bool
-    where
-        Self: Sized,
-        requires fits { ShapeFits Self.Shape self.now }
-        requires other_fits { ShapeFits B.Shape other.now }
-        ensures { let ours = set_in Self.Shape E.Endian self.now in
-            let theirs = set_in B.Shape E.Endian other.now in
-            IsTrue result ↔ IsSubset theirs ours }
-    {
-        relations::first_alone::<B, Self, E, E>(other, self).is_none()
-    }
-
     /// Returns `true` if each bit that is set in the other set is set in this one too, each in its
-    /// own order, as [`is_superset_in`](BitsRelationExt::is_superset_in) does.
+    /// own order. It stops at the first bit that is not.
     ///
     /// ```
     /// 0b0110u8.is_superset(&0x0106u16);                   // false: index 8 is not in it
@@ -169,27 +98,8 @@ pub trait BitsRelationExt: Bits {
         relations::first_alone::<B, Self, B::Order, Self::Order>(other, self).is_none()
     }
 
-    /// Returns `true` if no index is set in both sets, both in the order `E`. It stops at the first
+    /// Returns `true` if no index is set in both sets, each in its own order. It stops at the first
     /// index that is.
-    ///
-    /// ```
-    /// 0x80u8.is_disjoint_in::<u16, LittleEndian>(&0x0080); // true: 0 and 8
-    /// ```
-    #[inline]
-    final fn is_disjoint_in<B: Bits, E: Endian>(&self, other: &B) -> bool
-    where
-        Self: Sized,
-        requires fits { ShapeFits Self.Shape self.now }
-        requires other_fits { ShapeFits B.Shape other.now }
-        ensures { let ours = set_in Self.Shape E.Endian self.now in
-            let theirs = set_in B.Shape E.Endian other.now in
-            IsTrue result ↔ AreDisjoint ours theirs }
-    {
-        relations::first_common::<Self, B, E, E>(self, other).is_none()
-    }
-
-    /// Returns `true` if no index is set in both sets, each in its own order, as
-    /// [`is_disjoint_in`](BitsRelationExt::is_disjoint_in) does.
     ///
     /// ```
     /// 0b0110u8.is_disjoint(&0b1001u64);                   // true
@@ -207,27 +117,8 @@ pub trait BitsRelationExt: Bits {
         relations::first_common::<Self, B, Self::Order, B::Order>(self, other).is_none()
     }
 
-    /// Returns `true` if an index is set in both sets, both in the order `E`. It stops at the first
+    /// Returns `true` if an index is set in both sets, each in its own order. It stops at the first
     /// one.
-    ///
-    /// ```
-    /// 0x80u8.intersects_in::<u16, LittleEndian>(&0x8000); // true: each has index 0
-    /// ```
-    #[inline]
-    final fn intersects_in<B: Bits, E: Endian>(&self, other: &B) -> bool
-    where
-        Self: Sized,
-        requires fits { ShapeFits Self.Shape self.now }
-        requires other_fits { ShapeFits B.Shape other.now }
-        ensures { let ours = set_in Self.Shape E.Endian self.now in
-            let theirs = set_in B.Shape E.Endian other.now in
-            IsTrue result ↔ Meet ours theirs }
-    {
-        relations::first_common::<Self, B, E, E>(self, other).is_some()
-    }
-
-    /// Returns `true` if an index is set in both sets, each in its own order, as
-    /// [`intersects_in`](BitsRelationExt::intersects_in) does.
     ///
     /// ```
     /// 0b0110u8.intersects(&0b1100u64);                    // true: index 2
@@ -245,28 +136,9 @@ pub trait BitsRelationExt: Bits {
         relations::first_common::<Self, B, Self::Order, B::Order>(self, other).is_some()
     }
 
-    /// Returns how many indexes are set in both sets, both in the order `E`. No set is made: words
+    /// Returns how many indexes are set in both sets, each in its own order. No set is made: words
     /// of one width are counted one by one, else each set bit of this set is tested in the other
     /// one.
-    ///
-    /// ```
-    /// 0x81u8.count_common_in::<u16, LittleEndian>(&0x8000); // 1: index 0
-    /// ```
-    #[inline]
-    final fn count_common_in<B: Bits, E: Endian>(&self, other: &B) -> u32
-    where
-        Self: Sized,
-        requires fits { ShapeFits Self.Shape self.now }
-        requires other_fits { ShapeFits B.Shape other.now }
-        ensures { let ours = set_in Self.Shape E.Endian self.now in
-            let theirs = set_in B.Shape E.Endian other.now in
-            result ≡ size (both_of ours theirs) }
-    {
-        counts::count_common::<Self, B, E, E>(self, other)
-    }
-
-    /// Returns how many indexes are set in both sets, each in its own order, as
-    /// [`count_common_in`](BitsRelationExt::count_common_in) does.
     ///
     /// ```
     /// 0b0110u8.count_common(&0x0107u16);                  // 2
@@ -284,27 +156,8 @@ pub trait BitsRelationExt: Bits {
         counts::count_common::<Self, B, Self::Order, B::Order>(self, other)
     }
 
-    /// Returns how many indexes are set in this set and not in the other one, both in the order
-    /// `E`. It costs a count of this set and [`count_common_in`](BitsRelationExt::count_common_in).
-    ///
-    /// ```
-    /// 0x81u8.count_alone_in::<u16, LittleEndian>(&0x8000); // 1: index 7
-    /// ```
-    #[inline]
-    final fn count_alone_in<B: Bits, E: Endian>(&self, other: &B) -> u32
-    where
-        Self: Sized,
-        requires fits { ShapeFits Self.Shape self.now }
-        requires other_fits { ShapeFits B.Shape other.now }
-        ensures { let ours = set_in Self.Shape E.Endian self.now in
-            let theirs = set_in B.Shape E.Endian other.now in
-            result ≡ size (first_only_of ours theirs) }
-    {
-        counts::count_alone::<Self, B, E, E>(self, other)
-    }
-
     /// Returns how many indexes are set in this set and not in the other one, each in its own
-    /// order, as [`count_alone_in`](BitsRelationExt::count_alone_in) does.
+    /// order. It costs a count of this set and [`count_common`](BitsRelationExt::count_common).
     ///
     /// ```
     /// 0b0110u8.count_alone(&0x0104u16);                   // 1: index 1
@@ -322,27 +175,8 @@ pub trait BitsRelationExt: Bits {
         counts::count_alone::<Self, B, Self::Order, B::Order>(self, other)
     }
 
-    /// Returns how many indexes are set in just one of the two sets, both in the order `E`. It
-    /// costs a count of each set and [`count_common_in`](BitsRelationExt::count_common_in).
-    ///
-    /// ```
-    /// 0x81u8.count_different_in::<u16, LittleEndian>(&0x8001); // 2: 7 and 15
-    /// ```
-    #[inline]
-    final fn count_different_in<B: Bits, E: Endian>(&self, other: &B) -> u32
-    where
-        Self: Sized,
-        requires fits { ShapeFits Self.Shape self.now }
-        requires other_fits { ShapeFits B.Shape other.now }
-        ensures { let ours = set_in Self.Shape E.Endian self.now in
-            let theirs = set_in B.Shape E.Endian other.now in
-            result ≡ size (just_one_of ours theirs) }
-    {
-        counts::count_different::<Self, B, E, E>(self, other)
-    }
-
-    /// Returns how many indexes are set in just one of the two sets, each in its own order, as
-    /// [`count_different_in`](BitsRelationExt::count_different_in) does.
+    /// Returns how many indexes are set in just one of the two sets, each in its own order. It
+    /// costs a count of each set and [`count_common`](BitsRelationExt::count_common).
     ///
     /// ```
     /// 0b0110u8.count_different(&0x0104u16);               // 2: indexes 1 and 8

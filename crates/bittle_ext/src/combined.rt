@@ -183,130 +183,15 @@ impl BoundedOperation for SymmetricDifference {
 
 /// Iterators over what an operation makes of a set and another one, with no set made of them.
 ///
-/// A short form reads each set in the order of its type, a form that ends in `_in` both in one
-/// order. The two shapes may differ, and both have to fit. Past its capacity a set has no bit.
-/// Where the words of the two sets differ in width or order, the second one is searched for each of
-/// its set bits.
+/// Each set is read in the order of its type; a view has the order that it names. The two shapes may
+/// differ, and both have to fit. Past its capacity a set has no bit. Where the words of the two sets
+/// differ in width or order, the second one is searched for each of its set bits.
 pub trait BitsCombinedExt: Bits {
-    /// Returns an iterator over the indexes that are set in either set, both in the order `E`,
+    /// Returns an iterator over the indexes that are set in either set, each in its own order,
     /// increasing, from both ends. With capacity 0 on both sides it yields nothing.
     ///
     /// Both shapes have to fit. Each word of both is read once; where the words differ in width,
     /// each set bit of the second set is searched for.
-    ///
-    /// ```
-    /// 0b0011u8.iter_union_in::<_, BigEndian>(&[0b0110u8, 1]);
-    /// // yields 0, 1, 2, 8
-    /// ```
-    #[inline]
-    final fn iter_union_in<'a, B: Bits, E: Endian>(
-        &'a self,
-        other: &'a B,
-    ) -> IterUnion<'a, Self, B, E, E>
-    where
-        Self: Sized,
-        requires fits { ShapeFits Self.Shape self.now }
-        requires other_fits { ShapeFits B.Shape other.now }
-        ensures items { result ≡ ascending (either_of
-            (set_in Self.Shape E.Endian self.now) (set_in B.Shape E.Endian other.now)) }
-        ensures below { AreBelow
-            (max (Self.big self.now).capacity (B.big other.now).capacity) result }
-        ensures in_order { ListsInOrder }
-        ensures in_reverse { ListsInReverse }
-    {
-        IterCombined::new(self, other)
-    }
-
-    /// Returns an iterator over the indexes that are set in both sets, both in the order `E`,
-    /// increasing, from both ends. With capacity 0 on both sides it yields nothing.
-    ///
-    /// Both shapes have to fit. Each word that both have is read once; where the words differ in
-    /// width, each set bit of the second set is searched for.
-    ///
-    /// ```
-    /// 0b0011u8.iter_conjunction_in::<_, BigEndian>(&[0b0110u8, 1]);
-    /// // yields 1
-    /// ```
-    #[inline]
-    final fn iter_conjunction_in<'a, B: Bits, E: Endian>(
-        &'a self,
-        other: &'a B,
-    ) -> IterConjunction<'a, Self, B, E, E>
-    where
-        Self: Sized,
-        requires fits { ShapeFits Self.Shape self.now }
-        requires other_fits { ShapeFits B.Shape other.now }
-        ensures items { result ≡ ascending (both_of
-            (set_in Self.Shape E.Endian self.now) (set_in B.Shape E.Endian other.now)) }
-        ensures below { AreBelow
-            (max (Self.big self.now).capacity (B.big other.now).capacity) result }
-        ensures in_order { ListsInOrder }
-        ensures in_reverse { ListsInReverse }
-    {
-        IterCombined::new(self, other)
-    }
-
-    /// Returns an iterator over the indexes that are set in the first set and unset in the second,
-    /// both in the order `E`, increasing, from both ends. With capacity 0 on both sides it yields
-    /// nothing.
-    ///
-    /// Both shapes have to fit. Each word of the first is read once; where the words differ in
-    /// width, each set bit of the second set below the first one's capacity is searched for.
-    ///
-    /// ```
-    /// 0b0011u8.iter_difference_in::<_, BigEndian>(&[0b0110u8, 1]);
-    /// // yields 0
-    /// ```
-    #[inline]
-    final fn iter_difference_in<'a, B: Bits, E: Endian>(
-        &'a self,
-        other: &'a B,
-    ) -> IterDifference<'a, Self, B, E, E>
-    where
-        Self: Sized,
-        requires fits { ShapeFits Self.Shape self.now }
-        requires other_fits { ShapeFits B.Shape other.now }
-        ensures items { result ≡ ascending (first_only_of
-            (set_in Self.Shape E.Endian self.now) (set_in B.Shape E.Endian other.now)) }
-        ensures below { AreBelow
-            (max (Self.big self.now).capacity (B.big other.now).capacity) result }
-        ensures in_order { ListsInOrder }
-        ensures in_reverse { ListsInReverse }
-    {
-        IterCombined::new(self, other)
-    }
-
-    /// Returns an iterator over the indexes that are set in just one of the sets, both in the order
-    /// `E`, increasing, from both ends. With capacity 0 on both sides it yields nothing.
-    ///
-    /// Both shapes have to fit. Each word of both is read once; where the words differ in width,
-    /// each set bit of the second set is searched for.
-    ///
-    /// ```
-    /// 0b0011u8.iter_symmetric_difference_in::<_, BigEndian>(&[0b0110u8, 1]);
-    /// // yields 0, 2, 8
-    /// ```
-    #[inline]
-    final fn iter_symmetric_difference_in<'a, B: Bits, E: Endian>(
-        &'a self,
-        other: &'a B,
-    ) -> IterSymmetricDifference<'a, Self, B, E, E>
-    where
-        Self: Sized,
-        requires fits { ShapeFits Self.Shape self.now }
-        requires other_fits { ShapeFits B.Shape other.now }
-        ensures items { result ≡ ascending (just_one_of
-            (set_in Self.Shape E.Endian self.now) (set_in B.Shape E.Endian other.now)) }
-        ensures below { AreBelow
-            (max (Self.big self.now).capacity (B.big other.now).capacity) result }
-        ensures in_order { ListsInOrder }
-        ensures in_reverse { ListsInReverse }
-    {
-        IterCombined::new(self, other)
-    }
-
-    /// Iterates over the indexes that are set in either set, each in its own order, as
-    /// [`iter_union_in`](BitsCombinedExt::iter_union_in) does.
     ///
     /// ```
     /// 0b0011u8.iter_union(&0x0106u16);                    // yields 0, 1, 2, 8
@@ -331,8 +216,11 @@ pub trait BitsCombinedExt: Bits {
         IterCombined::new(self, other)
     }
 
-    /// Iterates over the indexes that are set in both sets, each in its own order, as
-    /// [`iter_conjunction_in`](BitsCombinedExt::iter_conjunction_in) does.
+    /// Returns an iterator over the indexes that are set in both sets, each in its own order,
+    /// increasing, from both ends. With capacity 0 on both sides it yields nothing.
+    ///
+    /// Both shapes have to fit. Each word that both have is read once; where the words differ in
+    /// width, each set bit of the second set is searched for.
     ///
     /// ```
     /// 0b0011u8.iter_conjunction(&0x0106u16);              // yields 1
@@ -357,8 +245,12 @@ pub trait BitsCombinedExt: Bits {
         IterCombined::new(self, other)
     }
 
-    /// Iterates over the indexes that are set in the first set and unset in the second, each in its
-    /// own order, as [`iter_difference_in`](BitsCombinedExt::iter_difference_in) does.
+    /// Returns an iterator over the indexes that are set in the first set and unset in the second,
+    /// each in its own order, increasing, from both ends. With capacity 0 on both sides it yields
+    /// nothing.
+    ///
+    /// Both shapes have to fit. Each word of the first is read once; where the words differ in
+    /// width, each set bit of the second set below the first one's capacity is searched for.
     ///
     /// ```
     /// 0b0011u8.iter_difference(&0x0106u16);               // yields 0
@@ -383,8 +275,11 @@ pub trait BitsCombinedExt: Bits {
         IterCombined::new(self, other)
     }
 
-    /// Iterates over the indexes that are set in just one of the sets, each in its own order, as
-    /// [`iter_symmetric_difference_in`](BitsCombinedExt::iter_symmetric_difference_in) does.
+    /// Returns an iterator over the indexes that are set in just one of the sets, each in its own
+    /// order, increasing, from both ends. With capacity 0 on both sides it yields nothing.
+    ///
+    /// Both shapes have to fit. Each word of both is read once; where the words differ in width,
+    /// each set bit of the second set is searched for.
     ///
     /// ```
     /// 0b0011u8.iter_symmetric_difference(&0x0106u16);     // yields 0, 2, 8

@@ -2,14 +2,17 @@
 //! a change that tells whether the set changed, a range changed at once, the first and the last bit
 //! taken out, a set made of a list of indexes, a complement, iterators over a range and over runs.
 //!
-//! They stand in extension traits, which every set of `bittle` has in both orders. They are proved
-//! from contracts alone: those that users see, and those of the parts in `bittle_bits::extension`,
-//! which the library keeps for crates of this project. The twelve words, the orders, searches,
-//! iterators, joins and the operations on two sets stand in `bittle`. A call that ends in `_in`
-//! names its order; without the ending it is the order of the type.
+//! They stand in extension traits, which every set of `bittle` has. They are proved from contracts
+//! alone: those that users see, and those of the parts in `bittle_bits::extension`, which the
+//! library keeps for crates of this project. The twelve words, the orders, searches, iterators,
+//! joins and the operations on two sets stand in `bittle`. A call takes the order of the type. In a
+//! named order it is made on a view that [`in_order`](BitsViewExt::in_order) or
+//! [`in_order_mut`](BitsMutViewExt::in_order_mut) borrows; a set that is owned is wrapped in a
+//! `Set`, which remembers its order.
 //!
 //! ```rust
 //! use bittle::prelude::*;
+//! use bittle::{LittleEndian, Set};
 //! use bittle_ext::prelude::*;
 //!
 //! let mut word = 0b0010_0010u8;
@@ -22,6 +25,11 @@
 //! word.pop_last();                  // Some(5)
 //! word.iter_zero_runs();            // yields 4..8
 //! u8::from_iter(2..4).complement(); // 0b1111_0011
+//!
+//! let view = word.in_order::<LittleEndian>();
+//! view.first_one();                 // Some(4)
+//! word.in_order_mut::<LittleEndian>().insert(0); // true: word is 0b1000_1111
+//! Set::new_le(word).rotated_up(1);  // the set of 0, 1, 5, 6, 7
 //! ```
 #![tactic(auto)]
 

@@ -142,42 +142,11 @@ fn step<B: Bits, E: Endian, K: Kind, N: End>(bits: &B, from: &mut u32, to: &mut 
 ///
 /// The shape has to fit. Of a range `from <= to <= capacity`: nothing wraps.
 pub trait BitsRangeExt: Bits {
-    /// Returns an iterator over the indexes of the set bits in `from..to`, in the order `E`,
-    /// increasing, from both ends.
+    /// Returns an iterator over the indexes of the set bits in `from..to`, in the order of the
+    /// type, increasing, from both ends.
     ///
     /// The shape has to fit, and `from <= to <= capacity`: nothing wraps. Only the words of the
     /// range are read, once for each item. With capacity 0 it yields nothing.
-    ///
-    /// ```
-    /// 0b0110_0010u8.iter_ones_in_range_in::<LittleEndian>(2, 8);
-    /// // yields 2, 6
-    /// ```
-    #[inline]
-    final fn iter_ones_in_range_in<E: Endian>(
-        &self,
-        from: u32,
-        to: u32,
-    ) -> IterOnesInRange<'_, Self, E>
-    where
-        Self: Sized,
-        requires fits { ShapeFits Self.Shape self.now }
-        requires ordered { from ≤ to }
-        requires within { to ≤ (Self.big self.now).capacity }
-        ensures items { let ours = set_in Self.Shape E.Endian self.now in
-            result ≡ ascending (members_within ours from to) }
-        ensures count { let ours = set_in Self.Shape E.Endian self.now in
-            length result ≡ members_below ours to - members_below ours from }
-        ensures between { AreWithin from to result }
-        ensures in_order { ListsInOrder }
-        ensures in_reverse { ListsInReverse }
-    {
-        IterInRange::new(self, from, to)
-    }
-
-    /// Returns an iterator over the indexes of the set bits in `from..to`, in the order of the
-    /// type, as [`iter_ones_in_range_in`](BitsRangeExt::iter_ones_in_range_in) does.
-    ///
-    /// The shape has to fit, and `from <= to <= capacity`: nothing wraps.
     ///
     /// ```
     /// 0b0110_0010u8.iter_ones_in_range(1, 6);             // yields 1, 5
@@ -197,45 +166,14 @@ pub trait BitsRangeExt: Bits {
         ensures in_order { ListsInOrder }
         ensures in_reverse { ListsInReverse }
     {
-        self.iter_ones_in_range_in::<Self::Order>(from, to)
-    }
-
-    /// Returns an iterator over the indexes of the unset bits in `from..to`, in the order `E`,
-    /// increasing, from both ends.
-    ///
-    /// The shape has to fit, and `from <= to <= capacity`: nothing wraps. Only the words of the
-    /// range are read, once for each item. With capacity 0 it yields nothing.
-    ///
-    /// ```
-    /// 0b0110_0010u8.iter_zeros_in_range_in::<LittleEndian>(1, 5);
-    /// // yields 3, 4
-    /// ```
-    #[inline]
-    final fn iter_zeros_in_range_in<E: Endian>(
-        &self,
-        from: u32,
-        to: u32,
-    ) -> IterZerosInRange<'_, Self, E>
-    where
-        Self: Sized,
-        requires fits { ShapeFits Self.Shape self.now }
-        requires ordered { from ≤ to }
-        requires within { to ≤ (Self.big self.now).capacity }
-        ensures items { let ours = complement (set_in Self.Shape E.Endian self.now) in
-            result ≡ ascending (members_within ours from to) }
-        ensures count { let ours = complement (set_in Self.Shape E.Endian self.now) in
-            length result ≡ members_below ours to - members_below ours from }
-        ensures between { AreWithin from to result }
-        ensures in_order { ListsInOrder }
-        ensures in_reverse { ListsInReverse }
-    {
         IterInRange::new(self, from, to)
     }
 
     /// Returns an iterator over the indexes of the unset bits in `from..to`, in the order of the
-    /// type, as [`iter_zeros_in_range_in`](BitsRangeExt::iter_zeros_in_range_in) does.
+    /// type, increasing, from both ends.
     ///
-    /// The shape has to fit, and `from <= to <= capacity`: nothing wraps.
+    /// The shape has to fit, and `from <= to <= capacity`: nothing wraps. Only the words of the
+    /// range are read, once for each item. With capacity 0 it yields nothing.
     ///
     /// ```
     /// 0b0110_0010u8.iter_zeros_in_range(1, 5);            // yields 2, 3, 4
@@ -259,33 +197,14 @@ pub trait BitsRangeExt: Bits {
         ensures in_order { ListsInOrder }
         ensures in_reverse { ListsInReverse }
     {
-        self.iter_zeros_in_range_in::<Self::Order>(from, to)
+        IterInRange::new(self, from, to)
     }
 
     /// Returns an iterator over the longest runs of set bits, each a range of indexes, in the order
-    /// `E`, increasing, from both ends.
+    /// of the type, increasing, from both ends.
     ///
     /// The shape has to fit. Each step is two searches by whole words. With capacity 0 it yields
     /// nothing.
-    ///
-    /// ```
-    /// 0b0110_0010u8.iter_one_runs_in::<LittleEndian>();   // yields 1..3, 6..7
-    /// ```
-    #[inline]
-    final fn iter_one_runs_in<E: Endian>(&self) -> IterOneRuns<'_, Self, E>
-    where
-        Self: Sized,
-        requires { ShapeFits Self.Shape self.now }
-        ensures items { result ≡ runs (set_in Self.Shape E.Endian self.now) }
-        ensures below { AreRunsBelow (Self.big self.now).capacity result }
-        ensures in_order { RunsInOrder }
-        ensures in_reverse { RunsInReverse }
-    {
-        IterRuns::new(self)
-    }
-
-    /// Returns an iterator over the longest runs of set bits in the order of the type, as
-    /// [`iter_one_runs_in`](BitsRangeExt::iter_one_runs_in) does.
     ///
     /// ```
     /// 0b0110_0010u8.iter_one_runs();                      // yields 1..2, 5..7
@@ -300,33 +219,14 @@ pub trait BitsRangeExt: Bits {
         ensures in_order { RunsInOrder }
         ensures in_reverse { RunsInReverse }
     {
-        self.iter_one_runs_in::<Self::Order>()
-    }
-
-    /// Returns an iterator over the longest runs of unset bits, each a range of indexes, in the order
-    /// `E`, increasing, from both ends.
-    ///
-    /// The shape has to fit. Each step is two searches by whole words. With capacity 0 it yields
-    /// nothing.
-    ///
-    /// ```
-    /// 0b0110_0010u8.iter_zero_runs_in::<LittleEndian>();  // yields 0..1, 3..6, 7..8
-    /// ```
-    #[inline]
-    final fn iter_zero_runs_in<E: Endian>(&self) -> IterZeroRuns<'_, Self, E>
-    where
-        Self: Sized,
-        requires { ShapeFits Self.Shape self.now }
-        ensures items { result ≡ runs (complement (set_in Self.Shape E.Endian self.now)) }
-        ensures below { AreRunsBelow (Self.big self.now).capacity result }
-        ensures in_order { RunsInOrder }
-        ensures in_reverse { RunsInReverse }
-    {
         IterRuns::new(self)
     }
 
-    /// Returns an iterator over the longest runs of unset bits in the order of the type, as
-    /// [`iter_zero_runs_in`](BitsRangeExt::iter_zero_runs_in) does.
+    /// Returns an iterator over the longest runs of unset bits, each a range of indexes, in the
+    /// order of the type, increasing, from both ends.
+    ///
+    /// The shape has to fit. Each step is two searches by whole words. With capacity 0 it yields
+    /// nothing.
     ///
     /// ```
     /// 0b0110_0010u8.iter_zero_runs();                     // yields 0..1, 2..5, 7..8
@@ -341,7 +241,7 @@ pub trait BitsRangeExt: Bits {
         ensures in_order { RunsInOrder }
         ensures in_reverse { RunsInReverse }
     {
-        self.iter_zero_runs_in::<Self::Order>()
+        IterRuns::new(self)
     }
 }
 

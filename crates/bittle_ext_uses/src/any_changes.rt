@@ -10,7 +10,7 @@ ghost use Rattle.bittle.specs.Values.{set_in, set_mirrored, ShapeFits};
 ghost use Rattle.bittle_ext.specs.Changes.{those_passing};
 
 use bittle::{Bits, BitsMut, BitsOwned, Endian};
-use bittle_ext::{BitsMutExt, BitsOwnedExt};
+use bittle_ext::{BitsMutExt, BitsMutViewExt, BitsOwnedExt};
 
 /// Clears the bits of a range.
 pub fn clear<B: BitsMut, E: Endian>(set: &mut B, from: u32, to: u32)
@@ -21,7 +21,7 @@ pub fn clear<B: BitsMut, E: Endian>(set: &mut B, from: u32, to: u32)
         ≡ without_span (set_in B.Shape E.Endian set.old) from to }
     ensures stays { B.loan set.old ≡ B.loan set.new }
 {
-    set.assign_range_in::<E>(from, to, false);
+    set.in_order_mut::<E>().assign_range(from, to, false);
 }
 
 /// Flips each bit, and returns how many are set then.
@@ -51,7 +51,7 @@ pub fn keep_those<B: BitsMut, E: Endian, F: FnMut(u32) -> bool>(set: &mut B, kee
         (ascending (set_in B.Shape E.Endian set.new)) }
     ensures stays { B.loan set.old ≡ B.loan set.new }
 {
-    set.retain_in::<F, E>(keep);
+    set.in_order_mut::<E>().retain(keep);
 }
 
 /// Takes the least free slot.

@@ -12,7 +12,7 @@ ghost use Rattle.bittle.specs.Values.{set_in, ShapeFits};
 ghost use Rattle.bittle_ext.specs.Combined.{both_of, either_of, first_only_of, just_one_of};
 
 use bittle::{Bits, Endian, LittleEndian, Set};
-use bittle_ext::{BitsCombinedExt, BitsOwnedExt};
+use bittle_ext::{BitsCombinedExt, BitsOwnedExt, BitsViewExt};
 
 /// Counts the indexes that are set in both of two words.
 pub fn count_common(one: u64, other: u64) -> usize
@@ -27,7 +27,8 @@ pub fn count_either(one: &[u32; 2], other: &[u32; 4]) -> usize
         (read_in true 32 (row_set 2 32 (bit_set 32) one.now))
         (read_in true 32 (row_set 4 32 (bit_set 32) other.now)))) }
 {
-    one.iter_union_in::<_, LittleEndian>(other).count()
+    let view = one.in_order::<LittleEndian>();
+    view.iter_union(&other.in_order::<LittleEndian>()).count()
 }
 
 /// Returns the set of what is set in one word alone.
@@ -45,7 +46,9 @@ pub fn count_different<A: Bits, B: Bits, E: Endian>(one: &A, other: &B) -> usize
     ensures { result ≡ length (ascending (just_one_of
         (set_in A.Shape E.Endian one.now) (set_in B.Shape E.Endian other.now))) }
 {
-    one.iter_symmetric_difference_in::<B, E>(other).count()
+    let view = one.in_order::<E>();
+    view.iter_symmetric_difference(&other.in_order::<E>())
+        .count()
 }
 
 /// Counts what is set in a byte and not in a row of wider words, which is read from the left.

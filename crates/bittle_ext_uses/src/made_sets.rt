@@ -7,7 +7,7 @@ ghost use Rattle.bittle.specs.Orders.{read_in};
 ghost use Rattle.bittle.specs.PlainSet.{ascending, complement, empty_set, with_index};
 ghost use Rattle.bittle.specs.PlainSet.{with_span, without_span, with_span_toggled};
 
-use bittle::{Bits, LittleEndian};
+use bittle::{Bits, LittleEndian, Set};
 use bittle_ext::BitsOwnedExt;
 
 /// Returns the bits that are unset.
@@ -29,7 +29,7 @@ pub fn all_of(indexes: &[u32]) -> u64
     ensures { read_in true 64 (bit_set 64 result)
         ≡ fold with_index (empty_set 64) indexes.now }
 {
-    u64::from_indexes_in::<LittleEndian>(indexes)
+    Set::<u64, LittleEndian>::from_indexes(indexes).into_bits()
 }
 
 /// Returns the set of what another set yields.

@@ -11,7 +11,7 @@ ghost use Rattle.bittle.specs.Values.{set_in, ShapeFits};
 ghost use Rattle.bittle_ext.specs.RangeMembers.{members_within};
 
 use bittle::{Bits, Endian};
-use bittle_ext::{BitsExt, BitsOwnedExt, BitsRangeExt};
+use bittle_ext::{BitsExt, BitsOwnedExt, BitsRangeExt, BitsViewExt};
 
 /// Counts the members of a range by a walk over them.
 pub fn count_walked(mask: u64, from: u32, to: u32) -> usize
@@ -30,8 +30,9 @@ pub fn count_twice<B: Bits, E: Endian>(set: &B, from: u32, to: u32) -> (usize, u
     requires within { to ≤ (B.big set.now).capacity }
     ensures { result.0 ≡ result.1 }
 {
-    let walked = set.iter_zeros_in_range_in::<E>(from, to).count();
-    (walked, set.count_zeros_in_range_in::<E>(from, to))
+    let view = set.in_order::<E>();
+    let walked = view.iter_zeros_in_range(from, to).count();
+    (walked, view.count_zeros_in_range(from, to))
 }
 
 /// Returns the entry of a table at the last set bit of a range, or 0.
@@ -108,6 +109,7 @@ pub fn free_ends<B: Bits, E: Endian>(set: &B, from: u32, to: u32) -> (Option<u32
         result.0 rest
         × YieldsLast (λ items. items) rest result.1 left }
 {
-    let mut walk = set.iter_zeros_in_range_in::<E>(from, to);
+    let view = set.in_order::<E>();
+    let mut walk = view.iter_zeros_in_range(from, to);
     (walk.next(), walk.next_back())
 }

@@ -14,7 +14,7 @@ ghost use Rattle.bittle_ext.specs.SetRelations.{IsFirstAlone, IsFirstCommon};
 ghost use Rattle.bittle_ext.specs.Runs.{IsFirstRun};
 
 use bittle::{Bits, Endian, LittleEndian, Set};
-use bittle_ext::{BitsExt, BitsRelationExt};
+use bittle_ext::{BitsExt, BitsRelationExt, BitsViewExt};
 
 /// Returns the least member.
 pub fn least(mask: u64) -> Option<u32>
@@ -45,7 +45,7 @@ pub fn least_free(mask: u32) -> Option<u32>
 pub fn greatest_free_le(mask: u8) -> Option<u32>
     ensures { IsLastIn (complement (read_in true 8 (bit_set 8 mask))) 0 8 result }
 {
-    mask.prev_zero_in::<LittleEndian>(8)
+    mask.in_order::<LittleEndian>().prev_zero(8)
 }
 
 /// Returns the neighbours of an index among the members.
@@ -129,7 +129,7 @@ pub fn middle<B: Bits, E: Endian>(set: &B) -> Option<u32>
     ensures { result ≡ slice_get (ascending (set_in B.Shape E.Endian set.now))
         (size (B.big set.now) / 2) }
 {
-    set.select_in::<E>(set.count_ones() / 2)
+    set.in_order::<E>().select(set.count_ones() / 2)
 }
 
 /// Returns whether a role grants what is wanted.
@@ -158,7 +158,8 @@ pub fn are_disjoint_le(one: u16, other: u32) -> bool
     ensures { IsTrue result ↔ AreDisjoint (read_in true 16 (bit_set 16 one))
         (read_in true 32 (bit_set 32 other)) }
 {
-    one.is_disjoint_in::<u32, LittleEndian>(&other)
+    let view = one.in_order::<LittleEndian>();
+    view.is_disjoint(&other.in_order::<LittleEndian>())
 }
 
 /// Returns the first permission that is wanted and not granted.

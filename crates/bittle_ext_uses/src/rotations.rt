@@ -7,7 +7,7 @@ ghost use Rattle.bittle.specs.Rows.{row_set};
 ghost use Rattle.bittle.specs.Values.{set_in};
 ghost use Rattle.bittle_ext.specs.Rotations.{rotated_up, shifted_down, shifted_up};
 
-use bittle::{Bits, Endian};
+use bittle::{Bits, Endian, Set};
 use bittle_ext::BitsOwnedExt;
 
 /// Returns a chess board with each piece one rank up; those of the last rank leave the board.
@@ -72,7 +72,7 @@ pub fn turn<B: BitsOwnedExt, E: Endian>(set: B, by: u32) -> B
     ensures moved { (i : ℕ) → contains (set_in B.Shape E.Endian result) (i + by)
         ≡ contains (set_in B.Shape E.Endian set) i }
 {
-    set.rotated_up_in::<E>(by)
+    Set::<B, E>::new_in(set).rotated_up(by).into_bits()
 }
 
 /// Delays the tasks of a timetable of any length; those past its end are dropped.

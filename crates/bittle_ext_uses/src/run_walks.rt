@@ -9,7 +9,7 @@ ghost use Rattle.bittle.specs.Values.{set_in, ShapeFits};
 ghost use Rattle.bittle_ext.specs.Runs.{runs};
 
 use bittle::{Bits, Endian};
-use bittle_ext::{BitsMutExt, BitsRangeExt};
+use bittle_ext::{BitsMutExt, BitsRangeExt, BitsViewExt};
 use std::ops::Range;
 
 /// Counts the runs of members.
@@ -27,7 +27,8 @@ pub fn free_runs<B: Bits, E: Endian>(set: &B) -> (Option<Range<u32>>, Option<Ran
         result.0 rest
         × YieldsLast (λ items. items) rest result.1 left }
 {
-    let mut walk = set.iter_zero_runs_in::<E>();
+    let view = set.in_order::<E>();
+    let mut walk = view.iter_zero_runs();
     (walk.next(), walk.next_back())
 }
 

@@ -10,7 +10,7 @@ ghost use Rattle.bittle.specs.Searches.{IsFirstIn, IsLastIn};
 ghost use Rattle.bittle_ext.specs.Changes.{with_index_assigned, with_index_toggled, those_passing};
 
 use bittle::LittleEndian;
-use bittle_ext::BitsMutExt;
+use bittle_ext::{BitsMutExt, BitsMutViewExt};
 
 /// Sets a bit, and returns whether it was unset.
 pub fn add(mask: &mut u64, index: u32) -> bool
@@ -36,7 +36,7 @@ pub fn put(mask: &mut u8, index: u32, value: bool) -> bool
     ensures set { read_in true 8 (bit_set 8 mask.new)
         ≡ with_index_assigned (read_in true 8 (bit_set 8 mask.old)) index value }
 {
-    mask.replace_in::<LittleEndian>(index, value)
+    mask.in_order_mut::<LittleEndian>().replace(index, value)
 }
 
 /// Sets a bit by its value.
@@ -85,7 +85,7 @@ pub fn take_least(mask: &mut u128) -> Option<u32>
 pub fn take_greatest_le(mask: &mut u8) -> Option<u32>
     ensures greatest { IsLastIn (read_in true 8 (bit_set 8 mask.old)) 0 8 result }
 {
-    mask.pop_last_in::<LittleEndian>()
+    mask.in_order_mut::<LittleEndian>().pop_last()
 }
 
 /// Takes the least free slot.

@@ -4,7 +4,7 @@ ghost use Rattle.std.specs.Prelude.{IsTrue};
 
 use crate::asked::Asked;
 use crate::probe::{ONES, Probe};
-use bittle::{BitsOwned, LittleEndian};
+use bittle::{BitsOwned, Set};
 use bittle_ext::BitsOwnedExt;
 use checks::same;
 use std::process::Abort;
@@ -15,7 +15,7 @@ fn rotated<B: BitsOwned>(rt: &impl Abort, set: B, asked: &Asked) -> [B; 2]
 {
     let up = set.rotated_up(1);
     same!(rt; (asked.fetches(), asked.other()), (8, 0));
-    let down = set.rotated_down_in::<LittleEndian>(8);
+    let down = Set::new_le(set).rotated_down(8).into_bits();
     same!(rt; (asked.fetches(), asked.other()), (16, 0));
     [up, down]
 }
@@ -34,7 +34,7 @@ fn shifted<B: BitsOwned>(rt: &impl Abort, set: B, asked: &Asked) -> [B; 2]
 {
     let up = set.shifted_up(9);
     same!(rt; (asked.fetches(), asked.other()), (8, 0));
-    let down = set.shifted_down_in::<LittleEndian>(8);
+    let down = Set::new_le(set).shifted_down(8).into_bits();
     same!(rt; (asked.fetches(), asked.other()), (16, 0));
     [up, down]
 }

@@ -85,7 +85,7 @@ pub(crate) fn ones_in_range_in<B: Bits, E: Endian, const N: usize>(
     requires ordered { from ≤ to }
     requires within { to ≤ (B.big bits.now).capacity }
 {
-    taken(&mut bits.iter_ones_in_range_in::<E>(from, to), ends)
+    ones_in_range(&bits.in_order::<E>(), from, to, ends)
 }
 
 /// Walks over the unset bits of a range.
@@ -143,7 +143,7 @@ pub(crate) fn union_in<A: Bits, B: Bits, E: Endian, const N: usize>(
     requires one_fits { ShapeFits A.Shape one.now }
     requires other_fits { ShapeFits B.Shape other.now }
 {
-    taken(&mut one.iter_union_in::<_, E>(other), ends)
+    union(&one.in_order::<E>(), &other.in_order::<E>(), ends)
 }
 
 /// Walks over the indexes in both of two sets.
@@ -242,11 +242,7 @@ pub(crate) fn counts_in<A: Bits, B: Bits, E: Endian>(one: &A, other: &B) -> [u32
     requires one_fits { ShapeFits A.Shape one.now }
     requires other_fits { ShapeFits B.Shape other.now }
 {
-    [
-        one.count_common_in::<B, E>(other),
-        one.count_alone_in::<B, E>(other),
-        one.count_different_in::<B, E>(other),
-    ]
+    counts(&one.in_order::<E>(), &other.in_order::<E>())
 }
 
 /// Returns the ranks of these indexes.

@@ -38,15 +38,15 @@ fn a_bit_by_its_value(rt: HostRuntime) {
 #[test]
 fn one_bit_from_the_left(rt: HostRuntime) {
     let mut word = 0b1000_0000u8;
-    holds!(rt; !word.insert_in::<LittleEndian>(0));
-    holds!(rt; word.insert_in::<LittleEndian>(7));
+    holds!(rt; !word.in_order_mut::<LittleEndian>().insert(0));
+    holds!(rt; word.in_order_mut::<LittleEndian>().insert(7));
     same!(rt; word, 0b1000_0001);
-    holds!(rt; word.remove_in::<LittleEndian>(8));
+    holds!(rt; word.in_order_mut::<LittleEndian>().remove(8));
     same!(rt; word, 0b0000_0001);
-    word.toggle_in::<LittleEndian>(1);
+    word.in_order_mut::<LittleEndian>().toggle(1);
     same!(rt; word, 0b0100_0001);
-    holds!(rt; word.replace_in::<LittleEndian>(7, false));
-    word.assign_in::<LittleEndian>(2, true);
+    holds!(rt; word.in_order_mut::<LittleEndian>().replace(7, false));
+    word.in_order_mut::<LittleEndian>().assign(2, true);
     same!(rt; word, 0b0110_0000);
 }
 
@@ -118,9 +118,10 @@ fn empty_and_whole_ranges(rt: HostRuntime) {
     word.set_range(0, 8);
     same!(rt; word, 0xFF);
     let mut row = [0u8; 2];
-    row.assign_range_in::<LittleEndian>(6, 11, true);
+    row.in_order_mut::<LittleEndian>().assign_range(6, 11, true);
     same!(rt; row, [0x03, 0xE0]);
-    row.assign_range_in::<LittleEndian>(0, 16, false);
+    row.in_order_mut::<LittleEndian>()
+        .assign_range(0, 16, false);
     same!(rt; row, [0, 0]);
 }
 
@@ -155,7 +156,8 @@ fn popped<B: BitsOwned>(mut row: B) -> ([(Option<u32>, B); 3], [Option<u32>; 2])
 fn popped_in<B: BitsOwned, E: Endian>(mut row: B) -> ([Option<u32>; 2], B)
     requires { IsTrue B.indexable }
 {
-    let ends = [row.pop_first_in::<E>(), row.pop_last_in::<E>()];
+    let mut view = row.in_order_mut::<E>();
+    let ends = [view.pop_first(), view.pop_last()];
     (ends, row)
 }
 
@@ -175,7 +177,7 @@ fn free_slots_are_taken(rt: HostRuntime) {
     let mut row = [0xFFu8, 0x0F];
     same!(rt; (row.take_first_zero(), row), (Some(12), [0xFF, 0x1F]));
     let mut row = [0xFFu8, 0xC1];
-    same!(rt; row.take_first_zero_in::<LittleEndian>(), Some(10));
+    same!(rt; row.in_order_mut::<LittleEndian>().take_first_zero(), Some(10));
     same!(rt; row, [0xFF, 0xE1]);
     let mut full = 255u8;
     same!(rt; (full.take_first_zero(), full), (None, 255));
@@ -186,19 +188,21 @@ fn lists_and_iterators_are_set(rt: HostRuntime) {
     let mut word = 0b0001_0000u8;
     word.insert_all(&[0, 7, 9, 7]);
     same!(rt; word, 0b1001_0011);
-    word.insert_all_in::<LittleEndian>(&[2]);
+    word.in_order_mut::<LittleEndian>().insert_all(&[2]);
     same!(rt; word, 0b1011_0011);
     let mut row = [0u8; 2];
     row.extend(6..11);
     same!(rt; row, [0xC0, 0x07]);
-    row.extend_in::<_, LittleEndian>(0b0101u8.iter_ones());
+    row.in_order_mut::<LittleEndian>()
+        .extend(0b0101u8.iter_ones());
     same!(rt; row, [0xE0, 0x07]);
 }
 
 #[test]
 fn bits_that_are_kept(rt: HostRuntime) {
     let mut word = 0b1000_0110u8;
-    word.retain_in::<_, LittleEndian>(|index| index < 6);
+    word.in_order_mut::<LittleEndian>()
+        .retain(|index| index < 6);
     same!(rt; word, 0b1000_0100);
     let mut row = [0x07u8, 0x81];
     row.retain(|index| index % 2 == 0);

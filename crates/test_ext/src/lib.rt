@@ -20,4 +20,6 @@ mod rotations;
 #[cfg(test)]
 mod unlike;
 #[cfg(test)]
+mod views;
+#[cfg(test)]
 mod walked_runs;

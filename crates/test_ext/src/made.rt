@@ -41,17 +41,17 @@ fn ranges(rt: HostRuntime) {
 
 #[test]
 fn ranges_from_the_left(rt: HostRuntime) {
-    same!(rt; 0u8.with_range_in::<LittleEndian>(0, 3), 0b1110_0000);
-    same!(rt; 0xFFu8.without_range_in::<LittleEndian>(0, 3), 0b0001_1111);
-    same!(rt; 0b1100_0000u8.with_range_toggled_in::<LittleEndian>(1, 4), 0b1011_0000);
+    same!(rt; Set::new_le(0u8).with_range(0, 3).into_bits(), 0b1110_0000);
+    same!(rt; Set::new_le(0xFFu8).without_range(0, 3).into_bits(), 0b0001_1111);
+    same!(rt; Set::new_le(0b1100_0000u8).with_range_toggled(1, 4).into_bits(), 0b1011_0000);
 }
 
 #[test]
 fn indexes(rt: HostRuntime) {
     same!(rt; u8::from_indexes(&[0, 7, 9]), 0b1000_0011);
-    same!(rt; u8::from_indexes_in::<LittleEndian>(&[0, 7, 9]), 0b1100_0001);
+    same!(rt; Set::<u8, LittleEndian>::from_indexes(&[0, 7, 9]).into_bits(), 0b1100_0001);
     same!(rt; <[u8; 2]>::from_indexes(&[]), [0, 0]);
     same!(rt; u8::from_iter(5..9), 0b1110_0001);
-    same!(rt; u8::from_iter_in::<_, LittleEndian>(5..9), 0b1000_0111);
+    same!(rt; Set::<u8, LittleEndian>::from_iter(5..9).into_bits(), 0b1000_0111);
     same!(rt; u64::from_iter((0..64).step_by(16)), 0x0001_0001_0001_0001);
 }

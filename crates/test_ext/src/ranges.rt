@@ -27,9 +27,10 @@ fn the_zeros_of_a_range_of_a_word(rt: HostRuntime) {
 fn a_range_of_a_word_from_the_left(rt: HostRuntime) {
     // The members 1, 2 and 6; no members are 0, 3, 4, 5 and 7.
     let word = 0b0110_0010u8;
-    let mut ones = word.iter_ones_in_range_in::<LittleEndian>(2, 8);
+    let view = word.in_order::<LittleEndian>();
+    let mut ones = view.iter_ones_in_range(2, 8);
     same!(rt; (ones.next(), ones.next(), ones.next()), (Some(2), Some(6), None));
-    let mut zeros = word.iter_zeros_in_range_in::<LittleEndian>(1, 5);
+    let mut zeros = view.iter_zeros_in_range(1, 5);
     same!(rt; (zeros.next(), zeros.next(), zeros.next()), (Some(3), Some(4), None));
 }
 

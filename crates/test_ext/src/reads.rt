@@ -45,11 +45,9 @@ fn neighbours_in_a_word(rt: HostRuntime) {
 #[test]
 fn neighbours_from_the_left(rt: HostRuntime) {
     // From the left bits 2 and 6 are set.
-    let word = 0b0010_0010u8;
-    same!(rt; word.next_one_in::<LittleEndian>(3), Some(6));
-    same!(rt; word.prev_one_in::<LittleEndian>(6), Some(2));
-    same!(rt; word.next_zero_in::<LittleEndian>(6), Some(7));
-    same!(rt; word.prev_zero_in::<LittleEndian>(3), Some(1));
+    let view = 0b0010_0010u8.in_order::<LittleEndian>();
+    same!(rt; (view.next_one(3), view.prev_one(6)), (Some(6), Some(2)));
+    same!(rt; (view.next_zero(6), view.prev_zero(3)), (Some(7), Some(1)));
 }
 
 #[test]
@@ -77,12 +75,10 @@ fn ranks_and_selection(rt: HostRuntime) {
 fn ranks_from_the_left(rt: HostRuntime) {
     // From the left bits 0, 1, 7 and 15 are set.
     let row: [u8; 2] = [0b1100_0001, 0b0000_0001];
-    same!(rt; row.rank_in::<LittleEndian>(7), 2);
-    same!(rt; row.rank_in::<LittleEndian>(15), 3);
-    same!(rt; row.select_in::<LittleEndian>(2), Some(7));
-    same!(rt; row.select_in::<LittleEndian>(3), Some(15));
-    same!(rt; row.select_in::<LittleEndian>(4), None);
-    same!(rt; (i8::MIN.select_in::<LittleEndian>(0), i8::MIN.select(0)), (Some(0), Some(7)));
+    let view = row.in_order::<LittleEndian>();
+    same!(rt; (view.rank(7), view.rank(15)), (2, 3));
+    same!(rt; (view.select(2), view.select(3), view.select(4)), (Some(7), Some(15), None));
+    same!(rt; (i8::MIN.in_order::<LittleEndian>().select(0), i8::MIN.select(0)), (Some(0), Some(7)));
 }
 
 #[test]
@@ -93,7 +89,7 @@ fn counts_of_ranges(rt: HostRuntime) {
     same!(rt; row.count_ones_in_range(13, 18), 5);
     same!(rt; row.count_zeros_in_range(0, 32), 24);
     same!(rt; row.count_zeros_in_range(10, 14), 2);
-    same!(rt; row.count_zeros_in_range_in::<LittleEndian>(0, 4), 0);
+    same!(rt; row.in_order::<LittleEndian>().count_zeros_in_range(0, 4), 0);
     same!(rt; (row.count_ones_in_range(7, 7), row.count_zeros_in_range(32, 32)), (0, 0));
 }
 
@@ -104,8 +100,8 @@ fn any_and_all_of_ranges(rt: HostRuntime) {
     holds!(rt; row.any_in_range(0, 13) && !row.any_in_range(0, 12));
     holds!(rt; row.all_in_range(12, 20) && !row.all_in_range(12, 21));
     holds!(rt; row.all_in_range(5, 5) && !row.any_in_range(13, 13));
-    holds!(rt; row.all_in_range_in::<LittleEndian>(0, 4));
-    holds!(rt; !row.any_in_range_in::<LittleEndian>(4, 28));
+    holds!(rt; row.in_order::<LittleEndian>().all_in_range(0, 4));
+    holds!(rt; !row.in_order::<LittleEndian>().any_in_range(4, 28));
 }
 
 #[test]
@@ -126,8 +122,8 @@ fn runs_over_words(rt: HostRuntime) {
     same!(rt; (row.first_zero_run(14), row.next_zero_run(10, 13)), (None, None));
     let ones: [u8; 3] = [0b1100_0000, 0xFF, 0b0000_0001];
     same!(rt; (ones.first_one_run(11), ones.first_one_run(12)), (Some(6), None));
-    same!(rt; ones.first_zero_run_in::<LittleEndian>(6), Some(2));
-    same!(rt; ones.first_one_run_in::<LittleEndian>(8), Some(8));
+    same!(rt; ones.in_order::<LittleEndian>().first_zero_run(6), Some(2));
+    same!(rt; ones.in_order::<LittleEndian>().first_one_run(8), Some(8));
     let none: [u64; 0] = [];
     same!(rt; (none.first_zero_run(0), none.first_one_run(1)), (Some(0), None));
 }
@@ -262,8 +258,9 @@ fn relations_of_like_words(rt: HostRuntime) {
 #[test]
 fn relations_in_each_order(rt: HostRuntime) {
     // From the left each of the two has the one index 0.
-    holds!(rt; 0x80u8.is_subset_in::<u16, LittleEndian>(&0x8000));
-    holds!(rt; 0x80u8.intersects_in::<u16, LittleEndian>(&0x8000));
+    let left = 0x80u8.in_order::<LittleEndian>();
+    holds!(rt; left.is_subset(&0x8000u16.in_order::<LittleEndian>()));
+    holds!(rt; left.intersects(&0x8000u16.in_order::<LittleEndian>()));
     holds!(rt; 0x80u8.is_disjoint(&0x8000u16));
     holds!(rt; Set::new_le(0x80u8).is_subset(&1u16));
     holds!(rt; 1u16.is_superset(&Set::new_le(0x80u8)));

@@ -23,10 +23,10 @@ fn a_word(rt: HostRuntime) {
 fn a_word_from_the_left(rt: HostRuntime) {
     // From the left the members 1 and 4.
     let word = 0b0100_1000u8;
-    same!(rt; word.rotated_down_in::<LittleEndian>(2), 0b0010_0001);
-    same!(rt; word.rotated_up_in::<LittleEndian>(4), 0b1000_0100);
-    same!(rt; word.shifted_down_in::<LittleEndian>(2), 0b0010_0000);
-    same!(rt; word.shifted_up_in::<LittleEndian>(4), 0b0000_0100);
+    same!(rt; Set::new_le(word).rotated_down(2).into_bits(), 0b0010_0001);
+    same!(rt; Set::new_le(word).rotated_up(4).into_bits(), 0b1000_0100);
+    same!(rt; Set::new_le(word).shifted_down(2).into_bits(), 0b0010_0000);
+    same!(rt; Set::new_le(word).shifted_up(4).into_bits(), 0b0000_0100);
 }
 
 #[test]
@@ -64,10 +64,10 @@ fn a_row(rt: HostRuntime) {
 fn a_row_from_the_left(rt: HostRuntime) {
     // From the left the members 0, 7 and 16.
     let row = [0x81u8, 0, 0x80];
-    same!(rt; row.rotated_up_in::<LittleEndian>(9), [0x40, 0x40, 0x80]);
-    same!(rt; row.rotated_down_in::<LittleEndian>(1), [0x02, 0x01, 0x01]);
-    same!(rt; row.shifted_up_in::<LittleEndian>(9), [0, 0x40, 0x80]);
-    same!(rt; row.shifted_down_in::<LittleEndian>(7), [0x80, 0x40, 0]);
+    same!(rt; Set::new_le(row).rotated_up(9).into_bits(), [0x40, 0x40, 0x80]);
+    same!(rt; Set::new_le(row).rotated_down(1).into_bits(), [0x02, 0x01, 0x01]);
+    same!(rt; Set::new_le(row).shifted_up(9).into_bits(), [0, 0x40, 0x80]);
+    same!(rt; Set::new_le(row).shifted_down(7).into_bits(), [0x80, 0x40, 0]);
 }
 
 // Returns the set rotated down, rotated up, shifted down and shifted up, each by its distance.
@@ -149,12 +149,7 @@ fn looped<B: BitsOwned, E: Endian>(way: u32, set: &B, by: u32) -> B
 fn moved_in<B: BitsOwned, E: Endian>(way: u32, set: B, by: u32) -> B
     requires { IsTrue B.indexable }
 {
-    match way {
-        0 => set.rotated_down_in::<E>(by),
-        1 => set.rotated_up_in::<E>(by),
-        2 => set.shifted_down_in::<E>(by),
-        _ => set.shifted_up_in::<E>(by),
-    }
+    moved(way, Set::<B, E>::new_in(set), by).into_bits()
 }
 
 // Returns the set with its bits moved in the order of the type.
@@ -187,7 +182,8 @@ fn agree_at<B: BitsOwned>(rt: &impl Abort, set: B, by: u32)
 fn comes_back<B: BitsOwned, E: Endian>(set: B, by: u32) -> bool
     requires { IsTrue B.indexable }
 {
-    set.rotated_up_in::<E>(by).rotated_down_in::<E>(by) == set
+    let ring = Set::<B, E>::new_in(set);
+    ring.rotated_up(by).rotated_down(by).into_bits() == set
 }
 
 // Compares the calls with the loop, at distances beside those of a word and of the set.

@@ -12,7 +12,8 @@ fn the_one_runs_of_a_word(rt: HostRuntime) {
     let mut walk = word.iter_one_runs();
     same!(rt; (walk.next(), walk.next(), walk.next()), (Some(1..2), Some(5..7), None));
     same!(rt; (walk.next(), walk.next_back()), (None, None));
-    let mut left = word.iter_one_runs_in::<LittleEndian>();
+    let view = word.in_order::<LittleEndian>();
+    let mut left = view.iter_one_runs();
     same!(rt; (left.next_back(), left.next_back()), (Some(6..7), Some(1..3)));
     same!(rt; (left.next_back(), left.next()), (None, None));
 }
@@ -24,7 +25,8 @@ fn the_zero_runs_of_a_word(rt: HostRuntime) {
     let mut walk = word.iter_zero_runs();
     same!(rt; (walk.next(), walk.next_back(), walk.next()), (Some(0..1), Some(7..8), Some(2..5)));
     same!(rt; (walk.next_back(), walk.next()), (None, None));
-    let mut left = word.iter_zero_runs_in::<LittleEndian>();
+    let view = word.in_order::<LittleEndian>();
+    let mut left = view.iter_zero_runs();
     same!(rt; (left.next(), left.next(), left.next()), (Some(0..1), Some(3..6), Some(7..8)));
 }
 

@@ -1,0 +1,12 @@
+use Rattle.std.proofs.Common.{arith}
+use Rattle.bittle.specs.Values.{set_in}
+use Rattle.bittle_ext.proofs.RankFacts.{below_past, below_zero}
+use Rattle.bittle_ext.proofs.bits_ext.BitsExt.rank.Goals as goal
+
+pub returns-clause-value : goal.returns-clause-value
+returns-clause-value g c =
+    let s = set_in g.Self.Shape g.Self.Order.Endian c.args.self.now in
+    let ends = c.capacity_of.ensures.ends in
+    let all = below_past s s.capacity c.args.index c.min.result ends.past
+    (omega (arith, c.min.ensures, ends.capacity)) in
+    omega (arith, all, c.count_ones_in_range_in.ensures.value, below_zero s)

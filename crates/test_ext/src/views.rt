@@ -1,0 +1,158 @@
+//! Views of sets in a named order, with values worked out by hand.
+
+ghost use Rattle.std.specs.Prelude.{IsTrue};
+ghost use Rattle.bittle.specs.Values.{ShapeFits};
+
+use crate::checks::{holds, same};
+use bittle::prelude::*;
+use bittle::{BigEndian, Bits, BitsMut, Endian, LittleEndian, Set};
+use bittle_ext::prelude::*;
+
+/// Returns the capacity, the count of set bits, whether the bit at index 0 is set, and the first
+/// and the last set bit of a set, as a view in the order `E` has them.
+fn read<B: Bits, E: Endian>(bits: &B) -> (u32, u32, bool, [Option<u32>; 2])
+    requires fits { ShapeFits B.Shape bits.now }
+    requires indexable { IsTrue B.indexable }
+{
+    let view = bits.in_order::<E>();
+    let ends = [view.first_one(), view.last_one()];
+    (
+        view.bits_capacity(),
+        view.count_ones(),
+        view.test_bit(0),
+        ends,
+    )
+}
+
+#[test]
+fn a_word_is_read_in_each_order(rt: HostRuntime) {
+    // Bits 0, 1 and 5 are set, and from the left bits 2, 6 and 7.
+    let word = 0b0010_0011u8;
+    same!(rt; read::<_, BigEndian>(&word), (8, 3, true, [Some(0), Some(5)]));
+    same!(rt; read::<_, LittleEndian>(&word), (8, 3, false, [Some(2), Some(7)]));
+}
+
+#[test]
+fn a_row_and_its_slice_are_read_in_each_order(rt: HostRuntime) {
+    // Bits 0, 7 and 9 are set, and from the left bits 0, 7 and 14.
+    let row = [0x81u8, 0x02];
+    same!(rt; read::<_, BigEndian>(&row), (16, 3, true, [Some(0), Some(9)]));
+    same!(rt; read::<_, LittleEndian>(&row), (16, 3, true, [Some(0), Some(14)]));
+    let slice: &[u8] = &row[..];
+    same!(rt; read::<_, BigEndian>(&slice), (16, 3, true, [Some(0), Some(9)]));
+    same!(rt; read::<_, LittleEndian>(&slice), (16, 3, true, [Some(0), Some(14)]));
+}
+
+#[test]
+fn a_set_is_read_in_the_order_of_the_view(rt: HostRuntime) {
+    let set = Set::new_le(0b0010_0011u8);
+    same!(rt; read::<_, BigEndian>(&set), (8, 3, true, [Some(0), Some(5)]));
+    same!(rt; read::<_, LittleEndian>(&set), (8, 3, false, [Some(2), Some(7)]));
+}
+
+#[test]
+fn a_view_of_a_view_has_the_order_that_is_named_last(rt: HostRuntime) {
+    let left = 0b0010_0011u8.in_order::<LittleEndian>();
+    same!(rt; read::<_, BigEndian>(&left), (8, 3, true, [Some(0), Some(5)]));
+}
+
+#[test]
+fn capacity_0_is_read(rt: HostRuntime) {
+    let none: [u8; 0] = [];
+    same!(rt; read::<_, LittleEndian>(&none), (0, 0, false, [None, None]));
+    let view = none.in_order::<LittleEndian>();
+    holds!(rt; view.all_zeros() && view.all_ones());
+}
+
+#[test]
+fn a_view_is_iterated_from_both_ends(rt: HostRuntime) {
+    // From the left bits 1, 2 and 6 are set.
+    let view = 0b0110_0010u8.in_order::<LittleEndian>();
+    let mut digits = 0u32;
+    for index in view.iter_ones() {
+        digits = digits.wrapping_mul(10).wrapping_add(index);
+    }
+    same!(rt; digits, 126);
+    let mut walk = view.iter_ones();
+    same!(rt; (walk.next_back(), walk.next(), walk.next()), (Some(6), Some(1), Some(2)));
+}
+
+/// Flips bit 1, sets bit 0 and clears bit 3 by a view in the order `E`, and returns what the calls
+/// answered and then how many bits are set.
+fn changed<B: BitsMut, E: Endian>(bits: &mut B) -> ([bool; 2], u32)
+    requires fits { ShapeFits B.Shape bits.old }
+    requires indexable { IsTrue B.indexable }
+{
+    let mut view = bits.in_order_mut::<E>();
+    view.toggle(1);
+    let answers = [view.insert(0), view.remove(3)];
+    (answers, view.count_ones())
+}
+
+#[test]
+fn a_word_is_changed_in_each_order(rt: HostRuntime) {
+    // Bit 4 is set, and from the left bit 3.
+    let mut right = 0b0001_0000u8;
+    same!(rt; (changed::<_, BigEndian>(&mut right), right), (([true, false], 3), 0b0001_0011));
+    let mut left = 0b0001_0000u8;
+    same!(rt; (changed::<_, LittleEndian>(&mut left), left), (([true, true], 2), 0b1100_0000));
+}
+
+#[test]
+fn a_row_and_a_set_are_changed_in_the_order_of_the_view(rt: HostRuntime) {
+    let mut row = [0x10u8, 0x01];
+    same!(rt; changed::<_, LittleEndian>(&mut row), ([true, true], 3));
+    same!(rt; row, [0xC0, 0x01]);
+    let mut set = Set::new_le(0b0001_0000u8);
+    same!(rt; changed::<_, BigEndian>(&mut set), ([true, false], 3));
+    same!(rt; set.into_bits(), 0b0001_0011);
+}
+
+#[test]
+fn the_words_of_a_lent_slice_hold_the_changes(rt: HostRuntime) {
+    let mut words = [0x10u8, 0x01];
+    let mut lent = words.as_mut_slice();
+    same!(rt; changed::<_, LittleEndian>(&mut lent), ([true, true], 3));
+    same!(rt; words, [0xC0, 0x01]);
+    let mut others = [0x10u8, 0x01];
+    let mut lent = others.as_mut_slice();
+    same!(rt; changed::<_, BigEndian>(&mut lent), ([true, false], 4));
+    same!(rt; others, [0x13, 0x01]);
+}
+
+#[test]
+fn capacity_0_is_changed_by_nothing(rt: HostRuntime) {
+    let mut none: [u8; 0] = [];
+    same!(rt; changed::<_, LittleEndian>(&mut none), ([true, false], 0));
+}
+
+/// Takes out the first bit and the last, sets a range and flips all by a view in the order `E`, and
+/// returns the two bits.
+fn taken<B: BitsMut, E: Endian>(bits: &mut B) -> [Option<u32>; 2]
+    requires { ShapeFits B.Shape bits.old }
+{
+    let mut view = bits.in_order_mut::<E>();
+    let ends = [view.pop_first(), view.pop_last()];
+    view.extend([1u32, 2].iter().copied());
+    view.complement_assign();
+    ends
+}
+
+#[test]
+fn a_view_is_changed_as_a_whole(rt: HostRuntime) {
+    // From the left bits 3, 8 and 15 are set.
+    let mut row = [0x10u8, 0x81];
+    same!(rt; taken::<_, LittleEndian>(&mut row), [Some(3), Some(15)]);
+    same!(rt; row, [0x9F, 0x7F]);
+    let mut word = 0b0110_0000u8;
+    word.in_order_mut::<LittleEndian>().clear_bits();
+    same!(rt; word, 0);
+}
+
+#[test]
+fn two_views_are_combined(rt: HostRuntime) {
+    let (mut one, mut other) = ([0b0011u8, 0], [0b0101u8, 1]);
+    let mut view = one.in_order_mut::<LittleEndian>();
+    view.union_assign(&other.in_order_mut::<LittleEndian>());
+    same!(rt; one, [0b0111, 1]);
+}
