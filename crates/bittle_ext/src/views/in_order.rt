@@ -3,8 +3,7 @@
 ghost use Rattle.std.specs.Prelude.{◌≡◌};
 
 use bittle::{Bits, Endian, Shape};
-use bittle_bits::internal::sealed::Sealed;
-use bittle_bits::read_words::ReadWords;
+use bittle_bits::extension::{ReadWords, Sealed};
 use std::marker::PhantomData;
 
 /// A set that is borrowed and read in the order `E`: calls that name no order take it.

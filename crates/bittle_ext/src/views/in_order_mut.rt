@@ -3,9 +3,7 @@
 ghost use Rattle.std.specs.Prelude.{◌≡◌};
 
 use bittle::{Bits, BitsMut, Endian, Shape};
-use bittle_bits::internal::sealed::Sealed;
-use bittle_bits::one_word::{Operation, RangeOperation};
-use bittle_bits::read_words::ReadWords;
+use bittle_bits::extension::{Operation, RangeOperation, ReadWords, Sealed};
 use std::marker::PhantomData;
 
 /// A set that is borrowed for a change, and read and changed in the order `E`: calls that name no
