@@ -4,13 +4,14 @@
 pub use crate::end::{Back, End, Front};
 pub use crate::integer::Integer;
 pub use crate::internal::buffer::Count;
-pub use crate::internal::by_fours::first_one;
+pub use crate::internal::by_fours::first_in_words;
 pub use crate::internal::decided::{first_decided_at_once, first_decided_below};
-pub use crate::internal::range_count::count_in_word;
+pub use crate::internal::range_count::{count_in_word, count_ones as count_ones_in_range};
 pub use crate::internal::sealed::Sealed;
 pub use crate::internal::search::end_in;
+pub use crate::internal::source::{OwnedSource, word_of_kind};
 pub use crate::kind::{Kind, Ones, Zeros};
-pub use crate::one_word::{pop, set_bit, test_bit};
+pub use crate::one_word::{pop, range, set_bit, test_bit};
 pub use crate::operation::{
     Conjunction, Difference, Operation, RangeOperation, SymmetricDifference, Union,
 };

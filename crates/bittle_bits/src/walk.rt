@@ -203,8 +203,9 @@ impl<B: Shape, E: Endian, K: Kind> Model for IntoIter<B, E, K> {
 
 impl<B: ReadWords, E: Endian, K: Kind> IntoIter<B, E, K> {
     /// Begins an iterator over all of its set.
+    #[doc(hidden)]
     #[inline]
-    pub(crate) fn new(source: OwnedSource<B>) -> Self
+    pub fn new(source: OwnedSource<B>) -> Self
         requires { ShapeFits B.Shape source.set }
         ensures remaining { result.remaining
             ≡ ascending (kind_in B.Shape E.Endian K.Kind source.set) }

@@ -12,8 +12,10 @@ pub mod RankFacts
 pub mod RelationFacts
 mod RetainSteps
 mod RotatedSets
+mod WholeWords
 mod Windows
 pub mod RunFacts
 mod RunEnds
 mod RunLists
 pub mod SetFacts
+mod ViewFacts

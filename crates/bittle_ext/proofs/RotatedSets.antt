@@ -91,7 +91,7 @@ module _ (m : Bool) (w words at from d e r : ℕ) (s : PlainSet) (word : 0 < w)
 pub words_make : (bits wide c w leaf : ℕ) (whole : (d : ℕ) × (c ≡ d * w)) → 0 < w → bits ≡ c →
     wide ≡ leaf → leaf ≡ w → bits / wide * w ≡ c
 words_make bits wide c w leaf whole word b v same =
-    rw (words_each bits wide c w leaf whole.0 word b v same whole.1) (sym whole.1)
+    rw (words_each bits wide c w whole.0 word b (v ∙ same) whole.1) (sym whole.1)
 
 -- where word `at` lies so many words above word k, and may wrap
 pub wrapped_at : (w c words by skipped from k at : ℕ) → words * w ≡ c → skipped ≡ by % c / w →

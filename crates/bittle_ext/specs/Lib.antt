@@ -5,3 +5,5 @@ pub mod Ranks
 pub mod Rotations
 pub mod Runs
 pub mod SetRelations
+pub mod ViewLaws
+pub mod Views

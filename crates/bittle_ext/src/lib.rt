@@ -62,5 +62,5 @@ pub use bits_owned_ext::BitsOwnedExt;
 pub use bits_relation_ext::BitsRelationExt;
 pub use combined::BitsCombinedExt;
 pub use range_iterators::BitsRangeExt;
-pub use views::BitsViewExt;
 pub use views::in_order_mut::BitsMutViewExt;
+pub use views::{BitsViewExt, View};

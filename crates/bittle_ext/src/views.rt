@@ -1,16 +1,46 @@
-//! Views of sets: a set that is borrowed, and read in another way than its type says.
+//! Views: a set in a named order, what an operation makes of two sets, a complement, and a range of
+//! a set, each a set itself, with no set made.
+//!
+//! A view borrows its sets, and each of its words is made when it is asked for. Every call of
+//! `bittle` and of this crate that reads a set works on a view, also one that makes a view.
+//!
+//! ```rust
+//! 0b0011u8.in_order::<LittleEndian>().first_one();  // Some(6)
+//! 0b0011u8.and(&0b0110u8).iter_ones();              // yields 1
+//! 0b0011u8.minus(&0b0110u8).all_zeros();            // false: 0 is left
+//! 0b0011u8.complement_view().within(0, 4).count_ones(); // 2: indexes 2 and 3
+//! ```
 
-ghost use Rattle.std.specs.Prelude.{◌≡◌};
+ghost use Rattle.std.specs.Prelude.{◌≡◌, ◌<◌, ◌≤◌, ◌/◌, ◌&&◌, ◌||◌, max};
+ghost use Rattle.bittle_ext.specs.Combined.{both_of, either_of, first_only_of, just_one_of};
+ghost use Rattle.bittle_ext.specs.RangeMembers.{members_within};
+ghost use Rattle.bittle_ext.specs.Views.{decided_until, decided_of_first, rounded_up};
+ghost use Rattle.bittle.specs.PlainSet.{ascending, complement};
+ghost use Rattle.bittle.specs.SetOperations.{first_alone, just_one};
+ghost use Rattle.bittle.specs.Values.{set_in, ShapeFits};
+ghost use Rattle.bittle.specs.Walk.{AreBelow, IsFresh};
 
+use crate::views::complement::Complement;
 use crate::views::in_order::InOrder;
 use crate::views::in_order_mut::InOrderMut;
-use bittle::{Bits, BitsMut, Endian};
+use crate::views::of_both::OfBoth;
+use crate::views::within::Within;
+use bittle::{Bits, BitsMut, Endian, Shape};
+use bittle_bits::extension::{
+    Conjunction, Difference, Operation, OwnedSource, SymmetricDifference, Union,
+};
+use bittle_bits::walk::{IntoIter, IntoIterOnes, IntoIterZeros};
 
+mod by_words;
+pub mod complement;
 pub mod in_order;
 pub mod in_order_mut;
+pub mod of_both;
+pub mod within;
 
 /// Views of any set. A view borrows the set and is a set itself, so each call that reads a set can
-/// be made on it.
+/// be made on it. All but a view in a named order ask that each shape fits, and read each set in the
+/// order of its type.
 pub trait BitsViewExt: Bits {
     /// Borrows the set, to be read in the order `E`.
     ///
@@ -28,9 +58,306 @@ pub trait BitsViewExt: Bits {
     {
         InOrder::of(self)
     }
+
+    /// Views the indexes that are set in both sets: a set of as many bits as the first one, in the
+    /// order of its type.
+    ///
+    /// The shapes may differ, and both have to fit. Each word is made when it is asked for; where
+    /// the words of the two sets differ in width or order, each set bit of the second set in it is
+    /// searched for. Past its capacity the second set has no bit. With capacity 0 nothing is set.
+    ///
+    /// ```
+    /// 0b0011u8.and(&0b0110u8).count_ones();               // 1
+    /// 0b0011u8.and(&[0x0106u16]).iter_ones();             // yields 1
+    /// ```
+    #[inline]
+    final fn and<'a, B: Bits>(
+        &'a self,
+        other: &'a B,
+    ) -> OfBoth<'a, Self, B, Self::Order, B::Order, Conjunction>
+    where
+        Self: Sized,
+        requires fits { ShapeFits Self.Shape self.now }
+        requires other_fits { ShapeFits B.Shape other.now }
+        ensures left { result.left.now ≡ self.now }
+        ensures right { result.right.now ≡ other.now }
+        ensures set { set_in ⟦<OfBoth<'a, Self, B, Self::Order, B::Order, Conjunction> as Shape>⟧
+            Self.Order.Endian result ≡ decided_of_first ◌&&◌
+            (set_in Self.Shape Self.Order.Endian self.now)
+            (set_in B.Shape B.Order.Endian other.now) }
+        ensures items { ascending (set_in
+            ⟦<OfBoth<'a, Self, B, Self::Order, B::Order, Conjunction> as Shape>⟧
+            Self.Order.Endian result) ≡ ascending (both_of
+            (set_in Self.Shape Self.Order.Endian self.now)
+            (set_in B.Shape B.Order.Endian other.now)) }
+        ensures view_fits { ShapeFits
+            ⟦<OfBoth<'a, Self, B, Self::Order, B::Order, Conjunction> as Shape>⟧ result }
+    {
+        OfBoth::of_first(self, other)
+    }
+
+    /// Views the indexes that are set in the first set and unset in the second. All else is as with
+    /// [`and`](BitsViewExt::and).
+    ///
+    /// ```
+    /// 0b0011u8.minus(&0b0110u8).iter_ones();              // yields 0
+    /// ```
+    #[inline]
+    final fn minus<'a, B: Bits>(
+        &'a self,
+        other: &'a B,
+    ) -> OfBoth<'a, Self, B, Self::Order, B::Order, Difference>
+    where
+        Self: Sized,
+        requires fits { ShapeFits Self.Shape self.now }
+        requires other_fits { ShapeFits B.Shape other.now }
+        ensures left { result.left.now ≡ self.now }
+        ensures right { result.right.now ≡ other.now }
+        ensures set { set_in ⟦<OfBoth<'a, Self, B, Self::Order, B::Order, Difference> as Shape>⟧
+            Self.Order.Endian result ≡ decided_of_first first_alone
+            (set_in Self.Shape Self.Order.Endian self.now)
+            (set_in B.Shape B.Order.Endian other.now) }
+        ensures items { ascending (set_in
+            ⟦<OfBoth<'a, Self, B, Self::Order, B::Order, Difference> as Shape>⟧
+            Self.Order.Endian result) ≡ ascending (first_only_of
+            (set_in Self.Shape Self.Order.Endian self.now)
+            (set_in B.Shape B.Order.Endian other.now)) }
+        ensures view_fits { ShapeFits
+            ⟦<OfBoth<'a, Self, B, Self::Order, B::Order, Difference> as Shape>⟧ result }
+    {
+        OfBoth::of_first(self, other)
+    }
+
+    /// Views the indexes that are set in either of two sets of like words: a set of the greater
+    /// capacity, in the order of the first one's type.
+    ///
+    /// Both shapes have to fit. Each word is made when it is asked for. Of unlike words there is
+    /// [`or_unlike`](BitsViewExt::or_unlike). With capacity 0 on both sides it is the empty set.
+    ///
+    /// ```
+    /// 0b0011u8.or(&[0b0110u8, 1]).iter_ones();            // yields 0, 1, 2, 8
+    /// ```
+    #[inline]
+    final fn or<'a, B: Bits + Shape<LeafWord = Self::LeafWord>>(
+        &'a self,
+        other: &'a B,
+    ) -> OfBoth<'a, Self, B, Self::Order, B::Order, Union>
+    where
+        Self: Sized,
+        requires fits { ShapeFits Self.Shape self.now }
+        requires other_fits { ShapeFits B.Shape other.now }
+        ensures left { result.left.now ≡ self.now }
+        ensures right { result.right.now ≡ other.now }
+        ensures set { set_in ⟦<OfBoth<'a, Self, B, Self::Order, B::Order, Union> as Shape>⟧
+            Self.Order.Endian result ≡ either_of
+            (set_in Self.Shape Self.Order.Endian self.now)
+            (set_in B.Shape B.Order.Endian other.now) }
+        ensures view_fits { ShapeFits
+            ⟦<OfBoth<'a, Self, B, Self::Order, B::Order, Union> as Shape>⟧ result }
+    {
+        OfBoth::of_either(self, other)
+    }
+
+    /// Views the indexes that are set in just one of two sets of like words. All else is as with
+    /// [`or`](BitsViewExt::or).
+    ///
+    /// ```
+    /// 0b0011u8.xor(&[0b0110u8, 1]).iter_ones();           // yields 0, 2, 8
+    /// ```
+    #[inline]
+    final fn xor<'a, B: Bits + Shape<LeafWord = Self::LeafWord>>(
+        &'a self,
+        other: &'a B,
+    ) -> OfBoth<'a, Self, B, Self::Order, B::Order, SymmetricDifference>
+    where
+        Self: Sized,
+        requires fits { ShapeFits Self.Shape self.now }
+        requires other_fits { ShapeFits B.Shape other.now }
+        ensures left { result.left.now ≡ self.now }
+        ensures right { result.right.now ≡ other.now }
+        ensures set { set_in
+            ⟦<OfBoth<'a, Self, B, Self::Order, B::Order, SymmetricDifference> as Shape>⟧
+            Self.Order.Endian result ≡ just_one_of
+            (set_in Self.Shape Self.Order.Endian self.now)
+            (set_in B.Shape B.Order.Endian other.now) }
+        ensures view_fits { ShapeFits
+            ⟦<OfBoth<'a, Self, B, Self::Order, B::Order, SymmetricDifference> as Shape>⟧ result }
+    {
+        OfBoth::of_either(self, other)
+    }
+
+    /// Views the indexes that are set in either of two sets of any words: a set of whole words as
+    /// the first one's, in the order of its type.
+    ///
+    /// Both shapes have to fit. The capacity is the greater one, rounded up to whole words of the
+    /// first set, and that has to be below `u32::MAX` too. Each word is made when it is asked for,
+    /// with a search for each set bit of the second set in it. With capacity 0 on both sides it is
+    /// the empty set.
+    ///
+    /// ```
+    /// 0x8000_0000u32.or_unlike(&[0u8, 0, 0, 0, 1]).iter_ones(); // yields 31, 32
+    /// ```
+    #[inline]
+    final fn or_unlike<'a, B: Bits>(
+        &'a self,
+        other: &'a B,
+    ) -> OfBoth<'a, Self, B, Self::Order, B::Order, Union>
+    where
+        Self: Sized,
+        requires fits { ShapeFits Self.Shape self.now }
+        requires other_fits { ShapeFits B.Shape other.now }
+        requires rounded { rounded_up (max (Self.big self.now).capacity (B.big other.now).capacity)
+            Self.width < 4294967295 }
+        ensures left { result.left.now ≡ self.now }
+        ensures right { result.right.now ≡ other.now }
+        ensures set { set_in ⟦<OfBoth<'a, Self, B, Self::Order, B::Order, Union> as Shape>⟧
+            Self.Order.Endian result ≡ decided_until ◌||◌
+            (rounded_up (max (Self.big self.now).capacity (B.big other.now).capacity) Self.width)
+            (set_in Self.Shape Self.Order.Endian self.now)
+            (set_in B.Shape B.Order.Endian other.now) }
+        ensures items { ascending (set_in
+            ⟦<OfBoth<'a, Self, B, Self::Order, B::Order, Union> as Shape>⟧
+            Self.Order.Endian result) ≡ ascending (either_of
+            (set_in Self.Shape Self.Order.Endian self.now)
+            (set_in B.Shape B.Order.Endian other.now)) }
+        ensures view_fits { ShapeFits
+            ⟦<OfBoth<'a, Self, B, Self::Order, B::Order, Union> as Shape>⟧ result }
+    {
+        OfBoth::of_unlike(self, other)
+    }
+
+    /// Views the indexes that are set in just one of two sets of any words. All else is as with
+    /// [`or_unlike`](BitsViewExt::or_unlike).
+    ///
+    /// ```
+    /// 0x8000_0000u32.xor_unlike(&[0u8, 0, 0, 0x80, 1]).iter_ones(); // yields 24, 31, 32
+    /// ```
+    #[inline]
+    final fn xor_unlike<'a, B: Bits>(
+        &'a self,
+        other: &'a B,
+    ) -> OfBoth<'a, Self, B, Self::Order, B::Order, SymmetricDifference>
+    where
+        Self: Sized,
+        requires fits { ShapeFits Self.Shape self.now }
+        requires other_fits { ShapeFits B.Shape other.now }
+        requires rounded { rounded_up (max (Self.big self.now).capacity (B.big other.now).capacity)
+            Self.width < 4294967295 }
+        ensures left { result.left.now ≡ self.now }
+        ensures right { result.right.now ≡ other.now }
+        ensures set { set_in
+            ⟦<OfBoth<'a, Self, B, Self::Order, B::Order, SymmetricDifference> as Shape>⟧
+            Self.Order.Endian result ≡ decided_until just_one
+            (rounded_up (max (Self.big self.now).capacity (B.big other.now).capacity) Self.width)
+            (set_in Self.Shape Self.Order.Endian self.now)
+            (set_in B.Shape B.Order.Endian other.now) }
+        ensures items { ascending (set_in
+            ⟦<OfBoth<'a, Self, B, Self::Order, B::Order, SymmetricDifference> as Shape>⟧
+            Self.Order.Endian result) ≡ ascending (just_one_of
+            (set_in Self.Shape Self.Order.Endian self.now)
+            (set_in B.Shape B.Order.Endian other.now)) }
+        ensures view_fits { ShapeFits
+            ⟦<OfBoth<'a, Self, B, Self::Order, B::Order, SymmetricDifference> as Shape>⟧ result }
+    {
+        OfBoth::of_unlike(self, other)
+    }
+
+    /// Views the unset bits below the capacity: a set of as many bits, in the order of the type.
+    ///
+    /// The shape has to fit. Each word is flipped when it is asked for. With capacity 0 it is the
+    /// empty set.
+    ///
+    /// ```
+    /// 0b1111_0101u8.complement_view().iter_ones();        // yields 1, 3
+    /// ```
+    #[inline]
+    final fn complement_view<'a>(&'a self) -> Complement<'a, Self>
+    where
+        Self: Sized,
+        requires { ShapeFits Self.Shape self.now }
+        ensures value { result.set.now ≡ self.now }
+        ensures set { set_in ⟦<Complement<'a, Self> as Shape>⟧ Self.Order.Endian result
+            ≡ complement (set_in Self.Shape Self.Order.Endian self.now) }
+        ensures view_fits { ShapeFits ⟦<Complement<'a, Self> as Shape>⟧ result }
+    {
+        Complement::of(self)
+    }
+
+    /// Views the set bits of `from..to`: a set of as many bits, in the order of the type.
+    ///
+    /// The shape has to fit, and `from <= to <= capacity`: nothing wraps. Whether a bit is set at
+    /// all, and how many are, is asked of the words of the range alone. With capacity 0 it is the
+    /// empty set.
+    ///
+    /// ```
+    /// 0b0110_0010u8.within(1, 6).iter_ones();             // yields 1, 5
+    /// ```
+    #[inline]
+    final fn within<'a>(&'a self, from: u32, to: u32) -> Within<'a, Self, Self::Order>
+    where
+        Self: Sized,
+        requires fits { ShapeFits Self.Shape self.now }
+        requires ordered { from ≤ to }
+        requires within { to ≤ (Self.big self.now).capacity }
+        ensures value { result.set.now ≡ self.now }
+        ensures set { set_in ⟦<Within<'a, Self, Self::Order> as Shape>⟧ Self.Order.Endian result
+            ≡ members_within (set_in Self.Shape Self.Order.Endian self.now) from to }
+        ensures view_fits { ShapeFits ⟦<Within<'a, Self, Self::Order> as Shape>⟧ result }
+    {
+        Within::of(self, from, to)
+    }
 }
 
-impl<B: Bits> BitsViewExt for B {}
+impl<A: Bits> BitsViewExt for A {}
+
+/// A view, which an iterator may own.
+pub trait View: Bits + Copy {
+    /// Returns an iterator over the indexes of the set bits in the order of the type, increasing,
+    /// from both ends. It borrows what the view borrows, so that it may be returned where a view is
+    /// made. The view has to fit, as each that this module makes does. With capacity 0 it yields
+    /// nothing.
+    ///
+    /// ```
+    /// 0b0011u8.and(&0b0110u8).into_ones();                // yields 1
+    /// ```
+    #[inline]
+    final fn into_ones(self) -> IntoIterOnes<Self, Self::Order>
+    where
+        Self: Sized,
+        requires { ShapeFits Self.Shape self }
+        ensures remaining { result.remaining
+            ≡ ascending (set_in Self.Shape Self.Order.Endian self) }
+        ensures fresh { IsFresh ((Self.big self).capacity / Self.width) result }
+        ensures below { AreBelow (Self.big self).capacity result.remaining }
+    {
+        IntoIter::new(OwnedSource::new(self))
+    }
+
+    /// Returns an iterator over the indexes of the unset bits below the capacity. All else is as
+    /// with [`into_ones`](View::into_ones).
+    ///
+    /// ```
+    /// 0b1111_0011u8.or(&0b0110u8).into_zeros().rev();     // yields 3
+    /// ```
+    #[inline]
+    final fn into_zeros(self) -> IntoIterZeros<Self, Self::Order>
+    where
+        Self: Sized,
+        requires { ShapeFits Self.Shape self }
+        ensures remaining { result.remaining
+            ≡ ascending (complement (set_in Self.Shape Self.Order.Endian self)) }
+        ensures fresh { IsFresh ((Self.big self).capacity / Self.width) result }
+        ensures below { AreBelow (Self.big self).capacity result.remaining }
+    {
+        IntoIter::new(OwnedSource::new(self))
+    }
+}
+
+impl<'a, A: Bits, B: Bits, E: Endian, F: Endian, O: Operation> View for OfBoth<'a, A, B, E, F, O> {}
+
+impl<'a, B: Bits> View for Complement<'a, B> {}
+
+impl<'a, B: Bits, E: Endian> View for Within<'a, B, E> {}
 
 /// States that the order of a view is the one that it names.
 #[doc(hidden)]

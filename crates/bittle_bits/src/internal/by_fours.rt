@@ -1,23 +1,25 @@
-//! The first set bit of whole words, found four words at a time.
+//! The first bit of a kind in whole words, found four words at a time.
 
 ghost use Rattle.std.specs.Prelude.{◌+◌, ◌*◌, ◌≤◌, IsTrue};
 ghost use Rattle.bittle_bits.specs.Searches.{IsFirstIn, NoneIn};
-ghost use Rattle.bittle_bits.specs.Values.{set_in, ShapeFits};
+ghost use Rattle.bittle_bits.specs.Values.{kind_in, ShapeFits};
 
 use crate::endian::Endian;
+use crate::internal::source::word_of_kind;
+use crate::kind::Kind;
 use crate::read_words::{ReadWords, word_width};
 use crate::word::Word;
 
-// Returns the least index of a set bit in the words from `from` on and before `to`, or `None`.
+// Returns the least index of a bit of the kind in the words from `from` on and before `to`, or `None`.
 #[inline]
-fn first_among<B: ReadWords, E: Endian>(bits: &B, from: u32, to: u32) -> Option<u32>
+fn first_among<B: ReadWords, E: Endian, K: Kind>(bits: &B, from: u32, to: u32) -> Option<u32>
     requires fits { ShapeFits B.Shape bits.now }
     requires within { to * B.width ≤ (B.big bits.now).capacity }
-    ensures { IsFirstIn (set_in B.Shape E.Endian bits.now) (from * B.width) (to * B.width) result }
+    ensures { IsFirstIn (kind_in B.Shape E.Endian K.Kind bits.now) (from * B.width) (to * B.width) result }
 {
     let width = word_width::<B>();
     for k in from..to {
-        let word = bits.nth_leaf_word(k as usize);
+        let word = word_of_kind::<B, K>(bits, k as usize);
         if !word.is_zero() {
             return Some(k * width + E::zeros::<B::LeafWord>(word));
         }
@@ -25,36 +27,36 @@ fn first_among<B: ReadWords, E: Endian>(bits: &B, from: u32, to: u32) -> Option<
     None
 }
 
-// Returns whether no bit is set in the four words from `from` on, by one test for all. What it does
-// not find empty is searched, so it promises nothing of `false`.
+// Returns whether the four words from `from` on have no bit of the kind, by one test
+// for all. What it does not find empty is searched, so it promises nothing of `false`.
 #[inline]
-fn are_four_empty<B: ReadWords, E: Endian>(bits: &B, from: u32) -> bool
+fn are_four_empty<B: ReadWords, E: Endian, K: Kind>(bits: &B, from: u32) -> bool
     requires fits { ShapeFits B.Shape bits.now }
     requires within { (from + 4) * B.width ≤ (B.big bits.now).capacity }
-    ensures { IsTrue result → NoneIn (set_in B.Shape E.Endian bits.now)
+    ensures { IsTrue result → NoneIn (kind_in B.Shape E.Endian K.Kind bits.now)
         (from * B.width) ((from + 4) * B.width) }
 {
     let from = from as usize;
-    let first = bits.nth_leaf_word(from);
-    let second = bits.nth_leaf_word(from + 1);
-    let third = bits.nth_leaf_word(from + 2);
-    let fourth = bits.nth_leaf_word(from + 3);
+    let first = word_of_kind::<B, K>(bits, from);
+    let second = word_of_kind::<B, K>(bits, from + 1);
+    let third = word_of_kind::<B, K>(bits, from + 2);
+    let fourth = word_of_kind::<B, K>(bits, from + 3);
     first.or(second).or(third.or(fourth)).is_zero()
 }
 
-/// Returns the least index of a set bit in the first `words` words, or `None`.
+/// Returns the least index of a bit of the kind in the first `words` words, or `None`.
 #[inline]
-pub fn first_one<B: ReadWords, E: Endian>(bits: &B, words: u32) -> Option<u32>
+pub fn first_in_words<B: ReadWords, E: Endian, K: Kind>(bits: &B, words: u32) -> Option<u32>
     requires fits { ShapeFits B.Shape bits.now }
     requires within { words * B.width ≤ (B.big bits.now).capacity }
-    ensures { IsFirstIn (set_in B.Shape E.Endian bits.now) 0 (words * B.width) result }
+    ensures { IsFirstIn (kind_in B.Shape E.Endian K.Kind bits.now) 0 (words * B.width) result }
 {
     for four in 0..words / 4 {
-        if !are_four_empty::<B, E>(bits, four * 4) {
-            if let Some(index) = first_among::<B, E>(bits, four * 4, four * 4 + 4) {
+        if !are_four_empty::<B, E, K>(bits, four * 4) {
+            if let Some(index) = first_among::<B, E, K>(bits, four * 4, four * 4 + 4) {
                 return Some(index);
             }
         }
     }
-    first_among::<B, E>(bits, words / 4 * 4, words)
+    first_among::<B, E, K>(bits, words / 4 * 4, words)
 }

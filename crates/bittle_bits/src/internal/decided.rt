@@ -6,8 +6,9 @@ ghost use Rattle.bittle_bits.specs.LawProofs.{none_past_decided, whole_lesser};
 ghost use Rattle.bittle_bits.specs.Values.{set_in, ShapeFits};
 
 use crate::endian::Endian;
-use crate::internal::by_fours::first_one;
+use crate::internal::by_fours::first_in_words;
 use crate::internal::sealed::Sealed;
+use crate::kind::Ones;
 use crate::operation::Operation;
 use crate::read_words::{ReadWords, word_width};
 use crate::shape::Shape;
@@ -107,7 +108,7 @@ pub fn first_decided_at_once<A: ReadWords, B: ReadWords, E: Endian, O: Operation
     if common / word_width::<A>() == 0 {
         return None;
     }
-    first_one::<Both<'_, A, B, O>, E>(&Both::of(left, right, common), 1)
+    first_in_words::<Both<'_, A, B, O>, E, Ones>(&Both::of(left, right, common), 1)
 }
 
 /// Returns the least index below both capacities that an operation makes a member, of two sets
@@ -129,5 +130,5 @@ pub fn first_decided_below<A: ReadWords, B: ReadWords, E: Endian, O: Operation>(
     ensures below { IfSome result (λ index. index < common) }
 {
     let words = common / word_width::<A>();
-    first_one::<Both<'_, A, B, O>, E>(&Both::of(left, right, common), words)
+    first_in_words::<Both<'_, A, B, O>, E, Ones>(&Both::of(left, right, common), words)
 }

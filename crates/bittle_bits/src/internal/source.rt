@@ -14,7 +14,7 @@ use crate::shape::Shape;
 
 /// Returns word `k` of a set, as a word whose ones are the bits of the kind.
 #[inline(always)]
-pub(crate) fn word_of_kind<B: ReadWords, K: Kind>(bits: &B, k: usize) -> B::LeafWord
+pub fn word_of_kind<B: ReadWords, K: Kind>(bits: &B, k: usize) -> B::LeafWord
     requires fits { ShapeFits B.Shape bits.now }
     requires within { k * B.width < (B.big bits.now).capacity }
     ensures { bit_set B.width (B.LeafWord.pattern result)

@@ -1,8 +1,9 @@
-use Rattle.std.proofs.Common.{◌≡◌, ◌+◌, ◌*◌, ◌<◌, ◌/◌, min, sym, ap, ◌∙◌, arith}
+use Rattle.std.proofs.Common.{◌≡◌, ◌+◌, ◌*◌, ◌<◌, ◌/◌, min, refl, sym, ap, ◌∙◌, arith}
 use Rattle.bittle.specs.PlainSet.{members_below}
 use Rattle.bittle.specs.Values.{set_in}
 use Rattle.bittle.proofs.CallerSets.{contains_within}
-use Rattle.bittle_bits.proofs.DecidedWords.{common_words}
+use Rattle.bittle_bits.specs.LawProofs.{whole_lesser}
+use Rattle.bittle_bits.proofs.DecidedWords.{words_make_up}
 use Rattle.bittle_bits.proofs.MembersBelow.{below_at_most}
 use Rattle.bittle_ext.specs.Combined.{both_of}
 use Rattle.bittle_ext.proofs.RankFacts.{below_zero, end_of_words}
@@ -44,8 +45,9 @@ returns-then-are_alike g c =
     let theirs = g.met.B.ReadWords.whole_words c.args.right.now in
     let least = min c.capacity_of.result c.capacity_of-2.result in
     let width = (c.are_alike.ensures c.if-are_alike.true).0 in
-    let whole = common_words w _ _ a.width_positive (ours.0, left.ends.capacity ∙ ours.1)
-    (theirs.0, right.ends.capacity ∙ theirs.1 ∙ ap (λ v. theirs.0 * v) (sym width)) in
+    let whole = words_make_up w least a.width_positive (whole_lesser _ _ w w least refl refl
+    (ours.0, left.ends.capacity ∙ ours.1)
+    (theirs.0, right.ends.capacity ∙ theirs.1 ∙ ap (λ v. theirs.0 * v) (sym width))) in
     let end : c.loop-k.k * w ≡ least = end_of_words w least c.min-common.result c.width.result
     c.loop-k.k a.width_positive (least / w, sym whole) c.min-common.ensures
     (c.width.ensures ∙ a.leaf_width) (omega (arith, c.loop-k-test.false, c.loop-k.auto.k-end)) in

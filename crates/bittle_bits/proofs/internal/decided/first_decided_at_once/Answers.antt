@@ -19,10 +19,10 @@ returns g c =
     (g.met.B.ReadWords.whole_words c.args.right.now) in
     let some = rw (c.word_width.ensures) at c.if-common-word_width-eq0.false in
     let found = rw (c.of.ensures.left, c.of.ensures.right, c.of.ensures.common)
-    at c.first_one.ensures in
-    subst (λ v. MatchOption c.first_one.result
+    at c.first_in_words.ensures in
+    subst (λ v. MatchOption c.first_in_words.result
     (NoneDecidedBelow f (read_in m w x) (read_in m v y) 0)
     (IsFirstDecided f (read_in m w x) (read_in m v y))) c.requires.width
-    (none_or_first f (read_in m w x) (read_in m w y) _ c.first_one.result
-    (first_decided f m w n x y a.width_positive whole (1 * w) c.first_one.result
+    (none_or_first f (read_in m w x) (read_in m w y) _ c.first_in_words.result
+    (first_decided f m w n x y a.width_positive whole (1 * w) c.first_in_words.result
     (first_word_within w n some) found))

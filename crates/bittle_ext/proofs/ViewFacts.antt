@@ -1,0 +1,177 @@
+-- What a view's words say of it.
+use Rattle.std.proofs.Common.{◌≡◌, ℕ, ◌+◌, ◌-◌, ◌*◌, ◌%◌, ◌<◌, ◌≤◌, ◌==◌, Bool, true, false, not, ◌&&◌, min, max, ◌++◌, append-nil, length, Option, Some, None, is_some, inl, inr, refl, sym, ap, ◌∙◌, arith}
+use Rattle.std.proofs.Props.{props}
+use Rattle.std.proofs.Math.Nat.{mul-mod_left}
+use Rattle.std.proofs.Math.Path.{fun_ext}
+use Rattle.std.proofs.lemmas.Bool.{cases_lt, le-ltb, true≢false, eq-eqb, ne_eqb, and_right}
+use Rattle.bittle_bits.specs.BitPatterns.{bit_has, bit_set}
+use Rattle.bittle_bits.specs.Orders.{place, read_in}
+use Rattle.bittle_bits.specs.PlainSet.{PlainSet, contains, is_in_span, span_set, members_below, size, ascending, ascending_from}
+use Rattle.bittle_bits.specs.Searches.{IsFirstIn}
+use Rattle.bittle_bits.specs.SetOperations.{combination_of}
+use Rattle.bittle_bits.specs.Words.{word_has, word_of}
+use Rattle.bittle_bits.proofs.AscendingLists.{ascending_from-add, ascending_from-none, ascending_from-length}
+use Rattle.bittle_bits.proofs.PlaceLemmas.{place_part, place_in_word, place-place}
+use Rattle.bittle_bits.proofs.PlainSets.{plain_set, contains_in}
+use Rattle.bittle_bits.proofs.Spans.{is_in_span-outside, is_in_span-inside}
+use Rattle.bittle_bits.proofs.Words.{digit_at, word_has-at}
+use Rattle.bittle.proofs.CallerSets.{contains_within, size_none, size_zero}
+use Rattle.bittle_ext.specs.RangeMembers.{EndsAt, members_within}
+use Rattle.bittle_ext.specs.Views.{HoldsBoth}
+use Rattle.bittle_ext.proofs.CombinedWords.{decided_in_order, word_in_order}
+use Rattle.bittle_ext.proofs.RangeItems.{between_within, between_length}
+use Rattle.bittle_ext.proofs.SetFacts.{not_false, not_true}
+
+-- ---- in an order and back
+
+-- a set read in an order and back is the set
+pub read_twice : (m : Bool) (w : ℕ) (s : PlainSet) → 0 < w → read_in m w (read_in m w s) ≡ s
+read_twice m w s word =
+    ap (plain_set s.capacity) (fun_ext λ i. ap s.has (place-place m w i word))
+
+-- a word that has in an order what word k of a set has is word k of the set read back
+pub word_read_back : (m : Bool) (w k c d : ℕ) (s : PlainSet) → 0 < w →
+    read_in m w (bit_set w d) ≡ word_of w s k →
+    bit_set w d ≡ word_of w (read_in m w (plain_set c s.has)) k
+unfolding word_has bit_has
+word_read_back m w k c d s word is =
+    ap (plain_set w) (fun_ext λ i. elim (cases_lt i w) [
+      | inl l ↦
+          let p = place m w i in
+          let one : k * (1 * w) ≡ k * w = omega arith in
+          let b : i < 1 * w = omega arith in
+          let at : place m w (k * w + i) ≡ k * w + p = rw one at (place_part m w 1 k i word b) in
+          ap (bit_has w d) (sym (place-place m w i word)) ∙ ap (λ t. t.has p) is
+          ∙ word_has-at w s k p (place_in_word m w i l) ∙ ap s.has (sym at)
+          ∙ sym (word_has-at w (read_in m w (plain_set c s.has)) k i l)
+      | inr g ↦ rw (le-ltb i w g) refl
+    ])
+
+-- a test of the bit of a word is a test of the set that the word is of
+pub tested : (m : Bool) (w k o index : ℕ) (s : PlainSet) (d : ℕ) (r : Bool) → 0 < w →
+    bit_set w d ≡ word_of w s k → r ≡ contains (read_in m w (bit_set w d)) o → o < w →
+    k * w + o ≡ index % s.capacity → 0 < s.capacity → r ≡ contains (read_in m w s) index
+tested m w k o index s d r word is got low at some =
+    got ∙ contains_within (read_in m w (bit_set w d)) o low ∙ digit_at m w k s d word is o low
+    ∙ ap (read_in m w s).has at ∙ sym (contains_in (read_in m w s) s.capacity index refl some)
+
+-- ---- what an operation makes of two sets
+
+-- that so many numbers hold what it makes is one fact, whatever shows it
+pub holds_one : (f : Bool → Bool → Bool) (w : ℕ) (s t : PlainSet) (end : ℕ) →
+    IsProp (HoldsBoth f w s t end)
+holds_one f w s t end = hlevel props
+
+-- whole words are a multiple of a word
+pub multiple : (w c : ℕ) → (words : ℕ) × (c ≡ words * w) → c % w ≡ 0
+multiple w c whole = ap (λ n. n % w) whole.1 ∙ mul-mod_left whole.0 w
+
+-- the greater of two capacities of whole words of one width is whole words
+pub whole_greater : {a b : ℕ} (leaf w v : ℕ) → leaf ≡ w → leaf ≡ v →
+    (words : ℕ) × (a ≡ words * w) → (words : ℕ) × (b ≡ words * v) →
+    (words : ℕ) × (max a b ≡ words * w)
+whole_greater {a} {b} leaf w v one other ours theirs =
+    elim (cases_lt a b) [
+      | inl l ↦ let e : max a b ≡ b = omega (arith, l) in
+          (theirs.0, e ∙ theirs.1 ∙ ap (λ n. theirs.0 * n) (sym other ∙ one))
+      | inr g ↦ let e : max a b ≡ a = omega (arith, g) in (ours.0, e ∙ ours.1)
+    ]
+
+module _ (f : Bool → Bool → Bool) {s t : PlainSet} {a b : ℕ} (x : EndsAt s a) (y : EndsAt t b)
+    (w : ℕ) where
+  -- one that makes none of what is in neither is held by the capacities of both
+  pub holds_either : f false false ≡ false → (end : ℕ) → end < 4294967295 → end % w ≡ 0 →
+      max a b ≤ end → HoldsBoth f w s t end
+  holds_either none end fits whole high = record {
+    fits = fits;
+    whole = whole;
+    past = λ i h. (λ j. f (x.past i (omega (arith, high, h, x.capacity)) j)
+        (y.past i (omega (arith, high, h, y.capacity)) j)) ∙ none;
+  }
+
+-- one that makes none of what is not in the first is held by its capacity
+pub holds_first : (f : Bool → Bool → Bool) {s : PlainSet} {a : ℕ} → EndsAt s a → (t : PlainSet)
+    (w : ℕ) → ((b : Bool) → f false b ≡ false) → a < 4294967295 → a % w ≡ 0 → HoldsBoth f w s t a
+holds_first f x t w none fits whole = record {
+  fits = fits;
+  whole = whole;
+  past = λ i h. ap (λ b. f b (t.has i)) (x.past i (omega (arith, h, x.capacity))) ∙ none (t.has i);
+}
+
+-- with a greater capacity, from where on nothing is, a set has the same members
+pub ascending_longer : (p : ℕ → Bool) (a b : ℕ) → a ≤ b → ((i : ℕ) → a ≤ i → p i ≡ false) →
+    ascending (plain_set b p) ≡ ascending (plain_set a p)
+ascending_longer p a b le none =
+    let d = b - a in
+    ascending_from-add p 0 a d b a (omega arith) (omega arith)
+    ∙ ap (λ xs. ascending_from p 0 a ++ xs) (ascending_from-none p a d (λ k lo hi. none k lo))
+    ∙ append-nil (ascending_from p 0 a)
+
+-- ---- a range of a set
+
+module _ (s : PlainSet) (from to : ℕ) where
+  abbrev inner : PlainSet
+  inner = members_within s from to
+
+  -- it has as many members as lie below the end and not below the start
+  pub size_within : from ≤ to → to ≤ s.capacity →
+      size inner ≡ members_below s to - members_below s from
+  size_within ordered within = sym (ascending_from-length inner.has s.capacity)
+      ∙ ap length (sym (between_within s from to ordered within)) ∙ between_length s from to ordered
+
+  -- it has none where a search of the range finds none
+  pub none_within : (r : Option ℕ) (b : Bool) → is_some r ≡ not b → to ≤ s.capacity →
+      IsFirstIn s from to r → b ≡ (size inner == 0)
+  none_within None b e within none =
+      not_false b (sym e) ∙ sym (eq-eqb (size inner) 0 (size_zero inner (λ k p q.
+      elim (cases_lt k from) [
+        | inl l ↦ ap (λ a. a && s.has k) (is_in_span-outside from to k (inl l))
+        | inr g ↦ elim (cases_lt k to) [
+          | inl l ↦ ap (λ a. is_in_span from to k && a) (none k g l)
+              ∙ and_right (is_in_span from to k) false refl
+          | inr h ↦ ap (λ a. a && s.has k) (is_in_span-outside from to k (inr h))
+        ]
+      ])))
+  none_within (Some i) b e within first =
+      let here : inner.has i ≡ true = ap (λ a. a && s.has i)
+      (is_in_span-inside from to i first.0 first.1) ∙ first.2 in
+      not_true b (sym e) ∙ sym (ne_eqb (size inner) 0 (λ z. true≢false (sym here
+      ∙ size_none inner z i (omega arith) (omega (arith, first.1, within)))))
+
+-- a place of word k lies in a span where it lies in what the span leaves of the word
+span_in_word : (w start from to p : ℕ) → p < w →
+    is_in_span (min (from - start) w) (min (to - start) w) p ≡ is_in_span from to (start + p)
+span_in_word w start from to p h =
+    elim (cases_lt (start + p) from) [
+      | inl l ↦ is_in_span-outside _ _ p (inl (omega (arith, l, h)))
+          ∙ sym (is_in_span-outside from to (start + p) (inl l))
+      | inr g ↦ elim (cases_lt (start + p) to) [
+        | inl l ↦ is_in_span-inside _ _ p (omega (arith, g, h)) (omega (arith, l, h))
+            ∙ sym (is_in_span-inside from to (start + p) g l)
+        | inr e ↦ is_in_span-outside _ _ p (inr (omega (arith, e, h)))
+            ∙ sym (is_in_span-outside from to (start + p) (inr e))
+      ]
+    ]
+
+-- what the span leaves of word k is word k of the span
+span_word : (w k c from to : ℕ) →
+    span_set w (min (from - k * w) w) (min (to - k * w) w) ≡ word_of w (span_set c from to) k
+unfolding word_has
+span_word w k c from to =
+    ap (plain_set w) (fun_ext λ i. elim (cases_lt i w) [
+      | inl l ↦ span_in_word w (k * w) from to i l
+          ∙ sym (word_has-at w (span_set c from to) k i l)
+      | inr g ↦ is_in_span-outside _ _ i (inr (omega (arith, g))) ∙ rw (le-ltb i w g) refl
+    ])
+
+-- what a span keeps of word k is word k of what it keeps of the set
+pub word_within : (m : Bool) (w k from to : ℕ) (s : PlainSet) (d e r : ℕ) → 0 < w →
+    bit_set w d ≡ word_of w s k →
+    read_in m w (bit_set w e) ≡ span_set w (min (from - k * w) w) (min (to - k * w) w) →
+    bit_set w r ≡ combination_of ◌&&◌ (bit_set w e) (bit_set w d) →
+    bit_set w r ≡ word_of w (read_in m w (members_within (read_in m w s) from to)) k
+unfolding word_has
+word_within m w k from to s d e r word is span both =
+    word_read_back m w k s.capacity r (members_within (read_in m w s) from to) word
+    (decided_in_order ◌&&◌ m w k (span_set s.capacity from to) (read_in m w s) r e d word both
+    (span ∙ span_word w k s.capacity from to) (word_in_order m w k s d word is))

@@ -1,0 +1,75 @@
+//! What is asked of all words of a set, or of one bit: any set that is read word by word can be
+//! asked so.
+
+ghost use Rattle.std.specs.Prelude.{◌≡◌, ◌+◌, ◌*◌, ◌<◌, ◌≤◌, ◌==◌, Bool};
+ghost use Rattle.bittle.specs.PlainSet.{contains, members_below, size};
+ghost use Rattle.bittle.specs.Values.{set_in, set_mirrored, ShapeFits};
+
+use bittle::{BigEndian, Endian};
+use bittle_bits::extension::{Ones, ReadWords, Word, Zeros, first_in_words, test_bit, word_width};
+
+/// Counts the set bits of word `k`.
+#[inline(always)]
+fn count_word<B: ReadWords>(bits: &B, k: u32) -> u32
+    requires fits { ShapeFits B.Shape bits.now }
+    requires within { k * B.width < (B.big bits.now).capacity }
+    ensures { members_below (B.big bits.now) ((k + 1) * B.width)
+        ≡ members_below (B.big bits.now) (k * B.width) + result }
+{
+    bits.nth_leaf_word(k as usize).count_ones()
+}
+
+/// Counts the set bits.
+#[inline]
+pub fn count<B: ReadWords>(bits: &B) -> u32
+    requires { ShapeFits B.Shape bits.now }
+    ensures value { result ≡ size (B.big bits.now) }
+    ensures in_each_order { (mirrored : Bool) →
+        result ≡ size (set_mirrored B.Shape mirrored bits.now) }
+    ensures at_most { result ≤ (B.big bits.now).capacity }
+{
+    let mut count = 0;
+    for k in 0..bits.capacity() / word_width::<B>() {
+        count += count_word::<B>(bits, k);
+    }
+    count
+}
+
+/// Returns whether no bit is set.
+#[inline]
+pub fn is_empty<B: ReadWords>(bits: &B) -> bool
+    requires { ShapeFits B.Shape bits.now }
+    ensures value { result ≡ (size (B.big bits.now) == 0) }
+    ensures in_each_order { (mirrored : Bool) →
+        result ≡ (size (set_mirrored B.Shape mirrored bits.now) == 0) }
+{
+    let words = bits.capacity() / word_width::<B>();
+    first_in_words::<B, BigEndian, Ones>(bits, words).is_none()
+}
+
+/// Returns whether each bit is set.
+#[inline]
+pub fn is_full<B: ReadWords>(bits: &B) -> bool
+    requires { ShapeFits B.Shape bits.now }
+    ensures value { result ≡ (size (B.big bits.now) == (B.big bits.now).capacity) }
+    ensures in_each_order { (mirrored : Bool) → result
+        ≡ (size (set_mirrored B.Shape mirrored bits.now) == (B.big bits.now).capacity) }
+{
+    let words = bits.capacity() / word_width::<B>();
+    first_in_words::<B, BigEndian, Zeros>(bits, words).is_none()
+}
+
+/// Tests the bit at an index, which wraps.
+#[inline]
+pub fn test<B: ReadWords, E: Endian>(bits: &B, index: u32) -> bool
+    requires { ShapeFits B.Shape bits.now }
+    ensures { result ≡ contains (set_in B.Shape E.Endian bits.now) index }
+{
+    let capacity = bits.capacity();
+    if capacity == 0 {
+        return false;
+    }
+    let at = index % capacity;
+    let width = word_width::<B>();
+    test_bit::<B::LeafWord, E>(bits.nth_leaf_word((at / width) as usize), at % width)
+}

@@ -1,0 +1,107 @@
+//! Views of the unset bits of a set.
+
+ghost use Rattle.std.specs.Prelude.{◌≡◌, true, ⊤};
+ghost use Rattle.bittle_ext.specs.ViewLaws.{none_past_complement};
+ghost use Rattle.bittle.specs.PlainSet.{complement};
+ghost use Rattle.bittle.specs.Values.{set_in, ShapeFits};
+
+use crate::views::by_words::{count, is_empty, is_full, test};
+use bittle::{Bits, Endian, Shape};
+use bittle_bits::extension::{ReadWords, Sealed, Zeros, word_of_kind};
+use std::alloc::AllocError;
+
+/// The unset bits below the capacity of a set that it borrows: a set of as many bits, in the order
+/// of that one's type. Each word of it is made when it is asked for.
+#[derive(Drop)]
+pub struct Complement<'a, B: Shape> {
+    set: &'a B,
+    pub ghost fits: { ShapeFits B.Shape set.now },
+}
+
+impl<'a, B: Shape> Shape for Complement<'a, B> {
+    type LeafWord = B::LeafWord;
+
+    ghost width = { B.width };
+
+    ghost indexable = { true };
+
+    ghost big = { λ v. complement (B.big v.set.now) };
+
+    fn seal(_: Sealed) {}
+}
+
+impl<'a, B: Shape> Clone for Complement<'a, B> {
+    ghost is_clone = { λ s r. r ≡ s };
+
+    ghost is_infallible = { λ _. ⊤ };
+
+    #[inline]
+    fn clone(&self) -> Result<Complement<'a, B>, AllocError> {
+        Ok(Complement { set: self.set })
+    }
+}
+
+impl<'a, B: Shape> Copy for Complement<'a, B> {}
+
+impl<'a, B: Bits> ReadWords for Complement<'a, B> {
+    ghost leaf_width = { B.leaf_width };
+
+    ghost width_positive = { B.width_positive };
+
+    ghost whole_words = { λ v. B.whole_words v.set.now };
+
+    ghost none_past = { λ v. none_past_complement (B.big v.set.now) };
+
+    #[inline]
+    fn is_fixed() -> bool {
+        B::is_fixed()
+    }
+
+    #[inline]
+    fn capacity(&self) -> u32 {
+        self.set.bits_capacity()
+    }
+
+    #[inline(always)]
+    fn nth_leaf_word(&self, k: usize) -> B::LeafWord {
+        word_of_kind::<B, Zeros>(self.set, k)
+    }
+}
+
+impl<'a, B: Bits> Bits for Complement<'a, B> {
+    type Order = B::Order;
+
+    #[inline]
+    fn count_ones(&self) -> u32 {
+        count::<Complement<'a, B>>(self)
+    }
+
+    #[inline]
+    fn all_zeros(&self) -> bool {
+        is_empty::<Complement<'a, B>>(self)
+    }
+
+    #[inline]
+    fn all_ones(&self) -> bool {
+        is_full::<Complement<'a, B>>(self)
+    }
+
+    #[inline]
+    fn test_bit_in<E: Endian>(&self, index: u32) -> bool {
+        test::<Complement<'a, B>, E>(self, index)
+    }
+}
+
+impl<'a, B: Bits> Complement<'a, B> {
+    /// Views the unset bits of a set.
+    #[inline]
+    pub(crate) fn of(set: &'a B) -> Complement<'a, B>
+        requires { ShapeFits B.Shape set.now }
+        ensures value { result.set.now ≡ set.now }
+        ensures set { set_in ⟦<Complement<'a, B> as Shape>⟧ B.Order.Endian result
+            ≡ complement (set_in B.Shape B.Order.Endian set.now) }
+        ensures fits { ShapeFits ⟦<Complement<'a, B> as Shape>⟧ result }
+    {
+        Complement { set }
+    }
+}

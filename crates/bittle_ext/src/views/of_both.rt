@@ -1,0 +1,244 @@
+//! Views of what an operation makes of two sets, of any widths and orders.
+
+ghost use Rattle.std.specs.Prelude.{◌≡◌, ◌<◌, Bool, false, true, refl, max, ⊤};
+ghost use Rattle.bittle_ext.specs.Combined.{decided_set};
+ghost use Rattle.bittle_ext.specs.ViewLaws.{none_past_both, whole_words_of};
+ghost use Rattle.bittle_ext.specs.Views.{decided_until, decided_of_first, rounded_up, HoldsBoth};
+ghost use Rattle.bittle.specs.Orders.{read_in};
+ghost use Rattle.bittle.specs.PlainSet.{ascending};
+ghost use Rattle.bittle.specs.Values.{set_in, ShapeFits};
+
+use crate::both_words::word_of_both;
+use crate::capacities::capacity_of;
+use crate::views::by_words::{count, is_empty, is_full, test};
+use bittle::{Bits, Endian, Shape};
+use bittle_bits::extension::{
+    Conjunction, Difference, Operation, ReadWords, Sealed, SymmetricDifference, Union, word_width,
+};
+use std::alloc::AllocError;
+use std::marker::PhantomData;
+
+/// An operation that makes no index a member that is in neither set.
+pub trait ViewOperation: Operation {
+    ghost keeps_empty: { Self.decide false false ≡ false };
+}
+
+impl ViewOperation for Union {
+    ghost keeps_empty = { refl };
+}
+
+impl ViewOperation for SymmetricDifference {
+    ghost keeps_empty = { refl };
+}
+
+/// An operation that makes no index a member that is not in the first set.
+pub trait FirstOperation: Operation {
+    ghost keeps_to_first: { (b : Bool) → Self.decide false b ≡ false };
+}
+
+impl FirstOperation for Conjunction {
+    ghost keeps_to_first = { λ _. refl };
+}
+
+impl FirstOperation for Difference {
+    ghost keeps_to_first = { λ _. refl };
+}
+
+/// What the operation `O` makes of two sets that it borrows, the first read in the order `E` and
+/// the second in `F`: a set of words as the first one's, read in `E`.
+///
+/// Each word of it is made when it is asked for. Where the words of the two sets differ in width or
+/// order, the second one is searched for each of its set bits there.
+#[derive(Drop)]
+pub struct OfBoth<'a, A: Shape, B: Shape, E: Endian, F: Endian, O: Operation> {
+    left: &'a A,
+    right: &'a B,
+    end: u32,
+    order: PhantomData<E>,
+    other_order: PhantomData<F>,
+    operation: PhantomData<O>,
+    pub ghost left_fits: { ShapeFits A.Shape left.now },
+    pub ghost right_fits: { ShapeFits B.Shape right.now },
+    pub ghost holds: { HoldsBoth O.decide A.width (set_in A.Shape E.Endian left.now)
+        (set_in B.Shape F.Endian right.now) end },
+}
+
+impl<'a, A: Shape, B: Shape, E: Endian, F: Endian, O: Operation> Shape
+    for OfBoth<'a, A, B, E, F, O> {
+    type LeafWord = A::LeafWord;
+
+    ghost width = { A.width };
+
+    ghost indexable = { true };
+
+    ghost big = { λ v. read_in E.mirrored A.width (decided_until O.decide v.end
+        (set_in A.Shape E.Endian v.left.now) (set_in B.Shape F.Endian v.right.now)) };
+
+    fn seal(_: Sealed) {}
+}
+
+impl<'a, A: Shape, B: Shape, E: Endian, F: Endian, O: Operation> Clone
+    for OfBoth<'a, A, B, E, F, O> {
+    ghost is_clone = { λ s r. r ≡ s };
+
+    ghost is_infallible = { λ _. ⊤ };
+
+    #[inline]
+    fn clone(&self) -> Result<OfBoth<'a, A, B, E, F, O>, AllocError> {
+        Ok(OfBoth {
+            left: self.left,
+            right: self.right,
+            end: self.end,
+            order: PhantomData,
+            other_order: PhantomData,
+            operation: PhantomData,
+        })
+    }
+}
+
+impl<'a, A: Shape, B: Shape, E: Endian, F: Endian, O: Operation> Copy
+    for OfBoth<'a, A, B, E, F, O> {}
+
+impl<'a, A: Bits, B: Bits, E: Endian, F: Endian, O: Operation> ReadWords
+    for OfBoth<'a, A, B, E, F, O> {
+    ghost leaf_width = { A.leaf_width };
+
+    ghost width_positive = { A.width_positive };
+
+    ghost whole_words = { λ v. whole_words_of A.width v.end v.holds.whole };
+
+    ghost none_past = { λ v. none_past_both O.decide E.mirrored A.width
+        (set_in A.Shape E.Endian v.left.now) (set_in B.Shape F.Endian v.right.now) v.end
+        A.width_positive v.holds };
+
+    #[inline]
+    fn is_fixed() -> bool {
+        A::is_fixed() && B::is_fixed()
+    }
+
+    #[inline]
+    fn capacity(&self) -> u32 {
+        self.end
+    }
+
+    #[inline(always)]
+    fn nth_leaf_word(&self, k: usize) -> A::LeafWord {
+        word_of_both::<A, B, E, F, O>(self.left, self.right, k as u32)
+    }
+}
+
+impl<'a, A: Bits, B: Bits, U: Endian, F: Endian, O: Operation> Bits for OfBoth<'a, A, B, U, F, O> {
+    type Order = U;
+
+    #[inline]
+    fn count_ones(&self) -> u32 {
+        count::<OfBoth<'a, A, B, U, F, O>>(self)
+    }
+
+    #[inline]
+    fn all_zeros(&self) -> bool {
+        is_empty::<OfBoth<'a, A, B, U, F, O>>(self)
+    }
+
+    #[inline]
+    fn all_ones(&self) -> bool {
+        is_full::<OfBoth<'a, A, B, U, F, O>>(self)
+    }
+
+    #[inline]
+    fn test_bit_in<E: Endian>(&self, index: u32) -> bool {
+        test::<OfBoth<'a, A, B, U, F, O>, E>(self, index)
+    }
+}
+
+impl<'a, A: Bits, B: Bits, E: Endian, F: Endian, O: Operation> OfBoth<'a, A, B, E, F, O> {
+    /// Views the indexes below `end`, past which the operation makes no member.
+    #[inline]
+    fn until(left: &'a A, right: &'a B, end: u32) -> Self
+        requires left_fits { ShapeFits A.Shape left.now }
+        requires right_fits { ShapeFits B.Shape right.now }
+        requires holds { HoldsBoth O.decide A.width (set_in A.Shape E.Endian left.now)
+            (set_in B.Shape F.Endian right.now) end }
+        ensures left { result.left.now ≡ left.now }
+        ensures right { result.right.now ≡ right.now }
+        ensures set { set_in ⟦<OfBoth<'a, A, B, E, F, O> as Shape>⟧ E.Endian result
+            ≡ decided_until O.decide end (set_in A.Shape E.Endian left.now)
+            (set_in B.Shape F.Endian right.now) }
+        ensures fits { ShapeFits ⟦<OfBoth<'a, A, B, E, F, O> as Shape>⟧ result }
+    {
+        OfBoth {
+            left,
+            right,
+            end,
+            order: PhantomData,
+            other_order: PhantomData,
+            operation: PhantomData,
+        }
+    }
+}
+
+impl<'a, A: Bits, B: Bits, E: Endian, F: Endian, O: FirstOperation> OfBoth<'a, A, B, E, F, O> {
+    /// Views what an operation that keeps to the first set makes of two sets.
+    #[inline]
+    pub(crate) fn of_first(left: &'a A, right: &'a B) -> Self
+        requires left_fits { ShapeFits A.Shape left.now }
+        requires right_fits { ShapeFits B.Shape right.now }
+        ensures left { result.left.now ≡ left.now }
+        ensures right { result.right.now ≡ right.now }
+        ensures set { set_in ⟦<OfBoth<'a, A, B, E, F, O> as Shape>⟧ E.Endian result
+            ≡ decided_of_first O.decide (set_in A.Shape E.Endian left.now)
+            (set_in B.Shape F.Endian right.now) }
+        ensures items { ascending
+            (set_in ⟦<OfBoth<'a, A, B, E, F, O> as Shape>⟧ E.Endian result)
+            ≡ ascending (decided_set O.decide (set_in A.Shape E.Endian left.now)
+            (set_in B.Shape F.Endian right.now)) }
+        ensures fits { ShapeFits ⟦<OfBoth<'a, A, B, E, F, O> as Shape>⟧ result }
+    {
+        OfBoth::until(left, right, capacity_of::<A, E>(left))
+    }
+}
+
+impl<'a, A: Bits, B: Bits, E: Endian, F: Endian, O: ViewOperation> OfBoth<'a, A, B, E, F, O> {
+    /// Views what an operation makes of two sets of like words.
+    #[inline]
+    pub(crate) fn of_either(left: &'a A, right: &'a B) -> Self
+    where
+        B: Shape<LeafWord = A::LeafWord>,
+        requires left_fits { ShapeFits A.Shape left.now }
+        requires right_fits { ShapeFits B.Shape right.now }
+        ensures left { result.left.now ≡ left.now }
+        ensures right { result.right.now ≡ right.now }
+        ensures set { set_in ⟦<OfBoth<'a, A, B, E, F, O> as Shape>⟧ E.Endian result
+            ≡ decided_set O.decide (set_in A.Shape E.Endian left.now)
+            (set_in B.Shape F.Endian right.now) }
+        ensures fits { ShapeFits ⟦<OfBoth<'a, A, B, E, F, O> as Shape>⟧ result }
+    {
+        let end = capacity_of::<A, E>(left).max(capacity_of::<B, F>(right));
+        OfBoth::until(left, right, end)
+    }
+
+    /// Views what an operation makes of two sets of any words, with the greater capacity rounded up
+    /// to whole words of the first.
+    #[inline]
+    pub(crate) fn of_unlike(left: &'a A, right: &'a B) -> Self
+        requires left_fits { ShapeFits A.Shape left.now }
+        requires right_fits { ShapeFits B.Shape right.now }
+        requires rounded { rounded_up
+            (max (A.big left.now).capacity (B.big right.now).capacity) A.width < 4294967295 }
+        ensures left { result.left.now ≡ left.now }
+        ensures right { result.right.now ≡ right.now }
+        ensures set { set_in ⟦<OfBoth<'a, A, B, E, F, O> as Shape>⟧ E.Endian result
+            ≡ decided_until O.decide (rounded_up
+            (max (A.big left.now).capacity (B.big right.now).capacity) A.width)
+            (set_in A.Shape E.Endian left.now) (set_in B.Shape F.Endian right.now) }
+        ensures items { ascending
+            (set_in ⟦<OfBoth<'a, A, B, E, F, O> as Shape>⟧ E.Endian result)
+            ≡ ascending (decided_set O.decide (set_in A.Shape E.Endian left.now)
+            (set_in B.Shape F.Endian right.now)) }
+        ensures fits { ShapeFits ⟦<OfBoth<'a, A, B, E, F, O> as Shape>⟧ result }
+    {
+        let greater = capacity_of::<A, E>(left).max(capacity_of::<B, F>(right));
+        let end = greater.next_multiple_of(word_width::<A>());
+        OfBoth::until(left, right, end)
+    }
+}

@@ -1,0 +1,136 @@
+//! Views of a range of a set.
+
+ghost use Rattle.std.specs.Prelude.{◌≡◌, ◌≤◌, true, ⊤};
+ghost use Rattle.bittle_ext.specs.RangeMembers.{members_within};
+ghost use Rattle.bittle_ext.specs.ViewLaws.{none_past_within};
+ghost use Rattle.bittle.specs.Orders.{read_in};
+ghost use Rattle.bittle.specs.Values.{set_in, ShapeFits};
+
+use crate::views::by_words::{is_full, test};
+use bittle::{Bits, Endian, Shape};
+use bittle_bits::extension::{
+    Conjunction, Front, Ones, Operation, ReadWords, Sealed, count_ones_in_range, end_in, range,
+    word_width,
+};
+use std::alloc::AllocError;
+use std::marker::PhantomData;
+
+/// The set bits of a range of a set that it borrows, read in the order `E`: a set of as many bits
+/// as that one, in `E`. Each word of it is made when it is asked for.
+#[derive(Drop)]
+pub struct Within<'a, B: Shape, E: Endian> {
+    set: &'a B,
+    from: u32,
+    to: u32,
+    order: PhantomData<E>,
+    pub ghost fits: { ShapeFits B.Shape set.now },
+    pub ghost ordered: { from ≤ to },
+    pub ghost inside: { to ≤ (B.big set.now).capacity },
+}
+
+impl<'a, B: Shape, E: Endian> Shape for Within<'a, B, E> {
+    type LeafWord = B::LeafWord;
+
+    ghost width = { B.width };
+
+    ghost indexable = { true };
+
+    ghost big = { λ v. read_in E.mirrored B.width
+        (members_within (set_in B.Shape E.Endian v.set.now) v.from v.to) };
+
+    fn seal(_: Sealed) {}
+}
+
+impl<'a, B: Shape, E: Endian> Clone for Within<'a, B, E> {
+    ghost is_clone = { λ s r. r ≡ s };
+
+    ghost is_infallible = { λ _. ⊤ };
+
+    #[inline]
+    fn clone(&self) -> Result<Within<'a, B, E>, AllocError> {
+        Ok(Within {
+            set: self.set,
+            from: self.from,
+            to: self.to,
+            order: PhantomData,
+        })
+    }
+}
+
+impl<'a, B: Shape, E: Endian> Copy for Within<'a, B, E> {}
+
+impl<'a, B: Bits, E: Endian> ReadWords for Within<'a, B, E> {
+    ghost leaf_width = { B.leaf_width };
+
+    ghost width_positive = { B.width_positive };
+
+    ghost whole_words = { λ v. B.whole_words v.set.now };
+
+    ghost none_past = { λ v. none_past_within E.mirrored B.width (B.big v.set.now) v.from v.to
+        B.width_positive (B.whole_words v.set.now) (B.none_past v.set.now) };
+
+    #[inline]
+    fn is_fixed() -> bool {
+        B::is_fixed()
+    }
+
+    #[inline]
+    fn capacity(&self) -> u32 {
+        self.set.bits_capacity()
+    }
+
+    #[inline]
+    fn nth_leaf_word(&self, k: usize) -> B::LeafWord {
+        let width = word_width::<B>();
+        let start = k as u32 * width;
+        let low = self.from.saturating_sub(start).min(width);
+        let high = self.to.saturating_sub(start).min(width);
+        let kept = range::<B::LeafWord, E>(low, high);
+        Conjunction::on_words::<B::LeafWord>(kept, self.set.nth_leaf_word(k))
+    }
+}
+
+impl<'a, B: Bits, U: Endian> Bits for Within<'a, B, U> {
+    type Order = U;
+
+    #[inline]
+    fn count_ones(&self) -> u32 {
+        count_ones_in_range::<B, U>(self.set, self.from, self.to)
+    }
+
+    #[inline]
+    fn all_zeros(&self) -> bool {
+        end_in::<B, U, Ones, Front>(self.set, self.from, self.to).is_none()
+    }
+
+    #[inline]
+    fn all_ones(&self) -> bool {
+        is_full::<Within<'a, B, U>>(self)
+    }
+
+    #[inline]
+    fn test_bit_in<E: Endian>(&self, index: u32) -> bool {
+        test::<Within<'a, B, U>, E>(self, index)
+    }
+}
+
+impl<'a, B: Bits, E: Endian> Within<'a, B, E> {
+    /// Views a range of a set.
+    #[inline]
+    pub(crate) fn of(set: &'a B, from: u32, to: u32) -> Within<'a, B, E>
+        requires fits { ShapeFits B.Shape set.now }
+        requires ordered { from ≤ to }
+        requires within { to ≤ (B.big set.now).capacity }
+        ensures value { result.set.now ≡ set.now }
+        ensures set { set_in ⟦<Within<'a, B, E> as Shape>⟧ E.Endian result
+            ≡ members_within (set_in B.Shape E.Endian set.now) from to }
+        ensures fits { ShapeFits ⟦<Within<'a, B, E> as Shape>⟧ result }
+    {
+        Within {
+            set,
+            from,
+            to,
+            order: PhantomData,
+        }
+    }
+}
