@@ -13,26 +13,40 @@ use Rattle.bittle_bits.specs.Words.{word_has, word_of}
 use Rattle.bittle_bits.proofs.AscendingLists.{ascending_from-add, ascending_from-none, ascending_from-length}
 use Rattle.bittle_bits.proofs.PlaceLemmas.{place_part, place_in_word, place-place}
 use Rattle.bittle_bits.proofs.PlainSets.{plain_set, contains_in}
+use Rattle.bittle_bits.proofs.Sizes.{size-members}
 use Rattle.bittle_bits.proofs.Spans.{is_in_span-outside, is_in_span-inside}
 use Rattle.bittle_bits.proofs.Words.{digit_at, word_has-at}
 use Rattle.bittle.proofs.CallerSets.{contains_within, size_none, size_zero}
 use Rattle.bittle_ext.specs.RangeMembers.{EndsAt, members_within}
-use Rattle.bittle_ext.specs.Views.{HoldsBoth}
+use Rattle.bittle_ext.specs.Views.{is_placed, read_back, HoldsBoth}
 use Rattle.bittle_ext.proofs.CombinedWords.{decided_in_order, word_in_order}
 use Rattle.bittle_ext.proofs.RangeItems.{between_within, between_length}
 use Rattle.bittle_ext.proofs.SetFacts.{not_false, not_true}
 
 -- ---- in an order and back
 
--- a set read in an order and back is the set
-pub read_twice : (m : Bool) (w : ℕ) (s : PlainSet) → 0 < w → read_in m w (read_in m w s) ≡ s
+-- it is what the set has in the order
+pub read_back_is : (m : Bool) (w : ℕ) (s : PlainSet) → read_back m w s ≡ read_in m w s
+unfolding is_placed
+read_back_is true w s = refl
+read_back_is false w s = refl
+
+-- so, read in the order, it is the set
+pub read_twice : (m : Bool) (w : ℕ) (s : PlainSet) → 0 < w → read_in m w (read_back m w s) ≡ s
 read_twice m w s word =
-    ap (plain_set s.capacity) (fun_ext λ i. ap s.has (place-place m w i word))
+    ap (read_in m w) (read_back_is m w s)
+    ∙ ap (plain_set s.capacity) (fun_ext λ i. ap s.has (place-place m w i word))
+
+-- and as great as the set
+pub size_read_back : (m : Bool) (w : ℕ) (s : PlainSet) → 0 < w →
+    (words : ℕ) × (s.capacity ≡ words * w) → size (read_back m w s) ≡ size s
+size_read_back m w s word whole =
+    ap (λ (t : PlainSet). size t) (read_back_is m w s) ∙ size-members m w s word whole
 
 -- a word that has in an order what word k of a set has is word k of the set read back
 pub word_read_back : (m : Bool) (w k c d : ℕ) (s : PlainSet) → 0 < w →
     read_in m w (bit_set w d) ≡ word_of w s k →
-    bit_set w d ≡ word_of w (read_in m w (plain_set c s.has)) k
+    bit_set w d ≡ word_of w (read_back m w (plain_set c s.has)) k
 unfolding word_has bit_has
 word_read_back m w k c d s word is =
     ap (plain_set w) (fun_ext λ i. elim (cases_lt i w) [
@@ -45,7 +59,7 @@ word_read_back m w k c d s word is =
           ∙ word_has-at w s k p (place_in_word m w i l) ∙ ap s.has (sym at)
           ∙ sym (word_has-at w (read_in m w (plain_set c s.has)) k i l)
       | inr g ↦ rw (le-ltb i w g) refl
-    ])
+    ]) ∙ ap (λ t. word_of w t k) (sym (read_back_is m w (plain_set c s.has)))
 
 -- a test of the bit of a word is a test of the set that the word is of
 pub tested : (m : Bool) (w k o index : ℕ) (s : PlainSet) (d : ℕ) (r : Bool) → 0 < w →
@@ -169,7 +183,7 @@ pub word_within : (m : Bool) (w k from to : ℕ) (s : PlainSet) (d e r : ℕ) �
     bit_set w d ≡ word_of w s k →
     read_in m w (bit_set w e) ≡ span_set w (min (from - k * w) w) (min (to - k * w) w) →
     bit_set w r ≡ combination_of ◌&&◌ (bit_set w e) (bit_set w d) →
-    bit_set w r ≡ word_of w (read_in m w (members_within (read_in m w s) from to)) k
+    bit_set w r ≡ word_of w (read_back m w (members_within (read_in m w s) from to)) k
 unfolding word_has
 word_within m w k from to s d e r word is span both =
     word_read_back m w k s.capacity r (members_within (read_in m w s) from to) word

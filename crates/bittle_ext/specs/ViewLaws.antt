@@ -1,23 +1,31 @@
 -- Proofs of the laws that the impls for views give.
-use Rattle.std.proofs.Common.{◌≡◌, ℕ, ◌*◌, ◌/◌, ◌%◌, ◌<◌, ◌≤◌, Bool, false, ◌&&◌, refl, ap, ◌∙◌, arith}
+use Rattle.std.proofs.Common.{◌≡◌, ℕ, ◌*◌, ◌/◌, ◌%◌, ◌<◌, ◌≤◌, Bool, true, false, ◌&&◌, refl, ap, ◌∙◌, arith}
 use Rattle.std.proofs.lemmas.Bool.{le-ltb, and_right}
 use Rattle.std.proofs.lemmas.Nat.{div-add-mod'}
 use Rattle.bittle_bits.specs.Orders.{read_in}
 use Rattle.bittle_bits.specs.PlainSet.{PlainSet, lacks, complement, is_in_span}
 use Rattle.bittle_bits.proofs.PlainSets.{members-past}
 use Rattle.bittle_ext.specs.RangeMembers.{members_within}
-use Rattle.bittle_ext.specs.Views.{decided_until, HoldsBoth}
+use Rattle.bittle_ext.specs.Views.{decided_until, is_placed, read_back, HoldsBoth}
 
 -- a capacity that is a multiple of a width is whole words
 pub whole_words_of : (w c : ℕ) → c % w ≡ 0 → (words : ℕ) × (c ≡ words * w)
 whole_words_of w c whole = (c / w, omega (arith, div-add-mod' c w, whole))
 
+-- nothing past the capacity is in a set that is read back
+none_past_back : (m : Bool) (w : ℕ) (s : PlainSet) → 0 < w →
+    (words : ℕ) × (s.capacity ≡ words * w) → ((i : ℕ) → s.capacity ≤ i → s.has i ≡ false) →
+    (i : ℕ) → s.capacity ≤ i → (read_back m w s).has i ≡ false
+unfolding is_placed
+none_past_back true w s word whole past = members-past true w s word whole past
+none_past_back false w s word whole past = past
+
 -- past the end of what holds all that an operation makes of two sets it makes none
 pub none_past_both : (f : Bool → Bool → Bool) (m : Bool) (w : ℕ) (s t : PlainSet) (end : ℕ) →
     0 < w → HoldsBoth f w s t end → (i : ℕ) → end ≤ i →
-    (read_in m w (decided_until f end s t)).has i ≡ false
+    (read_back m w (decided_until f end s t)).has i ≡ false
 none_past_both f m w s t end word holds =
-    members-past m w (decided_until f end s t) word (whole_words_of w end holds.whole) holds.past
+    none_past_back m w (decided_until f end s t) word (whole_words_of w end holds.whole) holds.past
 
 -- nothing past the capacity is in a complement
 pub none_past_complement : (s : PlainSet) (i : ℕ) → s.capacity ≤ i → (complement s).has i ≡ false
@@ -28,8 +36,8 @@ none_past_complement s i past = rw (le-ltb i s.capacity past) refl
 pub none_past_within : (m : Bool) (w : ℕ) (s : PlainSet) (from to : ℕ) → 0 < w →
     (words : ℕ) × (s.capacity ≡ words * w) → ((i : ℕ) → s.capacity ≤ i → s.has i ≡ false) →
     (i : ℕ) → s.capacity ≤ i →
-    (read_in m w (members_within (read_in m w s) from to)).has i ≡ false
+    (read_back m w (members_within (read_in m w s) from to)).has i ≡ false
 none_past_within m w s from to word whole past =
-    members-past m w (members_within (read_in m w s) from to) word whole
+    none_past_back m w (members_within (read_in m w s) from to) word whole
     (λ i h. ap (λ b. is_in_span from to i && b) (members-past m w s word whole past i h)
     ∙ and_right (is_in_span from to i) false refl)

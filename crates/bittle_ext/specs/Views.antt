@@ -1,5 +1,6 @@
 -- What views of sets have.
-use Rattle.std.specs.Prelude.{◌≡◌, ℕ, ◌+◌, ◌-◌, ◌%◌, ◌<◌, ◌≤◌, Bool, false}
+use Rattle.std.specs.Prelude.{◌≡◌, ℕ, ◌+◌, ◌-◌, ◌%◌, ◌<◌, ◌≤◌, Bool, true, false}
+use Rattle.bittle.specs.Orders.{place}
 use Rattle.bittle.specs.PlainSet.{PlainSet}
 
 -- the set, of so many numbers, of those that are members by whether they are members of each of two
@@ -11,6 +12,20 @@ decided_until decide end s t =
 -- the same, of as many numbers as the first set
 abbrev pub decided_of_first : (Bool → Bool → Bool) → PlainSet → PlainSet → PlainSet
 decided_of_first decide s t = decided_until decide s.capacity s t
+
+-- whether a number is a member of a set by the place that a mirrored order gives it. It is no
+-- abbreviation, so that a caller's search does not open the sets behind each view
+unfoldable pub is_placed : ℕ → PlainSet → ℕ → Bool
+is_placed w s k = s.has (place true w k)
+
+-- so in an order
+abbrev pub has_placed : Bool → ℕ → PlainSet → ℕ → Bool
+has_placed true w s = is_placed w s
+has_placed false w s = s.has
+
+-- the set that, read in an order, is a set
+abbrev pub read_back : Bool → ℕ → PlainSet → PlainSet
+read_back mirrored w s = record { capacity = s.capacity; has = has_placed mirrored w s }
 
 -- so many numbers are whole words, fit an index, and have all that an operation makes of two sets
 pub record HoldsBoth (decide : Bool → Bool → Bool) (w : ℕ) (s t : PlainSet) (end : ℕ) : Type 0 where

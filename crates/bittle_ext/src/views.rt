@@ -23,12 +23,10 @@ ghost use Rattle.bittle.specs.Walk.{AreBelow, IsFresh};
 use crate::views::complement::Complement;
 use crate::views::in_order::InOrder;
 use crate::views::in_order_mut::InOrderMut;
-use crate::views::of_both::OfBoth;
+use crate::views::of_both::{OfBoth, AndView, MinusView, OrView, XorView};
 use crate::views::within::Within;
 use bittle::{Bits, BitsMut, Endian, Shape};
-use bittle_bits::extension::{
-    Conjunction, Difference, Operation, OwnedSource, SymmetricDifference, Union,
-};
+use bittle_bits::extension::{Conjunction, Difference, Operation, OwnedSource, SymmetricDifference, Union};
 use bittle_bits::walk::{IntoIter, IntoIterOnes, IntoIterZeros};
 
 mod by_words;
@@ -71,27 +69,26 @@ pub trait BitsViewExt: Bits {
     /// 0b0011u8.and(&[0x0106u16]).iter_ones();             // yields 1
     /// ```
     #[inline]
-    final fn and<'a, B: Bits>(
-        &'a self,
-        other: &'a B,
-    ) -> OfBoth<'a, Self, B, Self::Order, B::Order, Conjunction>
+    final fn and<'a, B: Bits>(&'a self, other: &'a B) -> AndView<'a, Self, B, Self::Order, B::Order>
     where
         Self: Sized,
         requires fits { ShapeFits Self.Shape self.now }
         requires other_fits { ShapeFits B.Shape other.now }
         ensures left { result.left.now ≡ self.now }
         ensures right { result.right.now ≡ other.now }
-        ensures set { set_in ⟦<OfBoth<'a, Self, B, Self::Order, B::Order, Conjunction> as Shape>⟧
+        ensures capacity { (⟦<AndView<'a, Self, B, Self::Order, B::Order> as Shape>⟧.big
+            result).capacity ≡ (Self.big self.now).capacity }
+        ensures set { set_in ⟦<AndView<'a, Self, B, Self::Order, B::Order> as Shape>⟧
             Self.Order.Endian result ≡ decided_of_first ◌&&◌
             (set_in Self.Shape Self.Order.Endian self.now)
             (set_in B.Shape B.Order.Endian other.now) }
         ensures items { ascending (set_in
-            ⟦<OfBoth<'a, Self, B, Self::Order, B::Order, Conjunction> as Shape>⟧
+            ⟦<AndView<'a, Self, B, Self::Order, B::Order> as Shape>⟧
             Self.Order.Endian result) ≡ ascending (both_of
             (set_in Self.Shape Self.Order.Endian self.now)
             (set_in B.Shape B.Order.Endian other.now)) }
         ensures view_fits { ShapeFits
-            ⟦<OfBoth<'a, Self, B, Self::Order, B::Order, Conjunction> as Shape>⟧ result }
+            ⟦<AndView<'a, Self, B, Self::Order, B::Order> as Shape>⟧ result }
     {
         OfBoth::of_first(self, other)
     }
@@ -106,24 +103,26 @@ pub trait BitsViewExt: Bits {
     final fn minus<'a, B: Bits>(
         &'a self,
         other: &'a B,
-    ) -> OfBoth<'a, Self, B, Self::Order, B::Order, Difference>
+    ) -> MinusView<'a, Self, B, Self::Order, B::Order>
     where
         Self: Sized,
         requires fits { ShapeFits Self.Shape self.now }
         requires other_fits { ShapeFits B.Shape other.now }
         ensures left { result.left.now ≡ self.now }
         ensures right { result.right.now ≡ other.now }
-        ensures set { set_in ⟦<OfBoth<'a, Self, B, Self::Order, B::Order, Difference> as Shape>⟧
+        ensures capacity { (⟦<MinusView<'a, Self, B, Self::Order, B::Order> as Shape>⟧.big
+            result).capacity ≡ (Self.big self.now).capacity }
+        ensures set { set_in ⟦<MinusView<'a, Self, B, Self::Order, B::Order> as Shape>⟧
             Self.Order.Endian result ≡ decided_of_first first_alone
             (set_in Self.Shape Self.Order.Endian self.now)
             (set_in B.Shape B.Order.Endian other.now) }
         ensures items { ascending (set_in
-            ⟦<OfBoth<'a, Self, B, Self::Order, B::Order, Difference> as Shape>⟧
+            ⟦<MinusView<'a, Self, B, Self::Order, B::Order> as Shape>⟧
             Self.Order.Endian result) ≡ ascending (first_only_of
             (set_in Self.Shape Self.Order.Endian self.now)
             (set_in B.Shape B.Order.Endian other.now)) }
         ensures view_fits { ShapeFits
-            ⟦<OfBoth<'a, Self, B, Self::Order, B::Order, Difference> as Shape>⟧ result }
+            ⟦<MinusView<'a, Self, B, Self::Order, B::Order> as Shape>⟧ result }
     {
         OfBoth::of_first(self, other)
     }
@@ -141,19 +140,21 @@ pub trait BitsViewExt: Bits {
     final fn or<'a, B: Bits + Shape<LeafWord = Self::LeafWord>>(
         &'a self,
         other: &'a B,
-    ) -> OfBoth<'a, Self, B, Self::Order, B::Order, Union>
+    ) -> OrView<'a, Self, B, Self::Order, B::Order>
     where
         Self: Sized,
         requires fits { ShapeFits Self.Shape self.now }
         requires other_fits { ShapeFits B.Shape other.now }
         ensures left { result.left.now ≡ self.now }
         ensures right { result.right.now ≡ other.now }
-        ensures set { set_in ⟦<OfBoth<'a, Self, B, Self::Order, B::Order, Union> as Shape>⟧
+        ensures capacity { (⟦<OrView<'a, Self, B, Self::Order, B::Order> as Shape>⟧.big
+            result).capacity ≡ max (Self.big self.now).capacity (B.big other.now).capacity }
+        ensures set { set_in ⟦<OrView<'a, Self, B, Self::Order, B::Order> as Shape>⟧
             Self.Order.Endian result ≡ either_of
             (set_in Self.Shape Self.Order.Endian self.now)
             (set_in B.Shape B.Order.Endian other.now) }
         ensures view_fits { ShapeFits
-            ⟦<OfBoth<'a, Self, B, Self::Order, B::Order, Union> as Shape>⟧ result }
+            ⟦<OrView<'a, Self, B, Self::Order, B::Order> as Shape>⟧ result }
     {
         OfBoth::of_either(self, other)
     }
@@ -168,20 +169,22 @@ pub trait BitsViewExt: Bits {
     final fn xor<'a, B: Bits + Shape<LeafWord = Self::LeafWord>>(
         &'a self,
         other: &'a B,
-    ) -> OfBoth<'a, Self, B, Self::Order, B::Order, SymmetricDifference>
+    ) -> XorView<'a, Self, B, Self::Order, B::Order>
     where
         Self: Sized,
         requires fits { ShapeFits Self.Shape self.now }
         requires other_fits { ShapeFits B.Shape other.now }
         ensures left { result.left.now ≡ self.now }
         ensures right { result.right.now ≡ other.now }
+        ensures capacity { (⟦<XorView<'a, Self, B, Self::Order, B::Order> as Shape>⟧.big
+            result).capacity ≡ max (Self.big self.now).capacity (B.big other.now).capacity }
         ensures set { set_in
-            ⟦<OfBoth<'a, Self, B, Self::Order, B::Order, SymmetricDifference> as Shape>⟧
+            ⟦<XorView<'a, Self, B, Self::Order, B::Order> as Shape>⟧
             Self.Order.Endian result ≡ just_one_of
             (set_in Self.Shape Self.Order.Endian self.now)
             (set_in B.Shape B.Order.Endian other.now) }
         ensures view_fits { ShapeFits
-            ⟦<OfBoth<'a, Self, B, Self::Order, B::Order, SymmetricDifference> as Shape>⟧ result }
+            ⟦<XorView<'a, Self, B, Self::Order, B::Order> as Shape>⟧ result }
     {
         OfBoth::of_either(self, other)
     }
@@ -201,7 +204,7 @@ pub trait BitsViewExt: Bits {
     final fn or_unlike<'a, B: Bits>(
         &'a self,
         other: &'a B,
-    ) -> OfBoth<'a, Self, B, Self::Order, B::Order, Union>
+    ) -> OrView<'a, Self, B, Self::Order, B::Order>
     where
         Self: Sized,
         requires fits { ShapeFits Self.Shape self.now }
@@ -210,18 +213,21 @@ pub trait BitsViewExt: Bits {
             Self.width < 4294967295 }
         ensures left { result.left.now ≡ self.now }
         ensures right { result.right.now ≡ other.now }
-        ensures set { set_in ⟦<OfBoth<'a, Self, B, Self::Order, B::Order, Union> as Shape>⟧
+        ensures capacity { (⟦<OrView<'a, Self, B, Self::Order, B::Order> as Shape>⟧.big
+            result).capacity ≡ rounded_up
+            (max (Self.big self.now).capacity (B.big other.now).capacity) Self.width }
+        ensures set { set_in ⟦<OrView<'a, Self, B, Self::Order, B::Order> as Shape>⟧
             Self.Order.Endian result ≡ decided_until ◌||◌
             (rounded_up (max (Self.big self.now).capacity (B.big other.now).capacity) Self.width)
             (set_in Self.Shape Self.Order.Endian self.now)
             (set_in B.Shape B.Order.Endian other.now) }
         ensures items { ascending (set_in
-            ⟦<OfBoth<'a, Self, B, Self::Order, B::Order, Union> as Shape>⟧
+            ⟦<OrView<'a, Self, B, Self::Order, B::Order> as Shape>⟧
             Self.Order.Endian result) ≡ ascending (either_of
             (set_in Self.Shape Self.Order.Endian self.now)
             (set_in B.Shape B.Order.Endian other.now)) }
         ensures view_fits { ShapeFits
-            ⟦<OfBoth<'a, Self, B, Self::Order, B::Order, Union> as Shape>⟧ result }
+            ⟦<OrView<'a, Self, B, Self::Order, B::Order> as Shape>⟧ result }
     {
         OfBoth::of_unlike(self, other)
     }
@@ -236,7 +242,7 @@ pub trait BitsViewExt: Bits {
     final fn xor_unlike<'a, B: Bits>(
         &'a self,
         other: &'a B,
-    ) -> OfBoth<'a, Self, B, Self::Order, B::Order, SymmetricDifference>
+    ) -> XorView<'a, Self, B, Self::Order, B::Order>
     where
         Self: Sized,
         requires fits { ShapeFits Self.Shape self.now }
@@ -245,19 +251,22 @@ pub trait BitsViewExt: Bits {
             Self.width < 4294967295 }
         ensures left { result.left.now ≡ self.now }
         ensures right { result.right.now ≡ other.now }
+        ensures capacity { (⟦<XorView<'a, Self, B, Self::Order, B::Order> as Shape>⟧.big
+            result).capacity ≡ rounded_up
+            (max (Self.big self.now).capacity (B.big other.now).capacity) Self.width }
         ensures set { set_in
-            ⟦<OfBoth<'a, Self, B, Self::Order, B::Order, SymmetricDifference> as Shape>⟧
+            ⟦<XorView<'a, Self, B, Self::Order, B::Order> as Shape>⟧
             Self.Order.Endian result ≡ decided_until just_one
             (rounded_up (max (Self.big self.now).capacity (B.big other.now).capacity) Self.width)
             (set_in Self.Shape Self.Order.Endian self.now)
             (set_in B.Shape B.Order.Endian other.now) }
         ensures items { ascending (set_in
-            ⟦<OfBoth<'a, Self, B, Self::Order, B::Order, SymmetricDifference> as Shape>⟧
+            ⟦<XorView<'a, Self, B, Self::Order, B::Order> as Shape>⟧
             Self.Order.Endian result) ≡ ascending (just_one_of
             (set_in Self.Shape Self.Order.Endian self.now)
             (set_in B.Shape B.Order.Endian other.now)) }
         ensures view_fits { ShapeFits
-            ⟦<OfBoth<'a, Self, B, Self::Order, B::Order, SymmetricDifference> as Shape>⟧ result }
+            ⟦<XorView<'a, Self, B, Self::Order, B::Order> as Shape>⟧ result }
     {
         OfBoth::of_unlike(self, other)
     }
@@ -276,6 +285,8 @@ pub trait BitsViewExt: Bits {
         Self: Sized,
         requires { ShapeFits Self.Shape self.now }
         ensures value { result.set.now ≡ self.now }
+        ensures capacity { (⟦<Complement<'a, Self> as Shape>⟧.big result).capacity
+            ≡ (Self.big self.now).capacity }
         ensures set { set_in ⟦<Complement<'a, Self> as Shape>⟧ Self.Order.Endian result
             ≡ complement (set_in Self.Shape Self.Order.Endian self.now) }
         ensures view_fits { ShapeFits ⟦<Complement<'a, Self> as Shape>⟧ result }
@@ -300,6 +311,10 @@ pub trait BitsViewExt: Bits {
         requires ordered { from ≤ to }
         requires within { to ≤ (Self.big self.now).capacity }
         ensures value { result.set.now ≡ self.now }
+        ensures from { result.from ≡ from }
+        ensures to { result.to ≡ to }
+        ensures capacity { (⟦<Within<'a, Self, Self::Order> as Shape>⟧.big result).capacity
+            ≡ (Self.big self.now).capacity }
         ensures set { set_in ⟦<Within<'a, Self, Self::Order> as Shape>⟧ Self.Order.Endian result
             ≡ members_within (set_in Self.Shape Self.Order.Endian self.now) from to }
         ensures view_fits { ShapeFits ⟦<Within<'a, Self, Self::Order> as Shape>⟧ result }

@@ -10,4 +10,5 @@ pub mod reads;
 pub mod rotations;
 pub mod run_walks;
 pub mod shape_changes;
+pub mod views;
 pub mod word_changes;

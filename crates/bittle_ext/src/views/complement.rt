@@ -98,6 +98,8 @@ impl<'a, B: Bits> Complement<'a, B> {
     pub(crate) fn of(set: &'a B) -> Complement<'a, B>
         requires { ShapeFits B.Shape set.now }
         ensures value { result.set.now ≡ set.now }
+        ensures capacity { (⟦<Complement<'a, B> as Shape>⟧.big result).capacity
+            ≡ (B.big set.now).capacity }
         ensures set { set_in ⟦<Complement<'a, B> as Shape>⟧ B.Order.Endian result
             ≡ complement (set_in B.Shape B.Order.Endian set.now) }
         ensures fits { ShapeFits ⟦<Complement<'a, B> as Shape>⟧ result }

@@ -3,8 +3,8 @@
 ghost use Rattle.std.specs.Prelude.{◌≡◌, ◌<◌, Bool, false, true, refl, max, ⊤};
 ghost use Rattle.bittle_ext.specs.Combined.{decided_set};
 ghost use Rattle.bittle_ext.specs.ViewLaws.{none_past_both, whole_words_of};
-ghost use Rattle.bittle_ext.specs.Views.{decided_until, decided_of_first, rounded_up, HoldsBoth};
-ghost use Rattle.bittle.specs.Orders.{read_in};
+ghost use Rattle.bittle_ext.specs.Views.{decided_until, decided_of_first, read_back};
+ghost use Rattle.bittle_ext.specs.Views.{rounded_up, HoldsBoth};
 ghost use Rattle.bittle.specs.PlainSet.{ascending};
 ghost use Rattle.bittle.specs.Values.{set_in, ShapeFits};
 
@@ -17,6 +17,18 @@ use bittle_bits::extension::{
 };
 use std::alloc::AllocError;
 use std::marker::PhantomData;
+
+/// Views the indexes that are set in both of two sets.
+pub type AndView<'a, A, B, E, F> = OfBoth<'a, A, B, E, F, Conjunction>;
+
+/// Views the indexes that are set in the first of two sets and unset in the second.
+pub type MinusView<'a, A, B, E, F> = OfBoth<'a, A, B, E, F, Difference>;
+
+/// Views the indexes that are set in either of two sets.
+pub type OrView<'a, A, B, E, F> = OfBoth<'a, A, B, E, F, Union>;
+
+/// Views the indexes that are set in just one of two sets.
+pub type XorView<'a, A, B, E, F> = OfBoth<'a, A, B, E, F, SymmetricDifference>;
 
 /// An operation that makes no index a member that is in neither set.
 pub trait ViewOperation: Operation {
@@ -71,7 +83,7 @@ impl<'a, A: Shape, B: Shape, E: Endian, F: Endian, O: Operation> Shape
 
     ghost indexable = { true };
 
-    ghost big = { λ v. read_in E.mirrored A.width (decided_until O.decide v.end
+    ghost big = { λ v. read_back E.mirrored A.width (decided_until O.decide v.end
         (set_in A.Shape E.Endian v.left.now) (set_in B.Shape F.Endian v.right.now)) };
 
     fn seal(_: Sealed) {}
@@ -161,6 +173,8 @@ impl<'a, A: Bits, B: Bits, E: Endian, F: Endian, O: Operation> OfBoth<'a, A, B, 
             (set_in B.Shape F.Endian right.now) end }
         ensures left { result.left.now ≡ left.now }
         ensures right { result.right.now ≡ right.now }
+        ensures capacity { (⟦<OfBoth<'a, A, B, E, F, O> as Shape>⟧.big result).capacity
+            ≡ end }
         ensures set { set_in ⟦<OfBoth<'a, A, B, E, F, O> as Shape>⟧ E.Endian result
             ≡ decided_until O.decide end (set_in A.Shape E.Endian left.now)
             (set_in B.Shape F.Endian right.now) }
@@ -185,6 +199,8 @@ impl<'a, A: Bits, B: Bits, E: Endian, F: Endian, O: FirstOperation> OfBoth<'a, A
         requires right_fits { ShapeFits B.Shape right.now }
         ensures left { result.left.now ≡ left.now }
         ensures right { result.right.now ≡ right.now }
+        ensures capacity { (⟦<OfBoth<'a, A, B, E, F, O> as Shape>⟧.big result).capacity
+            ≡ (A.big left.now).capacity }
         ensures set { set_in ⟦<OfBoth<'a, A, B, E, F, O> as Shape>⟧ E.Endian result
             ≡ decided_of_first O.decide (set_in A.Shape E.Endian left.now)
             (set_in B.Shape F.Endian right.now) }
@@ -208,6 +224,8 @@ impl<'a, A: Bits, B: Bits, E: Endian, F: Endian, O: ViewOperation> OfBoth<'a, A,
         requires right_fits { ShapeFits B.Shape right.now }
         ensures left { result.left.now ≡ left.now }
         ensures right { result.right.now ≡ right.now }
+        ensures capacity { (⟦<OfBoth<'a, A, B, E, F, O> as Shape>⟧.big result).capacity
+            ≡ max (A.big left.now).capacity (B.big right.now).capacity }
         ensures set { set_in ⟦<OfBoth<'a, A, B, E, F, O> as Shape>⟧ E.Endian result
             ≡ decided_set O.decide (set_in A.Shape E.Endian left.now)
             (set_in B.Shape F.Endian right.now) }
@@ -227,6 +245,9 @@ impl<'a, A: Bits, B: Bits, E: Endian, F: Endian, O: ViewOperation> OfBoth<'a, A,
             (max (A.big left.now).capacity (B.big right.now).capacity) A.width < 4294967295 }
         ensures left { result.left.now ≡ left.now }
         ensures right { result.right.now ≡ right.now }
+        ensures capacity { (⟦<OfBoth<'a, A, B, E, F, O> as Shape>⟧.big result).capacity
+            ≡ rounded_up
+            (max (A.big left.now).capacity (B.big right.now).capacity) A.width }
         ensures set { set_in ⟦<OfBoth<'a, A, B, E, F, O> as Shape>⟧ E.Endian result
             ≡ decided_until O.decide (rounded_up
             (max (A.big left.now).capacity (B.big right.now).capacity) A.width)

@@ -3,7 +3,7 @@
 ghost use Rattle.std.specs.Prelude.{◌≡◌, ◌≤◌, true, ⊤};
 ghost use Rattle.bittle_ext.specs.RangeMembers.{members_within};
 ghost use Rattle.bittle_ext.specs.ViewLaws.{none_past_within};
-ghost use Rattle.bittle.specs.Orders.{read_in};
+ghost use Rattle.bittle_ext.specs.Views.{read_back};
 ghost use Rattle.bittle.specs.Values.{set_in, ShapeFits};
 
 use crate::views::by_words::{is_full, test};
@@ -35,7 +35,7 @@ impl<'a, B: Shape, E: Endian> Shape for Within<'a, B, E> {
 
     ghost indexable = { true };
 
-    ghost big = { λ v. read_in E.mirrored B.width
+    ghost big = { λ v. read_back E.mirrored B.width
         (members_within (set_in B.Shape E.Endian v.set.now) v.from v.to) };
 
     fn seal(_: Sealed) {}
@@ -122,6 +122,10 @@ impl<'a, B: Bits, E: Endian> Within<'a, B, E> {
         requires ordered { from ≤ to }
         requires within { to ≤ (B.big set.now).capacity }
         ensures value { result.set.now ≡ set.now }
+        ensures from { result.from ≡ from }
+        ensures to { result.to ≡ to }
+        ensures capacity { (⟦<Within<'a, B, E> as Shape>⟧.big result).capacity
+            ≡ (B.big set.now).capacity }
         ensures set { set_in ⟦<Within<'a, B, E> as Shape>⟧ E.Endian result
             ≡ members_within (set_in B.Shape E.Endian set.now) from to }
         ensures fits { ShapeFits ⟦<Within<'a, B, E> as Shape>⟧ result }

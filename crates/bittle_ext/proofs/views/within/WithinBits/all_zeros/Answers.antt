@@ -1,8 +1,8 @@
 use Rattle.std.proofs.Common.{◌==◌, sym, ap, ◌∙◌}
 use Rattle.bittle.specs.Values.{set_in}
-use Rattle.bittle_bits.proofs.Sizes.{size-members, size_in_each_order}
+use Rattle.bittle_bits.proofs.Sizes.{size_in_each_order}
 use Rattle.bittle_ext.specs.RangeMembers.{members_within}
-use Rattle.bittle_ext.proofs.ViewFacts.{none_within}
+use Rattle.bittle_ext.proofs.ViewFacts.{none_within, size_read_back}
 use Rattle.bittle_ext.proofs.views.within.WithinBits.all_zeros.Goals as goal
 
 pub returns-clause-value : goal.returns-clause-value
@@ -11,7 +11,7 @@ returns-clause-value g c =
     let s = set_in g.B.Shape g.U.Endian v.set.now in
     let b = g.met.B.ReadWords in
     none_within s v.from v.to c.end_in.result _ c.is_none.ensures v.inside c.end_in.ensures
-    ∙ sym (ap (λ n. n == 0) (size-members g.U.Endian.mirrored g.B.Shape.width
+    ∙ sym (ap (λ n. n == 0) (size_read_back g.U.Endian.mirrored g.B.Shape.width
     (members_within s v.from v.to) b.width_positive (b.whole_words v.set.now)))
 
 pub returns-clause-in_each_order : goal.returns-clause-in_each_order

@@ -1,8 +1,8 @@
 use Rattle.std.proofs.Common.{arith}
 use Rattle.bittle.specs.Values.{set_in}
-use Rattle.bittle_bits.proofs.Sizes.{size-members, size-most, size_in_each_order}
+use Rattle.bittle_bits.proofs.Sizes.{size-most, size_in_each_order}
 use Rattle.bittle_ext.specs.RangeMembers.{members_within}
-use Rattle.bittle_ext.proofs.ViewFacts.{size_within}
+use Rattle.bittle_ext.proofs.ViewFacts.{size_within, size_read_back}
 use Rattle.bittle_ext.proofs.views.within.WithinBits.count_ones.Goals as goal
 
 pub returns-clause-value : goal.returns-clause-value
@@ -14,7 +14,7 @@ returns-clause-value g c =
       arith,
       c.count_ones.ensures,
       size_within s v.from v.to v.ordered v.inside,
-      size-members g.U.Endian.mirrored g.B.Shape.width (members_within s v.from v.to)
+      size_read_back g.U.Endian.mirrored g.B.Shape.width (members_within s v.from v.to)
           b.width_positive (b.whole_words v.set.now),
     )
 

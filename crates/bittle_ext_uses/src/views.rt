@@ -1,0 +1,252 @@
+//! Views of sets, as sets and as what iterators own.
+
+ghost use Rattle.std.specs.Prelude.{◌≡◌, ◌↔◌, ◌==◌, ◌-◌, ◌≤◌, ◌<◌, ◌&&◌, max, length, IsTrue, true};
+ghost use Rattle.bittle.specs.BitPatterns.{bit_set};
+ghost use Rattle.bittle.specs.Comparison.{AreSame};
+ghost use Rattle.bittle.specs.Orders.{read_in};
+ghost use Rattle.bittle.specs.PlainSet.{ascending, complement, contains, members_below, size};
+ghost use Rattle.bittle.specs.Rows.{row_set};
+ghost use Rattle.bittle.specs.Searches.{IsFirstIn};
+ghost use Rattle.bittle.specs.SetOperations.{first_alone};
+ghost use Rattle.bittle.specs.Values.{set_in, ShapeFits};
+ghost use Rattle.bittle_ext.specs.Combined.{both_of, either_of, first_only_of, just_one_of};
+ghost use Rattle.bittle_ext.specs.RangeMembers.{members_within};
+ghost use Rattle.bittle_ext.specs.Runs.{IsFirstRun};
+ghost use Rattle.bittle_ext.specs.Views.{decided_of_first, rounded_up};
+
+use bittle::walk::IntoIterOnes;
+use bittle::{Bits, Endian, LittleEndian, Set, Shape};
+use bittle_ext::views::of_both::AndView;
+use bittle_ext::{BitsExt, BitsViewExt, View};
+
+/// Counts what an iterator over both of two words yields.
+pub fn items_of_words(one: u64, other: u64) -> usize
+    ensures { result ≡ length (ascending (both_of (bit_set 64 one) (bit_set 64 other))) }
+{
+    one.and(&other).iter_ones().count()
+}
+
+/// Counts what an iterator over either of two words yields.
+pub fn items_of_either(one: u64, other: u64) -> usize
+    ensures { result ≡ length (ascending (either_of (bit_set 64 one) (bit_set 64 other))) }
+{
+    one.or(&other).iter_ones().count()
+}
+
+/// Marks the entries of a table at the indexes of both words.
+pub fn mark_common(one: u64, other: u64, table: &mut [bool; 64]) {
+    for index in one.and(&other).iter_ones() {
+        table[index as usize] = true;
+    }
+}
+
+/// Counts what an iterator over both of any two sets yields.
+pub fn items<A: Bits, B: Bits>(left: &A, right: &B) -> usize
+    requires left_fits { ShapeFits A.Shape left.now }
+    requires right_fits { ShapeFits B.Shape right.now }
+    ensures { result ≡ length (ascending (both_of
+        (set_in A.Shape A.Order.Endian left.now) (set_in B.Shape B.Order.Endian right.now))) }
+{
+    left.and(right).iter_ones().count()
+}
+
+/// Counts what an iterator over a byte and a row of longer words, read from the left, yields.
+pub fn items_of_unlike(byte: u8, row: &Set<[u32; 2], LittleEndian>) -> usize
+    ensures { result ≡ length (ascending (both_of (bit_set 8 byte)
+        (read_in true 32 (row_set 2 32 (bit_set 32) row.now.bits)))) }
+{
+    byte.and(row).iter_ones().count()
+}
+
+/// Counts what an iterator over two sets that are read from the left yields.
+pub fn items_of_sets(one: &Set<u64, LittleEndian>, other: &Set<u64, LittleEndian>) -> usize
+    ensures { result ≡ length (ascending (both_of (read_in true 64 (bit_set 64 one.now.bits))
+        (read_in true 64 (bit_set 64 other.now.bits)))) }
+{
+    one.and(other).iter_ones().count()
+}
+
+/// Counts the indexes that are set in the first alone.
+pub fn count_first<A: Bits, B: Bits>(left: &A, right: &B) -> u32
+    requires left_fits { ShapeFits A.Shape left.now }
+    requires right_fits { ShapeFits B.Shape right.now }
+    ensures { result ≡ size (decided_of_first first_alone
+        (set_in A.Shape A.Order.Endian left.now) (set_in B.Shape B.Order.Endian right.now)) }
+{
+    left.minus(right).count_ones()
+}
+
+/// Counts the indexes that are set in just one of two sets of like words.
+pub fn count_different<A: Bits, B: Bits + Shape<LeafWord = A::LeafWord>>(left: &A, right: &B) -> u32
+    requires left_fits { ShapeFits A.Shape left.now }
+    requires right_fits { ShapeFits B.Shape right.now }
+    ensures { result ≡ size (just_one_of
+        (set_in A.Shape A.Order.Endian left.now) (set_in B.Shape B.Order.Endian right.now)) }
+{
+    left.xor(right).count_ones()
+}
+
+/// Counts what an iterator over either of any two sets yields: the greater capacity, rounded up,
+/// has to fit.
+pub fn items_of_any<A: Bits, B: Bits>(left: &A, right: &B) -> usize
+    requires left_fits { ShapeFits A.Shape left.now }
+    requires right_fits { ShapeFits B.Shape right.now }
+    requires rounded { rounded_up (max (A.big left.now).capacity (B.big right.now).capacity) A.width
+        < 4294967295 }
+    ensures { result ≡ length (ascending (either_of
+        (set_in A.Shape A.Order.Endian left.now) (set_in B.Shape B.Order.Endian right.now))) }
+{
+    left.or_unlike(right).iter_ones().count()
+}
+
+/// Counts what an iterator over either of a byte and a row of longer words yields.
+pub fn items_of_either_unlike(byte: u8, row: &[u32; 2]) -> usize
+    ensures { result ≡ length (ascending (either_of (bit_set 8 byte)
+        (row_set 2 32 (bit_set 32) row.now))) }
+{
+    byte.or_unlike(row).iter_ones().count()
+}
+
+/// Returns the first index of both words.
+pub fn first_in_both(one: u64, other: u64) -> Option<u32>
+    ensures { IsFirstIn (both_of (bit_set 64 one) (bit_set 64 other)) 0 64 result }
+{
+    one.and(&other).first_one()
+}
+
+/// Returns the next index of a row that a byte, read from the left, lacks.
+pub fn next_alone(row: &[u32; 2], other: &Set<u8, LittleEndian>, from: u32) -> Option<u32>
+    ensures { IsFirstIn (decided_of_first first_alone (row_set 2 32 (bit_set 32) row.now)
+        (read_in true 8 (bit_set 8 other.now.bits))) from 64 result }
+{
+    row.minus(other).next_one(from)
+}
+
+/// Returns how many indexes of both words lie below one.
+pub fn rank_of_both(one: u64, other: u64, index: u32) -> u32
+    ensures { result ≡ members_below (both_of (bit_set 64 one) (bit_set 64 other)) index }
+{
+    one.and(&other).rank(index)
+}
+
+/// Returns where the first run of a length of unset bits begins.
+pub fn first_free_run(word: u64, length: u32) -> Option<u32>
+    ensures { IsFirstRun (complement (bit_set 64 word)) 0 length result }
+{
+    word.complement_view().first_one_run(length)
+}
+
+/// Returns whether a bit is set in both of two rows. The index wraps.
+pub fn is_in_both(one: &[u32; 4], other: &[u32; 4], index: u32) -> bool
+    ensures { result ≡ contains (both_of (row_set 4 32 (bit_set 32) one.now)
+        (row_set 4 32 (bit_set 32) other.now)) index }
+{
+    one.and(other).test_bit(index)
+}
+
+/// Counts what is in two rows and not in a third, shorter one.
+pub fn count_chain(one: &[u32; 4], other: &[u32; 4], third: &[u32; 2]) -> u32
+    ensures { result ≡ size (first_only_of (both_of (row_set 4 32 (bit_set 32) one.now)
+        (row_set 4 32 (bit_set 32) other.now)) (row_set 2 32 (bit_set 32) third.now)) }
+{
+    one.and(other).minus(third).count_ones()
+}
+
+/// Counts what a byte has and a row of longer words lacks.
+pub fn count_unlike(byte: u8, row: &[u32; 2]) -> u32
+    ensures { result ≡ size (decided_of_first first_alone
+        (bit_set 8 byte) (row_set 2 32 (bit_set 32) row.now)) }
+{
+    byte.minus(row).count_ones()
+}
+
+/// Counts the indexes below 9 of both words.
+pub fn count_low(one: u64, other: u64) -> u32
+    ensures { result ≡ size (members_within (both_of (bit_set 64 one) (bit_set 64 other)) 0 9) }
+{
+    one.and(&other).within(0, 9).count_ones()
+}
+
+/// Returns whether a word lacks nothing below 9 that another one has.
+pub fn covers_low(one: u64, other: u64) -> bool
+    ensures { result ≡ (size (first_only_of (members_within (bit_set 64 one) 0 9)
+        (bit_set 64 other)) == 0) }
+{
+    one.within(0, 9).minus(&other).all_zeros()
+}
+
+/// Counts what an iterator over a range of any set yields.
+pub fn items_in_range<B: Bits>(bits: &B, from: u32, to: u32) -> usize
+    requires fits { ShapeFits B.Shape bits.now }
+    requires ordered { from ≤ to }
+    requires inside { to ≤ (B.big bits.now).capacity }
+    ensures { result ≡ length (ascending (members_within
+        (set_in B.Shape B.Order.Endian bits.now) from to)) }
+{
+    bits.within(from, to).iter_ones().count()
+}
+
+/// Counts what an iterator over the unset bits of a range yields.
+pub fn zeros_in_range(word: u64) -> usize
+    ensures { result ≡ length (ascending (members_within (complement (bit_set 64 word)) 3 50)) }
+{
+    word.complement_view().within(3, 50).iter_ones().count()
+}
+
+/// Returns the next index that a word lacks.
+pub fn next_of_unset(word: u64, from: u32) -> Option<u32>
+    ensures { IsFirstIn (complement (bit_set 64 word)) from 64 result }
+{
+    word.complement_view().next_one(from)
+}
+
+/// Returns whether a word is what two others have in common.
+pub fn is_conjunction(one: u64, other: u64, third: u64) -> bool
+    ensures { IsTrue result ↔ AreSame (bit_set 64 one)
+        (both_of (bit_set 64 other) (bit_set 64 third)) }
+{
+    Set::new(one).eq_bits(&other.and(&third))
+}
+
+/// Adds up the entries of a table at the indexes of both words.
+pub fn sum_joined(one: u64, other: u64, table: &[u32; 64]) -> u64 {
+    let mut total = 0u64;
+    for entry in one.and(&other).join_ones(table.iter()) {
+        total = total.wrapping_add(*entry as u64);
+    }
+    total
+}
+
+/// Adds up the indexes of both of two slices.
+pub fn sum_of_slices<'a>(left: &'a [u64], right: &'a [u64]) -> u64
+    requires left_fits { ShapeFits ⟦<&'a [u64] as Shape>⟧ left }
+    requires right_fits { ShapeFits ⟦<&'a [u64] as Shape>⟧ right }
+{
+    let mut total = 0u64;
+    for index in left.and(&right).iter_ones() {
+        total = total.wrapping_add(index as u64);
+    }
+    total
+}
+
+/// Returns an iterator over both of any two sets, which owns the view.
+pub fn iter_both<'a, A: Bits, B: Bits>(
+    left: &'a A,
+    right: &'a B,
+) -> IntoIterOnes<AndView<'a, A, B, A::Order, B::Order>, A::Order>
+    requires left_fits { ShapeFits A.Shape left.now }
+    requires right_fits { ShapeFits B.Shape right.now }
+    ensures { result.remaining ≡ ascending (both_of
+        (set_in A.Shape A.Order.Endian left.now) (set_in B.Shape B.Order.Endian right.now)) }
+{
+    left.and(right).into_ones()
+}
+
+/// Counts what an iterator over both of two words yields, where a set that is read from the left
+/// wraps the view.
+pub fn items_from_left(one: u64, other: u64) -> usize
+    ensures { result ≡ length (ascending (read_in true 64
+        (both_of (bit_set 64 one) (bit_set 64 other)))) }
+{
+    Set::new_le(one.and(&other)).iter_ones().count()
+}
