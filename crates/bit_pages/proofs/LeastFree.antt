@@ -1,6 +1,6 @@
 -- The least free page, and how a walk over the free pages finds it.
-use Rattle.std.proofs.Common.{◌≡◌, ℕ, zero, suc, ◌+◌, ◌<◌, ◌≤◌, ◌⊎◌, Bool, true, false, not, ◌&&◌, cond, nat_lt, Option, Some, None, inl, inr, refl, sym, ap, ◌∙◌, arith}
-use Rattle.std.proofs.lemmas.Bool.{cases_eq, cases_Bool, cases_lt, lt-ltb, ltb-true, and_parts, true≢false}
+use Rattle.std.proofs.Common.{◌≡◌, ℕ, zero, suc, ◌+◌, ◌<◌, ◌≤◌, ◌⊎◌, Bool, true, false, ◌&&◌, cond, nat_lt, Option, Some, None, inl, inr, refl, sym, ap, ◌∙◌, arith}
+use Rattle.std.proofs.lemmas.Bool.{cases_eq, cases_Bool, cases_lt, lt-ltb, ltb-true, not-true, not-false, and_parts, true≢false}
 use Rattle.std.specs.Prelude.{MatchOption}
 use Rattle.bittle.specs.PlainSet.{PlainSet, complement, contains}
 use Rattle.bittle.specs.Searches.{NoneIn, IsFirstIn}
@@ -81,14 +81,6 @@ one_least s p q a b =
       ]
     ]
 
-free_is : (b : Bool) → not b ≡ true → b ≡ false
-free_is true e = sym e
-free_is false e = refl
-
-taken_is : (b : Bool) → not b ≡ false → b ≡ true
-taken_is true e = refl
-taken_is false e = sym e
-
 -- the first of the free pages is the least one
 pub least_free-first : (s : PlainSet) (p : ℕ) → IsFirstIn (complement s) 0 s.capacity (Some p) →
     least_free s ≡ Some p
@@ -97,8 +89,8 @@ least_free-first s p first = by (least_free s) (least_free-is s)
     found : IsLeastFree s p
     found = record {
       within = first.1;
-      is_free = free_is (s.has p) (sym (complement_within s p first.1) ∙ first.2);
-      taken_below = λ k h. taken_is (s.has k)
+      is_free = not-true (s.has p) (sym (complement_within s p first.1) ∙ first.2);
+      taken_below = λ k h. not-false (s.has k)
           (sym (complement_within s k (omega (arith, first.1))) ∙ first.3 k (omega arith) h);
     }
 
@@ -115,7 +107,7 @@ least_free-none s none = by (least_free s) (least_free-is s)
         (IsLeastFree s) → o ≡ None
     by None all = refl
     by (Some q) least =
-        absurd (true≢false (sym (taken_is (s.has q)
+        absurd (true≢false (sym (not-false (s.has q)
         (sym (complement_within s q least.within) ∙ none q (omega arith) least.within))
         ∙ least.is_free))
 

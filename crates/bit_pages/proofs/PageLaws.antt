@@ -1,6 +1,6 @@
 -- What follows from the page machine for every run.
 use Rattle.std.proofs.Common.{◌≡◌, ℕ, zero, suc, ◌<◌, ◌⊎◌, Bool, true, false, not, cond, ◌&&◌, ◌||◌, ◌==◌, Option, Some, None, List, [], ◌∷◌, inl, inr, refl, sym, ap, ◌∙◌, arith}
-use Rattle.std.proofs.lemmas.Bool.{cases_eq, cases_Bool, eq-eqb, ne_eqb, true≢false}
+use Rattle.std.proofs.lemmas.Bool.{cases_eq, cases_Bool, eq-eqb, ne_eqb, or_right, true≢false}
 use Rattle.std.specs.Prelude.{MatchOption, slice_get}
 use Rattle.bittle.specs.PlainSet.{PlainSet}
 use Rattle.bit_pages.specs.PageLaws.{IsLeastFree}
@@ -65,13 +65,12 @@ stays_taken : (s : PlainSet) (request : Request) (page : ℕ) → IsTaken s page
     ⊎ ((request ≡ GiveBack page) × (answer_to s request ≡ answer.Given))
 stays_taken s Take page t = inl (by (least_free s))
   where
-    more : (b : Bool) → (b || s.has page) ≡ true
-    more true = refl
-    more false = t.is_member
-
     by : (o : Option ℕ) → IsTaken (with_found s o) page
     by None = t
-    by (Some q) = record { within = t.within; is_member = more (page == q) }
+    by (Some q) = record {
+      within = t.within;
+      is_member = or_right (page == q) (s.has page) t.is_member;
+    }
 stays_taken s (GiveBack p) page t = by (cases_eq page p) (cases_Bool (is_taken s p))
   where
     by : (page ≡ p) ⊎ (page ≡ p → ⊥) → (is_taken s p ≡ true) ⊎ (is_taken s p ≡ false) →

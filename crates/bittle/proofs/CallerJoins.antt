@@ -10,7 +10,8 @@ use Rattle.std.proofs.lemmas.List.{drop_all, length-append, length-map, get_or-m
 use Rattle.std.proofs.lemmas.Option.{slice_get-map, slice_get-get_or, slice_get_within, get_or_from_slice_get}
 use Rattle.bittle_bits.specs.Join.{IsJoin, EndsAt, Join, join_steps, AnswersItemsAtMembers, EndsAfterMembers}
 use Rattle.bittle_bits.specs.PlainSet.{PlainSet, ascending}
-use Rattle.bittle.proofs.CallerLists.{ascending_below, ascending_short}
+use Rattle.bittle_bits.proofs.AscendingLists.{ascending-few}
+use Rattle.bittle.proofs.CallerLists.{ascending_below}
 
 -- what a join of a slice gives: the elements at the members of the mask
 module _ {S : Type 0} (rest : S → List ℕ) where
@@ -121,6 +122,6 @@ answers_below rest s now next answers x set count left long clause y e =
       arith,
       one_more rest s now next answers x clause y e,
       ap length left,
-      ascending_short set,
+      ascending-few set,
       long,
     )

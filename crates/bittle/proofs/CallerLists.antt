@@ -45,10 +45,6 @@ pub ascending_below : (s : PlainSet) (k : ℕ) → k < length (ascending s) →
     get_or (ascending s) k 0 < s.capacity
 ascending_below s = (below s).1
 
--- there are at most as many members as the capacity
-pub ascending_short : (s : PlainSet) → length (ascending s) ≤ s.capacity
-ascending_short s = (below s).0
-
 item_passes : (p : ℕ → Bool) (from n k : ℕ) → k < length (ascending_from p from n) →
     p (get_or (ascending_from p from n) k 0) ≡ true
 unfolding ascending_from

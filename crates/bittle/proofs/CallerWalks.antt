@@ -1,18 +1,20 @@
 -- Facts of walks that callers cite: what a walk gives, and its greatest item.
-use Rattle.std.proofs.Common.{◌≡◌, ℕ, List, Option, max, sym, ◌∙◌}
+use Rattle.std.proofs.Common.{◌≡◌, ℕ, List, Option, length, max, sym, ap, ◌∙◌, subst}
 use Rattle.std.specs.Iterator.{PicksByCmp}
 use Rattle.std.specs.List.{reduce}
 use Rattle.std.specs.Ordering.{max_by_ordering, nat_cmp}
 use Rattle.std.proofs.lemmas.Iterator.{YieldsList}
 use Rattle.std.proofs.lemmas.Iterator.Adapters.{option_map_id}
-use Rattle.std.proofs.lemmas.Iterator.Consumers.{max_from_yields_List}
+use Rattle.std.proofs.lemmas.Iterator.Consumers.{YieldsList-from_shown, max_from_yields_List}
 use Rattle.bittle_bits.specs.Walk.{Walk, StepsFront}
-use Rattle.bittle.proofs.WalkYields as walking
 
 -- a walk gives what it has left
 pub walk_yields : (w : Walk) (items : List ℕ) → w.remaining ≡ items →
     YieldsList StepsFront (λ x. x) w items
-walk_yields = walking.steps_yield
+walk_yields w items e =
+    subst (YieldsList StepsFront (λ x. x) w) e
+    (YieldsList-from_shown StepsFront (λ x. x) (λ v. v.remaining) (λ s t h. ap length h.gave.0)
+    (λ s x t h. h.gave) w)
 
 -- the greatest item of a walk, as `max` picks it, is the greatest of what it has left
 pub walk_maximum : (w : Walk) (items : List ℕ) (r : Option ℕ) → w.remaining ≡ items →

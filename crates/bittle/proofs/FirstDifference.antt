@@ -1,7 +1,7 @@
 -- The first difference of two sets of words of one width, read in one order, and what it decides.
 use mathlib.Core.Bool.{beq}
 use Rattle.std.proofs.Common.{◌≡◌, ℕ, ◌<◌, ◌≤◌, ◌⊎◌, ◌↔◌, Bool, true, false, not, IsTrue, inl, inr, Option, Some, None, is_none, is_some, MatchOption, MatchBool, min, refl, sym, ap, ◌∙◌, arith}
-use Rattle.std.proofs.lemmas.Bool.{cases_eq, cases_lt, true≢false}
+use Rattle.std.proofs.lemmas.Bool.{cases_eq, cases_lt, false_from_ne_true, true≢false}
 use Rattle.std.specs.declared.cmp.Ordering.{Ordering}
 use Rattle.std.specs.declared.cmp.Ordering.TheVariants.{Less, Equal, Greater}
 use Rattle.std.specs.Ordering.{MatchOrdering, is_eq}
@@ -197,16 +197,12 @@ module _ (s t : PlainSet) (ends_s : EndsAtCapacity s) (ends_t : EndsAtCapacity t
       o ≡ list_cmp (ascending s) (ascending t)
   cmp_decided o h = both o _ h (list_cmp-precedes s t ends_s ends_t)
 
-  not_true : (b : Bool) → (IsTrue b → ⊥) → false ≡ b
-  not_true true h = absurd (h refl)
-  not_true false h = refl
-
   -- the lists are equal exactly where no index is in just one set
   pub none_equal : (r : Option ℕ) → MatchOption r (AreSame s t) (λ d. IsFirstDifference s t d) →
       is_none r ≡ is_eq (list_cmp (ascending s) (ascending t))
   none_equal None h = ap is_eq (cmp_decided Equal h)
-  none_equal (Some d) h = not_true _ (λ e. differ _ _ h.1
-      ((equal_iff_same s t _ (list_cmp-precedes s t ends_s ends_t)).0 e d))
+  none_equal (Some d) h = sym (false_from_ne_true _ (λ e. differ _ _ h.1
+      ((equal_iff_same s t _ (list_cmp-precedes s t ends_s ends_t)).0 e d)))
 
 -- a test that fails exactly where there is an index holds exactly where there is none
 pub none_is : (r : Option ℕ) (b : Bool) → is_some r ≡ not b → b ≡ is_none r

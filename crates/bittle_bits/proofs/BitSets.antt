@@ -1,5 +1,6 @@
 -- What the operations on words make of their sets.
 use Rattle.std.proofs.Common.{◌≡◌, ℕ, ◌+◌, ◌-◌, suc, ◌*◌, ◌/◌, ◌^◌, ◌<◌, ◌≤◌, ◌⊎◌, Bool, true, false, not, ◌&&◌, ◌||◌, ◌==◌, nat_lt, inl, inr, refl, sym, ap, ◌∙◌, arith, bit_and, bit_or, min, max}
+use Rattle.std.proofs.Math.Bool.{and-true}
 use Rattle.std.proofs.Math.Path.{fun_ext}
 use Rattle.std.specs.Int.{bit_at}
 use Rattle.std.proofs.lemmas.Nat.{pow_pos, pow-add, pow_below, and-not, leading_top, le-div, div_below, shl-shr}
@@ -137,11 +138,7 @@ unfolding lacks
 all_digits w z d none fits is =
     ap (plain_set w) (rw is (bit_has-not w z fits)
     ∙ fun_ext λ k. ap (λ t. nat_lt k w && not (t k)) (bit_has-zero w z none)
-    ∙ true_right (nat_lt k w))
-  where
-    true_right : (t : Bool) → t && true ≡ t
-    true_right true = refl
-    true_right false = refl
+    ∙ and-true (nat_lt k w))
 
 -- a word with all its bits set has each number below the width in each order
 pub full_word : (w d : ℕ) → 0 < w → bit_set w d ≡ full_set w → (m : Bool) →

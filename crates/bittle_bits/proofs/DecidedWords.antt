@@ -1,9 +1,9 @@
 -- What an operation makes of two sets, word by word.
-use Rattle.std.proofs.Common.{◌≡◌, ℕ, ◌+◌, ◌*◌, ◌/◌, ◌<◌, ◌≤◌, Bool, true, false, ◌&&◌, nat_lt, inl, inr, Option, Some, None, MatchOption, IfSome, refl, sym, ap, ◌∙◌, arith}
+use Rattle.std.proofs.Common.{◌≡◌, ℕ, ◌+◌, ◌*◌, ◌/◌, ◌<◌, ◌≤◌, Bool, ◌&&◌, inl, inr, Option, Some, None, MatchOption, refl, sym, ap, ◌∙◌, arith}
 use Rattle.std.proofs.Math.Path.{fun_ext}
 use Rattle.std.proofs.Math.Nat.{div-eq_of_lt, mul-div_left}
 use Rattle.std.proofs.lemmas.Bool.{cases_lt, lt-ltb, le-ltb}
-use Rattle.bittle_bits.specs.BitPatterns.{bit_has, bit_set}
+use Rattle.bittle_bits.specs.BitPatterns.{bit_set}
 use Rattle.bittle_bits.specs.Decided.{has_decided, decided_below, NoneDecidedBelow, IsFirstDecided}
 use Rattle.bittle_bits.specs.Orders.{place, read_in}
 use Rattle.bittle_bits.specs.PlainSet.{PlainSet}

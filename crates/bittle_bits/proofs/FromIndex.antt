@@ -1,5 +1,6 @@
 -- The word whose members are the indexes from one on.
-use Rattle.std.proofs.Common.{◌≡◌, ℕ, ◌-◌, ◌*◌, ◌^◌, ◌<◌, ◌≤◌, ◌⊎◌, Bool, true, false, not, ◌&&◌, ◌||◌, nat_lt, ◌==◌, inl, inr, refl, sym, ap, ◌∙◌, arith, bit_or}
+use Rattle.std.proofs.Common.{◌≡◌, ℕ, ◌-◌, ◌*◌, ◌^◌, ◌<◌, ◌≤◌, ◌⊎◌, true, false, not, ◌&&◌, ◌||◌, nat_lt, ◌==◌, inl, inr, refl, sym, ap, ◌∙◌, arith, bit_or}
+use Rattle.std.proofs.Math.Bool.{and-false, or-true}
 use Rattle.std.proofs.Math.Path.{fun_ext}
 use Rattle.std.specs.Int.{bit_at}
 use Rattle.std.proofs.lemmas.Nat.{pow_pos}
@@ -29,12 +30,8 @@ bit_has-low w i h = fun_ext λ k.
       | inr g ↦
           let zero : bit_at (2 ^ i - 1) k ≡ 0 = bit_at_above (2 ^ i - 1) i k
           (omega (arith, pow_pos i)) g in
-          rw (zero, le-ltb k i g) (and_false (nat_lt k w))
+          rw (zero, le-ltb k i g) (and-false (nat_lt k w))
     ]
-  where
-    and_false : (b : Bool) → b && (0 == 1) ≡ false
-    and_false true = refl
-    and_false false = refl
 
 -- in big-endian order, the word that lacks just the bits below the index
 pub big_from : (w i d e : ℕ) → i < w → d ≡ 2 ^ i - 1 → d < 2 ^ w → e ≡ 2 ^ w - 1 - d →
@@ -60,10 +57,6 @@ little_from w i p d e f h at low one is =
       | inr g ↦ past k g
     ])
   where
-    or_true : (b : Bool) → b || true ≡ true
-    or_true true = refl
-    or_true false = refl
-
     by : (k : ℕ) → k < w → (k < i) ⊎ (i ≤ k) →
         nat_lt (w - 1 - k) p || (w - 1 - k == p) ≡ nat_lt k w && not (nat_lt k i)
     by k l (inl b) =
@@ -76,7 +69,7 @@ little_from w i p d e f h at low one is =
         ) refl
     by k l (inr b) = elim (cases_eq (w - 1 - k) p) [
       | inl z ↦ rw (eq-eqb (w - 1 - k) p z, lt-ltb k w l, le-ltb k i b)
-          (or_true (nat_lt (w - 1 - k) p))
+          (or-true (nat_lt (w - 1 - k) p))
       | inr n ↦ let near : w - 1 - k < p = omega arith in
           rw (lt-ltb (w - 1 - k) p near, lt-ltb k w l, le-ltb k i b) refl
     ]

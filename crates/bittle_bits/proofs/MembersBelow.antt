@@ -1,5 +1,6 @@
 -- How many members of a set lie below a number.
-use Rattle.std.proofs.Common.{◌≡◌, ℕ, ◌+◌, ◌-◌, ◌*◌, ◌<◌, ◌≤◌, Bool, true, false, ◌&&◌, refl, sym, ap, ◌∙◌, arith, inl, inr, bit_and}
+use Rattle.std.proofs.Common.{◌≡◌, ℕ, ◌+◌, ◌-◌, ◌*◌, ◌<◌, ◌≤◌, Bool, false, ◌&&◌, refl, sym, ap, ◌∙◌, arith, inl, inr, bit_and}
+use Rattle.std.proofs.Math.Bool.{and-true}
 use Rattle.std.proofs.lemmas.Bool.{and_right}
 use Rattle.bittle_bits.specs.BitPatterns.{bit_has, bit_set}
 use Rattle.bittle_bits.specs.LawProofs.{one_word}
@@ -47,12 +48,8 @@ count_in_span w p from to h l =
     let inside : count_below d (λ k. q (from + k)) ≡ count_below d (λ k. p (from + k)) =
     count-same d (λ k. q (from + k)) (λ k. p (from + k))
     (λ k b. ap (λ t. p (from + k) && t)
-    (is_in_span-inside from to (from + k) (omega arith) (omega arith)) ∙ keep (p (from + k))) in
+    (is_in_span-inside from to (from + k) (omega arith) (omega arith)) ∙ and-true (p (from + k))) in
     omega (arith, whole, inner, plain, before, after, inside)
-  where
-    keep : (b : Bool) → b && true ≡ b
-    keep true = refl
-    keep false = refl
 
 module _ (m : Bool) (w : ℕ) (s : PlainSet) (word : 0 < w) where
   abbrev t : PlainSet

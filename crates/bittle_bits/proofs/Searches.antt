@@ -1,7 +1,8 @@
 -- A search from an end, the front or the back, for a member between two numbers, word by word.
 use Rattle.std.proofs.Common.{◌≡◌, ℕ, ◌+◌, ◌-◌, ◌*◌, ◌^◌, ◌<◌, ◌≤◌, ◌≢◌, ◌⊎◌, Bool, true, false, not, ◌&&◌, ◌||◌, ◌==◌, cond, nat_lt, inl, inr, Some, None, refl, sym, ap, ◌∙◌, arith, bit_and, bit_or}
+use Rattle.std.proofs.Math.Bool.{and_comm}
 use Rattle.std.proofs.Math.Nat.{mod-eq_of_lt, mul-le-mul_right}
-use Rattle.std.proofs.lemmas.Bool.{cases_lt, cases_eq, eq-eqb, ne_eqb, lt-ltb, le-ltb, ltb-true, ltb-false, and_parts, true≢false}
+use Rattle.std.proofs.lemmas.Bool.{cases_lt, cases_eq, eq-eqb, ne_eqb, lt-ltb, le-ltb, ltb-true, ltb-false, not-true, and_parts, true≢false}
 use Rattle.bittle_bits.specs.BitPatterns.{bit_has, bit_set}
 use Rattle.bittle_bits.specs.Ends.{is_ahead, IsEndIn, IsEndMember}
 use Rattle.bittle_bits.specs.Orders.{place, read_in}
@@ -32,16 +33,6 @@ pub record Searches (front m : Bool) (w : ℕ) (t : PlainSet) (from to p q k d :
 kept_by : (a b : Bool) → a && b ≡ false → a ≡ true → b ≡ false
 kept_by true b h e = h
 kept_by false b h e = absurd (true≢false (sym e))
-
-swapped : (a b : Bool) → a && b ≡ b && a
-swapped true true = refl
-swapped true false = refl
-swapped false true = refl
-swapped false false = refl
-
-is_false : (b : Bool) → not b ≡ true → b ≡ false
-is_false true h = absurd (true≢false (sym h))
-is_false false h = refl
 
 -- a place of a word is below another where its number is
 lt_moved : (base i n : ℕ) → nat_lt i n ≡ nat_lt (base + i) (base + n)
@@ -115,7 +106,7 @@ module _ (ones m : Bool) (w : ℕ) (big : PlainSet) (word : 0 < w)
         seeks = λ n h. ap (λ p. p (place m w n)) (bit_has-and w d e)
             ∙ ap (λ b. b && bit_has w e (place m w n)) (has_at k d n is h)
             ∙ ap (λ b. t.has (k * w + n) && b) (mask n h ∙ at.3 n)
-            ∙ swapped (t.has (k * w + n)) (is_ahead front from to (k * w + n));
+            ∙ and_comm (t.has (k * w + n)) (is_ahead front from to (k * w + n));
       }
     where
       by : (front : Bool) → k ≡ cond front p q → o ≡ cond front i j →
@@ -212,7 +203,7 @@ module _ (ones m : Bool) (w : ℕ) (big : PlainSet) (word : 0 < w)
       let low : r < w = omega (arith, least.within, other) in
       let both = and_parts (not (nat_lt (k * w + r) from)) (t.has (k * w + r))
       (sym (h.seeks r low) ∙ least.is_member low) in (
-        ltb-false (k * w + r) from (is_false (nat_lt (k * w + r) from) both.0),
+        ltb-false (k * w + r) from (not-true (nat_lt (k * w + r) from) both.0),
         omega (arith, at.to, inside),
         both.1,
         none_up_to true k d r h least,

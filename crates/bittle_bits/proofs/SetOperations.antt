@@ -1,5 +1,6 @@
 -- The operations on two sets, in each order.
-use Rattle.std.proofs.Common.{◌≡◌, ℕ, ◌*◌, ◌<◌, ◌≤◌, Bool, true, false, cond, ◌&&◌, nat_lt, refl, sym, ap, ◌∙◌}
+use Rattle.std.proofs.Common.{◌≡◌, ℕ, ◌*◌, ◌<◌, ◌≤◌, Bool, cond, ◌&&◌, nat_lt, refl, sym, ap, ◌∙◌}
+use Rattle.std.proofs.Math.Bool.{and-false}
 use Rattle.std.proofs.Math.Path.{fun_ext}
 use Rattle.std.proofs.lemmas.Bool.{lt-ltb, le-ltb}
 use Rattle.bittle_bits.specs.Orders.{place, read_in}
@@ -18,11 +19,7 @@ combination-below f s t k h l = rw (lt-ltb k s.capacity h, lt-ltb k t.capacity l
 pub combination-past : (f : Bool → Bool → Bool) (s t : PlainSet) (k : ℕ) → t.capacity ≤ k →
     combination_has f s t k ≡ s.has k
 unfolding combination_has
-combination-past f s t k h = rw (le-ltb k t.capacity h) (by (nat_lt k s.capacity))
-  where
-    by : (b : Bool) → cond (b && false) (f (s.has k) (t.has k)) (s.has k) ≡ s.has k
-    by true = refl
-    by false = refl
+combination-past f s t k h = rw (le-ltb k t.capacity h, and-false (nat_lt k s.capacity)) refl
 
 -- a number from the first set's capacity on stays as it was
 pub combination-outside : (f : Bool → Bool → Bool) (s t : PlainSet) (k : ℕ) → s.capacity ≤ k →

@@ -1,5 +1,6 @@
 -- Sets after a change of each index of a span, and words of spans.
 use Rattle.std.proofs.Common.{◌≡◌, ℕ, ◌+◌, ◌-◌, ◌%◌, ◌^◌, ◌<◌, ◌≤◌, ◌⊎◌, Bool, true, false, not, ◌&&◌, ◌||◌, ◌==◌, nat_lt, nat_le, inl, inr, refl, sym, ap, ◌∙◌, arith, bit_and}
+use Rattle.std.proofs.Math.Bool.{and-true}
 use Rattle.std.proofs.Math.Path.{fun_ext}
 use Rattle.std.proofs.lemmas.Bool.{cases_eq, cases_lt, eq-eqb, ne_eqb, lt-ltb, le-ltb, le-leb, lt-leb, and_right}
 use Rattle.bittle_bits.specs.BitPatterns.{bit_set}
@@ -162,12 +163,8 @@ module _ (m : Bool) (w : ℕ) (word : 0 < w) where
   span_to_width from d is =
       is ∙ ap (plain_set w) (fun_ext λ k. elim (cases_lt k from) [
         | inl c ↦ rw (lt-ltb k from c, lt-leb from k c) (and_right (nat_lt k w) false refl)
-        | inr c ↦ rw (le-ltb k from c, le-leb from k c) (and_right_true (nat_lt k w))
+        | inr c ↦ rw (le-ltb k from c, le-leb from k c) (and-true (nat_lt k w))
       ])
-    where
-      and_right_true : (b : Bool) → b && true ≡ b
-      and_right_true true = refl
-      and_right_true false = refl
 
   -- a word combined with the word of a span has the set with the span changed
   pub word_changed : (f : Bool → Bool → Bool) → ((b : Bool) → f b false ≡ b) →

@@ -1,5 +1,6 @@
 -- The calls on one index of a word, by a mask whose one member it is.
 use Rattle.std.proofs.Common.{◌≡◌, ℕ, ◌-◌, ◌%◌, ◌^◌, ◌<◌, Bool, true, false, not, ◌&&◌, ◌||◌, ◌==◌, nat_lt, ◌⊎◌, inl, inr, refl, sym, ap, ◌∙◌, arith, bit_and, bit_or}
+use Rattle.std.proofs.Math.Bool.{and-true, or-false, or_comm}
 use Rattle.std.proofs.Math.Path.{fun_ext}
 use Rattle.std.proofs.Math.Nat.{mod-eq_of_lt}
 use Rattle.std.proofs.lemmas.Nat.{mod_below}
@@ -11,17 +12,13 @@ use Rattle.bittle_bits.proofs.BitSets.{bit_has-and, bit_has-or, bit_has-not, bit
 use Rattle.bittle_bits.proofs.PlaceLemmas.{place_eq, place_in_word, place-place, mirror_in_word}
 use Rattle.bittle_bits.proofs.PlainSets.{plain_set, contains_in, has_with-in, with_in, without_in}
 
-or_false : (b : Bool) → b || false ≡ b
-or_false true = refl
-or_false false = refl
-
 -- the word whose one set bit is at the index's place
 pub mask_set : (m : Bool) (w i d : ℕ) → 0 < w → d ≡ 2 ^ place m w (i % w) →
     read_in m w (bit_set w d) ≡ with_index (empty_set w) i
 mask_set m w i d h is =
     rw is (ap (plain_set w) (ap (λ p k. p (place m w k))
     (bit_has-pow w (place m w (i % w)) (place_in_word m w (i % w) (mod_below i w h)))
-    ∙ fun_ext λ k. place_eq m w k (i % w) h ∙ sym (or_false (k == i % w)))
+    ∙ fun_ext λ k. place_eq m w k (i % w) h ∙ sym (or-false (k == i % w)))
     ∙ sym (with_in (empty_set w) w i refl h))
 
 -- in little-endian order the mask's bit is at the mirrored place of the index
@@ -35,24 +32,18 @@ module _ (m : Bool) (w d e i : ℕ) (h : 0 < w)
   -- the mask's one member
   mask_has : ◌≡◌ {A = ℕ → Bool} (λ k. bit_has w e (place m w k)) (λ k. k == i % w)
   mask_has = ap (λ s. s.has) one ∙ has_with-in (empty_set w) w i refl h
-      ∙ fun_ext λ k. or_false (k == i % w)
+      ∙ fun_ext λ k. or-false (k == i % w)
 
   -- the mask has a bit set at the place of the index, and at no other
   pub at_mask : (k : ℕ) → bit_has w e (place m w k) ≡ (k == i % w)
   at_mask k = ap (λ p. p k) mask_has
-
-  swapped : (a b : Bool) → a || b ≡ b || a
-  swapped true true = refl
-  swapped true false = refl
-  swapped false true = refl
-  swapped false false = refl
 
   -- the or with the mask sets the index
   pub word_set : read_in m w (bit_set w (bit_or d e)) ≡ with_index (read_in m w (bit_set w d)) i
   word_set =
       ap (plain_set w) (ap (λ p k. p (place m w k)) (bit_has-or w d e)
       ∙ fun_ext λ k. ap (λ b. bit_has w d (place m w k) || b) (at_mask k)
-      ∙ swapped (bit_has w d (place m w k)) (k == i % w))
+      ∙ or_comm (bit_has w d (place m w k)) (k == i % w))
       ∙ sym (with_in (read_in m w (bit_set w d)) w i refl h)
 
   outside : (t x u : Bool) → (t && x) && (t && not u) ≡ not u && (t && x)
@@ -81,13 +72,9 @@ module _ (m : Bool) (w d e i : ℕ) (h : 0 < w)
   shared k = ap (λ p. p (place m w k)) (bit_has-and w d e)
       ∙ ap (λ b. bit_has w d (place m w k) && b) (at_mask k)
 
-  and_true : (b : Bool) → b && true ≡ b
-  and_true true = refl
-  and_true false = refl
-
   here : bit_has w (bit_and d e) (place m w (i % w)) ≡ bit_has w d (place m w (i % w))
   here = shared (i % w) ∙ ap (λ b. bit_has w d (place m w (i % w)) && b)
-      (eq-eqb (i % w) (i % w) refl) ∙ and_true _
+      (eq-eqb (i % w) (i % w) refl) ∙ and-true _
 
   -- the and with the mask is not 0 exactly where the index is a member
   pub word_tested : bit_and d e < 2 ^ w →

@@ -6,7 +6,7 @@ use Rattle.bittle_bits.proofs.PlainSets.{members-past}
 use Rattle.bittle.specs.Comparison.{AreSame, Precedes}
 use Rattle.bittle.proofs.FirstDifference.{cmp_decided}
 use Rattle.bittle.proofs.ListComparison.{EndsAtCapacity, list_cmp-precedes}
-use Rattle.bittle.proofs.WalkYields.{steps_yield}
+use Rattle.bittle.proofs.CallerWalks.{walk_yields}
 use Rattle.bittle.proofs.set.compare.compare.Given.{Over}
 use Rattle.bittle.proofs.set.compare.compare.Goals.{Start}
 use Rattle.bittle.proofs.set.compare.compare.Goals as goal
@@ -40,8 +40,8 @@ returns-then-are_alike-clause-value g c =
 pub returns-else-are_alike-clause-value : goal.returns-else-are_alike-clause-value
 returns-else-are_alike-clause-value g c =
     cmp_from_yields_List (λ x y. y ≡ x) _ nat_cmp _ c.cmp.ensures.ran
-    (steps_yield c.iter_ones_in.result _ c.iter_ones_in.ensures.remaining)
-    (λ it e. steps_yield it _ (ap (λ w. w.remaining) e ∙ c.iter_ones_in-else-are_alike.ensures.remaining))
+    (walk_yields c.iter_ones_in.result _ c.iter_ones_in.ensures.remaining)
+    (λ it e. walk_yields it _ (ap (λ w. w.remaining) e ∙ c.iter_ones_in-else-are_alike.ensures.remaining))
     (λ x y. refl)
 
 pub returns-else-are_alike-clause-decided : goal.returns-else-are_alike-clause-decided

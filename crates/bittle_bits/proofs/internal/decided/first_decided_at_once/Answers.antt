@@ -1,4 +1,4 @@
-use Rattle.std.proofs.Common.{◌≡◌, ◌*◌, ◌≤◌, MatchOption, subst, ◌∙◌, arith}
+use Rattle.std.proofs.Common.{◌*◌, MatchOption, subst}
 use Rattle.bittle_bits.specs.Decided.{NoneDecidedBelow, IsFirstDecided}
 use Rattle.bittle_bits.specs.LawProofs.{whole_lesser}
 use Rattle.bittle_bits.specs.Orders.{read_in}

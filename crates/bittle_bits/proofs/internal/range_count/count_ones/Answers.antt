@@ -1,4 +1,4 @@
-use Rattle.std.proofs.Common.{◌≡◌, ◌+◌, ◌*◌, ◌∙◌, arith}
+use Rattle.std.proofs.Common.{◌≡◌, ◌+◌, ◌*◌, arith}
 use Rattle.bittle_bits.specs.Orders.{read_in}
 use Rattle.bittle_bits.proofs.MembersBelow.{below_at_most}
 use Rattle.bittle_bits.proofs.internal.range_count.count_ones.Goals as goal
