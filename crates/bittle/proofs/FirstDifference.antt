@@ -1,7 +1,7 @@
 -- The first difference of two sets of words of one width, read in one order, and what it decides.
 use mathlib.Core.Bool.{beq}
 use Rattle.std.proofs.Common.{◌≡◌, ℕ, ◌<◌, ◌≤◌, ◌⊎◌, ◌↔◌, Bool, true, false, not, IsTrue, inl, inr, Option, Some, None, is_none, is_some, MatchOption, MatchBool, min, refl, sym, ap, ◌∙◌, arith}
-use Rattle.std.proofs.lemmas.Bool.{cases_eq, cases_lt, false_from_ne_true, true≢false}
+use Rattle.std.proofs.lemmas.Bool.{cases_eq, cases_lt, not-true, false_from_ne_true, true≢false}
 use Rattle.std.specs.declared.cmp.Ordering.{Ordering}
 use Rattle.std.specs.declared.cmp.Ordering.TheVariants.{Less, Equal, Greater}
 use Rattle.std.specs.Ordering.{MatchOrdering, is_eq}
@@ -9,7 +9,7 @@ use Rattle.bittle_bits.specs.Decided.{NoneDecidedBelow, IsFirstDecided}
 use Rattle.bittle_bits.specs.PlainSet.{PlainSet, ascending}
 use Rattle.bittle_bits.specs.Searches.{IsFirstIn}
 use Rattle.bittle_bits.specs.SetOperations.{just_one}
-use Rattle.bittle.specs.Comparison.{list_cmp, AreSame, AreSameBelow, GoesOn, HasPast, HasNonePast, Precedes, IsFirstDifference}
+use Rattle.bittle.specs.Comparison.{list_cmp, AreSame, AreSameBelow, GoesOn, HasPast, HasNonePast, Precedes, IsFirstDifference, IsDifference}
 use Rattle.bittle.proofs.ListComparison.{EndsAtCapacity, list_cmp-precedes, equal_iff_same, not_both}
 
 alike : (a b : Bool) → just_one a b ≡ false → a ≡ b
@@ -23,33 +23,32 @@ alike false false h = refl
 -- a first number that is in just one is the first difference, whatever lies past it
 pub some_among : (s t : PlainSet) (n : ℕ) (r : Option ℕ) → is_some r ≡ true →
     MatchOption r (NoneDecidedBelow just_one s t n) (IsFirstDecided just_one s t) →
-    MatchOption r (AreSame s t) (λ d. IsFirstDifference s t d)
+    IsDifference s t r
 some_among s t n None e h = absurd (true≢false (sym e))
-some_among s t n (Some d) e h = ((λ i l. alike _ _ (h.0 i l)), h.1)
+some_among s t n (Some d) e h = h
 
--- a search that finds none says that the two are the same as far as it went
+-- a search that finds none says that none is in just one as far as it went
 pub none_among : (s t : PlainSet) (n : ℕ) (r : Option ℕ) → is_some r ≡ false →
     MatchOption r (NoneDecidedBelow just_one s t n) (IsFirstDecided just_one s t) →
-    AreSameBelow s t n
-none_among s t n None e h = λ i l. alike _ _ (h i l)
+    NoneDecidedBelow just_one s t n
+none_among s t n None e h = h
 none_among s t n (Some d) e h = absurd (true≢false e)
 
 -- ---- past the words of one side
 
 -- the first set has none from a number on, and the second one ends at another
-past_first : (s t : PlainSet) (from to : ℕ) (r : Option ℕ) → AreSameBelow s t from →
+past_first : (s t : PlainSet) (from to : ℕ) (r : Option ℕ) → NoneDecidedBelow just_one s t from →
     ((i : ℕ) → from ≤ i → s.has i ≡ false) → ((i : ℕ) → to ≤ i → t.has i ≡ false) →
-    IsFirstIn t from to r → MatchOption r (AreSame s t) (λ d. IsFirstDifference s t d)
+    IsFirstIn t from to r → IsDifference s t r
 past_first s t from to None same none past h = λ i.
     elim (cases_lt i from) [
-      | inl l ↦ same i l
+      | inl l ↦ alike _ _ (same i l)
       | inr g ↦ none i g ∙ sym (elim (cases_lt i to) [ inl b ↦ h i g b | inr q ↦ past i q ])
     ]
-past_first s t from to (Some d) same none past
-    h = (
-      (λ i p. elim (cases_lt i from) [ inl l ↦ same i l | inr g ↦ none i g ∙ sym (h.3 i g p) ]),
-      rw (none d h.0, h.2) refl,
-    )
+past_first s t from to (Some d) same none past h = (
+  (λ i p. elim (cases_lt i from) [ inl l ↦ same i l | inr g ↦ rw (none i g) (h.3 i g p) ]),
+  rw (none d h.0) h.2,
+)
 
 turned : (a b : Bool) → just_one a b ≡ just_one b a
 turned true true = refl
@@ -58,42 +57,42 @@ turned false true = refl
 turned false false = refl
 
 -- the second set has none from a number on, and the first one ends at another
-past_second : (s t : PlainSet) (from to : ℕ) (r : Option ℕ) → AreSameBelow s t from →
+past_second : (s t : PlainSet) (from to : ℕ) (r : Option ℕ) → NoneDecidedBelow just_one s t from →
     ((i : ℕ) → from ≤ i → t.has i ≡ false) → ((i : ℕ) → to ≤ i → s.has i ≡ false) →
-    IsFirstIn s from to r → MatchOption r (AreSame s t) (λ d. IsFirstDifference s t d)
-past_second s t from to r same none past h = back r
-    (past_first t s from to r (λ i p. sym (same i p)) none past h)
+    IsFirstIn s from to r → IsDifference s t r
+past_second s t from to r same none past h =
+    back r (past_first t s from to r (λ i p. turned (t.has i) (s.has i) ∙ same i p) none past h)
   where
-    back : (r : Option ℕ) → MatchOption r (AreSame t s) (λ d. IsFirstDifference t s d) →
-        MatchOption r (AreSame s t) (λ d. IsFirstDifference s t d)
+    back : (r : Option ℕ) → IsDifference t s r → IsDifference s t r
     back None e = λ i. sym (e i)
-    back (Some d) e = ((λ i p. sym (e.0 i p)), turned (s.has d) (t.has d) ∙ e.1)
+    back (Some d) e = (
+      (λ i p. turned (s.has i) (t.has i) ∙ e.0 i p),
+      turned (s.has d) (t.has d) ∙ e.1,
+    )
 
--- two sets that are the same as far as both go, each with no member past its capacity
+-- two sets of which none is in just one as far as both go, each with no member past its capacity
 pub record AreAlikeInCommon (s t : PlainSet) : Type 0 where
   pub first : EndsAtCapacity s
   pub second : EndsAtCapacity t
-  pub same : AreSameBelow s t (min s.capacity t.capacity)
+  pub same : NoneDecidedBelow just_one s t (min s.capacity t.capacity)
 
 module _ (s t : PlainSet) (both : AreAlikeInCommon s t) where
   -- just the second goes on
   pub first_ends : s.capacity < t.capacity → (r : Option ℕ) →
-      IsFirstIn t s.capacity t.capacity r →
-      MatchOption r (AreSame s t) (λ d. IsFirstDifference s t d)
+      IsFirstIn t s.capacity t.capacity r → IsDifference s t r
   first_ends h r found = past_first s t s.capacity t.capacity r
       (λ i l. both.same i (omega (arith, h))) both.first both.second found
 
   -- just the first goes on
   pub second_ends : t.capacity < s.capacity → (r : Option ℕ) →
-      IsFirstIn s t.capacity s.capacity r →
-      MatchOption r (AreSame s t) (λ d. IsFirstDifference s t d)
+      IsFirstIn s t.capacity s.capacity r → IsDifference s t r
   second_ends h r found = past_second s t t.capacity s.capacity r
       (λ i l. both.same i (omega (arith, h))) both.second both.first found
 
   -- neither goes on
   pub both_end : s.capacity ≡ t.capacity → AreSame s t
   both_end e i = elim (cases_lt i s.capacity) [
-    | inl l ↦ both.same i (omega (arith, e))
+    | inl l ↦ alike _ _ (both.same i (omega (arith, e)))
     | inr g ↦ both.first i g ∙ sym (both.second i (omega (arith, e)))
   ]
 
@@ -118,38 +117,25 @@ differ true false h e = true≢false e
 differ false true h e = true≢false (sym e)
 differ false false h e = true≢false (sym h)
 
-first_only : (a b : Bool) → just_one a b ≡ true → a ≡ true → b ≡ false
-first_only true true h e = sym h
-first_only true false h e = refl
-first_only false b h e = absurd (true≢false (sym e))
-
-second_only : (a b : Bool) → just_one a b ≡ true → a ≡ false → b ≡ true
-second_only false b h e = h
-second_only true b h e = absurd (true≢false e)
-
 -- the first index in just one, by the side that has it
 module _ (s t : PlainSet) (d : ℕ) (at : IsFirstDifference s t d) where
+  same : AreSameBelow s t d
+  same i l = alike _ _ (at.0 i l)
+
   -- the side that has it comes first exactly where the other goes on past it
   pub before : (ours goes_on : Bool) → ours ≡ s.has d → GoesOn ours s t d goes_on →
       beq ours goes_on ≡ true → Precedes s t
-  before true true a p e = (d, at.0, inl (sym a, first_only _ _ at.1 (sym a), p))
-  before false false a p e = (d, at.0, inr (sym a, second_only _ _ at.1 (sym a), p))
+  before true true a p e = (d, same, inl (sym a, not-true _ (rw (← a) at at.1), p))
+  before false false a p e = (d, same, inr (sym a, rw (← a) at at.1, p))
   before true false a p e = absurd (true≢false (sym e))
   before false true a p e = absurd (true≢false (sym e))
 
   -- and the other side exactly where it does not
   pub after : (ours goes_on : Bool) → ours ≡ s.has d → GoesOn ours s t d goes_on →
       beq ours goes_on ≡ false → Precedes t s
-  after true false a p e = (
-    d,
-    (λ i l. sym (at.0 i l)),
-    inr (first_only _ _ at.1 (sym a), sym a, p),
-  )
-  after false true a p e = (
-    d,
-    (λ i l. sym (at.0 i l)),
-    inl (second_only _ _ at.1 (sym a), sym a, p),
-  )
+  after true false a p e =
+      (d, (λ i l. sym (same i l)), inr (not-true _ (rw (← a) at at.1), sym a, p))
+  after false true a p e = (d, (λ i l. sym (same i l)), inl (rw (← a) at at.1, sym a, p))
   after true true a p e = absurd (true≢false e)
   after false false a p e = absurd (true≢false e)
 
@@ -198,7 +184,7 @@ module _ (s t : PlainSet) (ends_s : EndsAtCapacity s) (ends_t : EndsAtCapacity t
   cmp_decided o h = both o _ h (list_cmp-precedes s t ends_s ends_t)
 
   -- the lists are equal exactly where no index is in just one set
-  pub none_equal : (r : Option ℕ) → MatchOption r (AreSame s t) (λ d. IsFirstDifference s t d) →
+  pub none_equal : (r : Option ℕ) → IsDifference s t r →
       is_none r ≡ is_eq (list_cmp (ascending s) (ascending t))
   none_equal None h = ap is_eq (cmp_decided Equal h)
   none_equal (Some d) h = sym (false_from_ne_true _ (λ e. differ _ _ h.1
@@ -210,7 +196,7 @@ none_is r true e = sym (ap not e)
 none_is r false e = sym (ap not e)
 
 -- there is no such index exactly where the two are the same
-pub none_decides : (s t : PlainSet) (r : Option ℕ) →
-    MatchOption r (AreSame s t) (λ d. IsFirstDifference s t d) → IsTrue (is_none r) ↔ AreSame s t
+pub none_decides : (s t : PlainSet) (r : Option ℕ) → IsDifference s t r →
+    IsTrue (is_none r) ↔ AreSame s t
 none_decides s t None h = (λ x. h, λ y. refl)
 none_decides s t (Some d) h = (λ x. absurd (true≢false (sym x)), λ y. absurd (differ _ _ h.1 (y d)))

@@ -1,13 +1,15 @@
 -- How two sets compare, and what a hasher is fed of one: by their increasing lists of members.
-use Rattle.std.specs.Prelude.{◌≡◌, ℕ, ◌<◌, ◌⊎◌, Bool, true, false, cond, MatchBool, nat_eq, List, ◌++◌, length}
+use Rattle.std.specs.Prelude.{◌≡◌, ℕ, ◌<◌, ◌⊎◌, Bool, true, false, cond, MatchBool, MatchOption, nat_eq, Option, List, ◌++◌, length}
 use Rattle.std.specs.Cmp.Lexicographic.{slice_cmp, pointwise}
 use Rattle.std.specs.Hash as fed
 use Rattle.std.specs.List.{flat_map}
 use Rattle.std.specs.Ordering.{nat_cmp}
 use Rattle.std.specs.declared.cmp.Ordering.{Ordering}
+use Rattle.bittle_bits.specs.Decided.{IsFirstDecided}
 use Rattle.bittle_bits.specs.PlainSet.{PlainSet}
 use Rattle.bittle_bits.specs.SetOperations.{just_one}
-use Rattle.bittle_bits.specs.Values.{ShapeFits}
+use Rattle.bittle_bits.specs.Values.{set_in, ShapeFits}
+use Rattle.bittle_bits.specs.declared.endian.Endian as endian
 use Rattle.bittle_bits.specs.declared.shape.Shape as shape
 
 -- the order of two increasing lists, by their first items that differ
@@ -37,7 +39,16 @@ pub record AreCompared {V W X Y : Type 0} (a : shape.Ghosts V W) (b : shape.Ghos
 
 -- d is the least number that is in just one
 abbrev pub IsFirstDifference : PlainSet → PlainSet → ℕ → Type 0
-IsFirstDifference s t d = AreSameBelow s t d × (just_one (s.has d) (t.has d) ≡ true)
+IsFirstDifference = IsFirstDecided just_one
+
+-- r is that number, or `None` where the two have the same members
+abbrev pub IsDifference : PlainSet → PlainSet → Option ℕ → Type 0
+IsDifference s t r = MatchOption r (AreSame s t) (IsFirstDifference s t)
+
+-- the same of the sets of two values, read in one order
+abbrev pub IsDifferenceOf : {V W X Y E : Type 0} → shape.Ghosts V W → shape.Ghosts X Y →
+    endian.Ghosts E → V → X → Option ℕ → Type 0
+IsDifferenceOf a b e left right r = IsDifference (set_in a e left) (set_in b e right) r
 
 -- a member lies past the number
 abbrev pub HasPast : PlainSet → ℕ → Type 0

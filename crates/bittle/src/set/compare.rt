@@ -4,10 +4,10 @@
 ghost use Rattle.std.specs.Cmp.{partial_equiv_from_equiv, partial_order_from_agreeing_total, on_equiv, on_total};
 ghost use Rattle.std.specs.Cmp.Lexicographic.{nat_list_eq_equiv, nat_list_cmp_total, texts_ties};
 ghost use Rattle.std.specs.Ordering.{MatchOrdering, on, as_partial_cmp};
-ghost use Rattle.std.specs.Prelude.{◌≡◌, ◌↔◌, false, not, IsTrue, MatchBool, MatchOption, refl};
+ghost use Rattle.std.specs.Prelude.{◌≡◌, ◌↔◌, false, not, IsTrue, MatchBool, refl};
 ghost use Rattle.bittle_bits.specs.PlainSet.{ascending};
 ghost use Rattle.bittle_bits.specs.Values.{set_in, ShapeFits};
-ghost use Rattle.bittle.specs.Comparison.{list_cmp, list_eq, AreCompared, AreSame, GoesOn, HasPast, HasNonePast, IsFirstDifference, Precedes};
+ghost use Rattle.bittle.specs.Comparison.{list_cmp, list_eq, AreCompared, AreSame, GoesOn, HasPast, HasNonePast, IsDifferenceOf, Precedes};
 
 use super::Set;
 use bittle_bits::bits::Bits;
@@ -35,9 +35,7 @@ fn difference_by_words<A: Bits, B: Bits, E: Endian>(
     other: u32,
 ) -> Option<u32>
     requires { AreCompared A.Shape B.Shape left.now right.now capacity other }
-    ensures { let ours = set_in A.Shape E.Endian left.now in
-        let theirs = set_in B.Shape E.Endian right.now in
-        MatchOption result (AreSame ours theirs) (λ d. IsFirstDifference ours theirs d) }
+    ensures { IsDifferenceOf A.Shape B.Shape E.Endian left.now right.now result }
 {
     let common = capacity.min(other);
     let difference = first_decided_below::<A, B, E, SymmetricDifference>(left, right, common);
@@ -64,9 +62,7 @@ fn difference_out_of_line<A: Bits, B: Bits, E: Endian>(
     other: u32,
 ) -> Option<u32>
     requires { AreCompared A.Shape B.Shape left.now right.now capacity other }
-    ensures { let ours = set_in A.Shape E.Endian left.now in
-        let theirs = set_in B.Shape E.Endian right.now in
-        MatchOption result (AreSame ours theirs) (λ d. IsFirstDifference ours theirs d) }
+    ensures { IsDifferenceOf A.Shape B.Shape E.Endian left.now right.now result }
 {
     difference_by_words::<A, B, E>(left, right, capacity, other)
 }
@@ -81,9 +77,7 @@ fn first_difference<A: Bits, B: Bits, E: Endian>(
     other: u32,
 ) -> Option<u32>
     requires { AreCompared A.Shape B.Shape left.now right.now capacity other }
-    ensures { let ours = set_in A.Shape E.Endian left.now in
-        let theirs = set_in B.Shape E.Endian right.now in
-        MatchOption result (AreSame ours theirs) (λ d. IsFirstDifference ours theirs d) }
+    ensures { IsDifferenceOf A.Shape B.Shape E.Endian left.now right.now result }
 {
     if A::is_fixed() {
         return difference_by_words::<A, B, E>(left, right, capacity, other);

@@ -1,10 +1,10 @@
-use Rattle.std.proofs.Common.{sym, ap, subst, ◌∙◌, ◌↔◌, IsTrue, MatchOption}
+use Rattle.std.proofs.Common.{sym, ap, subst, ◌∙◌, ◌↔◌, IsTrue}
 use Rattle.std.specs.Cmp.Lexicographic.{texts_ties}
 use Rattle.std.specs.Ordering.{is_eq}
 use Rattle.bittle_bits.specs.PlainSet.{ascending}
 use Rattle.bittle_bits.specs.Values.{set_in, set_mirrored}
 use Rattle.bittle_bits.proofs.PlainSets.{members-past}
-use Rattle.bittle.specs.Comparison.{AreSame, IsFirstDifference}
+use Rattle.bittle.specs.Comparison.{AreSame, IsDifference}
 use Rattle.bittle.proofs.FirstDifference.{none_is, none_equal, none_decides}
 use Rattle.bittle.proofs.ListComparison.{equal_iff_same}
 use Rattle.bittle.proofs.set.compare.are_equal.Given.{Over}
@@ -13,13 +13,11 @@ use Rattle.bittle.proofs.set.compare.are_equal.Goals as goal
 
 -- the first difference, with each side read in its own order
 difference : (g : Over) (c : After-first_difference g) →
-    let ours = set_in g.A.Shape g.E.Endian c.args.left.now in
-    let theirs = set_in g.B.Shape g.F.Endian c.args.right.now in
-    MatchOption c.first_difference.result (AreSame ours theirs) (IsFirstDifference ours theirs)
+    IsDifference (set_in g.A.Shape g.E.Endian c.args.left.now)
+    (set_in g.B.Shape g.F.Endian c.args.right.now) c.first_difference.result
 difference g c =
-    let ours = set_in g.A.Shape g.E.Endian c.args.left.now in
-    subst (λ m. let theirs = set_mirrored g.B.Shape m c.args.right.now in
-    MatchOption c.first_difference.result (AreSame ours theirs) (IsFirstDifference ours theirs))
+    subst (λ m. IsDifference (set_in g.A.Shape g.E.Endian c.args.left.now)
+    (set_mirrored g.B.Shape m c.args.right.now) c.first_difference.result)
     (c.are_alike.ensures c.if-are_alike.true).1 c.first_difference.ensures
 
 pub returns-then-are_alike-clause-value : goal.returns-then-are_alike-clause-value
