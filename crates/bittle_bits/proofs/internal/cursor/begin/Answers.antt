@@ -37,7 +37,14 @@ pub returns-clause-starts : goal.returns-clause-starts
 returns-clause-starts g c =
     let start = none g (goal.at.returns-clause-starts g c).After-new in
     rw c.load.ensures (walk_start_on _ _ _ _ _ start (fetched _ _ _ true _ _ start.counted
-    (omega arith) (rw c.none.ensures refl) refl refl (omega arith) refl refl) refl
+    (omega arith) (record {
+      none = rw c.none.ensures refl;
+      items = refl;
+      other = refl;
+      scans = omega arith;
+      counts = refl;
+      fetches = refl;
+    })) refl
     (omega (arith, ap (λ h. h.fetches) c.none.ensures)))
 
 pub returns-clause-below : goal.returns-clause-below

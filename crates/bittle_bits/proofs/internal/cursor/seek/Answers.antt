@@ -1,7 +1,7 @@
 use Rattle.std.proofs.Common.{◌/◌, ◌<◌, arith}
 use Rattle.bittle_bits.specs.Values.{set_in}
 use Rattle.bittle_bits.specs.Walk.{ones_or_zeros}
-use Rattle.bittle_bits.proofs.Steps.{passed_over, refilled, seeks_on}
+use Rattle.bittle_bits.proofs.Steps.{fetched, filled, passed_over, seeks_on}
 use Rattle.bittle_bits.proofs.internal.cursor.seek.Goals as goal
 
 pub returns-then-refill-clause-sought : goal.returns-then-refill-clause-sought
@@ -12,9 +12,10 @@ returns-then-refill-clause-sought g c =
     let some : c.loop-at.at.low < c.loop-at.at.high =
     omega (arith, before.1.ordered, c.if-at.false) in
     let taken = c.take_word-k.ensures in
-    rw taken.taken (seeks_on _ _ _ before.0 (refilled s words g.B.Shape.width g.N.End.FRONT
-    c.loop-at.at c.refill.new.self c.refill.result before.1 some before.2
-    (rw (taken.taken, taken.number) at c.refill.ensures)).0)
+    rw taken.taken (seeks_on _ _ _ before.0 (fetched s g.B.Shape.width words g.N.End.FRONT
+    c.loop-at.at c.refill.new.self before.1 some (filled _ c.loop-at.at.buffers c.refill.new.self
+    g.N.End.FRONT c.refill.result before.2
+    (rw (taken.taken, taken.number) at c.refill.ensures))).0)
 
 pub loop-at-preserved : goal.loop-at-preserved
 loop-at-preserved g c =
@@ -25,11 +26,12 @@ loop-at-preserved g c =
     omega (arith, before.1.ordered, c.if-at.false) in
     let taken = c.take_word-k.ensures in
     let fills = (rw (taken.taken, taken.number) at c.refill.ensures) in
-    let after = refilled s words g.B.Shape.width g.N.End.FRONT c.loop-at.at c.refill.new.self
-    c.refill.result before.1 some before.2 fills in
+    let after = fetched s g.B.Shape.width words g.N.End.FRONT c.loop-at.at c.refill.new.self
+    before.1 some (filled _ c.loop-at.at.buffers c.refill.new.self g.N.End.FRONT c.refill.result
+    before.2 fills) in
     rw taken.taken (
       seeks_on _ _ _ before.0 after.0,
       after.1,
-      passed_over g.N.End.FRONT c.refill.result _ c.loop-at.at.buffers c.refill.new.self before.2
+      passed_over _ c.loop-at.at.buffers c.refill.new.self g.N.End.FRONT c.refill.result before.2
           fills c.if-refill.false,
     )

@@ -10,10 +10,17 @@ returns-then-is_some-2-clause-steps g c =
     let words = (g.B.Shape.big c.args.source.now.set.now).capacity / g.B.Shape.width in
     let seek = c.if-seek.ensures in
     let scan = c.scan_across-found.ensures in
-    steps_on g.N.End.FRONT _ _ _ _ seek.sought (across s words g.B.Shape.width g.N.End.FRONT
-    c.seek.new.at c.scan_across-found.new.self _ _ seek.counted seek.told.1 seek.told.0 scan.found
-    scan.scans scan.other scan.fetches (c.raise-then-is_some-2.ensures
-    ∙ counts_on _ _ (sym c.is_some-2.ensures ∙ c.if-is_some-2.true))).0
+    steps_on g.N.End.FRONT _ _ _ _ seek.sought (across g.N.End.FRONT c.seek.new.at
+    c.scan_across-found.new.self _ s words g.B.Shape.width _ seek.counted (record {
+      none_between = seek.told.1;
+      none_loaded = seek.told.0;
+      found = scan.found;
+      scans = scan.scans;
+      other = scan.other;
+      fetches = scan.fetches;
+      items = c.raise-then-is_some-2.ensures
+          ∙ counts_on _ _ (sym c.is_some-2.ensures ∙ c.if-is_some-2.true);
+    }))
 
 pub returns-else-is_some-2-clause-steps : goal.returns-else-is_some-2-clause-steps
 returns-else-is_some-2-clause-steps g c =
@@ -21,7 +28,13 @@ returns-else-is_some-2-clause-steps g c =
     let words = (g.B.Shape.big c.args.source.now.set.now).capacity / g.B.Shape.width in
     let seek = c.if-seek.ensures in
     let scan = c.scan_across-found.ensures in
-    steps_on g.N.End.FRONT _ _ _ _ seek.sought (across s words g.B.Shape.width g.N.End.FRONT
-    c.seek.new.at c.scan_across-found.new.self _ _ seek.counted seek.told.1 seek.told.0 scan.found
-    scan.scans scan.other scan.fetches
-    (counts_none _ _ (sym c.is_some-2.ensures ∙ c.if-is_some-2.false))).0
+    steps_on g.N.End.FRONT _ _ _ _ seek.sought (across g.N.End.FRONT c.seek.new.at
+    c.scan_across-found.new.self _ s words g.B.Shape.width _ seek.counted (record {
+      none_between = seek.told.1;
+      none_loaded = seek.told.0;
+      found = scan.found;
+      scans = scan.scans;
+      other = scan.other;
+      fetches = scan.fetches;
+      items = counts_none _ _ (sym c.is_some-2.ensures ∙ c.if-is_some-2.false);
+    }))
