@@ -15,6 +15,6 @@ pub use crate::one_word::{pop, range, set_bit, test_bit};
 pub use crate::operation::{
     Conjunction, Difference, Operation, RangeOperation, SymmetricDifference, Union,
 };
-pub use crate::read_words::{ReadWords, word_width};
+pub use crate::read_words::{ReadWords, are_alike, word_width};
 pub use crate::walk::Counted;
 pub use crate::word::Word;

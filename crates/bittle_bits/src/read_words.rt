@@ -1,10 +1,11 @@
 //! Reading a set word by word: all that a search, a count or an iterator asks of it.
 
-ghost use Rattle.std.specs.Prelude.{◌≡◌, ℕ, ◌*◌, ◌<◌, ◌≤◌, false};
+ghost use Rattle.std.specs.Prelude.{◌≡◌, ℕ, ◌*◌, ◌<◌, ◌≤◌, false, IsTrue};
 ghost use Rattle.bittle_bits.specs.BitPatterns.{bit_set};
 ghost use Rattle.bittle_bits.specs.Values.{ShapeFits};
 ghost use Rattle.bittle_bits.specs.Words.{word_of};
 
+use crate::endian::Endian;
 use crate::shape::Shape;
 use crate::word::Word;
 
@@ -57,4 +58,13 @@ pub fn word_width<B: ReadWords>() -> u32
     ensures { result ≡ B.width }
 {
     <B::LeafWord as Word>::width()
+}
+
+/// Returns whether two sets are read by words of one width in one order.
+#[doc(hidden)]
+#[inline]
+pub fn are_alike<A: ReadWords, B: ReadWords, E: Endian, F: Endian>() -> bool
+    ensures { IsTrue result → (A.width ≡ B.width) × (E.mirrored ≡ F.mirrored) }
+{
+    word_width::<A>() == word_width::<B>() && E::is_mirrored() == F::is_mirrored()
 }

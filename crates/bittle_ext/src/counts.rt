@@ -8,9 +8,8 @@ ghost use Rattle.bittle.specs.Values.{set_in, ShapeFits};
 
 use crate::both_words::word_of_both;
 use crate::capacities::capacity_of;
-use crate::relations::are_alike;
 use bittle::{Bits, Endian};
-use bittle_bits::extension::{Conjunction, Word};
+use bittle_bits::extension::{Conjunction, Word, are_alike};
 
 /// Counts the indexes of word `k` that are set in both.
 #[inline]

@@ -6,9 +6,8 @@ ghost use Rattle.bittle_bits.specs.Words.{word_of};
 ghost use Rattle.bittle.specs.Orders.{read_in};
 ghost use Rattle.bittle.specs.Values.{set_in, ShapeFits};
 
-use crate::relations::are_alike;
 use bittle::{Bits, Endian};
-use bittle_bits::extension::{Word, set_bit};
+use bittle_bits::extension::{Word, are_alike, set_bit};
 
 /// Returns word `k` of a set, or an empty word from its capacity on.
 #[inline]

@@ -1,7 +1,7 @@
 //! How two sets stand to each other: word by word where their words have one width and are read in
 //! one order, else by searches in turns, each from where the other one stopped.
 
-ghost use Rattle.std.specs.Prelude.{◌≡◌, min, not, IsTrue, MatchOption};
+ghost use Rattle.std.specs.Prelude.{◌≡◌, min, not, MatchOption};
 ghost use Rattle.bittle_ext.specs.SetRelations.{IsSubset, AreDisjoint, AgreesBelow};
 ghost use Rattle.bittle_ext.specs.SetRelations.{IsFirstWhere, IsFirstAlone, IsFirstCommon};
 ghost use Rattle.bittle.specs.Values.{set_in, ShapeFits};
@@ -9,17 +9,8 @@ ghost use Rattle.bittle.specs.Values.{set_in, ShapeFits};
 use crate::capacities::capacity_of;
 use bittle::{Bits, Endian};
 use bittle_bits::extension::{
-    Conjunction, Difference, Front, Kind, Ones, Word, Zeros, end_in, first_decided_below,
+    Conjunction, Difference, Front, Kind, Ones, Zeros, are_alike, end_in, first_decided_below,
 };
-
-/// Returns whether two sets are read by words of one width in one order.
-#[inline]
-pub fn are_alike<A: Bits, B: Bits, E: Endian, F: Endian>() -> bool
-    ensures { IsTrue result → (A.width ≡ B.width) × (E.mirrored ≡ F.mirrored) }
-{
-    <A::LeafWord as Word>::width() == <B::LeafWord as Word>::width()
-        && E::is_mirrored() == F::is_mirrored()
-}
 
 /// Returns the least index below both capacities that is set in the first and of the kind in the
 /// second, or `None`.

@@ -23,10 +23,12 @@ ghost use Rattle.bittle.specs.Walk.{AreBelow, IsFresh};
 use crate::views::complement::Complement;
 use crate::views::in_order::InOrder;
 use crate::views::in_order_mut::InOrderMut;
-use crate::views::of_both::{OfBoth, AndView, MinusView, OrView, XorView};
+use crate::views::of_both::{AndView, MinusView, OfBoth, OrView, XorView};
 use crate::views::within::Within;
 use bittle::{Bits, BitsMut, Endian, Shape};
-use bittle_bits::extension::{Conjunction, Difference, Operation, OwnedSource, SymmetricDifference, Union};
+use bittle_bits::extension::{
+    Conjunction, Difference, Operation, OwnedSource, SymmetricDifference, Union,
+};
 use bittle_bits::walk::{IntoIter, IntoIterOnes, IntoIterZeros};
 
 mod by_words;

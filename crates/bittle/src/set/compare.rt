@@ -13,17 +13,10 @@ use super::Set;
 use bittle_bits::bits::Bits;
 use bittle_bits::endian::Endian;
 use bittle_bits::extension::{
-    SymmetricDifference, first_decided_at_once, first_decided_below, test_bit, word_width,
+    SymmetricDifference, are_alike, first_decided_at_once, first_decided_below, test_bit,
+    word_width,
 };
 use std::cmp::Ordering;
-
-// Whether two sets are read by words of one width in one order.
-#[inline]
-fn are_alike<A: Bits, B: Bits, E: Endian, F: Endian>() -> bool
-    ensures { IsTrue result → (A.width ≡ B.width) × (E.mirrored ≡ F.mirrored) }
-{
-    word_width::<A>() == word_width::<B>() && E::is_mirrored() == F::is_mirrored()
-}
 
 // Returns the least index that is in just one of two sets, or `None` where they have the same
 // members. `capacity` is that of the left one, and `other` that of the right one.
