@@ -1,5 +1,5 @@
 -- The first member in whole words of a set.
-use Rattle.std.proofs.Common.{◌≡◌, ℕ, ◌+◌, ◌-◌, ◌*◌, ◌^◌, ◌<◌, ◌≤◌, Bool, false, inl, inr, Option, Some, None, sym, ap, ◌∙◌, arith, bit_or}
+use Rattle.std.proofs.Common.{◌≡◌, ℕ, ◌+◌, ◌-◌, ◌*◌, ◌^◌, ◌<◌, ◌≤◌, Bool, false, inl, inr, Some, sym, ap, ◌∙◌, arith, bit_or}
 use Rattle.std.proofs.lemmas.Bool.{cases_lt, true≢false}
 use Rattle.std.proofs.lemmas.Nat.{le_or_l, le_or_r}
 use Rattle.std.proofs.Math.Nat.{mul-le-mul_right}
@@ -73,21 +73,3 @@ each_is_zero a b c d ab cd all one two both none =
       omega (arith, second, two, le_or_l c d),
       omega (arith, second, two, le_or_r c d),
     )
-
--- where none lies before a number, the first from there on is the first of all
-pub first_after : (s : PlainSet) (from to : ℕ) (r : Option ℕ) → NoneIn s 0 from → from ≤ to →
-    IsFirstIn s from to r → IsFirstIn s 0 to r
-first_after s from to None before order none = λ i z l.
-    elim (cases_lt i from) [ inl b ↦ before i z b | inr g ↦ none i g l ]
-first_after s from to (Some d) before order first = (
-  omega arith,
-  first.1,
-  first.2,
-  λ i z l. elim (cases_lt i from) [ inl b ↦ before i z b | inr g ↦ first.3 i g l ],
-)
-
--- a member that is the first below a number is the first below a greater one
-pub first_further : (s : PlainSet) (from to end d : ℕ) → to ≤ end → IsFirstIn s from to (Some d) →
-    IsFirstIn s from end (Some d)
-first_further s from to end d further first =
-    (first.0, omega (arith, first.1, further), first.2, first.3)

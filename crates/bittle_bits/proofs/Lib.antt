@@ -10,7 +10,6 @@ pub mod Halves
 pub mod PlaceLemmas
 pub mod PlainSets
 pub mod IteratorRuns
-pub mod SignedBits
 pub mod Sizes
 pub mod Spans
 pub mod OnesOrZeros

@@ -13,22 +13,21 @@ use Rattle.bittle_bits.specs.declared.internal.cursor.Cursor.{Cursor}
 use Rattle.bittle_bits.proofs.Items.{members_between-split, members_between-empty}
 
 -- scans that yielded nothing, and others after them, are together scans that yielded nothing
-pub seeks_on : (u v w : Walk) → Seeks u v → Seeks v w → Seeks u w
-seeks_on u v w a b = record {
+pub seeks_on : {u v w : Walk} → Seeks u v → Seeks v w → Seeks u w
+seeks_on a b = record {
   remaining = b.remaining ∙ a.remaining;
   items = b.items ∙ a.items;
   scans = le_trans a.scans b.scans;
   fetches = le_trans a.fetches b.fetches;
-  unread = b.unread
-      ∙ a.unread;
+  unread = b.unread ∙ a.unread;
   words = b.words ∙ a.words;
 }
 
 -- a step after scans that yielded nothing
-pub steps_on : (front : Bool) (u v w : Walk) (r : Option ℕ) → Seeks u v →
+pub steps_on : {u v w : Walk} {r : Option ℕ} (front : Bool) → Seeks u v →
     Steps (YieldsFrom front (λ w. w.remaining)) v r w →
     Steps (YieldsFrom front (λ w. w.remaining)) u r w
-steps_on front u v w r a b = record {
+steps_on {w} {r} front a b = record {
   gave = subst (λ xs. YieldsFrom front (λ (ys : List ℕ). ys) xs r w.remaining) a.remaining b.gave;
   items = b.items ∙ ap (λ n. count_after n r) a.items;
   scans = le_trans a.scans b.scans;
@@ -193,7 +192,7 @@ module _ (xs : List ℕ) (b c : BufferPair) where
   once_more false f = omega (arith, f.counts, ap buffer_count f.none, ap buffer_count f.other)
 
 -- the next word between is fetched for an end
-module _ {B E W : Type 0} (s : PlainSet) (w : ℕ) where
+module _ {B E W : Type 0} (s : PlainSet) (words w : ℕ) where
   abbrev next_number : Bool → Cursor B E W → ℕ
   next_number front t = cond front t.low (t.high - 1)
 
@@ -238,11 +237,11 @@ module _ {B E W : Type 0} (s : PlainSet) (w : ℕ) where
       (omega arith)) ∙ sym (append-nil (members_between s (t.low * w) ((t.high - 1) * w + w)))))
 
   -- so the walk yielded nothing by it, and counts as before
-  pub fetched : (words : ℕ) (front : Bool) (t : Cursor B E W) (c : BufferPair) →
+  pub fetched : (front : Bool) (t : Cursor B E W) (c : BufferPair) →
       IsCounted words t → t.low < t.high → Fetches front (next_members front t) t.buffers c →
       let u = after_next front t c in
       Seeks (walk_of s words w t) (walk_of s words w u) × IsCounted words u
-  fetched words front t c counted some f =
+  fetched front t c counted some f =
       let between = one_less front t c some in
       let counts = once_more (next_members front t) t.buffers c front f in (
         record {

@@ -12,7 +12,7 @@ returns-then-refill-clause-sought g c =
     let some : c.loop-at.at.low < c.loop-at.at.high =
     omega (arith, before.1.ordered, c.if-at.false) in
     let taken = c.take_word-k.ensures in
-    rw taken.taken (seeks_on _ _ _ before.0 (fetched s g.B.Shape.width words g.N.End.FRONT
+    rw taken.taken (seeks_on before.0 (fetched s words g.B.Shape.width g.N.End.FRONT
     c.loop-at.at c.refill.new.self before.1 some (filled _ c.loop-at.at.buffers c.refill.new.self
     g.N.End.FRONT c.refill.result before.2
     (rw (taken.taken, taken.number) at c.refill.ensures))).0)
@@ -26,11 +26,11 @@ loop-at-preserved g c =
     omega (arith, before.1.ordered, c.if-at.false) in
     let taken = c.take_word-k.ensures in
     let fills = (rw (taken.taken, taken.number) at c.refill.ensures) in
-    let after = fetched s g.B.Shape.width words g.N.End.FRONT c.loop-at.at c.refill.new.self
+    let after = fetched s words g.B.Shape.width g.N.End.FRONT c.loop-at.at c.refill.new.self
     before.1 some (filled _ c.loop-at.at.buffers c.refill.new.self g.N.End.FRONT c.refill.result
     before.2 fills) in
     rw taken.taken (
-      seeks_on _ _ _ before.0 after.0,
+      seeks_on before.0 after.0,
       after.1,
       passed_over _ c.loop-at.at.buffers c.refill.new.self g.N.End.FRONT c.refill.result before.2
           fills c.if-refill.false,

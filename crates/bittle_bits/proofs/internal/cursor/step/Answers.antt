@@ -10,7 +10,7 @@ returns-then-is_some-2-clause-steps g c =
     let words = (g.B.Shape.big c.args.source.now.set.now).capacity / g.B.Shape.width in
     let seek = c.if-seek.ensures in
     let scan = c.scan_across-found.ensures in
-    steps_on g.N.End.FRONT _ _ _ _ seek.sought (across g.N.End.FRONT c.seek.new.at
+    steps_on g.N.End.FRONT seek.sought (across g.N.End.FRONT c.seek.new.at
     c.scan_across-found.new.self _ s words g.B.Shape.width _ seek.counted (record {
       none_between = seek.told.1;
       none_loaded = seek.told.0;
@@ -28,7 +28,7 @@ returns-else-is_some-2-clause-steps g c =
     let words = (g.B.Shape.big c.args.source.now.set.now).capacity / g.B.Shape.width in
     let seek = c.if-seek.ensures in
     let scan = c.scan_across-found.ensures in
-    steps_on g.N.End.FRONT _ _ _ _ seek.sought (across g.N.End.FRONT c.seek.new.at
+    steps_on g.N.End.FRONT seek.sought (across g.N.End.FRONT c.seek.new.at
     c.scan_across-found.new.self _ s words g.B.Shape.width _ seek.counted (record {
       none_between = seek.told.1;
       none_loaded = seek.told.0;
