@@ -16,7 +16,8 @@ use bittle_bits::extension::{Ones, Zeros};
 ///
 /// Of each shape the capacity, and that of each array type within it, has to be below `u32::MAX`,
 /// as `bits_capacity() < u32::MAX` tells. No index wraps here: past the capacity no bit is set and
-/// none is unset. With capacity 0 nothing is found.
+/// none is unset. With capacity 0 nothing is found. The order is that of the type; a view that
+/// [`in_order`](crate::BitsViewExt::in_order) borrows has another one.
 pub trait BitsExt: Bits {
     /// Returns the least index of a set bit, in the order of the type, or `None` if there is
     /// none. Words are read from the first word on, up to the answer.

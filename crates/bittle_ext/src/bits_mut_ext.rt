@@ -18,7 +18,9 @@ use crate::one_bit;
 use bittle::{BigEndian, BitsMut};
 use bittle_bits::extension::{Difference, SymmetricDifference, Union};
 
-/// Everyday changes of any set that can be changed. No change alters the capacity.
+/// Everyday changes of any set that can be changed. No change alters the capacity. The order is that
+/// of the type; a view that [`in_order_mut`](crate::BitsMutViewExt::in_order_mut) lends has another
+/// one.
 pub trait BitsMutExt: BitsMut {
     /// Sets the bit at `index`, in the order of the type, and returns `true` if it was unset. An
     /// index past the capacity wraps. With capacity 0 nothing changes, and it returns `true`.

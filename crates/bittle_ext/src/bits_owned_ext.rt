@@ -13,7 +13,8 @@ use crate::bits_mut_ext::BitsMutExt;
 use crate::rotations::{rotate_down, rotate_up, shift_down, shift_up};
 use bittle::BitsOwned;
 
-/// Sets made of one set, of a list of indexes or of an iterator. The type has to fit.
+/// Sets made of one set, of a list of indexes or of an iterator. The type has to fit. The order is
+/// that of the type; a `Set` remembers another one, as in `Set::new_le(word).rotated_up(1)`.
 pub trait BitsOwnedExt: BitsOwned {
     /// Returns the set of the bits that are unset, the same in both orders. With capacity 0 it
     /// returns the same set. Each word is read once.

@@ -140,7 +140,8 @@ fn step<B: Bits, E: Endian, K: Kind, N: End>(bits: &B, from: &mut u32, to: &mut 
 
 /// Iterators over a range of a set, and over its longest runs of neighbours.
 ///
-/// The shape has to fit. Of a range `from <= to <= capacity`: nothing wraps.
+/// The shape has to fit. Of a range `from <= to <= capacity`: nothing wraps. The order is that of the
+/// type; a view that [`in_order`](crate::BitsViewExt::in_order) borrows has another one.
 pub trait BitsRangeExt: Bits {
     /// Returns an iterator over the indexes of the set bits in `from..to`, in the order of the
     /// type, increasing, from both ends.

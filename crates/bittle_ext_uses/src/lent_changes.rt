@@ -1,14 +1,16 @@
 //! Changes of slices that a caller lends.
 
-ghost use Rattle.std.specs.Prelude.{◌≡◌, ◌*◌, ◌<◌, ◌≤◌, length, not, MatchOption};
+ghost use Rattle.std.specs.Prelude.{◌≡◌, ◌*◌, ◌<◌, ◌≤◌, length, not, true, IsTrue, MatchOption};
 ghost use Rattle.bittle.specs.BitPatterns.{bit_set};
+ghost use Rattle.bittle.specs.Orders.{read_in};
 ghost use Rattle.bittle.specs.PlainSet.{complement, contains, with_index, without_index};
 ghost use Rattle.bittle.specs.PlainSet.{with_span, without_span};
 ghost use Rattle.bittle.specs.Rows.{row_set};
 ghost use Rattle.bittle.specs.Searches.{IsFirstIn};
+ghost use Rattle.bittle.specs.Values.{set_in};
 
-use bittle::Set;
-use bittle_ext::BitsMutExt;
+use bittle::{BitsMut, Endian, LittleEndian, Set};
+use bittle_ext::{BitsMutExt, BitsMutViewExt};
 
 /// Sets the bits of a range.
 pub fn fill(words: &mut [u64], from: u32, to: u32)
@@ -69,4 +71,42 @@ pub fn flip(words: &mut [u8])
 {
     let mut set = Set::from_mut(words);
     set.complement_assign();
+}
+
+/// Sets a bit of any set in an order, and returns whether it was unset.
+pub fn add_in<B: BitsMut, E: Endian>(set: &mut B, index: u32) -> bool
+    requires { IsTrue B.indexable }
+    ensures was_unset { result ≡ not (contains (set_in B.Shape E.Endian set.old) index) }
+    ensures set { set_in B.Shape E.Endian set.new
+        ≡ with_index (set_in B.Shape E.Endian set.old) index }
+    ensures stays { B.loan set.old ≡ B.loan set.new }
+{
+    set.in_order_mut::<E>().insert(index)
+}
+
+/// Sets a bit of a slice of any length from the left, and returns whether it was unset: what a view
+/// changed is in the caller's slice.
+pub fn add_le(words: &mut [u64], index: u32) -> bool
+    ensures was_unset { result ≡ not (contains (read_in true 64
+        (row_set (length words.old) 64 (bit_set 64) words.old)) index) }
+    ensures set { read_in true 64 (row_set (length words.new) 64 (bit_set 64) words.new)
+        ≡ with_index (read_in true 64 (row_set (length words.old) 64 (bit_set 64) words.old))
+        index }
+{
+    let mut held = (words,);
+    let lent = &mut held;
+    add_in::<_, LittleEndian>(&mut lent.0, index)
+}
+
+/// Clears the bits of a range in any order.
+pub fn clear_in<E: Endian>(words: &mut [u64], from: u32, to: u32)
+    requires fits { length words.old * 64 < 4294967295 }
+    requires ordered { from ≤ to }
+    requires within { to ≤ length words.old * 64 }
+    ensures { read_in E.mirrored 64 (row_set (length words.new) 64 (bit_set 64) words.new)
+        ≡ without_span (read_in E.mirrored 64
+        (row_set (length words.old) 64 (bit_set 64) words.old)) from to }
+{
+    let mut set = Set::<&mut [u64], E>::new_in(words);
+    set.clear_range(from, to);
 }
