@@ -1,9 +1,10 @@
 -- The members of a set between two numbers, and the items of a buffered word, as lists.
-use Rattle.std.proofs.Common.{◌≡◌, ℕ, ◌+◌, ◌-◌, ◌*◌, ◌<◌, ◌≤◌, Bool, [], ◌++◌, refl, sym, arith}
+use Rattle.std.proofs.Common.{◌≡◌, ℕ, ◌+◌, ◌-◌, ◌*◌, ◌<◌, ◌≤◌, Bool, [], ◌++◌, append-nil, refl, sym, ap, ◌∙◌, arith}
 use Rattle.bittle_bits.specs.Buffers.{members_between, items_of}
 use Rattle.bittle_bits.specs.BitPatterns.{bit_set}
 use Rattle.bittle_bits.specs.Orders.{read_in}
 use Rattle.bittle_bits.specs.PlainSet.{PlainSet, ascending}
+use Rattle.bittle_bits.specs.Searches.{NoneIn}
 use Rattle.bittle_bits.specs.Words.{word_of}
 use Rattle.bittle_bits.proofs.AscendingLists.{ascending_from-add, ascending_from-none, ascending_from-moved}
 use Rattle.bittle_bits.proofs.Words.{digit_at}
@@ -20,11 +21,27 @@ pub members_between-empty : (s : PlainSet) (a : ℕ) → members_between s a a �
 unfolding members_between
 members_between-empty s a = ascending_from-none s.has a (a - a) (λ k lo hi. absurd (omega arith))
 
+-- none lies where no number is a member
+pub members_between-none : (s : PlainSet) (a b : ℕ) → NoneIn s a b → members_between s a b ≡ []
+unfolding members_between
+members_between-none s a b none =
+    ascending_from-none s.has a (b - a) (λ k lo hi. none k lo (omega arith))
+
 -- those between 0 and the capacity are all members
 pub members_between-all : (s : PlainSet) (a c : ℕ) → a ≡ 0 → c ≡ s.capacity →
     members_between s a c ≡ ascending s
 unfolding members_between
 members_between-all s a c none is = let e : c - a ≡ s.capacity = omega arith in rw (e, none) refl
+
+-- those between two numbers are all members, where none lies before the one or from the other on
+pub members_between-inner : (s : PlainSet) (a b c : ℕ) → a ≤ b → b ≤ c → c ≡ s.capacity →
+    NoneIn s 0 a → NoneIn s b c → members_between s a b ≡ ascending s
+members_between-inner s a b c lo hi is before after =
+    sym (append-nil _) ∙ ap (λ xs. members_between s a b ++ xs) (sym (members_between-none s b c after))
+    ∙ sym (members_between-split s a b c lo hi)
+    ∙ ap (λ xs. xs ++ members_between s a c) (sym (members_between-none s 0 a before))
+    ∙ sym (members_between-split s 0 a c (omega arith) (omega arith))
+    ∙ members_between-all s 0 c refl is
 
 -- the items of word k are the members of the set from k * w on
 pub items_of-word : (m : Bool) (w k : ℕ) (s : PlainSet) (d : ℕ) → 0 < w →

@@ -3,12 +3,14 @@ use Rattle.std.proofs.Common.{◌≡◌, ℕ, ◌+◌, ◌-◌, ◌*◌, ◌^◌
 use Rattle.std.proofs.Math.Path.{fun_ext}
 use Rattle.std.proofs.lemmas.Bool.{cases_lt, lt-ltb, le-ltb}
 use Rattle.bittle_bits.specs.BitPatterns.{bit_has, bit_set}
-use Rattle.bittle_bits.specs.Orders.{read_in}
+use Rattle.bittle_bits.specs.Orders.{place, read_in}
 use Rattle.bittle_bits.specs.PlainSet.{PlainSet, ascending, complement, lacks}
+use Rattle.bittle_bits.specs.Searches.{NoneIn}
 use Rattle.bittle_bits.specs.Walk.{ones_or_zeros, AreBelow}
 use Rattle.bittle_bits.specs.Words.{word_has, word_of}
 use Rattle.bittle_bits.proofs.AscendingLists.{are_below}
 use Rattle.bittle_bits.proofs.BitSets.{bit_has-not}
+use Rattle.bittle_bits.proofs.PlaceLemmas.{place_below, place_past}
 use Rattle.bittle_bits.proofs.PlainSets.{plain_set, complement-members}
 
 -- a set and its complement have one capacity
@@ -45,3 +47,11 @@ ones_or_zeros-word_of false w k s within =
       | inl l ↦ rw (lt-ltb i w l, lt-ltb (k * w + i) s.capacity (omega arith)) refl
       | inr g ↦ rw (le-ltb i w g) refl
     ])
+
+-- where words have no bit of the kind, they have none in each order
+pub none_in_order : (ones m : Bool) (w a b : ℕ) (s : PlainSet) → 0 < w →
+    (words : ℕ) × (s.capacity ≡ words * w) → NoneIn (ones_or_zeros ones s) (a * w) (b * w) →
+    NoneIn (ones_or_zeros ones (read_in m w s)) (a * w) (b * w)
+none_in_order ones m w a b s word whole none = λ k lo hi.
+    ap (λ t. t.has k) (ones_or_zeros-members ones m w s word whole)
+    ∙ none (place m w k) (place_past m w a k word lo) (place_below m w b k word hi)

@@ -1,32 +1,36 @@
 -- Where a walk begins: with no word loaded, and with one more than another start.
 use Rattle.std.proofs.Common.{◌≡◌, ℕ, ◌*◌, ◌/◌, ◌<◌, ◌≤◌, None, refl, sym, ap, ◌∙◌, arith, append-nil}
-use Rattle.std.proofs.Math.Nat.{mul-div_left, zero-mul}
+use Rattle.std.proofs.Math.Nat.{mul-div_left, mul-le-mul_right, zero-mul}
 use Rattle.bittle_bits.specs.Buffers.{BufferPair}
 use Rattle.bittle_bits.specs.PlainSet.{PlainSet}
 use Rattle.bittle_bits.specs.Cursor.{items_left_in, walk_of, IsCounted, IsWalkStart}
 use Rattle.bittle_bits.specs.declared.internal.cursor.Cursor.{Cursor}
-use Rattle.bittle_bits.proofs.Items.{members_between-all}
+use Rattle.bittle_bits.specs.Searches.{NoneIn}
+use Rattle.bittle_bits.proofs.Items.{members_between-inner}
 use Rattle.bittle_bits.proofs.IteratorRuns.{is_fresh}
 use Rattle.bittle_bits.specs.Walk.{Seeks}
 
 module _ {B E W : Type 0} (s : PlainSet) (words w : ℕ) where
-  -- with no word loaded
-  pub walk_start : (c high i : ℕ) (h : BufferPair) → 0 < w → s.capacity ≡ c → (n : ℕ) × (c ≡ n * w) →
-      words ≡ c / w → h ≡ record { head = None; tail = None; scans = 0; fetches = 0 } →
-      high ≡ words → i ≡ 0 →
-      let t : Cursor B E W = record { buffers = h; low = 0; high = high; items = i } in
+  -- with no word loaded, where the words before and after have no member
+  pub walk_start : (c low high i : ℕ) (h : BufferPair) → 0 < w → s.capacity ≡ c →
+      (n : ℕ) × (c ≡ n * w) → words ≡ c / w →
+      h ≡ record { head = None; tail = None; scans = 0; fetches = 0 } → low ≤ high → high ≤ words →
+      NoneIn s (0 * w) (low * w) → NoneIn s (high * w) (words * w) → i ≡ 0 →
+      let t : Cursor B E W = record { buffers = h; low = low; high = high; items = i } in
       IsWalkStart s words w t
   unfolding items_left_in
-  walk_start c high i h word is whole count none all items =
-      let last : high * w ≡ s.capacity = ap (λ k. k * w)
-      (all ∙ count ∙ ap (λ c. c / w) whole.1 ∙ mul-div_left whole.0 word) ∙ sym whole.1
+  walk_start c low high i h word is whole count none order all before after items =
+      let last : words * w ≡ s.capacity = ap (λ k. k * w)
+      (count ∙ ap (λ c. c / w) whole.1 ∙ mul-div_left whole.0 word) ∙ sym whole.1
       ∙ sym is in
       rw none (record {
-        remaining = append-nil _ ∙ members_between-all s (0 * w) (high * w) (zero-mul w) last;
+        remaining = append-nil _ ∙ members_between-inner s (low * w) (high * w) (words * w)
+            (mul-le-mul_right w order) (mul-le-mul_right w all) last
+            (rw (zero-mul w) at before) after;
         fresh = is_fresh words _ refl items (omega arith) refl (omega arith);
         counted = record {
-          ordered = omega arith;
-          within = omega arith;
+          ordered = order;
+          within = all;
           at_least = omega arith;
           at_most = omega arith;
           once = omega arith;

@@ -1,5 +1,5 @@
 -- The ends of a set between two numbers.
-use Rattle.std.specs.Prelude.{◌≡◌, ℕ, ◌+◌, ◌<◌, ◌≤◌, true, false, Option, Some, None}
+use Rattle.std.specs.Prelude.{◌≡◌, ℕ, ◌+◌, ◌*◌, ◌<◌, ◌≤◌, Bool, true, false, Option, Some, None}
 use Rattle.bittle_bits.specs.PlainSet.{PlainSet}
 
 -- no number from one on and below another is a member
@@ -15,3 +15,9 @@ IsFirstIn s from to (Some i) = (from ≤ i) × (i < to) × (s.has i ≡ true) ×
 abbrev pub IsLastIn : PlainSet → ℕ → ℕ → Option ℕ → Type 0
 IsLastIn s from to None = NoneIn s from to
 IsLastIn s from to (Some i) = (from ≤ i) × (i < to) × (s.has i ≡ true) × NoneIn s (i + 1) to
+
+-- of the words from one on and before another, those from an end up to r have no member: r is the
+-- first that is not passed over, or from the back the one after the last
+abbrev pub PassesOver : Bool → ℕ → PlainSet → ℕ → ℕ → ℕ → Type 0
+PassesOver true w s low high r = (low ≤ r) × (r ≤ high) × NoneIn s (low * w) (r * w)
+PassesOver false w s low high r = (low ≤ r) × (r ≤ high) × NoneIn s (r * w) (high * w)

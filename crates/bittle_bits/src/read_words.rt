@@ -2,10 +2,14 @@
 
 ghost use Rattle.std.specs.Prelude.{◌≡◌, ℕ, ◌*◌, ◌<◌, ◌≤◌, false, IsTrue};
 ghost use Rattle.bittle_bits.specs.BitPatterns.{bit_set};
+ghost use Rattle.bittle_bits.specs.Searches.{PassesOver};
 ghost use Rattle.bittle_bits.specs.Values.{ShapeFits};
+ghost use Rattle.bittle_bits.specs.Walk.{ones_or_zeros};
 ghost use Rattle.bittle_bits.specs.Words.{word_of};
 
+use crate::end::End;
 use crate::endian::Endian;
+use crate::kind::Kind;
 use crate::shape::Shape;
 use crate::word::Word;
 
@@ -36,6 +40,22 @@ pub trait ReadWords: Drop + Shape {
         requires within { k * Self.width < (Self.big self.now).capacity }
         ensures { bit_set Self.width (Self.LeafWord.pattern result)
             ≡ word_of Self.width (Self.big self.now) k };
+
+    /// Returns the end `N` of the words from `low` on and before `high`, moved past words that have
+    /// no bit of the kind `K`: from the front the first word that is not passed over, and from the
+    /// back the one after the last. It decides speed alone: a set may pass over as many of them as
+    /// it knows at once, or none, as most shapes do.
+    #[doc(hidden)]
+    #[inline(always)]
+    fn pass_over<K: Kind, N: End>(&self, low: usize, high: usize) -> usize
+        requires fits { ShapeFits Self.Shape self.now }
+        requires ordered { low ≤ high }
+        requires within { high * Self.width ≤ (Self.big self.now).capacity }
+        ensures { PassesOver N.FRONT Self.width (ones_or_zeros K.ONES (Self.big self.now)) low high
+            result }
+    {
+        if N::FRONT { low } else { high }
+    }
 
     // The integers that the set is made of have the width of its words.
     ghost leaf_width: { Self.LeafWord.width ≡ Self.width };

@@ -9,7 +9,7 @@ ghost use Rattle.bittle_bits.specs.Cursor.{walk_at, walk_of, Begins, IsCounted, 
 ghost use Rattle.bittle_bits.specs.Values.{ShapeFits};
 ghost use Rattle.bittle_bits.specs.Walk.{AreBelow, ResumesAs, Seeks, Steps};
 
-use crate::end::{End, Front};
+use crate::end::{Back, End, Front};
 use crate::endian::Endian;
 use crate::internal::buffer::{Buffers, Count};
 use crate::internal::source::Source;
@@ -26,9 +26,9 @@ pub struct Cursor<B: Shape, E: Endian> {
     pub items: Count,
 }
 
-/// Begins an iterator. Of a type of fixed length it loads the first word to the head. Of a slice it
-/// loads none, so that an iterator which is stepped from one end alone has a buffer at that end
-/// alone.
+/// Begins an iterator between the words that the set passes over at either end. Of a type of fixed
+/// length it loads the first of them to the head. Of a slice it loads none, so that an iterator which
+/// is stepped from one end alone has a buffer at that end alone.
 #[inline]
 pub fn begin<B: ReadWords, E: Endian, K: Kind>(source: &Source<'_, B>) -> Cursor<B, E>
     requires { ShapeFits B.Shape source.now.set.now }
@@ -36,17 +36,20 @@ pub fn begin<B: ReadWords, E: Endian, K: Kind>(source: &Source<'_, B>) -> Cursor
     ensures below { AreBelow (B.big source.now.set.now).capacity
         (walk_at B.Shape E.Endian K.Kind source.now.set.now result).remaining }
 {
+    let words = source.words() as usize;
+    let low = source.pass_over::<K, Front>(0, words);
+    let high = source.pass_over::<K, Back>(low, words);
     let mut at = Cursor {
         buffers: Buffers::none(),
-        low: 0,
-        high: source.words() as usize,
+        low,
+        high,
         items: Count::new(),
     };
-    if !B::is_fixed() || at.low == at.high {
+    if !B::is_fixed() || low == high {
         return at;
     }
-    at.buffers.load::<B, K, Front>(source, 0);
-    at.low = 1;
+    at.buffers.load::<B, K, Front>(source, low);
+    at.low = low + 1;
     at
 }
 

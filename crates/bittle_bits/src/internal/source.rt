@@ -1,12 +1,14 @@
 //! What an iterator or a search reads: the ones of a set, or its zeros, word by word. Each fetch of
 //! an iterator is counted.
 
-ghost use Rattle.std.specs.Prelude.{◌≡◌, ◌+◌, ◌*◌, ◌/◌, ◌<◌};
+ghost use Rattle.std.specs.Prelude.{◌≡◌, ◌+◌, ◌*◌, ◌<◌, ◌≤◌};
 ghost use Rattle.bittle_bits.specs.BitPatterns.{bit_set};
+ghost use Rattle.bittle_bits.specs.Searches.{PassesOver};
 ghost use Rattle.bittle_bits.specs.Values.{ShapeFits, word_count};
 ghost use Rattle.bittle_bits.specs.Walk.{ones_or_zeros};
 ghost use Rattle.bittle_bits.specs.Words.{word_of};
 
+use crate::end::End;
 use crate::internal::buffer::Count;
 use crate::kind::{Kind, bits_of_kind};
 use crate::read_words::{ReadWords, word_width};
@@ -67,6 +69,19 @@ impl<'a, B: ReadWords> Source<'a, B> {
     {
         fetches.raise();
         word_of_kind::<B, K>(self.set, k)
+    }
+
+    /// Returns the end `N` of the words from `low` on and before `high`, moved past words that the
+    /// set knows to have no bit of the kind. None of them is fetched.
+    #[inline(always)]
+    pub fn pass_over<K: Kind, N: End>(&self, low: usize, high: usize) -> usize
+        requires fits { ShapeFits B.Shape self.now.set.now }
+        requires ordered { low ≤ high }
+        requires within { high * B.width ≤ (B.big self.now.set.now).capacity }
+        ensures { PassesOver N.FRONT B.width (ones_or_zeros K.ONES (B.big self.now.set.now)) low
+            high result }
+    {
+        self.set.pass_over::<K, N>(low, high)
     }
 }
 
