@@ -4,15 +4,11 @@ use Rattle.std.proofs.Math.Nat.{add-mod-mod, div-add-mod'}
 use Rattle.std.proofs.Math.Path.{fun_ext}
 use Rattle.std.proofs.lemmas.Bool.{ltb-true, leb-true, le-leb, and_from, and_parts, and_right, or_cases, or_left, or_right, false_from_ne_true, cases_lt}
 use Rattle.std.proofs.lemmas.Nat.{mod_below, mod-mul-add}
+use Rattle.std.specs.Bool.{one_answer}
 use Rattle.bittle_bits.specs.PlainSet.{PlainSet, has_with, empty_set, with_index, with_span}
 use Rattle.bittle_bits.proofs.PlainSets.{plain_set}
 use Rattle.bittle_bits.proofs.Spans.{changed-none, with_span-more}
 use Rattle.bittle.specs.Ranges.{some_below, has_with_range, with_range, listed_set}
-
--- two tests that pass together
-same_answer : (a b : Bool) → (a ≡ true → b ≡ true) → (b ≡ true → a ≡ true) → a ≡ b
-same_answer true b f g = sym (f refl)
-same_answer false b f g = sym (false_from_ne_true b (λ e. let t : false ≡ true = g e in cc))
 
 some_below-found : (n : ℕ) (p : ℕ → Bool) → some_below n p ≡ true → (i : ℕ) × (i < n) × (p i ≡ true)
 unfolding some_below
@@ -98,17 +94,18 @@ module _ (s : PlainSet) (from : ℕ) where
           ≡ (nat_lt 0 s.capacity && some_below end (reaches k))
       alike k =
           let z = nat_lt 0 s.capacity in
-          same_answer (z && some_below last (reaches k)) (z && some_below end (reaches k))
-          (λ e.
-          let a = and_parts z (some_below last (reaches k)) e in
-          let f = some_below-found last (reaches k) a.1 in
-          and_from z (some_below end (reaches k)) a.0
-          (some_below-from end (reaches k) f.0 (omega (arith, f.1)) f.2))
-          (λ e.
-          let a = and_parts z (some_below end (reaches k)) e in
-          let f = some_below-found end (reaches k) a.1 in
-          and_from z (some_below last (reaches k)) a.0
-          (sooner k f.0 (ltb-true 0 s.capacity a.0) f.2))
+          one_answer (z && some_below last (reaches k)) (z && some_below end (reaches k)) (
+            (λ e.
+                let a = and_parts z (some_below last (reaches k)) e in
+                let f = some_below-found last (reaches k) a.1 in
+                and_from z (some_below end (reaches k)) a.0
+                (some_below-from end (reaches k) f.0 (omega (arith, f.1)) f.2)),
+            (λ e.
+                let a = and_parts z (some_below end (reaches k)) e in
+                let f = some_below-found end (reaches k) a.1 in
+                and_from z (some_below last (reaches k)) a.0
+                (sooner k f.0 (ltb-true 0 s.capacity a.0) f.2)),
+          ) (λ e. e, λ e. e)
 
   -- neighbours that do not wrap are a span
   range_span : (start count : ℕ) → 0 < s.capacity → start ≡ from % s.capacity →

@@ -2,7 +2,7 @@
 use Rattle.std.proofs.Common.{◌≡◌, ℕ, ◌+◌, ◌-◌, ◌*◌, ◌^◌, ◌<◌, ◌≤◌, ◌≢◌, ◌⊎◌, Bool, true, false, not, ◌&&◌, ◌||◌, ◌==◌, cond, nat_lt, inl, inr, Some, None, refl, sym, ap, ◌∙◌, arith, bit_and, bit_or}
 use Rattle.std.proofs.Math.Bool.{and_comm}
 use Rattle.std.proofs.Math.Nat.{mod-eq_of_lt, mul-le-mul_right}
-use Rattle.std.proofs.lemmas.Bool.{cases_lt, cases_eq, eq-eqb, ne_eqb, lt-ltb, le-ltb, ltb-true, ltb-false, not-true, and_parts, true≢false}
+use Rattle.std.proofs.lemmas.Bool.{cases_lt, cases_eq, eq-eqb, ne_eqb, lt-ltb, le-ltb, ltb-true, ltb-false, not-true, and_parts}
 use Rattle.bittle_bits.specs.BitPatterns.{bit_has, bit_set}
 use Rattle.bittle_bits.specs.Ends.{is_ahead, IsEndIn, IsEndMember}
 use Rattle.bittle_bits.specs.Orders.{place, read_in}
@@ -29,10 +29,6 @@ pub record Searches (front m : Bool) (w : ℕ) (t : PlainSet) (from to p q k d :
   pub none : NoneBefore front w t from to k 0
   pub seeks : (i : ℕ) → i < w →
       (read_in m w (bit_set w d)).has i ≡ is_ahead front from to (k * w + i) && t.has (k * w + i)
-
-kept_by : (a b : Bool) → a && b ≡ false → a ≡ true → b ≡ false
-kept_by true b h e = h
-kept_by false b h e = absurd (true≢false (sym e))
 
 -- a place of a word is below another where its number is
 lt_moved : (base i n : ℕ) → nat_lt i n ≡ nat_lt (base + i) (base + n)
@@ -72,7 +68,7 @@ next_begins w k next e = ap (λ n. n * w) e ∙ omega arith
 
 -- a search of a range, for the bits of a kind, in a set in an order
 module _ (ones m : Bool) (w : ℕ) (big : PlainSet) (word : 0 < w)
-    (whole : (words : ℕ) × (big.capacity ≡ words * w)) (from to p i q j : ℕ)
+    (whole : (words : ℕ) × (big.capacity ≡ words * w)) {from to p i q j : ℕ}
     (at : LiesAt w from to p i q j) where
   abbrev s : PlainSet
   s = ones_or_zeros ones big
@@ -135,8 +131,7 @@ module _ (ones m : Bool) (w : ℕ) (big : PlainSet) (word : 0 < w)
         t.has j ≡ false
     passed j lo hi none within =
         let back : k * w + (j - k * w) ≡ j = omega arith in
-        kept_by (is_ahead front from to j) (t.has j)
-        (rw back at (sym (h.seeks (j - k * w) (omega arith)) ∙ none)) within
+        rw within at (rw back at (sym (h.seeks (j - k * w) (omega arith)) ∙ none))
 
   -- before the member of d at the end none is a member
   none_up_to : (front : Bool) (k d r : ℕ) → Searches front m w t from to p q k d →

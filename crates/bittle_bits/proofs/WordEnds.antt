@@ -257,16 +257,6 @@ less_greatest w d r greatest h =
         ∙ place_eq true w k (w - 1 - r) (omega arith)
         ∙ ap (λ x. k == x) (sym (mod-eq_of_lt (omega arith))))
 
--- where the bit of least weight is the member at an end, the word less one tells it
-less_end : (front m : Bool) (w d r : ℕ) → beq m front ≡ false →
-    IsEndMember front (read_in m w (bit_set w d)) r → r < w →
-    read_in m w (bit_set w (bit_and d (d - 1)))
-    ≡ without_index (read_in m w (bit_set w d)) (cond front r (w - 1 - r))
-less_end true true w d r apart least h = absurd (true≢false apart)
-less_end true false w d r apart least h = less_least w d r least h
-less_end false true w d r apart greatest h = less_greatest w d r greatest h
-less_end false false w d r apart greatest h = absurd (true≢false apart)
-
 -- the member at an end of a word that is not 0 lies in it
 pub end_within : (front m : Bool) (w d r : ℕ) → 0 < w → d < 2 ^ w → (d ≡ 0 → ⊥) →
     IsEndMember front (read_in m w (bit_set w d)) r → r < w
@@ -281,16 +271,14 @@ pub least_taken : (front m : Bool) (w d r : ℕ) → beq m front ≡ false →
     IsEndMember front (read_in m w (bit_set w d)) r → r < w →
     ascending (read_in m w (bit_set w d)) ≡ with_end front (place m w r)
     (ascending (read_in m w (bit_set w (bit_and d (d - 1)))))
-least_taken front m w d r apart end h = end-taken front (read_in m w (bit_set w d))
-    (read_in m w (bit_set w (bit_and d (d - 1)))) r (place m w r) end h (at front m apart)
-    (less_end front m w d r apart end h ∙ ap (without_index (read_in m w (bit_set w d)))
-    (sym (at front m apart)))
-  where
-    at : (front m : Bool) → beq m front ≡ false → place m w r ≡ cond front r (w - 1 - r)
-    at true true apart = absurd (true≢false apart)
-    at true false apart = refl
-    at false true apart = mirror_in_word w r h
-    at false false apart = absurd (true≢false apart)
+least_taken true true w d r apart end h = absurd (true≢false apart)
+least_taken true false w d r apart end h =
+    end-taken true _ _ r r end h refl (less_least w d r end h)
+least_taken false true w d r apart end h =
+    let at : mirror w r ≡ w - 1 - r = mirror_in_word w r h in
+    end-taken false _ _ r (mirror w r) end h at (less_greatest w d r end h
+    ∙ ap (without_index (read_in true w (bit_set w d))) (sym at))
+least_taken false false w d r apart end h = absurd (true≢false apart)
 
 -- where the bit of greatest weight is the member at an end, the inverted mask takes it out
 pub greatest_taken : (front m : Bool) (w d e mask r : ℕ) → beq m front ≡ true →

@@ -10,7 +10,7 @@ loop-found-init g c =
     let law = g.met.B.ReadWords in
     let at = rw (c.word_width-width.ensures) at c.ends-first.ensures in
     rw c.and-word.ensures (search_start g.K.Kind.ONES _ _ (g.B.Shape.big c.args.bits.now)
-    law.width_positive (law.whole_words _) _ _ _ _ _ _ at g.N.End.FRONT _ _ _ _ c.at_end-k.ensures
+    law.width_positive (law.whole_words _) at g.N.End.FRONT _ _ _ _ c.at_end-k.ensures
     c.at_end.ensures c.word_of_kind.ensures (rw law.leaf_width at c.ahead-mask.ensures))
 
 pub overflow_add-found : goal.overflow_add-found
@@ -19,7 +19,7 @@ overflow_add-found g c =
     let wide = c.word_width-width.ensures in
     let inv = c.loop-found.invariant in
     let k = word_within g.K.Kind.ONES g.E.Endian.mirrored _ (g.B.Shape.big c.args.bits.now)
-    law.width_positive (law.whole_words _) _ _ _ _ _ _ (rw wide at c.ends-first.ensures)
+    law.width_positive (law.whole_words _) (rw wide at c.ends-first.ensures)
     c.loop-found.k inv.first inv.last in
     let ends = word_ends _ c.loop-found.k _ (law.whole_words c.args.bits.now)
     (omega (arith, k.1, c.requires.within)) in
@@ -32,8 +32,8 @@ returns-then-at_end g c =
     let law = g.met.B.ReadWords in
     let wide = c.word_width-width.ensures in
     rw (c.at_end-then-away-width.ensures, wide) (search_found g.K.Kind.ONES g.E.Endian.mirrored
-    g.B.Shape.width (g.B.Shape.big c.args.bits.now) law.width_positive (law.whole_words _) _ _ _ _
-    _ _ (rw wide at c.ends-first.ensures) g.N.End.FRONT c.loop-found.k _ c.from_end-away.result
+    g.B.Shape.width (g.B.Shape.big c.args.bits.now) law.width_positive (law.whole_words _)
+    (rw wide at c.ends-first.ensures) g.N.End.FRONT c.loop-found.k _ c.from_end-away.result
     c.loop-found.invariant (rw law.leaf_width at c.from_end-away.ensures.member)
     (rw wide at c.if-away-width.true) (rw (
       c.at_end-then-away-width-2.ensures,
@@ -47,7 +47,7 @@ returns-else-at_end g c =
     let law = g.met.B.ReadWords in
     let wide = c.word_width-width.ensures in
     search_past g.K.Kind.ONES g.E.Endian.mirrored g.B.Shape.width (g.B.Shape.big c.args.bits.now)
-    law.width_positive (law.whole_words _) _ _ _ _ _ _ (rw wide at c.ends-first.ensures)
+    law.width_positive (law.whole_words _) (rw wide at c.ends-first.ensures)
     g.N.End.FRONT c.loop-found.k _ c.from_end-away.result c.loop-found.invariant
     (rw law.leaf_width at c.from_end-away.ensures.member) (rw wide at c.if-away-width.true)
     (rw (
@@ -62,7 +62,7 @@ returns-then-k-at_end g c =
     let law = g.met.B.ReadWords in
     let wide = c.word_width-width.ensures in
     search_ended g.K.Kind.ONES g.E.Endian.mirrored g.B.Shape.width (g.B.Shape.big c.args.bits.now)
-    law.width_positive (law.whole_words _) _ _ _ _ _ _ (rw wide at c.ends-first.ensures)
+    law.width_positive (law.whole_words _) (rw wide at c.ends-first.ensures)
     g.N.End.FRONT c.loop-found.k _ c.from_end-away.result
     (c.if-k-at_end.true ∙ c.at_end-in-loop-found.ensures) c.loop-found.invariant
     (rw law.leaf_width at c.from_end-away.ensures.member) (rw wide at c.if-away-width.false)
@@ -76,7 +76,7 @@ loop-found-preserved g c =
       | then-FRONT w ↦ rw (sym c.FRONT.ensures ∙ w.if-FRONT.true) w.k-is
       | else-FRONT w ↦ rw (sym c.FRONT.ensures ∙ w.if-FRONT.false) w.k-is
     ] in
-    search_next _ _ _ _ law.width_positive (law.whole_words _) _ _ _ _ _ _
+    search_next _ _ _ _ law.width_positive (law.whole_words _)
     (rw wide at c.ends-first.ensures) g.N.End.FRONT c.loop-found.k _ c.from_end-away.result _ _
     (rw c.at_end-in-loop-found.ensures at c.if-k-at_end.false) next c.loop-found.invariant
     (rw law.leaf_width at c.from_end-away.ensures.member) (rw wide at c.if-away-width.false)
