@@ -2,7 +2,7 @@
 use Rattle.std.proofs.Common.{◌≡◌, ℕ, zero, suc, ◌+◌, ◌*◌, ◌<◌, ◌≤◌, Bool, inl, inr, refl, sym, ap, ◌∙◌, arith, List, [], ◌∷◌, length, get_or, set}
 use Rattle.std.proofs.Math.Path.{fun_ext}
 use Rattle.std.proofs.Math.Nat.{mul-le-mul_right}
-use Rattle.std.proofs.lemmas.List.{get_or-set_same, get_or-set_other, length-set}
+use Rattle.std.proofs.lemmas.List.{get_or-set_same, get_or-set_other, get_or_default, length-set}
 use Rattle.std.proofs.lemmas.Nat.{mul-add-lt}
 use Rattle.std.proofs.lemmas.Bool.{cases_eq, cases_lt}
 use Rattle.bittle_bits.specs.RowLawProofs.{row_has-past}
@@ -91,13 +91,6 @@ module _ {X : Type 0} (f : Bool → Bool → Bool) (c : ℕ) (big : X → PlainS
               ∙ row_has-past (length xs) c has xs k g)
         ]))
 
--- an element of the row is there whatever stands for one past its end
-pub get_or-any : {X : Type 0} (xs : List X) (n : ℕ) (d e : X) → n < length xs →
-    get_or xs n d ≡ get_or xs n e
-get_or-any [] n d e h = absurd (omega arith)
-get_or-any (x ∷ xs) zero d e h = refl
-get_or-any (x ∷ xs) (suc n) d e h = get_or-any xs n d e (omega arith)
-
 -- one more element of a row: of the row xs, now zs, the elements below i are combined with those of
 -- ys, and the one at i becomes z, which is combined with its counterpart y
 pub one_more_combined : {X : Type 0} (f : Bool → Bool → Bool) (big : X → PlainSet)
@@ -108,9 +101,9 @@ one_more_combined f big xs ys zs i x y z within also beside is old = record {
   same = length-set zs i z ∙ old.same;
   done = λ k d h. elim (cases_eq k i) [
     | inl e ↦
-        let first : get_or zs i x ≡ get_or xs i d = get_or-any zs i x d within
+        let first : get_or zs i x ≡ get_or xs i d = get_or_default zs i x d within
         ∙ old.rest i d (omega arith) in
-        let second : y ≡ get_or ys i d = sym beside ∙ get_or-any ys i y d also in
+        let second : y ≡ get_or ys i d = sym beside ∙ get_or_default ys i y d also in
         rw e (ap big (get_or-set_same zs i z d within) ∙ is
         ∙ ap (λ u. combination_of f (big u) (big y)) first
         ∙ ap (λ u. combination_of f (big (get_or xs i d)) (big u)) second)

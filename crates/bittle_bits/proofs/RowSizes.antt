@@ -4,12 +4,11 @@ use Rattle.std.proofs.Math.Path.{fun_ext}
 use Rattle.std.proofs.Math.Nat.{zero-mul, mul-zero}
 use Rattle.std.specs.List.{sum_by}
 use Rattle.std.proofs.lemmas.List.Sums.{sum_by-cons, sum_by_more_le}
-use Rattle.std.proofs.lemmas.List.{take_all}
+use Rattle.std.proofs.lemmas.List.{get_or_default, take_all}
 use Rattle.std.proofs.lemmas.Bool.{and_cases, and_parts, cases_eq, eq-eqb, eqb-true, eqb-false, ne_eqb}
 use Rattle.bittle_bits.specs.PlainSet.{PlainSet, count_below, size}
 use Rattle.bittle_bits.specs.Rows.{at_element, row_has, row_set}
 use Rattle.bittle_bits.proofs.RowSets.{elements_has_at, by_place}
-use Rattle.bittle_bits.proofs.RowOperations.{get_or-any}
 use Rattle.bittle_bits.proofs.Counts.{count-same, count-le, count-add, count-none}
 use Rattle.bittle_bits.proofs.Sizes.{size-le}
 
@@ -132,7 +131,7 @@ module _ {X : Type 0} (c : ℕ) (big : X → PlainSet) (xs : List X) (owned : (x
       (is : e ≡ (size (big x) == cond ones 0 c)) where
     -- it has none
     pub one_without : e ≡ true → (d : X) → size (big (get_or xs i d)) ≡ cond ones 0 c
-    one_without all d = ap (λ y. size (big y)) (get_or-any xs i d x l ∙ sym at)
+    one_without all d = ap (λ y. size (big y)) (get_or_default xs i d x l ∙ sym at)
         ∙ eqb-true _ _ (sym is ∙ all)
 
     -- it has one, and so has the row

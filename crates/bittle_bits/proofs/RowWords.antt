@@ -2,7 +2,7 @@
 use Rattle.std.proofs.Common.{◌≡◌, ℕ, ◌+◌, ◌*◌, ◌/◌, ◌%◌, ◌<◌, ◌≢◌, ◌&&◌, nat_lt, inl, inr, List, length, length-set, get_or, set, refl, sym, ap, ◌∙◌, arith}
 use Rattle.std.proofs.Math.Path.{fun_ext}
 use Rattle.std.proofs.Math.Nat.{mul-div_left, div-add-mod', mod-eq_of_lt, mul_assoc, lt_of_mul-lt-mul_right, mul-lt-mul_of_pos_right}
-use Rattle.std.proofs.lemmas.List.{get_or-set_same, get_or-set_other}
+use Rattle.std.proofs.lemmas.List.{get_or-set_same, get_or-set_other, get_or_default}
 use Rattle.std.proofs.lemmas.Nat.{mod_below, div_below}
 use Rattle.std.proofs.lemmas.Bool.{cases_eq, cases_lt, le-ltb}
 use Rattle.bittle_bits.specs.BitPatterns.{bit_set}
@@ -10,7 +10,6 @@ use Rattle.bittle_bits.specs.PlainSet.{PlainSet}
 use Rattle.bittle_bits.specs.Rows.{row_has, row_set, GoesTo}
 use Rattle.bittle_bits.specs.Words.{word_has, word_of, ReplacesWord}
 use Rattle.bittle_bits.proofs.PlainSets.{plain_set}
-use Rattle.bittle_bits.proofs.RowOperations.{get_or-any}
 use Rattle.bittle_bits.proofs.RowSets.{elements_has_at, at_element-read}
 use Rattle.bittle_bits.proofs.Words.{word_ends}
 
@@ -98,7 +97,7 @@ module _ {X : Type 0} (n c w k q r : ℕ) (big : X → PlainSet) (xs : List X) (
       word_of w (row_set n c big ys) j ≡ word_of w (row_set n c big xs) j
   elsewhere j p s l there apart =
       let z = get_or xs p x in
-      let same : z ≡ get_or xs p z = get_or-any xs p x z (omega (arith, there.is_element)) in
+      let same : z ≡ get_or xs p z = get_or_default xs p x z (omega (arith, there.is_element)) in
       sym (row_word n c w j p s big ys word whole l there z now
       (same ∙ sym (get_or-set_other xs q p y z apart)))
       ∙ row_word n c w j p s big xs word whole l there z all same

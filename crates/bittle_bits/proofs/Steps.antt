@@ -144,38 +144,10 @@ module _ (xs : List ℕ) (b c : BufferPair) where
   -- a word that was looked for is fetched so
   pub filled : (front found : Bool) → buffer_of front b ≡ None → Refills front xs found b c →
       Fetches front xs b c
-  filled true true none e = rw e.1 record {
-    none = none;
-    items = refl;
-    other = refl;
-    scans = omega arith;
-    counts = refl;
-    fetches = refl;
-  }
-  filled true false none e = rw e.1 record {
-    none = none;
-    items = ap items_in none ∙ sym e.0;
-    other = refl;
-    scans = omega arith;
-    counts = omega (arith, ap buffer_count none);
-    fetches = refl;
-  }
-  filled false true none e = rw e.1 record {
-    none = none;
-    items = refl;
-    other = refl;
-    scans = omega arith;
-    counts = refl;
-    fetches = refl;
-  }
-  filled false false none e = rw e.1 record {
-    none = none;
-    items = ap items_in none ∙ sym e.0;
-    other = refl;
-    scans = omega arith;
-    counts = omega (arith, ap buffer_count none);
-    fetches = refl;
-  }
+  filled true true none e = rw e.1 (grind arith)
+  filled true false none e = rw e.1 (grind arith)
+  filled false true none e = rw e.1 (grind arith)
+  filled false false none e = rw e.1 (grind arith)
 
   -- where it had no item, none is loaded there after it either
   pub passed_over : (front found : Bool) → buffer_of front b ≡ None → Refills front xs found b c →
