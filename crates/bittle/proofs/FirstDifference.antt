@@ -13,10 +13,7 @@ use Rattle.bittle.specs.Comparison.{list_cmp, AreSame, AreSameBelow, GoesOn, Has
 use Rattle.bittle.proofs.ListComparison.{EndsAtCapacity, list_cmp-precedes, equal_iff_same, not_both}
 
 alike : (a b : Bool) → just_one a b ≡ false → a ≡ b
-alike true true h = refl
-alike true false h = absurd (true≢false h)
-alike false true h = absurd (true≢false h)
-alike false false h = refl
+alike a b h = grind arith
 
 -- ---- as far as both sets go
 
@@ -51,10 +48,7 @@ past_first s t from to (Some d) same none past h = (
 )
 
 turned : (a b : Bool) → just_one a b ≡ just_one b a
-turned true true = refl
-turned true false = refl
-turned false true = refl
-turned false false = refl
+turned a b = grind arith
 
 -- the second set has none from a number on, and the first one ends at another
 past_second : (s t : PlainSet) (from to : ℕ) (r : Option ℕ) → NoneDecidedBelow just_one s t from →
@@ -112,10 +106,7 @@ past_found s d to (Some m) lacks past h = elim (cases_lt d m) [
 -- ---- what it decides
 
 differ : (a b : Bool) → just_one a b ≡ true → a ≡ b → ⊥
-differ true true h e = true≢false (sym h)
-differ true false h e = true≢false e
-differ false true h e = true≢false (sym e)
-differ false false h e = true≢false (sym h)
+differ a b h e = grind arith
 
 -- the first index in just one, by the side that has it
 module _ (s t : PlainSet) (d : ℕ) (at : IsFirstDifference s t d) where

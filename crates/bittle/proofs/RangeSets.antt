@@ -31,10 +31,7 @@ some_below-from (suc n) p i h e =
 
 -- one more number that may pass
 spread : (z a b h : Bool) → ((z && (a || b)) || h) ≡ ((z && b) || ((z && a) || h))
-spread false a b h = refl
-spread true true true h = refl
-spread true true false h = refl
-spread true false b h = refl
+spread z a b h = grind arith
 
 -- of the indexes from one on and before an end, so many are named: all of them, or as many as the
 -- capacity, which is not 0

@@ -19,45 +19,17 @@ zero_or_one x h = elim (cases_eq x 0) [ inl e ↦ inl e | inr n ↦ inr (omega a
 
 either : (t : Bool) (x y : ℕ) → x < 2 → y < 2 →
     (t && (max x y == 1)) ≡ (t && (x == 1)) || (t && (y == 1))
-either false x y p q = refl
-either true x y p q = elim (zero_or_one x p) [
-  | inl e ↦ elim (zero_or_one y q) [ inl f ↦ rw (e, f) refl | inr f ↦ rw (e, f) refl ]
-  | inr e ↦
-      elim (zero_or_one y q) [ inl f ↦ rw (e, f) refl | inr f ↦ rw (e, f) refl ]
-]
+either t x y p q = grind arith
 
 both : (t : Bool) (x y : ℕ) → x < 2 → y < 2 →
     (t && (min x y == 1)) ≡ (t && (x == 1)) && (t && (y == 1))
-both false x y p q = refl
-both true x y p q = elim (zero_or_one x p) [
-  | inl e ↦ elim (zero_or_one y q) [ inl f ↦ rw (e, f) refl | inr f ↦ rw (e, f) refl ]
-  | inr e ↦
-      elim (zero_or_one y q) [ inl f ↦ rw (e, f) refl | inr f ↦ rw (e, f) refl ]
-]
+both t x y p q = grind arith
 
 other : (t : Bool) (x y : ℕ) → x + y ≡ 1 → (t && (x == 1)) ≡ t && not (t && (y == 1))
-other false x y h = refl
-other true x y h = elim (zero_or_one y (omega arith)) [
-  | inl e ↦ let f : x ≡ 1 = omega arith in
-      rw (e, f) refl
-  | inr e ↦ let f : x ≡ 0 = omega arith in rw (e, f) refl
-]
+other t x y h = grind arith
 
 one_of_two : (a b x : ℕ) → 0 < x → a < 2 → b < 2 → a * x + b * x ≡ x → a + b ≡ 1
-one_of_two a b x q u v e =
-    elim (zero_or_one a u) [
-      | inl z ↦ elim (zero_or_one b v) [
-        | inl y ↦
-            absurd (let t : 0 * x + 0 * x ≡ x = rw z at (rw y at e) in omega arith)
-        | inr y ↦
-            omega arith
-      ]
-      | inr z ↦ elim (zero_or_one b v) [
-        | inl y ↦ omega arith
-        | inr y ↦
-            absurd (let t : 1 * x + 1 * x ≡ x = rw z at (rw y at e) in omega arith)
-      ]
-    ]
+one_of_two a b x q u v e = grind arith
 
 bit_at-complement : (w d k : ℕ) → d < 2 ^ w → k < w → bit_at (2 ^ w - 1 - d) k + bit_at d k ≡ 1
 bit_at-complement w d k h l =

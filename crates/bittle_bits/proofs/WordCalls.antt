@@ -1,5 +1,5 @@
 -- The calls on one index of a word, by a mask whose one member it is.
-use Rattle.std.proofs.Common.{◌≡◌, ℕ, ◌-◌, ◌%◌, ◌^◌, ◌<◌, Bool, true, false, not, ◌&&◌, ◌||◌, ◌==◌, nat_lt, ◌⊎◌, inl, inr, refl, sym, ap, ◌∙◌, arith, bit_and, bit_or}
+use Rattle.std.proofs.Common.{◌≡◌, ℕ, ◌-◌, ◌%◌, ◌^◌, ◌<◌, Bool, true, not, ◌&&◌, ◌||◌, ◌==◌, nat_lt, ◌⊎◌, inl, inr, refl, sym, ap, ◌∙◌, arith, bit_and, bit_or}
 use Rattle.std.proofs.Math.Bool.{and-true, or-false, or_comm}
 use Rattle.std.proofs.Math.Path.{fun_ext}
 use Rattle.std.proofs.Math.Nat.{mod-eq_of_lt}
@@ -47,12 +47,7 @@ module _ (m : Bool) (w d e i : ℕ) (h : 0 < w)
       ∙ sym (with_in (read_in m w (bit_set w d)) w i refl h)
 
   outside : (t x u : Bool) → (t && x) && (t && not u) ≡ not u && (t && x)
-  outside true true true = refl
-  outside true true false = refl
-  outside true false true = refl
-  outside true false false = refl
-  outside false x true = refl
-  outside false x false = refl
+  outside t x u = grind arith
 
   -- the and with the inverted mask clears the index
   pub word_cleared : (mask : ℕ) → e < 2 ^ w → mask ≡ 2 ^ w - 1 - e →

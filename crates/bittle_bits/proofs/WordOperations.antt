@@ -1,5 +1,5 @@
 -- The operations on two words.
-use Rattle.std.proofs.Common.{◌≡◌, ℕ, ◌+◌, ◌-◌, ◌*◌, ◌%◌, ◌^◌, ◌<◌, Bool, not, ◌&&◌, ◌||◌, ◌==◌, inl, inr, refl, sym, ap, ◌∙◌, arith, bit_and, bit_or, bit_xor}
+use Rattle.std.proofs.Common.{◌≡◌, ℕ, ◌+◌, ◌-◌, ◌*◌, ◌%◌, ◌^◌, ◌<◌, Bool, not, ◌&&◌, ◌||◌, ◌==◌, inl, inr, sym, ap, ◌∙◌, arith, bit_and, bit_or, bit_xor}
 use Rattle.std.proofs.Math.Path.{fun_ext}
 use Rattle.std.specs.Int.{bit_at}
 use Rattle.std.proofs.lemmas.Nat.Bits.{bit_at_xor, bit_at-lt}
@@ -9,7 +9,7 @@ use Rattle.bittle_bits.specs.LawProofs.{bit_has-past}
 use Rattle.bittle_bits.specs.Orders.{read_in}
 use Rattle.bittle_bits.specs.PlainSet.{lacks}
 use Rattle.bittle_bits.specs.SetOperations.{combination_of, first_alone, just_one}
-use Rattle.bittle_bits.proofs.BitSets.{zero_or_one, bit_has-and, bit_has-or, bit_has-not, bit_has-at}
+use Rattle.bittle_bits.proofs.BitSets.{bit_has-and, bit_has-or, bit_has-not, bit_has-at}
 use Rattle.bittle_bits.proofs.PlainSets.{plain_set}
 use Rattle.bittle_bits.proofs.SetOperations.{combination-below, combination-outside, members-combination}
 
@@ -60,12 +60,7 @@ digits_first_alone w a b rest fits is =
     (lt-ltb k w h)))
 
 one_of : (x y : ℕ) → x < 2 → y < 2 → ((x + y) % 2 == 1) ≡ just_one (x == 1) (y == 1)
-one_of x y p q = elim (zero_or_one x p) [
-  | inl e ↦
-      elim (zero_or_one y q) [ inl f ↦ rw (e, f) refl | inr f ↦ rw (e, f) refl ]
-  | inr e ↦
-      elim (zero_or_one y q) [ inl f ↦ rw (e, f) refl | inr f ↦ rw (e, f) refl ]
-]
+one_of x y p q = grind arith
 
 -- the exclusive or of two words has the bits of just one
 pub digits_just_one : (w a b : ℕ) → bit_set w (bit_xor a b)
