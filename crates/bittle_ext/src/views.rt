@@ -45,7 +45,8 @@ pub trait BitsViewExt: Bits {
     /// Borrows the set, to be read in the order `E`.
     ///
     /// Always callable. The view has the capacity of the set, and a call on it costs what it costs
-    /// on the set. An iterator borrows the view, which has to be kept in a variable as long.
+    /// on the set. An iterator borrows the view: one that is kept in a variable needs another for
+    /// its view.
     ///
     /// ```
     /// 0b0001_0010u8.in_order::<LittleEndian>().next_one(4); // Some(6)
