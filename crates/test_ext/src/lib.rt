@@ -8,6 +8,8 @@ mod changes;
 #[cfg(test)]
 mod combined;
 #[cfg(test)]
+mod lazy_views;
+#[cfg(test)]
 mod made;
 #[cfg(test)]
 mod random;
