@@ -41,7 +41,8 @@ pub returns-else-are_alike-clause-value : goal.returns-else-are_alike-clause-val
 returns-else-are_alike-clause-value g c =
     cmp_from_yields_List (λ x y. y ≡ x) _ nat_cmp _ c.cmp.ensures.ran
     (walk_yields c.iter_ones_in.result _ c.iter_ones_in.ensures.remaining)
-    (λ it e. walk_yields it _ (ap (λ w. w.remaining) e ∙ c.iter_ones_in-else-are_alike.ensures.remaining))
+    (λ it e. walk_yields it _
+    (ap (λ w. w.remaining) e ∙ c.iter_ones_in-else-are_alike.ensures.remaining))
     (λ x y. refl)
 
 pub returns-else-are_alike-clause-decided : goal.returns-else-are_alike-clause-decided
