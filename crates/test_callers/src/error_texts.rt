@@ -1,7 +1,7 @@
 //! The text of an error.
 
+use crate::checks::holds;
 use bit_pages::NotTaken;
-use checks::holds;
 use std::fmt;
 use std::fmt::Write;
 

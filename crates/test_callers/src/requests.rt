@@ -2,9 +2,9 @@
 
 ghost use Rattle.bittle.specs.Shapes.{Fits};
 
+use crate::checks::{holds, same};
 use bit_pages::{Answer, NotTaken, Pages, Request};
 use bittle::{BitsOwned, LittleEndian, Set};
-use checks::{holds, same};
 use std::test::Fail;
 
 // Serves requests of which some give back what is not taken, and returns the answers with the

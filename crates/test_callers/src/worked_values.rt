@@ -1,5 +1,6 @@
 //! Values worked out by hand.
 
+use crate::checks::{holds, same};
 use bittle::{Bits, Set};
 use bittle_uses::board::outer_cells;
 use bittle_uses::changes::{insert, move_bit, remove};
@@ -14,7 +15,6 @@ use bittle_uses::slots::Slots;
 use bittle_uses::sums::{sum_in_reverse, sum_of_members};
 use bittle_uses::tables::greatest_as_byte;
 use bittle_uses::totals::sum_from_greatest;
-use checks::{holds, same};
 use std::test::Fail;
 
 #[test]

@@ -1,7 +1,7 @@
 //! Arrays and slices.
 
+use crate::checks::same;
 use bittle::prelude::*;
-use checks::same;
 
 #[test]
 fn an_index_goes_to_one_element(rt: HostRuntime) {

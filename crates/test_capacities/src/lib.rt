@@ -4,6 +4,8 @@
 #[cfg(test)]
 mod capacities;
 #[cfg(test)]
+mod checks;
+#[cfg(test)]
 mod shapes;
 #[cfg(test)]
 mod without_capacity;

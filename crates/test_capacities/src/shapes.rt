@@ -4,9 +4,9 @@ ghost use Rattle.std.specs.Prelude.{◌*◌, IsTrue, length};
 ghost use Rattle.bittle.specs.Shapes.{Fits};
 ghost use Rattle.bittle.specs.Values.{ShapeFits};
 
+use crate::checks::same;
 use bittle::replay::{Call, Reply, replay};
 use bittle::{BigEndian, BitsMut, BitsOwned, Endian, LittleEndian};
-use checks::same;
 use std::fmt::Debug;
 use std::process::Abort;
 

@@ -4,10 +4,10 @@ ghost use Rattle.std.specs.Prelude.{◌*◌, IsTrue, length};
 ghost use Rattle.bittle.specs.Shapes.{Fits};
 ghost use Rattle.bittle.specs.Values.{ShapeFits};
 
+use crate::checks::{holds, same};
 use bittle::prelude::*;
 use bittle::walk::{IntoIterOnes, IntoIterZeros, IterOnes, IterZeros};
 use bittle::{BigEndian, Endian, LittleEndian, Set, set, set_be, set_le};
-use checks::{holds, same};
 use std::alloc::{AllocError, Global};
 use std::cmp::Ordering;
 use std::process::Abort;

@@ -6,10 +6,10 @@ ghost use Rattle.bittle.specs.Shapes.{Fits};
 ghost use Rattle.bittle.specs.Values.{ShapeFits};
 
 use crate::asked::Asked;
+use crate::checks::{holds, same};
 use crate::probe::{ONES, Probe};
 use crate::word_probe::WordProbe;
 use bittle::{Bits, BitsOwned, Set, Shape};
-use checks::{holds, same};
 use std::cmp::Ordering;
 
 // Returns whether two sets are equal.

@@ -3,10 +3,10 @@
 ghost use Rattle.bittle.specs.Shapes.{Fits};
 
 use crate::asked::Asked;
+use crate::checks::{holds, same};
 use crate::probe::{ONES, Probe, ZEROS};
 use bit_pages::{Answer, NotTaken, Pages, Request};
 use bittle::BitsOwned;
-use checks::{holds, same};
 use std::process::Abort;
 
 // Takes the pages 0 and 31, and then none.

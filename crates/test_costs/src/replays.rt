@@ -1,10 +1,10 @@
 //! What runs of calls ask of their sets: each call once.
 
 use crate::asked::Asked;
+use crate::checks::same;
 use crate::probe::{ONES, Probe, ZEROS};
 use bittle::replay::{Call, Reply, Side, replay, replay_mixed, replay_pair};
 use bittle::{BigEndian, LittleEndian};
-use checks::same;
 
 // Each kind of call. All but the capacity ask something that is counted.
 const CALLS: [Call; 9] = [

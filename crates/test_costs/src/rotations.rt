@@ -3,10 +3,10 @@
 ghost use Rattle.std.specs.Prelude.{IsTrue};
 
 use crate::asked::Asked;
+use crate::checks::same;
 use crate::probe::{ONES, Probe};
 use bittle::{BitsOwned, Set};
 use bittle_ext::BitsOwnedExt;
-use checks::same;
 use std::process::Abort;
 
 // Returns a set rotated up by 1, and down by 8 from the left.

@@ -3,10 +3,10 @@
 ghost use Rattle.std.specs.Prelude.{IsTrue};
 
 use crate::asked::Asked;
+use crate::checks::{holds, same};
 use crate::probe::{ONES, Probe};
 use crate::word_probe::WordProbe;
 use bittle::{BigEndian, Bits, BitsMut, BitsOwned, Shape, macros};
-use checks::{holds, same};
 use std::process::Abort;
 
 // Reads a row of nine elements, with the members 0 and 31 of each.

@@ -3,9 +3,9 @@
 ghost use Rattle.std.specs.Prelude.{◌≤◌};
 
 use crate::asked::Asked;
+use crate::checks::{holds, same};
 use crate::probe::Probe;
 use bittle::{BigEndian, Bits, Endian, LittleEndian};
-use checks::{holds, same};
 
 // What a search answers, and the words that it fetched, or `None` where it fetched one twice or
 // asked anything else.

@@ -3,9 +3,9 @@
 ghost use Rattle.std.specs.Prelude.{◌≤◌, IsTrue};
 
 use crate::asked::Asked;
+use crate::checks::{holds, same};
 use crate::probe::{ONES, Probe, ZEROS};
 use bittle::{BigEndian, Bits, BitsMut, BitsOwned, Set};
-use checks::{holds, same};
 use std::alloc::{AllocError, Global};
 use std::hash::{DefaultHasher, Hash};
 use std::process::Abort;

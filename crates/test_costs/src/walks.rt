@@ -5,10 +5,10 @@ ghost use Rattle.bittle.specs.Shapes.{Fits};
 ghost use Rattle.bittle.specs.Values.{ShapeFits};
 
 use crate::asked::Asked;
+use crate::checks::{holds, same};
 use crate::probe::{ONES, Probe, ZEROS};
 use bittle::replay::{Step, replay_walk};
 use bittle::{BigEndian, Bits, BitsOwned, Shape};
-use checks::{holds, same};
 use std::alloc::AllocError;
 use std::ops::Range;
 use std::process::Abort;

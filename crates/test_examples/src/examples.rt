@@ -1,8 +1,8 @@
 //! The examples in the documentation of the public calls.
 
+use crate::checks::{holds, same};
 use bittle::replay::{Call, Reply, Side, Step, replay, replay_mixed, replay_pair, replay_walk};
 use bittle::{BigEndian, Bits, BitsMut, BitsOwned, Endian, LittleEndian, Set, number};
-use checks::{holds, same};
 use std::cmp::Ordering;
 
 #[test]

@@ -1,8 +1,8 @@
 //! The examples of the README's guide. Each line of its listings stands here or in the program of
 //! `bittle_guide`.
 
+use crate::checks::{holds, same};
 use bittle::{BigEndian, Bits, BitsMut, BitsOwned, LittleEndian, Set};
-use checks::{holds, same};
 use std::test::Fail;
 
 #[test]

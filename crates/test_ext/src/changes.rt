@@ -4,10 +4,10 @@ ghost use Rattle.std.specs.Prelude.{IsTrue};
 ghost use Rattle.bittle.specs.Values.{ShapeFits};
 
 use crate::calls::{flip, inserted};
+use crate::checks::{holds, same};
 use bittle::prelude::*;
 use bittle::{Endian, LittleEndian, Set};
 use bittle_ext::prelude::*;
-use checks::{holds, same};
 use std::process::Abort;
 
 #[test]

@@ -5,9 +5,9 @@ ghost use Rattle.bittle.specs.Values.{ShapeFits};
 use crate::calls::{
     BACK, FRONT, conjunction, difference, symmetric_difference, taken, union, union_in,
 };
+use crate::checks::same;
 use bittle::{Bits, LittleEndian};
 use bittle_ext::prelude::*;
-use checks::same;
 
 #[test]
 fn either_of_two_shapes(rt: HostRuntime) {

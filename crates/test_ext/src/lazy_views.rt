@@ -1,10 +1,10 @@
 //! Views, with values worked out by hand, and with drawn sets compared with tests of each bit in
 //! plain loops.
 
+use crate::checks::{holds, same};
 use crate::random::draw;
 use bittle::{Bits, LittleEndian, Set};
 use bittle_ext::prelude::*;
-use checks::{holds, same};
 
 // Draws a word.
 fn draw_word(state: &mut u32) -> u64 {

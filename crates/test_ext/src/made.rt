@@ -2,10 +2,10 @@
 
 ghost use Rattle.std.specs.Prelude.{IsTrue};
 
+use crate::checks::same;
 use bittle::prelude::*;
 use bittle::{Endian, LittleEndian, Set};
 use bittle_ext::prelude::*;
-use checks::same;
 
 /// Returns the complement of a set.
 fn complement_of<B: BitsOwned>(set: B) -> B

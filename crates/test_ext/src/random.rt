@@ -4,10 +4,10 @@ ghost use Rattle.std.specs.Prelude.{◌<◌, ◌≤◌, IsTrue};
 ghost use Rattle.bittle.specs.Values.{ShapeFits};
 
 use crate::calls::{BACK, FRONT, combination, one_runs, set_of, zero_runs, zeros_in_range};
+use crate::checks::same;
 use crate::rotations::moved;
 use bittle::{Bits, BitsMut, BitsOwned};
 use bittle_ext::prelude::*;
-use checks::same;
 use std::process::Abort;
 
 // Draws a number.
@@ -46,15 +46,15 @@ fn change_one<B: BitsMut>(
     let before = flags[at];
     match kind {
         0 => {
-            checks::compare(rt, "insert", row.insert(index), !before);
+            crate::checks::compare(rt, "insert", row.insert(index), !before);
             flags[at] = true;
         }
         1 => {
-            checks::compare(rt, "remove", row.remove(index), before);
+            crate::checks::compare(rt, "remove", row.remove(index), before);
             flags[at] = false;
         }
         2 => {
-            checks::compare(rt, "replace", row.replace(index, !before), before);
+            crate::checks::compare(rt, "replace", row.replace(index, !before), before);
             flags[at] = !before;
         }
         _ => {
@@ -108,7 +108,7 @@ fn take_one<B: BitsMut>(rt: &impl Abort, kind: u32, row: &mut B, flags: &mut [bo
         1 => row.pop_last(),
         _ => row.take_first_zero(),
     };
-    checks::compare(rt, "an end is taken", taken, found);
+    crate::checks::compare(rt, "an end is taken", taken, found);
 }
 
 #[test]

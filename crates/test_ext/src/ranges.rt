@@ -1,9 +1,9 @@
 //! Iterators over a range of a set, with values worked out by hand.
 
 use crate::calls::{BACK, FRONT, ones_in_range, ones_in_range_in, zeros_in_range};
+use crate::checks::same;
 use bittle::{LittleEndian, Set};
 use bittle_ext::prelude::*;
-use checks::same;
 
 #[test]
 fn the_ones_of_a_range_of_a_word(rt: HostRuntime) {

@@ -3,10 +3,10 @@
 ghost use Rattle.bittle.specs.Values.{ShapeFits};
 
 use crate::calls::{counts, counts_in, ends, ranks, selected, stand};
+use crate::checks::{holds, same};
 use bittle::prelude::*;
 use bittle::{LittleEndian, Set};
 use bittle_ext::prelude::*;
-use checks::{holds, same};
 use std::process::Abort;
 
 #[test]

@@ -2,10 +2,10 @@
 
 ghost use Rattle.std.specs.Prelude.{◌<◌, IsTrue};
 
+use crate::checks::{holds, same};
 use bittle::prelude::*;
 use bittle::{BigEndian, BitsOwned, Endian, LittleEndian, Set};
 use bittle_ext::prelude::*;
-use checks::{holds, same};
 use std::process::Abort;
 
 #[test]
@@ -170,11 +170,11 @@ fn agree_at<B: BitsOwned>(rt: &impl Abort, set: B, by: u32)
 {
     for way in 0..4u32 {
         let left = moved_in::<B, LittleEndian>(way, set, by);
-        checks::ask(rt, "LE", left == looped::<B, LittleEndian>(way, &set, by));
+        crate::checks::ask(rt, "LE", left == looped::<B, LittleEndian>(way, &set, by));
         let right = moved_in::<B, BigEndian>(way, set, by);
-        checks::ask(rt, "BE", right == looped::<B, BigEndian>(way, &set, by));
+        crate::checks::ask(rt, "BE", right == looped::<B, BigEndian>(way, &set, by));
         let own = moved(way, set, by);
-        checks::ask(rt, "own", own == looped::<B, B::Order>(way, &set, by));
+        crate::checks::ask(rt, "own", own == looped::<B, B::Order>(way, &set, by));
     }
 }
 
@@ -203,8 +203,8 @@ fn agree<B: BitsOwned>(rt: &impl Abort, width: u32, set: B)
         u32::MAX,
     ] {
         agree_at(rt, set, by);
-        checks::ask(rt, "LE comes back", comes_back::<B, LittleEndian>(set, by));
-        checks::ask(rt, "BE comes back", comes_back::<B, BigEndian>(set, by));
+        crate::checks::ask(rt, "LE comes back", comes_back::<B, LittleEndian>(set, by));
+        crate::checks::ask(rt, "BE comes back", comes_back::<B, BigEndian>(set, by));
     }
 }
 

@@ -7,10 +7,10 @@ use crate::calls::{
     BACK, FRONT, combination, conjunction, difference, set_of, symmetric_difference, union,
     union_in,
 };
+use crate::checks::same;
 use crate::random::{combined, draw};
 use bittle::{Bits, BitsMut, LittleEndian, Set};
 use bittle_ext::prelude::*;
-use checks::same;
 
 #[test]
 fn a_byte_and_a_wider_word(rt: HostRuntime) {

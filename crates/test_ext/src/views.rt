@@ -3,10 +3,10 @@
 ghost use Rattle.std.specs.Prelude.{IsTrue};
 ghost use Rattle.bittle.specs.Values.{ShapeFits};
 
+use crate::checks::{holds, same};
 use bittle::prelude::*;
 use bittle::{BigEndian, Bits, BitsMut, Endian, LittleEndian, Set};
 use bittle_ext::prelude::*;
-use checks::{holds, same};
 
 /// Returns the capacity, the count of set bits, whether the bit at index 0 is set, and the first
 /// and the last set bit of a set, as a view in the order `E` has them.

@@ -1,9 +1,9 @@
 //! Iterators over the longest runs of a set, with values worked out by hand.
 
 use crate::calls::{BACK, FRONT, one_runs, zero_runs};
+use crate::checks::same;
 use bittle::{LittleEndian, Set};
 use bittle_ext::prelude::*;
-use checks::same;
 
 #[test]
 fn the_one_runs_of_a_word(rt: HostRuntime) {

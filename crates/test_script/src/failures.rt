@@ -1,7 +1,7 @@
 //! How the program meets readers and writers that fail, by each kind of error and at each time.
 
+use crate::checks::same;
 use crate::streams::{Sink, Source, ran, status_into, status_of};
-use checks::same;
 use std::cmp::min;
 use std::io::ErrorKind;
 use std::process::Abort;

@@ -1,8 +1,8 @@
 //! Sets that are filled one by one, in each shape and both orders: their counts and their indexes.
 
+use crate::checks::same;
 use crate::streams::{Source, Tally, ran};
 use bittle_script::run;
-use checks::same;
 use std::alloc::Global;
 use std::process::Abort;
 use std::test::Fail;

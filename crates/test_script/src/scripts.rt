@@ -1,7 +1,7 @@
 //! What scripts print, and how the program meets bad readers and writers.
 
+use crate::checks::{holds, same};
 use crate::streams::{Sink, Source, ran, status_into, status_of};
-use checks::{holds, same};
 use std::alloc::{AllocError, Global};
 use std::io::ErrorKind;
 use std::test::Fail;

@@ -1,8 +1,8 @@
 //! Equality, order and hash of sets, with values worked out by hand.
 
+use crate::checks::{holds, same};
 use bittle::prelude::*;
 use bittle::{Set, set};
-use checks::{holds, same};
 use std::cmp::Ordering;
 use std::hash::{Hash, Hasher};
 use std::marker::Model;

@@ -4,9 +4,9 @@ ghost use Rattle.std.specs.Iterator.{IsFinite};
 ghost use Rattle.std.specs.Prelude.{IsTrue};
 ghost use Rattle.bittle.specs.Values.{ShapeFits};
 
+use crate::checks::{holds, same};
 use bittle::prelude::*;
 use bittle::{BigEndian, Endian, LittleEndian, Set, set};
-use checks::{holds, same};
 use std::process::Abort;
 use std::test::Fail;
 

@@ -1,7 +1,7 @@
 //! The debug text of sets.
 
+use crate::checks::{holds, same};
 use bittle::{Set, set};
-use checks::{holds, same};
 use std::alloc::{AllocError, Global};
 use std::fmt;
 use std::fmt::{Debug, Write};

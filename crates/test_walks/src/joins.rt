@@ -4,9 +4,9 @@ ghost use Rattle.std.specs.Prelude.{◌-◌};
 ghost use Rattle.std.specs.Iterator.{at_most};
 ghost use Rattle.bittle.specs.Values.{ShapeFits};
 
+use crate::checks::same;
 use bittle::prelude::*;
 use bittle::{set, set_le};
-use checks::same;
 use std::fmt::Debug;
 use std::process::Abort;
 

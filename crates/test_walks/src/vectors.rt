@@ -2,9 +2,9 @@
 
 ghost use Rattle.std.specs.Iterator.{IsFinite};
 
+use crate::checks::holds;
 use bittle::prelude::*;
 use bittle::{LittleEndian, set};
-use checks::holds;
 
 // Whether an iterator yields just these items, from the last on.
 fn backwards<W: DoubleEndedIterator<Item = u32>>(walk: W, items: &[u32]) -> bool

@@ -1,8 +1,8 @@
 //! Walks through lists of steps.
 
+use crate::checks::same;
 use bittle::replay::{Step, replay_walk};
 use bittle::{BigEndian, LittleEndian, set};
-use checks::same;
 
 #[test]
 fn steps_of_both_ends(rt: HostRuntime) {

@@ -2,9 +2,9 @@
 
 ghost use Rattle.bittle.specs.Values.{ShapeFits};
 
+use crate::checks::{holds, same};
 use bittle::prelude::*;
 use bittle::{BigEndian, LittleEndian, set};
-use checks::{holds, same};
 use std::alloc::AllocError;
 use std::process::Abort;
 use std::test::Fail;

@@ -2,9 +2,9 @@
 
 ghost use Rattle.std.specs.Prelude.{IsTrue};
 
+use crate::checks::{holds, same};
 use bittle::prelude::*;
 use bittle::{LittleEndian, Set, set, set_be, set_le};
-use checks::{holds, same};
 use std::process::Abort;
 
 // Asks for the words of lists, each by its name.

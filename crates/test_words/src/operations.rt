@@ -2,9 +2,9 @@
 
 ghost use Rattle.std.specs.Prelude.{IsTrue};
 
+use crate::checks::{holds, same};
 use bittle::prelude::*;
 use bittle::{LittleEndian, set, set_le};
-use checks::{holds, same};
 use std::fmt::Debug;
 use std::process::Abort;
 

@@ -3,9 +3,9 @@
 ghost use Rattle.std.specs.Prelude.{◌≤◌, IsTrue};
 ghost use Rattle.bittle.specs.Values.{ShapeFits};
 
+use crate::checks::{holds, same};
 use bittle::prelude::*;
 use bittle::{BigEndian, Endian, LittleEndian, Set, macros, set, set_be, set_le};
-use checks::{holds, same};
 use std::fmt::Debug;
 use std::process::Abort;
 

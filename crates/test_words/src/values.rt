@@ -2,10 +2,10 @@
 
 ghost use Rattle.std.specs.Prelude.{◌<◌, IsTrue};
 
+use crate::checks::{holds, same};
 use bittle::number::{IterOnes, IterZeros};
 use bittle::prelude::*;
 use bittle::{BigEndian, Endian, LittleEndian};
-use checks::{holds, same};
 use bittle_bits::extension::Word;
 use std::process::Abort;
 

@@ -3,9 +3,9 @@
 ghost use Rattle.std.specs.Prelude.{◌<◌};
 ghost use Rattle.bittle.specs.Values.{ShapeFits};
 
+use crate::checks::{holds, same};
 use bittle::number::{IterOnes, IterZeros};
 use bittle::{BigEndian, Bits, BitsMut, Endian, LittleEndian};
-use checks::{holds, same};
 use bittle_bits::extension::Word;
 use std::process::Abort;
 
