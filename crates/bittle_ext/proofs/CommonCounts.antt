@@ -108,12 +108,3 @@ counts_both {s} {t} x y end p q n least ours theirs counted =
       just_one = omega (arith, sums.1, first, second, ours, theirs, is);
       most = count-le c (just_one_of s t).has;
     }
-
--- so it is where they are counted below any number that is no less
-pub counted_until : {s t : PlainSet} {a b : ℕ} → EndsAt s a → EndsAt t b → (end p q n : ℕ) →
-    min a b ≤ end → p ≡ size s → q ≡ size t → n ≡ members_below (both_of s t) end →
-    CountsBoth s t p q n
-counted_until {s} {t} {a} {b} x y end p q n far ours theirs counted =
-    counts_both x y (min a b) p q n refl ours theirs (counted
-    ∙ below_past (both_of s t) (min a b) end (min a b) (none_in_both x y (min a b) refl)
-    (omega (arith, far)))

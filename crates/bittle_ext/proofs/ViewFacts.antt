@@ -1,17 +1,17 @@
 -- What a view's words say of it.
-use Rattle.std.proofs.Common.{◌≡◌, ℕ, ◌+◌, ◌-◌, ◌*◌, ◌%◌, ◌<◌, ◌≤◌, ◌==◌, Bool, true, false, not, ◌&&◌, min, max, ◌++◌, append-nil, length, Option, Some, None, is_some, inl, inr, refl, sym, ap, ◌∙◌, arith}
+use Rattle.std.proofs.Common.{◌≡◌, ℕ, ◌+◌, ◌-◌, ◌*◌, ◌%◌, ◌<◌, ◌≤◌, ◌==◌, ◌⊎◌, Bool, true, false, not, ◌&&◌, min, max, ◌++◌, append-nil, length, Option, Some, None, is_some, inl, inr, refl, sym, ap, ◌∙◌, arith}
 use Rattle.std.proofs.Props.{props}
-use Rattle.std.proofs.Math.Nat.{mul-mod_left}
+use Rattle.std.proofs.Math.Nat.{mul-le-mul_right, mul-mod_left}
 use Rattle.std.proofs.Math.Path.{fun_ext}
 use Rattle.std.proofs.lemmas.Bool.{cases_lt, le-ltb, true≢false, eq-eqb, ne_eqb, and_right}
 use Rattle.bittle_bits.specs.BitPatterns.{bit_has, bit_set}
 use Rattle.bittle_bits.specs.Orders.{place, read_in}
 use Rattle.bittle_bits.specs.PlainSet.{PlainSet, contains, is_in_span, span_set, members_below, size, ascending, ascending_from}
-use Rattle.bittle_bits.specs.Searches.{IsFirstIn}
+use Rattle.bittle_bits.specs.Searches.{IsFirstIn, PassesOver}
 use Rattle.bittle_bits.specs.SetOperations.{combination_of}
 use Rattle.bittle_bits.specs.Words.{word_has, word_of}
 use Rattle.bittle_bits.proofs.AscendingLists.{ascending_from-add, ascending_from-none, ascending_from-length}
-use Rattle.bittle_bits.proofs.PlaceLemmas.{place_part, place_in_word, place-place}
+use Rattle.bittle_bits.proofs.PlaceLemmas.{place_below, place_past, place_part, place_in_word, place-place}
 use Rattle.bittle_bits.proofs.PlainSets.{plain_set, contains_in}
 use Rattle.bittle_bits.proofs.Sizes.{size-members}
 use Rattle.bittle_bits.proofs.Spans.{is_in_span-outside, is_in_span-inside}
@@ -189,3 +189,47 @@ word_within m w k from to s d e r word is span both =
     word_read_back m w k s.capacity r (members_within (read_in m w s) from to) word
     (decided_in_order ◌&&◌ m w k (span_set s.capacity from to) (read_in m w s) r e d word both
     (span ∙ span_word w k s.capacity from to) (word_in_order m w k s d word is))
+
+-- ---- the words outside a range
+
+module _ (m : Bool) (w from to low high q r : ℕ) (t : PlainSet) (word : 0 < w) (order : low ≤ high)
+  where
+    -- an index whose place lies outside the range is none of it
+    outside : (i : ℕ) → (place m w i < from) ⊎ (to ≤ place m w i) →
+        (read_back m w (members_within t from to)).has i ≡ false
+    outside i out = ap (λ (u : PlainSet). u.has i) (read_back_is m w (members_within t from to))
+        ∙ ap (λ b. b && t.has (place m w i)) (is_in_span-outside from to (place m w i) out)
+
+    -- the words before that of its start have none of it
+    pub before_range : q * w ≤ from → r ≡ min (max q low) high →
+        PassesOver true w (read_back m w (members_within t from to)) low high r
+    before_range start is = (
+      omega (arith, is, order),
+      omega (arith, is),
+      λ i lo hi. elim (cases_lt low q) [
+        | inl l ↦
+            let up : r * w ≤ q * w = mul-le-mul_right w (omega (arith, is, l)) in
+            let at : place m w i < q * w = place_below m w q i word (omega (arith, hi, up)) in
+            outside i (inl (omega (arith, at, start)))
+        | inr g ↦
+            let same : r ≡ low = omega (arith, is, g, order) in
+            absurd (omega (arith, lo, rw same at hi))
+      ],
+    )
+
+    -- and so have those after that of its end
+    pub after_range : to ≤ q * w → r ≡ max (min q high) low →
+        PassesOver false w (read_back m w (members_within t from to)) low high r
+    after_range end is = (
+      omega (arith, is),
+      omega (arith, is, order),
+      λ i lo hi. elim (cases_lt q high) [
+        | inl l ↦
+            let up : q * w ≤ r * w = mul-le-mul_right w (omega (arith, is, l)) in
+            let at : q * w ≤ place m w i = place_past m w q i word (omega (arith, lo, up)) in
+            outside i (inr (omega (arith, at, end)))
+        | inr g ↦
+            let same : r ≡ high = omega (arith, is, g, order) in
+            absurd (omega (arith, rw same at lo, hi))
+      ],
+    )

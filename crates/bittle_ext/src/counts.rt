@@ -1,15 +1,28 @@
-//! How many indexes are set in two sets, with no set made. The words of a view of both are counted;
-//! of unlike words each set bit of the first set is tested in the second.
+//! How many indexes are set in two sets, with no set made: word by word where their words have one
+//! width and are read in one order, else by the set bits of the first.
 
-ghost use Rattle.std.specs.Prelude.{◌≡◌};
-ghost use Rattle.bittle_ext.specs.Combined.{first_only_of, just_one_of, CountsBoth};
-ghost use Rattle.bittle.specs.PlainSet.{size};
+ghost use Rattle.std.specs.Prelude.{◌≡◌, ◌+◌, ◌*◌, ◌<◌};
+ghost use Rattle.bittle_ext.specs.Combined.{both_of, first_only_of, just_one_of, CountsBoth};
+ghost use Rattle.bittle.specs.PlainSet.{members_below, size};
 ghost use Rattle.bittle.specs.Values.{set_in, ShapeFits};
 
+use crate::both_words::word_of_both;
 use crate::capacities::capacity_of;
-use crate::views::of_both::AndView;
 use bittle::{Bits, Endian};
-use bittle_bits::extension::are_alike;
+use bittle_bits::extension::{Conjunction, Word, are_alike};
+
+/// Counts the indexes of word `k` that are set in both.
+#[inline]
+fn count_common_word<A: Bits, B: Bits, E: Endian, F: Endian>(left: &A, right: &B, k: u32) -> u32
+    requires left_fits { ShapeFits A.Shape left.now }
+    requires right_fits { ShapeFits B.Shape right.now }
+    requires within { k * A.width < 4294967296 }
+    ensures { let both = both_of
+        (set_in A.Shape E.Endian left.now) (set_in B.Shape F.Endian right.now) in
+        members_below both ((k + 1) * A.width) ≡ members_below both (k * A.width) + result }
+{
+    word_of_both::<A, B, E, F, Conjunction>(left, right, k).count_ones()
+}
 
 /// Counts the indexes that are set in both.
 #[inline]
@@ -20,10 +33,13 @@ pub fn count_common<A: Bits, B: Bits, E: Endian, F: Endian>(left: &A, right: &B)
         (size (A.big left.now)) (size (B.big right.now)) result }
 {
     let common = capacity_of::<A, E>(left).min(capacity_of::<B, F>(right));
-    if are_alike::<A, B, E, F>() {
-        return AndView::<A, B, E, F>::until(left, right, common).count_ones();
-    }
     let mut count = 0;
+    if are_alike::<A, B, E, F>() {
+        for k in 0..common / <A::LeafWord as Word>::width() {
+            count += count_common_word::<A, B, E, F>(left, right, k);
+        }
+        return count;
+    }
     let mut from = 0;
     while let Some(index) = left.first_one_in::<E>(from, common) {
         if right.test_bit_in::<F>(index) {

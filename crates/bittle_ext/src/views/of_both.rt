@@ -166,7 +166,7 @@ impl<'a, A: Bits, B: Bits, U: Endian, F: Endian, O: Operation> Bits for OfBoth<'
 impl<'a, A: Bits, B: Bits, E: Endian, F: Endian, O: Operation> OfBoth<'a, A, B, E, F, O> {
     /// Views the indexes below `end`, past which the operation makes no member.
     #[inline]
-    pub(crate) fn until(left: &'a A, right: &'a B, end: u32) -> Self
+    fn until(left: &'a A, right: &'a B, end: u32) -> Self
         requires left_fits { ShapeFits A.Shape left.now }
         requires right_fits { ShapeFits B.Shape right.now }
         requires holds { HoldsBoth O.decide A.width (set_in A.Shape E.Endian left.now)

@@ -9,14 +9,15 @@ ghost use Rattle.bittle.specs.Values.{set_in, ShapeFits};
 use crate::views::by_words::{is_full, test};
 use bittle::{Bits, Endian, Shape};
 use bittle_bits::extension::{
-    Conjunction, Front, Ones, Operation, ReadWords, Sealed, count_ones_in_range, end_in, range,
-    word_width,
+    Conjunction, End, Front, Kind, Ones, Operation, ReadWords, Sealed, count_ones_in_range, end_in,
+    range, word_width,
 };
 use std::alloc::AllocError;
 use std::marker::PhantomData;
 
 /// The set bits of a range of a set that it borrows, read in the order `E`: a set of as many bits
-/// as that one, in `E`. Each word of it is made when it is asked for.
+/// as that one, in `E`. Each word of it is made when it is asked for; an iterator over the set bits
+/// reads the words of the range alone.
 #[derive(Drop)]
 pub struct Within<'a, B: Shape, E: Endian> {
     set: &'a B,
@@ -87,6 +88,19 @@ impl<'a, B: Bits, E: Endian> ReadWords for Within<'a, B, E> {
         let high = self.to.saturating_sub(start).min(width);
         let kept = range::<B::LeafWord, E>(low, high);
         Conjunction::on_words::<B::LeafWord>(kept, self.set.nth_leaf_word(k))
+    }
+
+    #[inline]
+    fn pass_over<K: Kind, N: End>(&self, low: usize, high: usize) -> usize {
+        if !K::ONES {
+            return if N::FRONT { low } else { high };
+        }
+        let width = word_width::<B>();
+        if N::FRONT {
+            ((self.from / width) as usize).max(low).min(high)
+        } else {
+            (self.to.div_ceil(width) as usize).min(high).max(low)
+        }
     }
 }
 

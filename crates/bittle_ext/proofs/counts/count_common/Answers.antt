@@ -1,47 +1,58 @@
-use Rattle.std.proofs.Common.{◌≡◌, ◌+◌, ◌*◌, ◌<◌, ◌/◌, ◌%◌, min, refl, sym, ap, ◌∙◌, arith}
-use Rattle.bittle.specs.PlainSet.{PlainSet, size}
+use Rattle.std.proofs.Common.{◌≡◌, ◌+◌, ◌*◌, ◌<◌, ◌/◌, min, refl, sym, ap, ◌∙◌, arith}
+use Rattle.bittle.specs.PlainSet.{members_below}
 use Rattle.bittle.specs.Values.{set_in}
 use Rattle.bittle.proofs.CallerSets.{contains_within}
 use Rattle.bittle_bits.specs.LawProofs.{whole_lesser}
 use Rattle.bittle_bits.proofs.DecidedWords.{words_make_up}
 use Rattle.bittle_bits.proofs.MembersBelow.{below_at_most}
 use Rattle.bittle_ext.specs.Combined.{both_of}
-use Rattle.bittle_ext.proofs.RankFacts.{below_zero}
-use Rattle.bittle_ext.proofs.CommonCounts.{counted_next, counted_all, counted_until, counts_both}
-use Rattle.bittle_ext.proofs.SetFacts.{none_in_both}
-use Rattle.bittle_ext.proofs.ViewFacts.{multiple}
+use Rattle.bittle_ext.proofs.RankFacts.{below_zero, end_of_words}
+use Rattle.bittle_ext.proofs.CommonCounts.{counted_next, counted_all, counts_both, word_inside}
 use Rattle.bittle_ext.proofs.counts.count_common.Goals as goal
 use Rattle.bittle_ext.proofs.counts.count_common.Goals.{then-test_bit_in, else-test_bit_in}
 
--- ---- of words that are alike
+-- ---- by words
 
-pub until-requires-clause-holds : goal.until-requires-clause-holds
-until-requires-clause-holds g c =
-    let w = g.A.Shape.width in
-    let a = g.met.A.ReadWords in
-    let left = c.capacity_of.ensures.ends in
-    let right = c.capacity_of-2.ensures.ends in
-    let ours = a.whole_words c.args.left.now in
-    let theirs = g.met.B.ReadWords.whole_words c.args.right.now in
-    let width = (c.are_alike.ensures c.if-are_alike.true).0 in
-    let least = min c.capacity_of.result c.capacity_of-2.result in
-    let whole = words_make_up w least a.width_positive (whole_lesser _ _ w w least refl refl
-    (ours.0, left.capacity ∙ ours.1)
-    (theirs.0, right.capacity ∙ theirs.1 ∙ ap (λ v. theirs.0 * v) (sym width))) in
-    record {
-      fits = omega (arith, c.min-common.ensures, left.capacity, c.requires.left_fits.1);
-      whole = ap (λ n. n % w) c.min-common.ensures ∙ multiple w least (least / w, sym whole);
-      past = none_in_both left right c.min-common.result c.min-common.ensures;
-    }
+pub loop-k-init : goal.loop-k-init
+loop-k-init g c =
+    let both = both_of (set_in g.A.Shape g.E.Endian c.args.left.now)
+    (set_in g.B.Shape g.F.Endian c.args.right.now) in
+    let start : 0 * g.A.Shape.width ≡ 0 = omega arith in
+    sym (ap (members_below both) start ∙ below_zero both)
+
+pub overflow_add-count : goal.overflow_add-count
+overflow_add-count g c =
+    let both = both_of (set_in g.A.Shape g.E.Endian c.args.left.now)
+    (set_in g.B.Shape g.F.Endian c.args.right.now) in
+    let inside = word_inside g.A.Shape.width c.width.result c.min-common.result c.loop-k.k
+    (c.width.ensures ∙ g.met.A.ReadWords.leaf_width) c.loop-k-test.true in
+    omega (
+      arith,
+      inside,
+      c.loop-k.invariant,
+      c.count_common_word-count.ensures,
+      below_at_most both ((c.loop-k.k + 1) * g.A.Shape.width),
+      c.min-common.type_inv,
+    )
 
 pub returns-then-are_alike : goal.returns-then-are_alike
 returns-then-are_alike g c =
+    let w = g.A.Shape.width in
+    let a = g.met.A.ReadWords in
     let left = c.capacity_of.ensures in
     let right = c.capacity_of-2.ensures in
-    counted_until left.ends right.ends c.min-common.result _ _ _
-    (omega (arith, c.min-common.ensures)) left.as_many right.as_many
-    (c.count_ones.ensures.in_each_order g.E.Endian.mirrored
-    ∙ ap (λ (s : PlainSet). size s) c.until.ensures.set)
+    let ours = a.whole_words c.args.left.now in
+    let theirs = g.met.B.ReadWords.whole_words c.args.right.now in
+    let least = min c.capacity_of.result c.capacity_of-2.result in
+    let width = (c.are_alike.ensures c.if-are_alike.true).0 in
+    let whole = words_make_up w least a.width_positive (whole_lesser _ _ w w least refl refl
+    (ours.0, left.ends.capacity ∙ ours.1)
+    (theirs.0, right.ends.capacity ∙ theirs.1 ∙ ap (λ v. theirs.0 * v) (sym width))) in
+    let end : c.loop-k.k * w ≡ least = end_of_words w least c.min-common.result c.width.result
+    c.loop-k.k a.width_positive (least / w, sym whole) c.min-common.ensures
+    (c.width.ensures ∙ a.leaf_width) (omega (arith, c.loop-k-test.false, c.loop-k.auto.k-end)) in
+    counts_both left.ends right.ends (c.loop-k.k * w) _ _ _ end left.as_many right.as_many
+    c.loop-k.invariant
 
 -- ---- by the set bits of the first
 
@@ -51,8 +62,8 @@ loop-index-init g c =
     let t = set_in g.B.Shape g.F.Endian c.args.right.now in
     record { within = omega arith; counted = sym (below_zero (both_of s t)) }
 
-pub overflow_add-count : goal.overflow_add-count
-overflow_add-count g c =
+pub overflow_add-count-then-test_bit_in : goal.overflow_add-count-then-test_bit_in
+overflow_add-count-then-test_bit_in g c =
     let s = set_in g.A.Shape g.E.Endian c.args.left.now in
     let t = set_in g.B.Shape g.F.Endian c.args.right.now in
     omega (
