@@ -3,6 +3,7 @@
 #![tactic(auto)]
 
 pub mod board;
+pub mod changed_bits;
 pub mod changes;
 pub mod counts;
 pub mod entities;

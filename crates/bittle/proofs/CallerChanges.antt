@@ -1,0 +1,124 @@
+-- What callers cite of a set after a change: a test of an index, and the size.
+use Rattle.std.proofs.Common.{◌≡◌, ◌≢◌, ℕ, zero, suc, ◌+◌, ◌-◌, ◌%◌, ◌<◌, ◌≤◌, ◌⊎◌, Bool, true, false, not, cond, ◌&&◌, ◌||◌, ◌==◌, nat_lt, inl, inr, refl, sym, ap, ◌∙◌, arith}
+use Rattle.std.proofs.Math.Nat.{add-mod_right}
+use Rattle.std.proofs.lemmas.Bool.{cases_eq, eq-eqb, ne_eqb, lt-ltb}
+use Rattle.bittle_bits.specs.PlainSet.{PlainSet, contains, with_index, has_with, without_index, has_without, with_span, without_span, has_changed, count_below, is_in_span, members_below, size}
+use Rattle.bittle_bits.proofs.Counts.{count-same, count-add}
+use Rattle.bittle_bits.proofs.Spans.{inside_span, outside_span}
+use Rattle.bittle.proofs.CallerSets.{contains_within, with_index_within, without_index_within}
+
+-- an index is in the set that it was put into
+pub contains_with : (s : PlainSet) (i : ℕ) → 0 < s.capacity → contains (with_index s i) i ≡ true
+unfolding contains has_with
+contains_with s i some =
+    let is : nat_lt 0 s.capacity ≡ true = lt-ltb 0 s.capacity some in
+    let same : ((i % s.capacity) == (i % s.capacity)) ≡ true = eq-eqb _ _ refl in
+    rw (is, same) refl
+
+-- an index is not in the set that it was taken out of
+pub contains_without : (s : PlainSet) (i : ℕ) → contains (without_index s i) i ≡ false
+unfolding contains has_without
+contains_without s i = by (nat_lt 0 s.capacity)
+  where
+    same : ((i % s.capacity) == (i % s.capacity)) ≡ true
+    same = eq-eqb _ _ refl
+
+    by : (b : Bool) → (b && (not (b && ((i % s.capacity) == (i % s.capacity)))
+        && s.has (i % s.capacity))) ≡ false
+    by true = rw same refl
+    by false = refl
+
+-- another index is in the set just if it was before one was put in
+pub contains_with_other : (s : PlainSet) (i j : ℕ) → i < s.capacity → j < s.capacity → j ≢ i →
+    contains (with_index s i) j ≡ contains s j
+contains_with_other s i j h k apart =
+    contains_within (with_index s i) j k
+    ∙ ap (λ t. t.has j) (with_index_within s i h)
+    ∙ ap (λ b. b || s.has j) (ne_eqb j i apart)
+    ∙ sym (contains_within s j k)
+
+-- nor does it change by taking one out
+pub contains_without_other : (s : PlainSet) (i j : ℕ) → i < s.capacity → j < s.capacity → j ≢ i →
+    contains (without_index s i) j ≡ contains s j
+contains_without_other s i j h k apart =
+    contains_within (without_index s i) j k
+    ∙ ap (λ t. t.has j) (without_index_within s i h)
+    ∙ ap (λ b. not b && s.has j) (ne_eqb j i apart)
+    ∙ sym (contains_within s j k)
+
+-- one turn of wrapping leads to the same index
+pub contains_turned : (s : PlainSet) (i : ℕ) → contains s (i + s.capacity) ≡ contains s i
+unfolding contains
+contains_turned s i = ap (λ k. nat_lt 0 s.capacity && s.has k) (add-mod_right i s.capacity)
+
+-- of two tests of the numbers below c that differ at one of them, the one that it passes counts
+-- one more
+count_one_more : (c i : ℕ) (s t : ℕ → Bool) → i < c → s i ≡ false → t i ≡ true →
+    ((k : ℕ) → k ≢ i → t k ≡ s k) → count_below c t ≡ count_below c s + 1
+unfolding count_below
+count_one_more zero i s t h none some same = absurd (omega arith)
+count_one_more (suc c) i s t h none some same =
+    elim (cases_eq c i) [
+      | inl e ↦
+          let rest = count-same c t s (λ k l. same k (omega arith)) in
+          let was : s c ≡ false = ap s e ∙ none in
+          let is : t c ≡ true = ap t e ∙ some in
+          rw (was, is) (omega (arith, rest))
+      | inr n ↦
+          let rest = count_one_more c i s t (omega arith) none some same in
+          let bit : Bool → ℕ = λ b. cond b 1 0 in
+          let last : bit (t c) ≡ bit (s c) = ap bit (same c n) in
+          omega (arith, rest, last)
+    ]
+
+-- the size after a new index was put in
+pub size_with : (s : PlainSet) (i : ℕ) → i < s.capacity → s.has i ≡ false →
+    size (with_index s i) ≡ size s + 1
+size_with s i h none =
+    ap size (with_index_within s i h)
+    ∙ count_one_more s.capacity i s.has (λ k. (k == i) || s.has k) h none
+    (ap (λ b. b || s.has i) (eq-eqb i i refl)) (λ k n. ap (λ b. b || s.has k) (ne_eqb k i n))
+
+-- the size before a member was taken out
+pub size_without : (s : PlainSet) (i : ℕ) → i < s.capacity → s.has i ≡ true →
+    size s ≡ size (without_index s i) + 1
+size_without s i h some =
+    count_one_more s.capacity i (λ k. not (k == i) && s.has k) s.has h
+    (ap (λ b. not b && s.has i) (eq-eqb i i refl)) some
+    (λ k n. sym (ap (λ b. not b && s.has k) (ne_eqb k i n)))
+    ∙ sym (ap (λ t. size t + 1) (without_index_within s i h))
+
+-- a set with a member of its own is that set
+pub with_member : (s : PlainSet) (i : ℕ) → i < s.capacity → s.has i ≡ true → with_index s i ≡ s
+with_member s i h some = with_index_within s i h ∙ (λ j. record {
+  capacity = s.capacity;
+  has = λ k. each k j;
+})
+  where
+    each : (k : ℕ) → ((k == i) || s.has k) ≡ s.has k
+    each k = elim (cases_eq k i) [
+      | inl e ↦ ap (λ b. b || s.has k) (eq-eqb k i e) ∙ sym (ap s.has e ∙ some)
+      | inr n ↦ ap (λ b. b || s.has k) (ne_eqb k i n)
+    ]
+
+-- an index of a span is in the set that the span was put into
+pub contains_with_span : (s : PlainSet) (from to i : ℕ) → from ≤ i → i < to → i < s.capacity →
+    contains (with_span s from to) i ≡ true
+contains_with_span s from to i h k l =
+    contains_within (with_span s from to) i l
+    ∙ inside_span (λ _. true) s from to i h k
+
+-- it is not in the set that the span was taken out of
+pub contains_without_span : (s : PlainSet) (from to i : ℕ) → from ≤ i → i < to → i < s.capacity →
+    contains (without_span s from to) i ≡ false
+contains_without_span s from to i h k l =
+    contains_within (without_span s from to) i l
+    ∙ inside_span (λ _. false) s from to i h k
+
+-- an index outside of a span is in the set just if it was before the span was put in
+pub contains_outside_span : (s : PlainSet) (from to i : ℕ) → (i < from) ⊎ (to ≤ i) →
+    i < s.capacity → contains (with_span s from to) i ≡ contains s i
+contains_outside_span s from to i out l =
+    contains_within (with_span s from to) i l
+    ∙ outside_span (λ _. true) s from to i out
+    ∙ sym (contains_within s i l)
