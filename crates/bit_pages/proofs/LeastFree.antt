@@ -2,9 +2,9 @@
 use Rattle.std.proofs.Common.{◌≡◌, ℕ, zero, suc, ◌+◌, ◌<◌, ◌≤◌, ◌⊎◌, Bool, true, false, ◌&&◌, cond, nat_lt, Option, Some, None, inl, inr, refl, sym, ap, ◌∙◌, arith}
 use Rattle.std.proofs.lemmas.Bool.{cases_eq, cases_Bool, cases_lt, lt-ltb, ltb-true, not-true, not-false, and_parts, true≢false}
 use Rattle.std.specs.Prelude.{MatchOption}
-use Rattle.bittle.specs.PlainSet.{PlainSet, complement, contains}
+use Rattle.bittle.specs.PlainSet.{PlainSet, complement, contains, size}
 use Rattle.bittle.specs.Searches.{NoneIn, IsFirstIn}
-use Rattle.bittle.proofs.CallerSets.{contains_within, complement_within}
+use Rattle.bittle.proofs.CallerSets.{contains_within, complement_within, size_full}
 use Rattle.bit_pages.specs.PageLaws.{IsLeastFree}
 use Rattle.bit_pages.specs.Pages.{is_taken, least_free_from, least_free}
 
@@ -118,3 +118,17 @@ is_taken-within s p h = ap (λ b. b && s.has p) (lt-ltb p s.capacity h) ∙ sym 
 -- what is taken is a page
 pub taken-within : (s : PlainSet) (p : ℕ) → is_taken s p ≡ true → p < s.capacity
 taken-within s p h = ltb-true p s.capacity (and_parts (nat_lt p s.capacity) (s.has p) h).0
+
+-- and a member of the set of those that are taken
+pub taken-member : (s : PlainSet) (p : ℕ) → is_taken s p ≡ true → s.has p ≡ true
+taken-member s p h = (and_parts (nat_lt p s.capacity) (s.has p) h).1
+
+-- where all pages are taken none is the least free one
+pub least_free-full : (s : PlainSet) → size s ≡ s.capacity → least_free s ≡ None
+least_free-full s full = by (least_free s) (least_free-is s)
+  where
+    by : (o : Option ℕ) → MatchOption o ((k : ℕ) → k < s.capacity → s.has k ≡ true)
+        (IsLeastFree s) → o ≡ None
+    by None all = refl
+    by (Some q) least =
+        absurd (true≢false (sym (size_full s full q least.within) ∙ least.is_free))

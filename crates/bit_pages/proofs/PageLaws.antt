@@ -1,8 +1,9 @@
 -- What follows from the page machine for every run.
 use Rattle.std.proofs.Common.{◌≡◌, ℕ, zero, suc, ◌<◌, ◌⊎◌, Bool, true, false, not, cond, ◌&&◌, ◌||◌, ◌==◌, Option, Some, None, List, [], ◌∷◌, inl, inr, refl, sym, ap, ◌∙◌, arith}
 use Rattle.std.proofs.lemmas.Bool.{cases_eq, cases_Bool, eq-eqb, ne_eqb, or_right, true≢false}
-use Rattle.std.specs.Prelude.{MatchOption, slice_get}
-use Rattle.bittle.specs.PlainSet.{PlainSet}
+use Rattle.std.specs.Prelude.{◌↔◌, MatchOption, slice_get}
+use Rattle.bittle.specs.PlainSet.{PlainSet, size}
+use Rattle.bittle.proofs.CallerSets.{size_full, size_whole}
 use Rattle.bit_pages.specs.PageLaws.{IsLeastFree}
 use Rattle.bit_pages.specs.Pages.{is_taken, least_free, page_or_full, with_found, answer_to, state_after, request_answers}
 use Rattle.bit_pages.specs.declared.Answer.TheVariants as answer
@@ -30,16 +31,22 @@ page_is_least s Take page = by (least_free s) (least_free-is s)
     by (Some q) least e = let same : q ≡ page = cc in rw same at least
 page_is_least s (GiveBack p) page = λ e. absurd (given_is_no_page (is_taken s p) page e)
 
--- a full allocator has no free page
-pub full_is_taken : (s : PlainSet) (request : Request) → answer_to s request ≡ answer.Full →
-    (k : ℕ) → k < s.capacity → s.has k ≡ true
+-- an allocator is full exactly if a page is asked for and all are taken
+pub full_is_taken : (s : PlainSet) (request : Request) → (answer_to s request ≡ answer.Full)
+    ↔ ((request ≡ Take) × (size s ≡ s.capacity))
 full_is_taken s Take = by (least_free s) (least_free-is s)
   where
     by : (o : Option ℕ) → MatchOption o ((k : ℕ) → k < s.capacity → s.has k ≡ true)
-        (IsLeastFree s) → page_or_full o ≡ answer.Full → (k : ℕ) → k < s.capacity → s.has k ≡ true
-    by None all e = all
-    by (Some q) least e = absurd (cc)
-full_is_taken s (GiveBack p) = λ e. absurd (given_is_not_full (is_taken s p) e)
+        (IsLeastFree s) → (page_or_full o ≡ answer.Full) ↔ ((Take ≡ Take) × (size s ≡ s.capacity))
+    by None all = (λ e. (refl, size_whole s all), λ e. refl)
+    by (Some q) least = (
+      λ e. absurd (cc),
+      λ e. absurd (true≢false (sym (size_full s e.1 q least.within) ∙ least.is_free)),
+    )
+full_is_taken s (GiveBack p) = (
+  λ e. absurd (given_is_not_full (is_taken s p) e),
+  λ e. absurd (cc),
+)
 
 -- the page is one, and taken
 record IsTaken (s : PlainSet) (page : ℕ) : Type 0 where
@@ -117,3 +124,11 @@ given_between s (request ∷ requests) page zero (suc j) h a b =
 given_between s (request ∷ requests) page (suc i) (suc j) h a b =
     let later = given_between (state_after s request) requests page i j (omega arith) a b in
     (suc later.0, omega (arith, later.1), omega (arith, later.2), later.3, later.4)
+
+-- a page that is taken before a run is answered in it only after it was given back
+pub given_first : (s : PlainSet) (requests : List Request) (page j : ℕ) → page < s.capacity →
+    s.has page ≡ true → slice_get (request_answers s requests) j ≡ Some (answer.Page page) →
+    (k : ℕ) × (k < j) × (slice_get requests k ≡ Some (GiveBack page))
+    × (slice_get (request_answers s requests) k ≡ Some answer.Given)
+given_first s requests page j h t e = given_before s requests page j
+    (record { within = h; is_member = t }) e

@@ -2,20 +2,45 @@
 //! nothing: its contract is the law. They rest on the machine of `specs/Pages.antt`, which `serve`
 //! runs by its contract.
 
-ghost use Rattle.bit_pages.specs.PageLaws.{PagesAreLeastFree, FullWhereAllAreTaken};
-ghost use Rattle.bit_pages.specs.PageLaws.{PagesAreGivenBetween};
+ghost use Rattle.bit_pages.specs.PageLaws.{PagesAreLeastFree, FullExactlyIfAllAreTaken};
+ghost use Rattle.bit_pages.specs.PageLaws.{PagesAreGivenBetween, TakenPagesAreGivenFirst};
+ghost use Rattle.bit_pages.specs.PageLaws.{AnswersAreOfTheirStates, PagesAreCounted, PagesAreOutstanding};
 
 /// States that each page that is answered is the least of those that were free.
 pub fn pages_are_least_free()
     ensures { PagesAreLeastFree }
 {}
 
-/// States that an allocator is full only where all pages are taken.
-pub fn full_where_all_are_taken()
-    ensures { FullWhereAllAreTaken }
+/// States that an allocator is full exactly if a page is asked for and all are taken.
+pub fn full_exactly_if_all_are_taken()
+    ensures { FullExactlyIfAllAreTaken }
+{}
+
+/// States that each answer of a run is that to its request from the state that the requests before
+/// it leave, so that what holds of an answer and its state holds at each place of a run.
+pub fn answers_are_of_their_states()
+    ensures { AnswersAreOfTheirStates }
+{}
+
+/// States that as many pages are taken after a run as before it, with those that it gives, less
+/// those that come back.
+pub fn pages_are_counted()
+    ensures { PagesAreCounted }
 {}
 
 /// States that between two answers of one page that page was given back.
 pub fn pages_are_given_between()
     ensures { PagesAreGivenBetween }
+{}
+
+/// States that a page which was taken before a run is answered in it only after it was given back.
+pub fn taken_pages_are_given_first()
+    ensures { TakenPagesAreGivenFirst }
+{}
+
+/// States that the pages which a run gives and which do not come back in it are distinct, that none
+/// of them was taken before the run but those that came back, and that with the others taken before
+/// they are the pages which are taken after it.
+pub fn pages_are_outstanding()
+    ensures { PagesAreOutstanding }
 {}

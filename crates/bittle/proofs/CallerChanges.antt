@@ -71,22 +71,31 @@ count_one_more (suc c) i s t h none some same =
           omega (arith, rest, last)
     ]
 
+-- a set with a number more has one member more
+pub size_added : (s : PlainSet) (i : ℕ) → i < s.capacity → s.has i ≡ false →
+    size (record { capacity = s.capacity; has = λ k. (k == i) || s.has k }) ≡ size s + 1
+size_added s i h none =
+    count_one_more s.capacity i s.has (λ k. (k == i) || s.has k) h none
+    (ap (λ b. b || s.has i) (eq-eqb i i refl)) (λ k n. ap (λ b. b || s.has k) (ne_eqb k i n))
+
+-- a set without one of its members has one member less
+pub size_removed : (s : PlainSet) (i : ℕ) → i < s.capacity → s.has i ≡ true →
+    size s ≡ size (record { capacity = s.capacity; has = λ k. not (k == i) && s.has k }) + 1
+size_removed s i h some =
+    count_one_more s.capacity i (λ k. not (k == i) && s.has k) s.has h
+    (ap (λ b. not b && s.has i) (eq-eqb i i refl)) some
+    (λ k n. sym (ap (λ b. not b && s.has k) (ne_eqb k i n)))
+
 -- the size after a new index was put in
 pub size_with : (s : PlainSet) (i : ℕ) → i < s.capacity → s.has i ≡ false →
     size (with_index s i) ≡ size s + 1
-size_with s i h none =
-    ap size (with_index_within s i h)
-    ∙ count_one_more s.capacity i s.has (λ k. (k == i) || s.has k) h none
-    (ap (λ b. b || s.has i) (eq-eqb i i refl)) (λ k n. ap (λ b. b || s.has k) (ne_eqb k i n))
+size_with s i h none = ap size (with_index_within s i h) ∙ size_added s i h none
 
 -- the size before a member was taken out
 pub size_without : (s : PlainSet) (i : ℕ) → i < s.capacity → s.has i ≡ true →
     size s ≡ size (without_index s i) + 1
 size_without s i h some =
-    count_one_more s.capacity i (λ k. not (k == i) && s.has k) s.has h
-    (ap (λ b. not b && s.has i) (eq-eqb i i refl)) some
-    (λ k n. sym (ap (λ b. not b && s.has k) (ne_eqb k i n)))
-    ∙ sym (ap (λ t. size t + 1) (without_index_within s i h))
+    size_removed s i h some ∙ sym (ap (λ t. size t + 1) (without_index_within s i h))
 
 -- a set with a member of its own is that set
 pub with_member : (s : PlainSet) (i : ℕ) → i < s.capacity → s.has i ≡ true → with_index s i ≡ s

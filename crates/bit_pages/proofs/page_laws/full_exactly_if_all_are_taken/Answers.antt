@@ -1,5 +1,5 @@
 use Rattle.bit_pages.proofs.PageLaws.{full_is_taken}
-use Rattle.bit_pages.proofs.page_laws.full_where_all_are_taken.Goals as goal
+use Rattle.bit_pages.proofs.page_laws.full_exactly_if_all_are_taken.Goals as goal
 
 pub returns : goal.returns
 returns c = full_is_taken
