@@ -1,6 +1,6 @@
 -- What follows from the page machine for every history: whose state an answer is of, how many pages
 -- are taken, and which are outstanding.
-use Rattle.std.proofs.Common.{◌≡◌, ◌≢◌, ℕ, zero, suc, ◌+◌, ◌<◌, ◌⊎◌, Bool, true, false, not, cond, ◌&&◌, ◌||◌, ◌==◌, Option, Some, None, List, [], ◌∷◌, ◌++◌, length, take, inl, inr, refl, sym, ap, ◌∙◌, arith}
+use Rattle.std.proofs.Common.{◌≡◌, ℕ, zero, suc, ◌+◌, ◌<◌, ◌⊎◌, Bool, true, false, not, cond, ◌&&◌, ◌||◌, ◌==◌, Option, Some, None, List, [], ◌∷◌, ◌++◌, length, inl, inr, refl, sym, ap, ◌∙◌, arith}
 use Rattle.std.specs.List.{count_by, filter, list_any, IsDistinct, AllByRecursion}
 use Rattle.std.proofs.lemmas.Cmp.{nat_eq_equiv}
 use Rattle.std.proofs.Math.Bool.{or-false}
@@ -12,8 +12,8 @@ use Rattle.std.proofs.lemmas.Map.Views.{any-filter_same}
 use Rattle.std.specs.Prelude.{MatchOption, slice_get}
 use Rattle.bittle.specs.PlainSet.{PlainSet, size}
 use Rattle.bittle.proofs.CallerChanges.{size_added, size_removed}
-use Rattle.bit_pages.specs.PageLaws.{IsLeastFree, IsAnsweredAt, is_page, is_given, held_after, without_given, held_after_run, outstanding, gives_back, came_back, AreOutstanding}
-use Rattle.bit_pages.specs.Pages.{is_taken, least_free, page_or_full, with_found, with_page, without_page, answer_to, state_after, request_answers, final_state}
+use Rattle.bit_pages.specs.PageLaws.{IsLeastFree, IsAnsweredAt, is_page, is_given, held_after, held_after_run, outstanding, gives_back, came_back, AreOutstanding}
+use Rattle.bit_pages.specs.Pages.{is_taken, least_free, page_or_full, with_found, without_page, answer_to, state_after, request_answers, final_state}
 use Rattle.bit_pages.specs.declared.Answer.{Answer}
 use Rattle.bit_pages.specs.declared.Answer.TheVariants as answer
 use Rattle.bit_pages.specs.declared.Request.{Request}

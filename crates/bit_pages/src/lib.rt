@@ -1,7 +1,9 @@
 //! An allocator of pages over any owned set.
 #![tactic(auto)]
 
-ghost use Rattle.std.specs.Prelude.{◌≡◌, ◌↔◌, length, IsTrue, IsOk};
+ghost use Rattle.std.specs.Option.{is_some};
+ghost use Rattle.std.specs.Prelude.{◌≡◌, ◌+◌, ◌-◌, ◌<◌, ◌≤◌, ◌↔◌, cond, length, true, false};
+ghost use Rattle.std.specs.Prelude.{IfSome, IsTrue, IsOk, is_ok};
 ghost use Rattle.bittle.specs.Comparison.{AreSame};
 ghost use Rattle.bittle.specs.PlainSet.{empty_set, size};
 ghost use Rattle.bittle.specs.Shapes.{Fits};
@@ -56,42 +58,70 @@ impl Error for NotTaken {}
 
 /// The pages of an allocator, numbered from 0. There are as many as a `B` has numbers.
 ///
-/// The type keeps that it fits: `B::bits()` is below `u32::MAX`.
+/// The type keeps that it fits: `B::bits()` is below `u32::MAX`. It keeps the count of the pages
+/// that are taken too.
 #[derive(Drop)]
-pub struct Pages<B: Shape> {
+pub struct Pages<B: BitsOwned> {
     // Its members, in the order of the type, are the pages that are taken.
     map: B,
+    count: u32,
     pub ghost fits: { Fits B.indexable B.type_capacity },
+    pub ghost counted: { count ≡ size (set_in B.Shape B.Order.Endian map) },
 }
 
 impl<B: BitsOwned> Pages<B> {
-    /// Returns an allocator of which no page is taken. The type has to fit: `B::bits() < u32::MAX`
-    /// tells. With capacity 0 it has no page.
+    /// Returns an allocator of which no page is taken. The type has to be one that may be indexed:
+    /// `B::bits() < u32::MAX` tells. With capacity 0 it has no page.
     pub fn new() -> Pages<B>
-        requires { Fits B.indexable B.type_capacity }
+        requires { IsTrue B.indexable }
         ensures { set_in B.Shape B.Order.Endian result.map ≡ empty_set B.type_capacity }
     {
-        Pages { map: B::zeros() }
+        Pages {
+            map: B::zeros(),
+            count: 0,
+        }
     }
 
     /// Returns an allocator of which the pages in the map are taken, each by its index in the order
-    /// of the type. The type has to fit, as for [`new`](Pages::new).
+    /// of the type. The type has to fit, as for [`new`](Pages::new). It counts them, O(words).
     pub fn with_taken(map: B) -> Pages<B>
-        requires { Fits B.indexable B.type_capacity }
+        requires { IsTrue B.indexable }
         ensures { set_in B.Shape B.Order.Endian result.map ≡ set_in B.Shape B.Order.Endian map }
     {
-        Pages { map }
+        Pages {
+            map,
+            count: map.count_ones(),
+        }
+    }
+
+    /// Returns the map of the pages that are taken.
+    pub fn into_map(self) -> B
+        ensures { result ≡ self.map }
+    {
+        self.map
     }
 
     /// Takes the least page that is free, or changes nothing and returns `None` where all are
-    /// taken, as with capacity 0.
+    /// taken, as with capacity 0. It reads the map up to the page; where all are taken it reads
+    /// nothing.
     pub fn take(&mut self) -> Option<u32>
         ensures page { result ≡ least_free (set_in B.Shape B.Order.Endian self.old.map) }
+        ensures below { IfSome result (λ page. page < B.type_capacity) }
+        ensures was_free { IfSome result
+            (λ page. is_taken (set_in B.Shape B.Order.Endian self.old.map) page ≡ false) }
+        ensures taken { IfSome result
+            (λ page. is_taken (set_in B.Shape B.Order.Endian self.new.map) page ≡ true) }
+        ensures count { size (set_in B.Shape B.Order.Endian self.new.map)
+            ≡ size (set_in B.Shape B.Order.Endian self.old.map) + cond (is_some result) 1 0 }
         ensures pages { set_in B.Shape B.Order.Endian self.new.map
             ≡ state_after (set_in B.Shape B.Order.Endian self.old.map) Request.Take }
     {
+        if self.count == B::bits() {
+            return None;
+        }
         let page = self.map.iter_zeros().next()?;
         self.map.set_bit(page);
+        self.count += 1;
         Some(page)
     }
 
@@ -100,6 +130,9 @@ impl<B: BitsOwned> Pages<B> {
     pub fn give_back(&mut self, page: u32) -> Result<(), NotTaken>
         ensures taken { IsOk result
             ↔ IsTrue (is_taken (set_in B.Shape B.Order.Endian self.old.map) page) }
+        ensures free { is_taken (set_in B.Shape B.Order.Endian self.new.map) page ≡ false }
+        ensures count { size (set_in B.Shape B.Order.Endian self.old.map)
+            ≡ size (set_in B.Shape B.Order.Endian self.new.map) + cond (is_ok result) 1 0 }
         ensures pages { set_in B.Shape B.Order.Endian self.new.map
             ≡ state_after (set_in B.Shape B.Order.Endian self.old.map) (Request.GiveBack page) }
     {
@@ -107,14 +140,40 @@ impl<B: BitsOwned> Pages<B> {
             return Err(NotTaken);
         }
         self.map.clear_bit(page);
+        self.count -= 1;
         Ok(())
     }
 
-    /// Returns how many pages are taken.
-    pub fn taken(&self) -> u32
-        ensures { result ≡ size (set_in B.Shape B.Order.Endian self.now.map) }
+    /// Returns whether the number is a page, and taken. A number past the last page is none.
+    // The map would take such a number for another.
+    pub fn is_taken(&self, page: u32) -> bool
+        ensures { result ≡ is_taken (set_in B.Shape B.Order.Endian self.now.map) page }
     {
-        self.map.count_ones()
+        page < B::bits() && self.map.test_bit(page)
+    }
+
+    /// Returns how many pages there are.
+    pub fn pages(&self) -> u32
+        ensures { result ≡ B.type_capacity }
+    {
+        B::bits()
+    }
+
+    /// Returns how many pages are taken, at once.
+    pub fn taken(&self) -> u32
+        ensures value { result ≡ size (set_in B.Shape B.Order.Endian self.now.map) }
+        ensures at_most { result ≤ B.type_capacity }
+    {
+        self.count
+    }
+
+    /// Returns how many pages are free, at once.
+    pub fn free(&self) -> u32
+        ensures value { result
+            ≡ B.type_capacity - size (set_in B.Shape B.Order.Endian self.now.map) }
+        ensures at_most { result ≤ B.type_capacity }
+    {
+        B::bits() - self.count
     }
 
     /// Returns whether both have the same pages taken. One may have more pages than the other.
@@ -124,14 +183,6 @@ impl<B: BitsOwned> Pages<B> {
             (set_in C.Shape C.Order.Endian other.now.map) }
     {
         Set::<B, B::Order>::new_in(self.map).eq_bits(&other.map)
-    }
-
-    // Returns whether the number is a page, and taken. The map would take a number past the last
-    // page for another.
-    fn is_taken(&self, page: u32) -> bool
-        ensures { result ≡ is_taken (set_in B.Shape B.Order.Endian self.now.map) page }
-    {
-        page < B::bits() && self.map.test_bit(page)
     }
 
     // Answers one request.

@@ -1,6 +1,6 @@
 -- Facts of sets that callers cite: changes and tests of an index that does not wrap, sizes,
 -- operations.
-use Rattle.std.proofs.Common.{◌≡◌, ℕ, ◌<◌, Bool, true, false, not, ◌&&◌, ◌||◌, ◌==◌, inl, inr, sym, ap, ◌∙◌, refl, arith}
+use Rattle.std.proofs.Common.{◌≡◌, ℕ, ◌<◌, ◌≤◌, Bool, true, false, not, ◌&&◌, ◌||◌, ◌==◌, inl, inr, sym, ap, ◌∙◌, refl, arith}
 use Rattle.std.proofs.Math.Nat.{mod-eq_of_lt}
 use Rattle.std.proofs.lemmas.Bool.{cases_Bool, lt-ltb}
 use Rattle.bittle_bits.specs.PlainSet.{PlainSet, contains, with_index, has_with, without_index, has_without, complement, lacks, empty_set, size}
@@ -50,6 +50,10 @@ pub combination_within : (decide : Bool → Bool → Bool) (s t : PlainSet) (i :
 unfolding combination_has
 combination_within decide s t i h k = let one = lt-ltb i s.capacity h in
     let other = lt-ltb i t.capacity k in rw (one, other) refl
+
+-- a set has no more members than its capacity
+pub size_at_most : (s : PlainSet) → size s ≤ s.capacity
+size_at_most = sizes.size-le
 
 -- a set of size 0 has no members
 pub size_none : (s : PlainSet) → size s ≡ 0 → NoneIn s 0 s.capacity

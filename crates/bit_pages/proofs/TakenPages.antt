@@ -1,0 +1,53 @@
+-- A page that is taken or given back, seen in the map.
+use Rattle.std.proofs.Common.{◌≡◌, ℕ, ◌+◌, ◌<◌, true, false, not, ◌&&◌, ◌||◌, ◌==◌, nat_lt, Option, Some, None, refl, sym, ap, ◌∙◌}
+use Rattle.std.specs.Prelude.{MatchOption}
+use Rattle.std.proofs.lemmas.Bool.{eq-eqb, lt-ltb, and_right}
+use Rattle.bittle.specs.PlainSet.{PlainSet, with_index, without_index, size}
+use Rattle.bittle.proofs.CallerChanges.{size_with, size_without}
+use Rattle.bittle.proofs.CallerSets.{with_index_within, without_index_within}
+use Rattle.bit_pages.specs.PageLaws.{IsLeastFree}
+use Rattle.bit_pages.specs.Pages.{is_taken, least_free, with_found}
+use Rattle.bit_pages.proofs.LeastFree.{least_free-is, taken-within, taken-member}
+
+-- the page that was found is the least free one
+pub found_is_least : (s : PlainSet) (page : ℕ) → least_free s ≡ Some page → IsLeastFree s page
+found_is_least s page = by (least_free s) (least_free-is s)
+  where
+    by : (o : Option ℕ) → MatchOption o ((k : ℕ) → k < s.capacity → s.has k ≡ true)
+        (IsLeastFree s) → o ≡ Some page → IsLeastFree s page
+    by None all e = absurd (cc)
+    by (Some q) least e = let same : q ≡ page = cc in rw same at least
+
+-- the least free page, and the map with it
+module _ (s t : PlainSet) (page : ℕ) (found : least_free s ≡ Some page)
+    (after : t ≡ with_index s page) where
+  least : IsLeastFree s page
+  least = found_is_least s page found
+
+  pub was_free : is_taken s page ≡ false
+  was_free = ap (λ b. nat_lt page s.capacity && b) least.is_free
+      ∙ and_right (nat_lt page s.capacity) false refl
+
+  pub with_least : t ≡ with_found s (least_free s)
+  with_least = after ∙ with_index_within s page least.within ∙ ap (with_found s) (sym found)
+
+  pub is_now_taken : is_taken t page ≡ true
+  is_now_taken = ap (λ u. is_taken u page) (after ∙ with_index_within s page least.within)
+      ∙ ap (λ b. b && ((page == page) || s.has page)) (lt-ltb page s.capacity least.within)
+      ∙ ap (λ b. b || s.has page) (eq-eqb page page refl)
+
+  pub one_more : size t ≡ size s + 1
+  one_more = ap size after ∙ size_with s page least.within least.is_free
+
+-- a taken page, and the map without it
+module _ (s t : PlainSet) (page : ℕ) (taken : is_taken s page ≡ true)
+    (after : t ≡ without_index s page) where
+  pub is_now_free : is_taken t page ≡ false
+  is_now_free = ap (λ u. is_taken u page)
+      (after ∙ without_index_within s page (taken-within s page taken))
+      ∙ ap (λ b. nat_lt page s.capacity && (not b && s.has page)) (eq-eqb page page refl)
+      ∙ and_right (nat_lt page s.capacity) false refl
+
+  pub one_less : size s ≡ size t + 1
+  one_less = size_without s page (taken-within s page taken) (taken-member s page taken)
+      ∙ sym (ap (λ u. size u + 1) after)
