@@ -11,6 +11,7 @@ pub mod free_runs;
 pub mod lent;
 pub mod macro_lists;
 pub mod nested;
+pub mod pages;
 pub mod permissions;
 pub mod ranks;
 pub mod relations;

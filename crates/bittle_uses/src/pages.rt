@@ -1,0 +1,62 @@
+//! An allocator of pages in the hands of a caller: what an answer says is what the next call needs.
+//! None has a proof file.
+
+ghost use Rattle.std.specs.Prelude.{◌≡◌, ◌≢◌, ◌+◌, ◌≤◌, IfSome, true};
+ghost use Rattle.bit_pages.specs.Pages.{is_taken};
+ghost use Rattle.bittle.specs.Values.{set_in};
+ghost use Rattle.bittle.specs.PlainSet.{size};
+
+use bit_pages::Pages;
+use bittle::BitsOwned;
+
+/// Takes two pages, which differ.
+pub fn take_two<B: BitsOwned>(pages: &mut Pages<B>) -> Option<(u32, u32)>
+    ensures { IfSome result (λ both. both.0 ≢ both.1) }
+{
+    let first = pages.take()?;
+    let second = pages.take()?;
+    Some((first, second))
+}
+
+/// Takes a page and gives it back, which is done.
+pub fn borrow_page<B: BitsOwned>(pages: &mut Pages<B>) -> bool
+    ensures { result ≡ true }
+{
+    match pages.take() {
+        Some(page) => pages.give_back(page).is_ok(),
+        None => true,
+    }
+}
+
+/// Takes a page, and finds it taken.
+pub fn take_and_ask<B: BitsOwned>(pages: &mut Pages<B>) -> bool
+    ensures { result ≡ true }
+{
+    match pages.take() {
+        Some(page) => pages.is_taken(page),
+        None => true,
+    }
+}
+
+/// Takes a page for an owner, who is noted in a table of as many places as there are pages.
+pub fn take_for(pages: &mut Pages<u8>, owners: &mut [u32; 8], owner: u32) -> Option<u32> {
+    let page = pages.take()?;
+    owners[page as usize] = owner;
+    Some(page)
+}
+
+/// Counts the free pages by hand.
+pub fn count_free(pages: &Pages<u8>) -> u32
+    ensures { result ≤ 8 }
+{
+    8 - pages.taken()
+}
+
+/// Takes a page and counts those that are taken.
+pub fn take_and_count<B: BitsOwned>(pages: &mut Pages<B>) -> Option<u32>
+    ensures { IfSome result (λ count.
+        count ≡ size (set_in B.Shape B.Order.Endian pages.old.map) + 1) }
+{
+    let _page = pages.take()?;
+    Some(pages.taken())
+}
