@@ -71,7 +71,38 @@ fn no_pages_at_all(rt: HostRuntime) {
     let mut answers = [Answer::Given; 2];
     pages.serve(&[Request::Take, Request::GiveBack(0)], &mut answers);
     same!(rt; answers, [Answer::Full, Answer::NotTaken]);
-    same!(rt; pages.taken(), 0);
+    same!(rt; (pages.pages(), pages.taken(), pages.free()), (0, 0, 0));
+    holds!(rt; !pages.is_taken(0));
+}
+
+// Takes two pages, gives the first back, and returns how many there are, how many are taken and
+// free, and which of the pages 0, 1 and of what is none are taken.
+fn ask_of_two<B: BitsOwned>() -> ([u32; 3], [bool; 3])
+    requires { Fits B.indexable B.type_capacity }
+{
+    let mut pages = Pages::<B>::new();
+    let _first = pages.take();
+    let _second = pages.take();
+    let _back = pages.give_back(0);
+    let counts = [pages.pages(), pages.taken(), pages.free()];
+    let end = pages.pages();
+    (counts, [pages.is_taken(0), pages.is_taken(1), pages.is_taken(end)])
+}
+
+#[test]
+fn counts_and_questions(rt: HostRuntime) {
+    same!(rt; ask_of_two::<u8>(), ([8, 1, 7], [false, true, false]));
+    same!(rt; ask_of_two::<[[u16; 2]; 3]>(), ([96, 1, 95], [false, true, false]));
+    same!(rt; ask_of_two::<Set<[u8; 3], LittleEndian>>(), ([24, 1, 23], [false, true, false]));
+}
+
+#[test]
+fn a_map_given_and_taken_back(rt: HostRuntime) {
+    let mut pages = Pages::with_taken(0b0000_1011u8);
+    same!(rt; pages.taken(), 3);
+    same!(rt; pages.take(), Some(2));
+    same!(rt; pages.take(), Some(4));
+    same!(rt; pages.into_map(), 0b0001_1111);
 }
 
 // Takes one page more than eight, gives page 3 back and takes again.
