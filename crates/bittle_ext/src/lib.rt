@@ -34,6 +34,7 @@
 #![tactic(auto)]
 
 mod bits_ext;
+mod bits_index_ext;
 mod bits_mut_ext;
 mod bits_owned_ext;
 mod bits_relation_ext;
@@ -57,6 +58,7 @@ mod runs;
 pub mod views;
 
 pub use bits_ext::BitsExt;
+pub use bits_index_ext::{BitsIndexExt, BitsIndexMutExt};
 pub use bits_mut_ext::BitsMutExt;
 pub use bits_owned_ext::BitsOwnedExt;
 pub use bits_relation_ext::BitsRelationExt;

@@ -1,6 +1,7 @@
 //! The extension traits of sets, for `use bittle_ext::prelude::*`.
 
 pub use crate::bits_ext::BitsExt;
+pub use crate::bits_index_ext::{BitsIndexExt, BitsIndexMutExt};
 pub use crate::bits_mut_ext::BitsMutExt;
 pub use crate::bits_owned_ext::BitsOwnedExt;
 pub use crate::bits_relation_ext::BitsRelationExt;

@@ -2,6 +2,7 @@
 #![tactic(auto)]
 
 pub mod any_changes;
+pub mod checked_indexes;
 pub mod combined_walks;
 pub mod lent_changes;
 pub mod made_sets;

@@ -6,6 +6,8 @@ mod calls;
 #[cfg(test)]
 mod changes;
 #[cfg(test)]
+mod checked_indexes;
+#[cfg(test)]
 mod checks;
 #[cfg(test)]
 mod combined;

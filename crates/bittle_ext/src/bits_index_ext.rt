@@ -1,0 +1,183 @@
+//! Indexes that do not wrap: calls on one bit that refuse an index at or past the capacity.
+
+ghost use Rattle.std.specs.Option.{is_some};
+ghost use Rattle.std.specs.Prelude.{◌≡◌, ◌<◌, ◌≤◌, ◌↔◌, cond, not, IfSome, IsTrue, MatchOption};
+ghost use Rattle.bittle.specs.PlainSet.{with_index, without_index};
+ghost use Rattle.bittle.specs.Values.{set_in, ShapeFits};
+
+use crate::bits_mut_ext::BitsMutExt;
+use crate::capacities::capacity_of;
+use bittle::{Bits, BitsMut};
+
+/// Questions about one bit, by an index that does not wrap.
+///
+/// An index past the capacity is an index of no bit: where `test_bit` would ask the bit that the
+/// index wraps to, these answer that there is none. The shape has to fit. The order is that of the
+/// type; a view that [`in_order`](crate::BitsViewExt::in_order) borrows has another one.
+pub trait BitsIndexExt: Bits {
+    /// Returns `true` if the bit at `index` is set, and `false` if it is unset or if `index` is at
+    /// or past the capacity, as each is with capacity 0.
+    ///
+    /// ```
+    /// 0b0110u8.contains_index(2);                         // true
+    /// 0b0110u8.contains_index(10);                        // false, where test_bit(10) is true
+    /// ```
+    #[inline]
+    #[tactic(auto, using(bittle::proofs::CallerSets::contains_within))]
+    final fn contains_index(&self, index: u32) -> bool
+    where
+        Self: Sized,
+        requires { ShapeFits Self.Shape self.now }
+        ensures value { result ≡ (set_in Self.Shape Self.Order.Endian self.now).has index }
+        ensures below { IsTrue result → index < (Self.big self.now).capacity }
+    {
+        index < capacity_of::<Self, Self::Order>(self) && self.test_bit_in::<Self::Order>(index)
+    }
+
+    /// Returns whether the bit at `index` is set, or `None` if `index` is at or past the capacity,
+    /// as each is with capacity 0.
+    ///
+    /// ```
+    /// 0b0110u8.get_bit(3);                                // Some(false)
+    /// 0b0110u8.get_bit(8);                                // None
+    /// ```
+    #[inline]
+    #[tactic(auto, using(bittle::proofs::CallerSets::contains_within))]
+    final fn get_bit(&self, index: u32) -> Option<bool>
+    where
+        Self: Sized,
+        requires { ShapeFits Self.Shape self.now }
+        ensures within { IsTrue (is_some result) ↔ index < (Self.big self.now).capacity }
+        ensures value { IfSome result
+            (λ bit. bit ≡ (set_in Self.Shape Self.Order.Endian self.now).has index) }
+    {
+        if index < self.bits_capacity() {
+            Some(self.test_bit_in::<Self::Order>(index))
+        } else {
+            None
+        }
+    }
+}
+
+/// Changes of one bit, by an index that does not wrap.
+///
+/// An index past the capacity is refused: nothing changes, and the answer says so. The shape has to
+/// fit. The order is that of the type; a view that
+/// [`in_order_mut`](crate::BitsMutViewExt::in_order_mut) lends has another one.
+pub trait BitsIndexMutExt: BitsMut {
+    /// Sets the bit at `index` and returns `true`, or changes nothing and returns `false` if `index`
+    /// is at or past the capacity, as each is with capacity 0.
+    ///
+    /// ```
+    /// let mut word = 0b0001u8;
+    /// word.try_set_bit(3);                                // true: word is 0b1001
+    /// word.try_set_bit(65);                               // false: there is no bit 65
+    /// ```
+    #[inline]
+    final fn try_set_bit(&mut self, index: u32) -> bool
+    where
+        Self: Sized,
+        requires { ShapeFits Self.Shape self.old }
+        ensures within { IsTrue result ↔ index < (Self.big self.old).capacity }
+        ensures set { let before = set_in Self.Shape Self.Order.Endian self.old in
+            set_in Self.Shape Self.Order.Endian self.new
+            ≡ cond result (with_index before index) before }
+        ensures stays { Self.loan self.old ≡ Self.loan self.new }
+    {
+        let within = index < self.bits_capacity();
+        if within {
+            self.set_bit_in::<Self::Order>(index);
+        }
+        within
+    }
+
+    /// Clears the bit at `index` and returns `true`, or changes nothing and returns `false` if
+    /// `index` is at or past the capacity, as each is with capacity 0.
+    ///
+    /// ```
+    /// let mut word = 0b1001u8;
+    /// word.try_clear_bit(3);                              // true: word is 0b0001
+    /// word.try_clear_bit(8);                              // false: there is no bit 8
+    /// ```
+    #[inline]
+    final fn try_clear_bit(&mut self, index: u32) -> bool
+    where
+        Self: Sized,
+        requires { ShapeFits Self.Shape self.old }
+        ensures within { IsTrue result ↔ index < (Self.big self.old).capacity }
+        ensures set { let before = set_in Self.Shape Self.Order.Endian self.old in
+            set_in Self.Shape Self.Order.Endian self.new
+            ≡ cond result (without_index before index) before }
+        ensures stays { Self.loan self.old ≡ Self.loan self.new }
+    {
+        let within = index < self.bits_capacity();
+        if within {
+            self.clear_bit_in::<Self::Order>(index);
+        }
+        within
+    }
+
+    /// Sets the bit at `index` and returns whether it was unset, or changes nothing and returns
+    /// `None` if `index` is at or past the capacity, as each is with capacity 0.
+    ///
+    /// ```
+    /// let mut seen = 0b0001u8;
+    /// seen.try_insert(3);                                 // Some(true): seen is 0b1001
+    /// seen.try_insert(0);                                 // Some(false): it was set
+    /// seen.try_insert(65);                                // None: there is no bit 65
+    /// ```
+    #[inline]
+    #[tactic(auto, using(bittle::proofs::CallerSets::contains_within))]
+    final fn try_insert(&mut self, index: u32) -> Option<bool>
+    where
+        Self: Sized,
+        requires { ShapeFits Self.Shape self.old }
+        ensures within { IsTrue (is_some result) ↔ index < (Self.big self.old).capacity }
+        ensures was_unset { IfSome result (λ unset.
+            unset ≡ not ((set_in Self.Shape Self.Order.Endian self.old).has index)) }
+        ensures set { let before = set_in Self.Shape Self.Order.Endian self.old in
+            set_in Self.Shape Self.Order.Endian self.new
+            ≡ cond (is_some result) (with_index before index) before }
+        ensures stays { Self.loan self.old ≡ Self.loan self.new }
+    {
+        if index < self.bits_capacity() {
+            Some(self.insert(index))
+        } else {
+            None
+        }
+    }
+
+    /// Clears the bit at `index` and returns whether it was set, or changes nothing and returns
+    /// `None` if `index` is at or past the capacity, as each is with capacity 0.
+    ///
+    /// ```
+    /// let mut seen = 0b1001u8;
+    /// seen.try_remove(3);                                 // Some(true): seen is 0b0001
+    /// seen.try_remove(3);                                 // Some(false): it was unset
+    /// seen.try_remove(8);                                 // None: there is no bit 8
+    /// ```
+    #[inline]
+    #[tactic(auto, using(bittle::proofs::CallerSets::contains_within))]
+    final fn try_remove(&mut self, index: u32) -> Option<bool>
+    where
+        Self: Sized,
+        requires { ShapeFits Self.Shape self.old }
+        ensures within { IsTrue (is_some result) ↔ index < (Self.big self.old).capacity }
+        ensures was_set { IfSome result (λ set.
+            set ≡ (set_in Self.Shape Self.Order.Endian self.old).has index) }
+        ensures set { let before = set_in Self.Shape Self.Order.Endian self.old in
+            set_in Self.Shape Self.Order.Endian self.new
+            ≡ cond (is_some result) (without_index before index) before }
+        ensures stays { Self.loan self.old ≡ Self.loan self.new }
+    {
+        if index < self.bits_capacity() {
+            Some(self.remove(index))
+        } else {
+            None
+        }
+    }
+}
+
+impl<B: Bits> BitsIndexExt for B {}
+
+impl<B: BitsMut> BitsIndexMutExt for B {}

@@ -1,0 +1,74 @@
+//! Indexes from outside, which may be at or past the capacity: nothing wraps. None has a proof file.
+
+ghost use Rattle.std.specs.Prelude.{◌≡◌, ◌<◌, ◌↔◌, IsTrue, IsOk, IfSome, true, not};
+ghost use Rattle.std.specs.Result.{is_ok};
+ghost use Rattle.bittle.specs.BitPatterns.{bit_set};
+ghost use Rattle.bittle.specs.PlainSet.{with_index};
+ghost use Rattle.bittle.specs.Values.{set_in, ShapeFits};
+
+use bittle::{Bits, BitsMut, LittleEndian};
+use bittle_ext::{BitsIndexExt, BitsIndexMutExt, BitsMutViewExt};
+
+/// An edge leads to a node that is none.
+pub struct NoNode;
+
+/// Visits a node of a graph with 64 nodes, and returns whether it was new.
+pub fn visit(seen: &mut u64, node: u32) -> Result<bool, NoNode>
+    ensures { IsOk result ↔ node < 64 }
+{
+    match seen.try_insert(node) {
+        Some(new) => Ok(new),
+        None => Err(NoNode),
+    }
+}
+
+/// Visits the ends of edges from the left, and returns how many lead out of the graph.
+pub fn visit_ends(seen: &mut [u8; 5], ends: &[u32]) -> usize {
+    let mut out = 0usize;
+    for end in ends.iter() {
+        if seen.in_order_mut::<LittleEndian>().try_insert(*end).is_none() {
+            out = out.saturating_add(1);
+        }
+    }
+    out
+}
+
+/// Returns the weight of a node that was seen.
+pub fn weight_of(seen: u64, weights: &[u32; 64], node: u32) -> u32 {
+    if seen.contains_index(node) {
+        weights[node as usize]
+    } else {
+        0
+    }
+}
+
+/// Returns whether the bit at an index is set, in a set of any length.
+pub fn is_set<B: Bits>(bits: &B, index: u32) -> Option<bool>
+    requires { ShapeFits B.Shape bits.now }
+    ensures { IfSome result (λ bit. bit ≡ (set_in B.Shape B.Order.Endian bits.now).has index) }
+{
+    bits.get_bit(index)
+}
+
+/// Sets a bit that there is, and finds it set.
+#[tactic(auto, using(bittle::proofs::CallerChanges::contains_with))]
+pub fn set_checked(mask: u64, index: u32) -> bool
+    ensures { result ≡ true }
+{
+    let mut mask = mask;
+    !mask.try_set_bit(index) || mask.test_bit(index)
+}
+
+/// Sets the bit at an index below the capacity, which is done.
+pub fn set_below(mask: &mut u64, index: u32) -> bool
+    requires { index < 64 }
+    ensures done { result ≡ true }
+    ensures set { bit_set 64 mask.new ≡ with_index (bit_set 64 mask.old) index }
+{
+    mask.try_set_bit(index)
+}
+
+/// Clears a bit in a slice of any length that fits, or none where the index is past its end.
+pub fn clear_checked(mut words: &mut [u64], index: u32) -> bool {
+    words.bits_capacity() < u32::MAX && words.try_clear_bit(index)
+}
