@@ -5,7 +5,7 @@ use Rattle.std.proofs.lemmas.Bool.{cases_lt, lt-ltb, le-ltb}
 use Rattle.bittle_bits.specs.BitPatterns.{bit_has, bit_set}
 use Rattle.bittle_bits.specs.Orders.{place, read_in}
 use Rattle.bittle_bits.specs.PlainSet.{PlainSet, ascending, complement, lacks}
-use Rattle.bittle_bits.specs.Searches.{NoneIn}
+use Rattle.bittle_bits.specs.Searches.{NoneIn, PassesOver}
 use Rattle.bittle_bits.specs.Walk.{ones_or_zeros, AreBelow}
 use Rattle.bittle_bits.specs.Words.{word_has, word_of}
 use Rattle.bittle_bits.proofs.AscendingLists.{are_below}
@@ -55,3 +55,13 @@ pub none_in_order : (ones m : Bool) (w a b : ℕ) (s : PlainSet) → 0 < w →
 none_in_order ones m w a b s word whole none = λ k lo hi.
     ap (λ t. t.has k) (ones_or_zeros-members ones m w s word whole)
     ∙ none (place m w k) (place_past m w a k word lo) (place_below m w b k word hi)
+
+-- words that are passed over in the set are so in each order
+pub passes_in_order : (front ones m : Bool) (w low high r : ℕ) (s : PlainSet) → 0 < w →
+    (words : ℕ) × (s.capacity ≡ words * w) →
+    PassesOver front w (ones_or_zeros ones s) low high r →
+    PassesOver front w (ones_or_zeros ones (read_in m w s)) low high r
+passes_in_order true ones m w low high r s word whole p =
+    (p.0, p.1, none_in_order ones m w low r s word whole p.2)
+passes_in_order false ones m w low high r s word whole p =
+    (p.0, p.1, none_in_order ones m w r high s word whole p.2)

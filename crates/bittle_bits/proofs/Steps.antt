@@ -7,10 +7,11 @@ use Rattle.std.specs.Option.{is_some}
 use Rattle.bittle_bits.specs.Buffers.{BufferPair, members_between, items_in, buffer_count, buffer_of, Refills, ScansFrom}
 use Rattle.bittle_bits.specs.Ends.{with_end, YieldsFrom}
 use Rattle.bittle_bits.specs.PlainSet.{PlainSet}
+use Rattle.bittle_bits.specs.Searches.{PassesOver}
 use Rattle.bittle_bits.specs.Cursor.{items_left_in, walk_of, IsCounted}
 use Rattle.bittle_bits.specs.Walk.{Walk, Seeks, Steps, count_after}
 use Rattle.bittle_bits.specs.declared.internal.cursor.Cursor.{Cursor}
-use Rattle.bittle_bits.proofs.Items.{members_between-split, members_between-empty}
+use Rattle.bittle_bits.proofs.Items.{members_between-split, members_between-none, members_between-empty}
 
 -- scans that yielded nothing, and others after them, are together scans that yielded nothing
 pub seeks_on : {u v w : Walk} → Seeks u v → Seeks v w → Seeks u w
@@ -19,7 +20,7 @@ seeks_on a b = record {
   items = b.items ∙ a.items;
   scans = le_trans a.scans b.scans;
   fetches = le_trans a.fetches b.fetches;
-  unread = b.unread ∙ a.unread;
+  unread = le_trans b.unread a.unread;
   words = b.words ∙ a.words;
 }
 
@@ -32,7 +33,7 @@ steps_on {w} {r} front a b = record {
   items = b.items ∙ ap (λ n. count_after n r) a.items;
   scans = le_trans a.scans b.scans;
   fetches = le_trans a.fetches b.fetches;
-  unread = b.unread ∙ a.unread;
+  unread = le_trans b.unread a.unread;
   words = b.words ∙ a.words;
   bounded = b.bounded;
 }
@@ -119,7 +120,7 @@ module _ {B E W : Type 0} (front : Bool) (t : Cursor B E W) (c : BufferPair) (i 
         items = scan.items;
         scans = omega (arith, scan.scans);
         fetches = omega (arith, scan.fetches);
-        unread = ap (λ n. n + (t.high - t.low)) scan.fetches;
+        unread = omega (arith, scan.fetches);
         words = refl;
         bounded = record {
           at_least = counts.0;
@@ -230,5 +231,63 @@ module _ {B E W : Type 0} (s : PlainSet) (words w : ℕ) where
           at_least = omega (arith, counted.at_least, f.scans);
           at_most = omega (arith, counted.at_most);
           once = omega (arith, counted.once, f.fetches);
+        },
+      )
+
+  -- ---- the words that are passed over
+
+  abbrev moved_to : Bool → Cursor B E W → ℕ → Cursor B E W
+  moved_to front t on = record {
+    buffers = t.buffers;
+    low = cond front on t.low;
+    high = cond front t.high on;
+    items = t.items;
+  }
+
+  -- words at an end that have no item leave the same items
+  left_past : (front : Bool) (t : Cursor B E W) (on : ℕ) →
+      PassesOver front w s t.low t.high on →
+      members_between s ((moved_to front t on).low * w) ((moved_to front t on).high * w)
+      ≡ members_between s (t.low * w) (t.high * w)
+  left_past true t on p = sym
+      (members_between-split s (t.low * w) (on * w) (t.high * w) (mul-le-mul_right w p.0)
+      (mul-le-mul_right w p.1)
+      ∙ ap (λ xs. xs ++ members_between s (on * w) (t.high * w))
+      (members_between-none s (t.low * w) (on * w) p.2))
+  left_past false t on p = sym
+      (members_between-split s (t.low * w) (on * w) (t.high * w) (mul-le-mul_right w p.0)
+      (mul-le-mul_right w p.1)
+      ∙ ap (λ xs. members_between s (t.low * w) (on * w) ++ xs)
+      (members_between-none s (on * w) (t.high * w) p.2) ∙ append-nil _)
+
+  -- fewer words are between
+  fewer : (front : Bool) (t : Cursor B E W) (on : ℕ) → t.high ≤ words →
+      PassesOver front w s t.low t.high on → let u = moved_to front t on in
+      (u.low ≤ u.high) × (u.high ≤ words) × (u.high - u.low ≤ t.high - t.low)
+  fewer true t on within p = (p.1, within, omega (arith, p.0))
+  fewer false t on within p = (p.0, omega (arith, p.1), omega (arith, p.1))
+
+  -- they may be passed over
+  pub moved_past : (front : Bool) (t : Cursor B E W) (on : ℕ) → IsCounted words t →
+      PassesOver front w s t.low t.high on → let u = moved_to front t on in
+      Seeks (walk_of s words w t) (walk_of s words w u) × IsCounted words u
+  unfolding items_left_in
+  moved_past front t on counted p =
+      let between = fewer front t on counted.within p in (
+        record {
+          remaining = ap (λ xs. items_in t.buffers.head ++ (xs ++ items_in t.buffers.tail))
+              (left_past front t on p);
+          items = refl;
+          scans = omega arith;
+          fetches = omega arith;
+          unread = omega (arith, between.2);
+          words = refl;
+        },
+        record {
+          ordered = between.0;
+          within = between.1;
+          at_least = counted.at_least;
+          at_most = omega (arith, counted.at_most, between.2);
+          once = omega (arith, counted.once, between.2);
         },
       )

@@ -45,7 +45,7 @@ pub record Steps (gives : Walk → Option ℕ → Walk → Type 0) (before : Wal
   pub items : after.items ≡ count_after before.items r
   pub scans : before.scans ≤ after.scans
   pub fetches : before.fetches ≤ after.fetches
-  pub unread : after.fetches + after.unread ≡ before.fetches + before.unread
+  pub unread : after.fetches + after.unread ≤ before.fetches + before.unread
   pub words : after.words ≡ before.words
   pub bounded : IsScanBounded after
 
@@ -55,7 +55,7 @@ pub record Seeks (before after : Walk) : Type 0 where
   pub items : after.items ≡ before.items
   pub scans : before.scans ≤ after.scans
   pub fetches : before.fetches ≤ after.fetches
-  pub unread : after.fetches + after.unread ≡ before.fetches + before.unread
+  pub unread : after.fetches + after.unread ≤ before.fetches + before.unread
   pub words : after.words ≡ before.words
 
 -- a step from the front gave the first item that was left, or None where none was

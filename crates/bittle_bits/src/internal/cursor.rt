@@ -101,8 +101,46 @@ fn take_word<B: Shape, E: Endian, N: End>(at: &mut Cursor<B, E>) -> usize
     }
 }
 
+// Moves the end `N` of the words between the buffered ones.
+#[inline(always)]
+fn move_end<B: Shape, E: Endian, N: End>(at: &mut Cursor<B, E>, on: usize)
+    ensures { at.new
+        ≡ record {
+          buffers = at.old.buffers;
+          low = cond N.FRONT on at.old.low;
+          high = cond N.FRONT at.old.high on;
+          items = at.old.items;
+        } }
+{
+    if N::FRONT {
+        at.low = on;
+    } else {
+        at.high = on;
+    }
+}
+
+// Passes over words at the end `N` of those between the buffered ones that the set knows to have no
+// item. None of them is fetched.
+#[inline(always)]
+#[tactic(auto, unfolding(crate::specs::Cursor::items_left_in))]
+fn pass_over<B: ReadWords, E: Endian, K: Kind, N: End>(
+    source: &Source<'_, B>,
+    at: &mut Cursor<B, E>,
+)
+    requires fits { ShapeFits B.Shape source.now.set.now }
+    requires counted { IsCountedIn B.Shape source.now.set.now at.old }
+    ensures sought { let walk = walk_at B.Shape E.Endian K.Kind source.now.set.now in
+        Seeks (walk at.old) (walk at.new) }
+    ensures counted { IsCountedIn B.Shape source.now.set.now at.new }
+    ensures buffers { at.new.buffers ≡ at.old.buffers }
+{
+    let on = source.pass_over::<K, N>(at.low, at.high);
+    move_end::<B, E, N>(at, on);
+}
+
 // Returns whether the word at the end `N` has an item, where words without one are passed over. If
-// not, no word is left between the buffered ones.
+// not, no word is left between the buffered ones. The set is asked after a word that had none, and
+// not before each fetch, which would cost a dense walk a question for each word.
 #[inline(always)]
 #[tactic(auto, unfolding(crate::specs::Cursor::items_left_in))]
 fn seek<B: ReadWords, E: Endian, K: Kind, N: End>(
@@ -128,6 +166,7 @@ fn seek<B: ReadWords, E: Endian, K: Kind, N: End>(
         if at.buffers.refill::<B, K, N>(source, k) {
             return true;
         }
+        pass_over::<B, E, K, N>(source, at);
     }
 }
 

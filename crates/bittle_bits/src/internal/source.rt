@@ -1,10 +1,10 @@
 //! What an iterator or a search reads: the ones of a set, or its zeros, word by word. Each fetch of
 //! an iterator is counted.
 
-ghost use Rattle.std.specs.Prelude.{◌≡◌, ◌+◌, ◌*◌, ◌<◌, ◌≤◌};
+ghost use Rattle.std.specs.Prelude.{◌≡◌, ◌+◌, ◌*◌, ◌<◌, ◌≤◌, Bool};
 ghost use Rattle.bittle_bits.specs.BitPatterns.{bit_set};
 ghost use Rattle.bittle_bits.specs.Searches.{PassesOver};
-ghost use Rattle.bittle_bits.specs.Values.{ShapeFits, word_count};
+ghost use Rattle.bittle_bits.specs.Values.{set_mirrored, ShapeFits, word_count};
 ghost use Rattle.bittle_bits.specs.Walk.{ones_or_zeros};
 ghost use Rattle.bittle_bits.specs.Words.{word_of};
 
@@ -25,8 +25,23 @@ pub fn word_of_kind<B: ReadWords, K: Kind>(bits: &B, k: usize) -> B::LeafWord
     bits_of_kind::<B::LeafWord, K>(bits.nth_leaf_word(k))
 }
 
-/// A set that an iterator borrows. Of it an iterator learns how many words it has, and each word
-/// that it fetches, and nothing else.
+/// Returns the end `N` of the words from `low` on and before `high`, moved past words that the set
+/// knows to have no bit of the kind, whatever the order.
+#[inline(always)]
+pub fn pass_over<B: ReadWords, K: Kind, N: End>(bits: &B, low: usize, high: usize) -> usize
+    requires fits { ShapeFits B.Shape bits.now }
+    requires ordered { low ≤ high }
+    requires within { high * B.width ≤ (B.big bits.now).capacity }
+    ensures value { PassesOver N.FRONT B.width (ones_or_zeros K.ONES (B.big bits.now)) low high
+        result }
+    ensures in_each_order { (mirrored : Bool) → PassesOver N.FRONT B.width
+        (ones_or_zeros K.ONES (set_mirrored B.Shape mirrored bits.now)) low high result }
+{
+    bits.pass_over::<K, N>(low, high)
+}
+
+/// A set that an iterator borrows. Of it an iterator learns how many words it has, each word that it
+/// fetches, and which words it may pass over, and nothing else.
 #[derive(Drop)]
 pub struct Source<'a, B: Shape> {
     set: &'a B,
@@ -72,16 +87,19 @@ impl<'a, B: ReadWords> Source<'a, B> {
     }
 
     /// Returns the end `N` of the words from `low` on and before `high`, moved past words that the
-    /// set knows to have no bit of the kind. None of them is fetched.
+    /// set knows to have no bit of the kind, whatever the order. None of them is fetched.
     #[inline(always)]
     pub fn pass_over<K: Kind, N: End>(&self, low: usize, high: usize) -> usize
         requires fits { ShapeFits B.Shape self.now.set.now }
         requires ordered { low ≤ high }
         requires within { high * B.width ≤ (B.big self.now.set.now).capacity }
-        ensures { PassesOver N.FRONT B.width (ones_or_zeros K.ONES (B.big self.now.set.now)) low
-            high result }
+        ensures value { PassesOver N.FRONT B.width (ones_or_zeros K.ONES (B.big self.now.set.now))
+            low high result }
+        ensures in_each_order { (mirrored : Bool) → PassesOver N.FRONT B.width
+            (ones_or_zeros K.ONES (set_mirrored B.Shape mirrored self.now.set.now)) low high
+            result }
     {
-        self.set.pass_over::<K, N>(low, high)
+        pass_over::<B, K, N>(self.set, low, high)
     }
 }
 

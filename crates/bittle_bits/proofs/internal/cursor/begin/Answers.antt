@@ -7,7 +7,7 @@ use Rattle.bittle_bits.specs.Walk.{ones_or_zeros}
 use Rattle.bittle_bits.specs.declared.internal.cursor.Cursor.{Cursor}
 use Rattle.bittle_bits.proofs.Steps.{fetched}
 use Rattle.bittle_bits.proofs.WalkStarts.{walk_start, walk_start_on}
-use Rattle.bittle_bits.proofs.OnesOrZeros.{none_in_order, ones_or_zeros-capacity, ones_or_zeros-below}
+use Rattle.bittle_bits.proofs.OnesOrZeros.{ones_or_zeros-capacity, ones_or_zeros-below}
 use Rattle.bittle_bits.proofs.internal.cursor.begin.Given.{Over}
 use Rattle.bittle_bits.proofs.internal.cursor.begin.Goals.{After-new}
 use Rattle.bittle_bits.proofs.internal.cursor.begin.Goals as goal
@@ -26,17 +26,14 @@ none : (g : Over) (c : After-new g) →
 none g c =
     let v = c.args.source.now.set.now in
     let law = g.met.B.ReadWords in
-    let low = c.pass_over-low.ensures in
-    let high = c.pass_over-high.ensures in
-    let in_order = none_in_order g.K.Kind.ONES g.E.Endian.mirrored g.B.Shape.width in
+    let low = c.pass_over-low.ensures.in_each_order g.E.Endian.mirrored in
+    let high = c.pass_over-high.ensures.in_each_order g.E.Endian.mirrored in
     walk_start _ _ _ (g.B.Shape.big v).capacity _ _ _ _ law.width_positive
     (ones_or_zeros-capacity g.K.Kind.ONES (set_in g.B.Shape g.E.Endian v))
     (law.whole_words v) refl c.none.ensures high.0 (omega (arith, high.1, c.words-words.ensures))
-    (in_order 0 _ _ law.width_positive (law.whole_words v) low.2)
+    low.2
     (subst (λ n. NoneIn (ones_or_zeros g.K.Kind.ONES (set_in g.B.Shape g.E.Endian v))
-    (c.pass_over-high.result * g.B.Shape.width) (n * g.B.Shape.width)) c.words-words.ensures
-    (in_order c.pass_over-high.result c.words-words.result _ law.width_positive
-    (law.whole_words v) high.2))
+    (c.pass_over-high.result * g.B.Shape.width) (n * g.B.Shape.width)) c.words-words.ensures high.2)
     c.new.ensures
 
 pub returns-then-not-is_fixed-clause-starts : goal.returns-then-not-is_fixed-clause-starts

@@ -1,4 +1,5 @@
-use Rattle.std.proofs.Common.{◌/◌, ◌<◌, arith}
+use Rattle.std.proofs.Common.{◌/◌, ◌<◌, ap, ◌∙◌, arith}
+use Rattle.bittle_bits.specs.Buffers.{buffer_of}
 use Rattle.bittle_bits.specs.Values.{set_in}
 use Rattle.bittle_bits.specs.Walk.{ones_or_zeros}
 use Rattle.bittle_bits.proofs.Steps.{fetched, filled, passed_over, seeks_on}
@@ -17,6 +18,19 @@ returns-then-refill-clause-sought g c =
     g.N.End.FRONT c.refill.result before.2
     (rw (taken.taken, taken.number) at c.refill.ensures))).0)
 
+pub pass_over-requires-clause-counted : goal.pass_over-requires-clause-counted
+pass_over-requires-clause-counted g c =
+    let s = ones_or_zeros g.K.Kind.ONES (set_in g.B.Shape g.E.Endian c.args.source.now.set.now) in
+    let words = (g.B.Shape.big c.args.source.now.set.now).capacity / g.B.Shape.width in
+    let before = c.loop-at.invariant in
+    let some : c.loop-at.at.low < c.loop-at.at.high =
+    omega (arith, before.1.ordered, c.if-at.false) in
+    let taken = c.take_word-k.ensures in
+    let fills = (rw (taken.taken, taken.number) at c.refill.ensures) in
+    rw taken.taken (fetched s words g.B.Shape.width g.N.End.FRONT c.loop-at.at c.refill.new.self
+    before.1 some (filled _ c.loop-at.at.buffers c.refill.new.self g.N.End.FRONT c.refill.result
+    before.2 fills)).1
+
 pub loop-at-preserved : goal.loop-at-preserved
 loop-at-preserved g c =
     let s = ones_or_zeros g.K.Kind.ONES (set_in g.B.Shape g.E.Endian c.args.source.now.set.now) in
@@ -29,9 +43,10 @@ loop-at-preserved g c =
     let after = fetched s words g.B.Shape.width g.N.End.FRONT c.loop-at.at c.refill.new.self
     before.1 some (filled _ c.loop-at.at.buffers c.refill.new.self g.N.End.FRONT c.refill.result
     before.2 fills) in
-    rw taken.taken (
-      seeks_on before.0 after.0,
-      after.1,
-      passed_over _ c.loop-at.at.buffers c.refill.new.self g.N.End.FRONT c.refill.result before.2
-          fills c.if-refill.false,
+    let passed = c.pass_over.ensures in (
+      seeks_on before.0 (seeks_on (rw taken.taken after.0) passed.sought),
+      passed.counted,
+      ap (buffer_of g.N.End.FRONT) passed.buffers
+          ∙ passed_over _ c.loop-at.at.buffers c.refill.new.self g.N.End.FRONT c.refill.result
+          before.2 fills c.if-refill.false,
     )
