@@ -8,7 +8,7 @@ use Rattle.bittle_bits.specs.Ends.{is_ahead, IsEndIn, IsEndMember}
 use Rattle.bittle_bits.specs.Orders.{place, read_in}
 use Rattle.bittle_bits.specs.Pieces.{LiesAt}
 use Rattle.bittle_bits.specs.PlainSet.{PlainSet, full_set_from, with_index, empty_set, lacks}
-use Rattle.bittle_bits.specs.Searches.{NoneIn}
+use Rattle.bittle_bits.specs.Searches.{NoneIn, IsNextWord}
 use Rattle.bittle_bits.specs.Walk.{ones_or_zeros}
 use Rattle.bittle_bits.specs.Words.{word_of}
 use Rattle.bittle_bits.proofs.BitSets.{bit_has-and, bit_has-or, bit_has-not}
@@ -62,9 +62,11 @@ mask_up_to m w e n o at word low from fits other one i h =
       | inr n ↦ rw (le-ltb i at g, ne_eqb i at n, le-ltb i (at + 1) (omega arith)) refl
     ]
 
--- a word begins where the one before it ends
-next_begins : (w k next : ℕ) → next ≡ k + 1 → next * w ≡ k * w + w
-next_begins w k next e = ap (λ n. n * w) e ∙ omega arith
+-- no word is after the last one, seen from the end
+pub next_ended : (front : Bool) (w p q k : ℕ) (s : PlainSet) → k ≡ cond front q p →
+    IsNextWord front w s p q k None
+next_ended true w p q k s e = λ n lo hi. absurd (omega (arith, ap (λ k. k * w) e))
+next_ended false w p q k s e = λ n lo hi. absurd (omega (arith, ap (λ k. k * w) e))
 
 -- a search of a range, for the bits of a kind, in a set in an order
 module _ (ones m : Bool) (w : ℕ) (big : PlainSet) (word : 0 < w)
@@ -154,13 +156,14 @@ module _ (ones m : Bool) (w : ℕ) (big : PlainSet) (word : 0 < w)
         | inr g ↦ h.none j (omega arith) hi
       ]
 
-  -- where the word has no member that is sought, the search goes on at the next one
-  pub search_next : (front : Bool) (k d r next e : ℕ) → k ≢ cond front q p →
-      next ≡ cond front (k + 1) (k - 1) → Searches front m w t from to p q k d →
+  -- where the word has no member that is sought, the search goes on at the next one that is not
+  -- passed over
+  pub search_next : (front : Bool) (k d r next e : ℕ) →
+      IsNextWord front w t p q k (Some next) → Searches front m w t from to p q k d →
       IsEndMember front (read_in m w (bit_set w d)) r → r ≡ w → bit_set w e ≡ word_of w s next →
       Searches front m w t from to p q next e
-  search_next front k d r next e more on h member end is =
-      let at = by front more on (none_up_to front k d r h member) in record {
+  search_next front k d r next e on h member end is =
+      let at = by front on (none_up_to front k d r h member) in record {
         first = at.0;
         last = at.1;
         none = at.2;
@@ -168,24 +171,30 @@ module _ (ones m : Bool) (w : ℕ) (big : PlainSet) (word : 0 < w)
             ∙ sym (ap (λ b. b && t.has (next * w + i)) (at.3 i l));
       }
     where
-      by : (front : Bool) → k ≢ cond front q p → next ≡ cond front (k + 1) (k - 1) →
+      by : (front : Bool) → IsNextWord front w t p q k (Some next) →
           NoneBefore front w t from to k r → (p ≤ next) × (next ≤ q)
           × NoneBefore front w t from to next 0
           × ((i : ℕ) → i < w → is_ahead front from to (next * w + i) ≡ true)
-      by true more on none =
-          let begins = next_begins w k next on in
+      by true on none =
+          let begins = mul-le-mul_right w on.0 in
           let low = (word_within k h.first h.last).0 in (
-            omega (arith, h.first),
-            omega (arith, h.last, more),
-            λ j lo hi. none j lo (omega (arith, begins, end)),
+            omega (arith, h.first, on.0),
+            on.1,
+            λ j lo hi. elim (cases_lt j (k * w + w)) [
+              | inl l ↦ none j lo (omega (arith, end))
+              | inr g ↦ on.2 j (omega arith) (omega arith)
+            ],
             λ i l. ap not (le-ltb (next * w + i) from (omega (arith, low, begins))),
           )
-      by false more on none =
-          let begins = next_begins w next k (omega (arith, h.first, more)) in
+      by false on none =
+          let begins = mul-le-mul_right w on.1 in
           let high = (word_within k h.first h.last).1 in (
-            omega (arith, h.first, more),
-            omega (arith, h.last),
-            λ j lo hi. none j (omega (arith, begins, end)) hi,
+            on.0,
+            omega (arith, h.last, on.1),
+            λ j lo hi. elim (cases_lt j (k * w)) [
+              | inl l ↦ on.2 j (omega arith) l
+              | inr g ↦ none j (omega (arith, end)) hi
+            ],
             λ i l. lt-ltb (next * w + i) to (omega (arith, high, begins)),
           )
 
@@ -221,11 +230,15 @@ module _ (ones m : Bool) (w : ℕ) (big : PlainSet) (word : 0 < w)
   search_past false k d r h greatest other past = λ j lo hi. none_up_to false k d r h greatest j
       (omega (arith, past, greatest.within, other)) hi
 
-  -- nor has it one where the last word has no member that is sought
-  pub search_ended : (front : Bool) (k d r : ℕ) → k ≡ cond front q p →
+  -- nor has it one where no word after one without a member that is sought has one
+  pub search_ended : (front : Bool) (k d r : ℕ) → IsNextWord front w t p q k None →
       Searches front m w t from to p q k d →
       IsEndMember front (read_in m w (bit_set w d)) r → r ≡ w → IsEndIn front t from to None
-  search_ended true k d r last h least end = λ n lo hi. none_up_to true k d r h least n lo
-      (omega (arith, at.to, at.top, end, ap (λ k. k * w) last))
-  search_ended false k d r last h greatest end = λ n lo hi. none_up_to false k d r h greatest n
-      (omega (arith, at.from, end, ap (λ k. k * w) last)) hi
+  search_ended true k d r last h least end = λ n lo hi. elim (cases_lt n (k * w + w)) [
+    | inl l ↦ none_up_to true k d r h least n lo (omega (arith, end))
+    | inr g ↦ last n (omega arith) (omega (arith, at.to, at.top))
+  ]
+  search_ended false k d r last h greatest end = λ n lo hi. elim (cases_lt n (k * w)) [
+    | inl l ↦ last n (omega (arith, at.from)) l
+    | inr g ↦ none_up_to false k d r h greatest n (omega (arith, end)) hi
+  ]

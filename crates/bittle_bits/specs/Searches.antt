@@ -21,3 +21,11 @@ IsLastIn s from to (Some i) = (from ≤ i) × (i < to) × (s.has i ≡ true) × 
 abbrev pub PassesOver : Bool → ℕ → PlainSet → ℕ → ℕ → ℕ → Type 0
 PassesOver true w s low high r = (low ≤ r) × (r ≤ high) × NoneIn s (low * w) (r * w)
 PassesOver false w s low high r = (low ≤ r) × (r ≤ high) × NoneIn s (r * w) (high * w)
+
+-- the next word after word k of words p to q, seen from an end, where those between have no member,
+-- or None where none after it has one
+abbrev pub IsNextWord : Bool → ℕ → PlainSet → ℕ → ℕ → ℕ → Option ℕ → Type 0
+IsNextWord true w s p q k None = NoneIn s ((k + 1) * w) ((q + 1) * w)
+IsNextWord true w s p q k (Some n) = (k < n) × (n ≤ q) × NoneIn s ((k + 1) * w) (n * w)
+IsNextWord false w s p q k None = NoneIn s (p * w) (k * w)
+IsNextWord false w s p q k (Some n) = (p ≤ n) × (n < k) × NoneIn s ((n + 1) * w) (k * w)

@@ -1,13 +1,15 @@
 //! The first or the last member between two numbers, found word by word.
 
-ghost use Rattle.std.specs.Prelude.{◌≡◌, ◌+◌, ◌<◌, ◌≤◌, ℕ};
+ghost use Rattle.std.specs.Prelude.{◌≡◌, ◌+◌, ◌*◌, ◌<◌, ◌≤◌, Bool, ℕ};
 ghost use Rattle.bittle_bits.specs.Ends.{is_ahead, IsEndIn};
-ghost use Rattle.bittle_bits.specs.Values.{kind_in, word_in, ShapeFits};
+ghost use Rattle.bittle_bits.specs.Searches.{IsNextWord};
+ghost use Rattle.bittle_bits.specs.Values.{kind_in, set_mirrored, word_in, ShapeFits};
+ghost use Rattle.bittle_bits.specs.Walk.{ones_or_zeros};
 
 use crate::end::{End, at_end};
 use crate::endian::Endian;
 use crate::internal::ends::ends;
-use crate::internal::source::word_of_kind;
+use crate::internal::source::{pass_over, word_of_kind};
 use crate::kind::Kind;
 use crate::one_word::from_end;
 use crate::read_words::{ReadWords, word_width};
@@ -25,6 +27,38 @@ fn ahead<T: Word, E: Endian, N: End>(at: u32) -> T
         return since;
     }
     since.not().or(E::mask::<T>(at))
+}
+
+// Returns the next word after word `k` of the words from `first` to `last`, seen from the end `N`,
+// or `None` where none after it has a bit of the kind. Words that the set knows to have none are
+// passed over. The last word is told first, so that nothing of this is left where a set passes over
+// none.
+#[inline(always)]
+fn next_word<B: ReadWords, K: Kind, N: End>(bits: &B, first: u32, last: u32, k: u32) -> Option<u32>
+    requires fits { ShapeFits B.Shape bits.now }
+    requires first { first ≤ k }
+    requires last { k ≤ last }
+    requires within { last * B.width < (B.big bits.now).capacity }
+    ensures { (mirrored : Bool) → IsNextWord N.FRONT B.width
+        (ones_or_zeros K.ONES (set_mirrored B.Shape mirrored bits.now)) first last k result }
+{
+    if k == at_end::<N>(last, first) {
+        return None;
+    }
+    if N::FRONT {
+        let end = last as usize + 1;
+        let next = pass_over::<B, K, N>(bits, k as usize + 1, end);
+        if next == end {
+            return None;
+        }
+        Some(next as u32)
+    } else {
+        let end = pass_over::<B, K, N>(bits, first as usize, k as usize);
+        if end == first as usize {
+            return None;
+        }
+        Some((end - 1) as u32)
+    }
 }
 
 /// Returns the index at the end `N` of those from `from` on and below `to` whose bit is of the
@@ -55,10 +89,10 @@ pub fn end_in<B: ReadWords, E: Endian, K: Kind, N: End>(bits: &B, from: u32, to:
                 None
             };
         }
-        if k == at_end::<N>(last, first) {
+        let Some(next) = next_word::<B, K, N>(bits, first, last, k) else {
             return None;
-        }
-        k = if N::FRONT { k + 1 } else { k - 1 };
+        };
+        k = next;
         word = word_of_kind::<B, K>(bits, k as usize);
     }
 }

@@ -1,8 +1,7 @@
-use Rattle.std.proofs.Common.{◌≡◌, ◌+◌, ◌-◌, cond, sym, ◌∙◌, arith}
+use Rattle.std.proofs.Common.{arith}
 use Rattle.bittle_bits.proofs.Searches.{word_within, search_start, search_next, search_found, search_past, search_ended}
 use Rattle.bittle_bits.proofs.WordEnds.{end_is_member}
 use Rattle.bittle_bits.proofs.Words.{word_ends}
-use Rattle.bittle_bits.proofs.internal.search.end_in.Goals.{then-FRONT, else-FRONT}
 use Rattle.bittle_bits.proofs.internal.search.end_in.Goals as goal
 
 pub loop-found-init : goal.loop-found-init
@@ -57,27 +56,22 @@ returns-else-at_end g c =
       wide,
     ) at c.if-at_end.false)
 
-pub returns-then-k-at_end : goal.returns-then-k-at_end
-returns-then-k-at_end g c =
+pub returns-in_default : goal.returns-in_default
+returns-in_default g c =
     let law = g.met.B.ReadWords in
     let wide = c.word_width-width.ensures in
     search_ended g.K.Kind.ONES g.E.Endian.mirrored g.B.Shape.width (g.B.Shape.big c.args.bits.now)
     law.width_positive (law.whole_words _) (rw wide at c.ends-first.ensures)
     g.N.End.FRONT c.loop-found.k _ c.from_end-away.result
-    (c.if-k-at_end.true ∙ c.at_end-in-loop-found.ensures) c.loop-found.invariant
+    (rw c.in_default.is at (c.next_word.ensures g.E.Endian.mirrored)) c.loop-found.invariant
     (rw law.leaf_width at c.from_end-away.ensures.member) (rw wide at c.if-away-width.false)
 
 pub loop-found-preserved : goal.loop-found-preserved
 loop-found-preserved g c =
     let law = g.met.B.ReadWords in
     let wide = c.word_width-width.ensures in
-    let next : c.if-FRONT.k ≡ cond g.N.End.FRONT (c.loop-found.k + 1) (c.loop-found.k - 1) =
-    elim c.if-FRONT.branch [
-      | then-FRONT w ↦ rw (sym c.FRONT.ensures ∙ w.if-FRONT.true) w.k-is
-      | else-FRONT w ↦ rw (sym c.FRONT.ensures ∙ w.if-FRONT.false) w.k-is
-    ] in
     search_next _ _ _ _ law.width_positive (law.whole_words _)
     (rw wide at c.ends-first.ensures) g.N.End.FRONT c.loop-found.k _ c.from_end-away.result _ _
-    (rw c.at_end-in-loop-found.ensures at c.if-k-at_end.false) next c.loop-found.invariant
+    (rw c.in-Some.is at (c.next_word.ensures g.E.Endian.mirrored)) c.loop-found.invariant
     (rw law.leaf_width at c.from_end-away.ensures.member) (rw wide at c.if-away-width.false)
     c.word_of_kind-word.ensures
