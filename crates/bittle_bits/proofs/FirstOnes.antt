@@ -1,5 +1,5 @@
 -- The first member in whole words of a set.
-use Rattle.std.proofs.Common.{◌≡◌, ℕ, ◌+◌, ◌-◌, ◌*◌, ◌^◌, ◌<◌, ◌≤◌, Bool, false, inl, inr, Some, sym, ap, ◌∙◌, arith, bit_or}
+use Rattle.std.proofs.Common.{◌≡◌, ℕ, ◌+◌, ◌-◌, ◌*◌, ◌^◌, ◌<◌, ◌≤◌, Bool, false, inl, inr, Option, Some, None, sym, ap, ◌∙◌, arith, bit_or}
 use Rattle.std.proofs.lemmas.Bool.{cases_lt, true≢false}
 use Rattle.std.proofs.lemmas.Nat.{le_or_l, le_or_r}
 use Rattle.std.proofs.Math.Nat.{mul-le-mul_right}
@@ -73,3 +73,17 @@ each_is_zero a b c d ab cd all one two both none =
       omega (arith, second, two, le_or_l c d),
       omega (arith, second, two, le_or_r c d),
     )
+
+-- the first member of a range is that of a wider one, where no number before or after is a member
+pub first_widened : (s : PlainSet) (from a b to : ℕ) (r : Option ℕ) → from ≤ a → b ≤ to →
+    NoneIn s from a → NoneIn s b to → IsFirstIn s a b r → IsFirstIn s from to r
+first_widened s from a b to None lo hi before after none = λ k l h. elim (cases_lt k a) [
+  | inl x ↦ before k l x
+  | inr x ↦ elim (cases_lt k b) [ inl y ↦ none k x y | inr y ↦ after k y h ]
+]
+first_widened s from a b to (Some i) lo hi before after first = (
+  omega (arith, first.0),
+  omega (arith, first.1),
+  first.2,
+  λ k l h. elim (cases_lt k a) [ inl x ↦ before k l x | inr x ↦ first.3 k x h ],
+)

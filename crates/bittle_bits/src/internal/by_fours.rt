@@ -1,11 +1,13 @@
-//! The first bit of a kind in whole words, found four words at a time.
+//! The first bit of a kind in whole words, found four words at a time between those that a set
+//! passes over.
 
 ghost use Rattle.std.specs.Prelude.{◌+◌, ◌*◌, ◌≤◌, IsTrue};
 ghost use Rattle.bittle_bits.specs.Searches.{IsFirstIn, NoneIn};
 ghost use Rattle.bittle_bits.specs.Values.{kind_in, ShapeFits};
 
+use crate::end::{Back, Front};
 use crate::endian::Endian;
-use crate::internal::source::word_of_kind;
+use crate::internal::source::{pass_over, word_of_kind};
 use crate::kind::Kind;
 use crate::read_words::{ReadWords, word_width};
 use crate::word::Word;
@@ -44,19 +46,36 @@ fn are_four_empty<B: ReadWords, E: Endian, K: Kind>(bits: &B, from: u32) -> bool
     first.or(second).or(third.or(fourth)).is_zero()
 }
 
-/// Returns the least index of a bit of the kind in the first `words` words, or `None`.
+// Returns the least index of a bit of the kind in the words from `from` on and before `to`, or `None`,
+// four words at a time.
+#[inline(always)]
+fn first_by_fours<B: ReadWords, E: Endian, K: Kind>(bits: &B, from: u32, to: u32) -> Option<u32>
+    requires fits { ShapeFits B.Shape bits.now }
+    requires ordered { from ≤ to }
+    requires within { to * B.width ≤ (B.big bits.now).capacity }
+    ensures { IsFirstIn (kind_in B.Shape E.Endian K.Kind bits.now) (from * B.width) (to * B.width) result }
+{
+    let fours = (to - from) / 4;
+    for four in 0..fours {
+        let at = from + four * 4;
+        if !are_four_empty::<B, E, K>(bits, at) {
+            if let Some(index) = first_among::<B, E, K>(bits, at, at + 4) {
+                return Some(index);
+            }
+        }
+    }
+    first_among::<B, E, K>(bits, from + fours * 4, to)
+}
+
+/// Returns the least index of a bit of the kind in the first `words` words, or `None`. At both ends
+/// words that the set knows to have none are passed over.
 #[inline]
 pub fn first_in_words<B: ReadWords, E: Endian, K: Kind>(bits: &B, words: u32) -> Option<u32>
     requires fits { ShapeFits B.Shape bits.now }
     requires within { words * B.width ≤ (B.big bits.now).capacity }
     ensures { IsFirstIn (kind_in B.Shape E.Endian K.Kind bits.now) 0 (words * B.width) result }
 {
-    for four in 0..words / 4 {
-        if !are_four_empty::<B, E, K>(bits, four * 4) {
-            if let Some(index) = first_among::<B, E, K>(bits, four * 4, four * 4 + 4) {
-                return Some(index);
-            }
-        }
-    }
-    first_among::<B, E, K>(bits, words / 4 * 4, words)
+    let low = pass_over::<B, K, Front>(bits, 0, words as usize);
+    let high = pass_over::<B, K, Back>(bits, low, words as usize);
+    first_by_fours::<B, E, K>(bits, low as u32, high as u32)
 }

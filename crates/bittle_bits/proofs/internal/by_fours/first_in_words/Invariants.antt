@@ -1,8 +1,0 @@
-use Rattle.std.proofs.Common.{◌*◌}
-use Rattle.bittle_bits.specs.Searches.{NoneIn}
-use Rattle.bittle_bits.specs.Values.{kind_in}
-use Rattle.bittle_bits.proofs.internal.by_fours.first_in_words.Given as goal
-
-abbrev pub invariant-loop-four : goal.invariant-loop-four
-invariant-loop-four g l =
-    NoneIn (kind_in g.B.Shape g.E.Endian g.K.Kind l.bits) 0 (l.four * 4 * g.B.Shape.width)
