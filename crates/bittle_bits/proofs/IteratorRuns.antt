@@ -16,7 +16,7 @@ in_reverse p seen = as_is_back p p.from.remaining
 
 -- a walk that has counted no scans and no items, and has fetched a word for each end at most
 pub is_fresh : (words : ℕ) (w : Walk) → w.scans ≡ 0 → w.items ≡ 0 → w.fetches ≤ 1 →
-    w.words ≡ words → w.fetches + w.unread ≤ words → IsFresh words w
+    w.words ≡ words → w.fetches + w.unread + w.passed ≡ words → IsFresh words w
 is_fresh words w l i f n u = record {
   scans = l;
   items = i;
@@ -30,8 +30,9 @@ is_fresh words w l i f n u = record {
 -- a walk that has what another has left, and has counted nothing
 pub resumes_as : (source clone : Walk) → clone.remaining ≡ source.remaining → clone.unread ≡ source.unread →
     clone.words ≡ source.words → clone.scans ≡ 0 → clone.items ≡ 0 → clone.fetches ≡ 0 →
-    source.unread ≤ source.words → ResumesAs source clone
-resumes_as source clone left u n l i f b = record {
+    clone.passed ≡ source.passed + source.fetches →
+    source.fetches + source.unread + source.passed ≡ source.words → ResumesAs source clone
+resumes_as source clone left u n l i f p b = record {
   remaining = left;
   unread = u;
   fetches = f;

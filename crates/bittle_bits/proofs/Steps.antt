@@ -20,7 +20,8 @@ seeks_on a b = record {
   items = b.items ∙ a.items;
   scans = le_trans a.scans b.scans;
   fetches = le_trans a.fetches b.fetches;
-  unread = le_trans b.unread a.unread;
+  passed = le_trans a.passed b.passed;
+  unread = b.unread ∙ a.unread;
   words = b.words ∙ a.words;
 }
 
@@ -33,7 +34,8 @@ steps_on {w} {r} front a b = record {
   items = b.items ∙ ap (λ n. count_after n r) a.items;
   scans = le_trans a.scans b.scans;
   fetches = le_trans a.fetches b.fetches;
-  unread = le_trans b.unread a.unread;
+  passed = le_trans a.passed b.passed;
+  unread = b.unread ∙ a.unread;
   words = b.words ∙ a.words;
   bounded = b.bounded;
 }
@@ -79,7 +81,7 @@ pub record ScansAcross {B E W : Type 0} (front : Bool) (t : Cursor B E W) (r : O
 
 module _ {B E W : Type 0} (front : Bool) (t : Cursor B E W) (c : BufferPair) (i : ℕ) where
   abbrev scanned : Cursor B E W
-  scanned = record { buffers = c; low = t.low; high = t.high; items = i }
+  scanned = record { buffers = c; low = t.low; high = t.high; items = i; passed = t.passed }
 
   -- what it gives is at this end of what is left
   gives : (s : PlainSet) (w : ℕ) (r : Option ℕ) → ScansAcross front t r c i →
@@ -120,6 +122,7 @@ module _ {B E W : Type 0} (front : Bool) (t : Cursor B E W) (c : BufferPair) (i 
         items = scan.items;
         scans = omega (arith, scan.scans);
         fetches = omega (arith, scan.fetches);
+        passed = omega arith;
         unread = omega (arith, scan.fetches);
         words = refl;
         bounded = record {
@@ -178,6 +181,7 @@ module _ {B E W : Type 0} (s : PlainSet) (words w : ℕ) where
     low = cond front (t.low + 1) t.low;
     high = cond front t.high (t.high - 1);
     items = t.items;
+    passed = t.passed;
   }
 
   -- one word less is between
@@ -222,6 +226,7 @@ module _ {B E W : Type 0} (s : PlainSet) (words w : ℕ) where
           items = refl;
           scans = f.scans;
           fetches = omega (arith, f.fetches);
+          passed = omega arith;
           unread = omega (arith, f.fetches);
           words = refl;
         },
@@ -242,6 +247,7 @@ module _ {B E W : Type 0} (s : PlainSet) (words w : ℕ) where
     low = cond front on t.low;
     high = cond front t.high on;
     items = t.items;
+    passed = t.passed + cond front (on - t.low) (t.high - on);
   }
 
   -- words at an end that have no item leave the same items
@@ -260,12 +266,15 @@ module _ {B E W : Type 0} (s : PlainSet) (words w : ℕ) where
       ∙ ap (λ xs. members_between s (t.low * w) (on * w) ++ xs)
       (members_between-none s (on * w) (t.high * w) p.2) ∙ append-nil _)
 
-  -- fewer words are between
+  -- so many fewer words are between
   fewer : (front : Bool) (t : Cursor B E W) (on : ℕ) → t.high ≤ words →
       PassesOver front w s t.low t.high on → let u = moved_to front t on in
-      (u.low ≤ u.high) × (u.high ≤ words) × (u.high - u.low ≤ t.high - t.low)
-  fewer true t on within p = (p.1, within, omega (arith, p.0))
-  fewer false t on within p = (p.0, omega (arith, p.1), omega (arith, p.1))
+      (u.low ≤ u.high) × (u.high ≤ words) × (t.passed ≤ u.passed)
+      × (u.high - u.low + u.passed ≡ t.high - t.low + t.passed)
+  fewer true t on within p =
+      (p.1, within, omega arith, omega (arith, p.0, p.1))
+  fewer false t on within p =
+      (p.0, omega (arith, p.1), omega arith, omega (arith, p.0, p.1))
 
   -- they may be passed over
   pub moved_past : (front : Bool) (t : Cursor B E W) (on : ℕ) → IsCounted words t →
@@ -280,14 +289,15 @@ module _ {B E W : Type 0} (s : PlainSet) (words w : ℕ) where
           items = refl;
           scans = omega arith;
           fetches = omega arith;
-          unread = omega (arith, between.2);
+          passed = between.2;
+          unread = omega (arith, between.3);
           words = refl;
         },
         record {
           ordered = between.0;
           within = between.1;
           at_least = counted.at_least;
-          at_most = omega (arith, counted.at_most, between.2);
-          once = omega (arith, counted.once, between.2);
+          at_most = omega (arith, counted.at_most, between.2, between.3);
+          once = omega (arith, counted.once, between.3);
         },
       )

@@ -1,5 +1,5 @@
 -- Where a walk begins: with no word loaded, and with one more than another start.
-use Rattle.std.proofs.Common.{◌≡◌, ℕ, ◌*◌, ◌/◌, ◌<◌, ◌≤◌, None, refl, sym, ap, ◌∙◌, arith, append-nil}
+use Rattle.std.proofs.Common.{◌≡◌, ℕ, ◌+◌, ◌-◌, ◌*◌, ◌/◌, ◌<◌, ◌≤◌, None, refl, sym, ap, ◌∙◌, arith, append-nil}
 use Rattle.std.proofs.Math.Nat.{mul-div_left, mul-le-mul_right, zero-mul}
 use Rattle.bittle_bits.specs.Buffers.{BufferPair}
 use Rattle.bittle_bits.specs.PlainSet.{PlainSet}
@@ -12,14 +12,16 @@ use Rattle.bittle_bits.specs.Walk.{Seeks}
 
 module _ {B E W : Type 0} (s : PlainSet) (words w : ℕ) where
   -- with no word loaded, where the words before and after have no member
-  pub walk_start : (c low high i : ℕ) (h : BufferPair) → 0 < w → s.capacity ≡ c →
+  pub walk_start : (c low high i p : ℕ) (h : BufferPair) → 0 < w → s.capacity ≡ c →
       (n : ℕ) × (c ≡ n * w) → words ≡ c / w →
       h ≡ record { head = None; tail = None; scans = 0; fetches = 0 } → low ≤ high → high ≤ words →
       NoneIn s (0 * w) (low * w) → NoneIn s (high * w) (words * w) → i ≡ 0 →
-      let t : Cursor B E W = record { buffers = h; low = low; high = high; items = i } in
+      p ≡ low + (words - high) →
+      let t : Cursor B E W =
+      record { buffers = h; low = low; high = high; items = i; passed = p } in
       IsWalkStart s words w t
   unfolding items_left_in
-  walk_start c low high i h word is whole count none order all before after items =
+  walk_start c low high i p h word is whole count none order all before after items passed =
       let last : words * w ≡ s.capacity = ap (λ k. k * w)
       (count ∙ ap (λ c. c / w) whole.1 ∙ mul-div_left whole.0 word) ∙ sym whole.1
       ∙ sym is in
@@ -27,13 +29,14 @@ module _ {B E W : Type 0} (s : PlainSet) (words w : ℕ) where
         remaining = append-nil _ ∙ members_between-inner s (low * w) (high * w) (words * w)
             (mul-le-mul_right w order) (mul-le-mul_right w all) last
             (rw (zero-mul w) at before) after;
-        fresh = is_fresh words _ refl items (omega arith) refl (omega arith);
+        fresh = is_fresh words _ refl items (omega arith) refl
+            (omega (arith, order, all, passed));
         counted = record {
           ordered = order;
           within = all;
           at_least = omega arith;
           at_most = omega arith;
-          once = omega arith;
+          once = omega (arith, order, all, passed);
         };
       })
 

@@ -1,8 +1,8 @@
--- A count in unary.
+-- A count, as a sum.
 use Rattle.std.specs.Prelude.{ℕ, ◌+◌}
-use Rattle.bittle_bits.specs.declared.internal.buffer.Chain.{Chain, Start, Next'}
+use Rattle.bittle_bits.specs.declared.internal.buffer.Sum.{Sum, Of, And'}
 
 -- how many
-abbrev pub chain_length : Chain → ℕ
-chain_length Start = 0
-chain_length (Next' shape before) = chain_length before + 1
+abbrev pub sum_of : Sum → ℕ
+sum_of (Of number) = number.value
+sum_of (And' shape within one also below two) = sum_of one + sum_of two

@@ -25,18 +25,19 @@ module _ {B E W : Type 0} where
     items = at.items;
     fetches = at.buffers.fetches;
     unread = at.high - at.low;
+    passed = at.passed;
     words = words;
   }
 
--- each scan yielded an item or exhausted one of the words, and each word was fetched once or is
--- between the buffered ones
+-- each scan yielded an item or exhausted one of the words, and each word was fetched once, is between
+-- the buffered ones, or was passed over
 pub record IsCounted {B E W : Type 0} (words : ℕ) (at : Cursor B E W) : Type 0 where
   pub ordered : at.low ≤ at.high
   pub within : at.high ≤ words
   pub at_least : at.items ≤ at.buffers.scans
   pub at_most : at.buffers.scans + buffer_count at.buffers.head + (at.high - at.low) + buffer_count
       at.buffers.tail ≤ at.items + words
-  pub once : at.buffers.fetches + (at.high - at.low) ≤ words
+  pub once : at.buffers.fetches + (at.high - at.low) + at.passed ≡ words
 
 -- all items remain, and nothing is counted but the words that were fetched
 pub record IsWalkStart {B E W : Type 0} (s : PlainSet) (words w : ℕ) (t : Cursor B E W) :

@@ -20,32 +20,36 @@ pub record Walk : Type 0 where
   -- how many scans of words it has made, and how many items it has yielded
   pub scans : ℕ
   pub items : ℕ
-  -- how many words it has fetched, and how many it has not fetched yet
+  -- how many words it has fetched, how many it has not fetched yet, and how many it never fetches:
+  -- its set told that they have no item, or, of a clone, its source was done with them
   pub fetches : ℕ
   pub unread : ℕ
+  pub passed : ℕ
   -- how many words its set has
   pub words : ℕ
 
--- the scans are at least the items yielded, and at most these and the words; the words fetched and
--- the unread are at most the words
+-- the scans are at least the items yielded, and at most these and the words; the words fetched, the
+-- unread and those passed over are all the words
 pub record IsScanBounded (w : Walk) : Type 0 where
   pub at_least : w.items ≤ w.scans
   pub at_most : w.scans ≤ w.items + w.words
-  pub once : w.fetches + w.unread ≤ w.words
+  pub once : w.fetches + w.unread + w.passed ≡ w.words
 
 -- one more where a step gave an item
 abbrev pub count_after : ℕ → Option ℕ → ℕ
 count_after n None = n
 count_after n (Some item) = n + 1
 
--- a step: what it gave is what `gives` says, and each word that it fetched was unread
+-- a step: what it gave is what `gives` says, and each word that it fetched or passed over was unread
 pub record Steps (gives : Walk → Option ℕ → Walk → Type 0) (before : Walk) (r : Option ℕ)
     (after : Walk) : Type 0 where
   pub gave : gives before r after
   pub items : after.items ≡ count_after before.items r
   pub scans : before.scans ≤ after.scans
   pub fetches : before.fetches ≤ after.fetches
-  pub unread : after.fetches + after.unread ≤ before.fetches + before.unread
+  pub passed : before.passed ≤ after.passed
+  pub unread : after.fetches + after.unread + after.passed
+      ≡ before.fetches + before.unread + before.passed
   pub words : after.words ≡ before.words
   pub bounded : IsScanBounded after
 
@@ -55,7 +59,9 @@ pub record Seeks (before after : Walk) : Type 0 where
   pub items : after.items ≡ before.items
   pub scans : before.scans ≤ after.scans
   pub fetches : before.fetches ≤ after.fetches
-  pub unread : after.fetches + after.unread ≤ before.fetches + before.unread
+  pub passed : before.passed ≤ after.passed
+  pub unread : after.fetches + after.unread + after.passed
+      ≡ before.fetches + before.unread + before.passed
   pub words : after.words ≡ before.words
 
 -- a step from the front gave the first item that was left, or None where none was
@@ -76,7 +82,8 @@ pub record IsFresh (words : ℕ) (w : Walk) : Type 0 where
   pub in_order : YieldsInOrder StepsFront (λ s. s.remaining)
   pub in_reverse : YieldsInReverse StepsBack (λ s. s.remaining)
 
--- a clone has what its source has left, items and unread words, and has counted nothing
+-- a clone has what its source has left, items and unread words, and has counted nothing but the words
+-- that its source was done with
 pub record ResumesAs (source clone : Walk) : Type 0 where
   pub remaining : clone.remaining ≡ source.remaining
   pub unread : clone.unread ≡ source.unread

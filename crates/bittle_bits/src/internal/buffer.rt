@@ -14,20 +14,19 @@ use crate::one_word;
 use crate::read_words::ReadWords;
 use crate::word::Word;
 use std::marker::{Model, PhantomData};
-use std::mem::replace;
 use std::snapshot::Snapshot;
 
-// A number in unary, of which snapshots alone are kept.
+// A sum of numbers, of which snapshots alone are kept.
 #[derive(Drop)]
-enum Chain {
-    Start,
-    Next(Snapshot<Chain>),
+enum Sum {
+    Of(Snapshot<usize>),
+    And(Snapshot<Snapshot<Sum>>, Snapshot<Snapshot<Sum>>),
 }
 
 /// Counts in contracts alone. It takes no bytes.
 #[derive(Drop)]
 pub struct Count {
-    chain: Snapshot<Chain>,
+    sum: Snapshot<Sum>,
 }
 
 impl Model for Count {
@@ -35,27 +34,52 @@ impl Model for Count {
 
     ghost Value = { ℕ };
 
-    ghost use Rattle.bittle_bits.specs.Count.{chain_length};
+    ghost use Rattle.bittle_bits.specs.Count.{sum_of};
 
-    ghost view = { λ c. chain_length c.chain.value };
+    ghost view = { λ c. sum_of c.sum.value };
 }
 
 impl Count {
+    // Returns a count of so many.
+    #[inline(always)]
+    fn of(number: usize) -> Count
+        ensures { result ≡ number }
+    {
+        Count {
+            sum: Snapshot::of(&Sum::Of(Snapshot::of(&number))),
+        }
+    }
+
     /// Returns a count of zero.
     pub fn new() -> Count
         ensures { result ≡ 0 }
     {
+        Count::of(0)
+    }
+
+    /// Returns the count of two together.
+    #[inline(always)]
+    pub fn with(&self, other: &Count) -> Count
+        ensures { result ≡ self.now + other.now }
+    {
         Count {
-            chain: Snapshot::of(&Chain::Start),
+            sum: Snapshot::of(&Sum::And(Snapshot::of(&self.sum), Snapshot::of(&other.sum))),
         }
+    }
+
+    /// Counts so many more.
+    #[inline(always)]
+    pub fn add(&mut self, number: usize)
+        ensures { self.new ≡ self.old + number }
+    {
+        *self = self.with(&Count::of(number));
     }
 
     /// Counts one more.
     pub fn raise(&mut self)
         ensures { self.new ≡ self.old + 1 }
     {
-        let Count { chain } = replace(self, Count::new());
-        self.chain = Snapshot::of(&Chain::Next(chain));
+        self.add(1);
     }
 }
 
@@ -250,6 +274,14 @@ impl<W: Word, E: Endian> Buffers<W, E> {
         ensures { result.now ≡ self.now.scans }
     {
         &self.scans
+    }
+
+    /// Returns how many words were fetched.
+    #[inline(always)]
+    pub fn fetches(&self) -> &Count
+        ensures { result.now ≡ self.now.fetches }
+    {
+        &self.fetches
     }
 
     // Puts word `k` of a set at the end `N`.

@@ -24,6 +24,7 @@ pub struct Cursor<B: Shape, E: Endian> {
     pub low: usize,
     pub high: usize,
     pub items: Count,
+    pub passed: Count,
 }
 
 /// Begins an iterator between the words that the set passes over at either end. Of a type of fixed
@@ -37,13 +38,15 @@ pub fn begin<B: ReadWords, E: Endian, K: Kind>(source: &Source<'_, B>) -> Cursor
         (walk_at B.Shape E.Endian K.Kind source.now.set.now result).remaining }
 {
     let words = source.words() as usize;
-    let low = source.pass_over::<K, Front>(0, words);
-    let high = source.pass_over::<K, Back>(low, words);
+    let mut passed = Count::new();
+    let low = source.pass_over::<K, Front>(0, words, &mut passed);
+    let high = source.pass_over::<K, Back>(low, words, &mut passed);
     let mut at = Cursor {
         buffers: Buffers::none(),
         low,
         high,
         items: Count::new(),
+        passed,
     };
     if !B::is_fixed() || low == high {
         return at;
@@ -53,7 +56,8 @@ pub fn begin<B: ReadWords, E: Endian, K: Kind>(source: &Source<'_, B>) -> Cursor
     at
 }
 
-/// Returns the same place with its counters at zero, for `clone`.
+/// Returns the same place with its counters at zero, for `clone`. The words that it is done with are
+/// passed over.
 #[inline]
 pub fn duplicate<B: ReadWords, E: Endian>(at: &Cursor<B, E>) -> Cursor<B, E>
     ensures resumes { (s : PlainSet) (words w : ℕ) → IsCounted words at.now
@@ -69,6 +73,7 @@ pub fn duplicate<B: ReadWords, E: Endian>(at: &Cursor<B, E>) -> Cursor<B, E>
           low = at.now.low;
           high = at.now.high;
           items = 0;
+          passed = at.now.passed + at.now.buffers.fetches;
         } }
 {
     Cursor {
@@ -76,6 +81,7 @@ pub fn duplicate<B: ReadWords, E: Endian>(at: &Cursor<B, E>) -> Cursor<B, E>
         low: at.low,
         high: at.high,
         items: Count::new(),
+        passed: at.passed.with(at.buffers.fetches()),
     }
 }
 
@@ -90,6 +96,7 @@ fn take_word<B: Shape, E: Endian, N: End>(at: &mut Cursor<B, E>) -> usize
           low = cond N.FRONT (at.old.low + 1) at.old.low;
           high = cond N.FRONT at.old.high (at.old.high - 1);
           items = at.old.items;
+          passed = at.old.passed;
         } }
 {
     if N::FRONT {
@@ -110,6 +117,7 @@ fn move_end<B: Shape, E: Endian, N: End>(at: &mut Cursor<B, E>, on: usize)
           low = cond N.FRONT on at.old.low;
           high = cond N.FRONT at.old.high on;
           items = at.old.items;
+          passed = at.old.passed;
         } }
 {
     if N::FRONT {
@@ -134,7 +142,7 @@ fn pass_over<B: ReadWords, E: Endian, K: Kind, N: End>(
     ensures counted { IsCountedIn B.Shape source.now.set.now at.new }
     ensures buffers { at.new.buffers ≡ at.old.buffers }
 {
-    let on = source.pass_over::<K, N>(at.low, at.high);
+    let on = source.pass_over::<K, N>(at.low, at.high, &mut at.passed);
     move_end::<B, E, N>(at, on);
 }
 

@@ -1,7 +1,7 @@
 //! What an iterator or a search reads: the ones of a set, or its zeros, word by word. Each fetch of
 //! an iterator is counted.
 
-ghost use Rattle.std.specs.Prelude.{◌≡◌, ◌+◌, ◌*◌, ◌<◌, ◌≤◌, Bool};
+ghost use Rattle.std.specs.Prelude.{◌≡◌, ◌+◌, ◌-◌, ◌*◌, ◌<◌, ◌≤◌, cond, Bool};
 ghost use Rattle.bittle_bits.specs.BitPatterns.{bit_set};
 ghost use Rattle.bittle_bits.specs.Searches.{PassesOver};
 ghost use Rattle.bittle_bits.specs.Values.{set_mirrored, ShapeFits, word_count};
@@ -87,9 +87,10 @@ impl<'a, B: ReadWords> Source<'a, B> {
     }
 
     /// Returns the end `N` of the words from `low` on and before `high`, moved past words that the
-    /// set knows to have no bit of the kind, whatever the order. None of them is fetched.
+    /// set knows to have no bit of the kind, whatever the order, and counts these. None of them is
+    /// fetched.
     #[inline(always)]
-    pub fn pass_over<K: Kind, N: End>(&self, low: usize, high: usize) -> usize
+    pub fn pass_over<K: Kind, N: End>(&self, low: usize, high: usize, passed: &mut Count) -> usize
         requires fits { ShapeFits B.Shape self.now.set.now }
         requires ordered { low ≤ high }
         requires within { high * B.width ≤ (B.big self.now.set.now).capacity }
@@ -98,8 +99,11 @@ impl<'a, B: ReadWords> Source<'a, B> {
         ensures in_each_order { (mirrored : Bool) → PassesOver N.FRONT B.width
             (ones_or_zeros K.ONES (set_mirrored B.Shape mirrored self.now.set.now)) low high
             result }
+        ensures passed { passed.new ≡ passed.old + cond N.FRONT (result - low) (high - result) }
     {
-        pass_over::<B, K, N>(self.set, low, high)
+        let on = pass_over::<B, K, N>(self.set, low, high);
+        passed.add(if N::FRONT { on - low } else { high - on });
+        on
     }
 }
 

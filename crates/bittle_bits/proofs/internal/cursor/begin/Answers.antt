@@ -20,6 +20,7 @@ none : (g : Over) (c : After-new g) →
       low = c.pass_over-low.result;
       high = c.pass_over-high.result;
       items = c.new.result;
+      passed = c.pass_over-high.new.passed;
     } in
     IsWalkStart (ones_or_zeros g.K.Kind.ONES (read_in g.E.Endian.mirrored g.B.Shape.width big))
     (big.capacity / g.B.Shape.width) g.B.Shape.width t
@@ -28,13 +29,14 @@ none g c =
     let law = g.met.B.ReadWords in
     let low = c.pass_over-low.ensures.in_each_order g.E.Endian.mirrored in
     let high = c.pass_over-high.ensures.in_each_order g.E.Endian.mirrored in
-    walk_start _ _ _ (g.B.Shape.big v).capacity _ _ _ _ law.width_positive
+    walk_start _ _ _ (g.B.Shape.big v).capacity _ _ _ _ _ law.width_positive
     (ones_or_zeros-capacity g.K.Kind.ONES (set_in g.B.Shape g.E.Endian v))
     (law.whole_words v) refl c.none.ensures high.0 (omega (arith, high.1, c.words-words.ensures))
     low.2
     (subst (λ n. NoneIn (ones_or_zeros g.K.Kind.ONES (set_in g.B.Shape g.E.Endian v))
     (c.pass_over-high.result * g.B.Shape.width) (n * g.B.Shape.width)) c.words-words.ensures high.2)
     c.new.ensures
+    (omega (arith, c.new-passed.ensures, c.pass_over-low.ensures.passed, c.pass_over-high.ensures.passed))
 
 pub returns-then-not-is_fixed-clause-starts : goal.returns-then-not-is_fixed-clause-starts
 returns-then-not-is_fixed-clause-starts g c =
