@@ -10,7 +10,7 @@ use bittle_bits::bits::Bits;
 use bittle_bits::bits_mut::BitsMut;
 use bittle_bits::bits_owned::BitsOwned;
 use bittle_bits::endian::{Endian, LittleEndian};
-use bittle_bits::extension::{Operation, RangeOperation, ReadWords, Sealed};
+use bittle_bits::extension::{End, Kind, Operation, RangeOperation, ReadWords, Sealed};
 use bittle_bits::shape::Shape;
 use std::alloc::AllocError;
 use std::marker::PhantomData;
@@ -268,6 +268,11 @@ impl<T: ReadWords, U: Endian> ReadWords for Set<T, U> {
     #[inline]
     fn nth_leaf_word(&self, k: usize) -> T::LeafWord {
         self.bits.nth_leaf_word(k)
+    }
+
+    #[inline(always)]
+    fn pass_over<K: Kind, N: End>(&self, low: usize, high: usize) -> usize {
+        self.bits.pass_over::<K, N>(low, high)
     }
 }
 
