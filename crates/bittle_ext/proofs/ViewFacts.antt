@@ -1,6 +1,5 @@
 -- What a view's words say of it.
 use Rattle.std.proofs.Common.{◌≡◌, ℕ, ◌+◌, ◌-◌, ◌*◌, ◌%◌, ◌<◌, ◌≤◌, ◌==◌, ◌⊎◌, Bool, true, false, not, ◌&&◌, min, max, ◌++◌, append-nil, length, Option, Some, None, is_some, inl, inr, refl, sym, ap, ◌∙◌, arith}
-use Rattle.std.proofs.Props.{props}
 use Rattle.std.proofs.Math.Nat.{mul-le-mul_right, mul-mod_left}
 use Rattle.std.proofs.Math.Path.{fun_ext}
 use Rattle.std.proofs.lemmas.Bool.{cases_lt, le-ltb, true≢false, eq-eqb, ne_eqb, and_right}
@@ -70,11 +69,6 @@ tested m w k o index s d r word is got low at some =
     ∙ ap (read_in m w s).has at ∙ sym (contains_in (read_in m w s) s.capacity index refl some)
 
 -- ---- what an operation makes of two sets
-
--- that so many numbers hold what it makes is one fact, whatever shows it
-pub holds_one : (f : Bool → Bool → Bool) (w : ℕ) (s t : PlainSet) (end : ℕ) →
-    IsProp (HoldsBoth f w s t end)
-holds_one f w s t end = hlevel props
 
 -- whole words are a multiple of a word
 pub multiple : (w c : ℕ) → (words : ℕ) × (c ≡ words * w) → c % w ≡ 0

@@ -37,7 +37,7 @@ impl<'a, B: Shape> Clone for Complement<'a, B> {
 
     #[inline]
     fn clone(&self) -> Result<Complement<'a, B>, AllocError> {
-        Ok(Complement { set: self.set })
+        Ok(*self)
     }
 }
 

@@ -97,14 +97,7 @@ impl<'a, A: Shape, B: Shape, E: Endian, F: Endian, O: Operation> Clone
 
     #[inline]
     fn clone(&self) -> Result<OfBoth<'a, A, B, E, F, O>, AllocError> {
-        Ok(OfBoth {
-            left: self.left,
-            right: self.right,
-            end: self.end,
-            order: PhantomData,
-            other_order: PhantomData,
-            operation: PhantomData,
-        })
+        Ok(*self)
     }
 }
 
