@@ -65,13 +65,3 @@ decided_in_order f m w k s t d x y word is ours theirs =
     ap (read_in m w) is
     ∙ members-combination f m w (bit_set w x) (bit_set w y) word (one_word w) (one_word w)
     ∙ (λ i. combination_of f (ours i) (theirs i)) ∙ decided_word f w s t k
-
--- the items of a word that has in an order what word k of a set has are the set's members there
-pub items_in_order : (m : Bool) (w k : ℕ) (s : PlainSet) (d : ℕ) →
-    read_in m w (bit_set w d) ≡ word_of w s k →
-    items_of m w d (k * w) ≡ members_between s (k * w) (k * w + w)
-unfolding members_between
-items_in_order m w k s d is =
-    let n : k * w + w - k * w ≡ w = omega arith in
-    rw n (ascending_from-moved (read_in m w (bit_set w d)).has s.has (k * w) 0 (k * w) w
-    (omega arith) (λ i lo hi. sym (ap (λ t. t.has i) is ∙ word_has-at w s k i (omega arith))))

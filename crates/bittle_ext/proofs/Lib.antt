@@ -1,5 +1,3 @@
-mod CombinedStarts
-mod CombinedSteps
 mod CombinedWords
 mod Complements
 mod GatheredWords

@@ -6,8 +6,8 @@ ghost use Rattle.bittle_ext.specs.Combined.{both_of, first_only_of, just_one_of,
 ghost use Rattle.bittle.specs.PlainSet.{members_below, size};
 ghost use Rattle.bittle.specs.Values.{set_in, ShapeFits};
 
-use crate::both_words::word_of_both;
 use crate::capacities::capacity_of;
+use crate::other_words::word_of_both;
 use bittle::{Bits, Endian};
 use bittle_bits::extension::{Conjunction, Word, are_alike};
 

@@ -1,7 +1,7 @@
-//! Iterators over what an operation makes of two sets.
+//! Iterators over what an operation makes of two sets: over a view, or owning one.
 
 ghost use Rattle.std.specs.Iterator.{YieldsFirst, YieldsLast};
-ghost use Rattle.std.specs.Prelude.{◌≡◌, ℕ, List, Option, length, true};
+ghost use Rattle.std.specs.Prelude.{◌≡◌, ◌<◌, ℕ, List, Option, length, max, true};
 ghost use Rattle.std.specs.Prelude.{option_map, slice_index, unwrap_or};
 ghost use Rattle.std.specs.List.{fold};
 ghost use Rattle.bittle.specs.BitPatterns.{bit_set};
@@ -10,15 +10,16 @@ ghost use Rattle.bittle.specs.PlainSet.{ascending, empty_set, with_index};
 ghost use Rattle.bittle.specs.Rows.{row_set};
 ghost use Rattle.bittle.specs.Values.{set_in, ShapeFits};
 ghost use Rattle.bittle_ext.specs.Combined.{both_of, either_of, first_only_of, just_one_of};
+ghost use Rattle.bittle_ext.specs.Views.{rounded_up};
 
 use bittle::{Bits, Endian, LittleEndian, Set};
-use bittle_ext::{BitsCombinedExt, BitsOwnedExt, BitsViewExt};
+use bittle_ext::{BitsOwnedExt, BitsViewExt, View};
 
 /// Counts the indexes that are set in both of two words.
 pub fn count_common(one: u64, other: u64) -> usize
     ensures { result ≡ length (ascending (both_of (bit_set 64 one) (bit_set 64 other))) }
 {
-    one.iter_conjunction(&other).count()
+    one.and(&other).iter_ones().count()
 }
 
 /// Counts what is set in either of two rows of unequal length, read from the left.
@@ -28,7 +29,7 @@ pub fn count_either(one: &[u32; 2], other: &[u32; 4]) -> usize
         (read_in true 32 (row_set 4 32 (bit_set 32) other.now)))) }
 {
     let view = one.in_order::<LittleEndian>();
-    view.iter_union(&other.in_order::<LittleEndian>()).count()
+    view.or(&other.in_order::<LittleEndian>()).iter_ones().count()
 }
 
 /// Returns the set of what is set in one word alone.
@@ -36,19 +37,20 @@ pub fn alone(one: u16, other: u16) -> u16
     ensures { bit_set 16 result ≡ fold with_index (empty_set 16)
         (ascending (first_only_of (bit_set 16 one) (bit_set 16 other))) }
 {
-    u16::from_iter(one.iter_difference(&other))
+    u16::from_iter(one.minus(&other).iter_ones())
 }
 
 /// Counts where any two sets differ, both read in one order.
 pub fn count_different<A: Bits, B: Bits, E: Endian>(one: &A, other: &B) -> usize
     requires one_fits { ShapeFits A.Shape one.now }
     requires other_fits { ShapeFits B.Shape other.now }
+    requires rounded { rounded_up (max (A.big one.now).capacity (B.big other.now).capacity) A.width
+        < 4294967295 }
     ensures { result ≡ length (ascending (just_one_of
         (set_in A.Shape E.Endian one.now) (set_in B.Shape E.Endian other.now))) }
 {
     let view = one.in_order::<E>();
-    view.iter_symmetric_difference(&other.in_order::<E>())
-        .count()
+    view.xor_unlike(&other.in_order::<E>()).iter_ones().count()
 }
 
 /// Counts what is set in a byte and not in a row of wider words, which is read from the left.
@@ -56,7 +58,7 @@ pub fn count_alone(byte: u8, row: &Set<[u32; 2], LittleEndian>) -> usize
     ensures { result ≡ length (ascending (first_only_of (bit_set 8 byte)
         (read_in true 32 (row_set 2 32 (bit_set 32) row.now.bits)))) }
 {
-    byte.iter_difference(row).count()
+    byte.minus(row).iter_ones().count()
 }
 
 /// Returns the entry of a table at the last index that is set in both of two masks, or 0.
@@ -66,17 +68,9 @@ pub fn last_entry(one: u64, other: u64, table: &[u32; 64]) -> u32
         (ascending (both_of (bit_set 64 one) (bit_set 64 other))) last rest
         × (result ≡ unwrap_or (option_map (λ i. slice_index table.now i) last) 0) }
 {
-    match one.iter_conjunction(&other).next_back() {
+    match one.and(&other).iter_ones().next_back() {
         Some(index) => table[index as usize],
         None => 0,
-    }
-}
-
-/// Marks each entry of a table at an index that is set in both of two masks: each item is an index
-/// of the table.
-pub fn mark_common(one: u64, other: u64, table: &mut [bool; 64]) {
-    for index in one.iter_conjunction(&other) {
-        table[index as usize] = true;
     }
 }
 
@@ -87,7 +81,7 @@ pub fn counted(one: u16, other: u16) -> (usize, u16)
     ensures word { bit_set 16 result.1 ≡ fold with_index (empty_set 16)
         (ascending (either_of (bit_set 16 one) (bit_set 16 other))) }
 {
-    let walk = one.iter_union(&other);
+    let walk = one.or(&other).into_ones();
     let count = match walk.clone() {
         Ok(again) => again.count(),
         Err(_) => 0,
@@ -102,6 +96,6 @@ pub fn ends(one: u8, other: u8) -> (Option<u32>, Option<u32>)
         (ascending (either_of (bit_set 8 one) (bit_set 8 other))) result.0 rest
         × YieldsLast (λ items. items) rest result.1 left }
 {
-    let mut walk = one.iter_union(&other);
+    let mut walk = one.or(&other).into_ones();
     (walk.next(), walk.next_back())
 }

@@ -19,13 +19,6 @@ use bittle::{Bits, Endian, LittleEndian, Set, Shape};
 use bittle_ext::views::of_both::AndView;
 use bittle_ext::{BitsExt, BitsViewExt, View};
 
-/// Counts what an iterator over both of two words yields.
-pub fn items_of_words(one: u64, other: u64) -> usize
-    ensures { result ≡ length (ascending (both_of (bit_set 64 one) (bit_set 64 other))) }
-{
-    one.and(&other).iter_ones().count()
-}
-
 /// Counts what an iterator over either of two words yields.
 pub fn items_of_either(one: u64, other: u64) -> usize
     ensures { result ≡ length (ascending (either_of (bit_set 64 one) (bit_set 64 other))) }

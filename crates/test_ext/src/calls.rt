@@ -1,7 +1,8 @@
 //! Calls on sets of any shape, which return what was answered. Such a function is proved once for
 //! each shape, while a call that a test makes itself is proved anew at the shape of the test.
 
-ghost use Rattle.std.specs.Prelude.{◌≤◌, IsTrue};
+ghost use Rattle.std.specs.Prelude.{◌<◌, ◌≤◌, max, IsTrue};
+ghost use Rattle.bittle_ext.specs.Views.{rounded_up};
 ghost use Rattle.bittle.specs.Values.{ShapeFits};
 
 use bittle::prelude::*;
@@ -130,8 +131,10 @@ pub(crate) fn union<A: Bits, B: Bits, const N: usize>(
 ) -> [Option<u32>; N]
     requires one_fits { ShapeFits A.Shape one.now }
     requires other_fits { ShapeFits B.Shape other.now }
+    requires rounded { rounded_up (max (A.big one.now).capacity (B.big other.now).capacity) A.width
+        < 4294967295 }
 {
-    taken(&mut one.iter_union(other), ends)
+    taken(&mut one.or_unlike(other).into_ones(), ends)
 }
 
 /// Walks over the indexes in either of two sets, in the order `E`.
@@ -142,6 +145,8 @@ pub(crate) fn union_in<A: Bits, B: Bits, E: Endian, const N: usize>(
 ) -> [Option<u32>; N]
     requires one_fits { ShapeFits A.Shape one.now }
     requires other_fits { ShapeFits B.Shape other.now }
+    requires rounded { rounded_up (max (A.big one.now).capacity (B.big other.now).capacity) A.width
+        < 4294967295 }
 {
     union(&one.in_order::<E>(), &other.in_order::<E>(), ends)
 }
@@ -155,7 +160,7 @@ pub(crate) fn conjunction<A: Bits, B: Bits, const N: usize>(
     requires one_fits { ShapeFits A.Shape one.now }
     requires other_fits { ShapeFits B.Shape other.now }
 {
-    taken(&mut one.iter_conjunction(other), ends)
+    taken(&mut one.and(other).into_ones(), ends)
 }
 
 /// Walks over the indexes in the first of two sets alone.
@@ -167,7 +172,7 @@ pub(crate) fn difference<A: Bits, B: Bits, const N: usize>(
     requires one_fits { ShapeFits A.Shape one.now }
     requires other_fits { ShapeFits B.Shape other.now }
 {
-    taken(&mut one.iter_difference(other), ends)
+    taken(&mut one.minus(other).into_ones(), ends)
 }
 
 /// Walks over the indexes in just one of two sets.
@@ -178,8 +183,10 @@ pub(crate) fn symmetric_difference<A: Bits, B: Bits, const N: usize>(
 ) -> [Option<u32>; N]
     requires one_fits { ShapeFits A.Shape one.now }
     requires other_fits { ShapeFits B.Shape other.now }
+    requires rounded { rounded_up (max (A.big one.now).capacity (B.big other.now).capacity) A.width
+        < 4294967295 }
 {
-    taken(&mut one.iter_symmetric_difference(other), ends)
+    taken(&mut one.xor_unlike(other).into_ones(), ends)
 }
 
 /// Walks over what one of the four operations makes of two sets.
@@ -191,6 +198,8 @@ pub(crate) fn combination<A: Bits, B: Bits, const N: usize>(
 ) -> [Option<u32>; N]
     requires one_fits { ShapeFits A.Shape one.now }
     requires other_fits { ShapeFits B.Shape other.now }
+    requires rounded { rounded_up (max (A.big one.now).capacity (B.big other.now).capacity) A.width
+        < 4294967295 }
 {
     match kind {
         0 => union(one, other, ends),

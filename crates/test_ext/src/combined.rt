@@ -1,5 +1,7 @@
 //! Iterators over what an operation makes of two sets, with values worked out by hand.
 
+ghost use Rattle.std.specs.Prelude.{◌<◌, max};
+ghost use Rattle.bittle_ext.specs.Views.{rounded_up};
 ghost use Rattle.bittle.specs.Values.{ShapeFits};
 
 use crate::calls::{
@@ -48,8 +50,10 @@ fn source_and_clone<A: Bits, B: Bits>(
 ) -> (Option<u32>, [Option<u32>; 2], [Option<u32>; 4], Option<u32>)
     requires one_fits { ShapeFits A.Shape one.now }
     requires other_fits { ShapeFits B.Shape other.now }
+    requires rounded { rounded_up (max (A.big one.now).capacity (B.big other.now).capacity) A.width
+        < 4294967295 }
 {
-    let mut walk = one.iter_union(other);
+    let mut walk = one.or_unlike(other).into_ones();
     let first = walk.next();
     let mut clone = walk.clone().unwrap();
     let source = taken(&mut walk, [BACK, FRONT]);

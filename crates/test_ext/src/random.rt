@@ -1,6 +1,7 @@
 //! Thousands of drawn calls on a row of three bytes, compared with plain loops over 24 flags.
 
-ghost use Rattle.std.specs.Prelude.{◌<◌, ◌≤◌, IsTrue};
+ghost use Rattle.std.specs.Prelude.{◌<◌, ◌≤◌, max, IsTrue};
+ghost use Rattle.bittle_ext.specs.Views.{rounded_up};
 ghost use Rattle.bittle.specs.Values.{ShapeFits};
 
 use crate::calls::{BACK, FRONT, combination, one_runs, set_of, zero_runs, zeros_in_range};
@@ -140,10 +141,12 @@ pub(crate) fn combined(kind: u32, one: bool, other: bool) -> bool {
 fn walked<A: BitsOwned, B: Bits>(kind: u32, row: &A, word: &B) -> A
     requires indexable { IsTrue A.indexable }
     requires fits { ShapeFits B.Shape word.now }
+    requires rounded { rounded_up (max (A.big row.now).capacity (B.big word.now).capacity) A.width
+        < 4294967295 }
 {
     if kind == 0 {
         let mut made = A::zeros();
-        made.extend(row.iter_union(word));
+        made.extend(row.or_unlike(word).iter_ones());
         made
     } else {
         set_of(combination(kind, row, word, [FRONT; 25]))

@@ -1,6 +1,8 @@
 //! Iterators over what an operation makes of two sets whose words differ in width or in order, with
 //! values worked out by hand, and with drawn ones compared with tests of each bit.
 
+ghost use Rattle.std.specs.Prelude.{◌<◌, max};
+ghost use Rattle.bittle_ext.specs.Views.{rounded_up};
 ghost use Rattle.bittle.specs.Values.{ShapeFits};
 
 use crate::calls::{
@@ -82,10 +84,12 @@ fn capacity_0(rt: HostRuntime) {
 fn walked<A: Bits, B: Bits>(kind: u32, one: &A, other: &B) -> [u64; 2]
     requires one_fits { ShapeFits A.Shape one.now }
     requires other_fits { ShapeFits B.Shape other.now }
+    requires rounded { rounded_up (max (A.big one.now).capacity (B.big other.now).capacity) A.width
+        < 4294967295 }
 {
     if kind == 1 {
         let mut made = [0u64; 2];
-        made.extend(one.iter_conjunction(other).rev());
+        made.extend(one.and(other).iter_ones().rev());
         return made;
     }
     let mut turns = [kind != 3; 129];

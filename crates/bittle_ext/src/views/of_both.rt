@@ -8,8 +8,8 @@ ghost use Rattle.bittle_ext.specs.Views.{rounded_up, HoldsBoth};
 ghost use Rattle.bittle.specs.PlainSet.{ascending};
 ghost use Rattle.bittle.specs.Values.{set_in, ShapeFits};
 
-use crate::both_words::word_of_both;
 use crate::capacities::capacity_of;
+use crate::other_words::word_of_both;
 use crate::views::by_words::{count, is_empty, is_full, test};
 use bittle::{Bits, Endian, Shape};
 use bittle_bits::extension::{

@@ -1,6 +1,6 @@
 use Rattle.bittle.specs.Values.{set_in}
 use Rattle.bittle_ext.proofs.CombinedWords.{decided_in_order, word_in_order}
-use Rattle.bittle_ext.proofs.both_words.word_of_both.Goals as goal
+use Rattle.bittle_ext.proofs.other_words.word_of_both.Goals as goal
 
 pub returns : goal.returns
 returns g c =
