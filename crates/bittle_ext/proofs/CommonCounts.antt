@@ -88,23 +88,25 @@ pub counted_all : (s t : PlainSet) (from to : ℕ) → from ≤ to → NoneIn s 
 counted_all s t from to h none =
     below_stays (both_of s t) from to h (λ k p q. ap (λ a. a && t.has k) (none k p q))
 
--- of two sets that end at their capacities, as many as are in both below the lesser one are in both,
--- and what is left of either follows
-pub counts_both : {s t : PlainSet} {a b : ℕ} → EndsAt s a → EndsAt t b → (end p q n : ℕ) →
-    end ≡ min a b → p ≡ size s → q ≡ size t → n ≡ members_below (both_of s t) end →
-    CountsBoth s t p q n
-counts_both {s} {t} x y end p q n least ours theirs counted =
-    let c = max s.capacity t.capacity in
-    let first = below_past s s.capacity c s.capacity x.past (omega arith) in
-    let second = below_past t t.capacity c t.capacity y.past (omega arith) in
-    let is : n ≡ size (both_of s t) = counted
-    ∙ sym (below_past (both_of s t) end c end (none_in_both x y end least)
-    (omega (arith, least, x.capacity, y.capacity))) in
-    let sums = all_numbers c s.has t.has in
-    record {
-      both = is;
-      first_only = omega (arith, sums.0, first, ours, is);
-      few = omega (arith, sums.2, second, theirs, is);
-      just_one = omega (arith, sums.1, first, second, ours, theirs, is);
-      most = count-le c (just_one_of s t).has;
-    }
+module _ {s t : PlainSet} {a b : ℕ} (x : EndsAt s a) (y : EndsAt t b) where
+  -- of two sets that end at their capacities, all that are in both lie below the lesser one
+  pub all_in_both : (end : ℕ) → end ≡ min a b → members_below (both_of s t) end ≡ size (both_of s t)
+  all_in_both end least =
+      sym (below_past (both_of s t) end (max s.capacity t.capacity) end
+      (none_in_both x y end least) (omega (arith, least, x.capacity, y.capacity)))
+
+  -- where so many are in both, what is left of either follows
+  pub counts_both : (p q n : ℕ) → p ≡ size s → q ≡ size t → n ≡ size (both_of s t) →
+      CountsBoth s t p q n
+  counts_both p q n ours theirs is =
+      let c = max s.capacity t.capacity in
+      let first = below_past s s.capacity c s.capacity x.past (omega arith) in
+      let second = below_past t t.capacity c t.capacity y.past (omega arith) in
+      let sums = all_numbers c s.has t.has in
+      record {
+        both = is;
+        first_only = omega (arith, sums.0, first, ours, is);
+        few = omega (arith, sums.2, second, theirs, is);
+        just_one = omega (arith, sums.1, first, second, ours, theirs, is);
+        most = count-le c (just_one_of s t).has;
+      }

@@ -1,28 +1,15 @@
-//! How many indexes are set in two sets, with no set made: word by word where their words have one
-//! width and are read in one order, else by the set bits of the first.
+//! How many indexes are set in two sets, with no set made: by the view of both where their words have
+//! one width and are read in one order, else by the set bits of the first.
 
-ghost use Rattle.std.specs.Prelude.{◌≡◌, ◌+◌, ◌*◌, ◌<◌};
-ghost use Rattle.bittle_ext.specs.Combined.{both_of, first_only_of, just_one_of, CountsBoth};
-ghost use Rattle.bittle.specs.PlainSet.{members_below, size};
+ghost use Rattle.std.specs.Prelude.{◌≡◌};
+ghost use Rattle.bittle_ext.specs.Combined.{first_only_of, just_one_of, CountsBoth};
+ghost use Rattle.bittle.specs.PlainSet.{size};
 ghost use Rattle.bittle.specs.Values.{set_in, ShapeFits};
 
 use crate::capacities::capacity_of;
-use crate::other_words::word_of_both;
+use crate::views::of_both::OfBoth;
 use bittle::{Bits, Endian};
-use bittle_bits::extension::{Conjunction, Word, are_alike};
-
-/// Counts the indexes of word `k` that are set in both.
-#[inline]
-fn count_common_word<A: Bits, B: Bits, E: Endian, F: Endian>(left: &A, right: &B, k: u32) -> u32
-    requires left_fits { ShapeFits A.Shape left.now }
-    requires right_fits { ShapeFits B.Shape right.now }
-    requires within { k * A.width < 4294967296 }
-    ensures { let both = both_of
-        (set_in A.Shape E.Endian left.now) (set_in B.Shape F.Endian right.now) in
-        members_below both ((k + 1) * A.width) ≡ members_below both (k * A.width) + result }
-{
-    word_of_both::<A, B, E, F, Conjunction>(left, right, k).count_ones()
-}
+use bittle_bits::extension::{Conjunction, are_alike};
 
 /// Counts the indexes that are set in both.
 #[inline]
@@ -33,13 +20,10 @@ pub fn count_common<A: Bits, B: Bits, E: Endian, F: Endian>(left: &A, right: &B)
         (size (A.big left.now)) (size (B.big right.now)) result }
 {
     let common = capacity_of::<A, E>(left).min(capacity_of::<B, F>(right));
-    let mut count = 0;
     if are_alike::<A, B, E, F>() {
-        for k in 0..common / <A::LeafWord as Word>::width() {
-            count += count_common_word::<A, B, E, F>(left, right, k);
-        }
-        return count;
+        return OfBoth::<'_, A, B, E, F, Conjunction>::of_first(left, right).count_ones();
     }
+    let mut count = 0;
     let mut from = 0;
     while let Some(index) = left.first_one_in::<E>(from, common) {
         if right.test_bit_in::<F>(index) {

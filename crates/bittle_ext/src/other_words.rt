@@ -13,12 +13,12 @@ use bittle_bits::extension::{Operation, Word, are_alike, set_bit};
 
 /// Returns word `k` of a set, or an empty word from its capacity on.
 #[inline]
-pub fn word_or_empty<S: Bits>(set: &S, k: u32) -> S::LeafWord
+pub fn word_or_empty<S: Bits>(set: &S, k: usize) -> S::LeafWord
     requires { ShapeFits S.Shape set.now }
     ensures { bit_set S.width (S.LeafWord.pattern result) ≡ word_of S.width (S.big set.now) k }
 {
-    if k < set.bits_capacity() / <S::LeafWord as Word>::width() {
-        set.nth_leaf_word(k as usize)
+    if k < (set.bits_capacity() / <S::LeafWord as Word>::width()) as usize {
+        set.nth_leaf_word(k)
     } else {
         <S::LeafWord as Word>::zero()
     }
@@ -46,7 +46,7 @@ fn gathered_word<W: Word, B: Bits, E: Endian, F: Endian>(set: &B, k: u32) -> W
 /// Returns the word that has in the order `E` what a set has in the order `F`, as its word `k` of
 /// the width of another type's words. From the capacity on it is empty.
 #[inline]
-pub fn other_word<A: Bits, B: Bits, E: Endian, F: Endian>(set: &B, k: u32) -> A::LeafWord
+pub fn other_word<A: Bits, B: Bits, E: Endian, F: Endian>(set: &B, k: usize) -> A::LeafWord
     requires fits { ShapeFits B.Shape set.now }
     requires within { k * A.width < 4294967296 }
     ensures { read_in E.mirrored A.width (bit_set A.width (A.LeafWord.pattern result))
@@ -55,7 +55,7 @@ pub fn other_word<A: Bits, B: Bits, E: Endian, F: Endian>(set: &B, k: u32) -> A:
     if are_alike::<A, B, E, F>() {
         <A::LeafWord as Word>::from_bits(word_or_empty(set, k).to_bits())
     } else {
-        gathered_word::<A::LeafWord, B, E, F>(set, k)
+        gathered_word::<A::LeafWord, B, E, F>(set, k as u32)
     }
 }
 
@@ -65,7 +65,7 @@ pub fn other_word<A: Bits, B: Bits, E: Endian, F: Endian>(set: &B, k: u32) -> A:
 pub fn word_of_both<A: Bits, B: Bits, E: Endian, F: Endian, O: Operation>(
     left: &A,
     right: &B,
-    k: u32,
+    k: usize,
 ) -> A::LeafWord
     requires left_fits { ShapeFits A.Shape left.now }
     requires right_fits { ShapeFits B.Shape right.now }

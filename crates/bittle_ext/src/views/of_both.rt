@@ -128,7 +128,7 @@ impl<'a, A: Bits, B: Bits, E: Endian, F: Endian, O: Operation> ReadWords
 
     #[inline(always)]
     fn nth_leaf_word(&self, k: usize) -> A::LeafWord {
-        word_of_both::<A, B, E, F, O>(self.left, self.right, k as u32)
+        word_of_both::<A, B, E, F, O>(self.left, self.right, k)
     }
 }
 

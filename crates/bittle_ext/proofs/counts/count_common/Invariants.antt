@@ -1,14 +1,8 @@
-use Rattle.std.proofs.Common.{◌≡◌, ◌-◌, ◌*◌, ◌≤◌}
+use Rattle.std.proofs.Common.{◌≡◌, ◌-◌, ◌≤◌}
 use Rattle.bittle.specs.Orders.{read_in}
 use Rattle.bittle.specs.PlainSet.{members_below}
 use Rattle.bittle_ext.specs.Combined.{both_of}
 use Rattle.bittle_ext.proofs.counts.count_common.Given as goal
-
-abbrev pub invariant-loop-k : goal.invariant-loop-k
-invariant-loop-k g l =
-    let ours = read_in g.E.Endian.mirrored g.A.Shape.width (g.A.Shape.big l.left) in
-    let theirs = read_in g.F.Endian.mirrored g.B.Shape.width (g.B.Shape.big l.right) in
-    l.count ≡ members_below (both_of ours theirs) (l.k * g.A.Shape.width)
 
 abbrev pub invariant-loop-index : goal.invariant-loop-index
 invariant-loop-index g l =
