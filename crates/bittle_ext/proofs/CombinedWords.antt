@@ -1,10 +1,9 @@
 -- What an operation makes of two sets, word by word.
-use Rattle.std.proofs.Common.{◌≡◌, ℕ, ◌*◌, ◌+◌, ◌-◌, ◌/◌, ◌<◌, ◌≤◌, Bool, false, inl, inr, refl, sym, ap, ◌∙◌, arith}
+use Rattle.std.proofs.Common.{◌≡◌, ℕ, ◌*◌, ◌+◌, ◌/◌, ◌<◌, ◌≤◌, Bool, false, inl, inr, refl, sym, ap, ◌∙◌, arith}
 use Rattle.std.proofs.Math.Path.{fun_ext}
 use Rattle.std.proofs.Math.Nat.{mul-div_left, mul-le-mul_right}
 use Rattle.std.proofs.lemmas.Bool.{cases_lt, le-ltb}
 use Rattle.bittle_bits.specs.BitPatterns.{bit_set}
-use Rattle.bittle_bits.specs.Buffers.{members_between, items_of}
 use Rattle.bittle_bits.specs.LawProofs.{one_word}
 use Rattle.bittle_bits.specs.Orders.{place, read_in}
 use Rattle.bittle_bits.specs.PlainSet.{PlainSet}
@@ -12,7 +11,6 @@ use Rattle.bittle_bits.specs.SetOperations.{combination_of}
 use Rattle.bittle_bits.specs.Words.{word_has, word_of}
 use Rattle.bittle_bits.proofs.BitSets.{no_digits}
 use Rattle.bittle_bits.proofs.PlainSets.{plain_set}
-use Rattle.bittle_bits.proofs.AscendingLists.{ascending_from-moved}
 use Rattle.bittle_bits.proofs.PlaceLemmas.{place_past}
 use Rattle.bittle_bits.proofs.SetOperations.{combination-below, combination-outside, members-combination}
 use Rattle.bittle_bits.proofs.Words.{word_has-at, digit_at}

@@ -88,13 +88,14 @@ whole_greater {a} {b} leaf w v one other ours theirs =
 module _ (f : Bool → Bool → Bool) {s t : PlainSet} {a b : ℕ} (x : EndsAt s a) (y : EndsAt t b)
     (w : ℕ) where
   -- one that makes none of what is in neither is held by the capacities of both
-  pub holds_either : f false false ≡ false → (end : ℕ) → end < 4294967295 → end % w ≡ 0 →
-      max a b ≤ end → HoldsBoth f w s t end
-  holds_either none end fits whole high = record {
+  pub holds_either : f false false ≡ false → f false true ≡ true → (end : ℕ) →
+      end < 4294967295 → end % w ≡ 0 → max a b ≤ end → HoldsBoth f w s t end
+  holds_either none one end fits whole high = record {
     fits = fits;
     whole = whole;
     past = λ i h. (λ j. f (x.past i (omega (arith, high, h, x.capacity)) j)
         (y.past i (omega (arith, high, h, y.capacity)) j)) ∙ none;
+    first = λ h. absurd (true≢false (sym one ∙ h true));
   }
 
 -- one that makes none of what is not in the first is held by its capacity
@@ -104,6 +105,7 @@ holds_first f x t w none fits whole = record {
   fits = fits;
   whole = whole;
   past = λ i h. ap (λ b. f b (t.has i)) (x.past i (omega (arith, h, x.capacity))) ∙ none (t.has i);
+  first = λ _. omega (arith, x.capacity);
 }
 
 -- with a greater capacity, from where on nothing is, a set has the same members

@@ -1,5 +1,5 @@
 -- Where a set has no members.
-use Rattle.std.proofs.Common.{◌≡◌, ◌↔◌, ◌==◌, ℕ, Bool, true, false, inl, inr, IsTrue, not, Option, Some, None, is_some, refl, sym, ap, ◌∙◌, arith}
+use Rattle.std.proofs.Common.{◌≡◌, ◌↔◌, ◌==◌, ℕ, Bool, true, false, inl, inr, IsTrue, not, Option, Some, None, is_some, refl, sym, ◌∙◌, arith}
 use Rattle.std.proofs.lemmas.Bool.{cases_Bool, cases_eq, eq-eqb, ne_eqb, true≢false}
 use Rattle.bittle_bits.specs.PlainSet.{PlainSet, complement, size}
 use Rattle.bittle_bits.specs.Searches.{IsFirstIn, NoneIn}

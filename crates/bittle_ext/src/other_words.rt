@@ -1,15 +1,13 @@
-//! The words of a set as another one has its words, of their width and read in their order, and what
-//! an operation makes of both.
+//! The words of a set as another one has its words: of their width, and read in their order.
 
 ghost use Rattle.std.specs.Prelude.{◌≡◌, ◌*◌, ◌<◌};
 ghost use Rattle.bittle_bits.specs.BitPatterns.{bit_set};
 ghost use Rattle.bittle_bits.specs.Words.{word_of};
-ghost use Rattle.bittle_ext.specs.Combined.{decided_set};
 ghost use Rattle.bittle.specs.Orders.{read_in};
 ghost use Rattle.bittle.specs.Values.{set_in, ShapeFits};
 
 use bittle::{Bits, Endian};
-use bittle_bits::extension::{Operation, Word, are_alike, set_bit};
+use bittle_bits::extension::{Word, are_alike, set_bit};
 
 /// Returns word `k` of a set, or an empty word from its capacity on.
 #[inline]
@@ -57,24 +55,4 @@ pub fn other_word<A: Bits, B: Bits, E: Endian, F: Endian>(set: &B, k: usize) -> 
     } else {
         gathered_word::<A::LeafWord, B, E, F>(set, k as u32)
     }
-}
-
-/// Returns word `k` of what an operation makes of two sets, each read in an order: the word has it
-/// in the order of the first.
-#[inline]
-pub fn word_of_both<A: Bits, B: Bits, E: Endian, F: Endian, O: Operation>(
-    left: &A,
-    right: &B,
-    k: usize,
-) -> A::LeafWord
-    requires left_fits { ShapeFits A.Shape left.now }
-    requires right_fits { ShapeFits B.Shape right.now }
-    requires within { k * A.width < 4294967296 }
-    ensures { read_in E.mirrored A.width (bit_set A.width (A.LeafWord.pattern result)) ≡ word_of
-        A.width (decided_set O.decide (set_in A.Shape E.Endian left.now)
-        (set_in B.Shape F.Endian right.now)) k }
-{
-    let theirs = other_word::<A, B, E, F>(right, k);
-    let ours = word_or_empty(left, k);
-    O::on_words::<A::LeafWord>(ours, theirs)
 }

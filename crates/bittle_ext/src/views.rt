@@ -23,11 +23,11 @@ ghost use Rattle.bittle.specs.Walk.{AreBelow, IsFresh};
 use crate::views::complement::Complement;
 use crate::views::in_order::InOrder;
 use crate::views::in_order_mut::InOrderMut;
-use crate::views::of_both::{AndView, MinusView, OfBoth, OrView, XorView};
+use crate::views::of_both::{AndView, MinusView, OfBoth, OrView, ViewOperation, XorView};
 use crate::views::within::Within;
 use bittle::{Bits, BitsMut, Endian, Shape};
 use bittle_bits::extension::{
-    Conjunction, Difference, Operation, OwnedSource, SymmetricDifference, Union,
+    Conjunction, Difference, OwnedSource, SymmetricDifference, Union,
 };
 use bittle_bits::walk::{IntoIter, IntoIterOnes, IntoIterZeros};
 
@@ -371,7 +371,8 @@ pub trait View: Bits + Copy {
     }
 }
 
-impl<'a, A: Bits, B: Bits, E: Endian, F: Endian, O: Operation> View for OfBoth<'a, A, B, E, F, O> {}
+impl<'a, A: Bits, B: Bits, E: Endian, F: Endian, O: ViewOperation> View
+    for OfBoth<'a, A, B, E, F, O> {}
 
 impl<'a, B: Bits> View for Complement<'a, B> {}
 

@@ -1,6 +1,6 @@
 //! Views of what an operation makes of two sets, of any widths and orders.
 
-ghost use Rattle.std.specs.Prelude.{◌≡◌, ◌<◌, Bool, false, true, refl, max, ⊤};
+ghost use Rattle.std.specs.Prelude.{◌≡◌, ◌<◌, Bool, false, true, refl, max, ⊤, IsTrue};
 ghost use Rattle.bittle_ext.specs.Combined.{decided_set};
 ghost use Rattle.bittle_ext.specs.ViewLaws.{none_past_both, whole_words_of};
 ghost use Rattle.bittle_ext.specs.Views.{decided_until, decided_of_first, read_back};
@@ -9,7 +9,7 @@ ghost use Rattle.bittle.specs.PlainSet.{ascending};
 ghost use Rattle.bittle.specs.Values.{set_in, ShapeFits};
 
 use crate::capacities::capacity_of;
-use crate::other_words::word_of_both;
+use crate::other_words::{other_word, word_or_empty};
 use crate::views::by_words::{count, is_empty, is_full, test};
 use bittle::{Bits, Endian, Shape};
 use bittle_bits::extension::{
@@ -30,30 +30,73 @@ pub type OrView<'a, A, B, E, F> = OfBoth<'a, A, B, E, F, Union>;
 /// Views the indexes that are set in just one of two sets.
 pub type XorView<'a, A, B, E, F> = OfBoth<'a, A, B, E, F, SymmetricDifference>;
 
-/// An operation that makes no index a member that is in neither set.
+/// An operation that a view is made by.
 pub trait ViewOperation: Operation {
+    /// Returns `true` if it makes no index a member that is not in the first set.
+    #[doc(hidden)]
+    fn keeps_to_first() -> bool
+        ensures { IsTrue result → (b : Bool) → Self.decide false b ≡ false };
+}
+
+/// An operation that makes no index a member that is in neither set, and one that is in the second
+/// alone.
+pub trait EitherOperation: ViewOperation {
     ghost keeps_empty: { Self.decide false false ≡ false };
+
+    ghost takes_second: { Self.decide false true ≡ true };
 }
 
 impl ViewOperation for Union {
+    #[inline(always)]
+    fn keeps_to_first() -> bool {
+        false
+    }
+}
+
+impl EitherOperation for Union {
     ghost keeps_empty = { refl };
+
+    ghost takes_second = { refl };
 }
 
 impl ViewOperation for SymmetricDifference {
+    #[inline(always)]
+    fn keeps_to_first() -> bool {
+        false
+    }
+}
+
+impl EitherOperation for SymmetricDifference {
     ghost keeps_empty = { refl };
+
+    ghost takes_second = { refl };
 }
 
 /// An operation that makes no index a member that is not in the first set.
-pub trait FirstOperation: Operation {
-    ghost keeps_to_first: { (b : Bool) → Self.decide false b ≡ false };
+pub trait FirstOperation: ViewOperation {
+    ghost keeps_first: { (b : Bool) → Self.decide false b ≡ false };
+}
+
+impl ViewOperation for Conjunction {
+    #[inline(always)]
+    fn keeps_to_first() -> bool {
+        true
+    }
 }
 
 impl FirstOperation for Conjunction {
-    ghost keeps_to_first = { λ _. refl };
+    ghost keeps_first = { λ _. refl };
+}
+
+impl ViewOperation for Difference {
+    #[inline(always)]
+    fn keeps_to_first() -> bool {
+        true
+    }
 }
 
 impl FirstOperation for Difference {
-    ghost keeps_to_first = { λ _. refl };
+    ghost keeps_first = { λ _. refl };
 }
 
 /// What the operation `O` makes of two sets that it borrows, the first read in the order `E` and
@@ -104,7 +147,7 @@ impl<'a, A: Shape, B: Shape, E: Endian, F: Endian, O: Operation> Clone
 impl<'a, A: Shape, B: Shape, E: Endian, F: Endian, O: Operation> Copy
     for OfBoth<'a, A, B, E, F, O> {}
 
-impl<'a, A: Bits, B: Bits, E: Endian, F: Endian, O: Operation> ReadWords
+impl<'a, A: Bits, B: Bits, E: Endian, F: Endian, O: ViewOperation> ReadWords
     for OfBoth<'a, A, B, E, F, O> {
     ghost leaf_width = { A.leaf_width };
 
@@ -128,11 +171,15 @@ impl<'a, A: Bits, B: Bits, E: Endian, F: Endian, O: Operation> ReadWords
 
     #[inline(always)]
     fn nth_leaf_word(&self, k: usize) -> A::LeafWord {
-        word_of_both::<A, B, E, F, O>(self.left, self.right, k)
+        let theirs = other_word::<A, B, E, F>(self.right, k);
+        if O::keeps_to_first() {
+            return O::on_words::<A::LeafWord>(self.left.nth_leaf_word(k), theirs);
+        }
+        O::on_words::<A::LeafWord>(word_or_empty(self.left, k), theirs)
     }
 }
 
-impl<'a, A: Bits, B: Bits, U: Endian, F: Endian, O: Operation> Bits for OfBoth<'a, A, B, U, F, O> {
+impl<'a, A: Bits, B: Bits, U: Endian, F: Endian, O: ViewOperation> Bits for OfBoth<'a, A, B, U, F, O> {
     type Order = U;
 
     #[inline]
@@ -207,7 +254,7 @@ impl<'a, A: Bits, B: Bits, E: Endian, F: Endian, O: FirstOperation> OfBoth<'a, A
     }
 }
 
-impl<'a, A: Bits, B: Bits, E: Endian, F: Endian, O: ViewOperation> OfBoth<'a, A, B, E, F, O> {
+impl<'a, A: Bits, B: Bits, E: Endian, F: Endian, O: EitherOperation> OfBoth<'a, A, B, E, F, O> {
     /// Views what an operation makes of two sets of like words.
     #[inline]
     pub(crate) fn of_either(left: &'a A, right: &'a B) -> Self

@@ -10,7 +10,7 @@ until-requires-clause-holds g c =
     let a = g.met.A.ReadWords in
     let ends = c.capacity_of.ensures.ends in
     holds_first g.O.Operation.decide ends (set_in g.B.Shape g.F.Endian c.args.right.now)
-    g.A.Shape.width g.met.O.FirstOperation.keeps_to_first
+    g.A.Shape.width g.met.O.FirstOperation.keeps_first
     (omega (arith, ends.capacity, c.requires.left_fits.1))
     (ap (λ n. n % g.A.Shape.width) ends.capacity
     ∙ multiple g.A.Shape.width _ (a.whole_words c.args.left.now))
@@ -25,7 +25,7 @@ returns-clause-items g c =
     ∙ sym (ascending_longer (λ i. f (s.has i) (t.has i)) c.capacity_of.result _
     (omega (arith, ends.capacity)) (λ i h.
     ap (λ b. f b (t.has i)) (ends.past i (omega (arith, h, ends.capacity)))
-    ∙ g.met.O.FirstOperation.keeps_to_first (t.has i)))
+    ∙ g.met.O.FirstOperation.keeps_first (t.has i)))
 
 pub returns-clause-set : goal.returns-clause-set
 returns-clause-set g c = c.until.ensures.set ∙ ap (λ n. decided_until g.O.Operation.decide n
