@@ -1,12 +1,11 @@
 -- How two sets stand to each other, as far as a search has come.
 use Rattle.std.proofs.Common.{◌≡◌, ℕ, ◌<◌, ◌≤◌, Bool, true, false, not, Some, inl, inr, sym, ap, ◌∙◌, arith}
-use Rattle.std.proofs.lemmas.Bool.{cases_lt, true≢false}
+use Rattle.std.proofs.lemmas.Bool.{cases_lt, true≢false, not-false, not-true}
 use Rattle.bittle.specs.PlainSet.{PlainSet}
 use Rattle.bittle.specs.Walk.{ones_or_zeros}
 use Rattle.bittle.specs.Searches.{NoneIn, IsFirstIn}
 use Rattle.bittle.proofs.CallerSets.{complement_within}
 use Rattle.bittle_ext.specs.SetRelations.{AgreesBelow, IsFirstWhere}
-use Rattle.bittle_ext.proofs.SetFacts.{not_false, not_true}
 
 -- what is so of each member of the first below a number is so below a later one too, where the
 -- first has none from there on
@@ -22,12 +21,12 @@ further v s t from to before none i h m =
 of_kind : (v : Bool) (t : PlainSet) (i : ℕ) → i < t.capacity →
     (ones_or_zeros v t).has i ≡ true → t.has i ≡ v
 of_kind true t i l h = h
-of_kind false t i l h = not_true (t.has i) (sym (complement_within t i l) ∙ h)
+of_kind false t i l h = not-true (t.has i) (sym (complement_within t i l) ∙ h)
 
 of_other : (v : Bool) (t : PlainSet) (i : ℕ) → i < t.capacity →
     (ones_or_zeros v t).has i ≡ false → t.has i ≡ not v
 of_other true t i l h = h
-of_other false t i l h = not_false (t.has i) (sym (complement_within t i l) ∙ h)
+of_other false t i l h = not-false (t.has i) (sym (complement_within t i l) ∙ h)
 
 module _ (v : Bool) (s t : PlainSet) (from end ours theirs : ℕ) (within : end ≤ t.capacity)
     (before : AgreesBelow (not v) s t from) (first : IsFirstIn s from end (Some ours)) where

@@ -1,6 +1,6 @@
 -- Where a run begins and ends, and how far the runs of a list reach.
 use Rattle.std.proofs.Common.{◌≡◌, ℕ, zero, suc, ◌+◌, ◌-◌, ◌<◌, ◌≤◌, ◌==◌, Bool, true, false, not, cond, List, [], ◌∷◌, length, Some, inl, inr, sym, ap, ◌∙◌, arith}
-use Rattle.std.proofs.lemmas.Bool.{cases_eq}
+use Rattle.std.proofs.lemmas.Bool.{cases_eq, not-false, not-true}
 use Rattle.std.specs.Prelude.{⊤, slice_index_or}
 use Rattle.std.specs.Iterator.{YieldsFirst, YieldsLast}
 use Rattle.std.proofs.iter.runs.Sources.{from_front, from_back, as_is, as_is_back}
@@ -12,7 +12,6 @@ use Rattle.bittle_bits.proofs.OnesOrZeros.{ones_or_zeros-capacity}
 use Rattle.bittle_ext.specs.RangeMembers.{HasAllIn}
 use Rattle.bittle_ext.specs.Runs.{run, joined, runs_from, runs_between, runs, AreRunsBelow, EndsRun, BeginsRun, RunsInOrder, RunsInReverse}
 use Rattle.bittle_ext.proofs.RunFacts.{AreOpposite, opposite_to_complement, complement_to_opposite}
-use Rattle.bittle_ext.proofs.SetFacts.{not_false, not_true}
 
 -- the bits of one kind are those that are none of the other
 pub others_opposite : (ones : Bool) (s : PlainSet) →
@@ -30,11 +29,11 @@ module _ (kind : Bool) (set : PlainSet) where
 
   -- what is none of the other kind is of the kind, and so the other way round
   member : (k : ℕ) → k < set.capacity → t.has k ≡ false → s.has k ≡ true
-  member k l e = not_false (s.has k) (sym ((others_opposite kind set).other k
+  member k l e = not-false (s.has k) (sym ((others_opposite kind set).other k
       (omega (arith, ones_or_zeros-capacity kind set))) ∙ e)
 
   no_member : (k : ℕ) → k < set.capacity → t.has k ≡ true → s.has k ≡ false
-  no_member k l e = not_true (s.has k) (sym ((others_opposite kind set).other k
+  no_member k l e = not-true (s.has k) (sym ((others_opposite kind set).other k
       (omega (arith, ones_or_zeros-capacity kind set))) ∙ e)
 
   all_from : (start end : ℕ) → end ≤ set.capacity → s.has start ≡ true →

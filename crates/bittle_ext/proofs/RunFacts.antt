@@ -1,11 +1,10 @@
 -- Runs of members, as far as searches have come.
 use Rattle.std.proofs.Common.{◌≡◌, ℕ, ◌+◌, ◌-◌, ◌<◌, ◌≤◌, Bool, true, false, not, Some, None, inl, inr, refl, sym, ap, ◌∙◌, arith}
-use Rattle.std.proofs.lemmas.Bool.{cases_lt, true≢false}
+use Rattle.std.proofs.lemmas.Bool.{cases_lt, true≢false, not-false}
 use Rattle.bittle.specs.PlainSet.{PlainSet, complement}
 use Rattle.bittle.specs.Searches.{NoneIn, IsFirstIn, IsLastIn}
 use Rattle.bittle.proofs.CallerSets.{complement_within}
 use Rattle.bittle_ext.specs.Runs.{NoRunBegins, IsFirstRun}
-use Rattle.bittle_ext.proofs.SetFacts.{not_false}
 
 -- t has each number below the capacity that s has not
 pub record AreOpposite (s t : PlainSet) : Type 0 where
@@ -59,7 +58,7 @@ module _ {s : PlainSet} {length from end at : ℕ} (p : IsSearched s length from
     omega (arith, p.ordered, first.0),
     (
       omega (arith, p.whole, room, first.1),
-      λ k g l. not_false (s.has k)
+      λ k g l. not-false (s.has k)
           (sym (opposite.other k (omega (arith, p.whole, room, first.1))) ∙ none k g l),
     ),
     none_begin start first.3,

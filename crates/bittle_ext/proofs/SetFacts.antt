@@ -1,6 +1,6 @@
 -- Searches that begin or end past the capacity.
 use Rattle.std.proofs.Common.{◌≡◌, ℕ, ◌*◌, ◌<◌, ◌≤◌, Bool, true, false, not, ◌&&◌, List, [], Option, Some, None, is_some, MatchBool, inl, inr, refl, sym, ap, ◌∙◌, arith, min}
-use Rattle.std.proofs.lemmas.Bool.{cases_lt, le-ltb, true≢false, and_right}
+use Rattle.std.proofs.lemmas.Bool.{cases_lt, le-ltb, and_right, not-false, not-true}
 use Rattle.bittle_bits.specs.PlainSet.{PlainSet, complement, lacks}
 use Rattle.bittle_bits.specs.Ends.{IsEndIn}
 use Rattle.bittle_bits.specs.Orders.{read_in}
@@ -44,21 +44,12 @@ pub takes_none : {A : Type 0} (front : Bool) (xs ys : List A) → xs ≡ [] → 
 takes_none true xs ys before after = (before, after)
 takes_none false xs ys before after = (before, after)
 
--- what is not false is true, and what is not true is false
-pub not_false : (b : Bool) → not b ≡ false → b ≡ true
-not_false true e = refl
-not_false false e = absurd (true≢false e)
-
-pub not_true : (b : Bool) → not b ≡ true → b ≡ false
-not_true true e = absurd (true≢false (sym e))
-not_true false e = refl
-
 -- a range has each number just where no number that is none was found
 pub all_where_none : (s : PlainSet) (from to : ℕ) (r : Option ℕ) (b : Bool) →
     is_some r ≡ not b → to ≤ s.capacity → IsFirstIn (complement s) from to r →
     MatchBool b (HasAllIn s from to) (HasSomeIn (complement s) from to)
 all_where_none s from to None b e within none =
-    rw (not_false b (sym e))
-    (λ k h l. not_false (s.has k) (sym (complement_within s k (omega arith)) ∙ none k h l))
+    rw (not-false b (sym e))
+    (λ k h l. not-false (s.has k) (sym (complement_within s k (omega arith)) ∙ none k h l))
 all_where_none s from to (Some i) b e within first =
-    rw (not_true b (sym e)) (i, first.0, first.1, first.2)
+    rw (not-true b (sym e)) (i, first.0, first.1, first.2)

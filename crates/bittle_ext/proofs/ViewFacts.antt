@@ -2,7 +2,7 @@
 use Rattle.std.proofs.Common.{◌≡◌, ℕ, ◌+◌, ◌-◌, ◌*◌, ◌%◌, ◌<◌, ◌≤◌, ◌==◌, ◌⊎◌, Bool, true, false, not, ◌&&◌, min, max, ◌++◌, append-nil, length, Option, Some, None, is_some, inl, inr, refl, sym, ap, ◌∙◌, arith}
 use Rattle.std.proofs.Math.Nat.{mul-le-mul_right, mul-mod_left}
 use Rattle.std.proofs.Math.Path.{fun_ext}
-use Rattle.std.proofs.lemmas.Bool.{cases_lt, le-ltb, true≢false, eq-eqb, ne_eqb, and_right}
+use Rattle.std.proofs.lemmas.Bool.{cases_lt, le-ltb, true≢false, eq-eqb, ne_eqb, and_right, not-false, not-true}
 use Rattle.bittle_bits.specs.BitPatterns.{bit_has, bit_set}
 use Rattle.bittle_bits.specs.Orders.{place, read_in}
 use Rattle.bittle_bits.specs.PlainSet.{PlainSet, contains, is_in_span, span_set, members_below, size, ascending, ascending_from}
@@ -20,7 +20,6 @@ use Rattle.bittle_ext.specs.RangeMembers.{EndsAt, members_within}
 use Rattle.bittle_ext.specs.Views.{is_placed, read_back, HoldsBoth}
 use Rattle.bittle_ext.proofs.CombinedWords.{decided_in_order, word_in_order}
 use Rattle.bittle_ext.proofs.RangeItems.{between_within, between_length}
-use Rattle.bittle_ext.proofs.SetFacts.{not_false, not_true}
 
 -- ---- in an order and back
 
@@ -87,15 +86,15 @@ whole_greater {a} {b} leaf w v one other ours theirs =
 
 module _ (f : Bool → Bool → Bool) {s t : PlainSet} {a b : ℕ} (x : EndsAt s a) (y : EndsAt t b)
     (w : ℕ) where
-  -- one that makes none of what is in neither is held by the capacities of both
-  pub holds_either : f false false ≡ false → f false true ≡ true → (end : ℕ) →
-      end < 4294967295 → end % w ≡ 0 → max a b ≤ end → HoldsBoth f w s t end
-  holds_either none one end fits whole high = record {
+  -- one that makes what is not in the first a member as the second has it is held by both capacities
+  pub holds_either : ((b : Bool) → f false b ≡ b) → (end : ℕ) → end < 4294967295 → end % w ≡ 0 →
+      max a b ≤ end → HoldsBoth f w s t end
+  holds_either takes end fits whole high = record {
     fits = fits;
     whole = whole;
     past = λ i h. (λ j. f (x.past i (omega (arith, high, h, x.capacity)) j)
-        (y.past i (omega (arith, high, h, y.capacity)) j)) ∙ none;
-    first = λ h. absurd (true≢false (sym one ∙ h true));
+        (y.past i (omega (arith, high, h, y.capacity)) j)) ∙ takes false;
+    first = λ h. absurd (true≢false (sym (takes true) ∙ h true));
   }
 
 -- one that makes none of what is not in the first is held by its capacity
@@ -133,7 +132,7 @@ module _ (s : PlainSet) (from to : ℕ) where
   pub none_within : (r : Option ℕ) (b : Bool) → is_some r ≡ not b → to ≤ s.capacity →
       IsFirstIn s from to r → b ≡ (size inner == 0)
   none_within None b e within none =
-      not_false b (sym e) ∙ sym (eq-eqb (size inner) 0 (size_zero inner (λ k p q.
+      not-false b (sym e) ∙ sym (eq-eqb (size inner) 0 (size_zero inner (λ k p q.
       elim (cases_lt k from) [
         | inl l ↦ ap (λ a. a && s.has k) (is_in_span-outside from to k (inl l))
         | inr g ↦ elim (cases_lt k to) [
@@ -145,7 +144,7 @@ module _ (s : PlainSet) (from to : ℕ) where
   none_within (Some i) b e within first =
       let here : inner.has i ≡ true = ap (λ a. a && s.has i)
       (is_in_span-inside from to i first.0 first.1) ∙ first.2 in
-      not_true b (sym e) ∙ sym (ne_eqb (size inner) 0 (λ z. true≢false (sym here
+      not-true b (sym e) ∙ sym (ne_eqb (size inner) 0 (λ z. true≢false (sym here
       ∙ size_none inner z i (omega arith) (omega (arith, first.1, within)))))
 
 -- a place of word k lies in a span where it lies in what the span leaves of the word

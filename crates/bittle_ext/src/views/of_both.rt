@@ -32,44 +32,33 @@ pub type XorView<'a, A, B, E, F> = OfBoth<'a, A, B, E, F, SymmetricDifference>;
 
 /// An operation that a view is made by.
 pub trait ViewOperation: Operation {
-    /// Returns `true` if it makes no index a member that is not in the first set.
+    /// Returns `true` if it makes no index a member that is not in the first set. It decides how the
+    /// words of that set are read.
     #[doc(hidden)]
-    fn keeps_to_first() -> bool
-        ensures { IsTrue result → (b : Bool) → Self.decide false b ≡ false };
-}
-
-/// An operation that makes no index a member that is in neither set, and one that is in the second
-/// alone.
-pub trait EitherOperation: ViewOperation {
-    ghost keeps_empty: { Self.decide false false ≡ false };
-
-    ghost takes_second: { Self.decide false true ≡ true };
-}
-
-impl ViewOperation for Union {
     #[inline(always)]
-    fn keeps_to_first() -> bool {
+    fn keeps_to_first() -> bool
+        ensures { IsTrue result → (b : Bool) → Self.decide false b ≡ false }
+    {
         false
     }
 }
+
+/// An operation that makes an index that is not in the first set a member just where it is in the
+/// second.
+pub trait EitherOperation: ViewOperation {
+    ghost takes_second: { (b : Bool) → Self.decide false b ≡ b };
+}
+
+impl ViewOperation for Union {}
 
 impl EitherOperation for Union {
-    ghost keeps_empty = { refl };
-
-    ghost takes_second = { refl };
+    ghost takes_second = { λ _. refl };
 }
 
-impl ViewOperation for SymmetricDifference {
-    #[inline(always)]
-    fn keeps_to_first() -> bool {
-        false
-    }
-}
+impl ViewOperation for SymmetricDifference {}
 
 impl EitherOperation for SymmetricDifference {
-    ghost keeps_empty = { refl };
-
-    ghost takes_second = { refl };
+    ghost takes_second = { λ _. refl };
 }
 
 /// An operation that makes no index a member that is not in the first set.

@@ -1,4 +1,4 @@
-use Rattle.std.proofs.Common.{◌≡◌, ℕ, max, ap, ◌∙◌, arith}
+use Rattle.std.proofs.Common.{◌≡◌, ℕ, false, max, ap, ◌∙◌, arith}
 use Rattle.bittle.specs.PlainSet.{PlainSet, ascending}
 use Rattle.bittle.specs.Values.{set_in}
 use Rattle.bittle_ext.specs.Views.{decided_until, rounded_up}
@@ -20,7 +20,7 @@ until-requires-clause-holds g c =
     let is = end_is _ _ _ _ _ _ _ _ ours.capacity theirs.capacity c.max-greater.ensures wide
     end.ensures.value in
     holds_either g.O.Operation.decide ours theirs g.A.Shape.width
-    g.met.O.EitherOperation.keeps_empty g.met.O.EitherOperation.takes_second end.result (omega (arith, is, c.requires.rounded))
+    g.met.O.EitherOperation.takes_second end.result (omega (arith, is, c.requires.rounded))
     (rw wide at end.ensures.multiple)
     (omega (arith, end.ensures.lower_bound, c.max-greater.ensures))
 
@@ -48,4 +48,4 @@ returns-clause-items g c =
       ours.capacity,
       theirs.capacity,
     )) (λ i h. (λ j. f (ours.past i (omega (arith, h)) j) (theirs.past i (omega (arith, h)) j))
-    ∙ g.met.O.EitherOperation.keeps_empty)
+    ∙ g.met.O.EitherOperation.takes_second false)
