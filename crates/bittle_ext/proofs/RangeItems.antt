@@ -1,96 +1,77 @@
--- The members of a set between two numbers, as a list: its ends, its length, and what set it is of.
-use Rattle.std.proofs.Common.{◌≡◌, ℕ, suc, ◌+◌, ◌-◌, ◌<◌, ◌≤◌, true, ◌&&◌, List, [], ◌∷◌, ◌++◌, length, length-append, append-nil, get_or, Some, inl, inr, refl, sym, ap, ◌∙◌, subst, arith}
+-- The members of a range of a set: how many there are, and what a list of them has.
+use Rattle.std.proofs.Common.{◌≡◌, ◌⊎◌, ℕ, ◌+◌, ◌-◌, ◌<◌, ◌≤◌, Bool, true, false, ◌&&◌, List, length, get_or, inl, inr, sym, ap, ◌∙◌, subst, arith}
 use Rattle.std.proofs.lemmas.Bool.{cases_lt, true≢false}
-use Rattle.bittle_bits.specs.Buffers.{members_between}
-use Rattle.bittle_bits.specs.PlainSet.{PlainSet, ascending, ascending_from, members_below}
-use Rattle.bittle_bits.specs.Searches.{NoneIn, IsFirstIn, IsLastIn}
-use Rattle.bittle_bits.proofs.AscendingLists.{ascending_from-none, ascending_from-same, ascending_from-length}
-use Rattle.bittle_bits.proofs.FirstItems.{ascending_from-least}
-use Rattle.bittle_bits.proofs.Items.{members_between-split, members_between-all}
+use Rattle.bittle_bits.specs.PlainSet.{PlainSet, ascending, complement, members_below, size}
+use Rattle.bittle_bits.specs.Walk.{ones_or_zeros}
+use Rattle.bittle_bits.proofs.AscendingLists.{ascending-length}
+use Rattle.bittle_bits.proofs.Counts.{count-add, count-never, count-same}
 use Rattle.bittle_bits.proofs.MembersBelow.{below_between}
 use Rattle.bittle_bits.proofs.Spans.{is_in_span-outside, is_in_span-inside}
 use Rattle.bittle.proofs.CallerLists.{ascending_member}
-use Rattle.bittle_ext.specs.RangeMembers.{members_within, AreWithin}
+use Rattle.bittle_ext.specs.RangeMembers.{members_within, kind_within, AreWithin, ListsWithin}
 
-module _ (s : PlainSet) where
-  -- where none lies between two numbers the list is empty
-  pub none_between : (from to : ℕ) → NoneIn s from to → members_between s from to ≡ []
-  unfolding members_between
-  none_between from to h = ascending_from-none s.has from (to - from) (λ k lo hi. h k lo (omega arith))
+module _ (s : PlainSet) (from to : ℕ) where
+  abbrev inner : PlainSet
+  inner = members_within s from to
 
-  -- the least is the first item, before those past it
-  pub first_between : (from to i next : ℕ) → next ≡ i + 1 → IsFirstIn s from to (Some i) →
-      members_between s from to ≡ i ∷ members_between s next to
-  unfolding members_between
-  first_between from to i next is h =
-      let past : next ≡ suc i = omega arith in
-      rw past (ascending_from-least s.has from (to - from) i (to - suc i) h.0
-      (omega (arith, h.0, h.1)) h.2 h.3)
+  -- outside the range none is
+  pub none_outside : (k : ℕ) → (k < from) ⊎ (to ≤ k) → inner.has k ≡ false
+  none_outside k out = ap (λ b. b && s.has k) (is_in_span-outside from to k out)
 
-  -- the greatest is the last item, after those below it
-  pub last_between : (from to i : ℕ) → IsLastIn s from to (Some i) →
-      members_between s from to ≡ members_between s from i ++ i ∷ []
-  last_between from to i h =
-      members_between-split s from i to h.0 (omega (arith, h.1))
-      ∙ ap (λ xs. members_between s from i ++ xs)
-      (first_between i to i (i + 1) refl (omega arith, h.1, h.2, λ k p q. absurd (omega arith))
-      ∙ ap (λ xs. i ∷ xs) (none_between (i + 1) to h.3))
+  -- so each that is lies in it
+  lies_within : (k : ℕ) → inner.has k ≡ true → (from ≤ k) × (k < to)
+  lies_within k h = (
+    elim (cases_lt k from) [
+      | inl l ↦ absurd (true≢false (sym h ∙ none_outside k (inl l)))
+      | inr g ↦ g
+    ],
+    elim (cases_lt k to) [
+      | inl l ↦ l
+      | inr g ↦ absurd (true≢false (sym h ∙ none_outside k (inr g)))
+    ],
+  )
 
-  -- they are the members of a set that has no others
-  pub between_within : (from to : ℕ) → from ≤ to → to ≤ s.capacity →
-      members_between s from to ≡ ascending (members_within s from to)
-  unfolding members_between
-  between_within from to ordered within =
-      let t = members_within s from to in
-      let c = s.capacity in
-      let before : members_between t 0 from ≡ [] = ascending_from-none t.has 0 (from - 0)
-      (λ k p q. ap (λ b. b && s.has k) (is_in_span-outside from to k (inl (omega arith)))) in
-      let after : members_between t to c ≡ [] = ascending_from-none t.has to (c - to)
-      (λ k p q. ap (λ b. b && s.has k) (is_in_span-outside from to k (inr p))) in
-      let inner : members_between t from to ≡ members_between s from to =
-      ascending_from-same t.has s.has from (to - from)
-      (λ k p q. ap (λ b. b && s.has k) (is_in_span-inside from to k p (omega arith))) in
-      sym (sym (members_between-all t 0 c refl refl)
-      ∙ members_between-split t 0 from c (omega arith) (omega arith)
-      ∙ ap (λ xs. xs ++ members_between t from c) before
-      ∙ members_between-split t from to c ordered within
-      ∙ (λ j. inner j ++ after j)
-      ∙ append-nil (members_between s from to))
+  module _ (ordered : from ≤ to) (inside : to ≤ s.capacity) where
+    -- there are as many as lie below the end and not below the start
+    pub size_within : size inner ≡ members_below s to - members_below s from
+    size_within =
+        let n = to - from in
+        let rest = s.capacity - to in
+        let below : from + n ≡ to = omega arith in
+        let whole : to + rest ≡ s.capacity = omega arith in
+        let before = count-same from inner.has (λ _. false) (λ k l. none_outside k (inl l))
+        ∙ count-never from in
+        let among = count-same n (λ k. inner.has (from + k)) (λ k. s.has (from + k))
+        (λ k l. ap (λ b. b && s.has (from + k))
+        (is_in_span-inside from to (from + k) (omega arith) (omega (arith, below)))) in
+        let after = count-same rest (λ k. inner.has (to + k)) (λ _. false)
+        (λ k l. none_outside (to + k) (inr (omega arith))) ∙ count-never rest in
+        omega (
+          arith,
+          before,
+          among,
+          after,
+          rw whole at (count-add to rest inner.has),
+          rw below at (count-add from n inner.has),
+          rw below at (count-add from n s.has),
+        )
 
-  -- as many as lie below the end and not below the start
-  pub between_length : (from to : ℕ) → from ≤ to →
-      length (members_between s from to) ≡ members_below s to - members_below s from
-  unfolding members_between
-  between_length from to ordered =
-      let all = ap length (members_between-split s 0 from to (omega arith) ordered)
-      ∙ length-append (members_between s 0 from) (members_between s from to) in
-      let below : (n : ℕ) → length (members_between s 0 n) ≡ members_below s n =
-      λ n. ap (λ m. length (ascending_from s.has 0 m)) (omega arith) ∙ ascending_from-length s.has n
-      in
-      omega (arith, all, below from, below to)
+    lists_within : (xs : List ℕ) → xs ≡ ascending inner → ListsWithin s from to xs
+    lists_within xs is =
+        let count = ap length is ∙ ascending-length inner ∙ size_within in
+        record {
+          items = is;
+          count = count;
+          between = subst (AreWithin from to) (sym is) (
+            omega (arith, count, ap length is, (below_between s from to ordered).1),
+            λ k h. lies_within (get_or (ascending inner) k 0) (ascending_member inner k h),
+          );
+        }
 
-  -- each lies between the two numbers
-  pub between_are_within : (from to : ℕ) (items : List ℕ) → from ≤ to → to ≤ s.capacity →
-      items ≡ members_between s from to → AreWithin from to items
-  between_are_within from to items ordered within is =
-      let t = members_within s from to in
-      let few = below_between s from to ordered in
-      let count = between_length from to ordered in
-      subst (AreWithin from to) (sym (is ∙ between_within from to ordered within)) (
-        omega (arith, few.1, count, ap length (between_within from to ordered within)),
-        λ k h. in_span (get_or (ascending t) k 0) (ascending_member t k h),
-      )
-    where
-      in_span : (i : ℕ) → (members_within s from to).has i ≡ true → (from ≤ i) × (i < to)
-      in_span i h = (
-        elim (cases_lt i from) [
-          | inl l ↦ absurd (true≢false (sym h ∙ ap (λ b. b && s.has i)
-              (is_in_span-outside from to i (inl l))))
-          | inr g ↦ g
-        ],
-        elim (cases_lt i to) [
-          | inl l ↦ l
-          | inr g ↦ absurd (true≢false (sym h ∙ ap (λ b. b && s.has i)
-              (is_in_span-outside from to i (inr g))))
-        ],
-      )
+-- the list of the bits of a kind within a range
+pub lists_kind : (ones : Bool) (s : PlainSet) (from to : ℕ) (xs : List ℕ) → from ≤ to →
+    to ≤ s.capacity → xs ≡ ascending (kind_within ones s from to) →
+    ListsWithin (ones_or_zeros ones s) from to xs
+lists_kind true s from to xs ordered inside = lists_within s from to ordered inside xs
+lists_kind false s from to xs ordered inside =
+    lists_within (complement s) from to ordered inside xs

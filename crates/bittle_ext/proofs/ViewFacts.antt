@@ -1,25 +1,28 @@
 -- What a view's words say of it.
-use Rattle.std.proofs.Common.{◌≡◌, ℕ, ◌+◌, ◌-◌, ◌*◌, ◌%◌, ◌<◌, ◌≤◌, ◌==◌, ◌⊎◌, Bool, true, false, not, ◌&&◌, min, max, ◌++◌, append-nil, length, Option, Some, None, is_some, inl, inr, refl, sym, ap, ◌∙◌, arith}
+use Rattle.std.proofs.Common.{◌≡◌, ℕ, ◌+◌, ◌-◌, ◌*◌, ◌%◌, ◌<◌, ◌≤◌, ◌==◌, ◌⊎◌, Bool, true, false, not, ◌&&◌, min, max, ◌++◌, append-nil, Option, Some, None, is_some, inl, inr, refl, sym, ap, ◌∙◌, arith}
 use Rattle.std.proofs.Math.Nat.{mul-le-mul_right, mul-mod_left}
 use Rattle.std.proofs.Math.Path.{fun_ext}
 use Rattle.std.proofs.lemmas.Bool.{cases_lt, le-ltb, true≢false, eq-eqb, ne_eqb, and_right, not-false, not-true}
 use Rattle.bittle_bits.specs.BitPatterns.{bit_has, bit_set}
 use Rattle.bittle_bits.specs.Orders.{place, read_in}
-use Rattle.bittle_bits.specs.PlainSet.{PlainSet, contains, is_in_span, span_set, members_below, size, ascending, ascending_from}
+use Rattle.bittle_bits.specs.PlainSet.{PlainSet, contains, is_in_span, span_set, size, ascending, ascending_from}
 use Rattle.bittle_bits.specs.Searches.{IsFirstIn, PassesOver}
 use Rattle.bittle_bits.specs.SetOperations.{combination_of}
+use Rattle.bittle_bits.specs.Walk.{ones_or_zeros}
 use Rattle.bittle_bits.specs.Words.{word_has, word_of}
-use Rattle.bittle_bits.proofs.AscendingLists.{ascending_from-add, ascending_from-none, ascending_from-length}
+use Rattle.bittle_bits.proofs.AscendingLists.{ascending_from-add, ascending_from-none}
+use Rattle.bittle_bits.proofs.BitSets.{no_digits}
+use Rattle.bittle_bits.proofs.OnesOrZeros.{ones_or_zeros-members}
 use Rattle.bittle_bits.proofs.PlaceLemmas.{place_below, place_past, place_part, place_in_word, place-place}
 use Rattle.bittle_bits.proofs.PlainSets.{plain_set, contains_in}
 use Rattle.bittle_bits.proofs.Sizes.{size-members}
 use Rattle.bittle_bits.proofs.Spans.{is_in_span-outside, is_in_span-inside}
 use Rattle.bittle_bits.proofs.Words.{digit_at, word_has-at}
 use Rattle.bittle.proofs.CallerSets.{contains_within, size_none, size_zero}
-use Rattle.bittle_ext.specs.RangeMembers.{EndsAt, members_within}
+use Rattle.bittle_ext.specs.RangeMembers.{EndsAt, members_within, kind_within}
 use Rattle.bittle_ext.specs.Views.{is_placed, read_back, HoldsBoth}
 use Rattle.bittle_ext.proofs.CombinedWords.{decided_in_order, word_in_order}
-use Rattle.bittle_ext.proofs.RangeItems.{between_within, between_length}
+use Rattle.bittle_ext.proofs.RangeItems.{none_outside}
 
 -- ---- in an order and back
 
@@ -118,34 +121,26 @@ ascending_longer p a b le none =
 
 -- ---- a range of a set
 
-module _ (s : PlainSet) (from to : ℕ) where
-  abbrev inner : PlainSet
-  inner = members_within s from to
-
-  -- it has as many members as lie below the end and not below the start
-  pub size_within : from ≤ to → to ≤ s.capacity →
-      size inner ≡ members_below s to - members_below s from
-  size_within ordered within = sym (ascending_from-length inner.has s.capacity)
-      ∙ ap length (sym (between_within s from to ordered within)) ∙ between_length s from to ordered
-
-  -- it has none where a search of the range finds none
-  pub none_within : (r : Option ℕ) (b : Bool) → is_some r ≡ not b → to ≤ s.capacity →
-      IsFirstIn s from to r → b ≡ (size inner == 0)
-  none_within None b e within none =
-      not-false b (sym e) ∙ sym (eq-eqb (size inner) 0 (size_zero inner (λ k p q.
-      elim (cases_lt k from) [
-        | inl l ↦ ap (λ a. a && s.has k) (is_in_span-outside from to k (inl l))
-        | inr g ↦ elim (cases_lt k to) [
-          | inl l ↦ ap (λ a. is_in_span from to k && a) (none k g l)
-              ∙ and_right (is_in_span from to k) false refl
-          | inr h ↦ ap (λ a. a && s.has k) (is_in_span-outside from to k (inr h))
-        ]
-      ])))
-  none_within (Some i) b e within first =
-      let here : inner.has i ≡ true = ap (λ a. a && s.has i)
-      (is_in_span-inside from to i first.0 first.1) ∙ first.2 in
-      not-true b (sym e) ∙ sym (ne_eqb (size inner) 0 (λ z. true≢false (sym here
-      ∙ size_none inner z i (omega arith) (omega (arith, first.1, within)))))
+-- it has none where a search of the range finds none
+pub none_within : (s : PlainSet) (from to : ℕ) (r : Option ℕ) (b : Bool) → is_some r ≡ not b →
+    to ≤ s.capacity → IsFirstIn s from to r → b ≡ (size (members_within s from to) == 0)
+none_within s from to None b e within none =
+    let inner = members_within s from to in
+    not-false b (sym e) ∙ sym (eq-eqb (size inner) 0 (size_zero inner (λ k p q.
+    elim (cases_lt k from) [
+      | inl l ↦ none_outside s from to k (inl l)
+      | inr g ↦ elim (cases_lt k to) [
+        | inl l ↦ ap (λ a. is_in_span from to k && a) (none k g l)
+            ∙ and_right (is_in_span from to k) false refl
+        | inr h ↦ none_outside s from to k (inr h)
+      ]
+    ])))
+none_within s from to (Some i) b e within first =
+    let inner = members_within s from to in
+    let here : inner.has i ≡ true = ap (λ a. a && s.has i)
+    (is_in_span-inside from to i first.0 first.1) ∙ first.2 in
+    not-true b (sym e) ∙ sym (ne_eqb (size inner) 0 (λ z. true≢false (sym here
+    ∙ size_none inner z i (omega arith) (omega (arith, first.1, within)))))
 
 -- a place of word k lies in a span where it lies in what the span leaves of the word
 span_in_word : (w start from to p : ℕ) → p < w →
@@ -173,58 +168,93 @@ span_word w k c from to =
       | inr g ↦ is_in_span-outside _ _ i (inr (omega (arith, g))) ∙ rw (le-ltb i w g) refl
     ])
 
--- what a span keeps of word k is word k of what it keeps of the set
-pub word_within : (m : Bool) (w k from to : ℕ) (s : PlainSet) (d e r : ℕ) → 0 < w →
-    bit_set w d ≡ word_of w s k →
-    read_in m w (bit_set w e) ≡ span_set w (min (from - k * w) w) (min (to - k * w) w) →
-    bit_set w r ≡ combination_of ◌&&◌ (bit_set w e) (bit_set w d) →
-    bit_set w r ≡ word_of w (read_back m w (members_within (read_in m w s) from to)) k
-unfolding word_has
-word_within m w k from to s d e r word is span both =
-    word_read_back m w k s.capacity r (members_within (read_in m w s) from to) word
-    (decided_in_order ◌&&◌ m w k (span_set s.capacity from to) (read_in m w s) r e d word both
-    (span ∙ span_word w k s.capacity from to) (word_in_order m w k s d word is))
+-- d is word k of the bits of a kind
+module _ (ones m : Bool) (w k from to : ℕ) (s : PlainSet) (d : ℕ) (word : 0 < w)
+    (whole : (words : ℕ) × (s.capacity ≡ words * w))
+    (is : bit_set w d ≡ word_of w (ones_or_zeros ones s) k) where
+  abbrev all : PlainSet
+  all = ones_or_zeros ones (read_in m w s)
+
+  abbrev kept : PlainSet
+  kept = kind_within ones (read_in m w s) from to
+
+  in_order : read_in m w (bit_set w d) ≡ word_of w all k
+  in_order = word_in_order m w k (ones_or_zeros ones s) d word is
+      ∙ ap (λ u. word_of w u k) (sym (ones_or_zeros-members ones m w s word whole))
+
+  -- what a span keeps of it is word k of what it keeps of them
+  pub word_within : (e r : ℕ) →
+      read_in m w (bit_set w e) ≡ span_set w (min (from - k * w) w) (min (to - k * w) w) →
+      bit_set w r ≡ combination_of ◌&&◌ (bit_set w e) (bit_set w d) →
+      bit_set w r ≡ word_of w (read_back m w kept) k
+  unfolding word_has
+  word_within e r span both = word_read_back m w k s.capacity r kept word
+      (decided_in_order ◌&&◌ m w k (span_set s.capacity from to) all r e d word both
+      (span ∙ span_word w k s.capacity from to) in_order)
+
+  -- where no bit of it lies outside the span, it is kept
+  kept_where : ((i : ℕ) → i < w →
+      (is_in_span from to (k * w + i) && all.has (k * w + i)) ≡ all.has (k * w + i)) →
+      bit_set w d ≡ word_of w (read_back m w kept) k
+  unfolding word_has
+  kept_where all_in = word_read_back m w k s.capacity d kept word (in_order
+      ∙ ap (plain_set w) (fun_ext λ i. elim (cases_lt i w) [
+        | inl l ↦ word_has-at w all k i l ∙ sym (all_in i l) ∙ sym (word_has-at w kept k i l)
+        | inr g ↦ rw (le-ltb i w g) refl
+      ]))
+
+  -- so it is where it has none
+  pub word_none : d ≡ 0 → bit_set w d ≡ word_of w (read_back m w kept) k
+  word_none zero = kept_where (λ i l.
+      let none : all.has (k * w + i) ≡ false = sym (word_has-at w all k i l)
+      ∙ ap (λ t. t.has i) (sym in_order) ∙ ap (λ t. t.has (place m w i)) (no_digits w d zero) in
+      rw none (and_right (is_in_span from to (k * w + i)) false refl))
+
+  -- and where all of it lies in the span
+  pub word_inside : from ≤ k * w → k * w + w ≤ to → bit_set w d ≡ word_of w (read_back m w kept) k
+  word_inside low high = kept_where (λ i l. ap (λ b. b && all.has (k * w + i))
+      (is_in_span-inside from to (k * w + i) (omega (arith, low)) (omega (arith, high, l))))
 
 -- ---- the words outside a range
 
-module _ (m : Bool) (w from to low high q r : ℕ) (t : PlainSet) (word : 0 < w) (order : low ≤ high)
-  where
-    -- an index whose place lies outside the range is none of it
-    outside : (i : ℕ) → (place m w i < from) ⊎ (to ≤ place m w i) →
-        (read_back m w (members_within t from to)).has i ≡ false
-    outside i out = ap (λ (u : PlainSet). u.has i) (read_back_is m w (members_within t from to))
-        ∙ ap (λ b. b && t.has (place m w i)) (is_in_span-outside from to (place m w i) out)
+module _ (ones m : Bool) (w from to low high q r : ℕ) (t : PlainSet) (word : 0 < w)
+    (order : low ≤ high) where
+  -- an index whose place lies outside the range is none of it
+  outside : (i : ℕ) → (place m w i < from) ⊎ (to ≤ place m w i) →
+      (read_back m w (kind_within ones t from to)).has i ≡ false
+  outside i out = ap (λ (u : PlainSet). u.has i) (read_back_is m w (kind_within ones t from to))
+      ∙ ap (λ b. b && (ones_or_zeros ones t).has (place m w i)) (is_in_span-outside from to (place m w i) out)
 
-    -- the words before that of its start have none of it
-    pub before_range : q * w ≤ from → r ≡ min (max q low) high →
-        PassesOver true w (read_back m w (members_within t from to)) low high r
-    before_range start is = (
-      omega (arith, is, order),
-      omega (arith, is),
-      λ i lo hi. elim (cases_lt low q) [
-        | inl l ↦
-            let up : r * w ≤ q * w = mul-le-mul_right w (omega (arith, is, l)) in
-            let at : place m w i < q * w = place_below m w q i word (omega (arith, hi, up)) in
-            outside i (inl (omega (arith, at, start)))
-        | inr g ↦
-            let same : r ≡ low = omega (arith, is, g, order) in
-            absurd (omega (arith, lo, rw same at hi))
-      ],
-    )
+  -- the words before that of its start have none of it
+  pub before_range : q * w ≤ from → r ≡ min (max q low) high →
+      PassesOver true w (read_back m w (kind_within ones t from to)) low high r
+  before_range start is = (
+    omega (arith, is, order),
+    omega (arith, is),
+    λ i lo hi. elim (cases_lt low q) [
+      | inl l ↦
+          let up : r * w ≤ q * w = mul-le-mul_right w (omega (arith, is, l)) in
+          let at : place m w i < q * w = place_below m w q i word (omega (arith, hi, up)) in
+          outside i (inl (omega (arith, at, start)))
+      | inr g ↦
+          let same : r ≡ low = omega (arith, is, g, order) in
+          absurd (omega (arith, lo, rw same at hi))
+    ],
+  )
 
-    -- and so have those after that of its end
-    pub after_range : to ≤ q * w → r ≡ max (min q high) low →
-        PassesOver false w (read_back m w (members_within t from to)) low high r
-    after_range end is = (
-      omega (arith, is),
-      omega (arith, is, order),
-      λ i lo hi. elim (cases_lt q high) [
-        | inl l ↦
-            let up : q * w ≤ r * w = mul-le-mul_right w (omega (arith, is, l)) in
-            let at : q * w ≤ place m w i = place_past m w q i word (omega (arith, lo, up)) in
-            outside i (inr (omega (arith, at, end)))
-        | inr g ↦
-            let same : r ≡ high = omega (arith, is, g, order) in
-            absurd (omega (arith, rw same at lo, hi))
-      ],
-    )
+  -- and so have those after that of its end
+  pub after_range : to ≤ q * w → r ≡ max (min q high) low →
+      PassesOver false w (read_back m w (kind_within ones t from to)) low high r
+  after_range end is = (
+    omega (arith, is),
+    omega (arith, is, order),
+    λ i lo hi. elim (cases_lt q high) [
+      | inl l ↦
+          let up : q * w ≤ r * w = mul-le-mul_right w (omega (arith, is, l)) in
+          let at : q * w ≤ place m w i = place_past m w q i word (omega (arith, lo, up)) in
+          outside i (inr (omega (arith, at, end)))
+      | inr g ↦
+          let same : r ≡ high = omega (arith, is, g, order) in
+          absurd (omega (arith, rw same at lo, hi))
+    ],
+  )

@@ -1,7 +1,8 @@
 -- What a set has between two numbers.
 use Rattle.std.specs.Iterator.{YieldsFirst, YieldsLast}
 use Rattle.std.specs.Prelude.{◌≡◌, ℕ, ◌-◌, ◌<◌, ◌≤◌, Bool, ◌&&◌, true, false, List, length, slice_index, Option}
-use Rattle.bittle.specs.PlainSet.{PlainSet, is_in_span}
+use Rattle.bittle.specs.PlainSet.{PlainSet, ascending, is_in_span, members_below}
+use Rattle.bittle.specs.Walk.{ones_or_zeros}
 
 -- so many are the capacity, and nothing is a member from there on
 pub record EndsAt (s : PlainSet) (n : ℕ) : Type 0 where
@@ -26,8 +27,22 @@ abbrev pub members_within : PlainSet → ℕ → ℕ → PlainSet
 members_within s from to =
     record { capacity = s.capacity; has = λ k. is_in_span from to k && s.has k }
 
+-- the same of the bits of a kind: of the set, or of its complement
+abbrev pub kind_within : Bool → PlainSet → ℕ → ℕ → PlainSet
+kind_within ones s from to = record {
+  capacity = s.capacity;
+  has = λ k. is_in_span from to k && (ones_or_zeros ones s).has k;
+}
+
 -- each number of the list is from one number on and below another, and it has no more of them than
 -- lie there
 abbrev pub AreWithin : ℕ → ℕ → List ℕ → Type 0
 AreWithin from to xs = (length xs ≤ to - from)
     × ((k : ℕ) → k < length xs → (from ≤ slice_index xs k) × (slice_index xs k < to))
+
+-- the list has the members from one number on and below another, increasing: so many as lie below
+-- the end and not below the start
+pub record ListsWithin (s : PlainSet) (from to : ℕ) (xs : List ℕ) : Type 0 where
+  pub items : xs ≡ ascending (members_within s from to)
+  pub count : length xs ≡ members_below s to - members_below s from
+  pub between : AreWithin from to xs

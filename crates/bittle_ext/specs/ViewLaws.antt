@@ -4,8 +4,9 @@ use Rattle.std.proofs.lemmas.Bool.{le-ltb, and_right}
 use Rattle.std.proofs.lemmas.Nat.{div-add-mod'}
 use Rattle.bittle_bits.specs.Orders.{read_in}
 use Rattle.bittle_bits.specs.PlainSet.{PlainSet, lacks, complement, is_in_span}
+use Rattle.bittle_bits.specs.Walk.{ones_or_zeros}
 use Rattle.bittle_bits.proofs.PlainSets.{members-past}
-use Rattle.bittle_ext.specs.RangeMembers.{members_within}
+use Rattle.bittle_ext.specs.RangeMembers.{kind_within}
 use Rattle.bittle_ext.specs.Views.{decided_until, is_placed, read_back, HoldsBoth}
 
 -- a capacity that is a multiple of a width is whole words
@@ -32,12 +33,19 @@ pub none_past_complement : (s : PlainSet) (i : ℕ) → s.capacity ≤ i → (co
 unfolding lacks
 none_past_complement s i past = rw (le-ltb i s.capacity past) refl
 
--- nor is it in a range of a set
-pub none_past_within : (m : Bool) (w : ℕ) (s : PlainSet) (from to : ℕ) → 0 < w →
+-- nor is it a bit of a kind, in an order
+none_past_kind : (ones m : Bool) (w : ℕ) (s : PlainSet) → 0 < w →
+    (words : ℕ) × (s.capacity ≡ words * w) → ((i : ℕ) → s.capacity ≤ i → s.has i ≡ false) →
+    (i : ℕ) → s.capacity ≤ i → (ones_or_zeros ones (read_in m w s)).has i ≡ false
+none_past_kind true m w s word whole past = members-past m w s word whole past
+none_past_kind false m w s word whole past = none_past_complement (read_in m w s)
+
+-- nor is it in a range of them
+pub none_past_within : (ones m : Bool) (w : ℕ) (s : PlainSet) (from to : ℕ) → 0 < w →
     (words : ℕ) × (s.capacity ≡ words * w) → ((i : ℕ) → s.capacity ≤ i → s.has i ≡ false) →
     (i : ℕ) → s.capacity ≤ i →
-    (read_back m w (members_within (read_in m w s) from to)).has i ≡ false
-none_past_within m w s from to word whole past =
-    none_past_back m w (members_within (read_in m w s) from to) word whole
-    (λ i h. ap (λ b. is_in_span from to i && b) (members-past m w s word whole past i h)
+    (read_back m w (kind_within ones (read_in m w s) from to)).has i ≡ false
+none_past_within ones m w s from to word whole past =
+    none_past_back m w (kind_within ones (read_in m w s) from to) word whole
+    (λ i h. ap (λ b. is_in_span from to i && b) (none_past_kind ones m w s word whole past i h)
     ∙ and_right (is_in_span from to i) false refl)

@@ -1,7 +1,7 @@
 //! Iterators over a range of a set.
 
-ghost use Rattle.std.specs.Iterator.{YieldsFirst, YieldsLast};
-ghost use Rattle.std.specs.Prelude.{◌≡◌, ◌-◌, ◌≤◌, ℕ, List, Option};
+ghost use Rattle.std.specs.Iterator.{YieldsLast};
+ghost use Rattle.std.specs.Prelude.{◌≡◌, ◌-◌, ◌≤◌, ℕ, List, [], ◌∷◌, ◌++◌, Option, None, MatchOption};
 ghost use Rattle.std.specs.Prelude.{option_map, slice_index, unwrap_or};
 ghost use Rattle.std.specs.List.{fold};
 ghost use Rattle.bittle.specs.BitPatterns.{bit_set};
@@ -98,16 +98,16 @@ pub fn within(mask: u16, from: u32, to: u32) -> u16
     u16::from_iter(mask.iter_ones_in_range(from, to))
 }
 
-/// Returns both ends of what is no member in a range of any set.
+/// Returns the first number that is no member in a range of any set, and the last of the others.
 pub fn free_ends<B: Bits, E: Endian>(set: &B, from: u32, to: u32) -> (Option<u32>, Option<u32>)
     requires fits { ShapeFits B.Shape set.now }
     requires ordered { from ≤ to }
     requires within { to ≤ (B.big set.now).capacity }
-    ensures { (rest : List ℕ) × (left : List ℕ)
-        × YieldsFirst (λ items. items)
-        (ascending (members_within (complement (set_in B.Shape E.Endian set.now)) from to))
-        result.0 rest
-        × YieldsLast (λ items. items) rest result.1 left }
+    ensures { let free = ascending (members_within (complement (set_in B.Shape E.Endian set.now))
+        from to) in
+        MatchOption result.0 ((free ≡ []) × (result.1 ≡ None))
+        (λ first. MatchOption result.1 (free ≡ first ∷ [])
+        (λ last. (between : List ℕ) × (free ≡ first ∷ (between ++ last ∷ [])))) }
 {
     let view = set.in_order::<E>();
     let mut walk = view.iter_zeros_in_range(from, to);

@@ -1,7 +1,7 @@
 //! Views of a range of a set.
 
 ghost use Rattle.std.specs.Prelude.{◌≡◌, ◌≤◌, true, ⊤};
-ghost use Rattle.bittle_ext.specs.RangeMembers.{members_within};
+ghost use Rattle.bittle_ext.specs.RangeMembers.{kind_within};
 ghost use Rattle.bittle_ext.specs.ViewLaws.{none_past_within};
 ghost use Rattle.bittle_ext.specs.Views.{read_back};
 ghost use Rattle.bittle.specs.Values.{set_in, ShapeFits};
@@ -9,27 +9,31 @@ ghost use Rattle.bittle.specs.Values.{set_in, ShapeFits};
 use crate::views::by_words::{is_full, test};
 use bittle::{Bits, Endian, Shape};
 use bittle_bits::extension::{
-    Conjunction, End, Front, Kind, Ones, Operation, ReadWords, Sealed, count_ones_in_range, end_in,
-    range, word_width,
+    Conjunction, End, Front, Kind, Ones, Operation, ReadWords, Sealed, Word, count_ones_in_range,
+    end_in, range, word_of_kind, word_width,
 };
 use std::alloc::AllocError;
 use std::marker::PhantomData;
 
-/// The set bits of a range of a set that it borrows, read in the order `E`: a set of as many bits
-/// as that one, in `E`. Each word of it is made when it is asked for; an iterator over the set bits
-/// reads the words of the range alone.
+/// The set bits of a range of a set that it borrows.
+pub type Within<'a, B, E> = KindWithin<'a, B, E, Ones>;
+
+/// The bits that `K` names of a range of a set that it borrows, read in the order `E`: a set of as
+/// many bits as that one, in `E`. Each word of it is made when it is asked for; a search or an
+/// iterator for its set bits reads the words of the range alone.
 #[derive(Drop)]
-pub struct Within<'a, B: Shape, E: Endian> {
+pub struct KindWithin<'a, B: Shape, E: Endian, K: Kind> {
     set: &'a B,
     from: u32,
     to: u32,
     order: PhantomData<E>,
+    kind: PhantomData<K>,
     pub ghost fits: { ShapeFits B.Shape set.now },
     pub ghost ordered: { from ≤ to },
     pub ghost inside: { to ≤ (B.big set.now).capacity },
 }
 
-impl<'a, B: Shape, E: Endian> Shape for Within<'a, B, E> {
+impl<'a, B: Shape, E: Endian, K: Kind> Shape for KindWithin<'a, B, E, K> {
     type LeafWord = B::LeafWord;
 
     ghost width = { B.width };
@@ -37,38 +41,33 @@ impl<'a, B: Shape, E: Endian> Shape for Within<'a, B, E> {
     ghost indexable = { true };
 
     ghost big = { λ v. read_back E.mirrored B.width
-        (members_within (set_in B.Shape E.Endian v.set.now) v.from v.to) };
+        (kind_within K.ONES (set_in B.Shape E.Endian v.set.now) v.from v.to) };
 
     fn seal(_: Sealed) {}
 }
 
-impl<'a, B: Shape, E: Endian> Clone for Within<'a, B, E> {
+impl<'a, B: Shape, E: Endian, K: Kind> Clone for KindWithin<'a, B, E, K> {
     ghost is_clone = { λ s r. r ≡ s };
 
     ghost is_infallible = { λ _. ⊤ };
 
     #[inline]
-    fn clone(&self) -> Result<Within<'a, B, E>, AllocError> {
-        Ok(Within {
-            set: self.set,
-            from: self.from,
-            to: self.to,
-            order: PhantomData,
-        })
+    fn clone(&self) -> Result<KindWithin<'a, B, E, K>, AllocError> {
+        Ok(*self)
     }
 }
 
-impl<'a, B: Shape, E: Endian> Copy for Within<'a, B, E> {}
+impl<'a, B: Shape, E: Endian, K: Kind> Copy for KindWithin<'a, B, E, K> {}
 
-impl<'a, B: Bits, E: Endian> ReadWords for Within<'a, B, E> {
+impl<'a, B: Bits, E: Endian, K: Kind> ReadWords for KindWithin<'a, B, E, K> {
     ghost leaf_width = { B.leaf_width };
 
     ghost width_positive = { B.width_positive };
 
     ghost whole_words = { λ v. B.whole_words v.set.now };
 
-    ghost none_past = { λ v. none_past_within E.mirrored B.width (B.big v.set.now) v.from v.to
-        B.width_positive (B.whole_words v.set.now) (B.none_past v.set.now) };
+    ghost none_past = { λ v. none_past_within K.ONES E.mirrored B.width (B.big v.set.now) v.from
+        v.to B.width_positive (B.whole_words v.set.now) (B.none_past v.set.now) };
 
     #[inline]
     fn is_fixed() -> bool {
@@ -80,19 +79,26 @@ impl<'a, B: Bits, E: Endian> ReadWords for Within<'a, B, E> {
         self.set.bits_capacity()
     }
 
-    #[inline]
+    // A word without a bit needs no mask, nor does one that is all in the range.
+    #[inline(always)]
     fn nth_leaf_word(&self, k: usize) -> B::LeafWord {
+        let word = word_of_kind::<B, K>(self.set, k);
+        if word.is_zero() {
+            return word;
+        }
         let width = word_width::<B>();
         let start = k as u32 * width;
+        if self.from <= start && start + width <= self.to {
+            return word;
+        }
         let low = self.from.saturating_sub(start).min(width);
         let high = self.to.saturating_sub(start).min(width);
-        let kept = range::<B::LeafWord, E>(low, high);
-        Conjunction::on_words::<B::LeafWord>(kept, self.set.nth_leaf_word(k))
+        Conjunction::on_words::<B::LeafWord>(range::<B::LeafWord, E>(low, high), word)
     }
 
     #[inline]
-    fn pass_over<K: Kind, N: End>(&self, low: usize, high: usize) -> usize {
-        if !K::ONES {
+    fn pass_over<L: Kind, N: End>(&self, low: usize, high: usize) -> usize {
+        if !L::ONES {
             return if N::FRONT { low } else { high };
         }
         let width = word_width::<B>();
@@ -128,27 +134,28 @@ impl<'a, B: Bits, U: Endian> Bits for Within<'a, B, U> {
     }
 }
 
-impl<'a, B: Bits, E: Endian> Within<'a, B, E> {
-    /// Views a range of a set.
+impl<'a, B: Bits, E: Endian, K: Kind> KindWithin<'a, B, E, K> {
+    /// Views the bits of the kind of a range of a set.
     #[inline]
-    pub(crate) fn of(set: &'a B, from: u32, to: u32) -> Within<'a, B, E>
+    pub(crate) fn of(set: &'a B, from: u32, to: u32) -> KindWithin<'a, B, E, K>
         requires fits { ShapeFits B.Shape set.now }
         requires ordered { from ≤ to }
         requires within { to ≤ (B.big set.now).capacity }
         ensures value { result.set.now ≡ set.now }
         ensures from { result.from ≡ from }
         ensures to { result.to ≡ to }
-        ensures capacity { (⟦<Within<'a, B, E> as Shape>⟧.big result).capacity
+        ensures capacity { (⟦<KindWithin<'a, B, E, K> as Shape>⟧.big result).capacity
             ≡ (B.big set.now).capacity }
-        ensures set { set_in ⟦<Within<'a, B, E> as Shape>⟧ E.Endian result
-            ≡ members_within (set_in B.Shape E.Endian set.now) from to }
-        ensures fits { ShapeFits ⟦<Within<'a, B, E> as Shape>⟧ result }
+        ensures set { set_in ⟦<KindWithin<'a, B, E, K> as Shape>⟧ E.Endian result
+            ≡ kind_within K.ONES (set_in B.Shape E.Endian set.now) from to }
+        ensures fits { ShapeFits ⟦<KindWithin<'a, B, E, K> as Shape>⟧ result }
     {
-        Within {
+        KindWithin {
             set,
             from,
             to,
             order: PhantomData,
+            kind: PhantomData,
         }
     }
 }

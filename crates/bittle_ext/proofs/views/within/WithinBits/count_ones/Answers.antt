@@ -2,7 +2,8 @@ use Rattle.std.proofs.Common.{arith}
 use Rattle.bittle.specs.Values.{set_in}
 use Rattle.bittle_bits.proofs.Sizes.{size-most, size_in_each_order}
 use Rattle.bittle_ext.specs.RangeMembers.{members_within}
-use Rattle.bittle_ext.proofs.ViewFacts.{size_within, size_read_back}
+use Rattle.bittle_ext.proofs.RangeItems.{size_within}
+use Rattle.bittle_ext.proofs.ViewFacts.{size_read_back}
 use Rattle.bittle_ext.proofs.views.within.WithinBits.count_ones.Goals as goal
 
 pub returns-clause-value : goal.returns-clause-value

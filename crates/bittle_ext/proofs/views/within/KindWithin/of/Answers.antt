@@ -1,9 +1,9 @@
 use Rattle.bittle.specs.Values.{set_in}
-use Rattle.bittle_ext.specs.RangeMembers.{members_within}
+use Rattle.bittle_ext.specs.RangeMembers.{kind_within}
 use Rattle.bittle_ext.proofs.ViewFacts.{read_twice}
-use Rattle.bittle_ext.proofs.views.within.Within.of.Goals as goal
+use Rattle.bittle_ext.proofs.views.within.KindWithin.of.Goals as goal
 
 pub returns-clause-set : goal.returns-clause-set
 returns-clause-set g c = read_twice g.E.Endian.mirrored g.B.Shape.width
-    (members_within (set_in g.B.Shape g.E.Endian c.args.set.now) c.args.from c.args.to)
+    (kind_within g.K.Kind.ONES (set_in g.B.Shape g.E.Endian c.args.set.now) c.args.from c.args.to)
     g.met.B.ReadWords.width_positive
