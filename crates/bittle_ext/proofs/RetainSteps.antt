@@ -9,6 +9,8 @@ use Rattle.bittle.specs.Searches.{IsFirstIn, NoneIn}
 use Rattle.bittle.proofs.CallerSets.{without_index_within}
 use Rattle.bittle_bits.proofs.AscendingLists.{ascending_from-zero, ascending_from-add, ascending_from-same, ascending_from-none, ascending-yes, ascending-no}
 use Rattle.bittle_bits.proofs.FirstItems.{ascending_from-least}
+use Rattle.bittle_ext.specs.Changes.{Retains}
+use Rattle.bittle_ext.proofs.PassingMembers.{kept_by_test}
 
 one_item : (p : ℕ → Bool) (i : ℕ) (b : Bool) → p i ≡ b →
     ascending_from p i 1 ≡ cond b (i ∷ []) []
@@ -55,7 +57,7 @@ module _ {F : Type 0} (R : F → ℕ → Bool → F → Type 0) where
 
   -- the closure was first so, and is keep after the calls at the members of old below from; now has
   -- those of them that it kept, and the others of old
-  pub record Retains (first : F) (old : PlainSet) (keep : F) (now : PlainSet) (from : ℕ) : Type 0 where
+  pub record RetainsBelow (first : F) (old : PlainSet) (keep : F) (now : PlainSet) (from : ℕ) : Type 0 where
     pub capacity : now.capacity ≡ old.capacity
     pub within : from ≤ old.capacity
     pub same_on : (k : ℕ) → from ≤ k → now.has k ≡ old.has k
@@ -63,7 +65,7 @@ module _ {F : Type 0} (R : F → ℕ → Bool → F → Type 0) where
         IsFiltered R keep (ascending_from old.has from (old.capacity - from)) ys →
         IsFiltered R first (ascending old) (ascending_from now.has 0 from ++ ys)
 
-  pub retains_none : (first : F) (old : PlainSet) → Retains first old first old 0
+  pub retains_none : (first : F) (old : PlainSet) → RetainsBelow first old first old 0
   retains_none first old = record {
     capacity = refl;
     within = omega arith;
@@ -75,12 +77,12 @@ module _ {F : Type 0} (R : F → ℕ → Bool → F → Type 0) where
   }
 
   module _ (first : F) (old : PlainSet) (keep : F) (now : PlainSet) (from : ℕ)
-      (so_far : Retains first old keep now from) where
+      (so_far : RetainsBelow first old keep now from) where
     -- a call at the next member keeps it in the set just if it answers true
     asked : (i : ℕ) (b : Bool) (next : F) (after : PlainSet) →
         IsFirstIn now from now.capacity (Some i) → R keep i b next →
         after.capacity ≡ now.capacity → ((k : ℕ) → (k ≡ i → ⊥) → after.has k ≡ now.has k) →
-        after.has i ≡ b → Retains first old next after (i + 1)
+        after.has i ≡ b → RetainsBelow first old next after (i + 1)
     asked i b next after found called one others here =
         let c = old.capacity in
         let inside : i < c = omega (arith, found.1, so_far.capacity) in
@@ -109,14 +111,14 @@ module _ {F : Type 0} (R : F → ℕ → Bool → F → Type 0) where
 
     -- a member of which it says true stays
     pub retains_kept : (i : ℕ) (next : F) → IsFirstIn now from now.capacity (Some i) →
-        R keep i true next → Retains first old next now (i + 1)
+        R keep i true next → RetainsBelow first old next now (i + 1)
     retains_kept i next found called =
         asked i true next now found called refl (λ k h. refl) found.2
 
     -- one of which it says false is taken out
     pub retains_others : (i : ℕ) (next : F) (after : PlainSet) →
         IsFirstIn now from now.capacity (Some i) → R keep i false next →
-        after ≡ without_index now i → Retains first old next after (i + 1)
+        after ≡ without_index now i → RetainsBelow first old next after (i + 1)
     retains_others i next after found called is =
         let less = is ∙ without_index_within now i found.1 in
         asked i false next after found called (ap (λ s. s.capacity) less)
@@ -124,18 +126,24 @@ module _ {F : Type 0} (R : F → ℕ → Bool → F → Type 0) where
         (ap (λ (s : PlainSet). s.has i) less ∙ ap (λ b. not b && now.has i) (eq-eqb i i refl))
 
     -- where no member is left, each was asked
-    pub retains_all : NoneIn now from now.capacity →
-        IsFiltered R first (ascending old) (ascending now)
-    retains_all none =
+    pub retains_all : ((k : ℕ) → old.capacity ≤ k → old.has k ≡ false) →
+        ((k : ℕ) → now.capacity ≤ k → now.has k ≡ false) → NoneIn now from now.capacity →
+        Retains R first old now
+    retains_all past_old past_now none =
         let c = old.capacity in
+        let n = now.capacity - from in
         let rest = ascending_from-none old.has from (c - from)
         (λ k lo hi. sym (so_far.same_on k lo)
         ∙ none k lo (omega (arith, so_far.capacity, so_far.within))) in
-        let left = ascending_from-none now.has from (now.capacity - from)
-        (λ k lo hi. none k lo (omega (arith, so_far.capacity, so_far.within))) in
-        let all = so_far.calls []
-        (subst (λ xs. IsFiltered R keep xs []) (sym rest) (filtered_none keep)) in
-        subst (λ xs. IsFiltered R first (ascending old) xs)
-        (sym (ascending_from-add now.has 0 from (now.capacity - from) now.capacity from
+        let left = ascending_from-none now.has from n (λ k lo hi. none k lo (omega arith)) in
+        let listed = ascending_from-add now.has 0 from n now.capacity from
         (omega (arith, so_far.capacity, so_far.within)) (omega arith)
-        ∙ ap (λ xs. ascending_from now.has 0 from ++ xs) left)) all
+        ∙ ap (λ xs. ascending_from now.has 0 from ++ xs) left in
+        let asked = subst (λ xs. IsFiltered R first (ascending old) xs) (sym listed)
+        (so_far.calls []
+        (subst (λ xs. IsFiltered R keep xs []) (sym rest) (filtered_none keep))) in
+        record {
+          capacity = so_far.capacity;
+          asked = asked;
+          by_test = kept_by_test R first old now past_old past_now so_far.capacity asked;
+        }

@@ -1,6 +1,7 @@
 -- Sets changed at one index, at each index of a span, or at each member that fails a test.
 use Rattle.std.specs.Prelude.{◌≡◌, ℕ, Bool, cond, ◌&&◌, not}
-use Rattle.bittle.specs.PlainSet.{PlainSet, contains, with_index, without_index, with_span_changed}
+use Rattle.std.specs.List.Retain.{IsFiltered}
+use Rattle.bittle.specs.PlainSet.{PlainSet, ascending, contains, with_index, without_index, with_span_changed}
 
 -- the set with the index where the answer is yes, and without it where it is no
 abbrev pub with_index_assigned : PlainSet → ℕ → Bool → PlainSet
@@ -26,3 +27,12 @@ those_passing test s = record { capacity = s.capacity; has = has_passing test s 
 abbrev pub AnswersBy : {F : Type 0} → (F → ℕ → Bool → F → Type 0) → F → (ℕ → Bool) → Type 0
 AnswersBy {F} step keep test =
     (i : ℕ) (b : Bool) (next : F) → step keep i b next → (b ≡ test i) × (next ≡ keep)
+
+-- a closure was asked of each member of a set, in increasing order, and those of which it said true
+-- are the members afterwards
+pub record Retains {F : Type 0} (step : F → ℕ → Bool → F → Type 0) (keep : F)
+    (before after : PlainSet) : Type 0 where
+  pub capacity : after.capacity ≡ before.capacity
+  pub asked : IsFiltered step keep (ascending before) (ascending after)
+  -- what that is where the closure is a test
+  pub by_test : (test : ℕ → Bool) → AnswersBy step keep test → after ≡ those_passing test before

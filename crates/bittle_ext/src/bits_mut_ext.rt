@@ -4,11 +4,10 @@ ghost use Rattle.std.specs.Prelude.{◌≡◌, ◌+◌, ◌≤◌, ℕ, Bool, Li
 ghost use Rattle.std.specs.Iterator.{Drains, IsFinite};
 ghost use Rattle.std.specs.Iterator.Runs.{WholeRun};
 ghost use Rattle.std.specs.List.{fold};
-ghost use Rattle.std.specs.List.Retain.{IsFiltered};
 ghost use Rattle.bittle_ext.specs.Runs.{IsFirstRun};
 ghost use Rattle.bittle_ext.specs.Changes.{with_index_assigned, with_index_toggled};
-ghost use Rattle.bittle_ext.specs.Changes.{with_span_assigned, those_passing, AnswersBy};
-ghost use Rattle.bittle.specs.PlainSet.{ascending, contains, complement, with_index, without_index};
+ghost use Rattle.bittle_ext.specs.Changes.{with_span_assigned, Retains};
+ghost use Rattle.bittle.specs.PlainSet.{contains, complement, with_index, without_index};
 ghost use Rattle.bittle.specs.PlainSet.{with_span, without_span, with_span_toggled};
 ghost use Rattle.bittle.specs.Searches.{IsFirstIn, IsLastIn};
 ghost use Rattle.bittle.specs.Values.{set_in, set_mirrored, ShapeFits};
@@ -314,14 +313,8 @@ pub trait BitsMutExt: BitsMut {
         Self: Sized,
         requires fits { ShapeFits Self.Shape self.old }
         requires callable { F.IsAlwaysCallable keep }
-        ensures filtered { IsFiltered F.step keep
-            (ascending (set_in Self.Shape Self.Order.Endian self.old))
-            (ascending (set_in Self.Shape Self.Order.Endian self.new)) }
-        ensures capacity { (Self.big self.new).capacity ≡ (Self.big self.old).capacity }
-        // What that is where the closure is a test.
-        ensures by_test { (test : ℕ → Bool) → AnswersBy F.step keep test →
-            set_in Self.Shape Self.Order.Endian self.new
-            ≡ those_passing test (set_in Self.Shape Self.Order.Endian self.old) }
+        ensures set { Retains F.step keep (set_in Self.Shape Self.Order.Endian self.old)
+            (set_in Self.Shape Self.Order.Endian self.new) }
         ensures stays { Self.loan self.old ≡ Self.loan self.new }
     {
         let end = self.bits_capacity();

@@ -2,7 +2,6 @@ use Rattle.std.proofs.Common.{Some, ◌∙◌, refl, subst, arith, of_calls}
 use Rattle.bittle.specs.Searches.{IsFirstIn}
 use Rattle.bittle.specs.Values.{set_in}
 use Rattle.bittle_bits.proofs.PlainSets.{members-past}
-use Rattle.bittle_ext.proofs.PassingMembers.{kept_by_test}
 use Rattle.bittle_ext.proofs.RetainSteps.{retains_none, retains_kept, retains_others, retains_all}
 use Rattle.bittle_ext.proofs.bits_mut_ext.BitsMutExt.retain.Goals.{then-not-keep, else-not-keep}
 use Rattle.bittle_ext.proofs.bits_mut_ext.BitsMutExt.retain.Goals as goal
@@ -45,24 +44,14 @@ loop-index-preserved g c =
       }
     ]
 
-pub returns-clause-filtered : goal.returns-clause-filtered
-returns-clause-filtered g c =
-    let t = c.loop-index.invariant in
-    let none = c.in_default.ensures in
-    retains_all (goal.F-step g) _ _ _ _ _ t.retains
-    (λ k lo hi. none k lo (omega (arith, hi, t.end, t.retains.capacity)))
-
-pub returns-clause-capacity : goal.returns-clause-capacity
-returns-clause-capacity g c = c.loop-index.invariant.retains.capacity
-
-pub returns-clause-by_test : goal.returns-clause-by_test
-returns-clause-by_test g c test answers =
+pub returns-clause-set : goal.returns-clause-set
+returns-clause-set g c =
     let m = g.Self.Order.Endian.mirrored in
     let b = g.met.Self.ReadWords in
     let old = c.args.self.now in
     let new = c.loop-index.self in
-    kept_by_test (goal.F-step g) c.args.keep (set_in g.Self.Shape g.Self.Order.Endian old)
-    (set_in g.Self.Shape g.Self.Order.Endian new)
+    let t = c.loop-index.invariant in
+    retains_all (goal.F-step g) _ _ _ _ _ t.retains
     (members-past m _ _ b.width_positive (b.whole_words old) (b.none_past old))
     (members-past m _ _ b.width_positive (b.whole_words new) (b.none_past new))
-    (returns-clause-capacity g c) (returns-clause-filtered g c) test answers
+    (λ k lo hi. c.in_default.ensures k lo (omega (arith, hi, t.end, t.retains.capacity)))

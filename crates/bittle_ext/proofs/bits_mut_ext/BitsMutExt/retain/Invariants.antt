@@ -1,6 +1,6 @@
 use Rattle.std.proofs.Common.{◌≡◌, ◌-◌}
 use Rattle.bittle.specs.Values.{set_in}
-use Rattle.bittle_ext.proofs.RetainSteps.{Retains}
+use Rattle.bittle_ext.proofs.RetainSteps.{RetainsBelow}
 use Rattle.bittle_ext.proofs.bits_mut_ext.BitsMutExt.retain.Given as goal
 
 abbrev pub invariant-loop-index : goal.invariant-loop-index
@@ -9,7 +9,7 @@ invariant-loop-index g l =
     record {
       callable : goal.F-IsAlwaysCallable g l.keep;
       end : l.end ≡ before.capacity;
-      retains : Retains (goal.F-step g) l.initial.keep before l.keep
+      retains : RetainsBelow (goal.F-step g) l.initial.keep before l.keep
           (set_in g.Self.Shape g.Self.Order.Endian l.self) l.from;
       stays : g.Self.Shape.loan l.initial.self ≡ g.Self.Shape.loan l.self;
     }
