@@ -45,7 +45,8 @@ pub trait BitsRangeExt: Bits {
     /// type, increasing, from both ends.
     ///
     /// The shape has to fit, and `from <= to <= capacity`: nothing wraps. Only the words of the
-    /// range are read, once for each item. With capacity 0 it yields nothing.
+    /// range are read, each once. With capacity 0 it yields nothing. It borrows the set alone, so that
+    /// it may be returned from a function that borrows the set.
     ///
     /// ```
     /// 0b0110_0010u8.iter_ones_in_range(1, 6);             // yields 1, 5
@@ -64,11 +65,8 @@ pub trait BitsRangeExt: Bits {
         iter_within::<Self, Self::Order, Ones>(self, from, to)
     }
 
-    /// Returns an iterator over the indexes of the unset bits in `from..to`, in the order of the
-    /// type, increasing, from both ends.
-    ///
-    /// The shape has to fit, and `from <= to <= capacity`: nothing wraps. Only the words of the
-    /// range are read, once for each item. With capacity 0 it yields nothing.
+    /// Returns an iterator over the indexes of the unset bits in `from..to`. All else is as with
+    /// [`iter_ones_in_range`](BitsRangeExt::iter_ones_in_range).
     ///
     /// ```
     /// 0b0110_0010u8.iter_zeros_in_range(1, 5);            // yields 2, 3, 4
@@ -113,11 +111,8 @@ pub trait BitsRangeExt: Bits {
         IterRuns::new(self)
     }
 
-    /// Returns an iterator over the longest runs of unset bits, each a range of indexes, in the
-    /// order of the type, increasing, from both ends.
-    ///
-    /// The shape has to fit. Each step is two searches by whole words. With capacity 0 it yields
-    /// nothing.
+    /// Returns an iterator over the longest runs of unset bits. All else is as with
+    /// [`iter_one_runs`](BitsRangeExt::iter_one_runs).
     ///
     /// ```
     /// 0b0110_0010u8.iter_zero_runs();                     // yields 0..1, 2..5, 7..8

@@ -11,6 +11,7 @@ ghost use Rattle.bittle.specs.Values.{set_in, ShapeFits};
 ghost use Rattle.bittle_ext.specs.RangeMembers.{members_within};
 
 use bittle::{Bits, Endian};
+use bittle_ext::range_iterators::IterZerosInRange;
 use bittle_ext::{BitsExt, BitsOwnedExt, BitsRangeExt, BitsViewExt};
 
 /// Counts the members of a range by a walk over them.
@@ -112,4 +113,15 @@ pub fn free_ends<B: Bits, E: Endian>(set: &B, from: u32, to: u32) -> (Option<u32
     let view = set.in_order::<E>();
     let mut walk = view.iter_zeros_in_range(from, to);
     (walk.next(), walk.next_back())
+}
+
+/// Returns an iterator over what is no member in a range of any set: it borrows the set alone.
+pub fn iter_free<'a, B: Bits>(set: &'a B, from: u32, to: u32) -> IterZerosInRange<'a, B, B::Order>
+    requires fits { ShapeFits B.Shape set.now }
+    requires ordered { from ≤ to }
+    requires within { to ≤ (B.big set.now).capacity }
+    ensures { result.remaining ≡ ascending
+        (members_within (complement (set_in B.Shape B.Order.Endian set.now)) from to) }
+{
+    set.iter_zeros_in_range(from, to)
 }
