@@ -6,8 +6,9 @@ ghost use Rattle.bittle_bits.specs.Words.{word_of};
 ghost use Rattle.bittle.specs.Orders.{read_in};
 ghost use Rattle.bittle.specs.Values.{set_in, ShapeFits};
 
+use crate::range_iterators::iter_within;
 use bittle::{Bits, Endian};
-use bittle_bits::extension::{Word, are_alike, set_bit};
+use bittle_bits::extension::{Ones, Word, are_alike, set_bit};
 
 /// Returns word `k` of a set, or an empty word from its capacity on.
 #[inline]
@@ -23,7 +24,7 @@ pub fn word_or_empty<S: Bits>(set: &S, k: usize) -> S::LeafWord
 }
 
 /// Gathers the word that has in the order `E` what a set has in the order `F`, as its word `k` of
-/// that width, by a search for each set bit.
+/// that width, one set bit after another.
 fn gathered_word<W: Word, B: Bits, E: Endian, F: Endian>(set: &B, k: u32) -> W
     requires fits { ShapeFits B.Shape set.now }
     requires within { k * W.width < 4294967296 }
@@ -33,10 +34,8 @@ fn gathered_word<W: Word, B: Bits, E: Endian, F: Endian>(set: &B, k: u32) -> W
     let start = k * W::width();
     let end = start.saturating_add(W::width()).min(set.bits_capacity());
     let mut word = W::zero();
-    let mut from = start.min(end);
-    while let Some(index) = set.first_one_in::<F>(from, end) {
+    for index in iter_within::<B, F, Ones>(set, start.min(end), end) {
         set_bit::<W, E>(&mut word, index - start);
-        from = index + 1;
     }
     word
 }

@@ -21,7 +21,7 @@ pub type IterZerosInRange<'a, B, E> = IntoIterOnes<KindWithin<'a, B, E, Zeros>, 
 
 /// Begins an iterator over the bits of a kind of a range: over the view of them.
 #[inline]
-fn iter_within<'a, B: Bits, E: Endian, K: Kind>(
+pub(crate) fn iter_within<'a, B: Bits, E: Endian, K: Kind>(
     bits: &'a B,
     from: u32,
     to: u32,
