@@ -1,6 +1,6 @@
 //! Reading a set.
 
-ghost use Rattle.std.specs.Prelude.{◌≡◌, ◌-◌, ◌≤◌, MatchBool, slice_get};
+ghost use Rattle.std.specs.Prelude.{◌≡◌, ◌-◌, ◌<◌, ◌≤◌, IfSome, MatchBool, slice_get};
 ghost use Rattle.bittle_ext.specs.RangeMembers.{HasSomeIn, HasAllIn};
 ghost use Rattle.bittle_ext.specs.Runs.{IsFirstRun};
 ghost use Rattle.bittle.specs.PlainSet.{ascending, complement, members_below};
@@ -137,8 +137,9 @@ pub trait BitsExt: Bits {
     where
         Self: Sized,
         requires { ShapeFits Self.Shape self.now }
-        ensures { let ours = set_in Self.Shape Self.Order.Endian self.now in
+        ensures last { let ours = set_in Self.Shape Self.Order.Endian self.now in
             IsLastIn ours 0 to result }
+        ensures below { IfSome result (λ index. index < (Self.big self.now).capacity) }
     {
         self.last_one_in::<Self::Order>(0, to.min(capacity_of::<Self, Self::Order>(self)))
     }
@@ -155,8 +156,9 @@ pub trait BitsExt: Bits {
     where
         Self: Sized,
         requires { ShapeFits Self.Shape self.now }
-        ensures { let ours = set_in Self.Shape Self.Order.Endian self.now in
+        ensures last { let ours = set_in Self.Shape Self.Order.Endian self.now in
             IsLastIn (complement ours) 0 to result }
+        ensures below { IfSome result (λ index. index < (Self.big self.now).capacity) }
     {
         self.last_zero_in::<Self::Order>(0, to.min(capacity_of::<Self, Self::Order>(self)))
     }
@@ -195,8 +197,9 @@ pub trait BitsExt: Bits {
     where
         Self: Sized,
         requires { ShapeFits Self.Shape self.now }
-        ensures { result
+        ensures value { result
             ≡ slice_get (ascending (set_in Self.Shape Self.Order.Endian self.now)) rank }
+        ensures below { IfSome result (λ index. index < (Self.big self.now).capacity) }
     {
         ranks::select::<Self, Self::Order>(self, rank)
     }

@@ -1,6 +1,6 @@
 //! The set bit of a rank: its word by the counts of whole words, its place there by halves.
 
-ghost use Rattle.std.specs.Prelude.{◌≡◌, ◌+◌, ◌*◌, ◌<◌, ◌≤◌, true, MatchOption, slice_get};
+ghost use Rattle.std.specs.Prelude.{◌≡◌, ◌+◌, ◌*◌, ◌<◌, ◌≤◌, true, IfSome, MatchOption, slice_get};
 ghost use Rattle.bittle_ext.specs.Ranks.{HasNoRank, IsInWord};
 ghost use Rattle.bittle.specs.PlainSet.{ascending, members_below};
 ghost use Rattle.bittle.specs.Values.{set_in, ShapeFits};
@@ -70,7 +70,8 @@ fn place_of_rank<B: Bits, E: Endian>(bits: &B, k: u32, rest: u32) -> u32
 #[inline]
 pub fn select<B: Bits, E: Endian>(bits: &B, rank: u32) -> Option<u32>
     requires { ShapeFits B.Shape bits.now }
-    ensures { result ≡ slice_get (ascending (set_in B.Shape E.Endian bits.now)) rank }
+    ensures value { result ≡ slice_get (ascending (set_in B.Shape E.Endian bits.now)) rank }
+    ensures below { IfSome result (λ index. index < (B.big bits.now).capacity) }
 {
     let width = <B::LeafWord as Word>::width();
     match word_of_rank::<B, E>(bits, rank) {

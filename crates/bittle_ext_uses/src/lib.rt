@@ -3,6 +3,7 @@
 
 pub mod any_changes;
 pub mod checked_indexes;
+pub mod chains;
 pub mod combined_walks;
 pub mod lent_changes;
 pub mod made_sets;

@@ -19,8 +19,20 @@ overflow_add-result g c =
       c.requires.1,
     )
 
-pub returns-in-Some : goal.returns-in-Some
-returns-in-Some g c =
+pub returns-in-Some-clause-below : goal.returns-in-Some-clause-below
+returns-in-Some-clause-below g c =
+    let b = g.met.B.ReadWords in
+    let wide = c.width-width.ensures ∙ b.leaf_width in
+    omega (
+      arith,
+      ap (λ v. c.in-Some.k * v) wide,
+      word_ends g.B.Shape.width c.in-Some.k _ (b.whole_words c.args.bits.now)
+          c.in-Some.ensures.0,
+      c.place_of_rank.ensures.within,
+    )
+
+pub returns-in-Some-clause-value : goal.returns-in-Some-clause-value
+returns-in-Some-clause-value g c =
     let b = g.met.B.ReadWords in
     let w = g.B.Shape.width in
     let s = set_in g.B.Shape g.E.Endian c.args.bits.now in
@@ -34,6 +46,6 @@ returns-in-Some g c =
     ))
     place.found.0 (place.found.1 ∙ c.in-Some.ensures.1))
 
-pub returns-in-None : goal.returns-in-None
-returns-in-None g c =
+pub returns-in-None-clause-value : goal.returns-in-None-clause-value
+returns-in-None-clause-value g c =
     not_selected (set_in g.B.Shape g.E.Endian c.args.bits.now) c.args.rank c.in-None.ensures

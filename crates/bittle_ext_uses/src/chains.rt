@@ -1,0 +1,153 @@
+//! Calls in a chain: what one returns is given to the next, or is an index of a table. Each stands on
+//! what the first call says of its answer, and on nothing else.
+
+ghost use Rattle.bittle.specs.Values.{ShapeFits};
+
+use bittle::{Bits, BitsMut};
+use bittle_ext::{BitsExt, BitsMutExt, BitsRangeExt};
+
+/// Returns the entry of a table at the last set bit below an index, or 0.
+pub fn entry_before(mask: u64, to: u32, table: &[u32; 64]) -> u32 {
+    match mask.prev_one(to) {
+        Some(index) => table[index as usize],
+        None => 0,
+    }
+}
+
+/// Returns the entry of a table at the last unset bit below an index, or 0.
+pub fn entry_before_free(mask: u64, to: u32, table: &[u32; 64]) -> u32 {
+    match mask.prev_zero(to) {
+        Some(index) => table[index as usize],
+        None => 0,
+    }
+}
+
+/// Returns the entry of a table at the set bit of a rank, or 0.
+pub fn entry_of_rank(mask: &[u32; 4], rank: u32, table: &[u8; 128]) -> u8 {
+    match mask.select(rank) {
+        Some(index) => table[index as usize],
+        None => 0,
+    }
+}
+
+/// Marks the entries of a table from the start of a run of free bits on.
+pub fn mark_free_run(mask: u64, table: &mut [bool; 64]) {
+    if let Some(start) = mask.first_zero_run(4) {
+        for index in start..start + 4 {
+            table[index as usize] = true;
+        }
+    }
+}
+
+/// Marks the entries of a table at each run of set bits.
+pub fn mark_runs(mask: u16, table: &mut [bool; 16]) {
+    for run in mask.iter_one_runs() {
+        for index in run.start..run.end {
+            table[index as usize] = true;
+        }
+    }
+}
+
+/// Clears the bits before the third set bit.
+pub fn clear_before_third(mask: &mut u64) {
+    if let Some(index) = mask.select(2) {
+        mask.clear_range(0, index);
+    }
+}
+
+/// Clears the bits before the third set bit of any set.
+pub fn clear_before_third_of<B: BitsMut>(set: &mut B)
+    requires { ShapeFits B.Shape set.old }
+{
+    if let Some(index) = set.select(2) {
+        set.clear_range(0, index);
+    }
+}
+
+/// Sets the bits up to the last set bit below an index, and that one.
+pub fn set_through<B: BitsMut>(set: &mut B, to: u32)
+    requires { ShapeFits B.Shape set.old }
+{
+    if let Some(index) = set.prev_one(to) {
+        set.set_range(0, index + 1);
+    }
+}
+
+/// Flips the bits before the last unset bit below an index.
+pub fn toggle_before_free<B: BitsMut>(set: &mut B, to: u32)
+    requires { ShapeFits B.Shape set.old }
+{
+    if let Some(index) = set.prev_zero(to) {
+        set.toggle_range(0, index);
+    }
+}
+
+/// Sets a run of unset bits, where there is one.
+pub fn take_run<B: BitsMut>(set: &mut B, length: u32)
+    requires { ShapeFits B.Shape set.old }
+{
+    if let Some(start) = set.first_zero_run(length) {
+        set.set_range(start, start + length);
+    }
+}
+
+/// Adds up the indexes of unset bits from the last set bit below an index on.
+pub fn sum_of_gap(mask: u32, to: u32) -> u32 {
+    let mut sum = 0u32;
+    if let Some(last) = mask.prev_one(to) {
+        for index in mask.iter_zeros_in_range(last, 32) {
+            sum = sum.wrapping_add(index);
+        }
+    }
+    sum
+}
+
+/// Takes the last set bit out, and returns the entry of a table at it, or 0.
+pub fn pop_entry(mask: &mut u16, table: &[u32; 16]) -> u32 {
+    match mask.pop_last() {
+        Some(index) => table[index as usize],
+        None => 0,
+    }
+}
+
+/// Takes the first free slot, and marks it in a table.
+pub fn take_and_mark(slots: &mut [u8; 4], table: &mut [bool; 32]) {
+    if let Some(slot) = slots.take_first_zero() {
+        table[slot as usize] = true;
+    }
+}
+
+/// Takes a run of free slots, and gives all but the first back.
+pub fn take_run_of_three<B: BitsMut>(slots: &mut B)
+    requires { ShapeFits B.Shape slots.old }
+{
+    if let Some(start) = slots.take_first_zero_run(3) {
+        slots.clear_range(start + 1, start + 3);
+    }
+}
+
+/// Returns the entry of a table of counts at how many set bits lie below an index.
+pub fn entry_of_count(mask: u64, index: u32, table: &[u32; 65]) -> u32 {
+    table[mask.rank(index) as usize]
+}
+
+/// Returns where the run of set bits ends that begins at the next set bit, or `None`.
+pub fn end_of_next_run<B: Bits>(set: &B, from: u32) -> Option<u32>
+    requires { ShapeFits B.Shape set.now }
+{
+    let start = set.next_one(from)?;
+    set.next_zero(start + 1)
+}
+
+/// Counts the unset bits between the last two set bits of any set: the one is before the other.
+pub fn count_last_gap<B: Bits>(set: &B) -> u32
+    requires { ShapeFits B.Shape set.now }
+{
+    match set.last_one() {
+        Some(last) => match set.prev_one(last) {
+            Some(before) => set.count_zeros_in_range(before, last),
+            None => 0,
+        },
+        None => 0,
+    }
+}
