@@ -1,6 +1,6 @@
 //! How two sets stand to each other.
 
-ghost use Rattle.std.specs.Prelude.{◌≡◌, ◌↔◌, IsTrue, MatchOption};
+ghost use Rattle.std.specs.Prelude.{◌≡◌, ◌↔◌, IsTrue, MatchOption, ◌<◌, ◌≤◌, IfSome, max};
 ghost use Rattle.bittle_ext.specs.Combined.{both_of, first_only_of, just_one_of};
 ghost use Rattle.bittle_ext.specs.SetRelations.{IsSubset, AreDisjoint, Meet};
 ghost use Rattle.bittle_ext.specs.SetRelations.{IsFirstAlone, IsFirstCommon};
@@ -34,9 +34,10 @@ pub trait BitsRelationExt: Bits {
         Self: Sized,
         requires fits { ShapeFits Self.Shape self.now }
         requires other_fits { ShapeFits B.Shape other.now }
-        ensures { let ours = set_in Self.Shape Self.Order.Endian self.now in
+        ensures first { let ours = set_in Self.Shape Self.Order.Endian self.now in
             let theirs = set_in B.Shape B.Order.Endian other.now in
             MatchOption result (AreDisjoint ours theirs) (IsFirstCommon ours theirs) }
+        ensures below { IfSome result (λ index. index < (Self.big self.now).capacity) }
     {
         relations::first_common::<Self, B, Self::Order, B::Order>(self, other)
     }
@@ -53,9 +54,10 @@ pub trait BitsRelationExt: Bits {
         Self: Sized,
         requires fits { ShapeFits Self.Shape self.now }
         requires other_fits { ShapeFits B.Shape other.now }
-        ensures { let ours = set_in Self.Shape Self.Order.Endian self.now in
+        ensures first { let ours = set_in Self.Shape Self.Order.Endian self.now in
             let theirs = set_in B.Shape B.Order.Endian other.now in
             MatchOption result (IsSubset ours theirs) (IsFirstAlone ours theirs) }
+        ensures below { IfSome result (λ index. index < (Self.big self.now).capacity) }
     {
         relations::first_alone::<Self, B, Self::Order, B::Order>(self, other)
     }
@@ -149,9 +151,10 @@ pub trait BitsRelationExt: Bits {
         Self: Sized,
         requires fits { ShapeFits Self.Shape self.now }
         requires other_fits { ShapeFits B.Shape other.now }
-        ensures { let ours = set_in Self.Shape Self.Order.Endian self.now in
+        ensures value { let ours = set_in Self.Shape Self.Order.Endian self.now in
             let theirs = set_in B.Shape B.Order.Endian other.now in
             result ≡ size (both_of ours theirs) }
+        ensures at_most { result ≤ (Self.big self.now).capacity }
     {
         counts::count_common::<Self, B, Self::Order, B::Order>(self, other)
     }
@@ -168,9 +171,10 @@ pub trait BitsRelationExt: Bits {
         Self: Sized,
         requires fits { ShapeFits Self.Shape self.now }
         requires other_fits { ShapeFits B.Shape other.now }
-        ensures { let ours = set_in Self.Shape Self.Order.Endian self.now in
+        ensures value { let ours = set_in Self.Shape Self.Order.Endian self.now in
             let theirs = set_in B.Shape B.Order.Endian other.now in
             result ≡ size (first_only_of ours theirs) }
+        ensures at_most { result ≤ (Self.big self.now).capacity }
     {
         counts::count_alone::<Self, B, Self::Order, B::Order>(self, other)
     }
@@ -187,9 +191,10 @@ pub trait BitsRelationExt: Bits {
         Self: Sized,
         requires fits { ShapeFits Self.Shape self.now }
         requires other_fits { ShapeFits B.Shape other.now }
-        ensures { let ours = set_in Self.Shape Self.Order.Endian self.now in
+        ensures value { let ours = set_in Self.Shape Self.Order.Endian self.now in
             let theirs = set_in B.Shape B.Order.Endian other.now in
             result ≡ size (just_one_of ours theirs) }
+        ensures at_most { result ≤ max (Self.big self.now).capacity (B.big other.now).capacity }
     {
         counts::count_different::<Self, B, Self::Order, B::Order>(self, other)
     }

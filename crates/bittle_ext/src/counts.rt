@@ -1,7 +1,7 @@
 //! How many indexes are set in two sets, with no set made: by the view of both where their words have
 //! one width and are read in one order, else by the set bits of the first.
 
-ghost use Rattle.std.specs.Prelude.{◌≡◌};
+ghost use Rattle.std.specs.Prelude.{◌≡◌, ◌≤◌};
 ghost use Rattle.bittle_ext.specs.Combined.{first_only_of, just_one_of, CountsBoth};
 ghost use Rattle.bittle.specs.PlainSet.{size};
 ghost use Rattle.bittle.specs.Values.{set_in, ShapeFits};
@@ -39,9 +39,10 @@ pub fn count_common<A: Bits, B: Bits, E: Endian, F: Endian>(left: &A, right: &B)
 pub fn count_alone<A: Bits, B: Bits, E: Endian, F: Endian>(left: &A, right: &B) -> u32
     requires left_fits { ShapeFits A.Shape left.now }
     requires right_fits { ShapeFits B.Shape right.now }
-    ensures { result
+    ensures value { result
         ≡ size (first_only_of (set_in A.Shape E.Endian left.now)
         (set_in B.Shape F.Endian right.now)) }
+    ensures at_most { result ≤ (A.big left.now).capacity }
 {
     left.count_ones() - count_common::<A, B, E, F>(left, right)
 }

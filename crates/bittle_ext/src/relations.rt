@@ -1,7 +1,7 @@
 //! How two sets stand to each other: word by word where their words have one width and are read in
 //! one order, else by searches in turns, each from where the other one stopped.
 
-ghost use Rattle.std.specs.Prelude.{◌≡◌, min, not, MatchOption};
+ghost use Rattle.std.specs.Prelude.{◌≡◌, ◌<◌, min, not, IfSome, MatchOption};
 ghost use Rattle.bittle_ext.specs.SetRelations.{IsSubset, AreDisjoint, AgreesBelow};
 ghost use Rattle.bittle_ext.specs.SetRelations.{IsFirstWhere, IsFirstAlone, IsFirstCommon};
 ghost use Rattle.bittle.specs.Values.{set_in, ShapeFits};
@@ -53,9 +53,10 @@ fn first_below<A: Bits, B: Bits, E: Endian, F: Endian, K: Kind>(
 pub fn first_common<A: Bits, B: Bits, E: Endian, F: Endian>(left: &A, right: &B) -> Option<u32>
     requires left_fits { ShapeFits A.Shape left.now }
     requires right_fits { ShapeFits B.Shape right.now }
-    ensures { let ours = set_in A.Shape E.Endian left.now in
+    ensures first { let ours = set_in A.Shape E.Endian left.now in
         let theirs = set_in B.Shape F.Endian right.now in
         MatchOption result (AreDisjoint ours theirs) (IsFirstCommon ours theirs) }
+    ensures below { IfSome result (λ index. index < (A.big left.now).capacity) }
 {
     let end = capacity_of::<A, E>(left).min(capacity_of::<B, F>(right));
     first_below::<A, B, E, F, Ones>(left, right, end)
@@ -66,9 +67,10 @@ pub fn first_common<A: Bits, B: Bits, E: Endian, F: Endian>(left: &A, right: &B)
 pub fn first_alone<A: Bits, B: Bits, E: Endian, F: Endian>(left: &A, right: &B) -> Option<u32>
     requires left_fits { ShapeFits A.Shape left.now }
     requires right_fits { ShapeFits B.Shape right.now }
-    ensures { let ours = set_in A.Shape E.Endian left.now in
+    ensures first { let ours = set_in A.Shape E.Endian left.now in
         let theirs = set_in B.Shape F.Endian right.now in
         MatchOption result (IsSubset ours theirs) (IsFirstAlone ours theirs) }
+    ensures below { IfSome result (λ index. index < (A.big left.now).capacity) }
 {
     let end = capacity_of::<A, E>(left);
     let common = end.min(capacity_of::<B, F>(right));

@@ -9,6 +9,7 @@ pub mod lent_changes;
 pub mod made_sets;
 pub mod range_walks;
 pub mod reads;
+pub mod relation_chains;
 pub mod rotations;
 pub mod run_walks;
 pub mod shape_changes;

@@ -1,0 +1,10 @@
+use Rattle.std.proofs.Common.{arith}
+use Rattle.bittle_bits.proofs.Sizes.{size-le}
+use Rattle.bittle_ext.proofs.bits_relation_ext.BitsRelationExt.count_common.Goals as goal
+
+pub returns-clause-at_most : goal.returns-clause-at_most
+returns-clause-at_most g c = omega (
+  arith,
+  c.count_common.ensures.first_only,
+  size-le (g.Self.Shape.big c.args.self.now),
+)
