@@ -1,5 +1,5 @@
 //! What the project's own crates above stand on, and no other: `Set` of `bittle`, the everyday
-//! calls of `bittle_ext`, and the tests with probes.
+//! calls of `bittle_ext`, the sets with a summary of `bittle_tiers`, and the tests with probes.
 
 pub use crate::end::{Back, End, Front};
 pub use crate::integer::Integer;
@@ -11,7 +11,7 @@ pub use crate::internal::sealed::Sealed;
 pub use crate::internal::search::end_in;
 pub use crate::internal::source::{OwnedSource, word_of_kind};
 pub use crate::kind::{Kind, Ones, Zeros};
-pub use crate::one_word::{pop, range, set_bit, test_bit};
+pub use crate::one_word::{all_zeros as is_without_bits, pop, range, set_bit, test_bit};
 pub use crate::operation::{
     Conjunction, Difference, Operation, RangeOperation, SymmetricDifference, Union,
 };

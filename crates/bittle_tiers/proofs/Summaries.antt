@@ -1,0 +1,393 @@
+-- What a summary tells of the words of a set, and what keeps it right.
+use Rattle.std.proofs.Common.{◌≡◌, ◌≢◌, ℕ, suc, ◌+◌, ◌-◌, ◌*◌, ◌/◌, ◌%◌, ◌<◌, ◌≤◌, Bool, true, false, not, cond, ◌&&◌, ◌==◌, nat_lt, nat_le, inl, inr, Some, None, IsTrue, refl, sym, ap, ◌∙◌, arith}
+use Rattle.std.proofs.Math.Path.{fun_ext}
+use Rattle.std.proofs.Props.{props}
+use Rattle.std.proofs.Math.Nat.{div-add-mod', div-mul-le_self, le_of_mul-le-mul_right, lt_of_mul-lt-mul_right, mod-eq_of_lt, mul-le-mul_right}
+use Rattle.std.proofs.lemmas.Nat.{div-mul-add, div_below, mod_below}
+use Rattle.std.proofs.lemmas.Bool.{cases_eq, cases_lt, eq-eqb, eqb-true, ne_eqb, lt-ltb, le-ltb, lt-leb, true≢false}
+use Rattle.bittle_bits.specs.Ends.{IsEndIn}
+use Rattle.bittle_bits.specs.Orders.{place, read_in}
+use Rattle.bittle_bits.specs.PlainSet.{PlainSet, count_below, empty_set, full_set, size, complement, has_changed, is_in_span, with_span_changed}
+use Rattle.bittle_bits.specs.Rows.{with_bit}
+use Rattle.bittle_bits.specs.Searches.{NoneIn, PassesOver}
+use Rattle.bittle_bits.specs.Walk.{ones_or_zeros}
+use Rattle.bittle_bits.specs.Words.{word_has, word_of}
+use Rattle.bittle_bits.proofs.Counts.{count-never, count-others, count-same, count-some}
+use Rattle.bittle_bits.proofs.OnesOrZeros.{ones_or_zeros-capacity, ones_or_zeros-word_of}
+use Rattle.bittle_bits.proofs.PlaceLemmas.{place_part, place_in_word, place-place}
+use Rattle.bittle_bits.proofs.PlainSets.{plain_set, has_with-in, has_without-in}
+use Rattle.bittle_bits.proofs.Sizes.{size-complement}
+use Rattle.bittle_bits.proofs.Words.{word_has-at, word_ends}
+use Rattle.bittle_tiers.specs.Tiers.{even_summary, some_in_word, StopsAtBit, Summarizes, SummarizesBelow, SameWordsBut, TellsAround}
+
+-- any two proofs that a map may be summarized are the same, and any two that a summary tells of it
+pub can_one : (can : Bool) → IsProp (IsTrue can)
+can_one can = hlevel props
+
+pub tells_one : (ones : Bool) (w : ℕ) (s t : PlainSet) → IsProp (Summarizes ones w s t)
+tells_one ones w s t = hlevel props
+
+false_by : (b : Bool) → (b ≡ true → ⊥) → b ≡ false
+false_by true h = absurd (h refl)
+false_by false h = refl
+
+not_some : (b : Bool) → not b ≡ false → b ≡ true
+not_some true h = refl
+not_some false h = absurd (true≢false h)
+
+-- a word of a set has a number in a summary that reaches
+pub reaches : (w k c own d : ℕ) → 0 < w → k * w ≤ c → c ≡ own → own ≤ d * w → k ≤ d
+reaches w k c own d word within is reach =
+    let h : k * w ≤ d * w = omega (arith, within, is, reach) in le_of_mul-le-mul_right h word
+
+-- a number whose word begins below a capacity of whole words is that of one of them
+pub word_index : (w k c : ℕ) → 0 < w → (words : ℕ) × (c ≡ words * w) → k * w < c → k < c / w
+word_index w k c word whole within = elim (cases_lt k (c / w)) [
+  | inl l ↦ l
+  | inr g ↦ let up : c / w * w ≤ k * w = mul-le-mul_right w g in
+      absurd (omega (
+        arith,
+        up,
+        div-add-mod' c w,
+        mod_below c w word,
+        word_ends w k c whole within,
+      ))
+]
+
+-- a summary with as many numbers as there are words reaches
+pub whole_reaches : (w c d : ℕ) → 0 < w → (words : ℕ) × (c ≡ words * w) → c / w ≤ d → c ≤ d * w
+whole_reaches w c d word whole enough = elim (cases_lt (d * w) c) [
+  | inl l ↦ absurd (omega (arith, word_index w d c word whole l, enough))
+  | inr g ↦ g
+]
+
+-- the word of an index below a capacity begins below it
+pub index_word : (w i c : ℕ) → i < c → i / w * w < c
+index_word w i c below = omega (arith, div-mul-le_self i w, below)
+
+-- a number is not in a span where it is not both from its start on and before its end
+outside_span : (from to p : ℕ) → (from ≤ p → p < to → ⊥) → is_in_span from to p ≡ false
+outside_span from to p out = elim (cases_lt p from) [
+  | inl l ↦ ap (λ b. b && nat_lt p to) (lt-leb from p l)
+  | inr g ↦ elim (cases_lt p to) [
+    | inl l ↦ absurd (out g l)
+    | inr h ↦ ap (λ b. nat_le from p && b) (le-ltb p to h) ∙ and_false (nat_le from p)
+  ]
+]
+  where
+    and_false : (b : Bool) → b && false ≡ false
+    and_false true = refl
+    and_false false = refl
+
+-- the word of a number is not before that of a lesser one
+div_up : (w a b : ℕ) → 0 < w → a ≤ b → a / w ≤ b / w
+div_up w a b word h = elim (cases_lt (b / w) (a / w)) [
+  | inl l ↦ let up : suc (b / w) * w ≤ a / w * w = mul-le-mul_right w l in
+      absurd (omega (arith, up, div-mul-le_self a w, div-add-mod' b w, mod_below b w word, h))
+  | inr g ↦ g
+]
+
+-- a change of a span without a number is none
+pub span_empty : (change : Bool → Bool) (s : PlainSet) (from to : ℕ) → from ≡ to →
+    s ≡ with_span_changed change s from to
+unfolding has_changed
+span_empty change s from to e = ap (plain_set s.capacity) (fun_ext λ p.
+    rw (outside_span from to p (λ lo hi. absurd (omega (arith, e)))) refl)
+
+-- how many words there are, as a capacity and a width tell
+pub words_counted : (bits width w c : ℕ) → 0 < w → bits ≡ c → width ≡ w →
+    (words : ℕ) × (c ≡ words * w) → c ≡ bits / width * w
+words_counted bits width w c word is wide whole = rw (is, wide) (whole_words c w word whole)
+  where
+    whole_words : (c w : ℕ) → 0 < w → (words : ℕ) × (c ≡ words * w) → c ≡ c / w * w
+    whole_words c w word whole = elim (cases_lt (c / w * w) c) [
+      | inl l ↦ absurd (omega (arith, word_index w (c / w) c word whole l))
+      | inr g ↦ omega (arith, g, div-mul-le_self c w)
+    ]
+
+before_last : (p to : ℕ) → p < to → p ≤ to - 1
+before_last p to h = omega (arith, h)
+
+-- a test that none of some numbers passes is passed by none of them
+none_passes : (p : ℕ → Bool) (c i : ℕ) → count_below c p ≡ 0 → i < c → p i ≡ false
+none_passes p c i none l =
+    false_by (p i) (λ e. absurd (omega (arith, count-some c i p l e, none)))
+
+-- a word of which it is told that it has no bit of the kind has none
+pub none_in_word : (ones : Bool) (w k : ℕ) (s : PlainSet) → k * w + w ≤ s.capacity →
+    some_in_word ones w s k ≡ false → NoneIn (ones_or_zeros ones s) (k * w) (k * w + w)
+unfolding some_in_word
+none_in_word ones w k s within told = λ n lo hi.
+    let word = ones_or_zeros-word_of ones w k s within in
+    let empty : size (word_of w (ones_or_zeros ones s) k) ≡ 0 =
+    ap size (sym word) ∙ eqb-true _ 0 (not_some _ told) in
+    let back : k * w + (n - k * w) ≡ n = omega arith in
+    rw back at (sym (word_has-at w (ones_or_zeros ones s) k (n - k * w) (omega arith))
+    ∙ none_passes (word_has w (ones_or_zeros ones s) k) w (n - k * w) empty (omega arith))
+
+-- a word that is the same has a bit of the kind where it had one
+pub some_in_same : (ones : Bool) (w k : ℕ) (s t : PlainSet) → word_of w s k ≡ word_of w t k →
+    some_in_word ones w s k ≡ some_in_word ones w t k
+unfolding some_in_word
+some_in_same ones w k s t same = ap (λ u. not (size (ones_or_zeros ones u) == 0)) same
+
+-- what a search of a summary t of s tells
+module _ (ones : Bool) (w : ℕ) (s t : PlainSet) (word : 0 < w)
+    (whole : (words : ℕ) × (s.capacity ≡ words * w)) (tells : Summarizes ones w s t) where
+  -- words that are no members of the summary have no bit of the kind
+  none_in_words : (low high : ℕ) → high * w ≤ s.capacity → NoneIn t low high →
+      NoneIn (ones_or_zeros ones s) (low * w) (high * w)
+  none_in_words low high within none = λ n lo hi.
+      let k = n / w in
+      let split = div-add-mod' n w in
+      let part = mod_below n w word in
+      let below : k < high = div_below n w high word hi in
+      let up : suc k * w ≤ high * w = mul-le-mul_right w below in
+      let from : low ≤ k = elim (cases_lt k low) [
+        | inl l ↦ let over : suc k * w ≤ low * w = mul-le-mul_right w l in
+            absurd (omega (arith, over, lo, split, part))
+        | inr g ↦ g
+      ] in
+      let starts : k * w < s.capacity = omega (arith, up, within, word) in
+      none_in_word ones w k s (omega (arith, up, within))
+      (sym (tells k starts) ∙ none k from below) n
+      (omega (arith, split)) (omega (arith, split, part))
+
+  -- a member of it is the number of a word with a bit of the kind
+  some_told : (k high : ℕ) → high * w ≤ s.capacity → k < high → t.has k ≡ true →
+      some_in_word ones w s k ≡ true
+  some_told k high within below told =
+      let up : suc k * w ≤ high * w = mul-le-mul_right w below in
+      sym (tells k (omega (arith, up, within, word))) ∙ told
+
+  -- so those before the member at an end are passed over, or all where there is none
+  pub passes_some : (front : Bool) (low high k : ℕ) → high * w ≤ s.capacity →
+      IsEndIn front t low high (Some k) →
+      PassesOver front w (ones_or_zeros ones s) low high (cond front k (k + 1))
+  passes_some true low high k within found =
+      let low_enough : k * w ≤ high * w = mul-le-mul_right w (omega (arith, found.1)) in (
+        found.0,
+        omega (arith, found.1),
+        none_in_words low k (omega (arith, low_enough, within)) found.3,
+      )
+  passes_some false low high k within found =
+      (omega (arith, found.0), omega (arith, found.1), none_in_words (k + 1) high within found.3)
+
+  -- and that member is the number of a word with a bit of the kind
+  pub stops_some : (front : Bool) (low high k : ℕ) → high * w ≤ s.capacity →
+      IsEndIn front t low high (Some k) → StopsAtBit front ones w s low high (cond front k (k + 1))
+  stops_some true low high k within found = λ _. some_told k high within found.1 found.2
+  stops_some false low high k within found = λ _.
+      let last : k + 1 - 1 ≡ k = omega arith in rw last (some_told k high within found.1 found.2)
+
+  pub passes_none : (front : Bool) (low high : ℕ) → low ≤ high → high * w ≤ s.capacity →
+      IsEndIn front t low high None →
+      PassesOver front w (ones_or_zeros ones s) low high (cond front high low)
+  passes_none true low high order within found =
+      (order, omega arith, none_in_words low high within found)
+  passes_none false low high order within found =
+      (omega arith, order, none_in_words low high within found)
+
+  pub stops_none : (front : Bool) (low high : ℕ) →
+      StopsAtBit front ones w s low high (cond front high low)
+  stops_none true low high = λ h. absurd (omega (arith, h))
+  stops_none false low high = λ h. absurd (omega (arith, h))
+
+  -- where the summary tells of no word, the set has no bit of the kind
+  pub none_at_all : (words : ℕ) → s.capacity ≡ words * w → NoneIn t 0 words →
+      size (ones_or_zeros ones s) ≡ 0
+  none_at_all words all none =
+      let size_is = ones_or_zeros-capacity ones s in
+      let rest = none_in_words 0 words (omega (arith, all)) none in
+      count-same (ones_or_zeros ones s).capacity (ones_or_zeros ones s).has (λ _. false)
+      (λ k l. rest k (omega arith) (omega (arith, l, size_is, all)))
+      ∙ count-never (ones_or_zeros ones s).capacity
+
+  -- where it tells of one, the set has one
+  pub some_at_all : (k : ℕ) → k * w < s.capacity → t.has k ≡ true →
+      size (ones_or_zeros ones s) ≢ 0
+  unfolding some_in_word
+  some_at_all k within told = λ none.
+      let ends = word_ends w k s.capacity whole within in
+      let size_is = ones_or_zeros-capacity ones s in
+      let empty : size (word_of w (ones_or_zeros ones s) k) ≡ 0 =
+      count-same w (word_has w (ones_or_zeros ones s) k) (λ _. false)
+      (λ i l. word_has-at w (ones_or_zeros ones s) k i l
+      ∙ none_passes (ones_or_zeros ones s).has (ones_or_zeros ones s).capacity (k * w + i) none
+      (omega (arith, ends, l, size_is)))
+      ∙ count-never w in
+      let nothing : size (ones_or_zeros ones (word_of w s k)) ≡ 0 =
+      ap size (ones_or_zeros-word_of ones w k s ends) ∙ empty in
+      true≢false (sym told ∙ tells k within ∙ ap not (eq-eqb _ 0 nothing))
+
+-- a set lacks no number exactly where it has as many as its capacity
+pub full_where_none_lacks : (s : PlainSet) →
+    (size (complement s) == 0) ≡ (size s == s.capacity)
+full_where_none_lacks s = elim (cases_eq (size (complement s)) 0) [
+  | inl e ↦ eq-eqb _ 0 e ∙ sym (eq-eqb (size s) s.capacity (omega (arith, e, size-complement s)))
+  | inr n ↦ ne_eqb _ 0 n ∙ sym (ne_eqb (size s) s.capacity
+      (λ e. n (omega (arith, e, size-complement s))))
+]
+
+-- after a change of a span in an order, each word is the same but those that the span reaches
+pub same_around : (change : Bool → Bool) (m : Bool) (w from to : ℕ) (s t : PlainSet) → 0 < w →
+    from < to → read_in m w t ≡ with_span_changed change (read_in m w s) from to → (j : ℕ) →
+    (from / w ≤ j → j ≤ (to - 1) / w → ⊥) → word_of w t j ≡ word_of w s j
+unfolding word_has has_changed
+same_around change m w from to s t word some changed = λ j outside.
+    ap (plain_set w) (fun_ext λ n. elim (cases_lt n w) [
+      | inl l ↦ rw (lt-ltb n w l) (same j n outside l)
+      | inr g ↦ rw (le-ltb n w g) refl
+    ])
+  where
+    same : (j n : ℕ) → (from / w ≤ j → j ≤ (to - 1) / w → ⊥) → n < w →
+        t.has (j * w + n) ≡ s.has (j * w + n)
+    same j n outside l =
+        let one : j * (1 * w) ≡ j * w = omega arith in
+        let b : n < 1 * w = omega arith in
+        let moved : place m w (j * w + n) ≡ j * w + place m w n =
+        rw one at (place_part m w 1 j n word b) in
+        let low = place_in_word m w n l in
+        let p = place m w (j * w + n) in
+        let back = place-place m w (j * w + n) word in
+        let quotient : p / w ≡ j = ap (λ q. q / w) moved ∙ div-mul-add j w (place m w n) low in
+        let apart : is_in_span from to p ≡ false = outside_span from to p (λ lo hi.
+        outside (rw quotient at (div_up w from p word lo)) (rw quotient at (div_up w p (to - 1) word
+        (before_last p to hi)))) in
+        ap t.has (sym back) ∙ ap (λ u. u.has p) changed
+        ∙ rw apart (ap s.has back)
+
+-- a number of a set, and every other, after a bit is put there
+pub bit_here : (v : Bool) (s : PlainSet) (k : ℕ) → k < s.capacity →
+    (with_bit v s k).has k ≡ v
+bit_here true s k h = ap (λ p. p k) (has_with-in s s.capacity k refl (omega arith))
+    ∙ rw (mod-eq_of_lt h, eq-eqb k k refl) refl
+bit_here false s k h = ap (λ p. p k) (has_without-in s s.capacity k refl (omega arith))
+    ∙ rw (mod-eq_of_lt h, eq-eqb k k refl) refl
+
+pub bit_elsewhere : (v : Bool) (s : PlainSet) (i j : ℕ) → 0 < s.capacity → j ≢ i % s.capacity →
+    (with_bit v s i).has j ≡ s.has j
+bit_elsewhere true s i j some other = ap (λ p. p j) (has_with-in s s.capacity i refl some)
+    ∙ rw (ne_eqb j (i % s.capacity) other) refl
+bit_elsewhere false s i j some other = ap (λ p. p j) (has_without-in s s.capacity i refl some)
+    ∙ rw (ne_eqb j (i % s.capacity) other) refl
+
+-- after a bit is put at an index in an order, each word is the same but that of the index
+pub same_words : (v m : Bool) (w i at : ℕ) (s t : PlainSet) → 0 < w → 0 < s.capacity →
+    at ≡ i % s.capacity → read_in m w t ≡ with_bit v (read_in m w s) i →
+    SameWordsBut w s t (at / w)
+unfolding word_has
+same_words v m w i at s t word some is put = λ j other within.
+    ap (plain_set w) (fun_ext λ n. elim (cases_lt n w) [
+      | inl l ↦ rw (lt-ltb n w l) (same j n other l)
+      | inr g ↦ rw (le-ltb n w g) refl
+    ])
+  where
+    same : (j n : ℕ) → j ≢ at / w → n < w → t.has (j * w + n) ≡ s.has (j * w + n)
+    same j n other l =
+        let one : j * (1 * w) ≡ j * w = omega arith in
+        let b : n < 1 * w = omega arith in
+        let moved : place m w (j * w + n) ≡ j * w + place m w n =
+        rw one at (place_part m w 1 j n word b) in
+        let low = place_in_word m w n l in
+        let p = place m w (j * w + n) in
+        let back = place-place m w (j * w + n) word in
+        let apart : p ≢ i % s.capacity = λ e. other (sym (div-mul-add j w (place m w n) low)
+        ∙ ap (λ q. q / w) (sym moved ∙ e ∙ sym is)) in
+        ap t.has (sym back) ∙ ap (λ u. u.has p) put
+        ∙ bit_elsewhere v (read_in m w s) i p some apart ∙ ap s.has back
+
+-- a summary that is made to tell of the one word that changed tells of each
+pub renewed : (ones : Bool) (w k : ℕ) (s t u v : PlainSet) → Summarizes ones w s u →
+    SameWordsBut w s t k → t.capacity ≡ s.capacity → v.has k ≡ some_in_word ones w t k →
+    ((j : ℕ) → j ≢ k → v.has j ≡ u.has j) → Summarizes ones w t v
+renewed ones w k s t u v tells same size here others = λ j within. elim (cases_eq j k) [
+  | inl e ↦ rw e here
+  | inr n ↦ let inside : j * w < s.capacity = omega (arith, within, size) in
+      others j n ∙ tells j inside ∙ some_in_same ones w j s t (sym (same j n inside))
+]
+
+-- one that tells of each word before one, and is made to tell of that, tells of each before the next
+pub one_more : (ones : Bool) (w k : ℕ) (s u v : PlainSet) → SummarizesBelow ones w s u k →
+    v.has k ≡ some_in_word ones w s k → ((j : ℕ) → j ≢ k → v.has j ≡ u.has j) →
+    SummarizesBelow ones w s v (k + 1)
+one_more ones w k s u v tells here others = λ j below within. elim (cases_eq j k) [
+  | inl e ↦ rw e here
+  | inr n ↦ others j n ∙ tells j (omega arith) within
+]
+
+-- one that tells of each word around some, and is made to tell of the next of those
+pub one_more_around : (ones : Bool) (w first last k : ℕ) (s u v : PlainSet) →
+    TellsAround ones w s u first last k → v.has k ≡ some_in_word ones w s k →
+    ((j : ℕ) → j ≢ k → v.has j ≡ u.has j) → TellsAround ones w s v first last (k + 1)
+one_more_around ones w first last k s u v tells here others = λ j inside within.
+    elim (cases_eq j k) [
+      | inl e ↦ rw e here
+      | inr n ↦ others j n ∙ tells j (λ lo hi. below_next j k n (inside lo hi)) within
+    ]
+  where
+    below_next : (j k : ℕ) → j ≢ k → j < k + 1 → j < k
+    below_next j k n h = omega arith
+
+-- a summary of a set tells of the words around those that a change of a span reaches
+pub tells_around : (ones : Bool) (change : Bool → Bool) (m : Bool) (w from to : ℕ)
+    (s t u : PlainSet) → 0 < w → from < to →
+    read_in m w t ≡ with_span_changed change (read_in m w s) from to → t.capacity ≡ s.capacity →
+    Summarizes ones w s u → TellsAround ones w t u (from / w) ((to - 1) / w) (from / w)
+tells_around ones change m w from to s t u word some changed size tells = λ j inside within.
+    tells j (omega (arith, within, size)) ∙ some_in_same ones w j s t (sym
+    (same_around change m w from to s t word some changed j
+    (λ lo hi. not_below j (from / w) lo (inside lo hi))))
+  where
+    not_below : (j k : ℕ) → k ≤ j → j < k → ⊥
+    not_below j k lo hi = absurd (omega arith)
+
+-- how many bits of the kind each word has of a set without members, and of one with each number
+module _ (w c k : ℕ) (word : 0 < w) (whole : (words : ℕ) × (c ≡ words * w)) (within : k * w < c)
+  where
+    empty_word : size (word_of w (empty_set c) k) ≡ 0
+    empty_word = count-same w (word_has w (empty_set c) k) (λ _. false)
+        (λ i l. word_has-at w (empty_set c) k i l) ∙ count-never w
+
+    full_word : size (word_of w (full_set c) k) ≡ w
+    full_word =
+        let ends = word_ends w k c whole within in
+        let each = count-same w (word_has w (full_set c) k) (λ _. true)
+        (λ i l. word_has-at w (full_set c) k i l ∙ lt-ltb (k * w + i) c (omega (arith, ends, l))) in
+        each ∙ omega (arith, count-others w (λ _. false), count-never w)
+
+    pub some_in_empty : (ones : Bool) → some_in_word ones w (empty_set c) k ≡ not ones
+    unfolding some_in_word
+    some_in_empty true = ap not (eq-eqb _ 0 empty_word)
+    some_in_empty false = ap not (ne_eqb _ 0 (λ e.
+        absurd (omega (arith, e, size-complement (word_of w (empty_set c) k), empty_word, word))))
+
+    pub some_in_full : (ones : Bool) → some_in_word ones w (full_set c) k ≡ ones
+    unfolding some_in_word
+    some_in_full true = ap not (ne_eqb _ 0 (λ e. absurd (omega (arith, e, full_word, word))))
+    some_in_full false = ap not (eq-eqb _ 0
+        (omega (arith, size-complement (word_of w (full_set c) k), full_word)))
+
+below_of : (w c d k : ℕ) → k * w < c → c ≤ d * w → k < d
+below_of w c d k within reach =
+    let h : k * w < d * w = omega (arith, within, reach) in lt_of_mul-lt-mul_right w h
+
+-- an even summary has each number or none
+even_has : (all : Bool) (d k : ℕ) → k < d → (even_summary all d).has k ≡ all
+even_has true d k h = lt-ltb k d h
+even_has false d k h = refl
+
+-- those of an empty map and of a full one
+pub empty_tells : (ones : Bool) (w c d : ℕ) (s u : PlainSet) → 0 < w →
+    (words : ℕ) × (c ≡ words * w) → c ≤ d * w → s ≡ empty_set c →
+    u ≡ even_summary (not ones) d → Summarizes ones w s u
+empty_tells ones w c d s u word whole reach is told = rw (is, told) (λ k within.
+    even_has (not ones) d k (below_of w c d k within reach)
+    ∙ sym (some_in_empty w c k word whole within ones))
+
+pub full_tells : (ones : Bool) (w c d : ℕ) (s u : PlainSet) → 0 < w →
+    (words : ℕ) × (c ≡ words * w) → c ≤ d * w → s ≡ full_set c →
+    u ≡ even_summary ones d → Summarizes ones w s u
+full_tells ones w c d s u word whole reach is told = rw (is, told) (λ k within.
+    even_has ones d k (below_of w c d k within reach)
+    ∙ sym (some_in_full w c k word whole within ones))

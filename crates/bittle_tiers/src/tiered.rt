@@ -1,0 +1,307 @@
+//! A set with a summary of its words.
+
+ghost use Rattle.std.specs.Cmp.{partial_equiv_from_equiv, on_equiv};
+ghost use Rattle.std.specs.Ordering.{on};
+ghost use Rattle.std.specs.Prelude.{◌≡◌, IsTrue, ⊤};
+ghost use Rattle.bittle_bits.specs.Rows.{with_bit};
+ghost use Rattle.bittle_bits.specs.Values.{set_in};
+ghost use Rattle.bittle_tiers.specs.Tiers.{can_summarize, Summarizes};
+ghost use Rattle.bittle_tiers.specs.TierLaws.{map_indexable};
+
+use crate::upkeep;
+use bittle_bits::bits::Bits;
+use bittle_bits::bits_mut::BitsMut;
+use bittle_bits::bits_owned::BitsOwned;
+use bittle_bits::endian::Endian;
+use bittle_bits::extension::{
+    End, Kind, Ones, Operation, RangeOperation, ReadWords, Sealed, Zeros, word_width,
+};
+use bittle_bits::shape::Shape;
+use std::alloc::AllocError;
+use std::marker::PhantomData;
+
+/// A set with a summary, which is a set itself: in it number `k` is a member exactly where word `k`
+/// of the map has a bit of the kind `K`. It stands for the same set as its map, so each call means
+/// what it means on the map.
+///
+/// Of [`Ones`] it is for sparse sets: an iterator over the set bits, or a search for one, reads the
+/// words that have one, and no others. Of [`Zeros`] it is for allocators: the least free page of a
+/// nearly full map is found so. A change of one bit takes one more of the summary.
+///
+/// The summary may have a summary itself, of [`Ones`], since a search goes over its set bits.
+///
+/// It has a number for each word of the map: where it has too few, the shape does not fit, and
+/// `bits()` and `bits_capacity()` are `u32::MAX`.
+///
+/// ```
+/// let mut taken = Tiered::<[u64; 64], u64, Zeros>::ones();
+/// taken.clear_bit(4000);
+/// taken.iter_zeros().next();                          // Some(4000)
+/// Tiered::<[u64; 64], u32, Zeros>::bits();            // u32::MAX: 64 words, and 32 numbers
+/// ```
+#[derive(Drop)]
+pub struct Tiered<B: Shape, S: Shape, K: Kind> {
+    map: B,
+    summary: S,
+    kind: PhantomData<K>,
+    pub ghost fits: { IsTrue
+        (can_summarize B.indexable S.indexable B.type_capacity S.type_capacity B.width) },
+    pub ghost tells: { Summarizes K.ONES B.width (B.big map) (S.big summary) },
+}
+
+impl<B: Shape, S: Shape, K: Kind> Shape for Tiered<B, S, K> {
+    type LeafWord = B::LeafWord;
+
+    ghost width = { B.width };
+
+    ghost indexable = { can_summarize B.indexable S.indexable B.type_capacity S.type_capacity
+        B.width };
+
+    ghost big = { λ t. B.big t.map };
+
+    ghost type_capacity = { B.type_capacity };
+
+    fn seal(_: Sealed) {}
+}
+
+impl<B: BitsOwned, S: BitsOwned, K: Kind> Tiered<B, S, K> {
+    /// Makes the summary of a map, and keeps both.
+    ///
+    /// The shape has to fit: `bits()` is below `u32::MAX`. Costs a look at each word.
+    ///
+    /// ```
+    /// Tiered::<[u64; 2], u8, Ones>::new([0, 1]).iter_ones();          // yields 64
+    /// ```
+    pub fn new(map: B) -> Tiered<B, S, K>
+        requires { IsTrue ⟦<Tiered<B, S, K> as Shape>⟧.indexable }
+        ensures { result.map ≡ map }
+    {
+        let mut summary = S::zeros();
+        upkeep::rebuild::<B, S, K>(&map, &mut summary);
+        Tiered {
+            map,
+            summary,
+            kind: PhantomData,
+        }
+    }
+
+    /// Returns the map.
+    ///
+    /// Always callable. Costs nothing.
+    ///
+    /// ```
+    /// Tiered::<[u64; 2], u8, Ones>::new([0, 1]).map()[1];             // 1
+    /// ```
+    #[inline]
+    pub fn map(&self) -> &B
+        ensures { result.now ≡ self.now.map }
+    {
+        &self.map
+    }
+
+    /// Returns the map without its summary.
+    ///
+    /// Always callable.
+    ///
+    /// ```
+    /// Tiered::<[u64; 2], u8, Ones>::new([0, 1]).into_map();           // [0, 1]
+    /// ```
+    #[inline]
+    pub fn into_map(self) -> B
+        ensures { result ≡ self.map }
+    {
+        self.map
+    }
+}
+
+impl<B: Shape + Copy, S: Shape + Copy, K: Kind> Clone for Tiered<B, S, K> {
+    ghost is_clone = { λ s r. r ≡ s };
+
+    ghost is_infallible = { λ _. ⊤ };
+
+    #[inline]
+    fn clone(&self) -> Result<Tiered<B, S, K>, AllocError> {
+        Ok(Tiered {
+            map: self.map,
+            summary: self.summary,
+            kind: PhantomData,
+        })
+    }
+}
+
+impl<B: Shape + Copy, S: Shape + Copy, K: Kind> Copy for Tiered<B, S, K> {}
+
+impl<B: Shape + Eq, S: Shape, K: Kind> PartialEq for Tiered<B, S, K> {
+    ghost eq = { on (λ t. t.map) B.eq };
+
+    ghost laws = { partial_equiv_from_equiv (on_equiv (λ t. t.map) B.Eq.laws) };
+
+    #[inline]
+    fn eq(&self, other: &Tiered<B, S, K>) -> bool {
+        self.map == other.map
+    }
+}
+
+impl<B: Shape + Eq, S: Shape, K: Kind> Eq for Tiered<B, S, K> {
+    ghost laws = { on_equiv (λ t. t.map) B.Eq.laws };
+}
+
+impl<B: BitsOwned, S: BitsOwned, K: Kind> ReadWords for Tiered<B, S, K> {
+    ghost leaf_width = { B.leaf_width };
+
+    ghost width_positive = { B.width_positive };
+
+    ghost whole_words = { λ t. B.whole_words t.map };
+
+    ghost none_past = { λ t. B.none_past t.map };
+
+    #[inline]
+    fn capacity(&self) -> u32 {
+        self.map.capacity()
+    }
+
+    #[inline]
+    fn nth_leaf_word(&self, k: usize) -> B::LeafWord {
+        self.map.nth_leaf_word(k)
+    }
+
+    #[inline]
+    fn pass_over<L: Kind, N: End>(&self, low: usize, high: usize) -> usize {
+        if L::ONES == K::ONES {
+            upkeep::pass_over::<B, S, K, N>(&self.map, &self.summary, low, high)
+        } else {
+            self.map.pass_over::<L, N>(low, high)
+        }
+    }
+}
+
+impl<B: BitsOwned, S: BitsOwned, K: Kind> Bits for Tiered<B, S, K> {
+    type Order = B::Order;
+
+    #[inline]
+    fn count_ones(&self) -> u32 {
+        self.map.count_ones()
+    }
+
+    #[inline]
+    fn all_zeros(&self) -> bool {
+        if K::ONES {
+            upkeep::has_none::<B, S, K>(&self.map, &self.summary)
+        } else {
+            self.map.all_zeros()
+        }
+    }
+
+    #[inline]
+    fn all_ones(&self) -> bool {
+        if K::ONES {
+            self.map.all_ones()
+        } else {
+            upkeep::has_none::<B, S, K>(&self.map, &self.summary)
+        }
+    }
+
+    #[inline]
+    fn test_bit_in<E: Endian>(&self, index: u32) -> bool {
+        self.map.test_bit_in::<E>(index)
+    }
+}
+
+// Puts a bit at an index, which wraps, and makes the summary tell of its word.
+#[inline]
+fn put_bit<B: BitsOwned, S: BitsOwned, K: Kind, E: Endian, V: Kind>(
+    tiered: &mut Tiered<B, S, K>,
+    index: u32,
+)
+    ensures { set_in B.Shape E.Endian tiered.new.map
+        ≡ with_bit V.ONES (set_in B.Shape E.Endian tiered.old.map) index }
+{
+    upkeep::put_bit::<B, E, V>(&mut tiered.map, index);
+    let bits = B::bits();
+    if bits != 0 {
+        let at = upkeep::wrapped(index, bits);
+        let k = (at / word_width::<B>()) as usize;
+        upkeep::refresh::<B, S, K>(&tiered.map, &mut tiered.summary, k);
+    }
+}
+
+impl<B: BitsOwned, S: BitsOwned, K: Kind> BitsMut for Tiered<B, S, K> {
+    #[inline]
+    fn set_bit_in<E: Endian>(&mut self, index: u32) {
+        put_bit::<B, S, K, E, Ones>(self, index);
+    }
+
+    #[inline]
+    fn clear_bit_in<E: Endian>(&mut self, index: u32) {
+        put_bit::<B, S, K, E, Zeros>(self, index);
+    }
+
+    fn clear_bits(&mut self) {
+        self.map.clear_bits();
+        self.summary = upkeep::even::<S>(!K::ONES);
+    }
+
+    fn assign_range_by_operation<E: Endian, O: RangeOperation>(&mut self, from: u32, to: u32) {
+        if from == to {
+            return;
+        }
+        let width = word_width::<B>();
+        self.map.assign_range_by_operation::<E, O>(from, to);
+        upkeep::refresh_range::<B, S, K>(
+            &self.map,
+            &mut self.summary,
+            (from / width) as usize,
+            ((to - 1) / width) as usize,
+        );
+    }
+
+    fn assign_by_operation<O: Operation>(&mut self, other: &Tiered<B, S, K>) {
+        self.map.assign_by_operation::<O>(&other.map);
+        upkeep::rebuild::<B, S, K>(&self.map, &mut self.summary);
+    }
+
+    #[inline]
+    fn set_nth_leaf_word(&mut self, k: usize, word: B::LeafWord) {
+        self.map.set_nth_leaf_word(k, word);
+        upkeep::refresh::<B, S, K>(&self.map, &mut self.summary, k);
+    }
+}
+
+impl<B: BitsOwned, S: BitsOwned, K: Kind> BitsOwned for Tiered<B, S, K> {
+    ghost one_capacity = { λ t. B.one_capacity t.map };
+
+    ghost type_whole_words = { B.type_whole_words };
+
+    ghost type_fits = { λ h. B.type_fits (map_indexable B.indexable S.indexable B.type_capacity
+        S.type_capacity B.width h) };
+
+    ghost eq_is_same = { λ s t. B.eq_is_same s.map t.map };
+
+    fn bits() -> u32 {
+        let bits = B::bits();
+        let summary = S::bits();
+        if bits == u32::MAX || summary == u32::MAX {
+            return u32::MAX;
+        }
+        if summary < bits / word_width::<B>() {
+            return u32::MAX;
+        }
+        bits
+    }
+
+    fn zeros() -> Tiered<B, S, K> {
+        Tiered {
+            map: B::zeros(),
+            summary: upkeep::even::<S>(!K::ONES),
+            kind: PhantomData,
+        }
+    }
+
+    fn ones() -> Tiered<B, S, K> {
+        Tiered {
+            map: B::ones(),
+            summary: upkeep::even::<S>(K::ONES),
+            kind: PhantomData,
+        }
+    }
+}

@@ -1,0 +1,168 @@
+//! The upkeep of a summary: how it is read and written word by word.
+
+ghost use Rattle.std.specs.Prelude.{◌≡◌, ◌≢◌, ℕ, ◌*◌, ◌%◌, ◌<◌, ◌≤◌, ◌==◌, IsTrue};
+ghost use Rattle.bittle_bits.specs.PlainSet.{size};
+ghost use Rattle.bittle_bits.specs.Rows.{with_bit};
+ghost use Rattle.bittle_bits.specs.Searches.{PassesOver};
+ghost use Rattle.bittle_bits.specs.Values.{set_in, ShapeFits};
+ghost use Rattle.bittle_bits.specs.Walk.{ones_or_zeros};
+ghost use Rattle.bittle_tiers.specs.Tiers.{even_summary, some_in_word, StopsAtBit};
+ghost use Rattle.bittle_tiers.specs.Tiers.{Summarizes, TellsAround};
+
+use bittle_bits::bits::Bits;
+use bittle_bits::bits_mut::BitsMut;
+use bittle_bits::bits_owned::BitsOwned;
+use bittle_bits::endian::{BigEndian, Endian};
+use bittle_bits::extension::{
+    End, Front, Kind, Ones, ReadWords, Word, end_in, is_without_bits, word_of_kind, word_width,
+};
+
+// Returns whether word `k` of a set has a bit of the kind.
+#[inline]
+fn has_some<B: ReadWords, K: Kind>(map: &B, k: usize) -> bool
+    requires fits { ShapeFits B.Shape map.now }
+    requires within { k * B.width < (B.big map.now).capacity }
+    ensures { result ≡ some_in_word K.ONES B.width (B.big map.now) k }
+{
+    !is_without_bits::<B::LeafWord>(word_of_kind::<B, K>(map, k))
+}
+
+/// Returns an index modulo a capacity that is not 0.
+#[inline]
+pub(crate) fn wrapped(index: u32, capacity: u32) -> u32
+    requires { 0 < capacity }
+    ensures { result ≡ index % capacity }
+{
+    if index < capacity {
+        index
+    } else {
+        index % capacity
+    }
+}
+
+/// Puts a bit of the kind `V` at an index, which wraps.
+#[inline]
+pub(crate) fn put_bit<B: BitsMut, E: Endian, V: Kind>(map: &mut B, index: u32)
+    requires { IsTrue B.indexable }
+    ensures { set_in B.Shape E.Endian map.new
+        ≡ with_bit V.ONES (set_in B.Shape E.Endian map.old) index }
+{
+    if V::ONES {
+        map.set_bit_in::<E>(index);
+    } else {
+        map.clear_bit_in::<E>(index);
+    }
+}
+
+// Makes number `k` a member of a summary, or none.
+#[inline]
+fn put<S: BitsMut>(summary: &mut S, k: usize, some: bool)
+    requires fits { ShapeFits S.Shape summary.old }
+    requires within { k < (S.big summary.old).capacity }
+    ensures here { (S.big summary.new).has k ≡ some }
+    ensures others { (j : ℕ) → j ≢ k → (S.big summary.new).has j ≡ (S.big summary.old).has j }
+{
+    if some {
+        summary.set_bit_in::<BigEndian>(k as u32);
+    } else {
+        summary.clear_bit_in::<BigEndian>(k as u32);
+    }
+}
+
+/// Makes a summary tell of word `k`.
+#[inline]
+pub(crate) fn refresh<B: ReadWords, S: BitsMut, K: Kind>(map: &B, summary: &mut S, k: usize)
+    requires map_fits { ShapeFits B.Shape map.now }
+    requires word { k * B.width < (B.big map.now).capacity }
+    requires fits { ShapeFits S.Shape summary.old }
+    requires within { k < (S.big summary.old).capacity }
+    ensures here { (S.big summary.new).has k ≡ some_in_word K.ONES B.width (B.big map.now) k }
+    ensures others { (j : ℕ) → j ≢ k → (S.big summary.new).has j ≡ (S.big summary.old).has j }
+{
+    put::<S>(summary, k, has_some::<B, K>(map, k));
+}
+
+/// Returns the summary that tells of all words, or of none.
+#[inline]
+pub(crate) fn even<S: BitsOwned>(all: bool) -> S
+    requires { IsTrue S.indexable }
+    ensures { S.big result ≡ even_summary all S.type_capacity }
+{
+    if all { S::ones() } else { S::zeros() }
+}
+
+/// Makes a summary tell of each word.
+pub(crate) fn rebuild<B: BitsOwned, S: BitsOwned, K: Kind>(map: &B, summary: &mut S)
+    requires map_fits { IsTrue B.indexable }
+    requires fits { IsTrue S.indexable }
+    requires reaches { B.type_capacity ≤ S.type_capacity * B.width }
+    ensures { Summarizes K.ONES B.width (B.big map.now) (S.big summary.new) }
+{
+    let words = (B::bits() / word_width::<B>()) as usize;
+    for k in 0..words {
+        refresh::<B, S, K>(map, summary, k);
+    }
+}
+
+/// Returns whether the summary tells of no word.
+#[inline]
+pub(crate) fn has_none<B: BitsOwned, S: BitsOwned, K: Kind>(map: &B, summary: &S) -> bool
+    requires map_fits { IsTrue B.indexable }
+    requires fits { IsTrue S.indexable }
+    requires reaches { B.type_capacity ≤ S.type_capacity * B.width }
+    requires tells { Summarizes K.ONES B.width (B.big map.now) (S.big summary.now) }
+    ensures { result ≡ (size (ones_or_zeros K.ONES (B.big map.now)) == 0) }
+{
+    let words = B::bits() / word_width::<B>();
+    match end_in::<S, BigEndian, Ones, Front>(summary, 0, words) {
+        Some(_) => false,
+        None => true,
+    }
+}
+
+/// Makes a summary, which tells of each word but those from `first` on and up to `last`, tell of
+/// those too.
+#[inline]
+pub(crate) fn refresh_range<B: BitsOwned, S: BitsOwned, K: Kind>(
+    map: &B,
+    summary: &mut S,
+    first: usize,
+    last: usize,
+)
+    requires map_fits { IsTrue B.indexable }
+    requires fits { IsTrue S.indexable }
+    requires reaches { B.type_capacity ≤ S.type_capacity * B.width }
+    requires ordered { first ≤ last }
+    requires within { last * B.width < (B.big map.now).capacity }
+    requires others { TellsAround K.ONES B.width (B.big map.now) (S.big summary.old) first last
+        first }
+    ensures { Summarizes K.ONES B.width (B.big map.now) (S.big summary.new) }
+{
+    for k in first..last + 1 {
+        refresh::<B, S, K>(map, summary, k);
+    }
+}
+
+/// Returns the end `N` of the words from `low` on and before `high`, moved past all words at that
+/// end without a bit of the kind.
+#[inline]
+pub(crate) fn pass_over<B: BitsOwned, S: BitsOwned, K: Kind, N: End>(
+    map: &B,
+    summary: &S,
+    low: usize,
+    high: usize,
+) -> usize
+    requires fits { IsTrue S.indexable }
+    requires reaches { B.type_capacity ≤ S.type_capacity * B.width }
+    requires tells { Summarizes K.ONES B.width (B.big map.now) (S.big summary.now) }
+    requires ordered { low ≤ high }
+    requires within { high * B.width ≤ (B.big map.now).capacity }
+    ensures passes { PassesOver N.FRONT B.width (ones_or_zeros K.ONES (B.big map.now)) low high
+        result }
+    ensures stops { StopsAtBit N.FRONT K.ONES B.width (B.big map.now) low high result }
+{
+    match end_in::<S, BigEndian, Ones, N>(summary, low as u32, high as u32) {
+        Some(k) => { if N::FRONT { k as usize } else { k as usize + 1 } }
+        None => { if N::FRONT { high } else { low } }
+    }
+}
