@@ -16,7 +16,7 @@ use std::alloc::AllocError;
 use std::marker::PhantomData;
 
 mod compare;
-mod debug;
+pub mod debug;
 mod from_word;
 mod hash;
 mod iteration;

@@ -1,11 +1,13 @@
 //! Sets with a summary, of the usual sizes.
 
 ghost use Rattle.std.specs.Prelude.{◌≡◌};
+ghost use Rattle.bittle_bits.specs.BitPatterns.{bit_set};
+ghost use Rattle.bittle_bits.specs.PlainSet.{empty_set};
+ghost use Rattle.bittle_bits.specs.Rows.{row_set};
 
 use crate::tiered::Tiered;
 use bittle_bits::bits_owned::BitsOwned;
 use bittle_bits::extension::Kind;
-use bittle_bits::shape::Shape;
 
 /// Has 4,096 numbers: 64 words, and one word above them.
 ///
@@ -28,3 +30,51 @@ pub type Tiered64K<K> = Tiered<[u64; 1024], Tiered<[u64; 16], u64, K>, K>;
 /// Tiered256K::<Zeros>::bits();                        // 262,144
 /// ```
 pub type Tiered256K<K> = Tiered<[u64; 4096], Tiered4K<K>, K>;
+
+impl<K: Kind> From<[u64; 64]> for Tiered4K<K> {
+    ghost from_gives = { λ map t. t.map ≡ map };
+
+    fn from(map: [u64; 64]) -> Tiered4K<K> {
+        Tiered::new(map)
+    }
+}
+
+impl<K: Kind> Default for Tiered4K<K> {
+    ghost is_default = { λ t. row_set 64 64 (bit_set 64) t.map ≡ empty_set 4096 };
+
+    fn default() -> Tiered4K<K> {
+        Tiered4K::zeros()
+    }
+}
+
+impl<K: Kind> From<[u64; 1024]> for Tiered64K<K> {
+    ghost from_gives = { λ map t. t.map ≡ map };
+
+    fn from(map: [u64; 1024]) -> Tiered64K<K> {
+        Tiered::new(map)
+    }
+}
+
+impl<K: Kind> Default for Tiered64K<K> {
+    ghost is_default = { λ t. row_set 1024 64 (bit_set 64) t.map ≡ empty_set 65536 };
+
+    fn default() -> Tiered64K<K> {
+        Tiered64K::zeros()
+    }
+}
+
+impl<K: Kind> From<[u64; 4096]> for Tiered256K<K> {
+    ghost from_gives = { λ map t. t.map ≡ map };
+
+    fn from(map: [u64; 4096]) -> Tiered256K<K> {
+        Tiered::new(map)
+    }
+}
+
+impl<K: Kind> Default for Tiered256K<K> {
+    ghost is_default = { λ t. row_set 4096 64 (bit_set 64) t.map ≡ empty_set 262144 };
+
+    fn default() -> Tiered256K<K> {
+        Tiered256K::zeros()
+    }
+}

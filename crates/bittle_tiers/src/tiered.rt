@@ -2,13 +2,15 @@
 
 ghost use Rattle.std.specs.Cmp.{partial_equiv_from_equiv, on_equiv};
 ghost use Rattle.std.specs.Ordering.{on};
-ghost use Rattle.std.specs.Prelude.{◌≡◌, IsTrue, ⊤};
+ghost use Rattle.std.specs.Prelude.{◌≡◌, IsTrue, Some, ⊤};
+ghost use Rattle.bittle.specs.DebugText.{set_text};
 ghost use Rattle.bittle_bits.specs.Rows.{with_bit};
 ghost use Rattle.bittle_bits.specs.Values.{set_in};
 ghost use Rattle.bittle_tiers.specs.Tiers.{can_summarize, Summarizes};
 ghost use Rattle.bittle_tiers.specs.TierLaws.{map_indexable};
 
 use crate::upkeep;
+use bittle::set::debug::write_all;
 use bittle_bits::bits::Bits;
 use bittle_bits::bits_mut::BitsMut;
 use bittle_bits::bits_owned::BitsOwned;
@@ -18,6 +20,7 @@ use bittle_bits::extension::{
 };
 use bittle_bits::shape::Shape;
 use std::alloc::AllocError;
+use std::fmt;
 use std::marker::PhantomData;
 
 /// A set with a summary, which is a set itself: in it number `k` is a member exactly where word `k`
@@ -144,6 +147,16 @@ impl<B: Shape + Eq, S: Shape, K: Kind> PartialEq for Tiered<B, S, K> {
 
 impl<B: Shape + Eq, S: Shape, K: Kind> Eq for Tiered<B, S, K> {
     ghost laws = { on_equiv (λ t. t.map) B.Eq.laws };
+}
+
+/// Prints the indexes of the set bits in increasing order between braces, as a `Set` of the map
+/// does. The flags of the format change nothing.
+impl<B: BitsOwned, S: BitsOwned, K: Kind> fmt::Debug for Tiered<B, S, K> {
+    ghost debug_output = { λ t. Some (set_text (set_in B.Shape B.Order.Endian t.map)) };
+
+    fn fmt<W: fmt::Write>(&self, f: &mut fmt::Formatter<W>) -> fmt::Result {
+        write_all(self.iter_ones(), f)
+    }
 }
 
 impl<B: BitsOwned, S: BitsOwned, K: Kind> ReadWords for Tiered<B, S, K> {

@@ -22,8 +22,11 @@ impl<T: Bits, E: Endian> fmt::Debug for Set<T, E> {
     }
 }
 
-// Writes what a walk yields between braces, with a comma and a space between two.
-fn write_all<I: Counted + Drop, W: fmt::Write>(indexes: I, f: &mut fmt::Formatter<W>) -> fmt::Result
+/// Writes what a walk yields between braces, with a comma and a space between two.
+pub fn write_all<I: Counted + Drop, W: fmt::Write>(
+    indexes: I,
+    f: &mut fmt::Formatter<W>,
+) -> fmt::Result
     requires { IsFinite (I.remaining indexes) }
     ensures { WritesOnOk W.write_str_gives f.old result (list_text (I.walk indexes).remaining) f.new }
 {

@@ -1,4 +1,4 @@
-use Rattle.std.proofs.Common.{◌≡◌, ◌/◌, refl, ◌∙◌, arith}
+use Rattle.std.proofs.Common.{◌≡◌, ◌/◌, refl, arith}
 use Rattle.bittle_tiers.proofs.Summaries.{word_index}
 use Rattle.bittle_tiers.proofs.upkeep.rebuild.Goals as goal
 

@@ -1,4 +1,4 @@
-use Rattle.std.proofs.Common.{◌<◌, ◌*◌, ◌∙◌, arith}
+use Rattle.std.proofs.Common.{◌<◌, ◌*◌, arith}
 use Rattle.std.proofs.lemmas.Bool.{le-leb}
 use Rattle.bittle_tiers.proofs.Summaries.{whole_reaches}
 use Rattle.bittle_tiers.proofs.tiered.TieredBitsOwned.bits.Goals as goal
