@@ -156,6 +156,11 @@ pub trait BitsViewExt: Bits {
             Self.Order.Endian result ≡ either_of
             (set_in Self.Shape Self.Order.Endian self.now)
             (set_in B.Shape B.Order.Endian other.now) }
+        ensures items { ascending (set_in
+            ⟦<OrView<'a, Self, B, Self::Order, B::Order> as Shape>⟧
+            Self.Order.Endian result) ≡ ascending (either_of
+            (set_in Self.Shape Self.Order.Endian self.now)
+            (set_in B.Shape B.Order.Endian other.now)) }
         ensures view_fits { ShapeFits
             ⟦<OrView<'a, Self, B, Self::Order, B::Order> as Shape>⟧ result }
     {
@@ -186,6 +191,11 @@ pub trait BitsViewExt: Bits {
             Self.Order.Endian result ≡ just_one_of
             (set_in Self.Shape Self.Order.Endian self.now)
             (set_in B.Shape B.Order.Endian other.now) }
+        ensures items { ascending (set_in
+            ⟦<XorView<'a, Self, B, Self::Order, B::Order> as Shape>⟧
+            Self.Order.Endian result) ≡ ascending (just_one_of
+            (set_in Self.Shape Self.Order.Endian self.now)
+            (set_in B.Shape B.Order.Endian other.now)) }
         ensures view_fits { ShapeFits
             ⟦<XorView<'a, Self, B, Self::Order, B::Order> as Shape>⟧ result }
     {

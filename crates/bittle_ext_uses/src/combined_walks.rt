@@ -1,7 +1,8 @@
 //! Iterators over what an operation makes of two sets: over a view, or owning one.
 
-ghost use Rattle.std.specs.Iterator.{YieldsFirst, YieldsLast};
-ghost use Rattle.std.specs.Prelude.{◌≡◌, ◌<◌, ℕ, List, Option, length, max, true};
+ghost use Rattle.std.specs.Iterator.{YieldsLast};
+ghost use Rattle.std.specs.Prelude.{◌≡◌, ◌<◌, ℕ, List, [], ◌∷◌, ◌++◌, Option, None, MatchOption};
+ghost use Rattle.std.specs.Prelude.{length, max, true};
 ghost use Rattle.std.specs.Prelude.{option_map, slice_index, unwrap_or};
 ghost use Rattle.std.specs.List.{fold};
 ghost use Rattle.bittle.specs.BitPatterns.{bit_set};
@@ -89,13 +90,15 @@ pub fn counted(one: u16, other: u16) -> (usize, u16)
     (count, u16::from_iter(walk))
 }
 
-/// Returns both ends of what is set in either of two words: an iterator steps from both.
+/// Returns the first index that is set in either of two words, and the last of the others: an
+/// iterator steps from both ends.
 pub fn ends(one: u8, other: u8) -> (Option<u32>, Option<u32>)
-    ensures { (rest : List ℕ) × (left : List ℕ)
-        × YieldsFirst (λ items. items)
-        (ascending (either_of (bit_set 8 one) (bit_set 8 other))) result.0 rest
-        × YieldsLast (λ items. items) rest result.1 left }
+    ensures { let items = ascending (either_of (bit_set 8 one) (bit_set 8 other)) in
+        MatchOption result.0 ((items ≡ []) × (result.1 ≡ None))
+        (λ a. MatchOption result.1 (items ≡ a ∷ [])
+        (λ b. (between : List ℕ) × (items ≡ a ∷ (between ++ b ∷ [])))) }
 {
     let mut walk = one.or(&other).into_ones();
-    (walk.next(), walk.next_back())
+    let first = walk.next();
+    (first, walk.next_back())
 }

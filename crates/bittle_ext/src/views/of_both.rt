@@ -258,6 +258,10 @@ impl<'a, A: Bits, B: Bits, E: Endian, F: Endian, O: EitherOperation> OfBoth<'a, 
         ensures set { set_in ⟦<OfBoth<'a, A, B, E, F, O> as Shape>⟧ E.Endian result
             ≡ decided_set O.decide (set_in A.Shape E.Endian left.now)
             (set_in B.Shape F.Endian right.now) }
+        ensures items { ascending
+            (set_in ⟦<OfBoth<'a, A, B, E, F, O> as Shape>⟧ E.Endian result)
+            ≡ ascending (decided_set O.decide (set_in A.Shape E.Endian left.now)
+            (set_in B.Shape F.Endian right.now)) }
         ensures fits { ShapeFits ⟦<OfBoth<'a, A, B, E, F, O> as Shape>⟧ result }
     {
         let end = capacity_of::<A, E>(left).max(capacity_of::<B, F>(right));

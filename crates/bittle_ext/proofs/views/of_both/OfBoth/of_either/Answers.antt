@@ -1,4 +1,5 @@
 use Rattle.std.proofs.Common.{◌%◌, max, ap, ◌∙◌, arith}
+use Rattle.bittle.specs.PlainSet.{PlainSet, ascending}
 use Rattle.bittle.specs.Values.{set_in}
 use Rattle.bittle_ext.specs.Views.{decided_until}
 use Rattle.bittle_ext.proofs.ViewFacts.{holds_either, multiple, whole_greater}
@@ -31,3 +32,6 @@ returns-clause-set g c =
     c.until.ensures.set ∙ ap (λ n. decided_until g.O.Operation.decide n
     (set_in g.A.Shape g.E.Endian c.args.left.now) (set_in g.B.Shape g.F.Endian c.args.right.now))
     (c.max-end.ensures ∙ (λ i. max (ours.capacity i) (theirs.capacity i)))
+
+pub returns-clause-items : goal.returns-clause-items
+returns-clause-items g c = ap (λ (u : PlainSet). ascending u) (returns-clause-set g c)
