@@ -26,9 +26,7 @@ use crate::views::in_order_mut::InOrderMut;
 use crate::views::of_both::{AndView, MinusView, OfBoth, OrView, ViewOperation, XorView};
 use crate::views::within::Within;
 use bittle::{Bits, BitsMut, Endian, Shape};
-use bittle_bits::extension::{
-    Conjunction, Difference, OwnedSource, SymmetricDifference, Union,
-};
+use bittle_bits::extension::{Conjunction, Difference, OwnedSource, SymmetricDifference, Union};
 use bittle_bits::walk::{IntoIter, IntoIterOnes, IntoIterZeros};
 
 mod by_words;
@@ -206,9 +204,10 @@ pub trait BitsViewExt: Bits {
     /// the first one's, in the order of its type.
     ///
     /// Both shapes have to fit. The capacity is the greater one, rounded up to whole words of the
-    /// first set, and that has to be below `u32::MAX` too. Each word is made when it is asked for,
-    /// with a search for each set bit of the second set in it. With capacity 0 on both sides it is
-    /// the empty set.
+    /// first set, and that has to be below `u32::MAX` too: where the words of the first set are not
+    /// the wider ones the rounding adds nothing. Each word is made when it is asked for, with a
+    /// search for each set bit of the second set in it. With capacity 0 on both sides it is the
+    /// empty set.
     ///
     /// ```
     /// 0x8000_0000u32.or_unlike(&[0u8, 0, 0, 0, 1]).iter_ones(); // yields 31, 32

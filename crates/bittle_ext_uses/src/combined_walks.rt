@@ -30,7 +30,9 @@ pub fn count_either(one: &[u32; 2], other: &[u32; 4]) -> usize
         (read_in true 32 (row_set 4 32 (bit_set 32) other.now)))) }
 {
     let view = one.in_order::<LittleEndian>();
-    view.or(&other.in_order::<LittleEndian>()).iter_ones().count()
+    view.or(&other.in_order::<LittleEndian>())
+        .iter_ones()
+        .count()
 }
 
 /// Returns the set of what is set in one word alone.

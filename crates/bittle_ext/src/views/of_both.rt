@@ -168,7 +168,8 @@ impl<'a, A: Bits, B: Bits, E: Endian, F: Endian, O: ViewOperation> ReadWords
     }
 }
 
-impl<'a, A: Bits, B: Bits, U: Endian, F: Endian, O: ViewOperation> Bits for OfBoth<'a, A, B, U, F, O> {
+impl<'a, A: Bits, B: Bits, U: Endian, F: Endian, O: ViewOperation> Bits
+    for OfBoth<'a, A, B, U, F, O> {
     type Order = U;
 
     #[inline]
