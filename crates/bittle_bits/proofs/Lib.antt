@@ -24,6 +24,7 @@ pub mod Items
 pub mod Joins
 pub mod RowCalls
 pub mod RowOperations
+pub mod RowPasses
 pub mod RowSets
 pub mod RowSizes
 pub mod RowWords

@@ -9,10 +9,11 @@ ghost use Rattle.bittle_bits.specs.SetOperations.{combination_of};
 use crate::bits::Bits;
 use crate::bits_mut::BitsMut;
 use crate::bits_owned::BitsOwned;
+use crate::end::End;
 use crate::endian::{DefaultEndian, Endian};
 use crate::internal::row;
 use crate::internal::sealed::Sealed;
-use crate::kind::{Ones, Zeros};
+use crate::kind::{Kind, Ones, Zeros};
 use crate::operation::{Operation, RangeOperation};
 use crate::read_words::ReadWords;
 use crate::shape::Shape;
@@ -71,6 +72,16 @@ impl<T: BitsOwned, const N: usize> ReadWords for [T; N] {
     #[inline]
     fn nth_leaf_word(&self, k: usize) -> T::LeafWord {
         row::leaf_word::<T>(self, k)
+    }
+
+    #[inline(always)]
+    fn may_pass_over() -> bool {
+        T::may_pass_over()
+    }
+
+    #[inline(always)]
+    fn pass_over<K: Kind, F: End>(&self, low: usize, high: usize) -> usize {
+        row::pass_over::<T, K, F>(self, low, high)
     }
 }
 

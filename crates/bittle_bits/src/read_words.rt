@@ -27,6 +27,14 @@ pub trait ReadWords: Drop + Shape {
         false
     }
 
+    /// Returns `true` if a value of the type may pass over words. It decides speed alone, whether a
+    /// row asks its elements, so no clause speaks of it.
+    #[doc(hidden)]
+    #[inline(always)]
+    fn may_pass_over() -> bool {
+        false
+    }
+
     /// Returns how many bits the set has, or `u32::MAX` if its shape does not fit. Always callable.
     #[doc(hidden)]
     fn capacity(&self) -> u32
@@ -44,7 +52,8 @@ pub trait ReadWords: Drop + Shape {
     /// Returns the end `N` of the words from `low` on and before `high`, moved past words that have
     /// no bit of the kind `K`: from the front the first word that is not passed over, and from the
     /// back the one after the last. It decides speed alone: a set may pass over as many of them as
-    /// it knows at once, or none, as most shapes do.
+    /// it knows at once, or none, as most shapes do. A type whose values do says so by
+    /// `may_pass_over`.
     #[doc(hidden)]
     #[inline(always)]
     fn pass_over<K: Kind, N: End>(&self, low: usize, high: usize) -> usize

@@ -7,10 +7,11 @@ ghost use Rattle.bittle_bits.specs.Rows.{row_set};
 use crate::bits::Bits;
 use crate::bits_mut::BitsMut;
 use crate::bits_owned::BitsOwned;
+use crate::end::End;
 use crate::endian::{DefaultEndian, Endian};
 use crate::internal::row;
 use crate::internal::sealed::Sealed;
-use crate::kind::{Ones, Zeros};
+use crate::kind::{Kind, Ones, Zeros};
 use crate::operation::{Operation, RangeOperation};
 use crate::read_words::ReadWords;
 use crate::shape::Shape;
@@ -45,6 +46,16 @@ impl<'a, T: BitsOwned> ReadWords for &'a [T] {
     #[inline]
     fn nth_leaf_word(&self, k: usize) -> T::LeafWord {
         row::leaf_word::<T>(self, k)
+    }
+
+    #[inline(always)]
+    fn may_pass_over() -> bool {
+        T::may_pass_over()
+    }
+
+    #[inline(always)]
+    fn pass_over<K: Kind, N: End>(&self, low: usize, high: usize) -> usize {
+        row::pass_over::<T, K, N>(self, low, high)
     }
 }
 
@@ -104,6 +115,16 @@ impl<'a, T: BitsOwned> ReadWords for &'a mut [T] {
     #[inline]
     fn nth_leaf_word(&self, k: usize) -> T::LeafWord {
         row::leaf_word::<T>(self, k)
+    }
+
+    #[inline(always)]
+    fn may_pass_over() -> bool {
+        T::may_pass_over()
+    }
+
+    #[inline(always)]
+    fn pass_over<K: Kind, N: End>(&self, low: usize, high: usize) -> usize {
+        row::pass_over::<T, K, N>(self, low, high)
     }
 }
 

@@ -5,13 +5,16 @@ ghost use Rattle.bittle_bits.specs.Orders.{read_in};
 ghost use Rattle.bittle_bits.specs.Pieces.{LiesAt};
 ghost use Rattle.bittle_bits.specs.PlainSet.{contains, with_span_changed, without_members, size};
 ghost use Rattle.bittle_bits.specs.Rows.{row_set, with_bit, GoesTo, IsCombinedBelow};
+ghost use Rattle.bittle_bits.specs.Searches.{PassesOver};
 ghost use Rattle.bittle_bits.specs.SetOperations.{combination_of};
 ghost use Rattle.bittle_bits.specs.Shapes.{Fits};
 ghost use Rattle.bittle_bits.specs.BitPatterns.{bit_set};
 ghost use Rattle.bittle_bits.specs.Words.{ReplacesWord, word_of};
 ghost use Rattle.bittle_bits.specs.Values.{row_of, row_mirrored, row_in};
+ghost use Rattle.bittle_bits.specs.Walk.{ones_or_zeros};
 
 use crate::bits_owned::BitsOwned;
+use crate::end::End;
 use crate::endian::Endian;
 use crate::internal::ends::ends;
 use crate::kind::{Kind, Ones, Zeros};
@@ -428,4 +431,81 @@ pub fn set_leaf_word<T: BitsOwned>(elements: &mut [T], k: usize, word: T::LeafWo
 {
     let (element, at) = locate_word::<T>(elements.len(), k);
     elements[element].set_nth_leaf_word(at, word);
+}
+
+// Returns the one of two numbers of words that is for the end `N`.
+#[inline(always)]
+fn words_at_end<N: End>(front: usize, back: usize) -> usize
+    ensures { result ≡ cond N.FRONT front back }
+{
+    if N::FRONT { front } else { back }
+}
+
+// Returns the end `N` of the words from `low` on and before `high`, of which there is one, moved past
+// those that the element at that end knows to have no bit of the kind, and whether that element knew
+// so of all of them that lie in it.
+#[inline]
+fn pass_over_in_element<T: BitsOwned, K: Kind, N: End>(
+    elements: &[T],
+    low: usize,
+    high: usize,
+) -> (usize, bool)
+    requires fits { Fits T.indexable (length elements.now * T.type_capacity) }
+    requires some { low < high }
+    requires within { high * T.width ≤ length elements.now * T.type_capacity }
+    ensures { PassesOver N.FRONT T.width (ones_or_zeros K.ONES (row_of T.Shape elements.now)) low high
+        result.0 }
+{
+    let each = (T::bits() / word_width::<T>()) as usize;
+    let word = words_at_end::<N>(low, high - 1);
+    let (element, at) = locate_word::<T>(elements.len(), word);
+    let start = word - at;
+    let from = low.max(start) - start;
+    let to = (high - start).min(each);
+    let on = elements[element].pass_over::<K, N>(from, to);
+    (start + on, on == words_at_end::<N>(to, from))
+}
+
+// Returns the end `N` of the words from `low` on and before `high`, moved past those that elements
+// know to have no bit of the kind, one element after another.
+fn pass_over_elements<T: BitsOwned, K: Kind, N: End>(
+    elements: &[T],
+    low: usize,
+    high: usize,
+) -> usize
+    requires fits { Fits T.indexable (length elements.now * T.type_capacity) }
+    requires ordered { low ≤ high }
+    requires within { high * T.width ≤ length elements.now * T.type_capacity }
+    ensures { PassesOver N.FRONT T.width (ones_or_zeros K.ONES (row_of T.Shape elements.now)) low high
+        result }
+{
+    let mut at = words_at_end::<N>(low, high);
+    loop {
+        let from = words_at_end::<N>(at, low);
+        let to = words_at_end::<N>(high, at);
+        if from == to {
+            return at;
+        }
+        let (on, is_whole) = pass_over_in_element::<T, K, N>(elements, from, to);
+        if on == at || !is_whole {
+            return on;
+        }
+        at = on;
+    }
+}
+
+/// Returns the end `N` of the words of the row from `low` on and before `high`, moved past those that
+/// elements know to have no bit of the kind. Elements of a type that knows of none are not asked.
+#[inline(always)]
+pub fn pass_over<T: BitsOwned, K: Kind, N: End>(elements: &[T], low: usize, high: usize) -> usize
+    requires fits { Fits T.indexable (length elements.now * T.type_capacity) }
+    requires ordered { low ≤ high }
+    requires within { high * T.width ≤ length elements.now * T.type_capacity }
+    ensures { PassesOver N.FRONT T.width (ones_or_zeros K.ONES (row_of T.Shape elements.now)) low high
+        result }
+{
+    if !T::may_pass_over() {
+        return words_at_end::<N>(low, high);
+    }
+    pass_over_elements::<T, K, N>(elements, low, high)
 }
