@@ -1,5 +1,5 @@
-//! Sets with a summary of their words, which is a set itself: a search passes over words without a
-//! bit of a kind by the summary, in place of reading each.
+//! Sets with a summary of their words, which is a set itself: a search or an iterator passes over
+//! words without a bit of a kind by the summary, in place of reading each.
 //!
 //! ```rust
 //! use bittle::{Bits, BitsMut, BitsOwned};
@@ -7,7 +7,7 @@
 //!
 //! let mut sparse = Tiered4K::<Ones>::zeros();
 //! sparse.set_bit(4000);
-//! sparse.iter_ones().next();        // Some(4000), with one word of the set read
+//! sparse.iter_ones().next();        // Some(4000), with one word of the 64 read
 //!
 //! let mut taken = Tiered::<[u64; 8], u8, Zeros>::ones();
 //! taken.clear_bit(500);

@@ -27,9 +27,10 @@ use std::marker::PhantomData;
 /// of the map has a bit of the kind `K`. It stands for the same set as its map, so each call means
 /// what it means on the map.
 ///
-/// Of [`Ones`] it is for sparse sets: an iterator over the set bits, or a search for one, reads the
-/// words that have one, and no others. Of [`Zeros`] it is for allocators: the least free page of a
-/// nearly full map is found so. A change of one bit takes one more of the summary.
+/// Of [`Ones`] it is for sparse sets: an iterator over the set bits, or a search for one, reads a
+/// word that has one, and at most one without before the next. Of [`Zeros`] it is for allocators:
+/// the least free page of a nearly full map is found so. A change of one bit writes one of the
+/// summary too.
 ///
 /// The summary may have a summary itself, of [`Ones`], since a search goes over its set bits.
 ///
