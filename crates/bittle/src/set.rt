@@ -260,6 +260,11 @@ impl<T: ReadWords, U: Endian> ReadWords for Set<T, U> {
         T::is_fixed()
     }
 
+    #[inline(always)]
+    fn may_pass_over() -> bool {
+        T::may_pass_over()
+    }
+
     #[inline]
     fn capacity(&self) -> u32 {
         self.bits.capacity()
