@@ -29,8 +29,8 @@ module _ {B E W : Type 0} where
     words = words;
   }
 
--- each scan yielded an item or exhausted one of the words, and each word was fetched once, is between
--- the buffered ones, or was passed over
+-- each scan yielded an item or exhausted one of the words, and each word was fetched once, is
+-- between the buffered ones, or was passed over
 pub record IsCounted {B E W : Type 0} (words : ℕ) (at : Cursor B E W) : Type 0 where
   pub ordered : at.low ≤ at.high
   pub within : at.high ≤ words

@@ -40,7 +40,8 @@ abbrev pub count_after : ℕ → Option ℕ → ℕ
 count_after n None = n
 count_after n (Some item) = n + 1
 
--- a step: what it gave is what `gives` says, and each word that it fetched or passed over was unread
+-- a step: what it gave is what `gives` says, and each word that it fetched or passed over was
+-- unread
 pub record Steps (gives : Walk → Option ℕ → Walk → Type 0) (before : Walk) (r : Option ℕ)
     (after : Walk) : Type 0 where
   pub gave : gives before r after
@@ -82,8 +83,8 @@ pub record IsFresh (words : ℕ) (w : Walk) : Type 0 where
   pub in_order : YieldsInOrder StepsFront (λ s. s.remaining)
   pub in_reverse : YieldsInReverse StepsBack (λ s. s.remaining)
 
--- a clone has what its source has left, items and unread words, and has counted nothing but the words
--- that its source was done with
+-- a clone has what its source has left, items and unread words, and has counted nothing but the
+-- words that its source was done with
 pub record ResumesAs (source clone : Walk) : Type 0 where
   pub remaining : clone.remaining ≡ source.remaining
   pub unread : clone.unread ≡ source.unread

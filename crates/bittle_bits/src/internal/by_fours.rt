@@ -46,8 +46,8 @@ fn are_four_empty<B: ReadWords, E: Endian, K: Kind>(bits: &B, from: u32) -> bool
     first.or(second).or(third.or(fourth)).is_zero()
 }
 
-// Returns the least index of a bit of the kind in the words from `from` on and before `to`, or `None`,
-// four words at a time.
+// Returns the least index of a bit of the kind in the words from `from` on and before `to`, or
+// `None`, four words at a time.
 #[inline(always)]
 fn first_by_fours<B: ReadWords, E: Endian, K: Kind>(bits: &B, from: u32, to: u32) -> Option<u32>
     requires fits { ShapeFits B.Shape bits.now }

@@ -56,8 +56,8 @@ pub fn begin<B: ReadWords, E: Endian, K: Kind>(source: &Source<'_, B>) -> Cursor
     at
 }
 
-/// Returns the same place with its counters at zero, for `clone`. The words that it is done with are
-/// passed over.
+/// Returns the same place with its counters at zero, for `clone`. The words that it is done with
+/// are passed over.
 #[inline]
 pub fn duplicate<B: ReadWords, E: Endian>(at: &Cursor<B, E>) -> Cursor<B, E>
     ensures resumes { (s : PlainSet) (words w : ℕ) → IsCounted words at.now

@@ -441,9 +441,9 @@ fn words_at_end<N: End>(front: usize, back: usize) -> usize
     if N::FRONT { front } else { back }
 }
 
-// Returns the end `N` of the words from `low` on and before `high`, of which there is one, moved past
-// those that the element at that end knows to have no bit of the kind, and whether that element knew
-// so of all of them that lie in it.
+// Returns the end `N` of the words from `low` on and before `high`, of which there is one, moved
+// past those that the element at that end knows to have no bit of the kind, and whether that
+// element knew so of all of them that lie in it.
 #[inline]
 fn pass_over_in_element<T: BitsOwned, K: Kind, N: End>(
     elements: &[T],
@@ -453,8 +453,8 @@ fn pass_over_in_element<T: BitsOwned, K: Kind, N: End>(
     requires fits { Fits T.indexable (length elements.now * T.type_capacity) }
     requires some { low < high }
     requires within { high * T.width ≤ length elements.now * T.type_capacity }
-    ensures { PassesOver N.FRONT T.width (ones_or_zeros K.ONES (row_of T.Shape elements.now)) low high
-        result.0 }
+    ensures { PassesOver N.FRONT T.width (ones_or_zeros K.ONES (row_of T.Shape elements.now)) low
+        high result.0 }
 {
     let each = (T::bits() / word_width::<T>()) as usize;
     let word = words_at_end::<N>(low, high - 1);
@@ -476,8 +476,8 @@ fn pass_over_elements<T: BitsOwned, K: Kind, N: End>(
     requires fits { Fits T.indexable (length elements.now * T.type_capacity) }
     requires ordered { low ≤ high }
     requires within { high * T.width ≤ length elements.now * T.type_capacity }
-    ensures { PassesOver N.FRONT T.width (ones_or_zeros K.ONES (row_of T.Shape elements.now)) low high
-        result }
+    ensures { PassesOver N.FRONT T.width (ones_or_zeros K.ONES (row_of T.Shape elements.now)) low
+        high result }
 {
     let mut at = words_at_end::<N>(low, high);
     loop {
@@ -494,15 +494,16 @@ fn pass_over_elements<T: BitsOwned, K: Kind, N: End>(
     }
 }
 
-/// Returns the end `N` of the words of the row from `low` on and before `high`, moved past those that
-/// elements know to have no bit of the kind. Elements of a type that knows of none are not asked.
+/// Returns the end `N` of the words of the row from `low` on and before `high`, moved past those
+/// that elements know to have no bit of the kind. Elements of a type that knows of none are not
+/// asked.
 #[inline(always)]
 pub fn pass_over<T: BitsOwned, K: Kind, N: End>(elements: &[T], low: usize, high: usize) -> usize
     requires fits { Fits T.indexable (length elements.now * T.type_capacity) }
     requires ordered { low ≤ high }
     requires within { high * T.width ≤ length elements.now * T.type_capacity }
-    ensures { PassesOver N.FRONT T.width (ones_or_zeros K.ONES (row_of T.Shape elements.now)) low high
-        result }
+    ensures { PassesOver N.FRONT T.width (ones_or_zeros K.ONES (row_of T.Shape elements.now)) low
+        high result }
 {
     if !T::may_pass_over() {
         return words_at_end::<N>(low, high);

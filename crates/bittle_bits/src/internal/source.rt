@@ -40,8 +40,8 @@ pub fn pass_over<B: ReadWords, K: Kind, N: End>(bits: &B, low: usize, high: usiz
     bits.pass_over::<K, N>(low, high)
 }
 
-/// A set that an iterator borrows. Of it an iterator learns how many words it has, each word that it
-/// fetches, and which words it may pass over, and nothing else.
+/// A set that an iterator borrows. Of it an iterator learns how many words it has, each word that
+/// it fetches, and which words it may pass over, and nothing else.
 #[derive(Drop)]
 pub struct Source<'a, B: Shape> {
     set: &'a B,

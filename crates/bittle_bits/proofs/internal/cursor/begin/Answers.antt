@@ -36,7 +36,12 @@ none g c =
     (subst (λ n. NoneIn (ones_or_zeros g.K.Kind.ONES (set_in g.B.Shape g.E.Endian v))
     (c.pass_over-high.result * g.B.Shape.width) (n * g.B.Shape.width)) c.words-words.ensures high.2)
     c.new.ensures
-    (omega (arith, c.new-passed.ensures, c.pass_over-low.ensures.passed, c.pass_over-high.ensures.passed))
+    (omega (
+      arith,
+      c.new-passed.ensures,
+      c.pass_over-low.ensures.passed,
+      c.pass_over-high.ensures.passed,
+    ))
 
 pub returns-then-not-is_fixed-clause-starts : goal.returns-then-not-is_fixed-clause-starts
 returns-then-not-is_fixed-clause-starts g c =

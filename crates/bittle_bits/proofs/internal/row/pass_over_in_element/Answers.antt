@@ -48,7 +48,8 @@ returns g c =
     let is = part g of in
     let less = mul-le-mul_right g.T.Shape.width is.within in
     passes_in_row g.K.Kind.ONES (length c.args.elements.now) g.T.Shape.type_capacity g.T.Shape.width
-    c.locate_word-element.result.0 _ g.T.Shape.big c.args.elements.now c.index-elements-element.result
+    c.locate_word-element.result.0 _ g.T.Shape.big c.args.elements.now
+    c.index-elements-element.result
     (g.met.T.BitsOwned.one_capacity _) c.locate_word-element.ensures.is_element refl
     c.index-elements-element.is (begins g of).2 g.N.End.FRONT c.args.low c.args.high _ _ _
     (omega (arith, less, g.met.T.BitsOwned.type_whole_words.1)) is.low_is is.high_is is.same_end
