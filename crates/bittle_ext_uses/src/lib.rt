@@ -2,8 +2,8 @@
 #![tactic(auto)]
 
 pub mod any_changes;
-pub mod checked_indexes;
 pub mod chains;
+pub mod checked_indexes;
 pub mod combined_walks;
 pub mod lent_changes;
 pub mod made_sets;
