@@ -7,7 +7,8 @@ ghost use Rattle.bittle_ext.specs.SetRelations.{IsFirstAlone, IsFirstCommon};
 ghost use Rattle.bittle.specs.PlainSet.{size};
 ghost use Rattle.bittle.specs.Values.{set_in, ShapeFits};
 
-use crate::{counts, relations};
+use crate::counts::count_common;
+use crate::relations;
 use bittle::Bits;
 
 /// What can be asked of two sets, of any two shapes that fit.
@@ -156,7 +157,7 @@ pub trait BitsRelationExt: Bits {
             result ≡ size (both_of ours theirs) }
         ensures at_most { result ≤ (Self.big self.now).capacity }
     {
-        counts::count_common::<Self, B, Self::Order, B::Order>(self, other)
+        count_common::<Self, B, Self::Order, B::Order>(self, other)
     }
 
     /// Returns how many indexes are set in this set and not in the other one, each in its own
@@ -176,7 +177,7 @@ pub trait BitsRelationExt: Bits {
             result ≡ size (first_only_of ours theirs) }
         ensures at_most { result ≤ (Self.big self.now).capacity }
     {
-        counts::count_alone::<Self, B, Self::Order, B::Order>(self, other)
+        self.count_ones() - count_common::<Self, B, Self::Order, B::Order>(self, other)
     }
 
     /// Returns how many indexes are set in just one of the two sets, each in its own order. It
@@ -196,7 +197,8 @@ pub trait BitsRelationExt: Bits {
             result ≡ size (just_one_of ours theirs) }
         ensures at_most { result ≤ max (Self.big self.now).capacity (B.big other.now).capacity }
     {
-        counts::count_different::<Self, B, Self::Order, B::Order>(self, other)
+        let common = count_common::<Self, B, Self::Order, B::Order>(self, other);
+        (self.count_ones() - common) + (other.count_ones() - common)
     }
 }
 

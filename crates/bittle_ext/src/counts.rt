@@ -1,8 +1,8 @@
-//! How many indexes are set in two sets, with no set made: by the view of both where their words have
-//! one width and are read in one order, else by the set bits of the first.
+//! How many indexes are set in two sets, with no set made: by the view of both where their words
+//! have one width and are read in one order, else by the set bits of the first.
 
 ghost use Rattle.std.specs.Prelude.{◌≡◌, ◌≤◌};
-ghost use Rattle.bittle_ext.specs.Combined.{first_only_of, just_one_of, CountsBoth};
+ghost use Rattle.bittle_ext.specs.Combined.{CountsBoth};
 ghost use Rattle.bittle.specs.PlainSet.{size};
 ghost use Rattle.bittle.specs.Values.{set_in, ShapeFits};
 
@@ -32,30 +32,4 @@ pub fn count_common<A: Bits, B: Bits, E: Endian, F: Endian>(left: &A, right: &B)
         from = index + 1;
     }
     count
-}
-
-/// Counts the indexes that are set in the first and not in the second.
-#[inline]
-pub fn count_alone<A: Bits, B: Bits, E: Endian, F: Endian>(left: &A, right: &B) -> u32
-    requires left_fits { ShapeFits A.Shape left.now }
-    requires right_fits { ShapeFits B.Shape right.now }
-    ensures value { result
-        ≡ size (first_only_of (set_in A.Shape E.Endian left.now)
-        (set_in B.Shape F.Endian right.now)) }
-    ensures at_most { result ≤ (A.big left.now).capacity }
-{
-    left.count_ones() - count_common::<A, B, E, F>(left, right)
-}
-
-/// Counts the indexes that are set in just one of the two.
-#[inline]
-pub fn count_different<A: Bits, B: Bits, E: Endian, F: Endian>(left: &A, right: &B) -> u32
-    requires left_fits { ShapeFits A.Shape left.now }
-    requires right_fits { ShapeFits B.Shape right.now }
-    ensures { result
-        ≡ size (just_one_of (set_in A.Shape E.Endian left.now)
-        (set_in B.Shape F.Endian right.now)) }
-{
-    let common = count_common::<A, B, E, F>(left, right);
-    (left.count_ones() - common) + (right.count_ones() - common)
 }
