@@ -1,3 +1,4 @@
+pub mod PassedWords
 mod CombinedWords
 mod Complements
 mod GatheredWords

@@ -2,11 +2,14 @@
 //! asked so.
 
 ghost use Rattle.std.specs.Prelude.{◌≡◌, ◌+◌, ◌*◌, ◌<◌, ◌≤◌, ◌==◌, Bool};
+ghost use Rattle.bittle_bits.specs.Searches.{PassesOver};
 ghost use Rattle.bittle.specs.PlainSet.{contains, members_below, size};
 ghost use Rattle.bittle.specs.Values.{set_in, set_mirrored, ShapeFits};
 
 use bittle::{BigEndian, Endian};
-use bittle_bits::extension::{Ones, ReadWords, Word, Zeros, first_in_words, test_bit, word_width};
+use bittle_bits::extension::{
+    End, Ones, ReadWords, Word, Zeros, first_in_words, test_bit, word_width,
+};
 
 /// Counts the set bits of word `k`.
 #[inline(always)]
@@ -33,6 +36,23 @@ pub fn count<B: ReadWords>(bits: &B) -> u32
         count += count_word::<B>(bits, k);
     }
     count
+}
+
+/// Returns the end `N` of the words from `low` on and before `high`, moved past words that the set
+/// has not, or knows to have no bit set. They are words of its width, which may lie past it.
+#[inline]
+pub fn passed<B: ReadWords, N: End>(bits: &B, low: usize, high: usize) -> usize
+    requires fits { ShapeFits B.Shape bits.now }
+    requires ordered { low ≤ high }
+    ensures { PassesOver N.FRONT B.width (B.big bits.now) low high result }
+{
+    let words = (bits.capacity() / word_width::<B>()) as usize;
+    let last = high.min(words);
+    if last <= low {
+        return if N::FRONT { high } else { low };
+    }
+    let end = bits.pass_over::<Ones, N>(low, last);
+    if N::FRONT && end == last { high } else { end }
 }
 
 /// Returns whether no bit is set.

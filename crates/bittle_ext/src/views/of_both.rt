@@ -10,10 +10,11 @@ ghost use Rattle.bittle.specs.Values.{set_in, ShapeFits};
 
 use crate::capacities::capacity_of;
 use crate::other_words::{other_word, word_or_empty};
-use crate::views::by_words::{count, is_empty, is_full, test};
+use crate::views::by_words::{count, is_empty, is_full, passed, test};
 use bittle::{Bits, Endian, Shape};
 use bittle_bits::extension::{
-    Conjunction, Difference, Operation, ReadWords, Sealed, SymmetricDifference, Union, word_width,
+    Conjunction, Difference, End, Kind, Operation, ReadWords, Sealed, SymmetricDifference, Union,
+    word_width,
 };
 use std::alloc::AllocError;
 use std::marker::PhantomData;
@@ -41,6 +42,19 @@ pub trait ViewOperation: Operation {
     {
         false
     }
+
+    /// Returns `true` if it makes no index a member that is not in the second set. It decides which
+    /// words are passed over.
+    #[doc(hidden)]
+    #[inline(always)]
+    fn keeps_to_second() -> bool
+        ensures { IsTrue result → (a : Bool) → Self.decide a false ≡ false }
+    {
+        false
+    }
+
+    // It makes no index a member that is in neither set.
+    ghost keeps_empty: { Self.decide false false ≡ false };
 }
 
 /// An operation that makes an index that is not in the first set a member just where it is in the
@@ -49,13 +63,17 @@ pub trait EitherOperation: ViewOperation {
     ghost takes_second: { (b : Bool) → Self.decide false b ≡ b };
 }
 
-impl ViewOperation for Union {}
+impl ViewOperation for Union {
+    ghost keeps_empty = { refl };
+}
 
 impl EitherOperation for Union {
     ghost takes_second = { λ _. refl };
 }
 
-impl ViewOperation for SymmetricDifference {}
+impl ViewOperation for SymmetricDifference {
+    ghost keeps_empty = { refl };
+}
 
 impl EitherOperation for SymmetricDifference {
     ghost takes_second = { λ _. refl };
@@ -67,8 +85,15 @@ pub trait FirstOperation: ViewOperation {
 }
 
 impl ViewOperation for Conjunction {
+    ghost keeps_empty = { refl };
+
     #[inline(always)]
     fn keeps_to_first() -> bool {
+        true
+    }
+
+    #[inline(always)]
+    fn keeps_to_second() -> bool {
         true
     }
 }
@@ -78,6 +103,8 @@ impl FirstOperation for Conjunction {
 }
 
 impl ViewOperation for Difference {
+    ghost keeps_empty = { refl };
+
     #[inline(always)]
     fn keeps_to_first() -> bool {
         true
@@ -165,6 +192,35 @@ impl<'a, A: Bits, B: Bits, E: Endian, F: Endian, O: ViewOperation> ReadWords
             return O::on_words::<A::LeafWord>(self.left.nth_leaf_word(k), theirs);
         }
         O::on_words::<A::LeafWord>(word_or_empty(self.left, k), theirs)
+    }
+
+    #[inline(always)]
+    fn may_pass_over() -> bool {
+        A::may_pass_over() || B::may_pass_over()
+    }
+
+    #[inline(always)]
+    fn pass_over<K: Kind, N: End>(&self, low: usize, high: usize) -> usize {
+        if !K::ONES || !Self::may_pass_over() {
+            return if N::FRONT { low } else { high };
+        }
+        let ours = passed::<A, N>(self.left, low, high);
+        let alike = word_width::<A>() == word_width::<B>();
+        if O::keeps_to_first() {
+            if !alike || !O::keeps_to_second() {
+                return ours;
+            }
+            return if N::FRONT {
+                passed::<B, N>(self.right, ours, high)
+            } else {
+                passed::<B, N>(self.right, low, ours)
+            };
+        }
+        if !alike {
+            return if N::FRONT { low } else { high };
+        }
+        let theirs = passed::<B, N>(self.right, low, high);
+        if N::FRONT { ours.min(theirs) } else { ours.max(theirs) }
     }
 }
 

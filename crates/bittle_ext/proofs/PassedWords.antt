@@ -1,0 +1,120 @@
+-- Words that a view of two sets passes over, as each of its sets passes over them.
+use Rattle.std.proofs.Common.{◌≡◌, ℕ, ◌*◌, ◌/◌, ◌%◌, ◌<◌, ◌≤◌, Bool, true, false, cond, min, max, inl, inr, sym, ap, ◌∙◌, arith}
+use Rattle.std.proofs.Math.Nat.{mul-le-mul_right}
+use Rattle.std.proofs.lemmas.Bool.{cases_lt}
+use Rattle.bittle_bits.specs.PlainSet.{PlainSet}
+use Rattle.bittle_bits.specs.Searches.{NoneIn, PassesOver}
+use Rattle.bittle_bits.specs.Walk.{ones_or_zeros}
+use Rattle.bittle_bits.proofs.DecidedWords.{words_make_up}
+use Rattle.bittle_bits.proofs.OnesOrZeros.{passes_in_order}
+use Rattle.bittle_ext.specs.ViewLaws.{whole_words_of}
+use Rattle.bittle_ext.specs.Views.{read_back}
+use Rattle.bittle_ext.proofs.ViewFacts.{read_back_is}
+
+-- ---- words past the end of a set
+
+-- words that the set has not have no member
+pub none_after : (w c low high last : ℕ) (s : PlainSet) → 0 < w →
+    (words : ℕ) × (s.capacity ≡ words * w) → ((i : ℕ) → s.capacity ≤ i → s.has i ≡ false) →
+    c ≡ s.capacity → last ≡ min high (c / w) → last ≤ low → NoneIn s (low * w) (high * w)
+none_after w c low high last s word whole past is least from = λ k lo hi.
+    elim (cases_lt (c / w) high) [
+      | inl l ↦
+          let same : last ≡ c / w = omega (arith, least, l) in
+          let up : last * w ≤ low * w = mul-le-mul_right w from in
+          let at : last * w ≡ s.capacity = ap (λ n. n * w) same ∙ all in
+          past k (omega (arith, up, at, lo))
+      | inr g ↦
+          let up : high * w ≤ low * w = mul-le-mul_right w (omega (arith, least, from, g)) in
+          absurd (omega (arith, up, lo, hi))
+    ]
+  where
+    all : c / w * w ≡ s.capacity
+    all = ap (λ n. n / w * w) is ∙ words_make_up w s.capacity word whole
+
+-- they are all passed over
+pub passes_all : (front : Bool) (w low high : ℕ) (s : PlainSet) → low ≤ high →
+    NoneIn s (low * w) (high * w) →
+    PassesOver front w s low high (cond front high low)
+passes_all true w low high s ordered none = (ordered, omega arith, none)
+passes_all false w low high s ordered none = (omega arith, ordered, none)
+
+-- so are they after all words that the set has
+pub passes_to_end : (w low last high : ℕ) (s : PlainSet) → last ≤ high →
+    NoneIn s (last * w) (high * w) → PassesOver true w s low last last →
+    PassesOver true w s low high high
+passes_to_end w low last high s far none p =
+    (omega (arith, p.0, far), omega arith, λ k lo hi. elim (cases_lt k (last * w)) [
+      | inl l ↦ p.2 k lo l
+      | inr g ↦ none k g hi
+    ])
+
+-- and after words of which some are passed over
+pub passes_further : (front : Bool) (w low last high r : ℕ) (s : PlainSet) → last ≤ high →
+    NoneIn s (last * w) (high * w) → PassesOver front w s low last r →
+    PassesOver front w s low high r
+passes_further true w low last high r s far none p = (p.0, omega (arith, p.1, far), p.2)
+passes_further false w low last high r s far none p =
+    (p.0, omega (arith, p.1, far), λ k lo hi. elim (cases_lt k (last * w)) [
+      | inl l ↦ p.2 k lo l
+      | inr g ↦ none k g hi
+    ])
+
+-- ---- words of two sets
+
+-- what is passed over in a set is so in each set that has no more members
+pub passes_fewer : (front : Bool) (w low high r : ℕ) (s t : PlainSet) →
+    ((k : ℕ) → s.has k ≡ false → t.has k ≡ false) → PassesOver front w s low high r →
+    PassesOver front w t low high r
+passes_fewer true w low high r s t fewer p = (p.0, p.1, λ k lo hi. fewer k (p.2 k lo hi))
+passes_fewer false w low high r s t fewer p = (p.0, p.1, λ k lo hi. fewer k (p.2 k lo hi))
+
+-- words passed over, and then others after them from the same end
+pub passes_from : (w low high mid r : ℕ) (s : PlainSet) → PassesOver true w s low high mid →
+    PassesOver true w s mid high r → PassesOver true w s low high r
+passes_from w low high mid r s p q =
+    (omega (arith, p.0, q.0), q.1, λ k lo hi. elim (cases_lt k (mid * w)) [
+      | inl l ↦ p.2 k lo l
+      | inr g ↦ q.2 k g hi
+    ])
+
+pub passes_back : (w low high mid r : ℕ) (s : PlainSet) → PassesOver false w s low high mid →
+    PassesOver false w s low mid r → PassesOver false w s low high r
+passes_back w low high mid r s p q =
+    (q.0, omega (arith, p.1, q.1), λ k lo hi. elim (cases_lt k (mid * w)) [
+      | inl l ↦ q.2 k lo l
+      | inr g ↦ p.2 k g hi
+    ])
+
+-- the words that both sets pass over, where what is in neither is no member
+module _ (w low high o p r : ℕ) (s t d : PlainSet)
+    (neither : (k : ℕ) → s.has k ≡ false → t.has k ≡ false → d.has k ≡ false) where
+  pub passes_nearer : PassesOver true w s low high o → PassesOver true w t low high p →
+      r ≡ min o p → PassesOver true w d low high r
+  passes_nearer ours theirs is =
+      let near : r * w ≤ o * w = mul-le-mul_right w (omega (arith, is)) in
+      let far : r * w ≤ p * w = mul-le-mul_right w (omega (arith, is)) in (
+        omega (arith, ours.0, theirs.0, is),
+        omega (arith, ours.1, is),
+        λ k lo hi. neither k (ours.2 k lo (omega (arith, hi, near)))
+            (theirs.2 k lo (omega (arith, hi, far))),
+      )
+
+  pub passes_later : PassesOver false w s low high o → PassesOver false w t low high p →
+      r ≡ max o p → PassesOver false w d low high r
+  passes_later ours theirs is =
+      let near : o * w ≤ r * w = mul-le-mul_right w (omega (arith, is)) in
+      let far : p * w ≤ r * w = mul-le-mul_right w (omega (arith, is)) in (
+        omega (arith, ours.0, is),
+        omega (arith, ours.1, theirs.1, is),
+        λ k lo hi. neither k (ours.2 k (omega (arith, lo, near)) hi)
+            (theirs.2 k (omega (arith, lo, far)) hi),
+      )
+
+-- words that are passed over in a set are so in the one that is read back
+pub passes_read_back : (front ones m : Bool) (w low high r : ℕ) (d : PlainSet) → 0 < w →
+    d.capacity % w ≡ 0 → ones ≡ true → PassesOver front w d low high r →
+    PassesOver front w (ones_or_zeros ones (read_back m w d)) low high r
+passes_read_back front ones m w low high r d word whole is p =
+    rw (is, read_back_is m w d) (passes_in_order front true m w low high r d word
+    (whole_words_of w d.capacity whole) p)
