@@ -1,0 +1,53 @@
+//! Allocators over maps with a summary of their free pages.
+
+ghost use Rattle.std.specs.Prelude.{◌≡◌, length};
+ghost use Rattle.bit_pages.specs.Pages.{request_answers};
+ghost use Rattle.bittle.specs.BitPatterns.{bit_set};
+ghost use Rattle.bittle.specs.PlainSet.{empty_set, full_set, size, without_index};
+ghost use Rattle.bittle.specs.Rows.{row_set};
+
+use bit_pages::{Answer, Pages, Request};
+use bittle_tiers::prelude::*;
+
+/// Serves requests from an allocator of 4,096 pages, with one word that tells which words are full.
+pub fn serve(requests: &[Request], answers: &mut [Answer])
+    requires { length answers.old ≡ length requests.now }
+    ensures { answers.new ≡ request_answers (empty_set 4096) requests.now }
+{
+    let mut pages = Pages::<Tiered4K<Zeros>>::new();
+    pages.serve(requests, answers);
+}
+
+/// Serves requests from one of 262,144 pages, with two tiers above them.
+pub fn serve_large(requests: &[Request], answers: &mut [Answer])
+    requires { length answers.old ≡ length requests.now }
+    ensures { answers.new ≡ request_answers (empty_set 262144) requests.now }
+{
+    let mut pages = Pages::<Tiered256K<Zeros>>::new();
+    pages.serve(requests, answers);
+}
+
+/// Serves requests from a map with a summary for either kind: a map may have a summary itself.
+pub fn serve_either(requests: &[Request], answers: &mut [Answer])
+    requires { length answers.old ≡ length requests.now }
+    ensures { answers.new ≡ request_answers (empty_set 4096) requests.now }
+{
+    let mut pages = Pages::<Tiered<Tiered4K<Ones>, u64, Zeros>>::new();
+    pages.serve(requests, answers);
+}
+
+/// Returns how many pages are taken, where the words of a map say which.
+pub fn taken(words: [u64; 64]) -> u32
+    ensures { result ≡ size (row_set 64 64 (bit_set 64) words) }
+{
+    Tiered4K::<Zeros>::new(words).count_ones()
+}
+
+/// Returns the map of all pages but one, of which an allocator hands that one out.
+pub fn all_but(page: u32) -> Tiered4K<Zeros>
+    ensures { row_set 64 64 (bit_set 64) result.map ≡ without_index (full_set 4096) page }
+{
+    let mut map = Tiered4K::<Zeros>::ones();
+    map.clear_bit(page);
+    map
+}
