@@ -1,0 +1,69 @@
+//! Hands out the pages of a gibibyte, of 4 KiB each, where nearly all are taken.
+//!
+//! A page is taken where its bit is set, and a summary tells which words of the map have a free
+//! one. What is proved: which three pages are free at first. The contract of `Pages` says the rest:
+//! a page that is handed out was free, no lesser one was, and all are taken where it is full.
+#![tactic(auto)]
+
+ghost use Rattle.std.specs.Prelude.{◌≡◌};
+ghost use Rattle.bittle.specs.BitPatterns.{bit_set};
+ghost use Rattle.bittle.specs.PlainSet.{full_set, without_span};
+ghost use Rattle.bittle.specs.Rows.{row_set};
+
+use bit_pages::{Answer, Pages, Request};
+use bittle::BigEndian;
+use bittle_tiers::prelude::*;
+use std::io;
+
+/// Which of the 262,144 pages are taken.
+type Map = Tiered256K<Zeros>;
+
+/// Returns the map of which three pages are free.
+fn map_with_three_free() -> Map
+    ensures { row_set 4096 64 (bit_set 64) result.map
+        ≡ without_span (full_set 262144) 199998 200001 }
+{
+    let mut map = Map::ones();
+    map.clear_range_in::<BigEndian>(199_998, 200_001);
+    map
+}
+
+/// Serves requests, where the pages of a map are taken.
+fn serve(map: Map, requests: &[Request; 9]) -> [Answer; 9] {
+    let mut answers = [Answer::Full; 9];
+    Pages::with_taken(map).serve(requests, &mut answers);
+    answers
+}
+
+/// Prints a request with its answer.
+fn print(rt: &HostRuntime, request: Request, answer: Answer) -> io::Result<()> {
+    match request {
+        Request::Take => print!(rt; "take a page: ")?,
+        Request::GiveBack(page) => print!(rt; "give page {page} back: ")?,
+    }
+    match answer {
+        Answer::Page(page) => println!(rt; "page {page}"),
+        Answer::Full => println!(rt; "all are taken"),
+        Answer::Given => println!(rt; "it is free"),
+        Answer::NotTaken => println!(rt; "it was not taken"),
+    }
+}
+
+fn main(rt: HostRuntime) -> io::Result<()> {
+    let requests = [
+        Request::Take,
+        Request::Take,
+        Request::GiveBack(131_071),
+        Request::GiveBack(131_071),
+        Request::Take,
+        Request::Take,
+        Request::Take,
+        Request::GiveBack(262_143),
+        Request::GiveBack(262_144),
+    ];
+    let answers = serve(map_with_three_free(), &requests);
+    for i in 0..9usize {
+        print(&rt, requests[i], answers[i])?;
+    }
+    Ok(())
+}
