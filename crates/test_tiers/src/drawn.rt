@@ -1,0 +1,195 @@
+//! Runs of drawn changes at small shapes, compared with plain loops over 24 flags.
+
+ghost use Rattle.std.specs.Prelude.{IsTrue};
+ghost use Rattle.bittle.specs.Shapes.{Fits};
+ghost use Rattle.bittle.specs.Values.{ShapeFits};
+
+use crate::checks::same;
+use crate::flags::{ask, draw};
+use bittle::{BigEndian, Bits, BitsMut, BitsOwned, Endian, LittleEndian};
+use bittle_tiers::{Ones, Tiered, Zeros};
+
+// Makes a drawn change of one bit of both.
+fn change_one<B: BitsMut, E: Endian>(state: &mut u32, set: &mut B, flags: &mut [bool; 24])
+    requires { IsTrue B.indexable }
+{
+    let index = draw(state) % 50;
+    let at = (index % 24) as usize;
+    if draw(state) % 2 == 0 {
+        set.set_bit_in::<E>(index);
+        flags[at] = true;
+    } else {
+        set.clear_bit_in::<E>(index);
+        flags[at] = false;
+    }
+}
+
+// Makes a drawn change of a range of both.
+fn change_range<B: BitsMut, E: Endian>(state: &mut u32, set: &mut B, flags: &mut [bool; 24])
+    requires { ShapeFits B.Shape set.old }
+{
+    let capacity = set.bits_capacity();
+    let (one, other) = (draw(state) % 25, draw(state) % 25);
+    let (from, to) = (one.min(other).min(capacity), one.max(other).min(capacity));
+    let kind = draw(state) % 3;
+    match kind {
+        0 => set.set_range_in::<E>(from, to),
+        1 => set.clear_range_in::<E>(from, to),
+        _ => set.toggle_range_in::<E>(from, to),
+    }
+    for i in from as usize..to as usize {
+        flags[i] = match kind {
+            0 => true,
+            1 => false,
+            _ => !flags[i],
+        };
+    }
+}
+
+// Draws a set, and its flags.
+fn draw_set<B: BitsOwned, E: Endian>(state: &mut u32) -> (B, [bool; 24])
+    requires { IsTrue B.indexable }
+{
+    let mut set = B::zeros();
+    let mut flags = [false; 24];
+    for _ in 0..draw(state) % 8 {
+        let index = draw(state) % 24;
+        set.set_bit_in::<E>(index);
+        flags[index as usize] = true;
+    }
+    (set, flags)
+}
+
+// Combines both with a drawn set by a drawn operation.
+fn combine<B: BitsOwned, E: Endian>(state: &mut u32, set: &mut B, flags: &mut [bool; 24])
+    requires { IsTrue B.indexable }
+{
+    let (other, others) = draw_set::<B, E>(state);
+    let kind = draw(state) % 4;
+    match kind {
+        0 => set.union_assign(&other),
+        1 => set.conjunction_assign(&other),
+        2 => set.difference_assign(&other),
+        _ => set.symmetric_difference_assign(&other),
+    }
+    for i in 0..24usize {
+        flags[i] = match kind {
+            0 => flags[i] || others[i],
+            1 => flags[i] && others[i],
+            2 => flags[i] && !others[i],
+            _ => flags[i] != others[i],
+        };
+    }
+}
+
+// Makes a drawn change of all of both: none of 24 is a member then, or each.
+fn change_all<B: BitsOwned>(state: &mut u32, set: &mut B, flags: &mut [bool; 24])
+    requires { IsTrue B.indexable }
+{
+    if draw(state) % 2 == 0 {
+        set.clear_bits();
+        *flags = [false; 24];
+    } else {
+        *set = B::ones();
+        *flags = [true; 24];
+    }
+}
+
+// Makes a drawn change of both.
+fn change<B: BitsOwned, E: Endian>(state: &mut u32, set: &mut B, flags: &mut [bool; 24])
+    requires indexable { IsTrue B.indexable }
+    requires fits { ShapeFits B.Shape set.old }
+{
+    match draw(state) % 8 {
+        0 => change_all::<B>(state, set, flags),
+        1 | 2 => change_range::<B, E>(state, set, flags),
+        3 => combine::<B, E>(state, set, flags),
+        _ => change_one::<B, E>(state, set, flags),
+    }
+}
+
+#[test]
+fn a_summary_of_the_ones_agrees_with_plain_loops(rt: HostRuntime) {
+    let mut state = 1;
+    let mut set = Tiered::<[u8; 3], u8, Ones>::zeros();
+    let mut flags = [false; 24];
+    for _ in 0..300 {
+        change::<Tiered<[u8; 3], u8, Ones>, BigEndian>(&mut state, &mut set, &mut flags);
+        ask::<Tiered<[u8; 3], u8, Ones>, BigEndian>(&rt, &mut state, &set, &flags);
+    }
+}
+
+#[test]
+fn a_summary_of_the_ones_agrees_in_little_endian_order(rt: HostRuntime) {
+    let mut state = 2;
+    let mut set = Tiered::<[u8; 3], u8, Ones>::zeros();
+    let mut flags = [false; 24];
+    for _ in 0..300 {
+        change::<Tiered<[u8; 3], u8, Ones>, LittleEndian>(&mut state, &mut set, &mut flags);
+        ask::<Tiered<[u8; 3], u8, Ones>, LittleEndian>(&rt, &mut state, &set, &flags);
+    }
+}
+
+#[test]
+fn a_summary_of_the_zeros_agrees_with_plain_loops(rt: HostRuntime) {
+    let mut state = 3;
+    let mut set = Tiered::<[u8; 3], u8, Zeros>::ones();
+    let mut flags = [true; 24];
+    for _ in 0..300 {
+        change::<Tiered<[u8; 3], u8, Zeros>, BigEndian>(&mut state, &mut set, &mut flags);
+        ask::<Tiered<[u8; 3], u8, Zeros>, BigEndian>(&rt, &mut state, &set, &flags);
+    }
+}
+
+#[test]
+fn a_summary_of_the_zeros_agrees_in_little_endian_order(rt: HostRuntime) {
+    let mut state = 4;
+    let mut set = Tiered::<[u8; 3], u8, Zeros>::ones();
+    let mut flags = [true; 24];
+    for _ in 0..300 {
+        change::<Tiered<[u8; 3], u8, Zeros>, LittleEndian>(&mut state, &mut set, &mut flags);
+        ask::<Tiered<[u8; 3], u8, Zeros>, LittleEndian>(&rt, &mut state, &set, &flags);
+    }
+}
+
+// Three tiers: 24 numbers, 8, and 8 above those, of which one is used.
+type Three = Tiered<[u8; 3], Tiered<u8, u8, Ones>, Zeros>;
+
+#[test]
+fn a_summary_of_a_summary_agrees_with_plain_loops(rt: HostRuntime) {
+    let mut state = 5;
+    let mut set = Three::ones();
+    let mut flags = [true; 24];
+    for _ in 0..300 {
+        change::<Three, BigEndian>(&mut state, &mut set, &mut flags);
+        ask::<Three, BigEndian>(&rt, &mut state, &set, &flags);
+    }
+}
+
+// A summary for either kind.
+type Both = Tiered<Tiered<[u8; 3], u8, Ones>, u8, Zeros>;
+
+#[test]
+fn a_summary_for_either_kind_agrees_with_plain_loops(rt: HostRuntime) {
+    let mut state = 6;
+    let mut set = Both::zeros();
+    let mut flags = [false; 24];
+    for _ in 0..300 {
+        change::<Both, LittleEndian>(&mut state, &mut set, &mut flags);
+        ask::<Both, LittleEndian>(&rt, &mut state, &set, &flags);
+    }
+}
+
+// A row of sets with a summary.
+type Row = [Tiered<u8, u8, Ones>; 3];
+
+#[test]
+fn a_row_of_them_agrees_with_plain_loops(rt: HostRuntime) {
+    let mut state = 7;
+    let mut set = Row::zeros();
+    let mut flags = [false; 24];
+    for _ in 0..300 {
+        change::<Row, BigEndian>(&mut state, &mut set, &mut flags);
+        ask::<Row, BigEndian>(&rt, &mut state, &set, &flags);
+    }
+}

@@ -1,0 +1,137 @@
+//! A set of 24 numbers as flags, by plain loops, and what is asked of a set beside them.
+
+ghost use Rattle.bittle.specs.Values.{ShapeFits};
+
+use crate::checks::{compare, holds, same};
+use bittle::walk::Iter;
+use bittle::{Bits, Endian};
+use bittle_tiers::Kind;
+use std::process::Abort;
+
+// Draws a number.
+pub(crate) fn draw(state: &mut u32) -> u32 {
+    *state = state.wrapping_mul(1_664_525).wrapping_add(1_013_904_223);
+    *state >> 8
+}
+
+// Returns the first flag of `from..to` that is as wanted.
+pub(crate) fn first_of(flags: &[bool; 24], from: u32, to: u32, wanted: bool) -> Option<u32> {
+    for i in from as usize..(to as usize).min(24) {
+        if flags[i] == wanted {
+            return Some(i as u32);
+        }
+    }
+    None
+}
+
+// Returns the last flag of `from..to` that is as wanted.
+pub(crate) fn last_of(flags: &[bool; 24], from: u32, to: u32, wanted: bool) -> Option<u32> {
+    let mut found = None;
+    for i in from as usize..(to as usize).min(24) {
+        if flags[i] == wanted {
+            found = Some(i as u32);
+        }
+    }
+    found
+}
+
+// Returns how many flags are set.
+pub(crate) fn count(flags: &[bool; 24]) -> u32 {
+    let mut count = 0u32;
+    for i in 0..24usize {
+        if flags[i] {
+            count = count.saturating_add(1);
+        }
+    }
+    count
+}
+
+// Asks the four searches of a drawn range.
+pub(crate) fn ask_searches<B: Bits, E: Endian>(
+    rt: &impl Abort,
+    state: &mut u32,
+    set: &B,
+    flags: &[bool; 24],
+)
+    requires { ShapeFits B.Shape set.now }
+{
+    let capacity = set.bits_capacity();
+    let (one, other) = (draw(state) % 25, draw(state) % 25);
+    let (from, to) = (one.min(other).min(capacity), one.max(other).min(capacity));
+    compare(
+        rt,
+        "first one",
+        set.first_one_in::<E>(from, to),
+        first_of(flags, from, to, true),
+    );
+    compare(
+        rt,
+        "last one",
+        set.last_one_in::<E>(from, to),
+        last_of(flags, from, to, true),
+    );
+    compare(
+        rt,
+        "first zero",
+        set.first_zero_in::<E>(from, to),
+        first_of(flags, from, to, false),
+    );
+    compare(
+        rt,
+        "last zero",
+        set.last_zero_in::<E>(from, to),
+        last_of(flags, from, to, false),
+    );
+}
+
+// Asks what is asked of all of a set.
+pub(crate) fn ask_whole<B: Bits, E: Endian>(
+    rt: &impl Abort,
+    state: &mut u32,
+    set: &B,
+    flags: &[bool; 24],
+)
+    requires { ShapeFits B.Shape set.now }
+{
+    compare(rt, "count", set.count_ones(), count(flags));
+    compare(rt, "all zeros", set.all_zeros(), count(flags) == 0);
+    compare(rt, "all ones", set.all_ones(), count(flags) == 24);
+    let index = draw(state) % 50;
+    compare(
+        rt,
+        "test",
+        set.test_bit_in::<E>(index),
+        flags[(index % 24) as usize],
+    );
+}
+
+// Steps an iterator to its end, from either end as drawn.
+pub(crate) fn ask_steps<B: Bits, E: Endian, K: Kind>(
+    rt: &impl Abort,
+    state: &mut u32,
+    mut walk: Iter<'_, B, E, K>,
+    flags: &[bool; 24],
+) {
+    let (mut low, mut high) = (0, 24);
+    for _ in 0..26 {
+        if draw(state) % 2 == 0 {
+            let expected = first_of(flags, low, high, K::ONES);
+            low = expected.map_or(high, |item| item.saturating_add(1));
+            compare(rt, "next", walk.next(), expected);
+        } else {
+            let expected = last_of(flags, low, high, K::ONES);
+            high = expected.unwrap_or(low);
+            compare(rt, "next_back", walk.next_back(), expected);
+        }
+    }
+}
+
+// Asks a set whatever it is asked here, in one order.
+pub(crate) fn ask<B: Bits, E: Endian>(rt: &impl Abort, state: &mut u32, set: &B, flags: &[bool; 24])
+    requires { ShapeFits B.Shape set.now }
+{
+    ask_searches::<B, E>(rt, state, set, flags);
+    ask_whole::<B, E>(rt, state, set, flags);
+    ask_steps(rt, state, set.iter_ones_in::<E>(), flags);
+    ask_steps(rt, state, set.iter_zeros_in::<E>(), flags);
+}
