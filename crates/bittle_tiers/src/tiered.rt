@@ -169,6 +169,11 @@ impl<B: BitsOwned, S: BitsOwned, K: Kind> ReadWords for Tiered<B, S, K> {
 
     ghost none_past = { λ t. B.none_past t.map };
 
+    #[inline(always)]
+    fn may_pass_over() -> bool {
+        true
+    }
+
     #[inline]
     fn capacity(&self) -> u32 {
         self.map.capacity()

@@ -22,6 +22,8 @@ mod searches;
 #[cfg(test)]
 mod sets;
 #[cfg(test)]
+mod tiers;
+#[cfg(test)]
 mod views;
 #[cfg(test)]
 mod walks;

@@ -1,0 +1,102 @@
+//! What a set with a summary asks of its map: no word of which the summary tells that it has none.
+
+ghost use Rattle.bittle.specs.Shapes.{Fits};
+ghost use Rattle.bittle.specs.Values.{ShapeFits};
+
+use crate::asked::Asked;
+use crate::checks::{holds, same};
+use crate::probe::{ONES, Probe, ZEROS};
+use bit_pages::Pages;
+use bittle::{BigEndian, Bits, BitsMut, BitsOwned, Set};
+use bittle_tiers::{Ones, Tiered, Zeros};
+use std::process::Abort;
+
+// Takes the pages 0 and 31, and then none.
+fn take_two<B: BitsOwned>(rt: &impl Abort, mut pages: Pages<B>, asked: &Asked) {
+    let made = asked.fetches();
+
+    // Page 0 is free, in the first word, which is read again for the summary.
+    same!(rt; pages.take(), Some(0));
+    same!(rt; (asked.fetches(), asked.other()), (made + 2, 1));
+
+    // Page 31 is free alone, in the last word: the three before it are passed over.
+    same!(rt; pages.take(), Some(31));
+    same!(rt; (asked.fetches(), asked.other()), (made + 4, 2));
+
+    // No word has a free page.
+    same!(rt; pages.take(), None);
+    same!(rt; (asked.fetches(), asked.other()), (made + 4, 2));
+}
+
+#[test]
+fn full_words_are_passed_over(rt: HostRuntime) {
+    let asked = Asked::new();
+    let map = Tiered::<Probe, u8, Zeros>::new(Probe::of(ZEROS, &asked));
+    // The summary is made of the four words.
+    same!(rt; (asked.fetches(), asked.other()), (4, 0));
+    take_two(&rt, Pages::with_taken(map), &asked);
+}
+
+// Counts what iterators over the set bits yield, one from each end.
+fn count_from_both_ends<B: Bits>(set: &B) -> (usize, usize)
+    requires { ShapeFits B.Shape set.now }
+{
+    (set.iter_ones().count(), set.iter_ones().rev().count())
+}
+
+#[test]
+fn an_iterator_passes_over_words_without_a_bit(rt: HostRuntime) {
+    let asked = Asked::new();
+    let set = Set::<Tiered<Probe, u8, Ones>>::new(Tiered::new(Probe::of(ONES, &asked)));
+    let made = asked.fetches();
+
+    // Of four words the first and the last have a bit. The one after the first is read, and the
+    // next is passed over; from the back likewise.
+    same!(rt; count_from_both_ends(&set), (2, 2));
+    same!(rt; (asked.fetches(), asked.other()), (made + 6, 0));
+}
+
+// Searches from index 1 on, and up to index 30.
+fn search_both_ends<B: Bits>(set: &B) -> (Option<u32>, Option<u32>)
+    requires { ShapeFits B.Shape set.now }
+{
+    let capacity = set.bits_capacity();
+    let first = set.first_one_in::<BigEndian>(1.min(capacity), capacity);
+    (first, set.last_one_in::<BigEndian>(0, 30.min(capacity)))
+}
+
+#[test]
+fn a_search_reads_its_first_word_and_that_of_its_answer(rt: HostRuntime) {
+    let asked = Asked::new();
+    let set = Tiered::<Probe, u8, Ones>::new(Probe::of(ONES, &asked));
+    let made = asked.fetches();
+    same!(rt; search_both_ends(&set), (Some(31), Some(0)));
+    same!(rt; (asked.fetches(), asked.other()), (made + 4, 0));
+    holds!(rt; !set.all_zeros());
+    same!(rt; (asked.fetches(), asked.other()), (made + 4, 0));
+}
+
+#[test]
+fn a_change_of_a_bit_is_a_call_and_a_word(rt: HostRuntime) {
+    let asked = Asked::new();
+    let mut set = Tiered::<Probe, u8, Ones>::new(Probe::of(ONES, &asked));
+    let made = asked.fetches();
+    set.set_bit(9);
+    same!(rt; (asked.fetches(), asked.other()), (made + 1, 1));
+    set.clear_bit(9);
+    same!(rt; (asked.fetches(), asked.other()), (made + 2, 2));
+}
+
+#[test]
+fn a_row_asks_its_elements(rt: HostRuntime) {
+    let asked = Asked::new();
+    let row = [
+        Tiered::<Probe, u8, Ones>::new(Probe::of([0; 4], &asked)),
+        Tiered::<Probe, u8, Ones>::new(Probe::of(ONES, &asked)),
+    ];
+    let made = asked.fetches();
+
+    // The four words of the first are passed over, and of the second one.
+    same!(rt; count_from_both_ends(&row), (2, 2));
+    same!(rt; (asked.fetches(), asked.other()), (made + 6, 0));
+}
