@@ -8,24 +8,25 @@ use crate::checks::{holds, same};
 use crate::probe::{ONES, Probe, ZEROS};
 use bit_pages::Pages;
 use bittle::{BigEndian, Bits, BitsMut, BitsOwned, Set};
+use bittle_ext::BitsViewExt;
 use bittle_tiers::{Ones, Tiered, Zeros};
 use std::process::Abort;
 
-// Takes the pages 0 and 31, and then none.
+// Takes the pages 0 and 31, and then none. The map is counted before, by one call.
 fn take_two<B: BitsOwned>(rt: &impl Abort, mut pages: Pages<B>, asked: &Asked) {
     let made = asked.fetches();
 
     // Page 0 is free, in the first word, which is read again for the summary.
     same!(rt; pages.take(), Some(0));
-    same!(rt; (asked.fetches(), asked.other()), (made + 2, 1));
+    same!(rt; (asked.fetches(), asked.other()), (made + 2, 2));
 
     // Page 31 is free alone, in the last word: the three before it are passed over.
     same!(rt; pages.take(), Some(31));
-    same!(rt; (asked.fetches(), asked.other()), (made + 4, 2));
+    same!(rt; (asked.fetches(), asked.other()), (made + 4, 3));
 
-    // No word has a free page.
+    // No page is free, which the count tells.
     same!(rt; pages.take(), None);
-    same!(rt; (asked.fetches(), asked.other()), (made + 4, 2));
+    same!(rt; (asked.fetches(), asked.other()), (made + 4, 3));
 }
 
 #[test]
@@ -99,4 +100,25 @@ fn a_row_asks_its_elements(rt: HostRuntime) {
     // The four words of the first are passed over, and of the second one.
     same!(rt; count_from_both_ends(&row), (2, 2));
     same!(rt; (asked.fetches(), asked.other()), (made + 6, 0));
+}
+
+// Counts what iterators over both sets, and over the first alone, yield.
+fn count_both_and_alone<A: Bits, B: Bits>(left: &A, right: &B) -> (usize, usize)
+    requires left { ShapeFits A.Shape left.now }
+    requires right { ShapeFits B.Shape right.now }
+{
+    (left.and(right).iter_ones().count(), left.minus(right).iter_ones().count())
+}
+
+#[test]
+fn a_view_of_two_sets_passes_over_what_either_tells(rt: HostRuntime) {
+    let (ours, theirs) = (Asked::new(), Asked::new());
+    let left = Tiered::<Probe, u8, Ones>::new(Probe::of(ONES, &ours));
+    let right = Tiered::<Probe, u8, Ones>::new(Probe::of([0, 0, 4, 0], &theirs));
+    let made = (ours.fetches(), theirs.fetches());
+
+    // Of both sets word 2 alone is read, before which and after which one of them has nothing. Of
+    // the first alone its two words are, and one between.
+    same!(rt; count_both_and_alone(&left, &right), (0, 2));
+    same!(rt; (ours.fetches(), theirs.fetches()), (made.0 + 4, made.1 + 4));
 }
