@@ -43,22 +43,28 @@ passes_all false w low high s ordered none = (omega arith, ordered, none)
 pub passes_to_end : (w low last high : ℕ) (s : PlainSet) → last ≤ high →
     NoneIn s (last * w) (high * w) → PassesOver true w s low last last →
     PassesOver true w s low high high
-passes_to_end w low last high s far none p =
-    (omega (arith, p.0, far), omega arith, λ k lo hi. elim (cases_lt k (last * w)) [
-      | inl l ↦ p.2 k lo l
-      | inr g ↦ none k g hi
-    ])
+passes_to_end w low last high s far none p = (
+  omega (arith, p.0, far),
+  omega arith,
+  λ k lo hi. elim (cases_lt k (last * w)) [
+    | inl l ↦ p.2 k lo l
+    | inr g ↦ none k g hi
+  ],
+)
 
 -- and after words of which some are passed over
 pub passes_further : (front : Bool) (w low last high r : ℕ) (s : PlainSet) → last ≤ high →
     NoneIn s (last * w) (high * w) → PassesOver front w s low last r →
     PassesOver front w s low high r
 passes_further true w low last high r s far none p = (p.0, omega (arith, p.1, far), p.2)
-passes_further false w low last high r s far none p =
-    (p.0, omega (arith, p.1, far), λ k lo hi. elim (cases_lt k (last * w)) [
-      | inl l ↦ p.2 k lo l
-      | inr g ↦ none k g hi
-    ])
+passes_further false w low last high r s far none p = (
+  p.0,
+  omega (arith, p.1, far),
+  λ k lo hi. elim (cases_lt k (last * w)) [
+    | inl l ↦ p.2 k lo l
+    | inr g ↦ none k g hi
+  ],
+)
 
 -- ---- words of two sets
 
@@ -72,19 +78,25 @@ passes_fewer false w low high r s t fewer p = (p.0, p.1, λ k lo hi. fewer k (p.
 -- words passed over, and then others after them from the same end
 pub passes_from : (w low high mid r : ℕ) (s : PlainSet) → PassesOver true w s low high mid →
     PassesOver true w s mid high r → PassesOver true w s low high r
-passes_from w low high mid r s p q =
-    (omega (arith, p.0, q.0), q.1, λ k lo hi. elim (cases_lt k (mid * w)) [
-      | inl l ↦ p.2 k lo l
-      | inr g ↦ q.2 k g hi
-    ])
+passes_from w low high mid r s p q = (
+  omega (arith, p.0, q.0),
+  q.1,
+  λ k lo hi. elim (cases_lt k (mid * w)) [
+    | inl l ↦ p.2 k lo l
+    | inr g ↦ q.2 k g hi
+  ],
+)
 
 pub passes_back : (w low high mid r : ℕ) (s : PlainSet) → PassesOver false w s low high mid →
     PassesOver false w s low mid r → PassesOver false w s low high r
-passes_back w low high mid r s p q =
-    (q.0, omega (arith, p.1, q.1), λ k lo hi. elim (cases_lt k (mid * w)) [
-      | inl l ↦ q.2 k lo l
-      | inr g ↦ p.2 k g hi
-    ])
+passes_back w low high mid r s p q = (
+  q.0,
+  omega (arith, p.1, q.1),
+  λ k lo hi. elim (cases_lt k (mid * w)) [
+    | inl l ↦ q.2 k lo l
+    | inr g ↦ p.2 k g hi
+  ],
+)
 
 -- the words that both sets pass over, where what is in neither is no member
 module _ (w low high o p r : ℕ) (s t d : PlainSet)

@@ -26,7 +26,11 @@ pub fn visit(seen: &mut u64, node: u32) -> Result<bool, NoNode>
 pub fn visit_ends(seen: &mut [u8; 5], ends: &[u32]) -> usize {
     let mut out = 0usize;
     for end in ends.iter() {
-        if seen.in_order_mut::<LittleEndian>().try_insert(*end).is_none() {
+        if seen
+            .in_order_mut::<LittleEndian>()
+            .try_insert(*end)
+            .is_none()
+        {
             out = out.saturating_add(1);
         }
     }

@@ -86,7 +86,10 @@ fn ask_of_two<B: BitsOwned>() -> ([u32; 3], [bool; 3])
     let _back = pages.give_back(0);
     let counts = [pages.pages(), pages.taken(), pages.free()];
     let end = pages.pages();
-    (counts, [pages.is_taken(0), pages.is_taken(1), pages.is_taken(end)])
+    (
+        counts,
+        [pages.is_taken(0), pages.is_taken(1), pages.is_taken(end)],
+    )
 }
 
 #[test]

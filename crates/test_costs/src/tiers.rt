@@ -107,7 +107,10 @@ fn count_both_and_alone<A: Bits, B: Bits>(left: &A, right: &B) -> (usize, usize)
     requires left { ShapeFits A.Shape left.now }
     requires right { ShapeFits B.Shape right.now }
 {
-    (left.and(right).iter_ones().count(), left.minus(right).iter_ones().count())
+    (
+        left.and(right).iter_ones().count(),
+        left.minus(right).iter_ones().count(),
+    )
 }
 
 #[test]

@@ -17,7 +17,14 @@ fn asked<B: Bits>(bits: &B, indexes: [u32; 3]) -> ([bool; 3], [Option<bool>; 3])
         bits.contains_index(second),
         bits.contains_index(third),
     ];
-    (contained, [bits.get_bit(first), bits.get_bit(second), bits.get_bit(third)])
+    (
+        contained,
+        [
+            bits.get_bit(first),
+            bits.get_bit(second),
+            bits.get_bit(third),
+        ],
+    )
 }
 
 // What is answered of a set bit, an unset one, and one that is none.

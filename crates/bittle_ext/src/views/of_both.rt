@@ -220,7 +220,11 @@ impl<'a, A: Bits, B: Bits, E: Endian, F: Endian, O: ViewOperation> ReadWords
             return if N::FRONT { low } else { high };
         }
         let theirs = passed::<B, N>(self.right, low, high);
-        if N::FRONT { ours.min(theirs) } else { ours.max(theirs) }
+        if N::FRONT {
+            ours.min(theirs)
+        } else {
+            ours.max(theirs)
+        }
     }
 }
 
