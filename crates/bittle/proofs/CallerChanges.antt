@@ -1,6 +1,8 @@
 -- What callers cite of a set after a change: a test of an index, and the size.
 use Rattle.std.proofs.Common.{◌≡◌, ◌≢◌, ℕ, zero, suc, ◌+◌, ◌-◌, ◌%◌, ◌<◌, ◌≤◌, ◌⊎◌, Bool, true, false, not, cond, ◌&&◌, ◌||◌, ◌==◌, nat_lt, inl, inr, refl, sym, ap, ◌∙◌, arith}
+use Rattle.std.proofs.Common.{add-zero}
 use Rattle.std.proofs.Math.Nat.{add-mod_right}
+use Rattle.std.proofs.lemmas.Nat.{mod_below}
 use Rattle.std.proofs.lemmas.Bool.{cases_eq, eq-eqb, ne_eqb, lt-ltb}
 use Rattle.bittle_bits.specs.PlainSet.{PlainSet, contains, with_index, has_with, without_index, has_without, with_span, without_span, has_changed, count_below, is_in_span, members_below, size}
 use Rattle.bittle_bits.proofs.Counts.{count-same, count-add}
@@ -96,6 +98,77 @@ pub size_without : (s : PlainSet) (i : ℕ) → i < s.capacity → s.has i ≡ t
     size s ≡ size (without_index s i) + 1
 size_without s i h some =
     size_removed s i h some ∙ sym (ap (λ t. size t + 1) (without_index_within s i h))
+
+-- the size after an index was put in, which may wrap: one more where it was none
+pub size_inserted : (s : PlainSet) (i : ℕ) → 0 < s.capacity →
+    size (with_index s i) ≡ size s + cond (not (contains s i)) 1 0
+unfolding contains has_with
+size_inserted s i some = by (s.has j) refl
+  where
+    j : ℕ
+    j = i % s.capacity
+
+    is : nat_lt 0 s.capacity ≡ true
+    is = lt-ltb 0 s.capacity some
+
+    each : (k : ℕ) → has_with s i k ≡ ((k == j) || s.has k)
+    each k = rw is refl
+
+    with_is : with_index s i ≡ record { capacity = s.capacity; has = λ k. (k == j) || s.has k }
+    with_is = λ p. record { capacity = s.capacity; has = λ k. each k p }
+
+    inside : contains s i ≡ s.has j
+    inside = rw is refl
+
+    by : (b : Bool) → s.has j ≡ b → size (with_index s i)
+        ≡ size s + cond (not (contains s i)) 1 0
+    by true e =
+        ap size with_is
+        ∙ count-same s.capacity (λ k. (k == j) || s.has k) s.has
+        (λ k l. elim (cases_eq k j) [
+          | inl same ↦ ap (λ b. b || s.has k) (eq-eqb k j same) ∙ sym (ap s.has same ∙ e)
+          | inr apart ↦ ap (λ b. b || s.has k) (ne_eqb k j apart)
+        ]) ∙ sym (add-zero (size s))
+        ∙ ap (λ b. size s + cond (not b) 1 0) (sym (inside ∙ e))
+    by false e =
+        ap size with_is ∙ size_added s j (mod_below i s.capacity some) e
+        ∙ ap (λ b. size s + cond (not b) 1 0) (sym (inside ∙ e))
+
+-- the size before an index was taken out, which may wrap: one more where it was a member
+pub size_taken_out : (s : PlainSet) (i : ℕ) → 0 < s.capacity →
+    size s ≡ size (without_index s i) + cond (contains s i) 1 0
+unfolding contains has_without
+size_taken_out s i some = by (s.has j) refl
+  where
+    j : ℕ
+    j = i % s.capacity
+
+    is : nat_lt 0 s.capacity ≡ true
+    is = lt-ltb 0 s.capacity some
+
+    each : (k : ℕ) → has_without s i k ≡ (not (k == j) && s.has k)
+    each k = rw is refl
+
+    with_is : without_index s i
+        ≡ record { capacity = s.capacity; has = λ k. not (k == j) && s.has k }
+    with_is = λ p. record { capacity = s.capacity; has = λ k. each k p }
+
+    inside : contains s i ≡ s.has j
+    inside = rw is refl
+
+    by : (b : Bool) → s.has j ≡ b →
+        size s ≡ size (without_index s i) + cond (contains s i) 1 0
+    by true e =
+        size_removed s j (mod_below i s.capacity some) e
+        ∙ sym (ap (λ t. size t + 1) with_is)
+        ∙ ap (λ b. size (without_index s i) + cond b 1 0) (sym (inside ∙ e))
+    by false e =
+        count-same s.capacity s.has (λ k. not (k == j) && s.has k)
+        (λ k l. elim (cases_eq k j) [
+          | inl same ↦ ap s.has same ∙ e ∙ sym (ap (λ b. not b && s.has k) (eq-eqb k j same))
+          | inr apart ↦ sym (ap (λ b. not b && s.has k) (ne_eqb k j apart))
+        ]) ∙ sym (ap size with_is) ∙ sym (add-zero (size (without_index s i)))
+        ∙ ap (λ b. size (without_index s i) + cond b 1 0) (sym (inside ∙ e))
 
 -- a set with a member of its own is that set
 pub with_member : (s : PlainSet) (i : ℕ) → i < s.capacity → s.has i ≡ true → with_index s i ≡ s

@@ -1,13 +1,14 @@
 //! Changing a set.
 
-ghost use Rattle.std.specs.Prelude.{◌≡◌, ◌+◌, ◌≤◌, ℕ, Bool, List, not, IsTrue, MatchOption};
+ghost use Rattle.std.specs.Prelude.{◌≡◌, ◌+◌, ◌<◌, ◌≤◌, ℕ, Bool, List, cond, not, IsTrue};
+ghost use Rattle.std.specs.Prelude.{MatchOption};
 ghost use Rattle.std.specs.Iterator.{Drains, IsFinite};
 ghost use Rattle.std.specs.Iterator.Runs.{WholeRun};
 ghost use Rattle.std.specs.List.{fold};
 ghost use Rattle.bittle_ext.specs.Runs.{IsFirstRun};
 ghost use Rattle.bittle_ext.specs.Changes.{with_index_assigned, with_index_toggled};
 ghost use Rattle.bittle_ext.specs.Changes.{with_span_assigned, Retains};
-ghost use Rattle.bittle.specs.PlainSet.{contains, complement, with_index, without_index};
+ghost use Rattle.bittle.specs.PlainSet.{contains, complement, size, with_index, without_index};
 ghost use Rattle.bittle.specs.PlainSet.{with_span, without_span, with_span_toggled};
 ghost use Rattle.bittle.specs.Searches.{IsFirstIn, IsLastIn};
 ghost use Rattle.bittle.specs.Values.{set_in, set_mirrored, ShapeFits};
@@ -38,6 +39,9 @@ pub trait BitsMutExt: BitsMut {
             ≡ not (contains (set_in Self.Shape Self.Order.Endian self.old) index) }
         ensures set { set_in Self.Shape Self.Order.Endian self.new
             ≡ with_index (set_in Self.Shape Self.Order.Endian self.old) index }
+        ensures count { 0 < (Self.big self.old).capacity
+            → size (set_in Self.Shape Self.Order.Endian self.new)
+            ≡ size (set_in Self.Shape Self.Order.Endian self.old) + cond result 1 0 }
         ensures stays { Self.loan self.old ≡ Self.loan self.new }
     {
         if one_bit::has_bits(self) {
@@ -64,6 +68,9 @@ pub trait BitsMutExt: BitsMut {
         ensures was_set { result ≡ contains (set_in Self.Shape Self.Order.Endian self.old) index }
         ensures set { set_in Self.Shape Self.Order.Endian self.new
             ≡ without_index (set_in Self.Shape Self.Order.Endian self.old) index }
+        ensures count { 0 < (Self.big self.old).capacity
+            → size (set_in Self.Shape Self.Order.Endian self.old)
+            ≡ size (set_in Self.Shape Self.Order.Endian self.new) + cond result 1 0 }
         ensures stays { Self.loan self.old ≡ Self.loan self.new }
     {
         if one_bit::has_bits(self) {

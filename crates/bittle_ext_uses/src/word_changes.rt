@@ -4,12 +4,12 @@ ghost use Rattle.std.specs.Int.{w64, cast_unsigned};
 ghost use Rattle.std.specs.Prelude.{◌≡◌, ◌<◌, ◌≤◌, ◌==◌, ◌%◌, ℕ, not, true, MatchOption, Option};
 ghost use Rattle.bittle.specs.BitPatterns.{bit_set};
 ghost use Rattle.bittle.specs.Orders.{read_in};
-ghost use Rattle.bittle.specs.PlainSet.{complement, contains, with_index, without_index};
+ghost use Rattle.bittle.specs.PlainSet.{complement, contains, size, with_index, without_index};
 ghost use Rattle.bittle.specs.PlainSet.{with_span, with_span_toggled, without_span};
 ghost use Rattle.bittle.specs.Searches.{IsFirstIn, IsLastIn};
 ghost use Rattle.bittle_ext.specs.Changes.{with_index_assigned, with_index_toggled, those_passing};
 
-use bittle::LittleEndian;
+use bittle::{Bits, LittleEndian};
 use bittle_ext::{BitsMutExt, BitsMutViewExt};
 
 /// Sets a bit, and returns whether it was unset.
@@ -111,4 +111,16 @@ pub fn without_ends(mask: u64) -> u64
     rest.pop_first();
     rest.pop_last();
     rest
+}
+
+/// Sets a bit and counts the set bits, without a second count.
+pub fn insert_and_count(mask: &mut u64, index: u32) -> u32
+    ensures { result ≡ size (bit_set 64 mask.new) }
+{
+    let before = Bits::count_ones(mask);
+    if mask.insert(index) {
+        before + 1
+    } else {
+        before
+    }
 }
