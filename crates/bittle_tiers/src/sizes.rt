@@ -1,4 +1,5 @@
-//! Sets with a summary, of the usual sizes.
+//! Sets with a summary, of the usual sizes. A summary is searched for its set bits, so that of a
+//! summary is of the ones, whatever the kind of the set.
 
 ghost use Rattle.std.specs.Prelude.{◌≡◌};
 ghost use Rattle.bittle_bits.specs.BitPatterns.{bit_set};
@@ -7,7 +8,7 @@ ghost use Rattle.bittle_bits.specs.Rows.{row_set};
 
 use crate::tiered::Tiered;
 use bittle_bits::bits_owned::BitsOwned;
-use bittle_bits::extension::Kind;
+use bittle_bits::extension::{Kind, Ones};
 
 /// Has 4,096 numbers: 64 words, and one word above them.
 ///
@@ -22,14 +23,14 @@ pub type Tiered4K<K> = Tiered<[u64; 64], u64, K>;
 /// ```
 /// Tiered64K::<Ones>::bits();                          // 65,536
 /// ```
-pub type Tiered64K<K> = Tiered<[u64; 1024], Tiered<[u64; 16], u64, K>, K>;
+pub type Tiered64K<K> = Tiered<[u64; 1024], Tiered<[u64; 16], u64, Ones>, K>;
 
 /// Has 262,144 numbers: 4,096 words, 64 above them, and one above those.
 ///
 /// ```
 /// Tiered256K::<Zeros>::bits();                        // 262,144
 /// ```
-pub type Tiered256K<K> = Tiered<[u64; 4096], Tiered4K<K>, K>;
+pub type Tiered256K<K> = Tiered<[u64; 4096], Tiered4K<Ones>, K>;
 
 impl<K: Kind> From<[u64; 64]> for Tiered4K<K> {
     ghost from_gives = { λ map t. t.map ≡ map };

@@ -15,6 +15,18 @@ fn the_usual_sizes(rt: HostRuntime) {
     same!(rt; bits::<Tiered256K<Ones>>(), 262_144);
 }
 
+// The summary of a summary is of the ones, whatever the kind: it is searched for its set bits.
+fn middle_of_zeros() -> (u32, u32) {
+    let large: Tiered<[u64; 1024], Tiered<[u64; 16], u64, Ones>, Zeros> = Tiered64K::default();
+    let larger: Tiered<[u64; 4096], Tiered<[u64; 64], u64, Ones>, Zeros> = Tiered256K::default();
+    (capacity(&large), capacity(&larger))
+}
+
+#[test]
+fn a_summary_of_a_summary_is_of_the_ones(rt: HostRuntime) {
+    same!(rt; middle_of_zeros(), (65_536, 262_144));
+}
+
 #[test]
 fn a_summary_that_is_too_small_is_told(rt: HostRuntime) {
     // Eight words have a number each in a byte; the ninth has none.
