@@ -1,8 +1,8 @@
 -- Words that a view of two sets passes over, as each of its sets passes over them.
-use Rattle.std.proofs.Common.{◌≡◌, ℕ, ◌*◌, ◌/◌, ◌%◌, ◌<◌, ◌≤◌, Bool, true, false, cond, min, max, inl, inr, sym, ap, ◌∙◌, arith}
+use Rattle.std.proofs.Common.{◌≡◌, ℕ, ◌*◌, ◌/◌, ◌%◌, ◌<◌, ◌≤◌, Bool, true, false, cond, not, ◌&&◌, nat_lt, min, max, inl, inr, refl, sym, ap, ◌∙◌, arith}
 use Rattle.std.proofs.Math.Nat.{mul-le-mul_right}
 use Rattle.std.proofs.lemmas.Bool.{cases_lt}
-use Rattle.bittle_bits.specs.PlainSet.{PlainSet}
+use Rattle.bittle_bits.specs.PlainSet.{PlainSet, complement, lacks}
 use Rattle.bittle_bits.specs.Searches.{NoneIn, PassesOver}
 use Rattle.bittle_bits.specs.Walk.{ones_or_zeros}
 use Rattle.bittle_bits.proofs.DecidedWords.{words_make_up}
@@ -130,3 +130,18 @@ pub passes_read_back : (front ones m : Bool) (w low high r : ℕ) (d : PlainSet)
 passes_read_back front ones m w low high r d word whole is p =
     rw (is, read_back_is m w d) (passes_in_order front true m w low high r d word
     (whole_words_of w d.capacity whole) p)
+
+-- words without a bit of the other kind have none of the kind in the complement
+pub passes_complement : (front : Bool) (w low high r : ℕ) (s : PlainSet) →
+    PassesOver front w s low high r →
+    PassesOver front w (complement (complement s)) low high r
+unfolding lacks
+passes_complement front w low high r s = passes_fewer front w low high r s
+    (complement (complement s)) (λ k e. twice k e)
+  where
+    none : (b : Bool) → (b && not (b && true)) ≡ false
+    none true = refl
+    none false = refl
+
+    twice : (k : ℕ) → s.has k ≡ false → (complement (complement s)).has k ≡ false
+    twice k e = rw e (none (nat_lt k s.capacity))

@@ -7,7 +7,7 @@ ghost use Rattle.bittle.specs.Values.{set_in, ShapeFits};
 
 use crate::views::by_words::{count, is_empty, is_full, test};
 use bittle::{Bits, Endian, Shape};
-use bittle_bits::extension::{ReadWords, Sealed, Zeros, word_of_kind};
+use bittle_bits::extension::{End, Kind, Ones, ReadWords, Sealed, Zeros, word_of_kind};
 use std::alloc::AllocError;
 
 /// The unset bits below the capacity of a set that it borrows: a set of as many bits, in the order
@@ -65,6 +65,20 @@ impl<'a, B: Bits> ReadWords for Complement<'a, B> {
     #[inline(always)]
     fn nth_leaf_word(&self, k: usize) -> B::LeafWord {
         word_of_kind::<B, Zeros>(self.set, k)
+    }
+
+    #[inline(always)]
+    fn may_pass_over() -> bool {
+        B::may_pass_over()
+    }
+
+    #[inline(always)]
+    fn pass_over<K: Kind, N: End>(&self, low: usize, high: usize) -> usize {
+        if K::ONES {
+            self.set.pass_over::<Zeros, N>(low, high)
+        } else {
+            self.set.pass_over::<Ones, N>(low, high)
+        }
     }
 }
 

@@ -3,7 +3,7 @@
 ghost use Rattle.std.specs.Prelude.{◌≡◌};
 
 use bittle::{Bits, Endian, Shape};
-use bittle_bits::extension::{ReadWords, Sealed};
+use bittle_bits::extension::{End, Kind, ReadWords, Sealed};
 use std::marker::PhantomData;
 
 /// A set that is borrowed and read in the order `E`: calls that name no order take it.
@@ -60,6 +60,16 @@ impl<'a, B: ReadWords, E: Endian> ReadWords for InOrder<'a, B, E> {
     #[inline]
     fn nth_leaf_word(&self, k: usize) -> B::LeafWord {
         self.set.nth_leaf_word(k)
+    }
+
+    #[inline(always)]
+    fn may_pass_over() -> bool {
+        B::may_pass_over()
+    }
+
+    #[inline(always)]
+    fn pass_over<K: Kind, N: End>(&self, low: usize, high: usize) -> usize {
+        self.set.pass_over::<K, N>(low, high)
     }
 }
 

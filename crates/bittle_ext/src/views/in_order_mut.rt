@@ -3,7 +3,7 @@
 ghost use Rattle.std.specs.Prelude.{◌≡◌};
 
 use bittle::{Bits, BitsMut, Endian, Shape};
-use bittle_bits::extension::{Operation, RangeOperation, ReadWords, Sealed};
+use bittle_bits::extension::{End, Kind, Operation, RangeOperation, ReadWords, Sealed};
 use std::marker::PhantomData;
 
 /// A set that is borrowed for a change, and read and changed in the order `E`: calls that name no
@@ -52,6 +52,16 @@ impl<'a, B: ReadWords, E: Endian> ReadWords for InOrderMut<'a, B, E> {
     #[inline]
     fn nth_leaf_word(&self, k: usize) -> B::LeafWord {
         self.set.nth_leaf_word(k)
+    }
+
+    #[inline(always)]
+    fn may_pass_over() -> bool {
+        B::may_pass_over()
+    }
+
+    #[inline(always)]
+    fn pass_over<K: Kind, N: End>(&self, low: usize, high: usize) -> usize {
+        self.set.pass_over::<K, N>(low, high)
     }
 }
 
