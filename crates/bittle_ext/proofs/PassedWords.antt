@@ -1,12 +1,14 @@
 -- Words that a view of two sets passes over, as each of its sets passes over them.
 use Rattle.std.proofs.Common.{◌≡◌, ℕ, ◌*◌, ◌/◌, ◌%◌, ◌<◌, ◌≤◌, Bool, true, false, cond, not, ◌&&◌, nat_lt, min, max, inl, inr, refl, sym, ap, ◌∙◌, arith}
 use Rattle.std.proofs.Math.Nat.{mul-le-mul_right}
-use Rattle.std.proofs.lemmas.Bool.{cases_lt}
-use Rattle.bittle_bits.specs.PlainSet.{PlainSet, complement, lacks}
+use Rattle.std.proofs.lemmas.Bool.{cases_lt, and_right}
+use Rattle.bittle_bits.specs.PlainSet.{PlainSet, complement, is_in_span, lacks}
+use Rattle.bittle_bits.specs.Orders.{read_in}
 use Rattle.bittle_bits.specs.Searches.{NoneIn, PassesOver}
 use Rattle.bittle_bits.specs.Walk.{ones_or_zeros}
 use Rattle.bittle_bits.proofs.DecidedWords.{words_make_up}
 use Rattle.bittle_bits.proofs.OnesOrZeros.{passes_in_order}
+use Rattle.bittle_ext.specs.RangeMembers.{kind_within}
 use Rattle.bittle_ext.specs.ViewLaws.{whole_words_of}
 use Rattle.bittle_ext.specs.Views.{read_back}
 use Rattle.bittle_ext.proofs.ViewFacts.{read_back_is}
@@ -145,3 +147,16 @@ passes_complement front w low high r s = passes_fewer front w low high r s
 
     twice : (k : ℕ) → s.has k ≡ false → (complement (complement s)).has k ≡ false
     twice k e = rw e (none (nat_lt k s.capacity))
+
+-- what a set passes over in a kind is passed over within a range of it
+pub passes_within : (front kind m : Bool) (w low high r from to : ℕ) (s : PlainSet) → 0 < w →
+    (words : ℕ) × (s.capacity ≡ words * w) →
+    PassesOver front w (ones_or_zeros kind s) low high r →
+    PassesOver front w (read_back m w (kind_within kind (read_in m w s) from to)) low high r
+passes_within front kind m w low high r from to s word whole p =
+    let t = read_in m w s in
+    let d : PlainSet = kind_within kind t from to in
+    rw (read_back_is m w d) (passes_in_order front true m w low high r d word whole
+    (passes_fewer front w low high r (ones_or_zeros kind t) d
+    (λ k e. ap (λ b. is_in_span from to k && b) e ∙ and_right (is_in_span from to k) false refl)
+    (passes_in_order front kind m w low high r s word whole p)))

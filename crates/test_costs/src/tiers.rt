@@ -7,7 +7,7 @@ use crate::asked::Asked;
 use crate::checks::{holds, same};
 use crate::probe::{ONES, Probe, ZEROS};
 use bit_pages::Pages;
-use bittle::{BigEndian, Bits, BitsMut, BitsOwned, Set};
+use bittle::{BigEndian, Bits, BitsMut, BitsOwned, LittleEndian, Set};
 use bittle_ext::BitsViewExt;
 use bittle_tiers::{Ones, Tiered, Zeros};
 use std::process::Abort;
@@ -124,4 +124,31 @@ fn a_view_of_two_sets_passes_over_what_either_tells(rt: HostRuntime) {
     // the first alone its two words are, and one between.
     same!(rt; count_both_and_alone(&left, &right), (0, 2));
     same!(rt; (ours.fetches(), theirs.fetches()), (made.0 + 4, made.1 + 4));
+}
+
+// Counts what iterators over views of a set yield: from index 8 on, of the complement's unset bits,
+// and from the left.
+fn count_in_views<B: Bits>(set: &B) -> (usize, usize, usize)
+    requires { ShapeFits B.Shape set.now }
+{
+    let capacity = set.bits_capacity();
+    let late = set.within(8.min(capacity), capacity).iter_ones().count();
+    let unset = set.complement_view().iter_zeros().count();
+    (
+        late,
+        unset,
+        set.in_order::<LittleEndian>().iter_ones().count(),
+    )
+}
+
+#[test]
+fn views_of_one_set_pass_over_what_it_tells(rt: HostRuntime) {
+    let asked = Asked::new();
+    let set = Tiered::<Probe, u8, Ones>::new(Probe::of(ONES, &asked));
+    let made = asked.fetches();
+
+    // From index 8 on the last word alone is read; of the others the first, the one after it, and
+    // the last.
+    same!(rt; count_in_views(&set), (1, 2, 2));
+    same!(rt; (asked.fetches(), asked.other()), (made + 7, 0));
 }

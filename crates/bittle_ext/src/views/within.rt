@@ -96,6 +96,11 @@ impl<'a, B: Bits, E: Endian, K: Kind> ReadWords for KindWithin<'a, B, E, K> {
         Conjunction::on_words::<B::LeafWord>(range::<B::LeafWord, E>(low, high), word)
     }
 
+    #[inline(always)]
+    fn may_pass_over() -> bool {
+        true
+    }
+
     #[inline]
     fn pass_over<L: Kind, N: End>(&self, low: usize, high: usize) -> usize {
         if !L::ONES {
@@ -103,9 +108,11 @@ impl<'a, B: Bits, E: Endian, K: Kind> ReadWords for KindWithin<'a, B, E, K> {
         }
         let width = word_width::<B>();
         if N::FRONT {
-            ((self.from / width) as usize).max(low).min(high)
+            let at = ((self.from / width) as usize).max(low).min(high);
+            self.set.pass_over::<K, N>(at, high)
         } else {
-            (self.to.div_ceil(width) as usize).min(high).max(low)
+            let at = (self.to.div_ceil(width) as usize).min(high).max(low);
+            self.set.pass_over::<K, N>(low, at)
         }
     }
 }
