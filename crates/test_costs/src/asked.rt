@@ -38,6 +38,11 @@ impl Asked {
         self.fetches.get()
     }
 
+    /// Returns how many words were fetched since there were so many.
+    pub(crate) fn fetched_since(&self, before: u32) -> u32 {
+        self.fetches.get().wrapping_sub(before)
+    }
+
     /// Returns how many other calls there were.
     pub(crate) fn other(&self) -> u32 {
         self.other.get()
