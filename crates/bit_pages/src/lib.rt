@@ -76,10 +76,7 @@ impl<B: BitsOwned> Pages<B> {
         requires { IsTrue B.indexable }
         ensures { set_in B.Shape B.Order.Endian result.map ≡ empty_set B.type_capacity }
     {
-        Pages {
-            map: B::zeros(),
-            count: 0,
-        }
+        Pages::with_taken(B::zeros())
     }
 
     /// Returns an allocator of which the pages in the map are taken, each by its index in the order
