@@ -1,0 +1,239 @@
+-- What follows from the machine of taking turns for every list of events.
+use Rattle.std.proofs.Common.{◌≡◌, ℕ, zero, suc, ◌+◌, ◌<◌, ◌≤◌, ◌⊎◌, Bool, true, false, not, cond, ◌&&◌, ◌||◌, ◌==◌, nat_lt, Option, Some, None, List, [], ◌∷◌, inl, inr, refl, sym, ap, ◌∙◌, arith}
+use Rattle.std.specs.List.{count_by, scan, list_any}
+use Rattle.std.specs.Prelude.{◌↔◌, MatchOption, slice_get}
+use Rattle.std.proofs.lemmas.Bool.{cases_eq, cases_Bool, eq-eqb, ne_eqb, or_right, and_parts, and_right, true≢false}
+use Rattle.bittle.specs.PlainSet.{PlainSet, count_below, size}
+use Rattle.bittle.specs.Searches.{NoneIn}
+use Rattle.bittle.proofs.CallerSets.{size_at_most}
+use Rattle.bit_queue.specs.Queue.{with_task, without_task, runs_or_idle}
+use Rattle.bit_queue.specs.QueueLaws.{IsAnsweredAt, IsWokenFirst, IsWokenBetween, is_next, RunsIn}
+use Rattle.bit_queue.specs.RoundRobin.{Round, round_at, next_in_turn, past_picked, answer_in_turn, round_after, answers_in_turn}
+use Rattle.bit_queue.specs.RoundRobinLaws.{comes_before, IsNextInTurn, wakes, ever_ready}
+use Rattle.bit_queue.specs.declared.Answer.{Answer}
+use Rattle.bit_queue.specs.declared.Answer.TheVariants.{Woken, NoTask, Runs, Idle}
+use Rattle.bit_queue.specs.declared.Event.{Event}
+use Rattle.bit_queue.specs.declared.Event.TheVariants.{Wake, Next}
+use Rattle.bit_queue.proofs.Counting.{counts_less, counts_item}
+use Rattle.bit_queue.proofs.QueueLaws.{woken_is_no_run, woken_is_not_idle, run_is_picked, taken_out, others_stay, wakes_alone}
+use Rattle.bit_queue.proofs.Turns.{Comes, comes_is, comes_from, comes_not, comes_either, next_in_turn-is}
+use Rattle.bit_queue.proofs.Histories as histories
+
+-- a task that runs is the next in turn
+pub runs_in_turn : (r : Round) (event : Event) (task : ℕ) → answer_in_turn r event ≡ Runs task →
+    IsNextInTurn r task
+runs_in_turn r (Wake other) task = λ e.
+    absurd (woken_is_no_run (nat_lt other r.ready.capacity) task e)
+runs_in_turn r Next task = λ e.
+    by (next_in_turn r) (next_in_turn-is r) (run_is_picked (next_in_turn r) task e)
+  where
+    by : (o : Option ℕ) →
+        MatchOption o (NoneIn r.ready 0 r.ready.capacity) (IsNextInTurn r) →
+        o ≡ Some task → IsNextInTurn r task
+    by None none e = absurd (cc)
+    by (Some p) next e = let same : p ≡ task = cc in rw same at next
+
+-- a step is idle exactly if no task is ready
+pub idle_is_none : (r : Round) (event : Event) → (answer_in_turn r event ≡ Idle)
+    ↔ ((event ≡ Next) × NoneIn r.ready 0 r.ready.capacity)
+idle_is_none r (Wake other) = (
+  λ e. absurd (woken_is_not_idle (nat_lt other r.ready.capacity) e),
+  λ e. absurd (cc),
+)
+idle_is_none r Next = by (next_in_turn r) (next_in_turn-is r)
+  where
+    by : (o : Option ℕ) →
+        MatchOption o (NoneIn r.ready 0 r.ready.capacity) (IsNextInTurn r) →
+        (runs_or_idle o ≡ Idle) ↔ ((Next ≡ Next) × NoneIn r.ready 0 r.ready.capacity)
+    by None none = (λ e. (refl, none), λ e. refl)
+    by (Some p) next = (
+      λ e. absurd (cc),
+      λ e. absurd (true≢false (sym next.is_ready ∙ e.1 p (omega arith) next.within)),
+    )
+
+-- the facts of the machine that histories rest on
+runs_ready : (r : Round) (event : Event) (task : ℕ) → answer_in_turn r event ≡ Runs task →
+    r.ready.has task ≡ true
+runs_ready r event task e = (runs_in_turn r event task e).is_ready
+
+rests : (r : Round) (event : Event) (task : ℕ) → answer_in_turn r event ≡ Runs task →
+    (round_after r event).ready.has task ≡ false
+rests r (Wake other) task = λ e. absurd (woken_is_no_run (nat_lt other r.ready.capacity) task e)
+rests r Next task = λ e.
+    ap (λ o. (past_picked r o).ready.has task) (run_is_picked (next_in_turn r) task e)
+    ∙ taken_out r.ready task
+
+rests_on : (r : Round) (event : Event) (task : ℕ) → r.ready.has task ≡ false →
+    ((round_after r event).ready.has task ≡ false) ⊎ (event ≡ Wake task)
+rests_on r (Wake other) task e = wakes_alone r.ready other task e
+rests_on r Next task e = inl (by (next_in_turn r))
+  where
+    by : (o : Option ℕ) → (past_picked r o).ready.has task ≡ false
+    by None = e
+    by (Some p) = and_right (not (task == p)) (r.ready.has task) e
+
+pub answered_at : (r : Round) (events : List Event) (i : ℕ) (reply : Answer) →
+    slice_get (answers_in_turn r events) i ≡ Some reply →
+    IsAnsweredAt answer_in_turn round_after r events i reply
+unfolding answers_in_turn
+answered_at = histories.answered_at answer_in_turn round_after
+
+pub woken_first : (r : Round) (events : List Event) (task : ℕ) → r.ready.has task ≡ false →
+    IsWokenFirst events (answers_in_turn r events) task
+unfolding answers_in_turn
+woken_first = histories.woken_first answer_in_turn round_after (λ r k. r.ready.has k) runs_ready
+    rests rests_on
+
+pub woken_between : (r : Round) (events : List Event) (task : ℕ) →
+    IsWokenBetween events (answers_in_turn r events) task
+unfolding answers_in_turn
+woken_between = histories.woken_between answer_in_turn round_after (λ r k. r.ready.has k)
+    runs_ready rests rests_on
+
+-- how many tasks of a set come before one
+ahead : PlainSet → ℕ → ℕ → ℕ
+ahead s turn task = count_below s.capacity (λ k. comes_before turn k task && s.has k)
+
+-- those and the task itself are no more than all
+ahead_at_most : (s : PlainSet) (turn task : ℕ) → task < s.capacity → s.has task ≡ true →
+    ahead s turn task + 1 ≤ size s
+unfolding ahead
+ahead_at_most s turn task h is =
+    counts_less s.capacity task (λ k. comes_before turn k task && s.has k) s.has h
+    (ap (λ b. b && s.has task) (comes_not turn task task never)) is
+    (λ k l e. (and_parts (comes_before turn k task) (s.has k) e).1)
+  where
+    never : Comes turn task task → ⊥
+    never (inl c) = omega (arith, c.1)
+    never (inr (past, inl from)) = omega arith
+    never (inr (past, inr below)) = omega arith
+
+-- past a task that came before it there is one less
+ahead_less : (s : PlainSet) (turn first task : ℕ) → first < s.capacity → s.has first ≡ true →
+    Comes turn first task → ahead s (first + 1) task + 1 ≤ ahead s turn task
+unfolding ahead
+ahead_less s turn first task h is comes =
+    counts_less s.capacity first (λ k. comes_before (first + 1) k task && s.has k)
+    (λ k. comes_before turn k task && s.has k) h
+    (ap (λ b. b && s.has first) (comes_not (first + 1) first task never))
+    (ap (λ b. b && s.has first) (comes_is turn first task comes) ∙ is)
+    (λ k l e.
+    let parts = and_parts (comes_before (first + 1) k task) (s.has k) e in
+    ap (λ b. b && s.has k)
+    (comes_is turn k task (still k comes (comes_from (first + 1) k task parts.0))) ∙ parts.1)
+  where
+    never : Comes (first + 1) first task → ⊥
+    never (inl c) = omega (arith, c.0)
+    never (inr (past, inl from)) = omega arith
+    never (inr (past, inr below)) = omega arith
+
+    still : (k : ℕ) → Comes turn first task → Comes (first + 1) k task → Comes turn k task
+    still k (inl c) (inl d) = inl (omega (arith, c.0, d.0), d.1)
+    still k (inl c) (inr d) = absurd (omega (arith, c.1, d.0))
+    still k (inr c) (inl d) = inr (c.0, inr d.1)
+    still k (inr (past, inl from)) (inr (over, inl up)) = inr (past, inl (omega arith))
+    still k (inr (past, inr below)) (inr (over, inl up)) = absurd (omega arith)
+    still k (inr c) (inr (over, inr low)) = inr (c.0, inr low)
+
+-- the task that was picked comes before any other ready one
+picked_comes : (r : Round) (picked task : ℕ) → IsNextInTurn r picked → task < r.ready.capacity →
+    r.ready.has task ≡ true → (picked ≡ task → ⊥) → Comes r.turn picked task
+picked_comes r picked task next h ready apart = comes_either r.turn picked task apart
+    (λ c. true≢false (sym ready ∙ next.none_before task h (comes_is r.turn task picked c)))
+
+-- of all tasks that may be ready no more than are ahead run before one that is
+module _ (s : PlainSet) (task : ℕ) (h : task < s.capacity) where
+  record IsWithin (r : Round) (events : List Event) : Type 0 where
+    same : r.ready.capacity ≡ s.capacity
+    ready : r.ready.has task ≡ true
+    members : (k : ℕ) → r.ready.has k ≡ true → s.has k ≡ true
+    woken : (k : ℕ) → list_any (wakes k) events ≡ true → s.has k ≡ true
+    steps : ahead s r.turn task + 1 ≤ count_by is_next events
+
+  in_turn : (r : Round) (events : List Event) → IsWithin r events →
+      RunsIn (answers_in_turn r events) task
+  unfolding answers_in_turn
+  in_turn r [] w = absurd (omega (arith, w.steps))
+  in_turn r (Wake other ∷ events) w = by (λ t. in_turn t events) (nat_lt other r.ready.capacity)
+    where
+      steps : count_by is_next (Wake other ∷ events) ≡ 0 + count_by is_next events
+      steps = counts_item is_next (Wake other) events
+
+      later_woken : (k : ℕ) → list_any (wakes k) events ≡ true → s.has k ≡ true
+      later_woken k e = w.woken k (or_right (k == other) (list_any (wakes k) events) e)
+
+      with_members : (k : ℕ) → ((k == other) || r.ready.has k) ≡ true → s.has k ≡ true
+      with_members k e = elim (cases_Bool (k == other)) [
+        | inl is ↦ w.woken k (ap (λ b. b || list_any (wakes k) events) is)
+        | inr not ↦ w.members k (sym (ap (λ b. b || r.ready.has k) not) ∙ e)
+      ]
+
+      by : ((t : Round) → IsWithin t events → RunsIn (scan round_after answer_in_turn t events) task) →
+          (b : Bool) → RunsIn (cond b Woken NoTask ∷ scan round_after answer_in_turn
+          (round_at (cond b (with_task r.ready other) r.ready) r.turn) events) task
+      by later true =
+          let run = later (round_at (with_task r.ready other) r.turn) (record {
+            same = w.same;
+            ready = or_right (task == other) (r.ready.has task) w.ready;
+            members = with_members;
+            woken = later_woken;
+            steps = omega (arith, w.steps, steps);
+          }) in (suc run.0, run.1)
+      by later false =
+          let run = later (round_at r.ready r.turn) (record {
+            same = w.same;
+            ready = w.ready;
+            members = w.members;
+            woken = later_woken;
+            steps = omega (arith, w.steps, steps);
+          }) in (suc run.0, run.1)
+  in_turn r (Next ∷ events) w = by (λ t. in_turn t events) (next_in_turn r) (next_in_turn-is r)
+    where
+      steps : count_by is_next (Next ∷ events) ≡ 1 + count_by is_next events
+      steps = counts_item is_next Next events
+
+      inside : task < r.ready.capacity
+      inside = omega (arith, h, w.same)
+
+      by : ((t : Round) → IsWithin t events → RunsIn (scan round_after answer_in_turn t events) task) →
+          (o : Option ℕ) →
+          MatchOption o (NoneIn r.ready 0 r.ready.capacity) (IsNextInTurn r) →
+          RunsIn (runs_or_idle o ∷ scan round_after answer_in_turn (past_picked r o) events) task
+      by later None none = absurd (true≢false (sym w.ready ∙ none task (omega arith) inside))
+      by later (Some p) next =
+          elim (cases_eq p task) [
+            | inl same ↦ (zero, ap (λ k. Some (Runs k)) same)
+            | inr apart ↦
+                let comes = picked_comes r p task next inside w.ready apart in
+                let less = ahead_less s r.turn p task (omega (arith, next.within, w.same))
+                (w.members p next.is_ready) comes in
+                let run = later (round_at (without_task r.ready p) (p + 1)) (record {
+                  same = w.same;
+                  ready = others_stay r.ready p task (λ e. apart (sym e)) ∙ w.ready;
+                  members = λ k e. w.members k (and_parts (not (k == p)) (r.ready.has k) e).1;
+                  woken = w.woken;
+                  steps = omega (arith, w.steps, steps, less);
+                }) in (suc run.0, run.1)
+          ]
+
+-- a ready task runs within as many steps as there are tasks that are ready at first or woken
+pub in_their_turn : (r : Round) (events : List Event) (task : ℕ) → task < r.ready.capacity →
+    r.ready.has task ≡ true → size (ever_ready r.ready events) ≤ count_by is_next events →
+    RunsIn (answers_in_turn r events) task
+in_their_turn r events task h ready enough =
+    let is = ap (λ b. b || list_any (wakes task) events) ready in
+    let most = ahead_at_most (ever_ready r.ready events) r.turn task h is in
+    in_turn (ever_ready r.ready events) task h r events (record {
+      same = refl;
+      ready = ready;
+      members = λ k e. ap (λ b. b || list_any (wakes k) events) e;
+      woken = λ k e. or_right (r.ready.has k) (list_any (wakes k) events) e;
+      steps = omega (arith, most, enough);
+    })
+
+-- so it runs within as many steps as there are tasks
+pub within_a_round : (r : Round) (events : List Event) (task : ℕ) → task < r.ready.capacity →
+    r.ready.has task ≡ true → r.ready.capacity ≤ count_by is_next events →
+    RunsIn (answers_in_turn r events) task
+within_a_round r events task h ready enough = in_their_turn r events task h ready
+    (omega (arith, enough, size_at_most (ever_ready r.ready events)))

@@ -1,0 +1,96 @@
+-- The most urgent ready task, and how a search finds it.
+use Rattle.std.proofs.Common.{◌≡◌, ℕ, zero, suc, ◌<◌, ◌≤◌, ◌⊎◌, Bool, true, false, not, cond, ◌&&◌, ◌||◌, ◌==◌, nat_lt, Option, Some, None, List, [], ◌∷◌, inl, inr, refl, sym, ap, ◌∙◌, subst, arith}
+use Rattle.std.proofs.lemmas.Bool.{cases_lt, eq-eqb, lt-ltb, and_right, true≢false}
+use Rattle.std.specs.Prelude.{MatchOption, slice_get}
+use Rattle.bittle.specs.PlainSet.{PlainSet, ascending, contains, with_index, without_index}
+use Rattle.bittle.specs.Searches.{NoneIn, IsFirstIn}
+use Rattle.bittle.proofs.CallerLists.{ascending_none, ascending_first}
+use Rattle.bittle.proofs.CallerSets.{contains_within, with_index_within, without_index_within}
+use Rattle.bit_queue.specs.Queue.{is_ready, most_urgent, with_task, without_task, with_woken}
+use Rattle.bit_queue.specs.QueueLaws.{IsMostUrgent}
+
+-- the most urgent ready task, or that none is ready
+pub most_urgent-is : (s : PlainSet) →
+    MatchOption (most_urgent s) (NoneIn s 0 s.capacity) (IsMostUrgent s)
+most_urgent-is s = by (ascending s) refl
+  where
+    by : (tasks : List ℕ) → ascending s ≡ tasks →
+        MatchOption (slice_get tasks 0) (NoneIn s 0 s.capacity) (IsMostUrgent s)
+    by [] e = ascending_none s e
+    by (task ∷ rest) e =
+        let first = ascending_first s task rest e in record {
+          within = first.1;
+          is_ready = first.2;
+          none_above = λ k l. first.3 k (omega arith) l;
+        }
+
+-- there is just one most urgent task
+one_most_urgent : (s : PlainSet) (p q : ℕ) → IsMostUrgent s p → IsMostUrgent s q → p ≡ q
+one_most_urgent s p q a b =
+    elim (cases_lt p q) [
+      | inl l ↦ absurd (true≢false (sym a.is_ready ∙ b.none_above p l))
+      | inr g ↦ elim (cases_lt q p) [
+        | inl l ↦ absurd (true≢false (sym b.is_ready ∙ a.none_above q l))
+        | inr h ↦ omega arith
+      ]
+    ]
+
+-- a search through all tasks finds it
+pub most_urgent-first : (s : PlainSet) (found : Option ℕ) → IsFirstIn s 0 s.capacity found →
+    found ≡ most_urgent s
+most_urgent-first s None none = by (most_urgent s) (most_urgent-is s)
+  where
+    by : (o : Option ℕ) → MatchOption o (NoneIn s 0 s.capacity) (IsMostUrgent s) → None ≡ o
+    by None all = refl
+    by (Some q) urgent =
+        absurd (true≢false (sym urgent.is_ready ∙ none q (omega arith) urgent.within))
+most_urgent-first s (Some p) first = by (most_urgent s) (most_urgent-is s)
+  where
+    found : IsMostUrgent s p
+    found = record {
+      within = first.1;
+      is_ready = first.2;
+      none_above = λ k l. first.3 k (omega arith) l;
+    }
+
+    by : (o : Option ℕ) → MatchOption o (NoneIn s 0 s.capacity) (IsMostUrgent s) → Some p ≡ o
+    by None all = absurd (true≢false (sym found.is_ready ∙ all p (omega arith) found.within))
+    by (Some q) urgent = ap Some (one_most_urgent s p q found urgent)
+
+-- so does one that ends at their number
+pub most_urgent-found : (s : PlainSet) (end : ℕ) (found : Option ℕ) → end ≡ s.capacity →
+    IsFirstIn s 0 end found → found ≡ most_urgent s
+most_urgent-found s end found e first =
+    most_urgent-first s found (subst (λ n. IsFirstIn s 0 n found) e first)
+
+-- of a task a test of the set tells whether it is ready
+pub is_ready-within : (s : PlainSet) (task : ℕ) → task < s.capacity →
+    is_ready s task ≡ contains s task
+is_ready-within s task h = ap (λ b. b && s.has task) (lt-ltb task s.capacity h)
+    ∙ sym (contains_within s task h)
+
+-- a ready task that is a number below the capacity
+pub ready-member : (s : PlainSet) (task : ℕ) → task < s.capacity → s.has task ≡ true →
+    is_ready s task ≡ true
+ready-member s task h e = ap (λ b. b && s.has task) (lt-ltb task s.capacity h) ∙ e
+
+-- the set with a task that was woken
+module _ (s t : PlainSet) (task : ℕ) (h : task < s.capacity) (after : t ≡ with_index s task) where
+  pub is_woken : t ≡ with_woken s task
+  is_woken = after ∙ with_index_within s task h
+      ∙ ap (λ b. cond b (with_task s task) s) (sym (lt-ltb task s.capacity h))
+
+  pub is_now_ready : is_ready t task ≡ true
+  is_now_ready = ap (λ u. is_ready u task) (after ∙ with_index_within s task h)
+      ∙ ap (λ b. b && ((task == task) || s.has task)) (lt-ltb task s.capacity h)
+      ∙ ap (λ b. b || s.has task) (eq-eqb task task refl)
+
+-- the set without a task that runs
+module _ (s t : PlainSet) (task : ℕ) (h : task < s.capacity) (after : t ≡ without_index s task) where
+  pub is_taken_out : t ≡ without_task s task
+  is_taken_out = after ∙ without_index_within s task h
+
+  pub now_rests : is_ready t task ≡ false
+  now_rests = ap (λ u. is_ready u task) is_taken_out
+      ∙ ap (λ b. nat_lt task s.capacity && (not b && s.has task)) (eq-eqb task task refl)
+      ∙ and_right (nat_lt task s.capacity) false refl

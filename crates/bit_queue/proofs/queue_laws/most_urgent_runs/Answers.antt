@@ -1,0 +1,5 @@
+use Rattle.bit_queue.proofs.QueueLaws.{runs_most_urgent}
+use Rattle.bit_queue.proofs.queue_laws.most_urgent_runs.Goals as goal
+
+pub returns : goal.returns
+returns c = runs_most_urgent

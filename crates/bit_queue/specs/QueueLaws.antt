@@ -1,0 +1,96 @@
+-- What the queue machine keeps, whatever happens.
+use Rattle.std.specs.List.{count_by, fold}
+use Rattle.std.specs.Prelude.{◌≡◌, ℕ, ◌+◌, ◌<◌, ◌≤◌, ◌↔◌, Bool, true, false, nat_lt, Some, List, slice_get, take}
+use Rattle.bittle.specs.PlainSet.{PlainSet, members_below}
+use Rattle.bittle.specs.Searches.{NoneIn}
+use Rattle.bit_queue.specs.Queue.{answer_to, state_after, event_answers}
+use Rattle.bit_queue.specs.declared.Event.{Event}
+use Rattle.bit_queue.specs.declared.Event.TheVariants.{Wake, Next}
+use Rattle.bit_queue.specs.declared.Answer.{Answer}
+use Rattle.bit_queue.specs.declared.Answer.TheVariants.{Runs, Idle}
+
+-- the task is one, it is ready, and no ready task is more urgent
+pub record IsMostUrgent (s : PlainSet) (task : ℕ) : Type 0 where
+  pub within : task < s.capacity
+  pub is_ready : s.has task ≡ true
+  pub none_above : (k : ℕ) → k < task → s.has k ≡ false
+
+-- each task that runs is the most urgent one
+abbrev pub MostUrgentRuns : Type 0
+MostUrgentRuns =
+    (s : PlainSet) (event : Event) (task : ℕ)
+    → answer_to s event ≡ Runs task
+    → IsMostUrgent s task
+
+-- Idle is answered exactly if a step is asked for and no task is ready
+abbrev pub IdleExactlyIfNoneIsReady : Type 0
+IdleExactlyIfNoneIsReady =
+    (s : PlainSet) (event : Event)
+    → (answer_to s event ≡ Idle) ↔ ((event ≡ Next) × NoneIn s 0 s.capacity)
+
+-- an answer of a list is that to its event, from the state that the events before it leave
+pub record IsAnsweredAt {S : Type 0} (answer : S → Event → Answer) (after : S → Event → S) (s : S)
+    (events : List Event) (i : ℕ) (reply : Answer) : Type 0 where
+  pub event : Event
+  pub asked : slice_get events i ≡ Some event
+  pub answered : reply ≡ answer (fold after s (take i events)) event
+
+abbrev pub AnswersAreOfTheirStates : Type 0
+AnswersAreOfTheirStates =
+    (s : PlainSet) (events : List Event) (i : ℕ) (reply : Answer)
+    → slice_get (event_answers s events) i ≡ Some reply
+    → IsAnsweredAt answer_to state_after s events i reply
+
+-- a task is woken before it runs
+abbrev pub IsWokenFirst : List Event → List Answer → ℕ → Type 0
+IsWokenFirst events answers task =
+    (j : ℕ)
+    → slice_get answers j ≡ Some (Runs task)
+    → (k : ℕ) × (k < j) × (slice_get events k ≡ Some (Wake task))
+
+-- a task is woken between any two times that it runs
+abbrev pub IsWokenBetween : List Event → List Answer → ℕ → Type 0
+IsWokenBetween events answers task =
+    (i j : ℕ)
+    → i < j
+    → slice_get answers i ≡ Some (Runs task)
+    → slice_get answers j ≡ Some (Runs task)
+    → (k : ℕ) × (i < k) × (k < j) × (slice_get events k ≡ Some (Wake task))
+
+-- a task that is not ready runs only after it was woken
+abbrev pub RestingTasksAreWokenFirst : Type 0
+RestingTasksAreWokenFirst =
+    (s : PlainSet) (events : List Event) (task : ℕ)
+    → s.has task ≡ false
+    → IsWokenFirst events (event_answers s events) task
+
+-- a task that runs again was woken since
+abbrev pub TasksAreWokenBetween : Type 0
+TasksAreWokenBetween =
+    (s : PlainSet) (events : List Event) (task : ℕ)
+    → IsWokenBetween events (event_answers s events) task
+
+-- whether an event is a step
+abbrev pub is_next : Event → Bool
+is_next (Wake task) = false
+is_next Next = true
+
+-- whether an event wakes a task that is more urgent than this one
+abbrev pub wakes_more_urgent : ℕ → Event → Bool
+wakes_more_urgent task (Wake other) = nat_lt other task
+wakes_more_urgent task Next = false
+
+-- a task is among those that run
+abbrev pub RunsIn : List Answer → ℕ → Type 0
+RunsIn answers task = (j : ℕ) × (slice_get answers j ≡ Some (Runs task))
+
+-- a ready task runs within as many steps as there are more urgent tasks ready and wakes of such,
+-- and one
+abbrev pub TasksRunInTime : Type 0
+TasksRunInTime =
+    (s : PlainSet) (events : List Event) (task : ℕ)
+    → task < s.capacity
+    → s.has task ≡ true
+    → members_below s task + count_by (wakes_more_urgent task) events + 1
+    ≤ count_by is_next events
+    → RunsIn (event_answers s events) task

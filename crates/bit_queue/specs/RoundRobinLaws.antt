@@ -1,0 +1,88 @@
+-- What taking turns keeps, whatever happens.
+use Rattle.std.specs.List.{count_by, list_any}
+use Rattle.std.specs.Prelude.{◌≡◌, ℕ, ◌<◌, ◌≤◌, ◌↔◌, Bool, true, false, ◌&&◌, ◌||◌, ◌==◌, nat_le, nat_lt, if◌then◌else◌, Some, List, slice_get}
+use Rattle.bittle.specs.PlainSet.{PlainSet, size}
+use Rattle.bittle.specs.Searches.{NoneIn}
+use Rattle.bit_queue.specs.RoundRobin.{Round, answer_in_turn, round_after, answers_in_turn}
+use Rattle.bit_queue.specs.QueueLaws.{IsAnsweredAt, IsWokenFirst, IsWokenBetween, is_next, RunsIn}
+use Rattle.bit_queue.specs.declared.Event.{Event}
+use Rattle.bit_queue.specs.declared.Event.TheVariants.{Wake, Next}
+use Rattle.bit_queue.specs.declared.Answer.{Answer}
+use Rattle.bit_queue.specs.declared.Answer.TheVariants.{Runs, Idle}
+
+-- whether one task comes before another, counted up from the turn and then from 0
+abbrev pub comes_before : ℕ → ℕ → ℕ → Bool
+comes_before turn one other = if nat_le turn other
+    then (nat_le turn one && nat_lt one other)
+    else (nat_le turn one || nat_lt one other)
+
+-- the task is one, it is ready, and no ready task comes before it
+pub record IsNextInTurn (r : Round) (task : ℕ) : Type 0 where
+  pub within : task < r.ready.capacity
+  pub is_ready : r.ready.has task ≡ true
+  pub none_before : (k : ℕ) → k < r.ready.capacity → comes_before r.turn k task ≡ true →
+      r.ready.has k ≡ false
+
+-- each task that runs is the next in turn
+abbrev pub NextInTurnRuns : Type 0
+NextInTurnRuns =
+    (r : Round) (event : Event) (task : ℕ)
+    → answer_in_turn r event ≡ Runs task
+    → IsNextInTurn r task
+
+-- Idle is answered exactly if a step is asked for and no task is ready
+abbrev pub RoundIsIdleExactlyIfNoneIsReady : Type 0
+RoundIsIdleExactlyIfNoneIsReady =
+    (r : Round) (event : Event)
+    → (answer_in_turn r event ≡ Idle) ↔ ((event ≡ Next) × NoneIn r.ready 0 r.ready.capacity)
+
+-- an answer of a list is that to its event, from the round that the events before it leave
+abbrev pub AnswersAreOfTheirRounds : Type 0
+AnswersAreOfTheirRounds =
+    (r : Round) (events : List Event) (i : ℕ) (reply : Answer)
+    → slice_get (answers_in_turn r events) i ≡ Some reply
+    → IsAnsweredAt answer_in_turn round_after r events i reply
+
+-- a task that is not ready runs only after it was woken
+abbrev pub RestingTasksAreWokenFirstInTurn : Type 0
+RestingTasksAreWokenFirstInTurn =
+    (r : Round) (events : List Event) (task : ℕ)
+    → r.ready.has task ≡ false
+    → IsWokenFirst events (answers_in_turn r events) task
+
+-- a task that runs again was woken since
+abbrev pub TasksAreWokenBetweenTurns : Type 0
+TasksAreWokenBetweenTurns =
+    (r : Round) (events : List Event) (task : ℕ)
+    → IsWokenBetween events (answers_in_turn r events) task
+
+-- whether an event wakes this task
+abbrev pub wakes : ℕ → Event → Bool
+wakes task (Wake other) = task == other
+wakes task Next = false
+
+-- the tasks that are ready at first or woken in the events, each once
+abbrev pub ever_ready : PlainSet → List Event → PlainSet
+ever_ready s events = record {
+  capacity = s.capacity;
+  has = λ k. s.has k || list_any (wakes k) events;
+}
+
+-- a ready task runs within as many steps as there are tasks that are ready at first or woken
+-- meanwhile, however often each is woken
+abbrev pub TasksRunInTheirTurn : Type 0
+TasksRunInTheirTurn =
+    (r : Round) (events : List Event) (task : ℕ)
+    → task < r.ready.capacity
+    → r.ready.has task ≡ true
+    → size (ever_ready r.ready events) ≤ count_by is_next events
+    → RunsIn (answers_in_turn r events) task
+
+-- so it runs within as many steps as there are tasks, whatever is woken
+abbrev pub TasksRunWithinARound : Type 0
+TasksRunWithinARound =
+    (r : Round) (events : List Event) (task : ℕ)
+    → task < r.ready.capacity
+    → r.ready.has task ≡ true
+    → r.ready.capacity ≤ count_by is_next events
+    → RunsIn (answers_in_turn r events) task

@@ -1,0 +1,116 @@
+//! The queue of which the most urgent ready task runs.
+
+ghost use Rattle.std.specs.Prelude.{◌≡◌, ◌<◌, ◌↔◌, length, true, false, IfSome, IsOk};
+ghost use Rattle.std.specs.Prelude.{IsTrue, MatchOption};
+ghost use Rattle.bittle.specs.PlainSet.{empty_set};
+ghost use Rattle.bittle.specs.Searches.{NoneIn};
+ghost use Rattle.bittle.specs.Shapes.{Fits};
+ghost use Rattle.bittle.specs.Values.{set_in};
+ghost use Rattle.bit_queue.specs.Queue.{is_ready, most_urgent, answer_to, state_after};
+ghost use Rattle.bit_queue.specs.Queue.{event_answers, final_state};
+ghost use Rattle.bit_queue.specs.QueueLaws.{IsMostUrgent};
+
+use crate::{Answer, Event, NoTask};
+use bittle::BitsOwned;
+
+/// The tasks that are ready, of which the one of the least number runs first. There are as many
+/// tasks as a `B` has numbers, from 0 on.
+///
+/// The type keeps that it fits: `B::bits()` is below `u32::MAX`.
+#[derive(Drop)]
+pub struct PriorityQueue<B: BitsOwned> {
+    // Its members, in the order of the type, are the tasks that are ready.
+    ready: B,
+    pub ghost fits: { Fits B.indexable B.type_capacity },
+}
+
+impl<B: BitsOwned> PriorityQueue<B> {
+    /// Returns a queue of which no task is ready. The type has to be one that may be indexed:
+    /// `B::bits() < u32::MAX` tells. With capacity 0 it has no task.
+    pub fn new() -> PriorityQueue<B>
+        requires { IsTrue B.indexable }
+        ensures { set_in B.Shape B.Order.Endian result.ready ≡ empty_set B.type_capacity }
+    {
+        PriorityQueue { ready: B::zeros() }
+    }
+
+    /// Returns how many tasks there are.
+    pub fn tasks(&self) -> u32
+        ensures { result ≡ B.type_capacity }
+    {
+        B::bits()
+    }
+
+    /// Returns whether the number is a task, and ready. A number past the last task is none.
+    pub fn is_ready(&self, task: u32) -> bool
+        ensures { result ≡ is_ready (set_in B.Shape B.Order.Endian self.now.ready) task }
+    {
+        task < B::bits() && self.ready.test_bit(task)
+    }
+
+    /// Makes a task ready; one that is ready stays so. A number past the last task is refused, and
+    /// nothing changes.
+    pub fn wake(&mut self, task: u32) -> Result<(), NoTask>
+        ensures a_task { IsOk result ↔ task < B.type_capacity }
+        ensures is_ready { task < B.type_capacity
+            → is_ready (set_in B.Shape B.Order.Endian self.new.ready) task ≡ true }
+        ensures ready { set_in B.Shape B.Order.Endian self.new.ready
+            ≡ state_after (set_in B.Shape B.Order.Endian self.old.ready) (Event.Wake task) }
+    {
+        if task >= B::bits() {
+            return Err(NoTask);
+        }
+        self.ready.set_bit(task);
+        Ok(())
+    }
+
+    /// Takes out the most urgent ready task, which is to run, or changes nothing and returns `None`
+    /// where none is ready, as with capacity 0. It reads the words up to that of the task.
+    pub fn next(&mut self) -> Option<u32>
+        ensures task { result ≡ most_urgent (set_in B.Shape B.Order.Endian self.old.ready) }
+        ensures urgent { let before = set_in B.Shape B.Order.Endian self.old.ready in
+            MatchOption result (NoneIn before 0 B.type_capacity) (IsMostUrgent before) }
+        ensures below { IfSome result (λ task. task < B.type_capacity) }
+        ensures was_ready { IfSome result
+            (λ task. is_ready (set_in B.Shape B.Order.Endian self.old.ready) task ≡ true) }
+        ensures rests { IfSome result
+            (λ task. is_ready (set_in B.Shape B.Order.Endian self.new.ready) task ≡ false) }
+        ensures ready { set_in B.Shape B.Order.Endian self.new.ready
+            ≡ state_after (set_in B.Shape B.Order.Endian self.old.ready) Event.Next }
+    {
+        let task = self.ready.first_one_in::<B::Order>(0, B::bits())?;
+        self.ready.clear_bit(task);
+        Some(task)
+    }
+
+    // Answers one event.
+    fn answer(&mut self, event: Event) -> Answer
+        ensures answer { result ≡ answer_to (set_in B.Shape B.Order.Endian self.old.ready) event }
+        ensures ready { set_in B.Shape B.Order.Endian self.new.ready
+            ≡ state_after (set_in B.Shape B.Order.Endian self.old.ready) event }
+    {
+        match event {
+            Event::Wake(task) => match self.wake(task) {
+                Ok(()) => Answer::Woken,
+                Err(NoTask) => Answer::NoTask,
+            },
+            Event::Next => match self.next() {
+                Some(task) => Answer::Runs(task),
+                None => Answer::Idle,
+            },
+        }
+    }
+
+    /// Serves the events in turn, and writes an answer to each. There is one place for each answer.
+    pub fn serve(&mut self, events: &[Event], answers: &mut [Answer])
+        requires { length answers.old ≡ length events.now }
+        ensures answers { answers.new
+            ≡ event_answers (set_in B.Shape B.Order.Endian self.old.ready) events.now }
+        ensures ready { set_in B.Shape B.Order.Endian self.new.ready
+            ≡ final_state (set_in B.Shape B.Order.Endian self.old.ready) events.now }
+    {
+        for i in 0..events.len() {
+            answers[i] = self.answer(events[i]);
+        }
+    }
+}

@@ -1,0 +1,39 @@
+//! The main theorems of the queue by urgency: what holds of every list of events. Each function does
+//! nothing: its contract is the law. They rest on the machine of `specs/Queue.antt`, which `serve`
+//! runs by its contract.
+
+ghost use Rattle.bit_queue.specs.QueueLaws.{MostUrgentRuns, IdleExactlyIfNoneIsReady};
+ghost use Rattle.bit_queue.specs.QueueLaws.{AnswersAreOfTheirStates, RestingTasksAreWokenFirst};
+ghost use Rattle.bit_queue.specs.QueueLaws.{TasksAreWokenBetween, TasksRunInTime};
+
+/// States that a task which runs is ready, and that no ready task is more urgent.
+pub fn most_urgent_runs()
+    ensures { MostUrgentRuns }
+{}
+
+/// States that a step is idle exactly if no task is ready.
+pub fn idle_exactly_if_none_is_ready()
+    ensures { IdleExactlyIfNoneIsReady }
+{}
+
+/// States that each answer is that to its event from the tasks that the events before it leave
+/// ready, so that what holds of an answer and its state holds at each place of a list.
+pub fn answers_are_of_their_states()
+    ensures { AnswersAreOfTheirStates }
+{}
+
+/// States that a task which is not ready runs only after it was woken.
+pub fn resting_tasks_are_woken_first()
+    ensures { RestingTasksAreWokenFirst }
+{}
+
+/// States that a task which runs was woken since it last ran.
+pub fn tasks_are_woken_between()
+    ensures { TasksAreWokenBetween }
+{}
+
+/// States that a ready task runs within as many steps as there are more urgent tasks ready and
+/// wakes of such, and one.
+pub fn tasks_run_in_time()
+    ensures { TasksRunInTime }
+{}

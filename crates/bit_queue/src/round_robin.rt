@@ -1,0 +1,144 @@
+//! The queue of which the ready tasks take turns.
+
+ghost use Rattle.std.specs.Prelude.{◌≡◌, ◌<◌, ◌≤◌, ◌↔◌, length, true, false, IfSome, IsOk};
+ghost use Rattle.std.specs.Prelude.{IsTrue, MatchOption};
+ghost use Rattle.bittle.specs.PlainSet.{empty_set};
+ghost use Rattle.bittle.specs.Searches.{NoneIn};
+ghost use Rattle.bittle.specs.Shapes.{Fits};
+ghost use Rattle.bittle.specs.Values.{set_in};
+ghost use Rattle.bit_queue.specs.Queue.{is_ready};
+ghost use Rattle.bit_queue.specs.RoundRobin.{round_at, next_in_turn, answer_in_turn, round_after};
+ghost use Rattle.bit_queue.specs.RoundRobin.{answers_in_turn, final_round};
+ghost use Rattle.bit_queue.specs.RoundRobinLaws.{IsNextInTurn};
+
+use crate::{Answer, Event, NoTask};
+use bittle::BitsOwned;
+
+/// The tasks that are ready, which take turns: the next ready task past the one that ran last runs,
+/// or else the first of all. There are as many tasks as a `B` has numbers, from 0 on.
+///
+/// The type keeps that it fits: `B::bits()` is below `u32::MAX`.
+#[derive(Drop)]
+pub struct RoundRobin<B: BitsOwned> {
+    // Its members, in the order of the type, are the tasks that are ready.
+    ready: B,
+    // The number past the task that ran last, at first 0.
+    turn: u32,
+    pub ghost fits: { Fits B.indexable B.type_capacity },
+    pub ghost within: { turn ≤ B.type_capacity },
+}
+
+impl<B: BitsOwned> RoundRobin<B> {
+    /// Returns a queue of which no task is ready, with the turn at task 0. The type has to be one
+    /// that may be indexed: `B::bits() < u32::MAX` tells. With capacity 0 it has no task.
+    pub fn new() -> RoundRobin<B>
+        requires { IsTrue B.indexable }
+        ensures ready { set_in B.Shape B.Order.Endian result.ready ≡ empty_set B.type_capacity }
+        ensures turn { result.turn ≡ 0 }
+    {
+        RoundRobin {
+            ready: B::zeros(),
+            turn: 0,
+        }
+    }
+
+    /// Returns how many tasks there are.
+    pub fn tasks(&self) -> u32
+        ensures { result ≡ B.type_capacity }
+    {
+        B::bits()
+    }
+
+    /// Returns whether the number is a task, and ready. A number past the last task is none.
+    pub fn is_ready(&self, task: u32) -> bool
+        ensures { result ≡ is_ready (set_in B.Shape B.Order.Endian self.now.ready) task }
+    {
+        task < B::bits() && self.ready.test_bit(task)
+    }
+
+    /// Makes a task ready; one that is ready stays so. A number past the last task is refused, and
+    /// nothing changes.
+    pub fn wake(&mut self, task: u32) -> Result<(), NoTask>
+        ensures a_task { IsOk result ↔ task < B.type_capacity }
+        ensures is_ready { task < B.type_capacity
+            → is_ready (set_in B.Shape B.Order.Endian self.new.ready) task ≡ true }
+        ensures round { round_at (set_in B.Shape B.Order.Endian self.new.ready) self.new.turn
+            ≡ round_after (round_at (set_in B.Shape B.Order.Endian self.old.ready) self.old.turn)
+            (Event.Wake task) }
+    {
+        if task >= B::bits() {
+            return Err(NoTask);
+        }
+        self.ready.set_bit(task);
+        Ok(())
+    }
+
+    // Finds the next ready task: the first from the turn on, or else the first before it.
+    fn in_turn(&self) -> Option<u32>
+        ensures { result ≡ next_in_turn
+            (round_at (set_in B.Shape B.Order.Endian self.now.ready) self.now.turn) }
+    {
+        match self.ready.first_one_in::<B::Order>(self.turn, B::bits()) {
+            Some(task) => Some(task),
+            None => self.ready.first_one_in::<B::Order>(0, self.turn),
+        }
+    }
+
+    /// Takes out the next ready task, which is to run, or changes nothing and returns `None` where
+    /// none is ready, as with capacity 0. It reads the words from the turn up to that of the task,
+    /// and where none is found there those before the turn.
+    pub fn next(&mut self) -> Option<u32>
+        ensures task { result ≡ next_in_turn
+            (round_at (set_in B.Shape B.Order.Endian self.old.ready) self.old.turn) }
+        ensures next { let before = round_at
+            (set_in B.Shape B.Order.Endian self.old.ready) self.old.turn in
+            MatchOption result (NoneIn before.ready 0 B.type_capacity) (IsNextInTurn before) }
+        ensures below { IfSome result (λ task. task < B.type_capacity) }
+        ensures was_ready { IfSome result
+            (λ task. is_ready (set_in B.Shape B.Order.Endian self.old.ready) task ≡ true) }
+        ensures rests { IfSome result
+            (λ task. is_ready (set_in B.Shape B.Order.Endian self.new.ready) task ≡ false) }
+        ensures round { round_at (set_in B.Shape B.Order.Endian self.new.ready) self.new.turn
+            ≡ round_after (round_at (set_in B.Shape B.Order.Endian self.old.ready) self.old.turn)
+            Event.Next }
+    {
+        let task = self.in_turn()?;
+        self.ready.clear_bit(task);
+        self.turn = task + 1;
+        Some(task)
+    }
+
+    // Answers one event.
+    fn answer(&mut self, event: Event) -> Answer
+        ensures answer { result ≡ answer_in_turn
+            (round_at (set_in B.Shape B.Order.Endian self.old.ready) self.old.turn) event }
+        ensures round { round_at (set_in B.Shape B.Order.Endian self.new.ready) self.new.turn
+            ≡ round_after (round_at (set_in B.Shape B.Order.Endian self.old.ready) self.old.turn)
+            event }
+    {
+        match event {
+            Event::Wake(task) => match self.wake(task) {
+                Ok(()) => Answer::Woken,
+                Err(NoTask) => Answer::NoTask,
+            },
+            Event::Next => match self.next() {
+                Some(task) => Answer::Runs(task),
+                None => Answer::Idle,
+            },
+        }
+    }
+
+    /// Serves the events in turn, and writes an answer to each. There is one place for each answer.
+    pub fn serve(&mut self, events: &[Event], answers: &mut [Answer])
+        requires { length answers.old ≡ length events.now }
+        ensures answers { answers.new ≡ answers_in_turn
+            (round_at (set_in B.Shape B.Order.Endian self.old.ready) self.old.turn) events.now }
+        ensures round { round_at (set_in B.Shape B.Order.Endian self.new.ready) self.new.turn
+            ≡ final_round (round_at (set_in B.Shape B.Order.Endian self.old.ready) self.old.turn)
+            events.now }
+    {
+        for i in 0..events.len() {
+            answers[i] = self.answer(events[i]);
+        }
+    }
+}

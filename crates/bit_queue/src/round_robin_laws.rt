@@ -1,0 +1,46 @@
+//! The main theorems of the queue of turns: what holds of every list of events. Each function does
+//! nothing: its contract is the law. They rest on the machine of `specs/RoundRobin.antt`, which
+//! `serve` runs by its contract.
+
+ghost use Rattle.bit_queue.specs.RoundRobinLaws.{NextInTurnRuns, RoundIsIdleExactlyIfNoneIsReady};
+ghost use Rattle.bit_queue.specs.RoundRobinLaws.{AnswersAreOfTheirRounds};
+ghost use Rattle.bit_queue.specs.RoundRobinLaws.{RestingTasksAreWokenFirstInTurn};
+ghost use Rattle.bit_queue.specs.RoundRobinLaws.{TasksAreWokenBetweenTurns, TasksRunInTheirTurn};
+ghost use Rattle.bit_queue.specs.RoundRobinLaws.{TasksRunWithinARound};
+
+/// States that a task which runs is ready, and that no ready task comes before it in turn.
+pub fn next_in_turn_runs()
+    ensures { NextInTurnRuns }
+{}
+
+/// States that a step is idle exactly if no task is ready.
+pub fn idle_exactly_if_none_is_ready()
+    ensures { RoundIsIdleExactlyIfNoneIsReady }
+{}
+
+/// States that each answer is that to its event from the round that the events before it leave, so
+/// that what holds of an answer and its round holds at each place of a list.
+pub fn answers_are_of_their_rounds()
+    ensures { AnswersAreOfTheirRounds }
+{}
+
+/// States that a task which is not ready runs only after it was woken.
+pub fn resting_tasks_are_woken_first()
+    ensures { RestingTasksAreWokenFirstInTurn }
+{}
+
+/// States that a task which runs was woken since it last ran.
+pub fn tasks_are_woken_between()
+    ensures { TasksAreWokenBetweenTurns }
+{}
+
+/// States that a ready task runs within as many steps as there are tasks that are ready at first or
+/// woken meanwhile, however often each is woken.
+pub fn tasks_run_in_their_turn()
+    ensures { TasksRunInTheirTurn }
+{}
+
+/// States that a ready task runs within as many steps as there are tasks, whatever is woken.
+pub fn tasks_run_within_a_round()
+    ensures { TasksRunWithinARound }
+{}
