@@ -1,0 +1,72 @@
+//! Ready queues in the hands of a caller.
+
+ghost use Rattle.std.specs.Prelude.{◌≡◌, ◌≢◌, ◌<◌, length, IfSome, true};
+ghost use Rattle.bit_queue.specs.Queue.{event_answers};
+ghost use Rattle.bit_queue.specs.RoundRobin.{answers_in_turn, round_at};
+ghost use Rattle.bittle.specs.PlainSet.{empty_set};
+
+use bit_queue::{Answer, Event, NoTask, PriorityQueue, RoundRobin};
+use bittle::BitsOwned;
+
+/// Lets two tasks run, which differ.
+pub fn run_two<B: BitsOwned>(queue: &mut PriorityQueue<B>) -> Option<(u32, u32)>
+    ensures { IfSome result (λ both. both.0 ≢ both.1) }
+{
+    let first = queue.next()?;
+    let second = queue.next()?;
+    Some((first, second))
+}
+
+/// Wakes a task, and finds it ready if it is one.
+pub fn wake_and_ask<B: BitsOwned>(queue: &mut PriorityQueue<B>, task: u32) -> bool
+    ensures { result ≡ true }
+{
+    match queue.wake(task) {
+        Ok(()) => queue.is_ready(task),
+        Err(NoTask) => task >= queue.tasks(),
+    }
+}
+
+/// Lets a task run, and wakes it again, which is done.
+pub fn run_and_wake<B: BitsOwned>(turns: &mut RoundRobin<B>) -> bool
+    ensures { result ≡ true }
+{
+    match turns.next() {
+        Some(task) => turns.wake(task).is_ok(),
+        None => true,
+    }
+}
+
+/// Lets two tasks run in their turns, which differ.
+pub fn run_two_in_turn<B: BitsOwned>(turns: &mut RoundRobin<B>) -> Option<(u32, u32)>
+    ensures { IfSome result (λ both. both.0 ≢ both.1) }
+{
+    let first = turns.next()?;
+    let second = turns.next()?;
+    Some((first, second))
+}
+
+/// Lets a task run, whose work is noted in a table of as many places as there are tasks.
+pub fn run_for(queue: &mut PriorityQueue<u8>, work: &mut [u32; 8]) -> Option<u32> {
+    let task = queue.next()?;
+    work[task as usize] = work[task as usize].saturating_sub(1);
+    Some(task)
+}
+
+/// Serves events by urgency, of 64 tasks of which none is ready.
+pub fn serve(events: &[Event], answers: &mut [Answer])
+    requires { length answers.old ≡ length events.now }
+    ensures { answers.new ≡ event_answers (empty_set 64) events.now }
+{
+    let mut queue = PriorityQueue::<u64>::new();
+    queue.serve(events, answers);
+}
+
+/// Serves events in turns, of 256 tasks of which none is ready.
+pub fn serve_in_turn(events: &[Event], answers: &mut [Answer])
+    requires { length answers.old ≡ length events.now }
+    ensures { answers.new ≡ answers_in_turn (round_at (empty_set 256) 0) events.now }
+{
+    let mut turns = RoundRobin::<[u64; 4]>::new();
+    turns.serve(events, answers);
+}
