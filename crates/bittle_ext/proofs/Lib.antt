@@ -6,6 +6,7 @@ mod LongestRuns
 mod OneBit
 pub mod CommonCounts
 mod RangeItems
+mod RangesBelow
 mod PassingMembers
 pub mod RankFacts
 pub mod RelationFacts

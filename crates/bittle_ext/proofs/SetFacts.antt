@@ -7,7 +7,7 @@ use Rattle.bittle_bits.specs.Orders.{read_in}
 use Rattle.bittle_bits.specs.Searches.{NoneIn, IsFirstIn}
 use Rattle.bittle_bits.proofs.PlainSets.{members-past}
 use Rattle.bittle.proofs.CallerSets.{complement_within}
-use Rattle.bittle_ext.specs.RangeMembers.{EndsAt, HasAllIn, HasSomeIn, TakesEnd}
+use Rattle.bittle_ext.specs.RangeMembers.{EndsAt, HasAllIn, HasSomeIn, LacksSomeIn, TakesEnd}
 
 -- no number from the capacity on is in the complement
 pub complement_past : (s : PlainSet) (i : ℕ) → s.capacity ≤ i → (complement s).has i ≡ false
@@ -53,3 +53,17 @@ all_where_none s from to None b e within none =
     (λ k h l. not-false (s.has k) (sym (complement_within s k (omega arith)) ∙ none k h l))
 all_where_none s from to (Some i) b e within first =
     rw (not-true b (sym e)) (i, first.0, first.1, first.2)
+
+-- a number below the capacity that is in the complement is no member
+pub lacks_where_some : (s : PlainSet) (from to : ℕ) (b : Bool) → to ≤ s.capacity →
+    MatchBool b (HasAllIn s from to) (HasSomeIn (complement s) from to) →
+    MatchBool b (HasAllIn s from to) (LacksSomeIn s from to)
+lacks_where_some s from to true within all = all
+lacks_where_some s from to false within some =
+    let k = some.0 in (
+      k,
+      some.1,
+      some.2,
+      not-true (s.has k)
+          (sym (complement_within s k (omega (arith, some.2))) ∙ some.3),
+    )

@@ -1,6 +1,6 @@
 -- What a set has between two numbers.
 use Rattle.std.specs.Iterator.{YieldsFirst, YieldsLast}
-use Rattle.std.specs.Prelude.{◌≡◌, ℕ, ◌-◌, ◌<◌, ◌≤◌, Bool, ◌&&◌, true, false, List, length, slice_index, Option}
+use Rattle.std.specs.Prelude.{◌≡◌, ℕ, ◌-◌, ◌<◌, ◌≤◌, Bool, ◌&&◌, true, false, List, length, min, slice_index, Option}
 use Rattle.bittle.specs.PlainSet.{PlainSet, ascending, is_in_span, members_below}
 use Rattle.bittle.specs.Walk.{ones_or_zeros}
 
@@ -9,6 +9,13 @@ pub record EndsAt (s : PlainSet) (n : ℕ) : Type 0 where
   pub capacity : n ≡ s.capacity
   pub past : (i : ℕ) → s.capacity ≤ i → s.has i ≡ false
 
+-- a range is what of another one lies below a capacity
+pub record IsPartBelow (c from to start end : ℕ) : Type 0 where
+  pub end_is : end ≡ min to c
+  pub start_is : start ≡ min from end
+  pub ordered : start ≤ end
+  pub inside : end ≤ c
+
 -- a number from one on and below another is a member
 abbrev pub HasSomeIn : PlainSet → ℕ → ℕ → Type 0
 HasSomeIn s from to = (k : ℕ) × (from ≤ k) × (k < to) × (s.has k ≡ true)
@@ -16,6 +23,10 @@ HasSomeIn s from to = (k : ℕ) × (from ≤ k) × (k < to) × (s.has k ≡ true
 -- each number from one on and below another is a member
 abbrev pub HasAllIn : PlainSet → ℕ → ℕ → Type 0
 HasAllIn s from to = (k : ℕ) → from ≤ k → k < to → s.has k ≡ true
+
+-- a number from one on and below another is no member
+abbrev pub LacksSomeIn : PlainSet → ℕ → ℕ → Type 0
+LacksSomeIn s from to = (k : ℕ) × (from ≤ k) × (k < to) × (s.has k ≡ false)
 
 -- a step over a list took its first item, or else its last one
 abbrev pub TakesEnd : {A : Type 0} → Bool → List A → Option A → List A → Type 0

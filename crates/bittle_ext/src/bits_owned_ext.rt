@@ -4,14 +4,17 @@ ghost use Rattle.std.specs.Prelude.{◌≡◌, ◌+◌, ◌<◌, ◌≤◌, ℕ,
 ghost use Rattle.std.specs.Iterator.{Drains, IsFinite};
 ghost use Rattle.std.specs.Iterator.Runs.{WholeRun};
 ghost use Rattle.std.specs.List.{fold};
+ghost use Rattle.std.specs.Range.Bound.{start_index, end_index};
 ghost use Rattle.bittle_ext.specs.Rotations.{rotated_down, rotated_up, shifted_down, shifted_up};
 ghost use Rattle.bittle.specs.PlainSet.{complement, contains, empty_set, with_index};
 ghost use Rattle.bittle.specs.PlainSet.{with_span, without_span, with_span_toggled};
 ghost use Rattle.bittle.specs.Values.{set_in, set_mirrored};
 
 use crate::bits_mut_ext::BitsMutExt;
+use crate::bits_span_mut_ext::BitsSpanMutExt;
 use crate::rotations::{rotate_down, rotate_up, shift_down, shift_up};
 use bittle::BitsOwned;
+use std::ops::RangeBounds;
 
 /// Sets made of one set, of a list of indexes or of an iterator. The type has to fit. The order is
 /// that of the type; a `Set` remembers another one, as in `Set::new_le(word).rotated_up(1)`.
@@ -95,6 +98,78 @@ pub trait BitsOwnedExt: BitsOwned {
     {
         let mut set = self;
         set.toggle_range_in::<Self::Order>(from, to);
+        set
+    }
+
+    /// Returns the set with each bit of the range set, by one mask a word. The range goes to
+    /// the capacity where it names no end. It may not run backwards, nor have an index past the
+    /// capacity: nothing wraps.
+    ///
+    /// ```
+    /// [0u8; 2].with_span(6..=10);                         // [0xC0, 0x07]
+    /// ```
+    #[inline]
+    final fn with_span<R: RangeBounds<u32>>(self, range: R) -> Self
+        requires indexable { IsTrue Self.indexable }
+        requires known { R.has_bounds range }
+        requires ordered { start_index (R.start_bound range)
+            ≤ end_index (R.end_bound range) Self.type_capacity }
+        requires within { end_index (R.end_bound range) Self.type_capacity ≤ Self.type_capacity }
+        ensures { let start = start_index (R.start_bound range) in
+            let end = end_index (R.end_bound range) Self.type_capacity in
+            set_in Self.Shape Self.Order.Endian result
+            ≡ with_span (set_in Self.Shape Self.Order.Endian self) start end }
+    {
+        let mut set = self;
+        set.set_span(range);
+        set
+    }
+
+    /// Returns the set with each bit of the range unset, by one mask a word. The range goes to
+    /// the capacity where it names no end. It may not run backwards, nor have an index past the
+    /// capacity: nothing wraps.
+    ///
+    /// ```
+    /// [0xFFu8; 2].without_span(..11);                     // [0x00, 0xF8]
+    /// ```
+    #[inline]
+    final fn without_span<R: RangeBounds<u32>>(self, range: R) -> Self
+        requires indexable { IsTrue Self.indexable }
+        requires known { R.has_bounds range }
+        requires ordered { start_index (R.start_bound range)
+            ≤ end_index (R.end_bound range) Self.type_capacity }
+        requires within { end_index (R.end_bound range) Self.type_capacity ≤ Self.type_capacity }
+        ensures { let start = start_index (R.start_bound range) in
+            let end = end_index (R.end_bound range) Self.type_capacity in
+            set_in Self.Shape Self.Order.Endian result
+            ≡ without_span (set_in Self.Shape Self.Order.Endian self) start end }
+    {
+        let mut set = self;
+        set.clear_span(range);
+        set
+    }
+
+    /// Returns the set with each bit of the range flipped, by one mask a word. The range goes to
+    /// the capacity where it names no end. It may not run backwards, nor have an index past the
+    /// capacity: nothing wraps.
+    ///
+    /// ```
+    /// 0b0011_1100u8.with_span_toggled(4..);               // 0b1100_1100
+    /// ```
+    #[inline]
+    final fn with_span_toggled<R: RangeBounds<u32>>(self, range: R) -> Self
+        requires indexable { IsTrue Self.indexable }
+        requires known { R.has_bounds range }
+        requires ordered { start_index (R.start_bound range)
+            ≤ end_index (R.end_bound range) Self.type_capacity }
+        requires within { end_index (R.end_bound range) Self.type_capacity ≤ Self.type_capacity }
+        ensures { let start = start_index (R.start_bound range) in
+            let end = end_index (R.end_bound range) Self.type_capacity in
+            set_in Self.Shape Self.Order.Endian result
+            ≡ with_span_toggled (set_in Self.Shape Self.Order.Endian self) start end }
+    {
+        let mut set = self;
+        set.toggle_span(range);
         set
     }
 

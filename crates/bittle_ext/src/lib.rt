@@ -38,6 +38,8 @@ mod bits_index_ext;
 mod bits_mut_ext;
 mod bits_owned_ext;
 mod bits_relation_ext;
+mod bits_span_ext;
+mod bits_span_mut_ext;
 mod capacities;
 mod counts;
 mod one_bit;
@@ -53,6 +55,7 @@ pub mod run_iterators;
 #[doc(hidden)]
 pub mod run_laws;
 mod runs;
+mod spans;
 pub mod views;
 
 pub use bits_ext::BitsExt;
@@ -60,6 +63,8 @@ pub use bits_index_ext::{BitsIndexExt, BitsIndexMutExt};
 pub use bits_mut_ext::BitsMutExt;
 pub use bits_owned_ext::BitsOwnedExt;
 pub use bits_relation_ext::BitsRelationExt;
+pub use bits_span_ext::BitsSpanExt;
+pub use bits_span_mut_ext::BitsSpanMutExt;
 pub use range_iterators::BitsRangeExt;
 pub use views::in_order_mut::BitsMutViewExt;
 pub use views::{BitsViewExt, View};

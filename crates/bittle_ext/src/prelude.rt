@@ -5,6 +5,8 @@ pub use crate::bits_index_ext::{BitsIndexExt, BitsIndexMutExt};
 pub use crate::bits_mut_ext::BitsMutExt;
 pub use crate::bits_owned_ext::BitsOwnedExt;
 pub use crate::bits_relation_ext::BitsRelationExt;
+pub use crate::bits_span_ext::BitsSpanExt;
+pub use crate::bits_span_mut_ext::BitsSpanMutExt;
 pub use crate::range_iterators::BitsRangeExt;
 pub use crate::views::in_order_mut::BitsMutViewExt;
 pub use crate::views::{BitsViewExt, View};

@@ -5,7 +5,7 @@ ghost use Rattle.bittle_ext.specs.RangeMembers.{ListsWithin};
 ghost use Rattle.bittle_ext.specs.Runs.{runs, AreRunsBelow, RunsInOrder, RunsInReverse};
 ghost use Rattle.bittle.specs.PlainSet.{complement};
 ghost use Rattle.bittle.specs.Values.{kind_in, set_in, word_count, ShapeFits};
-ghost use Rattle.bittle.specs.Walk.{IsFresh};
+ghost use Rattle.bittle.specs.Walk.{AreBelow, IsFresh};
 
 use crate::run_iterators::{IterOneRuns, IterRuns, IterZeroRuns};
 use crate::views::within::KindWithin;
@@ -32,6 +32,7 @@ pub(crate) fn iter_within<'a, B: Bits, E: Endian, K: Kind>(
     ensures items { ListsWithin (kind_in B.Shape E.Endian K.Kind bits.now) from to
         result.remaining }
     ensures fresh { IsFresh (word_count B.Shape bits.now) result }
+    ensures below { AreBelow (B.big bits.now).capacity result.remaining }
 {
     IntoIter::new(OwnedSource::new(KindWithin::of(bits, from, to)))
 }

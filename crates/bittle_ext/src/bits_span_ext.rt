@@ -1,0 +1,305 @@
+//! Reading a range of a set that is written as Rust writes it: `2..7`, `2..=6`, `..7`, `50..`, `..`.
+
+ghost use Rattle.std.specs.Prelude.{◌≡◌, ◌-◌, ◌<◌, ◌≤◌, IfSome, MatchBool};
+ghost use Rattle.std.specs.Range.Bound.{start_index, end_index};
+ghost use Rattle.bittle_ext.specs.RangeMembers.{members_within, HasSomeIn, HasAllIn, IsPartBelow};
+ghost use Rattle.bittle_ext.specs.RangeMembers.{LacksSomeIn, ListsWithin};
+ghost use Rattle.bittle.specs.PlainSet.{complement, members_below};
+ghost use Rattle.bittle.specs.Searches.{IsFirstIn, IsLastIn, NoneIn};
+ghost use Rattle.bittle.specs.Values.{set_in, word_count, ShapeFits};
+ghost use Rattle.bittle.specs.Walk.{AreBelow, IsFresh};
+
+use crate::capacities::capacity_of;
+use crate::range_iterators::{IterOnesInRange, IterZerosInRange, iter_within};
+use crate::spans::{ends_of, part_of};
+use crate::views::within::Within;
+use bittle::{Bits, Shape};
+use bittle_bits::extension::{Ones, Zeros};
+use std::ops::RangeBounds;
+
+/// What is asked of a range of a set: each call that ends in `_in_range` takes two numbers, its
+/// namesake here a range as Rust writes it.
+///
+/// The shape has to fit. A range ends at the capacity where it names more, and where it names no
+/// end: past the capacity no bit is set and none is unset. A range that runs backwards is empty, and
+/// an `a..=b` that was iterated is none of these. The order is that of the type; a view that
+/// [`in_order`](crate::BitsViewExt::in_order) borrows has another one.
+pub trait BitsSpanExt: Bits {
+    /// Returns how many bits of the range are set. Each word of the range is counted at once. With
+    /// capacity 0 it returns 0.
+    ///
+    /// ```
+    /// 0b0110_0010u8.count_ones_in_span(1..=5);            // 2: bits 1 and 5
+    /// ```
+    #[inline]
+    final fn count_ones_in_span<R: RangeBounds<u32>>(&self, range: R) -> u32
+    where
+        Self: Sized,
+        requires fits { ShapeFits Self.Shape self.now }
+        requires known { R.has_bounds range }
+        ensures value { let ours = set_in Self.Shape Self.Order.Endian self.now in
+            let start = start_index (R.start_bound range) in
+            let end = end_index (R.end_bound range) (Self.big self.now).capacity in
+            result ≡ members_below ours end - members_below ours start }
+        ensures at_most { let start = start_index (R.start_bound range) in
+            let end = end_index (R.end_bound range) (Self.big self.now).capacity in
+            result ≤ end - start }
+        ensures at_most_capacity { result ≤ (Self.big self.now).capacity }
+    {
+        let (start, end) = part_of::<Self, Self::Order, R>(self, &range);
+        self.count_ones_in_range_in::<Self::Order>(start, end)
+    }
+
+    /// Returns how many bits of the range are unset. Each word of the range is counted at once. With
+    /// capacity 0 it returns 0.
+    ///
+    /// ```
+    /// 0b0110_0010u8.count_zeros_in_span(2..);             // 4: bits 2, 3, 4 and 7
+    /// ```
+    #[inline]
+    final fn count_zeros_in_span<R: RangeBounds<u32>>(&self, range: R) -> u32
+    where
+        Self: Sized,
+        requires fits { ShapeFits Self.Shape self.now }
+        requires known { R.has_bounds range }
+        ensures value { let others = complement (set_in Self.Shape Self.Order.Endian self.now) in
+            let start = start_index (R.start_bound range) in
+            let end = end_index (R.end_bound range) (Self.big self.now).capacity in
+            result ≡ members_below others end - members_below others start }
+        ensures at_most { let start = start_index (R.start_bound range) in
+            let end = end_index (R.end_bound range) (Self.big self.now).capacity in
+            result ≤ end - start }
+        ensures at_most_capacity { result ≤ (Self.big self.now).capacity }
+    {
+        let (start, end) = part_of::<Self, Self::Order, R>(self, &range);
+        end - start - self.count_ones_in_range_in::<Self::Order>(start, end)
+    }
+
+    /// Returns the least index of a set bit in the range, or `None` if there is none. Words of the
+    /// range are read from its first one on, up to the answer.
+    ///
+    /// ```
+    /// 0b0110_0010u8.first_one_in_span(2..);               // Some(5)
+    /// ```
+    #[inline]
+    final fn first_one_in_span<R: RangeBounds<u32>>(&self, range: R) -> Option<u32>
+    where
+        Self: Sized,
+        requires fits { ShapeFits Self.Shape self.now }
+        requires known { R.has_bounds range }
+        ensures first { let start = start_index (R.start_bound range) in
+            let end = end_index (R.end_bound range) (Self.big self.now).capacity in
+            IsFirstIn (set_in Self.Shape Self.Order.Endian self.now) start end result }
+        ensures below { IfSome result (λ index. index < (Self.big self.now).capacity) }
+    {
+        let (start, end) = part_of::<Self, Self::Order, R>(self, &range);
+        self.first_one_in::<Self::Order>(start, end)
+    }
+
+    /// Returns the least index of an unset bit in the range, or `None` if there is none. Words of the
+    /// range are read from its first one on, up to the answer.
+    ///
+    /// ```
+    /// 0b0110_0110u8.first_zero_in_span(1..=6);            // Some(3)
+    /// ```
+    #[inline]
+    final fn first_zero_in_span<R: RangeBounds<u32>>(&self, range: R) -> Option<u32>
+    where
+        Self: Sized,
+        requires fits { ShapeFits Self.Shape self.now }
+        requires known { R.has_bounds range }
+        ensures first { let start = start_index (R.start_bound range) in
+            let end = end_index (R.end_bound range) (Self.big self.now).capacity in
+            IsFirstIn (complement (set_in Self.Shape Self.Order.Endian self.now)) start end
+            result }
+        ensures below { IfSome result (λ index. index < (Self.big self.now).capacity) }
+    {
+        let (start, end) = part_of::<Self, Self::Order, R>(self, &range);
+        self.first_zero_in::<Self::Order>(start, end)
+    }
+
+    /// Returns the greatest index of a set bit in the range, or `None` if there is none. Words of the
+    /// range are read from its last one back, down to the answer.
+    ///
+    /// ```
+    /// 0b0110_0010u8.last_one_in_span(..5);                // Some(1)
+    /// ```
+    #[inline]
+    final fn last_one_in_span<R: RangeBounds<u32>>(&self, range: R) -> Option<u32>
+    where
+        Self: Sized,
+        requires fits { ShapeFits Self.Shape self.now }
+        requires known { R.has_bounds range }
+        ensures last { let start = start_index (R.start_bound range) in
+            let end = end_index (R.end_bound range) (Self.big self.now).capacity in
+            IsLastIn (set_in Self.Shape Self.Order.Endian self.now) start end result }
+        ensures below { IfSome result (λ index. index < (Self.big self.now).capacity) }
+    {
+        let (start, end) = part_of::<Self, Self::Order, R>(self, &range);
+        self.last_one_in::<Self::Order>(start, end)
+    }
+
+    /// Returns the greatest index of an unset bit in the range, or `None` if there is none. Words of
+    /// the range are read from its last one back, down to the answer.
+    ///
+    /// ```
+    /// 0b0110_0110u8.last_zero_in_span(..7);               // Some(4)
+    /// ```
+    #[inline]
+    final fn last_zero_in_span<R: RangeBounds<u32>>(&self, range: R) -> Option<u32>
+    where
+        Self: Sized,
+        requires fits { ShapeFits Self.Shape self.now }
+        requires known { R.has_bounds range }
+        ensures last { let start = start_index (R.start_bound range) in
+            let end = end_index (R.end_bound range) (Self.big self.now).capacity in
+            IsLastIn (complement (set_in Self.Shape Self.Order.Endian self.now)) start end
+            result }
+        ensures below { IfSome result (λ index. index < (Self.big self.now).capacity) }
+    {
+        let (start, end) = part_of::<Self, Self::Order, R>(self, &range);
+        self.last_zero_in::<Self::Order>(start, end)
+    }
+
+    /// Returns `true` if a bit of the range is set. In an empty range none is. Words are read up to
+    /// the first set bit.
+    ///
+    /// ```
+    /// 0b0110_0000u8.any_in_span(..=4);                    // false
+    /// ```
+    #[inline]
+    final fn any_in_span<R: RangeBounds<u32>>(&self, range: R) -> bool
+    where
+        Self: Sized,
+        requires fits { ShapeFits Self.Shape self.now }
+        requires known { R.has_bounds range }
+        ensures { let ours = set_in Self.Shape Self.Order.Endian self.now in
+            let start = start_index (R.start_bound range) in
+            let end = end_index (R.end_bound range) (Self.big self.now).capacity in
+            MatchBool result (HasSomeIn ours start end) (NoneIn ours start end) }
+    {
+        self.first_one_in_span(range).is_some()
+    }
+
+    /// Returns `true` if each bit of the range is set. A range with an index past the capacity has a
+    /// bit that is not set, so the answer is `false`. In an empty range each is set. Words are read
+    /// up to the first unset bit.
+    ///
+    /// ```
+    /// 0b1110_0000u8.all_in_span(5..);                     // true
+    /// 0b1110_0000u8.all_in_span(5..=8);                   // false: 8 is past the capacity
+    /// ```
+    #[inline]
+    final fn all_in_span<R: RangeBounds<u32>>(&self, range: R) -> bool
+    where
+        Self: Sized,
+        requires fits { ShapeFits Self.Shape self.now }
+        requires known { R.has_bounds range }
+        ensures value { let ours = set_in Self.Shape Self.Order.Endian self.now in
+            let start = start_index (R.start_bound range) in
+            let end = end_index (R.end_bound range) (Self.big self.now).capacity in
+            MatchBool result (HasAllIn ours start end) (LacksSomeIn ours start end) }
+        ensures unset { let ours = set_in Self.Shape Self.Order.Endian self.now in
+            let start = start_index (R.start_bound range) in
+            let end = end_index (R.end_bound range) (Self.big self.now).capacity in
+            end ≤ (Self.big self.now).capacity →
+            MatchBool result (HasAllIn ours start end) (HasSomeIn (complement ours) start end) }
+    {
+        let capacity = capacity_of::<Self, Self::Order>(self);
+        let (from, to) = ends_of(&range, capacity);
+        if from >= to {
+            return true;
+        }
+        if to > capacity as u64 {
+            return false;
+        }
+        self.first_zero_in::<Self::Order>(from as u32, to as u32)
+            .is_none()
+    }
+
+    /// Returns an iterator over the indexes of the set bits in the range, in the order of the type,
+    /// increasing, from both ends, as
+    /// [`iter_ones_in_range`](crate::BitsRangeExt::iter_ones_in_range) does.
+    ///
+    /// ```
+    /// 0b0110_0010u8.iter_ones_in_span(2..);               // yields 5, 6
+    /// ```
+    #[inline]
+    final fn iter_ones_in_span<R: RangeBounds<u32>>(
+        &self,
+        range: R,
+    ) -> IterOnesInRange<'_, Self, Self::Order>
+    where
+        Self: Sized,
+        requires fits { ShapeFits Self.Shape self.now }
+        requires known { R.has_bounds range }
+        ensures items { let start = start_index (R.start_bound range) in
+            let end = end_index (R.end_bound range) (Self.big self.now).capacity in
+            ListsWithin (set_in Self.Shape Self.Order.Endian self.now) start end
+            result.remaining }
+        ensures fresh { IsFresh (word_count Self.Shape self.now) result }
+        ensures below { AreBelow (Self.big self.now).capacity result.remaining }
+    {
+        let (start, end) = part_of::<Self, Self::Order, R>(self, &range);
+        iter_within::<Self, Self::Order, Ones>(self, start, end)
+    }
+
+    /// Returns an iterator over the indexes of the unset bits in the range, as
+    /// [`iter_zeros_in_range`](crate::BitsRangeExt::iter_zeros_in_range) does.
+    ///
+    /// ```
+    /// 0b0110_0010u8.iter_zeros_in_span(..4);              // yields 0, 2, 3
+    /// ```
+    #[inline]
+    final fn iter_zeros_in_span<R: RangeBounds<u32>>(
+        &self,
+        range: R,
+    ) -> IterZerosInRange<'_, Self, Self::Order>
+    where
+        Self: Sized,
+        requires fits { ShapeFits Self.Shape self.now }
+        requires known { R.has_bounds range }
+        ensures items { let start = start_index (R.start_bound range) in
+            let end = end_index (R.end_bound range) (Self.big self.now).capacity in
+            ListsWithin (complement (set_in Self.Shape Self.Order.Endian self.now)) start end
+            result.remaining }
+        ensures fresh { IsFresh (word_count Self.Shape self.now) result }
+        ensures below { AreBelow (Self.big self.now).capacity result.remaining }
+    {
+        let (start, end) = part_of::<Self, Self::Order, R>(self, &range);
+        iter_within::<Self, Self::Order, Zeros>(self, start, end)
+    }
+
+    /// Views the set bits of the range: a set of as many bits, in the order of the type, as
+    /// [`within`](crate::BitsViewExt::within) does.
+    ///
+    /// ```
+    /// 0b0110_0010u8.within_span(2..).count_ones();        // 2: bits 5 and 6
+    /// ```
+    #[inline]
+    final fn within_span<'a, R: RangeBounds<u32>>(
+        &'a self,
+        range: R,
+    ) -> Within<'a, Self, Self::Order>
+    where
+        Self: Sized,
+        requires fits { ShapeFits Self.Shape self.now }
+        requires known { R.has_bounds range }
+        ensures value { result.set.now ≡ self.now }
+        ensures part { let capacity = (Self.big self.now).capacity in
+            IsPartBelow capacity (start_index (R.start_bound range))
+            (end_index (R.end_bound range) capacity) result.from result.to }
+        ensures capacity { (⟦<Within<'a, Self, Self::Order> as Shape>⟧.big result).capacity
+            ≡ (Self.big self.now).capacity }
+        ensures set { let start = start_index (R.start_bound range) in
+            let end = end_index (R.end_bound range) (Self.big self.now).capacity in
+            set_in ⟦<Within<'a, Self, Self::Order> as Shape>⟧ Self.Order.Endian result
+            ≡ members_within (set_in Self.Shape Self.Order.Endian self.now) start end }
+        ensures view_fits { ShapeFits ⟦<Within<'a, Self, Self::Order> as Shape>⟧ result }
+    {
+        let (start, end) = part_of::<Self, Self::Order, R>(self, &range);
+        Within::of(self, start, end)
+    }
+}
+
+impl<B: Bits> BitsSpanExt for B {}

@@ -1,0 +1,127 @@
+//! Changing a range of a set that is written as Rust writes it: `2..7`, `2..=6`, `..7`, `50..`, `..`.
+
+ghost use Rattle.std.specs.Prelude.{◌≡◌, ◌≤◌};
+ghost use Rattle.std.specs.Range.Bound.{start_index, end_index};
+ghost use Rattle.bittle_ext.specs.Changes.{with_span_assigned};
+ghost use Rattle.bittle.specs.PlainSet.{with_span, without_span, with_span_toggled};
+ghost use Rattle.bittle.specs.Values.{set_in, ShapeFits};
+
+use crate::bits_mut_ext::BitsMutExt;
+use crate::spans::ends_within;
+use bittle::BitsMut;
+use std::ops::RangeBounds;
+
+/// Changes of a range of a set: each call that ends in `_range` takes two numbers, its namesake here
+/// a range as Rust writes it.
+///
+/// The shape has to fit. A range that names no end goes to the capacity. It may not run backwards,
+/// nor have an index past the capacity: nothing wraps. Only the words of the range are written. An
+/// empty range, as any with capacity 0, changes nothing. The order is that of the type; a view that
+/// [`in_order_mut`](crate::BitsMutViewExt::in_order_mut) lends has another one.
+pub trait BitsSpanMutExt: BitsMut {
+    /// Sets each bit of the range, by one mask a word.
+    ///
+    /// ```
+    /// let mut row = [0u8; 2];
+    /// row.set_span(6..=10);                               // row is [0xC0, 0x07]
+    /// ```
+    #[inline]
+    final fn set_span<R: RangeBounds<u32>>(&mut self, range: R)
+    where
+        Self: Sized,
+        requires fits { ShapeFits Self.Shape self.old }
+        requires known { R.has_bounds range }
+        requires ordered { start_index (R.start_bound range)
+            ≤ end_index (R.end_bound range) (Self.big self.old).capacity }
+        requires within { end_index (R.end_bound range) (Self.big self.old).capacity
+            ≤ (Self.big self.old).capacity }
+        ensures set { let start = start_index (R.start_bound range) in
+            let end = end_index (R.end_bound range) (Self.big self.old).capacity in
+            set_in Self.Shape Self.Order.Endian self.new
+            ≡ with_span (set_in Self.Shape Self.Order.Endian self.old) start end }
+        ensures stays { Self.loan self.old ≡ Self.loan self.new }
+    {
+        let (from, to) = ends_within::<Self, R>(self, &range);
+        self.set_range(from, to);
+    }
+
+    /// Clears each bit of the range, by one mask a word.
+    ///
+    /// ```
+    /// let mut row = [0xFFu8; 2];
+    /// row.clear_span(..11);                               // row is [0x00, 0xF8]
+    /// ```
+    #[inline]
+    final fn clear_span<R: RangeBounds<u32>>(&mut self, range: R)
+    where
+        Self: Sized,
+        requires fits { ShapeFits Self.Shape self.old }
+        requires known { R.has_bounds range }
+        requires ordered { start_index (R.start_bound range)
+            ≤ end_index (R.end_bound range) (Self.big self.old).capacity }
+        requires within { end_index (R.end_bound range) (Self.big self.old).capacity
+            ≤ (Self.big self.old).capacity }
+        ensures set { let start = start_index (R.start_bound range) in
+            let end = end_index (R.end_bound range) (Self.big self.old).capacity in
+            set_in Self.Shape Self.Order.Endian self.new
+            ≡ without_span (set_in Self.Shape Self.Order.Endian self.old) start end }
+        ensures stays { Self.loan self.old ≡ Self.loan self.new }
+    {
+        let (from, to) = ends_within::<Self, R>(self, &range);
+        self.clear_range(from, to);
+    }
+
+    /// Flips each bit of the range, by one mask a word.
+    ///
+    /// ```
+    /// let mut word = 0b0011_1100u8;
+    /// word.toggle_span(4..);                              // word is 0b1100_1100
+    /// ```
+    #[inline]
+    final fn toggle_span<R: RangeBounds<u32>>(&mut self, range: R)
+    where
+        Self: Sized,
+        requires fits { ShapeFits Self.Shape self.old }
+        requires known { R.has_bounds range }
+        requires ordered { start_index (R.start_bound range)
+            ≤ end_index (R.end_bound range) (Self.big self.old).capacity }
+        requires within { end_index (R.end_bound range) (Self.big self.old).capacity
+            ≤ (Self.big self.old).capacity }
+        ensures set { let start = start_index (R.start_bound range) in
+            let end = end_index (R.end_bound range) (Self.big self.old).capacity in
+            set_in Self.Shape Self.Order.Endian self.new
+            ≡ with_span_toggled (set_in Self.Shape Self.Order.Endian self.old) start end }
+        ensures stays { Self.loan self.old ≡ Self.loan self.new }
+    {
+        let (from, to) = ends_within::<Self, R>(self, &range);
+        self.toggle_range(from, to);
+    }
+
+    /// Sets each bit of the range if `value` is `true`, else clears each, by one mask a word.
+    ///
+    /// ```
+    /// let mut word = 0b1111_1111u8;
+    /// word.assign_span(..=2, false);                      // word is 0b1111_1000
+    /// ```
+    #[inline]
+    final fn assign_span<R: RangeBounds<u32>>(&mut self, range: R, value: bool)
+    where
+        Self: Sized,
+        requires fits { ShapeFits Self.Shape self.old }
+        requires known { R.has_bounds range }
+        requires ordered { start_index (R.start_bound range)
+            ≤ end_index (R.end_bound range) (Self.big self.old).capacity }
+        requires within { end_index (R.end_bound range) (Self.big self.old).capacity
+            ≤ (Self.big self.old).capacity }
+        ensures set { let start = start_index (R.start_bound range) in
+            let end = end_index (R.end_bound range) (Self.big self.old).capacity in
+            set_in Self.Shape Self.Order.Endian self.new
+            ≡ with_span_assigned (set_in Self.Shape Self.Order.Endian self.old) start end value }
+        ensures stays { Self.loan self.old ≡ Self.loan self.new }
+    {
+        let (from, to) = ends_within::<Self, R>(self, &range);
+        self.assign_range(from, to, value);
+    }
+}
+
+impl<B: BitsMut> BitsSpanMutExt for B {}
