@@ -1,12 +1,13 @@
 //! Reading a set.
 
 ghost use Rattle.std.specs.Prelude.{◌≡◌, ◌-◌, ◌<◌, ◌≤◌, IfSome, MatchBool, slice_get};
-ghost use Rattle.bittle_ext.specs.RangeMembers.{HasSomeIn, HasAllIn};
+ghost use Rattle.bittle_ext.specs.RangeMembers.{HasSomeIn, HasAllIn, LacksSomeIn};
 ghost use Rattle.bittle_ext.specs.Runs.{IsFirstRun};
 ghost use Rattle.bittle.specs.PlainSet.{ascending, complement, members_below};
 ghost use Rattle.bittle.specs.Searches.{IsFirstIn, IsLastIn, NoneIn};
 ghost use Rattle.bittle.specs.Values.{set_in, ShapeFits};
 
+use crate::bits_span_ext::BitsSpanExt;
 use crate::capacities::capacity_of;
 use crate::{ranks, runs};
 use bittle::Bits;
@@ -204,10 +205,84 @@ pub trait BitsExt: Bits {
         ranks::select::<Self, Self::Order>(self, rank)
     }
 
-    /// Returns how many bits of `from..to` are set, in the order of the type, as
-    /// [`count_ones_in_range_in`](Bits::count_ones_in_range_in) does.
+    /// Returns the least index of a set bit in `from..to`, in the order of the type, or `None` if
+    /// there is none. A `to` past the capacity means the capacity, and a range that runs backwards is
+    /// empty. Words of the range are read from its first one on, up to the answer.
     ///
-    /// The shape has to fit, and `from <= to <= capacity`: nothing wraps.
+    /// ```
+    /// 0b0110_0010u8.first_one_in_range(2, 6);             // Some(5)
+    /// ```
+    #[inline]
+    final fn first_one_in_range(&self, from: u32, to: u32) -> Option<u32>
+    where
+        Self: Sized,
+        requires { ShapeFits Self.Shape self.now }
+        ensures first { IsFirstIn (set_in Self.Shape Self.Order.Endian self.now) from to result }
+        ensures below { IfSome result (λ index. index < (Self.big self.now).capacity) }
+    {
+        self.first_one_in_span(from..to)
+    }
+
+    /// Returns the least index of an unset bit in `from..to`, in the order of the type, or `None` if
+    /// there is none: past the capacity no bit is unset. All else is as with
+    /// [`first_one_in_range`](BitsExt::first_one_in_range).
+    ///
+    /// ```
+    /// 0b0110_0110u8.first_zero_in_range(1, 6);            // Some(3)
+    /// ```
+    #[inline]
+    final fn first_zero_in_range(&self, from: u32, to: u32) -> Option<u32>
+    where
+        Self: Sized,
+        requires { ShapeFits Self.Shape self.now }
+        ensures first { IsFirstIn (complement (set_in Self.Shape Self.Order.Endian self.now)) from
+            to result }
+        ensures below { IfSome result (λ index. index < (Self.big self.now).capacity) }
+    {
+        self.first_zero_in_span(from..to)
+    }
+
+    /// Returns the greatest index of a set bit in `from..to`, in the order of the type, or `None` if
+    /// there is none. A `to` past the capacity means the capacity, and a range that runs backwards is
+    /// empty. Words of the range are read from its last one back, down to the answer.
+    ///
+    /// ```
+    /// 0b0110_0010u8.last_one_in_range(0, 6);              // Some(5)
+    /// ```
+    #[inline]
+    final fn last_one_in_range(&self, from: u32, to: u32) -> Option<u32>
+    where
+        Self: Sized,
+        requires { ShapeFits Self.Shape self.now }
+        ensures last { IsLastIn (set_in Self.Shape Self.Order.Endian self.now) from to result }
+        ensures below { IfSome result (λ index. index < (Self.big self.now).capacity) }
+    {
+        self.last_one_in_span(from..to)
+    }
+
+    /// Returns the greatest index of an unset bit in `from..to`, in the order of the type, or `None`
+    /// if there is none: past the capacity no bit is unset. All else is as with
+    /// [`last_one_in_range`](BitsExt::last_one_in_range).
+    ///
+    /// ```
+    /// 0b0110_0110u8.last_zero_in_range(0, 7);             // Some(4)
+    /// ```
+    #[inline]
+    final fn last_zero_in_range(&self, from: u32, to: u32) -> Option<u32>
+    where
+        Self: Sized,
+        requires { ShapeFits Self.Shape self.now }
+        ensures last { IsLastIn (complement (set_in Self.Shape Self.Order.Endian self.now)) from to
+            result }
+        ensures below { IfSome result (λ index. index < (Self.big self.now).capacity) }
+    {
+        self.last_zero_in_span(from..to)
+    }
+
+    /// Returns how many bits of `from..to` are set, in the order of the type.
+    ///
+    /// The shape has to fit. Past the capacity no bit is set, and a range that runs backwards is
+    /// empty. Each word of the range is counted at once. With capacity 0 it returns 0.
     ///
     /// ```
     /// 0b0110_0010u8.count_ones_in_range(1, 6);            // 2: bits 1 and 5
@@ -216,20 +291,19 @@ pub trait BitsExt: Bits {
     final fn count_ones_in_range(&self, from: u32, to: u32) -> u32
     where
         Self: Sized,
-        requires fits { ShapeFits Self.Shape self.now }
-        requires ordered { from ≤ to }
-        requires within { to ≤ (Self.big self.now).capacity }
+        requires { ShapeFits Self.Shape self.now }
         ensures value { let ours = set_in Self.Shape Self.Order.Endian self.now in
             result ≡ members_below ours to - members_below ours from }
         ensures at_most { result ≤ to - from }
+        ensures at_most_capacity { result ≤ (Self.big self.now).capacity }
     {
-        self.count_ones_in_range_in::<Self::Order>(from, to)
+        self.count_ones_in_span(from..to)
     }
 
     /// Returns how many bits of `from..to` are unset, in the order of the type.
     ///
-    /// The shape has to fit, and `from <= to <= capacity`: nothing wraps. Each word of the range is
-    /// counted at once. With capacity 0 it returns 0.
+    /// The shape has to fit. Past the capacity no bit is unset, and a range that runs backwards is
+    /// empty. Each word of the range is counted at once. With capacity 0 it returns 0.
     ///
     /// ```
     /// 0b0110_0010u8.count_zeros_in_range(1, 6);           // 3: bits 2, 3 and 4
@@ -238,20 +312,19 @@ pub trait BitsExt: Bits {
     final fn count_zeros_in_range(&self, from: u32, to: u32) -> u32
     where
         Self: Sized,
-        requires fits { ShapeFits Self.Shape self.now }
-        requires ordered { from ≤ to }
-        requires within { to ≤ (Self.big self.now).capacity }
+        requires { ShapeFits Self.Shape self.now }
         ensures value { let others = complement (set_in Self.Shape Self.Order.Endian self.now) in
             result ≡ members_below others to - members_below others from }
         ensures at_most { result ≤ to - from }
+        ensures at_most_capacity { result ≤ (Self.big self.now).capacity }
     {
-        to - from - self.count_ones_in_range_in::<Self::Order>(from, to)
+        self.count_zeros_in_span(from..to)
     }
 
     /// Returns `true` if a bit of `from..to` is set, in the order of the type.
     ///
-    /// The shape has to fit, and `from <= to <= capacity`: nothing wraps. In an empty range none
-    /// is. Words are read up to the first set bit.
+    /// The shape has to fit. Past the capacity no bit is set, and in an empty range, as in one that
+    /// runs backwards, none is. Words are read up to the first set bit.
     ///
     /// ```
     /// 0b0110_0000u8.any_in_range(3, 6);                   // true: bit 5
@@ -260,34 +333,35 @@ pub trait BitsExt: Bits {
     final fn any_in_range(&self, from: u32, to: u32) -> bool
     where
         Self: Sized,
-        requires fits { ShapeFits Self.Shape self.now }
-        requires ordered { from ≤ to }
-        requires within { to ≤ (Self.big self.now).capacity }
+        requires { ShapeFits Self.Shape self.now }
         ensures { let ours = set_in Self.Shape Self.Order.Endian self.now in
             MatchBool result (HasSomeIn ours from to) (NoneIn ours from to) }
     {
-        self.first_one_in::<Self::Order>(from, to).is_some()
+        self.any_in_span(from..to)
     }
 
     /// Returns `true` if each bit of `from..to` is set, in the order of the type.
     ///
-    /// The shape has to fit, and `from <= to <= capacity`: nothing wraps. In an empty range each
-    /// is. Words are read up to the first unset bit.
+    /// The shape has to fit. A range with an index past the capacity has a bit that is not set, so
+    /// the answer is `false`. In an empty range, as in one that runs backwards, each is set. Words
+    /// are read up to the first unset bit.
     ///
     /// ```
     /// 0b0110_0000u8.all_in_range(5, 8);                   // false: bit 7 is unset
+    /// 0b1110_0000u8.all_in_range(5, 9);                   // false: 8 is past the capacity
     /// ```
     #[inline]
     final fn all_in_range(&self, from: u32, to: u32) -> bool
     where
         Self: Sized,
-        requires fits { ShapeFits Self.Shape self.now }
-        requires ordered { from ≤ to }
-        requires within { to ≤ (Self.big self.now).capacity }
-        ensures { let ours = set_in Self.Shape Self.Order.Endian self.now in
+        requires { ShapeFits Self.Shape self.now }
+        ensures value { let ours = set_in Self.Shape Self.Order.Endian self.now in
+            MatchBool result (HasAllIn ours from to) (LacksSomeIn ours from to) }
+        ensures unset { let ours = set_in Self.Shape Self.Order.Endian self.now in
+            to ≤ (Self.big self.now).capacity →
             MatchBool result (HasAllIn ours from to) (HasSomeIn (complement ours) from to) }
     {
-        self.first_zero_in::<Self::Order>(from, to).is_none()
+        self.all_in_span(from..to)
     }
 
     /// Returns the least index from `from` on where `length` unset bits begin, in the order of the

@@ -7,6 +7,7 @@ ghost use Rattle.bittle.specs.PlainSet.{complement};
 ghost use Rattle.bittle.specs.Values.{kind_in, set_in, word_count, ShapeFits};
 ghost use Rattle.bittle.specs.Walk.{AreBelow, IsFresh};
 
+use crate::bits_span_ext::BitsSpanExt;
 use crate::run_iterators::{IterOneRuns, IterRuns, IterZeroRuns};
 use crate::views::within::KindWithin;
 use bittle::{Bits, Endian};
@@ -39,15 +40,15 @@ pub(crate) fn iter_within<'a, B: Bits, E: Endian, K: Kind>(
 
 /// Iterators over a range of a set, and over its longest runs of neighbours.
 ///
-/// The shape has to fit. Of a range `from <= to <= capacity`: nothing wraps. The order is that of the
-/// type; a view that [`in_order`](crate::BitsViewExt::in_order) borrows has another one.
+/// The shape has to fit. A range ends at the capacity where it names more: nothing wraps. The order is
+/// that of the type; a view that [`in_order`](crate::BitsViewExt::in_order) borrows has another one.
 pub trait BitsRangeExt: Bits {
     /// Returns an iterator over the indexes of the set bits in `from..to`, in the order of the
     /// type, increasing, from both ends.
     ///
-    /// The shape has to fit, and `from <= to <= capacity`: nothing wraps. Only the words of the
-    /// range are read, each once. With capacity 0 it yields nothing. It borrows the set alone, so that
-    /// it may be returned from a function that borrows the set.
+    /// The shape has to fit. Past the capacity no bit is set, and a range that runs backwards is
+    /// empty. Only the words of the range are read, each once. With capacity 0 it yields nothing. It
+    /// borrows the set alone, so that it may be returned from a function that borrows the set.
     ///
     /// ```
     /// 0b0110_0010u8.iter_ones_in_range(1, 6);             // yields 1, 5
@@ -56,18 +57,17 @@ pub trait BitsRangeExt: Bits {
     final fn iter_ones_in_range(&self, from: u32, to: u32) -> IterOnesInRange<'_, Self, Self::Order>
     where
         Self: Sized,
-        requires fits { ShapeFits Self.Shape self.now }
-        requires ordered { from ≤ to }
-        requires within { to ≤ (Self.big self.now).capacity }
+        requires { ShapeFits Self.Shape self.now }
         ensures items { ListsWithin (set_in Self.Shape Self.Order.Endian self.now) from to
             result.remaining }
         ensures fresh { IsFresh (word_count Self.Shape self.now) result }
+        ensures below { AreBelow (Self.big self.now).capacity result.remaining }
     {
-        iter_within::<Self, Self::Order, Ones>(self, from, to)
+        self.iter_ones_in_span(from..to)
     }
 
-    /// Returns an iterator over the indexes of the unset bits in `from..to`. All else is as with
-    /// [`iter_ones_in_range`](BitsRangeExt::iter_ones_in_range).
+    /// Returns an iterator over the indexes of the unset bits in `from..to`: past the capacity no bit
+    /// is unset. All else is as with [`iter_ones_in_range`](BitsRangeExt::iter_ones_in_range).
     ///
     /// ```
     /// 0b0110_0010u8.iter_zeros_in_range(1, 5);            // yields 2, 3, 4
@@ -80,14 +80,13 @@ pub trait BitsRangeExt: Bits {
     ) -> IterZerosInRange<'_, Self, Self::Order>
     where
         Self: Sized,
-        requires fits { ShapeFits Self.Shape self.now }
-        requires ordered { from ≤ to }
-        requires within { to ≤ (Self.big self.now).capacity }
+        requires { ShapeFits Self.Shape self.now }
         ensures items { ListsWithin (complement (set_in Self.Shape Self.Order.Endian self.now)) from
             to result.remaining }
         ensures fresh { IsFresh (word_count Self.Shape self.now) result }
+        ensures below { AreBelow (Self.big self.now).capacity result.remaining }
     {
-        iter_within::<Self, Self::Order, Zeros>(self, from, to)
+        self.iter_zeros_in_span(from..to)
     }
 
     /// Returns an iterator over the longest runs of set bits, each a range of indexes, in the order

@@ -13,13 +13,14 @@
 
 ghost use Rattle.std.specs.Prelude.{◌≡◌, ◌<◌, ◌≤◌, ◌/◌, ◌&&◌, ◌||◌, max};
 ghost use Rattle.bittle_ext.specs.Combined.{both_of, either_of, first_only_of, just_one_of};
-ghost use Rattle.bittle_ext.specs.RangeMembers.{members_within};
+ghost use Rattle.bittle_ext.specs.RangeMembers.{members_within, IsPartBelow};
 ghost use Rattle.bittle_ext.specs.Views.{decided_until, decided_of_first, rounded_up};
 ghost use Rattle.bittle.specs.PlainSet.{ascending, complement};
 ghost use Rattle.bittle.specs.SetOperations.{first_alone, just_one};
 ghost use Rattle.bittle.specs.Values.{set_in, ShapeFits};
 ghost use Rattle.bittle.specs.Walk.{AreBelow, IsFresh};
 
+use crate::bits_span_ext::BitsSpanExt;
 use crate::views::complement::Complement;
 use crate::views::in_order::InOrder;
 use crate::views::in_order_mut::InOrderMut;
@@ -308,9 +309,9 @@ pub trait BitsViewExt: Bits {
 
     /// Views the set bits of `from..to`: a set of as many bits, in the order of the type.
     ///
-    /// The shape has to fit, and `from <= to <= capacity`: nothing wraps. Whether a bit is set at
-    /// all, and how many are, is asked of the words of the range alone. With capacity 0 it is the
-    /// empty set.
+    /// The shape has to fit. Past the capacity no bit is set, and a range that runs backwards is
+    /// empty. Whether a bit is set at all, and how many are, is asked of the words of the range
+    /// alone. With capacity 0 it is the empty set.
     ///
     /// ```
     /// 0b0110_0010u8.within(1, 6).iter_ones();             // yields 1, 5
@@ -319,19 +320,16 @@ pub trait BitsViewExt: Bits {
     final fn within<'a>(&'a self, from: u32, to: u32) -> Within<'a, Self, Self::Order>
     where
         Self: Sized,
-        requires fits { ShapeFits Self.Shape self.now }
-        requires ordered { from ≤ to }
-        requires within { to ≤ (Self.big self.now).capacity }
+        requires { ShapeFits Self.Shape self.now }
         ensures value { result.set.now ≡ self.now }
-        ensures from { result.from ≡ from }
-        ensures to { result.to ≡ to }
+        ensures part { IsPartBelow (Self.big self.now).capacity from to result.from result.to }
         ensures capacity { (⟦<Within<'a, Self, Self::Order> as Shape>⟧.big result).capacity
             ≡ (Self.big self.now).capacity }
         ensures set { set_in ⟦<Within<'a, Self, Self::Order> as Shape>⟧ Self.Order.Endian result
             ≡ members_within (set_in Self.Shape Self.Order.Endian self.now) from to }
         ensures view_fits { ShapeFits ⟦<Within<'a, Self, Self::Order> as Shape>⟧ result }
     {
-        Within::of(self, from, to)
+        self.within_span(from..to)
     }
 }
 
