@@ -1,4 +1,5 @@
 pub mod PassedWords
+pub mod CallableBelow
 mod CombinedWords
 mod Complements
 mod GatheredWords

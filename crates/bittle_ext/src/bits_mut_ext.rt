@@ -6,6 +6,7 @@ ghost use Rattle.std.specs.Iterator.{Drains, IsFinite};
 ghost use Rattle.std.specs.Iterator.Runs.{WholeRun};
 ghost use Rattle.std.specs.List.{fold};
 ghost use Rattle.bittle_ext.specs.Runs.{IsFirstRun};
+ghost use Rattle.bittle_ext.specs.Calls.{IsCallableBelow};
 ghost use Rattle.bittle_ext.specs.Changes.{with_index_assigned, with_index_toggled};
 ghost use Rattle.bittle_ext.specs.Changes.{with_span_assigned, Retains};
 ghost use Rattle.bittle.specs.PlainSet.{contains, complement, size, with_index, without_index};
@@ -307,8 +308,9 @@ pub trait BitsMutExt: BitsMut {
     /// returns `false`, in the order of the type. With capacity 0 it asks for none, and nothing
     /// changes.
     ///
-    /// The shape has to fit. Each set bit costs a call and a search that begins at its word, each
-    /// bit that goes one write.
+    /// The shape has to fit, and `keep` is to be callable at each index below the capacity, again
+    /// after each such call. Each set bit costs a call and a search that begins at its word, each bit
+    /// that goes one write.
     ///
     /// ```
     /// let mut row = [0x07u8, 0x81];
@@ -319,7 +321,7 @@ pub trait BitsMutExt: BitsMut {
     where
         Self: Sized,
         requires fits { ShapeFits Self.Shape self.old }
-        requires callable { F.IsAlwaysCallable keep }
+        requires callable { IsCallableBelow (Self.big self.old).capacity F.FnMut keep }
         ensures set { Retains F.step keep (set_in Self.Shape Self.Order.Endian self.old)
             (set_in Self.Shape Self.Order.Endian self.new) }
         ensures stays { Self.loan self.old ≡ Self.loan self.new }

@@ -1,7 +1,8 @@
-use Rattle.std.proofs.Common.{Some, ◌∙◌, refl, subst, arith, of_calls}
+use Rattle.std.proofs.Common.{◌<◌, Some, ◌∙◌, refl, subst, arith}
 use Rattle.bittle.specs.Searches.{IsFirstIn}
 use Rattle.bittle.specs.Values.{set_in}
 use Rattle.bittle_bits.proofs.PlainSets.{members-past}
+use Rattle.bittle_ext.proofs.CallableBelow.{asks_below, next_below}
 use Rattle.bittle_ext.proofs.RetainSteps.{retains_none, retains_kept, retains_others, retains_all}
 use Rattle.bittle_ext.proofs.bits_mut_ext.BitsMutExt.retain.Goals.{then-not-keep, else-not-keep}
 use Rattle.bittle_ext.proofs.bits_mut_ext.BitsMutExt.retain.Goals as goal
@@ -16,6 +17,12 @@ loop-index-init g c =
       stays = refl;
     }
 
+pub keep-requires : goal.keep-requires
+keep-requires g c =
+    let t = c.loop-index.invariant in
+    asks_below _ g.F.FnMut c.loop-index.keep c.in-Some.index t.callable
+    (omega (arith, c.in-Some.ensures.1, t.end))
+
 pub loop-index-preserved : goal.loop-index-preserved
 loop-index-preserved g c =
     let t = c.loop-index.invariant in
@@ -25,9 +32,12 @@ loop-index-preserved g c =
     let found : IsFirstIn now c.loop-index.from now.capacity (Some i) =
     (e.0, omega (arith, e.1, t.end, t.retains.capacity), e.2, e.3) in
     let R = goal.F-step g in
+    let before = set_in g.Self.Shape g.Self.Order.Endian c.args.self.now in
+    let below : i < before.capacity = omega (arith, e.1, t.end) in
+    let next = next_below _ g.F.FnMut c.loop-index.keep i t.callable below _ _ c.keep.ensures in
     elim c.if-not-keep.branch [
       | then-not-keep w ↦ record {
-        callable = search of_calls;
+        callable = next;
         end = t.end;
         retains = rw w.self-is (retains_others R _ _ _ _ _ t.retains i c.keep.new.self _ found
             (subst (λ b. R c.loop-index.keep i b c.keep.new.self) w.if-not-keep.true c.keep.ensures)
@@ -35,7 +45,7 @@ loop-index-preserved g c =
         stays = rw w.self-is (t.stays ∙ w.clear_bit_in.ensures.stays);
       }
       | else-not-keep w ↦ record {
-        callable = search of_calls;
+        callable = next;
         end = t.end;
         retains = rw w.self-is (retains_kept R _ _ _ _ _ t.retains i c.keep.new.self found
             (subst (λ b. R c.loop-index.keep i b c.keep.new.self) w.if-not-keep.false

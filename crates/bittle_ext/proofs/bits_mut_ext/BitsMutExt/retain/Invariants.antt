@@ -1,5 +1,6 @@
 use Rattle.std.proofs.Common.{◌≡◌, ◌-◌}
 use Rattle.bittle.specs.Values.{set_in}
+use Rattle.bittle_ext.specs.Calls.{IsCallableBelow}
 use Rattle.bittle_ext.proofs.RetainSteps.{RetainsBelow}
 use Rattle.bittle_ext.proofs.bits_mut_ext.BitsMutExt.retain.Given as goal
 
@@ -7,7 +8,7 @@ abbrev pub invariant-loop-index : goal.invariant-loop-index
 invariant-loop-index g l =
     let before = set_in g.Self.Shape g.Self.Order.Endian l.initial.self in
     record {
-      callable : goal.F-IsAlwaysCallable g l.keep;
+      callable : IsCallableBelow before.capacity g.F.FnMut l.keep;
       end : l.end ≡ before.capacity;
       retains : RetainsBelow (goal.F-step g) l.initial.keep before l.keep
           (set_in g.Self.Shape g.Self.Order.Endian l.self) l.from;
