@@ -1,0 +1,170 @@
+-- What follows for every history of calls: no key goes back, one that was removed finds nothing,
+-- and none is given twice.
+use Rattle.std.proofs.Common.{◌≡◌, ℕ, zero, suc, ◌<◌, ◌≤◌, Bool, true, false, cond, List, [], ◌∷◌, Some, None, inl, inr, refl, sym, ap, ◌∙◌, subst, arith}
+use Rattle.std.specs.Prelude.{◌==◌, slice_get}
+use Rattle.std.proofs.lemmas.Bool.{cases_Bool, eq-eqb, eqb-true, and_parts}
+use Rattle.bit_slots.specs.declared.Key.{Key}
+use Rattle.bit_slots.specs.Keys.{Stage, Stages, Unused, Holds, Spent, found, spent, is_key, IsKeyInserted, IsRemoved}
+use Rattle.bit_slots.specs.KeyLaws.{Call, Inserts, Removes, Replaces, Refuses, IsCall, IsHistory, age}
+
+-- a key is itself
+is_own : (key : Key) → is_key key key.slot key.generation ≡ true
+is_own key = let one = eq-eqb key.slot key.slot refl in
+    let other = eq-eqb key.generation key.generation refl in rw (one, other) refl
+
+-- after it was inserted a key finds its value
+pub key_holds : {V : Type 0} (before after : Stages V) (value : V) (key : Key) →
+    IsKeyInserted before value key after → found (after key.slot key.generation) ≡ Some value
+key_holds before after value key is =
+    ap found (is.stages key.slot key.generation
+    ∙ ap (λ b. cond b (Holds value) (before key.slot key.generation)) (is_own key))
+
+-- what was removed finds nothing
+spent_found : {V : Type 0} (stage : Stage V) → found (spent stage) ≡ None
+spent_found Unused = refl
+spent_found (Holds value) = refl
+spent_found Spent = refl
+
+-- after it was removed a key finds nothing
+pub key_gone : {V : Type 0} (before after : Stages V) (key : Key) → IsRemoved before key after →
+    found (after key.slot key.generation) ≡ None
+key_gone before after key is =
+    ap found (is key.slot key.generation ∙ ap (λ b. cond b (spent (before key.slot key.generation))
+    (before key.slot key.generation)) (is_own key))
+    ∙ spent_found (before key.slot key.generation)
+
+-- a key that may be removed goes on
+spent_goes_on : {V : Type 0} (b : Bool) (stage : Stage V) →
+    age stage ≤ age (cond b (spent stage) stage)
+spent_goes_on false stage = omega arith
+spent_goes_on true Unused = omega arith
+spent_goes_on true (Holds value) = omega arith
+spent_goes_on true Spent = omega arith
+
+-- a key that was given and is removed stands for nothing any more
+spent_is : {V : Type 0} (stage : Stage V) → 0 < age stage → age (spent stage) ≡ 2
+spent_is Unused some = absurd (omega arith)
+spent_is (Holds value) some = refl
+spent_is Spent some = refl
+
+-- and finds nothing
+found_none : {V : Type 0} (stage : Stage V) → 2 ≤ age stage → found stage ≡ None
+found_none Unused old = absurd (omega arith)
+found_none (Holds value) old = absurd (omega arith)
+found_none Spent old = refl
+
+-- no key goes back in a call
+call_goes_on : {V : Type 0} (before after : Stages V) (call : Call V) → IsCall before call after →
+    (slot generation : ℕ) → age (before slot generation) ≤ age (after slot generation)
+call_goes_on before after (Inserts value key) is slot generation =
+    elim (cases_Bool (is_key key slot generation)) [
+      | inl own ↦
+          let at = and_parts (slot == key.slot) (generation == key.generation) own in
+          let none : before slot generation ≡ Unused =
+          ap (λ s. before s generation) (eqb-true slot key.slot at.0)
+          ∙ ap (before key.slot) (eqb-true generation key.generation at.1) ∙ is.unused in
+          subst (λ s. age s ≤ age (after slot generation)) (sym none) (omega arith)
+      | inr other ↦
+          let same : after slot generation ≡ before slot generation = is.stages slot generation
+          ∙ ap (λ b. cond b (Holds value) (before slot generation)) other in
+          subst (λ s. age (before slot generation) ≤ age s) (sym same) (omega arith)
+    ]
+call_goes_on before after (Removes key) is slot generation =
+    subst (λ s. age (before slot generation) ≤ age s) (sym (is slot generation))
+    (spent_goes_on (is_key key slot generation) (before slot generation))
+call_goes_on before after (Replaces key value) is slot generation =
+    elim (cases_Bool (is_key key slot generation)) [
+      | inl own ↦
+          let at = and_parts (slot == key.slot) (generation == key.generation) own in
+          let had : before slot generation ≡ Holds is.0 =
+          ap (λ s. before s generation) (eqb-true slot key.slot at.0)
+          ∙ ap (before key.slot) (eqb-true generation key.generation at.1) ∙ is.1.was in
+          let has : after slot generation ≡ Holds value = is.1.stages slot generation
+          ∙ ap (λ b. cond b (Holds value) (before slot generation)) own in
+          omega (arith, ap age had, ap age has)
+      | inr other ↦
+          let same : after slot generation ≡ before slot generation = is.1.stages slot generation
+          ∙ ap (λ b. cond b (Holds value) (before slot generation)) other in
+          omega (arith, ap age same)
+    ]
+call_goes_on before after Refuses is slot generation = omega (arith, ap age (is slot generation))
+
+-- nor in a history
+pub goes_on : {V : Type 0} (before after : Stages V) (calls : List (Call V)) →
+    IsHistory before calls after → (slot generation : ℕ) →
+    age (before slot generation) ≤ age (after slot generation)
+unfolding IsHistory
+goes_on before after [] is slot generation =
+    subst (λ s. age (before slot generation) ≤ age s) (sym (is slot generation)) (omega arith)
+goes_on before after (call ∷ calls) is slot generation =
+    omega (
+      arith,
+      call_goes_on before is.0 call is.1 slot generation,
+      goes_on is.0 after calls is.2 slot generation,
+    )
+
+-- a key that was given, and then removed, finds nothing
+pub finds_nothing : {V : Type 0} (before after : Stages V) (calls : List (Call V)) →
+    IsHistory before calls after → (key : Key) (i : ℕ) →
+    0 < age (before key.slot key.generation) → slice_get calls i ≡ Some (Removes key) →
+    found (after key.slot key.generation) ≡ None
+unfolding IsHistory
+finds_nothing before after [] is key i some e = absurd (cc)
+finds_nothing before after (Inserts value k ∷ calls) is key zero some e = absurd (cc)
+finds_nothing before after (Replaces k value ∷ calls) is key zero some e = absurd (cc)
+finds_nothing before after (Refuses ∷ calls) is key zero some e = absurd (cc)
+finds_nothing before after (Removes k ∷ calls) is key zero some e =
+    let same : k ≡ key = cc in
+    let own : is_key k key.slot key.generation ≡ true =
+    ap (λ (l : Key). is_key l key.slot key.generation) same ∙ is_own key in
+    let stage = is.1 key.slot key.generation
+    ∙ ap (λ b. cond b (spent (before key.slot key.generation)) (before key.slot key.generation))
+    own in
+    found_none (after key.slot key.generation) (omega (
+      arith,
+      ap age stage,
+      spent_is (before key.slot key.generation) some,
+      goes_on is.0 after calls is.2 key.slot key.generation,
+    ))
+finds_nothing before after (call ∷ calls) is key (suc i) some e =
+    finds_nothing is.0 after calls is.2 key i
+    (omega (arith, some, call_goes_on before is.0 call is.1 key.slot key.generation)) e
+
+-- a key that was given is not given later
+given_before : {V : Type 0} (before after : Stages V) (calls : List (Call V)) →
+    IsHistory before calls after → (key : Key) (other : V) (j : ℕ) →
+    0 < age (before key.slot key.generation) → slice_get calls j ≡ Some (Inserts other key) → ⊥
+unfolding IsHistory
+given_before before after [] is key other j some e = cc
+given_before before after (Removes k ∷ calls) is key other zero some e = cc
+given_before before after (Replaces k value ∷ calls) is key other zero some e = cc
+given_before before after (Refuses ∷ calls) is key other zero some e = cc
+given_before before after (Inserts value k ∷ calls) is key other zero some e =
+    let same : k ≡ key = cc in
+    let none : age (before key.slot key.generation) ≡ 0 =
+    ap (λ (l : Key). age (before l.slot l.generation)) (sym same) ∙ ap age is.1.unused in
+    omega arith
+given_before before after (call ∷ calls) is key other (suc j) some e =
+    given_before is.0 after calls is.2 key other j
+    (omega (arith, some, call_goes_on before is.0 call is.1 key.slot key.generation)) e
+
+-- no key is given twice
+pub given_once : {V : Type 0} (before after : Stages V) (calls : List (Call V)) →
+    IsHistory before calls after → (key : Key) (value other : V) (i j : ℕ) → i < j →
+    slice_get calls i ≡ Some (Inserts value key) → slice_get calls j ≡ Some (Inserts other key) →
+    ⊥
+unfolding IsHistory
+given_once before after calls is key value other i zero h a b = omega arith
+given_once before after [] is key value other i (suc j) h a b = cc
+given_once before after (Removes k ∷ calls) is key value other zero (suc j) h a b = cc
+given_once before after (Replaces k v ∷ calls) is key value other zero (suc j) h a b = cc
+given_once before after (Refuses ∷ calls) is key value other zero (suc j) h a b = cc
+given_once before after (Inserts v k ∷ calls) is key value other zero (suc j) h a b =
+    let same : k ≡ key = cc in
+    let own : is_key k key.slot key.generation ≡ true =
+    ap (λ (l : Key). is_key l key.slot key.generation) same ∙ is_own key in
+    let stage = is.1.stages key.slot key.generation
+    ∙ ap (λ b. cond b (Holds v) (before key.slot key.generation)) own in
+    given_before is.0 after calls is.2 key other j (omega (arith, ap age stage)) b
+given_once before after (call ∷ calls) is key value other (suc i) (suc j) h a b =
+    given_once is.0 after calls is.2 key value other i j (omega arith) a b

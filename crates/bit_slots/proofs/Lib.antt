@@ -1,0 +1,3 @@
+pub mod KeyHistories
+pub mod SlotChanges
+pub mod SlotMarks

@@ -1,0 +1,89 @@
+-- What a change of one slot does to what the keys stand for.
+use Rattle.std.proofs.Common.{◌≡◌, ◌≢◌, ℕ, ◌<◌, cond, ◌==◌, List, length, set, get_or, Some, inl, inr, refl, sym, ap, ◌∙◌, arith}
+use Rattle.std.specs.Prelude.{slice_get, Result, Ok, Err}
+use Rattle.std.proofs.lemmas.Bool.{cases_eq, cases_lt, eq-eqb, ne_eqb}
+use Rattle.std.proofs.lemmas.List.{get_or-set_same, get_or-set_other, length-set}
+use Rattle.std.proofs.lemmas.Option.{slice_get-get_or, slice_get_past}
+use Rattle.bit_slots.specs.declared.slot.Slot.{Slot}
+use Rattle.bit_slots.specs.declared.Key.{Key}
+use Rattle.bit_slots.specs.Keys.{stage_of, stage_at, stages, removed, AreSameKeys, IsExchanged, IsFilled, IsKeyInserted, IsRemoved, IsReplaced}
+
+-- a list after a write of one element
+pub slice_get_set : {X : Type 0} (xs : List X) (i : ℕ) (y : X) → i < length xs → (k : ℕ) →
+    slice_get (set xs i y) k ≡ cond (k == i) (Some y) (slice_get xs k)
+slice_get_set xs i y h k = elim (cases_eq k i) [
+  | inl e ↦ ap (λ n. slice_get (set xs i y) n) e
+      ∙ slice_get-get_or (set xs i y) i y (omega (arith, length-set xs i y))
+      ∙ ap Some (get_or-set_same xs i y y h)
+      ∙ sym (ap (λ b. cond b (Some y) (slice_get xs k)) (eq-eqb k i e))
+  | inr n ↦ other n ∙ sym (ap (λ b. cond b (Some y) (slice_get xs k)) (ne_eqb k i n))
+]
+  where
+    other : k ≢ i → slice_get (set xs i y) k ≡ slice_get xs k
+    other n = elim (cases_lt k (length xs)) [
+      | inl l ↦ slice_get-get_or (set xs i y) k y (omega (arith, length-set xs i y))
+          ∙ ap Some (get_or-set_other xs i k y y n) ∙ sym (slice_get-get_or xs k y l)
+      | inr g ↦ slice_get_past (set xs i y) k (omega (arith, length-set xs i y))
+          ∙ sym (slice_get_past xs k g)
+    ]
+
+module _ {V : Type 0} (row : List (Slot V)) (i : ℕ) (d f : Slot V) (h : i < length row) where
+  -- the slot as it stood
+  pub stood : (slot : ℕ) → slot ≡ i → slice_get row slot ≡ Some (get_or row i d)
+  stood slot same = ap (slice_get row) same ∙ slice_get-get_or row i d h
+
+  -- a slot that was emptied
+  pub emptied_in : (key : Key) → key.slot ≡ i →
+      ((k : ℕ) → stage_of f k ≡ removed key.generation k (stage_of (get_or row i d) k)) →
+      IsRemoved (stages row) key (stages (set row i f))
+  emptied_in key at is slot generation =
+      ap (λ o. stage_at o generation) (slice_get_set row i f h slot)
+      ∙ rw at (elim (cases_eq slot i) [
+        | inl same ↦ let here = stood slot same in rw (eq-eqb slot i same, here) (is generation)
+        | inr apart ↦ rw (ne_eqb slot i apart) refl
+      ])
+
+  -- a slot that was filled
+  pub filled_in : (key : Key) (value : V) → key.slot ≡ i →
+      IsFilled (get_or row i d) value key.generation f →
+      IsKeyInserted (stages row) value key (stages (set row i f))
+  filled_in key value at is = record {
+    unused = let here = stood key.slot at in rw here is.unused;
+    stages = λ slot generation.
+        ap (λ o. stage_at o generation) (slice_get_set row i f h slot)
+        ∙ rw at (elim (cases_eq slot i) [
+          | inl same ↦ let here = stood slot same in
+              rw (eq-eqb slot i same, here) (is.stages generation)
+          | inr apart ↦ rw (ne_eqb slot i apart) refl
+        ]);
+  }
+
+  -- a slot that goes on as it was changes no key
+  pub kept_in : f ≡ get_or row i d → AreSameKeys (stages row) (stages (set row i f))
+  kept_in same slot generation =
+      ap (λ o. stage_at o generation) (slice_get_set row i f h slot)
+      ∙ elim (cases_eq slot i) [
+        | inl at ↦ let here = stood slot at in
+            rw (eq-eqb slot i at, here) (ap (λ e. stage_of e generation) same)
+        | inr apart ↦ rw (ne_eqb slot i apart) refl
+      ]
+
+  -- a slot whose value was replaced
+  pub replaced_in : (key : Key) (value : V) → key.slot ≡ i → (r : Result V V) →
+      IsExchanged (get_or row i d) key.generation value r f →
+      IsReplaced (stages row) key value r (stages (set row i f))
+  replaced_in key value at (Err back) is = (
+    is.0,
+    (let here = stood key.slot at in rw here is.1),
+    kept_in is.2,
+  )
+  replaced_in key value at (Ok back) is = record {
+    was = let here = stood key.slot at in rw here is.was;
+    stages = λ slot generation.
+        ap (λ o. stage_at o generation) (slice_get_set row i f h slot)
+        ∙ rw at (elim (cases_eq slot i) [
+          | inl same ↦ let here = stood slot same in
+              rw (eq-eqb slot i same, here) (is.stages generation)
+          | inr apart ↦ rw (ne_eqb slot i apart) refl
+        ]);
+  }

@@ -1,0 +1,164 @@
+-- Which slots are of a kind after a change of one, and the sets of them.
+use Rattle.std.proofs.Common.{◌≡◌, ◌≢◌, ◌+◌, nat_lt, ℕ, ◌<◌, ◌≤◌, Bool, true, false, not, cond, ◌&&◌, ◌||◌, ◌==◌, List, length, set, get_or, Some, inl, inr, refl, sym, ap, ◌∙◌, arith}
+use Rattle.std.specs.Prelude.{slice_get, MatchBool}
+use Rattle.std.proofs.lemmas.Bool.{cases_eq, cases_lt, eq-eqb, ne_eqb, lt-ltb, le-ltb, and_right}
+use Rattle.std.proofs.lemmas.Option.{slice_get_past}
+use Rattle.bittle.specs.PlainSet.{PlainSet, empty_set, size, with_index, without_index}
+use Rattle.bittle.specs.Searches.{NoneIn}
+use Rattle.bittle.proofs.CallerSets.{with_index_within, without_index_within}
+use Rattle.bit_slots.specs.declared.slot.Slot.{Slot}
+use Rattle.bit_slots.specs.SlotSets.{is_free, passes, is_slot, slots_where, HasSlots, MarksBelow, Joins, Leaves, Stays}
+use Rattle.bit_slots.proofs.SlotChanges.{slice_get_set, stood}
+
+module _ {V : Type 0} (test : Slot V → Bool) (row : List (Slot V)) where
+  -- a slot that passes a test is one of the row
+  pub slot_within : (slot : ℕ) → is_slot test row slot ≡ true → slot < length row
+  slot_within slot here = elim (cases_lt slot (length row)) [
+    | inl l ↦ l
+    | inr g ↦
+        let none : is_slot test row slot ≡ false = ap (passes test) (slice_get_past row slot g) in
+        absurd (cc)
+  ]
+
+  -- it passes as it stands in the row
+  pub slot_passes : (slot : ℕ) (d : Slot V) → is_slot test row slot ≡ true →
+      test (get_or row slot d) ≡ true
+  slot_passes slot d here =
+      sym (ap (passes test) (stood row slot d d (slot_within slot here) slot refl)) ∙ here
+
+  module _ (i : ℕ) (d f : Slot V) (h : i < length row) where
+    -- the slot passes afterwards
+    pub joins : test f ≡ true → Joins test row i (set row i f)
+    joins is k = ap (passes test) (slice_get_set row i f h k) ∙ by (k == i)
+      where
+        by : (b : Bool) → passes test (cond b (Some f) (slice_get row k))
+            ≡ (b || passes test (slice_get row k))
+        by true = is
+        by false = refl
+
+    -- it does not
+    pub leaves : test f ≡ false → Leaves test row i (set row i f)
+    leaves is k = ap (passes test) (slice_get_set row i f h k) ∙ by (k == i)
+      where
+        by : (b : Bool) → passes test (cond b (Some f) (slice_get row k))
+            ≡ (not b && passes test (slice_get row k))
+        by true = is
+        by false = refl
+
+    -- it passes as it did before
+    pub stays : test f ≡ test (get_or row i d) → Stays test row (set row i f)
+    stays same k = ap (passes test) (slice_get_set row i f h k) ∙ elim (cases_eq k i) [
+      | inl here ↦ ap (λ b. passes test (cond b (Some f) (slice_get row k))) (eq-eqb k i here)
+          ∙ same ∙ sym (ap (passes test) (stood row i d f h k here))
+      | inr apart ↦ ap (λ b. passes test (cond b (Some f) (slice_get row k))) (ne_eqb k i apart)
+    ]
+
+-- a slot that is emptied is free again, or as it was
+pub freed : {V : Type 0} (row : List (Slot V)) (i : ℕ) (d f : Slot V) → i < length row →
+    (b : Bool) → b ≡ is_free f → is_free (get_or row i d) ≡ false →
+    MatchBool b (Joins is_free row i (set row i f)) (Stays is_free row (set row i f))
+freed row i d f h true is was = joins is_free row i d f h (sym is)
+freed row i d f h false is was = stays is_free row i d f h (sym is ∙ sym was)
+
+-- which of two is said where a test passes, and where it does not
+pub where_true : (X Y : Type 0) (b : Bool) → b ≡ true → MatchBool b X Y → X
+where_true X Y true e said = said
+where_true X Y false e said = absurd (cc)
+
+pub where_false : (X Y : Type 0) (b : Bool) → b ≡ false → MatchBool b X Y → Y
+where_false X Y true e said = absurd (cc)
+where_false X Y false e said = said
+
+-- a set of the slots that pass a test
+module _ {V : Type 0} (test : Slot V → Bool) (s t : PlainSet) (row next : List (Slot V))
+    (marks : HasSlots test s row) where
+  -- where it has no number up to an end past the row, no slot passes
+  pub none_passes : (to : ℕ) → length row ≤ to → NoneIn s 0 to → (slot : ℕ) →
+      is_slot test row slot ≡ false
+  none_passes to all none slot = elim (cases_lt slot (length row)) [
+    | inl l ↦ sym (marks slot) ∙ none slot (omega arith) (omega arith)
+    | inr g ↦ ap (passes test) (slice_get_past row slot g)
+  ]
+
+  -- with the slot that came
+  pub marks_with : (i : ℕ) → i < s.capacity → Joins test row i next → t ≡ with_index s i →
+      HasSlots test t next
+  marks_with i within joined is k = ap (λ u. u.has k) (is ∙ with_index_within s i within)
+      ∙ ap (λ b. (k == i) || b) (marks k) ∙ sym (joined k)
+
+  -- without the slot that left
+  pub marks_without : (i : ℕ) → i < s.capacity → Leaves test row i next → t ≡ without_index s i →
+      HasSlots test t next
+  marks_without i within left is k = ap (λ u. u.has k) (is ∙ without_index_within s i within)
+      ∙ ap (λ b. not (k == i) && b) (marks k) ∙ sym (left k)
+
+  -- as it was
+  pub marks_same : Stays test row next → HasSlots test s next
+  marks_same same k = marks k ∙ sym (same k)
+
+-- so many slots pass a test as its set has members
+pub size_where : {V : Type 0} (test : Slot V → Bool) (s : PlainSet) (row : List (Slot V)) (c : ℕ) →
+    s.capacity ≡ c → HasSlots test s row → size s ≡ size (slots_where test c row)
+size_where test s row c whole marks =
+    let same : s ≡ slots_where test c row = λ p. record {
+      capacity = whole p;
+      has = λ k. marks k p;
+    } in ap size same
+
+-- another number is below the next one just if it is below this one
+next : (i k : ℕ) → k ≢ i → nat_lt k i ≡ nat_lt k (i + 1)
+next i k n = elim (cases_lt k i) [
+  | inl l ↦ lt-ltb k i l ∙ sym (lt-ltb k (i + 1) (omega arith))
+  | inr g ↦ le-ltb k i g ∙ sym (le-ltb k (i + 1) (omega arith))
+]
+
+-- a set of the slots below one number that pass a test
+module _ {V : Type 0} (test : Slot V → Bool) (s : PlainSet) (row : List (Slot V)) (i : ℕ)
+    (marks : MarksBelow test s row i) where
+  -- with the next one
+  pub marks_more : (t : PlainSet) → is_slot test row i ≡ true → i < s.capacity →
+      t ≡ with_index s i → MarksBelow test t row (i + 1)
+  marks_more t here within is k =
+      ap (λ u. u.has k) (is ∙ with_index_within s i within) ∙ elim (cases_eq k i) [
+        | inl e ↦ ap (λ b. b || s.has k) (eq-eqb k i e)
+            ∙ sym (ap (λ b. b && is_slot test row k) (lt-ltb k (i + 1) (omega arith))
+            ∙ ap (is_slot test row) e ∙ here)
+        | inr n ↦ ap (λ b. b || s.has k) (ne_eqb k i n) ∙ further k n
+      ]
+    where
+      further : (k : ℕ) → k ≢ i → s.has k ≡ (nat_lt k (i + 1) && is_slot test row k)
+      further k n = marks k ∙ ap (λ b. b && is_slot test row k) (next i k n)
+
+  -- where the next one does not pass
+  pub marks_on : is_slot test row i ≡ false → MarksBelow test s row (i + 1)
+  marks_on none k = elim (cases_eq k i) [
+    | inl e ↦ marks k ∙ ap (λ b. b && is_slot test row k) (le-ltb k i (omega arith))
+        ∙ sym (ap (λ b. nat_lt k (i + 1) && b) (ap (is_slot test row) e ∙ none)
+        ∙ and_right (nat_lt k (i + 1)) false refl)
+    | inr n ↦ marks k ∙ ap (λ b. b && is_slot test row k) (next i k n)
+  ]
+
+  -- with the next one where it passes
+  pub marks_step : (t : PlainSet) (b : Bool) → i < s.capacity → is_slot test row i ≡ b →
+      t ≡ cond b (with_index s i) s → MarksBelow test t row (i + 1)
+  marks_step t true within here is k = marks_more t here within is k
+  marks_step t false within none is k = ap (λ u. u.has k) is ∙ marks_on none k
+
+  -- with all of the row
+  pub marks_all : length row ≤ i → HasSlots test s row
+  marks_all all k = marks k ∙ elim (cases_lt k i) [
+    | inl l ↦ ap (λ b. b && is_slot test row k) (lt-ltb k i l)
+    | inr g ↦ ap (λ b. b && is_slot test row k) (le-ltb k i g)
+        ∙ sym (ap (passes test) (slice_get_past row k (omega arith)))
+  ]
+
+-- below 0 there is none
+pub marks_none : {V : Type 0} (test : Slot V → Bool) (s : PlainSet) (row : List (Slot V)) (c : ℕ) →
+    s ≡ empty_set c → MarksBelow test s row 0
+marks_none test s row c is k = ap (λ u. u.has k) is
+    ∙ sym (ap (λ b. b && is_slot test row k) (le-ltb k 0 (omega arith)))
+
+-- a slot of the row passes as it stands
+pub slot_is : {V : Type 0} (test : Slot V → Bool) (row : List (Slot V)) (i : ℕ) (d : Slot V) →
+    i < length row → is_slot test row i ≡ test (get_or row i d)
+slot_is test row i d h = ap (passes test) (stood row i d d h i refl)

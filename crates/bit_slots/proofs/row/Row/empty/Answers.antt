@@ -1,0 +1,37 @@
+use Rattle.std.proofs.Common.{refl, sym, ap, ◌∙◌, arith}
+use Rattle.std.proofs.lemmas.List.{get_or-set_same}
+use Rattle.bit_slots.specs.Keys.{stage_at, found}
+use Rattle.bit_slots.specs.SlotSets.{is_free, is_live}
+use Rattle.bit_slots.proofs.SlotChanges.{emptied_in, stood}
+use Rattle.bit_slots.proofs.SlotMarks.{freed, leaves}
+use Rattle.bit_slots.proofs.row.Row.empty.Goals as goal
+
+pub returns-in_err-value-clause-stages : goal.returns-in_err-value-clause-stages
+returns-in_err-value-clause-stages g c =
+    emptied_in _ c.args.key.slot c.index-self-key.result c.empty.new.self (omega arith)
+    c.args.key refl c.empty.ensures.stages
+
+pub returns-clause-found : goal.returns-clause-found
+returns-clause-found g c =
+    ap (λ o. found (stage_at o c.args.key.generation))
+    (stood _ c.args.key.slot c.index-self-key.result c.empty.new.self (omega arith)
+    c.args.key.slot refl)
+    ∙ sym c.in_ok-value.ensures.found
+
+pub returns-clause-stages : goal.returns-clause-stages
+returns-clause-stages g c =
+    emptied_in _ c.args.key.slot c.index-self-key.result c.empty.new.self (omega arith)
+    c.args.key refl c.empty.ensures.stages
+
+pub returns-clause-live : goal.returns-clause-live
+returns-clause-live g c =
+    leaves is_live _ c.args.key.slot c.index-self-key.result c.empty.new.self (omega arith)
+    c.in_ok-value.ensures.live
+
+pub returns-clause-free : goal.returns-clause-free
+returns-clause-free g c =
+    freed _ c.args.key.slot c.index-self-key.result c.empty.new.self (omega arith)
+    c.is_free.result
+    (c.is_free.ensures ∙ ap is_free (get_or-set_same c.args.self.now.slots.now c.args.key.slot
+    c.empty.new.self c.index-self-key-2.result (omega arith)))
+    c.in_ok-value.ensures.was_live

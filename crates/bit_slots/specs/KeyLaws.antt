@@ -1,0 +1,53 @@
+-- What holds of every history of calls.
+use Rattle.std.specs.Prelude.{◌≡◌, ℕ, ◌<◌, ◌≤◌, List, [], ◌∷◌, Some, None, slice_get}
+use Rattle.bit_slots.specs.declared.Key.{Key}
+use Rattle.bit_slots.specs.Keys.{Stage, Stages, Unused, Holds, Spent, found, AreSameKeys, IsKeyInserted, IsKeyReplaced, IsRemoved}
+
+-- a call: a value was put in and has the key, what the key stood for was taken out, a value took
+-- the place of that of the key, or nothing changed
+pub data Call (V : Type 0) : Type 0 where
+  Inserts : V → Key → Call V
+  Removes : Key → Call V
+  Replaces : Key → V → Call V
+  Refuses : Call V
+
+-- what a call made of the keys
+abbrev pub IsCall : {V : Type 0} → Stages V → Call V → Stages V → Type 0
+IsCall before (Inserts value key) after = IsKeyInserted before value key after
+IsCall before (Removes key) after = IsRemoved before key after
+IsCall {V} before (Replaces key value) after = (old : V) × IsKeyReplaced before key value old after
+IsCall before Refuses after = AreSameKeys before after
+
+-- what calls made of the keys, one after the other
+unfoldable pub IsHistory : {V : Type 0} → Stages V → List (Call V) → Stages V → Type 0
+IsHistory before [] after = AreSameKeys before after
+IsHistory {V} before (call ∷ calls) after =
+    (between : Stages V) × IsCall before call between × IsHistory between calls after
+
+-- how far a key came: it stands for nothing yet, for a value, or for nothing any more
+abbrev pub age : {V : Type 0} → Stage V → ℕ
+age Unused = 0
+age (Holds value) = 1
+age Spent = 2
+
+-- no key goes back, whatever is called
+abbrev pub KeysGoOn : Type 0 → Type 0
+KeysGoOn V =
+    (before after : Stages V) (calls : List (Call V)) → IsHistory before calls after
+    → (slot generation : ℕ) → age (before slot generation) ≤ age (after slot generation)
+
+-- a key that was given, and then removed, finds nothing after any calls
+abbrev pub RemovedKeysFindNothing : Type 0 → Type 0
+RemovedKeysFindNothing V =
+    (before after : Stages V) (calls : List (Call V)) → IsHistory before calls after
+    → (key : Key) (i : ℕ) → 0 < age (before key.slot key.generation)
+    → slice_get calls i ≡ Some (Removes key)
+    → found (after key.slot key.generation) ≡ None
+
+-- no two calls give the same key
+abbrev pub KeysAreGivenOnce : Type 0 → Type 0
+KeysAreGivenOnce V =
+    (before after : Stages V) (calls : List (Call V)) → IsHistory before calls after
+    → (key : Key) (value other : V) (i j : ℕ) → i < j
+    → slice_get calls i ≡ Some (Inserts value key)
+    → slice_get calls j ≡ Some (Inserts other key) → ⊥

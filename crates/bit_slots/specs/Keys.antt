@@ -1,0 +1,117 @@
+-- What a key stands for, and what a call makes of it.
+use Rattle.std.specs.Prelude.{◌≡◌, ℕ, Bool, ◌&&◌, ◌==◌, nat_lt, cond, true, is_some, List, slice_get, Option, Some, None, Result, Ok, Err}
+use Rattle.bit_slots.specs.SlotSets.{is_free, is_live}
+use Rattle.bit_slots.specs.declared.Key.{Key}
+use Rattle.bit_slots.specs.declared.slot.Slot.{Slot}
+use Rattle.bit_slots.specs.declared.slot.Slot.TheVariants.{Free, Live, Retired}
+
+-- what a key stands for: nothing yet, a value, or nothing any more
+pub data Stage (V : Type 0) : Type 0 where
+  Unused : Stage V
+  Holds : V → Stage V
+  Spent : Stage V
+
+-- what each key stands for, by its slot and its generation
+abbrev pub Stages : Type 0 → Type 0
+Stages V = ℕ → ℕ → Stage V
+
+-- the generation of a slot, below which all are used up: of a retired one all below 2 ^ 32
+abbrev pub current : {V : Type 0} → Slot V → ℕ
+current (Free generation) = generation
+current (Live generation value) = generation
+current Retired = 4294967296
+
+-- what the generation of a slot stands for
+abbrev pub held : {V : Type 0} → Slot V → Stage V
+held (Free generation) = Unused
+held (Live generation value) = Holds value
+held Retired = Unused
+
+-- what a generation of a slot stands for
+abbrev pub stage_of : {V : Type 0} → Slot V → ℕ → Stage V
+stage_of slot k = cond (nat_lt k (current slot)) Spent (cond (k == current slot) (held slot) Unused)
+
+-- the same of a slot that may be none
+abbrev pub stage_at : {V : Type 0} → Option (Slot V) → ℕ → Stage V
+stage_at None k = Unused
+stage_at (Some slot) k = stage_of slot k
+
+-- what the keys of a row stand for
+abbrev pub stages : {V : Type 0} → List (Slot V) → Stages V
+stages row slot generation = stage_at (slice_get row slot) generation
+
+-- the value that a key finds
+abbrev pub found : {V : Type 0} → Stage V → Option V
+found Unused = None
+found (Holds value) = Some value
+found Spent = None
+
+-- the key is of the slot, and finds a value
+abbrev pub HasKey : {V : Type 0} → List (Slot V) → ℕ → Key → Type 0
+HasKey row slot key = (key.slot ≡ slot) × (is_some (found (stages row slot key.generation)) ≡ true)
+
+-- a key that is removed: what it stood for is spent
+abbrev pub spent : {V : Type 0} → Stage V → Stage V
+spent Unused = Unused
+spent (Holds value) = Spent
+spent Spent = Spent
+
+-- whether the slot and the generation are those of the key
+abbrev pub is_key : Key → ℕ → ℕ → Bool
+is_key key slot generation = (slot == key.slot) && (generation == key.generation)
+
+-- the key stood for nothing yet, and has the value; no other key changes
+pub record IsKeyInserted {V : Type 0} (before : Stages V) (value : V) (key : Key)
+    (after : Stages V) : Type 0 where
+  pub unused : before key.slot key.generation ≡ Unused
+  pub stages : (slot generation : ℕ) → after slot generation
+      ≡ cond (is_key key slot generation) (Holds value) (before slot generation)
+
+-- no key changes
+abbrev pub AreSameKeys : {V : Type 0} → Stages V → Stages V → Type 0
+AreSameKeys before after = (slot generation : ℕ) → after slot generation ≡ before slot generation
+
+-- a value has a key, or came back
+abbrev pub IsInserted : {V : Type 0} → Stages V → V → Result Key V → Stages V → Type 0
+IsInserted before value (Ok key) after = IsKeyInserted before value key after
+IsInserted before value (Err back) after = (back ≡ value) × AreSameKeys before after
+
+-- the key finds nothing any more; no other key changes
+abbrev pub IsRemoved : {V : Type 0} → Stages V → Key → Stages V → Type 0
+IsRemoved before key after = (slot generation : ℕ) → after slot generation
+    ≡ cond (is_key key slot generation) (spent (before slot generation)) (before slot generation)
+
+-- the key had a value, and has another; no other key changes
+pub record IsKeyReplaced {V : Type 0} (before : Stages V) (key : Key) (value old : V)
+    (after : Stages V) : Type 0 where
+  pub was : before key.slot key.generation ≡ Holds old
+  pub stages : (slot generation : ℕ) → after slot generation
+      ≡ cond (is_key key slot generation) (Holds value) (before slot generation)
+
+-- a value took the place of another, or came back where the key finds none
+abbrev pub IsReplaced : {V : Type 0} → Stages V → Key → V → Result V V → Stages V → Type 0
+IsReplaced before key value (Ok old) after = IsKeyReplaced before key value old after
+IsReplaced before key value (Err back) after = (back ≡ value)
+    × (found (before key.slot key.generation) ≡ None) × AreSameKeys before after
+
+-- the same of the generations of one slot: of a free one that is filled, and of one that is emptied
+pub record IsFilled {V : Type 0} (old : Slot V) (value : V) (generation : ℕ)
+    (new : Slot V) : Type 0 where
+  pub unused : stage_of old generation ≡ Unused
+  pub stages : (k : ℕ) → stage_of new k ≡ cond (k == generation) (Holds value) (stage_of old k)
+
+abbrev pub removed : {V : Type 0} → ℕ → ℕ → Stage V → Stage V
+removed generation k stage = cond (k == generation) (spent stage) stage
+
+-- the same of a value that took the place of that of a generation
+pub record IsExchangedWith {V : Type 0} (old : Slot V) (generation : ℕ) (value back : V)
+    (new : Slot V) : Type 0 where
+  pub was : stage_of old generation ≡ Holds back
+  pub stages : (k : ℕ) → stage_of new k ≡ cond (k == generation) (Holds value) (stage_of old k)
+  pub free : is_free new ≡ is_free old
+  pub live : is_live new ≡ is_live old
+
+abbrev pub IsExchanged : {V : Type 0} → Slot V → ℕ → V → Result V V → Slot V → Type 0
+IsExchanged old generation value (Ok back) new = IsExchangedWith old generation value back new
+IsExchanged old generation value (Err back) new = (back ≡ value)
+    × (found (stage_of old generation) ≡ None) × (new ≡ old)

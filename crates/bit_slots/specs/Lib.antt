@@ -1,0 +1,3 @@
+pub mod KeyLaws
+pub mod Keys
+pub mod SlotSets

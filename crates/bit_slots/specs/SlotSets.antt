@@ -1,0 +1,50 @@
+-- The sets of the slots of a kind.
+use Rattle.std.specs.Prelude.{◌≡◌, ◌==◌, ◌&&◌, ◌||◌, ℕ, Bool, true, false, not, nat_lt, List, slice_get, Option, Some, None}
+use Rattle.bittle.specs.PlainSet.{PlainSet}
+use Rattle.bit_slots.specs.declared.slot.Slot.{Slot}
+use Rattle.bit_slots.specs.declared.slot.Slot.TheVariants.{Free, Live, Retired}
+
+-- whether a slot is free
+abbrev pub is_free : {V : Type 0} → Slot V → Bool
+is_free (Free generation) = true
+is_free (Live generation value) = false
+is_free Retired = false
+
+-- whether a slot holds a value
+abbrev pub is_live : {V : Type 0} → Slot V → Bool
+is_live (Free generation) = false
+is_live (Live generation value) = true
+is_live Retired = false
+
+-- whether there is a slot, and it passes the test
+abbrev pub passes : {V : Type 0} → (Slot V → Bool) → Option (Slot V) → Bool
+passes test None = false
+passes test (Some slot) = test slot
+
+-- whether the number is that of a slot of the row which passes the test
+abbrev pub is_slot : {V : Type 0} → (Slot V → Bool) → List (Slot V) → ℕ → Bool
+is_slot test row slot = passes test (slice_get row slot)
+
+-- the set of those slots
+abbrev pub slots_where : {V : Type 0} → (Slot V → Bool) → ℕ → List (Slot V) → PlainSet
+slots_where test c row = record { capacity = c; has = is_slot test row }
+
+-- a set has just those slots
+abbrev pub HasSlots : {V : Type 0} → (Slot V → Bool) → PlainSet → List (Slot V) → Type 0
+HasSlots test s row = (slot : ℕ) → s.has slot ≡ is_slot test row slot
+
+-- a set has just those of them that are below a number
+abbrev pub MarksBelow : {V : Type 0} → (Slot V → Bool) → PlainSet → List (Slot V) → ℕ → Type 0
+MarksBelow test s row i = (slot : ℕ) → s.has slot ≡ (nat_lt slot i && is_slot test row slot)
+
+-- a slot comes to those that pass a test, leaves them, or all stay
+abbrev pub Joins : {V : Type 0} → (Slot V → Bool) → List (Slot V) → ℕ → List (Slot V) → Type 0
+Joins test before slot after = (k : ℕ) →
+    is_slot test after k ≡ ((k == slot) || is_slot test before k)
+
+abbrev pub Leaves : {V : Type 0} → (Slot V → Bool) → List (Slot V) → ℕ → List (Slot V) → Type 0
+Leaves test before slot after = (k : ℕ) →
+    is_slot test after k ≡ (not (k == slot) && is_slot test before k)
+
+abbrev pub Stays : {V : Type 0} → (Slot V → Bool) → List (Slot V) → List (Slot V) → Type 0
+Stays test before after = (k : ℕ) → is_slot test after k ≡ is_slot test before k

@@ -1,0 +1,20 @@
+//! What holds of every history of calls. Each function does nothing: its contract is the law. The
+//! clause `stages` of each call says what it made of the keys, as `IsHistory` asks.
+
+ghost use Rattle.bit_slots.specs.KeyLaws.{KeysGoOn, RemovedKeysFindNothing, KeysAreGivenOnce};
+
+/// States that no key goes back: it stands for nothing yet, then for a value, then for nothing any
+/// more.
+pub fn keys_go_on<V>()
+    ensures { KeysGoOn V }
+{}
+
+/// States that a key that was given, and removed later, finds nothing after any calls.
+pub fn removed_keys_find_nothing<V>()
+    ensures { RemovedKeysFindNothing V }
+{}
+
+/// States that no two calls of a history give the same key.
+pub fn keys_are_given_once<V>()
+    ensures { KeysAreGivenOnce V }
+{}

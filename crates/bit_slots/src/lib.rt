@@ -1,0 +1,173 @@
+//! Slots with generations: each value that is put in has a key, and a key whose value was taken out
+//! finds nothing any more.
+//!
+//! A key names a slot and a generation of it. When a value is taken out, its slot goes on to the
+//! next generation, so that what takes the slot next has another key. A slot whose generations are
+//! used up is retired: no key ever means two things. The row of slots is the caller's, and no
+//! memory is taken.
+//!
+//! ```rust
+//! let mut row = [Slot::new(), Slot::new()];
+//! let mut slots = Slots::<u64, u8>::over(row.as_mut_slice());
+//! let first = slots.insert(10);       // Ok(key): slot 0, generation 0
+//! let second = slots.insert(20);      // Ok(key): slot 1, generation 0
+//! slots.insert(30);                   // Err(30): both are taken
+//! ```
+#![tactic(auto)]
+
+ghost use Rattle.std.specs.Option.{is_some};
+ghost use Rattle.std.specs.Prelude.{◌≡◌, ◌<◌, ◌≤◌, ℕ, false, true, length, None, Some};
+ghost use Rattle.std.specs.Prelude.{option_copied, IfErr, IfOk, IsTrue, MatchOption, slice_get};
+ghost use Rattle.bittle.specs.PlainSet.{size};
+ghost use Rattle.bittle.specs.Shapes.{Fits};
+ghost use Rattle.bittle.specs.Values.{set_in};
+ghost use Rattle.bit_slots.specs.Keys.{stages, found, IsInserted, IsRemoved, IsReplaced, HasKey};
+ghost use Rattle.bit_slots.specs.SlotSets.{is_free, is_live, is_slot, slots_where, HasSlots};
+
+#[doc(hidden)]
+pub mod key_laws;
+mod row;
+mod slot;
+
+use bittle::{BitsOwned, Shape};
+use row::{Row, free_slots, live_slots};
+pub use slot::Slot;
+
+/// The key of a value: a slot, and a generation of it.
+#[derive(Clone, Copy, Debug, PartialEq, Eq)]
+pub struct Key {
+    /// The number of the slot in its row.
+    pub slot: u32,
+    /// How many values the slot had before.
+    pub generation: u32,
+}
+
+/// A row of slots that a caller lends, with the sets of those that are free and of those that hold
+/// a value, each in the order of its type. The row that was lent holds the changes.
+#[derive(Drop)]
+pub struct Slots<'a, V: Drop, B: BitsOwned> {
+    row: Row<'a, V>,
+    free: B,
+    live: B,
+    pub ghost fits: { Fits B.indexable B.type_capacity },
+    pub ghost covers: { length row.slots.now ≤ B.type_capacity },
+    pub ghost marks_free: { HasSlots is_free (set_in B.Shape B.Order.Endian free) row.slots.now },
+    pub ghost marks_live: { HasSlots is_live (set_in B.Shape B.Order.Endian live) row.slots.now },
+}
+
+impl<'a, V: Drop, B: BitsOwned> Slots<'a, V, B> {
+    /// Returns the table over a row of slots, which may hold values already. There are no more
+    /// slots than a `B` has numbers, and the type has to be one that may be indexed: `B::bits()`
+    /// tells. It reads each slot twice. A row of no slots has no key.
+    pub fn over(row: &'a mut [Slot<V>]) -> Slots<'a, V, B>
+        requires fits { IsTrue B.indexable }
+        requires covers { length row.old ≤ B.type_capacity }
+        ensures row { result.row.slots.now ≡ row.old }
+        ensures same_row { result.row.slots.ghost_name ≡ row.entry.ghost_name }
+    {
+        let free = free_slots::<V, B>(row);
+        let live = live_slots::<V, B>(row);
+        Slots {
+            row: Row { slots: row },
+            free,
+            live,
+        }
+    }
+
+    /// Puts a value into the least slot that is free, and returns its key, or returns the value and
+    /// changes nothing where none is free. It reads the set of the free slots up to the slot.
+    pub fn insert(&mut self, value: V) -> Result<Key, V>
+        ensures stages { IsInserted (stages self.old.row.slots.now) value result
+            (stages self.new.row.slots.now) }
+        ensures holds { IfOk result (λ key.
+            found (stages self.new.row.slots.now key.slot key.generation) ≡ Some value) }
+        ensures least { IfOk result (λ key. (slot : ℕ) → slot < key.slot
+            → is_slot is_free self.old.row.slots.now slot ≡ false) }
+        ensures full { IfErr result (λ _. (slot : ℕ)
+            → is_slot is_free self.old.row.slots.now slot ≡ false) }
+        ensures same_row { self.new.row.slots.ghost_name ≡ self.old.row.slots.ghost_name }
+    {
+        let Some(slot) = self.free.first_one_in::<B::Order>(0, B::bits()) else {
+            return Err(value);
+        };
+        let key = self.row.fill(slot, value);
+        self.free.clear_bit(slot);
+        self.live.set_bit(slot);
+        Ok(key)
+    }
+
+    /// Takes out the value of a key and returns it, or changes nothing and returns `None` where the
+    /// key finds none. The key finds nothing from then on.
+    pub fn remove(&mut self, key: Key) -> Option<V>
+        ensures found { result ≡ found (stages self.old.row.slots.now key.slot key.generation) }
+        ensures stages { IsRemoved (stages self.old.row.slots.now) key
+            (stages self.new.row.slots.now) }
+        ensures gone { found (stages self.new.row.slots.now key.slot key.generation) ≡ None }
+        ensures same_row { self.new.row.slots.ghost_name ≡ self.old.row.slots.ghost_name }
+    {
+        let (value, is_free) = self.row.empty(key)?;
+        self.live.clear_bit(key.slot);
+        if !is_free {
+            return Some(value);
+        }
+        self.free.set_bit(key.slot);
+        Some(value)
+    }
+
+    /// Puts a value in place of that of a key, which it returns, or returns the value and changes
+    /// nothing where the key finds none. The key stays.
+    pub fn replace(&mut self, key: Key, value: V) -> Result<V, V>
+        ensures stages { IsReplaced (stages self.old.row.slots.now) key value result
+            (stages self.new.row.slots.now) }
+        ensures same_row { self.new.row.slots.ghost_name ≡ self.old.row.slots.ghost_name }
+    {
+        self.row.replace(key, value)
+    }
+
+    /// Returns the value of a key, or `None` where the key finds none.
+    pub fn get(&self, key: Key) -> Option<&V>
+        ensures { option_copied result
+            ≡ found (stages self.now.row.slots.now key.slot key.generation) }
+    {
+        self.row.get(key)
+    }
+
+    /// Returns whether the key finds a value.
+    pub fn contains(&self, key: Key) -> bool
+        ensures { result
+            ≡ is_some (found (stages self.now.row.slots.now key.slot key.generation)) }
+    {
+        self.get(key).is_some()
+    }
+
+    /// Returns how many slots there are, free ones among them.
+    pub fn capacity(&self) -> u32
+        ensures { result ≡ length self.now.row.slots.now }
+    {
+        self.row.slots.len() as u32
+    }
+
+    /// Returns how many slots hold a value. Each word of their set is counted at once.
+    pub fn len(&self) -> u32
+        ensures { result ≡ size (slots_where is_live B.type_capacity self.now.row.slots.now) }
+    {
+        self.live.count_ones()
+    }
+
+    /// Returns the set of the slots that hold a value, to walk them in order, as by `iter_ones`.
+    pub fn live(&self) -> &B
+        ensures { HasSlots is_live (set_in B.Shape B.Order.Endian result.now)
+            self.now.row.slots.now }
+    {
+        &self.live
+    }
+
+    /// Returns the key of the value that a slot holds, or `None` where it holds none.
+    pub fn key_at(&self, slot: u32) -> Option<Key>
+        ensures { MatchOption result
+            (is_slot is_live self.now.row.slots.now slot ≡ false)
+            (λ key. HasKey self.now.row.slots.now slot key) }
+    {
+        self.row.key_at(slot)
+    }
+}

@@ -1,0 +1,137 @@
+//! A row of slots that a caller lends.
+
+ghost use Rattle.std.specs.Option.{is_some};
+ghost use Rattle.std.specs.Prelude.{◌≡◌, ◌<◌, ◌≤◌, false, None, Some, true, cond, length};
+ghost use Rattle.std.specs.Prelude.{option_copied, IfSome, IsTrue, MatchBool, MatchOption};
+ghost use Rattle.bit_slots.specs.Keys.{stages, found, IsKeyInserted, IsRemoved, IsReplaced, HasKey};
+ghost use Rattle.bit_slots.specs.SlotSets.{is_free, is_live, is_slot, HasSlots};
+ghost use Rattle.bit_slots.specs.SlotSets.{Joins, Leaves, Stays};
+ghost use Rattle.bittle.specs.PlainSet.{with_index};
+ghost use Rattle.bittle.specs.Shapes.{Fits};
+ghost use Rattle.bittle.specs.Values.{set_in};
+
+use crate::Key;
+use crate::slot::Slot;
+use bittle::{BitsOwned, Shape};
+
+/// The slots, behind the reference that was lent.
+#[derive(Drop)]
+pub struct Row<'a, V: Drop> {
+    pub(crate) slots: &'a mut [Slot<V>],
+}
+
+impl<'a, V: Drop> Row<'a, V> {
+    // Puts a value into a free slot, and returns its key.
+    pub(crate) fn fill(&mut self, slot: u32, value: V) -> Key
+        requires within { slot < length self.old.slots.now }
+        requires free { is_slot is_free self.old.slots.now slot ≡ true }
+        ensures slot { result.slot ≡ slot }
+        ensures stages { IsKeyInserted (stages self.old.slots.now) value result
+            (stages self.new.slots.now) }
+        ensures free { Leaves is_free self.old.slots.now slot self.new.slots.now }
+        ensures live { Joins is_live self.old.slots.now slot self.new.slots.now }
+        ensures same_length { length self.new.slots.now ≡ length self.old.slots.now }
+        ensures same_row { self.new.slots.ghost_name ≡ self.old.slots.ghost_name }
+    {
+        let generation = self.slots[slot as usize].fill(value);
+        Key { slot, generation }
+    }
+
+    // Takes out the value of a key, and returns it with whether its slot is free again, or changes
+    // nothing.
+    pub(crate) fn empty(&mut self, key: Key) -> Option<(V, bool)>
+        ensures found { MatchOption result
+            (found (stages self.old.slots.now key.slot key.generation) ≡ None)
+            (λ out. found (stages self.old.slots.now key.slot key.generation) ≡ Some out.0) }
+        ensures stages { IsRemoved (stages self.old.slots.now) key (stages self.new.slots.now) }
+        ensures within { IfSome result (λ _. key.slot < length self.old.slots.now) }
+        ensures live { MatchOption result (self.new.slots.now ≡ self.old.slots.now)
+            (λ _. Leaves is_live self.old.slots.now key.slot self.new.slots.now) }
+        ensures free { IfSome result (λ out. MatchBool out.1
+            (Joins is_free self.old.slots.now key.slot self.new.slots.now)
+            (Stays is_free self.old.slots.now self.new.slots.now)) }
+        ensures same_length { length self.new.slots.now ≡ length self.old.slots.now }
+        ensures same_row { self.new.slots.ghost_name ≡ self.old.slots.ghost_name }
+    {
+        if self.slots.len() <= key.slot as usize {
+            return None;
+        }
+        let value = self.slots[key.slot as usize].empty(key.generation)?;
+        Some((value, self.slots[key.slot as usize].is_free()))
+    }
+
+    // Puts a value in place of that of a key, or returns it and changes nothing.
+    pub(crate) fn replace(&mut self, key: Key, value: V) -> Result<V, V>
+        ensures stages { IsReplaced (stages self.old.slots.now) key value result
+            (stages self.new.slots.now) }
+        ensures free { Stays is_free self.old.slots.now self.new.slots.now }
+        ensures live { Stays is_live self.old.slots.now self.new.slots.now }
+        ensures same_length { length self.new.slots.now ≡ length self.old.slots.now }
+        ensures same_row { self.new.slots.ghost_name ≡ self.old.slots.ghost_name }
+    {
+        if self.slots.len() <= key.slot as usize {
+            return Err(value);
+        }
+        self.slots[key.slot as usize].replace(key.generation, value)
+    }
+
+    // Returns the key of the value that a slot holds.
+    pub(crate) fn key_at(&self, slot: u32) -> Option<Key>
+        ensures { MatchOption result
+            (is_slot is_live self.now.slots.now slot ≡ false)
+            (λ key. HasKey self.now.slots.now slot key) }
+    {
+        match self.slots.get(slot as usize)? {
+            Slot::Live(generation, _) => Some(Key {
+                slot,
+                generation: *generation,
+            }),
+            _ => None,
+        }
+    }
+
+    // Returns the value of a key.
+    pub(crate) fn get(&self, key: Key) -> Option<&V>
+        ensures { option_copied result
+            ≡ found (stages self.now.slots.now key.slot key.generation) }
+    {
+        let slot = self.slots.get(key.slot as usize)?;
+        slot.get(key.generation)
+    }
+}
+
+// Returns the set of the slots that are free. There are no more slots than a `B` has numbers.
+pub(crate) fn free_slots<V: Drop, B: BitsOwned>(row: &[Slot<V>]) -> B
+    requires fits { Fits B.indexable B.type_capacity }
+    requires covers { length row.now ≤ B.type_capacity }
+    ensures { HasSlots is_free (set_in B.Shape B.Order.Endian result) row.now }
+{
+    let mut set = B::zeros();
+    for slot in 0..row.len() {
+        set = assigned(set, slot as u32, row[slot].is_free());
+    }
+    set
+}
+
+// Returns the set of the slots that hold a value.
+pub(crate) fn live_slots<V: Drop, B: BitsOwned>(row: &[Slot<V>]) -> B
+    requires fits { Fits B.indexable B.type_capacity }
+    requires covers { length row.now ≤ B.type_capacity }
+    ensures { HasSlots is_live (set_in B.Shape B.Order.Endian result) row.now }
+{
+    let mut set = B::zeros();
+    for slot in 0..row.len() {
+        set = assigned(set, slot as u32, row[slot].is_live());
+    }
+    set
+}
+
+// Returns the set with the number where it is to be a member, else the set as it was.
+fn assigned<B: BitsOwned>(set: B, number: u32, is_member: bool) -> B
+    requires { IsTrue B.indexable }
+    ensures { set_in B.Shape B.Order.Endian result
+        ≡ cond is_member (with_index (set_in B.Shape B.Order.Endian set) number)
+        (set_in B.Shape B.Order.Endian set) }
+{
+    if is_member { set.with_bit(number) } else { set }
+}

@@ -1,0 +1,102 @@
+//! One slot.
+
+ghost use Rattle.std.specs.Option.{is_some};
+ghost use Rattle.std.specs.Prelude.{◌≡◌, ℕ, false, true, option_copied, IfSome, IsTrue};
+ghost use Rattle.bit_slots.specs.Keys.{Unused, stage_of, found, removed, IsExchanged, IsFilled};
+ghost use Rattle.bit_slots.specs.SlotSets.{is_free, is_live};
+
+use std::mem;
+
+/// A slot of a row.
+#[derive(Drop)]
+pub enum Slot<V> {
+    /// It is free, and the generation comes next.
+    Free(u32),
+    /// It holds a value of the generation.
+    Live(u32, V),
+    /// Its generations are used up.
+    Retired,
+}
+
+impl<V: Drop> Slot<V> {
+    /// Returns a slot that is free and was never used.
+    pub fn new() -> Slot<V>
+        ensures { (generation : ℕ) → stage_of result generation ≡ Unused }
+    {
+        Slot::Free(0)
+    }
+
+    // Returns whether it is free.
+    pub(crate) fn is_free(&self) -> bool
+        ensures { result ≡ is_free self.now }
+    {
+        matches!(self, Slot::Free(_))
+    }
+
+    // Returns whether it holds a value.
+    pub(crate) fn is_live(&self) -> bool
+        ensures { result ≡ is_live self.now }
+    {
+        matches!(self, Slot::Live(_, _))
+    }
+
+    // Puts a value into a free slot, and returns the generation that the slot is in.
+    pub(crate) fn fill(&mut self, value: V) -> u32
+        requires { is_free self.old ≡ true }
+        ensures stages { IsFilled self.old value result self.new }
+        ensures live { is_live self.new ≡ true }
+        ensures free { is_free self.new ≡ false }
+    {
+        let generation = match self {
+            Slot::Free(generation) => *generation,
+            _ => 0,
+        };
+        *self = Slot::Live(generation, value);
+        generation
+    }
+
+    // Takes out the value of a generation, and goes on to the next, or changes nothing where it
+    // holds none.
+    pub(crate) fn empty(&mut self, generation: u32) -> Option<V>
+        ensures found { result ≡ found (stage_of self.old generation) }
+        ensures stages { (k : ℕ)
+            → stage_of self.new k ≡ removed generation k (stage_of self.old k) }
+        ensures was_live { IfSome result (λ _. is_free self.old ≡ false) }
+        ensures live { IfSome result (λ _. is_live self.new ≡ false) }
+        ensures kept { is_some result ≡ false → self.new ≡ self.old }
+    {
+        match self {
+            Slot::Live(current, _) if *current == generation => {}
+            _ => return None,
+        }
+        let next = match generation.checked_add(1) {
+            Some(next) => Slot::Free(next),
+            None => Slot::Retired,
+        };
+        match mem::replace(self, next) {
+            Slot::Live(_, value) => Some(value),
+            _ => None,
+        }
+    }
+
+    // Puts a value in place of that of a generation, and returns it, or returns the value and
+    // changes nothing where it holds none.
+    pub(crate) fn replace(&mut self, generation: u32, value: V) -> Result<V, V>
+        ensures { IsExchanged self.old generation value result self.new }
+    {
+        match self {
+            Slot::Live(current, held) if *current == generation => Ok(mem::replace(held, value)),
+            _ => Err(value),
+        }
+    }
+
+    // Returns the value of a generation.
+    pub(crate) fn get(&self, generation: u32) -> Option<&V>
+        ensures { option_copied result ≡ found (stage_of self.now generation) }
+    {
+        match self {
+            Slot::Live(current, value) if *current == generation => Some(value),
+            _ => None,
+        }
+    }
+}
