@@ -1,8 +1,10 @@
 pub mod PassedWords
 pub mod CallableBelow
+mod CombinedSets
 mod CombinedWords
 mod Complements
 mod GatheredWords
+mod GrownSets
 mod LongestRuns
 mod OneBit
 pub mod CommonCounts
@@ -15,6 +17,7 @@ mod RetainSteps
 mod RotatedSets
 mod WholeWords
 mod Windows
+mod WordsReplaced
 pub mod RunFacts
 mod RunEnds
 mod RunLists

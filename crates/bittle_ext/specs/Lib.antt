@@ -1,4 +1,5 @@
 pub mod Calls
+pub mod Between
 pub mod Changes
 pub mod Combined
 pub mod RangeMembers

@@ -33,6 +33,7 @@
 //! ```
 #![tactic(auto)]
 
+mod bits_combine_ext;
 mod bits_ext;
 mod bits_index_ext;
 mod bits_mut_ext;
@@ -41,6 +42,7 @@ mod bits_relation_ext;
 mod bits_span_ext;
 mod bits_span_mut_ext;
 mod capacities;
+mod combinations;
 mod counts;
 mod one_bit;
 mod other_words;
@@ -58,6 +60,7 @@ mod runs;
 mod spans;
 pub mod views;
 
+pub use bits_combine_ext::BitsCombineExt;
 pub use bits_ext::BitsExt;
 pub use bits_index_ext::{BitsIndexExt, BitsIndexMutExt};
 pub use bits_mut_ext::BitsMutExt;

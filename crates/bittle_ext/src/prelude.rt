@@ -1,5 +1,6 @@
 //! The extension traits of sets, for `use bittle_ext::prelude::*`.
 
+pub use crate::bits_combine_ext::BitsCombineExt;
 pub use crate::bits_ext::BitsExt;
 pub use crate::bits_index_ext::{BitsIndexExt, BitsIndexMutExt};
 pub use crate::bits_mut_ext::BitsMutExt;

@@ -1,0 +1,138 @@
+-- A set that is combined with another one, word by word, and whether that changes it.
+use Rattle.std.proofs.Common.{◌≡◌, ℕ, ◌+◌, ◌-◌, ◌*◌, ◌<◌, ◌≤◌, ◌==◌, ◌^◌, Bool, true, false, cond, not, ◌&&◌, ◌||◌, nat_lt, MatchBool, bit_xor, inl, inr, refl, sym, ap, ◌∙◌, arith}
+use Rattle.std.proofs.Math.Path.{fun_ext}
+use Rattle.std.proofs.lemmas.Bool.{cases_eq, cases_lt, eq-eqb, ne_eqb, lt-ltb, le-ltb, true≢false}
+use Rattle.bittle_bits.specs.BitPatterns.{bit_has, bit_set}
+use Rattle.bittle_bits.specs.Orders.{place, read_in}
+use Rattle.bittle_bits.specs.PlainSet.{PlainSet, contains}
+use Rattle.bittle_bits.specs.SetOperations.{combination_of, just_one}
+use Rattle.bittle_bits.specs.Words.{word_of}
+use Rattle.bittle_bits.proofs.BitSets.{bit_has-below, bit_has-zero, some_digit}
+use Rattle.bittle_bits.proofs.PlaceLemmas.{place-place, place_in_word}
+use Rattle.bittle_bits.proofs.PlainSets.{plain_set}
+use Rattle.bittle_bits.proofs.SetOperations.{combination-below}
+use Rattle.bittle_bits.proofs.WordOperations.{digits_just_one, word_combined}
+use Rattle.bittle_bits.proofs.Words.{digit_at, word_has-at}
+use Rattle.bittle.proofs.CallerSets.{contains_within}
+use Rattle.bittle_ext.specs.Between.{has_combined, combined_within, Differ}
+use Rattle.bittle_ext.proofs.WordsReplaced.{replaced_where}
+
+-- past the capacity an operation makes no member
+pub combined_past : (f : Bool → Bool → Bool) (s t : PlainSet) (i : ℕ) → s.capacity ≤ i →
+    has_combined f s t i ≡ false
+unfolding has_combined
+combined_past f s t i h = ap (λ b. b && f (s.has i) (t.has i)) (le-ltb i s.capacity h)
+
+-- below it the operation decides
+pub combined_below : (f : Bool → Bool → Bool) (s t : PlainSet) (i : ℕ) → i < s.capacity →
+    has_combined f s t i ≡ f (s.has i) (t.has i)
+unfolding has_combined
+combined_below f s t i h = ap (λ b. b && f (s.has i) (t.has i)) (lt-ltb i s.capacity h)
+
+-- so it does of an index of the set afterwards
+pub combined_each : (f : Bool → Bool → Bool) (s t u : PlainSet) → u ≡ combined_within f s t →
+    (i : ℕ) → i < s.capacity → contains u i ≡ f (contains s i) (t.has i)
+combined_each f s t u is i h =
+    ap (λ v. contains v i) is ∙ contains_within (combined_within f s t) i h
+    ∙ combined_below f s t i h ∙ ap (λ b. f b (t.has i)) (sym (contains_within s i h))
+
+-- whether a test of the numbers below one differs anywhere from the members of a set
+abbrev pub TellsBelow : (ℕ → Bool) → PlainSet → ℕ → Bool → Type 0
+TellsBelow g s n b = MatchBool b ((i : ℕ) × (i < n) × (g i ≡ not (s.has i)))
+    ((i : ℕ) → i < n → g i ≡ s.has i)
+
+-- below 0 it does nowhere
+pub tells_none : (w : ℕ) (g : ℕ → Bool) (s : PlainSet) → TellsBelow g s (0 * w) false
+tells_none w g s = λ i h. absurd (omega arith)
+
+-- word k of a set, of which the words before it are decided, and of another set
+module _ (f : Bool → Bool → Bool) (m : Bool) (w k x y r : ℕ) (s t now : PlainSet) (word : 0 < w)
+    (ends : (k + 1) * w ≤ s.capacity)
+    (before : read_in m w now ≡ replaced_where (λ i. nat_lt i (k * w)) (has_combined f s t) s)
+    (ours : bit_set w x ≡ word_of w now k) (theirs : read_in m w (bit_set w y) ≡ word_of w t k)
+    (is : bit_set w r ≡ combination_of f (bit_set w x) (bit_set w y)) where
+  -- the word as it was
+  was : (o : ℕ) → o < w → (read_in m w (bit_set w x)).has o ≡ s.has (k * w + o)
+  was o h = digit_at m w k now x word ours o h ∙ ap (λ u. u.has (k * w + o)) before
+      ∙ ap (λ b. cond b (has_combined f s t (k * w + o)) (s.has (k * w + o)))
+      (le-ltb (k * w + o) (k * w) (omega arith))
+
+  -- the word as the operation makes it
+  pub made : (o : ℕ) → o < w → (read_in m w (bit_set w r)).has o ≡ has_combined f s t (k * w + o)
+  made o h =
+      ap (λ u. u.has o) (word_combined f w x y r m word is)
+      ∙ combination-below f (read_in m w (bit_set w x)) (read_in m w (bit_set w y)) o h h
+      ∙ ap (λ b. f b ((read_in m w (bit_set w y)).has o)) (was o h)
+      ∙ ap (f (s.has (k * w + o))) (ap (λ u. u.has o) theirs ∙ word_has-at w t k o h)
+      ∙ sym (combined_below f s t (k * w + o) (omega (arith, ends)))
+
+  -- where the two differ, by the word of their exclusive or
+  module _ (z : ℕ) (differ : z ≡ bit_xor r x) (fits : z < 2 ^ w) where
+    parts : (o : ℕ) → o < w → (read_in m w (bit_set w z)).has o
+        ≡ just_one (has_combined f s t (k * w + o)) (s.has (k * w + o))
+    parts o h =
+        ap (λ u. u.has o) (word_combined just_one w r x z m word
+        (ap (bit_set w) differ ∙ digits_just_one w r x))
+        ∙ combination-below just_one (read_in m w (bit_set w r)) (read_in m w (bit_set w x)) o h h
+        ∙ (λ j. just_one (made o h j) (was o h j))
+
+    unlike : (a b : Bool) → just_one a b ≡ true → a ≡ not b
+    unlike true true e = sym e
+    unlike true false e = refl
+    unlike false true e = refl
+    unlike false false e = e
+
+    alike : (a b : Bool) → just_one a b ≡ false → a ≡ b
+    alike true true e = refl
+    alike true false e = e
+    alike false true e = sym e
+    alike false false e = refl
+
+    -- so it is told of the words up to this one
+    pub tells_more : (b c : Bool) → c ≡ (b || not (z == 0)) →
+        TellsBelow (has_combined f s t) s (k * w) b →
+        TellsBelow (has_combined f s t) s ((k + 1) * w) c
+    tells_more true c e told = rw e (told.0, omega (arith, told.1), told.2)
+    tells_more false c e told =
+        elim (cases_eq z 0) [
+          | inl none ↦
+              rw (e ∙ ap not (eq-eqb z 0 none)) (λ i h. elim (cases_lt i (k * w)) [
+                | inl l ↦ told i l
+                | inr g ↦
+                    let o = i - k * w in
+                    let at : k * w + o ≡ i = omega (arith, g) in
+                    let low : o < w = omega (arith, g, h) in
+                    ap (has_combined f s t) (sym at)
+                    ∙ alike _ _ (sym (parts o low)
+                    ∙ ap (λ p. p (place m w o)) (bit_has-zero w z none))
+                    ∙ ap s.has at
+              ])
+          | inr some ↦
+              let p = some_digit w z fits some in
+              let inside = bit_has-below w z p.0 p.1 in
+              let o = place m w p.0 in
+              let low = place_in_word m w p.0 inside in
+              rw (e ∙ ap not (ne_eqb z 0 some)) (
+                k * w + o,
+                omega (arith, low),
+                unlike _ _ (sym (parts o low) ∙ ap (bit_has w z) (place-place m w p.0 word) ∙ p.1),
+              )
+        ]
+
+-- told of all numbers below the capacity, it is told of the sets
+pub tells_all : (f : Bool → Bool → Bool) (n : ℕ) (b : Bool) (s t after : PlainSet) →
+    s.capacity ≤ n → ((i : ℕ) → s.capacity ≤ i → s.has i ≡ false) →
+    after ≡ combined_within f s t → TellsBelow (has_combined f s t) s n b →
+    MatchBool b (Differ s after) (after ≡ s)
+tells_all f n true s t after far past is told =
+    let i = told.0 in
+    elim (cases_lt i s.capacity) [
+      | inl l ↦ (i, l, ap (λ u. u.has i) is ∙ told.2)
+      | inr g ↦ absurd (true≢false (sym (sym (combined_past f s t i g) ∙ told.2
+          ∙ ap not (past i g))))
+    ]
+tells_all f n false s t after far past is told =
+    is ∙ ap (plain_set s.capacity) (fun_ext λ i. elim (cases_lt i s.capacity) [
+      | inl l ↦ told i (omega (arith, l, far))
+      | inr g ↦ combined_past f s t i g ∙ sym (past i g)
+    ])

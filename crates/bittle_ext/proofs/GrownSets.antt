@@ -1,0 +1,113 @@
+-- Sets of which one has all members of the other, and more.
+use Rattle.std.proofs.Common.{◌≡◌, ℕ, zero, suc, ◌<◌, ◌≤◌, Bool, true, false, cond, not, ◌&&◌, ◌||◌, IsTrue, inl, inr, refl, sym, ap, ◌∙◌, arith, MatchBool}
+use Rattle.std.proofs.Math.Path.{fun_ext}
+use Rattle.std.proofs.lemmas.Bool.{cases_Bool, cases_eq, cases_lt, lt-ltb, le-ltb, true≢false}
+use Rattle.bittle_bits.specs.PlainSet.{PlainSet, count_below, full_set, size, with_span}
+use Rattle.bittle_bits.specs.SetOperations.{first_alone}
+use Rattle.bittle_bits.proofs.PlainSets.{plain_set}
+use Rattle.bittle_bits.proofs.Spans.{outside_span, inside_span}
+use Rattle.bittle_ext.specs.Between.{combined_within, has_combined, has_below, members_to, Differ}
+use Rattle.bittle_ext.proofs.CombinedSets.{combined_below}
+
+-- of n numbers, those that pass the first test pass the second
+abbrev Implies : ℕ → (ℕ → Bool) → (ℕ → Bool) → Type 0
+Implies n p q = (k : ℕ) → k < n → p k ≡ true → q k ≡ true
+
+-- a test of one number, as so many
+abbrev so_many : Bool → ℕ
+so_many b = cond b 1 0
+
+one_number : (a b : Bool) → (a ≡ true → b ≡ true) → cond a 1 0 ≤ cond b 1 0
+one_number true true h = omega arith
+one_number true false h = absurd (true≢false (sym (h refl)))
+one_number false true h = omega arith
+one_number false false h = omega arith
+
+-- so at least as many pass the second
+count_most : (n : ℕ) (p q : ℕ → Bool) → Implies n p q → count_below n p ≤ count_below n q
+unfolding count_below
+count_most zero p q all = omega arith
+count_most (suc n) p q all = omega (
+  arith,
+  count_most n p q (λ k l. all k (omega (arith, l))),
+  one_number (p n) (q n) (all n (omega arith)),
+)
+
+-- and more, where one passes that alone
+count_more : (n : ℕ) (p q : ℕ → Bool) (i : ℕ) → i < n → Implies n p q → p i ≡ false → q i ≡ true →
+    count_below n p < count_below n q
+unfolding count_below
+count_more zero p q i low all none one = absurd (omega (arith, low))
+count_more (suc n) p q i low all none one =
+    elim (cases_eq i n) [
+      | inl e ↦
+          let lacks : so_many (p n) ≡ 0 = ap so_many (ap p (sym e) ∙ none) in
+          let more : so_many (q n) ≡ 1 = ap so_many (ap q (sym e) ∙ one) in
+          omega (arith, count_most n p q (λ k l. all k (omega (arith, l))), lacks, more)
+      | inr other ↦ omega (
+        arith,
+        count_more n p q i (omega (arith, low, other)) (λ k l. all k (omega (arith, l))) none one,
+        one_number (p n) (q n) (all n (omega arith)),
+      )
+    ]
+
+-- a set that has all members of another of its capacity, and a number of it that is none there
+more_members : (s t : PlainSet) → t.capacity ≡ s.capacity → Implies s.capacity s.has t.has →
+    (i : ℕ) → i < s.capacity → t.has i ≡ not (s.has i) → size s < size t
+more_members s t same all i low differs =
+    rw same (elim (cases_Bool (s.has i)) [
+      | inl here ↦ absurd (true≢false (sym (all i low here) ∙ differs ∙ ap not here))
+      | inr none ↦ count_more s.capacity s.has t.has i low all none (differs ∙ ap not none)
+    ])
+
+-- a set that an operation changes, which takes none out, grows
+pub grows : (f : Bool → Bool → Bool) (s t u : PlainSet) (told : Bool) →
+    ((a b : Bool) → a ≡ true → f a b ≡ true) → u ≡ combined_within f s t →
+    MatchBool told (Differ s u) (u ≡ s) → IsTrue told → size s < size u
+grows f s t u true keeps is differ said =
+    more_members s u (ap (λ v. v.capacity) is) (λ k l h. ap (λ v. v.has k) is
+    ∙ combined_below f s t k l ∙ keeps (s.has k) (t.has k) h) differ.0 differ.1 differ.2
+grows f s t u false keeps is same said = absurd (true≢false (sym said))
+
+-- and one that an operation changes, which brings none in, shrinks
+pub shrinks : (f : Bool → Bool → Bool) (s t u : PlainSet) (told : Bool) →
+    ((a b : Bool) → f a b ≡ true → a ≡ true) → u ≡ combined_within f s t →
+    MatchBool told (Differ s u) (u ≡ s) → IsTrue told → size u < size s
+shrinks f s t u true brings is differ said =
+    let same : u.capacity ≡ s.capacity = ap (λ v. v.capacity) is in
+    more_members u s (sym same) (λ k l h. brings (s.has k) (t.has k)
+    (sym (ap (λ v. v.has k) is ∙ combined_below f s t k (omega (arith, l, same))) ∙ h)) differ.0
+    (omega (arith, differ.1, same)) (twice (s.has differ.0) ∙ ap not (sym differ.2))
+  where
+    twice : (b : Bool) → b ≡ not (not b)
+    twice true = refl
+    twice false = refl
+shrinks f s t u false brings is same said = absurd (true≢false (sym said))
+
+pub either_keeps : (a b : Bool) → a ≡ true → a || b ≡ true
+either_keeps true b h = refl
+either_keeps false b h = absurd (true≢false (sym h))
+
+pub both_brings : (a b : Bool) → a && b ≡ true → a ≡ true
+both_brings true b h = refl
+both_brings false b h = h
+
+pub alone_brings : (a b : Bool) → first_alone a b ≡ true → a ≡ true
+alone_brings a b h = both_brings a (not b) h
+
+-- what takes over the other set's members has those below its capacity
+pub copied : (s t : PlainSet) → combined_within (λ _ b. b) s t ≡ members_to s.capacity t
+unfolding has_combined has_below
+copied s t = refl
+
+-- a set with each index set is full
+pub all_set : (s : PlainSet) (c : ℕ) → c ≡ s.capacity →
+    ((i : ℕ) → s.capacity ≤ i → s.has i ≡ false) → with_span s 0 c ≡ full_set s.capacity
+all_set s c same past =
+    let set : Bool → Bool = λ _. true in
+    ap (plain_set s.capacity) (fun_ext λ k. elim (cases_lt k c) [
+      | inl l ↦ inside_span set s 0 c k (omega arith) l
+          ∙ sym (lt-ltb k s.capacity (omega (arith, same, l)))
+      | inr g ↦ outside_span set s 0 c k (inr g) ∙ past k (omega (arith, same, g))
+          ∙ sym (le-ltb k s.capacity (omega (arith, same, g)))
+    ])

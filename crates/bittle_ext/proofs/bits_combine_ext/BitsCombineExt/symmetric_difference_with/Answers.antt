@@ -1,0 +1,6 @@
+use Rattle.bittle.specs.SetOperations.{just_one}
+use Rattle.bittle_ext.proofs.CombinedSets.{combined_each}
+use Rattle.bittle_ext.proofs.bits_combine_ext.BitsCombineExt.symmetric_difference_with.Goals as goal
+
+pub returns-clause-each : goal.returns-clause-each
+returns-clause-each g c = combined_each just_one _ _ _ c.combine_with.ensures.set

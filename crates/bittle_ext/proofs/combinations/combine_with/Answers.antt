@@ -1,0 +1,83 @@
+use Rattle.std.proofs.Common.{◌+◌, ◌*◌, ◌≤◌, not, ◌||◌, nat_lt, refl, ap, ◌∙◌, arith}
+use Rattle.std.proofs.Math.Nat.{mul-le-mul_right}
+use Rattle.std.proofs.lemmas.Bool.{lt-ltb, le-ltb}
+use Rattle.bittle.specs.Values.{set_in}
+use Rattle.bittle_ext.specs.Between.{has_combined}
+use Rattle.bittle_ext.proofs.CombinedSets.{combined_past, tells_none, made, tells_more, tells_all}
+use Rattle.bittle_ext.proofs.CommonCounts.{word_inside}
+use Rattle.bittle_ext.proofs.RotatedSets.{words_make}
+use Rattle.bittle_ext.proofs.WordsReplaced.{adds_upward, more_replaced, none_replaced, all_replaced}
+use Rattle.bittle_ext.proofs.combinations.combine_with.Goals as goal
+
+pub loop-k-init : goal.loop-k-init
+loop-k-init g c =
+    let s = set_in g.A.Shape g.E.Endian c.args.set.now in
+    let t = set_in g.B.Shape g.F.Endian c.args.other.now in
+    let p = has_combined g.O.Operation.decide s t in
+    record {
+      replaced = none_replaced (λ i. nat_lt i (0 * g.A.Shape.width)) p s
+          c.capacity_of.ensures.ends.past (combined_past g.O.Operation.decide s t)
+          (λ i l. le-ltb i (0 * g.A.Shape.width) (omega arith));
+      told = tells_none g.A.Shape.width p s;
+      stays = refl;
+    }
+
+pub loop-k-preserved : goal.loop-k-preserved
+loop-k-preserved g c =
+    let b = g.met.A.ReadWords in
+    let w = g.A.Shape.width in
+    let m = g.E.Endian.mirrored in
+    let f = g.O.Operation.decide in
+    let k = c.loop-k.k in
+    let now = c.loop-k.set in
+    let new = c.set_nth_leaf_word.new.self in
+    let s = set_in g.A.Shape g.E.Endian c.args.set.now in
+    let t = set_in g.B.Shape g.F.Endian c.args.other.now in
+    let v = c.loop-k.invariant in
+    let wide = b.leaf_width in
+    let ends : (k + 1) * w ≤ s.capacity = omega (
+      arith,
+      word_inside w _ _ k (c.word_width.ensures) c.loop-k-test.true,
+      c.capacity_of.ensures.ends.capacity,
+    ) in
+    let is = rw wide at c.on_words-word.ensures in
+    record {
+      replaced = more_replaced m w k _ _ _ (has_combined f s t) s (g.A.Shape.big now)
+          (g.A.Shape.big new) b.width_positive (b.whole_words now) (b.none_past now)
+          (b.none_past new) c.capacity_of.ensures.ends.past (combined_past f s t)
+          (adds_upward w k _ b.width_positive) c.set_nth_leaf_word.ensures.set
+          (made f m w k _ _ _ s t (g.A.Shape.big now) b.width_positive ends v.replaced
+          c.nth_leaf_word-ours.ensures c.other_word-theirs.ensures is) v.replaced;
+      told = tells_more f m w k _ _ _ s t (g.A.Shape.big now) b.width_positive ends v.replaced
+          c.nth_leaf_word-ours.ensures c.other_word-theirs.ensures is _ c.xor.ensures
+          (rw wide at c.is_zero.ensures.range) c.loop-k.changed _
+          (ap (λ z. c.loop-k.changed || not z) c.is_zero.ensures.zero) v.told;
+      stays = v.stays ∙ c.set_nth_leaf_word.ensures.stays;
+    }
+
+pub returns-clause-set : goal.returns-clause-set
+returns-clause-set g c =
+    let b = g.met.A.ReadWords in
+    let w = g.A.Shape.width in
+    let f = g.O.Operation.decide in
+    let s = set_in g.A.Shape g.E.Endian c.args.set.now in
+    let t = set_in g.B.Shape g.F.Endian c.args.other.now in
+    let ends = c.capacity_of.ensures.ends in
+    let whole = words_make _ _ _ _ _ (b.whole_words c.args.set.now) b.width_positive ends.capacity
+    c.word_width.ensures refl in
+    let far = mul-le-mul_right w c.loop-k-test.false in
+    c.loop-k.invariant.replaced
+    ∙ all_replaced (λ i. nat_lt i (c.loop-k.k * w)) (has_combined f s t) s ends.past (combined_past f s t)
+    (λ i l. lt-ltb i (c.loop-k.k * w) (omega (arith, l, whole, far)))
+
+pub returns-clause-changed : goal.returns-clause-changed
+returns-clause-changed g c =
+    let b = g.met.A.ReadWords in
+    let w = g.A.Shape.width in
+    let s = set_in g.A.Shape g.E.Endian c.args.set.now in
+    let ends = c.capacity_of.ensures.ends in
+    let whole = words_make _ _ _ _ _ (b.whole_words c.args.set.now) b.width_positive ends.capacity
+    c.word_width.ensures refl in
+    let far = mul-le-mul_right w c.loop-k-test.false in
+    tells_all g.O.Operation.decide (c.loop-k.k * w) c.loop-k.changed s _ _
+    (omega (arith, whole, far)) ends.past (returns-clause-set g c) c.loop-k.invariant.told

@@ -1,0 +1,205 @@
+//! Changing a set by another one of any shape.
+
+ghost use Rattle.std.specs.Prelude.{◌≡◌, ◌<◌, ℕ, Bool, ◌||◌, ◌&&◌, IsTrue, MatchBool};
+ghost use Rattle.bittle_ext.specs.Between.{union_within, conjunction_within, difference_within};
+ghost use Rattle.bittle_ext.specs.Between.{symmetric_difference_within, members_to, Differ};
+ghost use Rattle.bittle.specs.PlainSet.{contains, full_set, size};
+ghost use Rattle.bittle.specs.SetOperations.{first_alone, just_one};
+ghost use Rattle.bittle.specs.Values.{set_in, set_mirrored, ShapeFits};
+
+use crate::combinations::{Replacement, combine_with};
+use bittle::{BigEndian, Bits, BitsMut, BitsOwned};
+use bittle_bits::extension::{Conjunction, Difference, SymmetricDifference, Union};
+
+/// Changes of a set by another one, of any two shapes that fit: a view is one too.
+///
+/// Each set is read in the order of its type; a view has the order that it names. The set keeps its
+/// capacity. An index of the other set at or past it does nothing, and from its own capacity on the
+/// other set has no index. Words combine words where both sets have words of one width that are
+/// read in one order; else each word of the other one is gathered from its set bits.
+///
+/// `union_assign` and its like of [`BitsMut`](bittle::BitsMut) take a set of the same type, hold in
+/// both orders at once, tell nothing, and leave what lies past the end of a shorter slice.
+///
+/// ```
+/// let mut row = [0b0110u8, 0];
+/// row.union_with(&0x0104u16);                             // true: row is [0b0110, 0b0001]
+/// row.union_with(&0x0104u16);                             // false
+/// ```
+pub trait BitsCombineExt: BitsMut {
+    /// Sets each bit that is set in the other set, and returns `true` if one was unset before. With
+    /// capacity 0 nothing changes, and it returns `false`.
+    ///
+    /// ```
+    /// let mut word = 0b0011u8;
+    /// word.union_with(&0x0105u16);                        // true: word is 0b0111
+    /// ```
+    #[inline]
+    final fn union_with<B: Bits>(&mut self, other: &B) -> bool
+        requires fits { ShapeFits Self.Shape self.old }
+        requires other_fits { ShapeFits B.Shape other.now }
+        ensures set { set_in Self.Shape Self.Order.Endian self.new
+            ≡ union_within (set_in Self.Shape Self.Order.Endian self.old)
+            (set_in B.Shape B.Order.Endian other.now) }
+        ensures each { (i : ℕ) → i < (Self.big self.old).capacity
+            → contains (set_in Self.Shape Self.Order.Endian self.new) i
+            ≡ (contains (set_in Self.Shape Self.Order.Endian self.old) i
+            || (set_in B.Shape B.Order.Endian other.now).has i) }
+        ensures changed { let before = set_in Self.Shape Self.Order.Endian self.old in
+            let after = set_in Self.Shape Self.Order.Endian self.new in
+            MatchBool result (Differ before after) (after ≡ before) }
+        ensures grew { IsTrue result → size (set_in Self.Shape Self.Order.Endian self.old)
+            < size (set_in Self.Shape Self.Order.Endian self.new) }
+        ensures stays { Self.loan self.old ≡ Self.loan self.new }
+    {
+        combine_with::<Self, B, Self::Order, B::Order, Union>(self, other)
+    }
+
+    /// Clears each bit that is not set in the other set, and returns `true` if one was set before:
+    /// so each from the other one's capacity on. With capacity 0 nothing changes, and it returns
+    /// `false`.
+    ///
+    /// ```
+    /// let mut row = [0b0011u8, 1];
+    /// row.intersect_with(&0b0101u8);                      // true: row is [0b0001, 0]
+    /// ```
+    #[inline]
+    final fn intersect_with<B: Bits>(&mut self, other: &B) -> bool
+        requires fits { ShapeFits Self.Shape self.old }
+        requires other_fits { ShapeFits B.Shape other.now }
+        ensures set { set_in Self.Shape Self.Order.Endian self.new
+            ≡ conjunction_within (set_in Self.Shape Self.Order.Endian self.old)
+            (set_in B.Shape B.Order.Endian other.now) }
+        ensures each { (i : ℕ) → i < (Self.big self.old).capacity
+            → contains (set_in Self.Shape Self.Order.Endian self.new) i
+            ≡ (contains (set_in Self.Shape Self.Order.Endian self.old) i
+            && (set_in B.Shape B.Order.Endian other.now).has i) }
+        ensures changed { let before = set_in Self.Shape Self.Order.Endian self.old in
+            let after = set_in Self.Shape Self.Order.Endian self.new in
+            MatchBool result (Differ before after) (after ≡ before) }
+        ensures shrank { IsTrue result → size (set_in Self.Shape Self.Order.Endian self.new)
+            < size (set_in Self.Shape Self.Order.Endian self.old) }
+        ensures stays { Self.loan self.old ≡ Self.loan self.new }
+    {
+        combine_with::<Self, B, Self::Order, B::Order, Conjunction>(self, other)
+    }
+
+    /// Clears each bit that is set in the other set, and returns `true` if one was set before. With
+    /// capacity 0 nothing changes, and it returns `false`.
+    ///
+    /// ```
+    /// let mut word = 0b0011u8;
+    /// word.difference_with(&0x0105u16);                   // true: word is 0b0010
+    /// ```
+    #[inline]
+    final fn difference_with<B: Bits>(&mut self, other: &B) -> bool
+        requires fits { ShapeFits Self.Shape self.old }
+        requires other_fits { ShapeFits B.Shape other.now }
+        ensures set { set_in Self.Shape Self.Order.Endian self.new
+            ≡ difference_within (set_in Self.Shape Self.Order.Endian self.old)
+            (set_in B.Shape B.Order.Endian other.now) }
+        ensures each { (i : ℕ) → i < (Self.big self.old).capacity
+            → contains (set_in Self.Shape Self.Order.Endian self.new) i
+            ≡ first_alone (contains (set_in Self.Shape Self.Order.Endian self.old) i)
+            ((set_in B.Shape B.Order.Endian other.now).has i) }
+        ensures changed { let before = set_in Self.Shape Self.Order.Endian self.old in
+            let after = set_in Self.Shape Self.Order.Endian self.new in
+            MatchBool result (Differ before after) (after ≡ before) }
+        ensures shrank { IsTrue result → size (set_in Self.Shape Self.Order.Endian self.new)
+            < size (set_in Self.Shape Self.Order.Endian self.old) }
+        ensures stays { Self.loan self.old ≡ Self.loan self.new }
+    {
+        combine_with::<Self, B, Self::Order, B::Order, Difference>(self, other)
+    }
+
+    /// Flips each bit that is set in the other set, and returns `true` if there was one. With
+    /// capacity 0 nothing changes, and it returns `false`.
+    ///
+    /// ```
+    /// let mut word = 0b0011u8;
+    /// word.symmetric_difference_with(&0x0105u16);         // true: word is 0b0110
+    /// ```
+    #[inline]
+    final fn symmetric_difference_with<B: Bits>(&mut self, other: &B) -> bool
+        requires fits { ShapeFits Self.Shape self.old }
+        requires other_fits { ShapeFits B.Shape other.now }
+        ensures set { set_in Self.Shape Self.Order.Endian self.new
+            ≡ symmetric_difference_within (set_in Self.Shape Self.Order.Endian self.old)
+            (set_in B.Shape B.Order.Endian other.now) }
+        ensures each { (i : ℕ) → i < (Self.big self.old).capacity
+            → contains (set_in Self.Shape Self.Order.Endian self.new) i
+            ≡ just_one (contains (set_in Self.Shape Self.Order.Endian self.old) i)
+            ((set_in B.Shape B.Order.Endian other.now).has i) }
+        ensures changed { let before = set_in Self.Shape Self.Order.Endian self.old in
+            let after = set_in Self.Shape Self.Order.Endian self.new in
+            MatchBool result (Differ before after) (after ≡ before) }
+        ensures stays { Self.loan self.old ≡ Self.loan self.new }
+    {
+        combine_with::<Self, B, Self::Order, B::Order, SymmetricDifference>(self, other)
+    }
+
+    /// Makes the set have what the other one has below its capacity, and nothing else: so nothing
+    /// from the other one's capacity on. With capacity 0 nothing changes.
+    ///
+    /// ```
+    /// let mut row = [0b0011u8, 1];
+    /// row.copy_from(&0b0101u8);                           // row is [0b0101, 0]
+    /// ```
+    #[inline]
+    final fn copy_from<B: Bits>(&mut self, other: &B)
+        requires fits { ShapeFits Self.Shape self.old }
+        requires other_fits { ShapeFits B.Shape other.now }
+        ensures set { set_in Self.Shape Self.Order.Endian self.new
+            ≡ members_to (Self.big self.old).capacity (set_in B.Shape B.Order.Endian other.now) }
+        ensures each { (i : ℕ) → i < (Self.big self.old).capacity
+            → contains (set_in Self.Shape Self.Order.Endian self.new) i
+            ≡ (set_in B.Shape B.Order.Endian other.now).has i }
+        ensures stays { Self.loan self.old ≡ Self.loan self.new }
+    {
+        combine_with::<Self, B, Self::Order, B::Order, Replacement>(self, other);
+    }
+
+    /// Returns the set of what another one has below the capacity of the type. With capacity 0 it
+    /// is empty.
+    ///
+    /// The type has to fit.
+    ///
+    /// ```
+    /// <[u8; 2]>::from_set(&0x8005_0103u32);               // [0x03, 0x01]
+    /// ```
+    #[inline]
+    final fn from_set<B: Bits>(other: &B) -> Self
+    where
+        Self: BitsOwned,
+        requires indexable { IsTrue Self.indexable }
+        requires other_fits { ShapeFits B.Shape other.now }
+        ensures { set_in Self.Shape Self.Order.Endian result
+            ≡ members_to Self.type_capacity (set_in B.Shape B.Order.Endian other.now) }
+    {
+        let mut set = Self::zeros();
+        set.copy_from(other);
+        set
+    }
+
+    /// Sets every bit, by one mask a word: the set is full, in both orders.
+    ///
+    /// The shape has to fit. With capacity 0 nothing changes.
+    ///
+    /// ```
+    /// let mut row = [7u8, 9];
+    /// row.set_all();                                      // row is [0xFF, 0xFF]
+    /// ```
+    #[inline]
+    final fn set_all(&mut self)
+        requires { ShapeFits Self.Shape self.old }
+        ensures set { Self.big self.new ≡ full_set (Self.big self.old).capacity }
+        ensures in_each_order { (mirrored : Bool) → set_mirrored Self.Shape mirrored self.new
+            ≡ full_set (Self.big self.old).capacity }
+        ensures stays { Self.loan self.old ≡ Self.loan self.new }
+    {
+        let capacity = self.bits_capacity();
+        self.set_range_in::<BigEndian>(0, capacity);
+    }
+}
+
+impl<B: BitsMut> BitsCombineExt for B {}

@@ -1,0 +1,50 @@
+//! A set changed in place by another one, of any width and order, a word at a time.
+
+ghost use Rattle.std.specs.Prelude.{◌≡◌, MatchBool};
+ghost use Rattle.bittle_ext.specs.Between.{combined_within, Differ};
+ghost use Rattle.bittle.specs.Values.{set_in, ShapeFits};
+
+use crate::capacities::capacity_of;
+use crate::other_words::other_word;
+use bittle::{Bits, BitsMut, Endian};
+use bittle_bits::extension::{Operation, Word, word_width};
+
+/// The operation that makes the first set have what the second one has.
+pub enum Replacement {}
+
+impl Operation for Replacement {
+    ghost decide = { λ _ theirs. theirs };
+
+    #[inline]
+    fn on_words<T: Word>(_: T, other: T) -> T {
+        other
+    }
+}
+
+/// Combines a set with another one by an operation, below the capacity of the first, and returns
+/// whether that changed it.
+#[inline]
+pub fn combine_with<A: BitsMut, B: Bits, E: Endian, F: Endian, O: Operation>(
+    set: &mut A,
+    other: &B,
+) -> bool
+    requires fits { ShapeFits A.Shape set.old }
+    requires other_fits { ShapeFits B.Shape other.now }
+    ensures set { set_in A.Shape E.Endian set.new ≡ combined_within O.decide
+        (set_in A.Shape E.Endian set.old) (set_in B.Shape F.Endian other.now) }
+    ensures changed { let before = set_in A.Shape E.Endian set.old in
+        let after = set_in A.Shape E.Endian set.new in
+        MatchBool result (Differ before after) (after ≡ before) }
+    ensures stays { A.loan set.old ≡ A.loan set.new }
+{
+    let words = (capacity_of::<A, E>(set) / word_width::<A>()) as usize;
+    let mut changed = false;
+    for k in 0..words {
+        let ours = set.nth_leaf_word(k);
+        let theirs = other_word::<A, B, E, F>(other, k);
+        let word = O::on_words::<A::LeafWord>(ours, theirs);
+        changed |= !word.xor(ours).is_zero();
+        set.set_nth_leaf_word(k, word);
+    }
+    changed
+}
