@@ -15,6 +15,7 @@ pub mod RankFacts
 pub mod RelationFacts
 mod RetainSteps
 mod RotatedSets
+mod ShiftedWords
 mod WholeWords
 mod Windows
 mod WordsReplaced

@@ -187,12 +187,12 @@ rotated_to s by i =
           ∙ add-mul-mod_self_right i (by / c + 1) c)
     ]
 
-down-inside : (s : PlainSet) (by k : ℕ) → k + by < s.capacity →
+pub down-inside : (s : PlainSet) (by k : ℕ) → k + by < s.capacity →
     has_shifted_down s by k ≡ s.has (k + by)
 unfolding has_shifted_down
 down-inside s by k h = rw (lt-ltb (k + by) s.capacity h) refl
 
-down-past : (s : PlainSet) (by k : ℕ) → s.capacity ≤ k + by → has_shifted_down s by k ≡ false
+pub down-past : (s : PlainSet) (by k : ℕ) → s.capacity ≤ k + by → has_shifted_down s by k ≡ false
 unfolding has_shifted_down
 down-past s by k h = rw (le-ltb (k + by) s.capacity h) refl
 
@@ -217,16 +217,16 @@ cut_down s by h =
 pub all_down : (s : PlainSet) (by : ℕ) → s.capacity ≤ by → empty_set s.capacity ≡ shifted_down s by
 all_down s by h = ap (plain_set s.capacity) (fun_ext λ k. sym (down-past s by k (omega arith)))
 
-up-inside : (s : PlainSet) (by k : ℕ) → by ≤ k → k < s.capacity →
+pub up-inside : (s : PlainSet) (by k : ℕ) → by ≤ k → k < s.capacity →
     has_shifted_up s by k ≡ s.has (k - by)
 unfolding has_shifted_up
 up-inside s by k h l = rw (le-leb by k h, lt-ltb k s.capacity l) refl
 
-up-before : (s : PlainSet) (by k : ℕ) → k < by → has_shifted_up s by k ≡ false
+pub up-before : (s : PlainSet) (by k : ℕ) → k < by → has_shifted_up s by k ≡ false
 unfolding has_shifted_up
 up-before s by k h = rw (lt-leb by k h) refl
 
-up-past : (s : PlainSet) (by k : ℕ) → s.capacity ≤ k → has_shifted_up s by k ≡ false
+pub up-past : (s : PlainSet) (by k : ℕ) → s.capacity ≤ k → has_shifted_up s by k ≡ false
 unfolding has_shifted_up
 up-past s by k h = rw (le-ltb k s.capacity h) (ap (λ b. b && s.has (k - by)) (and_right (nat_le by k) false refl))
 

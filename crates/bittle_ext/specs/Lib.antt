@@ -7,5 +7,6 @@ pub mod Ranks
 pub mod Rotations
 pub mod Runs
 pub mod SetRelations
+pub mod Shifts
 pub mod ViewLaws
 pub mod Views

@@ -8,6 +8,7 @@ pub use crate::bits_owned_ext::BitsOwnedExt;
 pub use crate::bits_relation_ext::BitsRelationExt;
 pub use crate::bits_span_ext::BitsSpanExt;
 pub use crate::bits_span_mut_ext::BitsSpanMutExt;
+pub use crate::bits_shift_ext::BitsShiftExt;
 pub use crate::range_iterators::BitsRangeExt;
 pub use crate::views::in_order_mut::BitsMutViewExt;
 pub use crate::views::{BitsViewExt, View};

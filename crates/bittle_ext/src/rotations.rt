@@ -35,7 +35,7 @@ fn funnel<W: Word>(first: W, second: W, from: u32) -> W
 
 /// Returns the word of the bits of two words from the index `from` of the first one on.
 #[inline]
-fn window<W: Word, E: Endian>(first: W, second: W, from: u32) -> W
+pub fn window<W: Word, E: Endian>(first: W, second: W, from: u32) -> W
     requires { from < W.width }
     ensures { IsWindow W.width from
         (read_in E.mirrored W.width (bit_set W.width (W.pattern first)))

@@ -1,0 +1,18 @@
+use Rattle.std.proofs.Common.{◌≡◌, ◌≤◌, ◌*◌, nat_le}
+use Rattle.bittle.specs.Values.{set_in}
+use Rattle.bittle_ext.specs.Rotations.{has_shifted_up}
+use Rattle.bittle_ext.proofs.WordsReplaced.{replaced_where}
+use Rattle.bittle_ext.proofs.shifts.shift_up.Given as goal
+
+abbrev pub invariant-loop-k : goal.invariant-loop-k
+invariant-loop-k g l =
+    let s = set_in g.B.Shape g.E.Endian l.initial.set in
+    record {
+      within : l.k * g.B.Shape.width ≤ s.capacity;
+      replaced : set_in g.B.Shape g.E.Endian l.set
+          ≡ replaced_where (λ i. nat_le (l.k * g.B.Shape.width) i) (has_shifted_up s l.by) s;
+      stays : g.B.Shape.loan l.initial.set ≡ g.B.Shape.loan l.set;
+    }
+
+abbrev pub decreases-loop-k : goal.decreases-loop-k
+decreases-loop-k g l = l.k

@@ -1,0 +1,69 @@
+//! Moving all bits of a set where it stands.
+
+ghost use Rattle.std.specs.Prelude.{◌≡◌, ◌+◌, ◌<◌, ◌≤◌, ℕ, false};
+ghost use Rattle.bittle_ext.specs.Rotations.{shifted_down, shifted_up};
+ghost use Rattle.bittle.specs.PlainSet.{contains};
+ghost use Rattle.bittle.specs.Values.{set_in, ShapeFits};
+
+use crate::shifts;
+use bittle::BitsMut;
+
+/// Moves of all bits of any set that can be changed, a mutably borrowed slice among them: no copy
+/// is made. The order is that of the type.
+///
+/// A set that is owned has [`shifted_up`](crate::BitsOwnedExt::shifted_up) and its like too, which
+/// return another set, and rotations.
+pub trait BitsShiftExt: BitsMut {
+    /// Moves each bit down by `by` indexes, in the order of the type. The bits that would pass
+    /// index 0 are left out.
+    ///
+    /// The shape has to fit. With a distance of the capacity or more the set is empty; with
+    /// capacity 0 nothing changes. Each word is read twice at most and written once.
+    ///
+    /// ```
+    /// let mut row = [0x12u8, 0x01];
+    /// row.shift_down(2);                                  // row is [0x44, 0]
+    /// ```
+    #[inline]
+    final fn shift_down(&mut self, by: u32)
+        requires { ShapeFits Self.Shape self.old }
+        ensures set { set_in Self.Shape Self.Order.Endian self.new
+            ≡ shifted_down (set_in Self.Shape Self.Order.Endian self.old) by }
+        ensures moved { (i : ℕ) → i + by < (Self.big self.old).capacity
+            → contains (set_in Self.Shape Self.Order.Endian self.new) i
+            ≡ contains (set_in Self.Shape Self.Order.Endian self.old) (i + by) }
+        ensures emptied { (i : ℕ) → i < (Self.big self.old).capacity
+            → (Self.big self.old).capacity ≤ i + by
+            → contains (set_in Self.Shape Self.Order.Endian self.new) i ≡ false }
+        ensures stays { Self.loan self.old ≡ Self.loan self.new }
+    {
+        shifts::shift_down::<Self, Self::Order>(self, by);
+    }
+
+    /// Moves each bit up by `by` indexes, in the order of the type. The bits that would reach the
+    /// capacity are left out.
+    ///
+    /// The shape has to fit. With a distance of the capacity or more the set is empty; with
+    /// capacity 0 nothing changes. Each word is read twice at most and written once.
+    ///
+    /// ```
+    /// let mut row = [0x48u8, 0x80];
+    /// row.shift_up(2);                                    // row is [0x20, 0x01]
+    /// ```
+    #[inline]
+    final fn shift_up(&mut self, by: u32)
+        requires { ShapeFits Self.Shape self.old }
+        ensures set { set_in Self.Shape Self.Order.Endian self.new
+            ≡ shifted_up (set_in Self.Shape Self.Order.Endian self.old) by }
+        ensures moved { (i : ℕ) → i + by < (Self.big self.old).capacity
+            → contains (set_in Self.Shape Self.Order.Endian self.new) (i + by)
+            ≡ contains (set_in Self.Shape Self.Order.Endian self.old) i }
+        ensures emptied { (i : ℕ) → i < (Self.big self.old).capacity → i < by
+            → contains (set_in Self.Shape Self.Order.Endian self.new) i ≡ false }
+        ensures stays { Self.loan self.old ≡ Self.loan self.new }
+    {
+        shifts::shift_up::<Self, Self::Order>(self, by);
+    }
+}
+
+impl<B: BitsMut> BitsShiftExt for B {}
