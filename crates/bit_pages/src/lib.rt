@@ -3,18 +3,21 @@
 
 ghost use Rattle.std.specs.Option.{is_some};
 ghost use Rattle.std.specs.Prelude.{◌≡◌, ◌+◌, ◌-◌, ◌<◌, ◌≤◌, ◌↔◌, cond, length, true, false};
-ghost use Rattle.std.specs.Prelude.{IfSome, IsTrue, IsOk, is_ok};
+ghost use Rattle.std.specs.Prelude.{IfSome, IsTrue, IsOk, MatchOption, is_ok};
 ghost use Rattle.bittle.specs.Comparison.{AreSame};
-ghost use Rattle.bittle.specs.PlainSet.{empty_set, size};
+ghost use Rattle.bittle.specs.PlainSet.{complement, empty_set, size, with_span, without_span};
+ghost use Rattle.bittle.specs.Searches.{NoneIn};
 ghost use Rattle.bittle.specs.Shapes.{Fits};
 ghost use Rattle.bittle.specs.Values.{set_in};
 ghost use Rattle.bit_pages.specs.Pages.{is_taken, least_free, answer_to, state_after};
 ghost use Rattle.bit_pages.specs.Pages.{request_answers, final_state};
+ghost use Rattle.bittle_ext.specs.Runs.{IsFirstRun, IsRun};
 
 #[doc(hidden)]
 pub mod page_laws;
 
 use bittle::{BitsOwned, Set, Shape};
+use bittle_ext::{BitsExt, BitsMutExt};
 use std::error::Error;
 use std::fmt;
 
@@ -139,6 +142,68 @@ impl<B: BitsOwned> Pages<B> {
         self.map.clear_bit(page);
         self.count -= 1;
         Ok(())
+    }
+
+    /// Takes the first `length` free pages that are neighbours, and returns the least of them, or
+    /// changes nothing and returns `None` where there is no such run. A run of no pages is at page
+    /// 0, takes nothing, and is there where all are taken too, and with capacity 0.
+    ///
+    /// Each run that is too short costs two searches of words.
+    pub fn take_run(&mut self, length: u32) -> Option<u32>
+        ensures run { IsFirstRun (complement (set_in B.Shape B.Order.Endian self.old.map)) 0 length
+            result }
+        ensures within { IfSome result (λ first. first + length ≤ B.type_capacity) }
+        ensures were_free { IfSome result (λ first.
+            NoneIn (set_in B.Shape B.Order.Endian self.old.map) first (first + length)) }
+        ensures taken { IfSome result
+            (λ first. IsRun (set_in B.Shape B.Order.Endian self.new.map) length first) }
+        ensures count { size (set_in B.Shape B.Order.Endian self.new.map)
+            ≡ size (set_in B.Shape B.Order.Endian self.old.map) + cond (is_some result) length 0 }
+        ensures pages { let before = set_in B.Shape B.Order.Endian self.old.map in
+            let after = set_in B.Shape B.Order.Endian self.new.map in
+            MatchOption result
+            (after ≡ before)
+            (λ first. after ≡ with_span before first (first + length)) }
+    {
+        let first = self.map.take_first_zero_run(length)?;
+        self.count += length;
+        Some(first)
+    }
+
+    /// Makes `length` neighbours from the page `first` on free again, or changes nothing where one
+    /// of them is not taken. A number past the last page is no page, and does not wrap. A run of no
+    /// pages is taken at each page, and at the end of them.
+    ///
+    /// The words of the run are read up to the first page that is free.
+    pub fn give_back_run(&mut self, first: u32, length: u32) -> Result<(), NotTaken>
+        ensures taken { IsOk result
+            ↔ IsRun (set_in B.Shape B.Order.Endian self.old.map) length first }
+        ensures free { IsOk result
+            → NoneIn (set_in B.Shape B.Order.Endian self.new.map) first (first + length) }
+        ensures count { size (set_in B.Shape B.Order.Endian self.old.map)
+            ≡ size (set_in B.Shape B.Order.Endian self.new.map) + cond (is_ok result) length 0 }
+        ensures pages { let before = set_in B.Shape B.Order.Endian self.old.map in
+            set_in B.Shape B.Order.Endian self.new.map
+            ≡ cond (is_ok result) (without_span before first (first + length)) before }
+    {
+        if !self.is_run_taken(first, length) {
+            return Err(NotTaken);
+        }
+        self.map.clear_range(first, first + length);
+        self.count -= length;
+        Ok(())
+    }
+
+    /// Returns whether `length` neighbours from `first` on are pages, and each is taken. A run of
+    /// no pages is so at each page, and at the end of them.
+    pub fn is_run_taken(&self, first: u32, length: u32) -> bool
+        ensures { IsTrue result
+            ↔ IsRun (set_in B.Shape B.Order.Endian self.now.map) length first }
+    {
+        let Some(end) = first.checked_add(length) else {
+            return false;
+        };
+        end <= B::bits() && self.map.all_in_range(first, end)
     }
 
     /// Returns whether the number is a page, and taken. A number past the last page is none.
