@@ -1,0 +1,209 @@
+-- What follows from the role machine.
+use Rattle.std.proofs.Common.{◌≡◌, ℕ, zero, suc, ◌+◌, ◌<◌, ◌≤◌, ◌⊎◌, Bool, true, false, cond, ◌&&◌, ◌||◌, ◌==◌, nat_lt, Option, Some, None, List, [], ◌∷◌, inl, inr, refl, sym, ap, ◌∙◌, arith}
+use Rattle.std.specs.List.{list_any}
+use Rattle.std.proofs.lemmas.Bool.{cases_eq, cases_Bool, lt-ltb, ltb-true, eq-eqb, ne_eqb, or_right, and_parts}
+use Rattle.bit_roles.specs.Roles.{Roles, parent_of, ancestor, Allows, HasLesserParents, may_grant, may_inherit, with_granted, with_parent, roles_after, final_roles}
+use Rattle.bit_roles.specs.RoleLaws.{grants}
+use Rattle.bit_roles.specs.declared.Request.{Request}
+use Rattle.bit_roles.specs.declared.Request.TheVariants.{Grant, Inherit}
+
+-- a chain of parents through the parent of a role
+ancestor_up : (r : Roles) (role parent n : ℕ) → r.parent role ≡ Some parent →
+    ancestor r role (suc n) ≡ ancestor r parent n
+unfolding ancestor
+ancestor_up r role parent zero e = e
+ancestor_up r role parent (suc n) e = ap (parent_of r) (ancestor_up r role parent n e)
+
+-- no chain goes on from a role without a parent
+ancestor_none : (r : Roles) (role n : ℕ) → r.parent role ≡ None → ancestor r role (suc n) ≡ None
+unfolding ancestor
+ancestor_none r role zero e = e
+ancestor_none r role (suc n) e = ap (parent_of r) (ancestor_none r role n e)
+
+-- a role allows what it was granted
+pub allows_granted : (r : Roles) (role permission : ℕ) → r.granted role permission ≡ true →
+    Allows r role permission
+unfolding ancestor
+allows_granted r role permission e = (zero, role, refl, e)
+
+-- it allows what its parent allows
+pub allows_up : (r : Roles) (role parent permission : ℕ) → r.parent role ≡ Some parent →
+    Allows r parent permission → Allows r role permission
+allows_up r role parent permission e a =
+    (suc a.0, a.1, ancestor_up r role parent a.0 e ∙ a.2, a.3)
+
+-- and nothing else
+pub allows_down : (r : Roles) (role parent permission : ℕ) → r.parent role ≡ Some parent →
+    r.granted role permission ≡ false → Allows r role permission → Allows r parent permission
+unfolding ancestor
+allows_down r role parent permission e none (zero, other, is, granted) =
+    let same : role ≡ other = cc in
+    absurd (cc)
+allows_down r role parent permission e none (suc n, other, is, granted) =
+    (n, other, sym (ancestor_up r role parent n e) ∙ is, granted)
+
+-- without a parent a role allows just what it was granted
+pub allows_nothing : (r : Roles) (role permission : ℕ) → r.parent role ≡ None →
+    r.granted role permission ≡ false → Allows r role permission → ⊥
+unfolding ancestor
+allows_nothing r role permission e none (zero, other, is, granted) =
+    let same : role ≡ other = cc in
+    cc
+allows_nothing r role permission e none (suc n, other, is, granted) =
+    let gone = ancestor_none r role n e in cc
+
+-- a chain of parents goes down
+chain_goes_down : (r : Roles) (role n other : ℕ) → HasLesserParents r →
+    ancestor r role n ≡ Some other → other + n ≤ role
+unfolding ancestor
+chain_goes_down r role zero other lesser e = let same : role ≡ other = cc in omega (arith, same)
+chain_goes_down r role (suc n) other lesser e =
+    by (ancestor r role n) (λ k is. chain_goes_down r role n k lesser is) e
+  where
+    by : (o : Option ℕ) → ((k : ℕ) → o ≡ Some k → k + n ≤ role) → parent_of r o ≡ Some other →
+        other + suc n ≤ role
+    by None below up = absurd (cc)
+    by (Some k) below up = omega (arith, lesser k other up, below k refl)
+
+-- so it does not come back
+pub no_way_back : (r : Roles) (role n : ℕ) → HasLesserParents r →
+    ancestor r role (suc n) ≡ Some role → ⊥
+no_way_back r role n lesser e = omega (arith, chain_goes_down r role (suc n) role lesser e)
+
+-- a parent that has a lesser number keeps that each has
+pub parent_stays_lesser : (r : Roles) (role parent : ℕ) → parent < role → HasLesserParents r →
+    HasLesserParents (with_parent r role parent)
+parent_stays_lesser r role parent h lesser k p e = elim (cases_eq k role) [
+  | inl same ↦
+      let is : Some parent ≡ Some p =
+      ap (λ b. cond b (Some parent) (r.parent k)) (sym (eq-eqb k role same)) ∙ e in
+      let one : parent ≡ p = cc in omega (arith, h, same, one)
+  | inr apart ↦ lesser k p
+      (ap (λ b. cond b (Some parent) (r.parent k)) (sym (ne_eqb k role apart)) ∙ e)
+]
+
+one_stays_lesser : (r : Roles) (request : Request) → HasLesserParents r →
+    HasLesserParents (roles_after r request)
+one_stays_lesser r (Grant role permission) lesser = by (may_grant r role permission)
+  where
+    by : (b : Bool) → HasLesserParents (cond b (with_granted r role permission) r)
+    by true = lesser
+    by false = lesser
+one_stays_lesser r (Inherit role parent) lesser = by (may_inherit r role parent) refl
+  where
+    by : (b : Bool) → may_inherit r role parent ≡ b →
+        HasLesserParents (cond b (with_parent r role parent) r)
+    by true e = parent_stays_lesser r role parent
+        (ltb-true parent role (and_parts (nat_lt role r.count) (nat_lt parent role) e).1) lesser
+    by false e = lesser
+
+pub stay_lesser : (r : Roles) (requests : List Request) → HasLesserParents r →
+    HasLesserParents (final_roles r requests)
+unfolding final_roles
+stay_lesser r [] lesser = lesser
+stay_lesser r (request ∷ requests) lesser =
+    stay_lesser (roles_after r request) requests (one_stays_lesser r request lesser)
+
+-- a grant changes no chain
+same_chain : (r : Roles) (role permission other n : ℕ) →
+    ancestor (with_granted r role permission) other n ≡ ancestor r other n
+unfolding ancestor
+same_chain r role permission other zero = refl
+same_chain r role permission other (suc n) =
+    ap (parent_of r) (same_chain r role permission other n)
+
+-- what is allowed stays so after a grant
+pub stays_allowed : (r : Roles) (role permission other allowed : ℕ) → Allows r other allowed →
+    Allows (roles_after r (Grant role permission)) other allowed
+stays_allowed r role permission other allowed a = by (may_grant r role permission)
+  where
+    by : (b : Bool) → Allows (cond b (with_granted r role permission) r) other allowed
+    by true = (
+      a.0,
+      a.1,
+      same_chain r role permission other a.0 ∙ a.2,
+      or_right ((a.1 == role) && (allowed == permission)) (r.granted a.1 allowed) a.3,
+    )
+    by false = a
+
+-- what one request grants
+granted_one : (r : Roles) (request : Request) (role permission : ℕ) → role < r.count →
+    permission < r.permissions → (roles_after r request).granted role permission
+    ≡ (r.granted role permission || grants role permission request)
+granted_one r (Grant other more) role permission h l =
+    by (may_grant r other more) refl (cases_eq role other) (cases_eq permission more)
+  where
+    turn : (a b : Bool) → (a || b) ≡ (b || a)
+    turn true true = refl
+    turn true false = refl
+    turn false true = refl
+    turn false false = refl
+
+    none : (a : Bool) → a ≡ (a || false)
+    none true = refl
+    none false = refl
+
+    by : (b : Bool) → may_grant r other more ≡ b → (role ≡ other) ⊎ (role ≡ other → ⊥) →
+        (permission ≡ more) ⊎ (permission ≡ more → ⊥) →
+        (cond b (with_granted r other more) r).granted role permission
+        ≡ (r.granted role permission || ((role == other) && (permission == more)))
+    by true e _ _ = turn ((role == other) && (permission == more)) (r.granted role permission)
+    by false e (inl same) (inl one) =
+        let is = lt-ltb other r.count (omega (arith, h, same)) in
+        let it = lt-ltb more r.permissions (omega (arith, l, one)) in
+        let may : may_grant r other more ≡ true = rw (is, it) refl in
+        absurd (cc)
+    by false e (inr apart) _ =
+        let no = ne_eqb role other apart in rw no (none (r.granted role permission))
+    by false e (inl same) (inr apart) =
+        let is = eq-eqb role other same in
+        let no = ne_eqb permission more apart in rw (is, no) (none (r.granted role permission))
+granted_one r (Inherit other parent) role permission h l = by (may_inherit r other parent)
+  where
+    none : (a : Bool) → a ≡ (a || false)
+    none true = refl
+    none false = refl
+
+    by : (b : Bool) → (cond b (with_parent r other parent) r).granted role permission
+        ≡ (r.granted role permission || false)
+    by true = none (r.granted role permission)
+    by false = none (r.granted role permission)
+
+-- a request keeps how many roles and permissions there are
+same_counts : (r : Roles) (request : Request) →
+    ((roles_after r request).count ≡ r.count) × ((roles_after r request).permissions ≡ r.permissions)
+same_counts r (Grant role permission) = by (may_grant r role permission)
+  where
+    by : (b : Bool) → ((cond b (with_granted r role permission) r).count ≡ r.count)
+        × ((cond b (with_granted r role permission) r).permissions ≡ r.permissions)
+    by true = (refl, refl)
+    by false = (refl, refl)
+same_counts r (Inherit role parent) = by (may_inherit r role parent)
+  where
+    by : (b : Bool) → ((cond b (with_parent r role parent) r).count ≡ r.count)
+        × ((cond b (with_parent r role parent) r).permissions ≡ r.permissions)
+    by true = (refl, refl)
+    by false = (refl, refl)
+
+either : (a b c : Bool) → ((a || b) || c) ≡ (a || (b || c))
+either true b c = refl
+either false b c = refl
+
+-- what a list of requests grants
+pub granted_run : (r : Roles) (requests : List Request) (role permission : ℕ) → role < r.count →
+    permission < r.permissions → (final_roles r requests).granted role permission
+    ≡ (r.granted role permission || list_any (grants role permission) requests)
+unfolding final_roles
+granted_run r [] role permission h l = by (r.granted role permission)
+  where
+    by : (a : Bool) → a ≡ (a || false)
+    by true = refl
+    by false = refl
+granted_run r (request ∷ requests) role permission h l =
+    let same = same_counts r request in
+    granted_run (roles_after r request) requests role permission
+    (omega (arith, h, same.0)) (omega (arith, l, same.1))
+    ∙ ap (λ b. b || list_any (grants role permission) requests)
+    (granted_one r request role permission h l)
+    ∙ either (r.granted role permission) (grants role permission request)
+    (list_any (grants role permission) requests)

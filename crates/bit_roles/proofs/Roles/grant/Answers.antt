@@ -1,0 +1,18 @@
+use Rattle.std.proofs.Common.{◌<◌, get_or, length, arith}
+use Rattle.std.proofs.lemmas.Option.{slice_get-get_or}
+use Rattle.bittle.specs.Values.{set_in}
+use Rattle.bit_roles.proofs.Rows.{row_granted}
+use Rattle.bit_roles.proofs.Roles.grant.Goals as goal
+
+pub returns-clause-roles : goal.returns-clause-roles
+returns-clause-roles g c =
+    let granted = c.args.self.now.granted in
+    let set = get_or granted c.args.role c.index-self-role.result in
+    let capacity = g.met.B.BitsOwned.one_capacity set in
+    let bits = c.bits.ensures.value c.args.self.now.fits in
+    let inside : c.args.role < length granted = omega arith in
+    row_granted g.row.N _ (set_in g.B.Shape g.B.Order.Endian) granted c.args.self.now.parents
+    c.args.role c.args.permission set c.set_bit.new.self inside
+    (slice_get-get_or granted c.args.role c.index-self-role.result inside) capacity
+    (omega (arith, bits, c.if-permission-bits.false)) (omega (arith, c.if-role.false))
+    c.set_bit.ensures.set

@@ -1,0 +1,101 @@
+-- A row of which one place is written, and what that makes of roles.
+use Rattle.std.proofs.Common.{◌≡◌, ℕ, zero, suc, ◌<◌, ◌⊎◌, Bool, true, false, cond, ◌&&◌, ◌||◌, ◌==◌, nat_lt, Option, Some, None, List, [], ◌∷◌, length, set, inl, inr, refl, sym, ap, ◌∙◌, arith}
+use Rattle.std.specs.Prelude.{slice_get, IfSome}
+use Rattle.bittle.specs.PlainSet.{PlainSet, contains, with_index}
+use Rattle.bittle.proofs.CallerSets.{contains_within, with_index_within}
+use Rattle.bit_roles.specs.Roles.{Roles, roles_of, has_permission, parent_in, may_grant, with_granted}
+use Rattle.std.proofs.lemmas.Bool.{cases_eq, eq-eqb, ne_eqb, lt-ltb}
+
+-- the place that is written has the value
+pub written_same : {X : Type 0} (xs : List X) (i : ℕ) (x : X) → i < length xs →
+    slice_get (set xs i x) i ≡ Some x
+written_same [] i x h = absurd (omega (arith, h))
+written_same (y ∷ ys) zero x h = refl
+written_same (y ∷ ys) (suc i) x h = written_same ys i x (omega (arith, h))
+
+-- and the others stay
+pub written_other : {X : Type 0} (xs : List X) (i j : ℕ) (x : X) → (j ≡ i → ⊥) →
+    slice_get (set xs i x) j ≡ slice_get xs j
+written_other [] i j x n = refl
+written_other (y ∷ ys) zero zero x n = absurd (n refl)
+written_other (y ∷ ys) zero (suc j) x n = refl
+written_other (y ∷ ys) (suc i) zero x n = refl
+written_other (y ∷ ys) (suc i) (suc j) x n = written_other ys i j x (λ e. n (ap suc e))
+
+-- of a permission a test of the set tells whether it is in it
+pub permission_within : {X : Type 0} (set : X → PlainSet) (place : Option X) (x : X)
+    (permission : ℕ) → place ≡ Some x → permission < (set x).capacity →
+    contains (set x) permission ≡ has_permission set place permission
+permission_within set place x permission is h =
+    contains_within (set x) permission h
+    ∙ ap (λ b. b && (set x).has permission) (sym (lt-ltb permission (set x).capacity h))
+    ∙ ap (λ o. has_permission set o permission) (sym is)
+
+-- what is no place has no permission
+pub permission_none : {X : Type 0} (set : X → PlainSet) (place : Option X) (permission : ℕ) →
+    place ≡ None → false ≡ has_permission set place permission
+permission_none set place permission is = ap (λ o. has_permission set o permission) (sym is)
+
+-- a parent that was found has a lesser number, where each has
+pub lesser_found : (parents : List (Option ℕ)) (role : ℕ) (found : Option ℕ) →
+    slice_get parents role ≡ Some found →
+    ((k parent : ℕ) → parent_in (slice_get parents k) ≡ Some parent → parent < k) →
+    IfSome found (λ parent. parent < role)
+lesser_found parents role None is lesser = tt
+lesser_found parents role (Some parent) is lesser = lesser role parent (ap parent_in is)
+
+-- a row of sets in which one has a permission more, at a place that had the set x and has y
+module _ {X : Type 0} (count permissions : ℕ) (set_of : X → PlainSet) (granted : List X)
+    (parents : List (Option ℕ)) (role permission : ℕ) (x y : X) (inside : role < length granted)
+    (at : slice_get granted role ≡ Some x) (capacity : (set_of x).capacity ≡ permissions)
+    (below : permission < permissions) (is_role : role < count)
+    (after : set_of y ≡ with_index (set_of x) permission) where
+  abbrev pub before : Roles
+  before = roles_of count permissions set_of granted parents
+
+  plain : set_of y
+      ≡ record { capacity = (set_of x).capacity; has = λ k. (k == permission) || (set_of x).has k }
+  plain = after ∙ with_index_within (set_of x) permission (omega (arith, below, capacity))
+
+  one_place : (p : ℕ) → (nat_lt p (set_of x).capacity
+      && ((p == permission) || (set_of x).has p))
+      ≡ ((true && (p == permission)) || (nat_lt p (set_of x).capacity && (set_of x).has p))
+  one_place p = elim (cases_eq p permission) [
+    | inl same ↦
+        let is = eq-eqb p permission same in
+        let within = lt-ltb p (set_of x).capacity (omega (arith, same, below, capacity)) in
+        rw (is, within) refl
+    | inr apart ↦ let no = ne_eqb p permission apart in rw no refl
+  ]
+
+  each : (k p : ℕ) → has_permission set_of (slice_get (set granted role y) k) p
+      ≡ (((k == role) && (p == permission)) || has_permission set_of (slice_get granted k) p)
+  each k p = elim (cases_eq k role) [
+    | inl same ↦
+        ap (λ i. has_permission set_of (slice_get (set granted role y) i) p) same
+        ∙ ap (λ o. has_permission set_of o p) (written_same granted role y inside)
+        ∙ ap (λ s. nat_lt p s.capacity && s.has p) plain
+        ∙ one_place p
+        ∙ ap (λ o. (true && (p == permission)) || has_permission set_of o p) (sym at)
+        ∙ ap (λ i. (true && (p == permission)) || has_permission set_of (slice_get granted i) p)
+        (sym same)
+        ∙ ap (λ b. (b && (p == permission)) || has_permission set_of (slice_get granted k) p)
+        (sym (eq-eqb k role same))
+    | inr apart ↦
+        ap (λ o. has_permission set_of o p) (written_other granted role k y apart)
+        ∙ ap (λ b. (b && (p == permission)) || has_permission set_of (slice_get granted k) p)
+        (sym (ne_eqb k role apart))
+  ]
+
+  may : may_grant before role permission ≡ true
+  may = let is = lt-ltb role count is_role in
+      let it = lt-ltb permission permissions below in rw (is, it) refl
+
+  pub row_granted : roles_of count permissions set_of (set granted role y) parents
+      ≡ cond (may_grant before role permission) (with_granted before role permission) before
+  row_granted = (λ i. record {
+    count = count;
+    permissions = permissions;
+    granted = λ k p. each k p i;
+    parent = before.parent;
+  }) ∙ ap (λ b. cond b (with_granted before role permission) before) (sym may)

@@ -1,0 +1,43 @@
+-- What the role machine keeps, whatever is asked of it.
+use Rattle.std.specs.List.{list_any}
+use Rattle.std.specs.Prelude.{◌≡◌, ℕ, suc, ◌<◌, Bool, true, false, ◌&&◌, ◌||◌, ◌==◌, Some, List}
+use Rattle.bit_roles.specs.Roles.{Roles, ancestor, Allows, HasLesserParents, roles_after, final_roles}
+use Rattle.bit_roles.specs.declared.Request.{Request}
+use Rattle.bit_roles.specs.declared.Request.TheVariants.{Grant, Inherit}
+
+-- whether a request grants this permission to this role
+abbrev pub grants : ℕ → ℕ → Request → Bool
+grants role permission (Grant other more) = (role == other) && (permission == more)
+grants role permission (Inherit other parent) = false
+
+-- after a list of requests a role has just the permissions that it had before it and those that the
+-- list grants it
+abbrev pub GrantsAreThoseAskedFor : Type 0
+GrantsAreThoseAskedFor =
+    (r : Roles) (requests : List Request) (role permission : ℕ)
+    → role < r.count
+    → permission < r.permissions
+    → (final_roles r requests).granted role permission
+    ≡ (r.granted role permission || list_any (grants role permission) requests)
+
+-- what is allowed before a grant is allowed after it
+abbrev pub GrantingTakesNothingAway : Type 0
+GrantingTakesNothingAway =
+    (r : Roles) (role permission other allowed : ℕ)
+    → Allows r other allowed
+    → Allows (roles_after r (Grant role permission)) other allowed
+
+-- requests keep that each parent has a lesser number than its role
+abbrev pub ParentsStayLesser : Type 0
+ParentsStayLesser =
+    (r : Roles) (requests : List Request)
+    → HasLesserParents r
+    → HasLesserParents (final_roles r requests)
+
+-- so no chain of parents comes back to the role that it began at
+abbrev pub NoChainComesBack : Type 0
+NoChainComesBack =
+    (r : Roles) (role n : ℕ)
+    → HasLesserParents r
+    → ancestor r role (suc n) ≡ Some role
+    → ⊥

@@ -1,0 +1,109 @@
+-- The role machine: its state is what each role was granted and which parent it has, and each
+-- request has an answer and a next state. A role and a permission are numbers.
+use Rattle.std.specs.List.{fold, scan}
+use Rattle.std.specs.Prelude.{◌≡◌, ℕ, zero, suc, ◌<◌, Bool, true, false, ◌&&◌, ◌||◌, ◌==◌, nat_lt, if◌then◌else◌}
+use Rattle.std.specs.Prelude.{Option, Some, None, List, slice_get}
+use Rattle.bittle.specs.PlainSet.{PlainSet}
+use Rattle.bit_roles.specs.declared.Request.{Request}
+use Rattle.bit_roles.specs.declared.Request.TheVariants.{Grant, Inherit}
+use Rattle.bit_roles.specs.declared.Answer.{Answer}
+use Rattle.bit_roles.specs.declared.Answer.TheVariants.{Done, Refused}
+
+-- how many roles and permissions there are, whether a role was granted a permission, and its parent
+pub record Roles : Type 0 where
+  pub count : ℕ
+  pub permissions : ℕ
+  pub granted : ℕ → ℕ → Bool
+  pub parent : ℕ → Option ℕ
+
+-- the parent of the role that was found
+abbrev pub parent_of : Roles → Option ℕ → Option ℕ
+parent_of r None = None
+parent_of r (Some role) = r.parent role
+
+-- the role that a chain of so many parents leads to
+unfoldable pub ancestor : Roles → ℕ → ℕ → Option ℕ
+ancestor r role zero = Some role
+ancestor r role (suc n) = parent_of r (ancestor r role n)
+
+-- a chain of parents leads to a role that was granted the permission; the role itself is one
+abbrev pub Allows : Roles → ℕ → ℕ → Type 0
+Allows r role permission =
+    (n : ℕ) × (other : ℕ) × (ancestor r role n ≡ Some other) × (r.granted other permission ≡ true)
+
+-- each parent has a lesser number than its role
+abbrev pub HasLesserParents : Roles → Type 0
+HasLesserParents r = (role parent : ℕ) → r.parent role ≡ Some parent → parent < role
+
+-- whether the two are a role and a permission, and whether the two are a role and a parent for it
+abbrev pub may_grant : Roles → ℕ → ℕ → Bool
+may_grant r role permission = nat_lt role r.count && nat_lt permission r.permissions
+
+abbrev pub may_inherit : Roles → ℕ → ℕ → Bool
+may_inherit r role parent = nat_lt role r.count && nat_lt parent role
+
+-- the roles after a role was granted one permission more
+abbrev pub with_granted : Roles → ℕ → ℕ → Roles
+with_granted r role permission = record {
+  count = r.count;
+  permissions = r.permissions;
+  granted = λ k p. ((k == role) && (p == permission)) || r.granted k p;
+  parent = r.parent;
+}
+
+-- the roles after a role was given a parent
+abbrev pub with_parent : Roles → ℕ → ℕ → Roles
+with_parent r role parent = record {
+  count = r.count;
+  permissions = r.permissions;
+  granted = r.granted;
+  parent = λ k. if k == role then Some parent else r.parent k;
+}
+
+-- the answer to a request
+abbrev pub answer_to : Roles → Request → Answer
+answer_to r (Grant role permission) = if may_grant r role permission then Done else Refused
+answer_to r (Inherit role parent) = if may_inherit r role parent then Done else Refused
+
+-- the roles after the request
+abbrev pub roles_after : Roles → Request → Roles
+roles_after r (Grant role permission) = if may_grant r role permission
+    then with_granted r role permission
+    else r
+roles_after r (Inherit role parent) = if may_inherit r role parent
+    then with_parent r role parent
+    else r
+
+-- the answers to a list of requests
+unfoldable pub request_answers : Roles → List Request → List Answer
+request_answers r requests = scan roles_after answer_to r requests
+
+-- the roles after a list of requests
+unfoldable pub final_roles : Roles → List Request → Roles
+final_roles r requests = fold roles_after r requests
+
+-- the roles of two rows, of which the one has a set of permissions and the other a parent for each
+abbrev pub has_permission : {X : Type 0} → (X → PlainSet) → Option X → ℕ → Bool
+has_permission set None permission = false
+has_permission set (Some x) permission = nat_lt permission (set x).capacity && (set x).has permission
+
+abbrev pub parent_in : Option (Option ℕ) → Option ℕ
+parent_in None = None
+parent_in (Some parent) = parent
+
+abbrev pub roles_of : {X : Type 0} → ℕ → ℕ → (X → PlainSet) → List X → List (Option ℕ) → Roles
+roles_of count permissions set granted parents = record {
+  count = count;
+  permissions = permissions;
+  granted = λ role permission. has_permission set (slice_get granted role) permission;
+  parent = λ role. parent_in (slice_get parents role);
+}
+
+-- the roles of which none was granted anything, and none has a parent
+abbrev pub bare_roles : ℕ → ℕ → Roles
+bare_roles count permissions = record {
+  count = count;
+  permissions = permissions;
+  granted = λ role permission. false;
+  parent = λ role. None;
+}

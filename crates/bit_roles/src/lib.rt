@@ -1,0 +1,198 @@
+//! Roles with permissions, where a role inherits from its parent.
+//!
+//! A role is a number below `N`, a permission one below the capacity of the set. A role allows what
+//! it was granted and what its parent allows. A parent has a lesser number than its role, so that no
+//! chain of parents comes back.
+//!
+//! ```rust
+//! use bit_roles::Roles;
+//!
+//! let mut roles = Roles::<u32, 4>::new();
+//! roles.grant(0, 7);                // Ok(())
+//! roles.inherit(3, 0);              // Ok(()): role 3 allows what role 0 allows
+//! roles.allows(3, 7);               // true
+//! roles.allows(2, 7);               // false
+//! roles.inherit(0, 3);              // Err(Refused): 3 is not below 0
+//! ```
+#![tactic(auto)]
+
+ghost use Rattle.std.specs.Prelude.{◌≡◌, ◌<◌, ◌↔◌, length, IfSome, IsOk, IsTrue};
+ghost use Rattle.bittle.specs.Shapes.{Fits};
+ghost use Rattle.bittle.specs.Values.{set_in};
+ghost use Rattle.bit_roles.specs.Roles.{roles_of, bare_roles, Allows, HasLesserParents};
+ghost use Rattle.bit_roles.specs.Roles.{answer_to, roles_after, request_answers, final_roles};
+
+#[doc(hidden)]
+pub mod role_laws;
+
+use bittle::BitsOwned;
+use std::error::Error;
+use std::fmt;
+
+/// A request to roles.
+#[derive(Clone, Copy, Debug, PartialEq, Eq)]
+pub enum Request {
+    /// Grants a role a permission: the role, and the permission.
+    Grant(u32, u32),
+    /// Gives a role a parent: the role, and the parent.
+    Inherit(u32, u32),
+}
+
+/// The answer to a request.
+#[derive(Clone, Copy, Debug, PartialEq, Eq)]
+pub enum Answer {
+    /// It is done.
+    Done,
+    /// Nothing changed: a number is no role, no permission or no parent for the role.
+    Refused,
+}
+
+/// A number is no role, no permission or no parent for the role.
+#[derive(Clone, Copy, Debug, PartialEq, Eq)]
+pub struct Refused;
+
+impl fmt::Display for Refused {
+    ghost use Rattle.std.specs.Prelude.{Some, codes};
+
+    ghost output = { λ _. Some (codes "no such role, permission or parent") };
+
+    fn fmt<W: fmt::Write>(&self, f: &mut fmt::Formatter<W>) -> fmt::Result {
+        f.write_str("no such role, permission or parent")
+    }
+}
+
+impl Error for Refused {}
+
+/// `N` roles, each with a set of permissions that it was granted, and with a parent or none.
+///
+/// The type keeps that the set fits, and that each parent has a lesser number than its role.
+#[derive(Drop)]
+pub struct Roles<B: BitsOwned, const N: usize> {
+    granted: [B; N],
+    parents: [Option<u32>; N],
+    pub ghost fits: { Fits B.indexable B.type_capacity },
+    pub ghost lesser: { HasLesserParents
+        (roles_of N B.type_capacity (set_in B.Shape B.Order.Endian) granted parents) },
+}
+
+impl<B: BitsOwned, const N: usize> Roles<B, N> {
+    /// Returns roles without permissions and parents. The type has to be one that may be indexed:
+    /// `B::bits() < u32::MAX` tells. With capacity 0 there is no permission.
+    pub fn new() -> Roles<B, N>
+        requires { IsTrue B.indexable }
+        ensures { roles_of N B.type_capacity (set_in B.Shape B.Order.Endian)
+            result.granted result.parents ≡ bare_roles N B.type_capacity }
+    {
+        Roles {
+            granted: [B::zeros(); N],
+            parents: [None; N],
+        }
+    }
+
+    /// Grants a role a permission; one that it has stays granted. Where either number is none,
+    /// nothing changes.
+    pub fn grant(&mut self, role: u32, permission: u32) -> Result<(), Refused>
+        ensures done { IsOk result ↔ ((role < N) × (permission < B.type_capacity)) }
+        ensures roles { roles_of N B.type_capacity (set_in B.Shape B.Order.Endian)
+            self.new.granted self.new.parents
+            ≡ roles_after (roles_of N B.type_capacity (set_in B.Shape B.Order.Endian)
+            self.old.granted self.old.parents) (Request.Grant role permission) }
+    {
+        if role as usize >= N || permission >= B::bits() {
+            return Err(Refused);
+        }
+        self.granted[role as usize].set_bit(permission);
+        Ok(())
+    }
+
+    /// Gives a role a parent, in place of the one that it has. Where the role is none or the parent
+    /// has no lesser number, nothing changes.
+    pub fn inherit(&mut self, role: u32, parent: u32) -> Result<(), Refused>
+        ensures done { IsOk result ↔ ((role < N) × (parent < role)) }
+        ensures roles { roles_of N B.type_capacity (set_in B.Shape B.Order.Endian)
+            self.new.granted self.new.parents
+            ≡ roles_after (roles_of N B.type_capacity (set_in B.Shape B.Order.Endian)
+            self.old.granted self.old.parents) (Request.Inherit role parent) }
+    {
+        if role as usize >= N || parent >= role {
+            return Err(Refused);
+        }
+        self.parents[role as usize] = Some(parent);
+        Ok(())
+    }
+
+    /// Returns whether a role itself was granted a permission. What is no role or no permission was
+    /// not.
+    pub fn is_granted(&self, role: u32, permission: u32) -> bool
+        ensures { let roles = roles_of N B.type_capacity (set_in B.Shape B.Order.Endian)
+            self.now.granted self.now.parents in result ≡ roles.granted role permission }
+    {
+        match self.granted.get(role as usize) {
+            Some(set) => permission < B::bits() && set.test_bit(permission),
+            None => false,
+        }
+    }
+
+    /// Returns the parent of a role, or `None` where it has none or is no role.
+    pub fn parent(&self, role: u32) -> Option<u32>
+        ensures value { let roles = roles_of N B.type_capacity (set_in B.Shape B.Order.Endian)
+            self.now.granted self.now.parents in result ≡ roles.parent role }
+        ensures lesser { IfSome result (λ parent. parent < role) }
+    {
+        match self.parents.get(role as usize) {
+            Some(parent) => *parent,
+            None => None,
+        }
+    }
+
+    /// Returns whether a role allows a permission: a chain of parents, from the role itself on, leads
+    /// to a role that was granted it. It asks one bit for each role of the chain.
+    pub fn allows(&self, role: u32, permission: u32) -> bool
+        ensures { IsTrue result ↔ Allows (roles_of N B.type_capacity
+            (set_in B.Shape B.Order.Endian) self.now.granted self.now.parents) role permission }
+    {
+        let mut at = role;
+        while !self.is_granted(at, permission) {
+            match self.parent(at) {
+                Some(parent) => at = parent,
+                None => return false,
+            }
+        }
+        true
+    }
+
+    // Answers one request.
+    fn answer(&mut self, request: Request) -> Answer
+        ensures answer { result ≡ answer_to (roles_of N B.type_capacity
+            (set_in B.Shape B.Order.Endian) self.old.granted self.old.parents) request }
+        ensures roles { roles_of N B.type_capacity (set_in B.Shape B.Order.Endian)
+            self.new.granted self.new.parents
+            ≡ roles_after (roles_of N B.type_capacity (set_in B.Shape B.Order.Endian)
+            self.old.granted self.old.parents) request }
+    {
+        let done = match request {
+            Request::Grant(role, permission) => self.grant(role, permission),
+            Request::Inherit(role, parent) => self.inherit(role, parent),
+        };
+        match done {
+            Ok(()) => Answer::Done,
+            Err(Refused) => Answer::Refused,
+        }
+    }
+
+    /// Serves the requests in turn, and writes an answer to each. There is one place for each
+    /// answer.
+    pub fn serve(&mut self, requests: &[Request], answers: &mut [Answer])
+        requires { length answers.old ≡ length requests.now }
+        ensures answers { answers.new ≡ request_answers (roles_of N B.type_capacity
+            (set_in B.Shape B.Order.Endian) self.old.granted self.old.parents) requests.now }
+        ensures roles { roles_of N B.type_capacity (set_in B.Shape B.Order.Endian)
+            self.new.granted self.new.parents
+            ≡ final_roles (roles_of N B.type_capacity (set_in B.Shape B.Order.Endian)
+            self.old.granted self.old.parents) requests.now }
+    {
+        for i in 0..requests.len() {
+            answers[i] = self.answer(requests[i]);
+        }
+    }
+}

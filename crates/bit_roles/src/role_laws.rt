@@ -1,0 +1,27 @@
+//! The main theorems of roles: what holds of every list of requests. Each function does nothing: its
+//! contract is the law. They rest on the machine of `specs/Roles.antt`, which `serve` runs by its
+//! contract, and on `Allows`, which `allows` answers by its own.
+
+ghost use Rattle.bit_roles.specs.RoleLaws.{GrantsAreThoseAskedFor, GrantingTakesNothingAway};
+ghost use Rattle.bit_roles.specs.RoleLaws.{ParentsStayLesser, NoChainComesBack};
+
+/// States that after a list of requests a role has just the permissions that it had before it and
+/// those that the list grants it.
+pub fn grants_are_those_asked_for()
+    ensures { GrantsAreThoseAskedFor }
+{}
+
+/// States that what is allowed before a grant is allowed after it.
+pub fn granting_takes_nothing_away()
+    ensures { GrantingTakesNothingAway }
+{}
+
+/// States that requests keep that each parent has a lesser number than its role.
+pub fn parents_stay_lesser()
+    ensures { ParentsStayLesser }
+{}
+
+/// States that no chain of parents comes back to the role that it began at.
+pub fn no_chain_comes_back()
+    ensures { NoChainComesBack }
+{}
