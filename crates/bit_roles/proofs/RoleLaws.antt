@@ -169,6 +169,17 @@ granted_one r (Inherit other parent) role permission h l = by (may_inherit r oth
     by true = none (r.granted role permission)
     by false = none (r.granted role permission)
 
+-- a role has what it was just granted
+pub now_granted : (r : Roles) (role permission : ℕ) → role < r.count →
+    permission < r.permissions →
+    (roles_after r (Grant role permission)).granted role permission ≡ true
+now_granted r role permission h l =
+    let is = eq-eqb role role refl in
+    let it = eq-eqb permission permission refl in
+    let both : ((role == role) && (permission == permission)) ≡ true = rw (is, it) refl in
+    granted_one r (Grant role permission) role permission h l
+    ∙ or_right (r.granted role permission) ((role == role) && (permission == permission)) both
+
 -- a request keeps how many roles and permissions there are
 same_counts : (r : Roles) (request : Request) →
     ((roles_after r request).count ≡ r.count) × ((roles_after r request).permissions ≡ r.permissions)

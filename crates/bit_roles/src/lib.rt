@@ -16,7 +16,7 @@
 //! ```
 #![tactic(auto)]
 
-ghost use Rattle.std.specs.Prelude.{◌≡◌, ◌<◌, ◌↔◌, length, IfSome, IsOk, IsTrue};
+ghost use Rattle.std.specs.Prelude.{◌≡◌, ◌<◌, ◌↔◌, length, true, Some, IfSome, IsOk, IsTrue};
 ghost use Rattle.bittle.specs.Shapes.{Fits};
 ghost use Rattle.bittle.specs.Values.{set_in};
 ghost use Rattle.bit_roles.specs.Roles.{roles_of, bare_roles, Allows, HasLesserParents};
@@ -93,6 +93,9 @@ impl<B: BitsOwned, const N: usize> Roles<B, N> {
     /// nothing changes.
     pub fn grant(&mut self, role: u32, permission: u32) -> Result<(), Refused>
         ensures done { IsOk result ↔ ((role < N) × (permission < B.type_capacity)) }
+        ensures granted { let after = roles_of N B.type_capacity (set_in B.Shape B.Order.Endian)
+            self.new.granted self.new.parents in
+            IsOk result → after.granted role permission ≡ true }
         ensures roles { roles_of N B.type_capacity (set_in B.Shape B.Order.Endian)
             self.new.granted self.new.parents
             ≡ roles_after (roles_of N B.type_capacity (set_in B.Shape B.Order.Endian)
@@ -109,6 +112,8 @@ impl<B: BitsOwned, const N: usize> Roles<B, N> {
     /// has no lesser number, nothing changes.
     pub fn inherit(&mut self, role: u32, parent: u32) -> Result<(), Refused>
         ensures done { IsOk result ↔ ((role < N) × (parent < role)) }
+        ensures parent { let after = roles_of N B.type_capacity (set_in B.Shape B.Order.Endian)
+            self.new.granted self.new.parents in IsOk result → after.parent role ≡ Some parent }
         ensures roles { roles_of N B.type_capacity (set_in B.Shape B.Order.Endian)
             self.new.granted self.new.parents
             ≡ roles_after (roles_of N B.type_capacity (set_in B.Shape B.Order.Endian)

@@ -1,6 +1,8 @@
-use Rattle.std.proofs.Common.{◌<◌, get_or, length, arith}
+use Rattle.std.proofs.Common.{◌<◌, get_or, length, ap, ◌∙◌, arith}
 use Rattle.std.proofs.lemmas.Option.{slice_get-get_or}
 use Rattle.bittle.specs.Values.{set_in}
+use Rattle.bit_roles.specs.Roles.{roles_of}
+use Rattle.bit_roles.proofs.RoleLaws.{now_granted}
 use Rattle.bit_roles.proofs.Rows.{row_granted}
 use Rattle.bit_roles.proofs.Roles.grant.Goals as goal
 
@@ -16,3 +18,11 @@ returns-clause-roles g c =
     (slice_get-get_or granted c.args.role c.index-self-role.result inside) capacity
     (omega (arith, bits, c.if-permission-bits.false)) (omega (arith, c.if-role.false))
     c.set_bit.ensures.set
+
+pub returns-clause-granted : goal.returns-clause-granted
+returns-clause-granted g c done =
+    let bits = c.bits.ensures.value c.args.self.now.fits in
+    ap (λ roles. roles.granted c.args.role c.args.permission) (returns-clause-roles g c)
+    ∙ now_granted (roles_of g.row.N g.B.Shape.type_capacity (set_in g.B.Shape g.B.Order.Endian)
+    c.args.self.now.granted c.args.self.now.parents) c.args.role c.args.permission
+    (omega (arith, c.if-role.false)) (omega (arith, bits, c.if-permission-bits.false))
