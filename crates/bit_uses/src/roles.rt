@@ -1,0 +1,52 @@
+//! Roles in the hands of a caller.
+
+ghost use Rattle.std.specs.Prelude.{◌≡◌, length, true};
+ghost use Rattle.bittle.specs.PlainSet.{PlainSet};
+
+use bit_roles::{Refused, Roles};
+use bittle::BitsOwned;
+
+/// Grants a role a permission, and finds it granted if both numbers are one.
+pub fn grant_and_ask<B: BitsOwned, const N: usize>(
+    roles: &mut Roles<B, N>,
+    role: u32,
+    permission: u32,
+) -> bool
+    ensures { result ≡ true }
+{
+    match roles.grant(role, permission) {
+        Ok(()) => roles.is_granted(role, permission),
+        Err(Refused) => true,
+    }
+}
+
+/// Gives a role a parent, and finds it.
+pub fn inherit_and_ask<B: BitsOwned, const N: usize>(
+    roles: &mut Roles<B, N>,
+    role: u32,
+    parent: u32,
+) -> bool
+    ensures { result ≡ true }
+{
+    match roles.inherit(role, parent) {
+        Ok(()) => roles.parent(role) == Some(parent),
+        Err(Refused) => true,
+    }
+}
+
+/// Lets a role inherit from itself, which is refused.
+pub fn inherit_from_itself<B: BitsOwned, const N: usize>(roles: &mut Roles<B, N>, role: u32) -> bool
+    ensures { result ≡ true }
+{
+    roles.inherit(role, role).is_err()
+}
+
+/// Counts the roles above one, in a table of as many places as there are roles.
+pub fn parent_in_table(roles: &Roles<u64, 8>, names: &[u32; 8], role: u32) -> Option<u32> {
+    let parent = roles.parent(role)?;
+    if role < 8 {
+        Some(names[parent as usize])
+    } else {
+        None
+    }
+}
