@@ -8,9 +8,17 @@ mod checks;
 #[cfg(test)]
 mod comparisons;
 #[cfg(test)]
+mod everyday_changes;
+#[cfg(test)]
+mod everyday_pairs;
+#[cfg(test)]
+mod everyday_reads;
+#[cfg(test)]
 mod pages;
 #[cfg(test)]
 mod probe;
+#[cfg(test)]
+mod probe_rows;
 #[cfg(test)]
 mod replays;
 #[cfg(test)]
