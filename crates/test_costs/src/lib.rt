@@ -10,6 +10,8 @@ mod comparisons;
 #[cfg(test)]
 mod everyday_changes;
 #[cfg(test)]
+mod everyday_iterators;
+#[cfg(test)]
 mod everyday_pairs;
 #[cfg(test)]
 mod everyday_reads;
