@@ -34,6 +34,11 @@ abbrev pub listed_three_set : ℕ → ℕ → ℕ → ℕ → PlainSet
 listed_three_set capacity a b c =
     with_index (with_index (with_index (empty_set capacity) a) b) c
 
+-- the set of a capacity that a list of four indexes names
+abbrev pub listed_four_set : ℕ → ℕ → ℕ → ℕ → ℕ → PlainSet
+listed_four_set capacity a b c d =
+    with_index (with_index (with_index (with_index (empty_set capacity) a) b) c) d
+
 -- the set of a capacity that the list `1..=2, 4..=5, 7..9, 10..12` names
 abbrev pub listed_ranges_set : ℕ → PlainSet
 listed_ranges_set capacity =

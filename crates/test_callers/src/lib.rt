@@ -6,6 +6,8 @@
 #[cfg(test)]
 mod checks;
 #[cfg(test)]
+mod debug_texts;
+#[cfg(test)]
 mod error_texts;
 #[cfg(test)]
 mod requests;

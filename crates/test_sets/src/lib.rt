@@ -6,6 +6,8 @@ mod checks;
 #[cfg(test)]
 mod comparisons;
 #[cfg(test)]
+mod run_texts;
+#[cfg(test)]
 mod sets;
 #[cfg(test)]
 mod texts;

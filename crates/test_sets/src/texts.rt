@@ -47,6 +47,14 @@ fn a_text_names_members_of_each_length(rt: HostRuntime) -> Result<(), Fail> {
 }
 
 #[test]
+fn a_text_names_members_of_six_digits(rt: HostRuntime) -> Result<(), Fail> {
+    let set: Set<[u64; 1_600]> = set![9, 12_345, 99_999, 100_000, 102_399];
+    let text = "{9, 12345, 99999, 100000, 102399}";
+    reads(&rt, rt.alloc(), &set, text)?;
+    Ok(())
+}
+
+#[test]
 fn the_text_of_a_full_set(rt: HostRuntime) -> Result<(), Fail> {
     let mut expected = format!(in rt.alloc(); "{{0")?;
     for index in 1..128u32 {

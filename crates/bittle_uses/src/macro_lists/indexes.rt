@@ -1,6 +1,6 @@
 //! Uses of each macro with indexes alone, of which each form stands beside one of its own.
 
-ghost use Rattle.std.specs.Prelude.{◌≡◌, IsTrue};
+ghost use Rattle.std.specs.Prelude.{◌≡◌, ◌+◌, ◌<◌, IsTrue, slice_index};
 ghost use Rattle.bittle.specs.Values.{set_mirrored};
 ghost use Rattle.bittle_uses.specs.MacroLists.{AreListed, listed_two_set, listed_three_set};
 
@@ -18,6 +18,28 @@ macro_rules! by_each {
 pub struct Place {
     /// The number.
     pub x: u32,
+}
+
+impl Place {
+    /// Returns the number.
+    pub fn number(&self) -> u32
+        ensures { result ≡ self.now.x }
+    {
+        self.x
+    }
+}
+
+/// A number that a path names.
+pub mod numbers {
+    /// The number.
+    pub const SEVEN: u32 = 7;
+}
+
+// What a macro makes of its argument.
+macro_rules! its {
+    ($index:expr) => {
+        $index
+    };
 }
 
 /// Returns its argument.
@@ -79,4 +101,61 @@ pub fn listed_casts<B: BitsOwned>(a: u8, b: u8) -> (B, B, B)
         (listed_two_set B.type_capacity a b) }
 {
     by_each![a as u32, b as u32]
+}
+
+/// Lists what a macro makes, a block and an element of an array.
+pub fn listed_groups<B: BitsOwned>(a: u32, b: u32, c: [u32; 1]) -> (B, B, B)
+    requires { IsTrue B.indexable }
+    ensures { AreListed (set_mirrored B.Shape) B.Order.Endian.mirrored result
+        (listed_three_set B.type_capacity a b (slice_index c 0)) }
+{
+    by_each![its!(a), { b }, c[0]]
+}
+
+/// Lists what a reference leads to, a path and a sum.
+pub fn listed_terms<B: BitsOwned>(a: &u32, b: u32) -> (B, B, B)
+    requires indexable { IsTrue B.indexable }
+    requires small { b < 4294967295 }
+    ensures { AreListed (set_mirrored B.Shape) B.Order.Endian.mirrored result
+        (listed_three_set B.type_capacity a.now 7 (1 + b)) }
+{
+    by_each![*a, numbers::SEVEN, 1 + b]
+}
+
+/// Lists two calls of methods beside one another.
+pub fn listed_methods<B: BitsOwned>(p: Place, q: Place) -> (B, B, B)
+    requires { IsTrue B.indexable }
+    ensures { AreListed (set_mirrored B.Shape) B.Order.Endian.mirrored result
+        (listed_two_set B.type_capacity p.x q.x) }
+{
+    by_each![p.number(), q.number()]
+}
+
+/// Lists what a macro makes, and a block, each beside one of its own.
+pub fn listed_groups_twice<B: BitsOwned>(a: u32, b: u32, c: u32) -> (B, B, B)
+    requires { IsTrue B.indexable }
+    ensures { AreListed (set_mirrored B.Shape) B.Order.Endian.mirrored result
+        (listed_four_set B.type_capacity a b c a) }
+{
+    by_each![its!(a), its!(b), { c }, { a }]
+}
+
+/// Lists an element, and what a reference leads to, each beside one of its own.
+pub fn listed_places_twice<B: BitsOwned>(a: [u32; 2], b: &u32, c: &u32) -> (B, B, B)
+    requires { IsTrue B.indexable }
+    ensures { AreListed (set_mirrored B.Shape) B.Order.Endian.mirrored result
+        (listed_four_set B.type_capacity (slice_index a 0) (slice_index a 1) b.now c.now) }
+{
+    by_each![a[0], a[1], *b, *c]
+}
+
+/// Lists a path, and a sum, each beside one of its own.
+pub fn listed_terms_twice<B: BitsOwned>(a: u32, b: u32) -> (B, B, B)
+    requires indexable { IsTrue B.indexable }
+    requires first_small { a < 4294967295 }
+    requires second_small { b < 4294967295 }
+    ensures { AreListed (set_mirrored B.Shape) B.Order.Endian.mirrored result
+        (listed_four_set B.type_capacity 7 7 (1 + a) (1 + b)) }
+{
+    by_each![numbers::SEVEN, numbers::SEVEN, 1 + a, 1 + b]
 }

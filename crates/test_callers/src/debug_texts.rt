@@ -1,0 +1,67 @@
+//! The debug texts of requests, answers and errors of the allocator, and of an allocator's cut text.
+
+use crate::checks::{holds, same};
+use bit_pages::{Answer, NotTaken, Request};
+use std::alloc::{AllocError, Global};
+use std::fmt;
+use std::fmt::{Debug, Write};
+use std::process::Abort;
+use std::test::Fail;
+
+// Asks for the debug text of a value.
+fn reads<T: Debug>(
+    rt: &impl Abort,
+    alloc: Global,
+    value: &T,
+    text: &str,
+) -> Result<(), AllocError> {
+    same!(rt; format!(in alloc; "{value:?}")?.as_str(), text);
+    Ok(())
+}
+
+#[test]
+fn requests_are_named_with_their_page(rt: HostRuntime) -> Result<(), Fail> {
+    reads(&rt, rt.alloc(), &Request::Take, "Take")?;
+    reads(&rt, rt.alloc(), &Request::GiveBack(12), "GiveBack(12)")?;
+    Ok(())
+}
+
+#[test]
+fn answers_are_named_with_their_page(rt: HostRuntime) -> Result<(), Fail> {
+    reads(&rt, rt.alloc(), &Answer::Page(1_000_000), "Page(1000000)")?;
+    reads(&rt, rt.alloc(), &Answer::Full, "Full")?;
+    reads(&rt, rt.alloc(), &Answer::Given, "Given")?;
+    reads(&rt, rt.alloc(), &Answer::NotTaken, "NotTaken")?;
+    Ok(())
+}
+
+#[test]
+fn the_error_of_a_page_that_is_not_taken_is_named(rt: HostRuntime) -> Result<(), Fail> {
+    reads(&rt, rt.alloc(), &NotTaken, "NotTaken")?;
+    same!(rt; format!(in rt.alloc(); "{NotTaken}")?.as_str(), "the page is not taken");
+    Ok(())
+}
+
+// Takes some texts, and then fails.
+#[derive(Drop)]
+struct Short {
+    left: u32,
+}
+
+impl Write for Short {
+    fn write_str(&mut self, _text: &str) -> fmt::Result {
+        if self.left == 0 {
+            return Err(fmt::Error);
+        }
+        self.left -= 1;
+        Ok(())
+    }
+}
+
+#[test]
+fn a_text_that_was_cut_off_is_an_error(rt: HostRuntime) {
+    let mut short = Short { left: 0 };
+    holds!(rt; write!(short, "{:?}", NotTaken).is_err());
+    let mut short = Short { left: 1 };
+    holds!(rt; write!(short, "{:?}", Answer::Page(7)).is_err());
+}
