@@ -86,10 +86,7 @@ fn writes_long_answers_in_17_pieces(rt: HostRuntime) -> Result<(), Fail> {
     for _ in 0..774 {
         script.extend_from_slice(b"ones\n")?;
     }
-    let mut output = Tally {
-        writes: 0,
-        bytes: 0,
-    };
+    let mut output = Tally::new();
     let status = run(&mut Source::new(script.as_slice()), &mut output);
     same!(rt; (status.code(), output.writes, output.bytes), (0, 17, 66_564));
     Ok(())

@@ -8,6 +8,8 @@ mod failures;
 #[cfg(test)]
 mod full_sets;
 #[cfg(test)]
+mod lengths;
+#[cfg(test)]
 mod scripts;
 #[cfg(test)]
 mod streams;

@@ -169,11 +169,26 @@ pub struct Tally {
     pub writes: u32,
     /// How many bytes it took.
     pub bytes: usize,
+    /// Whether each write is interrupted once before it takes a byte.
+    pub stutters: bool,
+}
+
+impl Tally {
+    pub fn new() -> Self {
+        Tally {
+            writes: 0,
+            bytes: 0,
+            stutters: false,
+        }
+    }
 }
 
 impl Write for Tally {
     fn write(&mut self, buf: &[u8]) -> io::Result<usize> {
         self.writes = self.writes.saturating_add(1);
+        if self.stutters && self.writes % 2 == 1 {
+            return Err(Error::from(ErrorKind::Interrupted));
+        }
         self.bytes = self.bytes.saturating_add(buf.len());
         Ok(buf.len())
     }
