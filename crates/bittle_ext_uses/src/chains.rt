@@ -1,6 +1,10 @@
-//! Calls in a chain: what one returns is given to the next, or is an index of a table. Each stands on
-//! what the first call says of its answer, and on nothing else.
+//! Calls in a chain: one call's answer is passed to the next, or indexes a table. No caller has a
+//! proof file.
+//!
+//! Most have no clause of their own. What the check proves of them is that the second call is
+//! allowed, or that the index lies in the table, from the contract of the first call alone.
 
+ghost use Rattle.std.specs.Prelude.{◌<◌, ◌≤◌, ◌×◌, IfSome};
 ghost use Rattle.bittle.specs.Values.{ShapeFits};
 
 use bittle::{Bits, BitsMut};
@@ -134,6 +138,7 @@ pub fn entry_of_count(mask: u64, index: u32, table: &[u32; 65]) -> u32 {
 /// Returns where the run of set bits ends that begins at the next set bit, or `None`.
 pub fn end_of_next_run<B: Bits>(set: &B, from: u32) -> Option<u32>
     requires { ShapeFits B.Shape set.now }
+    ensures { IfSome result (λ end. (from < end) × (end < (B.big set.now).capacity)) }
 {
     let start = set.next_one(from)?;
     set.next_zero(start + 1)
@@ -142,6 +147,7 @@ pub fn end_of_next_run<B: Bits>(set: &B, from: u32) -> Option<u32>
 /// Counts the unset bits between the last two set bits of any set: the one is before the other.
 pub fn count_last_gap<B: Bits>(set: &B) -> u32
     requires { ShapeFits B.Shape set.now }
+    ensures { result ≤ (B.big set.now).capacity }
 {
     match set.last_one() {
         Some(last) => match set.prev_one(last) {

@@ -1,7 +1,7 @@
-//! Indexes from outside, which may be at or past the capacity: nothing wraps. None has a proof file.
+//! Indexes from outside, which may be at or past the capacity: nothing wraps. No caller has a proof
+//! file.
 
-ghost use Rattle.std.specs.Prelude.{◌≡◌, ◌<◌, ◌↔◌, IsTrue, IsOk, IfSome, true, not};
-ghost use Rattle.std.specs.Result.{is_ok};
+ghost use Rattle.std.specs.Prelude.{◌≡◌, ◌*◌, ◌<◌, ◌↔◌, IsTrue, IsOk, IfSome, length, true, false};
 ghost use Rattle.bittle.specs.BitPatterns.{bit_set};
 ghost use Rattle.bittle.specs.PlainSet.{with_index};
 ghost use Rattle.bittle.specs.Values.{set_in, ShapeFits};
@@ -38,7 +38,9 @@ pub fn visit_ends(seen: &mut [u8; 5], ends: &[u32]) -> usize {
 }
 
 /// Returns the weight of a node that was seen.
-pub fn weight_of(seen: u64, weights: &[u32; 64], node: u32) -> u32 {
+pub fn weight_of(seen: u64, weights: &[u32; 64], node: u32) -> u32
+    ensures { (bit_set 64 seen).has node ≡ false → result ≡ 0 }
+{
     if seen.contains_index(node) {
         weights[node as usize]
     } else {
@@ -73,6 +75,8 @@ pub fn set_below(mask: &mut u64, index: u32) -> bool
 }
 
 /// Clears a bit in a slice of any length that fits, or none where the index is past its end.
-pub fn clear_checked(mut words: &mut [u64], index: u32) -> bool {
+pub fn clear_checked(mut words: &mut [u64], index: u32) -> bool
+    ensures { IsTrue result → index < length words.old * 64 }
+{
     words.bits_capacity() < u32::MAX && words.try_clear_bit(index)
 }

@@ -64,7 +64,8 @@ pub fn last_in_window(mask: u64, window: &[u32; 16]) -> u32
     }
 }
 
-/// Marks each entry of a window at an unset bit of a range: no item is before it, and none past it.
+/// Marks each entry of a window at an unset bit of a range. It has no clause of its own: the check
+/// proves that no item lies before the window or past it.
 pub fn mark_free(mask: u64, window: &mut [bool; 16]) {
     for index in mask.iter_zeros_in_range(16, 32) {
         window[index as usize - 16] = true;

@@ -1,4 +1,7 @@
-//! Calls on two sets in a chain: what one returns is given to the next, or is an index of a table.
+//! Calls on two sets in a chain: one call's answer is passed to the next, or indexes a table.
+//!
+//! Those with no clause of their own show that the second call is allowed, or that the index lies in
+//! the table, from the contract of the first call alone.
 
 ghost use Rattle.std.specs.Prelude.{◌≤◌};
 ghost use Rattle.bittle.specs.Values.{ShapeFits};
@@ -36,6 +39,7 @@ pub fn clear_before_common<A: BitsMut, B: Bits>(set: &mut A, other: &B)
 pub fn count_before_alone<A: Bits, B: Bits>(set: &A, other: &B) -> u32
     requires fits { ShapeFits A.Shape set.now }
     requires other_fits { ShapeFits B.Shape other.now }
+    ensures { result ≤ (A.big set.now).capacity }
 {
     match set.first_alone(other) {
         Some(index) => set.within(0, index).count_ones(),
@@ -57,6 +61,8 @@ pub fn counts(one: u64, other: u64) -> (u8, u8, u8)
 }
 
 /// Returns how many indexes of a row are not in another one.
-pub fn others(row: &[u32; 2], other: &u8) -> u32 {
+pub fn others(row: &[u32; 2], other: &u8) -> u32
+    ensures { result ≤ 64 }
+{
     64 - row.count_common(other)
 }

@@ -45,7 +45,7 @@ pub fn counted_twice(mask: u32) -> (usize, usize)
     (count, walk.count())
 }
 
-/// Returns how long the longest run of members is: a run ends past its start.
+/// Returns how long the longest run of members is. The check proves that a run ends past its start.
 pub fn longest(mask: u64) -> u32 {
     let mut longest = 0;
     for run in mask.iter_one_runs() {
@@ -54,14 +54,15 @@ pub fn longest(mask: u64) -> u32 {
     longest
 }
 
-/// Sets each run of a mask in another row: a run ends at most at the capacity.
+/// Sets each run of a mask in another row. The check proves that a run ends at most at the capacity.
 pub fn set_runs(mask: u16, row: &mut [u8; 2]) {
     for run in mask.iter_one_runs() {
         row.set_range(run.start, run.end);
     }
 }
 
-/// Returns the last entry of a table at the start of a run: each start is an index of the table.
+/// Returns the last entry of a table at the start of a run. The check proves that each start is an
+/// index of the table.
 pub fn last_start(mask: u16, table: &[u32; 16]) -> u32 {
     let mut last = 0;
     for run in mask.iter_one_runs() {
