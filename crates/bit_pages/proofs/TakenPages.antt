@@ -1,7 +1,7 @@
 -- A page that is taken or given back, seen in the map.
-use Rattle.std.proofs.Common.{◌≡◌, ℕ, ◌+◌, ◌<◌, true, false, not, ◌&&◌, ◌||◌, ◌==◌, nat_lt, Option, Some, None, refl, sym, ap, ◌∙◌}
+use Rattle.std.proofs.Common.{◌≡◌, ◌≢◌, ℕ, ◌+◌, ◌<◌, true, false, not, ◌&&◌, ◌||◌, ◌==◌, nat_lt, Option, Some, None, refl, sym, ap, ◌∙◌}
 use Rattle.std.specs.Prelude.{MatchOption}
-use Rattle.std.proofs.lemmas.Bool.{eq-eqb, lt-ltb, and_right}
+use Rattle.std.proofs.lemmas.Bool.{and_parts, eq-eqb, ne_eqb, lt-ltb, and_right, or_right}
 use Rattle.bittle.specs.PlainSet.{PlainSet, with_index, without_index, size}
 use Rattle.bittle.proofs.CallerChanges.{size_with, size_without}
 use Rattle.bittle.proofs.CallerSets.{with_index_within, without_index_within}
@@ -36,6 +36,13 @@ module _ (s t : PlainSet) (page : ℕ) (found : least_free s ≡ Some page)
       ∙ ap (λ b. b && ((page == page) || s.has page)) (lt-ltb page s.capacity least.within)
       ∙ ap (λ b. b || s.has page) (eq-eqb page page refl)
 
+  -- what is taken stays so
+  pub stays_taken : (k : ℕ) → is_taken s k ≡ true → is_taken t k ≡ true
+  stays_taken k h =
+      let parts = and_parts (nat_lt k s.capacity) (s.has k) h in
+      ap (λ u. is_taken u k) (after ∙ with_index_within s page least.within)
+      ∙ ap (λ b. b && ((k == page) || s.has k)) parts.0 ∙ or_right (k == page) (s.has k) parts.1
+
   pub one_more : size t ≡ size s + 1
   one_more = ap size after ∙ size_with s page least.within least.is_free
 
@@ -47,6 +54,12 @@ module _ (s t : PlainSet) (page : ℕ) (taken : is_taken s page ≡ true)
       (after ∙ without_index_within s page (taken-within s page taken))
       ∙ ap (λ b. nat_lt page s.capacity && (not b && s.has page)) (eq-eqb page page refl)
       ∙ and_right (nat_lt page s.capacity) false refl
+
+  -- another page stays as it was
+  pub others_stay : (k : ℕ) → k ≢ page → is_taken t k ≡ is_taken s k
+  others_stay k apart =
+      ap (λ u. is_taken u k) (after ∙ without_index_within s page (taken-within s page taken))
+      ∙ ap (λ b. nat_lt k s.capacity && (not b && s.has k)) (ne_eqb k page apart)
 
   pub one_less : size s ≡ size t + 1
   one_less = size_without s page (taken-within s page taken) (taken-member s page taken)

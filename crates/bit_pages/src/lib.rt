@@ -2,7 +2,7 @@
 #![tactic(auto)]
 
 ghost use Rattle.std.specs.Option.{is_some};
-ghost use Rattle.std.specs.Prelude.{◌≡◌, ◌+◌, ◌-◌, ◌<◌, ◌≤◌, ◌↔◌, cond, length, true, false};
+ghost use Rattle.std.specs.Prelude.{◌≡◌, ◌≢◌, ℕ, ◌+◌, ◌-◌, ◌<◌, ◌≤◌, ◌↔◌, cond, length, true, false};
 ghost use Rattle.std.specs.Prelude.{IfSome, IsTrue, IsOk, MatchOption, is_ok};
 ghost use Rattle.bittle.specs.Comparison.{AreSame};
 ghost use Rattle.bittle.specs.PlainSet.{complement, empty_set, size, with_span, without_span};
@@ -113,6 +113,9 @@ impl<B: BitsOwned> Pages<B> {
             (λ page. is_taken (set_in B.Shape B.Order.Endian self.new.map) page ≡ true) }
         ensures count { size (set_in B.Shape B.Order.Endian self.new.map)
             ≡ size (set_in B.Shape B.Order.Endian self.old.map) + cond (is_some result) 1 0 }
+        ensures others { (page : ℕ)
+            → is_taken (set_in B.Shape B.Order.Endian self.old.map) page ≡ true
+            → is_taken (set_in B.Shape B.Order.Endian self.new.map) page ≡ true }
         ensures pages { set_in B.Shape B.Order.Endian self.new.map
             ≡ state_after (set_in B.Shape B.Order.Endian self.old.map) Request.Take }
     {
@@ -133,6 +136,9 @@ impl<B: BitsOwned> Pages<B> {
         ensures free { is_taken (set_in B.Shape B.Order.Endian self.new.map) page ≡ false }
         ensures count { size (set_in B.Shape B.Order.Endian self.old.map)
             ≡ size (set_in B.Shape B.Order.Endian self.new.map) + cond (is_ok result) 1 0 }
+        ensures others { (other : ℕ) → other ≢ page
+            → is_taken (set_in B.Shape B.Order.Endian self.new.map) other
+            ≡ is_taken (set_in B.Shape B.Order.Endian self.old.map) other }
         ensures pages { set_in B.Shape B.Order.Endian self.new.map
             ≡ state_after (set_in B.Shape B.Order.Endian self.old.map) (Request.GiveBack page) }
     {

@@ -4,6 +4,7 @@
 
 ghost use Rattle.bit_pages.specs.PageLaws.{PagesAreLeastFree, FullExactlyIfAllAreTaken};
 ghost use Rattle.bit_pages.specs.PageLaws.{PagesAreGivenBetween, TakenPagesAreGivenFirst};
+ghost use Rattle.bit_pages.specs.CallHistories.{HistoriesAreRuns};
 ghost use Rattle.bit_pages.specs.PageLaws.{AnswersAreOfTheirStates, PagesAreCounted, PagesAreOutstanding};
 
 /// States that each page that is answered is the least of those that were free.
@@ -43,4 +44,10 @@ pub fn taken_pages_are_given_first()
 /// they are the pages which are taken after it.
 pub fn pages_are_outstanding()
     ensures { PagesAreOutstanding }
+{}
+
+/// States that calls of `take` and `give_back` in any sequence, by what the clauses `page`, `taken`
+/// and `pages` of each say, are a run of their requests: each law of runs holds of them.
+pub fn histories_are_runs()
+    ensures { HistoriesAreRuns }
 {}
