@@ -1,0 +1,131 @@
+//! Drawn histories beside a list of every key that was ever given, with its value and whether it
+//! was removed.
+
+ghost use Rattle.std.specs.Prelude.{◌≤◌};
+ghost use Rattle.bittle.specs.Shapes.{Fits};
+
+use crate::checks::holds;
+use bit_slots::{Key, Slot, Slots};
+use bittle::{BitsOwned, LittleEndian, Set};
+
+// The keys that were given, one a step, with their values and whether each is still there.
+#[derive(Drop)]
+struct Given {
+    keys: [Key; 48],
+    values: [u64; 48],
+    there: [bool; 48],
+}
+
+// Returns how many of the keys are still there.
+fn count(given: &Given) -> u32 {
+    let mut count = 0u32;
+    for step in 0..48 {
+        if given.there[step] {
+            count = count.wrapping_add(1);
+        }
+    }
+    count
+}
+
+// Returns whether each key that was ever given finds just what the list says.
+fn agrees<B: BitsOwned>(slots: &Slots<u64, B>, given: &Given) -> bool {
+    for step in 0..48 {
+        let expected = if given.there[step] {
+            Some(given.values[step])
+        } else {
+            None
+        };
+        if slots.get(given.keys[step]).copied() != expected {
+            return false;
+        }
+    }
+    slots.len() == count(given)
+}
+
+// Puts a value in, and returns whether the answer is as the list says of five slots.
+fn put<B: BitsOwned>(
+    slots: &mut Slots<u64, B>,
+    given: &mut Given,
+    step: usize,
+    value: u64,
+) -> bool {
+    match slots.insert(value) {
+        Ok(key) => {
+            let is_new = !given.keys.contains(&key);
+            if step < 48 {
+                given.keys[step] = key;
+                given.values[step] = value;
+                given.there[step] = true;
+            }
+            is_new
+        }
+        Err(back) => back == value && count(given) == 5,
+    }
+}
+
+// Removes the key of a step, and returns whether the answer is as the list says.
+fn cut<B: BitsOwned>(slots: &mut Slots<u64, B>, given: &mut Given, step: usize) -> bool {
+    if 48 <= step {
+        return true;
+    }
+    let expected = if given.there[step] {
+        Some(given.values[step])
+    } else {
+        None
+    };
+    given.there[step] = false;
+    slots.remove(given.keys[step]) == expected
+}
+
+// Returns whether 48 drawn calls on five slots answer as the list says.
+fn drawn<B: BitsOwned>(seed: u64) -> bool
+    requires fits { Fits B.indexable B.type_capacity }
+    requires enough { 5 ≤ B.type_capacity }
+{
+    let none = Key {
+        slot: 9,
+        generation: 9,
+    };
+    let mut given = Given {
+        keys: [none; 48],
+        values: [0; 48],
+        there: [false; 48],
+    };
+    let mut row = [
+        Slot::new(),
+        Slot::new(),
+        Slot::new(),
+        Slot::new(),
+        Slot::new(),
+    ];
+    let mut slots = Slots::<u64, B>::over(row.as_mut_slice());
+    let mut state = seed;
+    let mut right = true;
+    for step in 0..48usize {
+        state = state
+            .wrapping_mul(6_364_136_223_846_793_005)
+            .wrapping_add(1_442_695_040_888_963_407);
+        let answer = if (state >> 33) % 5 < 3 {
+            put(&mut slots, &mut given, step, state)
+        } else {
+            cut(&mut slots, &mut given, ((state >> 40) % 48) as usize)
+        };
+        right = right && answer && agrees(&slots, &given);
+    }
+    right
+}
+
+#[test]
+fn of_a_word(rt: HostRuntime) {
+    holds!(rt; drawn::<u8>(1) && drawn::<u8>(2) && drawn::<u8>(3));
+}
+
+#[test]
+fn of_an_array(rt: HostRuntime) {
+    holds!(rt; drawn::<[u8; 2]>(4) && drawn::<[u8; 2]>(5));
+}
+
+#[test]
+fn of_the_other_order(rt: HostRuntime) {
+    holds!(rt; drawn::<Set<u16, LittleEndian>>(6) && drawn::<Set<u16, LittleEndian>>(7));
+}
