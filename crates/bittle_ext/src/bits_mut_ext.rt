@@ -15,6 +15,7 @@ ghost use Rattle.bittle.specs.Searches.{IsFirstIn, IsLastIn};
 ghost use Rattle.bittle.specs.Values.{set_in, set_mirrored, ShapeFits};
 
 use crate::bits_ext::BitsExt;
+use crate::inserted::insert_each;
 use crate::one_bit;
 use bittle::{BigEndian, BitsMut};
 use bittle_bits::extension::{Difference, SymmetricDifference, Union};
@@ -357,32 +358,34 @@ pub trait BitsMutExt: BitsMut {
         }
     }
 
-    /// Sets the bit at each index that the iterator yields, in the order of the type. An index past
-    /// the capacity wraps. With capacity 0 nothing changes.
+    /// Sets the bit at each index of an array, a `Vec`, a range or an iterator, in the order of the
+    /// type. An index past the capacity wraps. With capacity 0 nothing changes.
     ///
     /// The type has to fit; of a slice its element type. The iterator has to end.
     ///
     /// ```
     /// let mut row = [0u8; 2];
     /// row.extend(0b0010_0001u8.iter_ones());              // row is [0x21, 0x00]
+    /// row.extend([1, 8]);                                 // row is [0x23, 0x01]
     /// ```
     #[inline]
-    final fn extend<I: Iterator<Item = u32>>(&mut self, indexes: I)
+    final fn extend<I: IntoIterator<Item = u32>>(&mut self, indexes: I)
         requires indexable { IsTrue Self.indexable }
-        requires can { I.can_next indexes }
-        requires finite { IsFinite (I.remaining indexes) }
-        ensures set { (items : List ℕ) × Drains I.next_gives indexes items
+        requires can { (iter : I.IntoIter) → I.into_iter_gives indexes iter
+            → I.IntoIter.can_next iter }
+        requires finite { (iter : I.IntoIter) → I.into_iter_gives indexes iter
+            → IsFinite (I.IntoIter.remaining iter) }
+        ensures set { (iter : I.IntoIter) × I.into_iter_gives indexes iter × (items : List ℕ)
+            × Drains I.IntoIter.next_gives iter items
             × (set_in Self.Shape Self.Order.Endian self.new
             ≡ fold with_index (set_in Self.Shape Self.Order.Endian self.old) items) }
-        ensures runs { WholeRun I.next_gives indexes
+        ensures runs { (iter : I.IntoIter) × I.into_iter_gives indexes iter
+            × WholeRun I.IntoIter.next_gives iter
             (λ run. set_in Self.Shape Self.Order.Endian self.new
             ≡ fold with_index (set_in Self.Shape Self.Order.Endian self.old) run.items) }
         ensures stays { Self.loan self.old ≡ Self.loan self.new }
     {
-        let mut rest = indexes;
-        while let Some(index) = rest.next() {
-            self.set_bit_in::<Self::Order>(index);
-        }
+        insert_each::<Self, Self::Order, I::IntoIter>(self, indexes.into_iter());
     }
 
     /// Sets the bits of a range in the order of the type, as

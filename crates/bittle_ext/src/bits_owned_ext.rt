@@ -276,8 +276,8 @@ pub trait BitsOwnedExt: BitsOwned {
         set
     }
 
-    /// Returns the set of the indexes that the iterator yields, in the order of the type. An index
-    /// past the capacity wraps. With capacity 0 the set is empty.
+    /// Returns the set of the indexes of an array, a `Vec`, a range or an iterator, in the order of
+    /// the type. An index past the capacity wraps. With capacity 0 the set is empty.
     ///
     /// The iterator has to end.
     ///
@@ -285,14 +285,18 @@ pub trait BitsOwnedExt: BitsOwned {
     /// <[u8; 2]>::from_iter(6..11);                        // [0xC0, 0x07]
     /// ```
     #[inline]
-    final fn from_iter<I: Iterator<Item = u32>>(indexes: I) -> Self
+    final fn from_iter<I: IntoIterator<Item = u32>>(indexes: I) -> Self
         requires indexable { IsTrue Self.indexable }
-        requires can { I.can_next indexes }
-        requires finite { IsFinite (I.remaining indexes) }
-        ensures set { (items : List ℕ) × Drains I.next_gives indexes items
+        requires can { (iter : I.IntoIter) → I.into_iter_gives indexes iter
+            → I.IntoIter.can_next iter }
+        requires finite { (iter : I.IntoIter) → I.into_iter_gives indexes iter
+            → IsFinite (I.IntoIter.remaining iter) }
+        ensures set { (iter : I.IntoIter) × I.into_iter_gives indexes iter × (items : List ℕ)
+            × Drains I.IntoIter.next_gives iter items
             × (set_in Self.Shape Self.Order.Endian result
             ≡ fold with_index (empty_set Self.type_capacity) items) }
-        ensures runs { WholeRun I.next_gives indexes
+        ensures runs { (iter : I.IntoIter) × I.into_iter_gives indexes iter
+            × WholeRun I.IntoIter.next_gives iter
             (λ run. set_in Self.Shape Self.Order.Endian result
             ≡ fold with_index (empty_set Self.type_capacity) run.items) }
     {

@@ -45,6 +45,7 @@ mod bits_span_mut_ext;
 mod capacities;
 mod combinations;
 mod counts;
+mod inserted;
 mod one_bit;
 mod other_words;
 pub mod prelude;

@@ -1,18 +1,10 @@
-use Rattle.std.proofs.Common.{◌∙◌, ap, sym, subst}
-use Rattle.std.proofs.iter.runs.Made.{run_of_exit}
-use Rattle.std.specs.List.{fold}
-use Rattle.bittle.specs.PlainSet.{with_index}
-use Rattle.bittle.specs.Values.{set_in}
 use Rattle.bittle_ext.proofs.bits_mut_ext.BitsMutExt.extend.Goals as goal
+
+pub returns-clause-set : goal.returns-clause-set
+returns-clause-set g c =
+    let set = c.insert_each.ensures.set in
+    (c.into_iter.result, c.into_iter.ensures.into_iter_gives, set.0, set.1, set.2)
 
 pub returns-clause-runs : goal.returns-clause-runs
 returns-clause-runs g c =
-    let l = c.loop-index in
-    let run = run_of_exit g.I.Iterator.next_gives _ l.yielded l.rest l.yielded_by c.next.new.self
-    (subst (λ r. g.I.Iterator.next_gives l.rest r c.next.new.self) c.in_default.is c.next.ensures.steps) in (
-      run.0,
-      run.1,
-      run.2,
-      l.invariant.inserted
-          ∙ ap (fold with_index (set_in g.Self.Shape g.Self.Order.Endian c.args.self.now)) (sym run.3.0),
-    )
+    (c.into_iter.result, c.into_iter.ensures.into_iter_gives, c.insert_each.ensures.runs)
