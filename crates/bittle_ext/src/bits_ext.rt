@@ -9,7 +9,7 @@ ghost use Rattle.bittle.specs.Values.{set_in, ShapeFits};
 
 use crate::bits_span_ext::BitsSpanExt;
 use crate::capacities::capacity_of;
-use crate::{ranks, runs};
+use crate::{runs, select};
 use bittle::Bits;
 use bittle_bits::extension::{Ones, Zeros};
 
@@ -202,7 +202,7 @@ pub trait BitsExt: Bits {
             ≡ slice_get (ascending (set_in Self.Shape Self.Order.Endian self.now)) rank }
         ensures below { IfSome result (λ index. index < (Self.big self.now).capacity) }
     {
-        ranks::select::<Self, Self::Order>(self, rank)
+        select::select::<Self, Self::Order>(self, rank)
     }
 
     /// Returns the least index of a set bit in `from..to`, in the order of the type, or `None` if

@@ -52,13 +52,13 @@ pub mod prelude;
 pub mod range_iterators;
 #[doc(hidden)]
 pub mod rank_laws;
-mod ranks;
 mod relations;
 mod rotations;
 pub mod run_iterators;
 #[doc(hidden)]
 pub mod run_laws;
 mod runs;
+mod select;
 mod shifts;
 mod spans;
 pub mod views;

@@ -2,7 +2,7 @@ use Rattle.std.proofs.Common.{◌≡◌, ◌*◌, ap, ◌∙◌, arith}
 use Rattle.bittle.specs.PlainSet.{members_below}
 use Rattle.bittle.specs.Values.{set_in}
 use Rattle.bittle_ext.proofs.RankFacts.{below_zero, end_of_words}
-use Rattle.bittle_ext.proofs.ranks.word_of_rank.Goals as goal
+use Rattle.bittle_ext.proofs.select.word_of_rank.Goals as goal
 
 pub loop-k-init : goal.loop-k-init
 loop-k-init g c =

@@ -2,7 +2,7 @@ use Rattle.std.proofs.Common.{◌≡◌, ◌*◌, ◌+◌, ap, ◌∙◌, arith}
 use Rattle.bittle.specs.Values.{set_in}
 use Rattle.bittle_bits.proofs.Words.{word_ends}
 use Rattle.bittle_ext.proofs.RankFacts.{selected, not_selected}
-use Rattle.bittle_ext.proofs.ranks.select.Goals as goal
+use Rattle.bittle_ext.proofs.select.select.Goals as goal
 
 pub overflow_add-result : goal.overflow_add-result
 overflow_add-result g c =

@@ -3,7 +3,7 @@ use Rattle.bittle.specs.PlainSet.{members_below}
 use Rattle.bittle.specs.Values.{set_in}
 use Rattle.bittle_bits.proofs.MembersBelow.{below_between}
 use Rattle.bittle_ext.proofs.RankFacts.{counted_is_member}
-use Rattle.bittle_ext.proofs.ranks.place_of_rank.Goals as goal
+use Rattle.bittle_ext.proofs.select.place_of_rank.Goals as goal
 
 pub loop-span-preserved : goal.loop-span-preserved
 loop-span-preserved g c =

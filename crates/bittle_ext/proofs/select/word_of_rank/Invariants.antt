@@ -1,7 +1,7 @@
 use Rattle.std.proofs.Common.{◌≡◌, ◌+◌, ◌*◌}
 use Rattle.bittle.specs.Orders.{read_in}
 use Rattle.bittle.specs.PlainSet.{members_below}
-use Rattle.bittle_ext.proofs.ranks.word_of_rank.Given as goal
+use Rattle.bittle_ext.proofs.select.word_of_rank.Given as goal
 
 abbrev pub invariant-loop-k : goal.invariant-loop-k
 invariant-loop-k g l =

@@ -1,6 +1,6 @@
 use Rattle.bittle_bits.proofs.MembersBelow.{below_next_word}
 use Rattle.bittle_bits.proofs.WordSizes.{size-bit_set}
-use Rattle.bittle_ext.proofs.ranks.count_word.Goals as goal
+use Rattle.bittle_ext.proofs.select.count_word.Goals as goal
 
 pub returns : goal.returns
 returns g c =
