@@ -33,11 +33,14 @@
 //! ```
 #![tactic(auto)]
 
+// A file `bits_.._ext` has the extension trait of its name, `views` has the views and their traits,
+// and the other files have the bodies that these pass on to, a subject each.
 mod bits_combine_ext;
 mod bits_ext;
 mod bits_index_ext;
 mod bits_mut_ext;
 mod bits_owned_ext;
+mod bits_range_ext;
 mod bits_relation_ext;
 mod bits_shift_ext;
 mod bits_span_ext;
@@ -68,10 +71,10 @@ pub use bits_ext::BitsExt;
 pub use bits_index_ext::{BitsIndexExt, BitsIndexMutExt};
 pub use bits_mut_ext::BitsMutExt;
 pub use bits_owned_ext::BitsOwnedExt;
+pub use bits_range_ext::BitsRangeExt;
 pub use bits_relation_ext::BitsRelationExt;
 pub use bits_shift_ext::BitsShiftExt;
 pub use bits_span_ext::BitsSpanExt;
 pub use bits_span_mut_ext::BitsSpanMutExt;
-pub use range_iterators::BitsRangeExt;
 pub use views::in_order_mut::BitsMutViewExt;
 pub use views::{BitsViewExt, View};

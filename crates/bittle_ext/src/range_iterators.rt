@@ -1,14 +1,10 @@
-//! Iterators over the set, and over the unset bits of a range.
+//! The iterators over the set, and over the unset bits of a range.
 
 ghost use Rattle.std.specs.Prelude.{◌≡◌, ◌≤◌};
 ghost use Rattle.bittle_ext.specs.RangeMembers.{ListsWithin};
-ghost use Rattle.bittle_ext.specs.Runs.{runs, AreRunsBelow, RunsInOrder, RunsInReverse};
-ghost use Rattle.bittle.specs.PlainSet.{complement};
-ghost use Rattle.bittle.specs.Values.{kind_in, set_in, word_count, ShapeFits};
+ghost use Rattle.bittle.specs.Values.{kind_in, word_count, ShapeFits};
 ghost use Rattle.bittle.specs.Walk.{AreBelow, IsFresh};
 
-use crate::bits_span_ext::BitsSpanExt;
-use crate::run_iterators::{IterOneRuns, IterRuns, IterZeroRuns};
 use crate::views::within::KindWithin;
 use bittle::{Bits, Endian};
 use bittle_bits::extension::{Kind, Ones, OwnedSource, Zeros};
@@ -37,98 +33,3 @@ pub(crate) fn iter_within<'a, B: Bits, E: Endian, K: Kind>(
 {
     IntoIter::new(OwnedSource::new(KindWithin::of(bits, from, to)))
 }
-
-/// Iterators over a range of a set, and over its longest runs of neighbours.
-///
-/// The shape has to fit. A range ends at the capacity where it names more: nothing wraps. The order is
-/// that of the type; a view that [`in_order`](crate::BitsViewExt::in_order) borrows has another one.
-pub trait BitsRangeExt: Bits {
-    /// Returns an iterator over the indexes of the set bits in `from..to`, in the order of the
-    /// type, increasing, from both ends.
-    ///
-    /// The shape has to fit. Past the capacity no bit is set, and a range that runs backwards is
-    /// empty. Only the words of the range are read, each once. With capacity 0 it yields nothing. It
-    /// borrows the set alone, so that it may be returned from a function that borrows the set.
-    ///
-    /// ```
-    /// 0b0110_0010u8.iter_ones_in_range(1, 6);             // yields 1, 5
-    /// ```
-    #[inline]
-    final fn iter_ones_in_range(&self, from: u32, to: u32) -> IterOnesInRange<'_, Self, Self::Order>
-    where
-        Self: Sized,
-        requires { ShapeFits Self.Shape self.now }
-        ensures items { ListsWithin (set_in Self.Shape Self.Order.Endian self.now) from to
-            result.remaining }
-        ensures fresh { IsFresh (word_count Self.Shape self.now) result }
-        ensures below { AreBelow (Self.big self.now).capacity result.remaining }
-    {
-        self.iter_ones_in_span(from..to)
-    }
-
-    /// Returns an iterator over the indexes of the unset bits in `from..to`: past the capacity no bit
-    /// is unset. All else is as with [`iter_ones_in_range`](BitsRangeExt::iter_ones_in_range).
-    ///
-    /// ```
-    /// 0b0110_0010u8.iter_zeros_in_range(1, 5);            // yields 2, 3, 4
-    /// ```
-    #[inline]
-    final fn iter_zeros_in_range(
-        &self,
-        from: u32,
-        to: u32,
-    ) -> IterZerosInRange<'_, Self, Self::Order>
-    where
-        Self: Sized,
-        requires { ShapeFits Self.Shape self.now }
-        ensures items { ListsWithin (complement (set_in Self.Shape Self.Order.Endian self.now)) from
-            to result.remaining }
-        ensures fresh { IsFresh (word_count Self.Shape self.now) result }
-        ensures below { AreBelow (Self.big self.now).capacity result.remaining }
-    {
-        self.iter_zeros_in_span(from..to)
-    }
-
-    /// Returns an iterator over the longest runs of set bits, each a range of indexes, in the order
-    /// of the type, increasing, from both ends.
-    ///
-    /// The shape has to fit. Each step is two searches by whole words. With capacity 0 it yields
-    /// nothing.
-    ///
-    /// ```
-    /// 0b0110_0010u8.iter_one_runs();                      // yields 1..2, 5..7
-    /// ```
-    #[inline]
-    final fn iter_one_runs(&self) -> IterOneRuns<'_, Self, Self::Order>
-    where
-        Self: Sized,
-        requires { ShapeFits Self.Shape self.now }
-        ensures items { result ≡ runs (set_in Self.Shape Self.Order.Endian self.now) }
-        ensures below { AreRunsBelow (Self.big self.now).capacity result }
-        ensures in_order { RunsInOrder }
-        ensures in_reverse { RunsInReverse }
-    {
-        IterRuns::new(self)
-    }
-
-    /// Returns an iterator over the longest runs of unset bits. All else is as with
-    /// [`iter_one_runs`](BitsRangeExt::iter_one_runs).
-    ///
-    /// ```
-    /// 0b0110_0010u8.iter_zero_runs();                     // yields 0..1, 2..5, 7..8
-    /// ```
-    #[inline]
-    final fn iter_zero_runs(&self) -> IterZeroRuns<'_, Self, Self::Order>
-    where
-        Self: Sized,
-        requires { ShapeFits Self.Shape self.now }
-        ensures items { result ≡ runs (complement (set_in Self.Shape Self.Order.Endian self.now)) }
-        ensures below { AreRunsBelow (Self.big self.now).capacity result }
-        ensures in_order { RunsInOrder }
-        ensures in_reverse { RunsInReverse }
-    {
-        IterRuns::new(self)
-    }
-}
-
-impl<B: Bits> BitsRangeExt for B {}
