@@ -2,11 +2,11 @@
 use Rattle.std.proofs.Common.{◌≡◌, ℕ, ◌+◌, ◌-◌, ◌*◌, ◌<◌, ◌≤◌, ◌==◌, ◌^◌, Bool, true, false, cond, not, ◌&&◌, ◌||◌, nat_lt, MatchBool, bit_xor, inl, inr, refl, sym, ap, ◌∙◌, arith}
 use Rattle.std.proofs.Math.Path.{fun_ext}
 use Rattle.std.proofs.lemmas.Bool.{cases_eq, cases_lt, eq-eqb, ne_eqb, lt-ltb, le-ltb, true≢false}
-use Rattle.bittle_bits.specs.BitPatterns.{bit_has, bit_set}
-use Rattle.bittle_bits.specs.Orders.{place, read_in}
-use Rattle.bittle_bits.specs.PlainSet.{PlainSet, contains}
-use Rattle.bittle_bits.specs.SetOperations.{combination_of, just_one}
-use Rattle.bittle_bits.specs.Words.{word_of}
+use Rattle.bittle.specs.BitPatterns.{bit_has, bit_set}
+use Rattle.bittle.specs.Orders.{place, read_in}
+use Rattle.bittle.specs.PlainSet.{PlainSet, contains}
+use Rattle.bittle.specs.SetOperations.{combination_of, just_one}
+use Rattle.bittle.specs.Words.{word_of}
 use Rattle.bittle_bits.proofs.BitSets.{bit_has-below, bit_has-zero, some_digit}
 use Rattle.bittle_bits.proofs.PlaceLemmas.{place-place, place_in_word}
 use Rattle.bittle_bits.proofs.PlainSets.{plain_set}

@@ -3,12 +3,12 @@ use Rattle.std.proofs.Common.{◌≡◌, ℕ, ◌*◌, ◌+◌, ◌/◌, ◌<◌
 use Rattle.std.proofs.Math.Path.{fun_ext}
 use Rattle.std.proofs.Math.Nat.{mul-div_left, mul-le-mul_right}
 use Rattle.std.proofs.lemmas.Bool.{cases_lt, le-ltb}
-use Rattle.bittle_bits.specs.BitPatterns.{bit_set}
+use Rattle.bittle.specs.BitPatterns.{bit_set}
 use Rattle.bittle_bits.specs.LawProofs.{one_word}
-use Rattle.bittle_bits.specs.Orders.{place, read_in}
-use Rattle.bittle_bits.specs.PlainSet.{PlainSet}
-use Rattle.bittle_bits.specs.SetOperations.{combination_of}
-use Rattle.bittle_bits.specs.Words.{word_has, word_of}
+use Rattle.bittle.specs.Orders.{place, read_in}
+use Rattle.bittle.specs.PlainSet.{PlainSet}
+use Rattle.bittle.specs.SetOperations.{combination_of}
+use Rattle.bittle.specs.Words.{word_has, word_of}
 use Rattle.bittle_bits.proofs.BitSets.{no_digits}
 use Rattle.bittle_bits.proofs.PlainSets.{plain_set}
 use Rattle.bittle_bits.proofs.PlaceLemmas.{place_past}

@@ -2,8 +2,8 @@
 use Rattle.std.proofs.Common.{◌≡◌, ℕ, ◌≤◌, false, not, inl, inr, refl, sym, ap, ◌∙◌, arith}
 use Rattle.std.proofs.Math.Path.{fun_ext}
 use Rattle.std.proofs.lemmas.Bool.{cases_lt, lt-ltb, le-ltb}
-use Rattle.bittle_bits.specs.PlainSet.{PlainSet, complement, full_set, lacks, with_span_toggled}
-use Rattle.bittle_bits.specs.SetOperations.{combination_of, combination_has, first_alone}
+use Rattle.bittle.specs.PlainSet.{PlainSet, complement, full_set, lacks, with_span_toggled}
+use Rattle.bittle.specs.SetOperations.{combination_of, combination_has, first_alone}
 use Rattle.bittle_bits.proofs.PlainSets.{plain_set}
 use Rattle.bittle_bits.proofs.Spans.{inside_span, outside_span}
 

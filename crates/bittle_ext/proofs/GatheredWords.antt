@@ -4,10 +4,10 @@ use Rattle.std.specs.List.{list_any}
 use Rattle.std.proofs.Math.Path.{fun_ext}
 use Rattle.std.proofs.lemmas.Bool.{cases_eq, cases_lt, eq-eqb, ne_eqb, lt-ltb, le-ltb, and_right}
 use Rattle.std.proofs.lemmas.List.Folds.{list_any-append}
-use Rattle.bittle_bits.specs.BitPatterns.{bit_set}
-use Rattle.bittle_bits.specs.Orders.{read_in}
-use Rattle.bittle_bits.specs.PlainSet.{PlainSet, ascending, is_in_span, with_index}
-use Rattle.bittle_bits.specs.Words.{word_has, word_of}
+use Rattle.bittle.specs.BitPatterns.{bit_set}
+use Rattle.bittle.specs.Orders.{read_in}
+use Rattle.bittle.specs.PlainSet.{PlainSet, ascending, is_in_span, with_index}
+use Rattle.bittle.specs.Words.{word_has, word_of}
 use Rattle.bittle_bits.proofs.BitSets.{no_digits}
 use Rattle.bittle_bits.proofs.PlainSets.{plain_set}
 use Rattle.bittle_bits.proofs.Spans.{is_in_span-outside, is_in_span-inside}

@@ -2,8 +2,8 @@
 use Rattle.std.proofs.Common.{◌≡◌, ℕ, zero, suc, ◌<◌, ◌≤◌, Bool, true, false, cond, not, ◌&&◌, ◌||◌, IsTrue, inl, inr, refl, sym, ap, ◌∙◌, arith, MatchBool}
 use Rattle.std.proofs.Math.Path.{fun_ext}
 use Rattle.std.proofs.lemmas.Bool.{cases_Bool, cases_eq, cases_lt, lt-ltb, le-ltb, true≢false}
-use Rattle.bittle_bits.specs.PlainSet.{PlainSet, count_below, full_set, size, with_span}
-use Rattle.bittle_bits.specs.SetOperations.{first_alone}
+use Rattle.bittle.specs.PlainSet.{PlainSet, count_below, full_set, size, with_span}
+use Rattle.bittle.specs.SetOperations.{first_alone}
 use Rattle.bittle_bits.proofs.PlainSets.{plain_set}
 use Rattle.bittle_bits.proofs.Spans.{outside_span, inside_span}
 use Rattle.bittle_ext.specs.Between.{combined_within, has_combined, has_below, members_to, Differ}

@@ -3,9 +3,9 @@ use Rattle.std.proofs.Common.{◌≡◌, ℕ, ◌+◌, ◌*◌, ◌/◌, ◌%◌
 use Rattle.std.proofs.Math.Path.{fun_ext}
 use Rattle.std.proofs.lemmas.Nat.{div-add-mod', mod_below}
 use Rattle.std.proofs.lemmas.Bool.{cases_eq, cases_lt, eq-eqb, ne_eqb}
-use Rattle.bittle_bits.specs.BitPatterns.{bit_set}
-use Rattle.bittle_bits.specs.SetOperations.{combination_of}
-use Rattle.bittle_bits.specs.Words.{word_of, ReplacesWord}
+use Rattle.bittle.specs.BitPatterns.{bit_set}
+use Rattle.bittle.specs.SetOperations.{combination_of}
+use Rattle.bittle.specs.Words.{word_of, ReplacesWord}
 use Rattle.bittle_bits.proofs.PlainSets.{plain_set, contains_in, has_with-in, members-past}
 use Rattle.bittle_bits.proofs.SetOperations.{combination-below}
 use Rattle.bittle_bits.proofs.WordOperations.{word_combined}

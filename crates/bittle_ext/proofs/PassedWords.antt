@@ -2,10 +2,10 @@
 use Rattle.std.proofs.Common.{◌≡◌, ℕ, ◌*◌, ◌/◌, ◌%◌, ◌<◌, ◌≤◌, Bool, true, false, cond, not, ◌&&◌, nat_lt, min, max, inl, inr, refl, sym, ap, ◌∙◌, arith}
 use Rattle.std.proofs.Math.Nat.{mul-le-mul_right}
 use Rattle.std.proofs.lemmas.Bool.{cases_lt, and_right}
-use Rattle.bittle_bits.specs.PlainSet.{PlainSet, complement, is_in_span, lacks}
-use Rattle.bittle_bits.specs.Orders.{read_in}
-use Rattle.bittle_bits.specs.Searches.{NoneIn, PassesOver}
-use Rattle.bittle_bits.specs.Walk.{ones_or_zeros}
+use Rattle.bittle.specs.PlainSet.{PlainSet, complement, is_in_span, lacks}
+use Rattle.bittle.specs.Orders.{read_in}
+use Rattle.bittle.specs.Searches.{NoneIn, PassesOver}
+use Rattle.bittle.specs.Walk.{ones_or_zeros}
 use Rattle.bittle_bits.proofs.DecidedWords.{words_make_up}
 use Rattle.bittle_bits.proofs.OnesOrZeros.{passes_in_order}
 use Rattle.bittle_ext.specs.RangeMembers.{kind_within}

@@ -1,8 +1,8 @@
 -- The members of a range of a set: how many there are, and what a list of them has.
 use Rattle.std.proofs.Common.{◌≡◌, ◌⊎◌, ℕ, ◌+◌, ◌-◌, ◌<◌, ◌≤◌, Bool, true, false, ◌&&◌, List, length, get_or, inl, inr, sym, ap, ◌∙◌, subst, arith}
 use Rattle.std.proofs.lemmas.Bool.{cases_lt, true≢false}
-use Rattle.bittle_bits.specs.PlainSet.{PlainSet, ascending, complement, members_below, size}
-use Rattle.bittle_bits.specs.Walk.{ones_or_zeros}
+use Rattle.bittle.specs.PlainSet.{PlainSet, ascending, complement, members_below, size}
+use Rattle.bittle.specs.Walk.{ones_or_zeros}
 use Rattle.bittle_bits.proofs.AscendingLists.{ascending-length}
 use Rattle.bittle_bits.proofs.Counts.{count-add, count-never, count-same}
 use Rattle.bittle_bits.proofs.MembersBelow.{below_between}

@@ -2,8 +2,8 @@
 use Rattle.std.proofs.Common.{◌≡◌, ◌⊎◌, ℕ, ◌-◌, ◌<◌, ◌≤◌, false, ◌&&◌, List, Option, Some, None, inl, inr, refl, sym, ap, ◌∙◌, arith}
 use Rattle.std.proofs.Math.Path.{fun_ext}
 use Rattle.std.proofs.lemmas.Bool.{and_right, cases_lt}
-use Rattle.bittle_bits.specs.PlainSet.{PlainSet, ascending, complement, is_in_span, members_below}
-use Rattle.bittle_bits.specs.Searches.{IsFirstIn, IsLastIn, NoneIn}
+use Rattle.bittle.specs.PlainSet.{PlainSet, ascending, complement, is_in_span, members_below}
+use Rattle.bittle.specs.Searches.{IsFirstIn, IsLastIn, NoneIn}
 use Rattle.bittle_bits.proofs.MembersBelow.{below_between}
 use Rattle.bittle_bits.proofs.PlainSets.{plain_set}
 use Rattle.bittle_bits.proofs.Spans.{is_in_span-inside, is_in_span-outside}

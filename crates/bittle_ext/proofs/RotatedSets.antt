@@ -4,10 +4,10 @@ use Rattle.std.proofs.Math.Path.{fun_ext}
 use Rattle.std.proofs.Math.Nat.{mod-eq_of_lt, add-mod_left, add-mod_right, add-mod-mod, mod-add-mod, add-mul-mod_self_right, mul-le-mul_right}
 use Rattle.std.proofs.lemmas.Nat.{div-add-mod', mod_below, div_below}
 use Rattle.std.proofs.lemmas.Bool.{cases_eq, cases_lt, lt-ltb, le-ltb, lt-leb, le-leb, and_right}
-use Rattle.bittle_bits.specs.BitPatterns.{bit_set}
+use Rattle.bittle.specs.BitPatterns.{bit_set}
 use Rattle.bittle.specs.Orders.{read_in}
 use Rattle.bittle.specs.PlainSet.{PlainSet, contains, empty_set, without_span}
-use Rattle.bittle_bits.specs.Words.{word_of, ReplacesWord}
+use Rattle.bittle.specs.Words.{word_of, ReplacesWord}
 use Rattle.bittle_bits.proofs.PlainSets.{plain_set}
 use Rattle.bittle_bits.proofs.RowWords.{words_each}
 use Rattle.bittle_bits.proofs.Spans.{outside_span, inside_span}

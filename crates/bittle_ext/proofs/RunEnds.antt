@@ -5,9 +5,9 @@ use Rattle.std.specs.Prelude.{⊤, slice_index_or}
 use Rattle.std.specs.Iterator.{YieldsFirst, YieldsLast}
 use Rattle.std.proofs.iter.runs.Sources.{from_front, from_back, as_is, as_is_back}
 use Rattle.std.specs.declared.ops.Range.{Range}
-use Rattle.bittle_bits.specs.PlainSet.{PlainSet}
-use Rattle.bittle_bits.specs.Searches.{NoneIn, IsFirstIn, IsLastIn}
-use Rattle.bittle_bits.specs.Walk.{ones_or_zeros}
+use Rattle.bittle.specs.PlainSet.{PlainSet}
+use Rattle.bittle.specs.Searches.{NoneIn, IsFirstIn, IsLastIn}
+use Rattle.bittle.specs.Walk.{ones_or_zeros}
 use Rattle.bittle_bits.proofs.OnesOrZeros.{ones_or_zeros-capacity}
 use Rattle.bittle_ext.specs.RangeMembers.{HasAllIn}
 use Rattle.bittle_ext.specs.Runs.{run, joined, runs_from, runs_between, runs, AreRunsBelow, EndsRun, BeginsRun, RunsInOrder, RunsInReverse}

@@ -3,8 +3,8 @@ use Rattle.std.proofs.Common.{◌≡◌, ℕ, zero, suc, ◌+◌, ◌-◌, ◌<�
 use Rattle.std.proofs.lemmas.Bool.{cases_Bool, cases_eq, eq-eqb, ne_eqb, true≢false}
 use Rattle.std.specs.Prelude.{⊤}
 use Rattle.std.specs.declared.ops.Range.{Range}
-use Rattle.bittle_bits.specs.PlainSet.{PlainSet}
-use Rattle.bittle_bits.specs.Searches.{NoneIn}
+use Rattle.bittle.specs.PlainSet.{PlainSet}
+use Rattle.bittle.specs.Searches.{NoneIn}
 use Rattle.bittle_ext.specs.RangeMembers.{HasAllIn}
 use Rattle.bittle_ext.specs.Runs.{run, joined, runs_from, runs_between}
 

@@ -1,10 +1,10 @@
 -- Searches that begin or end past the capacity.
 use Rattle.std.proofs.Common.{◌≡◌, ℕ, ◌*◌, ◌<◌, ◌≤◌, Bool, true, false, not, ◌&&◌, List, [], Option, Some, None, is_some, MatchBool, inl, inr, refl, sym, ap, ◌∙◌, arith, min}
 use Rattle.std.proofs.lemmas.Bool.{cases_lt, le-ltb, and_right, not-false, not-true}
-use Rattle.bittle_bits.specs.PlainSet.{PlainSet, complement, lacks}
+use Rattle.bittle.specs.PlainSet.{PlainSet, complement, lacks}
 use Rattle.bittle_bits.specs.Ends.{IsEndIn}
-use Rattle.bittle_bits.specs.Orders.{read_in}
-use Rattle.bittle_bits.specs.Searches.{NoneIn, IsFirstIn}
+use Rattle.bittle.specs.Orders.{read_in}
+use Rattle.bittle.specs.Searches.{NoneIn, IsFirstIn}
 use Rattle.bittle_bits.proofs.PlainSets.{members-past}
 use Rattle.bittle.proofs.CallerSets.{complement_within}
 use Rattle.bittle_ext.specs.RangeMembers.{EndsAt, HasAllIn, HasSomeIn, LacksSomeIn, TakesEnd}

@@ -3,10 +3,10 @@ use Rattle.std.proofs.Common.{◌≡◌, ℕ, ◌+◌, ◌-◌, ◌*◌, ◌/◌
 use Rattle.std.proofs.Math.Nat.{mul-le-mul_right}
 use Rattle.std.proofs.lemmas.Nat.{div-add-mod'}
 use Rattle.std.proofs.lemmas.Bool.{cases_lt, le-ltb, lt-leb, le-leb}
-use Rattle.bittle_bits.specs.BitPatterns.{bit_set}
-use Rattle.bittle_bits.specs.Orders.{place, read_in}
-use Rattle.bittle_bits.specs.PlainSet.{PlainSet}
-use Rattle.bittle_bits.specs.Words.{word_of}
+use Rattle.bittle.specs.BitPatterns.{bit_set}
+use Rattle.bittle.specs.Orders.{place, read_in}
+use Rattle.bittle.specs.PlainSet.{PlainSet}
+use Rattle.bittle.specs.Words.{word_of}
 use Rattle.bittle_bits.proofs.BitSets.{bit_has-zero}
 use Rattle.bittle_bits.proofs.Words.{digit_at}
 use Rattle.bittle_ext.specs.Rotations.{has_shifted_down, has_shifted_up, IsWindow}

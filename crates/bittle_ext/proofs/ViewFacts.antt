@@ -3,13 +3,13 @@ use Rattle.std.proofs.Common.{◌≡◌, ℕ, ◌+◌, ◌-◌, ◌*◌, ◌%◌
 use Rattle.std.proofs.Math.Nat.{mul-le-mul_right, mul-mod_left}
 use Rattle.std.proofs.Math.Path.{fun_ext}
 use Rattle.std.proofs.lemmas.Bool.{cases_lt, le-ltb, true≢false, eq-eqb, ne_eqb, and_right, not-false, not-true}
-use Rattle.bittle_bits.specs.BitPatterns.{bit_has, bit_set}
-use Rattle.bittle_bits.specs.Orders.{place, read_in}
-use Rattle.bittle_bits.specs.PlainSet.{PlainSet, contains, is_in_span, span_set, size, ascending, ascending_from}
-use Rattle.bittle_bits.specs.Searches.{IsFirstIn, PassesOver}
-use Rattle.bittle_bits.specs.SetOperations.{combination_of}
-use Rattle.bittle_bits.specs.Walk.{ones_or_zeros}
-use Rattle.bittle_bits.specs.Words.{word_has, word_of}
+use Rattle.bittle.specs.BitPatterns.{bit_has, bit_set}
+use Rattle.bittle.specs.Orders.{place, read_in}
+use Rattle.bittle.specs.PlainSet.{PlainSet, contains, is_in_span, span_set, size, ascending, ascending_from}
+use Rattle.bittle.specs.Searches.{IsFirstIn, PassesOver}
+use Rattle.bittle.specs.SetOperations.{combination_of}
+use Rattle.bittle.specs.Walk.{ones_or_zeros}
+use Rattle.bittle.specs.Words.{word_has, word_of}
 use Rattle.bittle_bits.proofs.AscendingLists.{ascending_from-add, ascending_from-none}
 use Rattle.bittle_bits.proofs.BitSets.{no_digits}
 use Rattle.bittle_bits.proofs.OnesOrZeros.{ones_or_zeros-members}

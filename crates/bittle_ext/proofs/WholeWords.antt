@@ -1,8 +1,8 @@
 -- Where a set has no members.
 use Rattle.std.proofs.Common.{◌≡◌, ◌↔◌, ◌==◌, ℕ, Bool, true, false, inl, inr, IsTrue, not, Option, Some, None, is_some, refl, sym, ◌∙◌, arith}
 use Rattle.std.proofs.lemmas.Bool.{cases_Bool, cases_eq, eq-eqb, ne_eqb, true≢false}
-use Rattle.bittle_bits.specs.PlainSet.{PlainSet, complement, size}
-use Rattle.bittle_bits.specs.Searches.{IsFirstIn, NoneIn}
+use Rattle.bittle.specs.PlainSet.{PlainSet, complement, size}
+use Rattle.bittle.specs.Searches.{IsFirstIn, NoneIn}
 use Rattle.bittle_bits.proofs.Sizes.{size-complement}
 use Rattle.bittle.proofs.CallerSets.{size_none, size_zero}
 

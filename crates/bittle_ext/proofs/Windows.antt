@@ -6,7 +6,7 @@ use Rattle.std.proofs.Math.Pow.{mod-mod-pow}
 use Rattle.std.proofs.lemmas.Nat.{and_mask, mod_below, mod-pow-add, mul-add-lt, or_shifted, pow_pos, pow-add, shl-shr, shr_split}
 use Rattle.std.proofs.lemmas.Nat.Bits.{bit_at_cat_low, bit_at_cat_high}
 use Rattle.std.proofs.lemmas.Bool.{cases_lt}
-use Rattle.bittle_bits.specs.BitPatterns.{bit_has, bit_set}
+use Rattle.bittle.specs.BitPatterns.{bit_has, bit_set}
 use Rattle.bittle.specs.Orders.{read_in}
 use Rattle.bittle_bits.proofs.BitSets.{bit_has-at}
 use Rattle.bittle_bits.proofs.PlaceLemmas.{mirror_in_word}

@@ -4,10 +4,10 @@ use Rattle.std.proofs.Math.Path.{fun_ext}
 use Rattle.std.proofs.Math.Nat.{mul-le-mul_right}
 use Rattle.std.proofs.lemmas.Nat.{div-add-mod', div_below, mod_below}
 use Rattle.std.proofs.lemmas.Bool.{cases_eq, cases_lt, lt-ltb, le-ltb, lt-leb, le-leb}
-use Rattle.bittle_bits.specs.BitPatterns.{bit_set}
-use Rattle.bittle_bits.specs.Orders.{read_in}
-use Rattle.bittle_bits.specs.PlainSet.{PlainSet}
-use Rattle.bittle_bits.specs.Words.{ReplacesWord}
+use Rattle.bittle.specs.BitPatterns.{bit_set}
+use Rattle.bittle.specs.Orders.{read_in}
+use Rattle.bittle.specs.PlainSet.{PlainSet}
+use Rattle.bittle.specs.Words.{ReplacesWord}
 use Rattle.bittle_bits.proofs.PlainSets.{plain_set, members-past}
 use Rattle.bittle_bits.proofs.Words.{digit_at, same_word}
 

@@ -1,7 +1,7 @@
 //! Sets whose bits are all moved, a word at a time.
 
 ghost use Rattle.std.specs.Prelude.{◌≡◌, ◌+◌, ◌-◌, ◌*◌, ◌^◌, ◌<◌, IsTrue};
-ghost use Rattle.bittle_bits.specs.BitPatterns.{bit_set};
+ghost use Rattle.bittle.specs.BitPatterns.{bit_set};
 ghost use Rattle.bittle_ext.specs.Rotations.{rotated_down, rotated_up, shifted_down, shifted_up};
 ghost use Rattle.bittle_ext.specs.Rotations.{IsWindow, IsWordFrom};
 ghost use Rattle.bittle.specs.Orders.{read_in};

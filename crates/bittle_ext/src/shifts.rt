@@ -2,7 +2,7 @@
 //! up from the last one back, so that a word is read before it is written.
 
 ghost use Rattle.std.specs.Prelude.{◌≡◌, ◌+◌, ◌*◌, ◌<◌, ℕ};
-ghost use Rattle.bittle_bits.specs.BitPatterns.{bit_set};
+ghost use Rattle.bittle.specs.BitPatterns.{bit_set};
 ghost use Rattle.bittle_ext.specs.Rotations.{has_shifted_down, has_shifted_up};
 ghost use Rattle.bittle_ext.specs.Rotations.{shifted_down, shifted_up};
 ghost use Rattle.bittle_ext.specs.Shifts.{has_so_far_below};

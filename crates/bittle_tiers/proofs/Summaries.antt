@@ -6,12 +6,12 @@ use Rattle.std.proofs.Math.Nat.{div-add-mod', div-mul-le_self, le_of_mul-le-mul_
 use Rattle.std.proofs.lemmas.Nat.{div-mul-add, div_below, mod_below}
 use Rattle.std.proofs.lemmas.Bool.{cases_eq, cases_lt, eq-eqb, eqb-true, ne_eqb, lt-ltb, le-ltb, lt-leb, true≢false}
 use Rattle.bittle_bits.specs.Ends.{IsEndIn}
-use Rattle.bittle_bits.specs.Orders.{place, read_in}
-use Rattle.bittle_bits.specs.PlainSet.{PlainSet, count_below, empty_set, full_set, size, complement, has_changed, is_in_span, with_span_changed}
-use Rattle.bittle_bits.specs.Rows.{with_bit}
-use Rattle.bittle_bits.specs.Searches.{NoneIn, PassesOver}
-use Rattle.bittle_bits.specs.Walk.{ones_or_zeros}
-use Rattle.bittle_bits.specs.Words.{word_has, word_of}
+use Rattle.bittle.specs.Orders.{place, read_in}
+use Rattle.bittle.specs.PlainSet.{PlainSet, count_below, empty_set, full_set, size, complement, has_changed, is_in_span, with_span_changed}
+use Rattle.bittle.specs.Rows.{with_bit}
+use Rattle.bittle.specs.Searches.{NoneIn, PassesOver}
+use Rattle.bittle.specs.Walk.{ones_or_zeros}
+use Rattle.bittle.specs.Words.{word_has, word_of}
 use Rattle.bittle_bits.proofs.Counts.{count-never, count-others, count-same, count-some}
 use Rattle.bittle_bits.proofs.OnesOrZeros.{ones_or_zeros-capacity, ones_or_zeros-word_of}
 use Rattle.bittle_bits.proofs.PlaceLemmas.{place_part, place_in_word, place-place}

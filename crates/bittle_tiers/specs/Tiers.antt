@@ -1,8 +1,8 @@
 -- The summary of a set: one number for each word, a member where the word has a bit of a kind.
 use Rattle.std.specs.Prelude.{◌≡◌, ◌≢◌, ℕ, ◌*◌, ◌-◌, ◌<◌, ◌≤◌, Bool, true, false, not, ◌&&◌, ◌==◌, nat_le}
-use Rattle.bittle_bits.specs.PlainSet.{PlainSet, empty_set, full_set, size}
-use Rattle.bittle_bits.specs.Walk.{ones_or_zeros}
-use Rattle.bittle_bits.specs.Words.{word_of}
+use Rattle.bittle.specs.PlainSet.{PlainSet, empty_set, full_set, size}
+use Rattle.bittle.specs.Walk.{ones_or_zeros}
+use Rattle.bittle.specs.Words.{word_of}
 
 -- whether word k of a set has a bit of the kind
 unfoldable pub some_in_word : Bool → ℕ → PlainSet → ℕ → Bool

@@ -2,9 +2,9 @@
 //! summary is of the ones, whatever the kind of the set.
 
 ghost use Rattle.std.specs.Prelude.{◌≡◌};
-ghost use Rattle.bittle_bits.specs.BitPatterns.{bit_set};
-ghost use Rattle.bittle_bits.specs.PlainSet.{empty_set};
-ghost use Rattle.bittle_bits.specs.Rows.{row_set};
+ghost use Rattle.bittle.specs.BitPatterns.{bit_set};
+ghost use Rattle.bittle.specs.PlainSet.{empty_set};
+ghost use Rattle.bittle.specs.Rows.{row_set};
 
 use crate::tiered::Tiered;
 use bittle_bits::bits_owned::BitsOwned;

@@ -4,8 +4,8 @@ ghost use Rattle.std.specs.Cmp.{partial_equiv_from_equiv, on_equiv};
 ghost use Rattle.std.specs.Ordering.{on};
 ghost use Rattle.std.specs.Prelude.{◌≡◌, IsTrue, Some, ⊤};
 ghost use Rattle.bittle.specs.DebugText.{set_text};
-ghost use Rattle.bittle_bits.specs.Rows.{with_bit};
-ghost use Rattle.bittle_bits.specs.Values.{set_in};
+ghost use Rattle.bittle.specs.Rows.{with_bit};
+ghost use Rattle.bittle.specs.Values.{set_in};
 ghost use Rattle.bittle_tiers.specs.Tiers.{can_summarize, Summarizes};
 ghost use Rattle.bittle_tiers.specs.TierLaws.{map_indexable};
 

@@ -1,11 +1,11 @@
 //! The upkeep of a summary: how it is read and written word by word.
 
 ghost use Rattle.std.specs.Prelude.{◌≡◌, ◌≢◌, ℕ, ◌*◌, ◌%◌, ◌<◌, ◌≤◌, ◌==◌, IsTrue};
-ghost use Rattle.bittle_bits.specs.PlainSet.{size};
-ghost use Rattle.bittle_bits.specs.Rows.{with_bit};
-ghost use Rattle.bittle_bits.specs.Searches.{PassesOver};
-ghost use Rattle.bittle_bits.specs.Values.{set_in, ShapeFits};
-ghost use Rattle.bittle_bits.specs.Walk.{ones_or_zeros};
+ghost use Rattle.bittle.specs.PlainSet.{size};
+ghost use Rattle.bittle.specs.Rows.{with_bit};
+ghost use Rattle.bittle.specs.Searches.{PassesOver};
+ghost use Rattle.bittle.specs.Values.{set_in, ShapeFits};
+ghost use Rattle.bittle.specs.Walk.{ones_or_zeros};
 ghost use Rattle.bittle_tiers.specs.Tiers.{even_summary, some_in_word, StopsAtBit};
 ghost use Rattle.bittle_tiers.specs.Tiers.{Summarizes, TellsAround};
 

@@ -2,11 +2,11 @@
 
 ghost use Rattle.std.specs.Prelude.{◌≡◌, ◌*◌, ◌<◌, true, refl};
 ghost use Rattle.std.proofs.Common.{lit<};
-ghost use Rattle.bittle_bits.specs.BitPatterns.{bit_set};
+ghost use Rattle.bittle.specs.BitPatterns.{bit_set};
 ghost use Rattle.bittle_bits.specs.RowLawProofs.{row_has-past, words_of, equal_rows};
 ghost use Rattle.bittle_bits.specs.LawProofs.{bit_has-past, one_word, equal_words};
-ghost use Rattle.bittle_bits.specs.Rows.{row_set};
-ghost use Rattle.bittle_bits.specs.Shapes.{Fits};
+ghost use Rattle.bittle.specs.Rows.{row_set};
+ghost use Rattle.bittle.specs.Shapes.{Fits};
 
 use crate::asked::Asked;
 use bittle::{Bits, BitsMut, BitsOwned, DefaultEndian, Endian};

@@ -3,7 +3,7 @@
 ghost use Rattle.std.specs.Prelude.{◌≡◌, ◌<◌, true, refl};
 ghost use Rattle.std.proofs.Common.{lit<};
 ghost use Rattle.bittle_bits.specs.LawProofs.{bit_has-past, one_word, equal_words};
-ghost use Rattle.bittle_bits.specs.Shapes.{Fits};
+ghost use Rattle.bittle.specs.Shapes.{Fits};
 
 use crate::asked::Asked;
 use bittle::{Bits, BitsMut, BitsOwned, DefaultEndian, Endian};

@@ -2,10 +2,10 @@
 
 ghost use Rattle.std.specs.Prelude.{◌≡◌, ◌+◌, ◌*◌, ◌/◌, ◌<◌, ◌^◌, IfOk, length, map, reverse, true, false};
 ghost use Rattle.std.specs.Int.{w16, cast_unsigned};
-ghost use Rattle.bittle_bits.specs.BitPatterns.{bit_set};
-ghost use Rattle.bittle_bits.specs.Orders.{read_in};
-ghost use Rattle.bittle_bits.specs.PlainSet.{ascending, complement};
-ghost use Rattle.bittle_bits.specs.Rows.{row_set};
+ghost use Rattle.bittle.specs.BitPatterns.{bit_set};
+ghost use Rattle.bittle.specs.Orders.{read_in};
+ghost use Rattle.bittle.specs.PlainSet.{ascending, complement};
+ghost use Rattle.bittle.specs.Rows.{row_set};
 ghost use Rattle.bittle.specs.Values.{set_in, ShapeFits};
 
 use bittle::{Bits, BitsOwned, Endian, LittleEndian, number};

@@ -2,7 +2,7 @@
 //! asked so.
 
 ghost use Rattle.std.specs.Prelude.{◌≡◌, ◌+◌, ◌*◌, ◌<◌, ◌≤◌, ◌==◌, Bool};
-ghost use Rattle.bittle_bits.specs.Searches.{PassesOver};
+ghost use Rattle.bittle.specs.Searches.{PassesOver};
 ghost use Rattle.bittle.specs.PlainSet.{contains, members_below, size};
 ghost use Rattle.bittle.specs.Values.{set_in, set_mirrored, ShapeFits};
 

@@ -1,5 +1,5 @@
 use Rattle.std.proofs.Common.{◌≡◌}
-use Rattle.bittle_bits.specs.BitPatterns.{bit_set}
+use Rattle.bittle.specs.BitPatterns.{bit_set}
 use Rattle.bittle.specs.Orders.{read_in}
 use Rattle.bittle_ext.proofs.GatheredWords.{listed}
 use Rattle.bittle_ext.proofs.other_words.gathered_word.Given as goal

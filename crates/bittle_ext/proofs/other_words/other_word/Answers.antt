@@ -1,6 +1,6 @@
 use Rattle.std.proofs.Common.{◌≡◌, sym, ap, subst, ◌∙◌}
-use Rattle.bittle_bits.specs.BitPatterns.{bit_set}
-use Rattle.bittle_bits.specs.Words.{word_of}
+use Rattle.bittle.specs.BitPatterns.{bit_set}
+use Rattle.bittle.specs.Words.{word_of}
 use Rattle.bittle.specs.Orders.{read_in}
 use Rattle.bittle_ext.proofs.CombinedWords.{word_in_order}
 use Rattle.bittle_ext.proofs.other_words.other_word.Goals as goal

@@ -1,5 +1,5 @@
 use Rattle.std.proofs.Common.{not, ◌==◌, sym, ap, ◌∙◌}
-use Rattle.bittle_bits.specs.PlainSet.{size}
+use Rattle.bittle.specs.PlainSet.{size}
 use Rattle.bittle_bits.proofs.OnesOrZeros.{ones_or_zeros-word_of}
 use Rattle.bittle_bits.proofs.Words.{word_ends}
 use Rattle.bittle_tiers.specs.Tiers.{some_in_word}

@@ -1,7 +1,7 @@
 use Rattle.std.proofs.Common.{◌==◌}
 use Rattle.bittle_bits.proofs.DecidedWords.{words_make_up}
 use Rattle.bittle_bits.proofs.Sizes.{size_in_each_order}
-use Rattle.bittle_bits.specs.PlainSet.{complement}
+use Rattle.bittle.specs.PlainSet.{complement}
 use Rattle.bittle_ext.proofs.WholeWords.{found_none, full_just_where}
 use Rattle.bittle_ext.proofs.views.by_words.is_full.Goals as goal
 

@@ -1,5 +1,5 @@
 use Rattle.std.proofs.Common.{◌<◌, true, sym, ◌∙◌, arith}
-use Rattle.bittle_bits.specs.Values.{set_in}
+use Rattle.bittle.specs.Values.{set_in}
 use Rattle.bittle_tiers.proofs.Summaries.{span_empty, tells_around}
 use Rattle.bittle_tiers.proofs.tiered.TieredBitsMut.assign_range_by_operation.Goals as goal
 

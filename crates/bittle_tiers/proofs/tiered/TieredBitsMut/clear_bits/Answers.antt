@@ -1,5 +1,5 @@
 use Rattle.std.proofs.Common.{not, ap, ◌∙◌}
-use Rattle.bittle_bits.specs.PlainSet.{empty_set}
+use Rattle.bittle.specs.PlainSet.{empty_set}
 use Rattle.bittle_tiers.specs.TierLaws.{summary_reaches}
 use Rattle.bittle_tiers.specs.Tiers.{even_summary}
 use Rattle.bittle_tiers.proofs.Summaries.{empty_tells}

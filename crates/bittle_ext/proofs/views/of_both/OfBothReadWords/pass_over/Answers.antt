@@ -1,7 +1,7 @@
 use Rattle.std.proofs.Common.{◌≡◌, true, false, sym, ap, ◌∙◌, subst}
 use Rattle.bittle.specs.Values.{set_in}
 use Rattle.bittle.specs.PlainSet.{PlainSet}
-use Rattle.bittle_bits.specs.Searches.{PassesOver}
+use Rattle.bittle.specs.Searches.{PassesOver}
 use Rattle.bittle_bits.proofs.OnesOrZeros.{passes_in_order}
 use Rattle.bittle_ext.specs.Views.{decided_until}
 use Rattle.bittle_ext.proofs.PassedWords.{passes_fewer, passes_from, passes_back, passes_nearer, passes_later, passes_read_back}

@@ -1,8 +1,8 @@
 use Rattle.std.proofs.Common.{◌≡◌, ◌*◌, ◌-◌, min, sym, ap, ◌∙◌, arith}
 use Rattle.std.proofs.lemmas.Bool.{eqb-true}
-use Rattle.bittle_bits.specs.BitPatterns.{bit_set}
-use Rattle.bittle_bits.specs.Orders.{read_in}
-use Rattle.bittle_bits.specs.PlainSet.{span_set}
+use Rattle.bittle.specs.BitPatterns.{bit_set}
+use Rattle.bittle.specs.Orders.{read_in}
+use Rattle.bittle.specs.PlainSet.{span_set}
 use Rattle.bittle_bits.proofs.Words.{word_ends}
 use Rattle.bittle_ext.proofs.ViewFacts.{word_within, word_none, word_inside}
 use Rattle.bittle_ext.proofs.views.within.KindWithinReadWords.nth_leaf_word.Goals as goal
