@@ -8,7 +8,7 @@ ghost use Rattle.bittle.specs.PlainSet.{ascending, complement, empty_set, with_i
 ghost use Rattle.bittle.specs.PlainSet.{with_span, without_span, with_span_toggled};
 
 use bittle::{Bits, LittleEndian, Set};
-use bittle_ext::BitsOwnedExt;
+use bittle_ext::{BitsMutExt, BitsOwnedExt};
 
 /// Returns the bits that are unset.
 pub fn others(mask: u8) -> u8
@@ -63,4 +63,34 @@ pub fn changed(mask: u32) -> u32
         ≡ with_span_toggled (without_span (bit_set 32 mask) 4 9) 20 32 }
 {
     mask.without_range(4, 9).with_range_toggled(20, 32)
+}
+
+/// Adds an array of indexes to a word.
+pub fn add_three(mask: &mut u64)
+    ensures { bit_set 64 mask.new
+        ≡ with_index (with_index (with_index (bit_set 64 mask.old) 3) 7) 9 }
+{
+    mask.extend([3u32, 7, 9]);
+}
+
+/// Returns the set of an array.
+pub fn of_array(indexes: [u32; 5]) -> u64
+    ensures { bit_set 64 result ≡ fold with_index (empty_set 64) indexes }
+{
+    u64::from_iter(indexes)
+}
+
+/// Returns the set of a `Vec` of the caller's.
+pub fn of_vec(indexes: Vec<u32>) -> u64
+    ensures { bit_set 64 result ≡ fold with_index (empty_set 64) indexes.items }
+{
+    u64::from_iter(indexes)
+}
+
+/// Returns the word of a set that is borrowed, which is read from the left.
+pub fn of_set(set: &Set<u8, LittleEndian>) -> u64
+    ensures { bit_set 64 result ≡ fold with_index (empty_set 64)
+        (ascending (read_in true 8 (bit_set 8 set.now.bits))) }
+{
+    u64::from_iter(set)
 }

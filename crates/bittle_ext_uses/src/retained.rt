@@ -1,0 +1,50 @@
+//! Closures that are asked of each member: what they read of a table is below the capacity.
+
+ghost use Rattle.std.specs.Prelude.{◌≡◌, ◌*◌, ◌≤◌, length};
+ghost use Rattle.bittle.specs.Values.{ShapeFits};
+ghost use Rattle.bittle_ext.specs.Calls.{IsCallableBelow};
+
+use bittle::{BitsMut, Set};
+use bittle_ext::prelude::*;
+
+/// Keeps the members that a table of as many entries marks.
+pub fn keep_marked(mask: &mut u64, table: &[bool; 64]) {
+    mask.retain(|index| table[index as usize]);
+}
+
+/// Keeps the members whose priority in a table is above a bound.
+pub fn keep_urgent(ready: &mut [u32; 4], priority: &[u8; 128], bound: u8) {
+    ready.retain(|index| priority[index as usize] > bound);
+}
+
+/// Keeps the members that a slice marks, which is long enough.
+pub fn keep_marked_by_slice(mask: &mut u16, table: &[bool])
+    requires { 16 ≤ length table.now }
+{
+    mask.retain(|index| table[index as usize]);
+}
+
+/// Keeps the members that a table marks, and counts how many it was asked of.
+pub fn keep_and_count(mask: &mut u32, table: &[bool; 32]) -> u32 {
+    let mut asked = 0u32;
+    mask.retain(|index| {
+        asked = asked.wrapping_add(1);
+        table[index as usize]
+    });
+    asked
+}
+
+/// Keeps the members that a table marks of a set that is read from the left.
+pub fn keep_marked_le(mask: &mut u8, table: &[bool; 8]) {
+    mask.in_order_mut::<bittle::LittleEndian>()
+        .retain(|index| table[index as usize]);
+}
+
+/// Keeps the members for which a closure of the caller's answers so: it asks of the closure what
+/// `retain` asks.
+pub fn keep_by<B: BitsMut, F: FnMut(u32) -> bool>(set: &mut B, keep: F)
+    requires fits { ShapeFits B.Shape set.old }
+    requires callable { IsCallableBelow (B.big set.old).capacity F.FnMut keep }
+{
+    set.retain(keep);
+}
