@@ -2,12 +2,14 @@
 //!
 //! The stones of a player are a set of squares, which are numbered row by row from 0 to 8. A game
 //! ends with three stones in a line, or with the last free square. What is proved: a move puts one
-//! stone on a square that has none, and changes nothing else.
+//! stone on a square that has none, and changes nothing else; so no square ever has a stone of both
+//! players, and each move leaves one stone more.
 #![tactic(auto)]
 
-ghost use Rattle.std.specs.Prelude.{◌≡◌, ◌||◌, true, false, MatchOption};
+ghost use Rattle.std.specs.Prelude.{◌≡◌, ◌+◌, ◌||◌, true, false, IfSome, MatchOption};
 ghost use Rattle.bittle.specs.BitPatterns.{bit_set};
 ghost use Rattle.bittle.specs.PlainSet.{contains, with_index};
+ghost use Rattle.example_perft.specs.Board.{AreApart, stones};
 
 use bittle::{Bits, BitsOwned};
 use std::io;
@@ -51,11 +53,16 @@ impl Position {
     /// Puts a stone on a square, and the other player is to move. Returns `None` where the square
     /// has a stone.
     fn play(self, square: u32) -> Option<Position>
-        ensures { let taken = contains (bit_set 16 self.mine) square
+        ensures stone { let taken = contains (bit_set 16 self.mine) square
             || contains (bit_set 16 self.theirs) square in
             MatchOption result (taken ≡ true) (λ next. (taken ≡ false)
             × (next.mine ≡ self.theirs)
             × (bit_set 16 next.theirs ≡ with_index (bit_set 16 self.mine) square)) }
+        ensures one_more { IfSome result (λ next.
+            stones (bit_set 16 next.mine) (bit_set 16 next.theirs)
+            ≡ stones (bit_set 16 self.mine) (bit_set 16 self.theirs) + 1) }
+        ensures apart { AreApart (bit_set 16 self.mine) (bit_set 16 self.theirs)
+            → IfSome result (λ next. AreApart (bit_set 16 next.mine) (bit_set 16 next.theirs)) }
     {
         if self.is_taken(square) {
             return None;
