@@ -2,10 +2,10 @@
 use Rattle.std.proofs.Common.{◌≡◌, ℕ, zero, suc, ◌+◌, ◌<◌, ◌≤◌, ◌⊎◌, Bool, true, false, not, cond, ◌&&◌, ◌||◌, ◌==◌, nat_lt, Option, Some, None, List, [], ◌∷◌, inl, inr, refl, sym, ap, ◌∙◌, arith}
 use Rattle.std.specs.List.{count_by, scan}
 use Rattle.std.specs.Prelude.{◌↔◌, MatchOption, slice_get}
-use Rattle.std.proofs.lemmas.Bool.{cases_eq, cases_Bool, cases_lt, eq-eqb, ne_eqb, or_right, and_right, lt-ltb, true≢false}
+use Rattle.std.proofs.lemmas.Bool.{cases_eq, cases_Bool, cases_lt, eq-eqb, ne_eqb, or_right, and_right, true≢false}
 use Rattle.bittle.specs.PlainSet.{PlainSet, members_below}
 use Rattle.bittle.specs.Searches.{NoneIn}
-use Rattle.bit_queue.specs.Queue.{most_urgent, with_task, without_task, woken_or_none, with_woken, runs_or_idle, without_picked, answer_to, state_after, event_answers}
+use Rattle.bit_queue.specs.Queue.{most_urgent, with_task, without_task, with_woken, runs_or_idle, without_picked, answer_to, state_after, event_answers}
 use Rattle.bit_queue.specs.QueueLaws.{IsMostUrgent, IsAnsweredAt, IsWokenFirst, IsWokenBetween, is_next, wakes_more_urgent, RunsIn}
 use Rattle.bit_queue.specs.declared.Answer.{Answer}
 use Rattle.bit_queue.specs.declared.Answer.TheVariants.{Woken, NoTask, Runs, Idle}

@@ -1,7 +1,7 @@
 -- The machine of taking turns: its state is the set of the tasks that are ready and the number that
 -- the turn has come to, which is the one past the task that ran last.
 use Rattle.std.specs.List.{fold, scan}
-use Rattle.std.specs.Prelude.{ℕ, ◌+◌, Bool, ◌&&◌, ◌||◌, nat_le, nat_lt, if◌then◌else◌}
+use Rattle.std.specs.Prelude.{ℕ, ◌+◌, ◌&&◌, nat_le}
 use Rattle.std.specs.Prelude.{Option, Some, None, List}
 use Rattle.bittle.specs.PlainSet.{PlainSet}
 use Rattle.bit_queue.specs.Queue.{most_urgent, without_task, woken_or_none, with_woken, runs_or_idle}

@@ -1,7 +1,7 @@
 -- What follows from the role machine.
 use Rattle.std.proofs.Common.{◌≡◌, ℕ, zero, suc, ◌+◌, ◌<◌, ◌≤◌, ◌⊎◌, Bool, true, false, cond, ◌&&◌, ◌||◌, ◌==◌, nat_lt, Option, Some, None, List, [], ◌∷◌, inl, inr, refl, sym, ap, ◌∙◌, arith}
 use Rattle.std.specs.List.{list_any}
-use Rattle.std.proofs.lemmas.Bool.{cases_eq, cases_Bool, lt-ltb, ltb-true, eq-eqb, ne_eqb, or_right, and_parts}
+use Rattle.std.proofs.lemmas.Bool.{cases_eq, lt-ltb, ltb-true, eq-eqb, ne_eqb, or_right, and_parts}
 use Rattle.bit_roles.specs.Roles.{Roles, parent_of, ancestor, Allows, HasLesserParents, may_grant, may_inherit, with_granted, with_parent, roles_after, final_roles}
 use Rattle.bit_roles.specs.RoleLaws.{grants}
 use Rattle.bit_roles.specs.declared.Request.{Request}

@@ -1,6 +1,6 @@
 -- What the role machine keeps, whatever is asked of it.
 use Rattle.std.specs.List.{list_any}
-use Rattle.std.specs.Prelude.{◌≡◌, ℕ, suc, ◌<◌, Bool, true, false, ◌&&◌, ◌||◌, ◌==◌, Some, List}
+use Rattle.std.specs.Prelude.{◌≡◌, ℕ, suc, ◌<◌, Bool, false, ◌&&◌, ◌||◌, ◌==◌, Some, List}
 use Rattle.bit_roles.specs.Roles.{Roles, ancestor, Allows, HasLesserParents, roles_after, final_roles}
 use Rattle.bit_roles.specs.declared.Request.{Request}
 use Rattle.bit_roles.specs.declared.Request.TheVariants.{Grant, Inherit}

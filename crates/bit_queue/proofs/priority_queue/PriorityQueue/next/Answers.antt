@@ -1,4 +1,4 @@
-use Rattle.std.proofs.Common.{◌≡◌, ◌<◌, Some, None, sym, ap, ◌∙◌, arith}
+use Rattle.std.proofs.Common.{Some, None, sym, ap, ◌∙◌, arith}
 use Rattle.bittle.specs.PlainSet.{PlainSet}
 use Rattle.bittle.specs.Values.{set_in}
 use Rattle.bit_queue.specs.Queue.{without_picked}
