@@ -1,7 +1,8 @@
 //! Hands out runs of neighbouring pages of a pool, and takes them back.
 //!
 //! What is proved: pages that are handed out were free before, all of them and no others are taken
-//! afterwards, and only pages that are taken are given back. So no page is handed out twice.
+//! afterwards, and only pages that are taken are given back. So no page is handed out again before
+//! it was given back.
 #![tactic(auto)]
 
 ghost use Rattle.std.specs.Prelude.{◌≡◌, ◌+◌, ◌≤◌, MatchBool, MatchOption};
