@@ -1,6 +1,6 @@
-//! The main theorems of the queue by urgency: what holds of every list of events. Each function does
-//! nothing: its contract is the law. They rest on the machine of `specs/Queue.antt`, which `serve`
-//! runs by its contract.
+//! The main theorems of the queue by urgency: what holds of every list of events. Each function
+//! does nothing: its contract is the law. They rest on the machine of `specs/Queue.antt`, which
+//! `serve` runs by its contract.
 
 ghost use Rattle.bit_queue.specs.QueueLaws.{MostUrgentRuns, IdleExactlyIfNoneIsReady};
 ghost use Rattle.bit_queue.specs.QueueLaws.{AnswersAreOfTheirStates, RestingTasksAreWokenFirst};

@@ -1,8 +1,8 @@
 //! Roles with permissions, where a role inherits from its parent.
 //!
 //! A role is a number below `N`, a permission one below the capacity of the set. A role allows what
-//! it was granted and what its parent allows. A parent has a lesser number than its role, so that no
-//! chain of parents comes back.
+//! it was granted and what its parent allows. A parent has a lesser number than its role, so that
+//! no chain of parents comes back.
 //!
 //! ```rust
 //! use bit_roles::Roles;
@@ -150,8 +150,8 @@ impl<B: BitsOwned, const N: usize> Roles<B, N> {
         }
     }
 
-    /// Returns whether a role allows a permission: a chain of parents, from the role itself on, leads
-    /// to a role that was granted it. It asks one bit for each role of the chain.
+    /// Returns whether a role allows a permission: a chain of parents, from the role itself on,
+    /// leads to a role that was granted it. It asks one bit for each role of the chain.
     pub fn allows(&self, role: u32, permission: u32) -> bool
         ensures { IsTrue result ↔ Allows (roles_of N B.type_capacity
             (set_in B.Shape B.Order.Endian) self.now.granted self.now.parents) role permission }

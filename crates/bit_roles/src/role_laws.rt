@@ -1,6 +1,6 @@
-//! The main theorems of roles: what holds of every list of requests. Each function does nothing: its
-//! contract is the law. They rest on the machine of `specs/Roles.antt`, which `serve` runs by its
-//! contract, and on `Allows`, which `allows` answers by its own.
+//! The main theorems of roles: what holds of every list of requests. Each function does nothing:
+//! its contract is the law. They rest on the machine of `specs/Roles.antt`, which `serve` runs by
+//! its contract, and on `Allows`, which `allows` answers by its own.
 
 ghost use Rattle.bit_roles.specs.RoleLaws.{GrantsAreThoseAskedFor, GrantingTakesNothingAway};
 ghost use Rattle.bit_roles.specs.RoleLaws.{ParentsStayLesser, NoChainComesBack};

@@ -28,8 +28,8 @@ abbrev pub AnswersBy : {F : Type 0} → (F → ℕ → Bool → F → Type 0) �
 AnswersBy {F} step keep test =
     (i : ℕ) (b : Bool) (next : F) → step keep i b next → (b ≡ test i) × (next ≡ keep)
 
--- a closure was asked of each member of a set, in increasing order, and those of which it said true
--- are the members afterwards
+-- a closure was called for each member of a set, in increasing order, and those for which it
+-- returned true are the members afterwards
 pub record Retains {F : Type 0} (step : F → ℕ → Bool → F → Type 0) (keep : F)
     (before after : PlainSet) : Type 0 where
   pub capacity : after.capacity ≡ before.capacity

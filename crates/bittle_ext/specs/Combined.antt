@@ -24,7 +24,7 @@ first_only_of s t = decided_set first_alone s t
 abbrev pub just_one_of : PlainSet → PlainSet → PlainSet
 just_one_of s t = decided_set just_one s t
 
--- so many are in both sets, of which one has a and one has b: what is left of either, and of both
+-- n members are in both sets, of which the first has a members and the second has b
 pub record CountsBoth (s t : PlainSet) (a b n : ℕ) : Type 0 where
   pub both : n ≡ size (both_of s t)
   pub first_only : size (first_only_of s t) + n ≡ a

@@ -1,4 +1,4 @@
--- Sets whose members are moved where they stand.
+-- Sets whose members are moved in place.
 use Rattle.std.specs.Prelude.{ℕ, ◌-◌, Bool, ◌&&◌, nat_le}
 use Rattle.bittle.specs.PlainSet.{PlainSet}
 

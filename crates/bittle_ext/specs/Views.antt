@@ -27,8 +27,8 @@ has_placed false w s = s.has
 abbrev pub read_back : Bool → ℕ → PlainSet → PlainSet
 read_back mirrored w s = record { capacity = s.capacity; has = has_placed mirrored w s }
 
--- so many numbers are whole words, fit an index, and have all that an operation makes of two sets; and
--- the first set has them all where the operation makes none of what is not in it
+-- so many numbers are whole words, fit an index, and have all that an operation makes of two sets;
+-- and the first set has them all where the operation makes none of what is not in it
 pub record HoldsBoth (decide : Bool → Bool → Bool) (w : ℕ) (s t : PlainSet) (end : ℕ) : Type 0 where
   pub fits : end < 4294967295
   pub whole : end % w ≡ 0

@@ -13,11 +13,11 @@ use crate::{runs, select};
 use bittle::Bits;
 use bittle_bits::extension::{Ones, Zeros};
 
-/// What can be asked of any set beyond the calls of [`Bits`].
+/// Questions about any set, beyond the calls of [`Bits`].
 ///
 /// Of each shape the capacity, and that of each array type within it, has to be below `u32::MAX`,
-/// as `bits_capacity() < u32::MAX` tells. No index wraps here: past the capacity no bit is set and
-/// none is unset. With capacity 0 nothing is found. The order is that of the type; a view that
+/// which `bits_capacity() < u32::MAX` checks. No index wraps here: past the capacity no bit is set
+/// and none is unset. With capacity 0 nothing is found. The order is that of the type; a view that
 /// [`in_order`](crate::BitsViewExt::in_order) borrows has another one.
 pub trait BitsExt: Bits {
     /// Returns the least index of a set bit, in the order of the type, or `None` if there is
@@ -206,8 +206,8 @@ pub trait BitsExt: Bits {
     }
 
     /// Returns the least index of a set bit in `from..to`, in the order of the type, or `None` if
-    /// there is none. A `to` past the capacity means the capacity, and a range that runs backwards is
-    /// empty. Words of the range are read from its first one on, up to the answer.
+    /// there is none. A `to` past the capacity means the capacity, and a range that runs backwards
+    /// is empty. Words of the range are read from its first one on, up to the answer.
     ///
     /// ```
     /// 0b0110_0010u8.first_one_in_range(2, 6);             // Some(5)
@@ -223,8 +223,8 @@ pub trait BitsExt: Bits {
         self.first_one_in_span(from..to)
     }
 
-    /// Returns the least index of an unset bit in `from..to`, in the order of the type, or `None` if
-    /// there is none: past the capacity no bit is unset. All else is as with
+    /// Returns the least index of an unset bit in `from..to`, in the order of the type, or `None`
+    /// if there is none: past the capacity no bit is unset. All else is as with
     /// [`first_one_in_range`](BitsExt::first_one_in_range).
     ///
     /// ```
@@ -242,9 +242,9 @@ pub trait BitsExt: Bits {
         self.first_zero_in_span(from..to)
     }
 
-    /// Returns the greatest index of a set bit in `from..to`, in the order of the type, or `None` if
-    /// there is none. A `to` past the capacity means the capacity, and a range that runs backwards is
-    /// empty. Words of the range are read from its last one back, down to the answer.
+    /// Returns the greatest index of a set bit in `from..to`, in the order of the type, or `None`
+    /// if there is none. A `to` past the capacity means the capacity, and a range that runs
+    /// backwards is empty. Words of the range are read from its last one back, down to the answer.
     ///
     /// ```
     /// 0b0110_0010u8.last_one_in_range(0, 6);              // Some(5)
@@ -260,8 +260,8 @@ pub trait BitsExt: Bits {
         self.last_one_in_span(from..to)
     }
 
-    /// Returns the greatest index of an unset bit in `from..to`, in the order of the type, or `None`
-    /// if there is none: past the capacity no bit is unset. All else is as with
+    /// Returns the greatest index of an unset bit in `from..to`, in the order of the type, or
+    /// `None` if there is none: past the capacity no bit is unset. All else is as with
     /// [`last_one_in_range`](BitsExt::last_one_in_range).
     ///
     /// ```

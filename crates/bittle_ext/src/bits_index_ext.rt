@@ -63,10 +63,10 @@ pub trait BitsIndexExt: Bits {
 ///
 /// An index past the capacity is refused: nothing changes, and the answer says so. The shape has to
 /// fit. The order is that of the type; a view that
-/// [`in_order_mut`](crate::BitsMutViewExt::in_order_mut) lends has another one.
+/// [`in_order_mut`](crate::BitsMutViewExt::in_order_mut) borrows has another one.
 pub trait BitsIndexMutExt: BitsMut {
-    /// Sets the bit at `index` and returns `true`, or changes nothing and returns `false` if `index`
-    /// is at or past the capacity, as each is with capacity 0.
+    /// Sets the bit at `index` and returns `true`, or changes nothing and returns `false` if
+    /// `index` is at or past the capacity, as each is with capacity 0.
     ///
     /// ```
     /// let mut word = 0b0001u8;

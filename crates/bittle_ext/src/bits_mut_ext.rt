@@ -20,9 +20,9 @@ use crate::one_bit;
 use bittle::{BigEndian, BitsMut};
 use bittle_bits::extension::{Difference, SymmetricDifference, Union};
 
-/// Everyday changes of any set that can be changed. No change alters the capacity. The order is that
-/// of the type; a view that [`in_order_mut`](crate::BitsMutViewExt::in_order_mut) lends has another
-/// one.
+/// Everyday changes of any set that can be changed. No change alters the capacity. The order is
+/// that of the type; a view that [`in_order_mut`](crate::BitsMutViewExt::in_order_mut) borrows has
+/// another one.
 pub trait BitsMutExt: BitsMut {
     /// Sets the bit at `index`, in the order of the type, and returns `true` if it was unset. An
     /// index past the capacity wraps. With capacity 0 nothing changes, and it returns `true`.
@@ -310,8 +310,8 @@ pub trait BitsMutExt: BitsMut {
     /// changes.
     ///
     /// The shape has to fit, and `keep` is to be callable at each index below the capacity, again
-    /// after each such call. Each set bit costs a call and a search that begins at its word, each bit
-    /// that goes one write.
+    /// after each such call. Each set bit costs a call and a search that begins at its word, each
+    /// bit that goes one write.
     ///
     /// ```
     /// let mut row = [0x07u8, 0x81];

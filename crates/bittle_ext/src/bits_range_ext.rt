@@ -14,15 +14,16 @@ use bittle::Bits;
 
 /// Iterators over a range of a set, and over its longest runs of neighbours.
 ///
-/// The shape has to fit. A range ends at the capacity where it names more: nothing wraps. The order is
-/// that of the type; a view that [`in_order`](crate::BitsViewExt::in_order) borrows has another one.
+/// The shape has to fit. A range ends at the capacity where it names more: nothing wraps. The order
+/// is that of the type; a view that [`in_order`](crate::BitsViewExt::in_order) borrows has another
+/// one.
 pub trait BitsRangeExt: Bits {
     /// Returns an iterator over the indexes of the set bits in `from..to`, in the order of the
     /// type, increasing, from both ends.
     ///
     /// The shape has to fit. Past the capacity no bit is set, and a range that runs backwards is
-    /// empty. Only the words of the range are read, each once. With capacity 0 it yields nothing. It
-    /// borrows the set alone, so that it may be returned from a function that borrows the set.
+    /// empty. Only the words of the range are read, each once. With capacity 0 it yields nothing.
+    /// It borrows the set alone, so that it may be returned from a function that borrows the set.
     ///
     /// ```
     /// 0b0110_0010u8.iter_ones_in_range(1, 6);             // yields 1, 5
@@ -40,8 +41,8 @@ pub trait BitsRangeExt: Bits {
         self.iter_ones_in_span(from..to)
     }
 
-    /// Returns an iterator over the indexes of the unset bits in `from..to`: past the capacity no bit
-    /// is unset. All else is as with [`iter_ones_in_range`](BitsRangeExt::iter_ones_in_range).
+    /// Returns an iterator over the indexes of the unset bits in `from..to`: past the capacity no
+    /// bit is unset. All else is as with [`iter_ones_in_range`](BitsRangeExt::iter_ones_in_range).
     ///
     /// ```
     /// 0b0110_0010u8.iter_zeros_in_range(1, 5);            // yields 2, 3, 4

@@ -1,4 +1,4 @@
-//! How two sets stand to each other.
+//! Relations of two sets.
 
 ghost use Rattle.std.specs.Prelude.{◌≡◌, ◌↔◌, IsTrue, MatchOption, ◌<◌, ◌≤◌, IfSome, max};
 ghost use Rattle.bittle_ext.specs.Combined.{both_of, first_only_of, just_one_of};
@@ -11,12 +11,12 @@ use crate::counts::count_common;
 use crate::relations;
 use bittle::Bits;
 
-/// What can be asked of two sets, of any two shapes that fit.
+/// Relations of two sets, of any two shapes that fit.
 ///
-/// Each set is read in the order of its type; a view has the order that it names. Words decide where
-/// both sets have words of one width that are read in one order; else searches go on in turns, each
-/// from where the other one stopped. Past its capacity a set has no index, so capacities may differ.
-/// With capacity 0 a set is the empty one.
+/// Each set is read in the order of its type; a view has the order that it names. Words decide
+/// where both sets have words of one width that are read in one order; else searches alternate,
+/// each from where the other one stopped. Past its capacity a set has no index, so capacities may
+/// differ. With capacity 0 a set is the empty one.
 ///
 /// ```
 /// let view = 0x80u8.in_order::<LittleEndian>();

@@ -1,4 +1,5 @@
-//! Reading a range of a set that is written as Rust writes it: `2..7`, `2..=6`, `..7`, `50..`, `..`.
+//! Reading a range of a set that is written as Rust writes it: `2..7`, `2..=6`, `..7`, `50..`,
+//! `..`.
 
 ghost use Rattle.std.specs.Prelude.{◌≡◌, ◌-◌, ◌<◌, ◌≤◌, IfSome, MatchBool};
 ghost use Rattle.std.specs.Range.Bound.{start_index, end_index};
@@ -21,8 +22,8 @@ use std::ops::RangeBounds;
 /// namesake here a range as Rust writes it.
 ///
 /// The shape has to fit. A range ends at the capacity where it names more, and where it names no
-/// end: past the capacity no bit is set and none is unset. A range that runs backwards is empty, and
-/// an `a..=b` that was iterated is none of these. The order is that of the type; a view that
+/// end: past the capacity no bit is set and none is unset. A range that runs backwards is empty,
+/// and an `a..=b` that was iterated is none of these. The order is that of the type; a view that
 /// [`in_order`](crate::BitsViewExt::in_order) borrows has another one.
 pub trait BitsSpanExt: Bits {
     /// Returns how many bits of the range are set. Each word of the range is counted at once. With
@@ -50,8 +51,8 @@ pub trait BitsSpanExt: Bits {
         self.count_ones_in_range_in::<Self::Order>(start, end)
     }
 
-    /// Returns how many bits of the range are unset. Each word of the range is counted at once. With
-    /// capacity 0 it returns 0.
+    /// Returns how many bits of the range are unset. Each word of the range is counted at once.
+    /// With capacity 0 it returns 0.
     ///
     /// ```
     /// 0b0110_0010u8.count_zeros_in_span(2..);             // 4: bits 2, 3, 4 and 7
@@ -96,8 +97,8 @@ pub trait BitsSpanExt: Bits {
         self.first_one_in::<Self::Order>(start, end)
     }
 
-    /// Returns the least index of an unset bit in the range, or `None` if there is none. Words of the
-    /// range are read from its first one on, up to the answer.
+    /// Returns the least index of an unset bit in the range, or `None` if there is none. Words of
+    /// the range are read from its first one on, up to the answer.
     ///
     /// ```
     /// 0b0110_0110u8.first_zero_in_span(1..=6);            // Some(3)
@@ -118,8 +119,8 @@ pub trait BitsSpanExt: Bits {
         self.first_zero_in::<Self::Order>(start, end)
     }
 
-    /// Returns the greatest index of a set bit in the range, or `None` if there is none. Words of the
-    /// range are read from its last one back, down to the answer.
+    /// Returns the greatest index of a set bit in the range, or `None` if there is none. Words of
+    /// the range are read from its last one back, down to the answer.
     ///
     /// ```
     /// 0b0110_0010u8.last_one_in_span(..5);                // Some(1)
@@ -139,8 +140,8 @@ pub trait BitsSpanExt: Bits {
         self.last_one_in::<Self::Order>(start, end)
     }
 
-    /// Returns the greatest index of an unset bit in the range, or `None` if there is none. Words of
-    /// the range are read from its last one back, down to the answer.
+    /// Returns the greatest index of an unset bit in the range, or `None` if there is none. Words
+    /// of the range are read from its last one back, down to the answer.
     ///
     /// ```
     /// 0b0110_0110u8.last_zero_in_span(..7);               // Some(4)
@@ -181,9 +182,9 @@ pub trait BitsSpanExt: Bits {
         self.first_one_in_span(range).is_some()
     }
 
-    /// Returns `true` if each bit of the range is set. A range with an index past the capacity has a
-    /// bit that is not set, so the answer is `false`. In an empty range each is set. Words are read
-    /// up to the first unset bit.
+    /// Returns `true` if each bit of the range is set. A range with an index past the capacity has
+    /// a bit that is not set, so the answer is `false`. In an empty range each is set. Words are
+    /// read up to the first unset bit.
     ///
     /// ```
     /// 0b1110_0000u8.all_in_span(5..);                     // true

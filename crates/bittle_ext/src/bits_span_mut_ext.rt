@@ -1,4 +1,5 @@
-//! Changing a range of a set that is written as Rust writes it: `2..7`, `2..=6`, `..7`, `50..`, `..`.
+//! Changing a range of a set that is written as Rust writes it: `2..7`, `2..=6`, `..7`, `50..`,
+//! `..`.
 
 ghost use Rattle.std.specs.Prelude.{◌≡◌, ◌≤◌};
 ghost use Rattle.std.specs.Range.Bound.{start_index, end_index};
@@ -11,8 +12,8 @@ use crate::spans::ends_within;
 use bittle::BitsMut;
 use std::ops::RangeBounds;
 
-/// Changes of a range of a set: each call that ends in `_range` takes two numbers, its namesake here
-/// a range as Rust writes it.
+/// Changes of a range of a set: each call that ends in `_range` takes two numbers, its namesake
+/// here a range as Rust writes it.
 ///
 /// The shape has to fit. A range that names no end goes to the capacity. It may not run backwards,
 /// nor have an index past the capacity: nothing wraps. Only the words of the range are written. An

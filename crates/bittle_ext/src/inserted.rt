@@ -9,8 +9,8 @@ ghost use Rattle.bittle.specs.Values.{set_in};
 
 use bittle::{BitsMut, Endian};
 
-/// Sets the bit at each index that the iterator yields, in the order `E`. An index past the capacity
-/// wraps.
+/// Sets the bit at each index that the iterator yields, in the order `E`. An index past the
+/// capacity wraps.
 #[inline]
 pub(crate) fn insert_each<B: BitsMut, E: Endian, I: Iterator<Item = u32>>(set: &mut B, indexes: I)
     requires indexable { IsTrue B.indexable }

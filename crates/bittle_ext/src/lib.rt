@@ -1,11 +1,12 @@
 //! Everyday calls on any set, above the library: the ends of a set and the neighbours of an index,
-//! a change that tells whether the set changed, a range changed at once, the first and the last bit
-//! taken out, a set made of a list of indexes, a complement, iterators over a range and over runs.
+//! a change that returns whether the set changed, a range changed at once, the first and the last
+//! bit taken out, a set made of a list of indexes, a complement, iterators over a range and over
+//! runs.
 //!
-//! They stand in extension traits, which every set of `bittle` has. They are proved from contracts
+//! They are in extension traits, which every set of `bittle` has. They are proved from contracts
 //! alone: those that users see, and those of the parts in `bittle_bits::extension`, which the
 //! library keeps for crates of this project. The twelve words, the orders, searches, iterators,
-//! joins and the operations on two sets stand in `bittle`. A call takes the order of the type. In a
+//! joins and the operations on two sets are in `bittle`. A call takes the order of the type. In a
 //! named order it is made on a view that [`in_order`](BitsViewExt::in_order) or
 //! [`in_order_mut`](BitsMutViewExt::in_order_mut) borrows; a set that is owned is wrapped in a
 //! `Set`, which remembers its order.

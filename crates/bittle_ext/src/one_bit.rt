@@ -1,4 +1,4 @@
-//! One bit of a set, changed in its word by a mask: no jump hangs on what the bit was.
+//! One bit of a set, changed in its word by a mask, without a branch on the bit.
 
 ghost use Rattle.std.specs.Prelude.{◌≡◌, ◌<◌, true, IsTrue};
 ghost use Rattle.bittle_ext.specs.Changes.{with_index_assigned};

@@ -1,5 +1,5 @@
-//! How two sets stand to each other: word by word where their words have one width and are read in
-//! one order, else by searches in turns, each from where the other one stopped.
+//! Relations of two sets: word by word if their words have one width and are read in one order,
+//! else by alternating searches, each from where the other one stopped.
 
 ghost use Rattle.std.specs.Prelude.{◌≡◌, ◌<◌, min, not, IfSome, MatchOption};
 ghost use Rattle.bittle_ext.specs.SetRelations.{IsSubset, AreDisjoint, AgreesBelow};

@@ -11,7 +11,7 @@ use crate::capacities::capacity_of;
 use bittle::{Bits, BitsOwned, Endian};
 use bittle_bits::extension::Word;
 
-/// Returns the number of which each bit of a word is set.
+/// Returns the mask of all bits of a word.
 #[inline]
 fn all_bits<W: Word>() -> u128
     ensures value { result ≡ 2 ^ W.width - 1 }

@@ -42,7 +42,7 @@ fn word_of_rank<B: Bits, E: Endian>(bits: &B, rank: u32) -> Option<(u32, u32)>
 /// Returns the place in word `k` of the set bit below which `rest` bits of the word are set.
 ///
 /// It lies in a span of the word, which is halved: the lower half has it if more than `rest` bits
-/// are set below the half's end. No jump hangs on which half has it.
+/// are set below the half's end. There is no branch on which half has it.
 #[inline]
 fn place_of_rank<B: Bits, E: Endian>(bits: &B, k: u32, rest: u32) -> u32
     requires fits { ShapeFits B.Shape bits.now }

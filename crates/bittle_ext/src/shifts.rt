@@ -1,4 +1,4 @@
-//! Sets whose bits are all moved where they stand, a word at a time: down from the first word on,
+//! All bits of a set moved in place, a word at a time: down from the first word on,
 //! up from the last one back, so that a word is read before it is written.
 
 ghost use Rattle.std.specs.Prelude.{◌≡◌, ◌+◌, ◌*◌, ◌<◌, ℕ};

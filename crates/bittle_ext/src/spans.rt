@@ -46,8 +46,8 @@ pub(crate) fn part_of<B: Bits, E: Endian, R: RangeBounds<u32>>(set: &B, range: &
     (from.min(end) as u32, end as u32)
 }
 
-/// Returns the two ends of a range that does not run backwards, and ends at or below the capacity of
-/// a set.
+/// Returns the two ends of a range that does not run backwards, and ends at or below the capacity
+/// of a set.
 #[inline]
 pub(crate) fn ends_within<B: Bits, R: RangeBounds<u32>>(set: &B, range: &R) -> (u32, u32)
     requires fits { ShapeFits B.Shape set.now }

@@ -1,7 +1,7 @@
 //! Views: a set in a named order, what an operation makes of two sets, a complement, and a range of
 //! a set, each a set itself, with no set made.
 //!
-//! A view borrows its sets, and each of its words is made when it is asked for. Every call of
+//! A view borrows its sets, and makes each of its words when it is read. Every call of
 //! `bittle` and of this crate that reads a set works on a view, also one that makes a view.
 //!
 //! ```rust
@@ -38,8 +38,8 @@ pub mod of_both;
 pub mod within;
 
 /// Views of any set. A view borrows the set and is a set itself, so each call that reads a set can
-/// be made on it. All but a view in a named order ask that each shape fits, and read each set in the
-/// order of its type.
+/// be made on it. All but a view in a named order ask that each shape fits, and read each set in
+/// the order of its type.
 pub trait BitsViewExt: Bits {
     /// Borrows the set, to be read in the order `E`.
     ///
@@ -62,7 +62,7 @@ pub trait BitsViewExt: Bits {
     /// Views the indexes that are set in both sets: a set of as many bits as the first one, in the
     /// order of its type.
     ///
-    /// The shapes may differ, and both have to fit. Each word is made when it is asked for; where
+    /// The shapes may differ, and both have to fit. Each word is made when it is read; where
     /// the words of the two sets differ in width or order, each set bit of the second set in it is
     /// searched for. Past its capacity the second set has no bit. With capacity 0 nothing is set.
     ///
@@ -132,7 +132,7 @@ pub trait BitsViewExt: Bits {
     /// Views the indexes that are set in either of two sets of like words: a set of the greater
     /// capacity, in the order of the first one's type.
     ///
-    /// Both shapes have to fit. Each word is made when it is asked for. Of unlike words there is
+    /// Both shapes have to fit. Each word is made when it is read. Of unlike words there is
     /// [`or_unlike`](BitsViewExt::or_unlike). With capacity 0 on both sides it is the empty set.
     ///
     /// ```
@@ -206,7 +206,7 @@ pub trait BitsViewExt: Bits {
     ///
     /// Both shapes have to fit. The capacity is the greater one, rounded up to whole words of the
     /// first set, and that has to be below `u32::MAX` too: where the words of the first set are not
-    /// the wider ones the rounding adds nothing. Each word is made when it is asked for, with a
+    /// the wider ones the rounding adds nothing. Each word is made when it is read, with a
     /// search for each set bit of the second set in it. With capacity 0 on both sides it is the
     /// empty set.
     ///
@@ -286,7 +286,7 @@ pub trait BitsViewExt: Bits {
 
     /// Views the unset bits below the capacity: a set of as many bits, in the order of the type.
     ///
-    /// The shape has to fit. Each word is flipped when it is asked for. With capacity 0 it is the
+    /// The shape has to fit. Each word is flipped when it is read. With capacity 0 it is the
     /// empty set.
     ///
     /// ```
@@ -310,7 +310,7 @@ pub trait BitsViewExt: Bits {
     /// Views the set bits of `from..to`: a set of as many bits, in the order of the type.
     ///
     /// The shape has to fit. Past the capacity no bit is set, and a range that runs backwards is
-    /// empty. Whether a bit is set at all, and how many are, is asked of the words of the range
+    /// empty. A test for any bit and a count read the words of the range
     /// alone. With capacity 0 it is the empty set.
     ///
     /// ```

@@ -43,8 +43,8 @@ pub fn keep_below<B: BitsMut>(set: &mut B, bound: u32)
     set.retain(|index| index < bound);
 }
 
-/// Keeps the bits for which a closure of the caller's returns `true`. It may be called at any index,
-/// so at those below the capacity.
+/// Keeps the bits for which a closure of the caller's returns `true`. It may be called at any
+/// index, so at those below the capacity.
 #[tactic(auto, using(bittle_ext::proofs::CallableBelow::always_below))]
 pub fn keep_those<B: BitsMut, E: Endian, F: FnMut(u32) -> bool>(set: &mut B, keep: F)
     requires fits { ShapeFits B.Shape set.old }

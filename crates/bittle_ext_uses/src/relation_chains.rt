@@ -1,7 +1,7 @@
 //! Calls on two sets in a chain: one call's answer is passed to the next, or indexes a table.
 //!
-//! Those with no clause of their own show that the second call is allowed, or that the index lies in
-//! the table, from the contract of the first call alone.
+//! Those with no clause of their own show that the second call is allowed, or that the index lies
+//! in the table, from the contract of the first call alone.
 
 ghost use Rattle.std.specs.Prelude.{◌≤◌};
 ghost use Rattle.bittle.specs.Values.{ShapeFits};

@@ -54,7 +54,8 @@ pub fn longest(mask: u64) -> u32 {
     longest
 }
 
-/// Sets each run of a mask in another row. The check proves that a run ends at most at the capacity.
+/// Sets each run of a mask in another row. The check proves that a run ends at most at the
+/// capacity.
 pub fn set_runs(mask: u16, row: &mut [u8; 2]) {
     for run in mask.iter_one_runs() {
         row.set_range(run.start, run.end);

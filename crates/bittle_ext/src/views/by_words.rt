@@ -1,5 +1,4 @@
-//! What is asked of all words of a set, or of one bit: any set that is read word by word can be
-//! asked so.
+//! Queries on all words of a set, or on one bit, for any set that is read word by word.
 
 ghost use Rattle.std.specs.Prelude.{◌≡◌, ◌+◌, ◌*◌, ◌<◌, ◌≤◌, ◌==◌, Bool};
 ghost use Rattle.bittle.specs.Searches.{PassesOver};

@@ -11,7 +11,7 @@ use bittle_bits::extension::{End, Kind, Ones, ReadWords, Sealed, Zeros, word_of_
 use std::alloc::AllocError;
 
 /// The unset bits below the capacity of a set that it borrows: a set of as many bits, in the order
-/// of that one's type. Each word of it is made when it is asked for.
+/// of that one's type. Each word of it is made when it is read.
 #[derive(Drop)]
 pub struct Complement<'a, B: Shape> {
     set: &'a B,

@@ -123,8 +123,8 @@ impl<'a, B: BitsMut, U: Endian> BitsMut for InOrderMut<'a, B, U> {
 
 /// Views of any set that can be changed, which borrow it for a change.
 pub trait BitsMutViewExt: BitsMut {
-    /// Borrows the set for a change, to be read and changed in the order `E`. What is changed in the
-    /// view is changed in the set.
+    /// Borrows the set for a change, to be read and changed in the order `E`. What is changed in
+    /// the view is changed in the set.
     ///
     /// Always callable. The view has the capacity of the set, and a call on it costs what it costs
     /// on the set.

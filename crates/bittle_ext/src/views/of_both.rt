@@ -33,8 +33,8 @@ pub type XorView<'a, A, B, E, F> = OfBoth<'a, A, B, E, F, SymmetricDifference>;
 
 /// An operation that a view is made by.
 pub trait ViewOperation: Operation {
-    /// Returns `true` if it makes no index a member that is not in the first set. It decides how the
-    /// words of that set are read.
+    /// Returns `true` if it makes no index a member that is not in the first set. It decides how
+    /// the words of that set are read.
     #[doc(hidden)]
     #[inline(always)]
     fn keeps_to_first() -> bool
@@ -118,7 +118,7 @@ impl FirstOperation for Difference {
 /// What the operation `O` makes of two sets that it borrows, the first read in the order `E` and
 /// the second in `F`: a set of words as the first one's, read in `E`.
 ///
-/// Each word of it is made when it is asked for. Where the words of the two sets differ in width or
+/// Each word of it is made when it is read. Where the words of the two sets differ in width or
 /// order, the second one is searched for each of its set bits there.
 #[derive(Drop)]
 pub struct OfBoth<'a, A: Shape, B: Shape, E: Endian, F: Endian, O: Operation> {

@@ -19,8 +19,8 @@ use std::marker::PhantomData;
 pub type Within<'a, B, E> = KindWithin<'a, B, E, Ones>;
 
 /// The bits that `K` names of a range of a set that it borrows, read in the order `E`: a set of as
-/// many bits as that one, in `E`. Each word of it is made when it is asked for; a search or an
-/// iterator for its set bits reads the words of the range alone.
+/// many bits as that one, in `E`. Each word of it is made when it is read. An
+/// iterator over its set bits reads the words of the range alone; a search reads one more at most.
 #[derive(Drop)]
 pub struct KindWithin<'a, B: Shape, E: Endian, K: Kind> {
     set: &'a B,
