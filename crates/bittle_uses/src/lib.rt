@@ -8,6 +8,7 @@ pub mod changes;
 pub mod counts;
 pub mod entities;
 pub mod free_runs;
+pub mod keys;
 pub mod lent;
 pub mod macro_lists;
 pub mod nested;

@@ -60,3 +60,37 @@ pub fn take_and_count<B: BitsOwned>(pages: &mut Pages<B>) -> Option<u32>
     let _page = pages.take()?;
     Some(pages.taken())
 }
+
+/// Takes a run of pages and gives it back, which is done.
+pub fn borrow_run<B: BitsOwned>(pages: &mut Pages<B>, length: u32) -> bool
+    ensures { result ≡ true }
+{
+    match pages.take_run(length) {
+        Some(first) => pages.give_back_run(first, length).is_ok(),
+        None => true,
+    }
+}
+
+/// Takes a page and a run of pages, and counts those that are taken.
+pub fn take_page_and_run<B: BitsOwned>(pages: &mut Pages<B>, length: u32) -> Option<u32>
+    ensures { IfSome result (λ count.
+        count ≡ size (set_in B.Shape B.Order.Endian pages.old.map) + 1 + length) }
+{
+    let _page = pages.take()?;
+    let _first = pages.take_run(length)?;
+    Some(pages.taken())
+}
+
+/// Takes two pages, gives the first back, and takes one more, which differs from the second. Two
+/// pages more are taken then.
+pub fn turn_over<B: BitsOwned>(pages: &mut Pages<B>) -> Option<(u32, u32)>
+    ensures differ { IfSome result (λ both. both.0 ≢ both.1) }
+    ensures count { IfSome result (λ both. size (set_in B.Shape B.Order.Endian pages.new.map)
+        ≡ size (set_in B.Shape B.Order.Endian pages.old.map) + 2) }
+{
+    let first = pages.take()?;
+    let second = pages.take()?;
+    let _given = pages.give_back(first);
+    let third = pages.take()?;
+    Some((second, third))
+}
