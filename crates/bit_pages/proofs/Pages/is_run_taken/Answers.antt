@@ -10,4 +10,5 @@ returns-then-end-bits g c =
     let capacity = g.met.B.BitsOwned.one_capacity c.args.self.now.map in
     let bits = c.bits.ensures.value c.args.self.now.fits in
     all_taken map c.args.length c.args.first c.in-Some.end c.all_in_range.result (omega arith)
-    (omega (arith, capacity, bits, c.if-end-bits.true)) c.all_in_range.ensures
+    (omega (arith, capacity, bits, c.if-end-bits.true))
+    (c.all_in_range.ensures.unset (omega (arith, capacity, bits, c.if-end-bits.true)))
