@@ -239,3 +239,15 @@ fn bits_of_a_lent_slice_that_are_kept(rt: HostRuntime) {
     keep_some(&mut set);
     same!(rt; words, [0b01, 0b100]);
 }
+
+#[test]
+fn bits_that_a_table_keeps(rt: HostRuntime) {
+    let table = [true, false, true, false, false, true, true, false];
+    let mut word = 0b0110_1110u8;
+    word.retain(|index| table[index as usize]);
+    same!(rt; word, 0b0110_0100);
+    let mut left = 0b0110_1110u8;
+    left.in_order_mut::<LittleEndian>()
+        .retain(|index| table[index as usize]);
+    same!(rt; left, 0b0010_0110);
+}

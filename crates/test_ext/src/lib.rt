@@ -24,6 +24,8 @@ mod reads;
 #[cfg(test)]
 mod rotations;
 #[cfg(test)]
+mod spans;
+#[cfg(test)]
 mod unlike;
 #[cfg(test)]
 mod views;
