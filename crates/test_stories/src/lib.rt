@@ -1,0 +1,11 @@
+//! Tests of the ready queues and of roles: values worked out by hand, and drawn histories beside a plain model.
+#![tactic(auto)]
+
+#[cfg(test)]
+mod checks;
+#[cfg(test)]
+mod drawn;
+#[cfg(test)]
+mod queues;
+#[cfg(test)]
+mod roles;

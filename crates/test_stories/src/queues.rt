@@ -1,0 +1,222 @@
+//! Queues by urgency and by turns.
+
+ghost use Rattle.bittle.specs.Shapes.{Fits};
+
+use crate::checks::{holds, same};
+use crate::drawn::draw_event;
+use bit_queue::{Answer, Event, NoTask, PriorityQueue, RoundRobin};
+use bittle::{BitsOwned, LittleEndian, Set};
+use std::test::Fail;
+
+// Events of which some wake what is ready already, or what is no task where there are eight.
+const EVENTS: [Event; 9] = [
+    Event::Wake(5),
+    Event::Wake(2),
+    Event::Wake(5),
+    Event::Next,
+    Event::Wake(2),
+    Event::Wake(300),
+    Event::Next,
+    Event::Next,
+    Event::Next,
+];
+
+// Serves them by urgency.
+fn serve_by_urgency<B: BitsOwned>() -> [Answer; 9]
+    requires { Fits B.indexable B.type_capacity }
+{
+    let mut queue = PriorityQueue::<B>::new();
+    let mut answers = [Answer::Idle; 9];
+    queue.serve(&EVENTS, &mut answers);
+    answers
+}
+
+// Serves them in turns.
+fn serve_in_turn<B: BitsOwned>() -> [Answer; 9]
+    requires { Fits B.indexable B.type_capacity }
+{
+    let mut queue = RoundRobin::<B>::new();
+    let mut answers = [Answer::Idle; 9];
+    queue.serve(&EVENTS, &mut answers);
+    answers
+}
+
+// Returns the answers, whose second and third runs differ.
+fn answers_of(second: u32, third: u32) -> [Answer; 9] {
+    [
+        Answer::Woken,
+        Answer::Woken,
+        Answer::Woken,
+        Answer::Runs(2),
+        Answer::Woken,
+        Answer::NoTask,
+        Answer::Runs(second),
+        Answer::Runs(third),
+        Answer::Idle,
+    ]
+}
+
+#[test]
+fn by_urgency_in_an_integer(rt: HostRuntime) {
+    same!(rt; serve_by_urgency::<u8>(), answers_of(2, 5));
+    same!(rt; serve_by_urgency::<i128>(), answers_of(2, 5));
+}
+
+#[test]
+fn by_urgency_in_a_nested_array(rt: HostRuntime) {
+    same!(rt; serve_by_urgency::<[[u16; 2]; 3]>(), answers_of(2, 5));
+}
+
+#[test]
+fn by_urgency_in_the_other_order(rt: HostRuntime) {
+    same!(rt; serve_by_urgency::<Set<[u8; 3], LittleEndian>>(), answers_of(2, 5));
+}
+
+#[test]
+fn in_turn_in_an_integer(rt: HostRuntime) {
+    same!(rt; serve_in_turn::<u8>(), answers_of(5, 2));
+    same!(rt; serve_in_turn::<i128>(), answers_of(5, 2));
+}
+
+#[test]
+fn in_turn_in_a_nested_array(rt: HostRuntime) {
+    same!(rt; serve_in_turn::<[[u16; 2]; 3]>(), answers_of(5, 2));
+}
+
+#[test]
+fn in_turn_in_the_other_order(rt: HostRuntime) {
+    same!(rt; serve_in_turn::<Set<[u8; 3], LittleEndian>>(), answers_of(5, 2));
+}
+
+#[test]
+fn queues_without_tasks(rt: HostRuntime) {
+    let mut queue = PriorityQueue::<[u8; 0]>::new();
+    same!(rt; (queue.wake(0), queue.next(), queue.tasks()), (Err(NoTask), None, 0));
+    holds!(rt; !queue.is_ready(0));
+    let mut turns = RoundRobin::<[u8; 0]>::new();
+    same!(rt; (turns.wake(0), turns.next(), turns.tasks()), (Err(NoTask), None, 0));
+    holds!(rt; !turns.is_ready(0));
+}
+
+#[test]
+fn a_number_past_the_last_task(rt: HostRuntime) -> Result<(), Fail> {
+    let mut queue = PriorityQueue::<Set<u8, LittleEndian>>::new();
+    same!(rt; (queue.wake(8), queue.wake(4_294_967_295)), (Err(NoTask), Err(NoTask)));
+    same!(rt; queue.next(), None);
+    same!(rt; queue.wake(7), Ok(()));
+    holds!(rt; queue.is_ready(7) && !queue.is_ready(15));
+    let mut turns = RoundRobin::<[u8; 2]>::new();
+    same!(rt; (turns.wake(16), turns.wake(15)), (Err(NoTask), Ok(())));
+    same!(rt; (turns.next(), turns.next()), (Some(15), None));
+    holds!(rt; !turns.is_ready(15) && !turns.is_ready(31));
+    let text = format!(in rt.alloc(); "{NoTask}")?;
+    same!(rt; text.as_str(), "there is no such task");
+    Ok(())
+}
+
+#[test]
+fn a_task_that_is_woken_at_each_step_lets_the_others_run(rt: HostRuntime) {
+    let mut turns = RoundRobin::<u8>::new();
+    same!(rt; (turns.wake(0), turns.wake(1), turns.wake(7)), (Ok(()), Ok(()), Ok(())));
+    for expected in [0u32, 1, 7, 0, 1, 7] {
+        same!(rt; turns.next(), Some(expected));
+        same!(rt; turns.wake(expected), Ok(()));
+    }
+}
+
+// Answers an event by flags, where the search goes from a task on and round.
+fn answer_by_flags(event: Event, from: usize, ready: &mut [bool; 24]) -> Answer {
+    match event {
+        Event::Wake(task) => match ready.get_mut(task as usize) {
+            Some(flag) => {
+                *flag = true;
+                Answer::Woken
+            }
+            None => Answer::NoTask,
+        },
+        Event::Next => {
+            let mut answer = Answer::Idle;
+            for step in 0..24usize {
+                let task = (from % 24 + step) % 24;
+                if answer == Answer::Idle && ready[task] {
+                    ready[task] = false;
+                    answer = Answer::Runs(task as u32);
+                }
+            }
+            answer
+        }
+    }
+}
+
+// Gives an event to a queue by urgency.
+fn give_urgent<B: BitsOwned>(event: Event, queue: &mut PriorityQueue<B>) -> Answer {
+    match event {
+        Event::Wake(task) => match queue.wake(task) {
+            Ok(()) => Answer::Woken,
+            Err(NoTask) => Answer::NoTask,
+        },
+        Event::Next => match queue.next() {
+            Some(task) => Answer::Runs(task),
+            None => Answer::Idle,
+        },
+    }
+}
+
+// Gives an event to a queue by turns.
+fn give_in_turn<B: BitsOwned>(event: Event, queue: &mut RoundRobin<B>) -> Answer {
+    match event {
+        Event::Wake(task) => match queue.wake(task) {
+            Ok(()) => Answer::Woken,
+            Err(NoTask) => Answer::NoTask,
+        },
+        Event::Next => match queue.next() {
+            Some(task) => Answer::Runs(task),
+            None => Answer::Idle,
+        },
+    }
+}
+
+// Returns whether a queue by urgency answers drawn events as flags do.
+fn is_urgent_as_flags<B: BitsOwned>() -> bool
+    requires { Fits B.indexable B.type_capacity }
+{
+    let mut state = 3;
+    let mut queue = PriorityQueue::<B>::new();
+    let (mut ready, mut is_same) = ([false; 24], true);
+    for _ in 0..2000 {
+        let event = draw_event(&mut state);
+        let expected = answer_by_flags(event, 0, &mut ready);
+        is_same = give_urgent(event, &mut queue) == expected && is_same;
+    }
+    is_same
+}
+
+#[test]
+fn drawn_events_by_urgency(rt: HostRuntime) {
+    holds!(rt; is_urgent_as_flags::<[u8; 3]>());
+    holds!(rt; is_urgent_as_flags::<Set<[u8; 3], LittleEndian>>());
+}
+
+// Returns whether a queue by turns answers drawn events as flags do.
+fn is_in_turn_as_flags<B: BitsOwned>() -> bool
+    requires { Fits B.indexable B.type_capacity }
+{
+    let mut state = 11;
+    let mut queue = RoundRobin::<B>::new();
+    let (mut ready, mut from, mut is_same) = ([false; 24], 0usize, true);
+    for _ in 0..2000 {
+        let event = draw_event(&mut state);
+        let expected = answer_by_flags(event, from, &mut ready);
+        is_same = give_in_turn(event, &mut queue) == expected && is_same;
+        if let Answer::Runs(task) = expected {
+            from = task as usize % 24 + 1;
+        }
+    }
+    is_same
+}
+
+#[test]
+fn drawn_events_in_turn(rt: HostRuntime) {
+    holds!(rt; is_in_turn_as_flags::<[u8; 3]>());
+    holds!(rt; is_in_turn_as_flags::<Set<[u8; 3], LittleEndian>>());
+}

@@ -1,0 +1,192 @@
+//! Roles that inherit.
+
+use crate::checks::{holds, same};
+use crate::drawn::draw;
+use bit_roles::{Answer, Refused, Request, Roles};
+use bittle::{BitsOwned, LittleEndian, Set};
+use std::test::Fail;
+
+// Requests of which some name no role, no permission or no lesser parent.
+const REQUESTS: [Request; 8] = [
+    Request::Grant(0, 7),
+    Request::Inherit(2, 0),
+    Request::Grant(2, 1),
+    Request::Inherit(0, 2),
+    Request::Inherit(1, 1),
+    Request::Grant(4, 0),
+    Request::Grant(0, 200),
+    Request::Inherit(4, 0),
+];
+
+// Serves them with four roles, and returns the answers with what roles 0 to 3 allow of 7 and 1.
+fn serve<B: BitsOwned>(roles: &mut Roles<B, 4>) -> ([Answer; 8], [(bool, bool); 4]) {
+    let mut answers = [Answer::Done; 8];
+    roles.serve(&REQUESTS, &mut answers);
+    let mut allowed = [(false, false); 4];
+    for role in 0..4u32 {
+        allowed[role as usize] = (roles.allows(role, 7), roles.allows(role, 1));
+    }
+    (answers, allowed)
+}
+
+// Returns what has to be answered where there are from 8 to 200 permissions.
+fn expected() -> ([Answer; 8], [(bool, bool); 4]) {
+    let mut answers = [Answer::Refused; 8];
+    answers[0] = Answer::Done;
+    answers[1] = Answer::Done;
+    answers[2] = Answer::Done;
+    (
+        answers,
+        [(true, false), (false, false), (true, true), (false, false)],
+    )
+}
+
+#[test]
+fn permissions_in_an_integer(rt: HostRuntime) {
+    let mut roles = Roles::<u8, 4>::new();
+    same!(rt; serve::<u8>(&mut roles), expected());
+}
+
+#[test]
+fn permissions_in_a_nested_array(rt: HostRuntime) {
+    let mut roles = Roles::<[[u16; 2]; 3], 4>::new();
+    same!(rt; serve::<[[u16; 2]; 3]>(&mut roles), expected());
+}
+
+#[test]
+fn permissions_in_the_other_order(rt: HostRuntime) {
+    let mut roles = Roles::<Set<u16, LittleEndian>, 4>::new();
+    let mut answers = [Answer::Done; 8];
+    roles.serve(&REQUESTS, &mut answers);
+    let (wanted, _allowed) = expected();
+    same!(rt; answers, wanted);
+    same!(rt; (roles.allows(0, 7), roles.allows(2, 7), roles.allows(2, 1)), (true, true, true));
+    same!(rt; (roles.allows(0, 1), roles.allows(1, 7), roles.allows(3, 7)), (false, false, false));
+}
+
+#[test]
+fn no_roles_and_no_permissions(rt: HostRuntime) {
+    let mut none = Roles::<u8, 0>::new();
+    same!(rt; (none.grant(0, 0), none.inherit(0, 0)), (Err(Refused), Err(Refused)));
+    holds!(rt; !none.allows(0, 0) && none.parent(0).is_none());
+    let mut bare = Roles::<[u8; 0], 2>::new();
+    same!(rt; (bare.grant(0, 0), bare.inherit(1, 0)), (Err(Refused), Ok(())));
+    holds!(rt; !bare.allows(1, 0) && bare.parent(1) == Some(0));
+}
+
+#[test]
+fn a_parent_in_place_of_another(rt: HostRuntime) -> Result<(), Fail> {
+    let mut roles = Roles::<u8, 3>::new();
+    same!(rt; (roles.grant(0, 3), roles.inherit(2, 0)), (Ok(()), Ok(())));
+    holds!(rt; roles.allows(2, 3) && !roles.is_granted(2, 3));
+    same!(rt; roles.inherit(2, 1), Ok(()));
+    holds!(rt; !roles.allows(2, 3) && roles.allows(0, 3));
+    // Number 11 is no permission, and does not wrap to 3.
+    holds!(rt; !roles.allows(0, 11) && !roles.is_granted(0, 11));
+    let text = format!(in rt.alloc(); "{Refused}")?;
+    same!(rt; text.as_str(), "no such role, permission or parent");
+    Ok(())
+}
+
+// Makes a drawn request of plain tables of six roles and 32 permissions.
+fn ask_tables(
+    request: Request,
+    granted: &mut [[bool; 32]; 6],
+    parents: &mut [Option<u32>; 6],
+) -> Answer {
+    match request {
+        Request::Grant(role, permission) => {
+            if role < 6 && permission < 32 {
+                granted[role as usize][permission as usize] = true;
+                Answer::Done
+            } else {
+                Answer::Refused
+            }
+        }
+        Request::Inherit(role, parent) => {
+            if role < 6 && parent < role {
+                parents[role as usize] = Some(parent);
+                Answer::Done
+            } else {
+                Answer::Refused
+            }
+        }
+    }
+}
+
+// Returns what the tables allow each role: what it was granted, and what its parent allows.
+fn allowed_of(granted: &[[bool; 32]; 6], parents: &[Option<u32>; 6]) -> [[bool; 32]; 6] {
+    let mut allowed = *granted;
+    for role in 0..6usize {
+        if let Some(parent) = parents[role] {
+            for permission in 0..32usize {
+                let inherited = (parent as usize) < role
+                    && allowed[parent as usize % 6][permission];
+                allowed[role][permission] = allowed[role][permission] || inherited;
+            }
+        }
+    }
+    allowed
+}
+
+// Returns what roles allow.
+fn allowed_by<B: BitsOwned>(roles: &Roles<B, 6>) -> [[bool; 32]; 6] {
+    let mut allowed = [[false; 32]; 6];
+    for role in 0..6u32 {
+        for permission in 0..32u32 {
+            allowed[role as usize][permission as usize] = roles.allows(role, permission);
+        }
+    }
+    allowed
+}
+
+// Draws a request, which may name no role, no permission or no lesser parent.
+fn draw_request(state: &mut u32) -> Request {
+    let (role, number) = (draw(state) % 7, draw(state));
+    if number % 2 == 0 {
+        Request::Grant(role, number / 2 % 34)
+    } else {
+        Request::Inherit(role, number / 2 % 7)
+    }
+}
+
+// Returns whether roles answer drawn requests as plain tables do, and allow the same after each.
+fn are_as_tables<B: BitsOwned>(roles: &mut Roles<B, 6>) -> bool {
+    let mut state = 5;
+    let (mut granted, mut parents) = ([[false; 32]; 6], [None; 6]);
+    let mut is_same = true;
+    for _ in 0..60 {
+        let request = draw_request(&mut state);
+        let mut answers = [Answer::Done];
+        roles.serve(&[request], &mut answers);
+        let expected = ask_tables(request, &mut granted, &mut parents);
+        is_same = answers[0] == expected && is_same;
+        is_same = allowed_by(roles) == allowed_of(&granted, &parents) && is_same;
+    }
+    is_same
+}
+
+#[test]
+fn drawn_requests_agree_with_plain_tables(rt: HostRuntime) {
+    let mut roles = Roles::<[u8; 4], 6>::new();
+    holds!(rt; are_as_tables::<[u8; 4]>(&mut roles));
+}
+
+#[test]
+fn drawn_requests_in_the_other_order(rt: HostRuntime) {
+    let mut state = 9;
+    let mut roles = Roles::<Set<u32, LittleEndian>, 6>::new();
+    let (mut granted, mut parents) = ([[false; 32]; 6], [None; 6]);
+    let mut is_same = true;
+    for _ in 0..400 {
+        let request = draw_request(&mut state);
+        let mut answers = [Answer::Done];
+        roles.serve(&[request], &mut answers);
+        is_same = answers[0] == ask_tables(request, &mut granted, &mut parents) && is_same;
+        let allowed = allowed_of(&granted, &parents);
+        let (role, permission) = (draw(&mut state) % 6, draw(&mut state) % 32);
+        let expected = allowed[role as usize][permission as usize];
+        is_same = roles.allows(role, permission) == expected && is_same;
+    }
+    holds!(rt; is_same);
+}
