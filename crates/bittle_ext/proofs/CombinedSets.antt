@@ -1,5 +1,5 @@
 -- A set that is combined with another one, word by word, and whether that changes it.
-use Rattle.std.proofs.Common.{◌≡◌, ℕ, ◌+◌, ◌-◌, ◌*◌, ◌<◌, ◌≤◌, ◌==◌, ◌^◌, Bool, true, false, cond, not, ◌&&◌, ◌||◌, nat_lt, MatchBool, bit_xor, inl, inr, refl, sym, ap, ◌∙◌, arith}
+use Rattle.std.proofs.Common.{◌≡◌, ℕ, ◌+◌, ◌-◌, ◌*◌, ◌<◌, ◌≤◌, ◌==◌, ◌^◌, Bool, true, false, cond, not, ◌&&◌, ◌||◌, nat_lt, MatchBool, IsTrue, ◌↔◌, bit_xor, inl, inr, refl, sym, ap, ◌∙◌, arith}
 use Rattle.std.proofs.Math.Path.{fun_ext}
 use Rattle.std.proofs.lemmas.Bool.{cases_eq, cases_lt, eq-eqb, ne_eqb, lt-ltb, le-ltb, true≢false}
 use Rattle.bittle.specs.BitPatterns.{bit_has, bit_set}
@@ -136,3 +136,20 @@ tells_all f n false s t after far past is told =
       | inl l ↦ told i (omega (arith, l, far))
       | inr g ↦ combined_past f s t i g ∙ sym (past i g)
     ])
+
+-- what is told of two sets says where they differ, and else that they are one
+pub told_where : (b : Bool) (s t : PlainSet) → MatchBool b (Differ s t) (t ≡ s) →
+    IsTrue b ↔ Differ s t
+told_where true s t told = (λ _. told, λ _. refl)
+told_where false s t told = (
+  λ said. absurd (true≢false (sym said)),
+  λ differ. absurd (itself (s.has differ.0) (sym (ap (λ u. u.has differ.0) told) ∙ differ.2)),
+)
+  where
+    itself : (b : Bool) → b ≡ not b → ⊥
+    itself true e = true≢false e
+    itself false e = true≢false (sym e)
+
+pub told_same : (b : Bool) (s t : PlainSet) → MatchBool b (Differ s t) (t ≡ s) → b ≡ false → t ≡ s
+told_same true s t told said = absurd (true≢false said)
+told_same false s t told said = told

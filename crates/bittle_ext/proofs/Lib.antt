@@ -1,6 +1,6 @@
 pub mod PassedWords
 pub mod CallableBelow
-mod CombinedSets
+pub mod CombinedSets
 mod CombinedWords
 mod Complements
 mod GatheredWords

@@ -1,6 +1,6 @@
 //! Changing a set by another one of any shape.
 
-ghost use Rattle.std.specs.Prelude.{◌≡◌, ◌<◌, ℕ, Bool, ◌||◌, ◌&&◌, IsTrue, MatchBool};
+ghost use Rattle.std.specs.Prelude.{◌≡◌, ◌↔◌, ◌<◌, ℕ, Bool, ◌||◌, ◌&&◌, false, IsTrue};
 ghost use Rattle.bittle_ext.specs.Between.{union_within, conjunction_within, difference_within};
 ghost use Rattle.bittle_ext.specs.Between.{symmetric_difference_within, members_to, Differ};
 ghost use Rattle.bittle.specs.PlainSet.{contains, full_set, size};
@@ -45,9 +45,10 @@ pub trait BitsCombineExt: BitsMut {
             → contains (set_in Self.Shape Self.Order.Endian self.new) i
             ≡ (contains (set_in Self.Shape Self.Order.Endian self.old) i
             || (set_in B.Shape B.Order.Endian other.now).has i) }
-        ensures changed { let before = set_in Self.Shape Self.Order.Endian self.old in
-            let after = set_in Self.Shape Self.Order.Endian self.new in
-            MatchBool result (Differ before after) (after ≡ before) }
+        ensures changed { IsTrue result ↔ Differ (set_in Self.Shape Self.Order.Endian self.old)
+            (set_in Self.Shape Self.Order.Endian self.new) }
+        ensures unchanged { result ≡ false → set_in Self.Shape Self.Order.Endian self.new
+            ≡ set_in Self.Shape Self.Order.Endian self.old }
         ensures grew { IsTrue result → size (set_in Self.Shape Self.Order.Endian self.old)
             < size (set_in Self.Shape Self.Order.Endian self.new) }
         ensures stays { Self.loan self.old ≡ Self.loan self.new }
@@ -74,9 +75,10 @@ pub trait BitsCombineExt: BitsMut {
             → contains (set_in Self.Shape Self.Order.Endian self.new) i
             ≡ (contains (set_in Self.Shape Self.Order.Endian self.old) i
             && (set_in B.Shape B.Order.Endian other.now).has i) }
-        ensures changed { let before = set_in Self.Shape Self.Order.Endian self.old in
-            let after = set_in Self.Shape Self.Order.Endian self.new in
-            MatchBool result (Differ before after) (after ≡ before) }
+        ensures changed { IsTrue result ↔ Differ (set_in Self.Shape Self.Order.Endian self.old)
+            (set_in Self.Shape Self.Order.Endian self.new) }
+        ensures unchanged { result ≡ false → set_in Self.Shape Self.Order.Endian self.new
+            ≡ set_in Self.Shape Self.Order.Endian self.old }
         ensures shrank { IsTrue result → size (set_in Self.Shape Self.Order.Endian self.new)
             < size (set_in Self.Shape Self.Order.Endian self.old) }
         ensures stays { Self.loan self.old ≡ Self.loan self.new }
@@ -102,9 +104,10 @@ pub trait BitsCombineExt: BitsMut {
             → contains (set_in Self.Shape Self.Order.Endian self.new) i
             ≡ first_alone (contains (set_in Self.Shape Self.Order.Endian self.old) i)
             ((set_in B.Shape B.Order.Endian other.now).has i) }
-        ensures changed { let before = set_in Self.Shape Self.Order.Endian self.old in
-            let after = set_in Self.Shape Self.Order.Endian self.new in
-            MatchBool result (Differ before after) (after ≡ before) }
+        ensures changed { IsTrue result ↔ Differ (set_in Self.Shape Self.Order.Endian self.old)
+            (set_in Self.Shape Self.Order.Endian self.new) }
+        ensures unchanged { result ≡ false → set_in Self.Shape Self.Order.Endian self.new
+            ≡ set_in Self.Shape Self.Order.Endian self.old }
         ensures shrank { IsTrue result → size (set_in Self.Shape Self.Order.Endian self.new)
             < size (set_in Self.Shape Self.Order.Endian self.old) }
         ensures stays { Self.loan self.old ≡ Self.loan self.new }
@@ -130,9 +133,10 @@ pub trait BitsCombineExt: BitsMut {
             → contains (set_in Self.Shape Self.Order.Endian self.new) i
             ≡ just_one (contains (set_in Self.Shape Self.Order.Endian self.old) i)
             ((set_in B.Shape B.Order.Endian other.now).has i) }
-        ensures changed { let before = set_in Self.Shape Self.Order.Endian self.old in
-            let after = set_in Self.Shape Self.Order.Endian self.new in
-            MatchBool result (Differ before after) (after ≡ before) }
+        ensures changed { IsTrue result ↔ Differ (set_in Self.Shape Self.Order.Endian self.old)
+            (set_in Self.Shape Self.Order.Endian self.new) }
+        ensures unchanged { result ≡ false → set_in Self.Shape Self.Order.Endian self.new
+            ≡ set_in Self.Shape Self.Order.Endian self.old }
         ensures stays { Self.loan self.old ≡ Self.loan self.new }
     {
         combine_with::<Self, B, Self::Order, B::Order, SymmetricDifference>(self, other)

@@ -1,6 +1,12 @@
 use Rattle.bittle.specs.SetOperations.{just_one}
-use Rattle.bittle_ext.proofs.CombinedSets.{combined_each}
+use Rattle.bittle_ext.proofs.CombinedSets.{combined_each, told_where, told_same}
 use Rattle.bittle_ext.proofs.bits_combine_ext.BitsCombineExt.symmetric_difference_with.Goals as goal
 
 pub returns-clause-each : goal.returns-clause-each
 returns-clause-each g c = combined_each just_one _ _ _ c.combine_with.ensures.set
+
+pub returns-clause-changed : goal.returns-clause-changed
+returns-clause-changed g c = told_where _ _ _ c.combine_with.ensures.changed
+
+pub returns-clause-unchanged : goal.returns-clause-unchanged
+returns-clause-unchanged g c = told_same _ _ _ c.combine_with.ensures.changed
