@@ -6,6 +6,7 @@ pub use crate::bits_index_ext::{BitsIndexExt, BitsIndexMutExt};
 pub use crate::bits_mut_ext::BitsMutExt;
 pub use crate::bits_owned_ext::BitsOwnedExt;
 pub use crate::bits_range_ext::BitsRangeExt;
+pub use crate::bits_rank_ext::BitsRankExt;
 pub use crate::bits_relation_ext::BitsRelationExt;
 pub use crate::bits_shift_ext::BitsShiftExt;
 pub use crate::bits_span_ext::BitsSpanExt;

@@ -1,0 +1,53 @@
+//! The unset bits of a set by their ranks.
+
+ghost use Rattle.std.specs.Prelude.{◌≡◌, ◌<◌, ◌≤◌, IfSome, slice_get};
+ghost use Rattle.bittle.specs.PlainSet.{ascending, complement, members_below};
+ghost use Rattle.bittle.specs.Values.{set_in, ShapeFits};
+
+use crate::bits_ext::BitsExt;
+use crate::views::BitsViewExt;
+use bittle::Bits;
+
+/// What can be asked of the unset bits of any set by their ranks, in the order of the type.
+pub trait BitsRankExt: Bits {
+    /// Returns how many bits below `index` are unset. Of an index past the capacity it counts all.
+    ///
+    /// The shape has to fit. The words below `index` are read. With capacity 0 it returns 0.
+    ///
+    /// ```
+    /// 0b0010_0010u8.rank_zero(5);                         // 4: bits 0, 2, 3 and 4
+    /// ```
+    #[inline]
+    final fn rank_zero(&self, index: u32) -> u32
+    where
+        Self: Sized,
+        requires { ShapeFits Self.Shape self.now }
+        ensures value { result ≡ members_below
+            (complement (set_in Self.Shape Self.Order.Endian self.now)) index }
+        ensures at_most { result ≤ (Self.big self.now).capacity }
+    {
+        self.complement_view().rank(index)
+    }
+
+    /// Returns the index of the unset bit below which `rank` bits are unset, or `None` if no more
+    /// than `rank` bits are unset, as with capacity 0.
+    ///
+    /// The shape has to fit. Words are counted whole up to that of the answer.
+    ///
+    /// ```
+    /// 0b0010_0010u8.select_zero(1);                       // Some(2)
+    /// ```
+    #[inline]
+    final fn select_zero(&self, rank: u32) -> Option<u32>
+    where
+        Self: Sized,
+        requires { ShapeFits Self.Shape self.now }
+        ensures value { result ≡ slice_get
+            (ascending (complement (set_in Self.Shape Self.Order.Endian self.now))) rank }
+        ensures below { IfSome result (λ index. index < (Self.big self.now).capacity) }
+    {
+        self.complement_view().select(rank)
+    }
+}
+
+impl<B: Bits> BitsRankExt for B {}
