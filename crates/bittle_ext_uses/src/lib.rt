@@ -13,6 +13,7 @@ pub mod relation_chains;
 pub mod retained;
 pub mod rotations;
 pub mod run_walks;
+pub mod sets_between;
 pub mod shape_changes;
 pub mod spans;
 pub mod views;

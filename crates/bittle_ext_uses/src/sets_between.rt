@@ -1,0 +1,149 @@
+//! Sets changed by sets of other shapes, with what is told of the change.
+
+ghost use Rattle.std.specs.Prelude.{◌≡◌, ◌<◌, ◌+◌, ◌*◌, false, length, slice_get, IfSome, IsTrue};
+ghost use Rattle.bittle.specs.BitPatterns.{bit_set};
+ghost use Rattle.bittle.specs.PlainSet.{ascending, complement, contains, full_set};
+ghost use Rattle.bittle.specs.PlainSet.{members_below, size};
+ghost use Rattle.bittle.specs.Rows.{row_set};
+ghost use Rattle.bittle.specs.Values.{set_in, ShapeFits};
+ghost use Rattle.bittle_ext.specs.Between.{difference_within, members_to, union_within};
+ghost use Rattle.bittle_ext.specs.Rotations.{shifted_down, shifted_up};
+
+use bittle::{Bits, BitsMut, BitsOwned, Endian, Set};
+use bittle_ext::{BitsCombineExt, BitsMutViewExt, BitsRankExt, BitsShiftExt, BitsViewExt};
+
+/// Adds what is live after a block to what is live before it, and returns whether that changed.
+pub fn add_live(before: &mut [u64; 4], after: &[u64; 4]) -> bool
+    ensures set { row_set 4 64 (bit_set 64) before.new
+        ≡ union_within (row_set 4 64 (bit_set 64) before.old)
+        (row_set 4 64 (bit_set 64) after.now) }
+    ensures stays { result ≡ false → row_set 4 64 (bit_set 64) before.new
+        ≡ row_set 4 64 (bit_set 64) before.old }
+    ensures grew { IsTrue result → size (row_set 4 64 (bit_set 64) before.old)
+        < size (row_set 4 64 (bit_set 64) before.new) }
+{
+    before.union_with(after)
+}
+
+/// Adds what is live after a block, without what it defines, to what is live before it.
+pub fn flow(before: &mut u64, after: u64, defined: &[u8; 8]) -> bool {
+    before.union_with(&after.minus(defined))
+}
+
+/// Returns whether a task is in a copy of a mask.
+pub fn is_copied(more: u32, task: u32) -> bool
+    requires { task < 64 }
+    ensures { result ≡ (bit_set 32 more).has task }
+{
+    let mut all = 0u64;
+    all.copy_from(&more);
+    all.test_bit(task)
+}
+
+/// Takes the indexes of any set out of another one, in an order, and returns whether one was in it.
+pub fn take_out<A: BitsMut, B: Bits, E: Endian>(set: &mut A, other: &B) -> bool
+    requires fits { ShapeFits A.Shape set.old }
+    requires other_fits { ShapeFits B.Shape other.now }
+    ensures set { set_in A.Shape E.Endian set.new
+        ≡ difference_within (set_in A.Shape E.Endian set.old) (set_in B.Shape E.Endian other.now) }
+    ensures shrank { IsTrue result → size (set_in A.Shape E.Endian set.new)
+        < size (set_in A.Shape E.Endian set.old) }
+    ensures stays { A.loan set.old ≡ A.loan set.new }
+{
+    set.in_order_mut::<E>()
+        .difference_with(&other.in_order::<E>())
+}
+
+/// Adds the roles of a word to those of a lent slice.
+pub fn grant(roles: &mut [u64], word: u32) -> bool
+    requires { length roles.old * 64 < 4294967295 }
+    ensures { row_set (length roles.new) 64 (bit_set 64) roles.new
+        ≡ union_within (row_set (length roles.old) 64 (bit_set 64) roles.old) (bit_set 32 word) }
+{
+    let mut set = Set::from_mut(roles);
+    set.union_with(&word)
+}
+
+/// Makes a lent slice have what a set has, and nothing else.
+pub fn restore<B: Bits>(words: &mut [u64], saved: &B)
+    requires fits { length words.old * 64 < 4294967295 }
+    requires saved_fits { ShapeFits B.Shape saved.now }
+    ensures { row_set (length words.new) 64 (bit_set 64) words.new
+        ≡ members_to (length words.old * 64) (set_in B.Shape B.Order.Endian saved.now) }
+{
+    let mut set = Set::from_mut(words);
+    set.copy_from(saved);
+}
+
+/// Returns the bits of a row in one word.
+pub fn packed(row: &[u8; 4]) -> u32
+    ensures { bit_set 32 result ≡ members_to 32 (row_set 4 8 (bit_set 8) row.now) }
+{
+    u32::from_set(row)
+}
+
+/// Returns a set of any type with what another one has.
+pub fn converted<A: BitsOwned, B: Bits>(other: &B) -> A
+    requires indexable { IsTrue A.indexable }
+    requires other_fits { ShapeFits B.Shape other.now }
+    ensures { set_in A.Shape A.Order.Endian result
+        ≡ members_to A.type_capacity (set_in B.Shape B.Order.Endian other.now) }
+{
+    A::from_set(other)
+}
+
+/// Sets each index of a lent slice.
+pub fn fill_all(words: &mut [u8])
+    requires { length words.old * 8 < 4294967295 }
+    ensures { row_set (length words.new) 8 (bit_set 8) words.new
+        ≡ full_set (length words.old * 8) }
+{
+    let mut set = Set::from_mut(words);
+    set.set_all();
+}
+
+/// Delays the tasks of a lent timetable by an hour; the last one's are dropped.
+pub fn delay(tasks: &mut [u64])
+    requires { length tasks.old * 64 < 4294967295 }
+    ensures { row_set (length tasks.new) 64 (bit_set 64) tasks.new
+        ≡ shifted_up (row_set (length tasks.old) 64 (bit_set 64) tasks.old) 1 }
+{
+    let mut set = Set::from_mut(tasks);
+    set.shift_up(1);
+}
+
+/// Drops the first indexes of any set, and counts the others from there.
+pub fn drop_first<B: BitsMut>(set: &mut B, count: u32)
+    requires { ShapeFits B.Shape set.old }
+    ensures set { set_in B.Shape B.Order.Endian set.new
+        ≡ shifted_down (set_in B.Shape B.Order.Endian set.old) count }
+    ensures stays { B.loan set.old ≡ B.loan set.new }
+{
+    set.shift_down(count);
+}
+
+/// Returns whether the task of the next hour is due once an hour has passed.
+pub fn is_due(tasks: u64, hour: u32) -> bool
+    requires { hour < 63 }
+    ensures { result ≡ contains (bit_set 64 tasks) (hour + 1) }
+{
+    let mut later = tasks;
+    later.shift_down(1);
+    later.test_bit(hour)
+}
+
+/// Returns the page of a map that is free after so many free ones, or none.
+pub fn free_page(taken: &[u64; 8], after: u32) -> Option<u32>
+    ensures value { result ≡ slice_get
+        (ascending (complement (row_set 8 64 (bit_set 64) taken.now))) after }
+    ensures below { IfSome result (λ page. page < 512) }
+{
+    taken.select_zero(after)
+}
+
+/// Counts the free pages below a page.
+pub fn free_below(taken: &[u64; 8], page: u32) -> u32
+    ensures { result ≡ members_below (complement (row_set 8 64 (bit_set 64) taken.now)) page }
+{
+    taken.rank_zero(page)
+}
