@@ -18,14 +18,14 @@ pub(crate) fn draw(state: &mut u32) -> u32 {
 }
 
 // Draws a row.
-fn draw_row(state: &mut u32) -> [u8; 3] {
+pub(crate) fn draw_row(state: &mut u32) -> [u8; 3] {
     let one = (draw(state) % 256) as u8;
     let two = (draw(state) % 256) as u8;
     [one, two, (draw(state) % 256) as u8]
 }
 
 // Returns the flags of a row, bit by bit.
-fn flags_of(row: &[u8; 3]) -> [bool; 24] {
+pub(crate) fn flags_of(row: &[u8; 3]) -> [bool; 24] {
     let mut flags = [false; 24];
     for i in 0..24usize {
         flags[i] = row[i / 8] >> (i % 8) & 1 == 1;

@@ -1,0 +1,335 @@
+//! Sets changed by sets of other shapes, with values worked out by hand, and with drawn ones
+//! compared with plain loops over 24 flags.
+
+ghost use Rattle.std.specs.Prelude.{IsTrue};
+ghost use Rattle.bittle.specs.Values.{ShapeFits};
+
+use crate::checks::same;
+use crate::random::{combined, draw, draw_row, flags_of};
+use bittle::{Bits, BitsMut, BitsOwned, LittleEndian, Set};
+use bittle_ext::prelude::*;
+
+const UNION: u32 = 0;
+
+const COMMON: u32 = 1;
+
+const ALONE: u32 = 2;
+
+const UNLIKE: u32 = 3;
+
+// Changes a set by an operation with another one, and returns whether that is said to change it.
+fn change<A: BitsMut, B: Bits>(kind: u32, set: &mut A, other: &B) -> bool
+    requires fits { ShapeFits A.Shape set.old }
+    requires other_fits { ShapeFits B.Shape other.now }
+{
+    match kind {
+        UNION => set.union_with(other),
+        COMMON => set.intersect_with(other),
+        ALONE => set.difference_with(other),
+        _ => set.symmetric_difference_with(other),
+    }
+}
+
+// Returns the set after a change, and what it is said to be.
+fn changed<A: BitsOwned, B: Bits>(kind: u32, set: A, other: &B) -> (A, bool)
+    requires indexable { IsTrue A.indexable }
+    requires other_fits { ShapeFits B.Shape other.now }
+{
+    let mut now = set;
+    let told = change(kind, &mut now, other);
+    (now, told)
+}
+
+#[test]
+fn a_byte_by_a_wider_word(rt: HostRuntime) {
+    // Bits 0 and 1 are set, and bits 1, 2 and 8.
+    let (byte, word) = (0b0011u8, 0x0106u16);
+    same!(rt; changed(UNION, byte, &word), (0b0111, true));
+    same!(rt; changed(COMMON, byte, &word), (0b0010, true));
+    same!(rt; changed(ALONE, byte, &word), (0b0001, true));
+    same!(rt; changed(UNLIKE, byte, &word), (0b0101, true));
+}
+
+#[test]
+fn a_word_by_a_byte(rt: HostRuntime) {
+    let (byte, word) = (0b0011u8, 0x0106u16);
+    same!(rt; changed(UNION, word, &byte), (0x0107, true));
+    same!(rt; changed(COMMON, word, &byte), (0x0002, true));
+    same!(rt; changed(ALONE, word, &byte), (0x0104, true));
+    same!(rt; changed(UNLIKE, word, &byte), (0x0105, true));
+}
+
+#[test]
+fn a_longer_row_by_a_byte(rt: HostRuntime) {
+    let (byte, row) = (0b0011u8, [0b0110u8, 1, 0x80]);
+    same!(rt; changed(UNION, row, &byte), ([0b0111, 1, 0x80], true));
+    same!(rt; changed(COMMON, row, &byte), ([0b0010, 0, 0], true));
+    same!(rt; changed(ALONE, row, &byte), ([0b0100, 1, 0x80], true));
+    same!(rt; changed(UNLIKE, row, &byte), ([0b0101, 1, 0x80], true));
+}
+
+#[test]
+fn what_changes_nothing_is_told(rt: HostRuntime) {
+    // From bit 8 on the other set has what the byte has not.
+    let byte = 0b0111u8;
+    same!(rt; changed(UNION, byte, &0xFF06u16), (byte, false));
+    same!(rt; changed(COMMON, byte, &0x000Fu16), (byte, false));
+    same!(rt; changed(ALONE, byte, &0xFF08u16), (byte, false));
+    same!(rt; changed(UNLIKE, byte, &0xFF00u16), (byte, false));
+}
+
+#[test]
+fn the_last_word_alone_changes(rt: HostRuntime) {
+    let row = [0xFFFFu16, 1, 1];
+    same!(rt; changed(UNION, row, &[0u16, 1, 3]), ([0xFFFF, 1, 3], true));
+    same!(rt; changed(COMMON, row, &[0xFFFFu16, 1]), ([0xFFFF, 1, 0], true));
+}
+
+#[test]
+fn two_rows_each_in_its_own_order(rt: HostRuntime) {
+    // Bits 0, 15 and 33 are set, and from the left bits 0, 33 and 63.
+    let row = [0x8001u16, 0, 2];
+    let set: Set<[u32; 2], LittleEndian> = Set::new_le([0x8000_0000, 0x4000_0001]);
+    same!(rt; changed(UNION, row, &set), (row, false));
+    same!(rt; changed(COMMON, row, &set), ([1, 0, 2], true));
+    same!(rt; changed(ALONE, row, &set), ([0x8000, 0, 0], true));
+    same!(rt; changed(UNLIKE, row, &set), ([0x8000, 0, 0], true));
+}
+
+#[test]
+fn a_set_from_the_left_by_a_row(rt: HostRuntime) {
+    let row = [0x8001u16, 0, 2];
+    let set: Set<[u32; 2], LittleEndian> = Set::new_le([0x8000_0000, 0x4000_0001]);
+    let (either, told) = changed(UNION, set, &row);
+    same!(rt; (either.into_bits(), told), ([0x8001_0000, 0x4000_0001], true));
+    let (both, told) = changed(COMMON, set, &row);
+    same!(rt; (both.into_bits(), told), ([0x8000_0000, 0x4000_0000], true));
+}
+
+#[test]
+fn two_sets_from_the_left(rt: HostRuntime) {
+    // From the left bits 0 and 7 are set, and bits 1, 7 and 8.
+    let (byte, row) = (Set::new_le(0x81u8), Set::new_le([0x41u8, 0x80]));
+    let (either, told) = changed(UNION, byte, &row);
+    same!(rt; (either.into_bits(), told), (0xC1, true));
+    let (alone, told) = changed(ALONE, row, &byte);
+    same!(rt; (alone.into_bits(), told), ([0x40, 0x80], true));
+}
+
+#[test]
+fn capacity_0(rt: HostRuntime) {
+    let none: [u64; 0] = [];
+    same!(rt; changed(UNION, none, &0xFFu8), (none, false));
+    same!(rt; changed(UNLIKE, none, &none), (none, false));
+    same!(rt; changed(UNION, 0x0Fu8, &none), (0x0F, false));
+    same!(rt; changed(COMMON, 0x0Fu8, &none), (0, true));
+    same!(rt; changed(COMMON, 0u8, &none), (0, false));
+}
+
+// Adds what two sets have in common to a set that is read from the left.
+fn add_common<A: BitsMut, B: Bits>(set: &mut A, one: &B, other: &B) -> bool
+    requires fits { ShapeFits A.Shape set.old }
+    requires one_fits { ShapeFits B.Shape one.now }
+    requires other_fits { ShapeFits B.Shape other.now }
+{
+    set.in_order_mut::<LittleEndian>()
+        .union_with(&one.and(other))
+}
+
+#[test]
+fn a_view_is_changed_by_a_view(rt: HostRuntime) {
+    // What they have in common are bits 1 and 2, which from the left are bits 6 and 5.
+    let mut byte = 0x01u8;
+    same!(rt; add_common(&mut byte, &0x0106u16, &0x00FEu16), true);
+    same!(rt; byte, 0x61);
+}
+
+// Adds one set to a set, and takes another one out.
+fn add_and_take_out<A: BitsMut, B: Bits, C: Bits>(set: &mut A, one: &B, other: &C) -> [bool; 2]
+    requires fits { ShapeFits A.Shape set.old }
+    requires one_fits { ShapeFits B.Shape one.now }
+    requires other_fits { ShapeFits C.Shape other.now }
+{
+    [set.union_with(one), set.difference_with(other)]
+}
+
+#[test]
+fn a_lent_slice(rt: HostRuntime) {
+    let mut row = [1u32, 0, 0x8000_0000];
+    let mut held = (row.as_mut_slice(),);
+    let lent = &mut held;
+    same!(rt; add_and_take_out(&mut lent.0, &[0u8, 0, 0, 0, 1], &[1u64, 0]), [true, true]);
+    same!(rt; row, [0, 1, 0x8000_0000]);
+}
+
+// Returns the flags of two words from the left, below 24.
+fn flags_from_left(words: &[u16; 2]) -> [bool; 24] {
+    let mut flags = [false; 24];
+    for i in 0..24usize {
+        flags[i] = words[i / 16] >> (15 - i % 16) & 1 == 1;
+    }
+    flags
+}
+
+// Returns the flags that an operation makes of two sets' flags, and whether one of the first
+// changed.
+fn expected(kind: u32, ours: &[bool; 24], theirs: &[bool; 24]) -> ([bool; 24], bool) {
+    let mut flags = [false; 24];
+    for i in 0..24usize {
+        flags[i] = combined(kind, ours[i], theirs[i]);
+    }
+    (flags, flags != *ours)
+}
+
+#[test]
+fn drawn_changes_by_like_words_agree_with_plain_loops(rt: HostRuntime) {
+    let mut state = 19;
+    for turn in 0..2000u32 {
+        let kind = turn % 4;
+        let (row, other) = (draw_row(&mut state), draw_row(&mut state));
+        let (now, told) = changed(kind, row, &[other[0], other[1]]);
+        let theirs = flags_of(&[other[0], other[1], 0]);
+        same!(rt; (flags_of(&now), told), expected(kind, &flags_of(&row), &theirs));
+    }
+}
+
+#[test]
+fn drawn_changes_by_unlike_words_agree_with_plain_loops(rt: HostRuntime) {
+    let mut state = 23;
+    for turn in 0..2000u32 {
+        let kind = turn % 4;
+        let row = draw_row(&mut state);
+        let one = (draw(&mut state) % 65536) as u16;
+        let words = [one, (draw(&mut state) % 65536) as u16];
+        let (now, told) = changed(kind, row, &Set::new_le(words));
+        let theirs = flags_from_left(&words);
+        same!(rt; (flags_of(&now), told), expected(kind, &flags_of(&row), &theirs));
+    }
+}
+
+// Returns a set after it was made what another one has.
+fn copied<A: BitsOwned, B: Bits>(set: A, other: &B) -> A
+    requires indexable { IsTrue A.indexable }
+    requires other_fits { ShapeFits B.Shape other.now }
+{
+    let mut now = set;
+    now.copy_from(other);
+    now
+}
+
+#[test]
+fn copies(rt: HostRuntime) {
+    // From the left bits 1, 7 and 8 are set.
+    same!(rt; copied([0xFFu8, 0xFF, 0xFF], &0x0107u16), [0x07, 0x01, 0]);
+    same!(rt; copied(0xFFu8, &[0x0106u16, 3]), 0x06);
+    same!(rt; copied(0xFFFFu16, &Set::new_le([0x41u8, 0x80])), 0x0182);
+    same!(rt; copied(Set::new_le(0xFFu8), &0x0101u16).into_bits(), 0x80);
+    let none: [u8; 0] = [];
+    same!(rt; (copied(none, &7u8), copied(7u8, &none)), (none, 0));
+}
+
+#[test]
+fn sets_of_other_types(rt: HostRuntime) {
+    same!(rt; <[u8; 4]>::from_set(&0x8005_0103u32), [0x03, 0x01, 0x05, 0x80]);
+    same!(rt; u16::from_set(&[0x03u8, 0x01, 0x05]), 0x0103);
+    same!(rt; <[u64; 0]>::from_set(&0xFFu8), []);
+    let left: Set<u8, LittleEndian> = Set::from_set(&0b0000_0110u64);
+    same!(rt; left.into_bits(), 0b0110_0000);
+}
+
+// Returns a set with every bit set.
+fn filled<B: BitsMut>(set: B) -> B
+    requires { ShapeFits B.Shape set }
+{
+    let mut now = set;
+    now.set_all();
+    now
+}
+
+#[test]
+fn every_bit_is_set(rt: HostRuntime) {
+    same!(rt; filled([7u8, 9]), [0xFF, 0xFF]);
+    same!(rt; filled(-8i16), -1);
+    same!(rt; filled(Set::new_le(0u32)).into_bits(), u32::MAX);
+    same!(rt; filled([0u8; 0]), []);
+}
+
+// Returns a set shifted up in place, or else down.
+fn shifted<B: BitsMut>(up: bool, set: B, by: u32) -> B
+    requires { ShapeFits B.Shape set }
+{
+    let mut now = set;
+    if up {
+        now.shift_up(by);
+    } else {
+        now.shift_down(by);
+    }
+    now
+}
+
+#[test]
+fn shifts_in_place(rt: HostRuntime) {
+    // The members 0, 7 and 23.
+    let row = [0x81u8, 0, 0x80];
+    same!(rt; shifted(false, row, 8), [0, 0x80, 0]);
+    same!(rt; shifted(false, row, 7), [0x01, 0, 0x01]);
+    same!(rt; shifted(true, row, 9), [0, 0x02, 0x01]);
+    same!(rt; shifted(true, row, 16), [0, 0, 0x81]);
+    same!(rt; (shifted(true, row, 0), shifted(false, row, 0)), (row, row));
+}
+
+#[test]
+fn shifts_in_place_from_the_left(rt: HostRuntime) {
+    // From the left the members 0, 7 and 16.
+    let row = [0x81u8, 0, 0x80];
+    same!(rt; shifted(true, Set::new_le(row), 9).into_bits(), [0, 0x40, 0x80]);
+    same!(rt; shifted(false, Set::new_le(row), 7).into_bits(), [0x80, 0x40, 0]);
+}
+
+#[test]
+fn shifts_in_place_past_all(rt: HostRuntime) {
+    let row = [0x81u16, 1];
+    same!(rt; (shifted(true, row, 32), shifted(false, row, 32)), ([0; 2], [0; 2]));
+    same!(rt; (shifted(true, row, u32::MAX), shifted(false, row, u32::MAX)), ([0; 2], [0; 2]));
+    same!(rt; (shifted(true, [0u8; 0], 1), shifted(false, [0u8; 0], 0)), ([], []));
+}
+
+#[test]
+fn a_lent_slice_is_shifted(rt: HostRuntime) {
+    let mut row = [0x8000_0001u32, 0, 6];
+    let mut held = (row.as_mut_slice(),);
+    let lent = &mut held;
+    lent.0.shift_up(1);
+    lent.0.shift_down(33);
+    same!(rt; row, [0, 6, 0]);
+}
+
+#[test]
+fn drawn_shifts_in_place_agree_with_plain_loops(rt: HostRuntime) {
+    let mut state = 29;
+    for turn in 0..2000u32 {
+        let (row, up, by) = (draw_row(&mut state), turn % 2 == 0, draw(&mut state) % 30);
+        let (flags, by_size) = (flags_of(&row), by as usize);
+        let mut expected = [false; 24];
+        for i in 0..24usize {
+            expected[i] = if up {
+                by_size <= i && flags[i - by_size]
+            } else {
+                i + by_size < 24 && flags[i + by_size]
+            };
+        }
+        same!(rt; flags_of(&shifted(up, row, by)), expected);
+    }
+}
+
+#[test]
+fn unset_bits_by_rank(rt: HostRuntime) {
+    // The bits 0, 2, 3, 4, 6 and 7 are unset, and from the left all but 2 and 6.
+    let word = 0b0010_0010u8;
+    same!(rt; (word.select_zero(0), word.select_zero(5)), (Some(0), Some(7)));
+    same!(rt; (word.select_zero(1), word.select_zero(6)), (Some(2), None));
+    same!(rt; (word.rank_zero(5), word.rank_zero(100)), (4, 6));
+    let left = Set::new_le([0xFFu8, 0b0010_0010]);
+    same!(rt; (left.select_zero(2), left.rank_zero(12)), (Some(11), 3));
+    same!(rt; ([0u64; 0].select_zero(0), [0u64; 0].rank_zero(3)), (None, 0));
+}
