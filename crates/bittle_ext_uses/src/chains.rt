@@ -4,7 +4,7 @@
 //! Most have no clause of their own. What the check proves of them is that the second call is
 //! allowed, or that the index lies in the table, from the contract of the first call alone.
 
-ghost use Rattle.std.specs.Prelude.{◌<◌, ◌≤◌, ◌×◌, IfSome};
+ghost use Rattle.std.specs.Prelude.{◌<◌, ◌≤◌, IfSome};
 ghost use Rattle.bittle.specs.Values.{ShapeFits};
 
 use bittle::{Bits, BitsMut};
