@@ -1,0 +1,124 @@
+//! Runs of pages: values worked out by hand, and drawn calls beside a row of `bool`s.
+
+ghost use Rattle.std.specs.Prelude.{◌≡◌};
+ghost use Rattle.bittle.specs.Shapes.{Fits};
+
+use crate::checks::{holds, same};
+use bit_pages::{NotTaken, Pages};
+use bittle::{BitsOwned, LittleEndian, Set};
+
+#[test]
+fn runs_of_eight_pages(rt: HostRuntime) {
+    let mut pages = Pages::with_taken(0b0100_1001u8);
+    same!(rt; pages.take_run(3), None);
+    same!(rt; pages.take_run(2), Some(1));
+    same!(rt; pages.take_run(2), Some(4));
+    same!(rt; pages.taken(), 7);
+    same!(rt; pages.give_back_run(1, 5), Ok(()));
+    same!(rt; pages.give_back_run(0, 2), Err(NotTaken));
+    same!(rt; pages.taken(), 2);
+    same!(rt; pages.into_map(), 0b0100_0001);
+}
+
+#[test]
+fn runs_of_no_pages(rt: HostRuntime) {
+    let mut pages = Pages::with_taken(0xFFu8);
+    same!(rt; (pages.take_run(0), pages.take_run(1)), (Some(0), None));
+    same!(rt; (pages.give_back_run(8, 0), pages.give_back_run(9, 0)), (Ok(()), Err(NotTaken)));
+    let mut none = Pages::<[u8; 0]>::new();
+    same!(rt; (none.take_run(0), none.take_run(1)), (Some(0), None));
+    same!(rt; (none.give_back_run(0, 0), none.give_back_run(0, 1)), (Ok(()), Err(NotTaken)));
+}
+
+#[test]
+fn runs_past_the_last_page(rt: HostRuntime) {
+    let mut pages = Pages::with_taken(0xFFu8);
+    same!(rt; pages.give_back_run(7, 2), Err(NotTaken));
+    same!(rt; pages.give_back_run(1, 4_294_967_295), Err(NotTaken));
+    same!(rt; pages.give_back_run(4_294_967_295, 1), Err(NotTaken));
+    holds!(rt; pages.is_run_taken(0, 8) && !pages.is_run_taken(8, 1));
+    same!(rt; pages.taken(), 8);
+}
+
+// Returns whether the pages `first..first + length` of sixteen all have the value.
+fn all_are(taken: &[bool; 16], first: u32, length: u32, value: bool) -> bool {
+    for page in first..first.saturating_add(length) {
+        match taken.get(page as usize) {
+            Some(is_taken) if *is_taken == value => {}
+            _ => return false,
+        }
+    }
+    true
+}
+
+// Returns the first page of sixteen from which so many are free.
+fn first_free(taken: &[bool; 16], length: u32) -> Option<u32> {
+    for first in 0..16 {
+        if all_are(taken, first, length, false) {
+            return Some(first);
+        }
+    }
+    None
+}
+
+// Writes a value to each of the pages that there are.
+fn assign(taken: &mut [bool; 16], first: u32, length: u32, value: bool) {
+    for page in first..first.saturating_add(length) {
+        if page < 16 {
+            taken[page as usize] = value;
+        }
+    }
+}
+
+// Returns whether each page is taken as the row says, and they are counted.
+fn agrees<B: BitsOwned>(pages: &Pages<B>, taken: &[bool; 16]) -> bool {
+    let mut count = 0u32;
+    for page in 0..16u32 {
+        if pages.is_taken(page) != taken[page as usize] {
+            return false;
+        }
+        if taken[page as usize] {
+            count = count.wrapping_add(1);
+        }
+    }
+    pages.taken() == count
+}
+
+// Returns whether 40 drawn calls on sixteen pages answer as the row says.
+fn drawn<B: BitsOwned>(seed: u64) -> bool
+    requires fits { Fits B.indexable B.type_capacity }
+    requires sixteen { B.type_capacity ≡ 16 }
+{
+    let mut pages = Pages::<B>::new();
+    let mut taken = [false; 16];
+    let mut state = seed;
+    let mut right = true;
+    for _ in 0..40u32 {
+        state = state
+            .wrapping_mul(6_364_136_223_846_793_005)
+            .wrapping_add(1_442_695_040_888_963_407);
+        let length = ((state >> 40) % 5 + 1) as u32;
+        if (state >> 33) % 2 == 0 {
+            let expected = first_free(&taken, length);
+            right = right && pages.take_run(length) == expected;
+            if let Some(first) = expected {
+                assign(&mut taken, first, length, true);
+            }
+        } else {
+            let first = ((state >> 48) % 17) as u32;
+            let expected = all_are(&taken, first, length, true);
+            right = right && pages.give_back_run(first, length).is_ok() == expected;
+            if expected {
+                assign(&mut taken, first, length, false);
+            }
+        }
+        right = right && agrees(&pages, &taken);
+    }
+    right
+}
+
+#[test]
+fn drawn_runs(rt: HostRuntime) {
+    holds!(rt; drawn::<u16>(1) && drawn::<u16>(2));
+    holds!(rt; drawn::<[u8; 2]>(3) && drawn::<Set<[u8; 2], LittleEndian>>(4));
+}
