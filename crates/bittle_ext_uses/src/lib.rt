@@ -5,6 +5,7 @@ pub mod any_changes;
 pub mod chains;
 pub mod checked_indexes;
 pub mod combined_walks;
+pub mod first_forms;
 pub mod lent_changes;
 pub mod made_sets;
 pub mod range_walks;
