@@ -4,6 +4,8 @@
 #[cfg(test)]
 mod asked;
 #[cfg(test)]
+mod between;
+#[cfg(test)]
 mod checks;
 #[cfg(test)]
 mod comparisons;
