@@ -110,11 +110,18 @@ type Answers = ((u32, u32), [Option<u32>; 4], (bool, bool));
 fn answers<B: Bits>(row: &B, range: (Bound<u32>, Bound<u32>)) -> Answers
     requires { ShapeFits B.Shape row.now }
 {
-    let counts = (row.count_ones_in_span(range), row.count_zeros_in_span(range));
+    let counts = (
+        row.count_ones_in_span(range),
+        row.count_zeros_in_span(range),
+    );
     let ones = (row.first_one_in_span(range), row.last_one_in_span(range));
     let zeros = (row.first_zero_in_span(range), row.last_zero_in_span(range));
     let ends = [ones.0, ones.1, zeros.0, zeros.1];
-    (counts, ends, (row.any_in_span(range), row.all_in_span(range)))
+    (
+        counts,
+        ends,
+        (row.any_in_span(range), row.all_in_span(range)),
+    )
 }
 
 // Works the same out of flags, for the numbers from one on and before another.
