@@ -34,6 +34,8 @@ mod searches;
 #[cfg(test)]
 mod sets;
 #[cfg(test)]
+mod spans;
+#[cfg(test)]
 mod tiers;
 #[cfg(test)]
 mod views;
