@@ -7,6 +7,7 @@ ghost use Rattle.bittle.specs.PlainSet.{empty_set};
 
 use bit_queue::{Answer, Event, NoTask, PriorityQueue, RoundRobin};
 use bittle::BitsOwned;
+use bittle_tiers::{Ones, Tiered4K};
 
 /// Lets two tasks run, which differ.
 pub fn run_two<B: BitsOwned>(queue: &mut PriorityQueue<B>) -> Option<(u32, u32)>
@@ -59,6 +60,15 @@ pub fn serve(events: &[Event], answers: &mut [Answer])
     ensures { answers.new ≡ event_answers (empty_set 64) events.now }
 {
     let mut queue = PriorityQueue::<u64>::new();
+    queue.serve(events, answers);
+}
+
+/// Serves events by urgency, of 4,096 tasks, with one word that tells which words have a ready one.
+pub fn serve_tiered(events: &[Event], answers: &mut [Answer])
+    requires { length answers.old ≡ length events.now }
+    ensures { answers.new ≡ event_answers (empty_set 4096) events.now }
+{
+    let mut queue = PriorityQueue::<Tiered4K<Ones>>::new();
     queue.serve(events, answers);
 }
 

@@ -1,7 +1,6 @@
 //! Roles in the hands of a caller.
 
-ghost use Rattle.std.specs.Prelude.{◌≡◌, length, true};
-ghost use Rattle.bittle.specs.PlainSet.{PlainSet};
+ghost use Rattle.std.specs.Prelude.{◌≡◌, true};
 
 use bit_roles::{Refused, Roles};
 use bittle::BitsOwned;
