@@ -3,6 +3,7 @@
 ghost use Rattle.std.specs.Prelude.{◌≡◌, ◌+◌, ◌<◌, IsTrue, slice_index};
 ghost use Rattle.bittle.specs.Values.{set_mirrored};
 ghost use Rattle.bittle_uses.specs.MacroLists.{AreListed, listed_two_set, listed_three_set};
+ghost use Rattle.bittle_uses.specs.MacroLists.{listed_four_set};
 
 use bittle::BitsOwned;
 
