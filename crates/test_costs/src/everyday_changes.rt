@@ -1,85 +1,133 @@
 //! What the everyday calls that change a set ask of it: one word for one bit, and the words up to
 //! the answer where they search.
+//!
+//! The calls are made on any owned set, so that each is proved once: the row of the tests has twelve
+//! words and two members, 451 and 508, or lacks these two alone.
+
+ghost use Rattle.std.specs.Prelude.{◌≤◌, IsTrue};
 
 use crate::asked::Asked;
 use crate::probe_rows::{TWO, costs, row_of};
+use bittle::BitsOwned;
 use bittle_ext::{BitsIndexMutExt, BitsMutExt};
+use std::process::Abort;
+
+fn change_one_bit<B: BitsOwned>(rt: &impl Abort, mut few: B, asked: &Asked)
+    requires { IsTrue B.indexable }
+{
+    costs!(rt; asked, few.insert(451), false, 1, 1);
+    costs!(rt; asked, few.insert(0), true, 1, 1);
+    costs!(rt; asked, few.remove(0), true, 1, 1);
+    costs!(rt; asked, few.remove(0), false, 1, 1);
+    costs!(rt; asked, few.try_insert(0), Some(true), 1, 1);
+    costs!(rt; asked, few.try_remove(0), Some(true), 1, 1);
+    costs!(rt; asked, few.toggle(1), (), 1, 1);
+}
 
 #[test]
 fn a_change_of_one_bit_that_reports_it_reads_one_word_and_writes_it(rt: HostRuntime) {
     let asked = Asked::new();
-    let mut row = row_of(0, TWO, &asked);
-    costs!(rt; asked, row.insert(451), false, 1, 1);
-    costs!(rt; asked, row.insert(0), true, 1, 1);
-    costs!(rt; asked, row.remove(0), true, 1, 1);
-    costs!(rt; asked, row.remove(0), false, 1, 1);
-    costs!(rt; asked, row.try_insert(0), Some(true), 1, 1);
-    costs!(rt; asked, row.try_remove(0), Some(true), 1, 1);
-    costs!(rt; asked, row.toggle(1), (), 1, 1);
+    change_one_bit(&rt, row_of(0, TWO, &asked), &asked);
+}
+
+fn assign_one_bit<B: BitsOwned>(rt: &impl Abort, mut few: B, asked: &Asked)
+    requires { IsTrue B.indexable }
+{
+    costs!(rt; asked, few.assign(5, true), (), 0, 1);
+    costs!(rt; asked, few.assign(5, false), (), 0, 1);
+    costs!(rt; asked, few.replace(451, true), true, 0, 2);
+    costs!(rt; asked, few.try_set_bit(5), true, 0, 1);
+    costs!(rt; asked, few.try_clear_bit(5), true, 0, 1);
 }
 
 #[test]
 fn a_change_of_one_bit_that_reports_nothing_makes_one_call(rt: HostRuntime) {
     let asked = Asked::new();
-    let mut row = row_of(0, TWO, &asked);
-    costs!(rt; asked, row.assign(5, true), (), 0, 1);
-    costs!(rt; asked, row.assign(5, false), (), 0, 1);
-    costs!(rt; asked, row.replace(451, true), true, 0, 2);
-    costs!(rt; asked, row.try_set_bit(5), true, 0, 1);
-    costs!(rt; asked, row.try_clear_bit(5), true, 0, 1);
+    assign_one_bit(&rt, row_of(0, TWO, &asked), &asked);
+}
+
+fn change_past_the_capacity<B: BitsOwned>(rt: &impl Abort, mut few: B, asked: &Asked)
+    requires { IsTrue B.indexable }
+{
+    costs!(rt; asked, few.try_set_bit(768), false, 0, 0);
+    costs!(rt; asked, few.try_clear_bit(768), false, 0, 0);
+    costs!(rt; asked, few.try_insert(768), None, 0, 0);
+    costs!(rt; asked, few.try_remove(768), None, 0, 0);
 }
 
 #[test]
 fn a_change_that_is_refused_asks_nothing(rt: HostRuntime) {
     let asked = Asked::new();
-    let mut row = row_of(0, TWO, &asked);
-    costs!(rt; asked, row.try_set_bit(768), false, 0, 0);
-    costs!(rt; asked, row.try_clear_bit(768), false, 0, 0);
-    costs!(rt; asked, row.try_insert(768), None, 0, 0);
-    costs!(rt; asked, row.try_remove(768), None, 0, 0);
+    change_past_the_capacity(&rt, row_of(0, TWO, &asked), &asked);
+}
+
+// Indexes 100 to 199 lie in words 1, 2 and 3.
+fn change_ranges<B: BitsOwned>(rt: &impl Abort, mut few: B, asked: &Asked)
+    requires indexable { IsTrue B.indexable }
+    requires long { 200 ≤ B.type_capacity }
+{
+    costs!(rt; asked, few.set_range(100, 200), (), 0, 3);
+    costs!(rt; asked, few.toggle_range(100, 200), (), 0, 3);
+    costs!(rt; asked, few.clear_range(100, 200), (), 0, 3);
+    costs!(rt; asked, few.assign_range(100, 200, true), (), 0, 3);
+    costs!(rt; asked, few.set_range(100, 100), (), 0, 0);
+    costs!(rt; asked, few.complement_assign(), (), 0, 12);
 }
 
 #[test]
 fn a_change_of_a_range_asks_each_element_of_it_once(rt: HostRuntime) {
-    // Indexes 100 to 199 lie in words 1, 2 and 3.
     let asked = Asked::new();
-    let mut row = row_of(0, TWO, &asked);
-    costs!(rt; asked, row.set_range(100, 200), (), 0, 3);
-    costs!(rt; asked, row.toggle_range(100, 200), (), 0, 3);
-    costs!(rt; asked, row.clear_range(100, 200), (), 0, 3);
-    costs!(rt; asked, row.assign_range(100, 200, true), (), 0, 3);
-    costs!(rt; asked, row.set_range(100, 100), (), 0, 0);
-    costs!(rt; asked, row.complement_assign(), (), 0, 12);
+    change_ranges(&rt, row_of(0, TWO, &asked), &asked);
+}
+
+fn take_members<B: BitsOwned>(rt: &impl Abort, mut few: B, asked: &Asked)
+    requires { IsTrue B.indexable }
+{
+    costs!(rt; asked, few.pop_first(), Some(451), 8, 1);
+    costs!(rt; asked, few.pop_last(), Some(508), 5, 1);
+    costs!(rt; asked, few.pop_first(), None, 12, 0);
+    costs!(rt; asked, few.pop_last(), None, 12, 0);
+}
+
+fn take_others<B: BitsOwned>(rt: &impl Abort, mut most: B, asked: &Asked)
+    requires { IsTrue B.indexable }
+{
+    costs!(rt; asked, most.take_first_zero_run(1), Some(451), 9, 1);
+    costs!(rt; asked, most.take_first_zero(), Some(508), 8, 1);
+    costs!(rt; asked, most.take_first_zero(), None, 12, 0);
+    costs!(rt; asked, most.take_first_zero_run(1), None, 12, 0);
 }
 
 #[test]
 fn what_is_taken_is_searched_for_once_and_changed_once(rt: HostRuntime) {
     let asked = Asked::new();
-    let mut row = row_of(0, TWO, &asked);
-    costs!(rt; asked, row.pop_first(), Some(451), 8, 1);
-    costs!(rt; asked, row.pop_last(), Some(508), 5, 1);
-    costs!(rt; asked, row.pop_first(), None, 12, 0);
-    costs!(rt; asked, row.pop_last(), None, 12, 0);
-    let mut row = row_of(!0, !TWO, &asked);
-    costs!(rt; asked, row.take_first_zero_run(1), Some(451), 9, 1);
-    costs!(rt; asked, row.take_first_zero(), Some(508), 8, 1);
-    costs!(rt; asked, row.take_first_zero(), None, 12, 0);
-    costs!(rt; asked, row.take_first_zero_run(1), None, 12, 0);
+    take_members(&rt, row_of(0, TWO, &asked), &asked);
+    take_others(&rt, row_of(!0, !TWO, &asked), &asked);
+}
+
+// Eight words to the first item, one to the second, five to the end.
+fn retain_some<B: BitsOwned>(rt: &impl Abort, mut few: B, asked: &Asked)
+    requires { IsTrue B.indexable }
+{
+    costs!(rt; asked, few.retain(|_| true), (), 14, 0);
+    costs!(rt; asked, few.retain(|index| index > 500), (), 14, 1);
 }
 
 #[test]
 fn retain_searches_from_each_item_on_and_clears_what_goes(rt: HostRuntime) {
-    // Eight words to the first item, one to the second, five to the end.
     let asked = Asked::new();
-    let mut row = row_of(0, TWO, &asked);
-    costs!(rt; asked, row.retain(|_| true), (), 14, 0);
-    costs!(rt; asked, row.retain(|index| index > 500), (), 14, 1);
+    retain_some(&rt, row_of(0, TWO, &asked), &asked);
+}
+
+fn add_lists<B: BitsOwned>(rt: &impl Abort, mut few: B, asked: &Asked)
+    requires { IsTrue B.indexable }
+{
+    costs!(rt; asked, few.insert_all(&[1, 65, 1]), (), 0, 3);
+    costs!(rt; asked, few.extend([2u32, 66]), (), 0, 2);
 }
 
 #[test]
 fn a_list_of_indexes_makes_one_call_for_each(rt: HostRuntime) {
     let asked = Asked::new();
-    let mut row = row_of(0, TWO, &asked);
-    costs!(rt; asked, row.insert_all(&[1, 65, 1]), (), 0, 3);
-    costs!(rt; asked, row.extend([2u32, 66].into_iter()), (), 0, 2);
+    add_lists(&rt, row_of(0, TWO, &asked), &asked);
 }

@@ -1,87 +1,137 @@
 //! What the everyday calls that read one set ask of it: the words from where they begin to the one
 //! that decides, each once.
+//!
+//! The calls are made on any set, so that each is proved once: the row of the tests has twelve words
+//! and two members, 451 and 508, or lacks these two alone.
+
+ghost use Rattle.bittle.specs.Values.{ShapeFits};
 
 use crate::asked::Asked;
 use crate::probe_rows::{TWO, costs, row_of};
+use bittle::Bits;
 use bittle_ext::{BitsExt, BitsIndexExt};
+use std::process::Abort;
+
+fn ask_for_ends<B: Bits>(rt: &impl Abort, few: &B, most: &B, asked: &Asked)
+    requires few { ShapeFits B.Shape few.now }
+    requires most { ShapeFits B.Shape most.now }
+{
+    costs!(rt; asked, few.first_one(), Some(451), 8, 0);
+    costs!(rt; asked, few.last_one(), Some(508), 5, 0);
+    costs!(rt; asked, most.first_zero(), Some(451), 8, 0);
+    costs!(rt; asked, most.last_zero(), Some(508), 5, 0);
+}
 
 #[test]
 fn ends_fetch_the_words_up_to_the_answer(rt: HostRuntime) {
     let asked = Asked::new();
-    let row = row_of(0, TWO, &asked);
-    costs!(rt; asked, row.first_one(), Some(451), 8, 0);
-    costs!(rt; asked, row.last_one(), Some(508), 5, 0);
-    let row = row_of(!0, !TWO, &asked);
-    costs!(rt; asked, row.first_zero(), Some(451), 8, 0);
-    costs!(rt; asked, row.last_zero(), Some(508), 5, 0);
+    let (few, most) = (row_of(0, TWO, &asked), row_of(!0, !TWO, &asked));
+    ask_for_ends(&rt, &few, &most, &asked);
+}
+
+fn ask_for_neighbours<B: Bits>(rt: &impl Abort, few: &B, most: &B, asked: &Asked)
+    requires few { ShapeFits B.Shape few.now }
+    requires most { ShapeFits B.Shape most.now }
+{
+    costs!(rt; asked, few.next_one(320), Some(451), 3, 0);
+    costs!(rt; asked, few.next_one(768), None, 0, 0);
+    costs!(rt; asked, few.prev_one(640), Some(508), 3, 0);
+    costs!(rt; asked, most.next_zero(320), Some(451), 3, 0);
+    costs!(rt; asked, most.next_zero(768), None, 0, 0);
+    costs!(rt; asked, most.prev_zero(640), Some(508), 3, 0);
 }
 
 #[test]
 fn neighbours_fetch_the_words_up_to_the_answer(rt: HostRuntime) {
     let asked = Asked::new();
-    let row = row_of(0, TWO, &asked);
-    costs!(rt; asked, row.next_one(320), Some(451), 3, 0);
-    costs!(rt; asked, row.next_one(768), None, 0, 0);
-    costs!(rt; asked, row.prev_one(640), Some(508), 3, 0);
-    let row = row_of(!0, !TWO, &asked);
-    costs!(rt; asked, row.next_zero(320), Some(451), 3, 0);
-    costs!(rt; asked, row.next_zero(768), None, 0, 0);
-    costs!(rt; asked, row.prev_zero(640), Some(508), 3, 0);
+    let (few, most) = (row_of(0, TWO, &asked), row_of(!0, !TWO, &asked));
+    ask_for_neighbours(&rt, &few, &most, &asked);
+}
+
+fn count_ranges<B: Bits>(rt: &impl Abort, few: &B, asked: &Asked)
+    requires { ShapeFits B.Shape few.now }
+{
+    costs!(rt; asked, few.rank(385), 0, 7, 0);
+    costs!(rt; asked, few.rank(0), 0, 0, 0);
+    costs!(rt; asked, few.count_ones_in_range(130, 500), 1, 6, 0);
+    costs!(rt; asked, few.count_zeros_in_range(130, 500), 369, 6, 0);
+    costs!(rt; asked, few.count_zeros_in_range(130, 130), 0, 0, 0);
 }
 
 #[test]
 fn counts_of_a_range_fetch_its_words_once(rt: HostRuntime) {
     let asked = Asked::new();
-    let row = row_of(0, TWO, &asked);
-    costs!(rt; asked, row.rank(385), 0, 7, 0);
-    costs!(rt; asked, row.rank(0), 0, 0, 0);
-    costs!(rt; asked, row.count_ones_in_range(130, 500), 1, 6, 0);
-    costs!(rt; asked, row.count_zeros_in_range(130, 500), 369, 6, 0);
-    costs!(rt; asked, row.count_zeros_in_range(130, 130), 0, 0, 0);
+    count_ranges(&rt, &row_of(0, TWO, &asked), &asked);
+}
+
+fn question_ranges<B: Bits>(rt: &impl Abort, few: &B, most: &B, asked: &Asked)
+    requires few { ShapeFits B.Shape few.now }
+    requires most { ShapeFits B.Shape most.now }
+{
+    costs!(rt; asked, few.any_in_range(130, 768), true, 6, 0);
+    costs!(rt; asked, few.any_in_range(130, 451), false, 6, 0);
+    costs!(rt; asked, most.all_in_range(130, 768), false, 6, 0);
+    costs!(rt; asked, most.all_in_range(130, 451), true, 6, 0);
 }
 
 #[test]
 fn questions_about_a_range_fetch_up_to_the_answer(rt: HostRuntime) {
     let asked = Asked::new();
-    let row = row_of(0, TWO, &asked);
-    costs!(rt; asked, row.any_in_range(130, 768), true, 6, 0);
-    costs!(rt; asked, row.any_in_range(130, 451), false, 6, 0);
-    let row = row_of(!0, !TWO, &asked);
-    costs!(rt; asked, row.all_in_range(130, 768), false, 6, 0);
-    costs!(rt; asked, row.all_in_range(130, 451), true, 6, 0);
+    let (few, most) = (row_of(0, TWO, &asked), row_of(!0, !TWO, &asked));
+    question_ranges(&rt, &few, &most, &asked);
+}
+
+fn select_two<B: Bits>(rt: &impl Abort, few: &B, asked: &Asked)
+    requires { ShapeFits B.Shape few.now }
+{
+    costs!(rt; asked, few.select(1), Some(508), 14, 0);
+    costs!(rt; asked, few.select(2), None, 12, 0);
 }
 
 #[test]
 fn select_fetches_up_to_its_word_and_then_that_word_for_each_half(rt: HostRuntime) {
     let asked = Asked::new();
-    let row = row_of(0, TWO, &asked);
-    costs!(rt; asked, row.select(1), Some(508), 14, 0);
-    costs!(rt; asked, row.select(2), None, 12, 0);
+    select_two(&rt, &row_of(0, TWO, &asked), &asked);
+}
+
+// Eight words to the first bit, and one to see whether enough follow it. Then one to the second
+// bit, one to see the same, and five to the end.
+fn search_for_runs_of_ones<B: Bits>(rt: &impl Abort, few: &B, asked: &Asked)
+    requires { ShapeFits B.Shape few.now }
+{
+    costs!(rt; asked, few.first_one_run(1), Some(451), 9, 0);
+    costs!(rt; asked, few.first_one_run(2), None, 16, 0);
+    costs!(rt; asked, few.next_one_run(452, 1), Some(508), 2, 0);
+    costs!(rt; asked, few.next_one_run(769, 1), None, 0, 0);
+}
+
+fn search_for_runs_of_zeros<B: Bits>(rt: &impl Abort, most: &B, asked: &Asked)
+    requires { ShapeFits B.Shape most.now }
+{
+    costs!(rt; asked, most.first_zero_run(1), Some(451), 9, 0);
+    costs!(rt; asked, most.first_zero_run(2), None, 16, 0);
+    costs!(rt; asked, most.next_zero_run(452, 1), Some(508), 2, 0);
+    costs!(rt; asked, most.next_zero_run(453, 0), Some(453), 0, 0);
 }
 
 #[test]
 fn runs_fetch_twice_for_each_shorter_run(rt: HostRuntime) {
-    // Eight words to the first bit, and one to see whether enough follow it. Then one to the second
-    // bit, one to see the same, and five to the end.
     let asked = Asked::new();
-    let row = row_of(0, TWO, &asked);
-    costs!(rt; asked, row.first_one_run(1), Some(451), 9, 0);
-    costs!(rt; asked, row.first_one_run(2), None, 16, 0);
-    costs!(rt; asked, row.next_one_run(452, 1), Some(508), 2, 0);
-    costs!(rt; asked, row.next_one_run(769, 1), None, 0, 0);
-    let row = row_of(!0, !TWO, &asked);
-    costs!(rt; asked, row.first_zero_run(1), Some(451), 9, 0);
-    costs!(rt; asked, row.first_zero_run(2), None, 16, 0);
-    costs!(rt; asked, row.next_zero_run(452, 1), Some(508), 2, 0);
-    costs!(rt; asked, row.next_zero_run(453, 0), Some(453), 0, 0);
+    search_for_runs_of_ones(&rt, &row_of(0, TWO, &asked), &asked);
+    search_for_runs_of_zeros(&rt, &row_of(!0, !TWO, &asked), &asked);
+}
+
+fn ask_for_one_bit<B: Bits>(rt: &impl Abort, few: &B, asked: &Asked)
+    requires { ShapeFits B.Shape few.now }
+{
+    costs!(rt; asked, few.contains_index(451), true, 0, 1);
+    costs!(rt; asked, few.contains_index(768), false, 0, 0);
+    costs!(rt; asked, few.get_bit(452), Some(false), 0, 1);
+    costs!(rt; asked, few.get_bit(768), None, 0, 0);
 }
 
 #[test]
 fn an_index_that_does_not_wrap_asks_for_one_bit_or_nothing(rt: HostRuntime) {
     let asked = Asked::new();
-    let row = row_of(0, TWO, &asked);
-    costs!(rt; asked, row.contains_index(451), true, 0, 1);
-    costs!(rt; asked, row.contains_index(768), false, 0, 0);
-    costs!(rt; asked, row.get_bit(452), Some(false), 0, 1);
-    costs!(rt; asked, row.get_bit(768), None, 0, 0);
+    ask_for_one_bit(&rt, &row_of(0, TWO, &asked), &asked);
 }
