@@ -152,7 +152,7 @@ module _ {V : Type 0} (test : Slot V → Bool) (s : PlainSet) (row : List (Slot 
         ∙ sym (ap (passes test) (slice_get_past row k (omega arith)))
   ]
 
--- below 0 there is none
+-- no slot has a number below the first
 pub marks_none : {V : Type 0} (test : Slot V → Bool) (s : PlainSet) (row : List (Slot V)) (c : ℕ) →
     s ≡ empty_set c → MarksBelow test s row 0
 marks_none test s row c is k = ap (λ u. u.has k) is

@@ -63,7 +63,7 @@ pub fn serve(events: &[Event], answers: &mut [Answer])
     queue.serve(events, answers);
 }
 
-/// Serves events by urgency, of 4,096 tasks, with one word that tells which words have a ready one.
+/// Serves events by urgency, of 4,096 tasks, with a summary of the words that have a ready one.
 pub fn serve_tiered(events: &[Event], answers: &mut [Answer])
     requires { length answers.old ≡ length events.now }
     ensures { answers.new ≡ event_answers (empty_set 4096) events.now }

@@ -40,7 +40,8 @@ pub fn inherit_from_itself<B: BitsOwned, const N: usize>(roles: &mut Roles<B, N>
     roles.inherit(role, role).is_err()
 }
 
-/// Counts the roles above one, in a table of as many places as there are roles.
+/// Returns the name of the parent of a role, in a table of as many names as there are roles, or
+/// `None` if it has none. The check proves that a parent is an index of the table.
 pub fn parent_in_table(roles: &Roles<u64, 8>, names: &[u32; 8], role: u32) -> Option<u32> {
     let parent = roles.parent(role)?;
     if role < 8 {
