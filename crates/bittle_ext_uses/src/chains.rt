@@ -1,17 +1,27 @@
 //! Calls in a chain: one call's answer is passed to the next, or indexes a table. No caller has a
 //! proof file.
 //!
-//! Most have no clause of their own. What the check proves of them is that the second call is
-//! allowed, or that the index lies in the table, from the contract of the first call alone.
+//! The check proves that the second call is allowed, or that the index lies in the table, from the
+//! contract of the first call alone. A loop has no clause of its own: that would need an invariant.
 
-ghost use Rattle.std.specs.Prelude.{◌<◌, ◌≤◌, IfSome};
-ghost use Rattle.bittle.specs.Values.{ShapeFits};
+ghost use Rattle.std.specs.Prelude.{◌≡◌, ◌+◌, ◌<◌, ◌≤◌, ℕ, IfSome, MatchOption, Option};
+ghost use Rattle.std.specs.Prelude.{option_map, slice_get, slice_index, unwrap_or};
+ghost use Rattle.bittle.specs.BitPatterns.{bit_set};
+ghost use Rattle.bittle.specs.PlainSet.{ascending, complement, members_below};
+ghost use Rattle.bittle.specs.PlainSet.{with_span, with_span_toggled, without_index, without_span};
+ghost use Rattle.bittle.specs.Rows.{row_set};
+ghost use Rattle.bittle.specs.Searches.{IsLastIn};
+ghost use Rattle.bittle.specs.Values.{set_in, ShapeFits};
+ghost use Rattle.bittle_ext.specs.Runs.{IsFirstRun};
 
 use bittle::{Bits, BitsMut};
 use bittle_ext::{BitsExt, BitsMutExt, BitsRangeExt};
 
 /// Returns the entry of a table at the last set bit below an index, or 0.
-pub fn entry_before(mask: u64, to: u32, table: &[u32; 64]) -> u32 {
+pub fn entry_before(mask: u64, to: u32, table: &[u32; 64]) -> u32
+    ensures { (found : Option ℕ) × IsLastIn (bit_set 64 mask) 0 to found
+        × (result ≡ unwrap_or (option_map (λ i. slice_index table.now i) found) 0) }
+{
     match mask.prev_one(to) {
         Some(index) => table[index as usize],
         None => 0,
@@ -19,7 +29,10 @@ pub fn entry_before(mask: u64, to: u32, table: &[u32; 64]) -> u32 {
 }
 
 /// Returns the entry of a table at the last unset bit below an index, or 0.
-pub fn entry_before_free(mask: u64, to: u32, table: &[u32; 64]) -> u32 {
+pub fn entry_before_free(mask: u64, to: u32, table: &[u32; 64]) -> u32
+    ensures { (found : Option ℕ) × IsLastIn (complement (bit_set 64 mask)) 0 to found
+        × (result ≡ unwrap_or (option_map (λ i. slice_index table.now i) found) 0) }
+{
     match mask.prev_zero(to) {
         Some(index) => table[index as usize],
         None => 0,
@@ -27,7 +40,10 @@ pub fn entry_before_free(mask: u64, to: u32, table: &[u32; 64]) -> u32 {
 }
 
 /// Returns the entry of a table at the set bit of a rank, or 0.
-pub fn entry_of_rank(mask: &[u32; 4], rank: u32, table: &[u8; 128]) -> u8 {
+pub fn entry_of_rank(mask: &[u32; 4], rank: u32, table: &[u8; 128]) -> u8
+    ensures { let found = slice_get (ascending (row_set 4 32 (bit_set 32) mask.now)) rank in
+        result ≡ unwrap_or (option_map (λ i. slice_index table.now i) found) 0 }
+{
     match mask.select(rank) {
         Some(index) => table[index as usize],
         None => 0,
@@ -52,16 +68,12 @@ pub fn mark_runs(mask: u16, table: &mut [bool; 16]) {
     }
 }
 
-/// Clears the bits before the third set bit.
-pub fn clear_before_third(mask: &mut u64) {
-    if let Some(index) = mask.select(2) {
-        mask.clear_range(0, index);
-    }
-}
-
 /// Clears the bits before the third set bit of any set.
-pub fn clear_before_third_of<B: BitsMut>(set: &mut B)
+pub fn clear_before_third<B: BitsMut>(set: &mut B)
     requires { ShapeFits B.Shape set.old }
+    ensures { let before = set_in B.Shape B.Order.Endian set.old in
+        MatchOption (slice_get (ascending before) 2) (set.new ≡ set.old)
+        (λ index. set_in B.Shape B.Order.Endian set.new ≡ without_span before 0 index) }
 {
     if let Some(index) = set.select(2) {
         set.clear_range(0, index);
@@ -71,6 +83,9 @@ pub fn clear_before_third_of<B: BitsMut>(set: &mut B)
 /// Sets the bits up to the last set bit below an index, and that one.
 pub fn set_through<B: BitsMut>(set: &mut B, to: u32)
     requires { ShapeFits B.Shape set.old }
+    ensures { let before = set_in B.Shape B.Order.Endian set.old in
+        (last : Option ℕ) × IsLastIn before 0 to last × MatchOption last (set.new ≡ set.old)
+        (λ index. set_in B.Shape B.Order.Endian set.new ≡ with_span before 0 (index + 1)) }
 {
     if let Some(index) = set.prev_one(to) {
         set.set_range(0, index + 1);
@@ -80,6 +95,10 @@ pub fn set_through<B: BitsMut>(set: &mut B, to: u32)
 /// Flips the bits before the last unset bit below an index.
 pub fn toggle_before_free<B: BitsMut>(set: &mut B, to: u32)
     requires { ShapeFits B.Shape set.old }
+    ensures { let before = set_in B.Shape B.Order.Endian set.old in
+        (last : Option ℕ) × IsLastIn (complement before) 0 to last
+        × MatchOption last (set.new ≡ set.old)
+        (λ index. set_in B.Shape B.Order.Endian set.new ≡ with_span_toggled before 0 index) }
 {
     if let Some(index) = set.prev_zero(to) {
         set.toggle_range(0, index);
@@ -89,6 +108,10 @@ pub fn toggle_before_free<B: BitsMut>(set: &mut B, to: u32)
 /// Sets a run of unset bits, where there is one.
 pub fn take_run<B: BitsMut>(set: &mut B, length: u32)
     requires { ShapeFits B.Shape set.old }
+    ensures { let before = set_in B.Shape B.Order.Endian set.old in
+        (first : Option ℕ) × IsFirstRun (complement before) 0 length first
+        × MatchOption first (set.new ≡ set.old)
+        (λ from. set_in B.Shape B.Order.Endian set.new ≡ with_span before from (from + length)) }
 {
     if let Some(start) = set.first_zero_run(length) {
         set.set_range(start, start + length);
@@ -107,7 +130,12 @@ pub fn sum_of_gap(mask: u32, to: u32) -> u32 {
 }
 
 /// Takes the last set bit out, and returns the entry of a table at it, or 0.
-pub fn pop_entry(mask: &mut u16, table: &[u32; 16]) -> u32 {
+pub fn pop_entry(mask: &mut u16, table: &[u32; 16]) -> u32
+    ensures { (last : Option ℕ) × IsLastIn (bit_set 16 mask.old) 0 16 last
+        × (result ≡ unwrap_or (option_map (λ i. slice_index table.now i) last) 0)
+        × MatchOption last (mask.new ≡ mask.old)
+        (λ index. bit_set 16 mask.new ≡ without_index (bit_set 16 mask.old) index) }
+{
     match mask.pop_last() {
         Some(index) => table[index as usize],
         None => 0,
@@ -131,7 +159,9 @@ pub fn take_run_of_three<B: BitsMut>(slots: &mut B)
 }
 
 /// Returns the entry of a table of counts at how many set bits lie below an index.
-pub fn entry_of_count(mask: u64, index: u32, table: &[u32; 65]) -> u32 {
+pub fn entry_of_count(mask: u64, index: u32, table: &[u32; 65]) -> u32
+    ensures { result ≡ slice_index table.now (members_below (bit_set 64 mask) index) }
+{
     table[mask.rank(index) as usize]
 }
 

@@ -1,16 +1,27 @@
 //! Calls on two sets in a chain: one call's answer is passed to the next, or indexes a table.
 //!
-//! Those with no clause of their own show that the second call is allowed, or that the index lies
-//! in the table, from the contract of the first call alone.
+//! The check proves that the second call is allowed, or that the index lies in the table, from the
+//! contract of the first call alone.
 
-ghost use Rattle.std.specs.Prelude.{◌≤◌};
-ghost use Rattle.bittle.specs.Values.{ShapeFits};
+ghost use Rattle.std.specs.Prelude.{◌≡◌, ◌≤◌, ℕ, MatchOption, Option};
+ghost use Rattle.std.specs.Prelude.{option_map, slice_index, unwrap_or};
+ghost use Rattle.bittle.specs.BitPatterns.{bit_set};
+ghost use Rattle.bittle.specs.PlainSet.{without_span};
+ghost use Rattle.bittle.specs.Rows.{row_set};
+ghost use Rattle.bittle.specs.Values.{set_in, ShapeFits};
+ghost use Rattle.bittle_ext.specs.SetRelations.{AreDisjoint, IsSubset};
+ghost use Rattle.bittle_ext.specs.SetRelations.{IsFirstAlone, IsFirstCommon};
 
 use bittle::{Bits, BitsMut};
 use bittle_ext::{BitsMutExt, BitsRelationExt, BitsViewExt};
 
 /// Returns the entry of a table at the first index of both masks, or 0.
-pub fn entry_of_both(one: u64, other: &[u8; 8], table: &[u32; 64]) -> u32 {
+pub fn entry_of_both(one: u64, other: &[u8; 8], table: &[u32; 64]) -> u32
+    ensures { let ours = bit_set 64 one in
+        let theirs = row_set 8 8 (bit_set 8) other.now in
+        (found : Option ℕ) × MatchOption found (AreDisjoint ours theirs) (IsFirstCommon ours theirs)
+        × (result ≡ unwrap_or (option_map (λ i. slice_index table.now i) found) 0) }
+{
     match one.first_common(other) {
         Some(index) => table[index as usize],
         None => 0,
@@ -18,7 +29,12 @@ pub fn entry_of_both(one: u64, other: &[u8; 8], table: &[u32; 64]) -> u32 {
 }
 
 /// Returns the entry of a table at the first index of one mask alone, or 0.
-pub fn entry_of_one(one: u64, other: u16, table: &[u32; 64]) -> u32 {
+pub fn entry_of_one(one: u64, other: u16, table: &[u32; 64]) -> u32
+    ensures { let ours = bit_set 64 one in
+        let theirs = bit_set 16 other in
+        (found : Option ℕ) × MatchOption found (IsSubset ours theirs) (IsFirstAlone ours theirs)
+        × (result ≡ unwrap_or (option_map (λ i. slice_index table.now i) found) 0) }
+{
     match one.first_alone(&other) {
         Some(index) => table[index as usize],
         None => 0,
@@ -29,6 +45,12 @@ pub fn entry_of_one(one: u64, other: u16, table: &[u32; 64]) -> u32 {
 pub fn clear_before_common<A: BitsMut, B: Bits>(set: &mut A, other: &B)
     requires fits { ShapeFits A.Shape set.old }
     requires other_fits { ShapeFits B.Shape other.now }
+    ensures { let before = set_in A.Shape A.Order.Endian set.old in
+        let theirs = set_in B.Shape B.Order.Endian other.now in
+        (first : Option ℕ)
+        × MatchOption first (AreDisjoint before theirs) (IsFirstCommon before theirs)
+        × MatchOption first (set.new ≡ set.old)
+        (λ index. set_in A.Shape A.Order.Endian set.new ≡ without_span before 0 index) }
 {
     if let Some(index) = set.first_common(other) {
         set.clear_range(0, index);
