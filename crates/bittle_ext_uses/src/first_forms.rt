@@ -17,13 +17,6 @@ pub struct Lent<'a> {
 
 impl<'a> Lent<'a> {
     /// Takes the least member.
-    pub fn take(&mut self) -> Option<u32>
-        requires { length self.old.words.now * 64 < 4294967295 }
-    {
-        self.words.pop_first()
-    }
-
-    /// Takes the least member, and says so.
     pub fn take_least(&mut self) -> Option<u32>
         requires { length self.old.words.now * 64 < 4294967295 }
         ensures { IsFirstIn (row_set (length self.old.words.now) 64 (bit_set 64) self.old.words.now)

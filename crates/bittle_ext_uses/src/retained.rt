@@ -1,19 +1,29 @@
 //! Closures that are asked of each member: what they read of a table is below the capacity.
 
-ghost use Rattle.std.specs.Prelude.{◌≡◌, ◌*◌, ◌≤◌, length};
-ghost use Rattle.bittle.specs.Values.{ShapeFits};
+ghost use Rattle.std.specs.Prelude.{◌≡◌, ◌*◌, ◌≤◌, length, false, nat_lt, slice_index, slice_index_or};
+ghost use Rattle.bittle.specs.BitPatterns.{bit_set};
+ghost use Rattle.bittle.specs.Rows.{row_set};
+ghost use Rattle.bittle.specs.Values.{set_in, ShapeFits};
+ghost use Rattle.bittle_ext.specs.Changes.{those_passing, Retains};
 ghost use Rattle.bittle_ext.specs.Calls.{IsCallableBelow};
 
 use bittle::{BitsMut, Set};
 use bittle_ext::prelude::*;
 
 /// Keeps the members that a table of as many entries marks.
-pub fn keep_marked(mask: &mut u64, table: &[bool; 64]) {
+pub fn keep_marked(mask: &mut u64, table: &[bool; 64])
+    ensures { bit_set 64 mask.new
+        ≡ those_passing (λ i. slice_index_or table.now i false) (bit_set 64 mask.old) }
+{
     mask.retain(|index| table[index as usize]);
 }
 
 /// Keeps the members whose priority in a table is above a bound.
-pub fn keep_urgent(ready: &mut [u32; 4], priority: &[u8; 128], bound: u8) {
+pub fn keep_urgent(ready: &mut [u32; 4], priority: &[u8; 128], bound: u8)
+    ensures { row_set 4 32 (bit_set 32) ready.new
+        ≡ those_passing (λ i. nat_lt bound (slice_index priority.now i))
+        (row_set 4 32 (bit_set 32) ready.old) }
+{
     ready.retain(|index| priority[index as usize] > bound);
 }
 
@@ -45,6 +55,8 @@ pub fn keep_marked_le(mask: &mut u8, table: &[bool; 8]) {
 pub fn keep_by<B: BitsMut, F: FnMut(u32) -> bool>(set: &mut B, keep: F)
     requires fits { ShapeFits B.Shape set.old }
     requires callable { IsCallableBelow (B.big set.old).capacity F.FnMut keep }
+    ensures { Retains F.step keep (set_in B.Shape B.Order.Endian set.old)
+        (set_in B.Shape B.Order.Endian set.new) }
 {
     set.retain(keep);
 }
