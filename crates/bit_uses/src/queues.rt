@@ -1,8 +1,9 @@
 //! Ready queues in the hands of a caller.
 
-ghost use Rattle.std.specs.Prelude.{◌≡◌, ◌≢◌, ◌<◌, length, IfSome, true};
-ghost use Rattle.bit_queue.specs.Queue.{event_answers};
+ghost use Rattle.std.specs.Prelude.{◌≡◌, ◌≢◌, ◌<◌, length, IfSome, None, true};
+ghost use Rattle.bit_queue.specs.Queue.{event_answers, most_urgent};
 ghost use Rattle.bit_queue.specs.RoundRobin.{answers_in_turn, round_at};
+ghost use Rattle.bittle.specs.BitPatterns.{bit_set};
 ghost use Rattle.bittle.specs.PlainSet.{empty_set};
 
 use bit_queue::{Answer, Event, NoTask, PriorityQueue, RoundRobin};
@@ -48,7 +49,10 @@ pub fn run_two_in_turn<B: BitsOwned>(turns: &mut RoundRobin<B>) -> Option<(u32, 
 }
 
 /// Lets a task run, whose work is noted in a table of as many places as there are tasks.
-pub fn run_for(queue: &mut PriorityQueue<u8>, work: &mut [u32; 8]) -> Option<u32> {
+pub fn run_for(queue: &mut PriorityQueue<u8>, work: &mut [u32; 8]) -> Option<u32>
+    ensures task { result ≡ most_urgent (bit_set 8 queue.old.ready) }
+    ensures idle { result ≡ None → work.new ≡ work.old }
+{
     let task = queue.next()?;
     work[task as usize] = work[task as usize].saturating_sub(1);
     Some(task)

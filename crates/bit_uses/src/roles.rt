@@ -1,6 +1,6 @@
 //! Roles in the hands of a caller.
 
-ghost use Rattle.std.specs.Prelude.{◌≡◌, true};
+ghost use Rattle.std.specs.Prelude.{◌≡◌, ◌<◌, IfSome, true};
 
 use bit_roles::{Refused, Roles};
 use bittle::BitsOwned;
@@ -42,7 +42,9 @@ pub fn inherit_from_itself<B: BitsOwned, const N: usize>(roles: &mut Roles<B, N>
 
 /// Returns the name of the parent of a role, in a table of as many names as there are roles, or
 /// `None` if it has none. The check proves that a parent is an index of the table.
-pub fn parent_in_table(roles: &Roles<u64, 8>, names: &[u32; 8], role: u32) -> Option<u32> {
+pub fn parent_in_table(roles: &Roles<u64, 8>, names: &[u32; 8], role: u32) -> Option<u32>
+    ensures { IfSome result (λ _. role < 8) }
+{
     let parent = roles.parent(role)?;
     if role < 8 {
         Some(names[parent as usize])
