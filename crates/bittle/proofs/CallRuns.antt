@@ -18,7 +18,7 @@ set_after-capacity s AllZeros = refl
 set_after-capacity s AllOnes = refl
 set_after-capacity s Capacity = refl
 
--- the set that a run leaves has the capacity of the one that it began with
+-- the set after a run has the capacity of the set before it
 pub run-capacity : (s t : PlainSet) (xs : List Call) → t ≡ final_set s xs → s.capacity ≡ t.capacity
 unfolding final_set
 run-capacity s t xs e = sym (ap (λ p. p.capacity) e

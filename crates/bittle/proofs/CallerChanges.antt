@@ -1,4 +1,4 @@
--- What callers cite of a set after a change: a test of an index, and the size.
+-- Facts on a set after a change that callers cite: tests of an index, and the size.
 use Rattle.std.proofs.Common.{◌≡◌, ◌≢◌, ℕ, zero, suc, ◌+◌, ◌-◌, ◌%◌, ◌<◌, ◌≤◌, ◌⊎◌, Bool, true, false, not, cond, ◌&&◌, ◌||◌, ◌==◌, nat_lt, inl, inr, refl, sym, ap, ◌∙◌, arith}
 use Rattle.std.proofs.Common.{add-zero}
 use Rattle.std.proofs.Math.Nat.{add-mod_right}
@@ -30,7 +30,7 @@ contains_without s i = by (nat_lt 0 s.capacity)
     by true = rw same refl
     by false = refl
 
--- another index is in the set just if it was before one was put in
+-- putting in an index does not change the test of another one
 pub contains_with_other : (s : PlainSet) (i j : ℕ) → i < s.capacity → j < s.capacity → j ≢ i →
     contains (with_index s i) j ≡ contains s j
 contains_with_other s i j h k apart =
@@ -39,7 +39,7 @@ contains_with_other s i j h k apart =
     ∙ ap (λ b. b || s.has j) (ne_eqb j i apart)
     ∙ sym (contains_within s j k)
 
--- nor does it change by taking one out
+-- taking out an index does not change the test of another one
 pub contains_without_other : (s : PlainSet) (i j : ℕ) → i < s.capacity → j < s.capacity → j ≢ i →
     contains (without_index s i) j ≡ contains s j
 contains_without_other s i j h k apart =
@@ -48,12 +48,12 @@ contains_without_other s i j h k apart =
     ∙ ap (λ b. not b && s.has j) (ne_eqb j i apart)
     ∙ sym (contains_within s j k)
 
--- one turn of wrapping leads to the same index
+-- an index plus the capacity wraps to the same index
 pub contains_turned : (s : PlainSet) (i : ℕ) → contains s (i + s.capacity) ≡ contains s i
 unfolding contains
 contains_turned s i = ap (λ k. nat_lt 0 s.capacity && s.has k) (add-mod_right i s.capacity)
 
--- of two tests of the numbers below c that differ at one of them, the one that it passes counts
+-- if two tests of the numbers below c differ at one number alone, the test that it passes counts
 -- one more
 count_one_more : (c i : ℕ) (s t : ℕ → Bool) → i < c → s i ≡ false → t i ≡ true →
     ((k : ℕ) → k ≢ i → t k ≡ s k) → count_below c t ≡ count_below c s + 1
@@ -73,14 +73,14 @@ count_one_more (suc c) i s t h none some same =
           omega (arith, rest, last)
     ]
 
--- a set with a number more has one member more
+-- a set with one more number has one more member
 pub size_added : (s : PlainSet) (i : ℕ) → i < s.capacity → s.has i ≡ false →
     size (record { capacity = s.capacity; has = λ k. (k == i) || s.has k }) ≡ size s + 1
 size_added s i h none =
     count_one_more s.capacity i s.has (λ k. (k == i) || s.has k) h none
     (ap (λ b. b || s.has i) (eq-eqb i i refl)) (λ k n. ap (λ b. b || s.has k) (ne_eqb k i n))
 
--- a set without one of its members has one member less
+-- a set without one of its members has one member fewer
 pub size_removed : (s : PlainSet) (i : ℕ) → i < s.capacity → s.has i ≡ true →
     size s ≡ size (record { capacity = s.capacity; has = λ k. not (k == i) && s.has k }) + 1
 size_removed s i h some =
@@ -99,7 +99,7 @@ pub size_without : (s : PlainSet) (i : ℕ) → i < s.capacity → s.has i ≡ t
 size_without s i h some =
     size_removed s i h some ∙ sym (ap (λ t. size t + 1) (without_index_within s i h))
 
--- the size after an index was put in, which may wrap: one more where it was none
+-- the size after an index was put in, which may wrap: one more if it was not a member
 pub size_inserted : (s : PlainSet) (i : ℕ) → 0 < s.capacity →
     size (with_index s i) ≡ size s + cond (not (contains s i)) 1 0
 unfolding contains has_with
@@ -134,7 +134,7 @@ size_inserted s i some = by (s.has j) refl
         ap size with_is ∙ size_added s j (mod_below i s.capacity some) e
         ∙ ap (λ b. size s + cond (not b) 1 0) (sym (inside ∙ e))
 
--- the size before an index was taken out, which may wrap: one more where it was a member
+-- the size before an index was taken out, which may wrap: one more if it was a member
 pub size_taken_out : (s : PlainSet) (i : ℕ) → 0 < s.capacity →
     size s ≡ size (without_index s i) + cond (contains s i) 1 0
 unfolding contains has_without
@@ -170,7 +170,7 @@ size_taken_out s i some = by (s.has j) refl
         ]) ∙ sym (ap size with_is) ∙ sym (add-zero (size (without_index s i)))
         ∙ ap (λ b. size (without_index s i) + cond b 1 0) (sym (inside ∙ e))
 
--- a set with a member of its own is that set
+-- putting in a member does not change the set
 pub with_member : (s : PlainSet) (i : ℕ) → i < s.capacity → s.has i ≡ true → with_index s i ≡ s
 with_member s i h some = with_index_within s i h ∙ (λ j. record {
   capacity = s.capacity;
@@ -183,21 +183,21 @@ with_member s i h some = with_index_within s i h ∙ (λ j. record {
       | inr n ↦ ap (λ b. b || s.has k) (ne_eqb k i n)
     ]
 
--- an index of a span is in the set that the span was put into
+-- an index of a span is in the set after the span was put in
 pub contains_with_span : (s : PlainSet) (from to i : ℕ) → from ≤ i → i < to → i < s.capacity →
     contains (with_span s from to) i ≡ true
 contains_with_span s from to i h k l =
     contains_within (with_span s from to) i l
     ∙ inside_span (λ _. true) s from to i h k
 
--- it is not in the set that the span was taken out of
+-- an index of a span is not in the set after the span was taken out
 pub contains_without_span : (s : PlainSet) (from to i : ℕ) → from ≤ i → i < to → i < s.capacity →
     contains (without_span s from to) i ≡ false
 contains_without_span s from to i h k l =
     contains_within (without_span s from to) i l
     ∙ inside_span (λ _. false) s from to i h k
 
--- an index outside of a span is in the set just if it was before the span was put in
+-- putting in a span does not change the test of an index outside of it
 pub contains_outside_span : (s : PlainSet) (from to i : ℕ) → (i < from) ⊎ (to ≤ i) →
     i < s.capacity → contains (with_span s from to) i ≡ contains s i
 contains_outside_span s from to i out l =

@@ -1,4 +1,4 @@
--- Facts of joins of slices that callers cite.
+-- Facts on joins of slices that callers cite.
 use Rattle.std.proofs.Common.{◌≡◌, ℕ, suc, ◌+◌, ◌-◌, ◌<◌, ◌≤◌, List, [], ◌∷◌, ◌++◌, length, drop, map, get_or, Option, Some, None, Bor, inl, inr, refl, sym, ap, ◌∙◌, subst, arith}
 use Rattle.std.specs.Prelude.{slice_get, slice_index}
 use Rattle.std.specs.Iterator.{Yields}
@@ -13,14 +13,14 @@ use Rattle.bittle_bits.specs.PlainSet.{PlainSet, ascending}
 use Rattle.bittle_bits.proofs.AscendingLists.{ascending-few}
 use Rattle.bittle.proofs.CallerLists.{ascending_below}
 
--- what a join of a slice gives: the elements at the members of the mask
+-- a join of a slice yields the elements at the members of the mask
 module _ {S : Type 0} (rest : S → List ℕ) where
-  -- a call of a slice's iterator takes its first element, or gives `None` where none is left
+  -- a call of a slice's iterator takes its first element, or returns `None` if none is left
   abbrev pub TakesElement : S → Option (Bor ℕ) → S → Type 0
   TakesElement s r t = MatchOption r ((length (rest s) ≡ 0) × (t ≡ s))
       (λ x. rest s ≡ x.now ∷ rest t)
 
-  -- the items that a slice's iterator gave are the first of its elements
+  -- the items that a slice's iterator yielded are its first elements
   given_first : (s t : S) (items : List (Bor ℕ)) → Yields TakesElement s items t →
       rest s ≡ map (λ x. x.now) items ++ rest t
   given_first s t [] y = ap rest y
@@ -45,7 +45,7 @@ module _ {S : Type 0} (rest : S → List ℕ) where
       (rest t) 0 n c ∙ get_or_from_slice_get (map now items) n (get_or (map now answers) k 0) 0
       b)
 
-  -- with members that are all places of elements, nothing ends the join before the last member
+  -- if each member is the index of an element, nothing ends the join before the last member
   ends_after_all : (s : Join S) (t : Join S) (items : List (Bor ℕ)) (m : ℕ) (ms : List ℕ) →
       s.taken ≡ 0 → m < length (rest s.iter) → EndsAt TakesElement s items (m ∷ ms) t → ⊥
   ends_after_all s t items m ms none h e =
@@ -86,7 +86,7 @@ module _ {S : Type 0} (rest : S → List ℕ) where
   yields_more steps s t u [] x y e = (u, subst (λ v. steps v (Some x) u) (sym y) e, refl)
   yields_more steps s t u (z ∷ xs) x y e = (y.0, y.1, yields_more steps y.0 t u xs x y.2 e)
 
-  -- an answer more is an answer for one more member
+  -- one more answer is the answer for one more member
   pub one_more : (s now next : Join S) (answers : List (Bor ℕ)) (x : Bor ℕ) →
       AnswersItemsAtMembers TakesElement s → Yields (join_steps TakesElement) s answers now →
       join_steps TakesElement now (Some x) next → length answers < length s.mask.remaining
@@ -105,13 +105,13 @@ module _ {S : Type 0} (rest : S → List ℕ) where
       let a = clause answers next (now, y, e) in
       answers_at_members s next a.0 answers none bound a.1 a.2
 
--- each member of a set is a place of a row that is as long as its capacity, or longer
+-- each member of a set is the index of an element, in a row at least as long as the capacity
 pub members_are_places : (s : PlainSet) (members row : List ℕ) → members ≡ ascending s →
     s.capacity ≤ length row → (k : ℕ) → k < length members → get_or members k 0 < length row
 members_are_places s members row is long k h = omega
     (arith, long, ascending_below s k (omega (arith, h, ap length is)), ap (λ xs. get_or xs k 0) is)
 
--- one more answer of a join whose mask is this set: there were fewer answers than its capacity
+-- if a join answers once more, it had fewer answers than the capacity of its mask
 pub answers_below : {S : Type 0} (rest : S → List ℕ) (s now next : Join S) (answers : List (Bor ℕ))
     (x : Bor ℕ) (set : PlainSet) (count : ℕ) → s.mask.remaining ≡ ascending set →
     count ≡ length answers → AnswersItemsAtMembers (TakesElement rest) s →

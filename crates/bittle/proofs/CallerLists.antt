@@ -1,4 +1,4 @@
--- Facts of the increasing list of a set's members that callers cite.
+-- Facts on the increasing list of a set's members that callers cite.
 use Rattle.std.proofs.Common.{◌≡◌, ℕ, zero, suc, ◌-◌, ◌<◌, ◌≤◌, ◌==◌, Bool, true, false, cond, List, [], ◌∷◌, length, get_or, Some, inl, inr, refl, sym, ap, ◌∙◌, subst, arith, IsTrue, ◌↔◌}
 use Rattle.std.specs.List.{Contains, list_any}
 use Rattle.std.specs.Ordering.{is_eq}
@@ -13,7 +13,7 @@ use Rattle.bittle.specs.Comparison.{list_cmp, AreSame}
 use Rattle.bittle_bits.proofs.FirstItems.{ascending_from-least, least_or_none}
 use Rattle.bittle.proofs.ListComparison.{list_cmp-precedes, equal_iff_same}
 
--- where the increasing list is empty there is no member
+-- if the increasing list is empty, there is no member
 pub ascending_none : (s : PlainSet) → ascending s ≡ [] → NoneIn s 0 s.capacity
 ascending_none s e =
     elim (least_or_none s.has 0 s.capacity) [
@@ -83,7 +83,7 @@ unlisted s i c =
     let low = ascending_below s at.0 at.1 in
     (subst (λ n. n < s.capacity) e low, ap s.has (sym e) ∙ ascending_member s at.0 at.1)
 
--- a test of each number of the list finds one below the capacity exactly if it is a member
+-- a search of the list finds a number below the capacity exactly if the number is a member
 pub ascending_has : (s : PlainSet) (i : ℕ) → i < s.capacity →
     list_any (λ k. k == i) (ascending s) ≡ s.has i
 ascending_has s i h =
@@ -102,7 +102,7 @@ ascending_has s i h =
       ]
     ]
 
--- two increasing lists are equal in their order exactly where the sets have the same members
+-- two increasing lists compare as equal exactly if the sets have the same members
 pub equal_iff_same_members : (a b : PlainSet) → ((i : ℕ) → a.capacity ≤ i → a.has i ≡ false) →
     ((i : ℕ) → b.capacity ≤ i → b.has i ≡ false) →
     IsTrue (is_eq (list_cmp (ascending a) (ascending b))) ↔ AreSame a b

@@ -1,4 +1,4 @@
--- Facts of sets that callers cite: changes and tests of an index that does not wrap, sizes,
+-- Facts on sets that callers cite: changes and tests of an index that does not wrap, sizes, and
 -- operations.
 use Rattle.std.proofs.Common.{◌≡◌, ℕ, ◌<◌, ◌≤◌, Bool, true, false, not, ◌&&◌, ◌||◌, ◌==◌, inl, inr, sym, ap, ◌∙◌, refl, arith}
 use Rattle.std.proofs.Math.Nat.{mod-eq_of_lt}
@@ -27,7 +27,7 @@ with_index_within s i h =
     let each : (k : ℕ) → has_with s i k ≡ ((k == i) || s.has k) = λ k. rw (some, same) refl in
     λ j. record { capacity = s.capacity; has = λ k. each k j }
 
--- a set without an index below the capacity has its members but that number
+-- a set without an index below the capacity has its own members except that number
 pub without_index_within : (s : PlainSet) (i : ℕ) → i < s.capacity →
     without_index s i ≡ record { capacity = s.capacity; has = λ k. not (k == i) && s.has k }
 unfolding has_without
@@ -38,7 +38,7 @@ without_index_within s i h =
     ≡ (not (k == i) && s.has k) = λ k. rw (some, same) refl in
     λ j. record { capacity = s.capacity; has = λ k. each k j }
 
--- below the capacity a number is in the complement where it is no member
+-- below the capacity, a number is in the complement exactly if it is not a member
 pub complement_within : (s : PlainSet) (i : ℕ) → i < s.capacity →
     (complement s).has i ≡ not (s.has i)
 unfolding lacks
@@ -83,7 +83,7 @@ size_full s e k h =
           absurd (cc)
     ]
 
--- a set that has each number below its capacity has that size
+-- a set that has each number below its capacity has the capacity as its size
 pub size_whole : (s : PlainSet) → ((k : ℕ) → k < s.capacity → s.has k ≡ true) → size s ≡ s.capacity
 size_whole s all =
     let none = size_zero (complement s) (λ k p q. complement_within s k q ∙ ap not (all k q)) in

@@ -1,4 +1,4 @@
--- Facts of walks that callers cite: what a walk gives, and its greatest item.
+-- Facts on iterators that callers cite: what an iterator yields, and its greatest item.
 use Rattle.std.proofs.Common.{◌≡◌, ℕ, List, Option, length, max, sym, ap, ◌∙◌, subst}
 use Rattle.std.specs.Iterator.{PicksByCmp}
 use Rattle.std.specs.List.{reduce}
@@ -8,7 +8,7 @@ use Rattle.std.proofs.lemmas.Iterator.Adapters.{option_map_id}
 use Rattle.std.proofs.lemmas.Iterator.Consumers.{YieldsList-from_shown, max_from_yields_List}
 use Rattle.bittle_bits.specs.Walk.{Walk, StepsFront}
 
--- a walk gives what it has left
+-- an iterator yields what remains
 pub walk_yields : (w : Walk) (items : List ℕ) → w.remaining ≡ items →
     YieldsList StepsFront (λ x. x) w items
 walk_yields w items e =
@@ -16,7 +16,7 @@ walk_yields w items e =
     (YieldsList-from_shown StepsFront (λ x. x) (λ v. v.remaining) (λ s t h. ap length h.gave.0)
     (λ s x t h. h.gave) w)
 
--- the greatest item of a walk, as `max` picks it, is the greatest of what it has left
+-- the item that `max` of an iterator returns is the greatest of what remains
 pub walk_maximum : (w : Walk) (items : List ℕ) (r : Option ℕ) → w.remaining ≡ items →
     PicksByCmp StepsFront max_by_ordering nat_cmp w r → r ≡ reduce max items
 walk_maximum w items r e ran =

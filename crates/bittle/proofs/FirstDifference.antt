@@ -17,14 +17,14 @@ alike a b h = grind arith
 
 -- ---- as far as both sets go
 
--- a first number that is in just one is the first difference, whatever lies past it
+-- the least number found in just one is the first difference, whatever lies past it
 pub some_among : (s t : PlainSet) (n : ℕ) (r : Option ℕ) → is_some r ≡ true →
     MatchOption r (NoneDecidedBelow just_one s t n) (IsFirstDecided just_one s t) →
     IsDifference s t r
 some_among s t n None e h = absurd (true≢false (sym e))
 some_among s t n (Some d) e h = h
 
--- a search that finds none says that none is in just one as far as it went
+-- if a search finds none, no number that it covered is in just one
 pub none_among : (s t : PlainSet) (n : ℕ) (r : Option ℕ) → is_some r ≡ false →
     MatchOption r (NoneDecidedBelow just_one s t n) (IsFirstDecided just_one s t) →
     NoneDecidedBelow just_one s t n
@@ -33,7 +33,7 @@ none_among s t n (Some d) e h = absurd (true≢false e)
 
 -- ---- past the words of one side
 
--- the first set has none from a number on, and the second one ends at another
+-- the first set has no member from `from` on, and the second has none from `to` on
 past_first : (s t : PlainSet) (from to : ℕ) (r : Option ℕ) → NoneDecidedBelow just_one s t from →
     ((i : ℕ) → from ≤ i → s.has i ≡ false) → ((i : ℕ) → to ≤ i → t.has i ≡ false) →
     IsFirstIn t from to r → IsDifference s t r
@@ -50,7 +50,7 @@ past_first s t from to (Some d) same none past h = (
 turned : (a b : Bool) → just_one a b ≡ just_one b a
 turned a b = grind arith
 
--- the second set has none from a number on, and the first one ends at another
+-- the second set has no member from `from` on, and the first has none from `to` on
 past_second : (s t : PlainSet) (from to : ℕ) (r : Option ℕ) → NoneDecidedBelow just_one s t from →
     ((i : ℕ) → from ≤ i → t.has i ≡ false) → ((i : ℕ) → to ≤ i → s.has i ≡ false) →
     IsFirstIn s from to r → IsDifference s t r
@@ -64,20 +64,21 @@ past_second s t from to r same none past h =
       turned (s.has d) (t.has d) ∙ e.1,
     )
 
--- two sets of which none is in just one as far as both go, each with no member past its capacity
+-- below both capacities no number is in just one of the sets, and neither has a member past its
+-- capacity
 pub record AreAlikeInCommon (s t : PlainSet) : Type 0 where
   pub first : EndsAtCapacity s
   pub second : EndsAtCapacity t
   pub same : NoneDecidedBelow just_one s t (min s.capacity t.capacity)
 
 module _ (s t : PlainSet) (both : AreAlikeInCommon s t) where
-  -- just the second goes on
+  -- only the second goes on
   pub first_ends : s.capacity < t.capacity → (r : Option ℕ) →
       IsFirstIn t s.capacity t.capacity r → IsDifference s t r
   first_ends h r found = past_first s t s.capacity t.capacity r
       (λ i l. both.same i (omega (arith, h))) both.first both.second found
 
-  -- just the first goes on
+  -- only the first goes on
   pub second_ends : t.capacity < s.capacity → (r : Option ℕ) →
       IsFirstIn s t.capacity s.capacity r → IsDifference s t r
   second_ends h r found = past_second s t t.capacity s.capacity r
@@ -90,7 +91,7 @@ module _ (s t : PlainSet) (both : AreAlikeInCommon s t) where
     | inr g ↦ both.first i g ∙ sym (both.second i (omega (arith, e)))
   ]
 
--- a search from a number on that is no member
+-- a search from a number on that is not a member
 pub past_found : (s : PlainSet) (d to : ℕ) (r : Option ℕ) → s.has d ≡ false →
     ((i : ℕ) → to ≤ i → s.has i ≡ false) → IsFirstIn s d to r →
     MatchBool (is_some r) (HasPast s d) (HasNonePast s d)
@@ -113,7 +114,7 @@ module _ (s t : PlainSet) (d : ℕ) (at : IsFirstDifference s t d) where
   same : AreSameBelow s t d
   same i l = alike _ _ (at.0 i l)
 
-  -- the side that has it comes first exactly where the other goes on past it
+  -- the side that has it comes first exactly if the other goes on past it
   pub before : (ours goes_on : Bool) → ours ≡ s.has d → GoesOn ours s t d goes_on →
       beq ours goes_on ≡ true → Precedes s t
   before true true a p e = (d, same, inl (sym a, not-true _ (rw (← a) at at.1), p))
@@ -121,7 +122,7 @@ module _ (s t : PlainSet) (d : ℕ) (at : IsFirstDifference s t d) where
   before true false a p e = absurd (true≢false (sym e))
   before false true a p e = absurd (true≢false (sym e))
 
-  -- and the other side exactly where it does not
+  -- the other side comes first exactly if it does not go on past it
   pub after : (ours goes_on : Bool) → ours ≡ s.has d → GoesOn ours s t d goes_on →
       beq ours goes_on ≡ false → Precedes t s
   after true false a p e =
@@ -130,7 +131,7 @@ module _ (s t : PlainSet) (d : ℕ) (at : IsFirstDifference s t d) where
   after true true a p e = absurd (true≢false e)
   after false false a p e = absurd (true≢false e)
 
--- no two sets precede each other
+-- a number d decides that s precedes t; no two sets precede each other
 abbrev Decides : PlainSet → PlainSet → ℕ → Type 0
 Decides s t d = ((s.has d ≡ true) × (t.has d ≡ false) × HasPast t d)
     ⊎ ((s.has d ≡ false) × (t.has d ≡ true) × HasNonePast s d)
@@ -155,7 +156,7 @@ one_way s t p q = by (cases_eq p.0 q.0)
       | inr g ↦ unlike t s q.0 q.2 (sym (p.1 q.0 (omega arith)))
     ]
 
--- the order of the lists, by what decides it
+-- what decides the order of the sets decides the order of the lists
 module _ (s t : PlainSet) (ends_s : EndsAtCapacity s) (ends_t : EndsAtCapacity t) where
   both : (a b : Ordering) → MatchOrdering a (Precedes s t) (AreSame s t) (Precedes t s) →
       MatchOrdering b (Precedes s t) (AreSame s t) (Precedes t s) → a ≡ b
@@ -174,19 +175,19 @@ module _ (s t : PlainSet) (ends_s : EndsAtCapacity s) (ends_t : EndsAtCapacity t
       o ≡ list_cmp (ascending s) (ascending t)
   cmp_decided o h = both o _ h (list_cmp-precedes s t ends_s ends_t)
 
-  -- the lists are equal exactly where no index is in just one set
+  -- the lists are equal exactly if no index is in just one set
   pub none_equal : (r : Option ℕ) → IsDifference s t r →
       is_none r ≡ is_eq (list_cmp (ascending s) (ascending t))
   none_equal None h = ap is_eq (cmp_decided Equal h)
   none_equal (Some d) h = sym (false_from_ne_true _ (λ e. differ _ _ h.1
       ((equal_iff_same s t _ (list_cmp-precedes s t ends_s ends_t)).0 e d)))
 
--- a test that fails exactly where there is an index holds exactly where there is none
+-- a test that fails exactly if there is an index holds exactly if there is none
 pub none_is : (r : Option ℕ) (b : Bool) → is_some r ≡ not b → b ≡ is_none r
 none_is r true e = sym (ap not e)
 none_is r false e = sym (ap not e)
 
--- there is no such index exactly where the two are the same
+-- there is no such index exactly if the two sets are the same
 pub none_decides : (s t : PlainSet) (r : Option ℕ) → IsDifference s t r →
     IsTrue (is_none r) ↔ AreSame s t
 none_decides s t None h = (λ x. h, λ y. refl)

@@ -12,7 +12,7 @@ use Rattle.bittle.specs.Comparison.{list_cmp, AreSame, Precedes}
 abbrev SameIn : (ℕ → Bool) → (ℕ → Bool) → ℕ → ℕ → Type 0
 SameIn A B from to = (i : ℕ) → from ≤ i → i < to → A i ≡ B i
 
--- the same of the numbers from one on and below another
+-- `Precedes`, for the numbers of a range
 abbrev BeforeIn : (ℕ → Bool) → (ℕ → Bool) → ℕ → ℕ → Type 0
 BeforeIn A B from to =
     (d : ℕ) × (from ≤ d) × (d < to) × SameIn A B from d
@@ -54,7 +54,7 @@ verdict_more : (A B : ℕ → Bool) (from to : ℕ) (o : Ordering) → A from �
 verdict_more A B from to o e = match_map o (before_more A B from to e) (same_more A B from to e)
     (before_more B A from to (sym e))
 
--- the first number is in A alone, and the next one of B, if any, decides: either way round
+-- if the first number is in one set alone, the other set's next member decides, if there is one
 one_ahead : (A B : ℕ → Bool) (from n : ℕ) → A from ≡ true → B from ≡ false →
     NonePasses B (suc from) (suc from + n)
     ⊎ ((v : ℕ) × IsLeastPassing B (suc from) (suc from + n) v) →
@@ -173,7 +173,7 @@ list_cmp-precedes s t ends_s ends_t =
     (same_whole s.has t.has to (λ i p. past_s i p ∙ sym (past_t i p)))
     (before_whole t s to past_t) narrow)
 
--- no set precedes one of the same members
+-- no set precedes a set with the same members
 pub not_both : (s t : PlainSet) → Precedes s t → AreSame s t → ⊥
 not_both s t w h =
     elim w.2 [
@@ -181,7 +181,7 @@ not_both s t w h =
       | inr x ↦ true≢false (sym x.1 ∙ sym (h w.0) ∙ x.0)
     ]
 
--- the order is `Equal` exactly where the two are the same
+-- the order is `Equal` exactly if the two are the same
 pub equal_iff_same : (s t : PlainSet) (o : Ordering) →
     MatchOrdering o (Precedes s t) (AreSame s t) (Precedes t s) → IsTrue (is_eq o) ↔ AreSame s t
 equal_iff_same s t Less h = (λ x. absurd (true≢false (sym x)), λ y. absurd (not_both s t h y))

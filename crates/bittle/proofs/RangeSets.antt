@@ -1,4 +1,4 @@
--- Ranges that grow by one index, and ranges that reach each index below the capacity.
+-- Ranges with one more index, and ranges that reach each index below the capacity.
 use Rattle.std.proofs.Common.{◌≡◌, ℕ, zero, suc, ◌+◌, ◌-◌, ◌/◌, ◌%◌, ◌<◌, ◌≤◌, Bool, true, false, ◌&&◌, ◌||◌, ◌==◌, nat_lt, nat_le, inl, inr, refl, sym, ap, ◌∙◌, subst, add-one, arith}
 use Rattle.std.proofs.Math.Nat.{add-mod-mod, div-add-mod'}
 use Rattle.std.proofs.Math.Path.{fun_ext}
@@ -29,12 +29,12 @@ some_below-from (suc n) p i h e =
           or_right (some_below n p) (p n) (subst (λ x. p x ≡ true) t e)
     ]
 
--- one more number that may pass
+-- a test of one more number, in front of the others
 spread : (z a b h : Bool) → ((z && (a || b)) || h) ≡ ((z && b) || ((z && a) || h))
 spread z a b h = grind arith
 
--- of the indexes from one on and before an end, so many are named: all of them, or as many as the
--- capacity, which is not 0
+-- `count` is how many indexes of a range are needed: all of them, or as many as the capacity, which
+-- is not 0
 pub record IsEnough (s : PlainSet) (from count end : ℕ) : Type 0 where
   pub some : 0 < s.capacity
   pub few : count ≤ s.capacity
@@ -42,11 +42,11 @@ pub record IsEnough (s : PlainSet) (from count end : ℕ) : Type 0 where
   pub short : from + count < end → count ≡ s.capacity
 
 module _ (s : PlainSet) (from : ℕ) where
-  -- whether an index of the range goes to the number
+  -- whether an index of the range wraps to the number
   abbrev reaches : ℕ → ℕ → Bool
   reaches k i = nat_le from i && (k == i % s.capacity)
 
-  -- a range whose end is not past its start
+  -- a range whose end is not past its start adds nothing
   pub with_range-none : (end : ℕ) → end ≤ from → with_range s from end ≡ s
   unfolding has_with_range
   with_range-none end h = ap (plain_set s.capacity)
@@ -60,7 +60,7 @@ module _ (s : PlainSet) (from : ℕ) where
           let a = and_parts (nat_le from f.0) (k == f.0 % s.capacity) f.2 in
           omega (arith, leb-true from f.0 a.0, f.1))
 
-  -- one more index
+  -- a range with one more index
   with_range-more : (end : ℕ) → from ≤ end →
       with_range s from (end + 1) ≡ with_index (with_range s from end) end
   unfolding has_with_range has_with some_below
@@ -68,7 +68,7 @@ module _ (s : PlainSet) (from : ℕ) where
       (fun_ext λ k. rw (add-one, le-leb from end h)
       (spread (nat_lt 0 s.capacity) (some_below end (reaches k)) (k == end % s.capacity) (s.has k)))
 
-  -- as many neighbours as the capacity are all of them
+  -- as many consecutive indexes as the capacity reach every number below it
   with_range-all : (last end : ℕ) → from + s.capacity ≤ last → last ≤ end →
       with_range s from last ≡ with_range s from end
   unfolding has_with_range
@@ -104,7 +104,7 @@ module _ (s : PlainSet) (from : ℕ) where
                 (sooner k f.0 (ltb-true 0 s.capacity a.0) f.2)),
           ) (λ e. e, λ e. e)
 
-  -- neighbours that do not wrap are a span
+  -- consecutive indexes that do not wrap are a span
   range_span : (start count : ℕ) → 0 < s.capacity → start ≡ from % s.capacity →
       start + count ≤ s.capacity → with_range s from (from + count)
       ≡ with_span s start (start + count)
@@ -120,7 +120,7 @@ module _ (s : PlainSet) (from : ℕ) where
       ∙ with_span-more s start (start + count) (from + count) some next (omega arith)
       ∙ ap (with_span s start) (omega arith)
 
-  -- as many neighbours as are enough
+  -- a range with `count` indexes, if these are enough
   range_whole : (count end : ℕ) (now : PlainSet) → IsEnough s from count end →
       now ≡ with_range s from (from + count) → now ≡ with_range s from end
   range_whole count end now r e =
@@ -136,7 +136,7 @@ module _ (s : PlainSet) (from : ℕ) where
   one_span start count end next r at le is =
       range_whole count end next r (is ∙ sym (range_span start count r.some at le))
 
--- two ranges, of which the second begins where the first ends, are one
+-- two ranges are one range if the second begins where the first ends
 range_on : (s : PlainSet) (from mid more : ℕ) → from ≤ mid →
     with_range (with_range s from mid) mid (mid + more) ≡ with_range s from (mid + more)
 range_on s from mid zero h = with_range-none (with_range s from mid) mid (mid + 0) (omega arith)
@@ -175,7 +175,7 @@ pub no_range : (s : PlainSet) (from end : ℕ) → s.capacity ≡ 0 → with_ran
 unfolding has_with_range
 no_range s from end none = ap (plain_set s.capacity) (fun_ext λ k. rw none refl)
 
--- what the calls for the list `a, b, 2..=3, 5..7, 14..` leave, one after another
+-- the sets after the calls for the list `a, b, 2..=3, 5..7, 14..`, one after another
 pub listed_calls : (capacity a b end : ℕ) {none one two three four five : PlainSet} →
     none ≡ empty_set capacity → one ≡ with_index none a → two ≡ with_index one b →
     three ≡ with_range two 2 (3 + 1) → four ≡ with_range three 5 7 → end ≡ capacity →

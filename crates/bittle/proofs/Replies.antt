@@ -1,11 +1,11 @@
--- Runs of requests, each with a state after it and a reply: `fold` of the one and `scan` of the
--- other, over any types.
+-- Runs of requests over any types. Each request has a next state and a reply: a run is a `fold` of
+-- the states and a `scan` of the replies.
 use Rattle.std.proofs.Common.{◌≡◌, ℕ, ◌+◌, ◌<◌, List, [], ◌∷◌, ◌++◌, length, take, set, get_or, refl, sym, ap, ◌∙◌}
 use Rattle.std.specs.List.{fold, scan}
 use Rattle.std.proofs.lemmas.List.{take_more, take_more_set}
 use Rattle.std.proofs.lemmas.List.Sums.{fold_more}
 
--- what each request keeps of the state, a run keeps
+-- a run keeps what each request keeps of the state
 pub run_keeps : {S X K : Type 0} (next : S → X → S) (of : S → K) →
     ((s : S) (x : X) → of (next s x) ≡ of s) → (s : S) (xs : List X) → of (fold next s xs) ≡ of s
 run_keeps next of keeps s [] = refl
@@ -17,17 +17,17 @@ scan_push : {S X Y : Type 0} (next : S → X → S) (out : S → X → Y) (s : S
 scan_push next out s [] x = refl
 scan_push next out s (y ∷ xs) x = ap (λ rs. out s y ∷ rs) (scan_push next out (next s y) xs x)
 
--- after the requests before place i from the state `start` the state is `now`, and there is a
+-- the requests before place i lead from the state `start` to the state `now`, and there is a
 -- request at i
 module _ {S X : Type 0} (next : S → X → S) (start now : S) (xs : List X) (i : ℕ) (d : X)
     (h : i < length xs) (so_far : now ≡ fold next start (take i xs)) where
-  -- one more request: the state
+  -- the state after one more request
   pub state_step : (after : S) → after ≡ next now (get_or xs i d) →
       after ≡ fold next start (take (i + 1) xs)
   state_step after e = e ∙ ap (λ s. next s (get_or xs i d)) so_far
       ∙ sym (fold_more next start xs i d h)
 
-  -- one more request: the replies
+  -- the replies after one more request
   pub replies_step : {Y : Type 0} (out : S → X → Y) (rs : List Y) (r : Y) → i < length rs →
       take i rs ≡ scan next out start (take i xs) → r ≡ out now (get_or xs i d) →
       take (i + 1) (set rs i r) ≡ scan next out start (take (i + 1) xs)

@@ -1,4 +1,4 @@
--- A walk through the first steps.
+-- An iterator stepped through the first steps of a list.
 use Rattle.std.proofs.Common.{◌≡◌, ℕ, ◌+◌, ◌<◌, ◌≤◌, Option, Some, None, List, [], ◌∷◌, ◌++◌, length, take, drop, refl, sym, ◌∙◌, ap, arith, set, get_or, length-append, append_assoc, add-one, drop-cons, ⊎_elim, take_all, le_trans}
 use Rattle.std.specs.Prelude.{slice_index}
 use Rattle.std.proofs.lemmas.List.Sums.{sum_by-append}
@@ -9,7 +9,7 @@ use Rattle.bittle.specs.declared.replay.steps.Step.{Step}
 use Rattle.bittle_bits.specs.Walk.{Walk, IsScanBounded, count_after}
 use Rattle.bittle.specs.ListEnds.{answer_of, items_left_by, answers_of, items_given, AreScanBounded}
 
--- k steps of `steps` from `all` were taken
+-- the first k steps of `steps` were taken, from the list `all`
 pub record IsReplayed (k : ℕ) (steps : List Step) (all : List ℕ) (words : ℕ) (walk : Walk)
     (answers : List (Option ℕ)) (scans : List ℕ) : Type 0 where
   pub told : take k answers ++ answers_of (drop k steps) walk.remaining ≡ answers_of steps all
@@ -69,7 +69,7 @@ bounded_push scans answers words scan answer t below lo hi =
           scans scan (λ j b. rw (early j b) (t.at_most j b)) (rw late hi);
     }
 
--- the step of the loop
+-- one turn of the loop
 pub replayed_more : (k : ℕ) (steps : List Step) (all : List ℕ) (words : ℕ) (walk next : Walk)
     (answers : List (Option ℕ)) (scans : List ℕ) (d : Step) (answer : Option ℕ) →
     k < length steps → length answers ≡ length steps →
@@ -103,7 +103,7 @@ replayed_more k steps all words walk next answers scans d answer h len r a l i o
           (rw (count, ← r.words_are, ← w) t.at_most));
     }
 
--- a walk that has its whole list left and has given nothing is replayed through no steps
+-- an iterator with its whole list left, which has yielded nothing, has taken no steps
 pub replayed_start : (steps : List Step) (all : List ℕ) (words : ℕ) (walk : Walk)
     (answers : List (Option ℕ)) → walk.remaining ≡ all → walk.items ≡ 0 → walk.words ≡ words →
     IsReplayed 0 steps all words walk answers []
@@ -121,7 +121,8 @@ replayed_start steps all words walk answers l i w = record {
   };
 }
 
--- after the last step: the list's answers, scans within their bound, and the last of them the walk's
+-- after the last step the answers are those of the list and the scans are within their bound; the
+-- last number is the iterator's own count of scans
 pub replayed_end : (k : ℕ) (steps : List Step) (all : List ℕ) (words : ℕ) (walk : Walk)
     (answers : List (Option ℕ)) (scans : List ℕ) → length steps ≤ k →
     length answers ≡ length steps → IsReplayed k steps all words walk answers scans →

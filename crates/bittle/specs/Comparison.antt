@@ -1,4 +1,4 @@
--- How two sets compare, and what a hasher is fed of one: by their increasing lists of members.
+-- How two sets compare, and what a set feeds to a hasher, by the increasing list of members.
 use Rattle.std.specs.Prelude.{◌≡◌, ℕ, ◌<◌, ◌⊎◌, Bool, true, false, cond, MatchBool, MatchOption, nat_eq, Option, List, ◌++◌, length}
 use Rattle.std.specs.Cmp.Lexicographic.{slice_cmp, pointwise}
 use Rattle.std.specs.Hash as fed
@@ -41,11 +41,11 @@ pub record AreCompared {V W X Y : Type 0} (a : shape.Ghosts V W) (b : shape.Ghos
 abbrev pub IsFirstDifference : PlainSet → PlainSet → ℕ → Type 0
 IsFirstDifference = IsFirstDecided just_one
 
--- r is that number, or `None` where the two have the same members
+-- r is that number, or `None` if the two have the same members
 abbrev pub IsDifference : PlainSet → PlainSet → Option ℕ → Type 0
 IsDifference s t r = MatchOption r (AreSame s t) (IsFirstDifference s t)
 
--- the same of the sets of two values, read in one order
+-- the same for the sets of two values, read in one order
 abbrev pub IsDifferenceOf : {V W X Y E : Type 0} → shape.Ghosts V W → shape.Ghosts X Y →
     endian.Ghosts E → V → X → Option ℕ → Type 0
 IsDifferenceOf a b e left right r = IsDifference (set_in a e left) (set_in b e right) r
@@ -58,19 +58,20 @@ HasPast s d = (m : ℕ) × (d < m) × (s.has m ≡ true)
 abbrev pub HasNonePast : PlainSet → ℕ → Type 0
 HasNonePast s d = (m : ℕ) → d < m → s.has m ≡ false
 
--- whether the set that lacks the number goes on past it: t where it is in s, and else s
+-- whether the set that lacks the number has a member past it; that set is t if the number is in s,
+-- and else s
 abbrev pub GoesOn : Bool → PlainSet → PlainSet → ℕ → Bool → Type 0
 GoesOn is_first s t d b = MatchBool b
     (HasPast (cond is_first t s) d) (HasNonePast (cond is_first t s) d)
 
--- with d the least number that is in just one: it is in s and t has a member past it, or it is in t
--- and s has none past it
+-- Let d be the least number that is in just one of the two. Either d is in s and t has a member
+-- past it, or d is in t and s has none past it.
 abbrev pub Precedes : PlainSet → PlainSet → Type 0
 Precedes s t =
     (d : ℕ) × AreSameBelow s t d
     × (((s.has d ≡ true) × (t.has d ≡ false) × HasPast t d)
     ⊎ ((s.has d ≡ false) × (t.has d ≡ true) × HasNonePast s d))
 
--- what a hasher is fed of a list: each item, and then how many there are
+-- what a list feeds to a hasher: each item, and then how many there are
 abbrev pub feed : List ℕ → List (List ℕ)
 feed xs = flat_map fed.u32 xs ++ fed.u32 (length xs)

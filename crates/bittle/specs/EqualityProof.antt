@@ -1,4 +1,4 @@
--- Proof of the law of equality that the impl of sets gives.
+-- Proof of the law of equality that the impl for `Set` states.
 use Rattle.std.proofs.Common.{◌≡◌, ℕ, ◌*◌, ◌<◌, ◌≤◌, Bool, false, IsTrue, inl, inr, sym, ap, ◌∙◌, subst, arith}
 use Rattle.std.proofs.lemmas.Bool.{cases_lt}
 use Rattle.std.specs.Cmp.Lexicographic.{same_text}
@@ -8,7 +8,7 @@ use Rattle.bittle_bits.specs.Orders.{place, read_in}
 use Rattle.bittle_bits.specs.PlainSet.{PlainSet, ascending, ascending_from}
 use Rattle.bittle.specs.Comparison.{list_eq}
 
--- sets of one capacity of whole words whose lists in an order are equal are one set
+-- two sets of one capacity, of whole words, are equal if their lists in an order are equal
 pub equal_sets : (mirrored : Bool) (w c : ℕ) → 0 < w → (words : ℕ) × (c ≡ words * w) →
     (s t : PlainSet) → s.capacity ≡ c → t.capacity ≡ c →
     ((i : ℕ) → s.capacity ≤ i → s.has i ≡ false) → ((i : ℕ) → t.capacity ≤ i → t.has i ≡ false) →

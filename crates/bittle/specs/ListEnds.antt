@@ -13,7 +13,7 @@ abbrev pub rest_of : List ℕ → List ℕ
 rest_of [] = []
 rest_of (x ∷ xs) = xs
 
--- the answer of one step: the empty list answers None
+-- the answer of one step, which is None for the empty list
 abbrev pub answer_of : Step → List ℕ → Option ℕ
 answer_of Front xs = first_of xs
 answer_of Back xs = first_of (reverse xs)
@@ -33,19 +33,19 @@ abbrev pub remains_of : List Step → List ℕ → List ℕ
 remains_of [] xs = xs
 remains_of (step ∷ steps) xs = remains_of steps (items_left_by step xs)
 
--- an item as a list, and None as the empty one
+-- the list of the item, or the empty list for None
 abbrev pub item_in : Option ℕ → List ℕ
 item_in None = []
 item_in (Some x) = x ∷ []
 
--- the items that the steps from the front give, in turn
+-- the items that the steps from the front yield, in turn
 abbrev pub items_from_front : List Step → List ℕ → List ℕ
 items_from_front [] xs = []
 items_from_front (Front ∷ steps) xs = item_in (first_of xs)
     ++ items_from_front steps (items_left_by Front xs)
 items_from_front (Back ∷ steps) xs = items_from_front steps (items_left_by Back xs)
 
--- the items that the steps from the back give, in turn
+-- the items that the steps from the back yield, in turn
 abbrev pub items_from_back : List Step → List ℕ → List ℕ
 items_from_back [] xs = []
 items_from_back (Front ∷ steps) xs = items_from_back steps (items_left_by Front xs)
@@ -61,8 +61,8 @@ KeepsAll steps xs = items_from_front steps xs
 abbrev pub items_given : List (Option ℕ) → ℕ
 items_given answers = count_by is_some answers
 
--- scans, one number for each answer, never fall, and each is at least the items given so far and at
--- most these and the words
+-- The scans, one number for each answer, never fall. Each is at least the number of items yielded
+-- so far, and at most that number plus the words.
 pub record AreScanBounded (scans : List ℕ) (answers : List (Option ℕ)) (words : ℕ) : Type 0 where
   pub each : length scans ≡ length answers
   pub rise : (k : ℕ) → k + 1 < length scans → slice_index scans k ≤ slice_index scans (k + 1)

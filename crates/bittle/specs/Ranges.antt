@@ -7,14 +7,13 @@ unfoldable pub some_below : ℕ → (ℕ → Bool) → Bool
 some_below zero p = false
 some_below (suc n) p = some_below n p || p n
 
--- whether a number is a member, or some index from one on and before an end, which wraps at the
--- capacity
+-- whether a number is a member, or some index of the range `from..to` wraps to it
 unfoldable pub has_with_range : PlainSet → ℕ → ℕ → ℕ → Bool
 has_with_range s from end k =
     (nat_lt 0 s.capacity && some_below end (λ i. nat_le from i && (k == i % s.capacity))) || s.has k
 
--- the set with each index from one on and before an end, which wraps at the capacity; a range whose
--- end is not past its start adds nothing
+-- the set with each index of the range `from..to`, which wraps at the capacity; a range with
+-- `to <= from` adds nothing
 abbrev pub with_range : PlainSet → ℕ → ℕ → PlainSet
 with_range s from end = record { capacity = s.capacity; has = has_with_range s from end }
 

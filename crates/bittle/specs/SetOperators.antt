@@ -1,9 +1,9 @@
--- What the operators of sets give.
+-- What the operators of sets return.
 use Rattle.std.specs.Prelude.{◌≡◌, ℕ, Bool}
 use Rattle.bittle_bits.specs.Orders.{read_in}
 use Rattle.bittle_bits.specs.PlainSet.{PlainSet}
 
--- the set r, of words of w bits, is in both orders what the operation makes of s and t
+-- in both orders, the set r is what the operation makes of s and t; the words have w bits
 abbrev pub IsInBothOrders : (PlainSet → PlainSet → PlainSet) → ℕ → PlainSet → PlainSet → PlainSet →
     Type 0
 IsInBothOrders operation w s t r = (mirrored : Bool) →

@@ -1,7 +1,7 @@
-//! Sets of small numbers over native integers, arrays of them and slices, proved.
+//! Sets of small numbers over integers, arrays and slices, proved correct.
 //!
-//! An integer, an array of integers nested to any depth, or a slice is a set of `u32` indexes, one
-//! bit each. Each function is proved to do what its contract says.
+//! A set has `u32` indexes, one for each bit. An integer is a set, and so is an array of integers,
+//! nested to any depth, and a slice. Each function is proved to do what its contract says.
 //!
 //! ```text
 //!      0b0010_0010u8                    0b0010_0010u8
@@ -10,7 +10,7 @@
 //!               (index 0 is the rightmost bit)   (index 0 is the leftmost bit)
 //! ```
 //!
-//! The examples below begin with
+//! The examples below begin with this line:
 //!
 //! ```rust
 //! use bittle::{BigEndian, Bits, BitsMut, BitsOwned, LittleEndian, Set};
@@ -19,7 +19,7 @@
 //! # Words and orders
 //!
 //! An index names a bit. In [`BigEndian`], the default, index 0 is the rightmost bit of a word as
-//! it is written; in [`LittleEndian`] it is the leftmost. An index past the capacity wraps.
+//! it is written. In [`LittleEndian`] it is the leftmost bit. An index past the capacity wraps.
 //!
 //! ```rust
 //! let mut word = 0b0010_0010u8;     // bits 1 and 5 are set
@@ -45,8 +45,11 @@
 //! Bits::count_zeros(&u8::ones());   // 0: an integer has a method of the name too
 //! ```
 //!
-//! So is a slice: `&[T]` is read, and through `&mut [T]` the caller's words are changed. The slice
-//! reference is kept in a variable. A `Vec` is a set through its slice.
+//! A slice reference is a set too. A `&[T]` can be read; a `&mut [T]` changes the caller's words. A
+//! `Vec` is a set through its slice. A part of a slice needs its borrow, as `(&mut words[1..3])`.
+//!
+//! An iterator borrows the slice reference. If you keep the iterator in a variable, keep the
+//! reference in one too.
 //!
 //! ```rust
 //! let mut words = [0u32; 4];
@@ -65,8 +68,8 @@
 //!
 //! # Macros
 //!
-//! [`set!`], [`set_le!`] and [`set_be!`] make a set of what they list, in the order of its type or
-//! in a named one.
+//! [`set!`] makes the set of a list, in the order of its type. [`set_le!`] and [`set_be!`] make it
+//! in the order that they name.
 //!
 //! ```rust
 //! let mask: u8 = bittle::set![0, 2..=3, 6..];       // 0b1100_1101
@@ -77,7 +80,8 @@
 //!
 //! # Iterators and joins
 //!
-//! An iterator goes over the set bits, or over the unset ones below the capacity, from both ends.
+//! An iterator yields the indexes of the set bits, or of the unset bits below the capacity. It can
+//! be stepped from both ends.
 //!
 //! ```rust
 //! let row: [u32; 4] = bittle::set![4, 67, 71, 127];
@@ -92,7 +96,7 @@
 //! row.first_one_in::<BigEndian>(5, 128);            // Some(67)
 //! ```
 //!
-//! A set is a mask over the items of an iterator.
+//! A join uses a set as a mask over the items of an iterator.
 //!
 //! ```rust
 //! let mask: u8 = bittle::set![0, 2, 5];
@@ -101,7 +105,7 @@
 //!
 //! # A set that remembers its order
 //!
-//! [`Set`] remembers its order, is compared and hashed by its indexes, and prints them.
+//! A [`Set`] remembers its order. It is compared and hashed by its indexes, and prints them.
 //!
 //! ```rust
 //! let set = Set::new_le(0b1101_0000u8);
@@ -112,10 +116,12 @@
 //!
 //! # Names
 //!
-//! A call that ends in `_in` names its order, as `test_bit_in::<LittleEndian>(3)`; `_le` and `_be`
-//! are its short forms; without an ending it is the order of the type, which is [`BigEndian`] but
-//! for a [`Set`] that remembers the other. A set is asked `all_zeros`, `all_ones`, `count_ones`,
-//! `bits_capacity`, and not `is_empty` or `len`, so that no name of a slice is hidden.
+//! A call that ends in `_in` names its order, as `test_bit_in::<LittleEndian>(3)`. `_le` and `_be`
+//! are its short forms. A call without an ending takes the order of the type. That is
+//! [`BigEndian`], or the order that a [`Set`] remembers; `join_ones` takes [`BigEndian`] always.
+//!
+//! The names avoid `is_empty` and `len`, which slices have: call `all_zeros`, `all_ones`,
+//! `count_ones` and `bits_capacity`.
 #![tactic(auto)]
 
 #[doc(hidden)]

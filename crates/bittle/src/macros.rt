@@ -1,4 +1,4 @@
-//! The macros that make a set of what they list, and the ranges that they expand to.
+//! The macros that make the set of a list, and the calls for ranges that they expand to.
 
 ghost use Rattle.std.specs.Prelude.{◌≡◌, ◌+◌, IsTrue};
 ghost use Rattle.bittle_bits.specs.Values.{set_in, ShapeFits};
@@ -9,15 +9,17 @@ use bittle_bits::bits_mut::BitsMut;
 use bittle_bits::bits_owned::BitsOwned;
 use bittle_bits::endian::{BigEndian, Endian, LittleEndian};
 
-/// Makes a set of what is listed, in the order of its type.
+/// Makes the set of a list, in the order of its type.
 ///
-/// A list has indexes, which are expressions of the type `u32`, and ranges `a..=b`, `a..b` and
-/// `a..` whose bounds are literals; `a..` ends at the capacity. A range that ends before it starts
-/// sets nothing.
+/// A list has indexes, which are expressions of the type `u32`. It also has ranges `a..=b`, `a..b`
+/// and `a..`, whose bounds are literals; `a..` ends at the capacity. A range that ends before it
+/// starts sets nothing.
 ///
-/// The type, which the place of use names, has to fit. An index costs O(1), a range one mask for
-/// each word of it. An index past the capacity wraps. With capacity 0 the set is empty. The macro
-/// is no constant: in place of one write a function that returns it.
+/// The use of the macro has to determine the type, and the type has to fit. The empty set costs
+/// O(words), an index O(1), and a range one mask for each word of it. An index past the capacity
+/// wraps. With capacity 0 the set is empty.
+///
+/// The macro is not a constant. In place of a constant, write a function that returns the set.
 ///
 /// ```
 /// let mask: u8 = bittle::set![0, 2..=3, 6..];         // 0b1100_1101
@@ -33,7 +35,7 @@ macro_rules! set {
     };
 }
 
-/// Makes a set of what is listed, as [`set!`] does, in [`LittleEndian`](crate::LittleEndian) order.
+/// Makes the set of a list in [`LittleEndian`](crate::LittleEndian) order, as [`set!`] does.
 ///
 /// ```
 /// let mask: u8 = bittle::set_le![0, 2..=3, 6..];      // 0b1011_0011
@@ -50,7 +52,7 @@ macro_rules! set_le {
     };
 }
 
-/// Makes a set of what is listed, as [`set!`] does, in [`BigEndian`](crate::BigEndian) order.
+/// Makes the set of a list in [`BigEndian`](crate::BigEndian) order, as [`set!`] does.
 ///
 /// ```
 /// let mask: u8 = bittle::set_be![0, 2..=3, 6..];      // 0b1100_1101
@@ -67,7 +69,8 @@ macro_rules! set_be {
     };
 }
 
-// The set of a list, by the calls for an index, for a range `a..b` and for a range `a..=b`.
+// Makes the set of a list. It is given the calls for an index, for a range `a..b` and for a range
+// `a..=b`.
 #[doc(hidden)]
 #[macro_export]
 macro_rules! set_of_listed {
@@ -78,8 +81,8 @@ macro_rules! set_of_listed {
     }};
 }
 
-// Puts what is listed, one after another. A bare range is also an expression, so the ranges stand
-// first.
+// Puts the items of a list into a set, one after another. A bare range is also an expression, so
+// the rules for ranges come first.
 #[doc(hidden)]
 #[macro_export]
 macro_rules! put_listed {
@@ -107,10 +110,10 @@ macro_rules! put_listed {
     };
 }
 
-/// Sets the bits at the indexes `from..to`, each modulo the capacity, in the order of the type.
+/// Sets the bits at the indexes `from..to`, in the order of the type. Each index wraps.
 ///
-/// The shape has to fit. A range that ends before it starts changes nothing, and neither does any
-/// range with capacity 0.
+/// The shape has to fit. A range that ends before it starts changes nothing. With capacity 0
+/// nothing changes.
 #[inline]
 pub fn put_until<B: BitsMut>(bits: &mut B, from: u32, to: u32)
     requires { ShapeFits B.Shape bits.old }
@@ -134,10 +137,10 @@ pub fn put_until_in<B: BitsMut, E: Endian>(bits: &mut B, from: u32, to: u32)
     }
 }
 
-/// Sets the bits at the indexes `from..=to`, each modulo the capacity, in the order of the type.
+/// Sets the bits at the indexes `from..=to`, in the order of the type. Each index wraps.
 ///
-/// The shape has to fit. A range that ends before it starts changes nothing, and neither does any
-/// range with capacity 0.
+/// The shape has to fit. A range that ends before it starts changes nothing. With capacity 0
+/// nothing changes.
 #[inline]
 pub fn put_through<B: BitsMut>(bits: &mut B, from: u32, to: u32)
     requires { ShapeFits B.Shape bits.old }
@@ -162,7 +165,7 @@ pub fn put_through_in<B: BitsMut, E: Endian>(bits: &mut B, from: u32, to: u32)
     if capacity == 0 {
         return;
     }
-    // Consecutive indexes, as many as the capacity, name every bit, so no range has more to set.
+    // As many consecutive indexes as the capacity name every bit, so a range needs no more.
     let count = (to - from).min(capacity - 1) + 1;
     let start = from % capacity;
     let room = capacity - start;
@@ -174,8 +177,8 @@ pub fn put_through_in<B: BitsMut, E: Endian>(bits: &mut B, from: u32, to: u32)
     }
 }
 
-// A list with two indexes and each kind of range, in each macro. The other lists, with each kind of
-// item before another, are in the crate of proved callers.
+// Makes the set of a list with two indexes and each kind of range, by each macro. The crate of
+// proved callers has the other lists, with each kind of item before another.
 fn listed<B: BitsOwned>(a: u32, b: u32) -> B
     requires { IsTrue B.indexable }
     ensures { set_in B.Shape B.Order.Endian result ≡ listed_set B.type_capacity a b }

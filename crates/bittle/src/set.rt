@@ -24,9 +24,12 @@ mod operators;
 
 /// A set that remembers the order in which its bits are indexed.
 ///
-/// Calls that name no order use the remembered one, and so do iteration, comparison, hashing and
-/// debug text. What a set wraps always fits: its capacity, and that of every array type within it,
-/// is below `u32::MAX`. So its calls have no condition but the bounds of a range or a search.
+/// Calls that name no order use the remembered one; `join_ones` alone uses [`DefaultEndian`].
+/// Iteration, comparison, hashing and debug text use the remembered order too.
+///
+/// The wrapped value always fits: its capacity, and that of every array type inside, is below
+/// `u32::MAX`. So a call requires at most two things: that `from <= to <= capacity`, of a range or
+/// a search, and that another set of any shape fits.
 ///
 /// ```
 /// let set = Set::new_le(0b1101_0000u8);
@@ -34,8 +37,8 @@ mod operators;
 /// set.iter_ones();                                    // yields 0, 1, 3
 /// ```
 ///
-/// The operators `|`, `&`, `^` and `-` and their assigning forms are the operations on sets. A set
-/// is made of an integer by `from`, and without members by `default`.
+/// The operators `|`, `&`, `^` and `-`, and their assigning forms, are the operations on sets. For
+/// each integer type, `from` makes the set of an integer and `default` makes the empty set.
 ///
 /// ```
 /// let one: Set<u8> = Set::from(0b0011);
@@ -53,14 +56,14 @@ pub struct Set<T: Shape, E: Endian = DefaultEndian> {
     pub ghost fits: { ShapeFits T.Shape bits },
 }
 
-/// States that the order of a set that names none is the big-endian one.
+/// States that a set which names no order has the big-endian one.
 #[doc(hidden)]
 pub fn default_order_is_big_endian()
     ensures { ⟦<DefaultEndian as Endian>⟧.mirrored ≡ false }
 {}
 
 impl<T: Bits> Set<T> {
-    /// Wraps `bits`, to be read in [`DefaultEndian`] order.
+    /// Makes a set of `bits`, read in [`DefaultEndian`] order.
     ///
     /// The shape has to fit.
     ///
@@ -77,7 +80,7 @@ impl<T: Bits> Set<T> {
 }
 
 impl<T: Bits> Set<T, LittleEndian> {
-    /// Wraps `bits`, to be read in [`LittleEndian`] order.
+    /// Makes a set of `bits`, read in [`LittleEndian`] order.
     ///
     /// The shape has to fit.
     ///
@@ -94,7 +97,7 @@ impl<T: Bits> Set<T, LittleEndian> {
 }
 
 impl<T: Bits, E: Endian> Set<T, E> {
-    /// Wraps `bits`, to be read in the order `E`.
+    /// Makes a set of `bits`, read in the order `E`.
     ///
     /// The shape has to fit.
     ///
@@ -129,7 +132,7 @@ impl<T: Bits, E: Endian> Set<T, E> {
 }
 
 impl<'a, U: BitsOwned> Set<&'a [U]> {
-    /// Wraps a slice, to be read in [`DefaultEndian`] order.
+    /// Makes a set of a slice, read in [`DefaultEndian`] order. It costs O(1).
     ///
     /// The shape has to fit.
     ///
@@ -149,7 +152,7 @@ impl<'a, U: BitsOwned> Set<&'a [U]> {
 }
 
 impl<'a, U: BitsOwned> Set<&'a [U], LittleEndian> {
-    /// Wraps a slice, to be read in [`LittleEndian`] order.
+    /// Makes a set of a slice, read in [`LittleEndian`] order. It costs O(1).
     ///
     /// The shape has to fit.
     ///
@@ -169,7 +172,9 @@ impl<'a, U: BitsOwned> Set<&'a [U], LittleEndian> {
 }
 
 impl<'a, U: BitsOwned> Set<&'a mut [U]> {
-    /// Wraps a lent slice, to be read in [`DefaultEndian`] order. Changes reach the caller's slice.
+    /// Makes a set of a mutably borrowed slice, read in [`DefaultEndian`] order. It costs O(1).
+    ///
+    /// The caller's slice holds the changes.
     ///
     /// The shape has to fit.
     ///
@@ -191,7 +196,9 @@ impl<'a, U: BitsOwned> Set<&'a mut [U]> {
 }
 
 impl<'a, U: BitsOwned> Set<&'a mut [U], LittleEndian> {
-    /// Wraps a lent slice, to be read in [`LittleEndian`] order. Changes reach the caller's slice.
+    /// Makes a set of a mutably borrowed slice, read in [`LittleEndian`] order. It costs O(1).
+    ///
+    /// The caller's slice holds the changes.
     ///
     /// The shape has to fit.
     ///

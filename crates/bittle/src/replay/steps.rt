@@ -1,5 +1,5 @@
-//! The main theorem on iterators, the contract of [`replay_walk`]: one iterator through a list of
-//! steps yields an increasing list from its two ends, and makes few scans of words.
+//! The main theorem on iterators, which is the contract of [`replay_walk`]. Stepped through a list
+//! of steps, an iterator yields an increasing list from its two ends, and scans few words.
 
 ghost use Rattle.std.specs.Prelude.{◌≡◌, ℕ, ◌+◌, ◌≤◌, ◌∷◌, ◌++◌, [], List, length, slice_index};
 ghost use Rattle.bittle_bits.specs.PlainSet.{ascending};
@@ -14,7 +14,7 @@ use std::marker::Model;
 use std::mem::replace;
 use std::snapshot::Snapshot;
 
-/// From which end of an iterator an item is taken.
+/// The end of an iterator from which a step takes an item.
 #[derive(Clone, Copy, Debug, PartialEq, Eq)]
 pub enum Step {
     /// The first item that remains.
@@ -23,15 +23,15 @@ pub enum Step {
     Back,
 }
 
-// A list of numbers, of which snapshots alone are kept.
+// A list of numbers that keeps snapshots alone.
 #[derive(Drop)]
 enum CountList {
     Empty,
     And(Snapshot<CountList>, Snapshot<Count>),
 }
 
-/// One number for each step of an iterator, the scans made up to it. Contracts alone see them, and
-/// they take no bytes.
+/// For each step of an iterator, the number of scans made up to it. Contracts alone see these
+/// numbers, and they take no bytes.
 #[derive(Drop)]
 pub struct Scans {
     trail: Snapshot<CountList>,
@@ -51,7 +51,7 @@ impl Model for Scans {
 }
 
 impl Scans {
-    /// Returns an empty log.
+    /// Returns an empty list of counts.
     fn new() -> Scans
         ensures { result ≡ [] }
     {
@@ -88,8 +88,8 @@ fn take_step<W: Counted>(walk: &mut W, step: Step) -> Option<u32>
     }
 }
 
-// Takes a walk that has given nothing yet through the steps. The last number is the walk's own
-// count of scans.
+// Steps an iterator that has yielded nothing yet through the steps. The last number is the
+// iterator's own count of scans.
 fn run<W: Counted>(walk: &mut W, steps: &[Step], answers: &mut [Option<u32>]) -> Scans
     requires places { length answers.old ≡ length steps.now }
     requires fresh { (W.walk walk.old).items ≡ 0 }
@@ -106,7 +106,7 @@ fn run<W: Counted>(walk: &mut W, steps: &[Step], answers: &mut [Option<u32>]) ->
     scans
 }
 
-// Takes a walk that has given nothing yet through the steps, and drops it.
+// Steps an iterator that has yielded nothing yet through the steps, and drops it.
 fn run_whole<W: Counted + Drop>(walk: W, steps: &[Step], answers: &mut [Option<u32>]) -> Scans
     requires places { length answers.old ≡ length steps.now }
     requires fresh { (W.walk walk).items ≡ 0 }
@@ -117,14 +117,14 @@ fn run_whole<W: Counted + Drop>(walk: W, steps: &[Step], answers: &mut [Option<u
     run(&mut walk, steps, answers)
 }
 
-/// Takes one iterator over a set in the order `E`, of its ones or of its zeros, through the steps,
-/// and writes what each returns.
+/// Steps one iterator over a set through the steps, in the order `E`, and writes what each step
+/// returns. The iterator is over the set bits if `ones` is `true`, and else over the unset bits.
 ///
-/// That is the items of the increasing list from its two ends, and `None` once none remains.
-/// Contracts see in the result the scans made up to each step.
+/// A step returns an item of the increasing list from one of its ends, or `None` once none remains.
+/// Contracts see in the result how many scans were made up to each step.
 ///
-/// The shape has to fit, and there is one place for the answer of each step. Each word is fetched
-/// at most once.
+/// The shape has to fit, and `answers` has to be as long as `steps`. Each word is fetched at most
+/// once.
 ///
 /// ```
 /// let mut answers = [None; 3];
@@ -151,8 +151,8 @@ pub fn replay_walk<B: Bits, E: Endian>(
     }
 }
 
-/// States that at every moment the items from the front, what remains, and the items from the back
-/// in reverse are the whole list.
+/// States that no item is lost: after any steps, the items from the front, what remains, and the
+/// items from the back in reverse are the whole list.
 #[doc(hidden)]
 pub fn ends_keep_all()
     ensures { (steps : List Step) (xs : List ℕ) → KeepsAll steps xs }

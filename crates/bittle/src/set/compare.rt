@@ -1,5 +1,5 @@
-//! Equality and the order of two sets. Sets of words of one width that are read in one order are
-//! compared by words: their first difference decides.
+//! Equality and the order of two sets. If both sets have words of one width and are read in one
+//! order, they are compared by words, and their first difference decides.
 
 ghost use Rattle.std.specs.Cmp.{partial_equiv_from_equiv, partial_order_from_agreeing_total, on_equiv, on_total};
 ghost use Rattle.std.specs.Cmp.Lexicographic.{nat_list_eq_equiv, nat_list_cmp_total, texts_ties};
@@ -18,8 +18,8 @@ use bittle_bits::extension::{
 };
 use std::cmp::Ordering;
 
-// Returns the least index that is in just one of two sets, or `None` where they have the same
-// members. `capacity` is that of the left one, and `other` that of the right one.
+// Returns the least index that is in just one of two sets, or `None` if they have the same members.
+// `capacity` is that of the left set, and `other` that of the right set.
 #[inline]
 fn difference_by_words<A: Bits, B: Bits, E: Endian>(
     left: &A,
@@ -35,7 +35,7 @@ fn difference_by_words<A: Bits, B: Bits, E: Endian>(
     if difference.is_some() {
         return difference;
     }
-    // Past the common words just the longer one can have members.
+    // Past the common words only the longer set can have members.
     if capacity < other {
         right.first_one_in::<E>(capacity, other)
     } else if other < capacity {
@@ -45,8 +45,8 @@ fn difference_by_words<A: Bits, B: Bits, E: Endian>(
     }
 }
 
-// Returns the same, by a call in any case: so what is compiled into a caller is the question of the
-// first word alone.
+// Does the same as `difference_by_words`, never inlined. So only the test of the first word is
+// compiled into a caller.
 #[inline(never)]
 fn difference_out_of_line<A: Bits, B: Bits, E: Endian>(
     left: &A,
@@ -60,8 +60,8 @@ fn difference_out_of_line<A: Bits, B: Bits, E: Endian>(
     difference_by_words::<A, B, E>(left, right, capacity, other)
 }
 
-// Returns the same. Of a slice the first word is asked before all, since it often decides; where it
-// does not, it is asked again with the others.
+// Does the same as `difference_by_words`. For a slice it compares the first words alone before all
+// else, since they often decide. If they do not, they are read again with the other words.
 #[inline]
 fn first_difference<A: Bits, B: Bits, E: Endian>(
     left: &A,
@@ -94,12 +94,12 @@ fn has<B: Bits, E: Endian>(bits: &B, capacity: u32, index: u32) -> bool
         return false;
     }
     let width = word_width::<B>();
-    // Of a slice a test of an index that may wrap divides by its length, which the word does not.
+    // For a slice, a test of an index that may wrap divides by the length. This test does not.
     test_bit::<B::LeafWord, E>(bits.nth_leaf_word((index / width) as usize), index % width)
 }
 
-// Returns whether a member lies past an index that is none. The search begins at the index, since
-// it is the place of a bit in any case, where the next one may be past the word.
+// Returns whether a member lies past an index that is not a member. The search begins at the index
+// itself, which is always the index of a bit; the next one may be past the word.
 #[inline]
 fn has_past<B: Bits, E: Endian>(bits: &B, capacity: u32, index: u32) -> bool
     requires fits { ShapeFits B.Shape bits.now }
@@ -111,8 +111,8 @@ fn has_past<B: Bits, E: Endian>(bits: &B, capacity: u32, index: u32) -> bool
     index < capacity && bits.first_one_in::<E>(index, capacity).is_some()
 }
 
-// Returns whether the side that lacks an index has a member past it. `is_left` says that the left
-// one has the index.
+// Returns whether the side that lacks an index has a member past it. `is_left` is whether the left
+// side has the index.
 #[inline]
 fn other_goes_on<A: Bits, B: Bits, E: Endian>(
     left: &A,
@@ -151,8 +151,8 @@ fn compare_words<A: Bits, B: Bits, E: Endian>(left: &A, right: &B) -> Ordering
         Some(index) => {
             let is_left = has::<A, E>(left, capacity, index);
             let goes_on = other_goes_on::<A, B, E>(left, right, capacity, other, index, is_left);
-            // The side that has the index comes first exactly where the other side goes on past it.
-            // Asked so, two words are compared without a jump on their bits.
+            // The side that has the index comes first exactly if the other side goes on past it.
+            // In this form, no branch depends on the bits of the two words.
             if is_left == goes_on {
                 Ordering::Less
             } else {
@@ -162,8 +162,8 @@ fn compare_words<A: Bits, B: Bits, E: Endian>(left: &A, right: &B) -> Ordering
     }
 }
 
-// The order of two sets, each read in its own order. Words decide where they are alike, and else
-// both walk step by step, up to their first difference.
+// Returns the order of two sets, each read in its own order. If their words are alike, words
+// decide. Otherwise both sets are iterated, up to their first difference.
 #[inline]
 fn compare<A: Bits, B: Bits, E: Endian, F: Endian>(left: &A, right: &B) -> Ordering
     requires left_fits { ShapeFits A.Shape left.now }
@@ -182,7 +182,7 @@ fn compare<A: Bits, B: Bits, E: Endian, F: Endian>(left: &A, right: &B) -> Order
     }
 }
 
-// Whether two sets, each read in its own order, have the same bits set.
+// Returns whether two sets, each read in its own order, have the same members.
 #[inline]
 fn are_equal<A: Bits, B: Bits, E: Endian, F: Endian>(left: &A, right: &B) -> bool
     requires left_fits { ShapeFits A.Shape left.now }
@@ -203,9 +203,10 @@ fn are_equal<A: Bits, B: Bits, E: Endian, F: Endian>(left: &A, right: &B) -> boo
 }
 
 impl<T: Bits, E: Endian> Set<T, E> {
-    /// Compares this set with another one of any shape that fits, as increasing lists of indexes.
+    /// Compares this set with another one of any shape, by their increasing lists of indexes.
     ///
-    /// Each side is read in its own order: this one in `E`, the other in `U::Order`.
+    /// The other shape has to fit. Each side is read in its own order: this set in `E`, the other
+    /// one in `U::Order`. Words, or items of iterators, are compared up to the first difference.
     ///
     /// ```
     /// Set::new(1u8).cmp_bits(&3u16);                      // Less
@@ -215,7 +216,7 @@ impl<T: Bits, E: Endian> Set<T, E> {
         ensures value { result
             ≡ list_cmp (ascending (set_in T.Shape E.Endian self.now.bits))
             (ascending (set_in U.Shape U.Order.Endian other.now)) }
-        // What decides it.
+        // What decides the result.
         ensures decided { let ours = set_in T.Shape E.Endian self.now.bits in
             let theirs = set_in U.Shape U.Order.Endian other.now in
             MatchOrdering result (Precedes ours theirs) (AreSame ours theirs)
@@ -224,9 +225,10 @@ impl<T: Bits, E: Endian> Set<T, E> {
         compare::<T, U, E, U::Order>(&self.bits, other)
     }
 
-    /// Returns `true` if this set and another one of any shape that fits have the same bits set.
+    /// Returns `true` if this set and another one of any shape have the same members.
     ///
-    /// Each side is read in its own order: this one in `E`, the other in `U::Order`.
+    /// The other shape has to fit. Each side is read in its own order: this set in `E`, the other
+    /// one in `U::Order`. Words, or items of iterators, are compared up to the first difference.
     ///
     /// ```
     /// Set::new_le(0x80u8).eq_bits(&1u16);                 // true: each has the one index 0
@@ -236,7 +238,7 @@ impl<T: Bits, E: Endian> Set<T, E> {
         ensures value { result
             ≡ list_eq (ascending (set_in T.Shape E.Endian self.now.bits))
             (ascending (set_in U.Shape U.Order.Endian other.now)) }
-        // What decides it.
+        // What decides the result.
         ensures decided { IsTrue result
             ↔ AreSame (set_in T.Shape E.Endian self.now.bits)
             (set_in U.Shape U.Order.Endian other.now) }

@@ -22,7 +22,7 @@ impl<T: Bits, E: Endian> fmt::Debug for Set<T, E> {
     }
 }
 
-/// Writes what a walk yields between braces, with a comma and a space between two.
+/// Writes the items of an iterator between braces, with a comma and a space between two.
 pub fn write_all<I: Counted + Drop, W: fmt::Write>(
     indexes: I,
     f: &mut fmt::Formatter<W>,
@@ -39,7 +39,7 @@ pub fn write_all<I: Counted + Drop, W: fmt::Write>(
     f.write_str("}")
 }
 
-// Writes an index, after a comma and a space where it is not the first.
+// Writes an index, after a comma and a space if it is not the first.
 #[inline]
 fn write_index<W: fmt::Write>(f: &mut fmt::Formatter<W>, first: bool, index: u32) -> fmt::Result
     ensures { WritesOnOk W.write_str_gives f.old result (index_text first index) f.new }

@@ -1,4 +1,4 @@
-//! What a hasher is fed of a set.
+//! What a set feeds to a hasher.
 
 ghost use Rattle.std.specs.Cmp.Lexicographic.{bytes_decides};
 ghost use Rattle.std.specs.Hash as fed;
@@ -16,8 +16,8 @@ use bittle_bits::endian::Endian;
 use bittle_bits::extension::Counted;
 use std::hash::{Hash, Hasher};
 
-/// Feeds the hasher the index of each set bit in increasing order and then their number, each as a
-/// `u32`. So equal sets are fed alike, whatever the slices that they wrap.
+/// Feeds the hasher the index of each set bit in increasing order, and then their number. Each is a
+/// `u32`. So equal sets feed the same, even if they wrap slices of unequal length.
 impl<T: Bits, E: Endian> Hash for Set<T, E> {
     ghost hash_input = { λ s. feed (ascending (set_in T.Shape E.Endian s.bits)) };
 
@@ -30,7 +30,7 @@ impl<T: Bits, E: Endian> Hash for Set<T, E> {
     }
 }
 
-// Feeds what a walk yields, and returns how many items that was.
+// Feeds the items of an iterator, and returns how many there were.
 fn feed_all<I: Counted + Drop, H: Hasher>(indexes: I, state: &mut H) -> u32
     requires ends { IsFinite (I.remaining indexes) }
     requires few { length (I.walk indexes).remaining < 4294967295 }

@@ -11,7 +11,7 @@ use bittle_bits::bits_owned::BitsOwned;
 use bittle_bits::endian::Endian;
 use bittle_bits::walk::{IntoIterOnes, IterOnes};
 
-/// The members in increasing order.
+/// Iterates over the members in increasing order.
 impl<T: BitsOwned, E: Endian> IntoIterator for Set<T, E> {
     type Item = u32;
 
@@ -26,7 +26,7 @@ impl<T: BitsOwned, E: Endian> IntoIterator for Set<T, E> {
     }
 }
 
-/// The members in increasing order.
+/// Iterates over the members in increasing order.
 impl<'a, T: Bits, E: Endian> IntoIterator for &'a Set<T, E> {
     type Item = u32;
 

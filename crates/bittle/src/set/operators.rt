@@ -1,4 +1,4 @@
-//! The operators of sets, one file for each operation: a value or a reference on either side.
+//! The operators of sets, one file for each operation. Each operand is a value or a reference.
 
 ghost use Rattle.std.specs.Prelude.{◌≡◌, Bool};
 ghost use Rattle.bittle_bits.specs.SetOperations.{combination_of};
@@ -15,7 +15,7 @@ use bittle_bits::bits_owned::BitsOwned;
 use bittle_bits::endian::Endian;
 use bittle_bits::extension::Operation;
 
-// Returns a value combined with another one by an operation.
+// Combines two values by an operation, and returns the result as a set.
 #[inline]
 fn combined<T: BitsOwned, E: Endian, O: Operation>(bits: T, other: &T) -> Set<T, E>
     requires { ShapeFits T.Shape bits }

@@ -12,7 +12,7 @@ use bittle_bits::endian::Endian;
 use bittle_bits::extension::Difference;
 use std::ops::{Sub, SubAssign};
 
-/// `-` gives the members of the first set that are none of the second.
+/// `-` returns the members of the first set that the second set lacks.
 impl<T: BitsOwned, E: Endian> Sub<Set<T, E>> for Set<T, E> {
     type Output = Set<T, E>;
 
@@ -61,8 +61,8 @@ impl<'a, 'b, T: BitsOwned, E: Endian> Sub<&'b Set<T, E>> for &'a Set<T, E> {
     }
 }
 
-/// `-=` takes the members of the other set out. Of two slices only what lies below both capacities
-/// changes.
+/// `-=` removes each member of the other set. Between two slices of unequal length, only bits below
+/// both capacities change.
 impl<T: BitsMut, E: Endian> SubAssign<Set<T, E>> for Set<T, E> {
     ghost sub_assign_gives = { λ a b r. IsInBothOrders difference_of T.width (T.big a.bits)
         (T.big b.bits) (T.big r.bits) × (T.loan a.bits ≡ T.loan r.bits) };

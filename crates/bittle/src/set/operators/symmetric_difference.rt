@@ -12,7 +12,7 @@ use bittle_bits::endian::Endian;
 use bittle_bits::extension::SymmetricDifference;
 use std::ops::{BitXor, BitXorAssign};
 
-/// `^` gives the members of just one of the sets.
+/// `^` returns the members of just one of the sets.
 impl<T: BitsOwned, E: Endian> BitXor<Set<T, E>> for Set<T, E> {
     type Output = Set<T, E>;
 
@@ -61,8 +61,8 @@ impl<'a, 'b, T: BitsOwned, E: Endian> BitXor<&'b Set<T, E>> for &'a Set<T, E> {
     }
 }
 
-/// `^=` makes each member of the other set a member, or, where it is one already, takes it out. Of
-/// two slices only what lies below both capacities changes.
+/// `^=` adds each member of the other set, or removes it if it is a member already. Between two
+/// slices of unequal length, only bits below both capacities change.
 impl<T: BitsMut, E: Endian> BitXorAssign<Set<T, E>> for Set<T, E> {
     ghost bitxor_assign_gives = { λ a b r. IsInBothOrders symmetric_difference_of T.width
         (T.big a.bits) (T.big b.bits) (T.big r.bits) × (T.loan a.bits ≡ T.loan r.bits) };

@@ -10,7 +10,7 @@ use Rattle.bittle.proofs.set.debug.write_all.Given as goal
 abbrev pub others_text : List ℕ → List ℕ
 others_text = flat_map (λ i. codes ", " ++ decimal i)
 
--- the text from the indexes that are left on, of which the first may be the first of all
+-- the text of the indexes that are left; the first of them may be the first of all
 abbrev pub rest_text : Bool → List ℕ → List ℕ
 rest_text first left = (if first then join_by decimal (codes ", ") left else others_text left)
     ++ codes "}"

@@ -3,7 +3,7 @@ use Rattle.std.specs.List.{flat_map, fold}
 use Rattle.std.specs.Hash as fed
 use Rattle.bittle.proofs.set.hash.feed_all.Given as goal
 
--- what is fed of the rest completes what is fed of all
+-- feeding the rest completes the feed of all
 abbrev pub invariant-loop-index : goal.invariant-loop-index
 invariant-loop-index g l =
     let all = (g.I.Counted.walk l.fn.indexes).remaining in
