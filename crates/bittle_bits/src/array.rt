@@ -32,8 +32,8 @@ impl<T: Shape, const N: usize> Shape for [T; N] {
     fn seal(_: Sealed) {}
 }
 
-// The operation on two arrays. A short one is copied first: the copy lies elsewhere
-// for certain, so that the machine goes over several words at once.
+// Combines two arrays by an operation. A short `others` is copied first. The copy cannot overlap
+// `elements`, so the compiler can process several words at once.
 #[inline]
 fn combine<T: BitsOwned, O: Operation, const N: usize>(elements: &mut [T; N], others: &[T; N])
     ensures { (mirrored : Bool)

@@ -20,19 +20,22 @@ use crate::walk::{Iter, IterOnes, IterZeros};
 
 /// A set of bits, each named by a `u32` index below the capacity.
 ///
-/// The twelve integers are sets, and so are arrays of sets, nested to any depth, and slices. An
-/// index at or past the capacity wraps: it means the index modulo the capacity. With capacity 0 no
-/// bit is set, and no call changes anything.
+/// The twelve integers are sets. Arrays of sets, nested to any depth, and slices of sets are sets
+/// too. An index at or past the capacity wraps: it means the index modulo the capacity. With
+/// capacity 0 no bit is set, and no call changes anything.
 ///
-/// A shape *fits* if its capacity, and that of each array type within it, is below `u32::MAX`;
-/// `bits_capacity() < u32::MAX` tells. Calls that count, iterate, join or search ask for that. A
-/// call on one index asks of a slice only that its element type fits, so it works at any length.
+/// A shape *fits* if its capacity, and that of each array type inside, is below `u32::MAX`.
+/// `bits_capacity() < u32::MAX` checks this. Calls that count, iterate, join or search require that
+/// the shape fits. A call on one index requires less of a slice: only its element type has to fit,
+/// so the call works at any length.
 pub trait Bits: Drop + ReadWords {
-    /// The order of the calls that name none: [`DefaultEndian`], but of a `Set` the one it
-    /// remembers.
+    /// The order of calls that name no order. It is [`DefaultEndian`]; for a `Set` it is the order
+    /// that the set remembers.
     type Order: Endian;
 
-    /// Returns how many bits the set has, or `u32::MAX` if its shape does not fit. Always callable.
+    /// Returns how many bits the set has, or `u32::MAX` if its shape does not fit.
+    ///
+    /// Always callable. It costs O(1).
     ///
     /// ```
     /// [0u16; 2].bits_capacity();                          // 32
@@ -45,8 +48,9 @@ pub trait Bits: Drop + ReadWords {
         self.capacity()
     }
 
-    /// Returns how many bits are set, the same in both orders. The shape has to fit. With capacity
-    /// 0 it returns 0.
+    /// Returns how many bits are set. The number is the same in both orders.
+    ///
+    /// The shape has to fit. Each word is counted at once. With capacity 0 it returns 0.
     ///
     /// ```
     /// [0b0001_0000u8, 0b0100_1000].count_ones();          // 3
@@ -58,8 +62,9 @@ pub trait Bits: Drop + ReadWords {
             result ≡ size (set_mirrored Self.Shape mirrored self.now) }
         ensures at_most { result ≤ (Self.big self.now).capacity };
 
-    /// Returns how many bits are unset, the same in both orders. The shape has to fit. With
-    /// capacity 0 it returns 0.
+    /// Returns how many bits are unset. The number is the same in both orders.
+    ///
+    /// The shape has to fit. Each word is counted at once. With capacity 0 it returns 0.
     ///
     /// ```
     /// [0b0001_0000u8, 0b0100_1000].count_zeros();         // 13
@@ -74,7 +79,10 @@ pub trait Bits: Drop + ReadWords {
         self.bits_capacity() - self.count_ones()
     }
 
-    /// Returns `true` if no bit is set, also with capacity 0. Always callable.
+    /// Returns `true` if no bit is set. With capacity 0 it returns `true`.
+    ///
+    /// Always callable. Words are read up to the answer, at most eight at a time. An array of at
+    /// most 128 bytes is read whole.
     ///
     /// ```
     /// [0u8; 4].all_zeros();                               // true
@@ -84,7 +92,10 @@ pub trait Bits: Drop + ReadWords {
         ensures in_each_order { (mirrored : Bool) →
             result ≡ (size (set_mirrored Self.Shape mirrored self.now) == 0) };
 
-    /// Returns `true` if each bit is set, also with capacity 0. Always callable.
+    /// Returns `true` if each bit is set. With capacity 0 it returns `true`.
+    ///
+    /// Always callable. Words are read up to the answer, at most eight at a time. An array of at
+    /// most 128 bytes is read whole.
     ///
     /// ```
     /// [255u8; 4].all_ones();                              // true
@@ -97,7 +108,7 @@ pub trait Bits: Drop + ReadWords {
     /// Returns `true` if the bit at `index` is set, in the order `E`. An index past the capacity
     /// wraps. With capacity 0 it returns `false`.
     ///
-    /// The type has to fit; of a slice its element type.
+    /// The type has to fit; for a slice, its element type. It costs O(1).
     ///
     /// ```
     /// 0b1000_0000u8.test_bit_in::<LittleEndian>(0);       // true
@@ -146,11 +157,11 @@ pub trait Bits: Drop + ReadWords {
         self.test_bit_in::<BigEndian>(index)
     }
 
-    /// Returns the least index of a set bit in `from..to`, in the order `E`, or `None` if there is
-    /// none.
+    /// Returns the least index of a set bit in `from..to`, in the order `E`, or `None` if no bit of
+    /// the range is set.
     ///
-    /// The shape has to fit, and `from <= to <= capacity`: nothing wraps. Only the words of the
-    /// range are read, up to the answer. With capacity 0 it returns `None`.
+    /// The shape has to fit, and `from <= to <= capacity`: no index wraps. Only words of the range
+    /// are read, up to the answer. With capacity 0 it returns `None`.
     ///
     /// ```
     /// [0x10u8, 0x01].first_one_in::<BigEndian>(5, 16);    // Some(8)
@@ -167,8 +178,8 @@ pub trait Bits: Drop + ReadWords {
         search::end_in::<Self, E, Ones, Front>(self, from, to)
     }
 
-    /// Returns the least index of an unset bit in `from..to`, in the order `E`, or `None` if there
-    /// is none. All else is as with [`first_one_in`](Bits::first_one_in).
+    /// Returns the least index of an unset bit in `from..to`, in the order `E`, or `None` if each
+    /// bit of the range is set. All else is as with [`first_one_in`](Bits::first_one_in).
     ///
     /// ```
     /// [0x10u8, 0x01].first_zero_in::<BigEndian>(4, 16);   // Some(5)
@@ -185,8 +196,9 @@ pub trait Bits: Drop + ReadWords {
         search::end_in::<Self, E, Zeros, Front>(self, from, to)
     }
 
-    /// Returns the greatest index of a set bit in `from..to`, in the order `E`, or `None` if there
-    /// is none. All else is as with [`first_one_in`](Bits::first_one_in).
+    /// Returns the greatest index of a set bit in `from..to`, in the order `E`, or `None` if no bit
+    /// of the range is set. Words are read from the last word of the range back. All else is as
+    /// with [`first_one_in`](Bits::first_one_in).
     ///
     /// ```
     /// [0x10u8, 0x01].last_one_in::<BigEndian>(0, 8);      // Some(4)
@@ -204,7 +216,7 @@ pub trait Bits: Drop + ReadWords {
     }
 
     /// Returns the greatest index of an unset bit in `from..to`, in the order `E`, or `None` if
-    /// there is none. All else is as with [`first_one_in`](Bits::first_one_in).
+    /// each bit of the range is set. All else is as with [`last_one_in`](Bits::last_one_in).
     ///
     /// ```
     /// [0x10u8, 0x01].last_zero_in::<BigEndian>(0, 9);     // Some(7)
@@ -223,8 +235,8 @@ pub trait Bits: Drop + ReadWords {
 
     /// Returns how many bits of `from..to` are set, in the order `E`.
     ///
-    /// The shape has to fit, and `from <= to <= capacity`: nothing wraps. Each word of the range is
-    /// counted at once. With capacity 0 it returns 0.
+    /// The shape has to fit, and `from <= to <= capacity`: no index wraps. Each word of the range
+    /// is counted at once. With capacity 0 it returns 0.
     ///
     /// ```
     /// [0x90u8, 0x03].count_ones_in_range_in::<BigEndian>(5, 9);    // 2: bits 7 and 8
@@ -243,11 +255,13 @@ pub trait Bits: Drop + ReadWords {
         range_count::count_ones::<Self, E>(self, from, to)
     }
 
-    /// Returns an iterator over the indexes of the set bits in the order `E`, increasing, from both
-    /// ends. The shape has to fit. With capacity 0 it yields nothing.
+    /// Returns an iterator over the indexes of the set bits, increasing, in the order `E`. It can
+    /// be stepped from both ends.
     ///
-    /// The iterator borrows the set; of a slice it borrows the slice reference, which has to be
-    /// kept in a variable.
+    /// The shape has to fit. Each word is read at most once. With capacity 0 it yields nothing.
+    ///
+    /// The iterator borrows the set. For a slice it borrows the slice reference: if you keep the
+    /// iterator in a variable, keep the reference in one too.
     ///
     /// ```
     /// 0b1101_0000u8.iter_ones_in::<LittleEndian>();       // yields 0, 1, 3
@@ -264,8 +278,8 @@ pub trait Bits: Drop + ReadWords {
         Iter::new(Source::new(self))
     }
 
-    /// Returns an iterator over the indexes of the unset bits below the capacity in the order `E`,
-    /// increasing, from both ends. All else is as with [`iter_ones_in`](Bits::iter_ones_in).
+    /// Returns an iterator over the indexes of the unset bits below the capacity, increasing, in
+    /// the order `E`. All else is as with [`iter_ones_in`](Bits::iter_ones_in).
     ///
     /// ```
     /// 0b1101_0000u8.iter_zeros_in::<LittleEndian>();      // yields 2, 4, 5, 6, 7
@@ -398,9 +412,11 @@ pub trait Bits: Drop + ReadWords {
         self.iter_zeros_in::<BigEndian>()
     }
 
-    /// Returns an iterator over the items of `iter` at the set bits: for each set bit in the order
-    /// `E`, in increasing order, the item at that position. The shape has to fit. With capacity 0
-    /// it yields nothing.
+    /// Returns an iterator over the items of `iter` at the set bits. For each set bit, increasing
+    /// in the order `E`, it yields the item at that position.
+    ///
+    /// The shape has to fit. Each word is read at most once, and `iter` is stepped up to the last
+    /// set bit. With capacity 0 it yields nothing.
     ///
     /// [`JoinOnes`] says what is taken from `iter`, and where the join ends.
     ///

@@ -17,8 +17,8 @@ use crate::operation::{
 pub trait BitsMut: Bits {
     /// Sets the bit at `index`, in the order `E`. No other bit changes.
     ///
-    /// The type has to fit; of a slice its element type. An index past the capacity wraps. With
-    /// capacity 0 nothing changes.
+    /// The type has to fit; for a slice, its element type. An index past the capacity wraps. With
+    /// capacity 0 nothing changes. It costs O(1).
     ///
     /// ```
     /// let mut word = 0u8;
@@ -30,10 +30,10 @@ pub trait BitsMut: Bits {
             ≡ with_index (set_in Self.Shape E.Endian self.old) index }
         ensures stays { Self.loan self.old ≡ Self.loan self.new };
 
-    /// Clears the bit at `index`, in the order `E`: it is unset then. No other bit changes.
+    /// Clears the bit at `index`, in the order `E`: it is unset afterwards. No other bit changes.
     ///
-    /// The type has to fit; of a slice its element type. An index past the capacity wraps. With
-    /// capacity 0 nothing changes.
+    /// The type has to fit; for a slice, its element type. An index past the capacity wraps. With
+    /// capacity 0 nothing changes. It costs O(1).
     ///
     /// ```
     /// let mut word = 0b1000_0001u8;
@@ -47,7 +47,7 @@ pub trait BitsMut: Bits {
 
     /// Clears every bit.
     ///
-    /// Always callable. Each word is written once.
+    /// Always callable. Each word is written once. With capacity 0 nothing changes.
     ///
     /// ```
     /// let mut row = [7u8, 9];
@@ -57,8 +57,8 @@ pub trait BitsMut: Bits {
         ensures set { Self.big self.new ≡ without_members (Self.big self.old) }
         ensures stays { Self.loan self.old ≡ Self.loan self.new };
 
-    /// Combines each bit from `from` on and before `to` with a set one by an operation, in the
-    /// order `E`. No other bit changes.
+    /// Combines each bit of `from..to` with a set bit by an operation, in the order `E`. No other
+    /// bit changes.
     #[doc(hidden)]
     fn assign_range_by_operation<E: Endian, O: RangeOperation>(&mut self, from: u32, to: u32)
         requires fits { ShapeFits Self.Shape self.old }
@@ -77,7 +77,7 @@ pub trait BitsMut: Bits {
             (set_mirrored Self.Shape mirrored other.now) }
         ensures stays { Self.loan self.old ≡ Self.loan self.new };
 
-    /// Replaces word `k` of the set: its bits are those from `k` times the width on.
+    /// Replaces word `k` of the set, whose bits begin at index `k` times the width.
     #[doc(hidden)]
     fn set_nth_leaf_word(&mut self, k: usize, word: Self::LeafWord)
         requires fits { ShapeFits Self.Shape self.old }
@@ -88,9 +88,9 @@ pub trait BitsMut: Bits {
 
     /// Sets each bit at the indexes `from..to`, in the order `E`. No other bit changes.
     ///
-    /// The shape has to fit, and `from <= to <= capacity`: nothing wraps. Only the words of the
-    /// range are written, by one mask each. An empty range, as any with capacity 0, changes
-    /// nothing.
+    /// The shape has to fit, and `from <= to <= capacity`: no index wraps. Only the words of the
+    /// range are written, by one mask each. An empty range changes nothing. With capacity 0 only an
+    /// empty range is allowed.
     ///
     /// ```
     /// let mut row = [0u8; 2];
@@ -148,8 +148,9 @@ pub trait BitsMut: Bits {
 
     /// Sets each bit that is set in `other`.
     ///
-    /// Always callable, as the three operations after it. Each word is read and written once.
-    /// Between two slices of unequal length only the elements of the common beginning change.
+    /// Always callable. It holds in both orders at once. Each word is read and written once.
+    /// Between two slices of unequal length, only the elements that both have change. With capacity
+    /// 0 nothing changes.
     ///
     /// ```
     /// let mut word = 0b0011u8;
@@ -166,7 +167,7 @@ pub trait BitsMut: Bits {
     }
 
     /// Clears each bit that is unset in `other`. All else is as with
-    /// [`union_assign`](BitsMut::union_assign): the later elements of a longer slice stay.
+    /// [`union_assign`](BitsMut::union_assign), so a longer slice keeps its later elements.
     ///
     /// ```
     /// let mut word = 0b0011u8;

@@ -1,4 +1,4 @@
-//! Sets that are owned.
+//! Sets that own their bits.
 
 ghost use Rattle.std.specs.Prelude.{◌≡◌, ℕ, ◌*◌, ◌<◌, Bool, IsTrue};
 ghost use Rattle.bittle_bits.specs.PlainSet.{empty_set, full_set, with_index, without_index, ascending, complement};
@@ -12,11 +12,12 @@ use crate::endian::{BigEndian, Endian, LittleEndian};
 use crate::internal::source::OwnedSource;
 use crate::walk::{IntoIter, IntoIterOnes, IntoIterZeros};
 
-/// A set that is copied with its value. All values of the type have one capacity.
+/// A set that owns its bits: copying the value copies the set. All values of the type have one
+/// capacity.
 pub trait BitsOwned: Copy + Eq + BitsMut {
     /// Returns how many bits a set of the type has, or `u32::MAX` if the type does not fit.
     ///
-    /// Always callable.
+    /// Always callable. It costs O(1).
     ///
     /// ```
     /// <[u32; 4]>::bits();                                 // 128
@@ -25,7 +26,7 @@ pub trait BitsOwned: Copy + Eq + BitsMut {
         ensures value { Fits Self.indexable Self.type_capacity → result ≡ Self.type_capacity }
         ensures fits { result < 4294967295 → Fits Self.indexable Self.type_capacity };
 
-    /// Returns the set in which no bit is set.
+    /// Returns the set in which no bit is set, in both orders.
     ///
     /// The type has to fit. Each word is written once.
     ///
@@ -38,9 +39,9 @@ pub trait BitsOwned: Copy + Eq + BitsMut {
         ensures in_each_order { (mirrored : Bool) →
             set_mirrored Self.Shape mirrored result ≡ empty_set Self.type_capacity };
 
-    /// Returns the set in which each bit is set.
+    /// Returns the set in which each bit is set, in both orders.
     ///
-    /// The type has to fit. Each word is written once. With capacity 0 the set is empty too.
+    /// The type has to fit. Each word is written once. With capacity 0 the set is empty.
     ///
     /// ```
     /// <[u8; 2]>::ones();                                  // [255, 255]
@@ -56,7 +57,7 @@ pub trait BitsOwned: Copy + Eq + BitsMut {
     /// Returns the set with the bit at `bit` set, in the order `E`.
     ///
     /// The type has to fit. The set is copied. An index past the capacity wraps. With capacity 0 it
-    /// returns the set itself.
+    /// returns the same set.
     ///
     /// ```
     /// 0u8.with_bit_in::<LittleEndian>(0);                 // 0b1000_0000
@@ -120,7 +121,7 @@ pub trait BitsOwned: Copy + Eq + BitsMut {
     /// Returns the set with the bit at `bit` unset, in the order `E`.
     ///
     /// The type has to fit. The set is copied. An index past the capacity wraps. With capacity 0 it
-    /// returns the set itself.
+    /// returns the same set.
     ///
     /// ```
     /// 255u8.without_bit_in::<LittleEndian>(0);            // 0b0111_1111
@@ -183,7 +184,8 @@ pub trait BitsOwned: Copy + Eq + BitsMut {
 
     /// Returns the bits that are set in either set.
     ///
-    /// Always callable, as the three operations after it. Each word is read and written once.
+    /// Always callable. It holds in both orders at once. Each word is read and written once. With
+    /// capacity 0 it returns the same set.
     ///
     /// ```
     /// 0b0011u8.union(0b0101);                             // 0b0111
@@ -199,7 +201,8 @@ pub trait BitsOwned: Copy + Eq + BitsMut {
         set
     }
 
-    /// Returns the bits that are set in both sets.
+    /// Returns the bits that are set in both sets. All else is as with
+    /// [`union`](BitsOwned::union).
     ///
     /// ```
     /// 0b0011u8.conjunction(0b0101);                       // 0b0001
@@ -215,7 +218,8 @@ pub trait BitsOwned: Copy + Eq + BitsMut {
         set
     }
 
-    /// Returns the bits that are set in this set and unset in the other.
+    /// Returns the bits that are set in this set and unset in `other`. All else is as with
+    /// [`union`](BitsOwned::union).
     ///
     /// ```
     /// 0b0011u8.difference(0b0101);                        // 0b0010
@@ -231,7 +235,8 @@ pub trait BitsOwned: Copy + Eq + BitsMut {
         set
     }
 
-    /// Returns the bits that are set in just one of the sets.
+    /// Returns the bits that are set in just one of the sets. All else is as with
+    /// [`union`](BitsOwned::union).
     ///
     /// ```
     /// 0b0011u8.symmetric_difference(0b0101);              // 0b0110
@@ -247,8 +252,8 @@ pub trait BitsOwned: Copy + Eq + BitsMut {
         set
     }
 
-    /// Returns an iterator that owns the set, over the indexes of its set bits in the order `E`,
-    /// increasing, from both ends.
+    /// Returns an iterator over the indexes of the set bits, increasing, in the order `E`. It owns
+    /// the set, and can be stepped from both ends.
     ///
     /// The type has to fit. Each word is read at most once. With capacity 0 it yields nothing.
     ///
@@ -324,8 +329,8 @@ pub trait BitsOwned: Copy + Eq + BitsMut {
         self.into_iter_ones_in::<BigEndian>()
     }
 
-    /// Returns an iterator that owns the set, over the indexes of its unset bits below the capacity
-    /// in the order `E`, increasing, from both ends.
+    /// Returns an iterator over the indexes of the unset bits below the capacity, increasing, in
+    /// the order `E`. It owns the set, and can be stepped from both ends.
     ///
     /// The type has to fit. Each word is read at most once. With capacity 0 it yields nothing.
     ///
@@ -406,9 +411,9 @@ pub trait BitsOwned: Copy + Eq + BitsMut {
 
     ghost type_whole_words: { (words : ℕ) × (Self.type_capacity ≡ words * Self.width) };
 
-    // An owned type that is indexable fits.
+    // A type that may be indexed fits.
     ghost type_fits: { IsTrue Self.indexable → Self.type_capacity < 4294967295 };
 
-    // Values that `==` finds equal are one set.
+    // Values that are equal by `==` are one set.
     ghost eq_is_same: { (u v : Self) → IsTrue (Self.eq u v) → Self.big u ≡ Self.big v };
 }

@@ -1,8 +1,8 @@
-//! The two ends of a set, so that each shape has one body for both.
+//! The two ends of a set. Code that names an end has one body for both.
 
 ghost use Rattle.std.specs.Prelude.{◌≡◌, Bool, true, false, cond};
 
-/// Names an end of a set: the [`Front`] or the [`Back`].
+/// An end of a set: the [`Front`] or the [`Back`].
 pub trait End {
     ghost FRONT: { Bool };
 
@@ -27,7 +27,7 @@ impl End for Back {
     const FRONT: bool = false;
 }
 
-/// Returns the one of two numbers that is for the end `N`.
+/// Returns `front` if the end `N` is the front, and else `back`.
 #[inline]
 pub fn at_end<N: End>(front: u32, back: u32) -> u32
     ensures { result ≡ cond N.FRONT front back }

@@ -9,11 +9,14 @@ use crate::internal::sealed::Sealed;
 use crate::word::Word;
 
 /// An order in which the bits of each word are indexed: [`BigEndian`] or [`LittleEndian`].
+///
+/// The words of a set keep their places in both orders.
 pub trait Endian: Drop {
-    // Whether the first index is the bit of greatest weight.
+    // Whether index 0 is the bit of greatest weight.
     ghost mirrored: { Bool };
 
-    /// Takes what a crate that names `bittle` alone cannot name, so that none implements the trait.
+    /// Seals the trait. A crate that names `bittle` alone cannot name the parameter's type, so it
+    /// cannot implement the trait.
     #[doc(hidden)]
     fn seal(_: Sealed);
 
@@ -22,7 +25,8 @@ pub trait Endian: Drop {
     fn is_mirrored() -> bool
         ensures { result ≡ mirrored };
 
-    /// Returns of which power of two the bit at `index` has the weight; the index wraps at the width.
+    /// Returns the place of the bit at `index`: its weight is that power of two. The index wraps at
+    /// the width.
     ///
     /// ```
     /// LittleEndian::place::<u8>(9);                       // 6
@@ -32,7 +36,7 @@ pub trait Endian: Drop {
         ensures place { result ≡ orders.place mirrored T.width (index % T.width) }
         ensures within { result < T.width };
 
-    /// Returns the word in which the bit at `index` alone is set; the index wraps at the width.
+    /// Returns the word in which only the bit at `index` is set. The index wraps at the width.
     ///
     /// ```
     /// LittleEndian::mask::<u8>(9);                        // 0b0100_0000
@@ -47,7 +51,7 @@ pub trait Endian: Drop {
         requires { index < T.width }
         ensures { word_mirrored T.Word mirrored result ≡ full_set_from T.width index };
 
-    /// Returns the least index of a set bit, or the width if there is none.
+    /// Returns the least index of a set bit, or the width if no bit is set.
     ///
     /// ```
     /// BigEndian::zeros(0b0001_0000u8);                    // 4
@@ -56,7 +60,7 @@ pub trait Endian: Drop {
     fn zeros<T: Word>(value: T) -> u32
         ensures { IsLeastMember (word_mirrored T.Word mirrored value) result };
 
-    /// Returns the least index of an unset bit, or the width if there is none.
+    /// Returns the least index of an unset bit, or the width if every bit is set.
     ///
     /// ```
     /// BigEndian::ones(0b0000_0111u8);                     // 3
@@ -94,8 +98,8 @@ pub trait Endian: Drop {
     }
 }
 
-/// Counts from the bit of least weight, the rightmost one as a number is written. The default
-/// order.
+/// Counts indexes from the bit of least weight, which is the rightmost one as a number is written.
+/// It is the default order.
 ///
 /// ```
 /// 0b0010_0010u8.iter_ones_in::<BigEndian>();          // yields 1, 5
@@ -103,7 +107,8 @@ pub trait Endian: Drop {
 #[derive(Drop)]
 pub enum BigEndian {}
 
-/// Counts from the bit of greatest weight, the leftmost one as a number is written.
+/// Counts indexes from the bit of greatest weight, which is the leftmost one as a number is
+/// written.
 ///
 /// ```
 /// 0b0010_0010u8.iter_ones_in::<LittleEndian>();       // yields 2, 6
@@ -141,13 +146,13 @@ impl Endian for BigEndian {
 
     #[inline]
     fn zeros<T: Word>(value: T) -> u32 {
-        // Right of the least member stand zeros alone.
+        // To the right of the least member all bits are unset.
         value.trailing_zeros()
     }
 
     #[inline]
     fn zeros_rev<T: Word>(value: T) -> u32 {
-        // Left of the greatest member stand zeros alone.
+        // To the left of the greatest member all bits are unset.
         value.leading_zeros()
     }
 }
@@ -180,13 +185,13 @@ impl Endian for LittleEndian {
 
     #[inline]
     fn zeros<T: Word>(value: T) -> u32 {
-        // Left of the least member stand zeros alone.
+        // To the left of the least member all bits are unset.
         value.leading_zeros()
     }
 
     #[inline]
     fn zeros_rev<T: Word>(value: T) -> u32 {
-        // Right of the greatest member stand zeros alone.
+        // To the right of the greatest member all bits are unset.
         value.trailing_zeros()
     }
 }

@@ -1,4 +1,4 @@
-//! What the project's own crates above stand on, and no other: `Set` of `bittle`, the everyday
+//! What the project's own crates above use, and no other crate: `Set` of `bittle`, the everyday
 //! calls of `bittle_ext`, the sets with a summary of `bittle_tiers`, and the tests with probes.
 
 pub use crate::end::{Back, End, Front};

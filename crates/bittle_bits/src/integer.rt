@@ -1,4 +1,4 @@
-//! A word as a set, for every width at once: the traits' calls on it.
+//! A word as a set: the calls of the traits, written once for all widths.
 
 ghost use Rattle.std.specs.Prelude.{refl};
 ghost use Rattle.std.proofs.Common.{sym};
@@ -17,9 +17,9 @@ use crate::read_words::ReadWords;
 use crate::shape::Shape;
 use crate::word::Word;
 
-/// A word that is a set: that of its bits.
+/// A word that is the set of its bits.
 pub trait Integer: Word + Eq + Shape<LeafWord = Self> {
-    // It is a word, and the set of its bits.
+    // The type is a word, and the set of its bits.
     ghost is_word: { IsWord Self.eq Self.indexable Self.type_capacity
         ⟦<Self as Shape>⟧.width ⟦<Self as Word>⟧.width Self.big Self.pattern Self.loan };
 }

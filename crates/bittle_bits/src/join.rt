@@ -15,10 +15,12 @@ use std::marker::Model;
 
 /// Yields the items of an iterator at the set bits of a mask.
 ///
-/// For each set bit in turn the join moves its iterator on to the item at that position, counted
-/// from the iterator's first item, and yields it. It takes nothing past the greatest set bit. It
-/// returns `None` after the last set bit, or at the first one that is not before the iterator's
-/// end; from then on it asks neither its mask nor its iterator again.
+/// For each set bit in turn, the join steps its iterator to the item at that position, and yields
+/// the item. Positions are counted from the iterator's first item. It takes no item past the
+/// greatest set bit.
+///
+/// The join returns `None` after the last set bit, or at the first set bit that is not before the
+/// iterator's end. From then on it steps neither its mask nor its iterator.
 ///
 /// ```
 /// let mask = 0b0101u8;
@@ -71,8 +73,8 @@ where
     }
 }
 
-/// Takes the next item. A loop that calls it is counted by its own number, where one that calls
-/// `next` would have to be over an iterator that ends.
+/// Takes the next item. A loop that calls this has a measure of its own. A loop that calls `next`
+/// would need an iterator that ends.
 #[inline]
 fn take<I: Iterator>(iter: &mut I) -> Option<I::Item>
     requires { I.can_next iter.old }
@@ -84,8 +86,9 @@ fn take<I: Iterator>(iter: &mut I) -> Option<I::Item>
 
 /// Passes over `count` items and takes the next one.
 ///
-/// Where the iterator says that more are there, they are counted down here. Over a slice, whose
-/// length the compiler sees, no end is looked for, and the loop is one addition.
+/// If `size_hint` says that more items are left than needed, a loop here counts them down. Over a
+/// slice, whose length the compiler sees, the loop needs no test for the end. It becomes one
+/// addition.
 #[inline]
 fn skip_to<I: Iterator>(iter: &mut I, count: usize) -> Option<I::Item>
 where
@@ -95,7 +98,7 @@ where
     ensures keeps { OnSome result (I.can_next iter.new) }
 {
     let (least, _) = iter.size_hint();
-    // Not `least <= count`: of the length less one the compiler sees that the count ends first.
+    // Not `least <= count`: with the length less one, the compiler sees that the count ends first.
     if least == 0 || least - 1 <= count {
         return iter.nth(count);
     }

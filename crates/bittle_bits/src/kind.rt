@@ -1,4 +1,5 @@
-//! The two kinds of bits of a set, the ones and the zeros: an iterator or a search is over one.
+//! The two kinds of bits of a set: the ones and the zeros. An iterator or a search is over one of
+//! them.
 
 ghost use Rattle.std.specs.Prelude.{◌≡◌, Bool, true, false};
 ghost use Rattle.bittle_bits.specs.BitPatterns.{bit_set};
@@ -7,13 +8,14 @@ ghost use Rattle.bittle_bits.specs.Walk.{ones_or_zeros};
 use crate::internal::sealed::Sealed;
 use crate::word::Word;
 
-/// Names the bits that an iterator yields: the [`Ones`] or the [`Zeros`] of its set.
+/// A kind of bits: the [`Ones`] or the [`Zeros`] of a set.
 pub trait Kind: Drop {
     ghost ONES: { Bool };
 
     const ONES: bool;
 
-    /// Takes what a crate that names `bittle` alone cannot name, so that none implements the trait.
+    /// Seals the trait. A crate that names `bittle` alone cannot name the parameter's type, so it
+    /// cannot implement the trait.
     #[doc(hidden)]
     fn seal(_: Sealed);
 }
@@ -42,7 +44,7 @@ impl Kind for Zeros {
     fn seal(_: Sealed) {}
 }
 
-/// Returns a word whose ones are the bits of the kind: for zeros, each bit flipped.
+/// Returns the word whose set bits are the bits of the kind. For zeros, each bit is flipped.
 #[doc(hidden)]
 #[inline]
 pub fn bits_of_kind<T: Word, K: Kind>(word: T) -> T

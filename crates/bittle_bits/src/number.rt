@@ -31,11 +31,11 @@ pub type IterOnes<T, E> = Iter<T, E, Ones>;
 /// ```
 pub type IterZeros<T, E> = Iter<T, E, Zeros>;
 
-/// Iterates over one word, for the bits that `K` names. After its end it returns `None` on both
-/// sides.
+/// Iterates over the bits of one word that `K` names. Once no item remains, steps from both ends
+/// return `None`.
 #[derive(Drop)]
 pub struct Iter<T: Word, E: Endian, K: Kind> {
-    // Its ones are the items that remain.
+    // Its set bits are the items that remain.
     remaining: T,
     order: PhantomData<E>,
     kind: PhantomData<K>,
@@ -54,7 +54,7 @@ impl<T: Word, E: Endian, K: Kind> Model for Iter<T, E, K> {
 }
 
 impl<T: Word, E: Endian, K: Kind> Iter<T, E, K> {
-    /// Makes an iterator over the set bits of the word, or over its unset bits.
+    /// Makes an iterator over the set bits of the word, or over its unset bits, as `K` names.
     ///
     /// Always callable. A step costs O(1).
     ///
@@ -77,7 +77,7 @@ impl<T: Word, E: Endian, K: Kind> Iter<T, E, K> {
         }
     }
 
-    /// Returns how many items remain.
+    /// Returns how many items remain. It costs O(1).
     ///
     /// ```
     /// number::IterOnes::<u8, LittleEndian>::new(0xD0).len();    // 3

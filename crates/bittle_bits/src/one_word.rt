@@ -1,4 +1,4 @@
-//! The calls on a word, for every width at once, and its iterators' steps.
+//! The calls on a word, and the steps of its iterators, written once for all widths.
 
 ghost use Rattle.std.specs.Prelude.{◌≡◌, ◌==◌, Bool, ◌+◌, ◌*◌, ◌-◌, ◌<◌, ◌≤◌, true, IfSome};
 ghost use Rattle.bittle_bits.specs.Ends.{IsEndMember, YieldsFrom, YieldsPlace};
@@ -41,8 +41,8 @@ pub fn clear_bit<T: Word, E: Endian>(word: &mut T, index: u32)
     *word = word.and(E::mask::<T>(index).not());
 }
 
-/// Returns the word of the indexes from `from` on and before `to`: that of those from `from` on,
-/// without those from `to` on.
+/// Returns the word in which the bits at `from..to` are set: the bits from `from` on, without those
+/// from `to` on.
 #[inline]
 pub fn range<T: Word, E: Endian>(from: u32, to: u32) -> T
     requires ordered { from ≤ to }
@@ -59,7 +59,7 @@ pub fn range<T: Word, E: Endian>(from: u32, to: u32) -> T
     since.and(E::from_index::<T>(to).not())
 }
 
-/// Combines each bit from `from` on and before `to` with a set one.
+/// Combines each bit of `from..to` with a set bit by the operation.
 #[inline]
 pub fn assign_range<T: Word, E: Endian, O: RangeOperation>(word: &mut T, from: u32, to: u32)
     requires ordered { from ≤ to }
@@ -78,7 +78,7 @@ pub fn clear_bits<T: Word>(word: &mut T)
     *word = T::zero();
 }
 
-/// Combines a word with another, bit by bit.
+/// Combines a word with another one, bit by bit; a word of 128 bits by its halves.
 #[inline(always)]
 pub fn combine<T: Word, O: Operation>(word: &mut T, other: T)
     ensures { (mirrored : Bool) → word_mirrored T.Word mirrored word.new ≡ combination_of O.decide
@@ -141,7 +141,7 @@ pub fn ones<T: Word>() -> T
     T::zero().not()
 }
 
-// Returns how far the member at the end `N` lies from that end, or the width where there is none.
+// Returns how far the member at the end `N` lies from that end, or the width if there is none.
 #[inline(always)]
 pub fn from_end<T: Word, E: Endian, N: End>(word: T) -> u32
     ensures member { IsEndMember N.FRONT (word_in T.Word E.Endian word) result }
@@ -154,9 +154,9 @@ pub fn from_end<T: Word, E: Endian, N: End>(word: T) -> u32
     }
 }
 
-// Takes the member at the end `N` out of the word, and returns its place: of which power of two its
-// weight is. Where that is the bit of least weight, the word less one lacks it, and has bits below
-// it that the word lacks: a step waits for that alone, and not for the place.
+// Takes the member at the end `N` out of the word, and returns its place: its weight is that power
+// of two. If the member is the set bit of least weight, `word & (word - 1)` clears it. So the next
+// step does not wait for the place.
 #[inline(always)]
 fn pop_at_once<T: Word, E: Endian, N: End>(word: &mut T) -> Option<u32>
     ensures found { YieldsPlace N.FRONT (place E.mirrored T.width) (λ w. ascending
@@ -177,9 +177,9 @@ fn pop_at_once<T: Word, E: Endian, N: End>(word: &mut T) -> Option<u32>
     }
 }
 
-// Takes the member at the end `N` out of a word of 128 bits by the half that it lies in, and
-// returns its place. A processor searches and changes a half by an instruction each, and both by
-// some ten.
+// Takes the member at the end `N` out of a word of 128 bits, by the half that it lies in, and
+// returns its place. A half takes one instruction to search and one to change; the whole word takes
+// about ten.
 #[inline(always)]
 fn pop_from_half<T: Word, E: Endian, N: End>(word: &mut T) -> Option<u32>
     requires { T.width ≡ 128 }
@@ -206,8 +206,8 @@ fn pop_from_half<T: Word, E: Endian, N: End>(word: &mut T) -> Option<u32>
     }
 }
 
-/// Takes the member at the end `N` out of the word, and returns its place: of which power of two
-/// its weight is.
+/// Takes the member at the end `N` out of the word, and returns its place: its weight is that power
+/// of two. It returns `None` if no bit is set.
 #[inline(always)]
 pub fn pop_place<T: Word, E: Endian, N: End>(word: &mut T) -> Option<u32>
     ensures found { YieldsPlace N.FRONT (place E.mirrored T.width) (λ w. ascending
@@ -221,7 +221,8 @@ pub fn pop_place<T: Word, E: Endian, N: End>(word: &mut T) -> Option<u32>
     }
 }
 
-/// Takes the member at the end `N` out of the word.
+/// Takes the member at the end `N` out of the word, and returns its index, or `None` if no bit is
+/// set.
 #[inline(always)]
 pub fn pop<T: Word, E: Endian, N: End>(word: &mut T) -> Option<u32>
     ensures found { YieldsFrom N.FRONT (λ w. ascending

@@ -1,4 +1,4 @@
-//! The four operations on two sets, so that each shape has one body for them all.
+//! The four operations on two sets. Each shape has one body for all four.
 
 ghost use Rattle.std.specs.Prelude.{◌≡◌, Bool, ◌||◌, ◌&&◌, true, false, refl};
 ghost use Rattle.bittle_bits.specs.SetOperations.{combination_of, first_alone, just_one};
@@ -8,7 +8,8 @@ use crate::word::Word;
 
 /// An operation on two sets.
 pub trait Operation {
-    // Whether a number is a member afterwards, by whether it is one of each set.
+    // Whether a number is a member afterwards, by whether it is a member of the first set and of
+    // the second.
     ghost decide: { Bool → Bool → Bool };
 
     /// Combines the bits of two words by the operation.
@@ -17,10 +18,10 @@ pub trait Operation {
             (bits_of T.Word other) };
 }
 
-/// An operation that changes no bit where the other set has none, so that with a range of indexes
-/// it changes these alone.
+/// An operation that changes no bit which is unset in the other set. With a range of indexes as the
+/// other set, it changes only bits of the range.
 pub trait RangeOperation: Operation {
-    // A number that is none of the other set's stays as it was.
+    // A number that the other set lacks stays as it was.
     ghost keeps_others: { (b : Bool) → Self.decide b false ≡ b };
 }
 

@@ -1,4 +1,4 @@
-//! Reading a set word by word: all that a search, a count or an iterator asks of it.
+//! Reading a set word by word: all that a search, a count or an iterator needs.
 
 ghost use Rattle.std.specs.Prelude.{◌≡◌, ℕ, ◌*◌, ◌<◌, ◌≤◌, false, IsTrue};
 ghost use Rattle.bittle_bits.specs.BitPatterns.{bit_set};
@@ -15,33 +15,38 @@ use crate::word::Word;
 
 /// A set that is read word by word.
 ///
-/// Searches, counts and iterators are over this trait, so that one body of each serves plain
-/// shapes, owned sets, and views of sets.
+/// Searches, counts and iterators use this trait. So one body of each serves plain shapes, owned
+/// sets and views of sets.
 pub trait ReadWords: Drop + Shape {
-    /// Returns `true` if each value of the type has as many words. It decides speed alone, how an
-    /// iterator begins and whether a comparison asks the first word by itself, so no clause speaks
-    /// of it.
+    /// Returns `true` if all values of the type have the same number of words.
+    ///
+    /// It affects speed only, so it has no contract: how an iterator begins, and whether a
+    /// comparison tests the first word by itself.
     #[doc(hidden)]
     #[inline]
     fn is_fixed() -> bool {
         false
     }
 
-    /// Returns `true` if a value of the type may pass over words. It decides speed alone, whether a
-    /// row asks its elements, so no clause speaks of it.
+    /// Returns `true` if a value of the type may pass over words.
+    ///
+    /// It affects speed only, so it has no contract: whether a row calls `pass_over` on its
+    /// elements.
     #[doc(hidden)]
     #[inline(always)]
     fn may_pass_over() -> bool {
         false
     }
 
-    /// Returns how many bits the set has, or `u32::MAX` if its shape does not fit. Always callable.
+    /// Returns how many bits the set has, or `u32::MAX` if its shape does not fit.
+    ///
+    /// Always callable.
     #[doc(hidden)]
     fn capacity(&self) -> u32
         ensures value { ShapeFits Self.Shape self.now → result ≡ (Self.big self.now).capacity }
         ensures fits { result < 4294967295 → ShapeFits Self.Shape self.now };
 
-    /// Returns word `k` of the set: its bits are those from `k` times the width on.
+    /// Returns word `k` of the set, whose bits begin at index `k` times the width.
     #[doc(hidden)]
     fn nth_leaf_word(&self, k: usize) -> Self::LeafWord
         requires fits { ShapeFits Self.Shape self.now }
@@ -49,11 +54,12 @@ pub trait ReadWords: Drop + Shape {
         ensures { bit_set Self.width (Self.LeafWord.pattern result)
             ≡ word_of Self.width (Self.big self.now) k };
 
-    /// Returns the end `N` of the words from `low` on and before `high`, moved past words that have
-    /// no bit of the kind `K`: from the front the first word that is not passed over, and from the
-    /// back the one after the last. It decides speed alone: a set may pass over as many of them as
-    /// it knows at once, or none, as most shapes do. A type whose values do says so by
-    /// `may_pass_over`.
+    /// Passes over words of `low..high` at the end `N` that have no bit of the kind `K`. From the
+    /// front it returns the first word that is not passed over; from the back, the word after the
+    /// last such one.
+    ///
+    /// It affects speed only. A set may pass over as many words as it knows at once, or over none,
+    /// as most shapes do. A type whose values pass over words returns `true` from `may_pass_over`.
     #[doc(hidden)]
     #[inline(always)]
     fn pass_over<K: Kind, N: End>(&self, low: usize, high: usize) -> usize
@@ -66,7 +72,7 @@ pub trait ReadWords: Drop + Shape {
         if N::FRONT { low } else { high }
     }
 
-    // The integers that the set is made of have the width of its words.
+    // The integers of the set have the width of its words.
     ghost leaf_width: { Self.LeafWord.width ≡ Self.width };
 
     // A word has a bit.
@@ -89,7 +95,7 @@ pub fn word_width<B: ReadWords>() -> u32
     <B::LeafWord as Word>::width()
 }
 
-/// Returns whether two sets are read by words of one width in one order.
+/// Returns whether two sets have words of one width and are read in one order.
 #[doc(hidden)]
 #[inline]
 pub fn are_alike<A: ReadWords, B: ReadWords, E: Endian, F: Endian>() -> bool

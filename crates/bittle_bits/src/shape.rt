@@ -1,8 +1,8 @@
-//! What a value stands for, said by ghosts alone.
+//! What a value stands for, stated by ghosts alone.
 //!
-//! A struct over any set asks for a `Shape` alone: of it each type has one impl, where an array is
-//! met by two impls of [`Bits`](crate::bits::Bits), that of the words and its own, and only the
-//! first asks for more. So the checker knows what a `Shape` is without asking which of them holds.
+//! A struct over any set names the bound `Shape`, since each type has one impl of it. Two impls of
+//! [`Bits`](crate::bits::Bits) match an array: its own, and that of all words, which requires
+//! `Integer`. For a `Shape` the checker need not decide which impl holds.
 
 ghost use Rattle.std.specs.Prelude.{ℕ, Bool, List, []};
 ghost use Rattle.bittle_bits.specs.PlainSet.{PlainSet};
@@ -10,32 +10,34 @@ ghost use Rattle.bittle_bits.specs.PlainSet.{PlainSet};
 use crate::internal::sealed::Sealed;
 use crate::word::Word;
 
-/// A type whose values stand for sets. Its members are ghosts: contracts speak of them.
+/// A type whose values stand for sets. Its members are ghosts, which only contracts see.
 ///
-/// A struct over any set names this bound, and its functions name [`Bits`](crate::bits::Bits) or a
-/// trait above it. No crate that names `bittle` alone has a shape of its own.
+/// A struct over any set names this bound. Its functions name [`Bits`](crate::bits::Bits), or a
+/// trait that requires `Bits`. A crate that names `bittle` alone cannot implement this trait.
 pub trait Shape: Drop {
-    /// The integer type that the set is made of.
+    /// The integer type of the words of the set.
     #[doc(hidden)]
     type LeafWord: Word;
 
     // The bits of each word.
     ghost width: { ℕ };
 
-    // Whether the elements of the shape fit, so that an index finds its element.
+    // Whether the type may be indexed: it fits, or, for a slice, its element type does. Then an
+    // index finds its element.
     ghost indexable: { Bool };
 
     // The set in big-endian order.
     ghost big: { Self → PlainSet };
 
-    // The capacity of each value of a type that owns its bits. Of a slice it says nothing.
+    // The capacity of each value of a type that owns its bits. For a slice it means nothing.
     ghost type_capacity: { ℕ } = { 0 };
 
-    // Which loans a value holds, the outer one first, as a lent slice is one: a change leaves the
-    // same ones. A value that is owned has none.
+    // The mutable borrows that a value holds, the outer one first, as a `&mut [T]` is one. No
+    // change alters them. An owned value has none.
     ghost loan: { Self → List ℕ } = { λ _. [] };
 
-    /// Takes what a crate that names `bittle` alone cannot name, so that none implements the trait.
+    /// Seals the trait. A crate that names `bittle` alone cannot name the parameter's type, so it
+    /// cannot implement the trait.
     #[doc(hidden)]
     fn seal(_: Sealed);
 }

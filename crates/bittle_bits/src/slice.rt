@@ -1,4 +1,4 @@
-//! Slices as sets: a shared one is read, and one that is lent for a change is read and changed.
+//! Slices as sets. A `&[T]` can be read; a `&mut [T]` can be read and changed.
 
 ghost use Rattle.std.specs.Prelude.{length, ◌∷◌, []};
 ghost use Rattle.bittle_bits.specs.RowLawProofs.{row_has-past, words_of};

@@ -1,7 +1,7 @@
 //! Iterators over the set bits of a set, and over its unset bits, from both ends.
 //!
-//! An iterator fetches each word at most once, and searches it once for each item in it and once
-//! more when the word is done.
+//! An iterator fetches each word at most once. It scans a word once for each item, and once more
+//! to find that no item is left.
 
 ghost use Rattle.std.specs.Prelude.{◌≡◌, ⊤, Option, ℕ, None, IfSome};
 ghost use Rattle.std.specs.Iterator.{item_count, UpTo};
@@ -21,7 +21,7 @@ use crate::shape::Shape;
 use std::alloc::AllocError;
 use std::marker::{Model, PhantomData};
 
-/// Yields the indexes of the set bits of a set that it borrows, increasing, in the order `E`.
+/// Yields the indexes of the set bits of a borrowed set, increasing, in the order `E`.
 ///
 /// ```
 /// [8u8, 3].iter_ones();                               // yields 3, 8, 9
@@ -29,23 +29,23 @@ use std::marker::{Model, PhantomData};
 /// ```
 pub type IterOnes<'a, B, E> = Iter<'a, B, E, Ones>;
 
-/// Yields the indexes of the unset bits below the capacity of a set that it borrows, increasing, in
-/// the order `E`.
+/// Yields the indexes of the unset bits of a borrowed set below its capacity, increasing, in the
+/// order `E`.
 ///
 /// ```
 /// 0xF9u8.iter_zeros();                                // yields 1, 2
 /// ```
 pub type IterZeros<'a, B, E> = Iter<'a, B, E, Zeros>;
 
-/// Yields the indexes of the set bits of a set that it owns, increasing, in the order `E`.
+/// Yields the indexes of the set bits of an owned set, increasing, in the order `E`.
 ///
 /// ```
 /// [8u8, 3].into_iter_ones();                          // yields 3, 8, 9
 /// ```
 pub type IntoIterOnes<B, E> = IntoIter<B, E, Ones>;
 
-/// Yields the indexes of the unset bits below the capacity of a set that it owns, increasing, in
-/// the order `E`.
+/// Yields the indexes of the unset bits of an owned set below its capacity, increasing, in the
+/// order `E`.
 ///
 /// ```
 /// 0xF9u8.into_iter_zeros().rev();                     // yields 2, 1
@@ -54,14 +54,14 @@ pub type IntoIterZeros<B, E> = IntoIter<B, E, Zeros>;
 
 /// An iterator that counts its scans.
 pub trait Counted: DoubleEndedIterator<Item = u32> {
-    // What contracts see of it.
+    // What contracts see of the iterator.
     ghost walk: { Self → Walk };
 
-    /// Returns how many scans it has made.
+    /// Returns how many scans the iterator has made.
     fn scans(&self) -> &Count
         ensures { result.now ≡ (walk self.now).scans };
 
-    // It can be stepped from either end at any time.
+    // The iterator can be stepped from either end at any time.
     ghost can_step: { (s : Self) → Self.can_next s × Self.can_next_back s };
 
     ghost steps_front: { (before : Self) (r : Option ℕ) (after : Self)
@@ -71,10 +71,10 @@ pub trait Counted: DoubleEndedIterator<Item = u32> {
         → Self.next_back_gives before r after → StepsBack (walk before) r (walk after) };
 }
 
-/// Iterates over a set that it borrows, for the bits that `K` names.
+/// Iterates over the bits of a borrowed set that `K` names.
 ///
-/// Each step yields the first or the last item that remains. After its end it returns `None` on
-/// both sides. A clone goes on from where its source is.
+/// Each step yields the first or the last item that remains. Once no item remains, steps from both
+/// ends return `None`. A clone yields the items that remain in its source.
 #[derive(Drop)]
 pub struct Iter<'a, B: Shape, E: Endian, K: Kind> {
     source: Source<'a, B>,
@@ -97,7 +97,7 @@ impl<'a, B: Shape, E: Endian, K: Kind> Model for Iter<'a, B, E, K> {
 }
 
 impl<'a, B: ReadWords, E: Endian, K: Kind> Iter<'a, B, E, K> {
-    /// Begins an iterator over all of its set.
+    /// Begins an iterator over the whole set.
     #[inline]
     pub(crate) fn new(source: Source<'a, B>) -> Self
         requires { ShapeFits B.Shape source.set.now }
@@ -176,10 +176,10 @@ impl<'a, B: ReadWords, E: Endian, K: Kind> Counted for Iter<'a, B, E, K> {
     }
 }
 
-/// Iterates over a set that it owns, for the bits that `K` names.
+/// Iterates over the bits of an owned set that `K` names.
 ///
-/// Each step yields the first or the last item that remains. After its end it returns `None` on
-/// both sides. A clone goes on from where its source is.
+/// Each step yields the first or the last item that remains. Once no item remains, steps from both
+/// ends return `None`. A clone yields the items that remain in its source.
 #[derive(Drop)]
 pub struct IntoIter<B: Shape, E: Endian, K: Kind> {
     source: OwnedSource<B>,
@@ -202,7 +202,7 @@ impl<B: Shape, E: Endian, K: Kind> Model for IntoIter<B, E, K> {
 }
 
 impl<B: ReadWords, E: Endian, K: Kind> IntoIter<B, E, K> {
-    /// Begins an iterator over all of its set.
+    /// Begins an iterator over the whole set.
     #[doc(hidden)]
     #[inline]
     pub fn new(source: OwnedSource<B>) -> Self

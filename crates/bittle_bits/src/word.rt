@@ -1,16 +1,16 @@
-//! A word: one of the twelve integers, with what a processor does to one. Users name the integers;
+//! A word: one of the twelve integers, with the operations of a processor. Users name the integers;
 //! the project's own crates name the trait, by [`extension`](crate::extension).
 
 ghost use Rattle.std.specs.Prelude.{◌≡◌, ℕ, ◌+◌, ◌-◌, ◌<◌, ◌^◌, ◌==◌, bit_and, bit_or, bit_xor, count_ones};
 ghost use Rattle.std.specs.Int.Count.{count_leading_zeros, count_trailing_zeros};
 ghost use Rattle.bittle_bits.specs.LawProofs.{positive_bytes};
 
-/// A word: one of the twelve integers, with what a processor does to one.
+/// A word: one of the twelve integers, with the operations of a processor.
 pub trait Word: Copy {
     // How many bits a word has.
     ghost width: { ℕ };
 
-    // Its bit pattern as a number: of a negative word that of its two's complement.
+    // The bit pattern of a word as a number. A negative word has that of its two's complement.
     ghost pattern: { Self → ℕ };
 
     /// Returns the number of bits.
@@ -22,8 +22,8 @@ pub trait Word: Copy {
         requires { index < width }
         ensures { pattern result ≡ 2 ^ index };
 
-    /// Returns the word whose one set bit lies this many bits below that of greatest weight: the
-    /// word of that one, shifted, which is one instruction fewer than `one_at` of the difference.
+    /// Returns the word whose one set bit lies `below` bits below the bit of greatest weight. It
+    /// shifts the word of that bit, which is one instruction fewer than `one_at` of the difference.
     #[inline]
     final fn one_below_top(below: u32) -> Self
         requires { below < width }
@@ -32,7 +32,7 @@ pub trait Word: Copy {
         Self::from_bits(Self::one_at(Self::width() - 1).to_bits() >> below)
     }
 
-    /// Returns the word whose set bits are those of weight below `2 ^ index`.
+    /// Returns the word in which the bits of weight below `2 ^ index` are set.
     #[inline]
     final fn low(index: u32) -> Self
         requires { index < width }
@@ -54,7 +54,7 @@ pub trait Word: Copy {
         ensures pattern { result ≡ pattern self }
         ensures range { pattern self < 2 ^ width };
 
-    /// Returns the word of a bit pattern.
+    /// Returns the word that has this bit pattern.
     fn from_bits(value: u128) -> Self
         requires { value < 2 ^ width }
         ensures { pattern result ≡ value };
@@ -113,17 +113,19 @@ pub trait Word: Copy {
         self.to_bits().count_ones()
     }
 
-    /// Returns how many unset bits lie below the set one of least weight.
+    /// Returns how many unset bits lie below the set bit of least weight, or the width if no bit is
+    /// set.
     fn trailing_zeros(self) -> u32
         ensures count { result ≡ count_trailing_zeros width (pattern self) }
         ensures range { pattern self < 2 ^ width };
 
-    /// Returns how many unset bits lie above the set one of greatest weight.
+    /// Returns how many unset bits lie above the set bit of greatest weight, or the width if no bit
+    /// is set.
     fn leading_zeros(self) -> u32
         ensures count { result ≡ count_leading_zeros width (pattern self) }
         ensures range { pattern self < 2 ^ width };
 
-    // Its bytes, of eight bits each, are a power of two.
+    // The number of bytes, of eight bits each, is a power of two.
     ghost whole_bytes: { (log : ℕ) × (width ≡ 2 ^ (3 + log)) };
 
     // So it has a bit.

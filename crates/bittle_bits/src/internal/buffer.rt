@@ -1,5 +1,5 @@
-//! Buffered words: an iterator reads its set through them alone, and each fetch of a word and each
-//! scan of a buffered one is counted.
+//! Buffered words. An iterator reads its set only through them. Each fetch of a word, and each scan
+//! of a buffered word, is counted.
 
 ghost use Rattle.std.specs.Prelude.{◌≡◌, ℕ, ◌+◌, ◌-◌, ◌*◌, ◌<◌, not, cond, false, Some, None};
 ghost use Rattle.bittle_bits.specs.Buffers.{edge_from_first, buffer_count, buffer_of, items_held, members_in_word, word_items, HoldsSound, Refills, ScansFrom, TellsExhausted};
@@ -16,14 +16,14 @@ use crate::word::Word;
 use std::marker::{Model, PhantomData};
 use std::snapshot::Snapshot;
 
-// A sum of numbers, of which snapshots alone are kept.
+// A sum of numbers that keeps snapshots alone.
 #[derive(Drop)]
 enum Sum {
     Of(Snapshot<usize>),
     And(Snapshot<Snapshot<Sum>>, Snapshot<Snapshot<Sum>>),
 }
 
-/// Counts in contracts alone. It takes no bytes.
+/// A count that contracts alone see. It takes no bytes.
 #[derive(Drop)]
 pub struct Count {
     sum: Snapshot<Sum>,
@@ -40,7 +40,7 @@ impl Model for Count {
 }
 
 impl Count {
-    // Returns a count of so many.
+    // Returns a count of `number`.
     #[inline(always)]
     fn of(number: usize) -> Count
         ensures { result ≡ number }
@@ -57,7 +57,7 @@ impl Count {
         Count::of(0)
     }
 
-    /// Returns the count of two together.
+    /// Returns the sum of two counts.
     #[inline(always)]
     pub fn with(&self, other: &Count) -> Count
         ensures { result ≡ self.now + other.now }
@@ -67,7 +67,7 @@ impl Count {
         }
     }
 
-    /// Counts so many more.
+    /// Counts `number` more.
     #[inline(always)]
     pub fn add(&mut self, number: usize)
         ensures { self.new ≡ self.old + number }
@@ -85,9 +85,9 @@ impl Count {
 
 const _: () = prove!(size_of::<Count>() == 0);
 
-// A word of a set, and the index in the set of its bit of least weight, from which those of the
-// others go up or, mirrored, down. Where none is loaded, or it is exhausted, the word has no bit
-// set, so that a step tests the word alone; the flag serves the count.
+// A word of a set, and the index in the set of its bit of least weight. From that bit, the indexes
+// of the others go up or, mirrored, down. If no word is loaded, or if the word is exhausted, no bit
+// of `word` is set. So a step tests only `word`; the flag serves the count.
 #[derive(Clone, Copy)]
 struct BufferedWord<W: Copy> {
     word: W,
@@ -95,8 +95,8 @@ struct BufferedWord<W: Copy> {
     is_loaded: bool,
 }
 
-// Returns how many bits so many words have. It is the product, as a rotation: a product the
-// compiler would keep as a sum of its own in each turn of a loop over words, where it is wanted
+// Returns how many bits `words` words have. It computes the product as a rotation. For a product
+// the compiler would keep a sum in each turn of a loop over words, but the number is needed only
 // after the loop.
 #[inline(always)]
 fn bits_of<W: Word>(words: usize) -> u32
@@ -106,8 +106,8 @@ fn bits_of<W: Word>(words: usize) -> u32
     words.rotate_left(W::width().trailing_zeros()) as u32
 }
 
-// Returns word `k` of a set as it is buffered at the end `N`. From the front its bits are counted
-// with those of the words before it, as the cursor counts them by then.
+// Returns word `k` of a set, as it is buffered at the end `N`. At the front its first index is
+// computed from `k + 1`, since by then the cursor holds that number.
 #[inline(always)]
 fn buffered<W: Word, E: Endian, N: End>(word: W, k: usize) -> BufferedWord<W>
     requires { k * W.width + W.width < 4294967296 }
@@ -131,7 +131,7 @@ fn buffered<W: Word, E: Endian, N: End>(word: W, k: usize) -> BufferedWord<W>
     }
 }
 
-// Drops a buffered word, which has no item. If it was loaded, this was its last scan.
+// Drops a buffered word that has no item. If it was loaded, this was its last scan.
 #[inline(always)]
 fn unload<W: Copy>(buffered: &mut BufferedWord<W>, scans: &mut Count)
     ensures dropped { buffered.new ≡ record {
@@ -147,8 +147,8 @@ fn unload<W: Copy>(buffered: &mut BufferedWord<W>, scans: &mut Count)
     }
 }
 
-// Returns the index in the set of the bit at a place of a buffered word, by the index of its bit of
-// least weight.
+// Returns the index in the set of the bit at place `at` of a buffered word. `edge` is the index of
+// the word's bit of least weight.
 #[inline(always)]
 fn index_at<W: Word, E: Endian>(edge: u32, at: u32) -> u32
     requires edge { (first : ℕ) × (edge ≡ first + edge_from_first E.mirrored W.width)
@@ -164,8 +164,8 @@ fn index_at<W: Word, E: Endian>(edge: u32, at: u32) -> u32
     }
 }
 
-// Returns whether a buffered word has no item. One that was loaded is dropped then: this was its
-// last scan.
+// Returns whether a buffered word has no item. If so, a loaded word is dropped: this was its last
+// scan.
 #[inline(always)]
 fn is_exhausted<W: Word, E: Endian>(buffered: &mut BufferedWord<W>, scans: &mut Count) -> bool
     requires { HoldsSound W.Word E.Endian buffered.old }
@@ -203,10 +203,10 @@ fn scan<W: Word, E: Endian, N: End>(
     Some(index_at::<W, E>(buffered.edge, at))
 }
 
-/// The two buffered words of an iterator, its head and its tail: for one over unset bits, with each
-/// bit flipped.
+/// The two buffered words of an iterator: its head and its tail. An iterator over unset bits holds
+/// them with each bit flipped.
 ///
-/// Each call that searches a loaded word is one scan: it yields an item, or the word is exhausted.
+/// Each call that searches a loaded word is one scan. It yields an item, or the word is exhausted.
 #[derive(Drop)]
 pub struct Buffers<W: Word, E: Endian> {
     head: BufferedWord<W>,
@@ -233,7 +233,7 @@ impl<W: Word, E: Endian> Model for Buffers<W, E> {
 }
 
 impl<W: Word, E: Endian> Buffers<W, E> {
-    /// Makes two buffers with no word loaded, no scans and no fetches yet.
+    /// Makes two buffers with no word loaded, and with no scans and no fetches counted.
     #[inline(always)]
     #[tactic(auto, unfolding(crate::specs::Buffers::buffered_items))]
     pub fn none() -> Buffers<W, E>
@@ -253,7 +253,7 @@ impl<W: Word, E: Endian> Buffers<W, E> {
         }
     }
 
-    /// Returns the same buffered words, with no scans and no fetches yet.
+    /// Returns the same buffered words, with no scans and no fetches counted.
     #[inline(always)]
     pub fn duplicate(&self) -> Buffers<W, E>
         ensures { result
@@ -268,7 +268,7 @@ impl<W: Word, E: Endian> Buffers<W, E> {
         }
     }
 
-    /// Returns how many scans there were.
+    /// Returns how many scans were made.
     #[inline(always)]
     pub fn scans(&self) -> &Count
         ensures { result.now ≡ self.now.scans }
@@ -284,7 +284,7 @@ impl<W: Word, E: Endian> Buffers<W, E> {
         &self.fetches
     }
 
-    // Puts word `k` of a set at the end `N`.
+    // Puts word `k` of a set into the buffer at the end `N`.
     #[inline(always)]
     fn put<N: End>(&mut self, word: W, k: usize)
         requires { k * W.width + W.width < 4294967296 }
@@ -303,7 +303,7 @@ impl<W: Word, E: Endian> Buffers<W, E> {
         }
     }
 
-    // Fetches word `k`, with the bits of the kind.
+    // Fetches word `k`, as a word whose set bits are the bits of the kind.
     #[inline(always)]
     fn fetch<B: ReadWords<LeafWord = W>, K: Kind>(&mut self, source: &Source<'_, B>, k: usize) -> W
         requires fits { ShapeFits B.Shape source.now.set.now }
@@ -321,7 +321,8 @@ impl<W: Word, E: Endian> Buffers<W, E> {
         source.fetch::<K>(k, &mut self.fetches)
     }
 
-    /// Fetches word `k`, with the bits of the kind, and loads it at the end `N`.
+    /// Fetches word `k`, as a word whose set bits are the bits of the kind, and loads it at the end
+    /// `N`.
     #[inline(always)]
     pub fn load<B: ReadWords<LeafWord = W>, K: Kind, N: End>(
         &mut self,
@@ -342,8 +343,9 @@ impl<W: Word, E: Endian> Buffers<W, E> {
         self.put::<N>(word, k);
     }
 
-    /// Fetches word `k`, with the bits of the kind, and returns whether it has an item. It is
-    /// loaded then at the end `N`, where none was; else this was its scan, and it is not loaded.
+    /// Fetches word `k`, as a word whose set bits are the bits of the kind, and returns whether it
+    /// has an item. If so, the word is loaded at the end `N`, where the caller found none loaded.
+    /// Else the test was its one scan, and it is not loaded.
     #[inline(always)]
     pub fn refill<B: ReadWords<LeafWord = W>, K: Kind, N: End>(
         &mut self,
@@ -374,7 +376,7 @@ impl<W: Word, E: Endian> Buffers<W, E> {
           fetches = self.old.fetches;
         } }
     {
-        // Without the padding of the words, which would go through memory.
+        // Field by field: the padding of whole buffered words would go through memory.
         let BufferedWord {
             word,
             edge,
@@ -388,8 +390,8 @@ impl<W: Word, E: Endian> Buffers<W, E> {
         self.tail.is_loaded = is_loaded;
     }
 
-    /// Returns whether the word at the end `N`, the head or the tail, has no item. One that was
-    /// loaded is dropped then: that was its last scan.
+    /// Returns whether the word at the end `N`, the head or the tail, has no item. If so, a loaded
+    /// word is dropped: this was its last scan.
     #[inline(always)]
     pub fn is_exhausted<N: End>(&mut self) -> bool
         ensures told { TellsExhausted result (buffer_of N.FRONT self.old)
@@ -423,8 +425,8 @@ impl<W: Word, E: Endian> Buffers<W, E> {
         }
     }
 
-    /// Scans the word at the other end than `N` for its item at the end `N`. The word stays where
-    /// it is: both exchanges together are compiled to nothing.
+    /// Scans the word at the end opposite to `N` for its item at the end `N`. The word stays where
+    /// it is, since the two exchanges together compile to nothing.
     #[inline(always)]
     pub fn scan_across<N: End>(&mut self) -> Option<u32>
         ensures found { ScansFrom N.FRONT (buffer_of (not N.FRONT) self.old) result

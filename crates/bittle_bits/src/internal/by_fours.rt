@@ -1,5 +1,5 @@
-//! The first bit of a kind in whole words, found four words at a time between those that a set
-//! passes over.
+//! The first bit of a kind in whole words. The words that a set passes over at both ends are left
+//! out, and the others are searched four at a time.
 
 ghost use Rattle.std.specs.Prelude.{◌+◌, ◌*◌, ◌≤◌, IsTrue};
 ghost use Rattle.bittle_bits.specs.Searches.{IsFirstIn, NoneIn};
@@ -12,7 +12,8 @@ use crate::kind::Kind;
 use crate::read_words::{ReadWords, word_width};
 use crate::word::Word;
 
-// Returns the least index of a bit of the kind in the words from `from` on and before `to`, or `None`.
+// Returns the least index of a bit of the kind in the words `from..to`, or `None` if they have
+// none.
 #[inline]
 fn first_among<B: ReadWords, E: Endian, K: Kind>(bits: &B, from: u32, to: u32) -> Option<u32>
     requires fits { ShapeFits B.Shape bits.now }
@@ -29,8 +30,8 @@ fn first_among<B: ReadWords, E: Endian, K: Kind>(bits: &B, from: u32, to: u32) -
     None
 }
 
-// Returns whether the four words from `from` on have no bit of the kind, by one test
-// for all. What it does not find empty is searched, so it promises nothing of `false`.
+// Returns whether the four words from `from` on have no bit of the kind, by one test for all. After
+// `false` the caller searches them, so the contract states nothing of `false`.
 #[inline]
 fn are_four_empty<B: ReadWords, E: Endian, K: Kind>(bits: &B, from: u32) -> bool
     requires fits { ShapeFits B.Shape bits.now }
@@ -46,8 +47,8 @@ fn are_four_empty<B: ReadWords, E: Endian, K: Kind>(bits: &B, from: u32) -> bool
     first.or(second).or(third.or(fourth)).is_zero()
 }
 
-// Returns the least index of a bit of the kind in the words from `from` on and before `to`, or
-// `None`, four words at a time.
+// Returns the least index of a bit of the kind in the words `from..to`, or `None` if they have
+// none. It searches four words at a time.
 #[inline(always)]
 fn first_by_fours<B: ReadWords, E: Endian, K: Kind>(bits: &B, from: u32, to: u32) -> Option<u32>
     requires fits { ShapeFits B.Shape bits.now }
@@ -67,8 +68,8 @@ fn first_by_fours<B: ReadWords, E: Endian, K: Kind>(bits: &B, from: u32, to: u32
     first_among::<B, E, K>(bits, from + fours * 4, to)
 }
 
-/// Returns the least index of a bit of the kind in the first `words` words, or `None`. At both ends
-/// words that the set knows to have none are passed over.
+/// Returns the least index of a bit of the kind in the first `words` words, or `None` if they have
+/// none. Words at both ends that the set knows to have none are passed over.
 #[inline]
 pub fn first_in_words<B: ReadWords, E: Endian, K: Kind>(bits: &B, words: u32) -> Option<u32>
     requires fits { ShapeFits B.Shape bits.now }

@@ -1,5 +1,5 @@
-//! Where an iterator is, and its steps: one core for those over set bits and over unset bits,
-//! borrowed and owned.
+//! The position of an iterator, and its steps. One core serves iterators over set bits and over
+//! unset bits, of borrowed and of owned sets.
 
 ghost use Rattle.std.specs.Prelude.{◌≡◌, ◌≢◌, ℕ, ◌+◌, ◌-◌, ◌<◌, cond, [], None, MatchBool};
 ghost use Rattle.bittle_bits.specs.Buffers.{buffer_of, items_in};
@@ -17,7 +17,8 @@ use crate::kind::Kind;
 use crate::read_words::ReadWords;
 use crate::shape::Shape;
 
-/// The buffered words of an iterator, and the range of words between them that are not fetched yet.
+/// The buffered words of an iterator, and the range `low..high` of words between them that are not
+/// fetched yet.
 #[derive(Drop)]
 pub struct Cursor<B: Shape, E: Endian> {
     pub buffers: Buffers<B::LeafWord, E>,
@@ -27,9 +28,10 @@ pub struct Cursor<B: Shape, E: Endian> {
     pub passed: Count,
 }
 
-/// Begins an iterator between the words that the set passes over at either end. Of a type of fixed
-/// length it loads the first of them to the head. Of a slice it loads none, so that an iterator which
-/// is stepped from one end alone has a buffer at that end alone.
+/// Begins an iterator between the words that the set passes over at its two ends.
+///
+/// For a type of fixed length it loads the first word between them into the head. For a slice it
+/// loads none. So an iterator over a slice that is stepped from one end has only that end's buffer.
 #[inline]
 pub fn begin<B: ReadWords, E: Endian, K: Kind>(source: &Source<'_, B>) -> Cursor<B, E>
     requires { ShapeFits B.Shape source.now.set.now }
@@ -56,8 +58,8 @@ pub fn begin<B: ReadWords, E: Endian, K: Kind>(source: &Source<'_, B>) -> Cursor
     at
 }
 
-/// Returns the same place with its counters at zero, for `clone`. The words that it is done with
-/// are passed over.
+/// Returns the same position with its counts at zero, for `clone`. Words that were fetched before
+/// count as passed over.
 #[inline]
 pub fn duplicate<B: ReadWords, E: Endian>(at: &Cursor<B, E>) -> Cursor<B, E>
     ensures resumes { (s : PlainSet) (words w : ℕ) → IsCounted words at.now
@@ -85,7 +87,7 @@ pub fn duplicate<B: ReadWords, E: Endian>(at: &Cursor<B, E>) -> Cursor<B, E>
     }
 }
 
-// Takes the word at the end `N` of those between the buffered ones, and returns its number.
+// Takes the word at the end `N` of the words between the buffered ones, and returns its number.
 #[inline(always)]
 fn take_word<B: Shape, E: Endian, N: End>(at: &mut Cursor<B, E>) -> usize
     requires { at.old.low < at.old.high }
@@ -127,8 +129,8 @@ fn move_end<B: Shape, E: Endian, N: End>(at: &mut Cursor<B, E>, on: usize)
     }
 }
 
-// Passes over words at the end `N` of those between the buffered ones that the set knows to have no
-// item. None of them is fetched.
+// Passes over words between the buffered ones, at the end `N`, that the set knows to have no item.
+// None of them is fetched.
 #[inline(always)]
 #[tactic(auto, unfolding(crate::specs::Cursor::items_left_in))]
 fn pass_over<B: ReadWords, E: Endian, K: Kind, N: End>(
@@ -146,9 +148,12 @@ fn pass_over<B: ReadWords, E: Endian, K: Kind, N: End>(
     move_end::<B, E, N>(at, on);
 }
 
-// Returns whether the word at the end `N` has an item, where words without one are passed over. If
-// not, no word is left between the buffered ones. The set is asked after a word that had none, and
-// not before each fetch, which would cost a dense walk a question for each word.
+// Looks for a word with an item for the buffer at the end `N`, and returns whether the buffer has
+// one. Words without an item are passed over. If it returns `false`, no word is left between the
+// buffered ones.
+//
+// It calls `pass_over` only after a word without an item. A call before each fetch would cost a
+// dense iterator one call a word.
 #[inline(always)]
 #[tactic(auto, unfolding(crate::specs::Cursor::items_left_in))]
 fn seek<B: ReadWords, E: Endian, K: Kind, N: End>(
@@ -178,7 +183,7 @@ fn seek<B: ReadWords, E: Endian, K: Kind, N: End>(
     }
 }
 
-/// Takes the item at the end `N` of those that remain.
+/// Takes the item at the end `N` of the items that remain.
 #[inline(always)]
 #[tactic(auto, unfolding(crate::specs::Cursor::items_left_in))]
 pub fn step<B: ReadWords, E: Endian, K: Kind, N: End>(
@@ -198,7 +203,7 @@ pub fn step<B: ReadWords, E: Endian, K: Kind, N: End>(
         }
         return found;
     }
-    // No word is left between, so the one at the other end has all that remains.
+    // No word is left between, so the word at the other end has all that remains.
     let found = at.buffers.scan_across::<N>();
     if found.is_some() {
         at.items.raise();

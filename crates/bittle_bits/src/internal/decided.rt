@@ -15,8 +15,8 @@ use crate::shape::Shape;
 use crate::word::Word;
 use std::marker::PhantomData;
 
-/// What an operation makes of two sets that it borrows, below both capacities: a set of which no
-/// word is stored. The words of the two have one width.
+/// What an operation makes of two borrowed sets, below both capacities. Each word is made when it
+/// is read; none is stored. The words of the two sets have one width.
 #[derive(Drop)]
 struct Both<'a, A: Shape, B: Shape, O: Operation> {
     left: &'a A,
@@ -86,10 +86,10 @@ impl<'a, A: ReadWords, B: ReadWords, O: Operation> Both<'a, A, B, O> {
     }
 }
 
-/// Returns the least index in the first word that an operation makes a member, of two sets whose
-/// words have one width, or `None`. `common` is the lesser capacity.
-// It is small, so that a caller for whom the first word decides calls nothing. What it does not
-// find is searched, so it promises nothing of `None`.
+/// Returns the least index in the first words of two sets that an operation makes a member, or
+/// `None`. The words of the two have one width. `common` is the lesser capacity.
+// It is small, so a caller makes no call if the first words decide. After `None` the caller
+// searches further, so the contract states nothing of `None`.
 #[inline]
 pub fn first_decided_at_once<A: ReadWords, B: ReadWords, E: Endian, O: Operation>(
     left: &A,
@@ -111,8 +111,8 @@ pub fn first_decided_at_once<A: ReadWords, B: ReadWords, E: Endian, O: Operation
     first_in_words::<Both<'_, A, B, O>, E, Ones>(&Both::of(left, right, common), 1)
 }
 
-/// Returns the least index below both capacities that an operation makes a member, of two sets
-/// whose words have one width, or `None`. `common` is the lesser capacity.
+/// Returns the least index below both capacities that an operation on two sets makes a member, or
+/// `None` if there is none. The words of the two have one width. `common` is the lesser capacity.
 #[inline]
 pub fn first_decided_below<A: ReadWords, B: ReadWords, E: Endian, O: Operation>(
     left: &A,

@@ -1,10 +1,10 @@
-//! Where a range begins and ends among pieces of one length: words, or elements.
+//! Where a range begins and ends among pieces of one length, such as words or elements.
 
 ghost use Rattle.std.specs.Prelude.{◌<◌};
 ghost use Rattle.bittle_bits.specs.Pieces.{LiesAt};
 
-/// Returns where the first and the last index of a range lie: the number of a piece, and the place
-/// in it, of each.
+/// Returns where the first and the last index of `from..to` lie. For each of the two, it returns
+/// the number of the piece and the place in it.
 #[inline]
 pub fn ends(length: u32, from: u32, to: u32) -> (u32, u32, u32, u32)
     requires some { 0 < length }

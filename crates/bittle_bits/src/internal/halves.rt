@@ -1,4 +1,4 @@
-//! A word of 128 bits by its halves, each as a processor holds it.
+//! A word of 128 bits by its halves. A processor holds each half in a register.
 
 ghost use Rattle.std.specs.Prelude.{◌≡◌, ◌+◌, ◌*◌, ◌^◌, ◌<◌};
 ghost use Rattle.bittle_bits.specs.SetOperations.{combination_of};
@@ -7,7 +7,8 @@ ghost use Rattle.bittle_bits.specs.WordSets.{bits_of};
 use crate::operation::Operation;
 use crate::word::Word;
 
-/// Returns the halves of a word of 128 bits: that of the lesser weights, and that of the greater.
+/// Returns the halves of a word of 128 bits: first that of the lesser weights, then that of the
+/// greater weights.
 #[inline(always)]
 pub fn halves<T: Word>(word: T) -> (u64, u64)
     requires { T.width ≡ 128 }
@@ -28,7 +29,7 @@ pub fn joined<T: Word>(low: u64, high: u64) -> T
     T::from_bits(((high as u128) << 64) + low as u128)
 }
 
-/// Combines the bits of two words of 128 bits by their halves, each as a processor holds it.
+/// Combines the bits of two words of 128 bits by their halves.
 #[inline]
 pub fn on_halves<T: Word, O: Operation>(word: T, other: T) -> T
     requires { T.width ≡ 128 }

@@ -10,7 +10,7 @@ use crate::one_word::range;
 use crate::read_words::{ReadWords, word_width};
 use crate::word::Word;
 
-/// Counts the set bits of word `k` from one place of it on and before another.
+/// Counts the set bits of word `k` at its indexes `from..to`, in the order `E`.
 #[inline]
 pub fn count_in_word<B: ReadWords, E: Endian>(bits: &B, k: u32, from: u32, to: u32) -> u32
     requires fits { ShapeFits B.Shape bits.now }
@@ -25,8 +25,8 @@ pub fn count_in_word<B: ReadWords, E: Endian>(bits: &B, k: u32, from: u32, to: u
     word.and(range::<B::LeafWord, E>(from, to)).count_ones()
 }
 
-/// Counts the set bits of `from..to`, in the order `E`: of its first and its last word those that a
-/// mask keeps, and of any word between them all.
+/// Counts the set bits of `from..to`, in the order `E`. In the first and the last word a mask
+/// keeps the bits of the range; each word between them is counted whole.
 #[inline]
 pub fn count_ones<B: ReadWords, E: Endian>(bits: &B, from: u32, to: u32) -> u32
     requires fits { ShapeFits B.Shape bits.now }

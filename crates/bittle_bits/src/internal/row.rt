@@ -1,4 +1,4 @@
-//! The calls on a row of elements, for arrays and for slices.
+//! The calls on a row of elements, for arrays and slices.
 
 ghost use Rattle.std.specs.Prelude.{◌≡◌, ◌+◌, ◌==◌, ◌*◌, ◌%◌, ◌<◌, ◌≤◌, ℕ, Bool, true, false, cond, get_or, length, IsTrue, List, MatchOption};
 ghost use Rattle.bittle_bits.specs.Orders.{read_in};
@@ -21,7 +21,7 @@ use crate::kind::{Kind, Ones, Zeros};
 use crate::operation::{Operation, RangeOperation};
 use crate::read_words::word_width;
 
-/// Returns the capacity of this many elements, or `u32::MAX` where they do not fit.
+/// Returns the capacity of `len` elements, or `u32::MAX` if they do not fit.
 #[inline]
 pub fn bits_capacity<T: BitsOwned>(len: usize) -> u32
     ensures value { Fits T.indexable (len * T.type_capacity) → result ≡ len * T.type_capacity }
@@ -40,15 +40,15 @@ pub fn bits_capacity<T: BitsOwned>(len: usize) -> u32
     len as u32 * each
 }
 
-/// Returns whether an array of this many elements is short: of at most 128 bytes. Who asks it does
-/// the same either way, by other steps: no clause hangs on the answer.
+/// Returns whether an array of `len` elements is short: of at most 128 bytes. It affects speed
+/// only, so it has no contract.
 #[inline]
 pub fn is_short<T: BitsOwned>(len: usize) -> bool {
     bits_capacity::<T>(len) <= 1024
 }
 
-// Returns an index that wraps at a capacity. It is the index where the capacity is past all numbers
-// of 32 bits, and that of a row may be.
+// Wraps an index at a capacity. A capacity of `u32::MAX` stands for a row that does not fit, whose
+// capacity is past every index: then it returns the index.
 #[inline]
 fn wrapped(index: u32, capacity: u32) -> u32
     requires { 0 < capacity }
@@ -62,8 +62,8 @@ fn wrapped(index: u32, capacity: u32) -> u32
     }
 }
 
-// Returns the element that an index goes to, and the index there, or `None` with capacity 0. Where
-// the length is a constant, to divide by it costs less than to ask whether the index is past the
+// Returns the element that an index goes to, and the index in it, or `None` with capacity 0. If the
+// length is a constant, dividing by it costs less than testing whether the index is past the
 // capacity.
 #[inline]
 fn locate<T: BitsOwned>(len: usize, index: u32, is_constant: bool) -> Option<(usize, u32)>
@@ -95,8 +95,8 @@ pub fn test_bit<T: BitsOwned, E: Endian>(elements: &[T], index: u32, is_array: b
     }
 }
 
-/// Puts a bit of the kind at an index, which wraps, of an array or of a slice: with ones it is set,
-/// with zeros unset. With capacity 0 it changes nothing.
+/// Sets the bit at an index of an array or of a slice if the kind is ones, and clears it if the
+/// kind is zeros. The index wraps. With capacity 0 it changes nothing.
 #[inline]
 pub fn put_bit<T: BitsOwned, E: Endian, K: Kind>(elements: &mut [T], index: u32, is_array: bool)
     requires { IsTrue T.indexable }
@@ -121,8 +121,7 @@ pub fn clear_bits<T: BitsOwned>(elements: &mut [T])
     }
 }
 
-// Combines each bit of one element from its index `from` on and before its index `to` with a set
-// one.
+// Combines each bit of one element, at its indexes `from..to`, with a set bit by the operation.
 #[inline]
 fn assign_in_element<T: BitsOwned, E: Endian, O: RangeOperation>(
     elements: &mut [T],
@@ -143,8 +142,8 @@ fn assign_in_element<T: BitsOwned, E: Endian, O: RangeOperation>(
     elements[at as usize].assign_range_by_operation::<E, O>(from, to);
 }
 
-// Returns how many bits an element has, and where the first and the last index of a range lie: the
-// element, and the index in it, of each.
+// Returns how many bits an element has, and where the first and the last index of `from..to` lie.
+// For each of the two, it returns the element and the index in it.
 #[inline]
 fn element_ends<T: BitsOwned>(len: usize, from: u32, to: u32) -> (u32, u32, u32, u32, u32)
     requires fits { IsTrue T.indexable }
@@ -159,8 +158,8 @@ fn element_ends<T: BitsOwned>(len: usize, from: u32, to: u32) -> (u32, u32, u32,
     (each, first, begin, last, top)
 }
 
-/// Combines each bit from `from` on and before `to` with a set one. Of the elements between the
-/// first and the last it is each bit, by one mask that is the same for all.
+/// Combines each bit of `from..to` with a set bit by the operation. Every bit of the elements
+/// between the first and the last is combined, by one mask that is the same for all.
 pub fn assign_range<T: BitsOwned, E: Endian, O: RangeOperation>(
     elements: &mut [T],
     from: u32,
@@ -187,8 +186,9 @@ pub fn assign_range<T: BitsOwned, E: Endian, O: RangeOperation>(
     assign_in_element::<T, E, O>(elements, last, 0, top + 1);
 }
 
-// Combines the element at an index with another one. Where the row is `xs` with the elements before
-// that index combined with those of `ys`, and the other one is the counterpart, one more is.
+// Combines the element at index `at` with another one. If the row is `xs` with its elements below
+// `at` combined with those of `ys`, and the other element is that of `ys` at `at`, then one more
+// element is combined afterwards.
 #[inline]
 fn combine_element<T: BitsOwned, O: Operation>(elements: &mut [T], at: usize, other: &T)
     requires { at < length elements.old }
@@ -200,8 +200,8 @@ fn combine_element<T: BitsOwned, O: Operation>(elements: &mut [T], at: usize, ot
     elements[at].assign_by_operation::<O>(other);
 }
 
-// Combines four elements with their counterparts, which are read before any is changed: so the
-// machine need not ask whether the two rows overlap.
+// Combines four elements with their counterparts. All four counterparts are read before any element
+// is changed, so the compiled code needs no test whether the two rows overlap.
 #[inline]
 fn combine_four<T: BitsOwned, O: Operation>(elements: &mut [T], others: &[T], from: usize)
     requires elements { from + 4 ≤ length elements.old }
@@ -221,7 +221,7 @@ fn combine_four<T: BitsOwned, O: Operation>(elements: &mut [T], others: &[T], fr
     combine_element::<T, O>(elements, from + 3, &fourth);
 }
 
-// Combines the elements of the common beginning four at a time.
+// Combines the first `common` elements with their counterparts, four at a time.
 #[inline]
 fn combine_by_fours<T: BitsOwned, O: Operation>(elements: &mut [T], others: &[T], common: usize)
     requires elements { common ≤ length elements.old }
@@ -237,7 +237,7 @@ fn combine_by_fours<T: BitsOwned, O: Operation>(elements: &mut [T], others: &[T]
     }
 }
 
-// Combines the elements of the common beginning one by one.
+// Combines the first `common` elements with their counterparts, one by one.
 #[inline]
 fn combine_each<T: BitsOwned, O: Operation>(elements: &mut [T], others: &[T], common: usize)
     requires elements { common ≤ length elements.old }
@@ -249,8 +249,8 @@ fn combine_each<T: BitsOwned, O: Operation>(elements: &mut [T], others: &[T], co
     }
 }
 
-/// Combines the elements of the common beginning, each with its counterpart: words of 32 bits and
-/// more four at a time.
+/// Combines each element that both rows have with its counterpart. Words of 32 bits and more are
+/// combined four at a time.
 #[inline(always)]
 pub fn combine<T: BitsOwned, O: Operation>(elements: &mut [T], others: &[T])
     ensures { (mirrored : Bool) → row_mirrored T.Shape mirrored elements.new
@@ -293,8 +293,8 @@ fn has_none<T: BitsOwned, K: Kind>(element: &T) -> bool
     }
 }
 
-// Returns whether none of the elements from `from` on and before `to` has a bit of the kind. It
-// asks each one, so that the machine goes over several at once.
+// Returns whether none of the elements `from..to` has a bit of the kind. It tests all of them, so
+// the compiler can process several at once.
 #[inline]
 fn part_is_without<T: BitsOwned, K: Kind>(elements: &[T], from: usize, to: usize) -> bool
     requires ordered { from ≤ to }
@@ -311,8 +311,8 @@ fn part_is_without<T: BitsOwned, K: Kind>(elements: &[T], from: usize, to: usize
     without
 }
 
-// Returns whether no element has a bit of the kind, where those before `from` have none. It asks
-// one by one.
+// Returns whether no element has a bit of the kind, if those before `from` have none. It tests the
+// rest one by one.
 #[inline]
 fn rest_is_without<T: BitsOwned, K: Kind>(elements: &[T], from: usize) -> bool
     requires within { from ≤ length elements.now }
@@ -329,9 +329,9 @@ fn rest_is_without<T: BitsOwned, K: Kind>(elements: &[T], from: usize) -> bool
     true
 }
 
-// Returns whether no element has a bit of the kind. The first is asked by itself, since it often
-// decides. Then eight words and more are asked eight at a time, and what is left one by one, as are
-// elements of more than a word, since of eight it might ask seven without need.
+// Returns whether no element has a bit of the kind. The first element is tested by itself, since it
+// often decides. Then eight words and more are tested eight at a time, and the rest one by one.
+// Elements of more than a word are tested one by one, since seven of eight tests might be wasted.
 fn is_without_by_turns<T: BitsOwned, K: Kind>(elements: &[T]) -> bool
     ensures { result ≡ (size (row_of T.Shape elements.now) == cond K.ONES 0
         (length elements.now * T.type_capacity)) }
@@ -353,7 +353,7 @@ fn is_without_by_turns<T: BitsOwned, K: Kind>(elements: &[T]) -> bool
     rest_is_without::<T, K>(elements, elements.len() / 8 * 8)
 }
 
-// Returns whether no element has a bit of the kind, and asks all: for a short array.
+// Returns whether no element has a bit of the kind. It tests all elements, for a short array.
 #[inline]
 fn is_without_at_once<T: BitsOwned, K: Kind>(elements: &[T]) -> bool
     ensures { result ≡ (size (row_of T.Shape elements.now) == cond K.ONES 0
@@ -398,7 +398,7 @@ pub fn all_ones<T: BitsOwned>(elements: &[T], at_once: bool) -> bool
     is_without::<T, Zeros>(elements, at_once)
 }
 
-/// Returns the element that word `k` of a row lies in, and which of its words it is.
+/// Returns the element that word `k` of a row lies in, and the number of that word in the element.
 #[inline]
 fn locate_word<T: BitsOwned>(len: usize, k: usize) -> (usize, usize)
     requires fits { Fits T.indexable (len * T.type_capacity) }
@@ -433,7 +433,7 @@ pub fn set_leaf_word<T: BitsOwned>(elements: &mut [T], k: usize, word: T::LeafWo
     elements[element].set_nth_leaf_word(at, word);
 }
 
-// Returns the one of two numbers of words that is for the end `N`.
+// Returns `front` if the end `N` is the front, and else `back`. Both are numbers of words.
 #[inline(always)]
 fn words_at_end<N: End>(front: usize, back: usize) -> usize
     ensures { result ≡ cond N.FRONT front back }
@@ -441,9 +441,9 @@ fn words_at_end<N: End>(front: usize, back: usize) -> usize
     if N::FRONT { front } else { back }
 }
 
-// Returns the end `N` of the words from `low` on and before `high`, of which there is one, moved
-// past those that the element at that end knows to have no bit of the kind, and whether that
-// element knew so of all of them that lie in it.
+// Passes over words of `low..high`, at least one, at the end `N`, within the element at that end:
+// those that the element knows to have no bit of the kind. It returns the end of the rest, and
+// whether it passed over all of these words that lie in the element.
 #[inline]
 fn pass_over_in_element<T: BitsOwned, K: Kind, N: End>(
     elements: &[T],
@@ -466,8 +466,8 @@ fn pass_over_in_element<T: BitsOwned, K: Kind, N: End>(
     (start + on, on == words_at_end::<N>(to, from))
 }
 
-// Returns the end `N` of the words from `low` on and before `high`, moved past those that elements
-// know to have no bit of the kind, one element after another.
+// Passes over words of `low..high` at the end `N` that elements know to have no bit of the kind,
+// one element after another. It returns the end of the rest.
 fn pass_over_elements<T: BitsOwned, K: Kind, N: End>(
     elements: &[T],
     low: usize,
@@ -494,9 +494,10 @@ fn pass_over_elements<T: BitsOwned, K: Kind, N: End>(
     }
 }
 
-/// Returns the end `N` of the words of the row from `low` on and before `high`, moved past those
-/// that elements know to have no bit of the kind. Elements of a type that knows of none are not
-/// asked.
+/// Passes over words of `low..high` at the end `N` that elements know to have no bit of the kind.
+/// It returns the end of the rest: at the front the new `low`, at the back the new `high`.
+///
+/// It calls `pass_over` of elements only if their type may pass over words.
 #[inline(always)]
 pub fn pass_over<T: BitsOwned, K: Kind, N: End>(elements: &[T], low: usize, high: usize) -> usize
     requires fits { Fits T.indexable (length elements.now * T.type_capacity) }

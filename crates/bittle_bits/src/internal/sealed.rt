@@ -1,6 +1,6 @@
 //! What seals the traits.
 
-/// A type that no crate which names `bittle` alone can name: such a crate can implement no trait
-/// with a function over it.
+/// A type that a crate which names `bittle` alone cannot name. Such a crate cannot implement a
+/// trait that has a function over this type.
 #[derive(Drop)]
 pub struct Sealed {}

@@ -1,4 +1,4 @@
-//! The first or the last member between two numbers, found word by word.
+//! The first or the last bit of a kind in a range, found word by word.
 
 ghost use Rattle.std.specs.Prelude.{◌≡◌, ◌+◌, ◌*◌, ◌<◌, ◌≤◌, Bool, ℕ};
 ghost use Rattle.bittle_bits.specs.Ends.{is_ahead, IsEndIn};
@@ -15,7 +15,8 @@ use crate::one_word::from_end;
 use crate::read_words::{ReadWords, word_width};
 use crate::word::Word;
 
-// Returns the word of the indexes from the place `at` on, seen from the end `N`.
+// Returns the word in which the bits from index `at` on are set, seen from the end `N`: those not
+// below it from the front, those not above it from the back.
 #[inline]
 fn ahead<T: Word, E: Endian, N: End>(at: u32) -> T
     requires { at < T.width }
@@ -29,10 +30,10 @@ fn ahead<T: Word, E: Endian, N: End>(at: u32) -> T
     since.not().or(E::mask::<T>(at))
 }
 
-// Returns the next word after word `k` of the words from `first` to `last`, seen from the end `N`,
-// or `None` where none after it has a bit of the kind. Words that the set knows to have none are
-// passed over. The last word is told first, so that nothing of this is left where a set passes over
-// none.
+// Returns the next word after word `k` of the words from `first` to `last`, seen from the end `N`.
+// It returns `None` if no word after `k` has a bit of the kind. Words that the set knows to have
+// none are passed over. The test for the last word comes first. So if a set passes over no words,
+// nothing else remains in the compiled code.
 #[inline(always)]
 fn next_word<B: ReadWords, K: Kind, N: End>(bits: &B, first: u32, last: u32, k: u32) -> Option<u32>
     requires fits { ShapeFits B.Shape bits.now }
@@ -61,8 +62,8 @@ fn next_word<B: ReadWords, K: Kind, N: End>(bits: &B, first: u32, last: u32, k: 
     }
 }
 
-/// Returns the index at the end `N` of those from `from` on and below `to` whose bit is of the
-/// kind, or `None`.
+/// Returns the first index of `from..to`, seen from the end `N`, whose bit is of the kind, or
+/// `None` if there is none: the least index from the front, the greatest from the back.
 #[inline]
 pub fn end_in<B: ReadWords, E: Endian, K: Kind, N: End>(bits: &B, from: u32, to: u32) -> Option<u32>
     requires fits { ShapeFits B.Shape bits.now }

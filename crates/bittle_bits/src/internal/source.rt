@@ -1,5 +1,5 @@
-//! What an iterator or a search reads: the ones of a set, or its zeros, word by word. Each fetch of
-//! an iterator is counted.
+//! What an iterator or a search reads: the set bits or the unset bits of a set, word by word. Each
+//! fetch of an iterator is counted.
 
 ghost use Rattle.std.specs.Prelude.{◌≡◌, ◌+◌, ◌-◌, ◌*◌, ◌<◌, ◌≤◌, cond, Bool};
 ghost use Rattle.bittle_bits.specs.BitPatterns.{bit_set};
@@ -14,7 +14,7 @@ use crate::kind::{Kind, bits_of_kind};
 use crate::read_words::{ReadWords, word_width};
 use crate::shape::Shape;
 
-/// Returns word `k` of a set, as a word whose ones are the bits of the kind.
+/// Returns word `k` of a set, as a word whose set bits are the bits of the kind.
 #[inline(always)]
 pub fn word_of_kind<B: ReadWords, K: Kind>(bits: &B, k: usize) -> B::LeafWord
     requires fits { ShapeFits B.Shape bits.now }
@@ -25,8 +25,9 @@ pub fn word_of_kind<B: ReadWords, K: Kind>(bits: &B, k: usize) -> B::LeafWord
     bits_of_kind::<B::LeafWord, K>(bits.nth_leaf_word(k))
 }
 
-/// Returns the end `N` of the words from `low` on and before `high`, moved past words that the set
-/// knows to have no bit of the kind, whatever the order.
+/// Passes over words of `low..high` at the end `N` that the set knows to have no bit of the kind,
+/// in both orders. It returns the end of the rest: at the front the new `low`, at the back the new
+/// `high`.
 #[inline(always)]
 pub fn pass_over<B: ReadWords, K: Kind, N: End>(bits: &B, low: usize, high: usize) -> usize
     requires fits { ShapeFits B.Shape bits.now }
@@ -40,15 +41,15 @@ pub fn pass_over<B: ReadWords, K: Kind, N: End>(bits: &B, low: usize, high: usiz
     bits.pass_over::<K, N>(low, high)
 }
 
-/// A set that an iterator borrows. Of it an iterator learns how many words it has, each word that
-/// it fetches, and which words it may pass over, and nothing else.
+/// A set that an iterator borrows. An iterator learns nothing of it but how many words it has, each
+/// word that it fetches, and which words it may pass over.
 #[derive(Drop)]
 pub struct Source<'a, B: Shape> {
     set: &'a B,
 }
 
 impl<'a, B: ReadWords> Source<'a, B> {
-    /// Lends the words of a set.
+    /// Borrows the words of a set.
     #[inline]
     pub fn new(set: &'a B) -> Source<'a, B>
         ensures { result.set.now ≡ set.now }
@@ -56,7 +57,7 @@ impl<'a, B: ReadWords> Source<'a, B> {
         Source { set }
     }
 
-    /// Lends the words of the same set.
+    /// Borrows the words of the same set.
     #[inline]
     pub fn duplicate(&self) -> Source<'a, B>
         ensures { result.set ≡ self.now.set }
@@ -73,7 +74,7 @@ impl<'a, B: ReadWords> Source<'a, B> {
         self.set.capacity() / word_width::<B>()
     }
 
-    /// Fetches word `k`, as a word whose ones are the bits of the kind, and counts the fetch.
+    /// Fetches word `k`, as a word whose set bits are the bits of the kind, and counts the fetch.
     #[inline(always)]
     pub fn fetch<K: Kind>(&self, k: usize, fetches: &mut Count) -> B::LeafWord
         requires fits { ShapeFits B.Shape self.now.set.now }
@@ -86,9 +87,9 @@ impl<'a, B: ReadWords> Source<'a, B> {
         word_of_kind::<B, K>(self.set, k)
     }
 
-    /// Returns the end `N` of the words from `low` on and before `high`, moved past words that the
-    /// set knows to have no bit of the kind, whatever the order, and counts these. None of them is
-    /// fetched.
+    /// Passes over words of `low..high` at the end `N` that the set knows to have no bit of the
+    /// kind, in both orders, and counts them. None of them is fetched. It returns the end of the
+    /// rest: at the front the new `low`, at the back the new `high`.
     #[inline(always)]
     pub fn pass_over<K: Kind, N: End>(&self, low: usize, high: usize, passed: &mut Count) -> usize
         requires fits { ShapeFits B.Shape self.now.set.now }
@@ -107,7 +108,7 @@ impl<'a, B: ReadWords> Source<'a, B> {
     }
 }
 
-/// A set that an iterator owns: all it can do is to lend its words.
+/// A set that an iterator owns. It can only lend its words.
 #[derive(Drop)]
 pub struct OwnedSource<B: Shape> {
     set: B,
