@@ -11,17 +11,17 @@ use Rattle.bittle_bits.specs.declared.kind.Kind as kind
 use Rattle.bittle_bits.specs.declared.shape.Shape as shape
 use Rattle.bittle_bits.specs.declared.word.Word as word
 
--- the members of a set from one number on and below another, in increasing order
+-- the members of a set in the range from..to, in increasing order
 unfoldable pub members_between : PlainSet → ℕ → ℕ → List ℕ
 members_between s from to = ascending_from s.has from (to - from)
 
--- the members of a word of w bits, moved by a base: indexes of the set that it was fetched from,
--- where its first bit has the index base
+-- the members of a word of w bits, moved by a base; they are indexes of the set that the word was
+-- fetched from, in which its first bit has the index base
 abbrev pub items_of : Bool → ℕ → ℕ → ℕ → List ℕ
 items_of mirrored w pattern base = map (λ i. base + i)
     (ascending (read_in mirrored w (bit_set w pattern)))
 
--- how far the index of the first bit of a word lies below that of its bit of least weight
+-- how far the first index of a word lies below the index of its bit of least weight
 abbrev pub edge_from_first : Bool → ℕ → ℕ
 edge_from_first false w = 0
 edge_from_first true w = w - 1
@@ -32,17 +32,17 @@ buffered_items mirrored w pattern c = cond c.is_loaded
     (Some (items_of mirrored w (pattern c.word) (c.edge - edge_from_first mirrored w)))
     None
 
--- the indexes of a loaded word are numbers of 32 bits, and a buffer with none loaded has no item
+-- the indexes of a loaded word have 32 bits, and a buffer with no word loaded has no item
 unfoldable pub IsSound : {W : Type 0} → Bool → ℕ → (W → ℕ) → BufferedWord W → Type 0
 IsSound mirrored w pattern c = (c.is_loaded ≡ true →
     (first : ℕ) × (c.edge ≡ first + edge_from_first mirrored w) × (first + w < 4294967296))
     × (c.is_loaded ≡ false → ascending (read_in mirrored w (bit_set w (pattern c.word))) ≡ [])
 
--- the items of a word that is word k of a set
+-- the items of a word, as word k of a set
 abbrev pub word_items : {W E : Type 0} → word.Ghosts W → endian.Ghosts E → W → ℕ → List ℕ
 word_items t e v k = items_of e.mirrored t.width (t.pattern v) (k * t.width)
 
--- the members of word k of a value, of its bits of a kind in an order
+-- the members of word k of a value, for the bits of a kind, in an order
 abbrev pub members_in_word : {V W E K : Type 0} → shape.Ghosts V W → endian.Ghosts E →
     kind.Ghosts K → V → ℕ → List ℕ
 members_in_word b e k v n = members_between (kind_in b e k v) (n * b.width) (n * b.width + b.width)
@@ -56,40 +56,39 @@ items_held t e c = buffered_items e.mirrored t.width t.pattern c
 abbrev pub HoldsSound : {W E : Type 0} → word.Ghosts W → endian.Ghosts E → BufferedWord W → Type 0
 HoldsSound t e c = IsSound e.mirrored t.width t.pattern c
 
--- two buffered words, by the items that remain in each, the scans of them, and the fetches of words
+-- two buffered words: the items that remain in each, their scans, and the fetches of words
 pub record BufferPair : Type 0 where
   pub head : Option (List ℕ)
   pub tail : Option (List ℕ)
   pub scans : ℕ
   pub fetches : ℕ
 
--- the items of a loaded word, and none where none is loaded
+-- the items of a loaded word, or no items if no word is loaded
 abbrev pub items_in : Option (List ℕ) → List ℕ
 items_in None = []
 items_in (Some xs) = xs
 
--- 1 where a word is loaded
+-- 1 if a word is loaded, and else 0
 abbrev pub buffer_count : Option (List ℕ) → ℕ
 buffer_count None = 0
 buffer_count (Some xs) = 1
 
--- the one of two buffered words that is the head, or the tail
+-- the head, or the tail, of two buffered words
 abbrev pub buffer_of : Bool → BufferPair → Option (List ℕ)
 buffer_of true b = b.head
 buffer_of false b = b.tail
 
--- a scan takes the item at one end of a word, or finds that none is loaded or that it is exhausted
+-- a scan takes the item at one end of a word, or finds that no word with an item is loaded
 abbrev pub ScansFrom : Bool → Option (List ℕ) → Option ℕ → Option (List ℕ) → Type 0
 ScansFrom front before r after = MatchOption r ((items_in before ≡ []) × (after ≡ None))
     (λ item. (xs : List ℕ) × (before ≡ Some (with_end front item xs)) × (after ≡ Some xs))
 
--- a word at an end is found to have no item, and is dropped then, or it has one and stays
+-- a word at an end is dropped if it has no item, and stays if it has one
 abbrev pub TellsExhausted : Bool → Option (List ℕ) → Option (List ℕ) → Type 0
 TellsExhausted r before after = MatchBool r ((items_in before ≡ []) × (after ≡ None))
     ((items_in before ≢ []) × (after ≡ before))
 
--- a word that is fetched for an end has items, and is loaded there, or it has none, and this was
--- its scan
+-- a word that is fetched for an end is loaded there if it has an item; else the test was its scan
 abbrev pub Refills : Bool → List ℕ → Bool → BufferPair → BufferPair → Type 0
 Refills front xs r b c = MatchBool r
     ((xs ≢ []) × (c ≡ record {

@@ -1,4 +1,4 @@
--- Where an iterator is: two buffered words, and the words between them.
+-- The position of an iterator: two buffered words, and the words between them.
 use Rattle.std.specs.Prelude.{◌≡◌, ℕ, ◌+◌, ◌-◌, ◌*◌, ◌≤◌, List, ◌++◌}
 use Rattle.bittle_bits.specs.Buffers.{members_between, items_in, buffer_count}
 use Rattle.bittle_bits.specs.PlainSet.{PlainSet, ascending}
@@ -9,15 +9,15 @@ use Rattle.bittle_bits.specs.declared.internal.cursor.Cursor.{Cursor}
 use Rattle.bittle_bits.specs.declared.kind.Kind as kind
 use Rattle.bittle_bits.specs.declared.shape.Shape as shape
 
--- the types are those of the set, of the order of the walk, and of the words of the set
+-- B is the type of the set, E the order, and W the type of the words
 module _ {B E W : Type 0} where
-  -- what remains: the head's items, the members of the words between, and the tail's items. It is
-  -- no abbreviation, so that a caller's search does not open the buffers behind each iterator
+  -- What remains: the head's items, the members of the words between, and the tail's items. It is
+  -- not an abbreviation, since a caller's search would expand the buffers of each iterator.
   unfoldable pub items_left_in : PlainSet → ℕ → Cursor B E W → List ℕ
   items_left_in s w at = items_in at.buffers.head
       ++ (members_between s (at.low * w) (at.high * w) ++ items_in at.buffers.tail)
 
-  -- the walk over a set that has so many words of w bits
+  -- what contracts see of an iterator over a set that has this many words of w bits
   abbrev pub walk_of : PlainSet → ℕ → ℕ → Cursor B E W → Walk
   walk_of s words w at = record {
     remaining = items_left_in s w at;
@@ -29,8 +29,8 @@ module _ {B E W : Type 0} where
     words = words;
   }
 
--- each scan yielded an item or exhausted one of the words, and each word was fetched once, is
--- between the buffered ones, or was passed over
+-- Each scan yielded an item or exhausted a word. Each word was fetched once, is between the
+-- buffered ones, or was passed over.
 pub record IsCounted {B E W : Type 0} (words : ℕ) (at : Cursor B E W) : Type 0 where
   pub ordered : at.low ≤ at.high
   pub within : at.high ≤ words
@@ -39,23 +39,23 @@ pub record IsCounted {B E W : Type 0} (words : ℕ) (at : Cursor B E W) : Type 0
       at.buffers.tail ≤ at.items + words
   pub once : at.buffers.fetches + (at.high - at.low) + at.passed ≡ words
 
--- all items remain, and nothing is counted but the words that were fetched
+-- all items remain, and nothing is counted except the words that were fetched
 pub record IsWalkStart {B E W : Type 0} (s : PlainSet) (words w : ℕ) (t : Cursor B E W) :
     Type 0 where
   pub remaining : items_left_in s w t ≡ ascending s
   pub fresh : IsFresh words (walk_of s words w t)
   pub counted : IsCounted words t
 
--- the walk at a place in the words of a value, over its bits of a kind in an order
+-- what contracts see of an iterator at a position in a value, over its bits of a kind in an order
 abbrev pub walk_at : {V W E K L : Type 0} → shape.Ghosts V W → endian.Ghosts E → kind.Ghosts K → V →
     Cursor V E L → Walk
 walk_at b e k v at = walk_of (kind_in b e k v) (word_count b v) b.width at
 
--- the counts of a place in the words of a value
+-- the counts at a position in the words of a value
 abbrev pub IsCountedIn : {V W E L : Type 0} → shape.Ghosts V W → V → Cursor V E L → Type 0
 IsCountedIn b v at = IsCounted (word_count b v) at
 
--- an iterator over the bits of a kind of a value begins at a place
+-- an iterator over the bits of a kind of a value begins at this position
 abbrev pub Begins : {V W E K L : Type 0} → shape.Ghosts V W → endian.Ghosts E → kind.Ghosts K → V →
     Cursor V E L → Type 0
 Begins b e k v at = IsWalkStart (kind_in b e k v) (word_count b v) b.width at

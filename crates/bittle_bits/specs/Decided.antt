@@ -6,7 +6,7 @@ use Rattle.bittle_bits.specs.PlainSet.{PlainSet}
 abbrev pub NoneDecidedBelow : (Bool → Bool → Bool) → PlainSet → PlainSet → ℕ → Type 0
 NoneDecidedBelow decide s t n = (i : ℕ) → i < n → decide (s.has i) (t.has i) ≡ false
 
--- d is the least number that it makes one
+-- d is the least number that an operation makes a member
 abbrev pub IsFirstDecided : (Bool → Bool → Bool) → PlainSet → PlainSet → ℕ → Type 0
 IsFirstDecided decide s t d = NoneDecidedBelow decide s t d × (decide (s.has d) (t.has d) ≡ true)
 

@@ -3,7 +3,7 @@ use Rattle.std.specs.Prelude.{◌≡◌, ℕ, Bool, true, false, not, nat_lt, Li
 use Rattle.bittle_bits.specs.PlainSet.{PlainSet, IsLeastMember, IsGreatestMember}
 use Rattle.bittle_bits.specs.Searches.{IsFirstIn, IsLastIn}
 
--- a list with one item more at its front, or at its back
+-- a list with one more item at its front, or at its back
 abbrev pub with_end : Bool → ℕ → List ℕ → List ℕ
 with_end true x xs = x ∷ xs
 with_end false x xs = xs ++ x ∷ []
@@ -13,7 +13,7 @@ abbrev pub YieldsFrom : {S : Type 0} → Bool → (S → List ℕ) → S → Opt
 YieldsFrom front rest s r t = MatchOption r ((rest s ≡ []) × (rest t ≡ []))
     (λ x. rest s ≡ with_end front x (rest t))
 
--- the item at an end is taken, told by its place, or none was left and nothing changed
+-- the item at an end is taken, and r is its place; or none was left, and nothing changed
 abbrev pub YieldsPlace : {S : Type 0} → Bool → (ℕ → ℕ) → (S → List ℕ) → S → Option ℕ → S → Type 0
 YieldsPlace front index rest s r t = MatchOption r ((rest s ≡ []) × (t ≡ s))
     (λ at. rest s ≡ with_end front (index at) (rest t))

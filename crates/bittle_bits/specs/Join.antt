@@ -1,4 +1,4 @@
--- What a join gives: the items of an iterator at the members of a mask.
+-- What a join yields: the items of an iterator at the members of a mask.
 use Rattle.std.specs.Prelude.{◌≡◌, ℕ, ◌+◌, ◌-◌, ◌<◌, ◌≤◌, Bool, true, false, List, [], ◌∷◌, ◌++◌, length, take, drop, Option, None, MatchOption, slice_get, slice_index, ⊤}
 use Rattle.std.specs.Iterator.{SkipsThenYields, Yields, YieldsThen}
 use Rattle.bittle_bits.specs.Walk.{Walk}
@@ -10,37 +10,36 @@ IsAscendingFrom from (m ∷ ms) = (from ≤ m) × IsAscendingFrom (m + 1) ms
 
 -- a join
 pub record Join (I : Type 0) : Type 0 where
-  -- the walk over the members of the mask
+  -- the iterator over the members of the mask
   pub mask : Walk
-  -- the iterator
+  -- the iterator whose items are joined
   pub iter : I
-  -- the place, among all items, of the next item of the iterator
+  -- the position of the iterator's next item among all of its items
   pub taken : ℕ
-  -- whether it has answered `None`
+  -- whether the join has returned `None`
   pub ended : Bool
 
--- the place after the last of these members, or `from` where there is none
+-- the position after the last of these members, or `from` if there is none
 abbrev pub position_after : ℕ → List ℕ → ℕ
 position_after from [] = from
 position_after from (m ∷ ms) = position_after (m + 1) ms
 
 module _ {I A : Type 0} (steps : I → Option A → I → Type 0) where
-  -- a call with these members left: it took the first of them, m, and gave item m of the iterator,
-  -- counted from its first item, or `None` where there is no such item; with no member left it took
-  -- nothing
+  -- A call with these members left takes the first of them, m. It returns item m of the iterator,
+  -- counted from its first item, or `None` if there is no such item. With no member left it takes
+  -- nothing.
   abbrev pub JoinsNext : List ℕ → Join I → Option A → Join I → Type 0
   JoinsNext [] s r t = (r ≡ None) × (t.mask.remaining ≡ []) × (t.iter ≡ s.iter) × (t.taken ≡ s.taken)
   JoinsNext (m ∷ ms) s r t = (t.mask.remaining ≡ ms) × (t.taken ≡ m + 1) × SkipsThenYields steps s.iter
       (m - s.taken) r t.iter
 
-  -- after `None` a join gives `None` and asks neither its mask nor its iterator
+  -- once it has returned `None`, a join returns `None` and steps neither its mask nor its iterator
   abbrev pub join_steps : Join I → Option A → Join I → Type 0
   join_steps s r t = MatchOption r (t.ended ≡ true) (λ _. t.ended ≡ false)
       × (s.ended ≡ true → (r ≡ None) × (t ≡ s)) × (s.ended ≡ false → JoinsNext s.mask.remaining s r t)
 
--- Of an iterator whose next item is at place `from`: the items `taken` were taken, up to the last
--- of the members that were answered, and the answers are those of them at the first of these
--- members.
+-- The next item of the iterator was at position `from`. Then `taken` were taken from it, up to the
+-- last member that has an answer. The answers are the items of `taken` at the first of `members`.
 pub record IsJoin {A : Type 0} (from : ℕ) (members : List ℕ) (taken answers : List A) : Type 0 where
   pub among : length answers ≤ length members
   pub given : (k : ℕ) → k < length answers →
@@ -48,8 +47,8 @@ pub record IsJoin {A : Type 0} (from : ℕ) (members : List ℕ) (taken answers 
   pub long : from + length taken ≡ position_after from (take (length answers) members)
 
 module _ {I A : Type 0} (steps : I → Option A → I → Type 0) (s : Join I) where
-  -- However often it is called, a join that was not at its end answers the iterator's items at the
-  -- mask's members in turn, and takes no item past the last of them.
+  -- As long as a join returns items, they are the iterator's items at the mask's members, in turn.
+  -- It takes no item past the last of these members.
   abbrev pub AnswersItemsAtMembers : Type 0
   AnswersItemsAtMembers = (answers : List A) (t : Join I) → Yields (join_steps steps) s answers t
       → (taken : List A) × Yields steps s.iter taken t.iter
@@ -57,15 +56,15 @@ module _ {I A : Type 0} (steps : I → Option A → I → Type 0) (s : Join I) w
       × (t.mask.remaining ≡ drop (length answers) s.mask.remaining) × (t.taken ≡ s.taken + length taken)
       × (t.ended ≡ false)
 
-  -- With no member left nothing further was taken; else the iterator came to its end at or before
-  -- the next member.
+  -- If no member was left, nothing further was taken. Else the iterator came to its end at or
+  -- before the next member.
   abbrev pub EndsAt : List A → List ℕ → Join I → Type 0
   EndsAt taken [] t = Yields steps s.iter taken t.iter
   EndsAt taken (m ∷ ms) t = (last : List A) × YieldsThen steps s.iter (taken ++ last) None t.iter
       × (s.taken + length (taken ++ last) ≤ m)
 
-  -- A join comes to its end after the last member, where it takes nothing further, or at the first
-  -- member that is not before the iterator's end, which it then has reached.
+  -- A join ends after the last member, and takes nothing further. Or it ends at the first member
+  -- that is not before the iterator's end, and has reached that end.
   abbrev pub EndsAfterMembers : Type 0
   EndsAfterMembers = (answers : List A) (t : Join I) →
       YieldsThen (join_steps steps) s answers None t

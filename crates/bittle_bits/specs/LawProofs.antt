@@ -1,4 +1,4 @@
--- Proofs of the laws that the impls of the traits give.
+-- Proofs of the laws that the impls of the traits state.
 use Rattle.std.proofs.Common.{◌≡◌, ℕ, ◌+◌, ◌*◌, ◌^◌, ◌≤◌, ◌<◌, ℤ, Bool, ◌&&◌, refl, true, false, nat_eq, min, IsTrue, inl, inr, sym, ap, ◌∙◌, arith}
 use Rattle.std.proofs.lemmas.Bool.{cases_lt, le-ltb, eqb-true}
 use Rattle.std.proofs.Common.{◌≡◌, ℕ, ◌+◌, ◌*◌, ◌^◌, ◌≤◌, ◌<◌, ℤ, Bool, List, [], refl, true, false, nat_eq, IsTrue, ap, arith}
@@ -15,7 +15,7 @@ pub bit_has-past : (w d i : ℕ) → w ≤ i → bit_has w d i ≡ false
 unfolding bit_has
 bit_has-past w d i h = rw (le-ltb i w h)
 
--- a word is made of whole words, namely one
+-- a word is whole words: it is one
 pub one_word : (w : ℕ) → (words : ℕ) × (w ≡ words * w)
 one_word w = (1, omega arith)
 
@@ -24,11 +24,11 @@ pub none_past_word : (w d : ℕ) (s : PlainSet) → s ≡ bit_set w d → (i : �
     s.has i ≡ false
 none_past_word w d s is i h = rw (is) (bit_has-past w d i (rw (is) at h))
 
--- the capacity of a word is that of its type
+-- the capacity of a word is the capacity of its type
 pub word_capacity : (w d c : ℕ) (s : PlainSet) → s ≡ bit_set w d → c ≡ w → s.capacity ≡ c
 word_capacity w d c s is same = rw (is, same) refl
 
--- a capacity that is the width of a word is whole words, namely one
+-- a capacity that is the width of a word is whole words: it is one
 pub one_word_whole : (w own c : ℕ) → w ≡ own → c ≡ own → (words : ℕ) × (c ≡ words * w)
 one_word_whole w own c same whole = rw (whole, same) (one_word own)
 
@@ -36,17 +36,17 @@ one_word_whole w own c same whole = rw (whole, same) (one_word own)
 pub positive_width : (w own : ℕ) → w ≡ own → 0 < own → 0 < w
 positive_width w own same h = omega (arith, same, h)
 
--- equal words are one set
+-- words that are equal are one set
 pub equal_words : (w u v : ℕ) → IsTrue (nat_eq u v) → bit_set w u ≡ bit_set w v
 equal_words w u v h = ap (bit_set w) (eqb-true u v h)
 
--- equal signed words are one set, whatever pattern each has
+-- signed words that are equal are one set, whatever their patterns are
 pub equal_signed_words : (w : ℕ) (pattern : ℤ → ℕ) (u v : ℤ) → IsTrue (int_eq u v) →
     bit_set w (pattern u) ≡ bit_set w (pattern v)
 equal_signed_words w pattern u v h = ap (λ x. bit_set w (pattern x)) ((signed_Decides u v).0 h)
 
--- an integer type is a word that is the set of its bits: its shape has the word's width and
--- capacity, an index finds each bit, no value is a loan, and equal values are one set
+-- An integer type is a word that is the set of its bits. Its shape has the word's width and
+-- capacity, it fits, all values hold the same borrows, and equal values are one set.
 pub record IsWord {V : Type 0} (eq : V → V → Bool) (indexable : Bool) (capacity width own : ℕ)
     (big : V → PlainSet) (pattern : V → ℕ) (loan : V → List ℕ) : Type 0 where
   pub same_width : width ≡ own
@@ -56,7 +56,7 @@ pub record IsWord {V : Type 0} (eq : V → V → Bool) (indexable : Bool) (capac
   pub big_is_pattern : (v : V) → big v ≡ bit_set own (pattern v)
   pub same_pattern : (u v : V) → IsTrue (eq u v) → big u ≡ big v
 
--- an unsigned integer, whose pattern is its number
+-- an unsigned integer type, in which the pattern of a value is its number
 pub unsigned_word : (w : ℕ) → w < 4294967295 →
     IsWord nat_eq true w w w (λ x. bit_set w x) (λ x. x) (λ _. [])
 unsigned_word w few = record {
@@ -68,7 +68,7 @@ unsigned_word w few = record {
   same_pattern = equal_words w;
 }
 
--- a signed integer
+-- a signed integer type
 pub signed_word : (w : ℕ) (pattern : ℤ → ℕ) → w < 4294967295 →
     IsWord int_eq true w w w (λ x. bit_set w (pattern x)) pattern (λ _. [])
 signed_word w pattern few = record {
@@ -80,11 +80,11 @@ signed_word w pattern few = record {
   same_pattern = equal_signed_words w pattern;
 }
 
--- whole bytes have a bit
+-- a word of whole bytes has a bit
 pub positive_bytes : (w : ℕ) → (log : ℕ) × (w ≡ 2 ^ (3 + log)) → 0 < w
 positive_bytes w bytes = rw bytes.1 (pow_pos (3 + bytes.0))
 
--- of what an operation makes of two sets below n, no number from n on is a member
+-- in what an operation makes of two sets below n, no number from n on is a member
 pub none_past_decided : (f : Bool → Bool → Bool) (n : ℕ) (s t : PlainSet) (i : ℕ) → n ≤ i →
     has_decided f n s t i ≡ false
 unfolding has_decided

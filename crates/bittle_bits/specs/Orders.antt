@@ -6,11 +6,11 @@ use Rattle.bittle_bits.specs.PlainSet.{PlainSet}
 unfoldable pub mirror : ℕ → ℕ → ℕ
 mirror w i = (i - i % w) + (w - 1 - i % w)
 
--- the place in big-endian order of an index in an order: the same place, or the mirrored one
+-- the place of an index: its index in big-endian order, which is the same or the mirrored index
 abbrev pub place : Bool → ℕ → ℕ → ℕ
 place false w i = i
 place true w i = mirror w i
 
--- a set that is given in big-endian order, read in an order, mirrored or not
+-- a set in big-endian order, read in an order: mirrored within each word, or not
 abbrev pub read_in : Bool → ℕ → PlainSet → PlainSet
 read_in mirrored w s = record { capacity = s.capacity; has = λ i. s.has (place mirrored w i) }

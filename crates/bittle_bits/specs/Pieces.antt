@@ -1,7 +1,7 @@
--- Where a range of numbers lies among pieces of one length: words, or elements.
+-- Where a range of numbers lies among pieces of one length, such as words or elements.
 use Rattle.std.specs.Prelude.{◌≡◌, ℕ, ◌+◌, ◌*◌, ◌<◌, ◌≤◌}
 
--- the first number of a range from a on and below b is at place i of piece p, the last at j of q
+-- the first number of the range a..b is at place i of piece p, and the last at place j of piece q
 pub record LiesAt (length a b p i q j : ℕ) : Type 0 where
   pub from : a ≡ p * length + i
   pub begin : i < length

@@ -1,13 +1,12 @@
 -- Plain sets of numbers below a capacity: what a value stands for, whatever its words are.
 use Rattle.std.specs.Prelude.{◌≡◌, ℕ, zero, suc, ◌+◌, ◌-◌, ◌%◌, ◌<◌, ◌≤◌, Bool, true, false, cond, ◌&&◌, ◌||◌, not, nat_lt, nat_le, ◌==◌, List, [], ◌∷◌}
 
--- a set of numbers below a capacity, by the test of each number
+-- a set of numbers below a capacity, given by a test of each number
 pub record PlainSet : Type 0 where
   pub capacity : ℕ
   pub has : ℕ → Bool
 
--- whether the index, which wraps at the capacity, is a member; nothing is a member where the
--- capacity is 0
+-- whether the index, which wraps at the capacity, is a member; with capacity 0 nothing is a member
 unfoldable pub contains : PlainSet → ℕ → Bool
 contains s i = nat_lt 0 s.capacity && s.has (i % s.capacity)
 
@@ -19,32 +18,32 @@ has_with s i k = (nat_lt 0 s.capacity && (k == i % s.capacity)) || s.has k
 abbrev pub with_index : PlainSet → ℕ → PlainSet
 with_index s i = record { capacity = s.capacity; has = has_with s i }
 
--- whether a number lies in the span from one number on and before an end
+-- whether a number lies in the span from..end
 abbrev pub is_in_span : ℕ → ℕ → ℕ → Bool
 is_in_span from end k = nat_le from k && nat_lt k end
 
--- the set of a capacity that has each number of a span, of which none is past the capacity
+-- the set of a capacity with each number of a span that ends at or before the capacity
 abbrev pub span_set : ℕ → ℕ → ℕ → PlainSet
 span_set c from end = record { capacity = c; has = is_in_span from end }
 
--- whether a number is a member after a change of each number of a span; any other stays as it was
+-- whether a number is a member after a change of each number of a span; other numbers stay
 unfoldable pub has_changed : (Bool → Bool) → PlainSet → ℕ → ℕ → ℕ → Bool
 has_changed change s from end k = cond (is_in_span from end k) (change (s.has k)) (s.has k)
 
--- the set after a change of each index of a span, of which none is past the capacity
+-- the set after a change of each index of a span that ends at or before the capacity
 abbrev pub with_span_changed : (Bool → Bool) → PlainSet → ℕ → ℕ → PlainSet
 with_span_changed change s from end =
     record { capacity = s.capacity; has = has_changed change s from end }
 
--- the set with each index from one on and before an end, of which none is past the capacity
+-- the set with each index of from..end, which ends at or before the capacity
 abbrev pub with_span : PlainSet → ℕ → ℕ → PlainSet
 with_span s from end = with_span_changed (λ _. true) s from end
 
--- the set without the indexes from one on and before an end
+-- the set without the indexes of from..end
 abbrev pub without_span : PlainSet → ℕ → ℕ → PlainSet
 without_span s from end = with_span_changed (λ _. false) s from end
 
--- the set in which the indexes from one on and before an end are members just if they were none
+-- the set with each index of from..end flipped: it is a member exactly if it was not one
 abbrev pub with_span_toggled : PlainSet → ℕ → ℕ → PlainSet
 with_span_toggled s from end = with_span_changed not s from end
 
@@ -56,27 +55,27 @@ has_without s i k = not (nat_lt 0 s.capacity && (k == i % s.capacity)) && s.has 
 abbrev pub without_index : PlainSet → ℕ → PlainSet
 without_index s i = record { capacity = s.capacity; has = has_without s i }
 
--- the set of a capacity that has no members
+-- the set of a capacity with no members
 abbrev pub empty_set : ℕ → PlainSet
 empty_set c = record { capacity = c; has = λ _. false }
 
--- the set of a capacity that has each number below it
+-- the set of a capacity with each number below it
 abbrev pub full_set : ℕ → PlainSet
 full_set c = record { capacity = c; has = λ k. nat_lt k c }
 
--- the set of a capacity that has each number below it from one number on
+-- the set of a capacity with each number below it, from i on
 abbrev pub full_set_from : ℕ → ℕ → PlainSet
 full_set_from c i = record { capacity = c; has = λ k. nat_lt k c && not (nat_lt k i) }
 
--- the set of the same capacity that has no members
+-- the set of the same capacity with no members
 abbrev pub without_members : PlainSet → PlainSet
 without_members s = empty_set s.capacity
 
--- whether a number below the capacity is no member
+-- whether a number is below the capacity and not a member
 unfoldable pub lacks : PlainSet → ℕ → Bool
 lacks s k = nat_lt k s.capacity && not (s.has k)
 
--- the set of the numbers below the capacity that are no members
+-- the set of the numbers below the capacity that are not members
 abbrev pub complement : PlainSet → PlainSet
 complement s = record { capacity = s.capacity; has = lacks s }
 
@@ -93,7 +92,7 @@ size s = count_below s.capacity s.has
 abbrev pub members_below : PlainSet → ℕ → ℕ
 members_below s n = count_below n s.has
 
--- those of the n numbers from one on that pass the test, in increasing order
+-- of the n numbers from a first one on, those that pass the test, in increasing order
 unfoldable pub ascending_from : (ℕ → Bool) → ℕ → ℕ → List ℕ
 ascending_from p from zero = []
 ascending_from p from (suc n) = cond (p from) (from ∷ ascending_from p (suc from) n)
@@ -103,13 +102,13 @@ ascending_from p from (suc n) = cond (p from) (from ∷ ascending_from p (suc fr
 abbrev pub ascending : PlainSet → List ℕ
 ascending s = ascending_from s.has 0 s.capacity
 
--- r is the least member, or the capacity where there is none
+-- r is the least member, or the capacity if there is none
 pub record IsLeastMember (s : PlainSet) (r : ℕ) : Type 0 where
   pub within : r ≤ s.capacity
   pub none_below : (k : ℕ) → k < r → s.has k ≡ false
   pub is_member : r < s.capacity → s.has r ≡ true
 
--- r is how far the greatest member lies below the last number, or the capacity where there is none
+-- r is how far the greatest member lies below the last number, or the capacity if there is none
 pub record IsGreatestMember (s : PlainSet) (r : ℕ) : Type 0 where
   pub within : r ≤ s.capacity
   pub none_above : (k : ℕ) → k < r → s.has (s.capacity - 1 - k) ≡ false

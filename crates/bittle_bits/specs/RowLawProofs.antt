@@ -1,4 +1,4 @@
--- Proofs of the laws that the impls for rows of elements give.
+-- Proofs of the laws that the impls for rows of elements state.
 use Rattle.std.proofs.Common.{◌≡◌, ℕ, zero, suc, ◌*◌, ◌/◌, ◌%◌, ◌<◌, ◌≤◌, Bool, false, ◌&&◌, nat_lt, IsTrue, List, [], ◌∷◌, refl, sym, ap, ◌∙◌}
 use Rattle.std.proofs.Math.Nat.{mul_assoc}
 use Rattle.std.proofs.lemmas.Bool.{le-ltb, ltb-true, and_parts, true≢false}
@@ -16,7 +16,7 @@ row_has-past n c f xs i h = rw (le-ltb i (n * c) h)
 pub words_of : (n c w : ℕ) → (words : ℕ) × (c ≡ words * w) → (words : ℕ) × (n * c ≡ words * w)
 words_of n c w h = (n * h.0, ap (λ t. n * t) h.1 ∙ sym (mul_assoc n h.0 w))
 
--- a number tested to be below another, with some test before it, is below it
+-- a number is below another if a test says so, after some other test
 pub second_is_below : (a : Bool) (m n : ℕ) → IsTrue (a && nat_lt m n) → m < n
 second_is_below a m n h = ltb-true m n (and_parts a (nat_lt m n) h).1
 
@@ -38,7 +38,7 @@ module _ {X : Type 0} {eq : X → X → Bool} (c : ℕ) (big : X → PlainSet) (
   unfolding row_has
   same_test n xs ys h i = ap (λ b. nat_lt i (n * c) && b) (equal_elements xs ys (i / c) (i % c) h)
 
--- rows that are equal element by element are one set
+-- two rows that are equal element by element are one set
 pub equal_rows : {X : Type 0} {eq : X → X → Bool} (n c : ℕ) (big : X → PlainSet) →
     ((x y : X) → IsTrue (eq x y) → big x ≡ big y) →
     (xs ys : List X) → IsTrue (pointwise eq xs ys) →

@@ -3,17 +3,17 @@ use Rattle.std.specs.Prelude.{◌≡◌, ℕ, zero, suc, ◌+◌, ◌<◌, ◌�
 use Rattle.bittle_bits.specs.PlainSet.{PlainSet, with_index, without_index}
 use Rattle.bittle_bits.specs.SetOperations.{combination_of}
 
--- the test of the element at a place of the row
+-- whether the element at a place of the row passes the test
 unfoldable pub at_element : {X : Type 0} → (X → Bool) → List X → ℕ → Bool
 at_element p [] n = false
 at_element p (x ∷ xs) zero = p x
 at_element p (x ∷ xs) (suc n) = at_element p xs n
 
--- whether the number is the index of a member of its element, of n elements of capacity c
+-- whether a number is a member of a row of n elements of capacity c: its element has it
 unfoldable pub row_has : {X : Type 0} → ℕ → ℕ → (X → ℕ → Bool) → List X → ℕ → Bool
 row_has n c has xs i = nat_lt i (n * c) && at_element (λ x. has x (i % c)) xs (i / c)
 
--- the set of n elements, each of capacity c: member r of element q is member q * c + r of the row
+-- the set of n elements, each of capacity c; member r of element q is member q * c + r of the row
 abbrev pub row_set : {X : Type 0} → ℕ → ℕ → (X → PlainSet) → List X → PlainSet
 row_set n c big xs = record { capacity = n * c; has = row_has n c (λ x. (big x).has) xs }
 
@@ -23,13 +23,13 @@ pub record GoesTo (n c i q r : ℕ) : Type 0 where
   pub within : r < c
   pub at : i % (n * c) ≡ q * c + r
 
--- the set with the index, which wraps at the capacity, where a one is put there, or without it
+-- the set with the index if the flag is true, and else without it; the index wraps
 abbrev pub with_bit : Bool → PlainSet → ℕ → PlainSet
 with_bit true = with_index
 with_bit false = without_index
 
--- the row xs, now zs, has its elements below n combined with those of ys, and its later ones as
--- they were
+-- the row xs became zs: its elements below n are combined with those of ys, and its later elements
+-- are as they were
 pub record IsCombinedBelow {X : Type 0} (f : Bool → Bool → Bool) (big : X → PlainSet)
     (xs ys zs : List X) (n : ℕ) : Type 0 where
   pub same : length zs ≡ length xs

@@ -2,8 +2,8 @@
 use Rattle.std.specs.Prelude.{ℕ, Bool, true, false, cond, not, ◌&&◌, ◌||◌, nat_lt}
 use Rattle.bittle_bits.specs.PlainSet.{PlainSet}
 
--- whether a number is a member after an operation with another set: one below both capacities is
--- decided by whether it is a member of either, and any other stays as it was
+-- Whether a number is a member after an operation with another set. For a number below both
+-- capacities, the two memberships decide. Any other number stays as it was.
 unfoldable pub combination_has : (Bool → Bool → Bool) → PlainSet → PlainSet → ℕ → Bool
 combination_has decide s t k = cond (nat_lt k s.capacity && nat_lt k t.capacity)
     (decide (s.has k) (t.has k)) (s.has k)
@@ -16,7 +16,7 @@ combination_of decide s t = record { capacity = s.capacity; has = combination_ha
 abbrev pub first_alone : Bool → Bool → Bool
 first_alone a b = a && not b
 
--- in just one of both
+-- in just one of the two
 abbrev pub just_one : Bool → Bool → Bool
 just_one true b = not b
 just_one false b = b
@@ -29,7 +29,7 @@ union_of s t = combination_of ◌||◌ s t
 abbrev pub conjunction_of : PlainSet → PlainSet → PlainSet
 conjunction_of s t = combination_of ◌&&◌ s t
 
--- the members of the first set that are none of the second
+-- the members of the first set that are not members of the second
 abbrev pub difference_of : PlainSet → PlainSet → PlainSet
 difference_of s t = combination_of first_alone s t
 

@@ -1,4 +1,4 @@
--- Which shapes an index of 32 bits reaches whole.
+-- Which shapes fit: an index of 32 bits reaches each of their bits.
 use Rattle.std.specs.Prelude.{ℕ, ◌<◌, Bool, IsTrue}
 
 -- the type of the shape may be indexed, and the capacity is below `u32::MAX`

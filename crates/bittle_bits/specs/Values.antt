@@ -40,7 +40,7 @@ word_in t e v = word_mirrored t e.mirrored v
 abbrev pub row_of : {V W : Type 0} → shape.Ghosts V W → List V → PlainSet
 row_of b xs = row_set (length xs) b.type_capacity b.big xs
 
--- the same, mirrored within each word or not
+-- the set of a row of elements, mirrored within each word or not
 abbrev pub row_mirrored : {V W : Type 0} → shape.Ghosts V W → Bool → List V → PlainSet
 row_mirrored b mirrored xs = read_in mirrored b.width (row_of b xs)
 

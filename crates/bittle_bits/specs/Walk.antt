@@ -1,10 +1,10 @@
--- What contracts see of an iterator, which is called a walk here.
+-- What contracts see of an iterator. It is called a walk here.
 use Rattle.std.specs.Prelude.{◌≡◌, ℕ, ◌+◌, ◌<◌, ◌≤◌, Bool, true, false, List, length, slice_index, Option, Some, None}
 use Rattle.std.specs.Iterator.{YieldsFirst, YieldsLast}
 use Rattle.std.specs.Iterator.Runs.{YieldsInOrder, YieldsInReverse}
 use Rattle.bittle_bits.specs.PlainSet.{PlainSet, complement}
 
--- the set that a walk goes over: of the ones the set itself, of the zeros its complement
+-- the set that a walk goes over: the set itself for ones, its complement for zeros
 abbrev pub ones_or_zeros : Bool → PlainSet → PlainSet
 ones_or_zeros true s = s
 ones_or_zeros false s = complement s
@@ -20,28 +20,27 @@ pub record Walk : Type 0 where
   -- how many scans of words it has made, and how many items it has yielded
   pub scans : ℕ
   pub items : ℕ
-  -- how many words it has fetched, how many it has not fetched yet, and how many it never fetches:
-  -- its set told that they have no item, or, of a clone, its source was done with them
+  -- How many words it has fetched, how many it has not fetched yet, and how many it never fetches.
+  -- It never fetches a word that its set passed over; a clone, none that its source was done with.
   pub fetches : ℕ
   pub unread : ℕ
   pub passed : ℕ
   -- how many words its set has
   pub words : ℕ
 
--- the scans are at least the items yielded, and at most these and the words; the words fetched, the
--- unread and those passed over are all the words
+-- There are at least as many scans as items yielded, and at most items plus words. The words that
+-- are fetched, unread and passed over are together all the words.
 pub record IsScanBounded (w : Walk) : Type 0 where
   pub at_least : w.items ≤ w.scans
   pub at_most : w.scans ≤ w.items + w.words
   pub once : w.fetches + w.unread + w.passed ≡ w.words
 
--- one more where a step gave an item
+-- one more if a step yielded an item
 abbrev pub count_after : ℕ → Option ℕ → ℕ
 count_after n None = n
 count_after n (Some item) = n + 1
 
--- a step: what it gave is what `gives` says, and each word that it fetched or passed over was
--- unread
+-- a step: it returned what `gives` states, and each word that it fetched or passed over was unread
 pub record Steps (gives : Walk → Option ℕ → Walk → Type 0) (before : Walk) (r : Option ℕ)
     (after : Walk) : Type 0 where
   pub gave : gives before r after
@@ -54,7 +53,7 @@ pub record Steps (gives : Walk → Option ℕ → Walk → Type 0) (before : Wal
   pub words : after.words ≡ before.words
   pub bounded : IsScanBounded after
 
--- what a walk keeps while a step has given nothing yet
+-- what a walk keeps while a step has yielded nothing yet
 pub record Seeks (before after : Walk) : Type 0 where
   pub remaining : after.remaining ≡ before.remaining
   pub items : after.items ≡ before.items
@@ -65,15 +64,16 @@ pub record Seeks (before after : Walk) : Type 0 where
       ≡ before.fetches + before.unread + before.passed
   pub words : after.words ≡ before.words
 
--- a step from the front gave the first item that was left, or None where none was
+-- a step from the front returned the first item that was left, or None if none was left
 abbrev pub StepsFront : Walk → Option ℕ → Walk → Type 0
 StepsFront = Steps (YieldsFirst (λ w. w.remaining))
 
--- a step from the back gave the last item that was left, or None where none was
+-- a step from the back returned the last item that was left, or None if none was left
 abbrev pub StepsBack : Walk → Option ℕ → Walk → Type 0
 StepsBack = Steps (YieldsLast (λ w. w.remaining))
 
--- a walk that has not stepped yet: it has fetched one word at most; and what runs of its steps give
+-- a walk that has not stepped yet, and has fetched at most one word; and what runs of its steps
+-- yield
 pub record IsFresh (words : ℕ) (w : Walk) : Type 0 where
   pub scans : w.scans ≡ 0
   pub items : w.items ≡ 0
@@ -83,18 +83,18 @@ pub record IsFresh (words : ℕ) (w : Walk) : Type 0 where
   pub in_order : YieldsInOrder StepsFront (λ s. s.remaining)
   pub in_reverse : YieldsInReverse StepsBack (λ s. s.remaining)
 
--- a clone has what its source has left, items and unread words, and has counted nothing but the
--- words that its source was done with
+-- A clone has the remaining items and the unread words of its source. It has counted nothing except
+-- the words that its source was done with.
 pub record ResumesAs (source clone : Walk) : Type 0 where
   pub remaining : clone.remaining ≡ source.remaining
   pub unread : clone.unread ≡ source.unread
   pub fetches : clone.fetches ≡ 0
   pub fresh : IsFresh source.words clone
 
--- runs of steps over a list of numbers give it from its first item on
+-- runs of steps from the front of a list of numbers yield its items in order
 abbrev pub ListsInOrder : Type 0
 ListsInOrder = YieldsInOrder (YieldsFirst (λ (items : List ℕ). items)) (λ items. items)
 
--- runs of steps from the back of a list of numbers give its items in reverse
+-- runs of steps from the back of a list of numbers yield its items in reverse
 abbrev pub ListsInReverse : Type 0
 ListsInReverse = YieldsInReverse (YieldsLast (λ (items : List ℕ). items)) (λ items. items)

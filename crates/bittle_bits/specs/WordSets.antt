@@ -9,6 +9,6 @@ use Rattle.bittle_bits.specs.declared.word.Word as word
 abbrev pub bits_of : {W : Type 0} → word.Ghosts W → W → PlainSet
 bits_of t v = bit_set t.width (t.pattern v)
 
--- the same, mirrored or not
+-- the set of the bits of a word, mirrored or not
 abbrev pub word_mirrored : {W : Type 0} → word.Ghosts W → Bool → W → PlainSet
 word_mirrored t mirrored v = read_in mirrored t.width (bits_of t v)
