@@ -1,4 +1,4 @@
--- The increasing list of the members: its ends, what is left without one of them, and its length.
+-- The increasing list of the members: its ends, the list without one member, and its length.
 use Rattle.std.proofs.Common.{◌≡◌, ◌≢◌, ℕ, zero, suc, ◌+◌, ◌-◌, ◌<◌, ◌≤◌, Bool, true, false, not, ◌&&◌, ◌==◌, cond, List, [], ◌∷◌, ◌++◌, length, map, get_or, length-append, ◌⊎◌, inl, inr, refl, sym, ap, ◌∙◌, arith}
 use Rattle.std.proofs.Math.Nat.{mod-eq_of_lt}
 use Rattle.std.proofs.lemmas.Bool.{eq-eqb, eqb-true, ne_eqb, true≢false, cases_Bool, cases_eq}
@@ -9,13 +9,13 @@ use Rattle.bittle_bits.specs.Walk.{AreBelow}
 use Rattle.bittle_bits.proofs.PlainSets.{has_without-in}
 use Rattle.bittle_bits.proofs.Sizes.{size-le}
 
--- where the first number of the range passes, the list begins with it
+-- if the first number of the range passes, the list begins with it
 pub ascending-yes : (p : ℕ → Bool) (from n : ℕ) → p from ≡ true →
     ascending_from p from (suc n) ≡ from ∷ ascending_from p (suc from) n
 unfolding ascending_from
 ascending-yes p from n h = rw h refl
 
--- where the first number of the range fails, the list is that of the numbers after it
+-- if the first number of the range fails, the list is the list of the numbers after it
 pub ascending-no : (p : ℕ → Bool) (from n : ℕ) → p from ≡ false →
     ascending_from p from (suc n) ≡ ascending_from p (suc from) n
 unfolding ascending_from
@@ -26,7 +26,7 @@ pub ascending_from-zero : (p : ℕ → Bool) (from : ℕ) → ascending_from p f
 unfolding ascending_from
 ascending_from-zero p from = refl
 
--- a list over two ranges that lie side by side
+-- the list over two adjacent ranges is the two lists, one after the other
 pub ascending_from-add : (p : ℕ → Bool) (from a b c mid : ℕ) → c ≡ a + b → mid ≡ from + a →
     ascending_from p from c ≡ ascending_from p from a ++ ascending_from p mid b
 unfolding ascending_from
@@ -42,7 +42,7 @@ ascending_from-add p from (suc a) b (suc c) mid e f =
     (ascending_from p (suc from) a) ++ ascending_from p mid b)
     [ true ↦ ap (λ xs. from ∷ xs) rest | false ↦ rest ]
 
--- tests that agree over the range give one list
+-- tests that agree over the range have one list
 pub ascending_from-same : (p q : ℕ → Bool) (from n : ℕ) →
     ((k : ℕ) → from ≤ k → k < from + n → p k ≡ q k) →
     ascending_from p from n ≡ ascending_from q from n
@@ -66,7 +66,7 @@ late_head p from (suc n) k rest h e =
           (sym (ascending-no p from n not_here) ∙ e)
     ]
 
--- tests that give one list over the range agree there
+-- tests that have one list over the range agree there
 pub ascending_from-agree : (p q : ℕ → Bool) (from n : ℕ) →
     ascending_from p from n ≡ ascending_from q from n → (k : ℕ) → from ≤ k → k < from + n →
     p k ≡ q k
@@ -95,7 +95,7 @@ ascending_from-agree p q from (suc n) e k lo hi = by (ascending_from-agree p q (
     by later (inr a) (inr b) = on later (sym (ascending-no p from n a) ∙ e
         ∙ ascending-no q from n b) (a ∙ sym b)
 
--- a list moved by a base is that of the test moved by it
+-- a list moved by a base is the list of the test moved by that base
 pub ascending_from-moved : (p q : ℕ → Bool) (base from start n : ℕ) → start ≡ base + from →
     ((k : ℕ) → from ≤ k → k < from + n → q (base + k) ≡ p k) →
     map (λ k. base + k) (ascending_from p from n) ≡ ascending_from q start n
@@ -113,7 +113,7 @@ ascending_from-moved p q base from start (suc n) e h =
       | false ↦ rest
     ])
 
--- nothing over a range where nothing passes
+-- the list is empty if nothing in the range passes
 pub ascending_from-none : (p : ℕ → Bool) (from n : ℕ) →
     ((k : ℕ) → from ≤ k → k < from + n → p k ≡ false) → ascending_from p from n ≡ []
 unfolding ascending_from
@@ -137,25 +137,25 @@ ascending_from-length p (suc n) =
     ∙ ap (λ k. k + length (ascending_from p n 1)) (ascending_from-length p n)
     ∙ ap (λ k. count_below n p + k) (one_more p n)
 
--- as many items as members
+-- the list has as many items as the set has members
 pub ascending-length : (s : PlainSet) → length (ascending s) ≡ size s
 ascending-length s = ascending_from-length s.has s.capacity
 
--- a set with no members lists none
+-- the list of a set of size 0 is empty
 pub ascending-empty : (s : PlainSet) → true ≡ (size s == 0) → ascending s ≡ []
 ascending-empty s none =
     nil_from_length _ (ascending-length s ∙ eqb-true (size s) 0 (sym none))
 
--- a set that has a member lists some
+-- the list of a set whose size is not 0 is not empty
 pub ascending-some : (s : PlainSet) → false ≡ (size s == 0) → ascending s ≢ []
 ascending-some s some none =
     true≢false (sym (eq-eqb (size s) 0 (sym (ascending-length s) ∙ ap length none)) ∙ sym some)
 
--- no more items than the capacity
+-- the list has at most as many items as the capacity
 pub ascending-few : (s : PlainSet) → length (ascending s) ≤ s.capacity
 ascending-few s = omega (arith, ascending-length s, size-le s)
 
--- each of the members is below the end of the range that they come from
+-- each item is below the end of the range
 ascending_from-below : (p : ℕ → Bool) (from n k : ℕ) → k < length (ascending_from p from n) →
     get_or (ascending_from p from n) k 0 < from + n
 unfolding ascending_from
@@ -171,7 +171,7 @@ ascending_from-below p from (suc n) k h = by (p from) (ascending_from-below p (s
     by true later (suc k) h = let b = later k (omega arith) in omega (arith, b)
     by false later k h = let b = later k h in omega (arith, b)
 
--- the items are below the capacity, and there are no more of them
+-- each item is below the capacity, and there are at most as many items as the capacity
 pub ascending-below : (s : PlainSet) → AreBelow s.capacity (ascending s)
 ascending-below s = (
   ascending-few s,
@@ -179,18 +179,18 @@ ascending-below s = (
       omega (arith, b),
 )
 
--- the same of a list that is said to be theirs
+-- the same for a list that is equal to the list of the members
 pub are_below : (s : PlainSet) (items : List ℕ) → items ≡ ascending s → AreBelow s.capacity items
 are_below s items e = rw e (ascending-below s)
 
--- no items where there are no members
+-- the list is empty if there are no members
 pub ascending-none : (s : PlainSet) → ((k : ℕ) → k < s.capacity → s.has k ≡ false) →
     ascending s ≡ []
 ascending-none s h = ascending_from-none s.has 0 s.capacity (λ k lo hi. h k (omega arith))
 
 -- one member of a set
 module _ (s : PlainSet) (r : ℕ) (inside : r < s.capacity) (here : s.has r ≡ true) where
-  -- the list before it, the member, and the list after it
+  -- the list is the members before it, the member, and the members after it
   pub ascending-at : ascending s ≡ (ascending_from s.has 0 r ++ r ∷ [])
       ++ ascending_from s.has (suc r) (s.capacity - suc r)
   ascending-at =
@@ -213,7 +213,7 @@ module _ (s : PlainSet) (r : ℕ) (inside : r < s.capacity) (here : s.has r ≡ 
       ∙ ap (λ t. not (r == t) && s.has r) (mod-eq_of_lt inside)
       ∙ ap (λ b. not b && s.has r) (eq-eqb r r refl)
 
-  -- without it just the two lists
+  -- without the member, the list is the members before and after it
   pub ascending-without : ascending (without_index s r) ≡ ascending_from s.has 0 r
       ++ ascending_from s.has (suc r) (s.capacity - suc r)
   ascending-without =
@@ -231,14 +231,14 @@ module _ (s : PlainSet) (r : ℕ) (inside : r < s.capacity) (here : s.has r ≡ 
       (ascending_from-same _ _ (suc r) (s.capacity - suc r)
       (λ k lo hi. others k (λ e. absurd (omega arith))))
 
--- where no member lies at an end, there is none
+-- if no member lies at an end, there is no member
 pub end-none : (front : Bool) (s : PlainSet) (r : ℕ) → IsEndMember front s r → s.capacity ≤ r →
     ascending s ≡ []
 end-none true s r least past = ascending-none s (λ k h. least.none_below k (omega arith))
 end-none false s r greatest past = ascending-none s
     (λ k h. ap s.has (omega arith) ∙ greatest.none_above (s.capacity - 1 - k) (omega arith))
 
--- the member at an end is the item there, and any set that has just the others has those left
+-- the member at an end is the item at that end; the set without it lists the other items
 pub end-taken : (front : Bool) (s t : PlainSet) (r v : ℕ) → IsEndMember front s r →
     r < s.capacity → v ≡ cond front r (s.capacity - 1 - r) → t ≡ without_index s v →
     ascending s ≡ with_end front v (ascending t)

@@ -33,21 +33,21 @@ bit_at-complement w d k h l =
     one_of_two _ _ (2 ^ k) (pow_pos k) (bit_at-lt _ k) (bit_at-lt d k)
     (rw (← and_pow (2 ^ w - 1 - d) k, ← and_pow d k) (and-not w d (2 ^ k) h p))
 
--- the or of two words has a bit set exactly where either has it
+-- the or of two words has a bit set exactly if either word has it
 pub bit_has-or : (w a b : ℕ) → bit_has w (bit_or a b)
     ≡ (λ k. bit_has w a k || bit_has w b k)
 unfolding bit_has
 bit_has-or w a b = fun_ext λ k. rw (bit_at_or a b k)
     (either (nat_lt k w) (bit_at a k) (bit_at b k) (bit_at-lt a k) (bit_at-lt b k))
 
--- the and of two words has a bit set exactly where both have it
+-- the and of two words has a bit set exactly if both words have it
 pub bit_has-and : (w a b : ℕ) → bit_has w (bit_and a b)
     ≡ (λ k. bit_has w a k && bit_has w b k)
 unfolding bit_has
 bit_has-and w a b = fun_ext λ k. rw (bit_at_and a b k)
     (both (nat_lt k w) (bit_at a k) (bit_at b k) (bit_at-lt a k) (bit_at-lt b k))
 
--- the inverted word has the bits set that the word lacks
+-- the inverted word has exactly the bits set that the word lacks
 pub bit_has-not : (w d : ℕ) → d < 2 ^ w → bit_has w (2 ^ w - 1 - d) ≡ lacks (bit_set w d)
 unfolding bit_has lacks
 bit_has-not w d h = fun_ext λ k.
@@ -57,20 +57,20 @@ bit_has-not w d h = fun_ext λ k.
       | inr g ↦ rw (le-ltb k w g) refl
     ]
 
--- a power of two shifted down is that of the difference
+-- a power of two shifted down is the power of the difference of the exponents
 pub shifted_power : (p n : ℕ) → n ≤ p → 2 ^ p / 2 ^ n ≡ 2 ^ (p - n)
 shifted_power p n h =
     let e : p ≡ p - n + n = omega arith in
     ap (λ t. 2 ^ t / 2 ^ n) e ∙ ap (λ t. t / 2 ^ n) (pow-add 2 (p - n) n) ∙ shl-shr (2 ^ (p - n)) n
 
--- of two powers of two the lesser one has the lesser exponent
+-- the lesser of two powers of two has the lesser exponent
 pub exponent_below : (p n : ℕ) → 2 ^ p < 2 ^ n → p < n
 exponent_below p n h = elim (cases_lt p n) [
   | inl l ↦ l
   | inr g ↦ absurd (omega (arith, pow_mono g))
 ]
 
--- a power of two has one bit set, that of its exponent
+-- a power of two has one bit set, at its exponent
 pub bit_has-pow : (w p : ℕ) → p < w → bit_has w (2 ^ p) ≡ (λ k. k == p)
 unfolding bit_has
 bit_has-pow w p h = fun_ext λ k.
@@ -86,7 +86,7 @@ unfolding bit_has
 bit_has-zero w d is = fun_ext λ k. rw is
     (ap (λ t. nat_lt k w && (t == 1)) (bit_at-zero k) ∙ and_right (nat_lt k w) false refl)
 
--- below the width, a bit is that of the pattern
+-- below the width, a bit of the word is the bit of the pattern
 pub bit_has-at : (w d k : ℕ) → k < w → bit_has w d k ≡ (bit_at d k == 1)
 unfolding bit_has
 bit_has-at w d k h = ap (λ t. t && (bit_at d k == 1)) (lt-ltb k w h)
@@ -100,7 +100,7 @@ bit_has-below w d k h = ltb-true k w (and_parts (nat_lt k w) (bit_at d k == 1) h
 pub no_digits : (w d : ℕ) → d ≡ 0 → bit_set w d ≡ empty_set w
 no_digits w d is = ap (plain_set w) (bit_has-zero w d is)
 
--- the set of the inverted word 0 is filled
+-- the set of the inverted word 0 is full
 pub all_digits : (w z d : ℕ) → z ≡ 0 → z < 2 ^ w → d ≡ 2 ^ w - 1 - z → bit_set w d ≡ full_set w
 unfolding lacks
 all_digits w z d none fits is =
@@ -113,7 +113,7 @@ pub full_word : (w d : ℕ) → 0 < w → bit_set w d ≡ full_set w → (m : Bo
     read_in m w (bit_set w d) ≡ full_set w
 full_word w d word = full_set_in_each_order w w (bit_set w d) word (1, omega arith)
 
--- a number from a power of two up to the next has the bit of that power set
+-- a number between a power of two and the next one has the bit of the lesser power set
 pub top_digit : (k d : ℕ) → 2 ^ k ≤ d → d < 2 ^ suc k → bit_at d k ≡ 1
 top_digit k d lo hi =
     let a : 1 ≤ d / 2 ^ k = le-div 1 d (2 ^ k) (pow_pos k) (omega arith) in

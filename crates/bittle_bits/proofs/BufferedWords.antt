@@ -1,4 +1,4 @@
--- Buffered words: what one without an item is, and what a scan takes.
+-- Buffered words: words without an item, and what a scan takes.
 use Rattle.std.proofs.Common.{◌≡◌, ◌≢◌, inl, inr, ℕ, ◌+◌, ◌-◌, Bool, true, false, cond, List, [], ◌∷◌, length, length-append, map, Some, None, refl, ap, arith}
 use Rattle.std.proofs.lemmas.Bool.{cases_Bool}
 use Rattle.std.proofs.lemmas.List.{map-append}
@@ -9,18 +9,18 @@ use Rattle.bittle_bits.specs.Orders.{read_in}
 use Rattle.bittle_bits.specs.PlainSet.{ascending}
 use Rattle.bittle_bits.specs.declared.internal.buffer.BufferedWord.{BufferedWord}
 
--- a list with an item at an end is not the empty one
+-- a list with an item at an end is not empty
 pub not_empty : (front : Bool) (x : ℕ) (xs : List ℕ) → with_end front x xs ≢ []
 not_empty true x xs none = cc
 not_empty false x xs none = let e = ap length none in omega (arith, e, length-append xs (x ∷ []))
 
--- items that are moved by a base stand at the end where they stood
+-- an item at an end stays at that end if all items are moved by a base
 moved_end : (front : Bool) (base x : ℕ) (xs : List ℕ) →
     map (λ i. base + i) (with_end front x xs) ≡ with_end front (base + x) (map (λ i. base + i) xs)
 moved_end true base x xs = refl
 moved_end false base x xs = map-append _ _ _
 
--- a list of no items is moved to one, and no other is
+-- a list that is empty after all items are moved was empty before
 pub moved_none : (base : ℕ) (xs : List ℕ) → map (λ i. base + i) xs ≡ [] → xs ≡ []
 moved_none base [] e = refl
 moved_none base (x ∷ xs) e = cc
@@ -62,7 +62,7 @@ module _ {W : Type 0} (m : Bool) (w : ℕ) (pattern : W → ℕ) where
   with_items c sound some none =
       some (moved_none _ _ (rw (with_member c sound some) at none))
 
-  -- a word that was dropped, of those without a member
+  -- a dropped word without a member
   pub dropped : (word : W) (edge : ℕ) (d : BufferedWord W) →
       ascending (read_in m w (bit_set w (pattern word))) ≡ [] →
       d ≡ record { word = word; edge = edge; is_loaded = false } →
@@ -70,7 +70,7 @@ module _ {W : Type 0} (m : Bool) (w : ℕ) (pattern : W → ℕ) where
   unfolding buffered_items IsSound
   dropped word edge d none e = rw e (refl, ((λ is. absurd cc), (λ is. none)))
 
-  -- a loaded word that has one member less than before, at an end, has one item less at that end
+  -- a loaded word that loses the member at an end loses the item at that end
   pub taken : (front : Bool) (c d : BufferedWord W) (x : ℕ) → c.is_loaded ≡ true →
       d.is_loaded ≡ true → d.edge ≡ c.edge →
       ascending (read_in m w (bit_set w (pattern c.word)))

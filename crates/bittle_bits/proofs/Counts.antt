@@ -6,7 +6,7 @@ use Rattle.bittle_bits.specs.Orders.{place, mirror}
 use Rattle.bittle_bits.specs.PlainSet.{count_below}
 use Rattle.bittle_bits.proofs.PlaceLemmas.{place_part}
 
--- tests that agree on the numbers below c count as many of them
+-- tests that agree on the numbers below c have the same count
 pub count-same : (c : ℕ) (s t : ℕ → Bool) → ((k : ℕ) → k < c → s k ≡ t k) →
     count_below c s ≡ count_below c t
 unfolding count_below
@@ -25,7 +25,7 @@ unfolding count_below
 count-le zero s = omega arith
 count-le (suc c) s = omega (arith, count-le c s, one_at_most (s c))
 
--- the count below a sum is that of the numbers of its first part and that of the others
+-- the count below a + b is the count below a plus the count of the b numbers after it
 pub count-add : (a b : ℕ) (s : ℕ → Bool) →
     count_below (a + b) s ≡ count_below a s + count_below b (λ k. s (a + k))
 unfolding count_below
@@ -37,7 +37,7 @@ count-one : (s : ℕ → Bool) → count_below 1 s ≡ cond (s 0) 1 0
 unfolding count_below
 count-one s = omega arith
 
--- the same members from the other end
+-- the count is the same from the other end
 count-turned : (w : ℕ) (s : ℕ → Bool) → count_below w (λ k. s (w - 1 - k)) ≡ count_below w s
 unfolding count_below
 count-turned zero s = refl
@@ -63,12 +63,12 @@ place_in_word false w s h = refl
 place_in_word true w s h = count-same w _ _ (λ k l. let e = mod-eq_of_lt l in ap s (omega arith))
     ∙ count-turned w s
 
--- below 0 there is nothing to count
+-- the count below 0 is 0
 pub count-none : (s : ℕ → Bool) → count_below 0 s ≡ 0
 unfolding count_below
 count-none s = refl
 
--- each order has as many members
+-- the count is the same in each order
 pub count-placed : (m : Bool) (w d : ℕ) (s : ℕ → Bool) → 0 < w →
     count_below (d * w) (λ k. s (place m w k)) ≡ count_below (d * w) s
 count-placed m w zero s h = rw zero-mul (count-none _ ∙ sym (count-none s))
@@ -85,7 +85,7 @@ count-placed m w (suc d) s h =
     let e : suc d * w ≡ d * w + w = omega arith in
     rw e (omega (arith, l, r, i, part, same))
 
--- where a number below c passes, the count is not 0
+-- if a number below c passes, the count is not 0
 pub count-some : (c k : ℕ) (s : ℕ → Bool) → k < c → s k ≡ true → 0 < count_below c s
 unfolding count_below
 count-some zero k s h t = absurd (omega arith)
@@ -95,13 +95,13 @@ count-some (suc c) k s h t =
       | inr n ↦ let r = count-some c k s (omega arith) t in omega arith
     ]
 
--- a test that nothing passes counts nothing
+-- a test that nothing passes has the count 0
 pub count-never : (c : ℕ) → count_below c (λ _. false) ≡ 0
 unfolding count_below
 count-never zero = refl
 count-never (suc c) = omega (arith, count-never c)
 
--- what passes a test and what does not are all numbers below the bound
+-- the count of what passes a test and the count of what does not add up to the bound
 pub count-others : (c : ℕ) (s : ℕ → Bool) → count_below c (λ k. not (s k)) + count_below c s ≡ c
 unfolding count_below
 count-others zero s = refl

@@ -15,7 +15,7 @@ use Rattle.bittle_bits.proofs.PlainSets.{plain_set}
 use Rattle.bittle_bits.proofs.SetOperations.{combination-below, combination-outside}
 use Rattle.bittle_bits.proofs.Words.{word_has-at}
 
--- what an operation makes of word k of two sets is word k of what it makes of them
+-- an operation on word k of two sets makes word k of what it makes of the sets
 pub word_decided : (f : Bool → Bool → Bool) (w k n x : ℕ) (s t : PlainSet) → k * w + w ≤ n →
     bit_set w x ≡ combination_of f (word_of w s k) (word_of w t k) →
     bit_set w x ≡ word_of w (decided_below f n s t) k
@@ -29,7 +29,7 @@ word_decided f w k n x s t within is = is ∙ ap (plain_set w) (fun_ext λ i. el
   | inr g ↦ combination-outside f (word_of w s k) (word_of w t k) i g ∙ rw (le-ltb i w g) refl
 ])
 
--- its members in an order
+-- the members of what an operation makes of two sets, in an order
 module _ (f : Bool → Bool → Bool) (m : Bool) (w n : ℕ) (s t : PlainSet) (word : 0 < w)
     (whole : (words : ℕ) × (n ≡ words * w)) where
   decided_at : (i : ℕ) → i < n → (read_in m w (decided_below f n s t)).has i
@@ -41,7 +41,7 @@ module _ (f : Bool → Bool → Bool) (m : Bool) (w n : ℕ) (s t : PlainSet) (w
       ap (λ b. b && f (s.has (place m w i)) (t.has (place m w i)))
       (lt-ltb (place m w i) n (omega (arith, low, whole.1)))
 
-  -- the first of them is the first that the operation decides
+  -- the first of them is the first number that the operation makes a member
   pub first_decided : (end : ℕ) (r : Option ℕ) → end ≤ n →
       IsFirstIn (read_in m w (decided_below f n s t)) 0 end r →
       MatchOption r (NoneDecidedBelow f (read_in m w s) (read_in m w t) end)
@@ -53,11 +53,11 @@ module _ (f : Bool → Bool → Bool) (m : Bool) (w n : ℕ) (s t : PlainSet) (w
     sym (decided_at d (omega (arith, first.1))) ∙ first.2,
   )
 
--- whole words of a capacity make it up
+-- the words of a capacity of whole words make it up
 pub words_make_up : (w n : ℕ) → 0 < w → (words : ℕ) × (n ≡ words * w) → n / w * w ≡ n
 words_make_up w n word whole = rw (whole.1) (ap (λ k. k * w) (mul-div_left whole.0 word))
 
--- where a capacity has a word, it has its first one
+-- a capacity that has a word is at least one word
 pub first_word_within : (w n : ℕ) → (n / w ≡ 0 → ⊥) → 1 * w ≤ n
 first_word_within w n some =
     elim (cases_lt n w) [
@@ -65,7 +65,7 @@ first_word_within w n some =
       | inr g ↦ omega arith
     ]
 
--- a search that finds the least number finds it, however far it was to go
+-- a number that a search below n finds is the least one; if it finds none, nothing is stated
 pub none_or_first : (f : Bool → Bool → Bool) (s t : PlainSet) (n : ℕ) (r : Option ℕ) →
     MatchOption r (NoneDecidedBelow f s t n) (IsFirstDecided f s t) →
     MatchOption r (NoneDecidedBelow f s t 0) (IsFirstDecided f s t)

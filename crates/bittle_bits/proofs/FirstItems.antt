@@ -1,14 +1,14 @@
--- The first item of the increasing list, and what stands past its last.
+-- The first item of the increasing list, and what lies past its last item.
 use Rattle.std.proofs.Common.{◌≡◌, ℕ, zero, suc, ◌+◌, ◌<◌, ◌≤◌, ◌⊎◌, Bool, true, false, cond, ◌∷◌, sym, ◌∙◌, ap, inl, inr, arith}
 use Rattle.std.proofs.lemmas.Bool.{cases_eq, cases_Bool}
 use Rattle.bittle_bits.specs.PlainSet.{ascending_from}
 use Rattle.bittle_bits.proofs.AscendingLists.{ascending-yes, ascending-no, ascending_from-none}
 
--- no number from one on and below another passes the test
+-- no number of a range passes the test
 abbrev pub NonePasses : (ℕ → Bool) → ℕ → ℕ → Type 0
 NonePasses s from to = (i : ℕ) → from ≤ i → i < to → s i ≡ false
 
--- the list from one number on begins with the least that passes, and goes on past it
+-- the list of a range begins with the least number that passes, and goes on past it
 pub ascending_from-least : (s : ℕ → Bool) (from n v m : ℕ) → from ≤ v → from + n ≡ suc v + m →
     s v ≡ true → NonePasses s from v → ascending_from s from n ≡ v ∷ ascending_from s (suc v) m
 ascending_from-least s from zero v m p e t h = absurd (omega arith)
@@ -25,11 +25,11 @@ ascending_from-least s from (suc n) v m p e t h =
         let l : from < v = omega arith in
         ascending-no s from n (h from (omega arith) l) ∙ k l
 
--- v is the least number from one on and below another that passes the test
+-- v is the least number of a range that passes the test
 abbrev pub IsLeastPassing : (ℕ → Bool) → ℕ → ℕ → ℕ → Type 0
 IsLeastPassing s from to v = (from ≤ v) × (v < to) × (s v ≡ true) × NonePasses s from v
 
--- the least of n numbers that passes the test, or none
+-- of n numbers, none passes the test, or there is a least one that passes
 pub least_or_none : (s : ℕ → Bool) (from n : ℕ) →
     NonePasses s from (from + n) ⊎ ((v : ℕ) × IsLeastPassing s from (from + n) v)
 least_or_none s from zero = inl (λ i p q. absurd (omega arith))
@@ -58,7 +58,7 @@ least_or_none s from (suc n) = by (cases_Bool (s from)) (least_or_none s (suc fr
       ),
     )
 
--- past the last number that passes nothing comes
+-- past the last number that passes, the list has no further item
 pub ascending_from-past : (s : ℕ → Bool) (from n r : ℕ) → n ≤ r →
     ((i : ℕ) → from + n ≤ i → s i ≡ false) → ascending_from s from r ≡ ascending_from s from n
 unfolding ascending_from

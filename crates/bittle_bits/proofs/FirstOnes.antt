@@ -12,7 +12,7 @@ use Rattle.bittle_bits.proofs.BitSets.{bit_has-zero, bit_has-below, some_digit}
 use Rattle.bittle_bits.proofs.PlaceLemmas.{place_in_word, place-place}
 use Rattle.bittle_bits.proofs.Words.{digit_at}
 
--- the word x is word k of a set, and none of the set is known from one number on up to the word
+-- the word x is word k of a set, and the set has no member from `from` on before that word
 module _ (m : Bool) (w : ℕ) (s : PlainSet) (word : 0 < w) (from k x : ℕ)
     (is : bit_set w x ≡ word_of w s k) (before : NoneIn (read_in m w s) from (k * w)) where
   none_up_to : (r : ℕ) → r ≤ w →
@@ -27,12 +27,12 @@ module _ (m : Bool) (w : ℕ) (s : PlainSet) (word : 0 < w) (from k x : ℕ)
             rw back at (sym (digit_at m w k s x word is j (omega arith)) ∙ none j (omega arith))
       ]
 
-  -- the word has none
+  -- if the word has no member, the set has none up to the next word
   pub none_next : (next : ℕ) → next ≡ k + 1 → x ≡ 0 → NoneIn (read_in m w s) from (next * w)
   none_next next e zero = rw e (λ i after h. none_up_to w (omega arith)
       (λ j l. ap (λ p. p (place m w j)) (bit_has-zero w x zero)) i after (omega arith))
 
-  -- its least member is the first of the set
+  -- the least member of the word is the first member of the set
   pub first_in_word : (r to : ℕ) → from ≤ k * w → IsLeastMember (read_in m w (bit_set w x)) r →
       r < w → k * w + r < to → IsFirstIn (read_in m w s) from to (Some (k * w + r))
   first_in_word r to begun least low within = (
@@ -42,7 +42,7 @@ module _ (m : Bool) (w : ℕ) (s : PlainSet) (word : 0 < w) (from k x : ℕ)
     none_up_to r least.within least.none_below,
   )
 
--- an index of a word below a number of words lies within what those make up
+-- an index in one of the first words lies below the capacity of these words
 pub in_words : (k words w r : ℕ) → k < words → r < w → k * w + r < words * w
 in_words k words w r below low =
     let up : (k + 1) * w ≤ words * w = mul-le-mul_right w (omega (arith, below)) in
@@ -62,7 +62,7 @@ some_least m w x r word fits some least =
           ∙ least.none_below i (omega arith)))
     ]
 
--- the or of four words is 0 only where each is
+-- the or of four words is 0 only if each word is 0
 pub each_is_zero : (a b c d ab cd all : ℕ) → ab ≡ bit_or a b → cd ≡ bit_or c d →
     all ≡ bit_or ab cd → all ≡ 0 → (a ≡ 0) × (b ≡ 0) × (c ≡ 0) × (d ≡ 0)
 each_is_zero a b c d ab cd all one two both none =
@@ -74,7 +74,7 @@ each_is_zero a b c d ab cd all one two both none =
       omega (arith, second, two, le_or_r c d),
     )
 
--- the first member of a range is that of a wider one, where no number before or after is a member
+-- the first member of a range is the first of a wider range, if the wider range adds no member
 pub first_widened : (s : PlainSet) (from a b to : ℕ) (r : Option ℕ) → from ≤ a → b ≤ to →
     NoneIn s from a → NoneIn s b to → IsFirstIn s a b r → IsFirstIn s from to r
 first_widened s from a b to None lo hi before after none = λ k l h. elim (cases_lt k a) [

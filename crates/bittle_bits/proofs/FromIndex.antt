@@ -1,4 +1,4 @@
--- The word whose members are the indexes from one on.
+-- The word whose members are the indexes from a given one on.
 use Rattle.std.proofs.Common.{◌≡◌, ℕ, ◌-◌, ◌*◌, ◌^◌, ◌<◌, ◌≤◌, ◌⊎◌, true, false, not, ◌&&◌, ◌||◌, nat_lt, ◌==◌, inl, inr, refl, sym, ap, ◌∙◌, arith, bit_or}
 use Rattle.std.proofs.Math.Bool.{and-false, or-true}
 use Rattle.std.proofs.Math.Path.{fun_ext}
@@ -33,7 +33,7 @@ bit_has-low w i h = fun_ext λ k.
           rw (zero, le-ltb k i g) (and-false (nat_lt k w))
     ]
 
--- in big-endian order, the word that lacks just the bits below the index
+-- in big-endian order, the word lacks exactly the bits below the index
 pub big_from : (w i d e : ℕ) → i < w → d ≡ 2 ^ i - 1 → d < 2 ^ w → e ≡ 2 ^ w - 1 - d →
     read_in false w (bit_set w e) ≡ full_set_from w i
 unfolding lacks
@@ -42,7 +42,7 @@ big_from w i d e h low fits is =
     ∙ fun_ext λ k. ap (λ p. nat_lt k w && not (p k))
     (ap (bit_has w) low ∙ bit_has-low w i (omega arith)))
 
--- in little-endian order, the word of the bit at the index's place and of those below it
+-- in little-endian order, the word has the bit at the index's place and the bits below it
 pub little_from : (w i p d e f : ℕ) → i < w → p ≡ w - 1 - i → d ≡ 2 ^ p - 1 → e ≡ 2 ^ p →
     f ≡ bit_or d e → read_in true w (bit_set w f) ≡ full_set_from w i
 little_from w i p d e f h at low one is =

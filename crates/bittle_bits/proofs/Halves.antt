@@ -1,5 +1,5 @@
--- A word that is two of half its width: its bits, its items in each order, what is left of it where
--- an item is taken out of a half, and an operation on each half.
+-- A word as two halves: its bits, its items in each order, what is left after an item is taken out
+-- of a half, and an operation on each half.
 use Rattle.std.proofs.Common.{◌≡◌, ℕ, ◌+◌, ◌-◌, ◌*◌, ◌^◌, ◌<◌, Bool, true, false, ◌==◌, cond, List, [], ◌∷◌, ◌++◌, map, inl, inr, refl, sym, ap, ◌∙◌, arith}
 use mathlib.Core.Bool.{beq}
 use Rattle.std.specs.Int.{bit_at}
@@ -18,14 +18,14 @@ use Rattle.bittle_bits.proofs.SetOperations.{combination-below}
 use Rattle.bittle_bits.proofs.WordOperations.{digits_combined}
 use Rattle.bittle_bits.proofs.WordSizes.{zero_lists_none}
 
--- a word by its halves, the one of lesser weights and the one of greater
+-- a word by its halves, `low` of the lesser weights and `high` of the greater weights
 module _ (h w low high : ℕ) (whole : w ≡ h + h) (fits : low < 2 ^ h) where
-  -- a bit below the middle is that of the lesser half
+  -- a bit below the middle is a bit of the lesser half
   bit_below : (k : ℕ) → k < h → bit_has w (high * 2 ^ h + low) k ≡ bit_has h low k
   bit_below k l = bit_has-at w (high * 2 ^ h + low) k (omega arith)
       ∙ ap (λ b. b == 1) (bit_at_cat_low high h low k l) ∙ sym (bit_has-at h low k l)
 
-  -- a bit from the middle on is that of the greater half
+  -- a bit from the middle on is a bit of the greater half
   bit_above : (k : ℕ) → k < h → bit_has w (high * 2 ^ h + low) (h + k) ≡ bit_has h high k
   bit_above k l =
       let far : h + k - h ≡ k = omega arith in
@@ -33,7 +33,7 @@ module _ (h w low high : ℕ) (whole : w ≡ h + h) (fits : low < 2 ^ h) where
       ∙ ap (λ b. b == 1) (bit_at_cat_high high h low (h + k) fits (omega arith)
       ∙ ap (bit_at high) far) ∙ sym (bit_has-at h high k l)
 
-  -- in an order, the members before the middle are those of the half that is first in it
+  -- in an order, the members before the middle are those of the half that comes first
   first_half : (m : Bool) (k : ℕ) → k < h → bit_has w (high * 2 ^ h + low) (place m w k)
       ≡ bit_has h (cond m high low) (place m h k)
   first_half false k l = bit_below k l
@@ -42,7 +42,7 @@ module _ (h w low high : ℕ) (whole : w ≡ h + h) (fits : low < 2 ^ h) where
       ap (bit_has w (high * 2 ^ h + low)) (mirror_in_word w k (omega arith) ∙ far)
       ∙ bit_above (h - 1 - k) (omega arith) ∙ ap (bit_has h high) (sym (mirror_in_word h k l))
 
-  -- and those from the middle on are the other's
+  -- in an order, the members from the middle on are those of the half that comes second
   second_half : (m : Bool) (k : ℕ) → k < h → bit_has w (high * 2 ^ h + low) (place m w (h + k))
       ≡ bit_has h (cond m low high) (place m h k)
   second_half false k l = bit_above k l
@@ -51,7 +51,7 @@ module _ (h w low high : ℕ) (whole : w ≡ h + h) (fits : low < 2 ^ h) where
       ap (bit_has w (high * 2 ^ h + low)) (mirror_in_word w (h + k) (omega arith) ∙ far)
       ∙ bit_below (h - 1 - k) (omega arith) ∙ ap (bit_has h low) (sym (mirror_in_word h k l))
 
-  -- the items in an order are those of the half that is first in it, then the other's
+  -- in an order, the items are those of the half that comes first, then those of the other
   halves_listed : (m : Bool) → ascending (read_in m w (bit_set w (high * 2 ^ h + low)))
       ≡ ascending (read_in m h (bit_set h (cond m high low)))
       ++ map (λ k. h + k) (ascending (read_in m h (bit_set h (cond m low high))))
@@ -65,14 +65,14 @@ module _ (h w low high : ℕ) (whole : w ≡ h + h) (fits : low < 2 ^ h) where
       (sym (ascending_from-moved (read_in m h (bit_set h (cond m low high))).has all h 0 h h
       (omega arith) (λ k lo hi. second_half m k (omega arith))))
 
--- the item at an end, where it is one of a list's first part
+-- the item at an end, if it lies in the first part of the list
 first_taken : (front : Bool) (v : ℕ) (xs rest ys : List ℕ) → (front ≡ false → ys ≡ []) →
     xs ≡ with_end front v rest → xs ++ ys ≡ with_end front v (rest ++ ys)
 first_taken true v xs rest ys none is = ap (λ l. l ++ ys) is
 first_taken false v xs rest ys none is = rw (none refl, is)
     (append-nil _ ∙ sym (ap (λ l. l ++ v ∷ []) (append-nil rest)))
 
--- the item at an end, where it is one of the second part, whose items are moved
+-- the item at an end, if it lies in the second part, whose items are moved
 second_taken : (front : Bool) (h v : ℕ) (xs ys rest : List ℕ) → (front ≡ true → xs ≡ []) →
     ys ≡ with_end front v rest → xs ++ map (λ k. h + k) ys
     ≡ with_end front (h + v) (xs ++ map (λ k. h + k) rest)
@@ -81,7 +81,7 @@ second_taken false h v xs ys rest none is = rw is
     (ap (λ l. xs ++ l) (map-append (λ k. h + k) rest (v ∷ []))
     ∙ sym (append_assoc xs (map (λ k. h + k) rest) ((h + v) ∷ [])))
 
--- an item is taken out of the greater half, where that lies at the end or the lesser one is 0
+-- an item is taken out of the greater half, if that lies at the end or the lesser half is 0
 pub taken_high : (front m : Bool) (h w low high rest at : ℕ) → w ≡ h + h → low < 2 ^ h → at < h →
     (beq m front ≡ false → low ≡ 0) → ascending (read_in m h (bit_set h high))
     ≡ with_end front (place m h at) (ascending (read_in m h (bit_set h rest))) →
@@ -101,7 +101,7 @@ taken_high front true h w low high rest at whole fits inside none is =
     ∙ ap (λ v. with_end front v (ascending (read_in true w (bit_set w (rest * 2 ^ h + low)))))
     (sym far)
 
--- an item is taken out of the lesser half, where that lies at the end or the greater one is 0
+-- an item is taken out of the lesser half, if that lies at the end or the greater half is 0
 pub taken_low : (front m : Bool) (h w low high rest at : ℕ) → w ≡ h + h → low < 2 ^ h →
     rest < 2 ^ h → at < h → (beq m front ≡ true → high ≡ 0) →
     ascending (read_in m h (bit_set h low))
@@ -123,7 +123,7 @@ taken_low front true h w low high rest at whole fits below inside none is =
     ∙ ap (λ v. with_end front v (ascending (read_in true w (bit_set w (high * 2 ^ h + rest)))))
     (sym far)
 
--- an operation on each half of two words is one on the words
+-- an operation on each half of two words is the operation on the words
 pub halves_combined : (f : Bool → Bool → Bool) (h w la ha lb hb lr hr a b r : ℕ) → w ≡ h + h →
     la < 2 ^ h → lb < 2 ^ h → lr < 2 ^ h → a ≡ ha * 2 ^ h + la → b ≡ hb * 2 ^ h + lb →
     r ≡ hr * 2 ^ h + lr → bit_set h lr ≡ combination_of f (bit_set h la) (bit_set h lb) →

@@ -1,4 +1,4 @@
--- The members of a set between two numbers, and the items of a buffered word, as lists.
+-- The members of a set in a range, and the items of a buffered word, as lists.
 use Rattle.std.proofs.Common.{◌≡◌, ℕ, ◌+◌, ◌-◌, ◌*◌, ◌<◌, ◌≤◌, Bool, [], ◌++◌, append-nil, refl, sym, ap, ◌∙◌, arith}
 use Rattle.bittle_bits.specs.Buffers.{members_between, items_of}
 use Rattle.bittle_bits.specs.BitPatterns.{bit_set}
@@ -9,31 +9,31 @@ use Rattle.bittle_bits.specs.Words.{word_of}
 use Rattle.bittle_bits.proofs.AscendingLists.{ascending_from-add, ascending_from-none, ascending_from-moved}
 use Rattle.bittle_bits.proofs.Words.{digit_at}
 
--- those between two numbers are those up to a third and those from it on
+-- the members in a range are those in its first part, then those in the rest
 pub members_between-split : (s : PlainSet) (a m b : ℕ) → a ≤ m → m ≤ b →
     members_between s a b ≡ members_between s a m ++ members_between s m b
 unfolding members_between
 members_between-split s a m b lo hi = ascending_from-add s.has a (m - a) (b - m) (b - a) m
     (omega arith) (omega arith)
 
--- none lies between a number and itself
+-- there are no members in an empty range
 pub members_between-empty : (s : PlainSet) (a : ℕ) → members_between s a a ≡ []
 unfolding members_between
 members_between-empty s a = ascending_from-none s.has a (a - a) (λ k lo hi. absurd (omega arith))
 
--- none lies where no number is a member
+-- there are no members in a range if no number of it is a member
 pub members_between-none : (s : PlainSet) (a b : ℕ) → NoneIn s a b → members_between s a b ≡ []
 unfolding members_between
 members_between-none s a b none =
     ascending_from-none s.has a (b - a) (λ k lo hi. none k lo (omega arith))
 
--- those between 0 and the capacity are all members
+-- the members from 0 up to the capacity are all members
 pub members_between-all : (s : PlainSet) (a c : ℕ) → a ≡ 0 → c ≡ s.capacity →
     members_between s a c ≡ ascending s
 unfolding members_between
 members_between-all s a c none is = let e : c - a ≡ s.capacity = omega arith in rw (e, none) refl
 
--- those between two numbers are all members, where none lies before the one or from the other on
+-- the members in a range are all members, if none lies before it or after it
 pub members_between-inner : (s : PlainSet) (a b c : ℕ) → a ≤ b → b ≤ c → c ≡ s.capacity →
     NoneIn s 0 a → NoneIn s b c → members_between s a b ≡ ascending s
 members_between-inner s a b c lo hi is before after =

@@ -1,4 +1,4 @@
--- What runs of a walk's steps give, and walks that have not stepped yet.
+-- What runs of an iterator's steps yield, and iterators that have not stepped yet.
 use Rattle.std.proofs.Common.{◌≡◌, ℕ, ◌+◌, ◌≤◌, List, ap, length, arith}
 use Rattle.std.specs.Iterator.{YieldsFirst, YieldsLast}
 use Rattle.std.specs.Iterator.Runs.{YieldsInOrder, YieldsInReverse}
@@ -14,7 +14,7 @@ in_reverse p seen = as_is_back p p.from.remaining
     (from_back StepsBack (λ x. x) (λ w. w.remaining) (λ s t h. ap length h.gave.0)
     (λ s x t h. h.gave) p seen)
 
--- a walk that has counted no scans and no items, and has fetched a word for each end at most
+-- an iterator that has counted no scans and no items, and has fetched at most one word
 pub is_fresh : (words : ℕ) (w : Walk) → w.scans ≡ 0 → w.items ≡ 0 → w.fetches ≤ 1 →
     w.words ≡ words → w.fetches + w.unread + w.passed ≡ words → IsFresh words w
 is_fresh words w l i f n u = record {
@@ -27,7 +27,7 @@ is_fresh words w l i f n u = record {
   in_reverse = in_reverse;
 }
 
--- a walk that has what another has left, and has counted nothing
+-- an iterator that has what remains in another, and has counted nothing
 pub resumes_as : (source clone : Walk) → clone.remaining ≡ source.remaining → clone.unread ≡ source.unread →
     clone.words ≡ source.words → clone.scans ≡ 0 → clone.items ≡ 0 → clone.fetches ≡ 0 →
     clone.passed ≡ source.passed + source.fetches →
@@ -40,12 +40,12 @@ resumes_as source clone left u n l i f p b = record {
       (omega arith);
 }
 
--- the same of a plain list of numbers
+-- runs of steps from the front of a list of numbers yield its items in order
 pub list_in_order : ListsInOrder
 list_in_order p seen = as_is p p.from (from_front (YieldsFirst (λ (left : List ℕ). left)) (λ x. x)
     (λ left. left) (λ s t h. ap length h.0) (λ s x t h. h) p seen)
 
--- runs of steps from the back of a list of numbers give its items in reverse
+-- runs of steps from the back of a list of numbers yield its items in reverse
 pub list_in_reverse : ListsInReverse
 list_in_reverse p seen = as_is_back p p.from
     (from_back (YieldsLast (λ (left : List ℕ). left)) (λ x. x) (λ left. left)

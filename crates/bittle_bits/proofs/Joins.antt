@@ -1,4 +1,4 @@
--- What any number of calls of a join give.
+-- What any number of calls of a join return.
 use Rattle.std.proofs.Common.{◌≡◌, ℕ, suc, zero, ◌+◌, ◌-◌, ◌<◌, ◌≤◌, Bool, true, false, cond, List, [], ◌∷◌, ◌++◌, Some, None, length, drop, slice_index, sym, ap, ◌∙◌, subst, arith, zero-add, length-append, add-one}
 use Rattle.std.specs.Prelude.{Option, slice_get}
 use Rattle.std.specs.Iterator.{Yields, YieldsThen}
@@ -18,7 +18,7 @@ sooner : (from later : ℕ) (ms : List ℕ) → from ≤ later → IsAscendingFr
 sooner from later [] h a = tt
 sooner from later (m ∷ ms) h a = let first = a.0 in (omega arith, a.1)
 
--- the members in increasing order increase
+-- each item of the increasing list is above the one before it
 pub ascending-ascends : (p : ℕ → Bool) (from n : ℕ) → IsAscendingFrom from (ascending_from p from n)
 unfolding ascending_from
 ascending-ascends p from zero = tt
@@ -33,7 +33,7 @@ ascending-ascends p from (suc n) =
     by true rest = (omega arith, rest)
     by false rest = sooner from (from + 1) (ascending_from p (suc from) n) (omega arith) rest
 
--- each member is at or past the place from which they increase
+-- each item of a list that increases from `from` is at least `from`
 place_of_member : (from : ℕ) (ms : List ℕ) (k : ℕ) → IsAscendingFrom from ms → k < length ms →
     from ≤ slice_index ms k
 place_of_member from [] k h below = absurd (omega arith)
@@ -78,7 +78,7 @@ joined_more {A} from m ms passed rest y ys at above h = record {
         ∙ ap (slice_get all) e
 
 module _ {I A : Type 0} (steps : I → Option A → I → Type 0) where
-  -- what calls from a join with these members left give, from its next place on
+  -- what the calls of a join with these members left return, from its next position on
   abbrev JoinsTo : Join I → List ℕ → List A → Join I → Type 0
   JoinsTo s ms ys t = (taken : List A) × Yields steps s.iter taken t.iter
       × IsJoin s.taken ms taken ys × (t.mask.remaining ≡ drop (length ys) ms)
@@ -107,7 +107,7 @@ module _ {I A : Type 0} (steps : I → Option A → I → Type 0) where
   still_ahead s j y (m ∷ ms) ahead step = subst (λ l. IsAscendingFrom j.taken l) (sym step.0)
       (subst (λ n. IsAscendingFrom n ms) (sym step.1) ahead.1)
 
-  -- the answers of a join before its end are the iterator's items at the mask's members
+  -- what a join returns before its end are the iterator's items at the mask's members
   pub join_answers : (s : Join I) (ys : List A) (t : Join I) → IsAscendingFrom s.taken s.mask.remaining →
       s.ended ≡ false → Yields (join_steps steps) s ys t → JoinsTo s s.mask.remaining ys t
   join_answers s [] t ahead goes h = (
@@ -123,7 +123,7 @@ module _ {I A : Type 0} (steps : I → Option A → I → Type 0) where
       one_more s j t y ys s.mask.remaining ahead (step.2 goes)
       (join_answers j ys t (still_ahead s j y s.mask.remaining ahead (step.2 goes)) step.0 rest)
 
-  -- the members stay ahead however many items were given
+  -- the members that are left stay ahead, however many items were returned
   ahead_after : (s : Join I) (ys : List A) (t : Join I) → IsAscendingFrom s.taken s.mask.remaining →
       s.ended ≡ false → Yields (join_steps steps) s ys t → IsAscendingFrom t.taken t.mask.remaining
   ahead_after s [] t ahead goes h = subst (λ j. IsAscendingFrom j.taken j.mask.remaining) h ahead
@@ -140,7 +140,7 @@ module _ {I A : Type 0} (steps : I → Option A → I → Type 0) where
     omega (arith, ahead.0, count, many, length-append taken last),
   )
 
-  -- a join comes to its end after the last member, or at one that the iterator does not reach
+  -- a join ends after the last member, or at a member that the iterator does not reach
   pub join_end : (s : Join I) (ys : List A) (t : Join I) → IsAscendingFrom s.taken s.mask.remaining →
       s.ended ≡ false → YieldsThen (join_steps steps) s ys None t
       → (taken : List A) × IsJoin s.taken s.mask.remaining taken ys

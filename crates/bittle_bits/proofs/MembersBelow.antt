@@ -13,7 +13,7 @@ use Rattle.bittle_bits.proofs.Sizes.{size-members}
 use Rattle.bittle_bits.proofs.Spans.{is_in_span-outside, is_in_span-inside}
 use Rattle.bittle_bits.proofs.Words.{digit_at}
 
--- no more lie below a number than below a greater one, and at most as many more as it is greater
+-- at least as many lie below a greater number, and at most as many more as it is greater
 pub below_between : (s : PlainSet) (from to : ℕ) → from ≤ to →
     (members_below s from ≤ members_below s to)
     × (members_below s to ≤ members_below s from + (to - from))
@@ -27,7 +27,7 @@ below_between s from to h =
 pub below_at_most : (s : PlainSet) (n : ℕ) → members_below s n ≤ n
 below_at_most s n = count-le n s.has
 
--- what passes a test and lies in a span is what passes below its end and not below its start
+-- the count below a span's end is the count below its start plus the count in the span
 count_in_span : (w : ℕ) (p : ℕ → Bool) (from to : ℕ) → from ≤ to → to ≤ w →
     count_below from p + count_below w (λ i. p i && is_in_span from to i) ≡ count_below to p
 count_in_span w p from to h l =
@@ -55,7 +55,7 @@ module _ (m : Bool) (w : ℕ) (s : PlainSet) (word : 0 < w) where
   abbrev t : PlainSet
   t = read_in m w s
 
-  -- the bits of word k that lie in a span of the word
+  -- the count grows over a span of word k by the bits of the word in the span
   pub below_in_word : (k d e r n from to : ℕ) → bit_set w d ≡ word_of w s k →
       read_in m w (bit_set w e) ≡ span_set w from to → r ≡ bit_and d e →
       n ≡ size (bit_set w r) → from ≤ to → to ≤ w →
@@ -78,7 +78,7 @@ module _ (m : Bool) (w : ℕ) (s : PlainSet) (word : 0 < w) where
         count-add (k * w) to t.has,
       )
 
-  -- the bits of word k
+  -- the count grows over word k by the bits of the word
   pub below_next_word : (k d n : ℕ) → bit_set w d ≡ word_of w s k → n ≡ size (bit_set w d) →
       members_below t (k * w) + n ≡ members_below t ((k + 1) * w)
   below_next_word k d n is count =

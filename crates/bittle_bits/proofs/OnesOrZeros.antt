@@ -1,4 +1,4 @@
--- What a walk or a search of a kind wants: a set itself, or its complement.
+-- What an iterator or a search of a kind goes over: the set itself, or its complement.
 use Rattle.std.proofs.Common.{◌≡◌, ℕ, ◌+◌, ◌-◌, ◌*◌, ◌^◌, ◌<◌, ◌≤◌, Bool, true, false, inl, inr, List, refl, ap, ◌∙◌, subst, arith}
 use Rattle.std.proofs.Math.Path.{fun_ext}
 use Rattle.std.proofs.lemmas.Bool.{cases_lt, lt-ltb, le-ltb}
@@ -13,31 +13,31 @@ use Rattle.bittle_bits.proofs.BitSets.{bit_has-not}
 use Rattle.bittle_bits.proofs.PlaceLemmas.{place_below, place_past}
 use Rattle.bittle_bits.proofs.PlainSets.{plain_set, complement-members}
 
--- a set and its complement have one capacity
+-- a set and its complement have the same capacity
 pub ones_or_zeros-capacity : (ones : Bool) (s : PlainSet) →
     (ones_or_zeros ones s).capacity ≡ s.capacity
 ones_or_zeros-capacity true s = refl
 ones_or_zeros-capacity false s = refl
 
--- the list of the bits of the kind lies below the capacity of the set
+-- the bits of the kind lie below the capacity of the set
 pub ones_or_zeros-below : (ones : Bool) (s : PlainSet) (items : List ℕ) →
     items ≡ ascending (ones_or_zeros ones s) → AreBelow s.capacity items
 ones_or_zeros-below ones s items e = subst (λ c. AreBelow c items) (ones_or_zeros-capacity ones s)
     (are_below (ones_or_zeros ones s) items e)
 
--- the bits of the kind of a set read in an order are those of the set, read in the order
+-- the bits of the kind of a set that is read in an order are those of the set, read in that order
 pub ones_or_zeros-members : (ones m : Bool) (w : ℕ) (s : PlainSet) → 0 < w →
     (words : ℕ) × (s.capacity ≡ words * w) →
     ones_or_zeros ones (read_in m w s) ≡ read_in m w (ones_or_zeros ones s)
 ones_or_zeros-members true m w s word whole = refl
 ones_or_zeros-members false m w s word whole = complement-members m w s word whole
 
--- the bits that a word lacks are those of the flipped word
+-- the bits that a word lacks are the bits of the inverted word
 pub digits_of_complement : (w d e : ℕ) → d < 2 ^ w → e ≡ 2 ^ w - 1 - d →
     bit_set w e ≡ complement (bit_set w d)
 digits_of_complement w d e fits is = ap (plain_set w) (ap (bit_has w) is ∙ bit_has-not w d fits)
 
--- the bits of the kind of word k are word k of those of the set
+-- the bits of the kind of word k are word k of the bits of the kind of the set
 pub ones_or_zeros-word_of : (ones : Bool) (w k : ℕ) (s : PlainSet) → k * w + w ≤ s.capacity →
     ones_or_zeros ones (word_of w s k) ≡ word_of w (ones_or_zeros ones s) k
 unfolding word_has lacks
@@ -48,7 +48,7 @@ ones_or_zeros-word_of false w k s within =
       | inr g ↦ rw (le-ltb i w g) refl
     ])
 
--- where words have no bit of the kind, they have none in each order
+-- words with no bit of the kind have none in any order
 pub none_in_order : (ones m : Bool) (w a b : ℕ) (s : PlainSet) → 0 < w →
     (words : ℕ) × (s.capacity ≡ words * w) → NoneIn (ones_or_zeros ones s) (a * w) (b * w) →
     NoneIn (ones_or_zeros ones (read_in m w s)) (a * w) (b * w)
@@ -56,7 +56,7 @@ none_in_order ones m w a b s word whole none = λ k lo hi.
     ap (λ t. t.has k) (ones_or_zeros-members ones m w s word whole)
     ∙ none (place m w k) (place_past m w a k word lo) (place_below m w b k word hi)
 
--- words that are passed over in the set are so in each order
+-- words that are passed over in the set are passed over in each order
 pub passes_in_order : (front ones m : Bool) (w low high r : ℕ) (s : PlainSet) → 0 < w →
     (words : ℕ) × (s.capacity ≡ words * w) →
     PassesOver front w (ones_or_zeros ones s) low high r →

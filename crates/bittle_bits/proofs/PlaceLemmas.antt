@@ -1,4 +1,4 @@
--- The two orders: a place in the word for each index, one to one, mirroring each other.
+-- The two orders: each index has a place in its word, one to one. One order mirrors the other.
 use Rattle.std.proofs.Common.{◌≡◌, ℕ, ◌+◌, ◌-◌, ◌*◌, ◌/◌, ◌%◌, ◌<◌, ◌≤◌, Bool, true, false, ◌==◌, nat_lt, inl, inr, refl, sym, ap, ◌∙◌, arith}
 use Rattle.std.proofs.Math.Nat.{div-add-mod', mod-eq_of_lt}
 use Rattle.std.proofs.lemmas.Nat.{mod-mul-add, mod_below, div_below, mul-add-lt}
@@ -10,7 +10,7 @@ pub mirror_at : (w q o : ℕ) → o < w → mirror w (q * w + o) ≡ q * w + (w 
 unfolding mirror
 mirror_at w q o h = let e = mod-mul-add q w o h in omega (arith, e)
 
--- the mirrored index lies as far from the last of its word as the index from the first
+-- the mirrored index lies as far from the end of its word as the index from the start
 pub mirror_is : (w i : ℕ) → 0 < w → mirror w i ≡ i / w * w + (w - 1 - i % w)
 unfolding mirror
 mirror_is w i h = omega (arith, div-add-mod' i w)
@@ -50,7 +50,7 @@ place_below true w d i h b =
     let low : w - 1 - i % w < w = omega arith in
     omega (arith, mirror_is w i h, mul-add-lt (i / w) w (w - 1 - i % w) d row low)
 
--- two places are the same exactly where their indexes are
+-- two places are the same exactly if their indexes are the same
 pub place_eq : (m : Bool) (w i j : ℕ) → 0 < w → (place m w i == place m w j) ≡ (i == j)
 place_eq m w i j h =
     elim (cases_eq i j) [
@@ -59,7 +59,7 @@ place_eq m w i j h =
           ∙ place-place m w j h)) ∙ sym (ne_eqb _ _ n)
     ]
 
--- an index below a capacity of whole words goes to a place below it, and no other does
+-- an index past a capacity of whole words has its place past it
 pub place_past : (m : Bool) (w d i : ℕ) → 0 < w → d * w ≤ i → d * w ≤ place m w i
 place_past m w d i h b =
     elim (cases_lt (place m w i) (d * w)) [
@@ -68,7 +68,7 @@ place_past m w d i h b =
       | inr g ↦ g
     ]
 
--- a place is below a capacity of whole words exactly where its index is
+-- a place is below a capacity of whole words exactly if its index is
 pub place_inside : (m : Bool) (w d i : ℕ) → 0 < w → nat_lt (place m w i) (d * w) ≡ nat_lt i (d * w)
 place_inside m w d i h =
     elim (cases_lt i (d * w)) [
@@ -76,13 +76,13 @@ place_inside m w d i h =
       | inr g ↦ le-ltb _ _ (place_past m w d i h g) ∙ sym (le-ltb _ _ g)
     ]
 
--- in one word
+-- within one word, the place of an index is below the width
 pub place_in_word : (m : Bool) (w i : ℕ) → i < w → place m w i < w
 place_in_word m w i h =
     let b : i < 1 * w = omega arith in
     let t = place_below m w 1 i (omega arith) b in omega arith
 
--- the mirrored index is how far the index lies below the last of the word
+-- the mirrored index is how far the index lies below the last index of the word
 pub mirror_in_word : (w i : ℕ) → i < w → mirror w i ≡ w - 1 - i
 unfolding mirror
 mirror_in_word w i h = let e = mod-eq_of_lt h in omega arith

@@ -17,12 +17,12 @@ module _ (s : PlainSet) (c i : ℕ) (of : s.capacity ≡ c) (some : 0 < c) where
   unfolding contains
   contains_in = rw (of, lt-ltb 0 c some) refl
 
-  -- with an index, a number is a member that was one or is the index modulo the capacity
+  -- with an index, a number is a member if it was one or is the index modulo the capacity
   pub has_with-in : has_with s i ≡ (λ k. (k == i % c) || s.has k)
   unfolding has_with
   has_with-in = fun_ext λ k. rw (of, lt-ltb 0 c some) refl
 
-  -- without an index, a number is a member that was one and is not the index so wrapped
+  -- without an index, a number is a member if it was one and is not the index modulo the capacity
   pub has_without-in : has_without s i ≡ (λ k. not (k == i % c) && s.has k)
   unfolding has_without
   has_without-in = fun_ext λ k. rw (of, lt-ltb 0 c some) refl
@@ -31,7 +31,7 @@ module _ (s : PlainSet) (c i : ℕ) (of : s.capacity ≡ c) (some : 0 < c) where
   pub with_in : with_index s i ≡ plain_set c (λ k. (k == i % c) || s.has k)
   with_in = λ j. plain_set (of j) (has_with-in j)
 
-  -- the set without an index has its members but the index modulo the capacity
+  -- the set without an index has its members except the index modulo the capacity
   pub without_in : without_index s i ≡ plain_set c (λ k. not (k == i % c) && s.has k)
   without_in = λ j. plain_set (of j) (has_without-in j)
 
@@ -62,7 +62,7 @@ module _ (m : Bool) (w : ℕ) (s : PlainSet) (word : 0 < w)
       let b : whole.0 * w ≤ i = omega (arith, whole.1) in
       past (place m w i) (omega (arith, place_past m w whole.0 i word b, whole.1))
 
-  -- what is no member in an order is so in the other at its mirrored index
+  -- the complement of a set that is read in an order is the complement, read in that order
   pub complement-members : complement (read_in m w s) ≡ read_in m w (complement s)
   unfolding lacks
   complement-members =
@@ -71,7 +71,7 @@ module _ (m : Bool) (w : ℕ) (s : PlainSet) (word : 0 < w)
       (ap (nat_lt k) (whole.1) ∙ sym (place_inside m w whole.0 k word)
       ∙ ap (nat_lt (place m w k)) (sym (whole.1))))
 
--- each number below a capacity of whole words is below it in each order
+-- the full set of a capacity of whole words is full in each order
 pub full_set_in_each_order : (w c : ℕ) (s : PlainSet) → 0 < w → (words : ℕ) × (c ≡ words * w) →
     s ≡ full_set c → (m : Bool) → read_in m w s ≡ full_set c
 full_set_in_each_order w c s word whole is m =

@@ -1,4 +1,4 @@
--- A product by a power of two, as a rotation of a number of 64 bits.
+-- The product of a number of 64 bits and a power of two, as a rotation.
 use Rattle.std.proofs.Common.{◌≡◌, ℕ, ◌-◌, ◌*◌, ◌/◌, ◌%◌, ◌^◌, ◌<◌, ◌≤◌, inl, inr, w64, ap, ◌∙◌, arith}
 use Rattle.std.proofs.Math.Nat.{mod-eq_of_lt, div-eq_of_lt, le-mul_of_pos_right, pow-le-pow_right}
 use Rattle.std.proofs.lemmas.Bool.{cases_lt}
@@ -8,7 +8,7 @@ use Rattle.std.specs.Int.Bits.{or_zero_r}
 use Rattle.std.specs.Int.Count.{count_trailing_zeros}
 use Rattle.bittle_bits.proofs.WordEnds.{trailing_of_pow}
 
--- an exponent whose power has 32 bits is below 32
+-- if a power of two fits in 32 bits, its exponent is below 32
 small_exponent : (e : ℕ) → 2 ^ e < 4294967296 → e < 32
 small_exponent e fits = elim (cases_lt e 32) [
   | inl lo ↦ lo
@@ -17,7 +17,7 @@ small_exponent e fits = elim (cases_lt e 32) [
       absurd (omega (arith, fits, up))
 ]
 
--- a number whose product fits is moved by the exponent, and none of its bits comes back below
+-- if the product fits, the rotation moves the number by the exponent and no bit wraps around
 pub rotated_product : (k e : ℕ) → 0 < e → 2 ^ e < 4294967296 → k * 2 ^ e < 4294967296 →
     rotate_left w64 k (count_trailing_zeros 32 (2 ^ e)) ≡ k * 2 ^ e
 rotated_product k e some fits small =

@@ -22,7 +22,7 @@ wraps_at n c i h l =
     ∙ ap (λ t. t * c + i % c) (sym (div-add-mod' (i / c) n)) ∙ omega arith in
     ap (λ t. t % (n * c)) e ∙ mod-mul-add (i / c / n) (n * c) (i / c % n * c + i % c) low
 
--- two indexes of one element are the same in the row exactly where they are in the element
+-- two indexes of one element are the same in the row exactly if they are the same in the element
 pub same_place_eq : (e c r t : ℕ) → (e * c + t == e * c + r) ≡ (t == r)
 same_place_eq e c r t =
     elim (cases_eq t r) [
@@ -113,7 +113,7 @@ module _ {X : Type 0} (m : Bool) (w c n i q r : ℕ) (big : X → PlainSet) (xs 
       (is ∙ without_in (read_in m w (big x)) c r owned some)
       ∙ sym (without_in (read_in m w (row_set n c big xs)) (n * c) i refl there)
 
--- where an index goes, by a quotient and a remainder of the element's capacity
+-- where an index goes, by the quotient and the remainder by the element's capacity
 pub goes_to : (n c each i q : ℕ) → each ≡ c → 0 < n → 0 < c → q ≡ i / each % n →
     GoesTo n c i q (i % each)
 goes_to n c each i q asked some any is =
@@ -123,7 +123,7 @@ goes_to n c each i q asked some any is =
       at = wraps_at n c i some any;
     })
 
--- where an index goes that wraps at the capacity before it is divided
+-- where an index goes, if it wraps at the capacity before it is divided
 pub goes_wrapped : (n c each i j : ℕ) → each ≡ c → 0 < n → 0 < c → j ≡ i % (n * c) →
     GoesTo n c i (j / each) (j % each)
 goes_wrapped n c each i j asked filled any is =

@@ -13,12 +13,12 @@ use Rattle.bittle_bits.proofs.PlainSets.{plain_set}
 use Rattle.bittle_bits.proofs.RowSets.{elements_has_at, by_place}
 use Rattle.bittle_bits.proofs.SetOperations.{combination-below, combination-past, combination-outside}
 
--- some element of a row that has one
+-- an element of a row that is not empty
 some_of : {X : Type 0} (xs : List X) (n : ℕ) → n < length xs → X
 some_of [] n h = absurd (omega arith)
 some_of (x ∷ xs) n h = x
 
--- the test at a place within the row is that of the element read there
+-- the test at a place of the row is the test of the element at that place
 pub at_element-get : {X : Type 0} (p : X → Bool) (xs : List X) (n : ℕ) (d : X) → n < length xs →
     at_element p xs n ≡ p (get_or xs n d)
 unfolding at_element
@@ -26,7 +26,7 @@ at_element-get p [] n d h = absurd (omega arith)
 at_element-get p (x ∷ xs) zero d h = refl
 at_element-get p (x ∷ xs) (suc n) d h = at_element-get p xs n d (omega arith)
 
--- rows: an operation on each element of the common beginning
+-- an operation on each element that both rows have
 module _ {X : Type 0} (f : Bool → Bool → Bool) (c : ℕ) (big : X → PlainSet) (xs ys zs : List X)
     (owned : (x : X) → (big x).capacity ≡ c) where
   abbrev has : X → ℕ → Bool
@@ -80,7 +80,7 @@ module _ {X : Type 0} (f : Bool → Bool → Bool) (c : ℕ) (big : X → PlainS
         read (length xs) zs q r d (omega arith) a b ∙
         elim (cases_lt q (length ys)) [ inl l ↦ decided q r d a l b | inr g ↦ stays q r d a g b ]
 
-    -- a row whose elements are combined, and whose later ones stay, is the combined row
+    -- if the common elements are combined and the later ones stay, the row is the combined row
     pub row_combined : row_set (length zs) c big zs ≡ combination_of f before other
     row_combined = rw same (ap (plain_set (length xs * c)) (fun_ext λ k.
         elim (cases_lt k (length xs * c)) [
@@ -91,8 +91,8 @@ module _ {X : Type 0} (f : Bool → Bool → Bool) (c : ℕ) (big : X → PlainS
               ∙ row_has-past (length xs) c has xs k g)
         ]))
 
--- one more element of a row: of the row xs, now zs, the elements below i are combined with those of
--- ys, and the one at i becomes z, which is combined with its counterpart y
+-- One more element of a row. The row xs became zs: its elements below i are combined with those of
+-- ys. The element at i becomes z, which is combined with its counterpart y.
 pub one_more_combined : {X : Type 0} (f : Bool → Bool → Bool) (big : X → PlainSet)
     (xs ys zs : List X) (i : ℕ) (x y z : X) → i < length zs → i < length ys → get_or ys i y ≡ y →
     big z ≡ combination_of f (big (get_or zs i x)) (big y) → IsCombinedBelow f big xs ys zs i →

@@ -9,7 +9,7 @@ use Rattle.bittle_bits.specs.Searches.{NoneIn, PassesOver}
 use Rattle.bittle_bits.specs.Walk.{ones_or_zeros}
 use Rattle.bittle_bits.proofs.RowSets.{elements_has_at, at_element-read}
 
--- none is passed over
+-- no word is passed over
 pub passes_none : (front : Bool) (w : ℕ) (s : PlainSet) (low high : ℕ) → low ≤ high →
     PassesOver front w s low high (cond front low high)
 passes_none true w s low high order = (omega arith, order, λ k lo hi. absurd (omega arith))
@@ -17,13 +17,13 @@ passes_none false w s low high order = (order, omega arith, λ k lo hi. absurd (
 
 -- ---- the part of some words that lies in the element at an end
 
--- the word at an end of some words is one of them
+-- the word at an end of low..high is one of these words
 end_before : (front : Bool) (low high k : ℕ) → k ≡ cond front low (high - 1) → low < high →
     k < high
 end_before true low high k is some = omega (arith, is, some)
 end_before false low high k is some = omega (arith, is, some)
 
--- it begins before what they make up
+-- the word at an end of low..high begins below the capacity of the row
 pub end_begins : (front : Bool) (low high k w n : ℕ) → 0 < w → k ≡ cond front low (high - 1) →
     low < high → high * w ≤ n → k * w < n
 end_begins front low high k w n word is some within = omega (
@@ -32,7 +32,8 @@ end_begins front low high k w n word is some within = omega (
   mul-lt-mul_of_pos_right (end_before front low high k is some) word,
 )
 
--- which words of an element of so many, that begins at one, are between two words
+-- the words from..to of an element that begins at word `start` and has `each` words are those that
+-- lie in low..high
 pub record IsPart (front : Bool) (low high each start from to : ℕ) : Type 0 where
   pub ordered : from ≤ to
   pub within : to ≤ each
@@ -40,7 +41,7 @@ pub record IsPart (front : Bool) (low high each start from to : ℕ) : Type 0 wh
   pub high_is : start + to ≤ high
   pub same_end : cond front (start + from) (start + to) ≡ cond front low high
 
--- of the element in which the word at the end lies
+-- the part of low..high in the element in which the word at the end lies
 pub part_at_end : (front : Bool) (low high k at each start from to : ℕ) →
     k ≡ cond front low (high - 1) → low < high → at < each → start + at ≡ k →
     from ≡ max low start - start → to ≡ min (high - start) each →
@@ -60,7 +61,7 @@ part_at_end false low high k at each start from to is some inside begins from_is
   same_end = omega (arith, is, some, inside, begins, to_is);
 }
 
--- where an element begins in which a word lies
+-- where the element of a word begins
 pub element_begins : (n c w d k q at : ℕ) → 0 < w → c ≡ d * w → k * w < n * c →
     GoesTo n c (k * w) q (at * w) → (at < d) × (at ≤ k) × ((k - at) * w ≡ q * c)
 element_begins n c w d k q at word whole within goes =
@@ -87,7 +88,7 @@ module _ {X : Type 0} (ones : Bool) (n c w q start : ℕ) (big : X → PlainSet)
   member_at i low = elements_has_at n c (λ x. (big x).has) xs q i element low
       ∙ at_element-read (λ x. (big x).has i) xs q x (omega (arith, element, all)) at
 
-  -- a number of the element is one of the kind where it is in the row
+  -- a number of the element is of the kind exactly if it is of the kind in the row
   kind_at : (ones : Bool) (i : ℕ) → i < c →
       (ones_or_zeros ones (row_set n c big xs)).has (q * c + i) ≡ (ones_or_zeros ones (big x)).has i
   unfolding lacks
@@ -98,7 +99,7 @@ module _ {X : Type 0} (ones : Bool) (n c w q start : ℕ) (big : X → PlainSet)
       rw (lt-ltb (q * c + i) (n * c) within, lt-ltb i (big x).capacity inside)
       (ap not (member_at i low))
 
-  -- where words of the element have none, those of the row have none
+  -- if words of the element have no bit of the kind, they have none in the row
   none_in_row : (a b : ℕ) → b * w ≤ c → NoneIn (ones_or_zeros ones (big x)) (a * w) (b * w) →
       NoneIn row ((start + a) * w) ((start + b) * w)
   none_in_row a b within none = λ k lo hi.
@@ -108,7 +109,7 @@ module _ {X : Type 0} (ones : Bool) (n c w q start : ℕ) (big : X → PlainSet)
       rw back at (kind_at ones (k - q * c) (omega (arith, high, hi, low, lo, within))
       ∙ none (k - q * c) (omega (arith, low, lo)) (omega (arith, low, lo, high, hi)))
 
-  -- words that the element passes over are so of the row
+  -- words that the element passes over are words that the row passes over
   pub passes_in_row : (front : Bool) (low high from to on : ℕ) → to * w ≤ c → low ≤ start + from →
       start + to ≤ high → cond front (start + from) (start + to) ≡ cond front low high →
       PassesOver front w (ones_or_zeros ones (big x)) from to on →

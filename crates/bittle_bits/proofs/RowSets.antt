@@ -12,7 +12,7 @@ use Rattle.bittle_bits.specs.Rows.{at_element, row_has, row_set}
 use Rattle.bittle_bits.proofs.PlaceLemmas.{place_part, place_below, place_past}
 use Rattle.bittle_bits.proofs.PlainSets.{plain_set}
 
--- the test at a place of the row is that of the element read there
+-- the test at a place of the row is the test of the element read there
 pub at_element-read : {X : Type 0} (p : X → Bool) (xs : List X) (n : ℕ) (x : X) → n < length xs →
     x ≡ get_or xs n x → at_element p xs n ≡ p x
 unfolding at_element
@@ -20,7 +20,7 @@ at_element-read p [] n x h e = absurd (omega arith)
 at_element-read p (y ∷ xs) zero x h e = ap p (sym e)
 at_element-read p (y ∷ xs) (suc n) x h e = at_element-read p xs n x (omega arith) e
 
--- the test at the place of a write is that of the element written
+-- the test at the place of a write is the test of the written element
 pub at_element-set_same : {X : Type 0} (p : X → Bool) (xs : List X) (n : ℕ) (y : X) →
     n < length xs → at_element p (set xs n y) n ≡ p y
 unfolding at_element
@@ -28,7 +28,7 @@ at_element-set_same p [] n y h = absurd (omega arith)
 at_element-set_same p (x ∷ xs) zero y h = refl
 at_element-set_same p (x ∷ xs) (suc n) y h = at_element-set_same p xs n y (omega arith)
 
--- the test at any other place than that of a write stays as it was
+-- the test at any other place stays as it was before a write
 pub at_element-set_other : {X : Type 0} (p : X → Bool) (xs : List X) (n k : ℕ) (y : X) → k ≢ n →
     at_element p (set xs n y) k ≡ at_element p xs k
 unfolding at_element
@@ -39,7 +39,7 @@ at_element-set_other p (x ∷ xs) (suc n) zero y h = refl
 at_element-set_other p (x ∷ xs) (suc n) (suc k) y h = at_element-set_other p xs n k y
     (λ e. h (ap suc e))
 
--- an index of the row is a member exactly where it is one of its element
+-- an index of the row is a member exactly if the index in its element is a member
 pub elements_has_at : {X : Type 0} (n c : ℕ) (f : X → ℕ → Bool) (xs : List X) (q r : ℕ) → q < n →
     r < c → row_has n c f xs (q * c + r) ≡ at_element (λ x. f x r) xs q
 unfolding row_has
@@ -48,7 +48,7 @@ elements_has_at n c f xs q r h l =
     let t : nat_lt (q * c + r) (n * c) ≡ true = lt-ltb (q * c + r) (n * c) (omega arith) in
     rw (t, mod-mul-add q c r l, div-mul-add q c r l)
 
--- each number below the capacity, by its element and its index there
+-- a property holds of each number below the capacity if it holds of each index of each element
 pub by_place : (n c : ℕ) (P : ℕ → Type 0) → ((q r : ℕ) → q < n → r < c → P (q * c + r)) → (k : ℕ) →
     k < n * c → P k
 by_place n c P f k h =
@@ -70,7 +70,7 @@ module _ (m : Bool) (w d c n : ℕ) (word : 0 < w) (whole : c ≡ d * w) where
       let b : n * d * w ≤ k = omega arith in
       omega (arith, place_past m w (n * d) k word b)
 
-  -- the members of a row are those of its elements
+  -- the members of a row in an order are those of its elements in that order
   pub elements_placed : {X : Type 0} (f : X → ℕ → Bool) (xs : List X) →
       (λ k. row_has n c f xs (place m w k)) ≡ row_has n c (λ x k. f x (place m w k)) xs
   elements_placed f xs = fun_ext λ k.
@@ -99,7 +99,7 @@ row_has-none n c f xs h = fun_ext λ i.
     ap (λ t. nat_lt i (n * c) && t) (at_element-none (λ x. f x (i % c)) xs (i / c)
     (λ k d l. ap (λ s. s (i % c)) (h k d l))) ∙ and_right (nat_lt i (n * c)) false refl
 
--- a row whose elements have no members is the emptied row
+-- a row is the cleared row if its elements have no members
 pub elements_without_members : {X : Type 0} (n old c : ℕ) (big : X → PlainSet) (xs ys : List X) →
     n ≡ old → ((k : ℕ) (d : X) → k < length xs → (big (get_or xs k d)).has ≡ (λ _. false)) →
     row_set n c big xs ≡ without_members (row_set old c big ys)
@@ -114,7 +114,7 @@ row_set-replicate n c big x e = ap (plain_set (n * c))
     (λ k d l. ap (λ y. (big y).has) (get_or-replicate n k x d (let y = length-replicate n x in
     omega arith)) ∙ ap (λ s. s.has) e))
 
--- a row of filled elements is filled
+-- a row of full elements is full
 pub row_set-full : {X : Type 0} (n c : ℕ) (big : X → PlainSet) (x : X) → big x ≡ full_set c →
     row_set n c big (replicate n x) ≡ full_set (n * c)
 row_set-full n c big x e =

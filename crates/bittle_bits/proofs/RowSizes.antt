@@ -91,19 +91,19 @@ module _ {X : Type 0} (c : ℕ) (big : X → PlainSet) (xs : List X) (owned : (x
       total ≡ size (row_set (length xs) c big xs)
   row_count_all i total l t = t ∙ ap (sum_by (λ x. size (big x))) (take_all i xs l) ∙ sym row_total
 
-  -- a row whose elements all have one size has it once for each element
+  -- if all elements have one size, the size of the row is that size times their number
   row_each : (v : ℕ) → ((k : ℕ) (d : X) → k < length xs → size (big (get_or xs k d)) ≡ v) →
       size (row_set (length xs) c big xs) ≡ length xs * v
   row_each v h = row_total ∙ sum_by-all (λ x. size (big x)) v xs h
 
-  -- a row has a member where one of its elements has one
+  -- a row has a member if one of its elements has one
   row_some : (i : ℕ) (x : X) → x ≡ get_or xs i x → i < length xs → size (big x) ≢ 0 →
       size (row_set (length xs) c big xs) ≢ 0
   row_some i x at l n z =
       let e : size (big x) ≡ size (big (get_or xs i x)) = ap (λ y. size (big y)) at in
       n (omega (arith, e, sum_by_more_le (λ x. size (big x)) xs i x l, row_total))
 
-  -- a row is not full where one of its elements is not
+  -- a row is not full if one of its elements is not full
   row_lacks : (i : ℕ) (x : X) → x ≡ get_or xs i x → i < length xs →
       size (big x) ≢ (big x).capacity → size (row_set (length xs) c big xs) ≢ length xs * c
   row_lacks i x at l n z =
@@ -112,36 +112,36 @@ module _ {X : Type 0} (c : ℕ) (big : X → PlainSet) (xs : List X) (owned : (x
       let t = sum_by-short (λ x. size (big x)) c xs i x each-le l b in
       omega (arith, row_total)
 
-  -- no element has a bit of the kind
+  -- if no element has a bit of the kind, the row has none
   pub row_without : (ones : Bool) →
       ((k : ℕ) (d : X) → k < length xs → size (big (get_or xs k d)) ≡ cond ones 0 c) →
       size (row_set (length xs) c big xs) ≡ cond ones 0 (length xs * c)
   row_without true h = row_each 0 h ∙ mul-zero _
   row_without false h = row_each c h
 
-  -- an element has a bit of the kind
+  -- if an element has a bit of the kind, the row has one
   pub row_with : (ones : Bool) (i : ℕ) (x : X) → x ≡ get_or xs i x → i < length xs →
       size (big x) ≢ cond ones 0 c →
       size (row_set (length xs) c big xs) ≢ cond ones 0 (length xs * c)
   row_with true i x at l n = row_some i x at l n
   row_with false i x at l n = row_lacks i x at l (λ e. n (e ∙ owned x))
 
-  -- one more element is asked whether it has a bit of the kind, and its answer is e
+  -- one more element is tested: e is whether it has no bit of the kind
   module _ (ones : Bool) (i : ℕ) (x : X) (at : x ≡ get_or xs i x) (l : i < length xs) (e : Bool)
       (is : e ≡ (size (big x) == cond ones 0 c)) where
-    -- it has none
+    -- if e is true, the element has none
     pub one_without : e ≡ true → (d : X) → size (big (get_or xs i d)) ≡ cond ones 0 c
     one_without all d = ap (λ y. size (big y)) (get_or_default xs i d x l ∙ sym at)
         ∙ eqb-true _ _ (sym is ∙ all)
 
-    -- it has one, and so has the row
+    -- if e is false, the row has one
     pub one_with : e ≡ false →
         (size (row_set (length xs) c big xs) == cond ones 0 (length xs * c)) ≡ false
     one_with some = ne_eqb _ _ (row_with ones i x at l (eqb-false _ _ (sym is ∙ some)))
 
-    -- where b says of those before it, from one on, that none has a bit of the kind
+    -- b is whether the elements before it, from `from` on, have no bit of the kind
     module _ (from : ℕ) (b : Bool) where
-      -- if both say so, none of them has one
+      -- if both are true, none of these elements has one
       pub part_without : (b ≡ true → (k : ℕ) (d : X) → from ≤ k → k < i →
           size (big (get_or xs k d)) ≡ cond ones 0 c) → (b && e) ≡ true → (k : ℕ) (d : X) →
           from ≤ k → k < i + 1 → size (big (get_or xs k d)) ≡ cond ones 0 c
@@ -152,14 +152,14 @@ module _ {X : Type 0} (c : ℕ) (big : X → PlainSet) (xs : List X) (owned : (x
             | inr n ↦ done parts.0 k d since (omega arith)
           ]
 
-      -- if one does not, the row has one
+      -- if either is false, the row has one
       pub part_with : (b ≡ false →
           (size (row_set (length xs) c big xs) == cond ones 0 (length xs * c)) ≡ false) →
           (b && e) ≡ false →
           (size (row_set (length xs) c big xs) == cond ones 0 (length xs * c)) ≡ false
       part_with before some = elim (and_cases b e some) [ inl y ↦ before y | inr n ↦ one_with n ]
 
-  -- the answer of all elements is that of the row
+  -- the answer for all elements is the answer for the row
   pub whole_without : (ones b : Bool) → (b ≡ true → (k : ℕ) (d : X) → 0 ≤ k → k < length xs →
       size (big (get_or xs k d)) ≡ cond ones 0 c) → (b ≡ false →
       (size (row_set (length xs) c big xs) == cond ones 0 (length xs * c)) ≡ false) →

@@ -12,7 +12,7 @@ use Rattle.bittle_bits.proofs.PlainSets.{plain_set}
 use Rattle.bittle_bits.proofs.RowSets.{at_element-read, at_element-set_same, at_element-set_other, elements_has_at, elements_placed, by_place}
 use Rattle.bittle_bits.proofs.Spans.{outside_span, inside_span}
 
--- rows: a span within one element
+-- a row after a change of a span within one element
 module _ {X : Type 0} (change : Bool → Bool) (m : Bool) (w c n q : ℕ) (big : X → PlainSet) (xs : List X) (x y : X)
     (word : 0 < w) (whole : (d : ℕ) × (c ≡ d * w)) (le : q < n) (all : n ≡ length xs)
     (at : x ≡ get_or xs q x) where
@@ -70,7 +70,7 @@ module _ {X : Type 0} (change : Bool → Bool) (m : Bool) (w c n q : ℕ) (big :
             inr (omega arith)
       ]
 
-  -- the element after a change of a span makes the row after it
+  -- if the element is changed by a span, the row is changed by that span
   pub row_changed : (from end : ℕ) → end ≤ c →
       read_in m w (big y) ≡ with_span_changed change (read_in m w (big x)) from end →
       row (set xs q y) ≡ spanned from end
@@ -89,7 +89,7 @@ module _ {X : Type 0} (change : Bool → Bool) (m : Bool) (w c n q : ℕ) (big :
             ∙ ap (λ f. f k) (placed xs) ∙ row_has-past n c test xs k g)
       ])
 
--- a row that holds some index has elements that hold one
+-- the elements of a row that has an index do not have capacity 0
 pub some_each : (to n c : ℕ) → 0 < to → to ≤ n * c → 0 < c
 some_each to n c h l = elim (cases_eq c 0)
     [ inl z ↦ absurd (let t : to ≤ n * 0 = rw z at l in omega arith) | inr s ↦ omega arith ]

@@ -1,4 +1,4 @@
--- Word k of a row of elements, which lies in one of them.
+-- Word k of a row of elements, which lies in one element.
 use Rattle.std.proofs.Common.{◌≡◌, ℕ, ◌+◌, ◌*◌, ◌/◌, ◌%◌, ◌<◌, ◌≢◌, ◌&&◌, nat_lt, inl, inr, List, length, length-set, get_or, set, refl, sym, ap, ◌∙◌, arith}
 use Rattle.std.proofs.Math.Path.{fun_ext}
 use Rattle.std.proofs.Math.Nat.{mul-div_left, div-add-mod', mod-eq_of_lt, mul_assoc, lt_of_mul-lt-mul_right, mul-lt-mul_of_pos_right}
@@ -13,7 +13,7 @@ use Rattle.bittle_bits.proofs.PlainSets.{plain_set}
 use Rattle.bittle_bits.proofs.RowSets.{elements_has_at, at_element-read}
 use Rattle.bittle_bits.proofs.Words.{word_ends}
 
--- an element of a row of some words has at least one
+-- if a row has a word, each element has at least one
 pub some_words : (n c w d k : ℕ) → c ≡ d * w → k * w < n * c → 0 < d
 some_words n c w d k whole within = elim (cases_eq d 0) [
   | inl z ↦
@@ -22,7 +22,7 @@ some_words n c w d k whole within = elim (cases_eq d 0) [
   | inr p ↦ omega arith
 ]
 
--- where the first index of word k goes, in a row of elements of d words
+-- the element and the index to which the first index of word k goes, if an element has d words
 pub word_goes : (n c w d k : ℕ) → 0 < w → c ≡ d * w → k * w < n * c →
     GoesTo n c (k * w) (k / d) (k % d * w)
 word_goes n c w d k word whole within =
@@ -47,7 +47,7 @@ module _ {X : Type 0} (n c w k q r : ℕ) (big : X → PlainSet) (xs : List X) (
   here : k * w ≡ q * c + r * w
   here = sym (mod-eq_of_lt within) ∙ goes.at
 
-  -- the word of the row is that of the element it lies in
+  -- word k of the row is the word of the element that it lies in
   pub row_word : (x : X) → n ≡ length xs → x ≡ get_or xs q x →
       word_of w (big x) r ≡ word_of w (row_set n c big xs) k
   unfolding word_has
@@ -64,7 +64,7 @@ module _ {X : Type 0} (n c w k q r : ℕ) (big : X → PlainSet) (xs : List X) (
         | inr g ↦ rw (le-ltb i w g) refl
       ])
 
--- an element with a word replaced makes the row with that word replaced
+-- if a word of an element is replaced, that word of the row is replaced
 module _ {X : Type 0} (n c w k q r : ℕ) (big : X → PlainSet) (xs : List X) (x y : X) (word : 0 < w)
     (whole : (d : ℕ) × (c ≡ d * w)) (within : k * w < n * c)
     (goes : GoesTo n c (k * w) q (r * w)) (all : n ≡ length xs) (at : x ≡ get_or xs q x) where

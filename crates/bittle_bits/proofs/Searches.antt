@@ -1,4 +1,4 @@
--- A search from an end, the front or the back, for a member between two numbers, word by word.
+-- A search for a member in a range, word by word, from the front or from the back.
 use Rattle.std.proofs.Common.{◌≡◌, ℕ, ◌+◌, ◌-◌, ◌*◌, ◌^◌, ◌<◌, ◌≤◌, ◌≢◌, ◌⊎◌, Bool, true, false, not, ◌&&◌, ◌||◌, ◌==◌, cond, nat_lt, inl, inr, Some, None, refl, sym, ap, ◌∙◌, arith, bit_and, bit_or}
 use Rattle.std.proofs.Math.Bool.{and_comm}
 use Rattle.std.proofs.Math.Nat.{mod-eq_of_lt, mul-le-mul_right}
@@ -22,7 +22,8 @@ abbrev NoneBefore : Bool → ℕ → PlainSet → ℕ → ℕ → ℕ → ℕ �
 NoneBefore true w t from to k r = NoneIn t from (k * w + r)
 NoneBefore false w t from to k r = NoneIn t (k * w + (w - r)) to
 
--- a search found no member before word k of words p to q, and seeks those of the pattern d in it
+-- a search found no member before word k of words p to q, and looks for those of the pattern d in
+-- word k
 pub record Searches (front m : Bool) (w : ℕ) (t : PlainSet) (from to p q k d : ℕ) : Type 0 where
   pub first : p ≤ k
   pub last : k ≤ q
@@ -30,14 +31,14 @@ pub record Searches (front m : Bool) (w : ℕ) (t : PlainSet) (from to p q k d :
   pub seeks : (i : ℕ) → i < w →
       (read_in m w (bit_set w d)).has i ≡ is_ahead front from to (k * w + i) && t.has (k * w + i)
 
--- a place of a word is below another where its number is
+-- a comparison stays the same if both numbers are moved by a base
 lt_moved : (base i n : ℕ) → nat_lt i n ≡ nat_lt (base + i) (base + n)
 lt_moved base i n = elim (cases_lt i n) [
   | inl l ↦ lt-ltb i n l ∙ sym (lt-ltb (base + i) (base + n) (omega arith))
   | inr g ↦ le-ltb i n g ∙ sym (le-ltb (base + i) (base + n) (omega arith))
 ]
 
--- the indexes of a word up to one are those that are not from it on, and itself
+-- the indexes of a word up to `at` are those that are not from `at` on, and `at` itself
 pub mask_up_to : (m : Bool) (w e n o at : ℕ) → 0 < w → at < w →
     read_in m w (bit_set w e) ≡ full_set_from w at → e < 2 ^ w → n ≡ 2 ^ w - 1 - e →
     read_in m w (bit_set w o) ≡ with_index (empty_set w) at → (i : ℕ) → i < w →
@@ -78,7 +79,7 @@ module _ (ones m : Bool) (w : ℕ) (big : PlainSet) (word : 0 < w)
   abbrev t : PlainSet
   t = ones_or_zeros ones (read_in m w big)
 
-  -- a word between the first and the last one of the range has a number of it
+  -- a word between the first and the last word of the range has a number of the range
   pub word_within : (k : ℕ) → p ≤ k → k ≤ q → (from < k * w + w) × (k * w < to)
   word_within k lo hi =
       let after = mul-le-mul_right w lo in
@@ -91,7 +92,7 @@ module _ (ones m : Bool) (w : ℕ) (big : PlainSet) (word : 0 < w)
   has_at k d i is h = digit_at m w k s d word is i h
       ∙ sym (ap (λ t. t.has (k * w + i)) (ones_or_zeros-members ones m w big word whole))
 
-  -- it begins at the word that holds the number at the end, masked from its place on
+  -- the search begins at the word of the number at the end, masked from the number's place on
   pub search_start : (front : Bool) (k o d e : ℕ) → k ≡ cond front p q → o ≡ cond front i j →
       bit_set w d ≡ word_of w s k →
       ((n : ℕ) → n < w → (read_in m w (bit_set w e)).has n ≡ is_ahead front o (o + 1) n) →
@@ -125,9 +126,9 @@ module _ (ones m : Bool) (w : ℕ) (big : PlainSet) (word : 0 < w)
             λ n. lt_moved (k * w) n (o + 1) ∙ ap (nat_lt (k * w + n)) ends,
           )
 
-  -- word k, of which the search seeks the members of d
+  -- word k, in which the search looks for the members of d
   module _ (front : Bool) (k d : ℕ) (h : Searches front m w t from to p q k d) where
-    -- a number of it that is ahead, and is no member of d, is none
+    -- a number of word k that is ahead and not a member of d is not a member of the set
     passed : (j : ℕ) → k * w ≤ j → j < k * w + w →
         (read_in m w (bit_set w d)).has (j - k * w) ≡ false → is_ahead front from to j ≡ true →
         t.has j ≡ false
@@ -135,7 +136,7 @@ module _ (ones m : Bool) (w : ℕ) (big : PlainSet) (word : 0 < w)
         let back : k * w + (j - k * w) ≡ j = omega arith in
         rw within at (rw back at (sym (h.seeks (j - k * w) (omega arith)) ∙ none))
 
-  -- before the member of d at the end none is a member
+  -- no number before the member of d at the end is a member
   none_up_to : (front : Bool) (k d r : ℕ) → Searches front m w t from to p q k d →
       IsEndMember front (read_in m w (bit_set w d)) r → NoneBefore front w t from to k r
   none_up_to true k d r h least = λ j lo hi.
@@ -156,8 +157,7 @@ module _ (ones m : Bool) (w : ℕ) (big : PlainSet) (word : 0 < w)
         | inr g ↦ h.none j (omega arith) hi
       ]
 
-  -- where the word has no member that is sought, the search goes on at the next one that is not
-  -- passed over
+  -- if d has no member, the search goes on at the next word that is not passed over
   pub search_next : (front : Bool) (k d r next e : ℕ) →
       IsNextWord front w t p q k (Some next) → Searches front m w t from to p q k d →
       IsEndMember front (read_in m w (bit_set w d)) r → r ≡ w → bit_set w e ≡ word_of w s next →
@@ -198,7 +198,7 @@ module _ (ones m : Bool) (w : ℕ) (big : PlainSet) (word : 0 < w)
             λ i l. lt-ltb (next * w + i) to (omega (arith, high, begins)),
           )
 
-  -- the member at the end is that of the range, where it is not past the other end of it
+  -- the member of d at the end is that of the range, if it is not past the range's other end
   pub search_found : (front : Bool) (k d r : ℕ) → Searches front m w t from to p q k d →
       IsEndMember front (read_in m w (bit_set w d)) r → r ≢ w →
       let o = k * w + cond front r (w - 1 - r) in
@@ -220,7 +220,7 @@ module _ (ones m : Bool) (w : ℕ) (big : PlainSet) (word : 0 < w)
       let next : k * w + (w - r) ≡ o + 1 = omega arith in
       (inside, ltb-true o to both.0, both.1, rw next at (none_up_to false k d r h greatest))
 
-  -- where it is past the other end, the range has no member
+  -- if that member is past the other end, the range has no member
   pub search_past : (front : Bool) (k d r : ℕ) → Searches front m w t from to p q k d →
       IsEndMember front (read_in m w (bit_set w d)) r → r ≢ w →
       let o = k * w + cond front r (w - 1 - r) in
@@ -230,7 +230,7 @@ module _ (ones m : Bool) (w : ℕ) (big : PlainSet) (word : 0 < w)
   search_past false k d r h greatest other past = λ j lo hi. none_up_to false k d r h greatest j
       (omega (arith, past, greatest.within, other)) hi
 
-  -- nor has it one where no word after one without a member that is sought has one
+  -- if d has no member, and no word after word k has one, the range has no member
   pub search_ended : (front : Bool) (k d r : ℕ) → IsNextWord front w t p q k None →
       Searches front m w t from to p q k d →
       IsEndMember front (read_in m w (bit_set w d)) r → r ≡ w → IsEndIn front t from to None

@@ -9,13 +9,13 @@ use Rattle.bittle_bits.specs.SetOperations.{combination_has, combination_of}
 use Rattle.bittle_bits.proofs.PlaceLemmas.{place_inside}
 use Rattle.bittle_bits.proofs.PlainSets.{plain_set}
 
--- a number below both capacities is decided
+-- an operation decides a number below both capacities
 pub combination-below : (f : Bool → Bool → Bool) (s t : PlainSet) (k : ℕ) → k < s.capacity →
     k < t.capacity → combination_has f s t k ≡ f (s.has k) (t.has k)
 unfolding combination_has
 combination-below f s t k h l = rw (lt-ltb k s.capacity h, lt-ltb k t.capacity l) refl
 
--- any other stays as it was
+-- a number from the second set's capacity on stays as it was
 pub combination-past : (f : Bool → Bool → Bool) (s t : PlainSet) (k : ℕ) → t.capacity ≤ k →
     combination_has f s t k ≡ s.has k
 unfolding combination_has

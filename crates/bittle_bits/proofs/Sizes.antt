@@ -5,7 +5,7 @@ use Rattle.bittle_bits.specs.Orders.{read_in}
 use Rattle.bittle_bits.specs.PlainSet.{PlainSet, size, lacks, complement}
 use Rattle.bittle_bits.proofs.Counts.{count-same, count-le, count-placed, count-others}
 
--- ones and zeros together are the capacity
+-- the members and the other numbers below the capacity are together as many as the capacity
 pub size-complement : (s : PlainSet) → size (complement s) + size s ≡ s.capacity
 unfolding lacks
 size-complement s =
@@ -13,12 +13,12 @@ size-complement s =
     (λ k l. ap (λ b. b && not (s.has k)) (lt-ltb k s.capacity l)))
     ∙ count-others s.capacity s.has
 
--- each order has as many members, in a capacity of whole words
+-- with a capacity of whole words, the size is the same in each order
 pub size-members : (m : Bool) (w : ℕ) (s : PlainSet) → 0 < w →
     (words : ℕ) × (s.capacity ≡ words * w) → size (read_in m w s) ≡ size s
 size-members m w s h whole = rw (whole.1) (count-placed m w whole.0 s.has h)
 
--- what is known of the size in big-endian order is known of it in each order
+-- what holds of the size in big-endian order holds of it in each order
 pub size_in_each_order : {A : Type 0} (w : ℕ) (s : PlainSet) (f : ℕ → A) (r : A) → 0 < w →
     (words : ℕ) × (s.capacity ≡ words * w) → r ≡ f (size s) → (m : Bool) →
     r ≡ f (size (read_in m w s))
@@ -28,6 +28,6 @@ size_in_each_order w s f r h whole is m = is ∙ ap f (sym (size-members m w s h
 pub size-le : (s : PlainSet) → size s ≤ s.capacity
 size-le s = count-le s.capacity s.has
 
--- a number that is the size is no more than the capacity
+-- a number that is the size is at most the capacity
 pub size-most : (s : PlainSet) (n : ℕ) → n ≡ size s → n ≤ s.capacity
 size-most s n e = omega (arith, size-le s)

@@ -28,14 +28,14 @@ span-none c from end h =
       | inr g ↦ is_in_span-outside from end k (inr (omega arith))
     ])
 
--- changes that do the same to a member and to a number that is none are one
+-- changes that do the same to members, and the same to other numbers, are equal
 pub change-same : (f g : Bool → Bool) → f true ≡ g true → f false ≡ g false →
     (s : PlainSet) (from end : ℕ) → with_span_changed f s from end ≡ with_span_changed g s from end
 change-same f g at_true at_false s from end =
     ap (λ h. with_span_changed h s from end) (fun_ext λ b. elim b as (λ b. f b ≡ g b) [ true ↦ at_true | false ↦ at_false ])
 
 module _ (change : Bool → Bool) (s : PlainSet) where
-  -- a number outside the span is a member where it was one
+  -- a number outside the span is a member exactly if it was one
   pub outside_span : (from end k : ℕ) → (k < from) ⊎ (end ≤ k) →
       has_changed change s from end k ≡ s.has k
   unfolding has_changed
@@ -55,7 +55,7 @@ module _ (change : Bool → Bool) (s : PlainSet) where
         | inr g ↦ outside_span from end k (inr (omega arith))
       ])
 
--- two spans, of which the second begins where the first ends, are one
+-- two spans are one span if the second begins where the first ends
 pub changed-on : (change : Bool → Bool) (s : PlainSet) (from mid end : ℕ) → from ≤ mid →
     mid ≤ end → with_span_changed change (with_span_changed change s from mid) mid end
     ≡ with_span_changed change s from end
@@ -78,7 +78,8 @@ changed-on change s from mid end h l =
       ]
     ])
 
--- an operation with the set of a span, which leaves any other number as it was, changes the span
+-- an operation with the set of a span changes the span, if it leaves the numbers that the second
+-- set lacks as they were
 pub combined_with_span : (f : Bool → Bool → Bool) → ((b : Bool) → f b false ≡ b) →
     (s : PlainSet) (from end : ℕ) → end ≤ s.capacity →
     combination_of f s (span_set s.capacity from end)
@@ -103,7 +104,7 @@ combined_with_span f keeps s from end h =
           ∙ sym (outside_span change s from end k (inr (omega arith)))
     ])
 
--- one more index of a span, that an index goes to by wrapping
+-- a span with one more index, which another index wraps to
 pub with_span-more : (s : PlainSet) (from end i : ℕ) → 0 < s.capacity → i % s.capacity ≡ end →
     from ≤ end → with_index (with_span s from end) i ≡ with_span s from (end + 1)
 with_span-more s from end i some at h =
@@ -126,9 +127,9 @@ with_span-more s from end i some at h =
       ])
     ])
 
--- words
+-- spans of one word
 module _ (m : Bool) (w : ℕ) (word : 0 < w) where
-  -- the word of the indexes from one on, without those from an end on, is the word of the span
+  -- the word of the indexes from `from` on, without those from `end` on, is the word of the span
   pub span_word : (from end d e f r : ℕ) → from < end → end < w →
       read_in m w (bit_set w d) ≡ full_set_from w from →
       read_in m w (bit_set w e) ≡ full_set_from w end → e < 2 ^ w → f ≡ 2 ^ w - 1 - e →
@@ -157,7 +158,7 @@ module _ (m : Bool) (w : ℕ) (word : 0 < w) where
             ]
           ]
 
-  -- the word of the indexes from one on is that of the span up to the width
+  -- the word of the indexes from `from` on is the word of the span up to the width
   pub span_to_width : (from d : ℕ) → read_in m w (bit_set w d) ≡ full_set_from w from →
       read_in m w (bit_set w d) ≡ span_set w from w
   span_to_width from d is =
@@ -166,7 +167,7 @@ module _ (m : Bool) (w : ℕ) (word : 0 < w) where
         | inr c ↦ rw (le-ltb k from c, le-leb from k c) (and-true (nat_lt k w))
       ])
 
-  -- a word combined with the word of a span has the set with the span changed
+  -- combining a word with the word of a span changes the span
   pub word_changed : (f : Bool → Bool → Bool) → ((b : Bool) → f b false ≡ b) →
       (from end d e r : ℕ) → end ≤ w → read_in m w (bit_set w e) ≡ span_set w from end →
       bit_set w r ≡ combination_of f (bit_set w d) (bit_set w e) →

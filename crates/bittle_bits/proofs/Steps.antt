@@ -1,5 +1,5 @@
--- The parts of a walk's step, from the front or from the back: a scan of the word at the other end,
--- and a word that is fetched.
+-- The parts of an iterator's step from the front or from the back: a scan of the word at the other
+-- end, a fetch of a word, and words that are passed over.
 use Rattle.std.proofs.Common.{◌≡◌, ℕ, ◌+◌, ◌-◌, ◌*◌, ◌<◌, ◌≤◌, Bool, true, false, not, cond, List, ◌++◌, Option, Some, None, refl, sym, ap, ◌∙◌, subst, arith, append_assoc, append-nil, le_trans}
 use Rattle.std.proofs.lemmas.Bool.{true≢false}
 use Rattle.std.proofs.Math.Nat.{mul-le-mul_right}
@@ -13,7 +13,7 @@ use Rattle.bittle_bits.specs.Walk.{Walk, Seeks, Steps, count_after}
 use Rattle.bittle_bits.specs.declared.internal.cursor.Cursor.{Cursor}
 use Rattle.bittle_bits.proofs.Items.{members_between-split, members_between-none, members_between-empty}
 
--- scans that yielded nothing, and others after them, are together scans that yielded nothing
+-- two parts of a step that yielded nothing are together one that yielded nothing
 pub seeks_on : {u v w : Walk} → Seeks u v → Seeks v w → Seeks u w
 seeks_on a b = record {
   remaining = b.remaining ∙ a.remaining;
@@ -25,7 +25,7 @@ seeks_on a b = record {
   words = b.words ∙ a.words;
 }
 
--- a step after scans that yielded nothing
+-- a step after a part that yielded nothing is a step from before that part
 pub steps_on : {u v w : Walk} {r : Option ℕ} (front : Bool) → Seeks u v →
     Steps (YieldsFrom front (λ w. w.remaining)) v r w →
     Steps (YieldsFrom front (λ w. w.remaining)) u r w
@@ -40,25 +40,26 @@ steps_on {w} {r} front a b = record {
   bounded = b.bounded;
 }
 
--- a step that gave an item counts one more
+-- a step that yielded an item counts one more
 pub counts_on : (n : ℕ) (r : Option ℕ) → is_some r ≡ true → n + 1 ≡ count_after n r
 counts_on n None e = absurd (true≢false (sym e))
 counts_on n (Some x) e = refl
 
--- and one that gave none counts none
+-- a step that yielded no item counts no more
 pub counts_none : (n : ℕ) (r : Option ℕ) → is_some r ≡ false → n ≡ count_after n r
 counts_none n None e = refl
 counts_none n (Some x) e = absurd (true≢false e)
 
 -- ---- the scans
 
--- either buffered word is one of the two
+-- a buffer at an end counts at most as much as both
 one_of_two : (front : Bool) (b : BufferPair) →
     buffer_count (buffer_of front b) ≤ buffer_count b.head + buffer_count b.tail
 one_of_two true b = omega arith
 one_of_two false b = omega arith
 
--- with no word between and none loaded at an end, what is left is that of the word at the other
+-- with no word between and none loaded at an end, what remains are the items of the word at the
+-- other end
 across_left : {B E W : Type 0} (s : PlainSet) (w : ℕ) (front : Bool) (t : Cursor B E W) →
     t.low ≡ t.high → buffer_of front t.buffers ≡ None →
     items_left_in s w t ≡ items_in (buffer_of (not front) t.buffers)
@@ -67,8 +68,8 @@ across_left s w true t b e = rw (e, b, members_between-empty s (t.high * w)) ref
 across_left s w false t b e =
     rw (e, b, members_between-empty s (t.high * w)) (append-nil _)
 
--- with no word between and none loaded at an end, the word at the other end is scanned, and an item
--- that it gave is counted
+-- no word is between and none is loaded at an end; the word at the other end is scanned, and an
+-- item that the scan yields is counted
 pub record ScansAcross {B E W : Type 0} (front : Bool) (t : Cursor B E W) (r : Option ℕ)
     (c : BufferPair) (i : ℕ) : Type 0 where
   pub none_between : t.low ≡ t.high
@@ -83,7 +84,7 @@ module _ {B E W : Type 0} (front : Bool) (t : Cursor B E W) (c : BufferPair) (i 
   abbrev scanned : Cursor B E W
   scanned = record { buffers = c; low = t.low; high = t.high; items = i; passed = t.passed }
 
-  -- what it gives is at this end of what is left
+  -- the item that the scan yields is at this end of what remains
   gives : (s : PlainSet) (w : ℕ) (r : Option ℕ) → ScansAcross front t r c i →
       YieldsFrom front (λ (xs : List ℕ). xs) (items_left_in s w t) r (items_left_in s w scanned)
   gives s w r scan = by r scan.found
@@ -101,7 +102,7 @@ module _ {B E W : Type 0} (front : Bool) (t : Cursor B E W) (c : BufferPair) (i 
       by (Some x) f =
           before ∙ ap items_in f.1 ∙ ap (with_end front x) (sym (after ∙ ap items_in f.2))
 
-  -- each item has had its scan
+  -- there are at least as many scans as items
   has_scans : (words : ℕ) (r : Option ℕ) → IsCounted words t → ScansAcross front t r c i →
       (i ≤ c.scans) × (t.items ≤ i)
   has_scans words None counted scan =
@@ -111,7 +112,7 @@ module _ {B E W : Type 0} (front : Bool) (t : Cursor B E W) (c : BufferPair) (i 
     omega (arith, scan.items),
   )
 
-  -- it is a step
+  -- such a scan is a step
   pub across : (s : PlainSet) (words w : ℕ) (r : Option ℕ) → IsCounted words t →
       ScansAcross front t r c i → Steps (YieldsFrom front (λ w. w.remaining))
       (walk_of s words w t) r (walk_of s words w scanned)
@@ -134,8 +135,8 @@ module _ {B E W : Type 0} (front : Bool) (t : Cursor B E W) (c : BufferPair) (i 
 
 -- ---- the fetches
 
--- a word that is fetched for an end that has none loaded is loaded there, or it has no item and is
--- passed over, which was its scan
+-- a word is fetched for an end with no word loaded; it is loaded there, or it has no item and the
+-- test was its scan
 pub record Fetches (front : Bool) (xs : List ℕ) (b c : BufferPair) : Type 0 where
   pub none : buffer_of front b ≡ None
   pub items : items_in (buffer_of front c) ≡ xs
@@ -145,7 +146,7 @@ pub record Fetches (front : Bool) (xs : List ℕ) (b c : BufferPair) : Type 0 wh
   pub fetches : c.fetches ≡ b.fetches + 1
 
 module _ (xs : List ℕ) (b c : BufferPair) where
-  -- a word that was looked for is fetched so
+  -- `refill` fetches a word in this way
   pub filled : (front found : Bool) → buffer_of front b ≡ None → Refills front xs found b c →
       Fetches front xs b c
   filled true true none e = rw e.1 (grind arith)
@@ -153,14 +154,14 @@ module _ (xs : List ℕ) (b c : BufferPair) where
   filled false true none e = rw e.1 (grind arith)
   filled false false none e = rw e.1 (grind arith)
 
-  -- where it had no item, none is loaded there after it either
+  -- if the word had no item, no word is loaded there afterwards
   pub passed_over : (front found : Bool) → buffer_of front b ≡ None → Refills front xs found b c →
       found ≡ false → buffer_of front c ≡ None
   passed_over front true none e f = absurd (true≢false f)
   passed_over true false none e f = rw e.1 none
   passed_over false false none e f = rw e.1 none
 
-  -- it counts once, as a scan or as a loaded word
+  -- the word counts once, as a scan or as a loaded word
   once_more : (front : Bool) → Fetches front xs b c →
       c.scans + buffer_count c.head + buffer_count c.tail
       ≡ b.scans + buffer_count b.head + buffer_count b.tail + 1
@@ -184,14 +185,14 @@ module _ {B E W : Type 0} (s : PlainSet) (words w : ℕ) where
     passed = t.passed;
   }
 
-  -- one word less is between
+  -- one word fewer is between
   one_less : (front : Bool) (t : Cursor B E W) (c : BufferPair) → t.low < t.high →
       let u = after_next front t c in
       (u.low ≤ u.high) × (u.high ≤ t.high) × (u.high - u.low + 1 ≡ t.high - t.low)
   one_less true t c some = (omega arith, omega arith, omega arith)
   one_less false t c some = (omega arith, omega arith, omega arith)
 
-  -- what is left stays
+  -- what remains stays the same
   same_left : (front : Bool) (t : Cursor B E W) (c : BufferPair) → t.low < t.high →
       Fetches front (next_members front t) t.buffers c →
       items_left_in s w (after_next front t c) ≡ items_left_in s w t
@@ -213,7 +214,7 @@ module _ {B E W : Type 0} (s : PlainSet) (words w : ℕ) where
       (sym (members_between-split s (t.low * w) ((t.high - 1) * w) ((t.high - 1) * w + w) up
       (omega arith)) ∙ sym (append-nil (members_between s (t.low * w) ((t.high - 1) * w + w)))))
 
-  -- so the walk yielded nothing by it, and counts as before
+  -- so the iterator yielded nothing, and `IsCounted` still holds
   pub fetched : (front : Bool) (t : Cursor B E W) (c : BufferPair) →
       IsCounted words t → t.low < t.high → Fetches front (next_members front t) t.buffers c →
       let u = after_next front t c in
@@ -266,7 +267,7 @@ module _ {B E W : Type 0} (s : PlainSet) (words w : ℕ) where
       ∙ ap (λ xs. members_between s (t.low * w) (on * w) ++ xs)
       (members_between-none s (on * w) (t.high * w) p.2) ∙ append-nil _)
 
-  -- so many fewer words are between
+  -- the words that are passed over are no longer between
   fewer : (front : Bool) (t : Cursor B E W) (on : ℕ) → t.high ≤ words →
       PassesOver front w s t.low t.high on → let u = moved_to front t on in
       (u.low ≤ u.high) × (u.high ≤ words) × (t.passed ≤ u.passed)
@@ -276,7 +277,7 @@ module _ {B E W : Type 0} (s : PlainSet) (words w : ℕ) where
   fewer false t on within p =
       (p.0, omega (arith, p.1), omega arith, omega (arith, p.0, p.1))
 
-  -- they may be passed over
+  -- so passing over these words yields nothing, and `IsCounted` still holds
   pub moved_past : (front : Bool) (t : Cursor B E W) (on : ℕ) → IsCounted words t →
       PassesOver front w s t.low t.high on → let u = moved_to front t on in
       Seeks (walk_of s words w t) (walk_of s words w u) × IsCounted words u

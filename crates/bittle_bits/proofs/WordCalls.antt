@@ -1,4 +1,4 @@
--- The calls on one index of a word, by a mask whose one member it is.
+-- The calls on one index of a word, by a mask whose only member is that index.
 use Rattle.std.proofs.Common.{◌≡◌, ℕ, ◌-◌, ◌%◌, ◌^◌, ◌<◌, Bool, true, not, ◌&&◌, ◌||◌, ◌==◌, nat_lt, ◌⊎◌, inl, inr, refl, sym, ap, ◌∙◌, arith, bit_and, bit_or}
 use Rattle.std.proofs.Math.Bool.{and-true, or-false, or_comm}
 use Rattle.std.proofs.Math.Path.{fun_ext}
@@ -12,7 +12,7 @@ use Rattle.bittle_bits.proofs.BitSets.{bit_has-and, bit_has-or, bit_has-not, bit
 use Rattle.bittle_bits.proofs.PlaceLemmas.{place_eq, place_in_word, place-place, mirror_in_word}
 use Rattle.bittle_bits.proofs.PlainSets.{plain_set, contains_in, has_with-in, with_in, without_in}
 
--- the word whose one set bit is at the index's place
+-- the mask has one set bit, at the place of the index
 pub mask_set : (m : Bool) (w i d : ℕ) → 0 < w → d ≡ 2 ^ place m w (i % w) →
     read_in m w (bit_set w d) ≡ with_index (empty_set w) i
 mask_set m w i d h is =
@@ -29,7 +29,7 @@ mirrored_mask w i d h is = mask_set true w i d h
 
 module _ (m : Bool) (w d e i : ℕ) (h : 0 < w)
     (one : read_in m w (bit_set w e) ≡ with_index (empty_set w) i) where
-  -- the mask's one member
+  -- the only member of the mask
   mask_has : ◌≡◌ {A = ℕ → Bool} (λ k. bit_has w e (place m w k)) (λ k. k == i % w)
   mask_has = ap (λ s. s.has) one ∙ has_with-in (empty_set w) w i refl h
       ∙ fun_ext λ k. or-false (k == i % w)
@@ -71,7 +71,7 @@ module _ (m : Bool) (w d e i : ℕ) (h : 0 < w)
   here = shared (i % w) ∙ ap (λ b. bit_has w d (place m w (i % w)) && b)
       (eq-eqb (i % w) (i % w) refl) ∙ and-true _
 
-  -- the and with the mask is not 0 exactly where the index is a member
+  -- the and with the mask is not 0 exactly if the index is a member
   pub word_tested : bit_and d e < 2 ^ w →
       not (bit_and d e == 0) ≡ contains (read_in m w (bit_set w d)) i
   word_tested fits = by (cases_eq (bit_and d e) 0)
@@ -94,7 +94,7 @@ module _ (m : Bool) (w d e i : ℕ) (h : 0 < w)
       by (inr n) = let t = some_digit w (bit_and d e) fits n in
           ap not (ne_eqb _ _ n) ∙ found t.0 t.1
 
--- the and with the inverted word of one bit clears the index of which that is the place
+-- the and with the inverted mask of a place clears the index of that place
 pub place_cleared : (m : Bool) (w d e mask p : ℕ) → p < w → e ≡ 2 ^ p → e < 2 ^ w →
     mask ≡ 2 ^ w - 1 - e → read_in m w (bit_set w (bit_and d mask))
     ≡ without_index (read_in m w (bit_set w d)) (place m w p)

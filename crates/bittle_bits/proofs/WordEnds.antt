@@ -20,7 +20,7 @@ use Rattle.bittle_bits.proofs.PlainSets.{plain_set, without_in, complement-membe
 use Rattle.bittle_bits.proofs.WordCalls.{place_cleared}
 use Rattle.bittle_bits.proofs.WordSizes.{none_listed}
 
--- the bits below the least set one are 0, and it is 1
+-- bit r is the least set bit: it is 1, and the bits below it are 0
 record Lowest (k d r : ℕ) : Type 0 where
   below : (i : ℕ) → i < r → bit_at d i ≡ 0
   there : r < k → bit_at d r ≡ 1
@@ -45,7 +45,7 @@ lowest (suc k) d = by (lowest k (d / 2)) (cases_eq (d % 2) 0)
         let e : d % 2 ≡ 1 = omega (arith, mod_below d 2 (omega arith)) in
         rw e (record { below = λ i h. absurd (omega arith); there = λ h. bit_at_lowest d ∙ e })
 
--- the one set bit of a power of two is its exponent's
+-- the trailing zeros of a power of two are its exponent
 pub trailing_of_pow : (k n : ℕ) → n < k → count_trailing_zeros k (2 ^ n) ≡ n
 trailing_of_pow k n within =
     let r = count_trailing_zeros k (2 ^ n) in
@@ -69,7 +69,7 @@ least_digit w d =
       is_member = λ h. bit_has-at w d r h ∙ eq-eqb (bit_at d r) 1 (at.there h);
     }
 
--- the leading zeros of a word are how far its greatest set bit lies below the last
+-- the leading zeros of a word are how far its greatest set bit lies below its last bit
 pub greatest_digit : (w d : ℕ) → d < 2 ^ w →
     IsGreatestMember (bit_set w d) (count_leading_zeros w d)
 greatest_digit w d fits = by (cases_eq d 0)
@@ -97,9 +97,9 @@ greatest_digit w d fits = by (cases_eq d 0)
               ∙ eq-eqb (bit_at d j) 1 (top_digit j d t.2 t.3));
         }
 
--- within one word the mirrored set has the ends the other way round
+-- within one word, mirroring exchanges the two ends
 module _ (w r : ℕ) (p : ℕ → Bool) where
-  -- how far the greatest member lies below the last number is the least one mirrored
+  -- how far the greatest member lies below the last number is the least member of the mirrored set
   pub mirrored_least : IsGreatestMember (plain_set w p) r →
       IsLeastMember (read_in true w (plain_set w p)) r
   mirrored_least h = record {
@@ -109,7 +109,7 @@ module _ (w r : ℕ) (p : ℕ → Bool) where
     is_member = λ l. ap p (mirror_in_word w r l) ∙ h.is_member l;
   }
 
-  -- the least member is how far the greatest one mirrored lies below the last number
+  -- the least member is how far the greatest member of the mirrored set lies below the last number
   pub mirrored_greatest : IsLeastMember (plain_set w p) r →
       IsGreatestMember (read_in true w (plain_set w p)) r
   mirrored_greatest h = record {
@@ -120,7 +120,7 @@ module _ (w r : ℕ) (p : ℕ → Bool) where
         ∙ h.is_member l;
   }
 
--- the ends of what a word lacks, in an order
+-- what holds of the inverted word holds of the complement, in an order
 pub ends_of_rest : (m : Bool) (w d e : ℕ) (P : PlainSet → Type 0) → 0 < w → d < 2 ^ w →
     e ≡ 2 ^ w - 1 - d → P (read_in m w (bit_set w e)) →
     P (complement (read_in m w (bit_set w d)))
@@ -130,7 +130,7 @@ ends_of_rest m w d e P h fits is got =
     ∙ ap (λ p. read_in m w (plain_set w p))
     (sym (ap (bit_has w) is ∙ bit_has-not w d fits)))) got
 
--- a number whose least set bit is r, less one: the bit r is 0, and those above stay
+-- the number less one, if its least set bit is r: bit r is 0, and the bits above stay
 record Lowered (d r : ℕ) : Type 0 where
   there : bit_at (d - 1) r ≡ 0
   above : (k : ℕ) → r < k → bit_at (d - 1) k ≡ bit_at d k
@@ -187,7 +187,7 @@ lowered (suc r) d below there = up (lowered r (d / 2)
       above = above rest;
     }
 
--- patterns that are alike are words alike
+-- patterns with an equal bit are words with an equal bit
 bit-same : (w d e k : ℕ) → bit_at e k ≡ bit_at d k → bit_has w e k ≡ bit_has w d k
 unfolding bit_has
 bit-same w d e k is = ap (λ b. nat_lt k w && (b == 1)) is
@@ -196,7 +196,7 @@ bit-none : (w e k : ℕ) → bit_at e k ≡ 0 → bit_has w e k ≡ false
 unfolding bit_has
 bit-none w e k is = ap (λ b. nat_lt k w && (b == 1)) is ∙ and_right (nat_lt k w) false refl
 
--- the and of a word and the word less one lacks the least set bit alone
+-- the and of a word and the word less one lacks only the least set bit
 less_least : (w d r : ℕ) → IsLeastMember (bit_set w d) r → r < w →
     bit_set w (bit_and d (d - 1)) ≡ without_index (bit_set w d) r
 less_least w d r least h = ap (plain_set w) (bit_has-and w d (d - 1) ∙ fun_ext at)
@@ -238,7 +238,7 @@ least_mirrored w d r h greatest = subst (λ p. IsLeastMember (plain_set w p) r)
     (fun_ext λ k. ap (bit_has w d) (mirror-mirror w k (omega arith)))
     (mirrored_least w r (λ k. bit_has w d (mirror w k)) greatest)
 
--- so the and of the word and the word less one lacks the greatest member alone
+-- so in that order the and of a word and the word less one lacks only the greatest member
 less_greatest : (w d r : ℕ) → IsGreatestMember (read_in true w (bit_set w d)) r → r < w →
     read_in true w (bit_set w (bit_and d (d - 1)))
     ≡ without_index (read_in true w (bit_set w d)) (w - 1 - r)
@@ -266,7 +266,8 @@ end_within front m w d r word fits some end = elim (cases_lt r w) [
       (end-none front (read_in m w (bit_set w d)) r end g)))
 ]
 
--- where the bit of least weight is the member at an end, the word less one takes it out
+-- if the member at an end is the set bit of least weight, the and with the word less one takes it
+-- out
 pub least_taken : (front m : Bool) (w d r : ℕ) → beq m front ≡ false →
     IsEndMember front (read_in m w (bit_set w d)) r → r < w →
     ascending (read_in m w (bit_set w d)) ≡ with_end front (place m w r)
@@ -280,7 +281,8 @@ least_taken false true w d r apart end h =
     ∙ ap (without_index (read_in true w (bit_set w d))) (sym at))
 least_taken false false w d r apart end h = absurd (true≢false apart)
 
--- where the bit of greatest weight is the member at an end, the inverted mask takes it out
+-- if the member at an end is the set bit of greatest weight, the and with the inverted mask takes
+-- it out
 pub greatest_taken : (front m : Bool) (w d e mask r : ℕ) → beq m front ≡ true →
     e ≡ 2 ^ (w - 1 - r) → e < 2 ^ w → mask ≡ 2 ^ w - 1 - e →
     IsEndMember front (read_in m w (bit_set w d)) r → r < w →

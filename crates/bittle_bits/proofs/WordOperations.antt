@@ -13,9 +13,9 @@ use Rattle.bittle_bits.proofs.BitSets.{bit_has-and, bit_has-or, bit_has-not, bit
 use Rattle.bittle_bits.proofs.PlainSets.{plain_set}
 use Rattle.bittle_bits.proofs.SetOperations.{combination-below, combination-outside, members-combination}
 
--- words: an operation on each bit
+-- an operation on each bit of two words
 module _ (f : Bool → Bool → Bool) (w a b r : ℕ) where
-  -- a word whose every bit is decided by those of two words has their combined set
+  -- if the bits of two words decide each bit of a word, its set is their combined set
   pub digits_combined : ((k : ℕ) → k < w →
       bit_has w r k ≡ f (bit_has w a k) (bit_has w b k)) →
       bit_set w r ≡ combination_of f (bit_set w a) (bit_set w b)
@@ -37,19 +37,19 @@ module _ (f : Bool → Bool → Bool) (w a b r : ℕ) where
       let one : (words : ℕ) × (w ≡ words * w) = (1, omega arith) in
       ap (read_in m w) is ∙ members-combination f m w (bit_set w a) (bit_set w b) word one one
 
--- the or of two words has the bits of either
+-- the or of two words has the bits of either word
 pub digits_either : (w a b : ℕ) → bit_set w (bit_or a b) ≡ combination_of ◌||◌ (bit_set w a)
     (bit_set w b)
 digits_either w a b = digits_combined ◌||◌ w a b (bit_or a b)
     (λ k h. ap (λ p. p k) (bit_has-or w a b))
 
--- the and of two words has the bits of both
+-- the and of two words has the bits that both words have
 pub digits_both : (w a b : ℕ) → bit_set w (bit_and a b) ≡ combination_of ◌&&◌ (bit_set w a)
     (bit_set w b)
 digits_both w a b = digits_combined ◌&&◌ w a b (bit_and a b)
     (λ k h. ap (λ p. p k) (bit_has-and w a b))
 
--- the and with the inverted second word has the bits of the first word alone
+-- the and with the inverted second word has the bits that only the first word has
 pub digits_first_alone : (w a b rest : ℕ) → b < 2 ^ w → rest ≡ 2 ^ w - 1 - b →
     bit_set w (bit_and a rest) ≡ combination_of first_alone (bit_set w a) (bit_set w b)
 unfolding lacks
@@ -62,7 +62,7 @@ digits_first_alone w a b rest fits is =
 one_of : (x y : ℕ) → x < 2 → y < 2 → ((x + y) % 2 == 1) ≡ just_one (x == 1) (y == 1)
 one_of x y p q = grind arith
 
--- the exclusive or of two words has the bits of just one
+-- the exclusive or of two words has the bits that just one word has
 pub digits_just_one : (w a b : ℕ) → bit_set w (bit_xor a b)
     ≡ combination_of just_one (bit_set w a) (bit_set w b)
 digits_just_one w a b = digits_combined just_one w a b (bit_xor a b) (λ k h.

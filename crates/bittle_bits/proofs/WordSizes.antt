@@ -15,7 +15,7 @@ use Rattle.bittle_bits.proofs.BitSets.{bit_has-zero, bit_has-not, bit_has-below,
 use Rattle.bittle_bits.proofs.Counts.{count-same, count-some, count-never}
 use Rattle.bittle_bits.proofs.Sizes.{size-complement, size_in_each_order}
 
--- the bits of a word
+-- the ones of a single bit
 one_digit : (b : ℕ) → b < 2 → ones b ≡ cond (b == 1) 1 0
 one_digit b h = elim (cases_eq b 0) [
   | inl e ↦ rw e (ones-ones 0)
@@ -34,14 +34,14 @@ low_digits (suc k) d =
     ∙ sym (ap ones e ∙ ones_cat k (bit_at d k) (d % 2 ^ k) (mod_below d (2 ^ k) (pow_pos k))
     ∙ ap (λ n. n + ones (d % 2 ^ k)) (one_digit (bit_at d k) (bit_at-lt d k)) ∙ add_comm _ _)
 
--- the count of the ones of a pattern is that of the bits that are set
+-- the number of ones of a pattern is the number of bits that are set
 pub size-bit_set : (w d n : ℕ) → n ≡ ones d → d < 2 ^ w → n ≡ count_below w (bit_has w d)
 unfolding bit_has
 size-bit_set w d n is h =
     is ∙ sym (count-same w _ _ (λ k l. ap (λ t. t && (bit_at d k == 1)) (lt-ltb k w l))
     ∙ low_digits w d ∙ ap ones (mod-eq_of_lt h))
 
--- a word with no bit set, and one with each bit set
+-- a word is 0 exactly if the size of its set is 0
 pub word_empty : (w d : ℕ) → d < 2 ^ w → (d == 0) ≡ (size (bit_set w d) == 0)
 word_empty w d fits =
     elim (cases_eq d 0) [
@@ -52,7 +52,7 @@ word_empty w d fits =
           ne_eqb d 0 n ∙ sym (ne_eqb _ 0 (λ z. omega arith))
     ]
 
--- the inverted word is 0 exactly where the size of the word's set is its width
+-- the inverted word is 0 exactly if the size of the word's set is the width
 pub word_full : (w d e : ℕ) → d < 2 ^ w → e < 2 ^ w → e ≡ 2 ^ w - 1 - d →
     (e == 0) ≡ (size (bit_set w d) == w)
 word_full w d e fits low is =
@@ -64,12 +64,12 @@ word_full w d e fits low is =
       | inr n ↦ ne_eqb _ 0 (λ z. n (omega arith)) ∙ sym (ne_eqb _ w n)
     ]
 
--- the word 0 lists nothing in any order
+-- the list of the word 0 is empty in each order
 pub zero_lists_none : (m : Bool) (w d : ℕ) → d ≡ 0 → ascending (read_in m w (bit_set w d)) ≡ []
 zero_lists_none m w d is = ascending-none (read_in m w (bit_set w d))
     (λ k h. ap (λ p. p (place m w k)) (bit_has-zero w d is))
 
--- a word that lists nothing in an order is 0
+-- a word whose list is empty in an order is 0
 pub none_listed : (m : Bool) (w d : ℕ) → 0 < w → d < 2 ^ w →
     ascending (read_in m w (bit_set w d)) ≡ [] → d ≡ 0
 none_listed m w d word fits none =

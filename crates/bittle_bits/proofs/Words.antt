@@ -10,7 +10,7 @@ use Rattle.bittle_bits.specs.Words.{word_has, word_of, ReplacesWord}
 use Rattle.bittle_bits.proofs.PlaceLemmas.{place_part, place_in_word}
 use Rattle.bittle_bits.proofs.PlainSets.{plain_set}
 
--- the members of word k, counted from its first place
+-- the members of word k are those of the set, counted from its first place
 pub word_has-at : (w : ℕ) (s : PlainSet) (k i : ℕ) → i < w → word_has w s k i ≡ s.has (k * w + i)
 unfolding word_has
 word_has-at w s k i h = ap (λ b. b && s.has (k * w + i)) (lt-ltb i w h)
@@ -29,7 +29,7 @@ word_of-pattern w d k h =
       | inr g ↦ rw (le-ltb i w g) refl
     ])
 
--- replacing a word's only word makes it the other one
+-- replacing the only word of a word yields the other word
 pub word_replaced : (w d e k : ℕ) → k * w < w →
     ReplacesWord w (bit_set w d) k (bit_set w e) (bit_set w e)
 word_replaced w d e k h = record {
@@ -59,7 +59,7 @@ module _ (m : Bool) (w k : ℕ) (s : PlainSet) (d : ℕ) (word : 0 < w) where
   digit_at is i h = ap (λ t. t.has (place m w i)) is ∙ word_has-at w s k (place m w i)
       (place_in_word m w i h) ∙ sym (member_at i h)
 
--- sets whose word k is the same have the same members there, in each order
+-- sets with the same word k have the same members in that word, in each order
 pub same_word : (m : Bool) (w k : ℕ) (s t : PlainSet) → 0 < w → word_of w s k ≡ word_of w t k →
     (i : ℕ) → i < w → (read_in m w s).has (k * w + i) ≡ (read_in m w t).has (k * w + i)
 same_word m w k s t word is i h =

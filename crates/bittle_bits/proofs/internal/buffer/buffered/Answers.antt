@@ -4,14 +4,14 @@ use Rattle.bittle_bits.proofs.internal.buffer.buffered.Given.{Over}
 use Rattle.bittle_bits.proofs.internal.buffer.buffered.Goals.{Joined-is_mirrored, then-FRONT, else-FRONT, then-is_mirrored, else-is_mirrored}
 use Rattle.bittle_bits.proofs.internal.buffer.buffered.Goals as goal
 
--- the first bit of word k has the index that it is asked for
+-- the first index of word k is k times the width
 first : (g : Over) (c : Joined-is_mirrored g) → c.if-FRONT.first ≡ c.args.k * g.W.Word.width
 first g c = elim c.if-FRONT.branch [
   | then-FRONT w ↦ w.first-is ∙ omega (arith, w.bits_of.ensures, w.width.ensures)
   | else-FRONT w ↦ w.first-is ∙ w.bits_of-first.ensures
 ]
 
--- so has its bit of least weight
+-- the bit of least weight has the index `edge`
 edge : (g : Over) (c : Joined-is_mirrored g) → c.if-is_mirrored.result
     ≡ c.args.k * g.W.Word.width + edge_from_first g.E.Endian.mirrored g.W.Word.width
 edge g c = elim c.if-is_mirrored.branch [

@@ -5,7 +5,7 @@ use Rattle.bittle_bits.proofs.internal.buffer.scan.Given.{Over}
 use Rattle.bittle_bits.proofs.internal.buffer.scan.Goals.{In-Some}
 use Rattle.bittle_bits.proofs.internal.buffer.scan.Goals as goal
 
--- a word that gave a member was loaded
+-- a word that yielded a member was loaded
 loaded : (g : Over) (c : In-Some g) → c.args.buffered.now.is_loaded ≡ true
 loaded g c = with_member _ _ _ _ c.requires
     (λ none. not_empty g.N.End.FRONT _ _ (sym c.in-Some.ensures.found ∙ none))

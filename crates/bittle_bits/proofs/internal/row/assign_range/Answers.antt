@@ -6,7 +6,7 @@ use Rattle.bittle_bits.specs.Rows.{row_set}
 use Rattle.bittle_bits.proofs.internal.row.assign_range.Goals as goal
 use Rattle.bittle_bits.proofs.internal.row.assign_range.Given.{Over}
 
--- what becomes of a bit of the range
+-- how a bit of the range changes
 abbrev change : Over → Bool → Bool
 change g b = g.O.Operation.decide b true
 

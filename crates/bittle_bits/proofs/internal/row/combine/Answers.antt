@@ -8,7 +8,7 @@ use Rattle.bittle_bits.proofs.SetOperations.{members-combination}
 use Rattle.bittle_bits.proofs.internal.row.combine.Given.{Over}
 use Rattle.bittle_bits.proofs.internal.row.combine.Goals as goal
 
--- where the elements of the common beginning are combined, so are the rows, in each order
+-- if the elements that both rows have are combined, the rows are combined, in each order
 rows : (g : Over) (xs ys zs : List g.row.T.Denot) (common : ℕ) (mirrored : Bool) →
     common ≡ min (length xs) (length ys) →
     IsCombinedBelow g.O.Operation.decide g.T.Shape.big xs ys zs common →

@@ -5,7 +5,7 @@ use Rattle.bittle_bits.proofs.internal.row.locate.Given.{Over}
 use Rattle.bittle_bits.proofs.internal.row.locate.Goals.{After-wrapped-within}
 use Rattle.bittle_bits.proofs.internal.row.locate.Goals as goal
 
--- a capacity that does not fit is past all indexes
+-- a capacity that does not fit is past every index
 wraps : (g : Over) (c : After-wrapped-within g) →
     c.wrapped-within.result ≡ c.args.index % (c.args.len * g.T.Shape.type_capacity)
 wraps g c =

@@ -4,7 +4,7 @@ use Rattle.bittle_bits.proofs.internal.row.locate_word.Given.{Over}
 use Rattle.bittle_bits.proofs.internal.row.locate_word.Goals.{After-word_width}
 use Rattle.bittle_bits.proofs.internal.row.locate_word.Goals as goal
 
--- an element has so many words
+-- how many words an element has
 each : (g : Over) (c : After-word_width g) →
     c.bits.result / c.word_width.result ≡ g.met.T.BitsOwned.type_whole_words.0
 each g c = words_each _ _ _ _ _ g.met.T.ReadWords.width_positive

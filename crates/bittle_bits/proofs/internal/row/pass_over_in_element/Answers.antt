@@ -19,7 +19,7 @@ begins g c =
     (end_begins g.N.End.FRONT _ _ _ _ _ g.met.T.ReadWords.width_positive c.words_at_end-word.ensures
     c.requires.some c.requires.within) c.locate_word-element.ensures
 
--- which of its words are asked
+-- which of its words are in the range
 part : (g : Over) (c : After-min-to g) →
     let start = c.words_at_end-word.result - c.locate_word-element.result.1 in
     IsPart g.N.End.FRONT c.args.low c.args.high g.met.T.BitsOwned.type_whole_words.0 start

@@ -4,7 +4,7 @@ use Rattle.std.proofs.Math.Nat.{pow-suc}
 use Rattle.std.proofs.lemmas.Bool.{cases_lt}
 use Rattle.bittle_bits.proofs.word.Word.not.Goals as goal
 
--- of a power of two below another, twice it less one is below that one
+-- if a power of two is below another one, twice the lesser less one is below the greater
 below_twice : (n k top : ℕ) → top ≡ 2 ^ k → top < 2 ^ n → top - 1 + top < 2 ^ n
 below_twice n k top is fits = elim (cases_lt k n) [
   | inl l ↦ omega (arith, pow_mono l, pow-suc 2 k)

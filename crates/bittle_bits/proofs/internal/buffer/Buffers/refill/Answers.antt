@@ -4,7 +4,7 @@ use Rattle.bittle_bits.proofs.AscendingLists.{ascending-empty, ascending-some}
 use Rattle.bittle_bits.proofs.BufferedWords.{moved_none}
 use Rattle.bittle_bits.proofs.internal.buffer.Buffers.refill.Goals as goal
 
--- with one scan more
+-- with one more scan
 abbrev scanned : BufferPair → BufferPair
 scanned b =
     record { head = b.head; tail = b.tail; scans = b.scans + 1; fetches = b.fetches }
