@@ -28,8 +28,8 @@ mod operators;
 /// Iteration, comparison, hashing and debug text use the remembered order too.
 ///
 /// The wrapped value always fits: its capacity, and that of every array type inside, is below
-/// `u32::MAX`. So a call requires at most two things: that `from <= to <= capacity`, of a range or
-/// a search, and that another set of any shape fits.
+/// `u32::MAX`. So a call requires of the set at most that `from <= to <= capacity`, for a range or
+/// a search. Another set, of any shape, has to fit.
 ///
 /// ```
 /// let set = Set::new_le(0b1101_0000u8);
@@ -65,7 +65,7 @@ pub fn default_order_is_big_endian()
 impl<T: Bits> Set<T> {
     /// Makes a set of `bits`, read in [`DefaultEndian`] order.
     ///
-    /// The shape has to fit.
+    /// The shape has to fit. It costs O(1), and the move of `bits`.
     ///
     /// ```
     /// Set::new(0b1101_0000u8).iter_ones();                // yields 4, 6, 7
@@ -82,7 +82,7 @@ impl<T: Bits> Set<T> {
 impl<T: Bits> Set<T, LittleEndian> {
     /// Makes a set of `bits`, read in [`LittleEndian`] order.
     ///
-    /// The shape has to fit.
+    /// The shape has to fit. It costs O(1), and the move of `bits`.
     ///
     /// ```
     /// Set::new_le(0b1101_0000u8).iter_ones();             // yields 0, 1, 3
@@ -99,7 +99,7 @@ impl<T: Bits> Set<T, LittleEndian> {
 impl<T: Bits, E: Endian> Set<T, E> {
     /// Makes a set of `bits`, read in the order `E`.
     ///
-    /// The shape has to fit.
+    /// The shape has to fit. It costs O(1), and the move of `bits`.
     ///
     /// ```
     /// Set::<u8, LittleEndian>::new_in(0x80).iter_ones();  // yields 0
@@ -117,7 +117,7 @@ impl<T: Bits, E: Endian> Set<T, E> {
 
     /// Returns the wrapped value.
     ///
-    /// Always callable.
+    /// Always callable. It costs O(1), and the move of the value.
     ///
     /// ```
     /// Set::new_le(0x80u8).into_bits();                    // 0x80
@@ -132,9 +132,9 @@ impl<T: Bits, E: Endian> Set<T, E> {
 }
 
 impl<'a, U: BitsOwned> Set<&'a [U]> {
-    /// Makes a set of a slice, read in [`DefaultEndian`] order. It costs O(1).
+    /// Makes a set of a slice, read in [`DefaultEndian`] order.
     ///
-    /// The shape has to fit.
+    /// The shape has to fit. It costs O(1).
     ///
     /// ```
     /// Set::from_ref(&[1u8, 16]).iter_ones();              // yields 0, 12
@@ -152,9 +152,9 @@ impl<'a, U: BitsOwned> Set<&'a [U]> {
 }
 
 impl<'a, U: BitsOwned> Set<&'a [U], LittleEndian> {
-    /// Makes a set of a slice, read in [`LittleEndian`] order. It costs O(1).
+    /// Makes a set of a slice, read in [`LittleEndian`] order.
     ///
-    /// The shape has to fit.
+    /// The shape has to fit. It costs O(1).
     ///
     /// ```
     /// Set::from_ref_le(&[1u8, 16]).iter_ones();           // yields 7, 11
@@ -172,11 +172,10 @@ impl<'a, U: BitsOwned> Set<&'a [U], LittleEndian> {
 }
 
 impl<'a, U: BitsOwned> Set<&'a mut [U]> {
-    /// Makes a set of a mutably borrowed slice, read in [`DefaultEndian`] order. It costs O(1).
+    /// Makes a set of a mutably borrowed slice, read in [`DefaultEndian`] order. The caller's slice
+    /// holds the changes.
     ///
-    /// The caller's slice holds the changes.
-    ///
-    /// The shape has to fit.
+    /// The shape has to fit. It costs O(1).
     ///
     /// ```
     /// let mut words = [0u8; 2];
@@ -196,11 +195,10 @@ impl<'a, U: BitsOwned> Set<&'a mut [U]> {
 }
 
 impl<'a, U: BitsOwned> Set<&'a mut [U], LittleEndian> {
-    /// Makes a set of a mutably borrowed slice, read in [`LittleEndian`] order. It costs O(1).
+    /// Makes a set of a mutably borrowed slice, read in [`LittleEndian`] order. The caller's slice
+    /// holds the changes.
     ///
-    /// The caller's slice holds the changes.
-    ///
-    /// The shape has to fit.
+    /// The shape has to fit. It costs O(1).
     ///
     /// ```
     /// let mut words = [0u8; 2];

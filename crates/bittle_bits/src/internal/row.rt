@@ -186,9 +186,9 @@ pub fn assign_range<T: BitsOwned, E: Endian, O: RangeOperation>(
     assign_in_element::<T, E, O>(elements, last, 0, top + 1);
 }
 
-// Combines the element at index `at` with another one. If the row is `xs` with its elements below
-// `at` combined with those of `ys`, and the other element is that of `ys` at `at`, then one more
-// element is combined afterwards.
+// Combines the element at index `at` with another one. Suppose that the row is `xs` with its
+// elements below `at` combined with those of `ys`, and that the other element is that of `ys` at
+// `at`. Then one more element is combined afterwards.
 #[inline]
 fn combine_element<T: BitsOwned, O: Operation>(elements: &mut [T], at: usize, other: &T)
     requires { at < length elements.old }

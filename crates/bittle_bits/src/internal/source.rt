@@ -41,8 +41,8 @@ pub fn pass_over<B: ReadWords, K: Kind, N: End>(bits: &B, low: usize, high: usiz
     bits.pass_over::<K, N>(low, high)
 }
 
-/// A set that an iterator borrows. An iterator learns nothing of it but how many words it has, each
-/// word that it fetches, and which words it may pass over.
+/// A set that an iterator borrows. The iterator learns only three things of it: how many words it
+/// has, each word that it fetches, and which words it may pass over.
 #[derive(Drop)]
 pub struct Source<'a, B: Shape> {
     set: &'a B,
@@ -88,8 +88,8 @@ impl<'a, B: ReadWords> Source<'a, B> {
     }
 
     /// Passes over words of `low..high` at the end `N` that the set knows to have no bit of the
-    /// kind, in both orders, and counts them. None of them is fetched. It returns the end of the
-    /// rest: at the front the new `low`, at the back the new `high`.
+    /// kind, in both orders. It counts these words, and fetches none of them. It returns the end of
+    /// the rest: at the front the new `low`, at the back the new `high`.
     #[inline(always)]
     pub fn pass_over<K: Kind, N: End>(&self, low: usize, high: usize, passed: &mut Count) -> usize
         requires fits { ShapeFits B.Shape self.now.set.now }
