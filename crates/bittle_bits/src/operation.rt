@@ -18,7 +18,7 @@ pub trait Operation {
             (bits_of T.Word other) };
 }
 
-/// An operation that changes no bit which is unset in the other set. With a range of indexes as the
+/// An operation that changes no bit that is unset in the other set. With a range of indexes as the
 /// other set, it changes only bits of the range.
 pub trait RangeOperation: Operation {
     // A number that the other set lacks stays as it was.

@@ -95,7 +95,8 @@ pub fn word_width<B: ReadWords>() -> u32
     <B::LeafWord as Word>::width()
 }
 
-/// Returns whether two sets have words of one width and are read in one order.
+/// Returns whether two sets have words of one width and are read in one order. The contract states
+/// what `true` means, and nothing of `false`.
 #[doc(hidden)]
 #[inline]
 pub fn are_alike<A: ReadWords, B: ReadWords, E: Endian, F: Endian>() -> bool
