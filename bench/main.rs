@@ -103,6 +103,7 @@ impl<'a> Cell<'a> {
         let left = words(state, n, bits);
         let mut right = words(state, n, bits);
         match call.name {
+            "equal" => right.clone_from(&left),
             "is_subset" => right.iter_mut().zip(&left).for_each(|(r, l)| *r |= l),
             "is_disjoint" => right.iter_mut().zip(&left).for_each(|(r, l)| *r &= !l),
             _ => {}

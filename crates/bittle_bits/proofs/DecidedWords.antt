@@ -65,9 +65,9 @@ first_word_within w n some =
       | inr g ↦ omega arith
     ]
 
--- a number that a search below n finds is the least one; if it finds none, nothing is stated
-pub none_or_first : (f : Bool → Bool → Bool) (s t : PlainSet) (n : ℕ) (r : Option ℕ) →
+-- a search of the numbers below n also tells of the numbers below a lesser b
+pub none_or_first : (f : Bool → Bool → Bool) (s t : PlainSet) (n b : ℕ) (r : Option ℕ) → b ≤ n →
     MatchOption r (NoneDecidedBelow f s t n) (IsFirstDecided f s t) →
-    MatchOption r (NoneDecidedBelow f s t 0) (IsFirstDecided f s t)
-none_or_first f s t n None h = λ i p. absurd (omega arith)
-none_or_first f s t n (Some d) h = h
+    MatchOption r (NoneDecidedBelow f s t b) (IsFirstDecided f s t)
+none_or_first f s t n b None le h = λ i p. h i (omega (arith, le, p))
+none_or_first f s t n b (Some d) le h = h

@@ -42,6 +42,20 @@ module _ (m : Bool) (w : ℕ) (s : PlainSet) (word : 0 < w) (from k x : ℕ)
     none_up_to r least.within least.none_below,
   )
 
+-- a word of a set that has no member there is 0
+pub zero_if_none : (m : Bool) (w : ℕ) (s : PlainSet) (k x : ℕ) → 0 < w → x < 2 ^ w →
+    bit_set w x ≡ word_of w s k → NoneIn (read_in m w s) (k * w) ((k + 1) * w) → x ≡ 0
+zero_if_none m w s k x word fits is none =
+    elim (cases_lt 0 x) [
+      | inl l ↦
+          let t = some_digit w x fits (λ e. omega (arith, e, l)) in
+          let i = place m w t.0 in
+          let low : i < w = place_in_word m w t.0 (bit_has-below w x t.0 t.1) in
+          absurd (true≢false (sym t.1 ∙ ap (bit_has w x) (sym (place-place m w t.0 word))
+          ∙ digit_at m w k s x word is i low ∙ none (k * w + i) (omega arith) (omega (arith, low))))
+      | inr g ↦ omega (arith, g)
+    ]
+
 -- an index in one of the first words lies below the capacity of these words
 pub in_words : (k words w r : ℕ) → k < words → r < w → k * w + r < words * w
 in_words k words w r below low =
@@ -62,17 +76,33 @@ some_least m w x r word fits some least =
           ∙ least.none_below i (omega arith)))
     ]
 
--- the or of four words is 0 only if each word is 0
-pub each_is_zero : (a b c d ab cd all : ℕ) → ab ≡ bit_or a b → cd ≡ bit_or c d →
-    all ≡ bit_or ab cd → all ≡ 0 → (a ≡ 0) × (b ≡ 0) × (c ≡ 0) × (d ≡ 0)
-each_is_zero a b c d ab cd all one two both none =
-    let first : ab ≡ 0 = omega (arith, none, both, le_or_l ab cd) in
-    let second : cd ≡ 0 = omega (arith, none, both, le_or_r ab cd) in (
+-- each of four words is at most their or
+pub each_within : (a b c d ab cd all : ℕ) → ab ≡ bit_or a b → cd ≡ bit_or c d →
+    all ≡ bit_or ab cd → (a ≤ all) × (b ≤ all) × (c ≤ all) × (d ≤ all)
+each_within a b c d ab cd all one two both =
+    let first : ab ≤ all = omega (arith, both, le_or_l ab cd) in
+    let second : cd ≤ all = omega (arith, both, le_or_r ab cd) in (
       omega (arith, first, one, le_or_l a b),
       omega (arith, first, one, le_or_r a b),
       omega (arith, second, two, le_or_l c d),
       omega (arith, second, two, le_or_r c d),
     )
+
+-- the or of four words is 0 exactly where each is
+pub each_is_zero : (a b c d ab cd all : ℕ) → ab ≡ bit_or a b → cd ≡ bit_or c d →
+    all ≡ bit_or ab cd → all ≡ 0 → (a ≡ 0) × (b ≡ 0) × (c ≡ 0) × (d ≡ 0)
+each_is_zero a b c d ab cd all one two both none =
+    let t = each_within a b c d ab cd all one two both in (
+      omega (arith, none, t.0),
+      omega (arith, none, t.1),
+      omega (arith, none, t.2),
+      omega (arith, none, t.3),
+    )
+
+pub all_is_zero : (a b c d ab cd all : ℕ) → ab ≡ bit_or a b → cd ≡ bit_or c d →
+    all ≡ bit_or ab cd → a ≡ 0 → b ≡ 0 → c ≡ 0 → d ≡ 0 → all ≡ 0
+all_is_zero a b c d ab cd all one two both i j k l = both ∙ (λ t. bit_or (one t) (two t))
+    ∙ (λ t. bit_or (bit_or (i t) (j t)) (bit_or (k t) (l t)))
 
 -- the first member of a range is the first of a wider range, if the wider range adds no member
 pub first_widened : (s : PlainSet) (from a b to : ℕ) (r : Option ℕ) → from ≤ a → b ≤ to →

@@ -1,6 +1,6 @@
 //! Reading a set word by word: all that a search, a count or an iterator needs.
 
-ghost use Rattle.std.specs.Prelude.{◌≡◌, ℕ, ◌*◌, ◌<◌, ◌≤◌, false, IsTrue};
+ghost use Rattle.std.specs.Prelude.{◌≡◌, ℕ, ◌*◌, ◌<◌, ◌≤◌, ◌↔◌, false, IsTrue};
 ghost use Rattle.bittle_bits.specs.BitPatterns.{bit_set};
 ghost use Rattle.bittle_bits.specs.Searches.{PassesOver};
 ghost use Rattle.bittle_bits.specs.Values.{ShapeFits};
@@ -100,7 +100,7 @@ pub fn word_width<B: ReadWords>() -> u32
 #[doc(hidden)]
 #[inline]
 pub fn are_alike<A: ReadWords, B: ReadWords, E: Endian, F: Endian>() -> bool
-    ensures { IsTrue result → (A.width ≡ B.width) × (E.mirrored ≡ F.mirrored) }
+    ensures { IsTrue result ↔ (A.width ≡ B.width) × (E.mirrored ≡ F.mirrored) }
 {
     word_width::<A>() == word_width::<B>() && E::is_mirrored() == F::is_mirrored()
 }

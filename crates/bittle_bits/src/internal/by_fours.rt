@@ -1,7 +1,7 @@
 //! The first bit of a kind in whole words. The words that a set passes over at both ends are left
 //! out, and the others are searched four at a time.
 
-ghost use Rattle.std.specs.Prelude.{◌+◌, ◌*◌, ◌≤◌, IsTrue};
+ghost use Rattle.std.specs.Prelude.{◌+◌, ◌*◌, ◌≤◌, ◌↔◌, IsTrue};
 ghost use Rattle.bittle_bits.specs.Searches.{IsFirstIn, NoneIn};
 ghost use Rattle.bittle_bits.specs.Values.{kind_in, ShapeFits};
 
@@ -30,14 +30,13 @@ fn first_among<B: ReadWords, E: Endian, K: Kind>(bits: &B, from: u32, to: u32) -
     None
 }
 
-// Returns whether the four words from `from` on have no bit of the kind, by one test for all. After
-// `false` the caller searches them, so the contract states nothing of `false`.
+// Returns whether the four words from `from` on have no bit of the kind, by one test for all.
 #[inline]
 fn are_four_empty<B: ReadWords, E: Endian, K: Kind>(bits: &B, from: u32) -> bool
     requires fits { ShapeFits B.Shape bits.now }
     requires within { (from + 4) * B.width ≤ (B.big bits.now).capacity }
-    ensures { IsTrue result → NoneIn (kind_in B.Shape E.Endian K.Kind bits.now)
-        (from * B.width) ((from + 4) * B.width) }
+    ensures { IsTrue result ↔ NoneIn (kind_in B.Shape E.Endian K.Kind bits.now) (from * B.width)
+        ((from + 4) * B.width) }
 {
     let from = from as usize;
     let first = word_of_kind::<B, K>(bits, from);

@@ -88,8 +88,7 @@ impl<'a, A: ReadWords, B: ReadWords, O: Operation> Both<'a, A, B, O> {
 
 /// Returns the least index in the first words of two sets that an operation makes a member, or
 /// `None`. The words of the two have one width. `common` is the lesser capacity.
-// It is small, so a caller makes no call if the first words decide. After `None` the caller
-// searches further, so the contract states nothing of `None`.
+// It is small, so a caller makes no call if the first words decide.
 #[inline]
 pub fn first_decided_at_once<A: ReadWords, B: ReadWords, E: Endian, O: Operation>(
     left: &A,
@@ -102,7 +101,7 @@ pub fn first_decided_at_once<A: ReadWords, B: ReadWords, E: Endian, O: Operation
     requires common { common ≡ min (A.big left.now).capacity (B.big right.now).capacity }
     ensures { let ours = set_in A.Shape E.Endian left.now in
         let theirs = set_in B.Shape E.Endian right.now in
-        MatchOption result (NoneDecidedBelow O.decide ours theirs 0)
+        MatchOption result (NoneDecidedBelow O.decide ours theirs (min common A.width))
         (IsFirstDecided O.decide ours theirs) }
 {
     if common / word_width::<A>() == 0 {

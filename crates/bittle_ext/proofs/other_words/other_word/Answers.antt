@@ -13,7 +13,7 @@ returns-then-are_alike g c =
     let t = g.B.Shape.big c.args.set.now in
     let d = g.A.LeafWord.Word.pattern c.from_bits.result in
     let e = g.B.LeafWord.Word.pattern c.word_or_empty.result in
-    let alike = c.are_alike.ensures c.if-are_alike.true in
+    let alike = c.are_alike.ensures.0 c.if-are_alike.true in
     let same : bit_set w e ≡ word_of w t k = subst (λ v. bit_set v e ≡ word_of v t k)
     (sym (alike.0)) c.word_or_empty.ensures in
     let whole : bit_set w d ≡ word_of w t k = ap (bit_set w)

@@ -18,7 +18,7 @@ difference : (g : Over) (c : After-first_difference g) →
 difference g c =
     subst (λ m. IsDifference (set_in g.A.Shape g.E.Endian c.args.left.now)
     (set_mirrored g.B.Shape m c.args.right.now) c.first_difference.result)
-    (c.are_alike.ensures c.if-are_alike.true).1 c.first_difference.ensures
+    (c.are_alike.ensures.0 c.if-are_alike.true).1 c.first_difference.ensures
 
 pub returns-then-are_alike-clause-value : goal.returns-then-are_alike-clause-value
 returns-then-are_alike-clause-value g c =

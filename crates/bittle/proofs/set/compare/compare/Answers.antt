@@ -28,7 +28,7 @@ returns-then-are_alike-clause-decided g c =
     let ours = set_mirrored g.A.Shape g.E.Endian.mirrored c.args.left.now in
     subst (λ n. let theirs = set_mirrored g.B.Shape n c.args.right.now in
     MatchOrdering c.compare_words.result (Precedes ours theirs) (AreSame ours theirs)
-    (Precedes theirs ours)) (c.are_alike.ensures c.if-are_alike.true).1 c.compare_words.ensures
+    (Precedes theirs ours)) (c.are_alike.ensures.0 c.if-are_alike.true).1 c.compare_words.ensures
 
 pub returns-then-are_alike-clause-value : goal.returns-then-are_alike-clause-value
 returns-then-are_alike-clause-value g c =
