@@ -95,8 +95,7 @@ pub fn word_width<B: ReadWords>() -> u32
     <B::LeafWord as Word>::width()
 }
 
-/// Returns whether two sets have words of one width and are read in one order. The contract states
-/// what `true` means, and nothing of `false`.
+/// Returns whether two sets have words of one width and are read in one order.
 #[doc(hidden)]
 #[inline]
 pub fn are_alike<A: ReadWords, B: ReadWords, E: Endian, F: Endian>() -> bool

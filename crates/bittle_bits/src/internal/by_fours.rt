@@ -18,7 +18,8 @@ use crate::word::Word;
 fn first_among<B: ReadWords, E: Endian, K: Kind>(bits: &B, from: u32, to: u32) -> Option<u32>
     requires fits { ShapeFits B.Shape bits.now }
     requires within { to * B.width ≤ (B.big bits.now).capacity }
-    ensures { IsFirstIn (kind_in B.Shape E.Endian K.Kind bits.now) (from * B.width) (to * B.width) result }
+    ensures { IsFirstIn (kind_in B.Shape E.Endian K.Kind bits.now) (from * B.width)
+        (to * B.width) result }
 {
     let width = word_width::<B>();
     for k in from..to {
@@ -53,7 +54,8 @@ fn first_by_fours<B: ReadWords, E: Endian, K: Kind>(bits: &B, from: u32, to: u32
     requires fits { ShapeFits B.Shape bits.now }
     requires ordered { from ≤ to }
     requires within { to * B.width ≤ (B.big bits.now).capacity }
-    ensures { IsFirstIn (kind_in B.Shape E.Endian K.Kind bits.now) (from * B.width) (to * B.width) result }
+    ensures { IsFirstIn (kind_in B.Shape E.Endian K.Kind bits.now) (from * B.width)
+        (to * B.width) result }
 {
     let fours = (to - from) / 4;
     for four in 0..fours {
