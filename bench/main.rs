@@ -1,5 +1,5 @@
-//! Times calls of calls.rs on our slices and on a `FixedBitSet`, turn by turn, after it has compared
-//! what they return and what they leave. It prints a line a cell: the call, the order, the number of
+//! Times calls of calls.rs on our slices, and on a `FixedBitSet` or in a loop over words by hand,
+//! turn by turn, after it has compared what they return and what they leave. It prints a line a cell: the call, the order, the number of
 //! words, which bits are set, and the least time of each side in nanoseconds.
 mod calls;
 
@@ -12,51 +12,143 @@ pub struct Call {
     name: &'static str,
     is_little: bool,
     ours: calls::Ours,
-    theirs: fn(&mut FixedBitSet, &FixedBitSet, &[u32], Range<usize>) -> u64,
+    theirs: fn(&mut Sides, &[u32], Range<usize>) -> u64,
 }
 
-/// Returns the word of fixedbitset at a place, with the bits that are set, or with those unset.
-fn block(f: &FixedBitSet, at: usize, flip: u32) -> u32 {
-    f.as_slice()[at] ^ flip
+/// The sets that the other side is given: as fixedbitset has them, and as words, in which index 0 is
+/// the rightmost bit of the first one.
+pub struct Sides {
+    f: FixedBitSet,
+    g: FixedBitSet,
+    words: Vec<u64>,
+    others: Vec<u64>,
 }
 
-fn next(f: &FixedBitSet, from: usize, flip: u32) -> Option<usize> {
-    let mut at = from / 32;
-    if at >= f.as_slice().len() {
+/// Returns the least index from `from` on whose bit is set in the words, each xor `flip`.
+fn next(words: &[u64], from: usize, flip: u64) -> Option<usize> {
+    let mut at = from / 64;
+    if at >= words.len() {
         return None;
     }
-    let mut word = block(f, at, flip) & (u32::MAX << (from % 32));
+    let mut word = (words[at] ^ flip) & (u64::MAX << (from % 64));
     while word == 0 {
         at += 1;
-        if at == f.as_slice().len() {
+        if at == words.len() {
             return None;
         }
-        word = block(f, at, flip);
+        word = words[at] ^ flip;
     }
-    Some(at * 32 + word.trailing_zeros() as usize)
+    Some(at * 64 + word.trailing_zeros() as usize)
 }
 
-pub fn next_one(f: &FixedBitSet, from: usize) -> Option<usize> {
-    next(f, from, 0)
+pub fn next_one(words: &[u64], from: usize) -> Option<usize> {
+    next(words, from, 0)
 }
 
-pub fn next_zero(f: &FixedBitSet, from: usize) -> Option<usize> {
-    next(f, from, u32::MAX)
+pub fn next_zero(words: &[u64], from: usize) -> Option<usize> {
+    next(words, from, u64::MAX)
 }
 
-pub fn select(f: &FixedBitSet, mut rank: usize) -> Option<usize> {
-    for (at, block) in f.as_slice().iter().enumerate() {
-        let count = block.count_ones() as usize;
+pub fn select(words: &[u64], mut rank: usize) -> Option<usize> {
+    for (at, word) in words.iter().enumerate() {
+        let count = word.count_ones() as usize;
         if rank < count {
-            let mut word = *block;
+            let mut word = *word;
             for _ in 0..rank {
                 word &= word - 1;
             }
-            return Some(at * 32 + word.trailing_zeros() as usize);
+            return Some(at * 64 + word.trailing_zeros() as usize);
         }
         rank -= count;
     }
     None
+}
+
+/// Returns where the first run of `length` unset bits begins, for a length from 1 to 64.
+pub fn zero_run(words: &[u64], length: u32) -> Option<usize> {
+    for (at, word) in words.iter().enumerate() {
+        // Bit i of a pair says that the bits from i on, as many as are covered, are unset.
+        let after = words.get(at + 1).map_or(0, |word| !word);
+        let mut pair = u128::from(!word) | u128::from(after) << 64;
+        let mut covered = 1;
+        while covered < length && pair as u64 != 0 {
+            let more = covered.min(length - covered);
+            pair &= pair >> more;
+            covered += more;
+        }
+        if pair as u64 != 0 {
+            return Some(at * 64 + pair.trailing_zeros() as usize);
+        }
+    }
+    None
+}
+
+/// Moves each set bit 13 places down.
+pub fn down(words: &mut [u64]) {
+    for at in 0..words.len() {
+        let after = words.get(at + 1).map_or(0, |word| word << 51);
+        words[at] = words[at] >> 13 | after;
+    }
+}
+
+/// Moves each set bit 13 places up.
+pub fn up(words: &mut [u64]) {
+    for at in (0..words.len()).rev() {
+        let before = if at == 0 { 0 } else { words[at - 1] >> 51 };
+        words[at] = words[at] << 13 | before;
+    }
+}
+
+/// Returns the sum of the indexes of the set bits in a range.
+pub fn sum_in(words: &[u64], range: Range<usize>) -> u64 {
+    let mut sum = 0u64;
+    if range.is_empty() {
+        return sum;
+    }
+    let (first, last) = (range.start / 64, (range.end - 1) / 64);
+    for (at, word) in words.iter().enumerate().take(last + 1).skip(first) {
+        let mut word = *word;
+        if at == first {
+            word &= u64::MAX << (range.start % 64);
+        }
+        if at == last {
+            word &= u64::MAX >> (63 - (range.end - 1) % 64);
+        }
+        while word != 0 {
+            sum = sum.wrapping_add(at as u64 * 64 + u64::from(word.trailing_zeros()));
+            word &= word - 1;
+        }
+    }
+    sum
+}
+
+/// Returns a number made of the ends of the runs of set bits.
+pub fn run_ends(words: &[u64]) -> u64 {
+    let (mut sum, mut from) = (0u64, 0);
+    while let Some(start) = next(words, from, 0) {
+        let end = next(words, start, u64::MAX).unwrap_or(words.len() * 64);
+        sum = sum.wrapping_mul(3).wrapping_add(start as u64).wrapping_add(end as u64);
+        from = end;
+    }
+    sum
+}
+
+/// Clears the set bits whose index is odd, one by one.
+pub fn keep_even(words: &mut [u64]) {
+    for word in words {
+        let mut rest = *word;
+        while rest != 0 {
+            let place = rest.trailing_zeros();
+            rest &= rest - 1;
+            if place % 2 == 1 {
+                *word &= !(1 << place);
+            }
+        }
+    }
+}
+
+pub fn count_alone(words: &[u64], others: &[u64]) -> u64 {
+    words.iter().zip(others).map(|(word, other)| u64::from((word & !other).count_ones())).sum()
 }
 
 /// Returns the next number of a fixed sequence.
@@ -91,8 +183,7 @@ struct Cell<'a> {
     call: &'a Call,
     left: Vec<u64>,
     right: Vec<u64>,
-    fixed_left: FixedBitSet,
-    fixed_right: FixedBitSet,
+    sides: Sides,
     indexes: Vec<u32>,
     ranges: Vec<Range<u32>>,
 }
@@ -118,8 +209,12 @@ impl<'a> Cell<'a> {
         };
         Cell {
             call,
-            fixed_left: fixed(&left),
-            fixed_right: fixed(&right),
+            sides: Sides {
+                f: fixed(&left),
+                g: fixed(&right),
+                words: left.clone(),
+                others: right.clone(),
+            },
             left: in_order(&left, call.is_little),
             right: in_order(&right, call.is_little),
             indexes: (0..indexes).map(|_| (random(state) % capacity) as u32).collect(),
@@ -142,7 +237,7 @@ impl<'a> Cell<'a> {
         let theirs = black_box(self.call.theirs);
         self.ranges.iter().fold(0, |sum: u64, range| {
             let at = range.start as usize..range.end as usize;
-            let it = theirs(&mut self.fixed_left, &self.fixed_right, &self.indexes, at);
+            let it = theirs(&mut self.sides, &self.indexes, at);
             sum.wrapping_mul(3).wrapping_add(it)
         })
     }
@@ -150,8 +245,13 @@ impl<'a> Cell<'a> {
     /// Makes the calls once on both sides, and stops the program where they differ.
     fn compare(&mut self) {
         assert_eq!(self.ours(), self.theirs(), "{} returns another value", self.call.name);
-        let left = fixed(&in_order(&self.left, self.call.is_little));
-        assert!(left == self.fixed_left, "{} leaves another set", self.call.name);
+        let left = in_order(&self.left, self.call.is_little);
+        let is_same = if self.call.name.ends_with('*') {
+            left == self.sides.words
+        } else {
+            fixed(&left) == self.sides.f
+        };
+        assert!(is_same, "{} leaves another set", self.call.name);
     }
 }
 
