@@ -7,7 +7,7 @@ ghost use Rattle.bittle_ext.specs.SetRelations.{IsFirstAlone, IsFirstCommon};
 ghost use Rattle.bittle.specs.PlainSet.{size};
 ghost use Rattle.bittle.specs.Values.{set_in, ShapeFits};
 
-use crate::counts::count_common;
+use crate::counts;
 use crate::relations;
 use bittle::Bits;
 
@@ -157,11 +157,12 @@ pub trait BitsRelationExt: Bits {
             result ≡ size (both_of ours theirs) }
         ensures at_most { result ≤ (Self.big self.now).capacity }
     {
-        count_common::<Self, B, Self::Order, B::Order>(self, other)
+        counts::count_common::<Self, B, Self::Order, B::Order>(self, other)
     }
 
     /// Returns how many indexes are set in this set and not in the other one, each in its own
-    /// order. It costs a count of this set and [`count_common`](BitsRelationExt::count_common).
+    /// order. Each word of both is counted once if their words have one width and are read in one
+    /// order. Else it costs a count of this set and [`count_common`](BitsRelationExt::count_common).
     ///
     /// ```
     /// 0b0110u8.count_alone(&0x0104u16);                   // 1: index 1
@@ -177,10 +178,11 @@ pub trait BitsRelationExt: Bits {
             result ≡ size (first_only_of ours theirs) }
         ensures at_most { result ≤ (Self.big self.now).capacity }
     {
-        self.count_ones() - count_common::<Self, B, Self::Order, B::Order>(self, other)
+        counts::count_alone::<Self, B, Self::Order, B::Order>(self, other)
     }
 
-    /// Returns how many indexes are set in just one of the two sets, each in its own order. It
+    /// Returns how many indexes are set in just one of the two sets, each in its own order. Each
+    /// word of both is counted once if their words have one width and are read in one order. Else it
     /// costs a count of each set and [`count_common`](BitsRelationExt::count_common).
     ///
     /// ```
@@ -197,8 +199,7 @@ pub trait BitsRelationExt: Bits {
             result ≡ size (just_one_of ours theirs) }
         ensures at_most { result ≤ max (Self.big self.now).capacity (B.big other.now).capacity }
     {
-        let common = count_common::<Self, B, Self::Order, B::Order>(self, other);
-        (self.count_ones() - common) + (other.count_ones() - common)
+        counts::count_different::<Self, B, Self::Order, B::Order>(self, other)
     }
 }
 

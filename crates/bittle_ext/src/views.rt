@@ -163,7 +163,7 @@ pub trait BitsViewExt: Bits {
         ensures view_fits { ShapeFits
             ⟦<OrView<'a, Self, B, Self::Order, B::Order> as Shape>⟧ result }
     {
-        OfBoth::of_either(self, other)
+        OfBoth::of_alike(self, other)
     }
 
     /// Views the indexes that are set in just one of two sets of like words. All else is as with
@@ -198,7 +198,7 @@ pub trait BitsViewExt: Bits {
         ensures view_fits { ShapeFits
             ⟦<XorView<'a, Self, B, Self::Order, B::Order> as Shape>⟧ result }
     {
-        OfBoth::of_either(self, other)
+        OfBoth::of_alike(self, other)
     }
 
     /// Views the indexes that are set in either of two sets of any words: a set of whole words as

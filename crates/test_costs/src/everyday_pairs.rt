@@ -70,14 +70,14 @@ fn relations_that_the_first_word_decides_fetch_four_words_of_both_and_it_again(r
     relate_by_the_first_word(&rt, &left, &right, &asked);
 }
 
-// What is in one set alone is its count, which asks each element, less what is in both.
+// What an operation makes of two words is counted, so no element is asked for its count.
 fn count_two_sets<B: Bits>(rt: &impl Abort, left: &B, right: &B, asked: &Asked)
     requires left { ShapeFits B.Shape left.now }
     requires right { ShapeFits B.Shape right.now }
 {
     costs!(rt; asked, left.count_common(right), 1, 24, 0);
-    costs!(rt; asked, left.count_alone(right), 1, 24, 12);
-    costs!(rt; asked, left.count_different(right), 1, 24, 24);
+    costs!(rt; asked, left.count_alone(right), 1, 24, 0);
+    costs!(rt; asked, left.count_different(right), 1, 24, 0);
 }
 
 #[test]

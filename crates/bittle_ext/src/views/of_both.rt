@@ -305,11 +305,10 @@ impl<'a, A: Bits, B: Bits, E: Endian, F: Endian, O: FirstOperation> OfBoth<'a, A
 }
 
 impl<'a, A: Bits, B: Bits, E: Endian, F: Endian, O: EitherOperation> OfBoth<'a, A, B, E, F, O> {
-    /// Views what an operation makes of two sets of like words.
+    /// Views what an operation makes of two sets whose words have one width.
     #[inline]
-    pub(crate) fn of_either(left: &'a A, right: &'a B) -> Self
-    where
-        B: Shape<LeafWord = A::LeafWord>,
+    pub(crate) fn of_alike(left: &'a A, right: &'a B) -> Self
+        requires width { A.width ≡ B.width }
         requires left_fits { ShapeFits A.Shape left.now }
         requires right_fits { ShapeFits B.Shape right.now }
         ensures left { result.left.now ≡ left.now }

@@ -3,7 +3,7 @@ use Rattle.bittle.specs.PlainSet.{PlainSet, ascending}
 use Rattle.bittle.specs.Values.{set_in}
 use Rattle.bittle_ext.specs.Views.{decided_until}
 use Rattle.bittle_ext.proofs.ViewFacts.{holds_either, multiple, whole_greater}
-use Rattle.bittle_ext.proofs.views.of_both.OfBoth.of_either.Goals as goal
+use Rattle.bittle_ext.proofs.views.of_both.OfBoth.of_alike.Goals as goal
 
 pub until-requires-clause-holds : goal.until-requires-clause-holds
 until-requires-clause-holds g c =
@@ -12,7 +12,7 @@ until-requires-clause-holds g c =
     let b = g.met.B.ReadWords in
     let ours = c.capacity_of.ensures.ends in
     let theirs = c.capacity_of-2.ensures.ends in
-    let whole = whole_greater _ w g.B.Shape.width a.leaf_width b.leaf_width
+    let whole = whole_greater _ w g.B.Shape.width a.leaf_width (a.leaf_width ∙ c.requires.width)
     (a.whole_words c.args.left.now) (b.whole_words c.args.right.now) in
     holds_either g.O.Operation.decide ours theirs w g.met.O.EitherOperation.takes_second c.max-end.result (omega (
       arith,
