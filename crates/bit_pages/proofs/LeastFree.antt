@@ -111,6 +111,13 @@ least_free-none s none = by (least_free s) (least_free-is s)
         (sym (complement_within s q least.within) ∙ none q (omega arith) least.within))
         ∙ least.is_free))
 
+-- what a search over all pages finds is the least free one
+pub least_free-search : (s : PlainSet) (end : ℕ) (r : Option ℕ) → end ≡ s.capacity →
+    IsFirstIn (complement s) 0 end r → least_free s ≡ r
+least_free-search s end None e none = least_free-none s (λ k p q. none k p (omega (arith, e, q)))
+least_free-search s end (Some p) e first =
+    least_free-first s p (first.0, omega (arith, e, first.1), first.2, first.3)
+
 -- of a page a test of the map tells whether it is taken
 pub is_taken-within : (s : PlainSet) (p : ℕ) → p < s.capacity → is_taken s p ≡ contains s p
 is_taken-within s p h = ap (λ b. b && s.has p) (lt-ltb p s.capacity h) ∙ sym (contains_within s p h)

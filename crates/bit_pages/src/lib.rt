@@ -16,7 +16,7 @@ ghost use Rattle.bittle_ext.specs.Runs.{IsFirstRun, IsRun};
 #[doc(hidden)]
 pub mod page_laws;
 
-use bittle::{BitsOwned, Set, Shape};
+use bittle::{Bits, BitsOwned, Set, Shape};
 use bittle_ext::{BitsExt, BitsMutExt};
 use std::error::Error;
 use std::fmt;
@@ -119,10 +119,11 @@ impl<B: BitsOwned> Pages<B> {
         ensures pages { set_in B.Shape B.Order.Endian self.new.map
             ≡ state_after (set_in B.Shape B.Order.Endian self.old.map) Request.Take }
     {
-        if self.count == B::bits() {
+        let pages = B::bits();
+        if self.count == pages {
             return None;
         }
-        let page = self.map.iter_zeros().next()?;
+        let page = self.map.first_zero_in::<B::Order>(0, pages)?;
         self.map.set_bit(page);
         self.count += 1;
         Some(page)
