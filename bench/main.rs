@@ -147,6 +147,10 @@ pub fn keep_even(words: &mut [u64]) {
     }
 }
 
+pub fn count_ones(words: &[u64]) -> u64 {
+    words.iter().map(|word| u64::from(word.count_ones())).sum()
+}
+
 pub fn count_alone(words: &[u64], others: &[u64]) -> u64 {
     words.iter().zip(others).map(|(word, other)| u64::from((word & !other).count_ones())).sum()
 }
@@ -191,10 +195,11 @@ struct Cell<'a> {
 impl<'a> Cell<'a> {
     fn new(call: &'a Call, n: usize, bits: &str) -> Cell<'a> {
         let state = &mut 2026;
-        let left = words(state, n, bits);
+        let mut left = words(state, n, bits);
         let mut right = words(state, n, bits);
         match call.name {
-            "equal" => right.clone_from(&left),
+            "all_zeros*" => left.fill(0),
+            "equal" | "equal*" => right.clone_from(&left),
             "is_subset" => right.iter_mut().zip(&left).for_each(|(r, l)| *r |= l),
             "is_disjoint" => right.iter_mut().zip(&left).for_each(|(r, l)| *r &= !l),
             _ => {}
