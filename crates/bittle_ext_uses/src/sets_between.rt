@@ -1,6 +1,6 @@
 //! Sets changed by sets of other shapes, with what is told of the change.
 
-ghost use Rattle.std.specs.Prelude.{◌≡◌, ◌<◌, ◌+◌, ◌*◌, false, length, slice_get, IfSome, IsTrue};
+ghost use Rattle.std.specs.Prelude.{◌≡◌, ◌<◌, ◌+◌, ◌*◌, ◌||◌, ◌&&◌, false, length, slice_get, IfSome, IsTrue};
 ghost use Rattle.bittle.specs.BitPatterns.{bit_set};
 ghost use Rattle.bittle.specs.PlainSet.{ascending, complement, contains, full_set};
 ghost use Rattle.bittle.specs.PlainSet.{members_below, size};
@@ -146,4 +146,45 @@ pub fn free_below(taken: &[u64; 8], page: u32) -> u32
     ensures { result ≡ members_below (complement (row_set 8 64 (bit_set 64) taken.now)) page }
 {
     taken.rank_zero(page)
+}
+
+/// Adds the indexes of any set to another one, and returns whether it has an index then.
+fn has_with<A: BitsMut, B: Bits>(set: &mut A, other: &B, index: u32) -> bool
+    requires fits { ShapeFits A.Shape set.old }
+    requires other_fits { ShapeFits B.Shape other.now }
+    requires within { index < (A.big set.old).capacity }
+    ensures { result ≡ (contains (set_in A.Shape A.Order.Endian set.old) index
+        || (set_in B.Shape B.Order.Endian other.now).has index) }
+{
+    set.union_with(other);
+    set.test_bit(index)
+}
+
+/// Adds the roles of a word to a mask, and returns whether the mask has a role then.
+pub fn has_role_with(mask: &mut u64, word: u32, role: u32) -> bool
+    requires { role < 64 }
+    ensures { result ≡ (contains (bit_set 64 mask.old) role || (bit_set 32 word).has role) }
+{
+    has_with(mask, &word, role)
+}
+
+/// Keeps of any set the indexes of another one, and returns whether it has an index then.
+fn has_within<A: BitsMut, B: Bits>(set: &mut A, other: &B, index: u32) -> bool
+    requires fits { ShapeFits A.Shape set.old }
+    requires other_fits { ShapeFits B.Shape other.now }
+    requires within { index < (A.big set.old).capacity }
+    ensures { result ≡ (contains (set_in A.Shape A.Order.Endian set.old) index
+        && (set_in B.Shape B.Order.Endian other.now).has index) }
+{
+    set.intersect_with(other);
+    set.test_bit(index)
+}
+
+/// Takes the roles that a word lacks out of a mask, and returns whether the mask has a role then.
+pub fn has_role_within(mask: &mut [u64; 4], word: u32, role: u32) -> bool
+    requires { role < 256 }
+    ensures { result ≡ (contains (row_set 4 64 (bit_set 64) mask.old) role
+        && (bit_set 32 word).has role) }
+{
+    has_within(mask, &word, role)
 }
