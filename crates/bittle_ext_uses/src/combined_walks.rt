@@ -104,3 +104,21 @@ pub fn ends(one: u8, other: u8) -> (Option<u32>, Option<u32>)
     let first = walk.next();
     (first, walk.next_back())
 }
+
+/// Returns the entry of the greatest index that a byte has in common with a longer set, or 0.
+pub fn last_common_entry(few: u8, many: u64, table: &[u32; 8]) -> u32 {
+    let mut last = 0;
+    for index in few.and(&many).iter_ones() {
+        last = table[index as usize];
+    }
+    last
+}
+
+/// Returns the entry of the greatest index that a byte has and a longer set lacks, or 0.
+pub fn last_entry_alone(few: u8, many: u64, table: &[u32; 8]) -> u32 {
+    let mut last = 0;
+    for index in few.minus(&many).iter_ones() {
+        last = table[index as usize];
+    }
+    last
+}
