@@ -1,0 +1,4 @@
+pub mod LeastDead
+pub mod Masks
+pub mod Matches
+pub mod Worlds

@@ -1,0 +1,99 @@
+-- The entities that have each of a list of components.
+use Rattle.std.proofs.Common.{◌≡◌, ℕ, ◌+◌, ◌<◌, Bool, true, false, ◌&&◌, List, [], length, take, get_or, inl, inr, refl, sym, ap, ◌∙◌, arith}
+use Rattle.std.specs.List.{list_all}
+use Rattle.std.proofs.lemmas.Bool.{cases_lt, cases_Bool, le-ltb, and_parts, true≢false}
+use Rattle.std.proofs.lemmas.List.Folds.{list_all_more, list_all_at}
+use Rattle.bittle.specs.PlainSet.{PlainSet, empty_set}
+use Rattle.bittle.specs.SetOperations.{conjunction_of, combination_has}
+use Rattle.bittle.proofs.CallerSets.{combination_within}
+use Rattle.bit_entities.specs.Entities.{World, IsWorld, EndsAtCapacity, matching, having, LeadsTo}
+
+-- a mask and that of a component
+pub kept_by_mask : (w : World) (s t : PlainSet) (component : ℕ) → s.capacity ≡ t.capacity →
+    EndsAtCapacity s → ((k : ℕ) → t.has k ≡ w.has k component) →
+    conjunction_of s t ≡ having w s component
+unfolding combination_has
+kept_by_mask w s t component same past is =
+    λ i. record { capacity = s.capacity; has = λ k. each k i }
+  where
+    each : (k : ℕ) → combination_has ◌&&◌ s t k ≡ (s.has k && w.has k component)
+    each k = elim (cases_lt k s.capacity) [
+      | inl l ↦ combination_within ◌&&◌ s t k l (omega (arith, same))
+          ∙ ap (λ b. s.has k && b) (is k)
+      | inr g ↦
+          let out = le-ltb k s.capacity g in
+          let none = past k g in rw (out, none) refl
+    ]
+
+-- where there is no such component none has it
+pub kept_by_none : (w : World) (s : PlainSet) (component c : ℕ) → c ≡ s.capacity →
+    ((k : ℕ) → w.has k component ≡ false) → empty_set c ≡ having w s component
+kept_by_none w s component c same none =
+    λ i. record { capacity = same i; has = λ k. each k i }
+  where
+    each : (k : ℕ) → false ≡ (s.has k && w.has k component)
+    each k = by (s.has k) (w.has k component) (none k)
+      where
+        by : (a b : Bool) → b ≡ false → false ≡ (a && b)
+        by true b e = sym e
+        by false b e = refl
+
+-- one component more is required
+pub matching_more : (w : World) (required : List ℕ) (i d : ℕ) → i < length required →
+    having w (matching w (take i required)) (get_or required i d)
+    ≡ matching w (take (i + 1) required)
+matching_more w required i d h = λ j. record {
+  capacity = w.alive.capacity;
+  has = λ k. (by (w.alive.has k) (list_all (w.has k) (take i required))
+      (w.has k (get_or required i d))
+      ∙ ap (λ b. w.alive.has k && b) (sym (list_all_more (w.has k) required i d h))) j;
+}
+  where
+    by : (a b c : Bool) → ((a && b) && c) ≡ (a && (b && c))
+    by true b c = refl
+    by false b c = refl
+
+-- where none is required all the living match
+pub matching_none : (w : World) → w.alive ≡ matching w []
+matching_none w = λ j. record { capacity = w.alive.capacity; has = λ k. by (w.alive.has k) j }
+  where
+    by : (a : Bool) → a ≡ (a && true)
+    by true = refl
+    by false = refl
+
+-- no number past the capacity matches
+pub matching_ends : (w : World) (required : List ℕ) → IsWorld w →
+    EndsAtCapacity (matching w required)
+matching_ends w required is k h = elim (cases_Bool (w.alive.has k)) [
+  | inl lives ↦ absurd (omega (arith, h, is.living_are_below k lives))
+  | inr dead ↦ ap (λ b. b && list_all (w.has k) required) dead
+]
+
+-- what matches is in the mask of the first component that is required
+pub first_leads : (w : World) (required : List ℕ) (component : ℕ) (mask : PlainSet) → IsWorld w →
+    0 < length required → get_or required 0 component ≡ component →
+    ((k : ℕ) → mask.has k ≡ w.has k component) → LeadsTo w required mask
+first_leads w required component mask is some first has = record {
+  has_all = λ k e. elim (cases_Bool (mask.has k)) [
+    | inl in_mask ↦ in_mask
+    | inr none ↦ absurd (true≢false (
+        sym (and_parts (w.alive.has k) (list_all (w.has k) required) e).1
+        ∙ list_all_at (w.has k) required 0 component some
+        (ap (w.has k) first ∙ sym (has k) ∙ none)
+        ))
+  ];
+  are_alive = λ k e. is.dead_have_nothing k component (sym (has k) ∙ e);
+}
+
+-- where there is no such component none matches
+pub first_is_none : (w : World) (required : List ℕ) (component : ℕ) → 0 < length required →
+    get_or required 0 component ≡ component → ((k : ℕ) → w.has k component ≡ false) → (k : ℕ) →
+    (matching w required).has k ≡ false
+first_is_none w required component some first none k =
+    let no = list_all_at (w.has k) required 0 component some
+    (ap (w.has k) first ∙ none k) in
+    by (w.alive.has k) (list_all (w.has k) required) no
+  where
+    by : (a b : Bool) → b ≡ false → (a && b) ≡ false
+    by true b e = e
+    by false b e = refl

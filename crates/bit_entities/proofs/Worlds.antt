@@ -1,0 +1,152 @@
+-- What each change keeps of a world: no dead entity has a component, and each living one is below
+-- the capacity.
+use Rattle.std.proofs.Common.{◌≡◌, ℕ, ◌<◌, ◌≤◌, Bool, true, false, cond, ◌&&◌, ◌==◌, nat_lt, inl, inr, refl, sym, ap, ◌∙◌, arith}
+use Rattle.std.proofs.lemmas.Bool.{cases_Bool, cases_eq, cases_lt, eq-eqb, ne_eqb, lt-ltb, true≢false}
+use Rattle.bittle.specs.PlainSet.{PlainSet}
+use Rattle.bit_entities.specs.Entities.{World, IsWorld, may_have, with_number, with_living, without_first, without_entity, with_component}
+
+-- a world with other living entities
+abbrev pub with_alive : World → PlainSet → World
+with_alive w alive = record { alive = alive; components = w.components; has = w.has }
+
+-- what a number's test is where it is that of another
+test_other : (k i : ℕ) (is r : Bool) → cond (k == i) is r ≡ true → (k ≡ i → ⊥) → r ≡ true
+test_other k i is r e apart = sym (ap (λ b. cond b is r) (ne_eqb k i apart)) ∙ e
+
+-- what is left where some was taken
+left : (a r : Bool) → cond a false r ≡ true → (a ≡ false) × (r ≡ true)
+left true r e = absurd (true≢false (sym e))
+left false r e = (refl, e)
+
+-- a dead entity lacks each component
+pub dead_lacks : (w : World) (entity : ℕ) → IsWorld w → w.alive.has entity ≡ false →
+    (component : ℕ) → w.has entity component ≡ false
+dead_lacks w entity is dead component = elim (cases_Bool (w.has entity component)) [
+  | inl has ↦ absurd (true≢false (sym (is.dead_have_nothing entity component has) ∙ dead))
+  | inr lacks ↦ lacks
+]
+
+-- and each lacks what is no component
+pub no_other : (w : World) → IsWorld w → (entity component : ℕ) → w.components ≤ component →
+    w.has entity component ≡ false
+no_other w is entity component h = elim (cases_Bool (w.has entity component)) [
+  | inl has ↦ absurd (omega (arith, h, is.components_are_below entity component has))
+  | inr lacks ↦ lacks
+]
+
+-- an entity below the capacity may live
+pub living_is_world : (w : World) (entity : ℕ) → IsWorld w → entity < w.alive.capacity →
+    IsWorld (with_living w entity)
+living_is_world w entity is below = record {
+  dead_have_nothing = λ k c has. by (k == entity) (w.alive.has k) (is.dead_have_nothing k c has);
+  living_are_below = λ k e. elim (cases_eq k entity) [
+    | inl same ↦ omega (arith, same, below)
+    | inr apart ↦ is.living_are_below k (test_other k entity true (w.alive.has k) e apart)
+  ];
+  components_are_below = is.components_are_below;
+}
+  where
+    by : (a b : Bool) → b ≡ true → cond a true b ≡ true
+    by true b e = refl
+    by false b e = e
+
+-- components may be lost
+pub losing_is_world : (w : World) (entity many : ℕ) → IsWorld w →
+    IsWorld (without_first w entity many)
+losing_is_world w entity many is = record {
+  dead_have_nothing = λ k c e. is.dead_have_nothing k c
+      (left ((k == entity) && nat_lt c many) (w.has k c) e).1;
+  living_are_below = is.living_are_below;
+  components_are_below = λ k c e. is.components_are_below k c
+      (left ((k == entity) && nat_lt c many) (w.has k c) e).1;
+}
+
+-- an entity may go with its components
+pub going_is_world : (w : World) (entity : ℕ) → IsWorld w → IsWorld (without_entity w entity)
+going_is_world w entity is = record {
+  dead_have_nothing = λ k c e.
+      let rest = left (k == entity) (w.has k c) e in
+      ap (λ b. cond b false (w.alive.has k)) rest.0 ∙ is.dead_have_nothing k c rest.1;
+  living_are_below = λ k e.
+      is.living_are_below k (left (k == entity) (w.alive.has k) e).1;
+  components_are_below = λ k c e.
+      is.components_are_below k c (left (k == entity) (w.has k c) e).1;
+}
+
+-- a living entity may have a component, or have it no longer
+pub having_is_world : (w : World) (entity component : ℕ) (has : Bool) → IsWorld w →
+    component < w.components → w.alive.has entity ≡ true →
+    IsWorld (with_component w entity component has)
+having_is_world w entity component has is below lives = record {
+  dead_have_nothing = λ k c e. elim (cases_eq k entity) [
+    | inl same ↦ ap w.alive.has same ∙ lives
+    | inr apart ↦ is.dead_have_nothing k c
+        (sym (ap (λ b. cond (b && (c == component)) has (w.has k c)) (ne_eqb k entity apart)) ∙ e)
+  ];
+  living_are_below = is.living_are_below;
+  components_are_below = λ k c e. elim (cases_eq c component) [
+    | inl same ↦ omega (arith, same, below)
+    | inr apart ↦ is.components_are_below k c
+        (elsewhere (k == entity) (c == component) (w.has k c) (ne_eqb c component apart) e)
+  ];
+}
+  where
+    elsewhere : (a b r : Bool) → b ≡ false → cond (a && b) has r ≡ true → r ≡ true
+    elsewhere true b r off e = sym (ap (λ t. cond t has r) off) ∙ e
+    elsewhere false b r off e = e
+
+-- where each component is lost, and the entity is alive no longer, the entity is gone
+pub all_lost : (w : World) (entity : ℕ) → IsWorld w → (t : World) →
+    t ≡ without_first w entity w.components → (alive : PlainSet) →
+    alive ≡ with_number t.alive entity false →
+    with_alive t alive ≡ without_entity w entity
+all_lost w entity is t lost alive gone =
+    ap (with_alive t) gone
+    ∙ ap (λ u. with_alive u (with_number u.alive entity false)) lost
+    ∙ (λ i. record {
+      alive = with_number w.alive entity false;
+      components = w.components;
+      has = λ k c. by k c i;
+    })
+  where
+    by : (k c : ℕ) → cond ((k == entity) && nat_lt c w.components) false (w.has k c)
+        ≡ cond (k == entity) false (w.has k c)
+    by k c = elim (cases_lt c w.components) [
+      | inl l ↦ within (k == entity) (nat_lt c w.components) (w.has k c) (lt-ltb c w.components l)
+      | inr g ↦ past ((k == entity) && nat_lt c w.components) (k == entity) (w.has k c)
+          (no_other w is k c g)
+    ]
+      where
+        within : (a b r : Bool) → b ≡ true → cond (a && b) false r ≡ cond a false r
+        within true b r e = ap (λ t. cond t false r) e
+        within false b r e = refl
+
+        past : (a b r : Bool) → r ≡ false → cond a false r ≡ cond b false r
+        past a b r e = nothing a r e ∙ sym (nothing b r e)
+          where
+            nothing : (a r : Bool) → r ≡ false → cond a false r ≡ false
+            nothing true r e = refl
+            nothing false r e = e
+
+-- the world after an entity was put among the living
+pub now_lives : (w : World) (entity : ℕ) (alive : PlainSet) →
+    alive ≡ with_number w.alive entity true →
+    with_alive w alive ≡ with_living w entity
+now_lives w entity alive e = ap (with_alive w) e
+
+-- where an entity may have a component, what comes of it is what was asked for
+pub now_may_have : (w : World) (entity component : ℕ) (t : World) → component < w.components →
+    w.alive.has entity ≡ true → t ≡ cond (may_have w entity component) t w
+now_may_have w entity component t h lives =
+    let is = lt-ltb component w.components h in
+    let may : may_have w entity component ≡ true = rw (is, lives) refl in
+    ap (λ b. cond b t w) (sym may)
+
+-- what was asked for a component is how it is
+pub has_now : (w : World) (entity component : ℕ) (is : Bool) (t : World) →
+    t ≡ with_component w entity component is → t.has entity component ≡ is
+has_now w entity component is t e =
+    let same = eq-eqb entity entity refl in
+    let it = eq-eqb component component refl in
+    let both : ((entity == entity) && (component == component)) ≡ true = rw (same, it) refl in
+    ap (λ u. u.has entity component) e ∙ ap (λ b. cond b is (w.has entity component)) both

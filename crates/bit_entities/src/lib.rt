@@ -1,0 +1,230 @@
+//! Entities with components, where each component has a mask of the entities that have it.
+//!
+//! An entity is a number below the capacity of the masks, a component one below `N`. An entity is
+//! alive from its spawn to its removal, and only a living one has components: a number that is
+//! spawned again has none of its former life.
+//!
+//! ```rust
+//! use bit_entities::World;
+//!
+//! const PLACE: u32 = 0;
+//! const SPEED: u32 = 1;
+//!
+//! let mut world = World::<u64, 2>::new();
+//! world.spawn();                              // Some(0)
+//! world.spawn();                              // Some(1)
+//! world.attach(1, PLACE);                     // true
+//! world.attach(1, SPEED);                     // true
+//! world.attach(7, PLACE);                     // false: 7 is not alive
+//! world.matching(&[PLACE, SPEED]);            // 0b10: entity 1
+//! world.remove(1);                            // true
+//! world.spawn();                              // Some(1), which has no component
+//! ```
+#![tactic(auto)]
+
+ghost use Rattle.std.specs.Prelude.{◌≡◌, ◌<◌, ℕ, length, true, false, IfSome, IsTrue};
+ghost use Rattle.std.specs.Prelude.{if◌then◌else◌};
+ghost use Rattle.bittle.specs.PlainSet.{complement};
+ghost use Rattle.bittle.specs.Searches.{IsFirstIn};
+ghost use Rattle.bittle.specs.Shapes.{Fits};
+ghost use Rattle.bittle.specs.Values.{set_in};
+ghost use Rattle.bit_entities.specs.Entities.{IsWorld, world_of, empty_world};
+ghost use Rattle.bit_entities.specs.Entities.{may_have, least_dead};
+ghost use Rattle.bit_entities.specs.Entities.{answer_to, world_after, event_answers, final_world};
+
+mod queries;
+
+use bittle::BitsOwned;
+
+/// What happens to a world.
+#[derive(Clone, Copy, Debug, PartialEq, Eq)]
+pub enum Event {
+    /// Asks for a new entity: answered by [`Answer::Spawned`] or [`Answer::Full`].
+    Spawn,
+    /// Removes an entity with its components.
+    Remove(u32),
+    /// Gives an entity a component: the entity, and the component.
+    Attach(u32, u32),
+    /// Takes a component from an entity: the entity, and the component.
+    Detach(u32, u32),
+}
+
+/// The answer to an event.
+#[derive(Clone, Copy, Debug, PartialEq, Eq)]
+pub enum Answer {
+    /// The entity is alive, and has no component.
+    Spawned(u32),
+    /// Nothing changed: each number is alive.
+    Full,
+    /// It is done.
+    Done,
+    /// Nothing changed: the entity is not alive, or there is no such component.
+    Refused,
+}
+
+/// The entities that are alive, and for each of `N` components those that have it.
+///
+/// The type keeps that its masks fit, and that no dead entity has a component.
+#[derive(Drop)]
+pub struct World<B: BitsOwned, const N: usize> {
+    alive: B,
+    components: [B; N],
+    pub ghost fits: { Fits B.indexable B.type_capacity },
+    pub ghost sound: { IsWorld
+        (world_of N (set_in B.Shape B.Order.Endian) alive components) },
+}
+
+impl<B: BitsOwned, const N: usize> World<B, N> {
+    /// Returns a world of which no entity is alive. The type has to be one that may be indexed:
+    /// `B::bits() < u32::MAX` tells. With capacity 0 none ever is.
+    pub fn new() -> World<B, N>
+        requires { IsTrue B.indexable }
+        ensures { world_of N (set_in B.Shape B.Order.Endian) result.alive result.components
+            ≡ empty_world B.type_capacity N }
+    {
+        World {
+            alive: B::zeros(),
+            components: [B::zeros(); N],
+        }
+    }
+
+    /// Returns whether an entity is alive. A number past the capacity is not.
+    pub fn is_alive(&self, entity: u32) -> bool
+        ensures { let world = world_of N (set_in B.Shape B.Order.Endian) self.now.alive
+            self.now.components in result ≡ world.alive.has entity }
+    {
+        entity < B::bits() && self.alive.test_bit(entity)
+    }
+
+    /// Returns whether an entity has a component. One that is not alive has none, and none has what
+    /// is no component.
+    pub fn has(&self, entity: u32, component: u32) -> bool
+        ensures { let world = world_of N (set_in B.Shape B.Order.Endian) self.now.alive
+            self.now.components in result ≡ world.has entity component }
+    {
+        match self.components.get(component as usize) {
+            Some(mask) => entity < B::bits() && mask.test_bit(entity),
+            None => false,
+        }
+    }
+
+    /// Makes the least number that is not alive an entity, and returns it. It has no component.
+    /// Where all are alive it returns `None`, and nothing changes. It reads the words up to the
+    /// number.
+    pub fn spawn(&mut self) -> Option<u32>
+        ensures entity { result ≡ least_dead (world_of N (set_in B.Shape B.Order.Endian)
+            self.old.alive self.old.components) }
+        ensures first { IsFirstIn (complement (set_in B.Shape B.Order.Endian self.old.alive)) 0
+            B.type_capacity result }
+        ensures below { IfSome result (λ entity. entity < B.type_capacity) }
+        ensures lives { let after = world_of N (set_in B.Shape B.Order.Endian) self.new.alive
+            self.new.components in IfSome result (λ entity. after.alive.has entity ≡ true) }
+        ensures bare { let after = world_of N (set_in B.Shape B.Order.Endian) self.new.alive
+            self.new.components in
+            IfSome result (λ entity. (component : ℕ) → after.has entity component ≡ false) }
+        ensures world { world_of N (set_in B.Shape B.Order.Endian) self.new.alive
+            self.new.components ≡ world_after (world_of N (set_in B.Shape B.Order.Endian)
+            self.old.alive self.old.components) Event.Spawn }
+    {
+        let entity = self.alive.first_zero_in::<B::Order>(0, B::bits())?;
+        self.alive.set_bit(entity);
+        Some(entity)
+    }
+
+    /// Removes an entity with its components, and returns `true`. Where it is not alive, nothing
+    /// changes. It clears one bit of each mask.
+    pub fn remove(&mut self, entity: u32) -> bool
+        ensures done { let before = world_of N (set_in B.Shape B.Order.Endian) self.old.alive
+            self.old.components in result ≡ before.alive.has entity }
+        ensures gone { let after = world_of N (set_in B.Shape B.Order.Endian) self.new.alive
+            self.new.components in after.alive.has entity ≡ false }
+        ensures world { world_of N (set_in B.Shape B.Order.Endian) self.new.alive
+            self.new.components ≡ world_after (world_of N (set_in B.Shape B.Order.Endian)
+            self.old.alive self.old.components) (Event.Remove entity) }
+    {
+        if !self.is_alive(entity) {
+            return false;
+        }
+        for component in 0..N {
+            self.components[component].clear_bit(entity);
+        }
+        self.alive.clear_bit(entity);
+        true
+    }
+
+    /// Gives an entity a component, and returns `true`; one that it has stays. Where it is not
+    /// alive, or there is no such component, nothing changes.
+    pub fn attach(&mut self, entity: u32, component: u32) -> bool
+        ensures done { result ≡ may_have (world_of N (set_in B.Shape B.Order.Endian)
+            self.old.alive self.old.components) entity component }
+        ensures has { let after = world_of N (set_in B.Shape B.Order.Endian) self.new.alive
+            self.new.components in result ≡ true → after.has entity component ≡ true }
+        ensures world { world_of N (set_in B.Shape B.Order.Endian) self.new.alive
+            self.new.components ≡ world_after (world_of N (set_in B.Shape B.Order.Endian)
+            self.old.alive self.old.components) (Event.Attach entity component) }
+    {
+        if component as usize >= N || !self.is_alive(entity) {
+            return false;
+        }
+        self.components[component as usize].set_bit(entity);
+        true
+    }
+
+    /// Takes a component from an entity, and returns `true`, also where it has it not. Where it is
+    /// not alive, or there is no such component, nothing changes.
+    pub fn detach(&mut self, entity: u32, component: u32) -> bool
+        ensures done { result ≡ may_have (world_of N (set_in B.Shape B.Order.Endian)
+            self.old.alive self.old.components) entity component }
+        ensures lacks { let after = world_of N (set_in B.Shape B.Order.Endian) self.new.alive
+            self.new.components in after.has entity component ≡ false }
+        ensures world { world_of N (set_in B.Shape B.Order.Endian) self.new.alive
+            self.new.components ≡ world_after (world_of N (set_in B.Shape B.Order.Endian)
+            self.old.alive self.old.components) (Event.Detach entity component) }
+    {
+        if component as usize >= N || !self.is_alive(entity) {
+            return false;
+        }
+        self.components[component as usize].clear_bit(entity);
+        true
+    }
+
+    // Answers one event.
+    fn answer(&mut self, event: Event) -> Answer
+        ensures answer { result ≡ answer_to (world_of N (set_in B.Shape B.Order.Endian)
+            self.old.alive self.old.components) event }
+        ensures world { world_of N (set_in B.Shape B.Order.Endian) self.new.alive
+            self.new.components ≡ world_after (world_of N (set_in B.Shape B.Order.Endian)
+            self.old.alive self.old.components) event }
+    {
+        match event {
+            Event::Spawn => match self.spawn() {
+                Some(entity) => Answer::Spawned(entity),
+                None => Answer::Full,
+            },
+            Event::Remove(entity) => done_or_refused(self.remove(entity)),
+            Event::Attach(entity, component) => done_or_refused(self.attach(entity, component)),
+            Event::Detach(entity, component) => done_or_refused(self.detach(entity, component)),
+        }
+    }
+
+    /// Serves the events in turn, and writes an answer to each. There is one place for each answer.
+    pub fn serve(&mut self, events: &[Event], answers: &mut [Answer])
+        requires { length answers.old ≡ length events.now }
+        ensures answers { answers.new ≡ event_answers (world_of N (set_in B.Shape B.Order.Endian)
+            self.old.alive self.old.components) events.now }
+        ensures world { world_of N (set_in B.Shape B.Order.Endian) self.new.alive
+            self.new.components ≡ final_world (world_of N (set_in B.Shape B.Order.Endian)
+            self.old.alive self.old.components) events.now }
+    {
+        for i in 0..events.len() {
+            answers[i] = self.answer(events[i]);
+        }
+    }
+}
+
+// Returns the answer to a request that was done or not.
+fn done_or_refused(done: bool) -> Answer
+    ensures { result ≡ if done then Answer.Done else Answer.Refused }
+{
+    if done { Answer::Done } else { Answer::Refused }
+}

@@ -1,0 +1,92 @@
+//! Which entities have components.
+
+ghost use Rattle.std.specs.List.{list_all};
+ghost use Rattle.std.specs.Prelude.{◌≡◌, ◌<◌, ◌≤◌, ℕ, false, IfSome, MatchOption};
+ghost use Rattle.bittle.specs.Searches.{IsFirstIn};
+ghost use Rattle.bittle.specs.Values.{set_in, ShapeFits};
+ghost use Rattle.bit_entities.specs.Entities.{world_of, EndsAtCapacity, matching, having};
+ghost use Rattle.bit_entities.specs.Entities.{LeadsTo};
+
+use crate::World;
+use bittle::BitsOwned;
+
+impl<B: BitsOwned, const N: usize> World<B, N> {
+    /// Returns the mask of the living entities that have each of the components: all the living
+    /// where none is named, and none where a number is no component. It stays as it is when the
+    /// world changes. It reads each word once for each component.
+    pub fn matching(&self, required: &[u32]) -> B
+        ensures mask { set_in B.Shape B.Order.Endian result ≡ matching
+            (world_of N (set_in B.Shape B.Order.Endian) self.now.alive self.now.components)
+            required.now }
+        ensures fits { ShapeFits B.Shape result }
+        ensures capacity { (B.big result).capacity ≡ B.type_capacity }
+    {
+        let mut mask = self.alive;
+        for i in 0..required.len() {
+            mask = self.having(mask, required[i]);
+        }
+        mask
+    }
+
+    // Returns the entities of a mask that have a component.
+    fn having(&self, mask: B, component: u32) -> B
+        ensures { EndsAtCapacity (set_in B.Shape B.Order.Endian mask) →
+            set_in B.Shape B.Order.Endian result ≡ having
+            (world_of N (set_in B.Shape B.Order.Endian) self.now.alive self.now.components)
+            (set_in B.Shape B.Order.Endian mask) component }
+    {
+        match self.components.get(component as usize) {
+            Some(those) => mask.conjunction(*those),
+            None => B::zeros(),
+        }
+    }
+
+    /// Returns the least living entity from a number on that has each of the components, or `None`
+    /// where there is none, as from a number past the capacity. Of the mask of the first component
+    /// it reads the words up to the answer, and of each other one bit for each entity there.
+    pub fn first_with(&self, required: &[u32], from: u32) -> Option<u32>
+        ensures first { IsFirstIn (matching
+            (world_of N (set_in B.Shape B.Order.Endian) self.now.alive self.now.components)
+            required.now) from B.type_capacity result }
+        ensures below { IfSome result (λ entity. entity < B.type_capacity) }
+    {
+        let mask = self.lead(required)?;
+        let mut at = from;
+        while at < B::bits() {
+            let entity = mask.first_one_in::<B::Order>(at, B::bits())?;
+            if self.has_all(entity, required) {
+                return Some(entity);
+            }
+            at = entity + 1;
+        }
+        None
+    }
+
+    // Returns the mask of the first component, or that of the living where none is required, or
+    // `None` where there is no such component.
+    fn lead(&self, required: &[u32]) -> Option<&B>
+        ensures { let world = world_of N (set_in B.Shape B.Order.Endian) self.now.alive
+            self.now.components in MatchOption result
+            ((entity : ℕ) → (matching world required.now).has entity ≡ false)
+            (λ mask. LeadsTo world required.now (set_in B.Shape B.Order.Endian mask.now)) }
+    {
+        let Some(component) = required.first() else {
+            return Some(&self.alive);
+        };
+        let mask = self.components.get(*component as usize)?;
+        Some(mask)
+    }
+
+    // Returns whether an entity has each of the components.
+    fn has_all(&self, entity: u32, required: &[u32]) -> bool
+        ensures { let world = world_of N (set_in B.Shape B.Order.Endian) self.now.alive
+            self.now.components in result ≡ list_all (world.has entity) required.now }
+    {
+        for i in 0..required.len() {
+            if !self.has(entity, required[i]) {
+                return false;
+            }
+        }
+        true
+    }
+}
