@@ -1,3 +1,5 @@
+pub mod EntityLaws
+pub mod Histories
 pub mod LeastDead
 pub mod Masks
 pub mod Matches

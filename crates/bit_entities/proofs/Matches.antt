@@ -1,9 +1,11 @@
 -- The entities that have each of a list of components.
-use Rattle.std.proofs.Common.{◌≡◌, ℕ, ◌+◌, ◌<◌, Bool, true, false, ◌&&◌, List, [], length, take, get_or, inl, inr, refl, sym, ap, ◌∙◌, arith}
+use Rattle.std.proofs.Common.{◌≡◌, ℕ, zero, suc, ◌+◌, ◌<◌, ◌≤◌, Bool, true, false, cond, ◌&&◌, List, [], ◌∷◌, length, take, get_or, inl, inr, refl, sym, ap, ◌∙◌, arith}
 use Rattle.std.specs.List.{list_all}
 use Rattle.std.proofs.lemmas.Bool.{cases_lt, cases_Bool, le-ltb, and_parts, true≢false}
 use Rattle.std.proofs.lemmas.List.Folds.{list_all_more, list_all_at}
-use Rattle.bittle.specs.PlainSet.{PlainSet, empty_set}
+use Rattle.bittle.specs.PlainSet.{PlainSet, ascending, ascending_from, empty_set}
+use Rattle.bittle.specs.Searches.{NoneIn}
+use Rattle.bit_entities.specs.EntityLaws.{VisitsFrom}
 use Rattle.bittle.specs.SetOperations.{conjunction_of, combination_has}
 use Rattle.bittle.proofs.CallerSets.{combination_within}
 use Rattle.bit_entities.specs.Entities.{World, IsWorld, EndsAtCapacity, matching, having, LeadsTo}
@@ -97,3 +99,31 @@ first_is_none w required component some first none k =
     by : (a b : Bool) → b ≡ false → (a && b) ≡ false
     by true b e = e
     by false b e = refl
+
+-- the increasing list visits each member from a number on
+visits_from : (s : PlainSet) (low from n : ℕ) → low ≤ from → NoneIn s low from →
+    from + n ≡ s.capacity → VisitsFrom s low (ascending_from s.has from n)
+unfolding ascending_from VisitsFrom
+visits_from s low from zero h none e = λ k p q. none k p (omega (arith, e, q))
+visits_from s low from (suc n) h none e =
+    by (s.has from) refl (λ least l clear. visits_from s least (suc from) n l clear (omega (arith, e)))
+  where
+    further : s.has from ≡ false → NoneIn s low (suc from)
+    further lacks k p q = elim (cases_lt k from) [
+      | inl l ↦ none k p l
+      | inr g ↦ let same : k ≡ from = omega (arith, q, g) in ap s.has same ∙ lacks
+    ]
+
+    by : (b : Bool) → s.has from ≡ b → ((least : ℕ) → least ≤ suc from →
+        NoneIn s least (suc from) → VisitsFrom s least (ascending_from s.has (suc from) n)) →
+        VisitsFrom s low
+        (cond b (from ∷ ascending_from s.has (suc from) n) (ascending_from s.has (suc from) n))
+    by true is later = (
+      (h, omega (arith, e), is, none),
+      later (suc from) (omega arith) (λ k p q. absurd (omega (arith, p, q))),
+    )
+    by false lacks later = later low (omega (arith, h)) (further lacks)
+
+pub visits_all : (s : PlainSet) → VisitsFrom s 0 (ascending s)
+visits_all s = visits_from s 0 0 s.capacity (omega arith)
+    (λ k p q. absurd (omega (arith, q))) (omega arith)

@@ -14,7 +14,7 @@ test_other : (k i : ℕ) (is r : Bool) → cond (k == i) is r ≡ true → (k �
 test_other k i is r e apart = sym (ap (λ b. cond b is r) (ne_eqb k i apart)) ∙ e
 
 -- what is left where some was taken
-left : (a r : Bool) → cond a false r ≡ true → (a ≡ false) × (r ≡ true)
+pub left : (a r : Bool) → cond a false r ≡ true → (a ≡ false) × (r ≡ true)
 left true r e = absurd (true≢false (sym e))
 left false r e = (refl, e)
 

@@ -1,1 +1,2 @@
 pub mod Entities
+pub mod EntityLaws

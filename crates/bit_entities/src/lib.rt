@@ -32,6 +32,8 @@ ghost use Rattle.bit_entities.specs.Entities.{IsWorld, world_of, empty_world};
 ghost use Rattle.bit_entities.specs.Entities.{may_have, least_dead};
 ghost use Rattle.bit_entities.specs.Entities.{answer_to, world_after, event_answers, final_world};
 
+#[doc(hidden)]
+pub mod entity_laws;
 mod queries;
 
 use bittle::BitsOwned;

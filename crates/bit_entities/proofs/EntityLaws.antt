@@ -1,0 +1,160 @@
+-- What follows from the entity machine for each event, and for each list of them.
+use Rattle.std.proofs.Common.{◌≡◌, ℕ, ◌<◌, ◌⊎◌, ◌↔◌, Bool, true, false, not, cond, nat_lt, Option, Some, None, List, [], ◌∷◌, inl, inr, refl, sym, ap, ◌∙◌, arith}
+use Rattle.std.proofs.lemmas.Bool.{ltb-true, and_parts, true≢false}
+use Rattle.bittle.specs.PlainSet.{PlainSet, complement}
+use Rattle.bittle.specs.Searches.{IsFirstIn}
+use Rattle.bittle.proofs.CallerSets.{complement_within}
+use Rattle.bit_entities.specs.Entities.{World, IsWorld, empty_world, least_dead, may_have, with_living, without_entity, with_component, spawned_or_full, with_spawned, answer_to, world_after, final_world}
+use Rattle.bit_entities.specs.EntityLaws.{IsNew}
+use Rattle.bit_entities.specs.declared.Event.{Event}
+use Rattle.bit_entities.specs.declared.Event.TheVariants.{Spawn, Remove, Attach, Detach}
+use Rattle.bit_entities.specs.declared.Answer.TheVariants.{Spawned, Full, Done, Refused}
+use Rattle.bit_entities.proofs.LeastDead.{listed_first, outside}
+use Rattle.bit_entities.proofs.Masks.{number_now}
+use Rattle.bit_entities.proofs.Worlds.{dead_lacks, living_is_world, going_is_world, having_is_world}
+
+-- what may have a component: there is one, and the entity is alive
+may_parts : (w : World) (entity component : ℕ) → may_have w entity component ≡ true →
+    (component < w.components) × (w.alive.has entity ≡ true)
+may_parts w entity component e =
+    let parts = and_parts (nat_lt component w.components) (w.alive.has entity) e in
+    (ltb-true component w.components parts.0, parts.1)
+
+changed_is_world : (w : World) (entity component : ℕ) (is : Bool) → IsWorld w → IsWorld
+    (cond (may_have w entity component) (with_component w entity component is) w)
+changed_is_world w entity component is so = by (may_have w entity component) refl
+  where
+    by : (b : Bool) → may_have w entity component ≡ b →
+        IsWorld (cond b (with_component w entity component is) w)
+    by true e = let may = may_parts w entity component e in
+        having_is_world w entity component is so may.0 may.1
+    by false e = so
+
+pub one_stays : (w : World) (event : Event) → IsWorld w → IsWorld (world_after w event)
+one_stays w Spawn is = by (least_dead w) refl
+  where
+    by : (o : Option ℕ) → least_dead w ≡ o → IsWorld (with_spawned w o)
+    by None e = is
+    by (Some entity) e = living_is_world w entity is
+        (outside w.alive entity (listed_first (complement w.alive) (Some entity) e).2).0
+one_stays w (Remove entity) is = by (w.alive.has entity)
+  where
+    by : (b : Bool) → IsWorld (cond b (without_entity w entity) w)
+    by true = going_is_world w entity is
+    by false = is
+one_stays w (Attach entity component) is = changed_is_world w entity component true is
+one_stays w (Detach entity component) is = changed_is_world w entity component false is
+
+-- so it is after every list of events
+pub stay_worlds : (w : World) (events : List Event) → IsWorld w → IsWorld (final_world w events)
+unfolding final_world
+stay_worlds w [] is = is
+stay_worlds w (event ∷ events) is =
+    stay_worlds (world_after w event) events (one_stays w event is)
+
+-- and from a new world on
+pub new_worlds : (capacity count : ℕ) (events : List Event) →
+    IsWorld (final_world (empty_world capacity count) events)
+new_worlds capacity count events = stay_worlds (empty_world capacity count) events (record {
+  dead_have_nothing = λ k c e. absurd (true≢false (sym e));
+  living_are_below = λ k e. absurd (true≢false (sym e));
+  components_are_below = λ k c e. absurd (true≢false (sym e));
+})
+
+no_spawn : (b : Bool) (entity : ℕ) → cond b Done Refused ≡ Spawned entity → ⊥
+no_spawn true entity e = cc
+no_spawn false entity e = cc
+
+not_full : (b : Bool) → cond b Done Refused ≡ Full → ⊥
+not_full true e = cc
+not_full false e = cc
+
+-- what is spawned is the first number that is not alive, and lives
+pub spawned_is : (w : World) (event : Event) (entity : ℕ) → answer_to w event ≡ Spawned entity →
+    IsFirstIn (complement w.alive) 0 w.alive.capacity (Some entity)
+    × (world_after w event ≡ with_living w entity)
+spawned_is w Spawn entity e = by (least_dead w) refl e
+  where
+    by : (o : Option ℕ) → least_dead w ≡ o → spawned_or_full o ≡ Spawned entity →
+        IsFirstIn (complement w.alive) 0 w.alive.capacity (Some entity)
+        × (with_spawned w o ≡ with_living w entity)
+    by None l e = absurd (cc)
+    by (Some k) l e =
+        let same : k ≡ entity = cc in (
+          listed_first (complement w.alive) (Some entity) (l ∙ ap Some same),
+          ap (with_living w) same,
+        )
+spawned_is w (Remove other) entity e = absurd (no_spawn (w.alive.has other) entity e)
+spawned_is w (Attach other component) entity e =
+    absurd (no_spawn (may_have w other component) entity e)
+spawned_is w (Detach other component) entity e =
+    absurd (no_spawn (may_have w other component) entity e)
+
+-- a number below the capacity that is none of the complement is a member
+in_it : (s : PlainSet) (k : ℕ) → k < s.capacity → (complement s).has k ≡ false → s.has k ≡ true
+in_it s k h e = by (s.has k) (sym (complement_within s k h) ∙ e)
+  where
+    by : (b : Bool) → not b ≡ false → b ≡ true
+    by true e = refl
+    by false e = absurd (true≢false e)
+
+pub spawned_new : (w : World) (event : Event) (entity : ℕ) → IsWorld w →
+    answer_to w event ≡ Spawned entity → IsNew w (world_after w event) entity
+spawned_new w event entity is e =
+    let found = spawned_is w event entity e in
+    let out = outside w.alive entity found.0.2 in
+    record {
+      below = out.0;
+      was_dead = out.1;
+      least = λ k h. in_it w.alive k (omega (arith, h, out.0)) (found.0.3 k (omega arith) h);
+      lives = number_now w.alive entity true _ (ap (λ t. t.alive) found.1);
+      has_nothing = λ component. ap (λ t. t.has entity component) found.1
+          ∙ dead_lacks w entity is out.1 component;
+    }
+
+pub full_iff_all : (w : World) (event : Event) → (answer_to w event ≡ Full)
+    ↔ ((event ≡ Spawn) × ((k : ℕ) → k < w.alive.capacity → w.alive.has k ≡ true))
+full_iff_all w Spawn = (to (least_dead w) refl, λ all. from (least_dead w) refl all.1)
+  where
+    to : (o : Option ℕ) → least_dead w ≡ o → spawned_or_full o ≡ Full →
+        (Spawn ≡ Spawn) × ((k : ℕ) → k < w.alive.capacity → w.alive.has k ≡ true)
+    to None l e = (
+      refl,
+      λ k h. in_it w.alive k h (listed_first (complement w.alive) None l k (omega arith) h),
+    )
+    to (Some k) l e = absurd (cc)
+
+    from : (o : Option ℕ) → least_dead w ≡ o →
+        ((k : ℕ) → k < w.alive.capacity → w.alive.has k ≡ true) → spawned_or_full o ≡ Full
+    from None l all = refl
+    from (Some k) l all =
+        let out = outside w.alive k (listed_first (complement w.alive) (Some k) l).2 in
+        absurd (true≢false (sym (all k out.0) ∙ out.1))
+full_iff_all w (Remove entity) =
+    (λ e. absurd (not_full (w.alive.has entity) e), λ all. let is = all.0 in absurd (cc))
+full_iff_all w (Attach entity component) =
+    (λ e. absurd (not_full (may_have w entity component) e), λ all. let is = all.0 in absurd (cc))
+full_iff_all w (Detach entity component) =
+    (λ e. absurd (not_full (may_have w entity component) e), λ all. let is = all.0 in absurd (cc))
+
+-- what is not done is not there
+not_done : (b : Bool) (t w : World) →
+    (cond b Done Refused ≡ Refused) ⊎ (cond b Done Refused ≡ Full) → cond b t w ≡ w
+not_done true t w (inl e) = absurd (cc)
+not_done true t w (inr e) = absurd (cc)
+not_done false t w _ = refl
+
+pub refused_nothing : (w : World) (event : Event) →
+    (answer_to w event ≡ Refused) ⊎ (answer_to w event ≡ Full) → world_after w event ≡ w
+refused_nothing w Spawn h = by (least_dead w) h
+  where
+    by : (o : Option ℕ) → (spawned_or_full o ≡ Refused) ⊎ (spawned_or_full o ≡ Full) →
+        with_spawned w o ≡ w
+    by None _ = refl
+    by (Some k) (inl e) = absurd (cc)
+    by (Some k) (inr e) = absurd (cc)
+refused_nothing w (Remove entity) h = not_done (w.alive.has entity) (without_entity w entity) w h
+refused_nothing w (Attach entity component) h =
+    not_done (may_have w entity component) (with_component w entity component true) w h
+refused_nothing w (Detach entity component) h =
+    not_done (may_have w entity component) (with_component w entity component false) w h

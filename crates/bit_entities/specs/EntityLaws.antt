@@ -1,0 +1,99 @@
+-- What the entity machine keeps, whatever happens.
+use Rattle.std.specs.List.{fold}
+use Rattle.std.specs.Prelude.{◌≡◌, ◌≢◌, ℕ, suc, ◌<◌, ◌⊎◌, ◌↔◌, true, false, Some, List, [], ◌∷◌, slice_get, take}
+use Rattle.bittle.specs.PlainSet.{PlainSet, ascending}
+use Rattle.bittle.specs.Searches.{NoneIn, IsFirstIn}
+use Rattle.bit_entities.specs.Entities.{World, IsWorld, empty_world, answer_to, world_after, event_answers, final_world, matching}
+use Rattle.bit_entities.specs.declared.Event.{Event}
+use Rattle.bit_entities.specs.declared.Event.TheVariants.{Spawn, Remove, Attach, Detach}
+use Rattle.bit_entities.specs.declared.Answer.{Answer}
+use Rattle.bit_entities.specs.declared.Answer.TheVariants.{Spawned, Full, Done, Refused}
+
+-- events keep that no dead entity has a component
+abbrev pub WorldsStayWorlds : Type 0
+WorldsStayWorlds = (w : World) (events : List Event) → IsWorld w → IsWorld (final_world w events)
+
+-- so from a new world on no dead entity ever has one
+abbrev pub DeadHaveNothing : Type 0
+DeadHaveNothing =
+    (capacity count : ℕ) (events : List Event)
+    → IsWorld (final_world (empty_world capacity count) events)
+
+-- an entity is new: the least number that was not alive, and it has no component
+pub record IsNew (before after : World) (entity : ℕ) : Type 0 where
+  pub below : entity < before.alive.capacity
+  pub was_dead : before.alive.has entity ≡ false
+  pub least : (k : ℕ) → k < entity → before.alive.has k ≡ true
+  pub lives : after.alive.has entity ≡ true
+  pub has_nothing : (component : ℕ) → after.has entity component ≡ false
+
+abbrev pub SpawnedAreNew : Type 0
+SpawnedAreNew =
+    (w : World) (event : Event) (entity : ℕ)
+    → IsWorld w
+    → answer_to w event ≡ Spawned entity
+    → IsNew w (world_after w event) entity
+
+-- Full is answered exactly if an entity is asked for and each number is alive
+abbrev pub FullExactlyIfAllAreAlive : Type 0
+FullExactlyIfAllAreAlive =
+    (w : World) (event : Event)
+    → (answer_to w event ≡ Full)
+    ↔ ((event ≡ Spawn) × ((k : ℕ) → k < w.alive.capacity → w.alive.has k ≡ true))
+
+-- what is refused changes nothing
+abbrev pub RefusedChangesNothing : Type 0
+RefusedChangesNothing =
+    (w : World) (event : Event)
+    → (answer_to w event ≡ Refused) ⊎ (answer_to w event ≡ Full)
+    → world_after w event ≡ w
+
+-- an answer of a list is that to its event, from the world that the events before it leave
+pub record IsAnsweredAt (w : World) (events : List Event) (i : ℕ) (reply : Answer) : Type 0 where
+  pub event : Event
+  pub asked : slice_get events i ≡ Some event
+  pub answered : reply ≡ answer_to (fold world_after w (take i events)) event
+
+abbrev pub AnswersAreOfTheirWorlds : Type 0
+AnswersAreOfTheirWorlds =
+    (w : World) (events : List Event) (i : ℕ) (reply : Answer)
+    → slice_get (event_answers w events) i ≡ Some reply
+    → IsAnsweredAt w events i reply
+
+-- a number that is spawned again was removed since
+abbrev pub SpawnedAreRemovedBetween : Type 0
+SpawnedAreRemovedBetween =
+    (w : World) (events : List Event) (entity i j : ℕ)
+    → i < j
+    → slice_get (event_answers w events) i ≡ Some (Spawned entity)
+    → slice_get (event_answers w events) j ≡ Some (Spawned entity)
+    → (k : ℕ) × (i < k) × (k < j) × (slice_get events k ≡ Some (Remove entity))
+
+-- an entity was given a component at a place of the list, and kept it from there on
+pub record IsKeptFrom (w : World) (events : List Event) (entity component k : ℕ) : Type 0 where
+  pub asked : slice_get events k ≡ Some (Attach entity component)
+  pub done : slice_get (event_answers w events) k ≡ Some Done
+  pub not_removed : (j : ℕ) → k < j → slice_get events j ≢ Some (Remove entity)
+  pub not_detached : (j : ℕ) → k < j → slice_get events j ≢ Some (Detach entity component)
+
+-- where it did not have a component, an entity has it after a list of events exactly if it was
+-- given it there, and since then neither was it removed nor the component taken from it
+abbrev pub ComponentsAreThoseKept : Type 0
+ComponentsAreThoseKept =
+    (w : World) (events : List Event) (entity component : ℕ)
+    → IsWorld w
+    → w.has entity component ≡ false
+    → ((final_world w events).has entity component ≡ true)
+    ↔ ((k : ℕ) × IsKeptFrom w events entity component k)
+
+-- a list visits the members from a number on: first the least one, and then those past it
+unfoldable pub VisitsFrom : PlainSet → ℕ → List ℕ → Type 0
+VisitsFrom s from [] = NoneIn s from s.capacity
+VisitsFrom s from (entity ∷ rest) =
+    IsFirstIn s from s.capacity (Some entity) × VisitsFrom s (suc entity) rest
+
+-- a query visits each living entity that has the components once, in increasing order
+abbrev pub QueriesVisitEachOnce : Type 0
+QueriesVisitEachOnce =
+    (w : World) (required : List ℕ)
+    → VisitsFrom (matching w required) 0 (ascending (matching w required))

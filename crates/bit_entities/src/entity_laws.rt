@@ -1,0 +1,57 @@
+//! The main theorems of entities: what holds of every list of events. Each function does nothing:
+//! its contract is the law. They rest on the machine of `specs/Entities.antt`, which `serve` runs
+//! by its contract, and on `matching`, which the call of that name returns.
+
+ghost use Rattle.bit_entities.specs.EntityLaws.{WorldsStayWorlds, DeadHaveNothing, SpawnedAreNew};
+ghost use Rattle.bit_entities.specs.EntityLaws.{FullExactlyIfAllAreAlive, RefusedChangesNothing};
+ghost use Rattle.bit_entities.specs.EntityLaws.{AnswersAreOfTheirWorlds, SpawnedAreRemovedBetween};
+ghost use Rattle.bit_entities.specs.EntityLaws.{ComponentsAreThoseKept, QueriesVisitEachOnce};
+
+/// States that events keep that no dead entity has a component, from any world of which none has.
+pub fn worlds_stay_worlds()
+    ensures { WorldsStayWorlds }
+{}
+
+/// States that from a new world on no dead entity ever has a component.
+pub fn dead_have_nothing()
+    ensures { DeadHaveNothing }
+{}
+
+/// States that an entity that is spawned is the least number that was not alive, and has no
+/// component, whatever it had in a former life.
+pub fn spawned_are_new()
+    ensures { SpawnedAreNew }
+{}
+
+/// States that a spawn finds no number exactly if each is alive.
+pub fn full_exactly_if_all_are_alive()
+    ensures { FullExactlyIfAllAreAlive }
+{}
+
+/// States that an event that is refused changes nothing.
+pub fn refused_changes_nothing()
+    ensures { RefusedChangesNothing }
+{}
+
+/// States that each answer is that to its event from the world that the events before it leave, so
+/// that what holds of an answer and its world holds at each place of a list.
+pub fn answers_are_of_their_worlds()
+    ensures { AnswersAreOfTheirWorlds }
+{}
+
+/// States that a number which is spawned again was removed since it was last spawned.
+pub fn spawned_are_removed_between()
+    ensures { SpawnedAreRemovedBetween }
+{}
+
+/// States that an entity has a component exactly if it was given it, and since then neither was it
+/// removed nor the component taken from it.
+pub fn components_are_those_kept()
+    ensures { ComponentsAreThoseKept }
+{}
+
+/// States that a query visits each living entity that has the components once, in increasing
+/// order.
+pub fn queries_visit_each_once()
+    ensures { QueriesVisitEachOnce }
+{}
