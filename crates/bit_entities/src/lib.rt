@@ -116,9 +116,11 @@ impl<B: BitsOwned, const N: usize> World<B, N> {
     pub fn spawn(&mut self) -> Option<u32>
         ensures entity { result ≡ least_dead (world_of N (set_in B.Shape B.Order.Endian)
             self.old.alive self.old.components) }
-        ensures first { IsFirstIn (complement (set_in B.Shape B.Order.Endian self.old.alive)) 0
+        ensures least { IsFirstIn (complement (set_in B.Shape B.Order.Endian self.old.alive)) 0
             B.type_capacity result }
         ensures below { IfSome result (λ entity. entity < B.type_capacity) }
+        ensures was_dead { let before = world_of N (set_in B.Shape B.Order.Endian) self.old.alive
+            self.old.components in IfSome result (λ entity. before.alive.has entity ≡ false) }
         ensures lives { let after = world_of N (set_in B.Shape B.Order.Endian) self.new.alive
             self.new.components in IfSome result (λ entity. after.alive.has entity ≡ true) }
         ensures bare { let after = world_of N (set_in B.Shape B.Order.Endian) self.new.alive

@@ -67,3 +67,8 @@ returns-clause-bare g c =
     c.args.self.now.components in
     let entity = c.in_ok-entity.entity in
     dead_lacks w entity c.args.self.now.sound (outside w.alive entity c.in_ok-entity.ensures.2).1
+
+pub returns-clause-was_dead : goal.returns-clause-was_dead
+returns-clause-was_dead g c =
+    let alive : PlainSet = set_in g.B.Shape g.B.Order.Endian c.args.self.now.alive in
+    (outside alive c.in_ok-entity.entity c.in_ok-entity.ensures.2).1

@@ -1,0 +1,108 @@
+//! Entities with components in the hands of a caller.
+
+ghost use Rattle.std.specs.Prelude.{◌≡◌, ◌≢◌, ◌≤◌, length, false, true, [], ◌∷◌, IfSome};
+ghost use Rattle.bit_entities.specs.Entities.{empty_world, event_answers, matching, world_of};
+ghost use Rattle.bittle.specs.PlainSet.{ascending, size};
+ghost use Rattle.bittle.specs.Values.{set_in};
+
+use bit_entities::{Answer, Event, World};
+use bittle::walk::IntoIterOnes;
+use bittle::{Bits, BitsOwned};
+use bittle_tiers::{Ones, Tiered4K};
+
+/// The component of an entity that has a place.
+pub const PLACE: u32 = 0;
+
+/// The component of an entity that has a speed.
+pub const SPEED: u32 = 1;
+
+/// Moves each entity that has a place and a speed. The check proves that an entity is an index of
+/// tables as long as there are entities.
+pub fn step<B: BitsOwned, const N: usize>(world: &World<B, N>, places: &mut [i32], speeds: &[i32])
+    requires places { B.type_capacity ≤ length places.old }
+    requires speeds { B.type_capacity ≤ length speeds.now }
+{
+    let movers = world.matching(&[PLACE, SPEED]);
+    for entity in movers.iter_ones() {
+        let entity = entity as usize;
+        places[entity] = places[entity].wrapping_add(speeds[entity]);
+    }
+}
+
+/// Moves those of 4,096 entities, of which few move: each mask has a summary of its words.
+pub fn step_few(world: &World<Tiered4K<Ones>, 2>, places: &mut [i32; 4096], speeds: &[i32; 4096]) {
+    step::<Tiered4K<Ones>, 2>(world, places, speeds);
+}
+
+/// Moves those of 256 entities, of which each component has a mask of four words.
+pub fn step_256(world: &World<[u64; 4], 3>, places: &mut [i32; 256], speeds: &[i32; 256]) {
+    let movers = world.matching(&[PLACE, SPEED]);
+    for entity in movers.iter_ones() {
+        let entity = entity as usize;
+        places[entity] = places[entity].wrapping_add(speeds[entity]);
+    }
+}
+
+/// Returns an iterator over the entities that have a place and a speed. It owns their mask, so the
+/// world may change meanwhile.
+pub fn movers<B: BitsOwned, const N: usize>(world: &World<B, N>) -> IntoIterOnes<B, B::Order>
+    ensures { result.remaining ≡ ascending (matching (world_of N (set_in B.Shape B.Order.Endian)
+        world.now.alive world.now.components) (0 ∷ 1 ∷ [])) }
+{
+    world.matching(&[PLACE, SPEED]).into_iter_ones()
+}
+
+/// Returns how many entities have a place.
+pub fn how_many_placed<B: BitsOwned, const N: usize>(world: &World<B, N>) -> u32
+    ensures { result ≡ size (matching (world_of N (set_in B.Shape B.Order.Endian) world.now.alive
+        world.now.components) (0 ∷ [])) }
+{
+    world.matching(&[PLACE]).count_ones()
+}
+
+/// Spawns an entity with a place, and finds that it has it.
+pub fn spawn_placed<B: BitsOwned>(world: &mut World<B, 2>) -> bool
+    ensures { result ≡ true }
+{
+    match world.spawn() {
+        Some(entity) => world.attach(entity, PLACE) && world.has(entity, PLACE),
+        None => true,
+    }
+}
+
+/// Spawns two entities, which differ.
+pub fn spawn_two<B: BitsOwned, const N: usize>(world: &mut World<B, N>) -> Option<(u32, u32)>
+    ensures { IfSome result (λ both. both.0 ≢ both.1) }
+{
+    let first = world.spawn()?;
+    let second = world.spawn()?;
+    Some((first, second))
+}
+
+/// Removes an entity, and finds it without any component.
+pub fn remove_and_ask<B: BitsOwned, const N: usize>(
+    world: &mut World<B, N>,
+    entity: u32,
+    component: u32,
+) -> bool
+    ensures { result ≡ false }
+{
+    world.remove(entity);
+    world.is_alive(entity) || world.has(entity, component)
+}
+
+/// Returns the name of the first entity that has a speed, in a table of as many names as there are
+/// entities.
+pub fn first_moving(world: &World<[u64; 4], 3>, names: &[u32; 256]) -> Option<u32> {
+    let entity = world.first_with(&[SPEED], 0)?;
+    Some(names[entity as usize])
+}
+
+/// Serves events, of 64 numbers of which none is alive.
+pub fn serve(events: &[Event], answers: &mut [Answer])
+    requires { length answers.old ≡ length events.now }
+    ensures { answers.new ≡ event_answers (empty_world 64 2) events.now }
+{
+    let mut world = World::<u64, 2>::new();
+    world.serve(events, answers);
+}
