@@ -1,0 +1,239 @@
+//! Entities with components.
+
+use crate::checks::{holds, same};
+use crate::drawn::draw;
+use bit_entities::{Answer, Event, World};
+use bittle::{Bits, BitsOwned, LittleEndian, Set};
+
+// Events of which some name a dead entity or no component. On a byte 9 would wrap to 1.
+const EVENTS: [Event; 13] = [
+    Event::Spawn,
+    Event::Spawn,
+    Event::Attach(1, 0),
+    Event::Attach(2, 0),
+    Event::Attach(9, 0),
+    Event::Attach(1, 2),
+    Event::Attach(0, 1),
+    Event::Remove(1),
+    Event::Remove(1),
+    Event::Spawn,
+    Event::Detach(0, 0),
+    Event::Remove(9),
+    Event::Detach(9, 1),
+];
+
+// Returns what has to be answered.
+fn expected() -> [Answer; 13] {
+    let mut answers = [Answer::Refused; 13];
+    answers[0] = Answer::Spawned(0);
+    answers[1] = Answer::Spawned(1);
+    answers[2] = Answer::Done;
+    answers[6] = Answer::Done;
+    answers[7] = Answer::Done;
+    answers[9] = Answer::Spawned(1);
+    answers[10] = Answer::Done;
+    answers
+}
+
+// Serves the events, and returns the answers.
+fn serve<B: BitsOwned>(world: &mut World<B, 2>) -> [Answer; 13] {
+    let mut answers = [Answer::Full; 13];
+    world.serve(&EVENTS, &mut answers);
+    answers
+}
+
+// Returns how many entities are alive, have component 0, have component 1, and have a third one;
+// and the first of each.
+fn asked<B: BitsOwned>(world: &World<B, 2>) -> ([u32; 4], [Option<u32>; 4]) {
+    let (alive, zero, one, two) = (
+        world.matching(&[]),
+        world.matching(&[0]),
+        world.matching(&[1]),
+        world.matching(&[1, 2]),
+    );
+    (
+        [
+            alive.count_ones(),
+            zero.count_ones(),
+            one.count_ones(),
+            two.count_ones(),
+        ],
+        [
+            world.first_with(&[], 0),
+            world.first_with(&[0], 0),
+            world.first_with(&[1], 0),
+            world.first_with(&[1, 2], 0),
+        ],
+    )
+}
+
+#[test]
+fn entities_in_an_integer(rt: HostRuntime) {
+    let mut world = World::<u8, 2>::new();
+    same!(rt; serve::<u8>(&mut world), expected());
+    same!(rt; asked::<u8>(&world), ([2, 0, 1, 0], [Some(0), None, Some(0), None]));
+}
+
+#[test]
+fn entities_in_a_nested_array(rt: HostRuntime) {
+    let mut world = World::<[[u16; 2]; 3], 2>::new();
+    same!(rt; serve::<[[u16; 2]; 3]>(&mut world), expected());
+    same!(rt; asked::<[[u16; 2]; 3]>(&world), ([2, 0, 1, 0], [Some(0), None, Some(0), None]));
+}
+
+#[test]
+fn entities_in_the_other_order(rt: HostRuntime) {
+    let mut world = World::<Set<u16, LittleEndian>, 2>::new();
+    same!(rt; serve::<Set<u16, LittleEndian>>(&mut world), expected());
+    holds!(rt; world.is_alive(0) && world.is_alive(1) && !world.is_alive(2));
+    holds!(rt; world.has(0, 1) && !world.has(0, 0) && !world.has(1, 0) && !world.has(0, 2));
+    same!(rt; world.first_with(&[1], 1), None);
+}
+
+// Spawns as often as asked, and returns the last answer.
+fn spawn_often<B: BitsOwned, const N: usize>(world: &mut World<B, N>, often: u32) -> Option<u32> {
+    let mut last = None;
+    for _ in 0..often {
+        last = world.spawn();
+    }
+    last
+}
+
+#[test]
+fn a_full_world(rt: HostRuntime) {
+    let mut world = World::<u8, 1>::new();
+    same!(rt; spawn_often::<u8, 1>(&mut world, 8), Some(7));
+    same!(rt; world.spawn(), None);
+    holds!(rt; world.attach(3, 0) && world.attach(5, 0) && world.remove(3));
+    same!(rt; world.matching(&[0]), 0b0010_0000);
+    same!(rt; world.spawn(), Some(3));
+    holds!(rt; !world.has(3, 0) && world.detach(3, 0) && !world.attach(8, 0));
+    same!(rt; world.matching(&[]), 255);
+}
+
+#[test]
+fn no_entities_and_no_components(rt: HostRuntime) {
+    let mut none = World::<[u8; 0], 1>::new();
+    same!(rt; none.spawn(), None);
+    holds!(rt; !none.is_alive(0) && !none.attach(0, 0) && !none.remove(0));
+    same!(rt; (none.first_with(&[], 0), none.first_with(&[0], 7)), (None, None));
+    let mut bare = World::<u8, 0>::new();
+    same!(rt; bare.spawn(), Some(0));
+    holds!(rt; !bare.attach(0, 0) && !bare.has(0, 0) && bare.is_alive(0));
+    same!(rt; (bare.matching(&[]), bare.matching(&[0])), (1, 0));
+}
+
+// Gives a component of plain tables of 32 entities, or takes it.
+fn change_tables(
+    alive: &[bool; 32],
+    has: &mut [[bool; 3]; 32],
+    entity: u32,
+    component: u32,
+    is: bool,
+) -> Answer {
+    if entity < 32 && component < 3 && alive[entity as usize] {
+        has[entity as usize][component as usize] = is;
+        Answer::Done
+    } else {
+        Answer::Refused
+    }
+}
+
+// Answers a drawn event from plain tables.
+fn ask_tables(event: Event, alive: &mut [bool; 32], has: &mut [[bool; 3]; 32]) -> Answer {
+    match event {
+        Event::Spawn => {
+            for entity in 0..32usize {
+                if !alive[entity] {
+                    alive[entity] = true;
+                    return Answer::Spawned(entity as u32);
+                }
+            }
+            Answer::Full
+        }
+        Event::Remove(entity) => {
+            if entity < 32 && alive[entity as usize] {
+                alive[entity as usize] = false;
+                has[entity as usize] = [false; 3];
+                Answer::Done
+            } else {
+                Answer::Refused
+            }
+        }
+        Event::Attach(entity, component) => change_tables(alive, has, entity, component, true),
+        Event::Detach(entity, component) => change_tables(alive, has, entity, component, false),
+    }
+}
+
+// Returns which entities of the tables have both components.
+fn matches_of(alive: &[bool; 32], has: &[[bool; 3]; 32], one: u32, other: u32) -> [bool; 32] {
+    let mut matches = [false; 32];
+    for entity in 0..32usize {
+        let both = one < 3
+            && other < 3
+            && { has[entity][one as usize % 3] && has[entity][other as usize % 3] };
+        matches[entity] = alive[entity] && both;
+    }
+    matches
+}
+
+// Returns which entities a query visits that goes from each one found to the next, and whether it
+// visits them in increasing order, as often as the mask has them.
+fn visited<B: BitsOwned>(world: &World<B, 3>, required: &[u32]) -> ([bool; 32], bool) {
+    let mut seen = [false; 32];
+    let mut from = 0;
+    let mut count = 0u32;
+    for _ in 0..33 {
+        let Some(entity) = world.first_with(required, from) else {
+            break;
+        };
+        seen[entity as usize % 32] = true;
+        count = count.saturating_add(1);
+        from = entity.saturating_add(1);
+    }
+    let mut is_same = count == world.matching(required).count_ones();
+    for entity in world.matching(required).iter_ones() {
+        is_same = is_same && seen[entity as usize % 32];
+    }
+    (seen, is_same)
+}
+
+// Draws an event, which may name a dead entity or no component. A third are spawns.
+fn draw_event(state: &mut u32) -> Event {
+    let (kind, entity, component) = (draw(state) % 6, draw(state) % 34, draw(state) % 4);
+    match kind {
+        0 | 1 => Event::Spawn,
+        2 => Event::Remove(entity),
+        3 => Event::Detach(entity, component),
+        _ => Event::Attach(entity, component),
+    }
+}
+
+// Returns whether a world answers drawn events as plain tables do, and what is visited after each.
+fn are_as_tables<B: BitsOwned>(world: &mut World<B, 3>, seed: u32, many: u32) -> bool {
+    let mut state = seed;
+    let (mut alive, mut has) = ([false; 32], [[false; 3]; 32]);
+    let mut is_same = true;
+    for _ in 0..many {
+        let event = draw_event(&mut state);
+        let mut answers = [Answer::Done];
+        world.serve(&[event], &mut answers);
+        is_same = answers[0] == ask_tables(event, &mut alive, &mut has) && is_same;
+        let (one, other) = (draw(&mut state) % 4, draw(&mut state) % 4);
+        let wanted = matches_of(&alive, &has, one, other);
+        is_same = visited(world, &[one, other]) == (wanted, true) && is_same;
+    }
+    is_same
+}
+
+#[test]
+fn drawn_events_agree_with_plain_tables(rt: HostRuntime) {
+    let mut world = World::<[u8; 4], 3>::new();
+    holds!(rt; are_as_tables::<[u8; 4]>(&mut world, 7, 300));
+}
+
+#[test]
+fn drawn_events_in_the_other_order(rt: HostRuntime) {
+    let mut world = World::<Set<u32, LittleEndian>, 3>::new();
+    holds!(rt; are_as_tables::<Set<u32, LittleEndian>>(&mut world, 11, 300));
+}
