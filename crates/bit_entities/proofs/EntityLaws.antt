@@ -1,6 +1,6 @@
 -- What follows from the entity machine for each event, and for each list of them.
-use Rattle.std.proofs.Common.{◌≡◌, ℕ, ◌<◌, ◌⊎◌, ◌↔◌, Bool, true, false, not, cond, nat_lt, Option, Some, None, List, [], ◌∷◌, inl, inr, refl, sym, ap, ◌∙◌, arith}
-use Rattle.std.proofs.lemmas.Bool.{ltb-true, and_parts, true≢false}
+use Rattle.std.proofs.Common.{◌≡◌, ℕ, ◌<◌, ◌⊎◌, ◌↔◌, Bool, true, false, not, cond, Option, Some, None, List, [], ◌∷◌, inl, inr, refl, sym, ap, ◌∙◌, arith}
+use Rattle.std.proofs.lemmas.Bool.{true≢false}
 use Rattle.bittle.specs.PlainSet.{PlainSet, complement}
 use Rattle.bittle.specs.Searches.{IsFirstIn}
 use Rattle.bittle.proofs.CallerSets.{complement_within}
@@ -11,15 +11,9 @@ use Rattle.bit_entities.specs.declared.Event.TheVariants.{Spawn, Remove, Attach,
 use Rattle.bit_entities.specs.declared.Answer.TheVariants.{Spawned, Full, Done, Refused}
 use Rattle.bit_entities.proofs.LeastDead.{listed_first, outside}
 use Rattle.bit_entities.proofs.Masks.{number_now}
-use Rattle.bit_entities.proofs.Worlds.{dead_lacks, living_is_world, going_is_world, having_is_world}
+use Rattle.bit_entities.proofs.Worlds.{may_parts, dead_lacks, living_is_world, going_is_world, having_is_world}
 
--- what may have a component: there is one, and the entity is alive
-may_parts : (w : World) (entity component : ℕ) → may_have w entity component ≡ true →
-    (component < w.components) × (w.alive.has entity ≡ true)
-may_parts w entity component e =
-    let parts = and_parts (nat_lt component w.components) (w.alive.has entity) e in
-    (ltb-true component w.components parts.0, parts.1)
-
+-- a change of a component keeps it so
 changed_is_world : (w : World) (entity component : ℕ) (is : Bool) → IsWorld w → IsWorld
     (cond (may_have w entity component) (with_component w entity component is) w)
 changed_is_world w entity component is so = by (may_have w entity component) refl

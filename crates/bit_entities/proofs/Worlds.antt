@@ -1,7 +1,7 @@
 -- What each change keeps of a world: no dead entity has a component, and each living one is below
 -- the capacity.
 use Rattle.std.proofs.Common.{◌≡◌, ℕ, ◌<◌, ◌≤◌, Bool, true, false, cond, ◌&&◌, ◌==◌, nat_lt, inl, inr, refl, sym, ap, ◌∙◌, arith}
-use Rattle.std.proofs.lemmas.Bool.{cases_Bool, cases_eq, cases_lt, eq-eqb, ne_eqb, lt-ltb, true≢false}
+use Rattle.std.proofs.lemmas.Bool.{cases_Bool, cases_eq, cases_lt, eq-eqb, ne_eqb, lt-ltb, ltb-true, and_parts, true≢false}
 use Rattle.bittle.specs.PlainSet.{PlainSet}
 use Rattle.bit_entities.specs.Entities.{World, IsWorld, may_have, with_number, with_living, without_first, without_entity, with_component}
 
@@ -134,13 +134,12 @@ pub now_lives : (w : World) (entity : ℕ) (alive : PlainSet) →
     with_alive w alive ≡ with_living w entity
 now_lives w entity alive e = ap (with_alive w) e
 
--- where an entity may have a component, what comes of it is what was asked for
-pub now_may_have : (w : World) (entity component : ℕ) (t : World) → component < w.components →
-    w.alive.has entity ≡ true → t ≡ cond (may_have w entity component) t w
-now_may_have w entity component t h lives =
-    let is = lt-ltb component w.components h in
-    let may : may_have w entity component ≡ true = rw (is, lives) refl in
-    ap (λ b. cond b t w) (sym may)
+-- what may have a component: there is one, and the entity is alive
+pub may_parts : (w : World) (entity component : ℕ) → may_have w entity component ≡ true →
+    (component < w.components) × (w.alive.has entity ≡ true)
+may_parts w entity component e =
+    let parts = and_parts (nat_lt component w.components) (w.alive.has entity) e in
+    (ltb-true component w.components parts.0, parts.1)
 
 -- what was asked for a component is how it is
 pub has_now : (w : World) (entity component : ℕ) (is : Bool) (t : World) →

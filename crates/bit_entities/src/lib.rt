@@ -156,6 +156,14 @@ impl<B: BitsOwned, const N: usize> World<B, N> {
         true
     }
 
+    // Returns whether the entity is alive, and there is such a component.
+    fn may_have(&self, entity: u32, component: u32) -> bool
+        ensures { result ≡ may_have (world_of N (set_in B.Shape B.Order.Endian) self.now.alive
+            self.now.components) entity component }
+    {
+        (component as usize) < N && self.is_alive(entity)
+    }
+
     /// Gives an entity a component, and returns `true`; one that it has stays. Where it is not
     /// alive, or there is no such component, nothing changes.
     pub fn attach(&mut self, entity: u32, component: u32) -> bool
@@ -167,7 +175,7 @@ impl<B: BitsOwned, const N: usize> World<B, N> {
             self.new.components ≡ world_after (world_of N (set_in B.Shape B.Order.Endian)
             self.old.alive self.old.components) (Event.Attach entity component) }
     {
-        if component as usize >= N || !self.is_alive(entity) {
+        if !self.may_have(entity, component) {
             return false;
         }
         self.components[component as usize].set_bit(entity);
@@ -185,7 +193,7 @@ impl<B: BitsOwned, const N: usize> World<B, N> {
             self.new.components ≡ world_after (world_of N (set_in B.Shape B.Order.Endian)
             self.old.alive self.old.components) (Event.Detach entity component) }
     {
-        if component as usize >= N || !self.is_alive(entity) {
+        if !self.may_have(entity, component) {
             return false;
         }
         self.components[component as usize].clear_bit(entity);

@@ -1,9 +1,9 @@
-use Rattle.std.proofs.Common.{◌≡◌, ◌<◌, true, get_or, set, length, sym, ◌∙◌, subst, arith}
+use Rattle.std.proofs.Common.{◌≡◌, ◌<◌, true, cond, get_or, set, length, sym, ap, ◌∙◌, subst, arith}
 use Rattle.std.proofs.lemmas.Option.{slice_get-get_or}
 use Rattle.bittle.specs.Values.{set_in}
-use Rattle.bit_entities.specs.Entities.{World, IsWorld, world_of, with_component}
+use Rattle.bit_entities.specs.Entities.{World, IsWorld, world_of, may_have, with_component}
 use Rattle.bit_entities.proofs.Masks.{put_in, row_changed}
-use Rattle.bit_entities.proofs.Worlds.{having_is_world, now_may_have, has_now}
+use Rattle.bit_entities.proofs.Worlds.{may_parts, having_is_world, has_now}
 use Rattle.bit_entities.proofs.World.attach.Given.{Over}
 use Rattle.bit_entities.proofs.World.attach.Goals.{After-set_bit}
 use Rattle.bit_entities.proofs.World.attach.Goals as goal
@@ -16,11 +16,14 @@ attached : (g : Over) (c : After-set_bit g) →
     c.args.self.now.components) c.args.entity c.args.component true
 attached g c =
     let masks = c.args.self.now.components in
+    let w : World = world_of g.row.N (set_in g.B.Shape g.B.Order.Endian) c.args.self.now.alive
+    masks in
     let mask = get_or masks c.args.component c.index-self-component.result in
     let capacity = g.met.B.BitsOwned.one_capacity mask in
     let all = g.met.B.BitsOwned.one_capacity c.args.self.now.alive in
-    let inside : c.args.component < length masks = omega arith in
-    let below = c.args.self.now.sound.living_are_below c.args.entity (sym c.is_alive.ensures ∙ cc) in
+    let may = may_parts w c.args.entity c.args.component (sym c.may_have.ensures ∙ cc) in
+    let inside : c.args.component < length masks = omega (arith, may.0) in
+    let below = c.args.self.now.sound.living_are_below c.args.entity may.1 in
     row_changed g.row.N (set_in g.B.Shape g.B.Order.Endian) c.args.self.now.alive masks
     c.args.entity c.args.component true mask c.set_bit.new.self inside
     (slice_get-get_or masks c.args.component c.index-self-component.result inside)
@@ -30,16 +33,18 @@ pub invariant_of-self-clause-sound : goal.invariant_of-self-clause-sound
 invariant_of-self-clause-sound g c =
     let w : World = world_of g.row.N (set_in g.B.Shape g.B.Order.Endian) c.args.self.now.alive
     c.args.self.now.components in
+    let may = may_parts w c.args.entity c.args.component (sym c.may_have.ensures ∙ cc) in
     subst IsWorld (sym (attached g (goal.at.invariant_of-self-clause-sound g c).After-set_bit))
-    (having_is_world w c.args.entity c.args.component true c.args.self.now.sound
-    (omega arith) (sym c.is_alive.ensures ∙ cc))
+    (having_is_world w c.args.entity c.args.component true c.args.self.now.sound may.0 may.1)
 
 pub returns-clause-world : goal.returns-clause-world
 returns-clause-world g c =
     let w : World = world_of g.row.N (set_in g.B.Shape g.B.Order.Endian) c.args.self.now.alive
     c.args.self.now.components in
+    let may : may_have w c.args.entity c.args.component
+    ≡ true = sym c.may_have.ensures ∙ cc in
     attached g (goal.at.returns-clause-world g c).After-set_bit
-    ∙ now_may_have w c.args.entity c.args.component _ (omega arith) (sym c.is_alive.ensures ∙ cc)
+    ∙ ap (λ b. cond b (with_component w c.args.entity c.args.component true) w) (sym may)
 
 pub returns-clause-has : goal.returns-clause-has
 returns-clause-has g c done =
