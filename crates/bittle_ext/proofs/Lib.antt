@@ -22,5 +22,6 @@ mod WordsReplaced
 pub mod RunFacts
 mod RunEnds
 mod RunLists
+mod ShortRuns
 pub mod SetFacts
 mod ViewFacts

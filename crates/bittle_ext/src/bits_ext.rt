@@ -368,7 +368,8 @@ pub trait BitsExt: Bits {
     /// type, or `None` if there is no such run.
     ///
     /// No run goes past the capacity. A run of no bits begins at each index up to the capacity:
-    /// with `length` 0 it returns `from`, and `None` past the capacity. Each run that is too short
+    /// with `length` 0 it returns `from`, and `None` past the capacity. Up to a length of four words
+    /// each word is read once, up to the end of the run. For a longer run each run that is too short
     /// costs two searches of words.
     ///
     /// ```
@@ -406,7 +407,8 @@ pub trait BitsExt: Bits {
     /// type, or `None` if there is no such run.
     ///
     /// No run goes past the capacity. A run of no bits begins at each index up to the capacity:
-    /// with `length` 0 it returns `from`, and `None` past the capacity. Each run that is too short
+    /// with `length` 0 it returns `from`, and `None` past the capacity. Up to a length of four words
+    /// each word is read once, up to the end of the run. For a longer run each run that is too short
     /// costs two searches of words.
     ///
     /// ```

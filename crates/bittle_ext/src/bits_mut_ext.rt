@@ -282,7 +282,8 @@ pub trait BitsMutExt: BitsMut {
     /// returns the least index of them, as an allocator of runs does. If there is no such run,
     /// nothing changes, and it returns `None`; with `length` 0 nothing changes, and it returns 0.
     ///
-    /// The shape has to fit. Each run that is too short costs two searches of words.
+    /// The shape has to fit. The search costs what [`next_zero_run`](crate::BitsExt::next_zero_run)
+    /// costs.
     ///
     /// ```
     /// let mut word = 0b0100_1101u8;

@@ -65,6 +65,7 @@ pub mod run_laws;
 mod runs;
 mod select;
 mod shifts;
+mod short_runs;
 mod spans;
 pub mod views;
 

@@ -1,0 +1,83 @@
+//! Runs of a few words at most, found word by word: each word is read once.
+
+ghost use Rattle.std.specs.Prelude.{◌≡◌, ◌<◌, ◌≤◌};
+ghost use Rattle.bittle_ext.specs.Runs.{IsFirstRun};
+ghost use Rattle.bittle.specs.Values.{kind_in, word_in, ShapeFits};
+
+use crate::rotations::window;
+use bittle::{Bits, Endian};
+use bittle_bits::extension::{Front, Kind, Word, word_of_kind, word_width};
+
+/// Returns the least index of a word where `length` set bits of it begin, or `None`.
+///
+/// Where so many set bits begin, and as many or fewer right after them, all of both begin: the
+/// number doubles with each step but the last one.
+#[inline]
+fn first_in_word<W: Word, E: Endian>(word: W, length: u32) -> Option<u32>
+    requires some { 0 < length }
+    requires within { length < W.width }
+    ensures { IsFirstRun (word_in W.Word E.Endian word) 0 length result }
+{
+    let mut begin = word;
+    let mut known = 1;
+    while known < length && !begin.is_zero() {
+        // The remainder changes nothing: it tells the compiler that the shift is within the word.
+        let more = known.min(length - known) % W::width();
+        begin = begin.and(window::<W, E>(begin, W::zero(), more));
+        known += more;
+    }
+    let index = E::zeros::<W>(begin);
+    if index == W::width() {
+        return None;
+    }
+    Some(index)
+}
+
+/// Returns the least index from `from` on where `length` bits of the kind begin, or `None`.
+///
+/// Of the words before, only `start` is kept: where the bits of the kind begin that lead up to the
+/// word. No run that is to be found begins before them.
+#[inline]
+pub fn next_short_run<B: Bits, E: Endian, K: Kind>(
+    bits: &B,
+    from: u32,
+    end: u32,
+    length: u32,
+) -> Option<u32>
+    requires fits { ShapeFits B.Shape bits.now }
+    requires some { 0 < length }
+    requires ordered { from < end }
+    requires whole { end ≡ (B.big bits.now).capacity }
+    ensures { IsFirstRun (kind_in B.Shape E.Endian K.Kind bits.now) from length result }
+{
+    let width = word_width::<B>();
+    let words = end / width;
+    let mut k = from / width;
+    let mut start = k * width;
+    let since = E::from_index::<B::LeafWord>(from % width);
+    let mut word = word_of_kind::<B, K>(bits, k as usize).and(since);
+    loop {
+        let lead = E::ones::<B::LeafWord>(word);
+        if length <= k * width + lead - start {
+            return Some(start);
+        }
+        if length < width {
+            if let Some(index) = first_in_word::<B::LeafWord, E>(word, length) {
+                return Some(k * width + index);
+            }
+        }
+        let after = k + 1;
+        if lead != width {
+            start = after * width - E::ones_rev::<B::LeafWord>(word);
+        }
+        let next = bits.pass_over::<K, Front>(after as usize, words as usize) as u32;
+        if next == words {
+            return None;
+        }
+        if next != after {
+            start = next * width;
+        }
+        k = next;
+        word = word_of_kind::<B, K>(bits, k as usize);
+    }
+}
