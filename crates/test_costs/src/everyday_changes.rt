@@ -92,7 +92,7 @@ fn take_members<B: BitsOwned>(rt: &impl Abort, mut few: B, asked: &Asked)
 fn take_others<B: BitsOwned>(rt: &impl Abort, mut most: B, asked: &Asked)
     requires { IsTrue B.indexable }
 {
-    costs!(rt; asked, most.take_first_zero_run(1), Some(451), 9, 1);
+    costs!(rt; asked, most.take_first_zero_run(1), Some(451), 8, 1);
     costs!(rt; asked, most.take_first_zero(), Some(508), 8, 1);
     costs!(rt; asked, most.take_first_zero(), None, 12, 0);
     costs!(rt; asked, most.take_first_zero_run(1), None, 12, 0);

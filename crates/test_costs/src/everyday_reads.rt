@@ -94,31 +94,54 @@ fn select_fetches_up_to_its_word_and_then_that_word_for_each_half(rt: HostRuntim
     select_two(&rt, &row_of(0, TWO, &asked), &asked);
 }
 
-// Eight words to the first bit, and one to see whether enough follow it. Then one to the second
-// bit, one to see the same, and five to the end.
+// Each word once: eight to the first bit, and twelve to the end.
 fn search_for_runs_of_ones<B: Bits>(rt: &impl Abort, few: &B, asked: &Asked)
     requires { ShapeFits B.Shape few.now }
 {
-    costs!(rt; asked, few.first_one_run(1), Some(451), 9, 0);
-    costs!(rt; asked, few.first_one_run(2), None, 16, 0);
-    costs!(rt; asked, few.next_one_run(452, 1), Some(508), 2, 0);
+    costs!(rt; asked, few.first_one_run(1), Some(451), 8, 0);
+    costs!(rt; asked, few.first_one_run(2), None, 12, 0);
+    costs!(rt; asked, few.next_one_run(452, 1), Some(508), 1, 0);
     costs!(rt; asked, few.next_one_run(769, 1), None, 0, 0);
 }
 
-fn search_for_runs_of_zeros<B: Bits>(rt: &impl Abort, most: &B, asked: &Asked)
-    requires { ShapeFits B.Shape most.now }
+// The runs that begin at 509 have three bits of word 7, and the last ones are in words 8 and 11.
+fn search_for_runs_of_zeros<B: Bits>(rt: &impl Abort, most: &B, few: &B, asked: &Asked)
+    requires most { ShapeFits B.Shape most.now }
+    requires few { ShapeFits B.Shape few.now }
 {
-    costs!(rt; asked, most.first_zero_run(1), Some(451), 9, 0);
-    costs!(rt; asked, most.first_zero_run(2), None, 16, 0);
-    costs!(rt; asked, most.next_zero_run(452, 1), Some(508), 2, 0);
+    costs!(rt; asked, most.first_zero_run(1), Some(451), 8, 0);
+    costs!(rt; asked, most.first_zero_run(2), None, 12, 0);
+    costs!(rt; asked, most.next_zero_run(452, 1), Some(508), 1, 0);
     costs!(rt; asked, most.next_zero_run(453, 0), Some(453), 0, 0);
+    costs!(rt; asked, few.next_zero_run(452, 56), Some(452), 1, 0);
+    costs!(rt; asked, few.next_zero_run(452, 57), Some(509), 2, 0);
+    costs!(rt; asked, few.next_zero_run(452, 256), Some(509), 5, 0);
 }
 
 #[test]
-fn runs_fetch_twice_for_each_shorter_run(rt: HostRuntime) {
+fn runs_of_up_to_four_words_fetch_each_word_once(rt: HostRuntime) {
     let asked = Asked::new();
-    search_for_runs_of_ones(&rt, &row_of(0, TWO, &asked), &asked);
-    search_for_runs_of_zeros(&rt, &row_of(!0, !TWO, &asked), &asked);
+    let (few, most) = (row_of(0, TWO, &asked), row_of(!0, !TWO, &asked));
+    search_for_runs_of_ones(&rt, &few, &asked);
+    search_for_runs_of_zeros(&rt, &most, &few, &asked);
+}
+
+// A search from the front finds where a run may begin, and one from the back whether it is broken.
+fn search_for_longer_runs<B: Bits>(rt: &impl Abort, few: &B, asked: &Asked)
+    requires { ShapeFits B.Shape few.now }
+{
+    // Eight words to the first bit, and the last word for each of the two searches after it.
+    costs!(rt; asked, few.first_one_run(257), None, 10, 0);
+    // The first word, and five from the back.
+    costs!(rt; asked, few.first_zero_run(257), Some(0), 6, 0);
+    // The same from 452 on, where bit 508 breaks the run, and from 509 on.
+    costs!(rt; asked, few.next_zero_run(452, 257), Some(509), 12, 0);
+}
+
+#[test]
+fn longer_runs_fetch_twice_for_each_shorter_run(rt: HostRuntime) {
+    let asked = Asked::new();
+    search_for_longer_runs(&rt, &row_of(0, TWO, &asked), &asked);
 }
 
 fn ask_for_one_bit<B: Bits>(rt: &impl Abort, few: &B, asked: &Asked)

@@ -8,7 +8,7 @@ use crate::checks::{holds, same};
 use crate::probe::{ONES, Probe, ZEROS};
 use bit_pages::Pages;
 use bittle::{BigEndian, Bits, BitsMut, BitsOwned, LittleEndian, Set};
-use bittle_ext::BitsViewExt;
+use bittle_ext::{BitsExt, BitsViewExt};
 use bittle_tiers::{Ones, Tiered, Zeros};
 use std::process::Abort;
 
@@ -152,4 +152,22 @@ fn views_of_one_set_pass_over_what_it_tells(rt: HostRuntime) {
     // the last.
     same!(rt; count_in_views(&set), (1, 2, 2));
     same!(rt; (asked.fetched_since(made), asked.other()), (7, 0));
+}
+
+// Looks for two set bits side by side, and for one from index 1 on.
+fn look_for_runs<B: Bits>(set: &B) -> (Option<u32>, Option<u32>)
+    requires { ShapeFits B.Shape set.now }
+{
+    (set.first_one_run(2), set.next_one_run(1, 1))
+}
+
+#[test]
+fn a_run_is_looked_for_past_words_without_a_bit(rt: HostRuntime) {
+    let asked = Asked::new();
+    let set = Tiered::<Probe, u8, Ones>::new(Probe::of(ONES, &asked));
+    let made = asked.fetches();
+
+    // Of the four words each call reads the first and the last.
+    same!(rt; look_for_runs(&set), (None, Some(31)));
+    same!(rt; (asked.fetched_since(made), asked.other()), (4, 0));
 }

@@ -14,6 +14,8 @@ mod checks;
 #[cfg(test)]
 mod combined;
 #[cfg(test)]
+mod found_runs;
+#[cfg(test)]
 mod lazy_views;
 #[cfg(test)]
 mod made;

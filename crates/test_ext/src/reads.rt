@@ -4,6 +4,7 @@ ghost use Rattle.bittle.specs.Values.{ShapeFits};
 
 use crate::calls::{counts, counts_in, ends, ranks, selected, stand};
 use crate::checks::{holds, same};
+use crate::found_runs::plain_run;
 use bittle::prelude::*;
 use bittle::{LittleEndian, Set};
 use bittle_ext::prelude::*;
@@ -178,20 +179,6 @@ fn plain_prev(bits: &[bool; 64], to: u32, value: bool) -> Option<u32> {
     found
 }
 
-/// Returns where the first run of unset bits begins, one by one.
-fn plain_zero_run(bits: &[bool; 64], from: u32, length: u32) -> Option<u32> {
-    let mut free = 0u32;
-    for k in 0..64usize {
-        if from <= k as u32 {
-            free = if bits[k] { 0 } else { free.saturating_add(1) };
-            if free == length {
-                return Some((k as u32).saturating_add(1).saturating_sub(length));
-            }
-        }
-    }
-    None
-}
-
 /// Compares what a set of 64 bits answers with the plain functions.
 fn read_as_plain<B: Bits>(rt: &impl Abort, set: &B, bits: &[bool; 64], from: u32, length: u32)
     requires { ShapeFits B.Shape set.now }
@@ -201,7 +188,7 @@ fn read_as_plain<B: Bits>(rt: &impl Abort, set: &B, bits: &[bool; 64], from: u32
     same!(*rt; set.prev_one(from), plain_prev(bits, from, true));
     same!(*rt; set.prev_zero(from), plain_prev(bits, from, false));
     same!(*rt; set.rank(from), plain_rank(bits, from));
-    same!(*rt; set.next_zero_run(from, length), plain_zero_run(bits, from, length));
+    same!(*rt; set.next_zero_run(from, length), plain_run(bits, false, from, length));
     if let Some(index) = set.next_one(from) {
         same!(*rt; set.select(plain_rank(bits, index)), Some(index));
     }

@@ -4,6 +4,7 @@ ghost use Rattle.std.specs.Prelude.{IsTrue};
 ghost use Rattle.bittle.specs.Values.{ShapeFits};
 
 use bittle::{Bits, BitsMut, BitsOwned, Endian};
+use bittle_ext::BitsExt;
 use bittle_tiers::{Ones, Tiered, Zeros};
 
 /// Has 24 numbers, and a byte above them that tells which bytes are not empty.
@@ -106,4 +107,11 @@ pub(crate) fn searches<B: Bits, E: Endian>(set: &B, from: u32, to: u32) -> [Opti
         set.first_zero_in::<E>(from, to),
         set.last_zero_in::<E>(from, to),
     ]
+}
+
+/// Returns where the first run of so many members begins, and of so many numbers that are none.
+pub(crate) fn first_runs<B: Bits>(set: &B, length: u32) -> [Option<u32>; 2]
+    requires { ShapeFits B.Shape set.now }
+{
+    [set.first_one_run(length), set.first_zero_run(length)]
 }

@@ -1,7 +1,8 @@
 //! Values: what is wrapped, compared, copied and printed.
 
 use crate::calls::{
-    Full, Sparse, ends_of_ones, ends_of_zeros, even, searches, whole, with, with_range, without,
+    Full, Sparse, ends_of_ones, ends_of_zeros, even, first_runs, searches, whole, with, with_range,
+    without,
 };
 use crate::checks::{holds, same};
 use bittle::{BigEndian, BitsOwned, LittleEndian, Set};
@@ -48,6 +49,20 @@ fn a_range_across_words(rt: HostRuntime) {
     // Index 22 from the left of the last byte is its bit 1, which was set.
     let set = with_range::<Sparse, LittleEndian>(set, 2, 22, 23);
     same!(rt; whole(&set), (0, true, false));
+}
+
+#[test]
+fn runs_about_a_word_that_is_passed_over(rt: HostRuntime) {
+    // The members 7, 16 and 17: the byte between them is passed over, and no run goes through it.
+    let set = Sparse::new([0x80, 0, 0x03]);
+    same!(rt; first_runs(&set, 1), [Some(7), Some(0)]);
+    same!(rt; first_runs(&set, 2), [Some(16), Some(0)]);
+    same!(rt; first_runs(&set, 3), [None, Some(0)]);
+    same!(rt; first_runs(&set, 8), [None, Some(8)]);
+    let full = Full::new([0x7F, 0xFF, 0xFC]);
+    same!(rt; first_runs(&full, 2), [Some(0), Some(16)]);
+    same!(rt; first_runs(&full, 3), [Some(0), None]);
+    same!(rt; first_runs(&full, 8), [Some(8), None]);
 }
 
 // Returns what each of the four operations makes of two sets.

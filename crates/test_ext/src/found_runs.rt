@@ -1,0 +1,162 @@
+//! Runs of a given length that are looked for, by hand and beside a plain loop.
+
+ghost use Rattle.std.specs.Prelude.{IsTrue};
+ghost use Rattle.bittle.specs.Values.{ShapeFits};
+
+use crate::checks::same;
+use crate::random::draw;
+use bittle::prelude::*;
+use bittle::{BitsOwned, LittleEndian};
+use bittle_ext::prelude::*;
+use std::process::Abort;
+
+/// Returns where the first runs of unset bits of some lengths begin, from an index on.
+fn zero_runs<B: Bits, const N: usize>(set: &B, from: u32, lengths: [u32; N]) -> [Option<u32>; N]
+    requires { ShapeFits B.Shape set.now }
+{
+    let mut found = [None; N];
+    for k in 0..N {
+        found[k] = set.next_zero_run(from, lengths[k]);
+    }
+    found
+}
+
+/// Returns where the first runs of set bits of some lengths begin, from an index on.
+fn one_runs<B: Bits, const N: usize>(set: &B, from: u32, lengths: [u32; N]) -> [Option<u32>; N]
+    requires { ShapeFits B.Shape set.now }
+{
+    let mut found = [None; N];
+    for k in 0..N {
+        found[k] = set.next_one_run(from, lengths[k]);
+    }
+    found
+}
+
+#[test]
+fn runs_about_as_long_as_a_word(rt: HostRuntime) {
+    // Bits 7 to 16 are unset; from the left bits 0, 8 to 15, and 23 are.
+    let row: [u8; 3] = [0b0111_1111, 0, 0b1111_1110];
+    let lengths = [0, 1, 7, 8, 9, 10, 11];
+    let seven = Some(7);
+    let all = [Some(0), seven, seven, seven, seven, seven, None];
+    same!(rt; zero_runs(&row, 0, lengths), all);
+    let left = row.in_order::<LittleEndian>();
+    let all = [Some(0), Some(0), Some(8), Some(8), None, None, None];
+    same!(rt; zero_runs(&left, 0, lengths), all);
+    let slice: &[u8] = &row;
+    same!(rt; zero_runs(&slice, 9, [7, 8, 9]), [Some(9), Some(9), None]);
+    same!(rt; zero_runs(&slice, 10, [7, 8]), [Some(10), None]);
+    same!(rt; one_runs(&slice, 3, [4, 5, 7, 8]), [Some(3), Some(17), Some(17), None]);
+}
+
+#[test]
+fn runs_from_the_middle_of_a_word(rt: HostRuntime) {
+    let word = 0b0011_1100u8;
+    same!(rt; one_runs(&word, 3, [1, 3, 4]), [Some(3), Some(3), None]);
+    same!(rt; zero_runs(&word, 1, [1, 2, 3]), [Some(1), Some(6), None]);
+    same!(rt; zero_runs(&word, 8, [0, 1]), [Some(8), None]);
+    same!(rt; one_runs(&word, 9, [0, 1]), [None, None]);
+    same!(rt; zero_runs(&(1u128 << 100 | 1), 60, [27, 40, 41]), [Some(60), Some(60), None]);
+    same!(rt; one_runs(&-4i8, 0, [6, 7]), [Some(2), None]);
+    let none: [u16; 0] = [];
+    same!(rt; zero_runs(&none, 0, [0, 1]), [Some(0), None]);
+    same!(rt; one_runs(&none, 1, [0, 1]), [None, None]);
+}
+
+#[test]
+fn runs_of_four_words_and_of_more(rt: HostRuntime) {
+    // Bits 8 to 14, and 16 to 48, are unset.
+    let row: [u8; 8] = [255, 128, 0, 0, 0, 0, 254, 255];
+    let sixteen = Some(16);
+    let lengths = [7, 8, 32, 33, 34];
+    same!(rt; zero_runs(&row, 0, lengths), [Some(8), sixteen, sixteen, sixteen, None]);
+    same!(rt; zero_runs(&row, 17, lengths), [Some(17), Some(17), Some(17), None, None]);
+    same!(rt; one_runs(&row, 0, [8, 9, 15, 16]), [Some(0), Some(49), Some(49), None]);
+}
+
+/// Sets the first run of unset bits of a length, and returns its begin and the set.
+fn taken<B: BitsOwned>(mut set: B, length: u32) -> (Option<u32>, B)
+    requires { IsTrue B.indexable }
+{
+    (set.take_first_zero_run(length), set)
+}
+
+#[test]
+fn a_run_across_words_is_taken(rt: HostRuntime) {
+    let row: [u8; 3] = [0b0111_1111, 0, 0b1111_1110];
+    same!(rt; taken(row, 9), (Some(7), [255, 255, 0b1111_1110]));
+    same!(rt; taken(row, 0), (Some(0), row));
+    same!(rt; taken(row, 11), (None, row));
+}
+
+/// Bits of eight bytes, from the right of each byte or from the left, as a plain loop sees them.
+fn flags(row: &[u8; 8], from_left: bool) -> [bool; 64] {
+    let mut flags = [false; 64];
+    for k in 0..64usize {
+        let place = if from_left { 7 - k % 8 } else { k % 8 };
+        flags[k] = row[k / 8] >> place & 1 == 1;
+    }
+    flags
+}
+
+/// Returns where the first run of bits of a value begins, one by one.
+pub(crate) fn plain_run(flags: &[bool; 64], value: bool, from: u32, length: u32) -> Option<u32> {
+    if length == 0 {
+        return if from <= 64 { Some(from) } else { None };
+    }
+    let mut run = 0u32;
+    for k in 0..64usize {
+        if from <= k as u32 {
+            run = if flags[k] == value {
+                run.saturating_add(1)
+            } else {
+                0
+            };
+            if run == length {
+                return Some((k as u32).saturating_add(1).saturating_sub(length));
+            }
+        }
+    }
+    None
+}
+
+/// How long runs are that are looked for in rows of bytes.
+const LENGTHS: [u32; 11] = [0, 1, 2, 3, 5, 7, 8, 9, 16, 32, 33];
+
+/// Compares the runs that a set of 64 bits has with those of the plain loop.
+fn runs_as_plain<B: Bits>(rt: &impl Abort, set: &B, flags: &[bool; 64], from: u32)
+    requires { ShapeFits B.Shape set.now }
+{
+    let ones = one_runs(set, from, LENGTHS);
+    let zeros = zero_runs(set, from, LENGTHS);
+    for k in 0..11usize {
+        same!(*rt; ones[k], plain_run(flags, true, from, LENGTHS[k]));
+        same!(*rt; zeros[k], plain_run(flags, false, from, LENGTHS[k]));
+    }
+}
+
+#[test]
+fn drawn_rows_have_the_runs_of_plain_arrays(rt: HostRuntime) {
+    let mut state = 1u32;
+    for round in 0..300u32 {
+        // Bits that turn at three places, and in each other round two more that are flipped.
+        let mut word = 0u64;
+        for _ in 0..3u32 {
+            word ^= u64::MAX << (draw(&mut state) % 64);
+        }
+        if round % 2 == 0 {
+            word ^= 1 << (draw(&mut state) % 64);
+            word ^= 1 << (draw(&mut state) % 64);
+        }
+        let from = draw(&mut state) % 66;
+        let row = word.to_le_bytes();
+        runs_as_plain(&rt, &row, &flags(&row, false), from);
+        runs_as_plain(
+            &rt,
+            &row.in_order::<LittleEndian>(),
+            &flags(&row, true),
+            from,
+        );
+        runs_as_plain(&rt, &word, &flags(&row, false), from);
+    }
+}
