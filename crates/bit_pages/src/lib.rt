@@ -155,7 +155,8 @@ impl<B: BitsOwned> Pages<B> {
     /// changes nothing and returns `None` where there is no such run. A run of no pages is at page
     /// 0, takes nothing, and is there where all are taken too, and with capacity 0.
     ///
-    /// Each run that is too short costs two searches of words.
+    /// Up to a length of four words each word is read once, up to the end of the run. For a longer
+    /// run each run that is too short costs two searches of words.
     pub fn take_run(&mut self, length: u32) -> Option<u32>
         ensures run { IsFirstRun (complement (set_in B.Shape B.Order.Endian self.old.map)) 0 length
             result }
