@@ -17,18 +17,24 @@ use Rattle.bittle_bits.proofs.Words.{word_has-at, digit_at}
 use Rattle.bittle_ext.specs.Combined.{decided_set}
 
 -- the word 0 is each word past those of a set
+pub empty_past : (w words k d : ℕ) (s : PlainSet) → words * w ≡ s.capacity →
+    ((i : ℕ) → s.capacity ≤ i → s.has i ≡ false) → words ≤ k → d ≡ 0 → bit_set w d ≡ word_of w s k
+unfolding word_has
+empty_past w words k d s whole past few none =
+    let up : words * w ≤ k * w = mul-le-mul_right w few in
+    no_digits w d none ∙ ap (plain_set w) (fun_ext λ i. elim (cases_lt i w) [
+      | inl l ↦ sym (word_has-at w s k i l ∙ past (k * w + i) (omega (arith, up, whole)))
+      | inr g ↦ rw (le-ltb i w g) refl
+    ])
+
+-- so it is where a number of bits and a width tell how many there are
 pub word_past : (w c v k d : ℕ) (s : PlainSet) → 0 < w → (words : ℕ) × (s.capacity ≡ words * w) →
     ((i : ℕ) → s.capacity ≤ i → s.has i ≡ false) → c ≡ s.capacity → v ≡ w → c / v ≤ k → d ≡ 0 →
     bit_set w d ≡ word_of w s k
-unfolding word_has
 word_past w c v k d s word whole past is wide far none =
     let e : c ≡ whole.0 * w = is ∙ whole.1 in
     let few : whole.0 ≤ k = omega (arith, mul-div_left whole.0 word, rw (e, wide) at far) in
-    let up : whole.0 * w ≤ k * w = mul-le-mul_right w few in
-    no_digits w d none ∙ ap (plain_set w) (fun_ext λ i. elim (cases_lt i w) [
-      | inl l ↦ sym (word_has-at w s k i l ∙ past (k * w + i) (omega (arith, up, whole.1)))
-      | inr g ↦ rw (le-ltb i w g) refl
-    ])
+    empty_past w whole.0 k d s (sym whole.1) past few none
 
 -- what the operation makes of word k of both sets is word k of what it makes of them
 pub decided_word : (f : Bool → Bool → Bool) (w : ℕ) (s t : PlainSet) (k : ℕ) →

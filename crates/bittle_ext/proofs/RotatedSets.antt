@@ -1,20 +1,19 @@
 -- Sets whose members are all moved, word by word.
-use Rattle.std.proofs.Common.{◌≡◌, ℕ, ◌+◌, ◌-◌, ◌*◌, ◌/◌, ◌%◌, ◌<◌, ◌≤◌, ◌≢◌, ◌⊎◌, Bool, false, ◌&&◌, nat_lt, nat_le, inl, inr, refl, sym, ap, ◌∙◌, arith}
+use Rattle.std.proofs.Common.{◌≡◌, ℕ, ◌+◌, ◌-◌, ◌*◌, ◌/◌, ◌%◌, ◌<◌, ◌≤◌, ◌⊎◌, Bool, false, ◌&&◌, nat_lt, nat_le, inl, inr, refl, sym, ap, ◌∙◌, arith}
 use Rattle.std.proofs.Math.Path.{fun_ext}
-use Rattle.std.proofs.Math.Nat.{mod-eq_of_lt, add-mod_left, add-mod_right, add-mod-mod, mod-add-mod, add-mul-mod_self_right, mul-le-mul_right}
+use Rattle.std.proofs.Math.Nat.{add-mod_left, add-mod_right, add-mod-mod, mod-add-mod, add-mul-mod_self_right, mul-le-mul_right, mul-lt-mul_of_pos_right}
 use Rattle.std.proofs.lemmas.Nat.{div-add-mod', mod_below, div_below}
 use Rattle.std.proofs.lemmas.Bool.{cases_eq, cases_lt, lt-ltb, le-ltb, lt-leb, le-leb, and_right}
 use Rattle.bittle.specs.BitPatterns.{bit_set}
 use Rattle.bittle.specs.Orders.{read_in}
-use Rattle.bittle.specs.PlainSet.{PlainSet, contains, empty_set, without_span}
+use Rattle.bittle.specs.PlainSet.{PlainSet, contains, empty_set}
 use Rattle.bittle.specs.Words.{word_of, ReplacesWord}
 use Rattle.bittle_bits.proofs.PlainSets.{plain_set}
 use Rattle.bittle_bits.proofs.RowWords.{words_each}
-use Rattle.bittle_bits.proofs.Spans.{outside_span, inside_span}
-use Rattle.bittle_bits.proofs.Words.{digit_at, same_word}
+use Rattle.bittle_bits.proofs.Words.{digit_at, same_word, word_ends}
 use Rattle.bittle.proofs.CallerSets.{contains_within}
 use Rattle.bittle_ext.specs.RangeMembers.{EndsAt}
-use Rattle.bittle_ext.specs.Rotations.{has_rotated, rotated_down, rotated_up, has_shifted_down, shifted_down, has_shifted_up, shifted_up, IsWindow, IsWordFrom, IsRotatedBelow}
+use Rattle.bittle_ext.specs.Rotations.{has_rotated, rotated_down, rotated_up, has_shifted_down, shifted_down, has_shifted_up, shifted_up, IsDistance, IsNextWord, IsWindow, IsWordFrom, IsRotatedBelow}
 
 -- an index that wraps to another one answers as that does
 pub contains_as : (s : PlainSet) (i j : ℕ) → i % s.capacity ≡ j % s.capacity →
@@ -28,63 +27,73 @@ contains_past : (s : PlainSet) (i j : ℕ) → i ≡ s.capacity + j → j < s.ca
 contains_past s i j e h =
     contains_as s i j (ap (λ k. k % s.capacity) e ∙ add-mod_left s.capacity j) ∙ contains_within s j h
 
--- the word after word `at` of so many, and after the last one the first
-abbrev pub IsNext : ℕ → ℕ → ℕ → Type 0
-IsNext words at next =
-    ((at + 1 ≡ words) × (next ≡ 0)) ⊎ ((at + 1 ≢ words) × (next ≡ at + 1))
+-- each word begins below the capacity
+pub word_within : (w words k capacity : ℕ) → 0 < w → words * w ≡ capacity → k < words →
+    k * w < capacity
+word_within w words k capacity word whole fewer =
+    let low : k * w < words * w = mul-lt-mul_of_pos_right fewer word in
+    omega (arith, low, whole)
 
--- a window over word `at` and the one after it, or the first after the last, is the word from there
-module _ (m : Bool) (w words at from d e r : ℕ) (s : PlainSet) (word : 0 < w)
-    (whole : words * w ≡ s.capacity) (low : at < words) (within : from < w) where
+-- the word after one that is not the last
+pub next_inside : (w words at capacity : ℕ) → 0 < w → words * w ≡ capacity → at + 1 < words →
+    IsNextWord w capacity at (at + 1)
+next_inside w words at capacity word whole more =
+    inr (word_within w words (at + 1) capacity word whole more, refl)
+
+-- and the word after the last
+pub next_wraps : (w words capacity : ℕ) → words * w ≡ capacity → 0 < words →
+    IsNextWord w capacity (words - 1) 0
+next_wraps w words capacity whole some =
+    let all : words - 1 + 1 ≡ words = omega (arith, some) in
+    inl (ap (λ n. n * w) all ∙ whole, refl)
+
+-- both begin below the capacity, and the first one ends there
+module _ (w at next capacity : ℕ) (word : 0 < w) (is : IsNextWord w capacity at next) where
+  pub this_ends : (at + 1) * w ≤ capacity
+  this_ends = elim is [
+    | inl last ↦ omega (arith, last.0)
+    | inr more ↦ omega (arith, more.0)
+  ]
+
+  pub this_within : at * w < capacity
+  this_within = omega (arith, this_ends, word)
+
+  pub next_within : next * w < capacity
+  next_within = elim is [
+    | inl last ↦ omega (arith, ap (λ k. k * w) last.1, this_within)
+    | inr more ↦ omega (arith, ap (λ k. k * w) more.1, more.0)
+  ]
+
+-- a window over word `at` and the one after it is the word from there
+module _ (m : Bool) (w at from d e r : ℕ) (s : PlainSet) (word : 0 < w)
+    (whole : (words : ℕ) × (s.capacity ≡ words * w)) (within : from < w) where
   abbrev t : PlainSet
   t = read_in m w s
 
-  up : (at + 1) * w ≤ words * w
-  up = mul-le-mul_right w (omega arith)
-
-  first_at : bit_set w d ≡ word_of w s at → IsWindow w from (read_in m w (bit_set w d))
-      (read_in m w (bit_set w e)) (read_in m w (bit_set w r)) → (i : ℕ) → i + from < w →
-      (read_in m w (bit_set w r)).has i ≡ contains t (at * w + from + i)
-  first_at ours is i b =
-      is.first i b ∙ digit_at m w at s d word ours (i + from) b
-      ∙ ap t.has (omega arith)
-      ∙ sym (contains_within t (at * w + from + i) (omega (arith, up, whole)))
-
-  -- the word after it, or the first one after the last
-  pub window_from : (next : ℕ) → IsNext words at next →
+  pub window_from : (next : ℕ) → IsNextWord w s.capacity at next →
       bit_set w d ≡ word_of w s at → bit_set w e ≡ word_of w s next →
       IsWindow w from (read_in m w (bit_set w d)) (read_in m w (bit_set w e))
       (read_in m w (bit_set w r)) →
       IsWordFrom w t (at * w + from) (read_in m w (bit_set w r))
   window_from next where_is ours theirs is i b =
+      let up = this_ends w at next s.capacity word where_is in
       elim (cases_lt (i + from) w) [
-        | inl l ↦ first_at ours is i l
+        | inl l ↦ is.first i l ∙ digit_at m w at s d word ours (i + from) l
+            ∙ ap t.has (omega arith)
+            ∙ sym (contains_within t (at * w + from + i) (omega (arith, up, l)))
         | inr g ↦ is.second i b g ∙ digit_at m w next s e word theirs (i + from - w) (omega arith)
             ∙ elim where_is [
               | inl last ↦
                   let zero : next * w ≡ 0 = ap (λ k. k * w) last.1 ∙ omega arith in
-                  let all : at * w + w ≡ words * w = omega (arith, ap (λ k. k * w) last.0) in
                   ap t.has (omega (arith, zero))
                   ∙ sym (contains_past t (at * w + from + i) (i + from - w)
-                  (omega (arith, all, whole)) (omega (arith, up, whole)))
+                  (omega (arith, last.0, g)) (omega (arith, last.0, b, within)))
               | inr more ↦
                   let on : next * w ≡ at * w + w = ap (λ k. k * w) more.1 ∙ omega arith in
-                  let top : (next + 1) * w ≤ words * w =
-                  mul-le-mul_right w (omega (arith, more.0, more.1)) in
-                  ap t.has (omega (arith, on))
-                  ∙ sym (contains_within t (at * w + from + i) (omega (arith, on, top, whole)))
+                  let top = word_ends w (at + 1) s.capacity whole more.0 in
+                  ap t.has (omega (arith, on, g))
+                  ∙ sym (contains_within t (at * w + from + i) (omega (arith, top, b, within)))
             ]
-      ]
-
-  -- that word begins below the capacity
-  pub next_within : (next : ℕ) → IsNext words at next → next * w < s.capacity
-  next_within next where_is =
-      elim where_is [
-        | inl last ↦ omega (arith, ap (λ k. k * w) last.1, up, whole)
-        | inr more ↦
-            let top : (next + 1) * w ≤ words * w =
-            mul-le-mul_right w (omega (arith, more.0, more.1)) in
-            omega (arith, top, whole)
       ]
 
 -- as many words as a capacity holds make it up
@@ -94,11 +103,10 @@ words_make bits wide c w leaf whole word b v same =
     rw (words_each bits wide c w whole.0 word b (v ∙ same) whole.1) (sym whole.1)
 
 -- where word `at` lies so many words above word k, and may wrap
-pub wrapped_at : (w c words by skipped from k at : ℕ) → words * w ≡ c → skipped ≡ by % c / w →
-    from ≡ by % c % w → (at ≡ k + skipped) ⊎ (at + words ≡ k + skipped) → (i : ℕ) →
+pub wrapped_at : (w c words by skipped from k at : ℕ) → words * w ≡ c → skipped * w + from ≡ by % c →
+    (at ≡ k + skipped) ⊎ (at + words ≡ k + skipped) → (i : ℕ) →
     (at * w + from + i) % c ≡ (k * w + i + by) % c
-wrapped_at w c words by skipped from k at whole s f where_is i =
-    let parts : skipped * w + from ≡ by % c = rw (s, f) (div-add-mod' (by % c) w) in
+wrapped_at w c words by skipped from k at whole parts where_is i =
     elim where_is [
       | inl e ↦
           let x : at * w + from + i ≡ k * w + i + by % c = omega (arith, ap (λ t. t * w) e, parts) in
@@ -134,6 +142,17 @@ more_rotated m w k d from by s b t word within is here place done i h =
           ∙ here o (omega arith) ∙ contains_as s (from + o) (k * w + o + by) (place o)
           ∙ ap (λ n. contains s (n + by)) at
     ]
+
+-- so it is where that word lies so far above, and may wrap
+pub turned_word : (m : Bool) (w c words skipped from by k at d : ℕ) (s b t : PlainSet) → 0 < w →
+    IsDistance w c (by % c) words skipped from → c ≡ s.capacity → b.capacity ≡ c → k < words →
+    (at ≡ k + skipped) ⊎ (at + words ≡ k + skipped) → ReplacesWord w b k (bit_set w d) t →
+    IsWordFrom w s (at * w + from) (read_in m w (bit_set w d)) →
+    IsRotatedBelow s by (read_in m w b) (k * w) → IsRotatedBelow s by (read_in m w t) ((k + 1) * w)
+turned_word m w c words skipped from by k at d s b t word far same size low where_is is here done =
+    let inside = word_within w words k b.capacity word (far.whole ∙ sym size) low in
+    more_rotated m w k d (at * w + from) by s b t word inside is here
+    (λ i. rw (← same) (wrapped_at w c words by skipped from k at far.whole far.parts where_is i)) done
 
 rotated-below : (s : PlainSet) (by k : ℕ) → k < s.capacity → has_rotated s by k ≡ contains s (k + by)
 unfolding has_rotated
@@ -196,23 +215,6 @@ pub down-past : (s : PlainSet) (by k : ℕ) → s.capacity ≤ k + by → has_sh
 unfolding has_shifted_down
 down-past s by k h = rw (le-ltb (k + by) s.capacity h) refl
 
--- the set rotated down, without the members that came from below, is the set shifted down
-pub cut_down : (s : PlainSet) (by : ℕ) → by < s.capacity →
-    without_span (rotated_down s by) (s.capacity - by) s.capacity ≡ shifted_down s by
-cut_down s by h =
-    let c = s.capacity in
-    let t = rotated_down s by in
-    let none : Bool → Bool = λ _. false in
-    ap (plain_set c) (fun_ext λ k. elim (cases_lt k (c - by)) [
-      | inl l ↦ outside_span none t (c - by) c k (inl l) ∙ rotated-below s by k (omega arith)
-          ∙ contains_within s (k + by) (omega arith) ∙ sym (down-inside s by k (omega arith))
-      | inr g ↦ elim (cases_lt k c) [
-        | inl l ↦ inside_span none t (c - by) c k g l ∙ sym (down-past s by k (omega arith))
-        | inr b ↦ outside_span none t (c - by) c k (inr b) ∙ rotated-past s by k b
-            ∙ sym (down-past s by k (omega arith))
-      ]
-    ])
-
 -- a set shifted down by its capacity or more is empty
 pub all_down : (s : PlainSet) (by : ℕ) → s.capacity ≤ by → empty_set s.capacity ≡ shifted_down s by
 all_down s by h = ap (plain_set s.capacity) (fun_ext λ k. sym (down-past s by k (omega arith)))
@@ -229,26 +231,6 @@ up-before s by k h = rw (lt-leb by k h) refl
 pub up-past : (s : PlainSet) (by k : ℕ) → s.capacity ≤ k → has_shifted_up s by k ≡ false
 unfolding has_shifted_up
 up-past s by k h = rw (le-ltb k s.capacity h) (ap (λ b. b && s.has (k - by)) (and_right (nat_le by k) false refl))
-
--- the set rotated up, without the members that came from above, is the set shifted up
-pub cut_up : (s : PlainSet) (by : ℕ) → by < s.capacity →
-    without_span (rotated_up s by) 0 by ≡ shifted_up s by
-cut_up s by h =
-    let c = s.capacity in
-    let back = c - by % c in
-    let t = rotated_up s by in
-    let none : Bool → Bool = λ _. false in
-    let small : by % c ≡ by = mod-eq_of_lt h in
-    ap (plain_set c) (fun_ext λ k. elim (cases_lt k by) [
-      | inl l ↦ inside_span none t 0 by k (omega arith) l ∙ sym (up-before s by k l)
-      | inr g ↦ elim (cases_lt k c) [
-        | inl l ↦ outside_span none t 0 by k (inr g) ∙ rotated-below s back k l
-            ∙ contains_past s (k + back) (k - by) (omega (arith, small)) (omega arith)
-            ∙ sym (up-inside s by k g l)
-        | inr b ↦ outside_span none t 0 by k (inr g) ∙ rotated-past s back k b
-            ∙ sym (up-past s by k b)
-      ]
-    ])
 
 -- a set shifted up by its capacity or more is empty
 pub all_up : (s : PlainSet) (by : ℕ) → s.capacity ≤ by → empty_set s.capacity ≡ shifted_up s by

@@ -1,18 +1,20 @@
 -- Sets whose members are moved where they stand, word by word.
-use Rattle.std.proofs.Common.{◌≡◌, ℕ, ◌+◌, ◌-◌, ◌*◌, ◌/◌, ◌%◌, ◌<◌, ◌≤◌, Bool, false, cond, ◌&&◌, nat_lt, nat_le, inl, inr, sym, ap, ◌∙◌, arith}
+use Rattle.std.proofs.Common.{◌≡◌, ℕ, ◌+◌, ◌-◌, ◌*◌, ◌<◌, ◌≤◌, Bool, false, cond, ◌&&◌, nat_lt, nat_le, inl, inr, sym, ap, ◌∙◌, arith}
 use Rattle.std.proofs.Math.Nat.{mul-le-mul_right}
-use Rattle.std.proofs.lemmas.Nat.{div-add-mod'}
 use Rattle.std.proofs.lemmas.Bool.{cases_lt, le-ltb, lt-leb, le-leb}
 use Rattle.bittle.specs.BitPatterns.{bit_set}
 use Rattle.bittle.specs.Orders.{place, read_in}
 use Rattle.bittle.specs.PlainSet.{PlainSet}
-use Rattle.bittle.specs.Words.{word_of}
+use Rattle.bittle.specs.Words.{word_of, ReplacesWord}
 use Rattle.bittle_bits.proofs.BitSets.{bit_has-zero}
 use Rattle.bittle_bits.proofs.Words.{digit_at}
-use Rattle.bittle_ext.specs.Rotations.{has_shifted_down, has_shifted_up, IsWindow}
-use Rattle.bittle_ext.specs.Shifts.{has_so_far_below}
-use Rattle.bittle_ext.proofs.RotatedSets.{down-inside, down-past, up-inside, up-before}
-use Rattle.bittle_ext.proofs.WordsReplaced.{replaced_where}
+use Rattle.bittle_ext.specs.Rotations.{has_shifted_down, has_shifted_up, IsDistance, IsWindow}
+use Rattle.bittle_ext.proofs.RotatedSets.{down-inside, down-past, up-inside, up-before, up-past}
+use Rattle.bittle_ext.proofs.WordsReplaced.{replaced_where, adds_downward, adds_upward, more_replaced}
+
+-- whether a number, which may lie past the capacity, has a member so far below it
+unfoldable pub has_so_far_below : PlainSet → ℕ → ℕ → Bool
+has_so_far_below s by k = nat_le by k && s.has (k - by)
 
 -- a number has the member that lies so far above it
 down_is : (s : PlainSet) (by n : ℕ) → ((i : ℕ) → s.capacity ≤ i → s.has i ≡ false) →
@@ -24,23 +26,31 @@ down_is s by n past =
     ]
 
 -- the window from so many words and bits above word k is the word that comes to it
-pub window_above : (m : Bool) (w k by x y r : ℕ) (set : PlainSet) → 0 < w →
+pub window_above : (m : Bool) (w k by skipped from x y r : ℕ) (set : PlainSet) → 0 < w →
+    skipped * w + from ≡ by → from < w →
     ((i : ℕ) → set.capacity ≤ i → (read_in m w set).has i ≡ false) →
-    bit_set w x ≡ word_of w set (k + by / w) → bit_set w y ≡ word_of w set (k + by / w + 1) →
-    IsWindow w (by % w) (read_in m w (bit_set w x)) (read_in m w (bit_set w y))
+    bit_set w x ≡ word_of w set (k + skipped) → bit_set w y ≡ word_of w set (k + skipped + 1) →
+    IsWindow w from (read_in m w (bit_set w x)) (read_in m w (bit_set w y))
     (read_in m w (bit_set w r)) → (i : ℕ) → i < w →
     (read_in m w (bit_set w r)).has i ≡ has_shifted_down (read_in m w set) by (k * w + i)
-window_above m w k by x y r set word past first second is i h =
+window_above m w k by skipped from x y r set word parts within past first second is i h =
     let s = read_in m w set in
-    let from = by % w in
-    let parts = div-add-mod' by w in
     elim (cases_lt (i + from) w) [
-      | inl l ↦ is.first i l ∙ digit_at m w (k + by / w) set x word first (i + from) l
+      | inl l ↦ is.first i l ∙ digit_at m w (k + skipped) set x word first (i + from) l
           ∙ ap s.has (omega (arith, parts))
       | inr g ↦ is.second i h g
-          ∙ digit_at m w (k + by / w + 1) set y word second (i + from - w) (omega (arith, h, g))
+          ∙ digit_at m w (k + skipped + 1) set y word second (i + from - w) (omega (arith, h, g, within))
           ∙ ap s.has (omega (arith, parts, g))
     ] ∙ sym (down_is s by (k * w + i) past)
+
+-- an empty word comes to a word that has none so many words above
+pub none_above : (m : Bool) (w c by words skipped rest k d : ℕ) (s : PlainSet) →
+    IsDistance w c by words skipped rest → c ≡ s.capacity → d ≡ 0 → words ≤ k + skipped → (i : ℕ) →
+    (read_in m w (bit_set w d)).has i ≡ has_shifted_down s by (k * w + i)
+none_above m w c by words skipped rest k d s far size none high i =
+    let up : words * w ≤ (k + skipped) * w = mul-le-mul_right w high in
+    ap (λ p. p (place m w i)) (bit_has-zero w d none)
+    ∙ sym (down-past s by (k * w + i) (omega (arith, up, far.whole, far.parts, size)))
 
 -- of numbers that lie as far higher, the members lie so far below them
 below_as : (s : PlainSet) (by n d : ℕ) → has_so_far_below s (by + d) (n + d)
@@ -91,7 +101,7 @@ word_before m w k words d set word far is i h =
 
 -- the window over words so many before word k, and over the ones after them, is the word that comes
 -- to it
-pub window_below : (m : Bool) (w k by words from x y r : ℕ) (s : PlainSet) → from < w →
+pub window_below : (m : Bool) (w k by words from x y r : ℕ) (s : PlainSet) → from ≤ w →
     words * w ≡ by + from →
     ((i : ℕ) → i < w → (read_in m w (bit_set w x)).has i
     ≡ has_so_far_below s (words * w) (k * w + i)) →
@@ -110,6 +120,15 @@ window_below m w k by words from x y r s inside whole first second is i h =
       | inr g ↦ is.second i h g ∙ second (i + from - w) (omega (arith, h, g, inside))
           ∙ ap (has_so_far_below s (words * w)) (omega (arith, g))
     ] ∙ both
+
+-- an empty word comes to a word that lies below the distance
+pub none_below : (m : Bool) (w c by words skipped rest k d : ℕ) (s : PlainSet) →
+    IsDistance w c by words skipped rest → d ≡ 0 → k < skipped → (i : ℕ) → i < w →
+    (read_in m w (bit_set w d)).has i ≡ has_shifted_up s by (k * w + i)
+none_below m w c by words skipped rest k d s far none low i h =
+    let up : (k + 1) * w ≤ skipped * w = mul-le-mul_right w (omega (arith, low)) in
+    ap (λ p. p (place m w i)) (bit_has-zero w d none)
+    ∙ sym (up-before s by (k * w + i) (omega (arith, up, h, far.parts)))
 
 -- where all words from word k on are as they were, what comes to it from above is what came
 pub down_as : (w k by n : ℕ) (g : ℕ → Bool) (s now : PlainSet) →
@@ -138,3 +157,47 @@ up_as w k by n g s now is h l =
           (lt-leb ((k + 1) * w) (n - by) (omega (arith, h)))
           ∙ sym (up-inside s by n a l)
     ]
+
+-- so what comes to word k while all words up to it are as they were is what came to it
+pub came_up : (m : Bool) (w c k by words skipped to x y r : ℕ) (s now : PlainSet) →
+    IsDistance w c by words skipped to → c ≡ s.capacity → k < words →
+    now ≡ replaced_where (λ i. nat_le ((k + 1) * w) i) (has_shifted_up s by) s →
+    ((i : ℕ) → i < w → (read_in m w (bit_set w x)).has i
+    ≡ has_so_far_below now ((skipped + 1) * w) (k * w + i)) →
+    ((i : ℕ) → i < w → (read_in m w (bit_set w y)).has i
+    ≡ has_so_far_below now ((skipped + 1) * w) ((k + 1) * w + i)) →
+    IsWindow w (w - to) (read_in m w (bit_set w x)) (read_in m w (bit_set w y))
+    (read_in m w (bit_set w r)) → (i : ℕ) → i < w →
+    (read_in m w (bit_set w r)).has i ≡ has_shifted_up s by (k * w + i)
+came_up m w c k by words skipped to x y r s now far size low before first second is i h =
+    let up : (k + 1) * w ≤ words * w = mul-le-mul_right w (omega (arith, low)) in
+    let same : now.capacity ≡ s.capacity = ap (λ u. u.capacity) before in
+    let whole : (skipped + 1) * w ≡ by + (w - to) = omega (arith, far.parts, far.within) in
+    window_below m w k by (skipped + 1) (w - to) x y r now (omega arith) whole first second is i h
+    ∙ sym (up_is now by (k * w + i) (omega (arith, up, h, far.whole, size, same)))
+    ∙ up_as w k by (k * w + i) (has_shifted_up s by) s now before (omega (arith, h))
+    (omega (arith, up, h, far.whole, size))
+
+-- a set of whole words of which those before or after word k have come, once word k has
+module _ (m : Bool) (w k by r : ℕ) (s now after : PlainSet) (word : 0 < w)
+    (whole : (words : ℕ) × (now.capacity ≡ words * w))
+    (past : (i : ℕ) → now.capacity ≤ i → now.has i ≡ false)
+    (also : (i : ℕ) → after.capacity ≤ i → after.has i ≡ false)
+    (none : (i : ℕ) → s.capacity ≤ i → s.has i ≡ false)
+    (is : ReplacesWord w now k (bit_set w r) after) where
+  pub more_down : read_in m w now ≡ replaced_where (λ i. nat_lt i (k * w)) (has_shifted_down s by) s →
+      ((i : ℕ) → i < w → (read_in m w (bit_set w r)).has i ≡ has_shifted_down s by (k * w + i)) →
+      read_in m w after ≡ replaced_where (λ i. nat_lt i ((k + 1) * w)) (has_shifted_down s by) s
+  more_down before here =
+      more_replaced m w k r (λ i. nat_lt i (k * w)) (λ i. nat_lt i ((k + 1) * w))
+      (has_shifted_down s by) s now after word whole past also none
+      (λ i h. down-past s by i (omega (arith, h))) (adds_upward w k now.capacity word) is here before
+
+  pub more_up : read_in m w now
+      ≡ replaced_where (λ i. nat_le ((k + 1) * w) i) (has_shifted_up s by) s →
+      ((i : ℕ) → i < w → (read_in m w (bit_set w r)).has i ≡ has_shifted_up s by (k * w + i)) →
+      read_in m w after ≡ replaced_where (λ i. nat_le (k * w) i) (has_shifted_up s by) s
+  more_up before here =
+      more_replaced m w k r (λ i. nat_le ((k + 1) * w) i) (λ i. nat_le (k * w) i)
+      (has_shifted_up s by) s now after word whole past also none (up-past s by)
+      (adds_downward w k now.capacity word) is here before

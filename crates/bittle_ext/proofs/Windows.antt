@@ -1,9 +1,9 @@
 -- The bits of two words, one after the other, from an index on.
 use Rattle.std.proofs.Common.{◌≡◌, ℕ, ◌+◌, ◌-◌, ◌*◌, ◌/◌, ◌%◌, ◌^◌, ◌<◌, ◌≤◌, true, ◌==◌, inl, inr, sym, ap, ◌∙◌, arith, bit_and, bit_or, pow_mono, shr_lt, shr-shr}
 use Rattle.std.specs.Int.{bit_at}
-use Rattle.std.proofs.Math.Nat.{mul-mod_left}
+use Rattle.std.proofs.Math.Nat.{mul_assoc, mul-mod_left}
 use Rattle.std.proofs.Math.Pow.{mod-mod-pow}
-use Rattle.std.proofs.lemmas.Nat.{and_mask, mod_below, mod-pow-add, mul-add-lt, or_shifted, pow_pos, pow-add, shl-shr, shr_split}
+use Rattle.std.proofs.lemmas.Nat.{and_mask, mod_below, mod-pow-add, mul-add-lt, mul-mod_first, or_shifted, pow_pos, pow-add, shl-shr, shr_split}
 use Rattle.std.proofs.lemmas.Nat.Bits.{bit_at_cat_low, bit_at_cat_high}
 use Rattle.std.proofs.lemmas.Bool.{cases_lt}
 use Rattle.bittle.specs.BitPatterns.{bit_has, bit_set}
@@ -32,7 +32,7 @@ at_most_128 w ones all fits =
     ]
 
 -- a word shifted up and cut to its width: of its low bits nothing is lost
-cut_upper : (w from rest second ones : ℕ) → from ≤ w → rest ≡ w - from → w < 129 →
+pub cut_upper : (w from rest second ones : ℕ) → from ≤ w → rest ≡ w - from → w < 129 →
     ones ≡ 2 ^ w - 1 →
     bit_and (second * 2 ^ rest % 2 ^ 128) ones ≡ second % 2 ^ from * 2 ^ rest
 cut_upper w from rest second ones h left small all =
@@ -48,17 +48,34 @@ cut_upper w from rest second ones h left small all =
       mul-mod_left second (2 ^ rest),
     )
 
-module _ (w from rest first second ones r : ℕ) (h : from < w) (left : rest ≡ w - from)
-    (small : w < 129) (all : ones ≡ 2 ^ w - 1) (fits : first < 2 ^ w)
-    (is : r ≡ bit_or (bit_and (second * 2 ^ rest % 2 ^ 128) ones) (first / 2 ^ from)) where
+-- a word shifted up by 1 and then by the rest, and cut to its width
+pub cut_twice : (w from more rest second ones : ℕ) → from ≤ w → rest ≡ w - from → more + 1 ≡ rest →
+    w < 129 → ones ≡ 2 ^ w - 1 →
+    bit_and (second * 2 ^ 1 % 2 ^ 128 * 2 ^ more % 2 ^ 128) ones ≡ second % 2 ^ from * 2 ^ rest
+cut_twice w from more rest second ones h left one small all =
+    let up : 1 + more ≡ rest = omega (arith, one) in
+    let twice : second * 2 ^ 1 * 2 ^ more ≡ second * 2 ^ rest =
+    mul_assoc second (2 ^ 1) (2 ^ more) ∙ ap (λ p. second * p) (sym (pow-add 2 1 more))
+    ∙ ap (λ k. second * 2 ^ k) up in
+    ap (λ n. bit_and n ones) (mul-mod_first (second * 2 ^ 1) (2 ^ more) (2 ^ 128)
+    ∙ ap (λ n. n % 2 ^ 128) twice) ∙ cut_upper w from rest second ones h left small all
+
+-- a word shifted down by 1 and then by the rest
+pub down_twice : (first more from : ℕ) → more + 1 ≡ from →
+    first / 2 ^ 1 / 2 ^ more ≡ first / 2 ^ from
+down_twice first more from one =
+    let e : 1 + more ≡ from = omega (arith, one) in
+    shr-shr first 1 more ∙ ap (λ k. first / 2 ^ k) e
+
+module _ (w from rest first second upper lower r : ℕ) (h : from ≤ w) (left : rest ≡ w - from)
+    (fits : first < 2 ^ w) (above : upper ≡ second % 2 ^ from * 2 ^ rest)
+    (below : lower ≡ first / 2 ^ from) (is : r ≡ bit_or upper lower) where
   low : first / 2 ^ from < 2 ^ rest
   low = let parts : rest + from ≡ w = omega (arith, left) in
       shr_lt rest from (omega (arith, fits, ap (λ k. 2 ^ k) parts))
 
   value : r ≡ second % 2 ^ from * 2 ^ rest + first / 2 ^ from
-  value = is ∙ ap (λ x. bit_or x (first / 2 ^ from))
-      (cut_upper w from rest second ones (omega arith) left small all)
-      ∙ or_shifted (second % 2 ^ from) rest (first / 2 ^ from) low
+  value = is ∙ rw (above, below) (or_shifted (second % 2 ^ from) rest (first / 2 ^ from) low)
 
   -- the low bits of the second word above the high ones of the first one are a word
   pub funnel_fits : r < 2 ^ w
@@ -87,11 +104,11 @@ module _ (w from rest first second ones r : ℕ) (h : from < w) (left : rest ≡
   }
 
 -- mirrored words have their window from the other side
-pub mirrored_window : (w from rest first second r : ℕ) → 0 < from → from < w → rest ≡ w - from →
+pub mirrored_window : (w from rest first second r : ℕ) → from ≤ w → rest ≡ w - from →
     IsWindow w rest (bit_set w second) (bit_set w first) (bit_set w r) →
     IsWindow w from (read_in true w (bit_set w first)) (read_in true w (bit_set w second))
     (read_in true w (bit_set w r))
-mirrored_window w from rest first second r some h left is = record {
+mirrored_window w from rest first second r h left is = record {
   first = λ i b.
       let e : w - 1 - i + rest - w ≡ w - 1 - (i + from) = omega (arith, left) in
       ap (bit_has w r) (mirror_in_word w i (omega arith))

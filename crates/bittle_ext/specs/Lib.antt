@@ -7,6 +7,5 @@ pub mod Ranks
 pub mod Rotations
 pub mod Runs
 pub mod SetRelations
-pub mod Shifts
 pub mod ViewLaws
 pub mod Views

@@ -1,5 +1,5 @@
 -- Sets whose members are all moved up or down.
-use Rattle.std.specs.Prelude.{◌≡◌, ℕ, ◌+◌, ◌-◌, ◌%◌, ◌<◌, ◌≤◌, Bool, ◌&&◌, nat_lt, nat_le}
+use Rattle.std.specs.Prelude.{◌≡◌, ℕ, ◌+◌, ◌-◌, ◌*◌, ◌%◌, ◌<◌, ◌≤◌, ◌⊎◌, Bool, ◌&&◌, nat_lt, nat_le}
 use Rattle.bittle.specs.PlainSet.{PlainSet, contains}
 
 -- whether a number below the capacity has a member so far above it, where an index wraps
@@ -34,6 +34,18 @@ shifted_up s by = record { capacity = s.capacity; has = has_shifted_up s by }
 pub record IsWindow (w from : ℕ) (s t u : PlainSet) : Type 0 where
   pub first : (i : ℕ) → i + from < w → u.has i ≡ s.has (i + from)
   pub second : (i : ℕ) → i < w → w ≤ i + from → u.has i ≡ t.has (i + from - w)
+
+-- `next` is the word of w bits after word `at` of a set, and after its last one the first
+abbrev pub IsNextWord : ℕ → ℕ → ℕ → ℕ → Type 0
+IsNextWord w capacity at next =
+    (((at + 1) * w ≡ capacity) × (next ≡ 0)) ⊎ (((at + 1) * w < capacity) × (next ≡ at + 1))
+
+-- a distance below a capacity of so many words of w bits: whole words that it skips, and the rest
+pub record IsDistance (w capacity by words skipped rest : ℕ) : Type 0 where
+  pub whole : words * w ≡ capacity
+  pub fewer : skipped < words
+  pub within : rest < w
+  pub parts : skipped * w + rest ≡ by
 
 -- the members of one word of w bits are those of a set from an index on, which wraps
 abbrev pub IsWordFrom : ℕ → PlainSet → ℕ → PlainSet → Type 0

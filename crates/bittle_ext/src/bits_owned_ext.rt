@@ -12,7 +12,8 @@ ghost use Rattle.bittle.specs.Values.{set_in, set_mirrored};
 
 use crate::bits_mut_ext::BitsMutExt;
 use crate::bits_span_mut_ext::BitsSpanMutExt;
-use crate::rotations::{rotate_down, rotate_up, shift_down, shift_up};
+use crate::rotations::{rotate_down, rotate_up};
+use crate::shifts::{shift_down, shift_up};
 use bittle::BitsOwned;
 use std::ops::RangeBounds;
 
@@ -233,7 +234,9 @@ pub trait BitsOwnedExt: BitsOwned {
         ensures emptied { (i : ℕ) → i < Self.type_capacity → Self.type_capacity ≤ i + by
             → contains (set_in Self.Shape Self.Order.Endian result) i ≡ false }
     {
-        shift_down::<Self, Self::Order>(&self, by)
+        let mut set = self;
+        shift_down::<Self, Self::Order>(&mut set, by);
+        set
     }
 
     /// Returns the set with each bit moved up by `by` indexes, in the order of the type. The bits
@@ -256,7 +259,9 @@ pub trait BitsOwnedExt: BitsOwned {
         ensures emptied { (i : ℕ) → i < Self.type_capacity → i < by
             → contains (set_in Self.Shape Self.Order.Endian result) i ≡ false }
     {
-        shift_up::<Self, Self::Order>(&self, by)
+        let mut set = self;
+        shift_up::<Self, Self::Order>(&mut set, by);
+        set
     }
 
     /// Returns the set of the indexes, in the order of the type. An index past the capacity wraps.

@@ -2,14 +2,14 @@
 
 ghost use Rattle.std.specs.Prelude.{◌≡◌, ◌+◌, ◌-◌, ◌*◌, ◌^◌, ◌<◌, IsTrue};
 ghost use Rattle.bittle.specs.BitPatterns.{bit_set};
-ghost use Rattle.bittle_ext.specs.Rotations.{rotated_down, rotated_up, shifted_down, shifted_up};
-ghost use Rattle.bittle_ext.specs.Rotations.{IsWindow, IsWordFrom};
+ghost use Rattle.bittle_ext.specs.Rotations.{rotated_down, rotated_up};
+ghost use Rattle.bittle_ext.specs.Rotations.{IsDistance, IsNextWord, IsWindow, IsWordFrom};
 ghost use Rattle.bittle.specs.Orders.{read_in};
 ghost use Rattle.bittle.specs.Values.{set_in, ShapeFits};
 
 use crate::capacities::capacity_of;
 use bittle::{Bits, BitsOwned, Endian};
-use bittle_bits::extension::Word;
+use bittle_bits::extension::{Word, word_width};
 
 /// Returns the mask of all bits of a word.
 #[inline]
@@ -20,17 +20,37 @@ fn all_bits<W: Word>() -> u128
     W::zero().not().to_bits()
 }
 
-/// Returns the word of the bits of two words from the weight `2 ^ from` of the first one on.
+/// Returns the word of the bits of two words from the weight `2 ^ by` of the lower one on.
+///
+/// The higher one is moved by 1 and then by the rest, so 0 is no case of its own. Each distance is
+/// below the width by the remainder, which changes nothing: so the compiler shifts words, and not
+/// 128 bits.
 #[inline]
-fn funnel<W: Word>(first: W, second: W, from: u32) -> W
-    requires some { 0 < from }
-    requires within { from < W.width }
-    ensures { IsWindow W.width from (bit_set W.width (W.pattern first))
-        (bit_set W.width (W.pattern second)) (bit_set W.width (W.pattern result)) }
+fn funnel_down<W: Word>(low: W, high: W, by: u32) -> W
+    requires { by < W.width }
+    ensures { IsWindow W.width by (bit_set W.width (W.pattern low))
+        (bit_set W.width (W.pattern high)) (bit_set W.width (W.pattern result)) }
 {
+    let width = W::width();
+    let by = by % width;
     let ones = all_bits::<W>();
-    let upper = second.to_bits() << (W::width() - from) & ones;
-    W::from_bits(upper | first.to_bits() >> from)
+    let upper = high.to_bits() << 1 << (width - 1 - by) & ones;
+    W::from_bits(upper | low.to_bits() >> by)
+}
+
+/// Returns the word of the bits of two words up to the weight `2 ^ by` of the higher one, which it
+/// excludes.
+#[inline]
+fn funnel_up<W: Word>(low: W, high: W, by: u32) -> W
+    requires { by < W.width }
+    ensures { IsWindow W.width (W.width - by) (bit_set W.width (W.pattern low))
+        (bit_set W.width (W.pattern high)) (bit_set W.width (W.pattern result)) }
+{
+    let width = W::width();
+    let by = by % width;
+    let ones = all_bits::<W>();
+    let lower = low.to_bits() >> 1 >> (width - 1 - by);
+    W::from_bits(high.to_bits() << by & ones | lower)
 }
 
 /// Returns the word of the bits of two words from the index `from` of the first one on.
@@ -42,52 +62,78 @@ pub fn window<W: Word, E: Endian>(first: W, second: W, from: u32) -> W
         (read_in E.mirrored W.width (bit_set W.width (W.pattern second)))
         (read_in E.mirrored W.width (bit_set W.width (W.pattern result))) }
 {
-    if from == 0 {
-        return first;
-    }
     if E::is_mirrored() {
-        return funnel::<W>(second, first, W::width() - from);
+        funnel_up::<W>(second, first, from)
+    } else {
+        funnel_down::<W>(first, second, from)
     }
-    funnel::<W>(first, second, from)
 }
 
-/// Returns the word of the bits of a set from an index of its word `at` on. After the last word
-/// comes the first one.
+/// Returns the word of the bits of two words up to the index `to` of the second one.
 #[inline]
-fn word_from<B: Bits, E: Endian>(set: &B, words: u32, at: u32, from: u32) -> B::LeafWord
+pub fn window_up_to<W: Word, E: Endian>(first: W, second: W, to: u32) -> W
+    requires { to < W.width }
+    ensures { IsWindow W.width (W.width - to)
+        (read_in E.mirrored W.width (bit_set W.width (W.pattern first)))
+        (read_in E.mirrored W.width (bit_set W.width (W.pattern second)))
+        (read_in E.mirrored W.width (bit_set W.width (W.pattern result))) }
+{
+    if E::is_mirrored() {
+        funnel_down::<W>(second, first, to)
+    } else {
+        funnel_up::<W>(first, second, to)
+    }
+}
+
+/// Returns how many words a set has, how many of them a distance skips, and how many bits more.
+#[inline]
+pub fn distance<B: Bits>(set: &B, by: u32) -> (usize, usize, u32)
     requires fits { ShapeFits B.Shape set.now }
-    requires words { words * B.width ≡ (B.big set.now).capacity }
-    requires element { at < words }
+    requires within { by < (B.big set.now).capacity }
+    ensures { IsDistance B.width (B.big set.now).capacity by result.0 result.1 result.2 }
+{
+    let width = word_width::<B>();
+    let words = (set.bits_capacity() / width) as usize;
+    (words, (by / width) as usize, by % width)
+}
+
+/// Returns the word of the bits of a set from an index of its word `at` on. After that word comes
+/// word `next`.
+#[inline]
+fn word_from<B: Bits, E: Endian>(set: &B, at: usize, next: usize, from: u32) -> B::LeafWord
+    requires fits { ShapeFits B.Shape set.now }
+    requires next { IsNextWord B.width (B.big set.now).capacity at next }
     requires within { from < B.width }
     ensures { IsWordFrom B.width (set_in B.Shape E.Endian set.now) (at * B.width + from)
         (read_in E.mirrored B.width (bit_set B.width (B.LeafWord.pattern result))) }
 {
-    let next = if at + 1 == words { 0 } else { at + 1 };
-    window::<B::LeafWord, E>(
-        set.nth_leaf_word(at as usize),
-        set.nth_leaf_word(next as usize),
-        from,
-    )
+    window::<B::LeafWord, E>(set.nth_leaf_word(at), set.nth_leaf_word(next), from)
 }
 
 /// Returns the set with each member moved down, from index 0 on to the last one.
+///
+/// First come the words up to the last one, and then those from the first one on: so no word asks
+/// whether it wraps.
+#[inline]
 pub fn rotate_down<B: BitsOwned, E: Endian>(set: &B, by: u32) -> B
     requires { IsTrue B.indexable }
     ensures { set_in B.Shape E.Endian result ≡ rotated_down (set_in B.Shape E.Endian set.now) by }
 {
-    let mut result = B::zeros();
+    let mut result = *set;
     let capacity = capacity_of::<B, E>(set);
     if capacity == 0 {
         return result;
     }
-    let width = <B::LeafWord as Word>::width();
-    let words = capacity / width;
-    let skipped = by % capacity / width;
-    let from = by % capacity % width;
+    let (words, skipped, from) = distance::<B>(set, by % capacity);
     let left = words - skipped;
-    for k in 0..words {
-        let at = if k < left { k + skipped } else { k - left };
-        result.set_nth_leaf_word(k as usize, word_from::<B, E>(set, words, at, from));
+    for k in 0..left - 1 {
+        let word = word_from::<B, E>(set, k + skipped, k + skipped + 1, from);
+        result.set_nth_leaf_word(k, word);
+    }
+    result.set_nth_leaf_word(left - 1, word_from::<B, E>(set, words - 1, 0, from));
+    for k in left..words {
+        let word = word_from::<B, E>(set, k - left, k - left + 1, from);
+        result.set_nth_leaf_word(k, word);
     }
     result
 }
@@ -105,33 +151,4 @@ pub fn rotate_up<B: BitsOwned, E: Endian>(set: &B, by: u32) -> B
         capacity - by % capacity
     };
     rotate_down::<B, E>(set, back)
-}
-
-/// Returns the set with each member moved down; those that would pass index 0 are left out.
-#[inline]
-pub fn shift_down<B: BitsOwned, E: Endian>(set: &B, by: u32) -> B
-    requires { IsTrue B.indexable }
-    ensures { set_in B.Shape E.Endian result ≡ shifted_down (set_in B.Shape E.Endian set.now) by }
-{
-    let capacity = capacity_of::<B, E>(set);
-    if by >= capacity {
-        return B::zeros();
-    }
-    let mut result = rotate_down::<B, E>(set, by);
-    result.clear_range_in::<E>(capacity - by, capacity);
-    result
-}
-
-/// Returns the set with each member moved up; those that would reach the capacity are left out.
-#[inline]
-pub fn shift_up<B: BitsOwned, E: Endian>(set: &B, by: u32) -> B
-    requires { IsTrue B.indexable }
-    ensures { set_in B.Shape E.Endian result ≡ shifted_up (set_in B.Shape E.Endian set.now) by }
-{
-    if by >= capacity_of::<B, E>(set) {
-        return B::zeros();
-    }
-    let mut result = rotate_up::<B, E>(set, by);
-    result.clear_range_in::<E>(0, by);
-    result
 }

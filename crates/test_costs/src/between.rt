@@ -109,5 +109,5 @@ fn a_shift_in_place_past_all_fetches_nothing(rt: HostRuntime) {
     let asked = Asked::new();
     let mut set = Probe::of(ONES, &asked);
     shift(&mut set, 40, 40);
-    same!(rt; (set.bytes, asked.fetches(), asked.other()), ([0; 4], 0, 8));
+    same!(rt; (set.bytes, asked.fetches(), asked.other()), ([0; 4], 0, 2));
 }

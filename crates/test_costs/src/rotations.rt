@@ -1,4 +1,4 @@
-//! What a move of all bits asks of its set: each word twice at most.
+//! What a move of all bits asks of its set: each word twice at most, and each is written once.
 
 ghost use Rattle.std.specs.Prelude.{IsTrue};
 
@@ -14,9 +14,9 @@ fn rotated<B: BitsOwned>(rt: &impl Abort, set: B, asked: &Asked) -> [B; 2]
     requires { IsTrue B.indexable }
 {
     let up = set.rotated_up(1);
-    same!(rt; (asked.fetches(), asked.other()), (8, 0));
+    same!(rt; (asked.fetches(), asked.other()), (8, 4));
     let down = Set::new_le(set).rotated_down(8).into_bits();
-    same!(rt; (asked.fetches(), asked.other()), (16, 0));
+    same!(rt; (asked.fetches(), asked.other()), (16, 8));
     [up, down]
 }
 
@@ -33,14 +33,15 @@ fn shifted<B: BitsOwned>(rt: &impl Abort, set: B, asked: &Asked) -> [B; 2]
     requires { IsTrue B.indexable }
 {
     let up = set.shifted_up(9);
-    same!(rt; (asked.fetches(), asked.other()), (8, 0));
+    same!(rt; (asked.fetches(), asked.other()), (5, 4));
     let down = Set::new_le(set).shifted_down(8).into_bits();
-    same!(rt; (asked.fetches(), asked.other()), (16, 0));
+    same!(rt; (asked.fetches(), asked.other()), (10, 8));
     [up, down]
 }
 
 #[test]
-fn a_shift_fetches_each_word_twice(rt: HostRuntime) {
+fn a_shift_fetches_each_word_twice_at_most(rt: HostRuntime) {
+    // Two words come from two each, and one from the end of one.
     let asked = Asked::new();
     let [up, down] = shifted(&rt, Probe::of(ONES, &asked), &asked);
     same!(rt; (up.bytes, down.bytes), ([0, 2, 0, 0], [0, 0, 128, 0]));
@@ -58,5 +59,5 @@ fn a_shift_of_all_bits_fetches_nothing(rt: HostRuntime) {
     let asked = Asked::new();
     let [up, down] = shifted_past_all(Probe::of(ONES, &asked));
     same!(rt; (up.bytes, down.bytes), ([0; 4], [0; 4]));
-    same!(rt; (asked.fetches(), asked.other()), (0, 0));
+    same!(rt; (asked.fetches(), asked.other()), (0, 2));
 }

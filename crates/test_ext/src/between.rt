@@ -279,6 +279,18 @@ fn shifts_in_place(rt: HostRuntime) {
 }
 
 #[test]
+fn shifts_in_place_beside_a_word(rt: HostRuntime) {
+    // The members 0, 7 and 23 of words of 8 bits, by all but one bit of a word, of two and of three.
+    let row = [0x81u8, 0, 0x80];
+    same!(rt; (shifted(false, row, 15), shifted(false, row, 16)), ([0, 1, 0], [0x80, 0, 0]));
+    same!(rt; (shifted(true, row, 7), shifted(true, row, 15)), ([0x80, 0x40, 0], [0, 0x80, 0x40]));
+    same!(rt; (shifted(false, row, 23), shifted(true, row, 23)), ([1, 0, 0], [0, 0, 0x80]));
+    same!(rt; (shifted(false, 0x80u8, 7), shifted(true, 3u8, 7)), (1, 0x80));
+    let wide = 0x8000_0000_0000_0000_0000_0000_0000_0001u128;
+    same!(rt; (shifted(false, wide, 127), shifted(true, wide, 127)), (1, 1 << 127));
+}
+
+#[test]
 fn shifts_in_place_from_the_left(rt: HostRuntime) {
     // From the left the members 0, 7 and 16.
     let row = [0x81u8, 0, 0x80];

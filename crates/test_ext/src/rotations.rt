@@ -224,6 +224,18 @@ fn rows_agree_with_a_loop(rt: HostRuntime) {
 }
 
 #[test]
+fn rows_of_other_words_agree_with_a_loop(rt: HostRuntime) {
+    // Words of 8 bits, by two words too.
+    agree(&rt, 16, [0xC5u8, 0x3A, 0x91, 0x07, 0xE8]);
+    agree(&rt, 64, [0x8F00_0000_0000_0005u64]);
+    agree(
+        &rt,
+        128,
+        [3u128, 0xC000_0000_0000_0000_0000_0000_0000_0001, 5],
+    );
+}
+
+#[test]
 fn sets_agree_with_a_loop(rt: HostRuntime) {
     agree(&rt, 16, Set::new_le([0xC001u16, 0x1234, 0xF08D]));
     agree(&rt, 16, Set::new([0xC001u16, 0x1234, 0xF08D]));

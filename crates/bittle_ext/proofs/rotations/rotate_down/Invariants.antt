@@ -1,11 +1,14 @@
 use Rattle.std.proofs.Common.{◌*◌}
-use Rattle.bittle.specs.Orders.{read_in}
 use Rattle.bittle_ext.specs.Rotations.{IsRotatedBelow}
+use Rattle.bittle.specs.Values.{set_in}
 use Rattle.bittle_ext.proofs.rotations.rotate_down.Given as goal
 
 abbrev pub invariant-loop-k : goal.invariant-loop-k
 invariant-loop-k g l =
-    let w = g.B.Shape.width in
-    let m = g.E.Endian.mirrored in
-    IsRotatedBelow (read_in m w (g.B.Shape.big l.set)) l.by (read_in m w (g.B.Shape.big l.result))
-    (l.k * w)
+    IsRotatedBelow (set_in g.B.Shape g.E.Endian l.set) l.by
+    (set_in g.B.Shape g.E.Endian l.result) (l.k * g.B.Shape.width)
+
+abbrev pub invariant-loop-k-2 : goal.invariant-loop-k-2
+invariant-loop-k-2 g l =
+    IsRotatedBelow (set_in g.B.Shape g.E.Endian l.set) l.by
+    (set_in g.B.Shape g.E.Endian l.result) (l.k * g.B.Shape.width)

@@ -1,4 +1,4 @@
-use Rattle.std.proofs.Common.{◌≡◌, ◌+◌, true, cond, not, refl, sym, ap, ◌∙◌}
+use Rattle.std.proofs.Common.{◌+◌, true, cond, not, refl, sym, ap, ◌∙◌}
 use Rattle.std.proofs.lemmas.Bool.{or_right}
 use Rattle.bittle.specs.PlainSet.{PlainSet, contains, size}
 use Rattle.bittle.specs.Values.{set_in}

@@ -1,4 +1,4 @@
-use Rattle.std.proofs.Common.{◌≡◌, ◌+◌, false, cond, refl, sym, ap, ◌∙◌}
+use Rattle.std.proofs.Common.{◌+◌, false, cond, refl, sym, ap, ◌∙◌}
 use Rattle.std.proofs.lemmas.Bool.{and_right}
 use Rattle.bittle.specs.PlainSet.{PlainSet, contains, size}
 use Rattle.bittle.specs.Values.{set_in}
