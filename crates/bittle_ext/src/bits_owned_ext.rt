@@ -218,7 +218,7 @@ pub trait BitsOwnedExt: BitsOwned {
     /// that would pass index 0 are left out.
     ///
     /// With a distance of the capacity or more, as with capacity 0, the set is empty. Each word is
-    /// read twice and written once.
+    /// read twice at most and written once.
     ///
     /// ```
     /// [0x12u8, 0x01].shifted_down(2);                     // [0x44, 0]
@@ -243,7 +243,7 @@ pub trait BitsOwnedExt: BitsOwned {
     /// that would reach the capacity are left out.
     ///
     /// With a distance of the capacity or more, as with capacity 0, the set is empty. Each word is
-    /// read twice and written once.
+    /// read twice at most and written once.
     ///
     /// ```
     /// [0x48u8, 0x80].shifted_up(2);                       // [0x20, 0x01]
