@@ -1,5 +1,5 @@
-//! Tests of the ready queues, of roles and of entities: values worked out by hand, and drawn histories
-//! beside a plain model.
+//! Tests of the ready queues, of roles and of entities: values worked out by hand, and drawn
+//! histories beside a plain model.
 #![tactic(auto)]
 
 #[cfg(test)]
