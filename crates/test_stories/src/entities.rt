@@ -90,6 +90,17 @@ fn entities_in_the_other_order(rt: HostRuntime) {
     same!(rt; world.first_with(&[1], 1), None);
 }
 
+// The example of the crate's first page.
+#[test]
+fn the_example(rt: HostRuntime) {
+    let mut world = World::<u64, 2>::new();
+    same!(rt; (world.spawn(), world.spawn()), (Some(0), Some(1)));
+    same!(rt; (world.attach(1, 0), world.attach(1, 1), world.attach(7, 0)), (true, true, false));
+    same!(rt; world.matching(&[0, 1]), 0b10);
+    same!(rt; (world.remove(1), world.spawn()), (true, Some(1)));
+    holds!(rt; !world.has(1, 0) && !world.has(1, 1));
+}
+
 // Spawns as often as asked, and returns the last answer.
 fn spawn_often<B: BitsOwned, const N: usize>(world: &mut World<B, N>, often: u32) -> Option<u32> {
     let mut last = None;
