@@ -7,7 +7,8 @@ ghost use Rattle.bit_entities.specs.EntityLaws.{FullExactlyIfAllAreAlive, Refuse
 ghost use Rattle.bit_entities.specs.EntityLaws.{AnswersAreOfTheirWorlds, SpawnedAreRemovedBetween};
 ghost use Rattle.bit_entities.specs.EntityLaws.{ComponentsAreThoseKept, QueriesVisitEachOnce};
 
-/// States that events keep that no dead entity has a component, from any world of which none has.
+/// States that no list of events makes a world in which a dead entity has a component, from one in
+/// which none has.
 pub fn worlds_stay_worlds()
     ensures { WorldsStayWorlds }
 {}
@@ -17,8 +18,8 @@ pub fn dead_have_nothing()
     ensures { DeadHaveNothing }
 {}
 
-/// States that an entity that is spawned is the least number that was not alive, and has no
-/// component, whatever it had in a former life.
+/// States that a spawned entity is the least number that was not alive. It has no component,
+/// whatever it had in a former life.
 pub fn spawned_are_new()
     ensures { SpawnedAreNew }
 {}
@@ -33,8 +34,8 @@ pub fn refused_changes_nothing()
     ensures { RefusedChangesNothing }
 {}
 
-/// States that each answer is that to its event from the world that the events before it leave, so
-/// that what holds of an answer and its world holds at each place of a list.
+/// States that each answer of a list is the answer to its event in the world that the events before
+/// it leave. So what holds of one answer and its world holds at each place.
 pub fn answers_are_of_their_worlds()
     ensures { AnswersAreOfTheirWorlds }
 {}
@@ -44,8 +45,8 @@ pub fn spawned_are_removed_between()
     ensures { SpawnedAreRemovedBetween }
 {}
 
-/// States that an entity has a component exactly if it was given it, and since then neither was it
-/// removed nor the component taken from it.
+/// States that an entity has a component exactly if it was given it, and since then was not removed
+/// and did not lose it.
 pub fn components_are_those_kept()
     ensures { ComponentsAreThoseKept }
 {}

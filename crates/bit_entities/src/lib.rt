@@ -98,8 +98,8 @@ impl<B: BitsOwned, const N: usize> World<B, N> {
         entity < B::bits() && self.alive.test_bit(entity)
     }
 
-    /// Returns whether an entity has a component. One that is not alive has none, and none has what
-    /// is no component.
+    /// Returns whether an entity has a component: `false` if the entity is not alive, or if there is
+    /// no such component.
     pub fn has(&self, entity: u32, component: u32) -> bool
         ensures { let world = world_of N (set_in B.Shape B.Order.Endian) self.now.alive
             self.now.components in result ≡ world.has entity component }
@@ -110,9 +110,8 @@ impl<B: BitsOwned, const N: usize> World<B, N> {
         }
     }
 
-    /// Makes the least number that is not alive an entity, and returns it. It has no component.
-    /// Where all are alive it returns `None`, and nothing changes. It reads the words up to the
-    /// number.
+    /// Makes the least number that is not alive an entity with no component, and returns it. If all
+    /// are alive, it returns `None` and changes nothing. It reads the words up to the number.
     pub fn spawn(&mut self) -> Option<u32>
         ensures entity { result ≡ least_dead (world_of N (set_in B.Shape B.Order.Endian)
             self.old.alive self.old.components) }
@@ -135,8 +134,8 @@ impl<B: BitsOwned, const N: usize> World<B, N> {
         Some(entity)
     }
 
-    /// Removes an entity with its components, and returns `true`. Where it is not alive, nothing
-    /// changes. It clears one bit of each mask.
+    /// Removes an entity with its components, and returns `true`. If it is not alive, it returns
+    /// `false` and changes nothing. It clears one bit of each mask.
     pub fn remove(&mut self, entity: u32) -> bool
         ensures done { let before = world_of N (set_in B.Shape B.Order.Endian) self.old.alive
             self.old.components in result ≡ before.alive.has entity }
@@ -164,8 +163,8 @@ impl<B: BitsOwned, const N: usize> World<B, N> {
         (component as usize) < N && self.is_alive(entity)
     }
 
-    /// Gives an entity a component, and returns `true`; one that it has stays. Where it is not
-    /// alive, or there is no such component, nothing changes.
+    /// Gives an entity a component, and returns `true`, also if the entity had it before. If the
+    /// entity is not alive, or there is no such component, it returns `false` and changes nothing.
     pub fn attach(&mut self, entity: u32, component: u32) -> bool
         ensures done { result ≡ may_have (world_of N (set_in B.Shape B.Order.Endian)
             self.old.alive self.old.components) entity component }
@@ -182,8 +181,8 @@ impl<B: BitsOwned, const N: usize> World<B, N> {
         true
     }
 
-    /// Takes a component from an entity, and returns `true`, also where it has it not. Where it is
-    /// not alive, or there is no such component, nothing changes.
+    /// Takes a component from an entity, and returns `true`, also if the entity lacked it. If the
+    /// entity is not alive, or there is no such component, it returns `false` and changes nothing.
     pub fn detach(&mut self, entity: u32, component: u32) -> bool
         ensures done { result ≡ may_have (world_of N (set_in B.Shape B.Order.Endian)
             self.old.alive self.old.components) entity component }
