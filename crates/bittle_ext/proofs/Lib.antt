@@ -14,6 +14,7 @@ mod PassingMembers
 pub mod RankFacts
 pub mod RelationFacts
 mod RetainSteps
+mod RetainedWords
 mod RotatedSets
 mod ShiftedWords
 mod WholeWords

@@ -125,6 +125,28 @@ module _ {F : Type 0} (R : F → ℕ → Bool → F → Type 0) where
         (λ k h. ap (λ (s : PlainSet). s.has k) less ∙ ap (λ b. not b && now.has k) (ne_eqb k i h))
         (ap (λ (s : PlainSet). s.has i) less ∙ ap (λ b. not b && now.has i) (eq-eqb i i refl))
 
+    -- numbers of which none is a member need no call
+    pub retains_on : (to : ℕ) → from ≤ to → to ≤ old.capacity → NoneIn now from to →
+        RetainsBelow first old keep now to
+    retains_on to ordered inside none =
+        let c = old.capacity in
+        let passed = ascending_from-add old.has from (to - from) (c - to) (c - from) to
+        (omega (arith, ordered, inside)) (omega (arith, ordered))
+        ∙ ap (λ xs. xs ++ ascending_from old.has to (c - to)) (ascending_from-none old.has from
+        (to - from) (λ k lo hi. sym (so_far.same_on k lo) ∙ none k lo (omega arith))) in
+        let grows = ascending_from-add now.has 0 from (to - from) to from (omega (arith, ordered))
+        (omega arith)
+        ∙ ap (λ xs. ascending_from now.has 0 from ++ xs) (ascending_from-none now.has from
+        (to - from) (λ k lo hi. none k lo (omega arith)))
+        ∙ append-nil (ascending_from now.has 0 from) in
+        record {
+          capacity = so_far.capacity;
+          within = inside;
+          same_on = λ k h. so_far.same_on k (omega (arith, ordered, h));
+          calls = λ ys h. subst (λ xs. IsFiltered R first (ascending old) (xs ++ ys)) (sym grows)
+              (so_far.calls ys (subst (λ xs. IsFiltered R keep xs ys) (sym passed) h));
+        }
+
     -- where no member is left, each was asked
     pub retains_all : ((k : ℕ) → old.capacity ≤ k → old.has k ≡ false) →
         ((k : ℕ) → now.capacity ≤ k → now.has k ≡ false) → NoneIn now from now.capacity →

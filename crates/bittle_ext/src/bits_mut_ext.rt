@@ -17,6 +17,7 @@ ghost use Rattle.bittle.specs.Values.{set_in, set_mirrored, ShapeFits};
 use crate::bits_ext::BitsExt;
 use crate::inserted::insert_each;
 use crate::one_bit;
+use crate::retained::retain;
 use bittle::{BigEndian, BitsMut};
 use bittle_bits::extension::{Difference, SymmetricDifference, Union};
 
@@ -311,15 +312,15 @@ pub trait BitsMutExt: BitsMut {
     /// changes.
     ///
     /// The shape has to fit, and `keep` is to be callable at each index below the capacity, again
-    /// after each such call. Each set bit costs a call and a search that begins at its word, each
-    /// bit that goes one write.
+    /// after each such call. Each word is read once, and is written once if a bit of it goes; each
+    /// set bit costs a call. Words that the set knows to have no set bit are passed over.
     ///
     /// ```
     /// let mut row = [0x07u8, 0x81];
     /// row.retain(|index| index % 2 == 0);                 // row is [0x05, 0x01]
     /// ```
     #[inline]
-    final fn retain<F: FnMut(u32) -> bool>(&mut self, mut keep: F)
+    final fn retain<F: FnMut(u32) -> bool>(&mut self, keep: F)
     where
         Self: Sized,
         requires fits { ShapeFits Self.Shape self.old }
@@ -328,14 +329,7 @@ pub trait BitsMutExt: BitsMut {
             (set_in Self.Shape Self.Order.Endian self.new) }
         ensures stays { Self.loan self.old ≡ Self.loan self.new }
     {
-        let end = self.bits_capacity();
-        let mut from = 0;
-        while let Some(index) = self.first_one_in::<Self::Order>(from, end) {
-            if !keep(index) {
-                self.clear_bit_in::<Self::Order>(index);
-            }
-            from = index + 1;
-        }
+        retain::<Self, Self::Order, F>(self, keep);
     }
 
     /// Sets the bit at each of the indexes, in the order of the type. An index past the capacity

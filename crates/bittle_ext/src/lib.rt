@@ -58,6 +58,7 @@ pub mod range_iterators;
 #[doc(hidden)]
 pub mod rank_laws;
 mod relations;
+mod retained;
 mod rotations;
 pub mod run_iterators;
 #[doc(hidden)]

@@ -1,0 +1,56 @@
+//! The bits of a set that a closure keeps, word by word.
+
+ghost use Rattle.std.specs.Prelude.{◌≡◌, ◌*◌, ◌<◌};
+ghost use Rattle.bittle_ext.specs.Calls.{IsCallableBelow};
+ghost use Rattle.bittle_ext.specs.Changes.{Retains};
+ghost use Rattle.bittle.specs.BitPatterns.{bit_set};
+ghost use Rattle.bittle.specs.Values.{set_in, ShapeFits};
+ghost use Rattle.bittle.specs.Words.{ReplacesWord, word_of};
+
+use bittle::{Bits, BitsMut, Endian};
+use bittle_bits::extension::{Front, Ones, ReadWords, Word, pop, set_bit, word_width};
+
+/// Replaces word `k` of a set, which is `word`, and writes nothing if it stays the same.
+#[inline]
+fn change_word<B: BitsMut>(bits: &mut B, k: usize, word: B::LeafWord, by: B::LeafWord)
+    requires fits { ShapeFits B.Shape bits.old }
+    requires within { k * B.width < (B.big bits.old).capacity }
+    requires is_word { bit_set B.width (B.LeafWord.pattern word)
+        ≡ word_of B.width (B.big bits.old) k }
+    ensures set { ReplacesWord B.width (B.big bits.old) k
+        (bit_set B.width (B.LeafWord.pattern by)) (B.big bits.new) }
+    ensures stays { B.loan bits.old ≡ B.loan bits.new }
+{
+    if by.to_bits() != word.to_bits() {
+        bits.set_nth_leaf_word(k, by);
+    }
+}
+
+/// Asks `keep` once for each set bit, from the least index on, and clears those for which it
+/// returns `false`. Each word is read once, and is written once if a bit of it goes. Words that the
+/// set knows to have no set bit are passed over.
+#[inline]
+pub fn retain<B: BitsMut, E: Endian, F: FnMut(u32) -> bool>(bits: &mut B, mut keep: F)
+    requires fits { ShapeFits B.Shape bits.old }
+    requires callable { IsCallableBelow (B.big bits.old).capacity F.FnMut keep }
+    ensures set { Retains F.step keep (set_in B.Shape E.Endian bits.old)
+        (set_in B.Shape E.Endian bits.new) }
+    ensures stays { B.loan bits.old ≡ B.loan bits.new }
+{
+    let width = word_width::<B>();
+    let words = (bits.bits_capacity() / width) as usize;
+    let mut k = bits.pass_over::<Ones, Front>(0, words);
+    while k < words {
+        let word = bits.nth_leaf_word(k);
+        let start = k as u32 * width;
+        let mut rest = word;
+        let mut kept = <B::LeafWord as Word>::zero();
+        while let Some(index) = pop::<B::LeafWord, E, Front>(&mut rest) {
+            if keep(start + index) {
+                set_bit::<B::LeafWord, E>(&mut kept, index);
+            }
+        }
+        change_word(bits, k, word, kept);
+        k = bits.pass_over::<Ones, Front>(k + 1, words);
+    }
+}
