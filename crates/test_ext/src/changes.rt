@@ -251,3 +251,46 @@ fn bits_that_a_table_keeps(rt: HostRuntime) {
         .retain(|index| table[index as usize]);
     same!(rt; left, 0b0010_0110);
 }
+
+/// Keeps each second set bit, from the first on, and returns a number whose digits in a base are
+/// the indexes that were asked.
+fn keep_each_second<B: BitsMut>(set: &mut B, base: u32) -> u32
+    requires { ShapeFits B.Shape set.old }
+{
+    let mut asked = 0u32;
+    let mut is_kept = false;
+    set.retain(|index| {
+        asked = asked.wrapping_mul(base).wrapping_add(index);
+        is_kept = !is_kept;
+        is_kept
+    });
+    asked
+}
+
+#[test]
+fn each_second_bit_of_several_words(rt: HostRuntime) {
+    let mut row = [0b1000_0110u8, 0, 0x81, 0];
+    same!(rt; keep_each_second(&mut row, 100), 1_02_07_16_23);
+    same!(rt; row, [0b1000_0010, 0, 0x80, 0]);
+    let mut wide = [1u128 << 127 | 1, 1 << 64 | 1 << 63];
+    same!(rt; keep_each_second(&mut wide, 1000), 127_191_192);
+    same!(rt; wide, [1, 1 << 63]);
+}
+
+#[test]
+fn each_second_bit_of_several_words_from_the_left(rt: HostRuntime) {
+    let mut row = Set::new_le([0b1000_0110u8, 0, 0x81, 0]);
+    same!(rt; keep_each_second(&mut row, 100), 5_06_16_23);
+    same!(rt; row.into_bits(), [0b1000_0010, 0, 0x01, 0]);
+    let mut signed = Set::new_le([-32767i16, 5]);
+    same!(rt; keep_each_second(&mut signed, 100), 15_29_31);
+    same!(rt; signed.into_bits(), [-32768, 4]);
+}
+
+#[test]
+fn each_second_bit_of_none(rt: HostRuntime) {
+    let mut none: [u64; 0] = [];
+    same!(rt; keep_each_second(&mut none, 100), 0);
+    let mut zero = [0u64; 3];
+    same!(rt; (keep_each_second(&mut zero, 100), zero), (0, [0; 3]));
+}
