@@ -7,8 +7,7 @@ ghost use Rattle.bittle_ext.specs.SetRelations.{IsFirstAlone, IsFirstCommon};
 ghost use Rattle.bittle.specs.PlainSet.{size};
 ghost use Rattle.bittle.specs.Values.{set_in, ShapeFits};
 
-use crate::counts;
-use crate::relations;
+use crate::{counts, relations};
 use bittle::Bits;
 
 /// Relations of two sets, of any two shapes that fit.

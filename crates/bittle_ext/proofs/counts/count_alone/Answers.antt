@@ -1,7 +1,6 @@
-use Rattle.std.proofs.Common.{length, sym, ap, ◌∙◌, arith}
+use Rattle.std.proofs.Common.{length, sym, ap, ◌∙◌}
 use Rattle.bittle.specs.Values.{set_in}
 use Rattle.bittle_bits.proofs.AscendingLists.{ascending-length}
-use Rattle.bittle_bits.proofs.Sizes.{size-le}
 use Rattle.bittle_ext.specs.Combined.{first_only_of}
 use Rattle.bittle_ext.proofs.counts.count_alone.Goals as goal
 
