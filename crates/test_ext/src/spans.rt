@@ -1,105 +1,299 @@
 //! Ranges as Rust writes them, and ranges that reach past the capacity, with values worked out by
 //! hand and with drawn ones beside plain loops over 24 flags.
 
+ghost use Rattle.std.specs.Prelude.{◌≤◌, IsTrue};
 ghost use Rattle.bittle.specs.Values.{ShapeFits};
 
-use crate::checks::{holds, same};
+use crate::calls::{BACK, FRONT, taken};
+use crate::checks::same;
 use crate::random::draw;
-use bittle::{Bits, LittleEndian, Set};
+use bittle::{Bits, BitsMut, BitsOwned, Endian, LittleEndian, Set};
 use bittle_ext::prelude::*;
 use std::ops::Bound;
 
 // The members are 1, 5 and 6, and from the left 1, 2 and 6.
 const WORD: u8 = 0b0110_0010;
 
+// Counts the set bits of a range in each form, and the unset bits of two.
+fn counted_in_each_form<B: Bits>(row: &B) -> ([u32; 7], [u32; 2])
+    requires { ShapeFits B.Shape row.now }
+{
+    let after_one = (Bound::Excluded(1u32), Bound::Unbounded);
+    let ones = [
+        row.count_ones_in_span(1..6),
+        row.count_ones_in_span(1..=6),
+        row.count_ones_in_span(..5),
+        row.count_ones_in_span(..=5),
+        row.count_ones_in_span(2..),
+        row.count_ones_in_span(..),
+        row.count_ones_in_span(after_one),
+    ];
+    let zeros = [row.count_zeros_in_span(4..), row.count_zeros_in_span(..=2)];
+    (ones, zeros)
+}
+
 #[test]
 fn each_form_of_a_range_is_counted(rt: HostRuntime) {
-    same!(rt; (WORD.count_ones_in_span(1..6), WORD.count_ones_in_span(1..=6)), (2, 3));
-    same!(rt; (WORD.count_ones_in_span(..5), WORD.count_ones_in_span(..=5)), (1, 2));
-    same!(rt; (WORD.count_ones_in_span(2..), WORD.count_ones_in_span(..)), (2, 3));
-    let after_one = (Bound::Excluded(1u32), Bound::Unbounded);
-    same!(rt; WORD.count_ones_in_span(after_one), 2);
-    same!(rt; (WORD.count_zeros_in_span(4..), WORD.count_zeros_in_span(..=2)), (2, 2));
+    same!(rt; counted_in_each_form(&WORD), ([2, 3, 1, 2, 2, 3, 2], [2, 2]));
+}
+
+// Counts the bits of ranges that reach past a capacity of 8.
+fn counted_past<B: Bits>(row: &B) -> [u32; 4]
+    requires { ShapeFits B.Shape row.now }
+{
+    [
+        row.count_ones_in_range(6, 900),
+        row.count_zeros_in_range(6, 900),
+        row.count_ones_in_span(..=u32::MAX),
+        row.count_zeros_in_span(8..),
+    ]
+}
+
+// Searches ranges that reach past a capacity of 8, and asks whether any bit of two is set.
+fn searched_past<B: Bits>(row: &B) -> ([Option<u32>; 5], [bool; 2])
+    requires { ShapeFits B.Shape row.now }
+{
+    let ends = [
+        row.first_one_in_range(2, 99),
+        row.last_one_in_range(2, 99),
+        row.first_zero_in_range(5, u32::MAX),
+        row.last_zero_in_range(8, 99),
+        row.first_one_in_range(8, 99),
+    ];
+    (ends, [row.any_in_range(7, 99), row.any_in_range(6, 99)])
 }
 
 #[test]
 fn a_range_that_reaches_past_the_capacity_ends_there(rt: HostRuntime) {
-    same!(rt; (WORD.count_ones_in_range(6, 900), WORD.count_zeros_in_range(6, 900)), (1, 1));
-    same!(rt; (WORD.count_ones_in_span(..=u32::MAX), WORD.count_zeros_in_span(8..)), (3, 0));
-    same!(rt; (WORD.first_one_in_range(2, 99), WORD.last_one_in_range(2, 99)), (Some(5), Some(6)));
-    same!(rt; WORD.first_zero_in_range(5, u32::MAX), Some(7));
-    same!(rt; (WORD.last_zero_in_range(8, 99), WORD.first_one_in_range(8, 99)), (None, None));
-    holds!(rt; !WORD.any_in_range(7, 99) && WORD.any_in_range(6, 99));
+    same!(rt; counted_past(&WORD), [1, 1, 3, 0]);
+    let ends = [Some(5), Some(6), Some(7), None, None];
+    same!(rt; searched_past(&WORD), (ends, [false, true]));
+}
+
+// Counts the bits of a range that runs backwards in three ways.
+fn counted_backwards<B: Bits>(row: &B) -> [u32; 3]
+    requires { ShapeFits B.Shape row.now }
+{
+    [
+        row.count_ones_in_range(7, 1),
+        row.count_zeros_in_range(7, 1),
+        row.within(7, 1).count_ones(),
+    ]
+}
+
+// Searches a range that runs backwards in three ways.
+fn searched_backwards<B: Bits>(row: &B) -> [Option<u32>; 3]
+    requires { ShapeFits B.Shape row.now }
+{
+    [
+        row.first_one_in_range(7, 1),
+        row.last_zero_in_range(7, 1),
+        row.iter_ones_in_range(7, 1).next(),
+    ]
+}
+
+// Asks whether any bit of a range that runs backwards is set, and each, and each of another one.
+fn questioned_backwards<B: Bits>(row: &B) -> [bool; 3]
+    requires { ShapeFits B.Shape row.now }
+{
+    [
+        row.any_in_range(7, 1),
+        row.all_in_range(7, 1),
+        row.all_in_range(99, 90),
+    ]
 }
 
 #[test]
 fn a_range_that_runs_backwards_is_empty(rt: HostRuntime) {
-    same!(rt; (WORD.count_ones_in_range(7, 1), WORD.count_zeros_in_range(7, 1)), (0, 0));
-    same!(rt; (WORD.first_one_in_range(7, 1), WORD.last_zero_in_range(7, 1)), (None, None));
-    holds!(rt; !WORD.any_in_range(7, 1) && WORD.all_in_range(7, 1) && WORD.all_in_range(99, 90));
-    same!(rt; WORD.iter_ones_in_range(7, 1).next(), None);
-    same!(rt; WORD.within(7, 1).count_ones(), 0);
+    same!(rt; counted_backwards(&WORD), [0, 0, 0]);
+    same!(rt; searched_backwards(&WORD), [None, None, None]);
+    same!(rt; questioned_backwards(&WORD), [false, true, true]);
+}
+
+// Asks whether each bit of these ranges is set: one below the capacity of 8, one at it, and one past
+// it, of each form that can reach there, and all bits.
+fn all_of_each<B: Bits>(row: &B) -> ([bool; 3], [bool; 3], [bool; 3])
+    requires { ShapeFits B.Shape row.now }
+{
+    let ranges = [
+        row.all_in_range(5, 7),
+        row.all_in_range(5, 8),
+        row.all_in_range(5, 9),
+    ];
+    let spans = [
+        row.all_in_span(5..),
+        row.all_in_span(5..=7),
+        row.all_in_span(5..=8),
+    ];
+    let others = [
+        row.all_in_span(..),
+        row.all_in_range(9, 9),
+        row.all_in_range(8, 9),
+    ];
+    (ranges, spans, others)
 }
 
 #[test]
 fn all_of_a_range_is_false_where_an_index_is_past_the_capacity(rt: HostRuntime) {
-    holds!(rt; WORD.all_in_range(5, 7) && !WORD.all_in_range(5, 8));
-    holds!(rt; 0xE0u8.all_in_range(5, 8) && !0xE0u8.all_in_range(5, 9));
-    holds!(rt; 0xE0u8.all_in_span(5..) && 0xE0u8.all_in_span(5..=7) && !0xE0u8.all_in_span(5..=8));
-    holds!(rt; 0xFFu8.all_in_span(..) && 0xFFu8.all_in_range(9, 9) && !0xFFu8.all_in_range(8, 9));
+    let (to_seven, past) = ([true, false, false], [false, true, false]);
+    same!(rt; all_of_each(&WORD), (to_seven, [false; 3], past));
+    let (to_eight, all) = ([true, true, false], [true, true, false]);
+    same!(rt; all_of_each(&0xE0u8), (to_eight, to_eight, past));
+    same!(rt; all_of_each(&0xFFu8), (to_eight, to_eight, all));
+}
+
+// Searches four ranges, and a view of one of them.
+fn searched<B: Bits>(row: &B) -> [Option<u32>; 5]
+    requires { ShapeFits B.Shape row.now }
+{
+    [
+        row.first_one_in_span(2..),
+        row.last_one_in_span(..=5),
+        row.first_zero_in_span(1..),
+        row.last_zero_in_span(..6),
+        row.within_span(2..).last_one(),
+    ]
+}
+
+// Counts the set bits of a range, and asks whether any of another one is set.
+fn counted_and_questioned<B: Bits>(row: &B) -> (u32, bool)
+    requires { ShapeFits B.Shape row.now }
+{
+    (row.count_ones_in_span(3..), row.any_in_span(3..6))
 }
 
 #[test]
 fn searches_of_a_range_from_the_left(rt: HostRuntime) {
     let set = Set::new_le(WORD);
-    same!(rt; (set.first_one_in_span(2..), set.last_one_in_span(..=5)), (Some(2), Some(2)));
-    same!(rt; (set.first_zero_in_span(1..), set.last_zero_in_span(..6)), (Some(3), Some(5)));
-    same!(rt; (set.count_ones_in_span(3..), set.any_in_span(3..6)), (1, false));
-    same!(rt; set.within_span(2..).last_one(), Some(6));
+    same!(rt; searched(&set), [Some(2), Some(2), Some(3), Some(5), Some(6)]);
+    same!(rt; counted_and_questioned(&set), (1, false));
+}
+
+// Walks over the set bits from index 2 on, of a range that reaches past the capacity.
+fn ones_past<B: Bits>(row: &B) -> [Option<u32>; 3]
+    requires { ShapeFits B.Shape row.now }
+{
+    taken(&mut row.iter_ones_in_range(2, 700), [FRONT, BACK, FRONT])
+}
+
+// Walks over the unset bits from index 4 on.
+fn zeros_from_four<B: Bits>(row: &B) -> [Option<u32>; 3]
+    requires { ShapeFits B.Shape row.now }
+{
+    taken(&mut row.iter_zeros_in_span(4..), [FRONT, BACK, BACK])
 }
 
 #[test]
 fn iterators_over_a_range_past_the_capacity(rt: HostRuntime) {
-    let mut ones = WORD.iter_ones_in_range(2, 700);
-    same!(rt; (ones.next(), ones.next_back(), ones.next()), (Some(5), Some(6), None));
+    same!(rt; ones_past(&WORD), [Some(5), Some(6), None]);
     let view = WORD.in_order::<LittleEndian>();
-    let mut zeros = view.iter_zeros_in_span(4..);
-    same!(rt; (zeros.next(), zeros.next_back(), zeros.next_back()), (Some(4), Some(7), Some(5)));
+    same!(rt; zeros_from_four(&view), [Some(4), Some(7), Some(5)]);
+}
+
+// Clears the first four bits.
+fn clear_four<B: BitsMut>(row: &mut B)
+    requires fits { ShapeFits B.Shape row.old }
+    requires long { 4 ≤ (B.big row.old).capacity }
+{
+    row.clear_span(..4);
+}
+
+// Clears the first four bits by a view in the order `E`.
+fn clear_four_in<B: BitsMut, E: Endian>(row: &mut B)
+    requires fits { ShapeFits B.Shape row.old }
+    requires long { 4 ≤ (B.big row.old).capacity }
+{
+    clear_four(&mut row.in_order_mut::<E>());
+}
+
+// Returns the set after each of five ranges is changed, the last of them in the order `E`.
+fn after_each_range<B: BitsOwned, E: Endian>(mut row: B) -> [B; 5]
+    requires indexable { IsTrue B.indexable }
+    requires long { 16 ≤ B.type_capacity }
+{
+    row.set_span(6..=10);
+    let first = row;
+    row.clear_span(..7);
+    let second = row;
+    row.toggle_span(9..);
+    let third = row;
+    row.assign_span(..=8, true);
+    let fourth = row;
+    clear_four_in::<B, E>(&mut row);
+    [first, second, third, fourth, row]
 }
 
 #[test]
 fn ranges_are_changed(rt: HostRuntime) {
-    let mut row = [0u8; 2];
-    row.set_span(6..=10);
-    same!(rt; row, [0xC0, 0x07]);
-    row.clear_span(..7);
-    same!(rt; row, [0x80, 0x07]);
-    row.toggle_span(9..);
-    same!(rt; row, [0x80, 0xF9]);
-    row.assign_span(..=8, true);
-    same!(rt; row, [0xFF, 0xF9]);
-    row.in_order_mut::<LittleEndian>().clear_span(..4);
-    same!(rt; row, [0x0F, 0xF9]);
+    let [first, second, third, fourth, fifth] = after_each_range::<_, LittleEndian>([0u8; 2]);
+    same!(rt; (first, second, third), ([0xC0, 0x07], [0x80, 0x07], [0x80, 0xF9]));
+    same!(rt; (fourth, fifth), ([0xFF, 0xF9], [0x0F, 0xF9]));
+}
+
+// Returns a set with a range, and another one without one.
+fn with_and_without<B: BitsOwned>(none: B, all: B) -> [B; 2]
+    requires indexable { IsTrue B.indexable }
+    requires long { 16 ≤ B.type_capacity }
+{
+    [none.with_span(6..=10), all.without_span(..11)]
+}
+
+// Returns a set with a range toggled, and another one with its first three bits set.
+fn toggled_and_with<B: BitsOwned>(some: B, none: B) -> [B; 2]
+    requires indexable { IsTrue B.indexable }
+    requires long { 8 ≤ B.type_capacity }
+{
+    [some.with_span_toggled(4..), none.with_span(..3)]
 }
 
 #[test]
 fn sets_are_made_of_ranges(rt: HostRuntime) {
-    same!(rt; [0u8; 2].with_span(6..=10), [0xC0, 0x07]);
-    same!(rt; [0xFFu8; 2].without_span(..11), [0x00, 0xF8]);
-    same!(rt; 0b0011_1100u8.with_span_toggled(4..), 0b1100_1100);
-    same!(rt; Set::new_le(0u8).with_span(..3).into_bits(), 0b1110_0000);
+    same!(rt; with_and_without([0u8; 2], [0xFF; 2]), [[0xC0, 0x07], [0x00, 0xF8]]);
+    same!(rt; toggled_and_with(0b0011_1100u8, 0), [0b1100_1100, 0b0000_0111]);
+    let some = Set::new_le(0b0011_1100u8);
+    let [toggled, with] = toggled_and_with(some, Set::new_le(0u8));
+    same!(rt; (toggled.into_bits(), with.into_bits()), (0b0011_0011, 0b1110_0000));
+}
+
+// Counts the bits of two ranges of a set of capacity 0, searches two, and walks over one.
+fn read_nothing<B: Bits>(none: &B) -> ([u32; 2], [Option<u32>; 3])
+    requires { ShapeFits B.Shape none.now }
+{
+    let counts = [none.count_ones_in_range(0, 9), none.count_zeros_in_span(..)];
+    let items = [
+        none.first_one_in_span(..),
+        none.last_zero_in_span(3..),
+        none.iter_zeros_in_span(..=5).next(),
+    ];
+    (counts, items)
+}
+
+// Asks whether each bit of a set of capacity 0 is set, and any, and each of a range past it.
+fn question_nothing<B: Bits>(none: &B) -> [bool; 3]
+    requires { ShapeFits B.Shape none.now }
+{
+    [
+        none.all_in_span(..),
+        none.any_in_span(..),
+        none.all_in_range(0, 1),
+    ]
+}
+
+// Sets all bits of a set of capacity 0, toggles none, and sets all again in a set that is returned.
+fn change_nothing<B: BitsOwned>(mut none: B) -> B
+    requires { IsTrue B.indexable }
+{
+    none.set_span(..);
+    none.toggle_span(0..0);
+    none.with_span(..)
 }
 
 #[test]
 fn ranges_of_no_bits(rt: HostRuntime) {
-    let mut none: [u8; 0] = [];
-    same!(rt; (none.count_ones_in_range(0, 9), none.count_zeros_in_span(..)), (0, 0));
-    same!(rt; (none.first_one_in_span(..), none.last_zero_in_span(3..)), (None, None));
-    holds!(rt; none.all_in_span(..) && !none.any_in_span(..) && !none.all_in_range(0, 1));
-    same!(rt; none.iter_zeros_in_span(..=5).next(), None);
-    none.set_span(..);
-    none.toggle_span(0..0);
-    same!(rt; none.with_span(..), []);
+    let none: [u8; 0] = [];
+    same!(rt; read_nothing(&none), ([0, 0], [None, None, None]));
+    same!(rt; question_nothing(&none), [true, false, false]);
+    same!(rt; change_nothing(none), []);
 }
 
 // What the calls answer of a range: how many bits are set and unset, the four ends, and whether any
