@@ -1,6 +1,6 @@
 //! Sets made of a set, of a list and of an iterator, with values worked out by hand.
 
-ghost use Rattle.std.specs.Prelude.{IsTrue};
+ghost use Rattle.std.specs.Prelude.{◌≤◌, IsTrue};
 
 use crate::checks::same;
 use bittle::prelude::*;
@@ -30,28 +30,75 @@ fn complements(rt: HostRuntime) {
     same!(rt; complement_of(none), none);
 }
 
+/// Returns a set with a range, and another one without it.
+fn with_and_without<B: BitsOwned>(none: B, all: B) -> [B; 2]
+    requires indexable { IsTrue B.indexable }
+    requires long { 11 ≤ B.type_capacity }
+{
+    [none.with_range(6, 11), all.without_range(6, 11)]
+}
+
+/// Returns a set with its first four bits toggled, one with no bit set, and one with eight cleared.
+fn toggled_and_others<B: BitsOwned>(some: B, none: B, all: B) -> [B; 3]
+    requires indexable { IsTrue B.indexable }
+    requires long { 8 ≤ B.type_capacity }
+{
+    [
+        some.with_range_toggled(0, 4),
+        none.with_range(8, 8),
+        all.without_range(0, 8),
+    ]
+}
+
 #[test]
 fn ranges(rt: HostRuntime) {
-    same!(rt; [0u8; 2].with_range(6, 11), [0xC0, 0x07]);
-    same!(rt; [0xFFu8; 2].without_range(6, 11), [0x3F, 0xF8]);
-    same!(rt; 0b0011_1100u8.with_range_toggled(0, 4), 0b0011_0011);
-    same!(rt; 0u8.with_range(8, 8), 0);
-    same!(rt; 0xFFu8.without_range(0, 8), 0);
+    same!(rt; with_and_without([0u8; 2], [0xFF; 2]), [[0xC0, 0x07], [0x3F, 0xF8]]);
+    same!(rt; toggled_and_others(0b0011_1100u8, 0, 0xFF), [0b0011_0011, 0, 0]);
+}
+
+/// Returns a set with a range, one without it, and one with another toggled.
+fn each_with_its_range<B: BitsOwned>(none: B, all: B, some: B) -> [B; 3]
+    requires indexable { IsTrue B.indexable }
+    requires long { 4 ≤ B.type_capacity }
+{
+    [
+        none.with_range(0, 3),
+        all.without_range(0, 3),
+        some.with_range_toggled(1, 4),
+    ]
 }
 
 #[test]
 fn ranges_from_the_left(rt: HostRuntime) {
-    same!(rt; Set::new_le(0u8).with_range(0, 3).into_bits(), 0b1110_0000);
-    same!(rt; Set::new_le(0xFFu8).without_range(0, 3).into_bits(), 0b0001_1111);
-    same!(rt; Set::new_le(0b1100_0000u8).with_range_toggled(1, 4).into_bits(), 0b1011_0000);
+    let [none, all] = [Set::new_le(0u8), Set::new_le(0xFFu8)];
+    let [with, without, toggled] = each_with_its_range(none, all, Set::new_le(0b1100_0000u8));
+    same!(rt; (with.into_bits(), without.into_bits()), (0b1110_0000, 0b0001_1111));
+    same!(rt; toggled.into_bits(), 0b1011_0000);
+}
+
+/// Returns the sets of three indexes and of none, and of a range.
+fn of_indexes<B: BitsOwned>() -> [B; 3]
+    requires { IsTrue B.indexable }
+{
+    [
+        B::from_indexes(&[0, 7, 9]),
+        B::from_indexes(&[]),
+        B::from_iter(5..9),
+    ]
+}
+
+/// Returns the set of four indexes that are sixteen apart.
+fn of_steps<B: BitsOwned>() -> B
+    requires { IsTrue B.indexable }
+{
+    B::from_iter((0..64).step_by(16))
 }
 
 #[test]
 fn indexes(rt: HostRuntime) {
-    same!(rt; u8::from_indexes(&[0, 7, 9]), 0b1000_0011);
-    same!(rt; Set::<u8, LittleEndian>::from_indexes(&[0, 7, 9]).into_bits(), 0b1100_0001);
-    same!(rt; <[u8; 2]>::from_indexes(&[]), [0, 0]);
-    same!(rt; u8::from_iter(5..9), 0b1110_0001);
-    same!(rt; Set::<u8, LittleEndian>::from_iter(5..9).into_bits(), 0b1000_0111);
-    same!(rt; u64::from_iter((0..64).step_by(16)), 0x0001_0001_0001_0001);
+    same!(rt; of_indexes::<u8>(), [0b1000_0011, 0, 0b1110_0001]);
+    let [three, none, four] = of_indexes::<Set<u8, LittleEndian>>();
+    same!(rt; (three.into_bits(), none.into_bits(), four.into_bits()), (0b1100_0001, 0, 0b1000_0111));
+    same!(rt; of_indexes::<[u8; 2]>(), [[0x81, 0x02], [0, 0], [0xE0, 0x01]]);
+    same!(rt; of_steps::<u64>(), 0x0001_0001_0001_0001);
 }
