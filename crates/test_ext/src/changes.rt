@@ -1,6 +1,6 @@
 //! Changes, with values worked out by hand.
 
-ghost use Rattle.std.specs.Prelude.{IsTrue};
+ghost use Rattle.std.specs.Prelude.{◌≤◌, IsTrue};
 ghost use Rattle.bittle.specs.Values.{ShapeFits};
 
 use crate::calls::{flip, inserted};
@@ -10,44 +10,116 @@ use bittle::{Endian, LittleEndian, Set};
 use bittle_ext::prelude::*;
 use std::process::Abort;
 
+/// Inserts the indexes 0 and 8 and removes 13 and 5, and returns what each call answered, with the
+/// set after every second one.
+fn inserted_and_removed<B: BitsOwned>(mut set: B) -> [([bool; 2], B); 2]
+    requires { IsTrue B.indexable }
+{
+    let inserted = ([set.insert(0), set.insert(8)], set);
+    [inserted, ([set.remove(13), set.remove(5)], set)]
+}
+
 #[test]
 fn one_bit_of_a_word(rt: HostRuntime) {
-    let mut word = 0b0010_0010u8;
-    holds!(rt; word.insert(0));
-    holds!(rt; !word.insert(8));
-    same!(rt; word, 0b0010_0011);
-    holds!(rt; word.remove(13));
-    holds!(rt; !word.remove(5));
-    same!(rt; word, 0b0000_0011);
+    let [inserted, removed] = inserted_and_removed(0b0010_0010u8);
+    same!(rt; inserted, ([true, false], 0b0010_0011));
+    same!(rt; removed, ([true, false], 0b0000_0011));
+}
+
+/// Replaces two bits, and returns what each call answered, with the set then.
+fn replaced<B: BitsOwned>(mut set: B) -> [(bool, B); 2]
+    requires { IsTrue B.indexable }
+{
+    let first = (set.replace(1, false), set);
+    [first, (set.replace(9, true), set)]
+}
+
+/// Returns the set after a bit is cleared by its value, after one is set so, and after two more are
+/// flipped.
+fn assigned_and_toggled<B: BitsOwned>(mut set: B) -> [B; 3]
+    requires { IsTrue B.indexable }
+{
+    set.assign(8, false);
+    let cleared = set;
+    set.assign(9, true);
+    let assigned = set;
+    set.toggle(7);
+    set.toggle(1);
+    [cleared, assigned, set]
 }
 
 #[test]
 fn a_bit_by_its_value(rt: HostRuntime) {
-    let mut word = 0b0011u8;
-    same!(rt; (word.replace(1, false), word), (true, 0b0001));
-    same!(rt; (word.replace(9, true), word), (false, 0b0011));
-    word.assign(8, false);
-    same!(rt; word, 0b0010);
-    word.assign(9, true);
-    same!(rt; word, 0b0010);
-    word.toggle(7);
-    word.toggle(1);
-    same!(rt; word, 0b1000_0000);
+    same!(rt; replaced(0b0011u8), [(true, 0b0001), (false, 0b0011)]);
+    same!(rt; assigned_and_toggled(0b0011u8), [0b0010, 0b0010, 0b1000_0000]);
+}
+
+/// Inserts an index by a view in the order `E`.
+fn insert_in<B: BitsMut, E: Endian>(set: &mut B, index: u32) -> bool
+    requires { IsTrue B.indexable }
+{
+    set.in_order_mut::<E>().insert(index)
+}
+
+/// Removes an index by a view in the order `E`.
+fn remove_in<B: BitsMut, E: Endian>(set: &mut B, index: u32) -> bool
+    requires { IsTrue B.indexable }
+{
+    set.in_order_mut::<E>().remove(index)
+}
+
+/// Inserts the indexes 0 and 7 and removes 8, each by a view in the order `E`, and returns what each
+/// call answered, with the set after the second and the third.
+fn inserted_and_removed_in<B: BitsOwned, E: Endian>(mut set: B) -> ([bool; 3], [B; 2])
+    requires { IsTrue B.indexable }
+{
+    let first = insert_in::<B, E>(&mut set, 0);
+    let second = insert_in::<B, E>(&mut set, 7);
+    let inserted = set;
+    let third = remove_in::<B, E>(&mut set, 8);
+    ([first, second, third], [inserted, set])
+}
+
+/// Flips a bit by a view in the order `E`.
+fn toggle_in<B: BitsMut, E: Endian>(set: &mut B, index: u32)
+    requires { IsTrue B.indexable }
+{
+    set.in_order_mut::<E>().toggle(index);
+}
+
+/// Replaces a bit by a view in the order `E`.
+fn replace_in<B: BitsMut, E: Endian>(set: &mut B, index: u32, value: bool) -> bool
+    requires { IsTrue B.indexable }
+{
+    set.in_order_mut::<E>().replace(index, value)
+}
+
+/// Assigns a bit by a view in the order `E`.
+fn assign_in<B: BitsMut, E: Endian>(set: &mut B, index: u32, value: bool)
+    requires { IsTrue B.indexable }
+{
+    set.in_order_mut::<E>().assign(index, value);
+}
+
+/// Flips the bit 1, clears the bit 7 and sets the bit 2, each by a view in the order `E`, and returns
+/// whether the bit 7 was set, with the set after the first and the last.
+fn flipped_and_replaced_in<B: BitsOwned, E: Endian>(mut set: B) -> (bool, [B; 2])
+    requires { IsTrue B.indexable }
+{
+    toggle_in::<B, E>(&mut set, 1);
+    let flipped = set;
+    let answer = replace_in::<B, E>(&mut set, 7, false);
+    assign_in::<B, E>(&mut set, 2, true);
+    (answer, [flipped, set])
 }
 
 #[test]
 fn one_bit_from_the_left(rt: HostRuntime) {
-    let mut word = 0b1000_0000u8;
-    holds!(rt; !word.in_order_mut::<LittleEndian>().insert(0));
-    holds!(rt; word.in_order_mut::<LittleEndian>().insert(7));
-    same!(rt; word, 0b1000_0001);
-    holds!(rt; word.in_order_mut::<LittleEndian>().remove(8));
-    same!(rt; word, 0b0000_0001);
-    word.in_order_mut::<LittleEndian>().toggle(1);
-    same!(rt; word, 0b0100_0001);
-    holds!(rt; word.in_order_mut::<LittleEndian>().replace(7, false));
-    word.in_order_mut::<LittleEndian>().assign(2, true);
-    same!(rt; word, 0b0110_0000);
+    let (answers, words) = inserted_and_removed_in::<_, LittleEndian>(0b1000_0000u8);
+    same!(rt; answers, [false, true, true]);
+    same!(rt; words, [0b1000_0001, 0b0000_0001]);
+    let (answer, words) = flipped_and_replaced_in::<_, LittleEndian>(0b0000_0001u8);
+    same!(rt; (answer, words), (true, [0b0100_0001, 0b0110_0000]));
 }
 
 #[test]
@@ -91,38 +163,75 @@ fn capacity_0_is_never_changed(rt: HostRuntime) {
     same!(rt; nothing_is_taken(none), [None; 3]);
 }
 
+/// Returns the set after each of five ranges is changed: set, cleared, toggled, and made of set bits
+/// and of unset ones.
+fn after_each_range<B: BitsOwned>(mut row: B) -> [B; 5]
+    requires indexable { IsTrue B.indexable }
+    requires long { 24 ≤ B.type_capacity }
+{
+    row.set_range(4, 20);
+    let first = row;
+    row.clear_range(6, 10);
+    let second = row;
+    row.toggle_range(0, 8);
+    let third = row;
+    row.assign_range(20, 24, true);
+    let fourth = row;
+    row.assign_range(1, 24, false);
+    [first, second, third, fourth, row]
+}
+
 #[test]
 fn ranges_of_a_row(rt: HostRuntime) {
-    let mut row = [0u8; 3];
-    row.set_range(4, 20);
-    same!(rt; row, [0xF0, 0xFF, 0x0F]);
-    row.clear_range(6, 10);
-    same!(rt; row, [0x30, 0xFC, 0x0F]);
-    row.toggle_range(0, 8);
-    same!(rt; row, [0xCF, 0xFC, 0x0F]);
-    row.assign_range(20, 24, true);
-    same!(rt; row, [0xCF, 0xFC, 0xFF]);
-    row.assign_range(1, 24, false);
-    same!(rt; row, [0x01, 0, 0]);
+    let [first, second, third, fourth, fifth] = after_each_range([0u8; 3]);
+    same!(rt; (first, second), ([0xF0, 0xFF, 0x0F], [0x30, 0xFC, 0x0F]));
+    same!(rt; (third, fourth), ([0xCF, 0xFC, 0x0F], [0xCF, 0xFC, 0xFF]));
+    same!(rt; fifth, [0x01, 0, 0]);
+}
+
+/// Returns the set after three empty ranges are changed, and after its first eight bits are toggled
+/// and set.
+fn after_empty_and_whole_ranges<B: BitsOwned>(mut word: B) -> [B; 3]
+    requires indexable { IsTrue B.indexable }
+    requires long { 8 ≤ B.type_capacity }
+{
+    word.set_range(3, 3);
+    word.clear_range(8, 8);
+    word.toggle_range(0, 0);
+    let first = word;
+    word.toggle_range(0, 8);
+    let second = word;
+    word.set_range(0, 8);
+    [first, second, word]
+}
+
+/// Assigns the bits of a range by a view in the order `E`.
+fn assign_range_in<B: BitsMut, E: Endian>(row: &mut B, from: u32, to: u32, value: bool)
+    requires fits { ShapeFits B.Shape row.old }
+    requires ordered { from ≤ to }
+    requires within { to ≤ (B.big row.old).capacity }
+{
+    row.in_order_mut::<E>().assign_range(from, to, value);
+}
+
+/// Returns the set after a range is set, and after its first sixteen bits are cleared, by views in
+/// the order `E`.
+fn after_ranges_in<B: BitsOwned, E: Endian>(mut row: B) -> [B; 2]
+    requires indexable { IsTrue B.indexable }
+    requires long { 16 ≤ B.type_capacity }
+{
+    assign_range_in::<B, E>(&mut row, 6, 11, true);
+    let first = row;
+    assign_range_in::<B, E>(&mut row, 0, 16, false);
+    [first, row]
 }
 
 #[test]
 fn empty_and_whole_ranges(rt: HostRuntime) {
-    let mut word = 0b0101u8;
-    word.set_range(3, 3);
-    word.clear_range(8, 8);
-    word.toggle_range(0, 0);
-    same!(rt; word, 0b0101);
-    word.toggle_range(0, 8);
-    same!(rt; word, 0b1111_1010);
-    word.set_range(0, 8);
-    same!(rt; word, 0xFF);
-    let mut row = [0u8; 2];
-    row.in_order_mut::<LittleEndian>().assign_range(6, 11, true);
-    same!(rt; row, [0x03, 0xE0]);
-    row.in_order_mut::<LittleEndian>()
-        .assign_range(0, 16, false);
-    same!(rt; row, [0, 0]);
+    let words = after_empty_and_whole_ranges(0b0101u8);
+    same!(rt; words, [0b0101, 0b1111_1010, 0xFF]);
+    let rows = after_ranges_in::<_, LittleEndian>([0u8; 2]);
+    same!(rt; rows, [[0x03, 0xE0], [0, 0]]);
 }
 
 #[test]
@@ -152,12 +261,18 @@ fn popped<B: BitsOwned>(mut row: B) -> ([(Option<u32>, B); 3], [Option<u32>; 2])
     ([first, second, third], [row.pop_first(), row.pop_last()])
 }
 
+/// Takes out the first bit and then the last.
+fn ends_taken<B: BitsMut>(row: &mut B) -> [Option<u32>; 2]
+    requires { ShapeFits B.Shape row.old }
+{
+    [row.pop_first(), row.pop_last()]
+}
+
 /// Takes out the first bit and then the last, in the order `E`, with what is left.
 fn popped_in<B: BitsOwned, E: Endian>(mut row: B) -> ([Option<u32>; 2], B)
     requires { IsTrue B.indexable }
 {
-    let mut view = row.in_order_mut::<E>();
-    let ends = [view.pop_first(), view.pop_last()];
+    let ends = ends_taken(&mut row.in_order_mut::<E>());
     (ends, row)
 }
 
@@ -172,30 +287,56 @@ fn ends_are_taken_out(rt: HostRuntime) {
     same!(rt; left, ([Some(3), Some(15)], [0, 0x80]));
 }
 
+/// Takes the first unset bit, and returns its index with the set then.
+fn slot_taken<B: BitsOwned>(mut row: B) -> (Option<u32>, B)
+    requires { IsTrue B.indexable }
+{
+    (row.take_first_zero(), row)
+}
+
+/// Takes the first unset bit in the order `E`, and returns its index with the set then.
+fn slot_taken_in<B: BitsOwned, E: Endian>(mut row: B) -> (Option<u32>, B)
+    requires { IsTrue B.indexable }
+{
+    let slot = row.in_order_mut::<E>().take_first_zero();
+    (slot, row)
+}
+
 #[test]
 fn free_slots_are_taken(rt: HostRuntime) {
-    let mut row = [0xFFu8, 0x0F];
-    same!(rt; (row.take_first_zero(), row), (Some(12), [0xFF, 0x1F]));
-    let mut row = [0xFFu8, 0xC1];
-    same!(rt; row.in_order_mut::<LittleEndian>().take_first_zero(), Some(10));
-    same!(rt; row, [0xFF, 0xE1]);
-    let mut full = 255u8;
-    same!(rt; (full.take_first_zero(), full), (None, 255));
+    same!(rt; slot_taken([0xFFu8, 0x0F]), (Some(12), [0xFF, 0x1F]));
+    let left = slot_taken_in::<_, LittleEndian>([0xFFu8, 0xC1]);
+    same!(rt; left, (Some(10), [0xFF, 0xE1]));
+    same!(rt; slot_taken(255u8), (None, 255));
+}
+
+/// Returns the set with a list of indexes, and then with one in the order `E`.
+fn with_lists<B: BitsOwned, E: Endian>(mut set: B) -> [B; 2]
+    requires { IsTrue B.indexable }
+{
+    set.insert_all(&[0, 7, 9, 7]);
+    let first = set;
+    set.in_order_mut::<E>().insert_all(&[2]);
+    [first, set]
+}
+
+/// Returns the set with the indexes of a range, and then with those that an iterator over a set
+/// yields, in the order `E`.
+fn extended<B: BitsOwned, E: Endian>(mut row: B) -> [B; 2]
+    requires { IsTrue B.indexable }
+{
+    row.extend(6..11);
+    let first = row;
+    row.in_order_mut::<E>().extend(0b0101u8.iter_ones());
+    [first, row]
 }
 
 #[test]
 fn lists_and_iterators_are_set(rt: HostRuntime) {
-    let mut word = 0b0001_0000u8;
-    word.insert_all(&[0, 7, 9, 7]);
-    same!(rt; word, 0b1001_0011);
-    word.in_order_mut::<LittleEndian>().insert_all(&[2]);
-    same!(rt; word, 0b1011_0011);
-    let mut row = [0u8; 2];
-    row.extend(6..11);
-    same!(rt; row, [0xC0, 0x07]);
-    row.in_order_mut::<LittleEndian>()
-        .extend(0b0101u8.iter_ones());
-    same!(rt; row, [0xE0, 0x07]);
+    let words = with_lists::<_, LittleEndian>(0b0001_0000u8);
+    same!(rt; words, [0b1001_0011, 0b1011_0011]);
+    let rows = extended::<_, LittleEndian>([0u8; 2]);
+    same!(rt; rows, [[0xC0, 0x07], [0xE0, 0x07]]);
 }
 
 #[test]
