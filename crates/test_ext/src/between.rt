@@ -40,49 +40,89 @@ fn changed<A: BitsOwned, B: Bits>(kind: u32, set: A, other: &B) -> (A, bool)
     (now, told)
 }
 
+// Returns the set after a union, after a conjunction, after a difference, and after a symmetric
+// difference with another one, and what each is said to be.
+fn changed_each_way<A: BitsOwned, B: Bits>(set: A, other: &B) -> [(A, bool); 4]
+    requires indexable { IsTrue A.indexable }
+    requires other_fits { ShapeFits B.Shape other.now }
+{
+    [
+        changed(UNION, set, other),
+        changed(COMMON, set, other),
+        changed(ALONE, set, other),
+        changed(UNLIKE, set, other),
+    ]
+}
+
 #[test]
 fn a_byte_by_a_wider_word(rt: HostRuntime) {
     // Bits 0 and 1 are set, and bits 1, 2 and 8.
     let (byte, word) = (0b0011u8, 0x0106u16);
-    same!(rt; changed(UNION, byte, &word), (0b0111, true));
-    same!(rt; changed(COMMON, byte, &word), (0b0010, true));
-    same!(rt; changed(ALONE, byte, &word), (0b0001, true));
-    same!(rt; changed(UNLIKE, byte, &word), (0b0101, true));
+    let expected = [
+        (0b0111, true),
+        (0b0010, true),
+        (0b0001, true),
+        (0b0101, true),
+    ];
+    same!(rt; changed_each_way(byte, &word), expected);
 }
 
 #[test]
 fn a_word_by_a_byte(rt: HostRuntime) {
     let (byte, word) = (0b0011u8, 0x0106u16);
-    same!(rt; changed(UNION, word, &byte), (0x0107, true));
-    same!(rt; changed(COMMON, word, &byte), (0x0002, true));
-    same!(rt; changed(ALONE, word, &byte), (0x0104, true));
-    same!(rt; changed(UNLIKE, word, &byte), (0x0105, true));
+    let expected = [
+        (0x0107, true),
+        (0x0002, true),
+        (0x0104, true),
+        (0x0105, true),
+    ];
+    same!(rt; changed_each_way(word, &byte), expected);
 }
 
 #[test]
 fn a_longer_row_by_a_byte(rt: HostRuntime) {
     let (byte, row) = (0b0011u8, [0b0110u8, 1, 0x80]);
-    same!(rt; changed(UNION, row, &byte), ([0b0111, 1, 0x80], true));
-    same!(rt; changed(COMMON, row, &byte), ([0b0010, 0, 0], true));
-    same!(rt; changed(ALONE, row, &byte), ([0b0100, 1, 0x80], true));
-    same!(rt; changed(UNLIKE, row, &byte), ([0b0101, 1, 0x80], true));
+    let [either, both, alone, unlike] = changed_each_way(row, &byte);
+    same!(rt; (either, both), (([0b0111, 1, 0x80], true), ([0b0010, 0, 0], true)));
+    same!(rt; (alone, unlike), (([0b0100, 1, 0x80], true), ([0b0101, 1, 0x80], true)));
+}
+
+// Returns the set after each of the four changes, each with a set of its own.
+fn changed_by_each<A: BitsOwned, B: BitsOwned>(set: A, others: [B; 4]) -> [(A, bool); 4]
+    requires indexable { IsTrue A.indexable }
+    requires other_indexable { IsTrue B.indexable }
+{
+    let [first, second, third, fourth] = others;
+    [
+        changed(UNION, set, &first),
+        changed(COMMON, set, &second),
+        changed(ALONE, set, &third),
+        changed(UNLIKE, set, &fourth),
+    ]
 }
 
 #[test]
 fn what_changes_nothing_is_told(rt: HostRuntime) {
     // From bit 8 on the other set has what the byte has not.
     let byte = 0b0111u8;
-    same!(rt; changed(UNION, byte, &0xFF06u16), (byte, false));
-    same!(rt; changed(COMMON, byte, &0x000Fu16), (byte, false));
-    same!(rt; changed(ALONE, byte, &0xFF08u16), (byte, false));
-    same!(rt; changed(UNLIKE, byte, &0xFF00u16), (byte, false));
+    let now = changed_by_each(byte, [0xFF06u16, 0x000F, 0xFF08, 0xFF00]);
+    same!(rt; now, [(byte, false); 4]);
+}
+
+// Returns the set after a union with a set, and after a conjunction with one.
+fn either_and_both<A: BitsOwned, B: Bits, C: Bits>(set: A, one: &B, other: &C) -> [(A, bool); 2]
+    requires indexable { IsTrue A.indexable }
+    requires one_fits { ShapeFits B.Shape one.now }
+    requires other_fits { ShapeFits C.Shape other.now }
+{
+    [changed(UNION, set, one), changed(COMMON, set, other)]
 }
 
 #[test]
 fn the_last_word_alone_changes(rt: HostRuntime) {
     let row = [0xFFFFu16, 1, 1];
-    same!(rt; changed(UNION, row, &[0u16, 1, 3]), ([0xFFFF, 1, 3], true));
-    same!(rt; changed(COMMON, row, &[0xFFFFu16, 1]), ([0xFFFF, 1, 0], true));
+    let rows = either_and_both(row, &[0u16, 1, 3], &[0xFFFFu16, 1]);
+    same!(rt; rows, [([0xFFFF, 1, 3], true), ([0xFFFF, 1, 0], true)]);
 }
 
 #[test]
@@ -90,40 +130,63 @@ fn two_rows_each_in_its_own_order(rt: HostRuntime) {
     // Bits 0, 15 and 33 are set, and from the left bits 0, 33 and 63.
     let row = [0x8001u16, 0, 2];
     let set: Set<[u32; 2], LittleEndian> = Set::new_le([0x8000_0000, 0x4000_0001]);
-    same!(rt; changed(UNION, row, &set), (row, false));
-    same!(rt; changed(COMMON, row, &set), ([1, 0, 2], true));
-    same!(rt; changed(ALONE, row, &set), ([0x8000, 0, 0], true));
-    same!(rt; changed(UNLIKE, row, &set), ([0x8000, 0, 0], true));
+    let [either, both, alone, unlike] = changed_each_way(row, &set);
+    same!(rt; (either, both), ((row, false), ([1, 0, 2], true)));
+    same!(rt; (alone, unlike), (([0x8000, 0, 0], true), ([0x8000, 0, 0], true)));
 }
 
 #[test]
 fn a_set_from_the_left_by_a_row(rt: HostRuntime) {
     let row = [0x8001u16, 0, 2];
     let set: Set<[u32; 2], LittleEndian> = Set::new_le([0x8000_0000, 0x4000_0001]);
-    let (either, told) = changed(UNION, set, &row);
-    same!(rt; (either.into_bits(), told), ([0x8001_0000, 0x4000_0001], true));
-    let (both, told) = changed(COMMON, set, &row);
-    same!(rt; (both.into_bits(), told), ([0x8000_0000, 0x4000_0000], true));
+    let [(either, more), (both, less)] = either_and_both(set, &row, &row);
+    same!(rt; (either.into_bits(), more), ([0x8001_0000, 0x4000_0001], true));
+    same!(rt; (both.into_bits(), less), ([0x8000_0000, 0x4000_0000], true));
+}
+
+// Returns one set after a union with another, and the other after a difference with the one.
+fn each_by_the_other<A: BitsOwned, B: BitsOwned>(one: A, other: B) -> ((A, bool), (B, bool))
+    requires indexable { IsTrue A.indexable }
+    requires other_indexable { IsTrue B.indexable }
+{
+    (changed(UNION, one, &other), changed(ALONE, other, &one))
 }
 
 #[test]
 fn two_sets_from_the_left(rt: HostRuntime) {
     // From the left bits 0 and 7 are set, and bits 1, 7 and 8.
     let (byte, row) = (Set::new_le(0x81u8), Set::new_le([0x41u8, 0x80]));
-    let (either, told) = changed(UNION, byte, &row);
-    same!(rt; (either.into_bits(), told), (0xC1, true));
-    let (alone, told) = changed(ALONE, row, &byte);
-    same!(rt; (alone.into_bits(), told), ([0x40, 0x80], true));
+    let ((either, more), (alone, less)) = each_by_the_other(byte, row);
+    same!(rt; (either.into_bits(), more), (0xC1, true));
+    same!(rt; (alone.into_bits(), less), ([0x40, 0x80], true));
+}
+
+// Returns a set of capacity 0 after changes with one that has members and with itself, and two
+// others after changes with it.
+fn changed_with_nothing<A: BitsOwned, B: BitsOwned>(
+    none: A,
+    some: B,
+    empty: B,
+) -> ([(A, bool); 2], [(B, bool); 3])
+    requires indexable { IsTrue A.indexable }
+    requires other_indexable { IsTrue B.indexable }
+{
+    let nothing = [changed(UNION, none, &some), changed(UNLIKE, none, &none)];
+    let others = [
+        changed(UNION, some, &none),
+        changed(COMMON, some, &none),
+        changed(COMMON, empty, &none),
+    ];
+    (nothing, others)
 }
 
 #[test]
 fn capacity_0(rt: HostRuntime) {
     let none: [u64; 0] = [];
+    let (nothing, words) = changed_with_nothing(none, 0x0Fu8, 0);
+    same!(rt; nothing, [(none, false), (none, false)]);
+    same!(rt; words, [(0x0F, false), (0, true), (0, false)]);
     same!(rt; changed(UNION, none, &0xFFu8), (none, false));
-    same!(rt; changed(UNLIKE, none, &none), (none, false));
-    same!(rt; changed(UNION, 0x0Fu8, &none), (0x0F, false));
-    same!(rt; changed(COMMON, 0x0Fu8, &none), (0, true));
-    same!(rt; changed(COMMON, 0u8, &none), (0, false));
 }
 
 // Adds what two sets have in common to a set that is read from the left.
@@ -132,8 +195,11 @@ fn add_common<A: BitsMut, B: Bits>(set: &mut A, one: &B, other: &B) -> bool
     requires one_fits { ShapeFits B.Shape one.now }
     requires other_fits { ShapeFits B.Shape other.now }
 {
-    set.in_order_mut::<LittleEndian>()
-        .union_with(&one.and(other))
+    change(
+        UNION,
+        &mut set.in_order_mut::<LittleEndian>(),
+        &one.and(other),
+    )
 }
 
 #[test]
@@ -228,12 +294,20 @@ fn copies(rt: HostRuntime) {
     same!(rt; (copied(none, &7u8), copied(7u8, &none)), (none, 0));
 }
 
+// Returns the set of a type with the members of another one.
+fn made_of<A: BitsOwned, B: Bits>(other: &B) -> A
+    requires indexable { IsTrue A.indexable }
+    requires other_fits { ShapeFits B.Shape other.now }
+{
+    A::from_set(other)
+}
+
 #[test]
 fn sets_of_other_types(rt: HostRuntime) {
-    same!(rt; <[u8; 4]>::from_set(&0x8005_0103u32), [0x03, 0x01, 0x05, 0x80]);
-    same!(rt; u16::from_set(&[0x03u8, 0x01, 0x05]), 0x0103);
-    same!(rt; <[u64; 0]>::from_set(&0xFFu8), []);
-    let left: Set<u8, LittleEndian> = Set::from_set(&0b0000_0110u64);
+    same!(rt; made_of::<[u8; 4], _>(&0x8005_0103u32), [0x03, 0x01, 0x05, 0x80]);
+    same!(rt; made_of::<u16, _>(&[0x03u8, 0x01, 0x05]), 0x0103);
+    same!(rt; made_of::<[u64; 0], _>(&0xFFu8), []);
+    let left: Set<u8, LittleEndian> = made_of(&0b0000_0110u64);
     same!(rt; left.into_bits(), 0b0110_0000);
 }
 
