@@ -77,16 +77,23 @@ fn a_view_is_iterated_from_both_ends(rt: HostRuntime) {
     same!(rt; (walk.next_back(), walk.next(), walk.next()), (Some(6), Some(1), Some(2)));
 }
 
-/// Flips bit 1, sets bit 0 and clears bit 3 by a view in the order `E`, and returns what the calls
-/// answered and then how many bits are set.
+/// Flips bit 1, sets bit 0 and clears bit 3, and returns what the calls answered and then how many
+/// bits are set.
+fn change<B: BitsMut>(bits: &mut B) -> ([bool; 2], u32)
+    requires fits { ShapeFits B.Shape bits.old }
+    requires indexable { IsTrue B.indexable }
+{
+    bits.toggle(1);
+    let answers = [bits.insert(0), bits.remove(3)];
+    (answers, bits.count_ones())
+}
+
+/// Does the same by a view in the order `E`.
 fn changed<B: BitsMut, E: Endian>(bits: &mut B) -> ([bool; 2], u32)
     requires fits { ShapeFits B.Shape bits.old }
     requires indexable { IsTrue B.indexable }
 {
-    let mut view = bits.in_order_mut::<E>();
-    view.toggle(1);
-    let answers = [view.insert(0), view.remove(3)];
-    (answers, view.count_ones())
+    change(&mut bits.in_order_mut::<E>())
 }
 
 #[test]
@@ -126,16 +133,21 @@ fn capacity_0_is_changed_by_nothing(rt: HostRuntime) {
     same!(rt; changed::<_, LittleEndian>(&mut none), ([true, false], 0));
 }
 
-/// Takes out the first bit and the last, sets a range and flips all by a view in the order `E`, and
-/// returns the two bits.
+/// Takes out the first bit and the last, sets a range and flips all, and returns the two bits.
+fn take<B: BitsMut>(bits: &mut B) -> [Option<u32>; 2]
+    requires { ShapeFits B.Shape bits.old }
+{
+    let ends = [bits.pop_first(), bits.pop_last()];
+    bits.extend([1u32, 2].iter().copied());
+    bits.complement_assign();
+    ends
+}
+
+/// Does the same by a view in the order `E`.
 fn taken<B: BitsMut, E: Endian>(bits: &mut B) -> [Option<u32>; 2]
     requires { ShapeFits B.Shape bits.old }
 {
-    let mut view = bits.in_order_mut::<E>();
-    let ends = [view.pop_first(), view.pop_last()];
-    view.extend([1u32, 2].iter().copied());
-    view.complement_assign();
-    ends
+    take(&mut bits.in_order_mut::<E>())
 }
 
 #[test]
