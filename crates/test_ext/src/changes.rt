@@ -54,62 +54,64 @@ fn a_bit_by_its_value(rt: HostRuntime) {
     same!(rt; assigned_and_toggled(0b0011u8), [0b0010, 0b0010, 0b1000_0000]);
 }
 
-/// Inserts an index by a view in the order `E`.
-fn insert_in<B: BitsMut, E: Endian>(set: &mut B, index: u32) -> bool
+const INSERT: u32 = 0;
+
+const REMOVE: u32 = 1;
+
+const TOGGLE: u32 = 2;
+
+const CLEAR: u32 = 3;
+
+const ASSIGN: u32 = 4;
+
+/// Inserts an index, removes it, flips its bit, replaces that by an unset one or assigns a set one,
+/// and returns what the call answers, or `true` of one that answers nothing.
+fn change<B: BitsMut>(kind: u32, set: &mut B, index: u32) -> bool
     requires { IsTrue B.indexable }
 {
-    set.in_order_mut::<E>().insert(index)
+    match kind {
+        INSERT => set.insert(index),
+        REMOVE => set.remove(index),
+        CLEAR => set.replace(index, false),
+        TOGGLE => {
+            set.toggle(index);
+            true
+        }
+        _ => {
+            set.assign(index, true);
+            true
+        }
+    }
 }
 
-/// Removes an index by a view in the order `E`.
-fn remove_in<B: BitsMut, E: Endian>(set: &mut B, index: u32) -> bool
+/// Does the same by a view in the order `E`.
+fn change_in<B: BitsMut, E: Endian>(kind: u32, set: &mut B, index: u32) -> bool
     requires { IsTrue B.indexable }
 {
-    set.in_order_mut::<E>().remove(index)
+    change(kind, &mut set.in_order_mut::<E>(), index)
 }
 
-/// Inserts the indexes 0 and 7 and removes 8, each by a view in the order `E`, and returns what each
-/// call answered, with the set after the second and the third.
+/// Inserts the indexes 0 and 7 and removes 8, each by a view in the order `E`, and returns what
+/// each call answered, with the set after the second and the third.
 fn inserted_and_removed_in<B: BitsOwned, E: Endian>(mut set: B) -> ([bool; 3], [B; 2])
     requires { IsTrue B.indexable }
 {
-    let first = insert_in::<B, E>(&mut set, 0);
-    let second = insert_in::<B, E>(&mut set, 7);
+    let first = change_in::<B, E>(INSERT, &mut set, 0);
+    let second = change_in::<B, E>(INSERT, &mut set, 7);
     let inserted = set;
-    let third = remove_in::<B, E>(&mut set, 8);
+    let third = change_in::<B, E>(REMOVE, &mut set, 8);
     ([first, second, third], [inserted, set])
 }
 
-/// Flips a bit by a view in the order `E`.
-fn toggle_in<B: BitsMut, E: Endian>(set: &mut B, index: u32)
-    requires { IsTrue B.indexable }
-{
-    set.in_order_mut::<E>().toggle(index);
-}
-
-/// Replaces a bit by a view in the order `E`.
-fn replace_in<B: BitsMut, E: Endian>(set: &mut B, index: u32, value: bool) -> bool
-    requires { IsTrue B.indexable }
-{
-    set.in_order_mut::<E>().replace(index, value)
-}
-
-/// Assigns a bit by a view in the order `E`.
-fn assign_in<B: BitsMut, E: Endian>(set: &mut B, index: u32, value: bool)
-    requires { IsTrue B.indexable }
-{
-    set.in_order_mut::<E>().assign(index, value);
-}
-
-/// Flips the bit 1, clears the bit 7 and sets the bit 2, each by a view in the order `E`, and returns
-/// whether the bit 7 was set, with the set after the first and the last.
+/// Flips the bit 1, clears the bit 7 and sets the bit 2, each by a view in the order `E`, and
+/// returns whether the bit 7 was set, with the set after the first and the last.
 fn flipped_and_replaced_in<B: BitsOwned, E: Endian>(mut set: B) -> (bool, [B; 2])
     requires { IsTrue B.indexable }
 {
-    toggle_in::<B, E>(&mut set, 1);
+    change_in::<B, E>(TOGGLE, &mut set, 1);
     let flipped = set;
-    let answer = replace_in::<B, E>(&mut set, 7, false);
-    assign_in::<B, E>(&mut set, 2, true);
+    let answer = change_in::<B, E>(CLEAR, &mut set, 7);
+    change_in::<B, E>(ASSIGN, &mut set, 2);
     (answer, [flipped, set])
 }
 
@@ -163,8 +165,8 @@ fn capacity_0_is_never_changed(rt: HostRuntime) {
     same!(rt; nothing_is_taken(none), [None; 3]);
 }
 
-/// Returns the set after each of five ranges is changed: set, cleared, toggled, and made of set bits
-/// and of unset ones.
+/// Returns the set after each of five ranges is changed: set, cleared, toggled, and made of set
+/// bits and of unset ones.
 fn after_each_range<B: BitsOwned>(mut row: B) -> [B; 5]
     requires indexable { IsTrue B.indexable }
     requires long { 24 ≤ B.type_capacity }
@@ -205,13 +207,22 @@ fn after_empty_and_whole_ranges<B: BitsOwned>(mut word: B) -> [B; 3]
     [first, second, word]
 }
 
-/// Assigns the bits of a range by a view in the order `E`.
+/// Assigns the bits of a range.
+fn assign_range<B: BitsMut>(row: &mut B, from: u32, to: u32, value: bool)
+    requires fits { ShapeFits B.Shape row.old }
+    requires ordered { from ≤ to }
+    requires within { to ≤ (B.big row.old).capacity }
+{
+    row.assign_range(from, to, value);
+}
+
+/// Does the same by a view in the order `E`.
 fn assign_range_in<B: BitsMut, E: Endian>(row: &mut B, from: u32, to: u32, value: bool)
     requires fits { ShapeFits B.Shape row.old }
     requires ordered { from ≤ to }
     requires within { to ≤ (B.big row.old).capacity }
 {
-    row.in_order_mut::<E>().assign_range(from, to, value);
+    assign_range(&mut row.in_order_mut::<E>(), from, to, value);
 }
 
 /// Returns the set after a range is set, and after its first sixteen bits are cleared, by views in
@@ -287,18 +298,25 @@ fn ends_are_taken_out(rt: HostRuntime) {
     same!(rt; left, ([Some(3), Some(15)], [0, 0x80]));
 }
 
+/// Takes the first unset bit.
+fn take_slot<B: BitsMut>(row: &mut B) -> Option<u32>
+    requires { ShapeFits B.Shape row.old }
+{
+    row.take_first_zero()
+}
+
 /// Takes the first unset bit, and returns its index with the set then.
 fn slot_taken<B: BitsOwned>(mut row: B) -> (Option<u32>, B)
     requires { IsTrue B.indexable }
 {
-    (row.take_first_zero(), row)
+    (take_slot(&mut row), row)
 }
 
 /// Takes the first unset bit in the order `E`, and returns its index with the set then.
 fn slot_taken_in<B: BitsOwned, E: Endian>(mut row: B) -> (Option<u32>, B)
     requires { IsTrue B.indexable }
 {
-    let slot = row.in_order_mut::<E>().take_first_zero();
+    let slot = take_slot(&mut row.in_order_mut::<E>());
     (slot, row)
 }
 
@@ -310,24 +328,39 @@ fn free_slots_are_taken(rt: HostRuntime) {
     same!(rt; slot_taken(255u8), (None, 255));
 }
 
+/// Inserts a list of indexes.
+fn insert_list<B: BitsMut>(set: &mut B, indexes: &[u32])
+    requires { IsTrue B.indexable }
+{
+    set.insert_all(indexes);
+}
+
 /// Returns the set with a list of indexes, and then with one in the order `E`.
 fn with_lists<B: BitsOwned, E: Endian>(mut set: B) -> [B; 2]
     requires { IsTrue B.indexable }
 {
-    set.insert_all(&[0, 7, 9, 7]);
+    insert_list(&mut set, &[0, 7, 9, 7]);
     let first = set;
-    set.in_order_mut::<E>().insert_all(&[2]);
+    insert_list(&mut set.in_order_mut::<E>(), &[2]);
     [first, set]
 }
 
-/// Returns the set with the indexes of a range, and then with those that an iterator over a set
+/// Inserts the indexes that an iterator over a set yields.
+fn extend_by_set<B: BitsMut, C: Bits>(row: &mut B, other: &C)
+    requires indexable { IsTrue B.indexable }
+    requires fits { ShapeFits C.Shape other.now }
+{
+    row.extend(other.iter_ones());
+}
+
+/// Returns the set with the indexes of a range, and then with those that an iterator over a byte
 /// yields, in the order `E`.
 fn extended<B: BitsOwned, E: Endian>(mut row: B) -> [B; 2]
     requires { IsTrue B.indexable }
 {
     row.extend(6..11);
     let first = row;
-    row.in_order_mut::<E>().extend(0b0101u8.iter_ones());
+    extend_by_set(&mut row.in_order_mut::<E>(), &0b0101u8);
     [first, row]
 }
 
