@@ -1,9 +1,13 @@
 //! Views, with values worked out by hand, and with drawn sets compared with tests of each bit in
 //! plain loops.
 
+ghost use Rattle.std.specs.Prelude.{◌<◌, max, IsTrue};
+ghost use Rattle.bittle_ext.specs.Views.{rounded_up};
+ghost use Rattle.bittle.specs.Values.{ShapeFits};
+
 use crate::checks::{holds, same};
 use crate::random::draw;
-use bittle::{Bits, LittleEndian, Set};
+use bittle::{Bits, LittleEndian, Set, Shape};
 use bittle_ext::prelude::*;
 
 // Draws a word.
@@ -42,28 +46,78 @@ fn first(bits: &[bool; 64]) -> Option<u32> {
     None
 }
 
+// Returns the capacity, how many bits are set, and the first and the last of them.
+fn read<B: Bits>(view: &B) -> (u32, u32, [Option<u32>; 2])
+    requires { ShapeFits B.Shape view.now }
+{
+    let ends = [view.first_one(), view.last_one()];
+    (view.bits_capacity(), view.count_ones(), ends)
+}
+
+// Returns whether all bits are unset, and whether all are set.
+fn whole<B: Bits>(view: &B) -> (bool, bool)
+    requires { ShapeFits B.Shape view.now }
+{
+    (view.all_zeros(), view.all_ones())
+}
+
+// Tests two bits.
+fn tested<B: Bits>(view: &B, indexes: [u32; 2]) -> [bool; 2]
+    requires { IsTrue B.indexable }
+{
+    [view.test_bit(indexes[0]), view.test_bit(indexes[1])]
+}
+
+// What is read of a view.
+type Read = (u32, u32, [Option<u32>; 2]);
+
+// Reads what two sets have in common, and what the first has alone.
+fn read_both_and_alone<A: Bits, B: Bits>(one: &A, other: &B) -> [Read; 2]
+    requires one_fits { ShapeFits A.Shape one.now }
+    requires other_fits { ShapeFits B.Shape other.now }
+{
+    [read(&one.and(other)), read(&one.minus(other))]
+}
+
+// Reads what either of two sets has.
+fn read_either<A: Bits, B: Bits>(one: &A, other: &B) -> Read
+    requires one_fits { ShapeFits A.Shape one.now }
+    requires other_fits { ShapeFits B.Shape other.now }
+    requires rounded { rounded_up (max (A.big one.now).capacity (B.big other.now).capacity) A.width
+        < 4294967295 }
+{
+    read(&one.or_unlike(other))
+}
+
+// Reads what just one of two sets has.
+fn read_just_one<A: Bits, B: Bits>(one: &A, other: &B) -> Read
+    requires one_fits { ShapeFits A.Shape one.now }
+    requires other_fits { ShapeFits B.Shape other.now }
+    requires rounded { rounded_up (max (A.big one.now).capacity (B.big other.now).capacity) A.width
+        < 4294967295 }
+{
+    read(&one.xor_unlike(other))
+}
+
 #[test]
 fn a_byte_and_a_wider_word(rt: HostRuntime) {
     // Bits 0 and 1 are set, and bits 1, 2 and 8.
     let (byte, word) = (0b0011u8, 0x0106u16);
-    let both = byte.and(&word);
-    same!(rt; (both.bits_capacity(), both.count_ones(), both.first_one()), (8, 1, Some(1)));
-    let alone = word.minus(&byte);
-    same!(rt; (alone.bits_capacity(), alone.count_ones(), alone.last_one()), (16, 2, Some(8)));
-    let either = byte.or_unlike(&word);
-    same!(rt; (either.bits_capacity(), either.count_ones(), either.last_one()), (16, 4, Some(8)));
-    let one = word.xor_unlike(&byte);
-    same!(rt; (one.bits_capacity(), one.count_ones(), one.first_one()), (16, 3, Some(0)));
+    let [both, alone] = read_both_and_alone(&byte, &word);
+    same!(rt; (both, alone), ((8, 1, [Some(1), Some(1)]), (8, 1, [Some(0), Some(0)])));
+    let [both, alone] = read_both_and_alone(&word, &byte);
+    same!(rt; (both, alone), ((16, 1, [Some(1), Some(1)]), (16, 2, [Some(2), Some(8)])));
+    same!(rt; read_either(&byte, &word), (16, 4, [Some(0), Some(8)]));
+    same!(rt; read_just_one(&word, &byte), (16, 3, [Some(0), Some(8)]));
 }
 
 #[test]
 fn a_capacity_that_is_rounded_up(rt: HostRuntime) {
     // Bit 31 is set, and bits 24, 31 and 32 of a capacity of 40.
     let (word, bytes) = (0x8000_0000u32, [0u8, 0, 0, 0x81, 1]);
-    let either = word.or_unlike(&bytes);
-    same!(rt; (either.bits_capacity(), either.count_ones(), either.last_one()), (64, 3, Some(32)));
-    same!(rt; (either.test_bit(40), either.test_bit(96)), (false, true));
-    same!(rt; word.xor_unlike(&bytes).first_one(), Some(24));
+    same!(rt; read_either(&word, &bytes), (64, 3, [Some(24), Some(32)]));
+    same!(rt; tested(&word.or_unlike(&bytes), [40, 96]), [false, true]);
+    same!(rt; read_just_one(&word, &bytes), (64, 2, [Some(24), Some(32)]));
 }
 
 #[test]
@@ -71,19 +125,27 @@ fn two_rows_each_in_its_own_order(rt: HostRuntime) {
     // Bits 0, 15 and 33 are set, and from the left bits 0, 33 and 63.
     let row = [0x8001u16, 0, 2];
     let set: Set<[u32; 2], LittleEndian> = Set::new_le([0x8000_0000, 0x4000_0001]);
-    let both = row.and(&set);
-    same!(rt; (both.count_ones(), both.first_one(), both.last_one()), (2, Some(0), Some(33)));
-    let alone = set.minus(&row);
-    same!(rt; (alone.bits_capacity(), alone.count_ones(), alone.last_one()), (64, 1, Some(63)));
-    holds!(rt; alone.test_bit(63) && !alone.test_bit(0));
+    let [both, alone] = read_both_and_alone(&row, &set);
+    same!(rt; (both, alone), ((48, 2, [Some(0), Some(33)]), (48, 1, [Some(15), Some(15)])));
+    let [both, alone] = read_both_and_alone(&set, &row);
+    same!(rt; (both, alone), ((64, 2, [Some(0), Some(33)]), (64, 1, [Some(63), Some(63)])));
+    same!(rt; tested(&set.minus(&row), [63, 0]), [true, false]);
+}
+
+// Reads what either of two sets of like words has, and what just one of them has.
+fn read_like<A: Bits, B: Bits + Shape<LeafWord = A::LeafWord>>(one: &A, other: &B) -> [Read; 2]
+    requires one_fits { ShapeFits A.Shape one.now }
+    requires other_fits { ShapeFits B.Shape other.now }
+{
+    [read(&one.or(other)), read(&one.xor(other))]
 }
 
 #[test]
 fn like_words_in_unlike_orders(rt: HostRuntime) {
     // Bits 0 and 1 are set, and from the left bits 1 and 7.
     let (byte, set): (u8, Set<u8, LittleEndian>) = (0b0011, Set::new_le(0b0100_0001));
-    same!(rt; byte.or(&set).count_ones(), 3);
-    same!(rt; byte.xor(&set).first_one(), Some(0));
+    let [either, one] = read_like(&byte, &set);
+    same!(rt; (either, one), ((8, 3, [Some(0), Some(7)]), (8, 2, [Some(0), Some(7)])));
     same!(rt; set.or(&byte).into_ones().next_back(), Some(7));
 }
 
@@ -91,11 +153,23 @@ fn like_words_in_unlike_orders(rt: HostRuntime) {
 fn rows_of_unlike_lengths(rt: HostRuntime) {
     // Bits 1 and 2 are set, and bits 0, 2 and 8.
     let (byte, row) = (0b0110u8, [0b0101u8, 1]);
-    let either = byte.or(&row);
-    same!(rt; (either.bits_capacity(), either.count_ones(), either.last_one()), (16, 4, Some(8)));
+    let [either, one] = read_like(&byte, &row);
+    same!(rt; (either, one), ((16, 4, [Some(0), Some(8)]), (16, 3, [Some(0), Some(8)])));
     let one = row.xor(&byte);
-    same!(rt; (one.bits_capacity(), one.count_ones(), one.first_zero()), (16, 3, Some(2)));
-    holds!(rt; !row.minus(&byte).all_zeros() && row.and(&row).minus(&row).all_zeros());
+    same!(rt; (read(&one), one.first_zero()), ((16, 3, [Some(0), Some(8)]), Some(2)));
+    same!(rt; whole(&row.minus(&byte)), (false, false));
+    same!(rt; whole(&row.and(&row).minus(&row)), (true, false));
+}
+
+// Returns whether a set has nothing alone and what it has alone first, and whether it has all in
+// common with another one and how many.
+fn compared<B: Bits>(full: &B, row: &B) -> (bool, Option<u32>, bool, u32)
+    requires full_fits { ShapeFits B.Shape full.now }
+    requires row_fits { ShapeFits B.Shape row.now }
+{
+    let ((none, _), (_, all)) = (whole(&full.minus(row)), whole(&full.and(row)));
+    let ((_, _, ends), (_, count, _)) = (read(&full.minus(row)), read(&full.and(row)));
+    (none, ends[0], all, count)
 }
 
 #[test]
@@ -105,37 +179,58 @@ fn many_words_at_once(rt: HostRuntime) {
     for place in 0..11u32 {
         let mut row = [255u8; 11];
         row[place as usize] = 0xEF;
-        same!(rt; full.minus(&row).all_zeros(), false);
-        same!(rt; full.minus(&row).first_one(), Some(place * 8 + 4));
-        same!(rt; full.and(&row).all_ones(), false);
-        same!(rt; full.and(&row).count_ones(), 87);
+        same!(rt; compared(&full, &row), (false, Some(place * 8 + 4), false, 87));
     }
-    holds!(rt; full.minus(&full).all_zeros() && full.and(&full).all_ones());
+    same!(rt; compared(&full, &full), (true, None, true, 88));
+}
+
+// Reads the complement of a set, and counts the bits of the complement of that.
+fn read_complement<B: Bits>(word: &B) -> (Read, u32)
+    requires { ShapeFits B.Shape word.now }
+{
+    let unset = word.complement_view();
+    (read(&unset), unset.complement_view().count_ones())
 }
 
 #[test]
 fn a_complement(rt: HostRuntime) {
     // Bits 1 and 3 are unset.
     let word = 0b1111_0101u8;
-    let unset = word.complement_view();
-    same!(rt; (unset.bits_capacity(), unset.count_ones(), unset.last_one()), (8, 2, Some(3)));
-    same!(rt; (unset.test_bit(1), unset.test_bit(2)), (true, false));
-    same!(rt; unset.complement_view().count_ones(), 6);
-    holds!(rt; 0xFFu8.complement_view().all_zeros() && 0u8.complement_view().all_ones());
+    same!(rt; read_complement(&word), ((8, 2, [Some(1), Some(3)]), 6));
+    same!(rt; tested(&word.complement_view(), [1, 2]), [true, false]);
+    same!(rt; whole(&0xFFu8.complement_view()), (true, false));
+    same!(rt; whole(&0u8.complement_view()), (false, true));
+}
+
+// Reads a range, asks whether each bit of two others is unset, and counts the set bits of two more.
+fn read_ranges<B: Bits>(row: &B) -> (Read, [bool; 2], [u32; 2])
+    requires { ShapeFits B.Shape row.now }
+{
+    let unset = [row.within(2, 5).all_zeros(), row.within(1, 2).all_zeros()];
+    let counts = [
+        row.within(0, 16).count_ones(),
+        row.within(3, 3).count_ones(),
+    ];
+    (read(&row.within(5, 8)), unset, counts)
+}
+
+// Counts the bits of a range, and returns the first of another one.
+fn count_and_first<B: Bits>(set: &B) -> (u32, Option<u32>)
+    requires { ShapeFits B.Shape set.now }
+{
+    (set.within(0, 8).count_ones(), set.within(1, 9).first_one())
 }
 
 #[test]
 fn a_range(rt: HostRuntime) {
     // Bits 1, 5, 6 and 8 are set.
     let row = [0b0110_0010u8, 1];
-    let inner = row.within(5, 8);
-    same!(rt; (inner.bits_capacity(), inner.count_ones(), inner.first_one()), (16, 2, Some(5)));
-    same!(rt; (inner.test_bit(6), inner.test_bit(8)), (true, false));
-    same!(rt; (row.within(2, 5).all_zeros(), row.within(1, 2).all_zeros()), (true, false));
-    same!(rt; (row.within(0, 16).count_ones(), row.within(3, 3).count_ones()), (4, 0));
+    let inner = (16, 2, [Some(5), Some(6)]);
+    same!(rt; read_ranges(&row), (inner, [true, false], [4, 0]));
+    same!(rt; tested(&row.within(5, 8), [6, 8]), [true, false]);
     // From the left bits 0 and 8 are set.
     let set: Set<[u8; 2], LittleEndian> = Set::new_le([0x80, 0x80]);
-    same!(rt; (set.within(0, 8).count_ones(), set.within(1, 9).first_one()), (1, Some(8)));
+    same!(rt; count_and_first(&set), (1, Some(8)));
 }
 
 #[test]
@@ -161,6 +256,36 @@ fn capacity_0_and_a_slice(rt: HostRuntime) {
     same!(rt; slice.complement_view().count_ones(), 319);
 }
 
+// Counts what two words have in common, and returns the first index that a word has in common with
+// its halves.
+fn common<A: Bits, B: Bits>(one: &A, other: &A, halves: &B) -> (u32, Option<u32>)
+    requires one_fits { ShapeFits A.Shape one.now }
+    requires other_fits { ShapeFits A.Shape other.now }
+    requires halves_fit { ShapeFits B.Shape halves.now }
+{
+    (one.and(other).count_ones(), one.and(halves).first_one())
+}
+
+// Counts what either of two words has, and what one has that the halves of the other have not.
+fn either_and_alone<A: Bits, B: Bits>(one: &A, other: &A, halves: &B) -> [u32; 2]
+    requires one_fits { ShapeFits A.Shape one.now }
+    requires other_fits { ShapeFits A.Shape other.now }
+    requires halves_fit { ShapeFits B.Shape halves.now }
+{
+    [one.or(other).count_ones(), one.minus(halves).count_ones()]
+}
+
+// Returns the first bit that a word lacks, and the first of a range and how many that has.
+fn unset_and_within<B: Bits>(one: &B) -> ([Option<u32>; 2], u32)
+    requires { ShapeFits B.Shape one.now }
+{
+    let firsts = [
+        one.complement_view().first_one(),
+        one.within(3, 50).first_one(),
+    ];
+    (firsts, one.within(3, 50).into_ones().count() as u32)
+}
+
 #[test]
 fn drawn_words(rt: HostRuntime) {
     let mut state = 29;
@@ -177,12 +302,8 @@ fn drawn_words(rt: HostRuntime) {
             low[k] = ours[k] && 3 <= k && k < 50;
         }
         let halves = [(other % (1 << 32)) as u32, (other >> 32) as u32];
-        same!(rt; one.and(&other).count_ones(), held(&both));
-        same!(rt; one.and(&halves).first_one(), first(&both));
-        same!(rt; one.or(&other).count_ones(), held(&either));
-        same!(rt; one.minus(&halves).count_ones(), held(&alone));
-        same!(rt; one.complement_view().first_one(), first(&unset));
-        same!(rt; one.within(3, 50).first_one(), first(&low));
-        same!(rt; one.within(3, 50).into_ones().count() as u32, held(&low));
+        same!(rt; common(&one, &other, &halves), (held(&both), first(&both)));
+        same!(rt; either_and_alone(&one, &other, &halves), [held(&either), held(&alone)]);
+        same!(rt; unset_and_within(&one), ([first(&unset), first(&low)], held(&low)));
     }
 }
