@@ -46,12 +46,11 @@ fn changed_each_way<A: BitsOwned, B: Bits>(set: A, other: &B) -> [(A, bool); 4]
     requires indexable { IsTrue A.indexable }
     requires other_fits { ShapeFits B.Shape other.now }
 {
-    [
-        changed(UNION, set, other),
-        changed(COMMON, set, other),
-        changed(ALONE, set, other),
-        changed(UNLIKE, set, other),
-    ]
+    let mut answers = [(set, false); 4];
+    for kind in 0..4u32 {
+        answers[kind as usize] = changed(kind, set, other);
+    }
+    answers
 }
 
 #[test]
