@@ -4,7 +4,7 @@ ghost use Rattle.std.specs.Prelude.{◌≤◌, IsTrue};
 
 use crate::checks::same;
 use bittle::prelude::*;
-use bittle::{Endian, LittleEndian, Set};
+use bittle::{LittleEndian, Set};
 use bittle_ext::prelude::*;
 
 /// Returns the complement of a set.
@@ -14,18 +14,11 @@ fn complement_of<B: BitsOwned>(set: B) -> B
     set.complement()
 }
 
-/// Returns the bits of the complement of a set.
-fn complement_of_set<T: BitsOwned, E: Endian>(set: Set<T, E>) -> T
-    requires { IsTrue T.indexable }
-{
-    set.complement().into_bits()
-}
-
 #[test]
 fn complements(rt: HostRuntime) {
     same!(rt; complement_of([0xFFu8, 0x0F]), [0x00, 0xF0]);
     same!(rt; complement_of(1i8), -2);
-    same!(rt; complement_of_set(Set::new_le(0xF0u8)), 0x0F);
+    same!(rt; complement_of(Set::new_le(0xF0u8)).into_bits(), 0x0F);
     let none: [u8; 0] = [];
     same!(rt; complement_of(none), none);
 }
@@ -98,7 +91,8 @@ fn of_steps<B: BitsOwned>() -> B
 fn indexes(rt: HostRuntime) {
     same!(rt; of_indexes::<u8>(), [0b1000_0011, 0, 0b1110_0001]);
     let [three, none, four] = of_indexes::<Set<u8, LittleEndian>>();
-    same!(rt; (three.into_bits(), none.into_bits(), four.into_bits()), (0b1100_0001, 0, 0b1000_0111));
+    same!(rt; (three.into_bits(), none.into_bits()), (0b1100_0001, 0));
+    same!(rt; four.into_bits(), 0b1000_0111);
     same!(rt; of_indexes::<[u8; 2]>(), [[0x81, 0x02], [0, 0], [0xE0, 0x01]]);
     same!(rt; of_steps::<u64>(), 0x0001_0001_0001_0001);
 }

@@ -110,8 +110,8 @@ fn a_range_that_runs_backwards_is_empty(rt: HostRuntime) {
     same!(rt; questioned_backwards(&WORD), [false, true, true]);
 }
 
-// Asks whether each bit of these ranges is set: one below the capacity of 8, one at it, and one past
-// it, of each form that can reach there, and all bits.
+// Asks whether each bit of these ranges is set: one that ends below the capacity of 8, one at it,
+// and one past it, in both forms, and then all bits, none past it and one past it.
 fn all_of_each<B: Bits>(row: &B) -> ([bool; 3], [bool; 3], [bool; 3])
     requires { ShapeFits B.Shape row.now }
 {
