@@ -1,13 +1,13 @@
 //! Runs of drawn changes at small shapes, compared with plain loops over 24 flags.
 
 ghost use Rattle.std.specs.Prelude.{IsTrue};
-ghost use Rattle.bittle.specs.Shapes.{Fits};
 ghost use Rattle.bittle.specs.Values.{ShapeFits};
 
-use crate::checks::same;
+use crate::calls::{Full, Sparse};
 use crate::flags::{ask, draw};
 use bittle::{BigEndian, Bits, BitsMut, BitsOwned, Endian, LittleEndian};
 use bittle_tiers::{Ones, Tiered, Zeros};
+use std::process::Abort;
 
 // Makes a drawn change of one bit of both.
 fn change_one<B: BitsMut, E: Endian>(state: &mut u32, set: &mut B, flags: &mut [bool; 24])
@@ -108,48 +108,38 @@ fn change<B: BitsOwned, E: Endian>(state: &mut u32, set: &mut B, flags: &mut [bo
     }
 }
 
+// Changes a set and its flags from a seed on, and asks the set after each change what its flags
+// answer. Each number is a member at first, or none is.
+fn agree_with_plain_loops<B: BitsOwned, E: Endian>(rt: &impl Abort, seed: u32, all: bool)
+    requires { IsTrue B.indexable }
+{
+    let mut state = seed;
+    let mut set = if all { B::ones() } else { B::zeros() };
+    let mut flags = [all; 24];
+    for _ in 0..300 {
+        change::<B, E>(&mut state, &mut set, &mut flags);
+        ask::<B, E>(rt, &mut state, &set, &flags);
+    }
+}
+
 #[test]
 fn a_summary_of_the_ones_agrees_with_plain_loops(rt: HostRuntime) {
-    let mut state = 1;
-    let mut set = Tiered::<[u8; 3], u8, Ones>::zeros();
-    let mut flags = [false; 24];
-    for _ in 0..300 {
-        change::<Tiered<[u8; 3], u8, Ones>, BigEndian>(&mut state, &mut set, &mut flags);
-        ask::<Tiered<[u8; 3], u8, Ones>, BigEndian>(&rt, &mut state, &set, &flags);
-    }
+    agree_with_plain_loops::<Sparse, BigEndian>(&rt, 1, false);
 }
 
 #[test]
 fn a_summary_of_the_ones_agrees_in_little_endian_order(rt: HostRuntime) {
-    let mut state = 2;
-    let mut set = Tiered::<[u8; 3], u8, Ones>::zeros();
-    let mut flags = [false; 24];
-    for _ in 0..300 {
-        change::<Tiered<[u8; 3], u8, Ones>, LittleEndian>(&mut state, &mut set, &mut flags);
-        ask::<Tiered<[u8; 3], u8, Ones>, LittleEndian>(&rt, &mut state, &set, &flags);
-    }
+    agree_with_plain_loops::<Sparse, LittleEndian>(&rt, 2, false);
 }
 
 #[test]
 fn a_summary_of_the_zeros_agrees_with_plain_loops(rt: HostRuntime) {
-    let mut state = 3;
-    let mut set = Tiered::<[u8; 3], u8, Zeros>::ones();
-    let mut flags = [true; 24];
-    for _ in 0..300 {
-        change::<Tiered<[u8; 3], u8, Zeros>, BigEndian>(&mut state, &mut set, &mut flags);
-        ask::<Tiered<[u8; 3], u8, Zeros>, BigEndian>(&rt, &mut state, &set, &flags);
-    }
+    agree_with_plain_loops::<Full, BigEndian>(&rt, 3, true);
 }
 
 #[test]
 fn a_summary_of_the_zeros_agrees_in_little_endian_order(rt: HostRuntime) {
-    let mut state = 4;
-    let mut set = Tiered::<[u8; 3], u8, Zeros>::ones();
-    let mut flags = [true; 24];
-    for _ in 0..300 {
-        change::<Tiered<[u8; 3], u8, Zeros>, LittleEndian>(&mut state, &mut set, &mut flags);
-        ask::<Tiered<[u8; 3], u8, Zeros>, LittleEndian>(&rt, &mut state, &set, &flags);
-    }
+    agree_with_plain_loops::<Full, LittleEndian>(&rt, 4, true);
 }
 
 // Three tiers: 24 numbers, 8, and 8 above those, of which one is used.
@@ -157,13 +147,7 @@ type Three = Tiered<[u8; 3], Tiered<u8, u8, Ones>, Zeros>;
 
 #[test]
 fn a_summary_of_a_summary_agrees_with_plain_loops(rt: HostRuntime) {
-    let mut state = 5;
-    let mut set = Three::ones();
-    let mut flags = [true; 24];
-    for _ in 0..300 {
-        change::<Three, BigEndian>(&mut state, &mut set, &mut flags);
-        ask::<Three, BigEndian>(&rt, &mut state, &set, &flags);
-    }
+    agree_with_plain_loops::<Three, BigEndian>(&rt, 5, true);
 }
 
 // A summary for either kind.
@@ -171,13 +155,7 @@ type Both = Tiered<Tiered<[u8; 3], u8, Ones>, u8, Zeros>;
 
 #[test]
 fn a_summary_for_either_kind_agrees_with_plain_loops(rt: HostRuntime) {
-    let mut state = 6;
-    let mut set = Both::zeros();
-    let mut flags = [false; 24];
-    for _ in 0..300 {
-        change::<Both, LittleEndian>(&mut state, &mut set, &mut flags);
-        ask::<Both, LittleEndian>(&rt, &mut state, &set, &flags);
-    }
+    agree_with_plain_loops::<Both, LittleEndian>(&rt, 6, false);
 }
 
 // A row of sets with a summary.
@@ -185,11 +163,5 @@ type Row = [Tiered<u8, u8, Ones>; 3];
 
 #[test]
 fn a_row_of_them_agrees_with_plain_loops(rt: HostRuntime) {
-    let mut state = 7;
-    let mut set = Row::zeros();
-    let mut flags = [false; 24];
-    for _ in 0..300 {
-        change::<Row, BigEndian>(&mut state, &mut set, &mut flags);
-        ask::<Row, BigEndian>(&rt, &mut state, &set, &flags);
-    }
+    agree_with_plain_loops::<Row, BigEndian>(&rt, 7, false);
 }
