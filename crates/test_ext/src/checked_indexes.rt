@@ -1,8 +1,9 @@
 //! Indexes that do not wrap: below the capacity, at it, and past it. Values are worked out by hand.
 
+ghost use Rattle.std.specs.Prelude.{IsTrue};
 ghost use Rattle.bittle.specs.Values.{ShapeFits};
 
-use crate::checks::{holds, same};
+use crate::checks::same;
 use bittle::prelude::*;
 use bittle::{LittleEndian, Set};
 use bittle_ext::prelude::*;
@@ -61,48 +62,85 @@ fn questions_of_an_empty_row(rt: HostRuntime) {
     same!(rt; asked(&[0u8; 0], [0, 1, u32::MAX]), none);
 }
 
+// Sets the bits 7 and 9 and clears the bits 7 and 8, and returns what each call answered, with the
+// set after every second one.
+fn set_and_cleared<B: BitsOwned>(mut word: B) -> [([bool; 2], B); 2]
+    requires { IsTrue B.indexable }
+{
+    let set = ([word.try_set_bit(7), word.try_set_bit(9)], word);
+    [set, ([word.try_clear_bit(7), word.try_clear_bit(8)], word)]
+}
+
 #[test]
 fn changes_of_words(rt: HostRuntime) {
-    let mut word = 0b0001u8;
-    holds!(rt; word.try_set_bit(7));
-    holds!(rt; !word.try_set_bit(9));
-    same!(rt; word, 0b1000_0001);
-    holds!(rt; word.try_clear_bit(7));
-    holds!(rt; !word.try_clear_bit(8));
-    same!(rt; word, 0b0000_0001);
+    let [set, cleared] = set_and_cleared(0b0001u8);
+    same!(rt; set, ([true, false], 0b1000_0001));
+    same!(rt; cleared, ([true, false], 0b0000_0001));
+}
+
+// Inserts an index twice and one past a capacity of 8, and returns what each call answered, with
+// the set then.
+fn inserted<B: BitsOwned>(mut word: B) -> ([Option<bool>; 3], B)
+    requires { IsTrue B.indexable }
+{
+    let answers = [word.try_insert(3), word.try_insert(3), word.try_insert(12)];
+    (answers, word)
+}
+
+// Removes an index twice and one past a capacity of 8, and returns the same.
+fn removed<B: BitsOwned>(mut word: B) -> ([Option<bool>; 3], B)
+    requires { IsTrue B.indexable }
+{
+    let answers = [word.try_remove(0), word.try_remove(0), word.try_remove(11)];
+    (answers, word)
 }
 
 #[test]
 fn insertions_of_words(rt: HostRuntime) {
-    let mut word = 0b0001u8;
-    same!(rt; word.try_insert(3), Some(true));
-    same!(rt; word.try_insert(3), Some(false));
-    same!(rt; word.try_insert(12), None);
-    same!(rt; word, 0b1001);
-    same!(rt; word.try_remove(0), Some(true));
-    same!(rt; word.try_remove(0), Some(false));
-    same!(rt; word.try_remove(11), None);
-    same!(rt; word, 0b1000);
+    same!(rt; inserted(0b0001u8), ([Some(true), Some(false), None], 0b1001));
+    same!(rt; removed(0b1001u8), ([Some(true), Some(false), None], 0b1000));
+}
+
+// Inserts the indexes 8 and 24 and sets the bit 23, and returns what each call answered.
+fn put<B: BitsMut>(row: &mut B) -> ([Option<bool>; 2], bool)
+    requires { ShapeFits B.Shape row.old }
+{
+    ([row.try_insert(8), row.try_insert(24)], row.try_set_bit(23))
+}
+
+// Removes the index 8 and clears the bits 23 and 31, and returns what each call answered.
+fn take<B: BitsMut>(row: &mut B) -> (Option<bool>, [bool; 2])
+    requires { ShapeFits B.Shape row.old }
+{
+    (
+        row.try_remove(8),
+        [row.try_clear_bit(23), row.try_clear_bit(31)],
+    )
 }
 
 #[test]
 fn changes_of_rows_from_the_left(rt: HostRuntime) {
     let mut row = [0u8; 3];
-    same!(rt; row.in_order_mut::<LittleEndian>().try_insert(8), Some(true));
-    same!(rt; row.in_order_mut::<LittleEndian>().try_insert(24), None);
-    holds!(rt; row.in_order_mut::<LittleEndian>().try_set_bit(23));
+    let answers = put(&mut row.in_order_mut::<LittleEndian>());
+    same!(rt; answers, ([Some(true), None], true));
     same!(rt; row, [0, 0x80, 1]);
-    same!(rt; row.in_order_mut::<LittleEndian>().try_remove(8), Some(true));
-    holds!(rt; row.in_order_mut::<LittleEndian>().try_clear_bit(23));
-    holds!(rt; !row.in_order_mut::<LittleEndian>().try_clear_bit(31));
+    let answers = take(&mut row.in_order_mut::<LittleEndian>());
+    same!(rt; answers, (Some(true), [true, false]));
     same!(rt; row, [0, 0, 0]);
+}
+
+// Changes a bit of a set of capacity 0 in each way, and returns what each call answered.
+fn refused<B: BitsMut>(row: &mut B) -> ([bool; 2], [Option<bool>; 2])
+    requires { ShapeFits B.Shape row.old }
+{
+    (
+        [row.try_set_bit(0), row.try_clear_bit(0)],
+        [row.try_insert(0), row.try_remove(u32::MAX)],
+    )
 }
 
 #[test]
 fn changes_of_an_empty_row(rt: HostRuntime) {
     let mut row = [0u64; 0];
-    holds!(rt; !row.try_set_bit(0));
-    holds!(rt; !row.try_clear_bit(0));
-    same!(rt; row.try_insert(0), None);
-    same!(rt; row.try_remove(u32::MAX), None);
+    same!(rt; refused(&mut row), ([false, false], [None, None]));
 }
