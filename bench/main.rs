@@ -199,7 +199,7 @@ impl<'a> Cell<'a> {
         let mut right = words(state, n, bits);
         match call.name {
             "all_zeros*" => left.fill(0),
-            "equal" | "equal*" => right.clone_from(&left),
+            "eq" | "eq*" => right.clone_from(&left),
             "is_subset" => right.iter_mut().zip(&left).for_each(|(r, l)| *r |= l),
             "is_disjoint" => right.iter_mut().zip(&left).for_each(|(r, l)| *r &= !l),
             _ => {}
@@ -268,7 +268,21 @@ fn sample(turns: u32, mut run: impl FnMut() -> u64) -> f64 {
     start.elapsed().as_nanos() as f64 / f64::from(turns)
 }
 
+/// Returns the time of five cycles: a shift, an exclusive or and a product (three cycles), of which
+/// each waits for the one before.
+fn five_cycles() -> f64 {
+    let steps = 100_000;
+    (0..50).fold(f64::MAX, |least, seed| {
+        let run = || (0..steps).fold(black_box(seed), |x: u64, _| (x ^ x >> 1).wrapping_mul(ODD));
+        least.min(sample(1, run) / f64::from(steps))
+    })
+}
+
+const ODD: u64 = 6364136223846793005;
+
 fn main() {
+    let five = five_cycles();
+    println!("five cycles\tbe\t0\tnone\t{five:.4}\t{five:.4}");
     for call in calls::CALLS {
         for n in [1, 4, 64, 4096] {
             for bits in ["sparse", "half", "full"] {
