@@ -1,6 +1,10 @@
 //! Entities with components in the hands of a caller.
 
-ghost use Rattle.std.specs.Prelude.{◌≡◌, ◌≢◌, ◌≤◌, length, false, true, [], ◌∷◌, IfSome};
+ghost use Rattle.std.specs.Prelude.{◌≡◌, ◌≢◌, ◌≤◌, ℕ, length, false, true, [], ◌∷◌, IfSome};
+ghost use Rattle.std.specs.Prelude.{option_map, slice_index, Option};
+ghost use Rattle.bittle.specs.BitPatterns.{bit_set};
+ghost use Rattle.bittle.specs.Rows.{row_set};
+ghost use Rattle.bittle.specs.Searches.{IsFirstIn};
 ghost use Rattle.bit_entities.specs.Entities.{empty_world, event_answers, matching, world_of};
 ghost use Rattle.bittle.specs.PlainSet.{ascending, size};
 ghost use Rattle.bittle.specs.Values.{set_in};
@@ -93,7 +97,12 @@ pub fn remove_and_ask<B: BitsOwned, const N: usize>(
 
 /// Returns the name of the first entity that has a speed, in a table of as many names as there are
 /// entities.
-pub fn first_moving(world: &World<[u64; 4], 3>, names: &[u32; 256]) -> Option<u32> {
+pub fn first_moving(world: &World<[u64; 4], 3>, names: &[u32; 256]) -> Option<u32>
+    ensures { (found : Option ℕ)
+        × IsFirstIn (matching (world_of 3 (row_set 4 64 (bit_set 64)) world.now.alive
+        world.now.components) (1 ∷ [])) 0 256 found
+        × (result ≡ option_map (λ entity. slice_index names.now entity) found) }
+{
     let entity = world.first_with(&[SPEED], 0)?;
     Some(names[entity as usize])
 }
