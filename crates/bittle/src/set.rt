@@ -284,6 +284,16 @@ impl<T: ReadWords, U: Endian> ReadWords for Set<T, U> {
     fn pass_over<K: Kind, N: End>(&self, low: usize, high: usize) -> usize {
         self.bits.pass_over::<K, N>(low, high)
     }
+
+    #[inline(always)]
+    fn tells_groups<K: Kind>() -> bool {
+        T::tells_groups::<K>()
+    }
+
+    #[inline(always)]
+    fn groups_told<K: Kind>(&self, n: usize, level: u32) -> u64 {
+        self.bits.groups_told::<K>(n, level)
+    }
 }
 
 impl<T: Bits, U: Endian> Bits for Set<T, U> {

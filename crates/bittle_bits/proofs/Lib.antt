@@ -17,6 +17,7 @@ pub mod WordCalls
 pub mod WordOperations
 pub mod WordSizes
 pub mod Words
+pub mod WordGroups
 pub mod WalkStarts
 pub mod FirstItems
 pub mod FirstOnes

@@ -1,5 +1,6 @@
 -- The least and the greatest member of a set in a range.
 use Rattle.std.specs.Prelude.{◌≡◌, ℕ, ◌+◌, ◌*◌, ◌<◌, ◌≤◌, Bool, true, false, Option, Some, None}
+use Rattle.bittle_bits.specs.BitPatterns.{bit_set}
 use Rattle.bittle_bits.specs.PlainSet.{PlainSet}
 
 -- no number of the range from..to is a member
@@ -21,6 +22,12 @@ IsLastIn s from to (Some i) = (from ≤ i) × (i < to) × (s.has i ≡ true) × 
 abbrev pub PassesOver : Bool → ℕ → PlainSet → ℕ → ℕ → ℕ → Type 0
 PassesOver true w s low high r = (low ≤ r) × (r ≤ high) × NoneIn s (low * w) (r * w)
 PassesOver false w s low high r = (low ≤ r) × (r ≤ high) × NoneIn s (r * w) (high * w)
+
+-- Of 64 groups of so many words of w numbers, from group 64 * n on, each whose bit of a word of 64
+-- bits is unset has no member.
+abbrev pub TellsGroups : ℕ → ℕ → PlainSet → ℕ → ℕ → Type 0
+TellsGroups each w s n word = (i : ℕ) → i < 64 → (bit_set 64 word).has i ≡ false →
+    NoneIn s ((64 * n + i) * each * w) ((64 * n + i + 1) * each * w)
 
 -- The next word after word k of words p to q, seen from an end, such that the words between have no
 -- member; or None, if no word after k has one.

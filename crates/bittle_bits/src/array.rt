@@ -83,6 +83,11 @@ impl<T: BitsOwned, const N: usize> ReadWords for [T; N] {
     fn pass_over<K: Kind, F: End>(&self, low: usize, high: usize) -> usize {
         row::pass_over::<T, K, F>(self, low, high)
     }
+
+    #[inline(always)]
+    fn tells_groups<K: Kind>() -> bool {
+        false
+    }
 }
 
 impl<T: BitsOwned, const N: usize> Bits for [T; N] {

@@ -1,8 +1,8 @@
 //! Reading a set word by word: all that a search, a count or an iterator needs.
 
-ghost use Rattle.std.specs.Prelude.{◌≡◌, ℕ, ◌*◌, ◌<◌, ◌≤◌, ◌↔◌, false, IsTrue};
+ghost use Rattle.std.specs.Prelude.{◌≡◌, ℕ, ◌*◌, ◌^◌, ◌<◌, ◌≤◌, ◌↔◌, false, IsTrue};
 ghost use Rattle.bittle_bits.specs.BitPatterns.{bit_set};
-ghost use Rattle.bittle_bits.specs.Searches.{PassesOver};
+ghost use Rattle.bittle_bits.specs.Searches.{PassesOver, TellsGroups};
 ghost use Rattle.bittle_bits.specs.Values.{ShapeFits};
 ghost use Rattle.bittle_bits.specs.Walk.{ones_or_zeros};
 ghost use Rattle.bittle_bits.specs.Words.{word_of};
@@ -70,6 +70,32 @@ pub trait ReadWords: Drop + Shape {
             result }
     {
         if N::FRONT { low } else { high }
+    }
+
+    /// Returns `true` if a value of the type may tell of groups of words without a bit of the kind.
+    ///
+    /// It affects speed only, so it has no contract: whether a view of two sets combines what both
+    /// tell of groups, or has each pass over words.
+    #[doc(hidden)]
+    #[inline(always)]
+    fn tells_groups<K: Kind>() -> bool {
+        false
+    }
+
+    /// Tells of 64 groups of `64 ^ level` words, from group `64 * n` on. Bit `i` is unset only if
+    /// group `64 * n + i` has no bit of the kind `K`. Past the last word a group has none.
+    ///
+    /// It affects speed only. Most shapes tell of no group, so that all bits are set. A type whose
+    /// values tell of some returns `true` from `tells_groups`.
+    #[doc(hidden)]
+    #[inline(always)]
+    #[tactic(auto, using(crate::proofs::WordGroups::none_told))]
+    fn groups_told<K: Kind>(&self, n: usize, level: u32) -> u64
+        requires { ShapeFits Self.Shape self.now }
+        ensures { TellsGroups (64 ^ level) Self.width (ones_or_zeros K.ONES (Self.big self.now)) n
+            result }
+    {
+        u64::MAX
     }
 
     // The integers of the set have the width of its words.

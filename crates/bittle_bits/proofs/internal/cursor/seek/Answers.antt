@@ -1,9 +1,21 @@
-use Rattle.std.proofs.Common.{◌/◌, ◌<◌, ap, ◌∙◌, arith}
+use Rattle.std.proofs.Common.{◌*◌, ◌/◌, ◌<◌, ◌≤◌, ap, ◌∙◌, arith}
+use Rattle.std.proofs.Math.Nat.{div-mul-le_self, mul-le-mul_right}
 use Rattle.bittle_bits.specs.Buffers.{buffer_of}
 use Rattle.bittle_bits.specs.Values.{set_in}
 use Rattle.bittle_bits.specs.Walk.{ones_or_zeros}
+use Rattle.bittle_bits.proofs.RowPasses.{end_begins}
 use Rattle.bittle_bits.proofs.Steps.{fetched, filled, passed_over, seeks_on}
 use Rattle.bittle_bits.proofs.internal.cursor.seek.Goals as goal
+
+pub refill-requires-clause-within : goal.refill-requires-clause-within
+refill-requires-clause-within g c =
+    let w = g.B.Shape.width in
+    let capacity = (g.B.Shape.big c.args.source.now.set.now).capacity in
+    let before = c.loop-at.invariant in
+    let up : c.loop-at.at.high * w ≤ capacity / w * w = mul-le-mul_right w before.1.within in
+    end_begins g.N.End.FRONT c.loop-at.at.low c.loop-at.at.high c.take_word-k.result w capacity
+    g.met.B.ReadWords.width_positive c.take_word-k.ensures.number
+    (omega (arith, before.1.ordered, c.if-at.false)) (omega (arith, up, div-mul-le_self capacity w))
 
 pub returns-then-refill-clause-sought : goal.returns-then-refill-clause-sought
 returns-then-refill-clause-sought g c =
