@@ -1,11 +1,11 @@
 -- Facts on sets that callers cite: changes and tests of an index that does not wrap, sizes, and
 -- operations.
-use Rattle.std.proofs.Common.{◌≡◌, ℕ, ◌<◌, ◌≤◌, Bool, true, false, not, ◌&&◌, ◌||◌, ◌==◌, inl, inr, sym, ap, ◌∙◌, refl, arith}
+use Rattle.std.proofs.Common.{◌≡◌, ℕ, ◌<◌, ◌≤◌, Bool, true, false, cond, not, nat_lt, ◌&&◌, ◌||◌, ◌==◌, inl, inr, sym, ap, ◌∙◌, refl, arith}
 use Rattle.std.proofs.Math.Nat.{mod-eq_of_lt}
 use Rattle.std.proofs.lemmas.Bool.{cases_Bool, lt-ltb}
-use Rattle.bittle_bits.specs.PlainSet.{PlainSet, contains, with_index, has_with, without_index, has_without, complement, lacks, empty_set, size}
+use Rattle.bittle_bits.specs.PlainSet.{PlainSet, contains, with_index, has_with, without_index, has_without, complement, lacks, empty_set, full_set, size}
 use Rattle.bittle_bits.specs.Searches.{NoneIn}
-use Rattle.bittle_bits.specs.SetOperations.{combination_of, combination_has}
+use Rattle.bittle_bits.specs.SetOperations.{combination_of, combination_has, first_alone}
 use Rattle.bittle_bits.proofs.Counts as counts
 use Rattle.bittle_bits.proofs.Sizes as sizes
 
@@ -43,6 +43,20 @@ pub complement_within : (s : PlainSet) (i : ℕ) → i < s.capacity →
     (complement s).has i ≡ not (s.has i)
 unfolding lacks
 complement_within s i h = let inside = lt-ltb i s.capacity h in rw inside refl
+
+-- the full set without the members of a set of its capacity is the complement
+pub full_without : (c : ℕ) (s : PlainSet) → s.capacity ≡ c →
+    combination_of first_alone (full_set c) s ≡ complement s
+unfolding combination_has lacks
+full_without c s same =
+    let each : (i : ℕ) → combination_has first_alone (full_set c) s i ≡ lacks s i = λ i.
+    rw same (decided (nat_lt i c) (s.has i)) in
+    λ j. record { capacity = sym same j; has = λ i. each i j }
+  where
+    decided : (below member : Bool) →
+        cond (below && below) (below && not member) below ≡ (below && not member)
+    decided true member = refl
+    decided false member = refl
 
 -- an operation decides a number below both capacities
 pub combination_within : (decide : Bool → Bool → Bool) (s t : PlainSet) (i : ℕ) → i < s.capacity →

@@ -37,8 +37,9 @@ mod operators;
 /// set.iter_ones();                                    // yields 0, 1, 3
 /// ```
 ///
-/// The operators `|`, `&`, `^` and `-`, and their assigning forms, are the operations on sets. For
-/// each integer type, `from` makes the set of an integer and `default` makes the empty set.
+/// The operators `|`, `&`, `^` and `-`, and their assigning forms, are the operations on sets. `!`
+/// has the indexes below the capacity that are not members. For each integer type, `from` makes the
+/// set of an integer and `default` makes the empty set.
 ///
 /// ```
 /// let one: Set<u8> = Set::from(0b0011);
@@ -47,6 +48,7 @@ mod operators;
 /// one & other;                                        // the set of 0
 /// one ^ other;                                        // the set of 1, 2
 /// one - other;                                        // the set of 1
+/// !one;                                               // the set of 2, 3, 4, 5, 6, 7
 /// Set::<u8>::default().all_zeros();                   // true
 /// ```
 #[derive(Drop)]

@@ -6,6 +6,7 @@ ghost use Rattle.std.specs.Prelude.{◌≡◌, ◌↔◌, Bool, IsTrue, MatchOpt
 ghost use Rattle.bittle.specs.BitPatterns.{bit_set};
 ghost use Rattle.bittle.specs.Comparison.{AreSame};
 ghost use Rattle.bittle.specs.Orders.{read_in};
+ghost use Rattle.bittle.specs.PlainSet.{complement};
 ghost use Rattle.bittle.specs.SetOperations.{union_of};
 ghost use Rattle.bittle_ext.specs.SetRelations.{IsSubset};
 
@@ -19,6 +20,13 @@ pub fn together(one: Set<u32>, other: Set<u32>) -> Set<u32>
         (read_in mirrored 32 (bit_set 32 other.bits)) }
 {
     one | other
+}
+
+/// Returns the permissions that a role does not have.
+pub fn withheld(role: Set<u32>) -> Set<u32>
+    ensures { bit_set 32 result.bits ≡ complement (bit_set 32 role.bits) }
+{
+    !role
 }
 
 /// Returns whether a role grants all that is asked.

@@ -174,6 +174,19 @@ fn differences_of_values_and_references(rt: HostRuntime) {
 }
 
 #[test]
+fn complements_of_values_and_references(rt: HostRuntime) {
+    let (a, _) = two_sets();
+    let words = [0xffff_fffd, 0xffff_ffff, 0xffff_fffd, 0xffff_ffff];
+    for complement in [!a, !&a] {
+        holds!(rt; !complement == a);
+        same!(rt; complement.into_bits(), words);
+    }
+    same!(rt; (!Set::new_le(0x80u8)).into_bits(), 0x7f);
+    same!(rt; (!Set::new(-1i128)).into_bits(), 0);
+    same!(rt; (!Set::new([0u64; 0])).into_bits(), [0u64; 0]);
+}
+
+#[test]
 fn assigning_operators(rt: HostRuntime) {
     let (a, b) = two_sets();
     let mut set = a;

@@ -4,6 +4,7 @@ ghost use Rattle.std.specs.Prelude.{◌≡◌, Bool};
 ghost use Rattle.bittle_bits.specs.SetOperations.{combination_of};
 ghost use Rattle.bittle_bits.specs.Values.{set_mirrored, ShapeFits};
 
+mod complement;
 mod conjunction;
 mod difference;
 mod symmetric_difference;
