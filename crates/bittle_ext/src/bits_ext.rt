@@ -19,7 +19,7 @@ use bittle_bits::extension::{Ones, Zeros};
 /// which `bits_capacity() < u32::MAX` checks. No index wraps here: past the capacity no bit is set
 /// and none is unset. With capacity 0 nothing is found. The order is that of the type; a view that
 /// [`in_order`](crate::BitsViewExt::in_order) borrows has another one.
-pub trait BitsExt: Bits {
+pub trait BitsExt: Bits + Sized {
     /// Returns the least index of a set bit, in the order of the type, or `None` if there is
     /// none. Words are read from the first word on, up to the answer.
     ///
@@ -28,8 +28,6 @@ pub trait BitsExt: Bits {
     /// ```
     #[inline]
     final fn first_one(&self) -> Option<u32>
-    where
-        Self: Sized,
         requires { ShapeFits Self.Shape self.now }
         ensures { let ours = set_in Self.Shape Self.Order.Endian self.now in
             IsFirstIn ours 0 ours.capacity result }
@@ -45,8 +43,6 @@ pub trait BitsExt: Bits {
     /// ```
     #[inline]
     final fn first_zero(&self) -> Option<u32>
-    where
-        Self: Sized,
         requires { ShapeFits Self.Shape self.now }
         ensures { let ours = set_in Self.Shape Self.Order.Endian self.now in
             IsFirstIn (complement ours) 0 ours.capacity result }
@@ -62,8 +58,6 @@ pub trait BitsExt: Bits {
     /// ```
     #[inline]
     final fn last_one(&self) -> Option<u32>
-    where
-        Self: Sized,
         requires { ShapeFits Self.Shape self.now }
         ensures { let ours = set_in Self.Shape Self.Order.Endian self.now in
             IsLastIn ours 0 ours.capacity result }
@@ -79,8 +73,6 @@ pub trait BitsExt: Bits {
     /// ```
     #[inline]
     final fn last_zero(&self) -> Option<u32>
-    where
-        Self: Sized,
         requires { ShapeFits Self.Shape self.now }
         ensures { let ours = set_in Self.Shape Self.Order.Endian self.now in
             IsLastIn (complement ours) 0 ours.capacity result }
@@ -97,8 +89,6 @@ pub trait BitsExt: Bits {
     /// ```
     #[inline]
     final fn next_one(&self, from: u32) -> Option<u32>
-    where
-        Self: Sized,
         requires { ShapeFits Self.Shape self.now }
         ensures { let ours = set_in Self.Shape Self.Order.Endian self.now in
             IsFirstIn ours from ours.capacity result }
@@ -116,8 +106,6 @@ pub trait BitsExt: Bits {
     /// ```
     #[inline]
     final fn next_zero(&self, from: u32) -> Option<u32>
-    where
-        Self: Sized,
         requires { ShapeFits Self.Shape self.now }
         ensures { let ours = set_in Self.Shape Self.Order.Endian self.now in
             IsFirstIn (complement ours) from ours.capacity result }
@@ -135,8 +123,6 @@ pub trait BitsExt: Bits {
     /// ```
     #[inline]
     final fn prev_one(&self, to: u32) -> Option<u32>
-    where
-        Self: Sized,
         requires { ShapeFits Self.Shape self.now }
         ensures last { let ours = set_in Self.Shape Self.Order.Endian self.now in
             IsLastIn ours 0 to result }
@@ -154,8 +140,6 @@ pub trait BitsExt: Bits {
     /// ```
     #[inline]
     final fn prev_zero(&self, to: u32) -> Option<u32>
-    where
-        Self: Sized,
         requires { ShapeFits Self.Shape self.now }
         ensures last { let ours = set_in Self.Shape Self.Order.Endian self.now in
             IsLastIn (complement ours) 0 to result }
@@ -172,8 +156,6 @@ pub trait BitsExt: Bits {
     /// ```
     #[inline]
     final fn rank(&self, index: u32) -> u32
-    where
-        Self: Sized,
         requires { ShapeFits Self.Shape self.now }
         ensures value { result
             ≡ members_below (set_in Self.Shape Self.Order.Endian self.now) index }
@@ -195,8 +177,6 @@ pub trait BitsExt: Bits {
     /// ```
     #[inline]
     final fn select(&self, rank: u32) -> Option<u32>
-    where
-        Self: Sized,
         requires { ShapeFits Self.Shape self.now }
         ensures value { result
             ≡ slice_get (ascending (set_in Self.Shape Self.Order.Endian self.now)) rank }
@@ -214,8 +194,6 @@ pub trait BitsExt: Bits {
     /// ```
     #[inline]
     final fn first_one_in_range(&self, from: u32, to: u32) -> Option<u32>
-    where
-        Self: Sized,
         requires { ShapeFits Self.Shape self.now }
         ensures first { IsFirstIn (set_in Self.Shape Self.Order.Endian self.now) from to result }
         ensures below { IfSome result (λ index. index < (Self.big self.now).capacity) }
@@ -232,8 +210,6 @@ pub trait BitsExt: Bits {
     /// ```
     #[inline]
     final fn first_zero_in_range(&self, from: u32, to: u32) -> Option<u32>
-    where
-        Self: Sized,
         requires { ShapeFits Self.Shape self.now }
         ensures first { IsFirstIn (complement (set_in Self.Shape Self.Order.Endian self.now)) from
             to result }
@@ -251,8 +227,6 @@ pub trait BitsExt: Bits {
     /// ```
     #[inline]
     final fn last_one_in_range(&self, from: u32, to: u32) -> Option<u32>
-    where
-        Self: Sized,
         requires { ShapeFits Self.Shape self.now }
         ensures last { IsLastIn (set_in Self.Shape Self.Order.Endian self.now) from to result }
         ensures below { IfSome result (λ index. index < (Self.big self.now).capacity) }
@@ -269,8 +243,6 @@ pub trait BitsExt: Bits {
     /// ```
     #[inline]
     final fn last_zero_in_range(&self, from: u32, to: u32) -> Option<u32>
-    where
-        Self: Sized,
         requires { ShapeFits Self.Shape self.now }
         ensures last { IsLastIn (complement (set_in Self.Shape Self.Order.Endian self.now)) from to
             result }
@@ -289,8 +261,6 @@ pub trait BitsExt: Bits {
     /// ```
     #[inline]
     final fn count_ones_in_range(&self, from: u32, to: u32) -> u32
-    where
-        Self: Sized,
         requires { ShapeFits Self.Shape self.now }
         ensures value { let ours = set_in Self.Shape Self.Order.Endian self.now in
             result ≡ members_below ours to - members_below ours from }
@@ -310,8 +280,6 @@ pub trait BitsExt: Bits {
     /// ```
     #[inline]
     final fn count_zeros_in_range(&self, from: u32, to: u32) -> u32
-    where
-        Self: Sized,
         requires { ShapeFits Self.Shape self.now }
         ensures value { let others = complement (set_in Self.Shape Self.Order.Endian self.now) in
             result ≡ members_below others to - members_below others from }
@@ -331,8 +299,6 @@ pub trait BitsExt: Bits {
     /// ```
     #[inline]
     final fn any_in_range(&self, from: u32, to: u32) -> bool
-    where
-        Self: Sized,
         requires { ShapeFits Self.Shape self.now }
         ensures { let ours = set_in Self.Shape Self.Order.Endian self.now in
             MatchBool result (HasSomeIn ours from to) (NoneIn ours from to) }
@@ -352,8 +318,6 @@ pub trait BitsExt: Bits {
     /// ```
     #[inline]
     final fn all_in_range(&self, from: u32, to: u32) -> bool
-    where
-        Self: Sized,
         requires { ShapeFits Self.Shape self.now }
         ensures value { let ours = set_in Self.Shape Self.Order.Endian self.now in
             MatchBool result (HasAllIn ours from to) (LacksSomeIn ours from to) }
@@ -377,8 +341,6 @@ pub trait BitsExt: Bits {
     /// ```
     #[inline]
     final fn next_zero_run(&self, from: u32, length: u32) -> Option<u32>
-    where
-        Self: Sized,
         requires { ShapeFits Self.Shape self.now }
         ensures { IsFirstRun (complement (set_in Self.Shape Self.Order.Endian self.now)) from length
             result }
@@ -394,8 +356,6 @@ pub trait BitsExt: Bits {
     /// ```
     #[inline]
     final fn first_zero_run(&self, length: u32) -> Option<u32>
-    where
-        Self: Sized,
         requires { ShapeFits Self.Shape self.now }
         ensures { IsFirstRun (complement (set_in Self.Shape Self.Order.Endian self.now)) 0 length
             result }
@@ -416,8 +376,6 @@ pub trait BitsExt: Bits {
     /// ```
     #[inline]
     final fn next_one_run(&self, from: u32, length: u32) -> Option<u32>
-    where
-        Self: Sized,
         requires { ShapeFits Self.Shape self.now }
         ensures { IsFirstRun (set_in Self.Shape Self.Order.Endian self.now) from length result }
     {
@@ -432,8 +390,6 @@ pub trait BitsExt: Bits {
     /// ```
     #[inline]
     final fn first_one_run(&self, length: u32) -> Option<u32>
-    where
-        Self: Sized,
         requires { ShapeFits Self.Shape self.now }
         ensures { IsFirstRun (set_in Self.Shape Self.Order.Endian self.now) 0 length result }
     {

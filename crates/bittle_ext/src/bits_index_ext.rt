@@ -14,7 +14,7 @@ use bittle::{Bits, BitsMut};
 /// An index past the capacity is an index of no bit: where `test_bit` would ask the bit that the
 /// index wraps to, these answer that there is none. The shape has to fit. The order is that of the
 /// type; a view that [`in_order`](crate::BitsViewExt::in_order) borrows has another one.
-pub trait BitsIndexExt: Bits {
+pub trait BitsIndexExt: Bits + Sized {
     /// Returns `true` if the bit at `index` is set, and `false` if it is unset or if `index` is at
     /// or past the capacity, as each is with capacity 0.
     ///
@@ -25,8 +25,6 @@ pub trait BitsIndexExt: Bits {
     #[inline]
     #[tactic(auto, using(bittle::proofs::CallerSets::contains_within))]
     final fn contains_index(&self, index: u32) -> bool
-    where
-        Self: Sized,
         requires { ShapeFits Self.Shape self.now }
         ensures value { result ≡ (set_in Self.Shape Self.Order.Endian self.now).has index }
         ensures below { IsTrue result → index < (Self.big self.now).capacity }
@@ -44,8 +42,6 @@ pub trait BitsIndexExt: Bits {
     #[inline]
     #[tactic(auto, using(bittle::proofs::CallerSets::contains_within))]
     final fn get_bit(&self, index: u32) -> Option<bool>
-    where
-        Self: Sized,
         requires { ShapeFits Self.Shape self.now }
         ensures within { IsTrue (is_some result) ↔ index < (Self.big self.now).capacity }
         ensures value { IfSome result
@@ -64,7 +60,7 @@ pub trait BitsIndexExt: Bits {
 /// An index past the capacity is refused: nothing changes, and the answer says so. The shape has to
 /// fit. The order is that of the type; a view that
 /// [`in_order_mut`](crate::BitsMutViewExt::in_order_mut) borrows has another one.
-pub trait BitsIndexMutExt: BitsMut {
+pub trait BitsIndexMutExt: BitsMut + Sized {
     /// Sets the bit at `index` and returns `true`, or changes nothing and returns `false` if
     /// `index` is at or past the capacity, as each is with capacity 0.
     ///
@@ -75,8 +71,6 @@ pub trait BitsIndexMutExt: BitsMut {
     /// ```
     #[inline]
     final fn try_set_bit(&mut self, index: u32) -> bool
-    where
-        Self: Sized,
         requires { ShapeFits Self.Shape self.old }
         ensures within { IsTrue result ↔ index < (Self.big self.old).capacity }
         ensures set { let before = set_in Self.Shape Self.Order.Endian self.old in
@@ -101,8 +95,6 @@ pub trait BitsIndexMutExt: BitsMut {
     /// ```
     #[inline]
     final fn try_clear_bit(&mut self, index: u32) -> bool
-    where
-        Self: Sized,
         requires { ShapeFits Self.Shape self.old }
         ensures within { IsTrue result ↔ index < (Self.big self.old).capacity }
         ensures set { let before = set_in Self.Shape Self.Order.Endian self.old in
@@ -129,8 +121,6 @@ pub trait BitsIndexMutExt: BitsMut {
     #[inline]
     #[tactic(auto, using(bittle::proofs::CallerSets::contains_within))]
     final fn try_insert(&mut self, index: u32) -> Option<bool>
-    where
-        Self: Sized,
         requires { ShapeFits Self.Shape self.old }
         ensures within { IsTrue (is_some result) ↔ index < (Self.big self.old).capacity }
         ensures was_unset { IfSome result (λ unset.
@@ -159,8 +149,6 @@ pub trait BitsIndexMutExt: BitsMut {
     #[inline]
     #[tactic(auto, using(bittle::proofs::CallerSets::contains_within))]
     final fn try_remove(&mut self, index: u32) -> Option<bool>
-    where
-        Self: Sized,
         requires { ShapeFits Self.Shape self.old }
         ensures within { IsTrue (is_some result) ↔ index < (Self.big self.old).capacity }
         ensures was_set { IfSome result (λ set.

@@ -24,7 +24,7 @@ use bittle_bits::extension::{Difference, SymmetricDifference, Union};
 /// Everyday changes of any set that can be changed. No change alters the capacity. The order is
 /// that of the type; a view that [`in_order_mut`](crate::BitsMutViewExt::in_order_mut) borrows has
 /// another one.
-pub trait BitsMutExt: BitsMut {
+pub trait BitsMutExt: BitsMut + Sized {
     /// Sets the bit at `index`, in the order of the type, and returns `true` if it was unset. An
     /// index past the capacity wraps. With capacity 0 nothing changes, and it returns `true`.
     ///
@@ -211,8 +211,6 @@ pub trait BitsMutExt: BitsMut {
     /// ```
     #[inline]
     final fn pop_first(&mut self) -> Option<u32>
-    where
-        Self: Sized,
         requires { ShapeFits Self.Shape self.old }
         ensures least { let before = set_in Self.Shape Self.Order.Endian self.old in
             IsFirstIn before 0 before.capacity result }
@@ -237,8 +235,6 @@ pub trait BitsMutExt: BitsMut {
     /// ```
     #[inline]
     final fn pop_last(&mut self) -> Option<u32>
-    where
-        Self: Sized,
         requires { ShapeFits Self.Shape self.old }
         ensures greatest { let before = set_in Self.Shape Self.Order.Endian self.old in
             IsLastIn before 0 before.capacity result }
@@ -264,8 +260,6 @@ pub trait BitsMutExt: BitsMut {
     /// ```
     #[inline]
     final fn take_first_zero(&mut self) -> Option<u32>
-    where
-        Self: Sized,
         requires { ShapeFits Self.Shape self.old }
         ensures least { let before = complement (set_in Self.Shape Self.Order.Endian self.old) in
             IsFirstIn before 0 before.capacity result }
@@ -292,8 +286,6 @@ pub trait BitsMutExt: BitsMut {
     /// ```
     #[inline]
     final fn take_first_zero_run(&mut self, length: u32) -> Option<u32>
-    where
-        Self: Sized,
         requires { ShapeFits Self.Shape self.old }
         ensures first { IsFirstRun (complement (set_in Self.Shape Self.Order.Endian self.old)) 0
             length result }
@@ -321,8 +313,6 @@ pub trait BitsMutExt: BitsMut {
     /// ```
     #[inline]
     final fn retain<F: FnMut(u32) -> bool>(&mut self, keep: F)
-    where
-        Self: Sized,
         requires fits { ShapeFits Self.Shape self.old }
         requires callable { IsCallableBelow (Self.big self.old).capacity F.FnMut keep }
         ensures set { Retains F.step keep (set_in Self.Shape Self.Order.Endian self.old)

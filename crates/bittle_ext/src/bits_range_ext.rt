@@ -17,7 +17,7 @@ use bittle::Bits;
 /// The shape has to fit. A range ends at the capacity where it names more: nothing wraps. The order
 /// is that of the type; a view that [`in_order`](crate::BitsViewExt::in_order) borrows has another
 /// one.
-pub trait BitsRangeExt: Bits {
+pub trait BitsRangeExt: Bits + Sized {
     /// Returns an iterator over the indexes of the set bits in `from..to`, in the order of the
     /// type, increasing, from both ends.
     ///
@@ -30,8 +30,6 @@ pub trait BitsRangeExt: Bits {
     /// ```
     #[inline]
     final fn iter_ones_in_range(&self, from: u32, to: u32) -> IterOnesInRange<'_, Self, Self::Order>
-    where
-        Self: Sized,
         requires { ShapeFits Self.Shape self.now }
         ensures items { ListsWithin (set_in Self.Shape Self.Order.Endian self.now) from to
             result.remaining }
@@ -53,8 +51,6 @@ pub trait BitsRangeExt: Bits {
         from: u32,
         to: u32,
     ) -> IterZerosInRange<'_, Self, Self::Order>
-    where
-        Self: Sized,
         requires { ShapeFits Self.Shape self.now }
         ensures items { ListsWithin (complement (set_in Self.Shape Self.Order.Endian self.now)) from
             to result.remaining }
@@ -75,8 +71,6 @@ pub trait BitsRangeExt: Bits {
     /// ```
     #[inline]
     final fn iter_one_runs(&self) -> IterOneRuns<'_, Self, Self::Order>
-    where
-        Self: Sized,
         requires { ShapeFits Self.Shape self.now }
         ensures items { result ≡ runs (set_in Self.Shape Self.Order.Endian self.now) }
         ensures below { AreRunsBelow (Self.big self.now).capacity result }
@@ -94,8 +88,6 @@ pub trait BitsRangeExt: Bits {
     /// ```
     #[inline]
     final fn iter_zero_runs(&self) -> IterZeroRuns<'_, Self, Self::Order>
-    where
-        Self: Sized,
         requires { ShapeFits Self.Shape self.now }
         ensures items { result ≡ runs (complement (set_in Self.Shape Self.Order.Endian self.now)) }
         ensures below { AreRunsBelow (Self.big self.now).capacity result }

@@ -9,7 +9,7 @@ use crate::views::BitsViewExt;
 use bittle::Bits;
 
 /// What can be asked of the unset bits of any set by their ranks, in the order of the type.
-pub trait BitsRankExt: Bits {
+pub trait BitsRankExt: Bits + Sized {
     /// Returns how many bits below `index` are unset. Of an index past the capacity it counts all.
     ///
     /// The shape has to fit. The words below `index` are read. With capacity 0 it returns 0.
@@ -19,8 +19,6 @@ pub trait BitsRankExt: Bits {
     /// ```
     #[inline]
     final fn rank_zero(&self, index: u32) -> u32
-    where
-        Self: Sized,
         requires { ShapeFits Self.Shape self.now }
         ensures value { result ≡ members_below
             (complement (set_in Self.Shape Self.Order.Endian self.now)) index }
@@ -39,8 +37,6 @@ pub trait BitsRankExt: Bits {
     /// ```
     #[inline]
     final fn select_zero(&self, rank: u32) -> Option<u32>
-    where
-        Self: Sized,
         requires { ShapeFits Self.Shape self.now }
         ensures value { result ≡ slice_get
             (ascending (complement (set_in Self.Shape Self.Order.Endian self.now))) rank }

@@ -21,7 +21,7 @@ use bittle::Bits;
 /// let view = 0x80u8.in_order::<LittleEndian>();
 /// view.is_subset(&0x8000u16.in_order::<LittleEndian>()); // true: each has index 0
 /// ```
-pub trait BitsRelationExt: Bits {
+pub trait BitsRelationExt: Bits + Sized {
     /// Returns the least index that is set in both sets, each in its own order, or `None` if there
     /// is none. It stops at the answer.
     ///
@@ -30,8 +30,6 @@ pub trait BitsRelationExt: Bits {
     /// ```
     #[inline]
     final fn first_common<B: Bits>(&self, other: &B) -> Option<u32>
-    where
-        Self: Sized,
         requires fits { ShapeFits Self.Shape self.now }
         requires other_fits { ShapeFits B.Shape other.now }
         ensures first { let ours = set_in Self.Shape Self.Order.Endian self.now in
@@ -50,8 +48,6 @@ pub trait BitsRelationExt: Bits {
     /// ```
     #[inline]
     final fn first_alone<B: Bits>(&self, other: &B) -> Option<u32>
-    where
-        Self: Sized,
         requires fits { ShapeFits Self.Shape self.now }
         requires other_fits { ShapeFits B.Shape other.now }
         ensures first { let ours = set_in Self.Shape Self.Order.Endian self.now in
@@ -70,8 +66,6 @@ pub trait BitsRelationExt: Bits {
     /// ```
     #[inline]
     final fn is_subset<B: Bits>(&self, other: &B) -> bool
-    where
-        Self: Sized,
         requires fits { ShapeFits Self.Shape self.now }
         requires other_fits { ShapeFits B.Shape other.now }
         ensures { let ours = set_in Self.Shape Self.Order.Endian self.now in
@@ -89,8 +83,6 @@ pub trait BitsRelationExt: Bits {
     /// ```
     #[inline]
     final fn is_superset<B: Bits>(&self, other: &B) -> bool
-    where
-        Self: Sized,
         requires fits { ShapeFits Self.Shape self.now }
         requires other_fits { ShapeFits B.Shape other.now }
         ensures { let ours = set_in Self.Shape Self.Order.Endian self.now in
@@ -108,8 +100,6 @@ pub trait BitsRelationExt: Bits {
     /// ```
     #[inline]
     final fn is_disjoint<B: Bits>(&self, other: &B) -> bool
-    where
-        Self: Sized,
         requires fits { ShapeFits Self.Shape self.now }
         requires other_fits { ShapeFits B.Shape other.now }
         ensures { let ours = set_in Self.Shape Self.Order.Endian self.now in
@@ -127,8 +117,6 @@ pub trait BitsRelationExt: Bits {
     /// ```
     #[inline]
     final fn intersects<B: Bits>(&self, other: &B) -> bool
-    where
-        Self: Sized,
         requires fits { ShapeFits Self.Shape self.now }
         requires other_fits { ShapeFits B.Shape other.now }
         ensures { let ours = set_in Self.Shape Self.Order.Endian self.now in
@@ -147,8 +135,6 @@ pub trait BitsRelationExt: Bits {
     /// ```
     #[inline]
     final fn count_common<B: Bits>(&self, other: &B) -> u32
-    where
-        Self: Sized,
         requires fits { ShapeFits Self.Shape self.now }
         requires other_fits { ShapeFits B.Shape other.now }
         ensures value { let ours = set_in Self.Shape Self.Order.Endian self.now in
@@ -168,8 +154,6 @@ pub trait BitsRelationExt: Bits {
     /// ```
     #[inline]
     final fn count_alone<B: Bits>(&self, other: &B) -> u32
-    where
-        Self: Sized,
         requires fits { ShapeFits Self.Shape self.now }
         requires other_fits { ShapeFits B.Shape other.now }
         ensures value { let ours = set_in Self.Shape Self.Order.Endian self.now in
@@ -189,8 +173,6 @@ pub trait BitsRelationExt: Bits {
     /// ```
     #[inline]
     final fn count_different<B: Bits>(&self, other: &B) -> u32
-    where
-        Self: Sized,
         requires fits { ShapeFits Self.Shape self.now }
         requires other_fits { ShapeFits B.Shape other.now }
         ensures value { let ours = set_in Self.Shape Self.Order.Endian self.now in

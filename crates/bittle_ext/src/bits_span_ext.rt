@@ -25,7 +25,7 @@ use std::ops::RangeBounds;
 /// end: past the capacity no bit is set and none is unset. A range that runs backwards is empty,
 /// and an `a..=b` that was iterated is none of these. The order is that of the type; a view that
 /// [`in_order`](crate::BitsViewExt::in_order) borrows has another one.
-pub trait BitsSpanExt: Bits {
+pub trait BitsSpanExt: Bits + Sized {
     /// Returns how many bits of the range are set. Each word of the range is counted at once. With
     /// capacity 0 it returns 0.
     ///
@@ -34,8 +34,6 @@ pub trait BitsSpanExt: Bits {
     /// ```
     #[inline]
     final fn count_ones_in_span<R: RangeBounds<u32>>(&self, range: R) -> u32
-    where
-        Self: Sized,
         requires fits { ShapeFits Self.Shape self.now }
         requires known { R.has_bounds range }
         ensures value { let ours = set_in Self.Shape Self.Order.Endian self.now in
@@ -59,8 +57,6 @@ pub trait BitsSpanExt: Bits {
     /// ```
     #[inline]
     final fn count_zeros_in_span<R: RangeBounds<u32>>(&self, range: R) -> u32
-    where
-        Self: Sized,
         requires fits { ShapeFits Self.Shape self.now }
         requires known { R.has_bounds range }
         ensures value { let others = complement (set_in Self.Shape Self.Order.Endian self.now) in
@@ -84,8 +80,6 @@ pub trait BitsSpanExt: Bits {
     /// ```
     #[inline]
     final fn first_one_in_span<R: RangeBounds<u32>>(&self, range: R) -> Option<u32>
-    where
-        Self: Sized,
         requires fits { ShapeFits Self.Shape self.now }
         requires known { R.has_bounds range }
         ensures first { let start = start_index (R.start_bound range) in
@@ -105,8 +99,6 @@ pub trait BitsSpanExt: Bits {
     /// ```
     #[inline]
     final fn first_zero_in_span<R: RangeBounds<u32>>(&self, range: R) -> Option<u32>
-    where
-        Self: Sized,
         requires fits { ShapeFits Self.Shape self.now }
         requires known { R.has_bounds range }
         ensures first { let start = start_index (R.start_bound range) in
@@ -127,8 +119,6 @@ pub trait BitsSpanExt: Bits {
     /// ```
     #[inline]
     final fn last_one_in_span<R: RangeBounds<u32>>(&self, range: R) -> Option<u32>
-    where
-        Self: Sized,
         requires fits { ShapeFits Self.Shape self.now }
         requires known { R.has_bounds range }
         ensures last { let start = start_index (R.start_bound range) in
@@ -148,8 +138,6 @@ pub trait BitsSpanExt: Bits {
     /// ```
     #[inline]
     final fn last_zero_in_span<R: RangeBounds<u32>>(&self, range: R) -> Option<u32>
-    where
-        Self: Sized,
         requires fits { ShapeFits Self.Shape self.now }
         requires known { R.has_bounds range }
         ensures last { let start = start_index (R.start_bound range) in
@@ -170,8 +158,6 @@ pub trait BitsSpanExt: Bits {
     /// ```
     #[inline]
     final fn any_in_span<R: RangeBounds<u32>>(&self, range: R) -> bool
-    where
-        Self: Sized,
         requires fits { ShapeFits Self.Shape self.now }
         requires known { R.has_bounds range }
         ensures { let ours = set_in Self.Shape Self.Order.Endian self.now in
@@ -192,8 +178,6 @@ pub trait BitsSpanExt: Bits {
     /// ```
     #[inline]
     final fn all_in_span<R: RangeBounds<u32>>(&self, range: R) -> bool
-    where
-        Self: Sized,
         requires fits { ShapeFits Self.Shape self.now }
         requires known { R.has_bounds range }
         ensures value { let ours = set_in Self.Shape Self.Order.Endian self.now in
@@ -230,8 +214,6 @@ pub trait BitsSpanExt: Bits {
         &self,
         range: R,
     ) -> IterOnesInRange<'_, Self, Self::Order>
-    where
-        Self: Sized,
         requires fits { ShapeFits Self.Shape self.now }
         requires known { R.has_bounds range }
         ensures items { let start = start_index (R.start_bound range) in
@@ -256,8 +238,6 @@ pub trait BitsSpanExt: Bits {
         &self,
         range: R,
     ) -> IterZerosInRange<'_, Self, Self::Order>
-    where
-        Self: Sized,
         requires fits { ShapeFits Self.Shape self.now }
         requires known { R.has_bounds range }
         ensures items { let start = start_index (R.start_bound range) in
@@ -282,8 +262,6 @@ pub trait BitsSpanExt: Bits {
         &'a self,
         range: R,
     ) -> Within<'a, Self, Self::Order>
-    where
-        Self: Sized,
         requires fits { ShapeFits Self.Shape self.now }
         requires known { R.has_bounds range }
         ensures value { result.set.now ≡ self.now }

@@ -19,7 +19,7 @@ use std::ops::RangeBounds;
 /// nor have an index past the capacity: nothing wraps. Only the words of the range are written. An
 /// empty range, as any with capacity 0, changes nothing. The order is that of the type; a view that
 /// [`in_order_mut`](crate::BitsMutViewExt::in_order_mut) lends has another one.
-pub trait BitsSpanMutExt: BitsMut {
+pub trait BitsSpanMutExt: BitsMut + Sized {
     /// Sets each bit of the range, by one mask a word.
     ///
     /// ```
@@ -28,8 +28,6 @@ pub trait BitsSpanMutExt: BitsMut {
     /// ```
     #[inline]
     final fn set_span<R: RangeBounds<u32>>(&mut self, range: R)
-    where
-        Self: Sized,
         requires fits { ShapeFits Self.Shape self.old }
         requires known { R.has_bounds range }
         requires ordered { start_index (R.start_bound range)
@@ -54,8 +52,6 @@ pub trait BitsSpanMutExt: BitsMut {
     /// ```
     #[inline]
     final fn clear_span<R: RangeBounds<u32>>(&mut self, range: R)
-    where
-        Self: Sized,
         requires fits { ShapeFits Self.Shape self.old }
         requires known { R.has_bounds range }
         requires ordered { start_index (R.start_bound range)
@@ -80,8 +76,6 @@ pub trait BitsSpanMutExt: BitsMut {
     /// ```
     #[inline]
     final fn toggle_span<R: RangeBounds<u32>>(&mut self, range: R)
-    where
-        Self: Sized,
         requires fits { ShapeFits Self.Shape self.old }
         requires known { R.has_bounds range }
         requires ordered { start_index (R.start_bound range)
@@ -106,8 +100,6 @@ pub trait BitsSpanMutExt: BitsMut {
     /// ```
     #[inline]
     final fn assign_span<R: RangeBounds<u32>>(&mut self, range: R, value: bool)
-    where
-        Self: Sized,
         requires fits { ShapeFits Self.Shape self.old }
         requires known { R.has_bounds range }
         requires ordered { start_index (R.start_bound range)
