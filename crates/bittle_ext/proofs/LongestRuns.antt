@@ -33,7 +33,7 @@ place_in i (r ∷ rs) (inr h) =
 
 module _ (p : ℕ → Bool) where
   -- the runs of the list, from one number on and below another, cannot be longer
-  abbrev AreLongest : ℕ → ℕ → List (Range ℕ) → Type 0
+  abbrev pub AreLongest : ℕ → ℕ → List (Range ℕ) → Type 0
   AreLongest from to [] = ⊤
   AreLongest from to (r ∷ rs) =
       (from ≤ r.start) × (r.start < r.end) × (r.end ≤ to)
@@ -111,7 +111,7 @@ module _ (p : ℕ → Bool) where
         )
       ]
 
-  runs_longest : (from n to : ℕ) → to ≡ from + n → AreLongest from to (runs_from p from n)
+  pub runs_longest : (from n to : ℕ) → to ≡ from + n → AreLongest from to (runs_from p from n)
   unfolding runs_from
   runs_longest from zero to e = tt
   runs_longest from (suc n) to e =

@@ -1,7 +1,6 @@
 -- Where a run begins and ends, and how far the runs of a list reach.
 use Rattle.std.proofs.Common.{◌≡◌, ℕ, zero, suc, ◌+◌, ◌-◌, ◌<◌, ◌≤◌, ◌==◌, Bool, true, false, not, cond, List, [], ◌∷◌, length, Some, inl, inr, sym, ap, ◌∙◌, arith}
 use Rattle.std.proofs.lemmas.Bool.{cases_eq, not-false, not-true}
-use Rattle.std.specs.Prelude.{⊤, slice_index_or}
 use Rattle.std.specs.Iterator.{YieldsFirst, YieldsLast}
 use Rattle.std.proofs.iter.runs.Sources.{from_front, from_back, as_is, as_is_back}
 use Rattle.std.specs.declared.ops.Range.{Range}
@@ -11,6 +10,7 @@ use Rattle.bittle.specs.Walk.{ones_or_zeros}
 use Rattle.bittle_bits.proofs.OnesOrZeros.{ones_or_zeros-capacity}
 use Rattle.bittle_ext.specs.RangeMembers.{HasAllIn}
 use Rattle.bittle_ext.specs.Runs.{run, joined, runs_from, runs_between, runs, AreRunsBelow, EndsRun, BeginsRun, RunsInOrder, RunsInReverse}
+use Rattle.bittle_ext.proofs.LongestRuns.{runs_are_longest}
 use Rattle.bittle_ext.proofs.RunFacts.{AreOpposite, opposite_to_complement, complement_to_opposite}
 
 -- the bits of one kind are those that are none of the other
@@ -84,56 +84,13 @@ module _ (kind : Bool) (set : PlainSet) where
   start_none from last some within here none =
       (omega arith, some, all_to from last within here none, λ l. absurd (omega arith))
 
--- each run of the list has a number, and lies between two numbers
-abbrev AllWithin : ℕ → ℕ → List (Range ℕ) → Type 0
-AllWithin from to [] = ⊤
-AllWithin from to (r ∷ rs) =
-    (from ≤ r.start) × (r.start < r.end) × (r.end ≤ to) × AllWithin from to rs
-
-within_later : (m n to : ℕ) (rs : List (Range ℕ)) → m ≤ n → AllWithin n to rs → AllWithin m to rs
-within_later m n to [] le h = tt
-within_later m n to (r ∷ rs) le h =
-    (omega (arith, h.0), h.1, h.2, within_later m n to rs le h.3)
-
-joined_within : (k to : ℕ) (rs : List (Range ℕ)) → suc k ≤ to → AllWithin (suc k) to rs →
-    AllWithin k to (joined k rs)
-unfolding joined
-joined_within k to [] le h = (omega arith, omega arith, le, tt)
-joined_within k to (r ∷ rs) le h =
-    elim (r.start == suc k) as (λ b. AllWithin k to (cond b (run k r.end ∷ rs)
-    (run k (suc k) ∷ r ∷ rs))) [
-      | true ↦ (
-        omega arith,
-        omega (arith, h.0, h.1),
-        h.2,
-        within_later k (suc k) to rs (omega arith) h.3,
-      )
-      | false ↦ (
-        omega arith,
-        omega arith,
-        le,
-        within_later k (suc k) to (r ∷ rs) (omega arith) h,
-      )
-    ]
-
+-- a list has at most as many runs as it is over numbers
 joined_length : (k : ℕ) (rs : List (Range ℕ)) → length (joined k rs) ≤ suc (length rs)
 unfolding joined
 joined_length k [] = omega arith
 joined_length k (r ∷ rs) =
     elim (r.start == suc k) as (λ b. length (cond b (run k r.end ∷ rs)
     (run k (suc k) ∷ r ∷ rs)) ≤ suc (suc (length rs))) [ true ↦ omega arith | false ↦ omega arith ]
-
-runs_within : (p : ℕ → Bool) (from n to : ℕ) → from + n ≤ to →
-    AllWithin from to (runs_from p from n)
-unfolding runs_from
-runs_within p from zero to le = tt
-runs_within p from (suc n) to le =
-    let rest = runs_within p (suc from) n to (omega arith) in
-    elim (p from) as (λ b. AllWithin from to (cond b (joined from (runs_from p (suc from) n))
-    (runs_from p (suc from) n))) [
-      | true ↦ joined_within from to (runs_from p (suc from) n) (omega arith) rest
-      | false ↦ within_later from (suc from) to (runs_from p (suc from) n) (omega arith) rest
-    ]
 
 runs_length : (p : ℕ → Bool) (from n : ℕ) → length (runs_from p from n) ≤ n
 unfolding runs_from
@@ -144,22 +101,13 @@ runs_length p from (suc n) =
     elim (p from) as (λ b. length (cond b (joined from (runs_from p (suc from) n))
     (runs_from p (suc from) n)) ≤ suc n) [ true ↦ omega (arith, more) | false ↦ omega (arith, rest) ]
 
-run_at : (from to : ℕ) (rs : List (Range ℕ)) (k : ℕ) (d : Range ℕ) → k < length rs →
-    AllWithin from to rs →
-    ((slice_index_or rs k d).start < (slice_index_or rs k d).end)
-    × ((slice_index_or rs k d).end ≤ to)
-run_at from to [] k d l h = absurd (omega arith)
-run_at from to (r ∷ rs) zero d l h = (h.1, h.2)
-run_at from to (r ∷ rs) (suc k) d l h = run_at from to rs k d (omega arith) h.3
-
 -- the runs of a set end below its capacity or there, and there are no more of them
 pub are_runs_below : (s : PlainSet) (c : ℕ) (rs : List (Range ℕ)) → s.capacity ≡ c →
     rs ≡ runs s → AreRunsBelow c rs
 unfolding runs_between
 are_runs_below s c rs is e = rw e (
   omega (arith, is, runs_length s.has 0 (s.capacity - 0)),
-  λ k d l. run_at 0 c (runs s) k d l
-      (runs_within s.has 0 (s.capacity - 0) c (omega (arith, is))),
+  λ k d l. let at = (runs_are_longest s).longest k d l in (at.0, omega (arith, is, at.1)),
 )
 
 -- what steps over a list of runs give

@@ -7,6 +7,7 @@ use Rattle.bittle.specs.PlainSet.{PlainSet}
 use Rattle.bittle.specs.Searches.{NoneIn}
 use Rattle.bittle_ext.specs.RangeMembers.{HasAllIn}
 use Rattle.bittle_ext.specs.Runs.{run, joined, runs_from, runs_between}
+use Rattle.bittle_ext.proofs.LongestRuns.{AreLongest, runs_longest}
 
 -- the first run of the list, if there is one, begins from a number on
 abbrev BeginsFrom : ℕ → List (Range ℕ) → Type 0
@@ -16,14 +17,6 @@ BeginsFrom n (r ∷ rs) = n ≤ r.start
 begins_later : (m n : ℕ) (rs : List (Range ℕ)) → m ≤ n → BeginsFrom n rs → BeginsFrom m rs
 begins_later m n [] le h = tt
 begins_later m n (r ∷ rs) le h = omega (arith, h)
-
--- a number and what follows it begin there
-joined_begins : (k : ℕ) (rs : List (Range ℕ)) → BeginsFrom k (joined k rs)
-unfolding joined
-joined_begins k [] = omega arith
-joined_begins k (r ∷ rs) =
-    elim (r.start == suc k) as (λ b. BeginsFrom k (cond b (run k r.end ∷ rs)
-    (run k (suc k) ∷ r ∷ rs))) [ true ↦ omega arith | false ↦ omega arith ]
 
 -- a number is a run of its own before a list that begins past the next one
 joined_apart : (k : ℕ) (rs : List (Range ℕ)) → BeginsFrom (suc (suc k)) rs →
@@ -45,15 +38,11 @@ joined_append k (r ∷ rs) ys h =
 module _ (p : ℕ → Bool) where
   -- the runs from a number on begin there or later
   runs_begin : (from n : ℕ) → BeginsFrom from (runs_from p from n)
-  unfolding runs_from
-  runs_begin from zero = tt
-  runs_begin from (suc n) =
-      elim (p from) as (λ b. BeginsFrom from (cond b (joined from (runs_from p (suc from) n))
-      (runs_from p (suc from) n))) [
-        | true ↦ joined_begins from (runs_from p (suc from) n)
-        | false ↦ begins_later from (suc from) (runs_from p (suc from) n) (omega arith)
-            (runs_begin (suc from) n)
-      ]
+  runs_begin from n = begins (runs_from p from n) (runs_longest p from n (from + n) refl)
+    where
+      begins : (rs : List (Range ℕ)) → AreLongest p from (from + n) rs → BeginsFrom from rs
+      begins [] h = tt
+      begins (r ∷ rs) h = h.0
 
   -- where nothing passes there is no run
   runs_from-none : (from n : ℕ) → ((k : ℕ) → from ≤ k → k < from + n → p k ≡ false) →
