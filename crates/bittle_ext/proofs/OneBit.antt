@@ -1,20 +1,21 @@
 -- A set of which one bit is changed in its word.
-use Rattle.std.proofs.Common.{◌≡◌, ℕ, ◌+◌, ◌*◌, ◌/◌, ◌%◌, ◌<◌, ◌≤◌, Bool, true, false, cond, not, ◌&&◌, ◌||◌, ◌==◌, nat_lt, inl, inr, refl, sym, ap, ◌∙◌, arith}
+use Rattle.std.proofs.Common.{◌≡◌, ℕ, ◌+◌, ◌*◌, ◌/◌, ◌%◌, ◌<◌, ◌≤◌, Bool, true, false, cond, not, ◌&&◌, ◌||◌, ◌==◌, nat_lt, inl, inr, refl, sym, ap, ◌∙◌}
 use Rattle.std.proofs.Math.Path.{fun_ext}
 use Rattle.std.proofs.lemmas.Nat.{div-add-mod', mod_below}
-use Rattle.std.proofs.lemmas.Bool.{cases_eq, cases_lt, eq-eqb, ne_eqb}
+use Rattle.std.proofs.lemmas.Bool.{cases_eq, eq-eqb, ne_eqb}
 use Rattle.bittle.specs.BitPatterns.{bit_set}
 use Rattle.bittle.specs.SetOperations.{combination_of}
 use Rattle.bittle.specs.Words.{word_of, ReplacesWord}
-use Rattle.bittle_bits.proofs.PlainSets.{plain_set, contains_in, has_with-in, members-past}
+use Rattle.bittle_bits.proofs.PlainSets.{plain_set, contains_in, has_with-in}
 use Rattle.bittle_bits.proofs.SetOperations.{combination-below}
 use Rattle.bittle_bits.proofs.WordOperations.{word_combined}
-use Rattle.bittle_bits.proofs.Words.{digit_at, same_word}
+use Rattle.bittle_bits.proofs.Words.{digit_at}
 use Rattle.bittle.specs.Orders.{read_in}
 use Rattle.bittle.specs.PlainSet.{PlainSet, contains, empty_set, has_with, has_without, with_index}
 use Rattle.bittle.proofs.CallerSets.{contains_within, with_index_within, without_index_within}
 use Rattle.bittle_ext.specs.Changes.{with_index_assigned}
 use Rattle.bittle_ext.proofs.RotatedSets.{contains_as}
+use Rattle.bittle_ext.proofs.WordsReplaced.{place_in, in_word, in_others}
 
 -- a set has the answer at an index below the capacity, and its own members elsewhere
 assigned_within : (s : PlainSet) (i : ℕ) (value : Bool) → i < s.capacity →
@@ -50,15 +51,15 @@ module _ (m : Bool) (w k i d : ℕ) (s : PlainSet) (word : 0 < w) (where_is : k 
       ∙ ap (read_in m w s).has at_index ∙ sym (contains_within (read_in m w s) i within)
 
   -- the word, combined with that of the index alone
-  module _ (f : Bool → Bool → Bool) (keeps : (b : Bool) → f b false ≡ b) (e r : ℕ) (t : PlainSet)
-      (one : read_in m w (bit_set w e) ≡ with_index (empty_set w) i)
-      (is : bit_set w r ≡ combination_of f (bit_set w d) (bit_set w e))
+  module _ (f : Bool → Bool → Bool) (keeps : (b : Bool) → f b false ≡ b) (mask r : ℕ)
+      (t : PlainSet) (one : read_in m w (bit_set w mask) ≡ with_index (empty_set w) i)
+      (is : bit_set w r ≡ combination_of f (bit_set w d) (bit_set w mask))
       (replaced : ReplacesWord w s k (bit_set w r) t) where
     abbrev before : PlainSet
     before = read_in m w s
 
     -- the mask has the index alone
-    mask_at : (o : ℕ) → (read_in m w (bit_set w e)).has o ≡ (o == i % w)
+    mask_at : (o : ℕ) → (read_in m w (bit_set w mask)).has o ≡ (o == i % w)
     mask_at o = ap (λ u. u.has o) one ∙ ap (λ p. p o) (has_with-in (empty_set w) w i refl word)
         ∙ or_false (o == i % w)
       where
@@ -66,60 +67,37 @@ module _ (m : Bool) (w k i d : ℕ) (s : PlainSet) (word : 0 < w) (where_is : k 
         or_false true = refl
         or_false false = refl
 
-    -- a number of the word is decided
-    decided : (o : ℕ) → o < w →
-        (read_in m w t).has (k * w + o) ≡ f (before.has (k * w + o)) (o == i % w)
-    decided o h =
-        sym (digit_at m w k t r word (sym replaced.replaced) o h)
-        ∙ ap (λ u. u.has o) (word_combined f w d e r m word is)
-        ∙ combination-below f (read_in m w (bit_set w d)) (read_in m w (bit_set w e)) o h h
-        ∙ ap (λ b. f b ((read_in m w (bit_set w e)).has o)) (digit_at m w k s d word ours o h)
-        ∙ ap (f (before.has (k * w + o))) (mask_at o)
-
-    -- the index itself
-    here : (read_in m w t).has i ≡ f (before.has i) true
-    here =
-        ap (read_in m w t).has (sym at_index) ∙ decided (i % w) (mod_below i w word)
-        ∙ ap (f (before.has (k * w + i % w))) (eq-eqb (i % w) (i % w) refl)
-        ∙ ap (λ n. f (before.has n) true) at_index
-
-    -- a number of any word, other than the index
-    elsewhere : (j o : ℕ) → o < w → j * w + o < s.capacity → (j * w + o ≡ i → ⊥) →
-        (read_in m w t).has (j * w + o) ≡ before.has (j * w + o)
-    elsewhere j o h inside other =
-        elim (cases_eq j k) [
-          | inl same ↦ rw same (decided o h
-              ∙ ap (f (before.has (k * w + o))) (ne_eqb o (i % w)
-              (λ z. other (ap (λ n. n * w + o) same ∙ ap (λ n. k * w + n) z ∙ at_index)))
-              ∙ keeps (before.has (k * w + o)))
-          | inr apart ↦
-              same_word m w j t s word (replaced.others j apart (omega arith)) o h
-        ]
-
     -- replacing it combines the index alone
     pub bit_combined : (whole : (words : ℕ) × (s.capacity ≡ words * w)) →
         ((n : ℕ) → s.capacity ≤ n → s.has n ≡ false) →
         ((n : ℕ) → t.capacity ≤ n → t.has n ≡ false) →
         read_in m w t ≡ with_index_assigned before i (f (contains before i) true)
     bit_combined whole past also =
-        let c = s.capacity in
         let value = f (contains before i) true in
+        -- a number of the word is decided
+        let decided : (n : ℕ) → n / w ≡ k →
+        (read_in m w t).has n ≡ f (before.has n) (n % w == i % w) = λ n e.
+        let o = n % w in
+        let h = mod_below n w word in
+        in_word m w k r s t word whole past also replaced n e
+        ∙ ap (λ u. u.has o) (word_combined f w d mask r m word is)
+        ∙ combination-below f (read_in m w (bit_set w d)) (read_in m w (bit_set w mask)) o h h
+        ∙ ap (λ b. f b ((read_in m w (bit_set w mask)).has o)) (digit_at m w k s d word ours o h
+        ∙ ap before.has (place_in w k n e))
+        ∙ ap (f (before.has n)) (mask_at o) in
         let each : (n : ℕ) → (read_in m w t).has n ≡ cond (n == i) value (before.has n) = λ n.
         elim (cases_eq n i) [
-          | inl at ↦ ap (read_in m w t).has at ∙ here
+          | inl at ↦ decided n (ap (λ j. j / w) at ∙ sym where_is)
+              ∙ ap (f (before.has n)) (eq-eqb (n % w) (i % w) (ap (λ j. j % w) at))
+              ∙ ap (λ j. f (before.has j) true) at
               ∙ ap (λ b. f b true) (sym (contains_within before i within))
               ∙ sym (ap (λ b. cond b value (before.has n)) (eq-eqb n i at))
-          | inr other ↦
-              let at = div-add-mod' n w in
-              let same : (read_in m w t).has n ≡ before.has n = elim (cases_lt n c) [
-                | inl l ↦ ap (read_in m w t).has (sym at)
-                    ∙ elsewhere (n / w) (n % w) (mod_below n w word) (omega (arith, at))
-                    (λ z. other (sym at ∙ z)) ∙ ap before.has at
-                | inr g ↦ members-past m w t word
-                    (whole.0, replaced.capacity ∙ whole.1) also n (omega (arith, replaced.capacity))
-                    ∙ sym (members-past m w s word whole past n g)
-              ] in
-              same ∙ sym (ap (λ b. cond b value (before.has n)) (ne_eqb n i other))
+          | inr other ↦ elim (cases_eq (n / w) k) [
+            | inl e ↦ decided n e ∙ ap (f (before.has n)) (ne_eqb (n % w) (i % w)
+                (λ z. other (sym (place_in w k n e) ∙ ap (λ o. k * w + o) z ∙ at_index)))
+                ∙ keeps (before.has n)
+            | inr apart ↦ in_others m w k r s t word whole past also replaced n apart
+          ] ∙ sym (ap (λ b. cond b value (before.has n)) (ne_eqb n i other))
         ] in
         (λ j. plain_set (replaced.capacity j) (λ n. each n j))
         ∙ sym (assigned_within before i value within)

@@ -1,7 +1,7 @@
 -- A word of a set, of whose bits some have been asked for, and are kept or taken out.
 use Rattle.std.proofs.Common.{◌≡◌, ℕ, ◌+◌, ◌-◌, ◌*◌, ◌/◌, ◌%◌, ◌<◌, ◌≤◌, Bool, true, false, not, ◌&&◌, ◌||◌, ◌==◌, [], ◌∷◌, Some, inl, inr, refl, sym, ap, ◌∙◌, arith}
 use Rattle.std.proofs.Math.Nat.{mul-le-mul_right}
-use Rattle.std.proofs.lemmas.Nat.{div-add-mod', div-mul-add, mod_below}
+use Rattle.std.proofs.lemmas.Nat.{div-mul-add, mod_below}
 use Rattle.std.proofs.lemmas.Bool.{cases_eq, cases_lt, eq-eqb, ne_eqb, true≢false}
 use Rattle.bittle.specs.BitPatterns.{bit_set}
 use Rattle.bittle.specs.Orders.{place, read_in}
@@ -10,10 +10,11 @@ use Rattle.bittle.specs.Searches.{IsFirstIn, NoneIn}
 use Rattle.bittle.specs.Words.{ReplacesWord, word_of}
 use Rattle.bittle_bits.proofs.AscendingLists.{ascending_from-agree, end-taken}
 use Rattle.bittle_bits.proofs.BitSets.{bit_has-zero}
-use Rattle.bittle_bits.proofs.PlainSets.{plain_set, members-past}
-use Rattle.bittle_bits.proofs.Words.{digit_at, same_word}
+use Rattle.bittle_bits.proofs.PlainSets.{plain_set}
+use Rattle.bittle_bits.proofs.Words.{digit_at}
 use Rattle.bittle.proofs.CallerLists.{ascending_first, ascending_none}
 use Rattle.bittle.proofs.CallerSets.{with_index_within, without_index_within}
+use Rattle.bittle_ext.proofs.WordsReplaced.{place_in, in_word, in_others}
 
 -- a word before the end of whole words ends below the capacity
 pub word_inside : (w k words c d : ℕ) → words * w ≡ c → d ≡ c → k < words → k * w + w ≤ d
@@ -205,25 +206,10 @@ pub halfway_all : (m : Bool) (w k r from : ℕ) (rest : ℕ → Bool) (s after t
     ((o : ℕ) → o < w → rest o ≡ false) → ReplacesWord w s k (bit_set w r) after →
     t ≡ read_in m w after
 halfway_all m w k r from rest s after t word whole past also so_far none is =
-    let u = read_in m w after in
-    let whole_after : (words : ℕ) × (after.capacity ≡ words * w) =
-    (whole.0, is.capacity ∙ whole.1) in
-    let each : (i : ℕ) → t.has i ≡ u.has i = λ i.
-    let o = i % w in
-    let at : i / w * w + o ≡ i = div-add-mod' i w in
-    let low = mod_below i w word in
-    elim (cases_eq (i / w) k) [
-      | inl e ↦
-          let at_k : k * w + o ≡ i = ap (λ n. n * w + o) (sym e) ∙ at in
-          ap t.has (sym at_k) ∙ kept_all w k _ rest (read_in m w s) t from word so_far none o low
-          ∙ digit_at m w k after r word (sym is.replaced) o low ∙ ap u.has at_k
-      | inr n ↦ so_far.others i n ∙ elim (cases_lt i s.capacity) [
-        | inl l ↦ ap (read_in m w s).has (sym at)
-            ∙ sym (same_word m w (i / w) after s word (is.others (i / w) n (omega (arith, at, l)))
-            o low)
-            ∙ ap u.has at
-        | inr g ↦ members-past m w s word whole past i g
-            ∙ sym (members-past m w after word whole_after also i (omega (arith, is.capacity, g)))
-      ]
+    let each : (i : ℕ) → t.has i ≡ (read_in m w after).has i = λ i. elim (cases_eq (i / w) k) [
+      | inl e ↦ ap t.has (sym (place_in w k i e))
+          ∙ kept_all w k _ rest (read_in m w s) t from word so_far none (i % w) (mod_below i w word)
+          ∙ sym (in_word m w k r s after word whole past also is i e)
+      | inr n ↦ so_far.others i n ∙ sym (in_others m w k r s after word whole past also is i n)
     ] in
     λ j. plain_set ((so_far.capacity ∙ sym is.capacity) j) (λ i. each i j)

@@ -2,18 +2,17 @@
 use Rattle.std.proofs.Common.{◌≡◌, ℕ, ◌+◌, ◌-◌, ◌*◌, ◌/◌, ◌%◌, ◌<◌, ◌≤◌, ◌⊎◌, Bool, false, ◌&&◌, nat_lt, nat_le, inl, inr, refl, sym, ap, ◌∙◌, arith}
 use Rattle.std.proofs.Math.Path.{fun_ext}
 use Rattle.std.proofs.Math.Nat.{add-mod_left, add-mod_right, add-mod-mod, mod-add-mod, add-mul-mod_self_right, mul-le-mul_right, mul-lt-mul_of_pos_right}
-use Rattle.std.proofs.lemmas.Nat.{div-add-mod', mod_below, div_below}
+use Rattle.std.proofs.lemmas.Nat.{div-add-mod', mod_below}
 use Rattle.std.proofs.lemmas.Bool.{cases_eq, cases_lt, lt-ltb, le-ltb, lt-leb, le-leb, and_right}
 use Rattle.bittle.specs.BitPatterns.{bit_set}
 use Rattle.bittle.specs.Orders.{read_in}
 use Rattle.bittle.specs.PlainSet.{PlainSet, contains, empty_set}
-use Rattle.bittle.specs.Words.{word_of, ReplacesWord}
+use Rattle.bittle.specs.Words.{word_of}
 use Rattle.bittle_bits.proofs.PlainSets.{plain_set}
 use Rattle.bittle_bits.proofs.RowWords.{words_each}
-use Rattle.bittle_bits.proofs.Words.{digit_at, same_word, word_ends}
+use Rattle.bittle_bits.proofs.Words.{digit_at, word_ends}
 use Rattle.bittle.proofs.CallerSets.{contains_within}
-use Rattle.bittle_ext.specs.RangeMembers.{EndsAt}
-use Rattle.bittle_ext.specs.Rotations.{has_rotated, rotated_down, rotated_up, has_shifted_down, shifted_down, has_shifted_up, shifted_up, IsDistance, IsNextWord, IsWindow, IsWordFrom, IsRotatedBelow}
+use Rattle.bittle_ext.specs.Rotations.{has_rotated, rotated_down, rotated_up, has_shifted_down, shifted_down, has_shifted_up, shifted_up, IsDistance, IsNextWord, IsWindow, IsWordFrom}
 
 -- an index that wraps to another one answers as that does
 pub contains_as : (s : PlainSet) (i j : ℕ) → i % s.capacity ≡ j % s.capacity →
@@ -118,59 +117,25 @@ wrapped_at w c words by skipped from k at whole parts where_is i =
           ∙ add-mod-mod (k * w + i) by c
     ]
 
--- once word k is the word from there, the members below the end of word k are right
-pub more_rotated : (m : Bool) (w k d from by : ℕ) (s b t : PlainSet) → 0 < w → k * w < b.capacity →
-    ReplacesWord w b k (bit_set w d) t → IsWordFrom w s from (read_in m w (bit_set w d)) →
-    ((i : ℕ) → (from + i) % s.capacity ≡ (k * w + i + by) % s.capacity) →
-    IsRotatedBelow s by (read_in m w b) (k * w) → IsRotatedBelow s by (read_in m w t) ((k + 1) * w)
-more_rotated m w k d from by s b t word within is here place done i h =
-    elim (cases_lt i (k * w)) [
-      | inl l ↦
-          let j = i / w in
-          let before : j < k = div_below i w k word l in
-          let start : j * w ≤ k * w = mul-le-mul_right w (omega arith) in
-          let at : j * w + i % w ≡ i = div-add-mod' i w in
-          ap (read_in m w t).has (sym at)
-          ∙ same_word m w j t b word (is.others j (λ e. omega arith) (omega (arith, start)))
-          (i % w) (mod_below i w word)
-          ∙ ap (read_in m w b).has at ∙ done i l
-      | inr g ↦
-          let o = i - k * w in
-          let at : k * w + o ≡ i = omega arith in
-          ap (read_in m w t).has (sym at)
-          ∙ sym (digit_at m w k t d word (sym is.replaced) o (omega arith))
-          ∙ here o (omega arith) ∙ contains_as s (from + o) (k * w + o + by) (place o)
-          ∙ ap (λ n. contains s (n + by)) at
-    ]
-
--- so it is where that word lies so far above, and may wrap
-pub turned_word : (m : Bool) (w c words skipped from by k at d : ℕ) (s b t : PlainSet) → 0 < w →
-    IsDistance w c (by % c) words skipped from → c ≡ s.capacity → b.capacity ≡ c → k < words →
-    (at ≡ k + skipped) ⊎ (at + words ≡ k + skipped) → ReplacesWord w b k (bit_set w d) t →
-    IsWordFrom w s (at * w + from) (read_in m w (bit_set w d)) →
-    IsRotatedBelow s by (read_in m w b) (k * w) → IsRotatedBelow s by (read_in m w t) ((k + 1) * w)
-turned_word m w c words skipped from by k at d s b t word far same size low where_is is here done =
-    let inside = word_within w words k b.capacity word (far.whole ∙ sym size) low in
-    more_rotated m w k d (at * w + from) by s b t word inside is here
-    (λ i. rw (← same) (wrapped_at w c words by skipped from k at far.whole far.parts where_is i)) done
-
 rotated-below : (s : PlainSet) (by k : ℕ) → k < s.capacity → has_rotated s by k ≡ contains s (k + by)
 unfolding has_rotated
 rotated-below s by k h = rw (lt-ltb k s.capacity h) refl
 
-rotated-past : (s : PlainSet) (by k : ℕ) → s.capacity ≤ k → has_rotated s by k ≡ false
+pub rotated-past : (s : PlainSet) (by k : ℕ) → s.capacity ≤ k → has_rotated s by k ≡ false
 unfolding has_rotated
 rotated-past s by k h = rw (le-ltb k s.capacity h) refl
 
--- once all members below the capacity are right, it is the rotated set
-pub all_rotated : {s t : PlainSet} {a b : ℕ} (n by : ℕ) → EndsAt s a → EndsAt t b →
-    t.capacity ≡ s.capacity → a ≤ n → IsRotatedBelow s by t n → t ≡ rotated_down s by
-all_rotated {s} {t} n by x y same far done =
-    let each : t.has ≡ has_rotated s by = fun_ext λ k. elim (cases_lt k s.capacity) [
-      | inl l ↦ done k (omega (arith, x.capacity)) ∙ sym (rotated-below s by k l)
-      | inr g ↦ y.past k (omega (arith, same)) ∙ sym (rotated-past s by k g)
-    ] in
-    λ j. plain_set (same j) (each j)
+-- what comes to word k where that word lies so far above, and may wrap
+pub turned_word : (m : Bool) (w c words skipped from by k at d : ℕ) (s : PlainSet) →
+    IsDistance w c (by % c) words skipped from → c ≡ s.capacity → k < words →
+    (at ≡ k + skipped) ⊎ (at + words ≡ k + skipped) →
+    IsWordFrom w s (at * w + from) (read_in m w (bit_set w d)) → (i : ℕ) → i < w →
+    (read_in m w (bit_set w d)).has i ≡ has_rotated s by (k * w + i)
+turned_word m w c words skipped from by k at d s far same low where_is here i h =
+    let up : (k + 1) * w ≤ words * w = mul-le-mul_right w (omega (arith, low)) in
+    here i h ∙ contains_as s (at * w + from + i) (k * w + i + by)
+    (rw (← same) (wrapped_at w c words by skipped from k at far.whole far.parts where_is i))
+    ∙ sym (rotated-below s by (k * w + i) (omega (arith, up, far.whole, same, h)))
 
 contains_none : (s : PlainSet) (i : ℕ) → s.capacity ≡ 0 → contains s i ≡ false
 unfolding contains

@@ -5,12 +5,12 @@ use Rattle.std.proofs.lemmas.Bool.{cases_lt, le-ltb, lt-leb, le-leb}
 use Rattle.bittle.specs.BitPatterns.{bit_set}
 use Rattle.bittle.specs.Orders.{place, read_in}
 use Rattle.bittle.specs.PlainSet.{PlainSet}
-use Rattle.bittle.specs.Words.{word_of, ReplacesWord}
+use Rattle.bittle.specs.Words.{word_of}
 use Rattle.bittle_bits.proofs.BitSets.{bit_has-zero}
 use Rattle.bittle_bits.proofs.Words.{digit_at}
 use Rattle.bittle_ext.specs.Rotations.{has_shifted_down, has_shifted_up, IsDistance, IsWindow}
-use Rattle.bittle_ext.proofs.RotatedSets.{down-inside, down-past, up-inside, up-before, up-past}
-use Rattle.bittle_ext.proofs.WordsReplaced.{replaced_where, adds_downward, adds_upward, more_replaced}
+use Rattle.bittle_ext.proofs.RotatedSets.{down-inside, down-past, up-inside, up-before}
+use Rattle.bittle_ext.proofs.WordsReplaced.{replaced_where}
 
 -- whether a number, which may lie past the capacity, has a member so far below it
 unfoldable pub has_so_far_below : PlainSet → ℕ → ℕ → Bool
@@ -177,27 +177,3 @@ came_up m w c k by words skipped to x y r s now far size low before first second
     ∙ sym (up_is now by (k * w + i) (omega (arith, up, h, far.whole, size, same)))
     ∙ up_as w k by (k * w + i) (has_shifted_up s by) s now before (omega (arith, h))
     (omega (arith, up, h, far.whole, size))
-
--- a set of whole words of which those before or after word k have come, once word k has
-module _ (m : Bool) (w k by r : ℕ) (s now after : PlainSet) (word : 0 < w)
-    (whole : (words : ℕ) × (now.capacity ≡ words * w))
-    (past : (i : ℕ) → now.capacity ≤ i → now.has i ≡ false)
-    (also : (i : ℕ) → after.capacity ≤ i → after.has i ≡ false)
-    (none : (i : ℕ) → s.capacity ≤ i → s.has i ≡ false)
-    (is : ReplacesWord w now k (bit_set w r) after) where
-  pub more_down : read_in m w now ≡ replaced_where (λ i. nat_lt i (k * w)) (has_shifted_down s by) s →
-      ((i : ℕ) → i < w → (read_in m w (bit_set w r)).has i ≡ has_shifted_down s by (k * w + i)) →
-      read_in m w after ≡ replaced_where (λ i. nat_lt i ((k + 1) * w)) (has_shifted_down s by) s
-  more_down before here =
-      more_replaced m w k r (λ i. nat_lt i (k * w)) (λ i. nat_lt i ((k + 1) * w))
-      (has_shifted_down s by) s now after word whole past also none
-      (λ i h. down-past s by i (omega (arith, h))) (adds_upward w k now.capacity word) is here before
-
-  pub more_up : read_in m w now
-      ≡ replaced_where (λ i. nat_le ((k + 1) * w) i) (has_shifted_up s by) s →
-      ((i : ℕ) → i < w → (read_in m w (bit_set w r)).has i ≡ has_shifted_up s by (k * w + i)) →
-      read_in m w after ≡ replaced_where (λ i. nat_le (k * w) i) (has_shifted_up s by) s
-  more_up before here =
-      more_replaced m w k r (λ i. nat_le ((k + 1) * w) i) (λ i. nat_le (k * w) i)
-      (has_shifted_up s by) s now after word whole past also none (up-past s by)
-      (adds_downward w k now.capacity word) is here before

@@ -1,5 +1,5 @@
 -- A set whose words are replaced one after another.
-use Rattle.std.proofs.Common.{◌≡◌, ℕ, ◌+◌, ◌*◌, ◌/◌, ◌%◌, ◌<◌, ◌≤◌, Bool, true, false, cond, nat_lt, nat_le, inl, inr, refl, sym, ap, ◌∙◌, arith}
+use Rattle.std.proofs.Common.{◌≡◌, ℕ, ◌+◌, ◌*◌, ◌/◌, ◌%◌, ◌<◌, ◌≤◌, Bool, true, false, cond, nat_lt, nat_le, inl, inr, sym, ap, ◌∙◌, arith}
 use Rattle.std.proofs.Math.Path.{fun_ext}
 use Rattle.std.proofs.Math.Nat.{mul-le-mul_right}
 use Rattle.std.proofs.lemmas.Nat.{div-add-mod', div_below, mod_below}
@@ -16,55 +16,61 @@ abbrev pub replaced_where : (ℕ → Bool) → (ℕ → Bool) → PlainSet → P
 replaced_where done g s =
     record { capacity = s.capacity; has = λ i. cond (done i) (g i) (s.has i) }
 
+-- a number of word k lies so far from its first one
+pub place_in : (w k i : ℕ) → i / w ≡ k → k * w + i % w ≡ i
+place_in w k i e = ap (λ n. n * w + i % w) (sym e) ∙ div-add-mod' i w
+
+-- t is a set of whole words of which word k is replaced
+module _ (m : Bool) (w k r : ℕ) (s t : PlainSet) (word : 0 < w)
+    (whole : (words : ℕ) × (s.capacity ≡ words * w))
+    (past : (i : ℕ) → s.capacity ≤ i → s.has i ≡ false)
+    (also : (i : ℕ) → t.capacity ≤ i → t.has i ≡ false)
+    (is : ReplacesWord w s k (bit_set w r) t) where
+  -- the numbers of the word are those of the new one
+  pub in_word : (i : ℕ) → i / w ≡ k →
+      (read_in m w t).has i ≡ (read_in m w (bit_set w r)).has (i % w)
+  in_word i e = ap (read_in m w t).has (sym (place_in w k i e))
+      ∙ sym (digit_at m w k t r word (sym is.replaced) (i % w) (mod_below i w word))
+
+  -- all others are as they were
+  pub in_others : (i : ℕ) → (i / w ≡ k → ⊥) → (read_in m w t).has i ≡ (read_in m w s).has i
+  in_others i n =
+      elim (cases_lt i s.capacity) [
+        | inl l ↦
+            let at = div-add-mod' i w in
+            ap (read_in m w t).has (sym at) ∙ same_word m w (i / w) t s word
+            (is.others (i / w) n (omega (arith, at, l))) (i % w) (mod_below i w word)
+            ∙ ap (read_in m w s).has at
+        | inr g ↦
+            members-past m w t word (whole.0, is.capacity ∙ whole.1) also i
+            (omega (arith, is.capacity, g)) ∙ sym (members-past m w s word whole past i g)
+      ]
+
 -- the numbers that pass the second test are those of word k, and those that pass the first
-pub record AddsWord (w k c : ℕ) (done more : ℕ → Bool) : Type 0 where
+pub record AddsWord (w k : ℕ) (done more : ℕ → Bool) : Type 0 where
   pub here : (o : ℕ) → o < w → more (k * w + o) ≡ true
-  pub others : (i : ℕ) → i < c → (i / w ≡ k → ⊥) → more i ≡ done i
+  pub others : (i : ℕ) → (i / w ≡ k → ⊥) → more i ≡ done i
 
 -- once word k is decided, so are its numbers
 pub more_replaced : (m : Bool) (w k r : ℕ) (done more g : ℕ → Bool) (s now after : PlainSet) →
     0 < w → (words : ℕ) × (now.capacity ≡ words * w) →
     ((i : ℕ) → now.capacity ≤ i → now.has i ≡ false) →
     ((i : ℕ) → after.capacity ≤ i → after.has i ≡ false) →
-    ((i : ℕ) → s.capacity ≤ i → s.has i ≡ false) → ((i : ℕ) → s.capacity ≤ i → g i ≡ false) →
-    AddsWord w k now.capacity done more → ReplacesWord w now k (bit_set w r) after →
+    AddsWord w k done more → ReplacesWord w now k (bit_set w r) after →
     ((o : ℕ) → o < w → (read_in m w (bit_set w r)).has o ≡ g (k * w + o)) →
-    read_in m w now ≡ replaced_where done g s →
-    read_in m w after ≡ replaced_where more g s
-more_replaced m w k r done more g s now after word whole past also ends none adds is here before =
-    let c = now.capacity in
-    let same : c ≡ s.capacity = ap (λ u. u.capacity) before in
-    let whole_after : (words : ℕ) × (after.capacity ≡ words * w) =
-    (whole.0, is.capacity ∙ whole.1) in
+    read_in m w now ≡ replaced_where done g s → read_in m w after ≡ replaced_where more g s
+more_replaced m w k r done more g s now after word whole past also adds is here before =
     let each : (i : ℕ) → (read_in m w after).has i ≡ cond (more i) (g i) (s.has i) = λ i.
-    elim (cases_lt i c) [
-      | inr g' ↦ members-past m w after word whole_after also i (omega (arith, is.capacity, g'))
-          ∙ rw (none i (omega (arith, same, g')), ends i (omega (arith, same, g')))
-          (sym (either_false (more i)))
-      | inl l ↦
-          let o = i % w in
-          let at : i / w * w + o ≡ i = div-add-mod' i w in
+    elim (cases_eq (i / w) k) [
+      | inl e ↦
+          let at = place_in w k i e in
           let low = mod_below i w word in
-          elim (cases_eq (i / w) k) [
-            | inl e ↦
-                let at_k : k * w + o ≡ i = ap (λ n. n * w + o) (sym e) ∙ at in
-                ap (read_in m w after).has (sym at_k)
-                ∙ sym (digit_at m w k after r word (sym is.replaced) o low) ∙ here o low
-                ∙ ap g at_k ∙ sym (ap (λ b. cond b (g i) (s.has i))
-                (ap more (sym at_k) ∙ adds.here o low))
-            | inr n ↦
-                ap (read_in m w after).has (sym at)
-                ∙ same_word m w (i / w) after now word
-                (is.others (i / w) n (omega (arith, at, l))) o low
-                ∙ ap (read_in m w now).has at ∙ ap (λ u. u.has i) before
-                ∙ sym (ap (λ b. cond b (g i) (s.has i)) (adds.others i l n))
-          ]
+          in_word m w k r now after word whole past also is i e ∙ here (i % w) low ∙ ap g at
+          ∙ sym (ap (λ b. cond b (g i) (s.has i)) (ap more (sym at) ∙ adds.here (i % w) low))
+      | inr n ↦ in_others m w k r now after word whole past also is i n
+          ∙ ap (λ u. u.has i) before ∙ sym (ap (λ b. cond b (g i) (s.has i)) (adds.others i n))
     ] in
-    λ j. plain_set ((is.capacity ∙ same) j) (λ i. each i j)
-  where
-    either_false : (b : Bool) → cond b false false ≡ false
-    either_false true = refl
-    either_false false = refl
+    λ j. plain_set ((is.capacity ∙ ap (λ u. u.capacity) before) j) (λ i. each i j)
 
 -- words in turn: which word a number lies in
 word_at_most : (w k i : ℕ) → 0 < w → i < (k + 1) * w → (i / w ≡ k → ⊥) → i < k * w
@@ -74,22 +80,22 @@ word_at_most w k i word h n =
     omega (arith, up, div-add-mod' i w, mod_below i w word)
 
 -- the numbers below the end of word k are those of the word and those before it
-pub adds_upward : (w k c : ℕ) → 0 < w →
-    AddsWord w k c (λ i. nat_lt i (k * w)) (λ i. nat_lt i ((k + 1) * w))
-adds_upward w k c word = record {
+pub adds_upward : (w k : ℕ) → 0 < w →
+    AddsWord w k (λ i. nat_lt i (k * w)) (λ i. nat_lt i ((k + 1) * w))
+adds_upward w k word = record {
   here = λ o h. lt-ltb (k * w + o) ((k + 1) * w) (omega arith);
-  others = λ i l n. elim (cases_lt i ((k + 1) * w)) [
+  others = λ i n. elim (cases_lt i ((k + 1) * w)) [
     | inl h ↦ lt-ltb i ((k + 1) * w) h ∙ sym (lt-ltb i (k * w) (word_at_most w k i word h n))
     | inr h ↦ le-ltb i ((k + 1) * w) h ∙ sym (le-ltb i (k * w) (omega (arith, h)))
   ];
 }
 
 -- the numbers from the start of word k on are those of the word and those past it
-pub adds_downward : (w k c : ℕ) → 0 < w →
-    AddsWord w k c (λ i. nat_le ((k + 1) * w) i) (λ i. nat_le (k * w) i)
-adds_downward w k c word = record {
+pub adds_downward : (w k : ℕ) → 0 < w →
+    AddsWord w k (λ i. nat_le ((k + 1) * w) i) (λ i. nat_le (k * w) i)
+adds_downward w k word = record {
   here = λ o h. le-leb (k * w) (k * w + o) (omega arith);
-  others = λ i l n. elim (cases_lt i ((k + 1) * w)) [
+  others = λ i n. elim (cases_lt i ((k + 1) * w)) [
     | inl h ↦ lt-leb (k * w) i (word_at_most w k i word h n) ∙ sym (lt-leb ((k + 1) * w) i h)
     | inr h ↦ le-leb (k * w) i (omega (arith, h)) ∙ sym (le-leb ((k + 1) * w) i h)
   ];

@@ -50,7 +50,3 @@ pub record IsDistance (w capacity by words skipped rest : ℕ) : Type 0 where
 -- the members of one word of w bits are those of a set from an index on, which wraps
 abbrev pub IsWordFrom : ℕ → PlainSet → ℕ → PlainSet → Type 0
 IsWordFrom w s from u = (i : ℕ) → i < w → u.has i ≡ contains s (from + i)
-
--- the members below a number are those of a set so far above, where an index wraps
-abbrev pub IsRotatedBelow : PlainSet → ℕ → PlainSet → ℕ → Type 0
-IsRotatedBelow s by t n = (i : ℕ) → i < n → t.has i ≡ contains s (i + by)

@@ -1,7 +1,7 @@
 //! Indexes that do not wrap: calls on one bit that refuse an index at or past the capacity.
 
 ghost use Rattle.std.specs.Option.{is_some};
-ghost use Rattle.std.specs.Prelude.{◌≡◌, ◌<◌, ◌≤◌, ◌↔◌, cond, not, IfSome, IsTrue, MatchOption};
+ghost use Rattle.std.specs.Prelude.{◌≡◌, ◌<◌, ◌↔◌, cond, not, IfSome, IsTrue};
 ghost use Rattle.bittle.specs.PlainSet.{with_index, without_index};
 ghost use Rattle.bittle.specs.Values.{set_in, ShapeFits};
 

@@ -1,6 +1,6 @@
 //! The iterators over the set, and over the unset bits of a range.
 
-ghost use Rattle.std.specs.Prelude.{◌≡◌, ◌≤◌};
+ghost use Rattle.std.specs.Prelude.{◌≤◌};
 ghost use Rattle.bittle_ext.specs.RangeMembers.{ListsWithin};
 ghost use Rattle.bittle.specs.Values.{kind_in, word_count, ShapeFits};
 ghost use Rattle.bittle.specs.Walk.{AreBelow, IsFresh};

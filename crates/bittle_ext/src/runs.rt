@@ -1,6 +1,6 @@
 //! Runs of neighbours that are all set, or all unset.
 
-ghost use Rattle.std.specs.Prelude.{◌<◌, ◌≤◌, not};
+ghost use Rattle.std.specs.Prelude.{◌<◌, not};
 ghost use Rattle.bittle_ext.specs.Runs.{IsFirstRun};
 ghost use Rattle.bittle.specs.Values.{set_in, ShapeFits};
 ghost use Rattle.bittle.specs.Walk.{ones_or_zeros};

@@ -1,6 +1,6 @@
 //! The set bit of a rank: its word by the counts of whole words, its place there by halves.
 
-ghost use Rattle.std.specs.Prelude.{◌≡◌, ◌+◌, ◌*◌, ◌<◌, ◌≤◌, true, IfSome, MatchOption, slice_get};
+ghost use Rattle.std.specs.Prelude.{◌≡◌, ◌+◌, ◌*◌, ◌<◌, true, IfSome, MatchOption, slice_get};
 ghost use Rattle.bittle_ext.specs.Ranks.{HasNoRank, IsInWord};
 ghost use Rattle.bittle.specs.PlainSet.{ascending, members_below};
 ghost use Rattle.bittle.specs.Values.{set_in, ShapeFits};

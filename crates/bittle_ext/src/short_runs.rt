@@ -1,6 +1,6 @@
 //! Runs of a few words at most, found word by word: each word is read once.
 
-ghost use Rattle.std.specs.Prelude.{◌≡◌, ◌<◌, ◌≤◌};
+ghost use Rattle.std.specs.Prelude.{◌≡◌, ◌<◌};
 ghost use Rattle.bittle_ext.specs.Runs.{IsFirstRun};
 ghost use Rattle.bittle.specs.Values.{kind_in, word_in, ShapeFits};
 

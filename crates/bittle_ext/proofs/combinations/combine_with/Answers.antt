@@ -44,8 +44,7 @@ loop-k-preserved g c =
     record {
       replaced = more_replaced m w k _ _ _ (has_combined f s t) s (g.A.Shape.big now)
           (g.A.Shape.big new) b.width_positive (b.whole_words now) (b.none_past now)
-          (b.none_past new) c.capacity_of.ensures.ends.past (combined_past f s t)
-          (adds_upward w k _ b.width_positive) c.set_nth_leaf_word.ensures.set
+          (b.none_past new) (adds_upward w k b.width_positive) c.set_nth_leaf_word.ensures.set
           (made f m w k _ _ _ s t (g.A.Shape.big now) b.width_positive ends v.replaced
           c.nth_leaf_word-ours.ensures c.other_word-theirs.ensures is) v.replaced;
       told = tells_more f m w k _ _ _ s t (g.A.Shape.big now) b.width_positive ends v.replaced

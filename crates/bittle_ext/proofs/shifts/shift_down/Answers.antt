@@ -7,8 +7,8 @@ use Rattle.bittle_bits.proofs.PlainSets.{members-past}
 use Rattle.bittle_ext.specs.Rotations.{has_shifted_down}
 use Rattle.bittle_ext.proofs.CombinedWords.{empty_past}
 use Rattle.bittle_ext.proofs.RotatedSets.{all_down, down-past, word_within}
-use Rattle.bittle_ext.proofs.ShiftedWords.{down_as, more_down, none_above, window_above}
-use Rattle.bittle_ext.proofs.WordsReplaced.{all_replaced}
+use Rattle.bittle_ext.proofs.ShiftedWords.{down_as, none_above, window_above}
+use Rattle.bittle_ext.proofs.WordsReplaced.{adds_upward, more_replaced, all_replaced}
 use Rattle.bittle_ext.proofs.shifts.shift_down.Goals as goal
 
 pub returns-then-by-capacity_of-clause-set : goal.returns-then-by-capacity_of-clause-set
@@ -41,15 +41,17 @@ loop-k-preserved g c =
     let past = c.capacity_of.ensures.ends.past in
     let v = c.loop-k.invariant in
     record {
-      replaced = more_down m w k by _ s (g.B.Shape.big now) _ b.width_positive (b.whole_words now)
-          (b.none_past now) (b.none_past c.set_nth_leaf_word.new.self) past
-          c.set_nth_leaf_word.ensures.set v.replaced
+      replaced = more_replaced m w k _ _ _ (has_shifted_down s by) s (g.B.Shape.big now) _
+          b.width_positive (b.whole_words now) (b.none_past now)
+          (b.none_past c.set_nth_leaf_word.new.self) (adds_upward w k b.width_positive)
+          c.set_nth_leaf_word.ensures.set
           (λ o h. window_above m w k by _ _ _ _ _ (g.B.Shape.big now) b.width_positive
           c.distance-words.ensures.parts c.distance-words.ensures.within
           (members-past m w _ b.width_positive (b.whole_words now) (b.none_past now))
           c.nth_leaf_word-first.ensures c.nth_leaf_word-second.ensures
           (rw b.leaf_width at c.window.ensures) o h
-          ∙ down_as w k by (k * w + o) _ s _ v.replaced (omega arith) past);
+          ∙ down_as w k by (k * w + o) _ s _ v.replaced (omega arith) past)
+          v.replaced;
       stays = v.stays ∙ c.set_nth_leaf_word.ensures.stays;
     }
 
@@ -73,14 +75,15 @@ loop-k-2-init g c =
     let before = rw at_last at v.replaced in
     let size = c.distance-words.ensures.whole ∙ sym (ap (λ u. u.capacity) v.replaced) in
     let inside = members-past m w _ b.width_positive (b.whole_words now) (b.none_past now) in
-    let done = more_down m w k by _ s (g.B.Shape.big now) _ b.width_positive (b.whole_words now)
-    (b.none_past now) (b.none_past c.set_nth_leaf_word-2.new.self) past
-    c.set_nth_leaf_word-2.ensures.set before
+    let done = more_replaced m w k _ _ _ (has_shifted_down s by) s (g.B.Shape.big now) _
+    b.width_positive (b.whole_words now) (b.none_past now)
+    (b.none_past c.set_nth_leaf_word-2.new.self) (adds_upward w k b.width_positive)
+    c.set_nth_leaf_word-2.ensures.set
     (λ o h. window_above m w k by _ _ _ _ _ (g.B.Shape.big now) b.width_positive
     c.distance-words.ensures.parts c.distance-words.ensures.within inside (rw one at c.nth_leaf_word-last.ensures)
     (empty_past w words (k + skipped + 1) _ (g.B.Shape.big now) size (b.none_past now)
     (omega (arith, fewer)) c.zero-none.ensures) (rw b.leaf_width at c.window-2.ensures) o h
-    ∙ down_as w k by (k * w + o) _ s _ before (omega arith) past) in
+    ∙ down_as w k by (k * w + o) _ s _ before (omega arith) past) before in
     record {
       replaced = rw next at done;
       stays = v.stays ∙ c.set_nth_leaf_word-2.ensures.stays;
@@ -93,13 +96,16 @@ loop-k-2-preserved g c =
     let s = set_in g.B.Shape g.E.Endian c.args.set.now in
     let v = c.loop-k-2.invariant in
     record {
-      replaced = more_down g.E.Endian.mirrored g.B.Shape.width c.loop-k-2.k c.args.by _ s
-          (g.B.Shape.big now) _ b.width_positive (b.whole_words now) (b.none_past now)
-          (b.none_past c.set_nth_leaf_word-in-loop-k-2.new.self) c.capacity_of.ensures.ends.past
-          c.set_nth_leaf_word-in-loop-k-2.ensures.set v.replaced
+      replaced = more_replaced g.E.Endian.mirrored g.B.Shape.width c.loop-k-2.k _ _ _
+          (has_shifted_down s c.args.by) s (g.B.Shape.big now) _ b.width_positive
+          (b.whole_words now) (b.none_past now)
+          (b.none_past c.set_nth_leaf_word-in-loop-k-2.new.self)
+          (adds_upward g.B.Shape.width c.loop-k-2.k b.width_positive)
+          c.set_nth_leaf_word-in-loop-k-2.ensures.set
           (λ o h. none_above g.E.Endian.mirrored g.B.Shape.width _ c.args.by _ _ _ c.loop-k-2.k _ s
           c.distance-words.ensures refl c.zero-none.ensures
-          (omega (arith, c.loop-k-2.auto, c.distance-words.ensures.fewer)) o);
+          (omega (arith, c.loop-k-2.auto, c.distance-words.ensures.fewer)) o)
+          v.replaced;
       stays = v.stays ∙ c.set_nth_leaf_word-in-loop-k-2.ensures.stays;
     }
 

@@ -4,8 +4,8 @@ use Rattle.bittle.specs.Orders.{read_in}
 use Rattle.bittle.specs.Values.{set_in}
 use Rattle.bittle_ext.specs.Rotations.{has_shifted_up}
 use Rattle.bittle_ext.proofs.RotatedSets.{all_up, up-past}
-use Rattle.bittle_ext.proofs.ShiftedWords.{came_up, more_up, none_before, none_below, word_before}
-use Rattle.bittle_ext.proofs.WordsReplaced.{none_replaced}
+use Rattle.bittle_ext.proofs.ShiftedWords.{came_up, none_before, none_below, word_before}
+use Rattle.bittle_ext.proofs.WordsReplaced.{adds_downward, more_replaced, none_replaced}
 use Rattle.bittle_ext.proofs.shifts.shift_up.Goals as goal
 
 pub returns-then-by-capacity_of-clause-set : goal.returns-then-by-capacity_of-clause-set
@@ -48,16 +48,17 @@ loop-k-preserved g c =
     record {
       low = omega (arith, more);
       high = omega (arith, v.high);
-      replaced = rw down (more_up m w k by _ s (g.B.Shape.big now) _ b.width_positive
-          (b.whole_words now) (b.none_past now) (b.none_past c.set_nth_leaf_word.new.self)
-          c.capacity_of.ensures.ends.past c.set_nth_leaf_word.ensures.set v.replaced
+      replaced = rw down (more_replaced m w k _ _ _ (has_shifted_up s by) s (g.B.Shape.big now) _
+          b.width_positive (b.whole_words now) (b.none_past now)
+          (b.none_past c.set_nth_leaf_word.new.self) (adds_downward w k b.width_positive)
+          c.set_nth_leaf_word.ensures.set
           (came_up m w _ k by _ skipped _ _ _ _ s (set_in g.B.Shape g.E.Endian now)
           c.distance-words.ensures refl v.high v.replaced
           (word_before m w k (skipped + 1) _ (g.B.Shape.big now) b.width_positive
           (omega (arith, more)) (rw first_at at c.nth_leaf_word-first.ensures))
           (word_before m w (k + 1) (skipped + 1) _ (g.B.Shape.big now) b.width_positive
           (omega (arith, more)) (rw second_at at c.nth_leaf_word-second.ensures))
-          (rw b.leaf_width at c.window_up_to.ensures)));
+          (rw b.leaf_width at c.window_up_to.ensures)) v.replaced);
       stays = v.stays ∙ c.set_nth_leaf_word.ensures.stays;
     }
 
@@ -76,16 +77,17 @@ loop-k-2-init g c =
     let before = rw at_skipped at v.replaced in
     record {
       high = omega (arith, at_skipped);
-      replaced = rw at_skipped (more_up m w skipped by _ s (g.B.Shape.big now) _ b.width_positive
-          (b.whole_words now) (b.none_past now) (b.none_past c.set_nth_leaf_word-2.new.self)
-          c.capacity_of.ensures.ends.past c.set_nth_leaf_word-2.ensures.set before
+      replaced = rw at_skipped (more_replaced m w skipped _ _ _ (has_shifted_up s by) s
+          (g.B.Shape.big now) _ b.width_positive (b.whole_words now) (b.none_past now)
+          (b.none_past c.set_nth_leaf_word-2.new.self) (adds_downward w skipped b.width_positive)
+          c.set_nth_leaf_word-2.ensures.set
           (came_up m w _ skipped by _ skipped _ _ _ _ s (set_in g.B.Shape g.E.Endian now)
           c.distance-words.ensures refl c.distance-words.ensures.fewer before
           (none_before m w skipped (skipped + 1) _ (set_in g.B.Shape g.E.Endian now)
           c.zero-none.ensures (omega arith))
           (word_before m w (skipped + 1) (skipped + 1) _ (g.B.Shape.big now) b.width_positive
           (omega arith) (rw second_at at c.nth_leaf_word-first-2.ensures))
-          (rw b.leaf_width at c.window_up_to-2.ensures)));
+          (rw b.leaf_width at c.window_up_to-2.ensures)) before);
       stays = v.stays ∙ c.set_nth_leaf_word-2.ensures.stays;
     }
 
@@ -102,10 +104,11 @@ loop-k-2-preserved g c =
     let up : c.loop-k-2.k ≡ k + 1 = omega (arith, c.loop-k-2-test.true) in
     record {
       high = omega (arith, v.high);
-      replaced = more_up m w k by _ s (g.B.Shape.big now) _ b.width_positive (b.whole_words now)
-          (b.none_past now) (b.none_past c.set_nth_leaf_word-in-loop-k-2.new.self)
-          c.capacity_of.ensures.ends.past c.set_nth_leaf_word-in-loop-k-2.ensures.set
-          (rw up at v.replaced) (none_below m w _ by _ _ _ k _ s c.distance-words.ensures
-          c.zero-none.ensures (omega (arith, v.high, up)));
+      replaced = more_replaced m w k _ _ _ (has_shifted_up s by) s (g.B.Shape.big now) _
+          b.width_positive (b.whole_words now) (b.none_past now)
+          (b.none_past c.set_nth_leaf_word-in-loop-k-2.new.self) (adds_downward w k b.width_positive)
+          c.set_nth_leaf_word-in-loop-k-2.ensures.set
+          (none_below m w _ by _ _ _ k _ s c.distance-words.ensures c.zero-none.ensures
+          (omega (arith, v.high, up))) (rw up at v.replaced);
       stays = v.stays ∙ c.set_nth_leaf_word-in-loop-k-2.ensures.stays;
     }
