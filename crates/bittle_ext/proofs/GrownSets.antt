@@ -1,5 +1,5 @@
 -- Sets of which one has all members of the other, and more.
-use Rattle.std.proofs.Common.{◌≡◌, ℕ, zero, suc, ◌<◌, ◌≤◌, Bool, true, false, cond, not, ◌&&◌, ◌||◌, IsTrue, inl, inr, refl, sym, ap, ◌∙◌, arith, MatchBool}
+use Rattle.std.proofs.Common.{◌≡◌, ℕ, zero, suc, ◌<◌, ◌≤◌, Bool, true, false, cond, not, ◌&&◌, ◌||◌, inl, inr, refl, sym, ap, ◌∙◌, arith}
 use Rattle.std.proofs.Math.Path.{fun_ext}
 use Rattle.std.proofs.lemmas.Bool.{cases_Bool, cases_eq, cases_lt, lt-ltb, le-ltb, true≢false}
 use Rattle.bittle.specs.PlainSet.{PlainSet, count_below, full_set, size, with_span}
@@ -61,19 +61,18 @@ more_members s t same all i low differs =
     ])
 
 -- a set that an operation changes, which takes none out, grows
-pub grows : (f : Bool → Bool → Bool) (s t u : PlainSet) (told : Bool) →
-    ((a b : Bool) → a ≡ true → f a b ≡ true) → u ≡ combined_within f s t →
-    MatchBool told (Differ s u) (u ≡ s) → IsTrue told → size s < size u
-grows f s t u true keeps is differ said =
+pub grows : (f : Bool → Bool → Bool) (s t u : PlainSet) →
+    ((a b : Bool) → a ≡ true → f a b ≡ true) → u ≡ combined_within f s t → Differ s u →
+    size s < size u
+grows f s t u keeps is differ =
     more_members s u (ap (λ v. v.capacity) is) (λ k l h. ap (λ v. v.has k) is
     ∙ combined_below f s t k l ∙ keeps (s.has k) (t.has k) h) differ.0 differ.1 differ.2
-grows f s t u false keeps is same said = absurd (true≢false (sym said))
 
 -- and one that an operation changes, which brings none in, shrinks
-pub shrinks : (f : Bool → Bool → Bool) (s t u : PlainSet) (told : Bool) →
-    ((a b : Bool) → f a b ≡ true → a ≡ true) → u ≡ combined_within f s t →
-    MatchBool told (Differ s u) (u ≡ s) → IsTrue told → size u < size s
-shrinks f s t u true brings is differ said =
+pub shrinks : (f : Bool → Bool → Bool) (s t u : PlainSet) →
+    ((a b : Bool) → f a b ≡ true → a ≡ true) → u ≡ combined_within f s t → Differ s u →
+    size u < size s
+shrinks f s t u brings is differ =
     let same : u.capacity ≡ s.capacity = ap (λ v. v.capacity) is in
     more_members u s (sym same) (λ k l h. brings (s.has k) (t.has k)
     (sym (ap (λ v. v.has k) is ∙ combined_below f s t k (omega (arith, l, same))) ∙ h)) differ.0
@@ -82,7 +81,6 @@ shrinks f s t u true brings is differ said =
     twice : (b : Bool) → b ≡ not (not b)
     twice true = refl
     twice false = refl
-shrinks f s t u false brings is same said = absurd (true≢false (sym said))
 
 pub either_keeps : (a b : Bool) → a ≡ true → a || b ≡ true
 either_keeps true b h = refl

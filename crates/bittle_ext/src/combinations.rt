@@ -1,7 +1,8 @@
 //! A set changed in place by another one, of any width and order, a word at a time.
 
-ghost use Rattle.std.specs.Prelude.{◌≡◌, MatchBool};
+ghost use Rattle.std.specs.Prelude.{◌≡◌, ◌↔◌, ◌<◌, ℕ, false, IsTrue};
 ghost use Rattle.bittle_ext.specs.Between.{combined_within, Differ};
+ghost use Rattle.bittle.specs.PlainSet.{contains};
 ghost use Rattle.bittle.specs.Values.{set_in, ShapeFits};
 
 use crate::capacities::capacity_of;
@@ -32,9 +33,14 @@ pub fn combine_with<A: BitsMut, B: Bits, E: Endian, F: Endian, O: Operation>(
     requires other_fits { ShapeFits B.Shape other.now }
     ensures set { set_in A.Shape E.Endian set.new ≡ combined_within O.decide
         (set_in A.Shape E.Endian set.old) (set_in B.Shape F.Endian other.now) }
-    ensures changed { let before = set_in A.Shape E.Endian set.old in
-        let after = set_in A.Shape E.Endian set.new in
-        MatchBool result (Differ before after) (after ≡ before) }
+    ensures each { (i : ℕ) → i < (A.big set.old).capacity
+        → contains (set_in A.Shape E.Endian set.new) i
+        ≡ O.decide (contains (set_in A.Shape E.Endian set.old) i)
+        ((set_in B.Shape F.Endian other.now).has i) }
+    ensures changed { IsTrue result ↔ Differ (set_in A.Shape E.Endian set.old)
+        (set_in A.Shape E.Endian set.new) }
+    ensures unchanged { result ≡ false → set_in A.Shape E.Endian set.new
+        ≡ set_in A.Shape E.Endian set.old }
     ensures stays { A.loan set.old ≡ A.loan set.new }
 {
     let words = (capacity_of::<A, E>(set) / word_width::<A>()) as usize;

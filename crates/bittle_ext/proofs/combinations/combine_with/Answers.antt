@@ -3,7 +3,7 @@ use Rattle.std.proofs.Math.Nat.{mul-le-mul_right}
 use Rattle.std.proofs.lemmas.Bool.{lt-ltb, le-ltb}
 use Rattle.bittle.specs.Values.{set_in}
 use Rattle.bittle_ext.specs.Between.{has_combined}
-use Rattle.bittle_ext.proofs.CombinedSets.{combined_past, tells_none, made, tells_more, tells_all}
+use Rattle.bittle_ext.proofs.CombinedSets.{combined_past, combined_each, tells_none, made, tells_more, tells_all, told_where, told_same}
 use Rattle.bittle_ext.proofs.CommonCounts.{word_inside}
 use Rattle.bittle_ext.proofs.RotatedSets.{words_make}
 use Rattle.bittle_ext.proofs.WordsReplaced.{adds_upward, more_replaced, none_replaced, all_replaced}
@@ -54,8 +54,8 @@ loop-k-preserved g c =
       stays = v.stays ∙ c.set_nth_leaf_word.ensures.stays;
     }
 
-pub returns-clause-set : goal.returns-clause-set
-returns-clause-set g c =
+pub returns : goal.returns
+returns g c =
     let b = g.met.A.ReadWords in
     let w = g.A.Shape.width in
     let f = g.O.Operation.decide in
@@ -65,18 +65,15 @@ returns-clause-set g c =
     let whole = words_make _ _ _ _ _ (b.whole_words c.args.set.now) b.width_positive ends.capacity
     c.word_width.ensures refl in
     let far = mul-le-mul_right w c.loop-k-test.false in
-    c.loop-k.invariant.replaced
-    ∙ all_replaced (λ i. nat_lt i (c.loop-k.k * w)) (has_combined f s t) s ends.past (combined_past f s t)
-    (λ i l. lt-ltb i (c.loop-k.k * w) (omega (arith, l, whole, far)))
-
-pub returns-clause-changed : goal.returns-clause-changed
-returns-clause-changed g c =
-    let b = g.met.A.ReadWords in
-    let w = g.A.Shape.width in
-    let s = set_in g.A.Shape g.E.Endian c.args.set.now in
-    let ends = c.capacity_of.ensures.ends in
-    let whole = words_make _ _ _ _ _ (b.whole_words c.args.set.now) b.width_positive ends.capacity
-    c.word_width.ensures refl in
-    let far = mul-le-mul_right w c.loop-k-test.false in
-    tells_all g.O.Operation.decide (c.loop-k.k * w) c.loop-k.changed s _ _
-    (omega (arith, whole, far)) ends.past (returns-clause-set g c) c.loop-k.invariant.told
+    let set = c.loop-k.invariant.replaced
+    ∙ all_replaced (λ i. nat_lt i (c.loop-k.k * w)) (has_combined f s t) s ends.past
+    (combined_past f s t) (λ i l. lt-ltb i (c.loop-k.k * w) (omega (arith, l, whole, far))) in
+    let told = tells_all f (c.loop-k.k * w) c.loop-k.changed s t _ (omega (arith, whole, far))
+    ends.past set c.loop-k.invariant.told in
+    record {
+      set = set;
+      each = combined_each f s t _ set;
+      changed = told_where _ _ _ told;
+      unchanged = told_same _ _ _ told;
+      stays = c.loop-k.invariant.stays;
+    }
