@@ -2,18 +2,13 @@
 use Rattle.std.proofs.Common.{◌≡◌, ◌⊎◌, ℕ, ◌-◌, ◌<◌, ◌≤◌, false, ◌&&◌, List, Option, Some, None, inl, inr, refl, sym, ap, ◌∙◌, arith}
 use Rattle.std.proofs.Math.Path.{fun_ext}
 use Rattle.std.proofs.lemmas.Bool.{and_right, cases_lt}
-use Rattle.bittle.specs.PlainSet.{PlainSet, ascending, complement, is_in_span, members_below}
+use Rattle.bittle.specs.PlainSet.{PlainSet, ascending, is_in_span, members_below}
 use Rattle.bittle.specs.Searches.{IsFirstIn, IsLastIn, NoneIn}
 use Rattle.bittle_bits.proofs.MembersBelow.{below_between}
 use Rattle.bittle_bits.proofs.PlainSets.{plain_set}
 use Rattle.bittle_bits.proofs.Spans.{is_in_span-inside, is_in_span-outside}
 use Rattle.bittle_ext.specs.RangeMembers.{EndsAt, IsPartBelow, ListsWithin, members_within}
 use Rattle.bittle_ext.proofs.RankFacts.{below_past}
-use Rattle.bittle_ext.proofs.SetFacts.{complement_past}
-
--- the complement of a set ends where the set does
-pub complement_ends : {s : PlainSet} {n : ℕ} → EndsAt s n → EndsAt (complement s) n
-complement_ends {s} x = record { capacity = x.capacity; past = complement_past s }
 
 module _ {s : PlainSet} {n from to start end : ℕ} (x : EndsAt s n)
     (part : IsPartBelow n from to start end) where

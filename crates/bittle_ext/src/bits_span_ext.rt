@@ -79,6 +79,7 @@ pub trait BitsSpanExt: Bits + Sized {
     /// 0b0110_0010u8.first_one_in_span(2..);               // Some(5)
     /// ```
     #[inline]
+    #[tactic(auto, using(crate::proofs::RangesBelow::first_of_part))]
     final fn first_one_in_span<R: RangeBounds<u32>>(&self, range: R) -> Option<u32>
         requires fits { ShapeFits Self.Shape self.now }
         requires known { R.has_bounds range }
@@ -98,6 +99,7 @@ pub trait BitsSpanExt: Bits + Sized {
     /// 0b0110_0110u8.first_zero_in_span(1..=6);            // Some(3)
     /// ```
     #[inline]
+    #[tactic(auto, using(crate::proofs::RangesBelow::first_of_part))]
     final fn first_zero_in_span<R: RangeBounds<u32>>(&self, range: R) -> Option<u32>
         requires fits { ShapeFits Self.Shape self.now }
         requires known { R.has_bounds range }
@@ -118,6 +120,7 @@ pub trait BitsSpanExt: Bits + Sized {
     /// 0b0110_0010u8.last_one_in_span(..5);                // Some(1)
     /// ```
     #[inline]
+    #[tactic(auto, using(crate::proofs::RangesBelow::last_of_part))]
     final fn last_one_in_span<R: RangeBounds<u32>>(&self, range: R) -> Option<u32>
         requires fits { ShapeFits Self.Shape self.now }
         requires known { R.has_bounds range }
@@ -137,6 +140,7 @@ pub trait BitsSpanExt: Bits + Sized {
     /// 0b0110_0110u8.last_zero_in_span(..7);               // Some(4)
     /// ```
     #[inline]
+    #[tactic(auto, using(crate::proofs::RangesBelow::last_of_part))]
     final fn last_zero_in_span<R: RangeBounds<u32>>(&self, range: R) -> Option<u32>
         requires fits { ShapeFits Self.Shape self.now }
         requires known { R.has_bounds range }

@@ -3,6 +3,7 @@
 ghost use Rattle.std.specs.Prelude.{◌≡◌, ◌<◌, ◌≤◌};
 ghost use Rattle.std.specs.Range.Bound.{start_index, end_index};
 ghost use Rattle.bittle_ext.specs.RangeMembers.{EndsAt, IsPartBelow};
+ghost use Rattle.bittle.specs.PlainSet.{complement};
 ghost use Rattle.bittle.specs.Values.{set_in, ShapeFits};
 
 use crate::capacities::capacity_of;
@@ -30,7 +31,7 @@ pub(crate) fn ends_of<R: RangeBounds<u32>>(range: &R, capacity: u32) -> (u64, u6
 }
 
 /// Returns what of a range lies below the capacity of a set, as the ends of a range that does not
-/// run backwards. From the capacity on the set has no bit in the order `E`.
+/// run backwards. From the capacity on the set has no bit in the order `E`, set or unset.
 #[inline]
 pub(crate) fn part_of<B: Bits, E: Endian, R: RangeBounds<u32>>(set: &B, range: &R) -> (u32, u32)
     requires fits { ShapeFits B.Shape set.now }
@@ -39,6 +40,7 @@ pub(crate) fn part_of<B: Bits, E: Endian, R: RangeBounds<u32>>(set: &B, range: &
         IsPartBelow capacity (start_index (R.start_bound range.now))
         (end_index (R.end_bound range.now) capacity) result.0 result.1 }
     ensures ends { EndsAt (set_in B.Shape E.Endian set.now) (B.big set.now).capacity }
+    ensures others { EndsAt (complement (set_in B.Shape E.Endian set.now)) (B.big set.now).capacity }
 {
     let capacity = capacity_of::<B, E>(set);
     let (from, to) = ends_of(range, capacity);

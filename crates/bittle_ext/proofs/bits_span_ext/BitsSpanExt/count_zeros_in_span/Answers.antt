@@ -3,7 +3,7 @@ use Rattle.bittle.specs.PlainSet.{complement, members_below}
 use Rattle.bittle.specs.Values.{set_in}
 use Rattle.bittle_bits.proofs.MembersBelow.{below_between}
 use Rattle.bittle_ext.proofs.RankFacts.{below_others}
-use Rattle.bittle_ext.proofs.RangesBelow.{complement_ends, count_of_part}
+use Rattle.bittle_ext.proofs.RangesBelow.{count_of_part}
 use Rattle.bittle_ext.proofs.bits_span_ext.BitsSpanExt.count_zeros_in_span.Goals as goal
 
 pub returns-clause-value : goal.returns-clause-value
@@ -23,4 +23,4 @@ returns-clause-value g c =
       between.1,
       part.ordered,
     ) in
-    here ∙ count_of_part (complement_ends c.part_of-start.ensures.ends) part
+    here ∙ count_of_part c.part_of-start.ensures.others part
