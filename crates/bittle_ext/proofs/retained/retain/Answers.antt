@@ -28,6 +28,7 @@ loop-k-init g c =
     record {
       callable = c.requires.callable;
       within = e.1;
+      whole = whole;
       retains = retains_on (goal.F-step g) _ _ _ _ _ (retains_none (goal.F-step g) c.args.keep s)
           (c.pass_over-k.result * w) (omega arith) (omega (arith, low, whole))
           (λ j lo hi. passed.2 j (omega arith) hi);
@@ -40,12 +41,12 @@ nth_leaf_word-word-requires-clause-fits g c =
 
 pub nth_leaf_word-word-requires-clause-within : goal.nth_leaf_word-word-requires-clause-within
 nth_leaf_word-word-requires-clause-within g c =
-    let b = g.met.B.ReadWords in
-    let whole = words_make _ _ _ _ _ (b.whole_words c.args.bits.now) b.width_positive
-    (c.bits_capacity.ensures.value c.requires.fits) c.word_width-width.ensures refl in
-    let inside = word_inside g.B.Shape.width c.loop-k.k _ _ _ whole
-    c.loop-k.invariant.retains.capacity c.loop-k-test.true in
-    omega (arith, inside, b.width_positive)
+    let v = c.loop-k.invariant in
+    omega (
+      arith,
+      word_inside g.B.Shape.width c.loop-k.k _ _ _ v.whole v.retains.capacity c.loop-k-test.true,
+      g.met.B.ReadWords.width_positive,
+    )
 
 pub loop-index-init : goal.loop-index-init
 loop-index-init g c =
@@ -56,6 +57,7 @@ loop-index-init g c =
     record {
       callable = subst (λ n. IsCallableBelow n g.F.FnMut c.loop-k.keep) (sym v.retains.capacity)
           v.callable;
+      inside = word_inside w c.loop-k.k _ _ _ v.whole v.retains.capacity c.loop-k-test.true;
       halfway = (
         now,
         c.loop-k.k * w,
@@ -68,17 +70,12 @@ loop-index-init g c =
 pub keep-requires : goal.keep-requires
 keep-requires g c =
     let b = g.met.B.ReadWords in
-    let wide = c.word_width-width.ensures in
     let k = c.loop-k.k in
-    let i = c.in-Some.index in
-    let whole = words_make _ _ _ _ _ (b.whole_words c.args.bits.now) b.width_positive
-    (c.bits_capacity.ensures.value c.requires.fits) wide refl in
-    let inside = word_inside g.B.Shape.width k _ _ _ whole
-    c.loop-k.invariant.retains.capacity c.loop-k-test.true in
-    let same : k * c.word_width-width.result ≡ k * g.B.Shape.width = ap (λ n. k * n) wide in
-    asks_below _ g.F.FnMut c.loop-index.keep (k * c.word_width-width.result + i)
-    c.loop-index.invariant.callable
-    (omega (arith, inside, same, c.in-Some.ensures.below, b.leaf_width))
+    let v = c.loop-index.invariant in
+    let same : k * c.word_width-width.result ≡ k * g.B.Shape.width =
+    ap (λ n. k * n) c.word_width-width.ensures in
+    asks_below _ g.F.FnMut c.loop-index.keep (k * c.word_width-width.result + c.in-Some.index)
+    v.callable (omega (arith, v.inside, same, c.in-Some.ensures.below, b.leaf_width))
 
 pub loop-index-smaller-then-keep : goal.loop-index-smaller-then-keep
 loop-index-smaller-then-keep g c =
@@ -98,22 +95,19 @@ loop-index-preserved-then-keep g c =
     let k = c.loop-k.k in
     let i = c.in-Some.index in
     let R = goal.F-step g in
-    let h = c.loop-index.invariant.halfway in
-    let whole = words_make _ _ _ _ _ (b.whole_words c.args.bits.now) b.width_positive
-    (c.bits_capacity.ensures.value c.requires.fits) wide refl in
-    let inside = word_inside w k _ _ _ whole c.loop-k.invariant.retains.capacity
-    c.loop-k-test.true in
+    let v = c.loop-index.invariant in
+    let h = v.halfway in
     let start : k * c.word_width-width.result ≡ k * w = ap (λ n. k * n) wide in
     let pop = popped w i _ _ (rw b.leaf_width at c.in-Some.ensures.found) in
-    let far : k * w + w ≤ h.0.capacity = omega (arith, inside, h.2.capacity) in
+    let far : k * w + w ≤ h.0.capacity = omega (arith, v.inside, h.2.capacity) in
     let found = found_next w k _ _ _ h.0 h.1 b.width_positive h.2 i _ pop far in
     let called = subst (λ n. R c.loop-index.keep (n + i) true c.keep.new.self) start
     (subst (λ b. R c.loop-index.keep (k * c.word_width-width.result + i) b c.keep.new.self)
     c.if-keep.true c.keep.ensures) in
     record {
       callable = next_below _ g.F.FnMut c.loop-index.keep (k * c.word_width-width.result + i)
-          c.loop-index.invariant.callable (omega (arith, inside, start, pop.inside)) _ _
-          c.keep.ensures;
+          v.callable (omega (arith, v.inside, start, pop.inside)) _ _ c.keep.ensures;
+      inside = v.inside;
       halfway = (
         h.0,
         k * w + i + 1,
@@ -132,22 +126,19 @@ loop-index-preserved g c =
     let k = c.loop-k.k in
     let i = c.in-Some.index in
     let R = goal.F-step g in
-    let h = c.loop-index.invariant.halfway in
-    let whole = words_make _ _ _ _ _ (b.whole_words c.args.bits.now) b.width_positive
-    (c.bits_capacity.ensures.value c.requires.fits) wide refl in
-    let inside = word_inside w k _ _ _ whole c.loop-k.invariant.retains.capacity
-    c.loop-k-test.true in
+    let v = c.loop-index.invariant in
+    let h = v.halfway in
     let start : k * c.word_width-width.result ≡ k * w = ap (λ n. k * n) wide in
     let pop = popped w i _ _ (rw b.leaf_width at c.in-Some.ensures.found) in
-    let far : k * w + w ≤ h.0.capacity = omega (arith, inside, h.2.capacity) in
+    let far : k * w + w ≤ h.0.capacity = omega (arith, v.inside, h.2.capacity) in
     let found = found_next w k _ _ _ h.0 h.1 b.width_positive h.2 i _ pop far in
     let called = subst (λ n. R c.loop-index.keep (n + i) false c.keep.new.self) start
     (subst (λ b. R c.loop-index.keep (k * c.word_width-width.result + i) b c.keep.new.self)
     c.if-keep.false c.keep.ensures) in
     record {
       callable = next_below _ g.F.FnMut c.loop-index.keep (k * c.word_width-width.result + i)
-          c.loop-index.invariant.callable (omega (arith, inside, start, pop.inside)) _ _
-          c.keep.ensures;
+          v.callable (omega (arith, v.inside, start, pop.inside)) _ _ c.keep.ensures;
+      inside = v.inside;
       halfway = (
         without_index h.0 (k * w + i),
         k * w + i + 1,
@@ -163,12 +154,7 @@ change_word-requires-clause-fits g c =
 
 pub change_word-requires-clause-within : goal.change_word-requires-clause-within
 change_word-requires-clause-within g c =
-    let b = g.met.B.ReadWords in
-    let whole = words_make _ _ _ _ _ (b.whole_words c.args.bits.now) b.width_positive
-    (c.bits_capacity.ensures.value c.requires.fits) c.word_width-width.ensures refl in
-    let inside = word_inside g.B.Shape.width c.loop-k.k _ _ _ whole
-    c.loop-k.invariant.retains.capacity c.loop-k-test.true in
-    omega (arith, inside, b.width_positive)
+    omega (arith, c.loop-index.invariant.inside, g.met.B.ReadWords.width_positive)
 
 pub pass_over-k-requires-in-loop-k-clause-fits : goal.pass_over-k-requires-in-loop-k-clause-fits
 pass_over-k-requires-in-loop-k-clause-fits g c = (
@@ -184,10 +170,8 @@ pass_over-k-requires-in-loop-k-clause-fits g c = (
 pub pass_over-k-requires-in-loop-k-clause-within :
     goal.pass_over-k-requires-in-loop-k-clause-within
 pass_over-k-requires-in-loop-k-clause-within g c =
-    let b = g.met.B.ReadWords in
-    let whole = words_make _ _ _ _ _ (b.whole_words c.args.bits.now) b.width_positive
-    (c.bits_capacity.ensures.value c.requires.fits) c.word_width-width.ensures refl in
-    omega (arith, whole, c.loop-k.invariant.retains.capacity, c.change_word.ensures.set.capacity)
+    let v = c.loop-k.invariant in
+    omega (arith, v.whole, v.retains.capacity, c.change_word.ensures.set.capacity)
 
 pub loop-k-preserved : goal.loop-k-preserved
 loop-k-preserved g c =
@@ -202,8 +186,6 @@ loop-k-preserved g c =
     let new = c.change_word.new.bits in
     let s = set_in g.B.Shape g.E.Endian c.args.bits.now in
     let after = set_in g.B.Shape g.E.Endian new in
-    let whole = words_make _ _ _ _ _ (b.whole_words c.args.bits.now) b.width_positive
-    (c.bits_capacity.ensures.value c.requires.fits) c.word_width-width.ensures refl in
     let none = none_left w _ (rw b.leaf_width at c.in_default.ensures.found).0 in
     let is = halfway_all m w k _ h.1 _ (g.B.Shape.big now) (g.B.Shape.big new) h.0 b.width_positive
     (b.whole_words now) (b.none_past now) (b.none_past new) h.2 none c.change_word.ensures.set in
@@ -224,8 +206,9 @@ loop-k-preserved g c =
       callable = subst (λ n. IsCallableBelow n g.F.FnMut c.loop-index.keep) v.retains.capacity
           c.loop-index.invariant.callable;
       within = e.1;
+      whole = v.whole;
       retains = retains_on R _ _ _ _ _ asked (r * w) (omega (arith, h.2.ends, up))
-          (omega (arith, low, whole)) past;
+          (omega (arith, low, v.whole)) past;
       stays = v.stays ∙ c.change_word.ensures.stays;
     }
 
@@ -237,13 +220,11 @@ returns-clause-set g c =
     let old = c.args.bits.now in
     let new = c.loop-k.bits in
     let v = c.loop-k.invariant in
-    let whole = words_make _ _ _ _ _ (b.whole_words old) b.width_positive
-    (c.bits_capacity.ensures.value c.requires.fits) c.word_width-width.ensures refl in
     let far = mul-le-mul_right w c.loop-k-test.false in
     retains_all (goal.F-step g) _ _ _ _ _ v.retains
     (members-past m w _ b.width_positive (b.whole_words old) (b.none_past old))
     (members-past m w _ b.width_positive (b.whole_words new) (b.none_past new))
-    (λ j lo hi. absurd (omega (arith, far, whole, lo, hi, v.retains.capacity)))
+    (λ j lo hi. absurd (omega (arith, far, v.whole, lo, hi, v.retains.capacity)))
 
 pub returns-clause-stays : goal.returns-clause-stays
 returns-clause-stays g c = c.loop-k.invariant.stays

@@ -1,4 +1,4 @@
-use Rattle.std.proofs.Common.{◌≡◌, ◌-◌, ◌*◌, ◌≤◌, ℕ, length}
+use Rattle.std.proofs.Common.{◌≡◌, ◌+◌, ◌-◌, ◌*◌, ◌≤◌, ℕ, length}
 use Rattle.bittle.specs.BitPatterns.{bit_set}
 use Rattle.bittle.specs.Orders.{read_in}
 use Rattle.bittle.specs.PlainSet.{PlainSet, ascending}
@@ -14,6 +14,7 @@ invariant-loop-k g l =
     record {
       callable : IsCallableBelow before.capacity g.F.FnMut l.keep;
       within : l.k ≤ l.words;
+      whole : l.words * g.B.Shape.width ≡ before.capacity;
       retains : RetainsBelow (goal.F-step g) l.initial.keep before l.keep
           (set_in g.B.Shape g.E.Endian l.bits) (l.k * g.B.Shape.width);
       stays : g.B.Shape.loan l.initial.bits ≡ g.B.Shape.loan l.bits;
@@ -31,6 +32,7 @@ invariant-loop-index g l =
     let now = set_in g.B.Shape g.E.Endian l.bits in
     record {
       callable : IsCallableBelow now.capacity g.F.FnMut l.keep;
+      inside : l.k * w + w ≤ now.capacity;
       halfway : (t : PlainSet) × (from : ℕ) × IsHalfway w l.k
           (read_in m w (bit_set w (g.B.LeafWord.Word.pattern l.kept))).has
           (read_in m w (bit_set w (g.B.LeafWord.Word.pattern l.rest))).has now t from
