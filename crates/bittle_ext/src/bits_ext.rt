@@ -9,9 +9,10 @@ ghost use Rattle.bittle.specs.Values.{set_in, ShapeFits};
 
 use crate::bits_span_ext::BitsSpanExt;
 use crate::capacities::capacity_of;
-use crate::{runs, select};
+use crate::runs;
+use crate::select::{place_of_rank, word_of_rank};
 use bittle::Bits;
-use bittle_bits::extension::{Ones, Zeros};
+use bittle_bits::extension::{Ones, Word, Zeros};
 
 /// Questions about any set, beyond the calls of [`Bits`].
 ///
@@ -182,7 +183,11 @@ pub trait BitsExt: Bits + Sized {
             ≡ slice_get (ascending (set_in Self.Shape Self.Order.Endian self.now)) rank }
         ensures below { IfSome result (λ index. index < (Self.big self.now).capacity) }
     {
-        select::select::<Self, Self::Order>(self, rank)
+        let width = <Self::LeafWord as Word>::width();
+        match word_of_rank::<Self, Self::Order>(self, rank) {
+            Some((k, rest)) => Some(k * width + place_of_rank::<Self, Self::Order>(self, k, rest)),
+            None => None,
+        }
     }
 
     /// Returns the least index of a set bit in `from..to`, in the order of the type, or `None` if

@@ -7,8 +7,12 @@ ghost use Rattle.bittle_ext.specs.SetRelations.{IsFirstAlone, IsFirstCommon};
 ghost use Rattle.bittle.specs.PlainSet.{size};
 ghost use Rattle.bittle.specs.Values.{set_in, ShapeFits};
 
-use crate::{counts, relations};
+use crate::capacities::capacity_of;
+use crate::counts::count_common;
+use crate::relations::first_below;
+use crate::views::of_both::OfBoth;
 use bittle::Bits;
+use bittle_bits::extension::{Difference, Ones, SymmetricDifference, Zeros, are_alike};
 
 /// Relations of two sets, of any two shapes that fit.
 ///
@@ -37,7 +41,8 @@ pub trait BitsRelationExt: Bits + Sized {
             MatchOption result (AreDisjoint ours theirs) (IsFirstCommon ours theirs) }
         ensures below { IfSome result (λ index. index < (Self.big self.now).capacity) }
     {
-        relations::first_common::<Self, B, Self::Order, B::Order>(self, other)
+        let end = capacity_of::<Self, Self::Order>(self).min(capacity_of::<B, B::Order>(other));
+        first_below::<Self, B, Self::Order, B::Order, Ones>(self, other, end)
     }
 
     /// Returns the least index that is set in this set and not in the other one, each in its own
@@ -55,7 +60,14 @@ pub trait BitsRelationExt: Bits + Sized {
             MatchOption result (IsSubset ours theirs) (IsFirstAlone ours theirs) }
         ensures below { IfSome result (λ index. index < (Self.big self.now).capacity) }
     {
-        relations::first_alone::<Self, B, Self::Order, B::Order>(self, other)
+        let end = capacity_of::<Self, Self::Order>(self);
+        let common = end.min(capacity_of::<B, B::Order>(other));
+        let found = first_below::<Self, B, Self::Order, B::Order, Zeros>(self, other, common);
+        if let Some(index) = found {
+            return Some(index);
+        }
+        // Past the second set's capacity nothing is set in it.
+        self.first_one_in::<Self::Order>(common, end)
     }
 
     /// Returns `true` if each bit that is set in this set is set in the other one too, each in its
@@ -72,7 +84,7 @@ pub trait BitsRelationExt: Bits + Sized {
             let theirs = set_in B.Shape B.Order.Endian other.now in
             IsTrue result ↔ IsSubset ours theirs }
     {
-        relations::first_alone::<Self, B, Self::Order, B::Order>(self, other).is_none()
+        self.first_alone(other).is_none()
     }
 
     /// Returns `true` if each bit that is set in the other set is set in this one too, each in its
@@ -89,7 +101,7 @@ pub trait BitsRelationExt: Bits + Sized {
             let theirs = set_in B.Shape B.Order.Endian other.now in
             IsTrue result ↔ IsSubset theirs ours }
     {
-        relations::first_alone::<B, Self, B::Order, Self::Order>(other, self).is_none()
+        other.first_alone(self).is_none()
     }
 
     /// Returns `true` if no index is set in both sets, each in its own order. It stops at the first
@@ -106,7 +118,7 @@ pub trait BitsRelationExt: Bits + Sized {
             let theirs = set_in B.Shape B.Order.Endian other.now in
             IsTrue result ↔ AreDisjoint ours theirs }
     {
-        relations::first_common::<Self, B, Self::Order, B::Order>(self, other).is_none()
+        self.first_common(other).is_none()
     }
 
     /// Returns `true` if an index is set in both sets, each in its own order. It stops at the first
@@ -123,7 +135,7 @@ pub trait BitsRelationExt: Bits + Sized {
             let theirs = set_in B.Shape B.Order.Endian other.now in
             IsTrue result ↔ Meet ours theirs }
     {
-        relations::first_common::<Self, B, Self::Order, B::Order>(self, other).is_some()
+        self.first_common(other).is_some()
     }
 
     /// Returns how many indexes are set in both sets, each in its own order. No set is made: words
@@ -142,7 +154,7 @@ pub trait BitsRelationExt: Bits + Sized {
             result ≡ size (both_of ours theirs) }
         ensures at_most { result ≤ (Self.big self.now).capacity }
     {
-        counts::count_common::<Self, B, Self::Order, B::Order>(self, other)
+        count_common::<Self, B, Self::Order, B::Order>(self, other)
     }
 
     /// Returns how many indexes are set in this set and not in the other one, each in its own
@@ -161,7 +173,12 @@ pub trait BitsRelationExt: Bits + Sized {
             result ≡ size (first_only_of ours theirs) }
         ensures at_most { result ≤ (Self.big self.now).capacity }
     {
-        counts::count_alone::<Self, B, Self::Order, B::Order>(self, other)
+        if are_alike::<Self, B, Self::Order, B::Order>() {
+            return OfBoth::<'_, Self, B, Self::Order, B::Order, Difference>::of_first(
+                self, other,
+            ).count_ones();
+        }
+        self.count_ones() - count_common::<Self, B, Self::Order, B::Order>(self, other)
     }
 
     /// Returns how many indexes are set in just one of the two sets, each in its own order. Each
@@ -180,7 +197,14 @@ pub trait BitsRelationExt: Bits + Sized {
             result ≡ size (just_one_of ours theirs) }
         ensures at_most { result ≤ max (Self.big self.now).capacity (B.big other.now).capacity }
     {
-        counts::count_different::<Self, B, Self::Order, B::Order>(self, other)
+        if are_alike::<Self, B, Self::Order, B::Order>() {
+            let view = OfBoth::<'_, Self, B, Self::Order, B::Order, SymmetricDifference>::of_alike(
+                self, other,
+            );
+            return view.count_ones();
+        }
+        let common = count_common::<Self, B, Self::Order, B::Order>(self, other);
+        (self.count_ones() - common) + (other.count_ones() - common)
     }
 }
 

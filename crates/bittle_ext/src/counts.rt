@@ -1,16 +1,14 @@
-//! How many indexes are set in both of two sets, in one alone, or in just one, with no set made: by
-//! the view of both where their words have one width and are read in one order, else by the set bits
-//! of the first.
+//! How many indexes are set in both of two sets, with no set made: by the view of both where their
+//! words have one width and are read in one order, else by the set bits of the first.
 
-ghost use Rattle.std.specs.Prelude.{◌≡◌, ◌≤◌, max};
-ghost use Rattle.bittle_ext.specs.Combined.{first_only_of, just_one_of, CountsBoth};
+ghost use Rattle.bittle_ext.specs.Combined.{CountsBoth};
 ghost use Rattle.bittle.specs.PlainSet.{size};
 ghost use Rattle.bittle.specs.Values.{set_in, ShapeFits};
 
 use crate::capacities::capacity_of;
 use crate::views::of_both::OfBoth;
 use bittle::{Bits, Endian};
-use bittle_bits::extension::{Conjunction, Difference, SymmetricDifference, are_alike};
+use bittle_bits::extension::{Conjunction, are_alike};
 
 /// Counts the indexes that are set in both.
 #[inline]
@@ -33,35 +31,4 @@ pub fn count_common<A: Bits, B: Bits, E: Endian, F: Endian>(left: &A, right: &B)
         from = index + 1;
     }
     count
-}
-
-/// Counts the indexes that are set in the first and not in the second.
-#[inline]
-pub fn count_alone<A: Bits, B: Bits, E: Endian, F: Endian>(left: &A, right: &B) -> u32
-    requires left_fits { ShapeFits A.Shape left.now }
-    requires right_fits { ShapeFits B.Shape right.now }
-    ensures value { result ≡ size (first_only_of (set_in A.Shape E.Endian left.now)
-        (set_in B.Shape F.Endian right.now)) }
-    ensures at_most { result ≤ (A.big left.now).capacity }
-{
-    if are_alike::<A, B, E, F>() {
-        return OfBoth::<'_, A, B, E, F, Difference>::of_first(left, right).count_ones();
-    }
-    left.count_ones() - count_common::<A, B, E, F>(left, right)
-}
-
-/// Counts the indexes that are set in just one of the two.
-#[inline]
-pub fn count_different<A: Bits, B: Bits, E: Endian, F: Endian>(left: &A, right: &B) -> u32
-    requires left_fits { ShapeFits A.Shape left.now }
-    requires right_fits { ShapeFits B.Shape right.now }
-    ensures value { result ≡ size (just_one_of (set_in A.Shape E.Endian left.now)
-        (set_in B.Shape F.Endian right.now)) }
-    ensures at_most { result ≤ max (A.big left.now).capacity (B.big right.now).capacity }
-{
-    if are_alike::<A, B, E, F>() {
-        return OfBoth::<'_, A, B, E, F, SymmetricDifference>::of_alike(left, right).count_ones();
-    }
-    let common = count_common::<A, B, E, F>(left, right);
-    (left.count_ones() - common) + (right.count_ones() - common)
 }

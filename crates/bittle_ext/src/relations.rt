@@ -1,21 +1,19 @@
-//! Relations of two sets: word by word if their words have one width and are read in one order,
-//! else by alternating searches, each from where the other one stopped.
+//! The search that relations of two sets make: word by word if their words have one width and are
+//! read in one order, else by alternating searches, each from where the other one stopped.
 
-ghost use Rattle.std.specs.Prelude.{◌≡◌, ◌<◌, min, not, IfSome, MatchOption};
-ghost use Rattle.bittle_ext.specs.SetRelations.{IsSubset, AreDisjoint, AgreesBelow};
-ghost use Rattle.bittle_ext.specs.SetRelations.{IsFirstWhere, IsFirstAlone, IsFirstCommon};
+ghost use Rattle.std.specs.Prelude.{◌≡◌, min, not, MatchOption};
+ghost use Rattle.bittle_ext.specs.SetRelations.{AgreesBelow, IsFirstWhere};
 ghost use Rattle.bittle.specs.Values.{set_in, ShapeFits};
 
-use crate::capacities::capacity_of;
 use bittle::{Bits, Endian};
 use bittle_bits::extension::{
-    Conjunction, Difference, Front, Kind, Ones, Zeros, are_alike, end_in, first_decided_below,
+    Conjunction, Difference, Front, Kind, are_alike, end_in, first_decided_below,
 };
 
 /// Returns the least index below both capacities that is set in the first and of the kind in the
 /// second, or `None`.
 #[inline]
-fn first_below<A: Bits, B: Bits, E: Endian, F: Endian, K: Kind>(
+pub fn first_below<A: Bits, B: Bits, E: Endian, F: Endian, K: Kind>(
     left: &A,
     right: &B,
     end: u32,
@@ -46,37 +44,4 @@ fn first_below<A: Bits, B: Bits, E: Endian, F: Endian, K: Kind>(
         from = theirs;
     }
     None
-}
-
-/// Returns the least index that is set in both, or `None`.
-#[inline]
-pub fn first_common<A: Bits, B: Bits, E: Endian, F: Endian>(left: &A, right: &B) -> Option<u32>
-    requires left_fits { ShapeFits A.Shape left.now }
-    requires right_fits { ShapeFits B.Shape right.now }
-    ensures first { let ours = set_in A.Shape E.Endian left.now in
-        let theirs = set_in B.Shape F.Endian right.now in
-        MatchOption result (AreDisjoint ours theirs) (IsFirstCommon ours theirs) }
-    ensures below { IfSome result (λ index. index < (A.big left.now).capacity) }
-{
-    let end = capacity_of::<A, E>(left).min(capacity_of::<B, F>(right));
-    first_below::<A, B, E, F, Ones>(left, right, end)
-}
-
-/// Returns the least index that is set in the first and not in the second, or `None`.
-#[inline]
-pub fn first_alone<A: Bits, B: Bits, E: Endian, F: Endian>(left: &A, right: &B) -> Option<u32>
-    requires left_fits { ShapeFits A.Shape left.now }
-    requires right_fits { ShapeFits B.Shape right.now }
-    ensures first { let ours = set_in A.Shape E.Endian left.now in
-        let theirs = set_in B.Shape F.Endian right.now in
-        MatchOption result (IsSubset ours theirs) (IsFirstAlone ours theirs) }
-    ensures below { IfSome result (λ index. index < (A.big left.now).capacity) }
-{
-    let end = capacity_of::<A, E>(left);
-    let common = end.min(capacity_of::<B, F>(right));
-    if let Some(index) = first_below::<A, B, E, F, Zeros>(left, right, common) {
-        return Some(index);
-    }
-    // Past the second set's capacity nothing is set in it.
-    left.first_one_in::<E>(common, end)
 }

@@ -1,8 +1,8 @@
 //! The set bit of a rank: its word by the counts of whole words, its place there by halves.
 
-ghost use Rattle.std.specs.Prelude.{◌≡◌, ◌+◌, ◌*◌, ◌<◌, true, IfSome, MatchOption, slice_get};
+ghost use Rattle.std.specs.Prelude.{◌≡◌, ◌+◌, ◌*◌, ◌<◌, true, MatchOption};
 ghost use Rattle.bittle_ext.specs.Ranks.{HasNoRank, IsInWord};
-ghost use Rattle.bittle.specs.PlainSet.{ascending, members_below};
+ghost use Rattle.bittle.specs.PlainSet.{members_below};
 ghost use Rattle.bittle.specs.Values.{set_in, ShapeFits};
 
 use bittle::{Bits, Endian};
@@ -22,7 +22,7 @@ fn count_word<B: Bits, E: Endian>(bits: &B, k: u32) -> u32
 /// Returns the word with the set bit of a rank, and how many bits of the word are set below that
 /// one, or `None` if there is no such bit.
 #[inline]
-fn word_of_rank<B: Bits, E: Endian>(bits: &B, rank: u32) -> Option<(u32, u32)>
+pub fn word_of_rank<B: Bits, E: Endian>(bits: &B, rank: u32) -> Option<(u32, u32)>
     requires { ShapeFits B.Shape bits.now }
     ensures { let ours = set_in B.Shape E.Endian bits.now in
         MatchOption result (HasNoRank ours rank) (λ at. IsInWord ours B.width rank at.0 at.1) }
@@ -44,7 +44,7 @@ fn word_of_rank<B: Bits, E: Endian>(bits: &B, rank: u32) -> Option<(u32, u32)>
 /// It lies in a span of the word, which is halved: the lower half has it if more than `rest` bits
 /// are set below the half's end. There is no branch on which half has it.
 #[inline]
-fn place_of_rank<B: Bits, E: Endian>(bits: &B, k: u32, rest: u32) -> u32
+pub fn place_of_rank<B: Bits, E: Endian>(bits: &B, k: u32, rest: u32) -> u32
     requires fits { ShapeFits B.Shape bits.now }
     requires word { k * B.width < (B.big bits.now).capacity }
     requires has_it { let ours = set_in B.Shape E.Endian bits.now in
@@ -64,18 +64,4 @@ fn place_of_rank<B: Bits, E: Endian>(bits: &B, k: u32, rest: u32) -> u32
         }
     }
     at
-}
-
-/// Returns the index of the set bit below which `rank` bits are set, or `None`.
-#[inline]
-pub fn select<B: Bits, E: Endian>(bits: &B, rank: u32) -> Option<u32>
-    requires { ShapeFits B.Shape bits.now }
-    ensures value { result ≡ slice_get (ascending (set_in B.Shape E.Endian bits.now)) rank }
-    ensures below { IfSome result (λ index. index < (B.big bits.now).capacity) }
-{
-    let width = <B::LeafWord as Word>::width();
-    match word_of_rank::<B, E>(bits, rank) {
-        Some((k, rest)) => Some(k * width + place_of_rank::<B, E>(bits, k, rest)),
-        None => None,
-    }
 }

@@ -2,50 +2,50 @@ use Rattle.std.proofs.Common.{◌≡◌, ◌*◌, ◌+◌, ap, ◌∙◌, arith}
 use Rattle.bittle.specs.Values.{set_in}
 use Rattle.bittle_bits.proofs.Words.{word_ends}
 use Rattle.bittle_ext.proofs.RankFacts.{selected, not_selected}
-use Rattle.bittle_ext.proofs.select.select.Goals as goal
+use Rattle.bittle_ext.proofs.bits_ext.BitsExt.select.Goals as goal
 
 pub overflow_add-result : goal.overflow_add-result
 overflow_add-result g c =
-    let b = g.met.B.ReadWords in
-    let w = g.B.Shape.width in
-    let s = set_in g.B.Shape g.E.Endian c.args.bits.now in
+    let b = g.met.Self.ReadWords in
+    let w = g.Self.Shape.width in
+    let s = set_in g.Self.Shape g.Self.Order.Endian c.args.self.now in
     let wide : c.width-width.result ≡ w = c.width-width.ensures ∙ b.leaf_width in
     let at : c.in-Some.k * c.width-width.result ≡ c.in-Some.k * w = ap (λ v. c.in-Some.k * v) wide in
     omega (
       arith,
       at,
-      word_ends w c.in-Some.k s.capacity (b.whole_words c.args.bits.now) c.in-Some.ensures.0,
+      word_ends w c.in-Some.k s.capacity (b.whole_words c.args.self.now) c.in-Some.ensures.0,
       c.place_of_rank.ensures.within,
       c.requires.1,
     )
 
 pub returns-in-Some-clause-below : goal.returns-in-Some-clause-below
 returns-in-Some-clause-below g c =
-    let b = g.met.B.ReadWords in
+    let b = g.met.Self.ReadWords in
     let wide = c.width-width.ensures ∙ b.leaf_width in
     omega (
       arith,
       ap (λ v. c.in-Some.k * v) wide,
-      word_ends g.B.Shape.width c.in-Some.k _ (b.whole_words c.args.bits.now)
+      word_ends g.Self.Shape.width c.in-Some.k _ (b.whole_words c.args.self.now)
           c.in-Some.ensures.0,
       c.place_of_rank.ensures.within,
     )
 
 pub returns-in-Some-clause-value : goal.returns-in-Some-clause-value
 returns-in-Some-clause-value g c =
-    let b = g.met.B.ReadWords in
-    let w = g.B.Shape.width in
-    let s = set_in g.B.Shape g.E.Endian c.args.bits.now in
+    let b = g.met.Self.ReadWords in
+    let w = g.Self.Shape.width in
+    let s = set_in g.Self.Shape g.Self.Order.Endian c.args.self.now in
     let wide : c.width-width.result ≡ w = c.width-width.ensures ∙ b.leaf_width in
     let place = c.place_of_rank.ensures in
     rw wide (selected s (c.in-Some.k * w + c.place_of_rank.result) c.args.rank
     (omega (
       arith,
-      word_ends w c.in-Some.k s.capacity (b.whole_words c.args.bits.now) c.in-Some.ensures.0,
+      word_ends w c.in-Some.k s.capacity (b.whole_words c.args.self.now) c.in-Some.ensures.0,
       place.within,
     ))
     place.found.0 (place.found.1 ∙ c.in-Some.ensures.1))
 
 pub returns-in-None-clause-value : goal.returns-in-None-clause-value
 returns-in-None-clause-value g c =
-    not_selected (set_in g.B.Shape g.E.Endian c.args.bits.now) c.args.rank c.in-None.ensures
+    not_selected (set_in g.Self.Shape g.Self.Order.Endian c.args.self.now) c.args.rank c.in-None.ensures
