@@ -14,26 +14,31 @@ use Rattle.bittle_bits.proofs.SetOperations.{combination-below}
 use Rattle.bittle_bits.proofs.WordOperations.{digits_just_one, word_combined}
 use Rattle.bittle_bits.proofs.Words.{digit_at, word_has-at}
 use Rattle.bittle.proofs.CallerSets.{contains_within}
-use Rattle.bittle_ext.specs.Between.{has_combined, combined_within, Differ}
+use Rattle.bittle_ext.specs.Between.{has_below, members_to, Differ}
+use Rattle.bittle_ext.specs.Combined.{decided_set}
 use Rattle.bittle_ext.proofs.WordsReplaced.{replaced_where}
+
+-- what an operation with another set leaves of a set that keeps its capacity
+abbrev pub combined : (Bool → Bool → Bool) → PlainSet → PlainSet → PlainSet
+combined f s t = members_to s.capacity (decided_set f s t)
 
 -- past the capacity an operation makes no member
 pub combined_past : (f : Bool → Bool → Bool) (s t : PlainSet) (i : ℕ) → s.capacity ≤ i →
-    has_combined f s t i ≡ false
-unfolding has_combined
+    (combined f s t).has i ≡ false
+unfolding has_below
 combined_past f s t i h = ap (λ b. b && f (s.has i) (t.has i)) (le-ltb i s.capacity h)
 
 -- below it the operation decides
 pub combined_below : (f : Bool → Bool → Bool) (s t : PlainSet) (i : ℕ) → i < s.capacity →
-    has_combined f s t i ≡ f (s.has i) (t.has i)
-unfolding has_combined
+    (combined f s t).has i ≡ f (s.has i) (t.has i)
+unfolding has_below
 combined_below f s t i h = ap (λ b. b && f (s.has i) (t.has i)) (lt-ltb i s.capacity h)
 
 -- so it does of an index of the set afterwards
-pub combined_each : (f : Bool → Bool → Bool) (s t u : PlainSet) → u ≡ combined_within f s t →
+pub combined_each : (f : Bool → Bool → Bool) (s t u : PlainSet) → u ≡ combined f s t →
     (i : ℕ) → i < s.capacity → contains u i ≡ f (contains s i) (t.has i)
 combined_each f s t u is i h =
-    ap (λ v. contains v i) is ∙ contains_within (combined_within f s t) i h
+    ap (λ v. contains v i) is ∙ contains_within (combined f s t) i h
     ∙ combined_below f s t i h ∙ ap (λ b. f b (t.has i)) (sym (contains_within s i h))
 
 -- whether a test of the numbers below one differs anywhere from the members of a set
@@ -48,17 +53,17 @@ tells_none w g s = λ i h. absurd (omega arith)
 -- word k of a set, of which the words before it are decided, and of another set
 module _ (f : Bool → Bool → Bool) (m : Bool) (w k x y r : ℕ) (s t now : PlainSet) (word : 0 < w)
     (ends : (k + 1) * w ≤ s.capacity)
-    (before : read_in m w now ≡ replaced_where (λ i. nat_lt i (k * w)) (has_combined f s t) s)
+    (before : read_in m w now ≡ replaced_where (λ i. nat_lt i (k * w)) (combined f s t).has s)
     (ours : bit_set w x ≡ word_of w now k) (theirs : read_in m w (bit_set w y) ≡ word_of w t k)
     (is : bit_set w r ≡ combination_of f (bit_set w x) (bit_set w y)) where
   -- the word as it was
   was : (o : ℕ) → o < w → (read_in m w (bit_set w x)).has o ≡ s.has (k * w + o)
   was o h = digit_at m w k now x word ours o h ∙ ap (λ u. u.has (k * w + o)) before
-      ∙ ap (λ b. cond b (has_combined f s t (k * w + o)) (s.has (k * w + o)))
+      ∙ ap (λ b. cond b ((combined f s t).has (k * w + o)) (s.has (k * w + o)))
       (le-ltb (k * w + o) (k * w) (omega arith))
 
   -- the word as the operation makes it
-  pub made : (o : ℕ) → o < w → (read_in m w (bit_set w r)).has o ≡ has_combined f s t (k * w + o)
+  pub made : (o : ℕ) → o < w → (read_in m w (bit_set w r)).has o ≡ (combined f s t).has (k * w + o)
   made o h =
       ap (λ u. u.has o) (word_combined f w x y r m word is)
       ∙ combination-below f (read_in m w (bit_set w x)) (read_in m w (bit_set w y)) o h h
@@ -69,7 +74,7 @@ module _ (f : Bool → Bool → Bool) (m : Bool) (w k x y r : ℕ) (s t now : Pl
   -- where the two differ, by the word of their exclusive or
   module _ (z : ℕ) (differ : z ≡ bit_xor r x) (fits : z < 2 ^ w) where
     parts : (o : ℕ) → o < w → (read_in m w (bit_set w z)).has o
-        ≡ just_one (has_combined f s t (k * w + o)) (s.has (k * w + o))
+        ≡ just_one ((combined f s t).has (k * w + o)) (s.has (k * w + o))
     parts o h =
         ap (λ u. u.has o) (word_combined just_one w r x z m word
         (ap (bit_set w) differ ∙ digits_just_one w r x))
@@ -90,8 +95,8 @@ module _ (f : Bool → Bool → Bool) (m : Bool) (w k x y r : ℕ) (s t now : Pl
 
     -- so it is told of the words up to this one
     pub tells_more : (b c : Bool) → c ≡ (b || not (z == 0)) →
-        TellsBelow (has_combined f s t) s (k * w) b →
-        TellsBelow (has_combined f s t) s ((k + 1) * w) c
+        TellsBelow (combined f s t).has s (k * w) b →
+        TellsBelow (combined f s t).has s ((k + 1) * w) c
     tells_more true c e told = rw e (told.0, omega (arith, told.1), told.2)
     tells_more false c e told =
         elim (cases_eq z 0) [
@@ -102,7 +107,7 @@ module _ (f : Bool → Bool → Bool) (m : Bool) (w k x y r : ℕ) (s t now : Pl
                     let o = i - k * w in
                     let at : k * w + o ≡ i = omega (arith, g) in
                     let low : o < w = omega (arith, g, h) in
-                    ap (has_combined f s t) (sym at)
+                    ap (combined f s t).has (sym at)
                     ∙ alike _ _ (sym (parts o low)
                     ∙ ap (λ p. p (place m w o)) (bit_has-zero w z none))
                     ∙ ap s.has at
@@ -122,7 +127,7 @@ module _ (f : Bool → Bool → Bool) (m : Bool) (w k x y r : ℕ) (s t now : Pl
 -- told of all numbers below the capacity, it is told of the sets
 pub tells_all : (f : Bool → Bool → Bool) (n : ℕ) (b : Bool) (s t after : PlainSet) →
     s.capacity ≤ n → ((i : ℕ) → s.capacity ≤ i → s.has i ≡ false) →
-    after ≡ combined_within f s t → TellsBelow (has_combined f s t) s n b →
+    after ≡ combined f s t → TellsBelow (combined f s t).has s n b →
     MatchBool b (Differ s after) (after ≡ s)
 tells_all f n true s t after far past is told =
     let i = told.0 in

@@ -6,8 +6,8 @@ use Rattle.bittle.specs.PlainSet.{PlainSet, count_below, full_set, size, with_sp
 use Rattle.bittle.specs.SetOperations.{first_alone}
 use Rattle.bittle_bits.proofs.PlainSets.{plain_set}
 use Rattle.bittle_bits.proofs.Spans.{outside_span, inside_span}
-use Rattle.bittle_ext.specs.Between.{combined_within, has_combined, has_below, members_to, Differ}
-use Rattle.bittle_ext.proofs.CombinedSets.{combined_below}
+use Rattle.bittle_ext.specs.Between.{has_below, members_to, Differ}
+use Rattle.bittle_ext.proofs.CombinedSets.{combined, combined_below}
 
 -- of n numbers, those that pass the first test pass the second
 abbrev Implies : ℕ → (ℕ → Bool) → (ℕ → Bool) → Type 0
@@ -62,7 +62,7 @@ more_members s t same all i low differs =
 
 -- a set that an operation changes, which takes none out, grows
 pub grows : (f : Bool → Bool → Bool) (s t u : PlainSet) →
-    ((a b : Bool) → a ≡ true → f a b ≡ true) → u ≡ combined_within f s t → Differ s u →
+    ((a b : Bool) → a ≡ true → f a b ≡ true) → u ≡ combined f s t → Differ s u →
     size s < size u
 grows f s t u keeps is differ =
     more_members s u (ap (λ v. v.capacity) is) (λ k l h. ap (λ v. v.has k) is
@@ -70,7 +70,7 @@ grows f s t u keeps is differ =
 
 -- and one that an operation changes, which brings none in, shrinks
 pub shrinks : (f : Bool → Bool → Bool) (s t u : PlainSet) →
-    ((a b : Bool) → f a b ≡ true → a ≡ true) → u ≡ combined_within f s t → Differ s u →
+    ((a b : Bool) → f a b ≡ true → a ≡ true) → u ≡ combined f s t → Differ s u →
     size u < size s
 shrinks f s t u brings is differ =
     let same : u.capacity ≡ s.capacity = ap (λ v. v.capacity) is in
@@ -94,8 +94,8 @@ pub alone_brings : (a b : Bool) → first_alone a b ≡ true → a ≡ true
 alone_brings a b h = both_brings a (not b) h
 
 -- what takes over the other set's members has those below its capacity
-pub copied : (s t : PlainSet) → combined_within (λ _ b. b) s t ≡ members_to s.capacity t
-unfolding has_combined has_below
+pub copied : (s t : PlainSet) → combined (λ _ b. b) s t ≡ members_to s.capacity t
+unfolding has_below
 copied s t = refl
 
 -- a set with each index set is full

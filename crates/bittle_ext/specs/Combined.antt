@@ -2,11 +2,11 @@
 use Rattle.std.specs.Prelude.{◌≡◌, ℕ, ◌+◌, ◌≤◌, max, Bool, ◌||◌, ◌&&◌}
 use Rattle.bittle.specs.PlainSet.{PlainSet, size}
 use Rattle.bittle.specs.SetOperations.{first_alone, just_one}
+use Rattle.bittle_ext.specs.Views.{decided_until}
 
 -- the set of the numbers that are members by whether they are members of each of two sets
 abbrev pub decided_set : (Bool → Bool → Bool) → PlainSet → PlainSet → PlainSet
-decided_set decide s t =
-    record { capacity = max s.capacity t.capacity; has = λ k. decide (s.has k) (t.has k) }
+decided_set decide s t = decided_until decide (max s.capacity t.capacity) s t
 
 -- the members of either set
 abbrev pub either_of : PlainSet → PlainSet → PlainSet

@@ -1,8 +1,8 @@
 //! Changing a set by another one of any shape.
 
 ghost use Rattle.std.specs.Prelude.{◌≡◌, ◌↔◌, ◌<◌, ℕ, Bool, ◌||◌, ◌&&◌, false, IsTrue};
-ghost use Rattle.bittle_ext.specs.Between.{union_within, conjunction_within, difference_within};
-ghost use Rattle.bittle_ext.specs.Between.{symmetric_difference_within, members_to, Differ};
+ghost use Rattle.bittle_ext.specs.Between.{members_to, Differ};
+ghost use Rattle.bittle_ext.specs.Combined.{both_of, either_of, first_only_of, just_one_of};
 ghost use Rattle.bittle.specs.PlainSet.{contains, full_set, size};
 ghost use Rattle.bittle.specs.SetOperations.{first_alone, just_one};
 ghost use Rattle.bittle.specs.Values.{set_in, set_mirrored, ShapeFits};
@@ -39,8 +39,9 @@ pub trait BitsCombineExt: BitsMut {
         requires fits { ShapeFits Self.Shape self.old }
         requires other_fits { ShapeFits B.Shape other.now }
         ensures set { set_in Self.Shape Self.Order.Endian self.new
-            ≡ union_within (set_in Self.Shape Self.Order.Endian self.old)
-            (set_in B.Shape B.Order.Endian other.now) }
+            ≡ members_to (Self.big self.old).capacity
+            (either_of (set_in Self.Shape Self.Order.Endian self.old)
+            (set_in B.Shape B.Order.Endian other.now)) }
         ensures each { (i : ℕ) → i < (Self.big self.old).capacity
             → contains (set_in Self.Shape Self.Order.Endian self.new) i
             ≡ (contains (set_in Self.Shape Self.Order.Endian self.old) i
@@ -69,8 +70,9 @@ pub trait BitsCombineExt: BitsMut {
         requires fits { ShapeFits Self.Shape self.old }
         requires other_fits { ShapeFits B.Shape other.now }
         ensures set { set_in Self.Shape Self.Order.Endian self.new
-            ≡ conjunction_within (set_in Self.Shape Self.Order.Endian self.old)
-            (set_in B.Shape B.Order.Endian other.now) }
+            ≡ members_to (Self.big self.old).capacity
+            (both_of (set_in Self.Shape Self.Order.Endian self.old)
+            (set_in B.Shape B.Order.Endian other.now)) }
         ensures each { (i : ℕ) → i < (Self.big self.old).capacity
             → contains (set_in Self.Shape Self.Order.Endian self.new) i
             ≡ (contains (set_in Self.Shape Self.Order.Endian self.old) i
@@ -98,8 +100,9 @@ pub trait BitsCombineExt: BitsMut {
         requires fits { ShapeFits Self.Shape self.old }
         requires other_fits { ShapeFits B.Shape other.now }
         ensures set { set_in Self.Shape Self.Order.Endian self.new
-            ≡ difference_within (set_in Self.Shape Self.Order.Endian self.old)
-            (set_in B.Shape B.Order.Endian other.now) }
+            ≡ members_to (Self.big self.old).capacity
+            (first_only_of (set_in Self.Shape Self.Order.Endian self.old)
+            (set_in B.Shape B.Order.Endian other.now)) }
         ensures each { (i : ℕ) → i < (Self.big self.old).capacity
             → contains (set_in Self.Shape Self.Order.Endian self.new) i
             ≡ first_alone (contains (set_in Self.Shape Self.Order.Endian self.old) i)
@@ -127,8 +130,9 @@ pub trait BitsCombineExt: BitsMut {
         requires fits { ShapeFits Self.Shape self.old }
         requires other_fits { ShapeFits B.Shape other.now }
         ensures set { set_in Self.Shape Self.Order.Endian self.new
-            ≡ symmetric_difference_within (set_in Self.Shape Self.Order.Endian self.old)
-            (set_in B.Shape B.Order.Endian other.now) }
+            ≡ members_to (Self.big self.old).capacity
+            (just_one_of (set_in Self.Shape Self.Order.Endian self.old)
+            (set_in B.Shape B.Order.Endian other.now)) }
         ensures each { (i : ℕ) → i < (Self.big self.old).capacity
             → contains (set_in Self.Shape Self.Order.Endian self.new) i
             ≡ just_one (contains (set_in Self.Shape Self.Order.Endian self.old) i)

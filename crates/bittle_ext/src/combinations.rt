@@ -1,7 +1,8 @@
 //! A set changed in place by another one, of any width and order, a word at a time.
 
 ghost use Rattle.std.specs.Prelude.{◌≡◌, ◌↔◌, ◌<◌, ℕ, false, IsTrue};
-ghost use Rattle.bittle_ext.specs.Between.{combined_within, Differ};
+ghost use Rattle.bittle_ext.specs.Between.{members_to, Differ};
+ghost use Rattle.bittle_ext.specs.Combined.{decided_set};
 ghost use Rattle.bittle.specs.PlainSet.{contains};
 ghost use Rattle.bittle.specs.Values.{set_in, ShapeFits};
 
@@ -31,8 +32,9 @@ pub fn combine_with<A: BitsMut, B: Bits, E: Endian, F: Endian, O: Operation>(
 ) -> bool
     requires fits { ShapeFits A.Shape set.old }
     requires other_fits { ShapeFits B.Shape other.now }
-    ensures set { set_in A.Shape E.Endian set.new ≡ combined_within O.decide
-        (set_in A.Shape E.Endian set.old) (set_in B.Shape F.Endian other.now) }
+    ensures set { set_in A.Shape E.Endian set.new ≡ members_to (A.big set.old).capacity
+        (decided_set O.decide (set_in A.Shape E.Endian set.old)
+        (set_in B.Shape F.Endian other.now)) }
     ensures each { (i : ℕ) → i < (A.big set.old).capacity
         → contains (set_in A.Shape E.Endian set.new) i
         ≡ O.decide (contains (set_in A.Shape E.Endian set.old) i)

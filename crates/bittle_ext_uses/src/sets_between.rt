@@ -6,7 +6,8 @@ ghost use Rattle.bittle.specs.PlainSet.{ascending, complement, contains, full_se
 ghost use Rattle.bittle.specs.PlainSet.{members_below, size};
 ghost use Rattle.bittle.specs.Rows.{row_set};
 ghost use Rattle.bittle.specs.Values.{set_in, ShapeFits};
-ghost use Rattle.bittle_ext.specs.Between.{difference_within, members_to, union_within};
+ghost use Rattle.bittle_ext.specs.Between.{members_to};
+ghost use Rattle.bittle_ext.specs.Combined.{either_of, first_only_of};
 ghost use Rattle.bittle_ext.specs.Rotations.{shifted_down, shifted_up};
 
 use bittle::{Bits, BitsMut, BitsOwned, Endian, Set};
@@ -15,8 +16,8 @@ use bittle_ext::{BitsCombineExt, BitsMutViewExt, BitsRankExt, BitsShiftExt, Bits
 /// Adds what is live after a block to what is live before it, and returns whether that changed.
 pub fn add_live(before: &mut [u64; 4], after: &[u64; 4]) -> bool
     ensures set { row_set 4 64 (bit_set 64) before.new
-        ≡ union_within (row_set 4 64 (bit_set 64) before.old)
-        (row_set 4 64 (bit_set 64) after.now) }
+        ≡ members_to 256 (either_of (row_set 4 64 (bit_set 64) before.old)
+        (row_set 4 64 (bit_set 64) after.now)) }
     ensures stays { result ≡ false → row_set 4 64 (bit_set 64) before.new
         ≡ row_set 4 64 (bit_set 64) before.old }
     ensures grew { IsTrue result → size (row_set 4 64 (bit_set 64) before.old)
@@ -45,7 +46,8 @@ pub fn take_out<A: BitsMut, B: Bits, E: Endian>(set: &mut A, other: &B) -> bool
     requires fits { ShapeFits A.Shape set.old }
     requires other_fits { ShapeFits B.Shape other.now }
     ensures set { set_in A.Shape E.Endian set.new
-        ≡ difference_within (set_in A.Shape E.Endian set.old) (set_in B.Shape E.Endian other.now) }
+        ≡ members_to (A.big set.old).capacity (first_only_of
+        (set_in A.Shape E.Endian set.old) (set_in B.Shape E.Endian other.now)) }
     ensures shrank { IsTrue result → size (set_in A.Shape E.Endian set.new)
         < size (set_in A.Shape E.Endian set.old) }
     ensures stays { A.loan set.old ≡ A.loan set.new }
@@ -58,7 +60,8 @@ pub fn take_out<A: BitsMut, B: Bits, E: Endian>(set: &mut A, other: &B) -> bool
 pub fn grant(roles: &mut [u64], word: u32) -> bool
     requires { length roles.old * 64 < 4294967295 }
     ensures { row_set (length roles.new) 64 (bit_set 64) roles.new
-        ≡ union_within (row_set (length roles.old) 64 (bit_set 64) roles.old) (bit_set 32 word) }
+        ≡ members_to (length roles.old * 64) (either_of
+        (row_set (length roles.old) 64 (bit_set 64) roles.old) (bit_set 32 word)) }
 {
     let mut set = Set::from_mut(roles);
     set.union_with(&word)

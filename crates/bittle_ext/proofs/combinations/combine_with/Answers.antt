@@ -2,8 +2,7 @@ use Rattle.std.proofs.Common.{◌+◌, ◌*◌, ◌≤◌, not, ◌||◌, nat_lt
 use Rattle.std.proofs.Math.Nat.{mul-le-mul_right}
 use Rattle.std.proofs.lemmas.Bool.{lt-ltb, le-ltb}
 use Rattle.bittle.specs.Values.{set_in}
-use Rattle.bittle_ext.specs.Between.{has_combined}
-use Rattle.bittle_ext.proofs.CombinedSets.{combined_past, combined_each, tells_none, made, tells_more, tells_all, told_where, told_same}
+use Rattle.bittle_ext.proofs.CombinedSets.{combined, combined_past, combined_each, tells_none, made, tells_more, tells_all, told_where, told_same}
 use Rattle.bittle_ext.proofs.CommonCounts.{word_inside}
 use Rattle.bittle_ext.proofs.RotatedSets.{words_make}
 use Rattle.bittle_ext.proofs.WordsReplaced.{adds_upward, more_replaced, none_replaced, all_replaced}
@@ -13,7 +12,7 @@ pub loop-k-init : goal.loop-k-init
 loop-k-init g c =
     let s = set_in g.A.Shape g.E.Endian c.args.set.now in
     let t = set_in g.B.Shape g.F.Endian c.args.other.now in
-    let p = has_combined g.O.Operation.decide s t in
+    let p = (combined g.O.Operation.decide s t).has in
     record {
       replaced = none_replaced (λ i. nat_lt i (0 * g.A.Shape.width)) p s
           c.capacity_of.ensures.ends.past (combined_past g.O.Operation.decide s t)
@@ -42,7 +41,7 @@ loop-k-preserved g c =
     ) in
     let is = rw wide at c.on_words-word.ensures in
     record {
-      replaced = more_replaced m w k _ _ _ (has_combined f s t) s (g.A.Shape.big now)
+      replaced = more_replaced m w k _ _ _ (combined f s t).has s (g.A.Shape.big now)
           (g.A.Shape.big new) b.width_positive (b.whole_words now) (b.none_past now)
           (b.none_past new) (adds_upward w k b.width_positive) c.set_nth_leaf_word.ensures.set
           (made f m w k _ _ _ s t (g.A.Shape.big now) b.width_positive ends v.replaced
@@ -66,7 +65,7 @@ returns g c =
     c.word_width.ensures refl in
     let far = mul-le-mul_right w c.loop-k-test.false in
     let set = c.loop-k.invariant.replaced
-    ∙ all_replaced (λ i. nat_lt i (c.loop-k.k * w)) (has_combined f s t) s ends.past
+    ∙ all_replaced (λ i. nat_lt i (c.loop-k.k * w)) (combined f s t).has s ends.past
     (combined_past f s t) (λ i l. lt-ltb i (c.loop-k.k * w) (omega (arith, l, whole, far))) in
     let told = tells_all f (c.loop-k.k * w) c.loop-k.changed s t _ (omega (arith, whole, far))
     ends.past set c.loop-k.invariant.told in
