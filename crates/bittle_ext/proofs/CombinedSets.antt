@@ -1,7 +1,7 @@
 -- A set that is combined with another one, word by word, and whether that changes it.
 use Rattle.std.proofs.Common.{◌≡◌, ℕ, ◌+◌, ◌-◌, ◌*◌, ◌<◌, ◌≤◌, ◌==◌, ◌^◌, Bool, true, false, cond, not, ◌&&◌, ◌||◌, nat_lt, MatchBool, IsTrue, ◌↔◌, bit_xor, inl, inr, refl, sym, ap, ◌∙◌, arith}
 use Rattle.std.proofs.Math.Path.{fun_ext}
-use Rattle.std.proofs.lemmas.Bool.{cases_eq, cases_lt, eq-eqb, ne_eqb, lt-ltb, le-ltb, true≢false}
+use Rattle.std.proofs.lemmas.Bool.{cases_eq, cases_lt, eq-eqb, ne_eqb, lt-ltb, le-ltb, not-false, true≢false}
 use Rattle.bittle.specs.BitPatterns.{bit_has, bit_set}
 use Rattle.bittle.specs.Orders.{place, read_in}
 use Rattle.bittle.specs.PlainSet.{PlainSet, contains}
@@ -82,16 +82,12 @@ module _ (f : Bool → Bool → Bool) (m : Bool) (w k x y r : ℕ) (s t now : Pl
         ∙ (λ j. just_one (made o h j) (was o h j))
 
     unlike : (a b : Bool) → just_one a b ≡ true → a ≡ not b
-    unlike true true e = sym e
-    unlike true false e = refl
-    unlike false true e = refl
-    unlike false false e = e
+    unlike true b e = sym e
+    unlike false b e = sym (ap not e)
 
     alike : (a b : Bool) → just_one a b ≡ false → a ≡ b
-    alike true true e = refl
-    alike true false e = e
-    alike false true e = sym e
-    alike false false e = refl
+    alike true b e = sym (not-false b e)
+    alike false b e = sym e
 
     -- so it is told of the words up to this one
     pub tells_more : (b c : Bool) → c ≡ (b || not (z == 0)) →

@@ -10,10 +10,10 @@ use Rattle.bittle.specs.Searches.{NoneIn, IsFirstIn}
 use Rattle.bittle_bits.specs.LawProofs.{one_word}
 use Rattle.bittle_bits.proofs.Sizes.{size-members}
 use Rattle.bittle_bits.proofs.Words.{word_has-at}
-use Rattle.bittle_bits.proofs.Counts.{count-add, count-same, count-never, count-le}
+use Rattle.bittle_bits.proofs.Counts.{count-add, count-same, count-le}
 use Rattle.bittle_ext.specs.Combined.{both_of, just_one_of, CountsBoth}
 use Rattle.bittle_ext.specs.RangeMembers.{EndsAt}
-use Rattle.bittle_ext.proofs.RankFacts.{below_past, below_next}
+use Rattle.bittle_ext.proofs.RankFacts.{below_stays, below_past, below_next}
 use Rattle.bittle_ext.proofs.SetFacts.{none_in_both}
 
 -- whether a number is in the first alone, in just one, and in both, as so many
@@ -59,17 +59,6 @@ word_inside w v c k same below =
     let low : k < c / w = rw (← same) below in
     let up : (k + 1) * w ≤ c / w * w = mul-le-mul_right w (omega (arith, low)) in
     omega (arith, up, div-mul-le_self c w)
-
--- numbers that are no members count nothing
-pub below_stays : (s : PlainSet) (from to : ℕ) → from ≤ to → NoneIn s from to →
-    members_below s to ≡ members_below s from
-below_stays s from to h none =
-    let d = to - from in
-    let e : from + d ≡ to = omega arith in
-    let sum = rw e at (count-add from d s.has) in
-    let nothing : count_below d (λ k. s.has (from + k)) ≡ 0 = count-same d (λ k. s.has (from + k))
-    (λ _. false) (λ k l. none (from + k) (omega arith) (omega arith)) ∙ count-never d in
-    omega (arith, sum, nothing)
 
 -- the next member of the first set is counted just where it is one of the second
 pub counted_next : (s t : PlainSet) (from to index count next : ℕ) (b : Bool) →

@@ -1,6 +1,7 @@
 -- A word that is gathered from the members of a set, one after another.
-use Rattle.std.proofs.Common.{◌≡◌, ℕ, ◌+◌, ◌-◌, ◌*◌, ◌<◌, ◌≤◌, ◌==◌, Bool, true, false, ◌&&◌, ◌||◌, min, nat_lt, List, [], ◌∷◌, ◌++◌, inl, inr, refl, sym, ap, ◌∙◌, arith}
+use Rattle.std.proofs.Common.{◌≡◌, ℕ, ◌+◌, ◌-◌, ◌*◌, ◌<◌, ◌≤◌, ◌==◌, Bool, false, ◌&&◌, ◌||◌, min, nat_lt, List, [], ◌∷◌, ◌++◌, inl, inr, refl, sym, ap, ◌∙◌, arith}
 use Rattle.std.specs.List.{list_any}
+use Rattle.std.proofs.Math.Bool.{or_comm, or-false}
 use Rattle.std.proofs.Math.Path.{fun_ext}
 use Rattle.std.proofs.lemmas.Bool.{cases_eq, cases_lt, eq-eqb, ne_eqb, lt-ltb, le-ltb, and_right}
 use Rattle.std.proofs.lemmas.List.Folds.{list_any-append}
@@ -17,10 +18,7 @@ use Rattle.bittle_ext.specs.RangeMembers.{members_within}
 use Rattle.bittle_ext.proofs.ViewFacts.{ascending_longer}
 
 one_more : (a b : Bool) → (a || b) ≡ (b || (a || false))
-one_more true true = refl
-one_more true false = refl
-one_more false true = refl
-one_more false false = refl
+one_more a b = or_comm a b ∙ ap (λ c. b || c) (sym (or-false a))
 
 -- a word of w bits, and the number of its first bit
 module _ (w start : ℕ) where

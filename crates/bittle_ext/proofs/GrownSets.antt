@@ -1,5 +1,6 @@
 -- Sets of which one has all members of the other, and more.
 use Rattle.std.proofs.Common.{◌≡◌, ℕ, zero, suc, ◌<◌, ◌≤◌, Bool, true, false, cond, not, ◌&&◌, ◌||◌, inl, inr, refl, sym, ap, ◌∙◌, arith}
+use Rattle.std.proofs.Math.Bool.{not-not}
 use Rattle.std.proofs.Math.Path.{fun_ext}
 use Rattle.std.proofs.lemmas.Bool.{cases_Bool, cases_eq, cases_lt, lt-ltb, le-ltb, true≢false}
 use Rattle.bittle.specs.PlainSet.{PlainSet, count_below, full_set, size, with_span}
@@ -76,11 +77,7 @@ shrinks f s t u brings is differ =
     let same : u.capacity ≡ s.capacity = ap (λ v. v.capacity) is in
     more_members u s (sym same) (λ k l h. brings (s.has k) (t.has k)
     (sym (ap (λ v. v.has k) is ∙ combined_below f s t k (omega (arith, l, same))) ∙ h)) differ.0
-    (omega (arith, differ.1, same)) (twice (s.has differ.0) ∙ ap not (sym differ.2))
-  where
-    twice : (b : Bool) → b ≡ not (not b)
-    twice true = refl
-    twice false = refl
+    (omega (arith, differ.1, same)) (sym (ap not differ.2 ∙ not-not (s.has differ.0)))
 
 pub either_keeps : (a b : Bool) → a ≡ true → a || b ≡ true
 either_keeps true b h = refl

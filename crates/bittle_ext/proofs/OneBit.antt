@@ -1,5 +1,6 @@
 -- A set of which one bit is changed in its word.
 use Rattle.std.proofs.Common.{◌≡◌, ℕ, ◌+◌, ◌*◌, ◌/◌, ◌%◌, ◌<◌, ◌≤◌, Bool, true, false, cond, not, ◌&&◌, ◌||◌, ◌==◌, nat_lt, inl, inr, refl, sym, ap, ◌∙◌}
+use Rattle.std.proofs.Math.Bool.{or-false}
 use Rattle.std.proofs.Math.Path.{fun_ext}
 use Rattle.std.proofs.lemmas.Nat.{div-add-mod', mod_below}
 use Rattle.std.proofs.lemmas.Bool.{cases_eq, eq-eqb, ne_eqb}
@@ -21,20 +22,12 @@ use Rattle.bittle_ext.proofs.WordsReplaced.{place_in, in_word, in_others}
 assigned_within : (s : PlainSet) (i : ℕ) (value : Bool) → i < s.capacity →
     with_index_assigned s i value
     ≡ plain_set s.capacity (λ n. cond (n == i) value (s.has n))
-assigned_within s i true h =
-    with_index_within s i h
-    ∙ ap (plain_set s.capacity) (fun_ext λ n. set (n == i) (s.has n))
-  where
-    set : (here b : Bool) → here || b ≡ cond here true b
-    set true b = refl
-    set false b = refl
-assigned_within s i false h =
-    without_index_within s i h
-    ∙ ap (plain_set s.capacity) (fun_ext λ n. cleared (n == i) (s.has n))
-  where
-    cleared : (here b : Bool) → not here && b ≡ cond here false b
-    cleared true b = refl
-    cleared false b = refl
+assigned_within s i true h = with_index_within s i h
+    ∙ ap (plain_set s.capacity) (fun_ext λ n. elim (n == i) as (λ e. e || s.has n
+    ≡ cond e true (s.has n)) [ true ↦ refl | false ↦ refl ])
+assigned_within s i false h = without_index_within s i h
+    ∙ ap (plain_set s.capacity) (fun_ext λ n. elim (n == i) as (λ e. not e && s.has n
+    ≡ cond e false (s.has n)) [ true ↦ refl | false ↦ refl ])
 
 -- word k of a set, where the index lies
 module _ (m : Bool) (w k i d : ℕ) (s : PlainSet) (word : 0 < w) (where_is : k ≡ i / w)
@@ -61,11 +54,7 @@ module _ (m : Bool) (w k i d : ℕ) (s : PlainSet) (word : 0 < w) (where_is : k 
     -- the mask has the index alone
     mask_at : (o : ℕ) → (read_in m w (bit_set w mask)).has o ≡ (o == i % w)
     mask_at o = ap (λ u. u.has o) one ∙ ap (λ p. p o) (has_with-in (empty_set w) w i refl word)
-        ∙ or_false (o == i % w)
-      where
-        or_false : (b : Bool) → b || false ≡ b
-        or_false true = refl
-        or_false false = refl
+        ∙ or-false (o == i % w)
 
     -- replacing it combines the index alone
     pub bit_combined : (whole : (words : ℕ) × (s.capacity ≡ words * w)) →

@@ -6,6 +6,7 @@ use Rattle.std.proofs.lemmas.Bool.{cases_lt, cases_Bool}
 use Rattle.std.proofs.lemmas.Option.{slice_get_past, slice_get-get_or}
 use Rattle.std.proofs.Math.Seq.{get_or-append_seam}
 use Rattle.bittle.specs.PlainSet.{PlainSet, count_below, members_below, ascending_from, ascending, complement, size}
+use Rattle.bittle.specs.Searches.{NoneIn}
 use Rattle.bittle.proofs.CallerSets.{complement_within}
 use Rattle.bittle_bits.proofs.AscendingLists.{ascending_from-length, ascending_from-zero, ascending-at, ascending-yes, ascending-no}
 use Rattle.bittle_bits.proofs.Counts.{count-add, count-same, count-never, count-others}
@@ -38,20 +39,25 @@ counted_is_member s i n low high =
           absurd (omega (arith, e))
     ]
 
+-- numbers that are no members count nothing
+pub below_stays : (s : PlainSet) (from to : ℕ) → from ≤ to → NoneIn s from to →
+    members_below s to ≡ members_below s from
+below_stays s from to h none =
+    let d = to - from in
+    let e : from + d ≡ to = omega arith in
+    let sum = rw e at (count-add from d s.has) in
+    let nothing : count_below d (λ k. s.has (from + k)) ≡ 0 = count-same d (λ k. s.has (from + k))
+    (λ _. false) (λ k l. none (from + k) (omega arith) (omega arith)) ∙ count-never d in
+    omega (arith, sum, nothing)
+
 -- where nothing is from a number on, as many lie below any later number
 pub below_past : (s : PlainSet) (c n at : ℕ) → ((i : ℕ) → c ≤ i → s.has i ≡ false) → at ≡ min n c →
     members_below s n ≡ members_below s at
 below_past s c n at past e =
     elim (cases_lt n c) [
       | inl l ↦ ap (members_below s) (omega (arith, e))
-      | inr g ↦
-          let d = n - c in
-          let here : c + d ≡ n = omega arith in
-          let begin : at ≡ c = omega (arith, e) in
-          let sum = rw here at (count-add c d s.has) in
-          let none : count_below d (λ k. s.has (c + k)) ≡ 0 = count-same d (λ k. s.has (c + k))
-          (λ _. false) (λ k l. past (c + k) (omega arith)) ∙ count-never d in
-          omega (arith, sum, none, ap (members_below s) begin)
+      | inr g ↦ below_stays s c n g (λ k lo hi. past k lo)
+          ∙ sym (ap (members_below s) (omega (arith, e)))
     ]
 
 -- members and other numbers are all numbers below one that is not past the capacity

@@ -1,5 +1,6 @@
 -- A word of a set, of whose bits some have been asked for, and are kept or taken out.
 use Rattle.std.proofs.Common.{◌≡◌, ℕ, ◌+◌, ◌-◌, ◌*◌, ◌/◌, ◌%◌, ◌<◌, ◌≤◌, Bool, true, false, not, ◌&&◌, ◌||◌, ◌==◌, [], ◌∷◌, Some, inl, inr, refl, sym, ap, ◌∙◌, arith}
+use Rattle.std.proofs.Math.Bool.{or-false}
 use Rattle.std.proofs.Math.Nat.{mul-le-mul_right}
 use Rattle.std.proofs.lemmas.Nat.{div-mul-add, mod_below}
 use Rattle.std.proofs.lemmas.Bool.{cases_eq, cases_lt, eq-eqb, ne_eqb, true≢false}
@@ -192,11 +193,7 @@ module _ (w k : ℕ) (kept rest : ℕ → Bool) (s t : PlainSet) (from : ℕ) (w
         ∙ none o inside
 
     kept_all : (o : ℕ) → o < w → t.has (k * w + o) ≡ kept o
-    kept_all o h = so_far.here o h ∙ ap (λ b. kept o || b) (none o h) ∙ either_none (kept o)
-      where
-        either_none : (b : Bool) → (b || false) ≡ b
-        either_none true = refl
-        either_none false = refl
+    kept_all o h = so_far.here o h ∙ ap (λ b. kept o || b) (none o h) ∙ or-false (kept o)
 
 -- and once the word is what is kept, the set is that
 pub halfway_all : (m : Bool) (w k r from : ℕ) (rest : ℕ → Bool) (s after t : PlainSet) → 0 < w →

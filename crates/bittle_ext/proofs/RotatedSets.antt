@@ -9,7 +9,6 @@ use Rattle.bittle.specs.Orders.{read_in}
 use Rattle.bittle.specs.PlainSet.{PlainSet, contains, empty_set}
 use Rattle.bittle.specs.Words.{word_of}
 use Rattle.bittle_bits.proofs.PlainSets.{plain_set}
-use Rattle.bittle_bits.proofs.RowWords.{words_each}
 use Rattle.bittle_bits.proofs.Words.{digit_at, word_ends}
 use Rattle.bittle.proofs.CallerSets.{contains_within}
 use Rattle.bittle_ext.specs.Rotations.{has_rotated, rotated_down, rotated_up, has_shifted_down, shifted_down, has_shifted_up, shifted_up, IsDistance, IsNextWord, IsWindow, IsWordFrom}
@@ -38,13 +37,6 @@ pub next_inside : (w words at capacity : ℕ) → 0 < w → words * w ≡ capaci
     IsNextWord w capacity at (at + 1)
 next_inside w words at capacity word whole more =
     inr (word_within w words (at + 1) capacity word whole more, refl)
-
--- and the word after the last
-pub next_wraps : (w words capacity : ℕ) → words * w ≡ capacity → 0 < words →
-    IsNextWord w capacity (words - 1) 0
-next_wraps w words capacity whole some =
-    let all : words - 1 + 1 ≡ words = omega (arith, some) in
-    inl (ap (λ n. n * w) all ∙ whole, refl)
 
 -- both begin below the capacity, and the first one ends there
 module _ (w at next capacity : ℕ) (word : 0 < w) (is : IsNextWord w capacity at next) where
@@ -94,12 +86,6 @@ module _ (m : Bool) (w at from d e r : ℕ) (s : PlainSet) (word : 0 < w)
                   ∙ sym (contains_within t (at * w + from + i) (omega (arith, top, b, within)))
             ]
       ]
-
--- as many words as a capacity holds make it up
-pub words_make : (bits wide c w leaf : ℕ) (whole : (d : ℕ) × (c ≡ d * w)) → 0 < w → bits ≡ c →
-    wide ≡ leaf → leaf ≡ w → bits / wide * w ≡ c
-words_make bits wide c w leaf whole word b v same =
-    rw (words_each bits wide c w whole.0 word b (v ∙ same) whole.1) (sym whole.1)
 
 -- where word `at` lies so many words above word k, and may wrap
 pub wrapped_at : (w c words by skipped from k at : ℕ) → words * w ≡ c → skipped * w + from ≡ by % c →

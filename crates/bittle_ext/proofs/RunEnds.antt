@@ -11,13 +11,7 @@ use Rattle.bittle_bits.proofs.OnesOrZeros.{ones_or_zeros-capacity}
 use Rattle.bittle_ext.specs.RangeMembers.{HasAllIn}
 use Rattle.bittle_ext.specs.Runs.{run, joined, runs_from, runs_between, runs, AreRunsBelow, EndsRun, BeginsRun, RunsInOrder, RunsInReverse}
 use Rattle.bittle_ext.proofs.LongestRuns.{runs_are_longest}
-use Rattle.bittle_ext.proofs.RunFacts.{AreOpposite, opposite_to_complement, complement_to_opposite}
-
--- the bits of one kind are those that are none of the other
-pub others_opposite : (ones : Bool) (s : PlainSet) →
-    AreOpposite (ones_or_zeros ones s) (ones_or_zeros (not ones) s)
-others_opposite true s = opposite_to_complement s
-others_opposite false s = complement_to_opposite s
+use Rattle.bittle_ext.proofs.RunFacts.{others_opposite}
 
 -- the bits of a kind of a set, and those of the other kind
 module _ (kind : Bool) (set : PlainSet) where

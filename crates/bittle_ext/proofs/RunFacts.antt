@@ -1,8 +1,10 @@
 -- Runs of members, as far as searches have come.
-use Rattle.std.proofs.Common.{◌≡◌, ℕ, ◌+◌, ◌-◌, ◌<◌, ◌≤◌, Bool, true, false, not, Some, None, inl, inr, refl, sym, ap, ◌∙◌, arith}
+use Rattle.std.proofs.Common.{◌≡◌, ℕ, ◌+◌, ◌-◌, ◌<◌, ◌≤◌, Bool, true, false, not, Some, None, inl, inr, sym, ap, ◌∙◌, arith}
+use Rattle.std.proofs.Math.Bool.{not-not}
 use Rattle.std.proofs.lemmas.Bool.{cases_lt, true≢false, not-false}
-use Rattle.bittle.specs.PlainSet.{PlainSet, complement}
+use Rattle.bittle.specs.PlainSet.{PlainSet}
 use Rattle.bittle.specs.Searches.{NoneIn, IsFirstIn, IsLastIn}
+use Rattle.bittle.specs.Walk.{ones_or_zeros}
 use Rattle.bittle.proofs.CallerSets.{complement_within}
 use Rattle.bittle_ext.specs.Runs.{NoRunBegins, IsFirstRun}
 
@@ -10,16 +12,12 @@ use Rattle.bittle_ext.specs.Runs.{NoRunBegins, IsFirstRun}
 pub record AreOpposite (s t : PlainSet) : Type 0 where
   pub other : (k : ℕ) → k < s.capacity → t.has k ≡ not (s.has k)
 
-pub opposite_to_complement : (s : PlainSet) → AreOpposite s (complement s)
-opposite_to_complement s = record { other = λ k h. complement_within s k h }
-
-pub complement_to_opposite : (s : PlainSet) → AreOpposite (complement s) s
-complement_to_opposite s =
-    record { other = λ k h. back (s.has k) ∙ sym (ap not (complement_within s k h)) }
-  where
-    back : (b : Bool) → b ≡ not (not b)
-    back true = refl
-    back false = refl
+-- the bits of one kind are those that are none of the other
+pub others_opposite : (ones : Bool) (s : PlainSet) →
+    AreOpposite (ones_or_zeros ones s) (ones_or_zeros (not ones) s)
+others_opposite true s = record { other = λ k h. complement_within s k h }
+others_opposite false s =
+    record { other = λ k h. sym (ap not (complement_within s k h) ∙ not-not (s.has k)) }
 
 -- as far as searches for a run of so many members have come
 pub record IsSearched (s : PlainSet) (length from end at : ℕ) : Type 0 where

@@ -1,25 +1,11 @@
 -- Searches that begin or end past the capacity.
-use Rattle.std.proofs.Common.{◌≡◌, ℕ, ◌*◌, ◌<◌, ◌≤◌, Bool, true, false, not, ◌&&◌, List, [], Option, Some, None, is_some, MatchBool, inl, inr, refl, sym, ap, ◌∙◌, arith, min}
-use Rattle.std.proofs.lemmas.Bool.{cases_lt, le-ltb, and_right, not-false, not-true}
-use Rattle.bittle.specs.PlainSet.{PlainSet, complement, lacks}
+use Rattle.std.proofs.Common.{◌≡◌, ℕ, ◌≤◌, Bool, true, false, not, ◌&&◌, List, [], Option, Some, None, is_some, MatchBool, inl, inr, refl, sym, ap, ◌∙◌, arith, min}
+use Rattle.std.proofs.lemmas.Bool.{cases_lt, and_right, not-false, not-true}
+use Rattle.bittle.specs.PlainSet.{PlainSet, complement}
 use Rattle.bittle_bits.specs.Ends.{IsEndIn}
-use Rattle.bittle.specs.Orders.{read_in}
 use Rattle.bittle.specs.Searches.{NoneIn, IsFirstIn}
-use Rattle.bittle_bits.proofs.PlainSets.{members-past}
 use Rattle.bittle.proofs.CallerSets.{complement_within}
 use Rattle.bittle_ext.specs.RangeMembers.{EndsAt, HasAllIn, HasSomeIn, LacksSomeIn, TakesEnd}
-
--- no number from the capacity on is in the complement
-pub complement_past : (s : PlainSet) (i : ℕ) → s.capacity ≤ i → (complement s).has i ≡ false
-unfolding lacks
-complement_past s i h = rw (le-ltb i s.capacity h) refl
-
--- a set of whole words ends at its capacity in each order
-pub ends_in_order : (m : Bool) (w : ℕ) (s : PlainSet) → 0 < w →
-    (words : ℕ) × (s.capacity ≡ words * w) → ((i : ℕ) → s.capacity ≤ i → s.has i ≡ false) →
-    EndsAt (read_in m w s) s.capacity
-ends_in_order m w s word whole past =
-    record { capacity = refl; past = members-past m w s word whole past }
 
 -- two sets of which nothing is a member from their capacities on
 module _ {s t : PlainSet} {a b : ℕ} (x : EndsAt s a) (y : EndsAt t b) (end : ℕ) where

@@ -4,7 +4,7 @@ use Rattle.std.proofs.lemmas.Bool.{lt-ltb, le-ltb}
 use Rattle.bittle.specs.Values.{set_in}
 use Rattle.bittle_ext.proofs.CombinedSets.{combined, combined_past, combined_each, tells_none, made, tells_more, tells_all, told_where, told_same}
 use Rattle.bittle_ext.proofs.CommonCounts.{word_inside}
-use Rattle.bittle_ext.proofs.RotatedSets.{words_make}
+use Rattle.bittle_ext.proofs.RankFacts.{end_of_words}
 use Rattle.bittle_ext.proofs.WordsReplaced.{adds_upward, more_replaced, none_replaced, all_replaced}
 use Rattle.bittle_ext.proofs.combinations.combine_with.Goals as goal
 
@@ -61,8 +61,8 @@ returns g c =
     let s = set_in g.A.Shape g.E.Endian c.args.set.now in
     let t = set_in g.B.Shape g.F.Endian c.args.other.now in
     let ends = c.capacity_of.ensures.ends in
-    let whole = words_make _ _ _ _ _ (b.whole_words c.args.set.now) b.width_positive ends.capacity
-    c.word_width.ensures refl in
+    let whole = end_of_words _ _ _ _ _ b.width_positive (b.whole_words c.args.set.now)
+    ends.capacity c.word_width.ensures refl in
     let far = mul-le-mul_right w c.loop-k-test.false in
     let set = c.loop-k.invariant.replaced
     ∙ all_replaced (λ i. nat_lt i (c.loop-k.k * w)) (combined f s t).has s ends.past

@@ -8,9 +8,9 @@ use Rattle.bittle_bits.proofs.OnesOrZeros.{passes_in_order}
 use Rattle.bittle_bits.proofs.PlainSets.{members-past}
 use Rattle.bittle_ext.specs.Calls.{IsCallableBelow}
 use Rattle.bittle_ext.proofs.CallableBelow.{asks_below, next_below}
+use Rattle.bittle_ext.proofs.RankFacts.{end_of_words}
 use Rattle.bittle_ext.proofs.RetainSteps.{RetainsBelow, retains_none, retains_on, retains_kept, retains_others, retains_all}
 use Rattle.bittle_ext.proofs.RetainedWords.{word_inside, popped, one_more, none_left, halfway_none, found_next, halfway_kept, halfway_gone, halfway_past, halfway_all}
-use Rattle.bittle_ext.proofs.RotatedSets.{words_make}
 use Rattle.bittle_ext.proofs.retained.retain.Goals as goal
 
 pub loop-k-init : goal.loop-k-init
@@ -19,7 +19,7 @@ loop-k-init g c =
     let w = g.B.Shape.width in
     let bits = c.args.bits.now in
     let s = set_in g.B.Shape g.E.Endian bits in
-    let whole = words_make _ _ _ _ _ (b.whole_words bits) b.width_positive
+    let whole = end_of_words _ _ _ _ _ b.width_positive (b.whole_words bits)
     (c.bits_capacity.ensures.value c.requires.fits) c.word_width-width.ensures refl in
     let e = c.pass_over-k.ensures in
     let passed = passes_in_order true true g.E.Endian.mirrored w 0 _ _ (g.B.Shape.big bits)

@@ -1,6 +1,6 @@
 use Rattle.std.proofs.Common.{◌≡◌, refl, arith}
 use Rattle.std.proofs.lemmas.Nat.{div-add-mod', mod_below, div_below}
-use Rattle.bittle_ext.proofs.RotatedSets.{words_make}
+use Rattle.bittle_ext.proofs.RankFacts.{end_of_words}
 use Rattle.bittle_ext.proofs.rotations.distance.Goals as goal
 
 pub returns : goal.returns
@@ -10,7 +10,7 @@ returns g c =
     let by = c.args.by in
     let wide : c.word_width-width.result ≡ w = c.word_width-width.ensures in
     let set = c.args.set.now in
-    let whole = words_make _ _ _ _ _ (b.whole_words set) b.width_positive
+    let whole = end_of_words _ _ _ _ _ b.width_positive (b.whole_words set)
     (c.bits_capacity.ensures.value c.requires.fits) wide refl in
     rw wide record {
       whole = rw wide at whole;

@@ -1,8 +1,7 @@
 use Rattle.std.proofs.Common.{sym, ◌∙◌, arith}
 use Rattle.bittle.specs.Values.{set_in}
 use Rattle.bittle_bits.proofs.OnesOrZeros.{ones_or_zeros-capacity}
-use Rattle.bittle_ext.proofs.RunEnds.{others_opposite}
-use Rattle.bittle_ext.proofs.RunFacts.{none_left, no_room, run_found, run_broken}
+use Rattle.bittle_ext.proofs.RunFacts.{others_opposite, none_left, no_room, run_found, run_broken}
 use Rattle.bittle_ext.proofs.runs.next_run.Goals as goal
 
 pub loop-start-init : goal.loop-start-init
