@@ -1,22 +1,10 @@
 -- The runs of a set are longest, and each member lies in one of them.
-use Rattle.std.proofs.Common.{◌≡◌, ℕ, zero, suc, ◌+◌, ◌-◌, ◌<◌, ◌≤◌, ◌==◌, Bool, true, false, cond, List, [], ◌∷◌, length, ◌⊎◌, inl, inr, refl, sym, ap, ◌∙◌, arith}
-use Rattle.std.proofs.lemmas.Bool.{cases_Bool, cases_eq, eq-eqb, ne_eqb, true≢false}
-use Rattle.std.specs.Prelude.{⊤, slice_index_or}
+use Rattle.std.proofs.Common.{◌≡◌, ℕ, zero, suc, ◌+◌, ◌-◌, ◌<◌, ◌≤◌, Bool, true, false, List, [], ◌∷◌, length, ◌⊎◌, inl, inr, sym, ap, ◌∙◌, arith}
+use Rattle.std.proofs.lemmas.Bool.{cases_Bool, cases_eq, cases_lt, eq-eqb, ne_eqb, true≢false}
+use Rattle.std.specs.Prelude.{slice_index_or}
 use Rattle.std.specs.declared.ops.Range.{Range}
 use Rattle.bittle.specs.PlainSet.{PlainSet}
 use Rattle.bittle_ext.specs.Runs.{run, joined, runs_from, runs_between, runs, IsLongestRun, HasLongestRuns, RunsAreLongest}
-
--- the first run begins at a number
-abbrev BeginsAt : ℕ → List (Range ℕ) → Type 0
-BeginsAt n [] = ⊥
-BeginsAt n (r ∷ rs) = r.start ≡ n
-
-joined_at : (k : ℕ) (rs : List (Range ℕ)) → BeginsAt k (joined k rs)
-unfolding joined
-joined_at k [] = refl
-joined_at k (r ∷ rs) =
-    elim (r.start == suc k) as (λ b. BeginsAt k (cond b (run k r.end ∷ rs)
-    (run k (suc k) ∷ r ∷ rs))) [ true ↦ refl | false ↦ refl ]
 
 -- a number lies in a run of the list
 abbrev LiesIn : ℕ → List (Range ℕ) → Type 0
@@ -32,61 +20,47 @@ place_in i (r ∷ rs) (inr h) =
     (suc at.0, omega (arith, at.1), at.2)
 
 module _ (p : ℕ → Bool) where
-  -- the runs of the list, from one number on and below another, cannot be longer
+  -- no number from one on and below another passes
+  abbrev NonePass : ℕ → ℕ → Type 0
+  NonePass from to = (k : ℕ) → from ≤ k → k < to → p k ≡ false
+
+  -- the runs of the list, from one number on and below another, cannot be longer, and no number
+  -- between them passes
   abbrev pub AreLongest : ℕ → ℕ → List (Range ℕ) → Type 0
-  AreLongest from to [] = ⊤
+  AreLongest from to [] = NonePass from to
   AreLongest from to (r ∷ rs) =
       (from ≤ r.start) × (r.start < r.end) × (r.end ≤ to)
-      × ((k : ℕ) → r.start ≤ k → k < r.end → p k ≡ true)
-      × (from < r.start → p (r.start - 1) ≡ false) × (r.end < to → p r.end ≡ false)
-      × AreLongest r.end to rs
+      × ((k : ℕ) → r.start ≤ k → k < r.end → p k ≡ true) × NonePass from r.start
+      × (r.end < to → p r.end ≡ false) × AreLongest r.end to rs
 
-  -- a number that passes begins the first run
-  passing_begins : (from n : ℕ) → 0 < n → p from ≡ true → BeginsAt from (runs_from p from n)
-  unfolding runs_from
-  passing_begins from zero some here = absurd (omega arith)
-  passing_begins from (suc n) some here = rw here (joined_at from (runs_from p (suc from) n))
-
-  -- so where no run begins at a number it does not pass
-  none_begins : (from n : ℕ) → 0 < n → (BeginsAt from (runs_from p from n) → ⊥) → p from ≡ false
-  none_begins from n some h =
-      elim (cases_Bool (p from)) [
-        | inl here ↦ absurd (h (passing_begins from n some here))
-        | inr gone ↦ gone
+  none_more : (from to : ℕ) → p from ≡ false → NonePass (suc from) to → NonePass from to
+  none_more from to gone none k lo hi =
+      elim (cases_eq k from) [
+        | inl e ↦ ap p e ∙ gone
+        | inr n ↦ none k (omega (arith, n)) hi
       ]
 
   -- a number that does not pass leaves the runs after it longest
   gone_before : (from to : ℕ) (rs : List (Range ℕ)) → p from ≡ false →
       AreLongest (suc from) to rs → AreLongest from to rs
-  gone_before from to [] gone h = tt
-  gone_before from to (r ∷ rs) gone h = (
-    omega (arith, h.0),
-    h.1,
-    h.2,
-    h.3,
-    λ l. elim (cases_eq r.start (suc from)) [
-      | inl e ↦ ap p (omega (arith, e)) ∙ gone
-      | inr n ↦ h.4 (omega (arith, n, h.0))
-    ],
-    h.5,
-    h.6,
-  )
+  gone_before from to [] gone h = none_more from to gone h
+  gone_before from to (r ∷ rs) gone h =
+      (omega (arith, h.0), h.1, h.2, h.3, none_more from r.start gone h.4, h.5, h.6)
 
   -- one that passes joins them, or is a run of its own
   joined_longest : (from to : ℕ) (rs : List (Range ℕ)) → from < to → p from ≡ true →
-      (suc from < to → (BeginsAt (suc from) rs → ⊥) → p (suc from) ≡ false) →
       AreLongest (suc from) to rs → AreLongest from to (joined from rs)
   unfolding joined
-  joined_longest from to [] low here next h = (
+  joined_longest from to [] low here h = (
     omega arith,
     omega arith,
     low,
     λ k a b. ap p (omega arith) ∙ here,
-    λ l. absurd (omega arith),
-    λ l. next l (λ e. e),
-    tt,
+    λ k a b. absurd (omega arith),
+    λ l. h (suc from) (omega arith) l,
+    h,
   )
-  joined_longest from to (r ∷ rs) low here next h =
+  joined_longest from to (r ∷ rs) low here h =
       elim (cases_eq r.start (suc from)) [
         | inl e ↦ rw (eq-eqb r.start (suc from) e) (
           omega arith,
@@ -96,7 +70,7 @@ module _ (p : ℕ → Bool) where
             | inl same ↦ ap p same ∙ here
             | inr other ↦ h.3 k (omega (arith, e, other)) b
           ],
-          λ l. absurd (omega arith),
+          λ k a b. absurd (omega arith),
           h.5,
           h.6,
         )
@@ -105,63 +79,34 @@ module _ (p : ℕ → Bool) where
           omega arith,
           low,
           λ k a b. ap p (omega arith) ∙ here,
-          λ l. absurd (omega arith),
-          λ l. next l n,
+          λ k a b. absurd (omega arith),
+          λ l. h.4 (suc from) (omega arith) (omega (arith, n, h.0)),
           h,
         )
       ]
 
   pub runs_longest : (from n to : ℕ) → to ≡ from + n → AreLongest from to (runs_from p from n)
   unfolding runs_from
-  runs_longest from zero to e = tt
+  runs_longest from zero to e = λ k lo hi. absurd (omega arith)
   runs_longest from (suc n) to e =
       let rest = runs_longest (suc from) n to (omega arith) in
       elim (cases_Bool (p from)) [
-        | inl here ↦ rw here (joined_longest from to (runs_from p (suc from) n) (omega arith) here
-            (λ l. none_begins (suc from) n (omega (arith, e, l))) rest)
+        | inl here ↦ rw here
+            (joined_longest from to (runs_from p (suc from) n) (omega arith) here rest)
         | inr gone ↦ rw gone (gone_before from to (runs_from p (suc from) n) gone rest)
       ]
 
-  -- whatever lies in a run lies in one after a number has joined
-  joined_has : (from i : ℕ) (rs : List (Range ℕ)) → suc from ≤ i → LiesIn i rs →
-      LiesIn i (joined from rs)
-  unfolding joined
-  joined_has from i [] low h = absurd h
-  joined_has from i (r ∷ rs) low h =
-      elim (r.start == suc from) as (λ b. LiesIn i (cond b (run from r.end ∷ rs)
-      (run from (suc from) ∷ r ∷ rs))) [
-        | true ↦ by h
-        | false ↦ inr h
-      ]
-    where
-      by : ((r.start ≤ i) × (i < r.end)) ⊎ LiesIn i rs →
-          ((from ≤ i) × (i < r.end)) ⊎ LiesIn i rs
-      by (inl a) = inl (omega arith, a.1)
-      by (inr b) = inr b
-
-  -- where the first run begins lies in it
-  start_in : (from to : ℕ) (rs : List (Range ℕ)) → BeginsAt from rs → AreLongest from to rs →
-      LiesIn from rs
-  start_in from to [] b h = absurd b
-  start_in from to (r ∷ rs) b h = inl (omega (arith, b), omega (arith, b, h.1))
-
-  -- each number that passes lies in one
-  runs_have : (from n i : ℕ) → from ≤ i → i < from + n → p i ≡ true →
-      LiesIn i (runs_from p from n)
-  unfolding runs_from
-  runs_have from zero i lo hi here = absurd (omega arith)
-  runs_have from (suc n) i lo hi here =
-      elim (cases_eq i from) [
-        | inl same ↦ rw same (start_in from (from + suc n) (runs_from p from (suc n))
-            (passing_begins from (suc n) (omega arith) (ap p (sym same) ∙ here))
-            (runs_longest from (suc n) (from + suc n) refl))
-        | inr other ↦
-            let rest = runs_have (suc from) n i (omega (arith, other)) (omega arith) here in
-            elim (p from) as (λ b. LiesIn i (cond b (joined from (runs_from p (suc from) n))
-            (runs_from p (suc from) n))) [
-              | true ↦ joined_has from i (runs_from p (suc from) n) (omega (arith, other)) rest
-              | false ↦ rest
-            ]
+  -- so each number that passes lies in one
+  longest_have : (from to i : ℕ) (rs : List (Range ℕ)) → from ≤ i → i < to → p i ≡ true →
+      AreLongest from to rs → LiesIn i rs
+  longest_have from to i [] lo hi here h = true≢false (sym here ∙ h i lo hi)
+  longest_have from to i (r ∷ rs) lo hi here h =
+      elim (cases_lt i r.start) [
+        | inl l ↦ absurd (true≢false (sym here ∙ h.4 i lo l))
+        | inr g ↦ elim (cases_lt i r.end) [
+          | inl l ↦ inl (g, l)
+          | inr past ↦ inr (longest_have r.end to i rs past hi here h.6)
+        ]
       ]
 
 -- each run of a list of longest ones is one
@@ -176,7 +121,7 @@ longest_at s from (r ∷ rs) zero d edge l h = (
   λ some. elim (cases_eq r.start from) [
     | inl e ↦ ap s.has (omega (arith, e)) ∙ edge (omega (arith, e, some))
         (omega (arith, e, h.1, h.2)) (ap s.has (sym e) ∙ h.3 r.start (omega arith) h.1)
-    | inr n ↦ h.4 (omega (arith, n, h.0))
+    | inr n ↦ h.4 (r.start - 1) (omega (arith, n, h.0)) (omega (arith, n, h.0))
   ],
   h.5,
 )
@@ -210,8 +155,8 @@ has_longest_runs s =
       longest = λ k d l. longest_at s 0 (runs s) k d (λ some low here. absurd (omega arith)) l
           longest;
       rise = λ j k d o l. rise s.has 0 s.capacity (runs s) j k d o l longest;
-      all = λ i l here. place_in i (runs s) (runs_have s.has 0 (s.capacity - 0) i (omega arith)
-          (omega arith) here);
+      all = λ i l here. place_in i (runs s)
+          (longest_have s.has 0 s.capacity i (runs s) (omega arith) l here longest);
     }
 
 pub runs_are_longest : RunsAreLongest
