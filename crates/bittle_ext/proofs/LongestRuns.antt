@@ -4,7 +4,7 @@ use Rattle.std.proofs.lemmas.Bool.{cases_Bool, cases_eq, cases_lt, eq-eqb, ne_eq
 use Rattle.std.specs.Prelude.{slice_index_or}
 use Rattle.std.specs.declared.ops.Range.{Range}
 use Rattle.bittle.specs.PlainSet.{PlainSet}
-use Rattle.bittle_ext.specs.Runs.{run, joined, runs_from, runs_between, runs, IsLongestRun, HasLongestRuns, RunsAreLongest}
+use Rattle.bittle_ext.specs.Runs.{joined, runs_from, runs_between, runs, IsLongestRun, HasLongestRuns, RunsAreLongest}
 
 -- a number lies in a run of the list
 abbrev LiesIn : ℕ → List (Range ℕ) → Type 0
