@@ -1,5 +1,5 @@
 -- How many numbers are members of two sets.
-use Rattle.std.proofs.Common.{◌≡◌, ℕ, zero, suc, ◌+◌, ◌-◌, ◌*◌, ◌/◌, ◌<◌, ◌≤◌, Bool, true, false, ◌&&◌, cond, min, max, Some, refl, sym, ap, ◌∙◌, arith}
+use Rattle.std.proofs.Common.{◌≡◌, ℕ, zero, suc, ◌+◌, ◌*◌, ◌/◌, ◌<◌, ◌≤◌, Bool, true, false, ◌&&◌, cond, min, max, Some, refl, sym, ap, ◌∙◌, arith}
 use Rattle.std.proofs.Math.Nat.{mul-le-mul_right, div-mul-le_self}
 use Rattle.bittle.specs.BitPatterns.{bit_set}
 use Rattle.bittle.specs.Orders.{read_in}
@@ -27,7 +27,7 @@ one_number false false = (refl, refl, omega arith)
 
 -- those in the first alone and those in both make up the first; those in just one, and twice those
 -- in both, are as many as both have; and those in both are in the second
-all_numbers : (n : ℕ) (p q : ℕ → Bool) → (count_below n (λ k. first_alone (p k) (q k))
+pub all_numbers : (n : ℕ) (p q : ℕ → Bool) → (count_below n (λ k. first_alone (p k) (q k))
     + count_below n (λ k. p k && q k) ≡ count_below n p)
     × (count_below n (λ k. just_one (p k) (q k)) + count_below n (λ k. p k && q k)
     + count_below n (λ k. p k && q k) ≡ count_below n p + count_below n q)

@@ -1,65 +1,38 @@
 -- Sets of which one has all members of the other, and more.
-use Rattle.std.proofs.Common.{◌≡◌, ℕ, zero, suc, ◌<◌, ◌≤◌, Bool, true, false, cond, not, ◌&&◌, ◌||◌, inl, inr, refl, sym, ap, ◌∙◌, arith}
+use Rattle.std.proofs.Common.{◌≡◌, ℕ, ◌<◌, ◌≤◌, Bool, true, false, not, ◌&&◌, ◌||◌, inl, inr, refl, sym, ap, ◌∙◌, arith}
 use Rattle.std.proofs.Math.Bool.{not-not}
 use Rattle.std.proofs.Math.Path.{fun_ext}
-use Rattle.std.proofs.lemmas.Bool.{cases_Bool, cases_eq, cases_lt, lt-ltb, le-ltb, true≢false}
+use Rattle.std.proofs.lemmas.Bool.{and_right, cases_Bool, cases_lt, lt-ltb, le-ltb, true≢false}
 use Rattle.bittle.specs.PlainSet.{PlainSet, count_below, full_set, size, with_span}
 use Rattle.bittle.specs.SetOperations.{first_alone}
+use Rattle.bittle_bits.proofs.Counts.{count-same, count-some}
 use Rattle.bittle_bits.proofs.PlainSets.{plain_set}
 use Rattle.bittle_bits.proofs.Spans.{outside_span, inside_span}
 use Rattle.bittle_ext.specs.Between.{has_below, members_to, Differ}
 use Rattle.bittle_ext.proofs.CombinedSets.{combined, combined_below}
+use Rattle.bittle_ext.proofs.CommonCounts.{all_numbers}
 
 -- of n numbers, those that pass the first test pass the second
 abbrev Implies : ℕ → (ℕ → Bool) → (ℕ → Bool) → Type 0
 Implies n p q = (k : ℕ) → k < n → p k ≡ true → q k ≡ true
 
--- a test of one number, as so many
-abbrev so_many : Bool → ℕ
-so_many b = cond b 1 0
-
-one_number : (a b : Bool) → (a ≡ true → b ≡ true) → cond a 1 0 ≤ cond b 1 0
-one_number true true h = omega arith
-one_number true false h = absurd (true≢false (sym (h refl)))
-one_number false true h = omega arith
-one_number false false h = omega arith
-
--- so at least as many pass the second
-count_most : (n : ℕ) (p q : ℕ → Bool) → Implies n p q → count_below n p ≤ count_below n q
-unfolding count_below
-count_most zero p q all = omega arith
-count_most (suc n) p q all = omega (
-  arith,
-  count_most n p q (λ k l. all k (omega (arith, l))),
-  one_number (p n) (q n) (all n (omega arith)),
-)
-
--- and more, where one passes that alone
-count_more : (n : ℕ) (p q : ℕ → Bool) (i : ℕ) → i < n → Implies n p q → p i ≡ false → q i ≡ true →
-    count_below n p < count_below n q
-unfolding count_below
-count_more zero p q i low all none one = absurd (omega (arith, low))
-count_more (suc n) p q i low all none one =
-    elim (cases_eq i n) [
-      | inl e ↦
-          let lacks : so_many (p n) ≡ 0 = ap so_many (ap p (sym e) ∙ none) in
-          let more : so_many (q n) ≡ 1 = ap so_many (ap q (sym e) ∙ one) in
-          omega (arith, count_most n p q (λ k l. all k (omega (arith, l))), lacks, more)
-      | inr other ↦ omega (
-        arith,
-        count_more n p q i (omega (arith, low, other)) (λ k l. all k (omega (arith, l))) none one,
-        one_number (p n) (q n) (all n (omega arith)),
-      )
-    ]
-
 -- a set that has all members of another of its capacity, and a number of it that is none there
 more_members : (s t : PlainSet) → t.capacity ≡ s.capacity → Implies s.capacity s.has t.has →
     (i : ℕ) → i < s.capacity → t.has i ≡ not (s.has i) → size s < size t
 more_members s t same all i low differs =
-    rw same (elim (cases_Bool (s.has i)) [
+    let n = s.capacity in
+    let both : count_below n (λ k. t.has k && s.has k) ≡ size s = count-same n
+    (λ k. t.has k && s.has k) s.has (λ k l. elim (cases_Bool (s.has k)) [
+      | inl here ↦ ap (λ b. b && s.has k) (all k l here)
+      | inr gone ↦ and_right (t.has k) (s.has k) gone ∙ sym gone
+    ]) in
+    let some : 0 < count_below n (λ k. first_alone (t.has k) (s.has k)) =
+    elim (cases_Bool (s.has i)) [
       | inl here ↦ absurd (true≢false (sym (all i low here) ∙ differs ∙ ap not here))
-      | inr none ↦ count_more s.capacity s.has t.has i low all none (differs ∙ ap not none)
-    ])
+      | inr gone ↦ count-some n i (λ k. first_alone (t.has k) (s.has k)) low
+          (rw (differs, gone) refl)
+    ] in
+    rw same (omega (arith, (all_numbers n t.has s.has).0, both, some))
 
 -- a set that an operation changes, which takes none out, grows
 pub grows : (f : Bool → Bool → Bool) (s t u : PlainSet) →

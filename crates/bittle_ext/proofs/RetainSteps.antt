@@ -153,17 +153,14 @@ module _ {F : Type 0} (R : F → ℕ → Bool → F → Type 0) where
         Retains R first old now
     retains_all past_old past_now none =
         let c = old.capacity in
-        let n = now.capacity - from in
-        let rest = ascending_from-none old.has from (c - from)
-        (λ k lo hi. sym (so_far.same_on k lo)
-        ∙ none k lo (omega (arith, so_far.capacity, so_far.within))) in
-        let left = ascending_from-none now.has from n (λ k lo hi. none k lo (omega arith)) in
-        let listed = ascending_from-add now.has 0 from n now.capacity from
-        (omega (arith, so_far.capacity, so_far.within)) (omega arith)
-        ∙ ap (λ xs. ascending_from now.has 0 from ++ xs) left in
-        let asked = subst (λ xs. IsFiltered R first (ascending old) xs) (sym listed)
-        (so_far.calls []
-        (subst (λ xs. IsFiltered R keep xs []) (sym rest) (filtered_none keep))) in
+        let end = retains_on c so_far.within (omega arith)
+        (λ k lo hi. none k lo (omega (arith, so_far.capacity, hi))) in
+        let left : c - c ≡ 0 = omega arith in
+        let rest = ap (ascending_from old.has c) left ∙ ascending_from-zero old.has c in
+        let listed = append-nil (ascending_from now.has 0 c)
+        ∙ ap (ascending_from now.has 0) (sym so_far.capacity) in
+        let asked = subst (λ xs. IsFiltered R first (ascending old) xs) listed
+        (end.calls [] (subst (λ xs. IsFiltered R keep xs []) (sym rest) (filtered_none keep))) in
         record {
           capacity = so_far.capacity;
           asked = asked;
