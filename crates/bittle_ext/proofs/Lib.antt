@@ -1,3 +1,4 @@
+pub mod PassedGroups
 pub mod PassedWords
 pub mod CallableBelow
 pub mod CombinedSets

@@ -2,6 +2,7 @@ pub mod Calls
 pub mod Between
 pub mod Changes
 pub mod Combined
+pub mod Groups
 pub mod RangeMembers
 pub mod Ranks
 pub mod Rotations

@@ -30,6 +30,7 @@ use bittle::{Bits, BitsMut, Endian, Shape};
 use bittle_bits::extension::{Conjunction, Difference, OwnedSource, SymmetricDifference, Union};
 use bittle_bits::walk::{IntoIter, IntoIterOnes, IntoIterZeros};
 
+mod by_groups;
 mod by_words;
 pub mod complement;
 pub mod in_order;

@@ -1,15 +1,16 @@
 -- What a summary tells of the words of a set, and what keeps it right.
-use Rattle.std.proofs.Common.{◌≡◌, ◌≢◌, ℕ, suc, ◌+◌, ◌-◌, ◌*◌, ◌/◌, ◌%◌, ◌<◌, ◌≤◌, Bool, true, false, not, cond, ◌&&◌, ◌==◌, nat_lt, nat_le, inl, inr, Some, None, IsTrue, refl, sym, ap, ◌∙◌, arith}
+use Rattle.std.proofs.Common.{◌≡◌, ◌≢◌, ℕ, suc, ◌+◌, ◌-◌, ◌*◌, ◌/◌, ◌%◌, ◌^◌, ◌<◌, ◌≤◌, Bool, true, false, not, cond, ◌&&◌, ◌==◌, nat_lt, nat_le, inl, inr, Some, None, IsTrue, refl, sym, ap, ◌∙◌, arith}
 use Rattle.std.proofs.Math.Path.{fun_ext}
 use Rattle.std.proofs.Props.{props}
-use Rattle.std.proofs.Math.Nat.{div-add-mod', div-mul-le_self, le_of_mul-le-mul_right, lt_of_mul-lt-mul_right, mod-eq_of_lt, mul-le-mul_right}
+use Rattle.std.proofs.Math.Nat.{pow-suc, div-add-mod', div-mul-le_self, le_of_mul-le-mul_right, lt_of_mul-lt-mul_right, mod-eq_of_lt, mul-le-mul_right}
 use Rattle.std.proofs.lemmas.Nat.{div-mul-add, div_below, mod_below}
 use Rattle.std.proofs.lemmas.Bool.{cases_eq, cases_lt, eq-eqb, eqb-true, ne_eqb, lt-ltb, le-ltb, lt-leb, true≢false}
 use Rattle.bittle_bits.specs.Ends.{IsEndIn}
+use Rattle.bittle.specs.BitPatterns.{bit_set}
 use Rattle.bittle.specs.Orders.{place, read_in}
-use Rattle.bittle.specs.PlainSet.{PlainSet, count_below, empty_set, full_set, size, complement, has_changed, is_in_span, with_span_changed}
+use Rattle.bittle.specs.PlainSet.{PlainSet, count_below, empty_set, full_set, size, complement, has_changed, lacks, is_in_span, with_span_changed}
 use Rattle.bittle.specs.Rows.{with_bit}
-use Rattle.bittle.specs.Searches.{NoneIn, PassesOver}
+use Rattle.bittle.specs.Searches.{NoneIn, PassesOver, TellsGroups}
 use Rattle.bittle.specs.Walk.{ones_or_zeros}
 use Rattle.bittle.specs.Words.{word_has, word_of}
 use Rattle.bittle_bits.proofs.Counts.{count-never, count-others, count-same, count-some}
@@ -131,6 +132,17 @@ pub some_in_same : (ones : Bool) (w k : ℕ) (s t : PlainSet) → word_of w s k 
 unfolding some_in_word
 some_in_same ones w k s t same = ap (λ u. not (size (ones_or_zeros ones u) == 0)) same
 
+-- a number past a set is no bit of a kind
+none_past : (ones : Bool) (s : PlainSet) (i : ℕ) → s.capacity ≤ i → s.has i ≡ false →
+    (ones_or_zeros ones s).has i ≡ false
+unfolding lacks
+none_past true s i far none = none
+none_past false s i far none = rw (le-ltb i s.capacity far) refl
+
+-- groups of groups of 64
+group_up : (k above : ℕ) → k * 64 ^ suc above ≡ k * 64 ^ above * 64
+group_up k above = ap (λ p. k * p) (pow-suc 64 above) ∙ omega arith
+
 -- what a search of a summary t of s tells
 module _ (ones : Bool) (w : ℕ) (s t : PlainSet) (word : 0 < w)
     (whole : (words : ℕ) × (s.capacity ≡ words * w)) (tells : Summarizes ones w s t) where
@@ -152,6 +164,59 @@ module _ (ones : Bool) (w : ℕ) (s t : PlainSet) (word : 0 < w)
       none_in_word ones w k s (omega (arith, up, within))
       (sym (tells k starts) ∙ none k from below) n
       (omega (arith, split)) (omega (arith, split, part))
+
+  -- so are words of which some are past the set
+  none_in_any : ((i : ℕ) → s.capacity ≤ i → s.has i ≡ false) → (low high : ℕ) →
+      NoneIn t low high → NoneIn (ones_or_zeros ones s) (low * w) (high * w)
+  none_in_any past low high none = λ n lo hi. elim (cases_lt n s.capacity) [
+    | inl l ↦
+        let k = n / w in
+        let split = div-add-mod' n w in
+        let part = mod_below n w word in
+        let below : k < high = div_below n w high word hi in
+        let from : low ≤ k = elim (cases_lt k low) [
+          | inl l ↦ let over : suc k * w ≤ low * w = mul-le-mul_right w l in
+              absurd (omega (arith, over, lo, split, part))
+          | inr g ↦ g
+        ] in
+        let starts : k * w < s.capacity = omega (arith, l, split) in
+        none_in_word ones w k s (word_ends w k s.capacity whole starts)
+        (sym (tells k starts) ∙ none k from below) n
+        (omega (arith, split)) (omega (arith, split, part))
+    | inr g ↦ none_past ones s n g (past n g)
+  ]
+
+  -- word n of a summary of words of 64 bits tells of 64 words of the set
+  pub tells_by_word : ((i : ℕ) → s.capacity ≤ i → s.has i ≡ false) → (level n d : ℕ) →
+      level ≡ 0 → bit_set 64 d ≡ word_of 64 t n →
+      TellsGroups (64 ^ level) w (ones_or_zeros ones s) n d
+  tells_by_word past level n d base is = rw base (λ i within unset.
+      let e : 64 * n + i ≡ (64 * n + i) * 1 = omega arith in
+      let f : 64 * n + i + 1 ≡ (64 * n + i + 1) * 1 = omega arith in
+      let here : t.has (n * 64 + i) ≡ false = sym (word_has-at 64 t n i within)
+      ∙ sym (ap (λ (u : PlainSet). u.has i) is) ∙ unset in
+      none_in_any past ((64 * n + i) * 1) ((64 * n + i + 1) * 1) (λ k lo hi.
+      let same : k ≡ n * 64 + i = omega (arith, lo, hi) in rw same here))
+
+  -- past the last word of the summary the set has nothing
+  pub tells_past : ((i : ℕ) → s.capacity ≤ i → s.has i ≡ false) → (level n c : ℕ) →
+      level ≡ 0 → s.capacity ≤ c * w → (words : ℕ) × (c ≡ words * 64) → c / 64 ≤ n →
+      (d : ℕ) → TellsGroups (64 ^ level) w (ones_or_zeros ones s) n d
+  tells_past past level n c base reach all far d = rw base (λ i within unset k lo hi.
+      let up : c * w ≤ (64 * n + i) * 1 * w =
+      mul-le-mul_right w (omega (arith, all.1, far)) in
+      let out : s.capacity ≤ k = omega (arith, reach, up, lo) in
+      none_past ones s k out (past k out))
+
+  -- what a summary tells of groups of its own words it tells of groups of those of the set
+  pub tells_by_summary : ((i : ℕ) → s.capacity ≤ i → s.has i ≡ false) → (v level above n d : ℕ) →
+      v ≡ 64 → level ≡ suc above → TellsGroups (64 ^ above) v t n d →
+      TellsGroups (64 ^ level) w (ones_or_zeros ones s) n d
+  tells_by_summary past v level above n d wide is told = rw is (λ i within unset.
+      let e = group_up (64 * n + i) above in
+      let f = group_up (64 * n + i + 1) above in
+      none_in_any past ((64 * n + i) * 64 ^ suc above) ((64 * n + i + 1) * 64 ^ suc above)
+      (rw (e, f) ((rw wide at told) i within unset)))
 
   -- a member of it is the number of a word with a bit of the kind
   some_told : (k high : ℕ) → high * w ≤ s.capacity → k < high → t.has k ≡ true →

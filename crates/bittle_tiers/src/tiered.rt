@@ -192,6 +192,24 @@ impl<B: BitsOwned, S: BitsOwned, K: Kind> ReadWords for Tiered<B, S, K> {
             self.map.pass_over::<L, N>(low, high)
         }
     }
+
+    #[inline(always)]
+    fn tells_groups<L: Kind>() -> bool {
+        if K::ONES == L::ONES {
+            word_width::<S>() == 64
+        } else {
+            B::tells_groups::<L>()
+        }
+    }
+
+    #[inline(always)]
+    fn groups_told<L: Kind>(&self, n: usize, level: u32) -> u64 {
+        if K::ONES == L::ONES {
+            upkeep::groups_told::<B, S, K>(&self.map, &self.summary, n, level)
+        } else {
+            self.map.groups_told::<L>(n, level)
+        }
+    }
 }
 
 impl<B: BitsOwned, S: BitsOwned, K: Kind> Bits for Tiered<B, S, K> {

@@ -1,9 +1,9 @@
 //! The upkeep of a summary: how it is read and written word by word.
 
-ghost use Rattle.std.specs.Prelude.{◌≡◌, ◌≢◌, ℕ, ◌*◌, ◌%◌, ◌<◌, ◌≤◌, ◌==◌, IsTrue};
+ghost use Rattle.std.specs.Prelude.{◌≡◌, ◌≢◌, ℕ, ◌*◌, ◌%◌, ◌^◌, ◌<◌, ◌≤◌, ◌==◌, IsTrue};
 ghost use Rattle.bittle.specs.PlainSet.{size};
 ghost use Rattle.bittle.specs.Rows.{with_bit};
-ghost use Rattle.bittle.specs.Searches.{PassesOver};
+ghost use Rattle.bittle.specs.Searches.{PassesOver, TellsGroups};
 ghost use Rattle.bittle.specs.Values.{set_in, ShapeFits};
 ghost use Rattle.bittle.specs.Walk.{ones_or_zeros};
 ghost use Rattle.bittle_tiers.specs.Tiers.{even_summary, some_in_word, StopsAtBit};
@@ -165,4 +165,31 @@ pub(crate) fn pass_over<B: BitsOwned, S: BitsOwned, K: Kind, N: End>(
         Some(k) => { if N::FRONT { k as usize } else { k as usize + 1 } }
         None => { if N::FRONT { high } else { low } }
     }
+}
+
+/// Tells of 64 groups of `64 ^ level` words, from group `64 * n` on, which may have a bit of the
+/// kind: by a word of the summary, or by what the summary tells of groups of its words. A summary
+/// whose words have not 64 bits tells of none.
+#[inline(always)]
+pub(crate) fn groups_told<B: BitsOwned, S: BitsOwned, K: Kind>(
+    map: &B,
+    summary: &S,
+    n: usize,
+    level: u32,
+) -> u64
+    requires fits { IsTrue S.indexable }
+    requires reaches { B.type_capacity ≤ S.type_capacity * B.width }
+    requires tells { Summarizes K.ONES B.width (B.big map.now) (S.big summary.now) }
+    ensures { TellsGroups (64 ^ level) B.width (ones_or_zeros K.ONES (B.big map.now)) n result }
+{
+    if word_width::<S>() != 64 {
+        return u64::MAX;
+    }
+    if level != 0 {
+        return summary.groups_told::<Ones>(n, level - 1);
+    }
+    if (S::bits() / 64) as usize <= n {
+        return 0;
+    }
+    summary.nth_leaf_word(n).to_bits() as u64
 }

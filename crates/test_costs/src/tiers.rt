@@ -127,6 +127,41 @@ fn a_view_of_two_sets_passes_over_what_either_tells(rt: HostRuntime) {
     same!(rt; (ours.fetched_since(made.0), theirs.fetched_since(made.1)), (4, 4));
 }
 
+// Counts what an iterator over what two sets have in common yields.
+fn count_common<A: Bits, B: Bits>(left: &A, right: &B) -> usize
+    requires left { ShapeFits A.Shape left.now }
+    requires right { ShapeFits B.Shape right.now }
+{
+    left.and(right).iter_ones().count()
+}
+
+// Returns how many numbers two sets have in common, of which one is that of `ONES`, and how many
+// words an iterator over them reads of either set.
+fn count_with(bytes: [u8; 4]) -> (usize, u32, u32) {
+    let (ours, theirs) = (Asked::new(), Asked::new());
+    let left = Tiered::<Probe, u64, Ones>::new(Probe::of(ONES, &ours));
+    let right = Tiered::<Probe, u64, Ones>::new(Probe::of(bytes, &theirs));
+    let made = (ours.fetches(), theirs.fetches());
+    let common = count_common(&left, &right);
+    (
+        common,
+        ours.fetched_since(made.0),
+        theirs.fetched_since(made.1),
+    )
+}
+
+#[test]
+fn a_conjunction_reads_words_that_both_summaries_have(rt: HostRuntime) {
+    // Both have a bit in the last word alone, which alone is read.
+    same!(rt; count_with([0, 4, 0, 128]), (1, 1, 1));
+    // Both have one in the first word too. After it the next word is read, and then the last one.
+    same!(rt; count_with([1, 4, 0, 128]), (2, 3, 3));
+    // In no word both have one.
+    same!(rt; count_with([0, 4, 1, 0]), (0, 0, 0));
+    // In the first word each has one, and both have none in common there.
+    same!(rt; count_with([2, 0, 4, 0]), (0, 1, 1));
+}
+
 // Counts what iterators over views of a set yield: from index 8 on, of the complement's unset bits,
 // and from the left.
 fn count_in_views<B: Bits>(set: &B) -> (usize, usize, usize)

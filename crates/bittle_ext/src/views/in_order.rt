@@ -71,6 +71,16 @@ impl<'a, B: ReadWords, E: Endian> ReadWords for InOrder<'a, B, E> {
     fn pass_over<K: Kind, N: End>(&self, low: usize, high: usize) -> usize {
         self.set.pass_over::<K, N>(low, high)
     }
+
+    #[inline(always)]
+    fn tells_groups<K: Kind>() -> bool {
+        B::tells_groups::<K>()
+    }
+
+    #[inline(always)]
+    fn groups_told<K: Kind>(&self, n: usize, level: u32) -> u64 {
+        self.set.groups_told::<K>(n, level)
+    }
 }
 
 impl<'a, B: Bits, U: Endian> Bits for InOrder<'a, B, U> {

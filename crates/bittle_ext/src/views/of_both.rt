@@ -10,11 +10,12 @@ ghost use Rattle.bittle.specs.Values.{set_in, ShapeFits};
 
 use crate::capacities::capacity_of;
 use crate::other_words::{other_word, word_or_empty};
+use crate::views::by_groups::{passed_by_groups, told_of_both};
 use crate::views::by_words::{count, is_empty, is_full, passed, test};
 use bittle::{Bits, Endian, Shape};
 use bittle_bits::extension::{
-    Conjunction, Difference, End, Kind, Operation, ReadWords, Sealed, SymmetricDifference, Union,
-    word_width,
+    Conjunction, Difference, End, Kind, Ones, Operation, ReadWords, Sealed, SymmetricDifference,
+    Union, word_width,
 };
 use std::alloc::AllocError;
 use std::marker::PhantomData;
@@ -115,6 +116,21 @@ impl FirstOperation for Difference {
     ghost keeps_first = { λ _. refl };
 }
 
+// Returns `true` if a word that is passed over in either of two sets is so in what the operation
+// makes of them, and both sets may tell of groups of words.
+#[inline(always)]
+fn combines_groups<A: ReadWords, B: ReadWords, O: ViewOperation>() -> bool
+    ensures width { IsTrue result → A.width ≡ B.width }
+    ensures first { IsTrue result → (b : Bool) → O.decide false b ≡ false }
+    ensures second { IsTrue result → (a : Bool) → O.decide a false ≡ false }
+{
+    O::keeps_to_first()
+        && O::keeps_to_second()
+        && word_width::<A>() == word_width::<B>()
+        && A::tells_groups::<Ones>()
+        && B::tells_groups::<Ones>()
+}
+
 /// What the operation `O` makes of two sets that it borrows, the first read in the order `E` and
 /// the second in `F`: a set of words as the first one's, read in `E`.
 ///
@@ -204,6 +220,9 @@ impl<'a, A: Bits, B: Bits, E: Endian, F: Endian, O: ViewOperation> ReadWords
         if !K::ONES || !Self::may_pass_over() {
             return if N::FRONT { low } else { high };
         }
+        if combines_groups::<A, B, O>() {
+            return passed_by_groups::<A, B, E, F, N>(self.left, self.right, low, high);
+        }
         let ours = passed::<A, N>(self.left, low, high);
         let alike = word_width::<A>() == word_width::<B>();
         if O::keeps_to_first() {
@@ -225,6 +244,29 @@ impl<'a, A: Bits, B: Bits, E: Endian, F: Endian, O: ViewOperation> ReadWords
         } else {
             ours.max(theirs)
         }
+    }
+
+    #[inline(always)]
+    fn tells_groups<K: Kind>() -> bool {
+        K::ONES
+            && word_width::<A>() == word_width::<B>()
+            && A::tells_groups::<Ones>()
+            && B::tells_groups::<Ones>()
+    }
+
+    #[inline(always)]
+    fn groups_told<K: Kind>(&self, n: usize, level: u32) -> u64 {
+        if !K::ONES || word_width::<A>() != word_width::<B>() {
+            return u64::MAX;
+        }
+        if O::keeps_to_first() && O::keeps_to_second() {
+            return told_of_both::<A, B, E, F>(self.left, self.right, n, level);
+        }
+        let ours = self.left.groups_told::<Ones>(n, level);
+        if O::keeps_to_first() {
+            return ours;
+        }
+        ours | self.right.groups_told::<Ones>(n, level)
     }
 }
 

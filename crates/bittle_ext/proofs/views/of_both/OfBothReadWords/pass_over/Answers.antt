@@ -3,9 +3,31 @@ use Rattle.bittle.specs.Values.{set_in}
 use Rattle.bittle.specs.PlainSet.{PlainSet}
 use Rattle.bittle.specs.Searches.{PassesOver}
 use Rattle.bittle_bits.proofs.OnesOrZeros.{passes_in_order}
+use Rattle.bittle_ext.specs.Combined.{both_of}
 use Rattle.bittle_ext.specs.Views.{decided_until}
+use Rattle.bittle_ext.proofs.PassedGroups.{few_words, keeps_to_both}
 use Rattle.bittle_ext.proofs.PassedWords.{passes_fewer, passes_from, passes_back, passes_nearer, passes_later, passes_read_back}
 use Rattle.bittle_ext.proofs.views.of_both.OfBothReadWords.pass_over.Goals as goal
+
+pub passed_by_groups-requires-clause-small : goal.passed_by_groups-requires-clause-small
+passed_by_groups-requires-clause-small g c = few_words g.A.Shape.width c.args.high _
+    g.met.A.ReadWords.width_positive c.requires.within c.args.self.now.holds.fits
+
+pub returns-then-combines_groups : goal.returns-then-combines_groups
+returns-then-combines_groups g c =
+    let v = c.args.self.now in
+    let f = g.O.Operation.decide in
+    let w = g.A.Shape.width in
+    let s : PlainSet = set_in g.A.Shape g.E.Endian v.left.now in
+    let t : PlainSet = set_in g.B.Shape g.F.Endian v.right.now in
+    let d : PlainSet = decided_until f v.end s t in
+    let first = c.combines_groups.ensures.first c.if-combines_groups.true in
+    let second = c.combines_groups.ensures.second c.if-combines_groups.true in
+    let ones : g.K.Kind.ONES ≡ true = sym c.ONES.ensures ∙ c.if-not-ONES.false in
+    passes_read_back g.N.End.FRONT g.K.Kind.ONES g.E.Endian.mirrored w c.args.low c.args.high
+    c.passed_by_groups.result d g.met.A.ReadWords.width_positive v.holds.whole ones
+    (passes_fewer g.N.End.FRONT w c.args.low c.args.high c.passed_by_groups.result (both_of s t) d
+    (λ k e. keeps_to_both f first second (s.has k) (t.has k) e) c.passed_by_groups.ensures)
 
 pub returns-then-not-alike : goal.returns-then-not-alike
 returns-then-not-alike g c =

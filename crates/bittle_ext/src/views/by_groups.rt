@@ -1,0 +1,113 @@
+//! Words without a bit that is set in both of two sets, passed over by what the sets tell of groups
+//! of words: 64 words are one test, and where none of them may have one, 64 times 64 are another.
+
+ghost use Rattle.std.specs.Prelude.{◌≡◌, ◌≢◌, ◌+◌, ◌%◌, ◌^◌, ◌<◌, ◌≤◌, false, cond, max, min};
+ghost use Rattle.bittle_ext.specs.Combined.{both_of};
+ghost use Rattle.bittle_ext.specs.Groups.{is_inside, MovesOver};
+ghost use Rattle.bittle.specs.Searches.{PassesOver, TellsGroups};
+ghost use Rattle.bittle.specs.Values.{set_in, ShapeFits};
+
+use bittle::{BigEndian, Endian};
+use bittle_bits::extension::{End, Ones, ReadWords, end_in};
+
+/// Tells of 64 groups of words which may have a bit that is set in both sets, as `groups_told`
+/// does of one set.
+#[inline(always)]
+pub fn told_of_both<A: ReadWords, B: ReadWords, E: Endian, F: Endian>(
+    left: &A,
+    right: &B,
+    n: usize,
+    level: u32,
+) -> u64
+    requires left_fits { ShapeFits A.Shape left.now }
+    requires right_fits { ShapeFits B.Shape right.now }
+    requires width { A.width ≡ B.width }
+    ensures { TellsGroups (64 ^ level) A.width
+        (both_of (set_in A.Shape E.Endian left.now) (set_in B.Shape F.Endian right.now)) n result }
+{
+    left.groups_told::<Ones>(n, level) & right.groups_told::<Ones>(n, level)
+}
+
+// Returns `front` if the end `N` is the front, and else `back`.
+#[inline(always)]
+fn at_end<N: End>(front: usize, back: usize) -> usize
+    ensures { result ≡ cond N.FRONT front back }
+{
+    if N::FRONT { front } else { back }
+}
+
+// Moves the end `N` of groups of `64 ^ level` words past those of which one of the sets tells that
+// it has no bit there, up to the next multiple of 64. It returns the new end, and whether a group
+// that may have a bit stopped it.
+#[inline(always)]
+fn moved<A: ReadWords, B: ReadWords, E: Endian, F: Endian, N: End>(
+    left: &A,
+    right: &B,
+    level: u32,
+    at: usize,
+) -> (usize, bool)
+    requires left_fits { ShapeFits A.Shape left.now }
+    requires right_fits { ShapeFits B.Shape right.now }
+    requires width { A.width ≡ B.width }
+    requires some { 0 < at + cond N.FRONT 1 0 }
+    requires small { at < 4294967296 }
+    ensures over { MovesOver N.FRONT (64 ^ level) A.width (both_of
+        (set_in A.Shape E.Endian left.now) (set_in B.Shape F.Endian right.now)) at result.0 }
+    ensures whole { result.1 ≡ false → (result.0 % 64 ≡ 0) × (result.0 ≢ at) }
+    ensures near { result.0 ≤ at + 64 }
+{
+    let number = at - at_end::<N>(0, 1);
+    let start = number / 64 * 64;
+    let from = at_end::<N>(number % 64, 0);
+    let to = at_end::<N>(64, number % 64 + 1);
+    let told = told_of_both::<A, B, E, F>(left, right, number / 64, level);
+    match end_in::<u64, BigEndian, Ones, N>(&told, from as u32, to as u32) {
+        Some(place) => (start + place as usize + at_end::<N>(0, 1), true),
+        None => (start + at_end::<N>(64, 0), false),
+    }
+}
+
+// Returns whether the end `N` of the words `low..high` lies before their other end.
+#[inline(always)]
+fn is_inside<N: End>(low: usize, high: usize, at: usize) -> bool
+    ensures { result ≡ is_inside N.FRONT low high at }
+{
+    if N::FRONT { at < high } else { low < at }
+}
+
+// Returns a number of words, or the other end of `low..high` where the number lies past it.
+#[inline(always)]
+fn clamped<N: End>(low: usize, high: usize, at: usize) -> usize
+    ensures { result ≡ cond N.FRONT (min at high) (max at low) }
+{
+    if N::FRONT { at.min(high) } else { at.max(low) }
+}
+
+/// Passes over words of `low..high` at the end `N` without a bit that is set in both sets, as the
+/// sets tell of groups of words. It returns the end of the rest: at the front the new `low`, at the
+/// back the new `high`.
+#[inline(always)]
+pub fn passed_by_groups<A: ReadWords, B: ReadWords, E: Endian, F: Endian, N: End>(
+    left: &A,
+    right: &B,
+    low: usize,
+    high: usize,
+) -> usize
+    requires left_fits { ShapeFits A.Shape left.now }
+    requires right_fits { ShapeFits B.Shape right.now }
+    requires width { A.width ≡ B.width }
+    requires ordered { low ≤ high }
+    requires small { high < 4294967296 }
+    ensures { PassesOver N.FRONT A.width (both_of
+        (set_in A.Shape E.Endian left.now) (set_in B.Shape F.Endian right.now)) low high result }
+{
+    let mut at = at_end::<N>(low, high);
+    while is_inside::<N>(low, high, at) {
+        let (on, may_have) = moved::<A, B, E, F, N>(left, right, 0, at);
+        if may_have || !is_inside::<N>(low, high, on) {
+            return clamped::<N>(low, high, on);
+        }
+        at = moved::<A, B, E, F, N>(left, right, 1, on / 64).0 * 64;
+    }
+    clamped::<N>(low, high, at)
+}
