@@ -4,9 +4,11 @@ pub mod CallableBelow
 pub mod CombinedSets
 mod CombinedWords
 mod Complements
+mod CopiedRanges
 mod GatheredWords
 mod GrownSets
 mod LongestRuns
+pub mod NumberBits
 mod OneBit
 pub mod CommonCounts
 mod RangeItems
@@ -15,6 +17,7 @@ mod PassingMembers
 pub mod RankFacts
 pub mod RelationFacts
 mod RetainSteps
+mod ReversedBits
 mod RetainedWords
 mod RotatedSets
 mod ShiftedWords

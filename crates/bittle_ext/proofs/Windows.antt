@@ -13,13 +13,13 @@ use Rattle.bittle_bits.proofs.PlaceLemmas.{mirror_in_word}
 use Rattle.bittle_ext.specs.Rotations.{IsWindow}
 
 -- a bit of a number shifted down is a higher one of the number
-bit_at_shifted : (n k i : ℕ) → bit_at (n / 2 ^ k) i ≡ bit_at n (i + k)
+pub bit_at_shifted : (n k i : ℕ) → bit_at (n / 2 ^ k) i ≡ bit_at n (i + k)
 bit_at_shifted n k i =
     let e : k + i ≡ i + k = omega arith in
     ap (λ x. x % 2) (shr-shr n k i) ∙ ap (bit_at n) e
 
 -- a bit below a mask is that of the number
-bit_at_masked : (n k i : ℕ) → i < k → bit_at (n % 2 ^ k) i ≡ bit_at n i
+pub bit_at_masked : (n k i : ℕ) → i < k → bit_at (n % 2 ^ k) i ≡ bit_at n i
 bit_at_masked n k i h =
     sym (bit_at_cat_low (n / 2 ^ k) k (n % 2 ^ k) i h) ∙ ap (λ x. bit_at x i) (shr_split n k)
 

@@ -73,7 +73,7 @@ more_replaced m w k r done more g s now after word whole past also adds is here 
     λ j. plain_set ((is.capacity ∙ ap (λ u. u.capacity) before) j) (λ i. each i j)
 
 -- words in turn: which word a number lies in
-word_at_most : (w k i : ℕ) → 0 < w → i < (k + 1) * w → (i / w ≡ k → ⊥) → i < k * w
+pub word_at_most : (w k i : ℕ) → 0 < w → i < (k + 1) * w → (i / w ≡ k → ⊥) → i < k * w
 word_at_most w k i word h n =
     let most = div_below i w (k + 1) word h in
     let up : (i / w + 1) * w ≤ k * w = mul-le-mul_right w (omega (arith, most, n)) in

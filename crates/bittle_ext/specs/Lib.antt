@@ -3,6 +3,7 @@ pub mod Between
 pub mod Changes
 pub mod Combined
 pub mod Groups
+pub mod Numbers
 pub mod RangeMembers
 pub mod Ranks
 pub mod Rotations

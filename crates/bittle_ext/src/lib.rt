@@ -37,9 +37,11 @@
 // A file `bits_.._ext` has the extension trait of its name, `views` has the views and their traits,
 // and the other files have the bodies that these pass on to, a subject each.
 mod bits_combine_ext;
+mod bits_copy_ext;
 mod bits_ext;
 mod bits_index_ext;
 mod bits_mut_ext;
+mod bits_number_ext;
 mod bits_owned_ext;
 mod bits_range_ext;
 mod bits_rank_ext;
@@ -49,8 +51,10 @@ mod bits_span_ext;
 mod bits_span_mut_ext;
 mod capacities;
 mod combinations;
+mod copies;
 mod counts;
 mod inserted;
+mod numbers;
 mod one_bit;
 mod other_words;
 pub mod prelude;
@@ -71,9 +75,11 @@ mod spans;
 pub mod views;
 
 pub use bits_combine_ext::BitsCombineExt;
+pub use bits_copy_ext::BitsCopyExt;
 pub use bits_ext::BitsExt;
 pub use bits_index_ext::{BitsIndexExt, BitsIndexMutExt};
 pub use bits_mut_ext::BitsMutExt;
+pub use bits_number_ext::{BitsNumberExt, BitsNumberMutExt};
 pub use bits_owned_ext::BitsOwnedExt;
 pub use bits_range_ext::BitsRangeExt;
 pub use bits_rank_ext::BitsRankExt;

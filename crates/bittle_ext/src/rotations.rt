@@ -13,7 +13,7 @@ use bittle_bits::extension::{Word, word_width};
 
 /// Returns the mask of all bits of a word.
 #[inline]
-fn all_bits<W: Word>() -> u128
+pub fn all_bits<W: Word>() -> u128
     ensures value { result ≡ 2 ^ W.width - 1 }
     ensures width { W.width < 129 }
 {

@@ -8,6 +8,7 @@ pub mod combined_walks;
 pub mod first_forms;
 pub mod lent_changes;
 pub mod made_sets;
+pub mod numbers;
 pub mod range_walks;
 pub mod reads;
 pub mod relation_chains;

@@ -1,0 +1,217 @@
+-- Ranges of a set as numbers, gathered word by word.
+use Rattle.std.proofs.Common.{◌≡◌, ℕ, zero, suc, ◌+◌, ◌-◌, ◌*◌, ◌/◌, ◌%◌, ◌^◌, ◌<◌, ◌≤◌, ◌⊎◌, Bool, true, false, cond, ◌||◌, ◌==◌, inl, inr, refl, sym, ap, ◌∙◌, arith, bit_and, bit_or}
+use Rattle.std.specs.Int.{bit_at}
+use Rattle.std.proofs.Math.Path.{fun_ext}
+use Rattle.std.proofs.Math.Nat.{mod-eq_of_lt}
+use Rattle.std.proofs.Math.Pow.{pow_mono, shr_lt}
+use Rattle.std.proofs.lemmas.Bool.{cases_eq, cases_lt, eq-eqb, ne_eqb}
+use Rattle.std.proofs.lemmas.Nat.{and_mask, mod_below, mul-add-lt, or_shifted, pow-add, pow_pos, shr_split}
+use Rattle.std.proofs.lemmas.Nat.Bits.{bit_at-lt, bit_at_above, bit_at_cat_high, bit_at_cat_low, ones_shr}
+use Rattle.bittle.specs.BitPatterns.{bit_has, bit_set}
+use Rattle.bittle.specs.Orders.{mirror, read_in}
+use Rattle.bittle.specs.PlainSet.{PlainSet, is_in_span, span_set}
+use Rattle.bittle.specs.SetOperations.{combination_of, first_alone}
+use Rattle.bittle.specs.Words.{word_of}
+use Rattle.bittle_bits.specs.LawProofs.{bit_has-past}
+use Rattle.bittle_bits.proofs.BitSets.{bit_has-at}
+use Rattle.bittle_bits.proofs.PlaceLemmas.{mirror_in_word, place-place, place_past}
+use Rattle.bittle_bits.proofs.PlainSets.{plain_set}
+use Rattle.bittle_bits.proofs.SetOperations.{combination-below}
+use Rattle.bittle_bits.proofs.Spans.{is_in_span-inside, is_in_span-outside}
+use Rattle.bittle_bits.proofs.WordOperations.{word_combined}
+use Rattle.bittle_bits.proofs.Words.{digit_at}
+use Rattle.bittle_ext.specs.Numbers.{number_in, HasBitsOf, has_copied}
+use Rattle.bittle_ext.proofs.ReversedBits.{bit_at_up_high, bit_at_up_low}
+use Rattle.bittle_ext.proofs.Windows.{bit_at_masked, bit_at_shifted}
+
+-- a number has so many bits, and they are those of a set: so it is the number of that range
+pub number_is : (s : PlainSet) (first n d : ℕ) → d < 2 ^ n → HasBitsOf s first n d →
+    d ≡ number_in s first n
+unfolding number_in
+number_is s first zero d fits bits = omega (arith, fits)
+number_is s first (suc n) d fits bits =
+    let low = number_is s first n (d % 2 ^ n) (mod_below d (2 ^ n) (pow_pos n))
+    (λ i h. ap (λ x. x == 1) (bit_at_masked d n i h) ∙ bits i (omega (arith, h))) in
+    let one : 1 + n ≡ suc n = omega arith in
+    let high : d / 2 ^ n < 2 = shr_lt 1 n (omega (arith, fits, ap (λ k. 2 ^ k) one)) in
+    let top : d / 2 ^ n * 2 ^ n ≡ cond (s.has (first + n)) (2 ^ n) 0 =
+    elim (cases_eq (bit_at d n) 1) [
+      | inl e ↦
+          let is : d / 2 ^ n ≡ 1 = omega (arith, high, e) in
+          ap (λ k. k * 2 ^ n) is ∙ omega arith ∙ sym (ap (λ b. cond b (2 ^ n) 0)
+          (sym (bits n (omega arith)) ∙ eq-eqb (bit_at d n) 1 e))
+      | inr other ↦
+          let is : d / 2 ^ n ≡ 0 = omega (arith, high, other, bit_at-lt d n) in
+          ap (λ k. k * 2 ^ n) is ∙ omega arith ∙ sym (ap (λ b. cond b (2 ^ n) 0)
+          (sym (bits n (omega arith)) ∙ ne_eqb (bit_at d n) 1 other))
+    ] in
+    omega (arith, shr_split d n, low, top)
+
+-- the bits of a number that all stand the other way round, down at the width of a word
+module _ (w bits r : ℕ) (word : 0 < w) (small : w ≤ 128)
+    (turned : (i : ℕ) → i < 128 → bit_at r i ≡ bit_at bits (127 - i)) where
+  pub turned_fits : r < 2 ^ 128 → r / 2 ^ (128 - w) < 2 ^ w
+  turned_fits fits =
+      let parts : w + (128 - w) ≡ 128 = omega (arith, small) in
+      shr_lt w (128 - w) (omega (arith, fits, ap (λ k. 2 ^ k) parts))
+
+  pub turned_set : bit_set w (r / 2 ^ (128 - w)) ≡ read_in true w (bit_set w bits)
+  turned_set = ap (plain_set w) (fun_ext λ i. elim (cases_lt i w) [
+    | inl l ↦
+        let e : 127 - (i + (128 - w)) ≡ w - 1 - i = omega (arith, small, l) in
+        bit_has-at w (r / 2 ^ (128 - w)) i l
+        ∙ ap (λ b. b == 1) (bit_at_shifted r (128 - w) i
+        ∙ turned (i + (128 - w)) (omega (arith, l, small)) ∙ ap (bit_at bits) e)
+        ∙ sym (ap (bit_has w bits) (mirror_in_word w i l)
+        ∙ bit_has-at w bits (w - 1 - i) (omega (arith, word)))
+    | inr g ↦
+        let past : 1 * w ≤ mirror w i = place_past true w 1 i word (omega (arith, g)) in
+        bit_has-past w (r / 2 ^ (128 - w)) i g
+        ∙ sym (bit_has-past w bits (mirror w i) (omega (arith, past)))
+  ])
+
+-- a set that is read in an order twice is itself
+pub read_twice : (m : Bool) (w : ℕ) (s t : PlainSet) → 0 < w → t ≡ read_in m w s → read_in m w t ≡ s
+read_twice m w s t word is =
+    ap (read_in m w) is
+    ∙ ap (plain_set s.capacity) (fun_ext λ i. ap s.has (place-place m w i word))
+
+-- the mask of the lowest bits
+pub lowest : (n k : ℕ) → k ≤ 128 → bit_and n ((2 ^ 128 - 1) / 2 ^ (128 - k)) ≡ n % 2 ^ k
+lowest n k h =
+    let e : 128 - (128 - k) ≡ k = omega (arith, h) in
+    ap (bit_and n) (ones_shr 128 (128 - k) (omega arith) ∙ ap (λ j. 2 ^ j - 1) e) ∙ and_mask n k
+
+-- so many bits of a word from an index of it on, which are those of the set from there on
+pub bits_of_word : (m : Bool) (w k from more index p x v : ℕ) (s : PlainSet) → 0 < w →
+    bit_set w p ≡ word_of w s k → bit_set w x ≡ read_in m w (bit_set w p) →
+    k * w + from ≡ index → from + more ≤ w → v ≡ x / 2 ^ from % 2 ^ more →
+    HasBitsOf (read_in m w s) index more v
+bits_of_word m w k from more index p x v s word ours number at within is i h =
+    let inside : i + from < w = omega (arith, within, h) in
+    ap (λ b. b == 1) (ap (λ n. bit_at n i) is ∙ bit_at_masked (x / 2 ^ from) more i h
+    ∙ bit_at_shifted x from i)
+    ∙ sym (bit_has-at w x (i + from) inside) ∙ ap (λ u. u.has (i + from)) number
+    ∙ digit_at m w k s p word ours (i + from) inside
+    ∙ ap (read_in m w s).has (omega (arith, at))
+
+-- a number of `done` bits below one of `more` bits
+module _ (s : PlainSet) (first done more number v r : ℕ) (below : number < 2 ^ done)
+    (small : v < 2 ^ more) (within : done + more ≤ 128)
+    (is : r ≡ bit_or (v * 2 ^ done % 2 ^ 128) number) where
+  joined_below : v * 2 ^ done + number < 2 ^ (done + more)
+  joined_below =
+      let some = mul-add-lt v (2 ^ done) number (2 ^ more) small below in
+      let e : more + done ≡ done + more = omega arith in
+      omega (arith, some, pow-add 2 more done, ap (λ k. 2 ^ k) e)
+
+  joined : r ≡ v * 2 ^ done + number
+  joined =
+      let top : 2 ^ (done + more) ≤ 2 ^ 128 = pow_mono within in
+      is ∙ ap (λ n. bit_or n number) (mod-eq_of_lt (omega (arith, joined_below, top)))
+      ∙ or_shifted v done number below
+
+  pub more_below : r < 2 ^ (done + more)
+  more_below = omega (arith, joined, joined_below)
+
+  pub more_bits : HasBitsOf s first done number → HasBitsOf s (first + done) more v →
+      HasBitsOf s first (done + more) r
+  more_bits bits next i h =
+      elim (cases_lt i done) [
+        | inl l ↦ ap (λ b. b == 1) (ap (λ n. bit_at n i) joined
+            ∙ bit_at_cat_low v done number i l) ∙ bits i l
+        | inr g ↦ ap (λ b. b == 1) (ap (λ n. bit_at n i) joined
+            ∙ bit_at_cat_high v done number i below g) ∙ next (i - done) (omega (arith, h, g))
+            ∙ ap s.has (omega (arith, g))
+      ]
+
+-- from the capacity of the set on, a number of fewer bits has none either
+pub bits_past : (s : PlainSet) (first n end d : ℕ) → ((i : ℕ) → s.capacity ≤ i → s.has i ≡ false) →
+    (end ≡ n) ⊎ (s.capacity ≤ first + end) → d < 2 ^ end → HasBitsOf s first end d →
+    HasBitsOf s first n d
+bits_past s first n end d past ends fits bits i h =
+    elim (cases_lt i end) [
+      | inl l ↦ bits i l
+      | inr g ↦ elim ends [
+        | inl e ↦ absurd (omega (arith, e, h, g))
+        | inr far ↦ ap (λ b. b == 1) (bit_at_above d end i fits g)
+            ∙ sym (past (first + i) (omega (arith, far, g)))
+      ]
+    ]
+
+-- where a sum is cut at a number from which on a set has no members, its bits are those of the sum
+pub bits_at_most : (s : PlainSet) (first cut top n d : ℕ) →
+    ((i : ℕ) → s.capacity ≤ i → s.has i ≡ false) → s.capacity ≤ top →
+    (cut ≡ first) ⊎ ((top ≤ cut) × (top ≤ first)) → HasBitsOf s cut n d → HasBitsOf s first n d
+bits_at_most s first cut top n d past high where_is bits i h =
+    bits i h ∙ elim where_is [
+      | inl e ↦ ap (λ k. s.has (k + i)) e
+      | inr far ↦ past (cut + i) (omega (arith, high, far.0))
+          ∙ sym (past (first + i) (omega (arith, high, far.1)))
+    ]
+
+-- a number shifted up to an index of a word fits into it
+pub shifted_fits : (w from count number : ℕ) → from + count ≤ w → w ≤ 128 → number < 2 ^ count →
+    (number * 2 ^ from < 2 ^ w) × (number * 2 ^ from % 2 ^ 128 ≡ number * 2 ^ from)
+shifted_fits w from count number within small fits =
+    let some = mul-add-lt number (2 ^ from) 0 (2 ^ count) fits (pow_pos from) in
+    let top : 2 ^ (count + from) ≤ 2 ^ w = pow_mono (omega (arith, within)) in
+    let all : 2 ^ w ≤ 2 ^ 128 = pow_mono small in
+    let low : number * 2 ^ from < 2 ^ w = omega (arith, some, pow-add 2 count from, top) in
+    (low, mod-eq_of_lt (omega (arith, low, all)))
+
+-- a word of which some bits are cleared and then set as those of a number
+module _ (m : Bool) (w from count number p mask rest bits r : ℕ) (word : 0 < w)
+    (within : from + count ≤ w) (small : w ≤ 128) (fits : number < 2 ^ count)
+    (placed : read_in m w (bit_set w bits) ≡ bit_set w (number * 2 ^ from))
+    (span : read_in m w (bit_set w mask) ≡ span_set w from (from + count))
+    (cleared : bit_set w rest ≡ combination_of first_alone (bit_set w p) (bit_set w mask))
+    (is : bit_set w r ≡ combination_of ◌||◌ (bit_set w rest) (bit_set w bits)) where
+  abbrev was : ℕ → Bool
+  was i = (read_in m w (bit_set w p)).has i
+
+  rest_at : (i : ℕ) → i < w →
+      (read_in m w (bit_set w rest)).has i ≡ first_alone (was i) (is_in_span from (from + count) i)
+  rest_at i h =
+      ap (λ u. u.has i) (word_combined first_alone w p mask rest m word cleared)
+      ∙ combination-below first_alone (read_in m w (bit_set w p)) (read_in m w (bit_set w mask)) i h h
+      ∙ ap (λ u. first_alone (was i) (u.has i)) span
+
+  new_at : (i : ℕ) → i < w →
+      (read_in m w (bit_set w bits)).has i ≡ (bit_at (number * 2 ^ from) i == 1)
+  new_at i h = ap (λ u. u.has i) placed ∙ bit_has-at w (number * 2 ^ from) i h
+
+  kept : (b : Bool) → first_alone b false || false ≡ b
+  kept true = refl
+  kept false = refl
+
+  decided : (b c : Bool) → first_alone b true || c ≡ c
+  decided true c = refl
+  decided false c = refl
+
+  pub numbered : (i : ℕ) → i < w → (read_in m w (bit_set w r)).has i
+      ≡ has_copied (read_in m w (bit_set w p)) from count (bit_set 128 number) 0 i
+  unfolding has_copied
+  numbered i h =
+      ap (λ u. u.has i) (word_combined ◌||◌ w rest bits r m word is)
+      ∙ combination-below ◌||◌ (read_in m w (bit_set w rest)) (read_in m w (bit_set w bits)) i h h
+      ∙ (λ j. rest_at i h j || new_at i h j)
+      ∙ elim (cases_lt i from) [
+        | inl l ↦
+            rw (is_in_span-outside from (from + count) i (inl l), bit_at_up_low number from i l)
+            (kept (was i))
+        | inr g ↦ elim (cases_lt i (from + count)) [
+          | inl l ↦
+              let at : i - from ≡ i - from + 0 = omega arith in
+              rw (is_in_span-inside from (from + count) i g l, bit_at_up_high number from i g)
+              (decided (was i) (bit_at number (i - from) == 1)
+              ∙ sym (bit_has-at 128 number (i - from) (omega (arith, h, small)))
+              ∙ ap (bit_has 128 number) at)
+          | inr far ↦
+              rw (
+                is_in_span-outside from (from + count) i (inr far),
+                bit_at_up_high number from i g,
+                bit_at_above number count (i - from) fits (omega (arith, far)),
+              ) (kept (was i))
+        ]
+      ]

@@ -1,0 +1,83 @@
+//! Ranges of bits that are read and written as numbers.
+
+ghost use Rattle.std.specs.Prelude.{◌≡◌, ◌+◌, ◌%◌, ◌^◌, ◌<◌, ◌≤◌, ℕ};
+ghost use Rattle.bittle.specs.BitPatterns.{bit_set};
+ghost use Rattle.bittle.specs.Values.{set_in, ShapeFits};
+ghost use Rattle.bittle_ext.specs.Numbers.{HasBitsOf, number_in, with_copied};
+
+use crate::copies;
+use bittle::{BigEndian, Bits, BitsMut};
+
+/// Reading up to 64 neighbouring bits as a number, a word at a time.
+///
+/// Bit `i` of the number is the bit at index `first + i`, in the order of the type: index `first`
+/// has the weight 1, in both orders. A view that [`in_order`](crate::BitsViewExt::in_order) borrows
+/// has another order.
+pub trait BitsNumberExt: Bits {
+    /// Returns the bits at the `count` indexes from `first` on as a number.
+    ///
+    /// The shape has to fit, and `count` is at most 64. From the capacity on no bit is set, so with
+    /// capacity 0 the number is 0. Only the words of the range are read, once each.
+    ///
+    /// ```
+    /// let row = [0x34u8, 0x12];
+    /// row.load(4, 8);                                     // 0x23
+    /// row.load(12, 64);                                   // 0x1
+    /// ```
+    #[inline]
+    final fn load(&self, first: u32, count: u32) -> u64
+    where
+        Self: Sized,
+        requires fits { ShapeFits Self.Shape self.now }
+        requires within { count ≤ 64 }
+        ensures value { result ≡ number_in (set_in Self.Shape Self.Order.Endian self.now) first
+            count }
+        ensures bits { HasBitsOf (set_in Self.Shape Self.Order.Endian self.now) first count result }
+        ensures below { result < 2 ^ count }
+    {
+        copies::number_from::<Self, Self::Order>(self, first, count) as u64
+    }
+}
+
+impl<B: Bits> BitsNumberExt for B {}
+
+/// Writing up to 64 neighbouring bits as a number, a word at a time.
+///
+/// The bit at index `first + i` becomes bit `i` of the number, in the order of the type. In another
+/// order a range is written through a view that
+/// [`in_order_mut`](crate::BitsMutViewExt::in_order_mut) borrows.
+pub trait BitsNumberMutExt: BitsMut {
+    /// Sets and clears the bits at the `count` indexes from `first` on, as those of a number: its
+    /// bits from `count` on are ignored.
+    ///
+    /// The shape has to fit, `count` is at most 64, and the range ends at the capacity or below:
+    /// with capacity 0 only an empty range is allowed, which changes nothing. Only the words of the
+    /// range are read and written, once each.
+    ///
+    /// ```
+    /// let mut row = [0u8; 2];
+    /// row.store(4, 8, 0x123);                             // row is [0x30, 0x02]
+    /// ```
+    #[inline]
+    final fn store(&mut self, first: u32, count: u32, value: u64)
+        requires fits { ShapeFits Self.Shape self.old }
+        requires within { count ≤ 64 }
+        requires ends { first + count ≤ (Self.big self.old).capacity }
+        ensures set { set_in Self.Shape Self.Order.Endian self.new
+            ≡ with_copied (set_in Self.Shape Self.Order.Endian self.old) first count
+            (bit_set 64 value) 0 }
+        ensures value { number_in (set_in Self.Shape Self.Order.Endian self.new) first count
+            ≡ value % 2 ^ count }
+        ensures before { (at n : ℕ) → at + n ≤ first
+            → number_in (set_in Self.Shape Self.Order.Endian self.new) at n
+            ≡ number_in (set_in Self.Shape Self.Order.Endian self.old) at n }
+        ensures after { (at n : ℕ) → first + count ≤ at
+            → number_in (set_in Self.Shape Self.Order.Endian self.new) at n
+            ≡ number_in (set_in Self.Shape Self.Order.Endian self.old) at n }
+        ensures stays { Self.loan self.old ≡ Self.loan self.new }
+    {
+        copies::copy_range::<Self, u64, Self::Order, BigEndian>(self, first, &value, 0, count);
+    }
+}
+
+impl<B: BitsMut> BitsNumberMutExt for B {}

@@ -1,0 +1,108 @@
+//! Words as numbers whose bit `i` is the bit at index `i`, in either order.
+
+ghost use Rattle.std.specs.Prelude.{◌≡◌, ℕ, ◌+◌, ◌-◌, ◌*◌, ◌/◌, ◌%◌, ◌^◌, ◌<◌, ◌≤◌, bit_and, bit_or};
+ghost use Rattle.std.specs.Int.{bit_at};
+ghost use Rattle.bittle.specs.BitPatterns.{bit_set};
+ghost use Rattle.bittle.specs.Orders.{read_in};
+ghost use Rattle.bittle_ext.specs.Numbers.{has_copied};
+
+use crate::rotations::all_bits;
+use bittle::Endian;
+use bittle_bits::extension::{Difference, Operation, Union, Word, range};
+
+/// Returns a number of which the bits of the mask are moved up by `by`, and those so far above them
+/// down.
+#[inline]
+fn swapped(bits: u128, by: u32, mask: u128) -> u128
+    requires { by < 128 }
+    ensures { result ≡ bit_or (bit_and bits mask * 2 ^ by % 2 ^ 128) (bit_and (bits / 2 ^ by) mask) }
+{
+    (bits & mask) << by | bits >> by & mask
+}
+
+/// Returns a number whose 128 bits stand the other way round: single bits change places, then
+/// pairs, and so on up to the halves.
+#[inline]
+fn reversed(bits: u128) -> u128
+    ensures { (i : ℕ) → i < 128 → bit_at result i ≡ bit_at bits (127 - i) }
+{
+    let pairs = swapped(bits, 1, 0x5555_5555_5555_5555_5555_5555_5555_5555);
+    let fours = swapped(pairs, 2, 0x3333_3333_3333_3333_3333_3333_3333_3333);
+    let bytes = swapped(fours, 4, 0x0F0F_0F0F_0F0F_0F0F_0F0F_0F0F_0F0F_0F0F);
+    let of_16 = swapped(bytes, 8, 0x00FF_00FF_00FF_00FF_00FF_00FF_00FF_00FF);
+    let of_32 = swapped(of_16, 16, 0x0000_FFFF_0000_FFFF_0000_FFFF_0000_FFFF);
+    let of_64 = swapped(of_32, 32, 0x0000_0000_FFFF_FFFF_0000_0000_FFFF_FFFF);
+    swapped(of_64, 64, 0x0000_0000_0000_0000_FFFF_FFFF_FFFF_FFFF)
+}
+
+/// Returns how many bits a word has: 128 at most.
+#[inline]
+pub fn width_of<W: Word>() -> u32
+    ensures width { result ≡ W.width }
+    ensures within { W.width ≤ 128 }
+{
+    let _ = all_bits::<W>();
+    W::width()
+}
+
+/// Returns the bits of a word in the order `E`, as a number of the width of a word: in big-endian
+/// order they are as they were, and else they stand the other way round.
+#[inline]
+fn ordered<W: Word, E: Endian>(bits: u128) -> u128
+    requires { bits < 2 ^ W.width }
+    ensures fits { result < 2 ^ W.width }
+    ensures set { bit_set W.width result ≡ read_in E.mirrored W.width (bit_set W.width bits) }
+{
+    if E::is_mirrored() {
+        reversed(bits) >> (128 - width_of::<W>())
+    } else {
+        bits
+    }
+}
+
+/// Returns the number whose bit `i` is the bit at index `i` of a word.
+#[inline]
+pub fn number_of<W: Word, E: Endian>(word: W) -> u128
+    ensures fits { result < 2 ^ W.width }
+    ensures set { bit_set W.width result
+        ≡ read_in E.mirrored W.width (bit_set W.width (W.pattern word)) }
+{
+    ordered::<W, E>(word.to_bits())
+}
+
+/// Returns the word whose bit at index `i` is bit `i` of a number.
+#[inline]
+fn word_of<W: Word, E: Endian>(number: u128) -> W
+    requires { number < 2 ^ W.width }
+    ensures { read_in E.mirrored W.width (bit_set W.width (W.pattern result))
+        ≡ bit_set W.width number }
+{
+    W::from_bits(ordered::<W, E>(number))
+}
+
+/// Returns the lowest bits of a number.
+#[inline]
+pub fn low_bits(number: u128, count: u32) -> u128
+    requires some { 0 < count }
+    requires within { count ≤ 128 }
+    ensures { result ≡ number % 2 ^ count }
+{
+    number & u128::MAX >> (128 - count)
+}
+
+/// Returns a word with the bits of a number at `count` indexes, from the index `from` on.
+#[inline]
+pub fn with_number<W: Word, E: Endian>(word: W, from: u32, count: u32, number: u128) -> W
+    requires some { 0 < count }
+    requires within { from + count ≤ W.width }
+    requires fits { number < 2 ^ count }
+    ensures { (i : ℕ) → i < W.width
+        → (read_in E.mirrored W.width (bit_set W.width (W.pattern result))).has i
+        ≡ has_copied (read_in E.mirrored W.width (bit_set W.width (W.pattern word))) from count
+        (bit_set 128 number) 0 i }
+{
+    let _ = width_of::<W>();
+    let bits = word_of::<W, E>(number << from);
+    let rest = Difference::on_words::<W>(word, range::<W, E>(from, from + count));
+    Union::on_words::<W>(rest, bits)
+}
