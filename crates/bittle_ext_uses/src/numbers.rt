@@ -1,6 +1,6 @@
 //! Numbers packed into sets, and ranges of bits that are copied.
 
-ghost use Rattle.std.specs.Prelude.{◌≡◌, ◌+◌, ◌-◌, ◌*◌, ◌%◌, ◌<◌, ◌≤◌, ℕ, length};
+ghost use Rattle.std.specs.Prelude.{◌≡◌, ◌+◌, ◌-◌, ◌*◌, ◌%◌, ◌<◌, ◌≤◌, ℕ, length, true};
 ghost use Rattle.bittle.specs.BitPatterns.{bit_set};
 ghost use Rattle.bittle.specs.Orders.{read_in};
 ghost use Rattle.bittle.specs.PlainSet.{contains};
@@ -50,7 +50,7 @@ pub fn kept<B: BitsMut>(set: &mut B, first: u32, value: u64) -> u64
 
 /// Stores a whole number in a row.
 pub fn keep_whole(row: &mut [u8; 12], value: u64)
-    ensures { number_in (row_set 12 8 (bit_set 8) row.new) 20 64 ≡ value % 18446744073709551616 }
+    ensures { number_in (row_set 12 8 (bit_set 8) row.new) 20 64 ≡ value }
 {
     row.store(20, 64, value);
 }

@@ -18,6 +18,8 @@ mod everyday_pairs;
 #[cfg(test)]
 mod everyday_reads;
 #[cfg(test)]
+mod numbers;
+#[cfg(test)]
 mod pages;
 #[cfg(test)]
 mod probe;

@@ -14,11 +14,15 @@ mod checks;
 #[cfg(test)]
 mod combined;
 #[cfg(test)]
+mod copies;
+#[cfg(test)]
 mod found_runs;
 #[cfg(test)]
 mod lazy_views;
 #[cfg(test)]
 mod made;
+#[cfg(test)]
+mod numbers;
 #[cfg(test)]
 mod random;
 #[cfg(test)]

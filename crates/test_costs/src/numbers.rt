@@ -1,0 +1,80 @@
+//! What ranges that are numbers or copies ask of a set: the words of the range.
+
+ghost use Rattle.std.specs.Prelude.{◌≤◌};
+ghost use Rattle.bittle.specs.Values.{ShapeFits};
+
+use crate::asked::Asked;
+use crate::checks::same;
+use crate::probe::{ONES, Probe, ZEROS};
+use bittle::{Bits, BitsMut};
+use bittle_ext::prelude::*;
+
+// Returns the number of the bits 4 to 19.
+fn load<B: Bits>(set: &B) -> u64
+    requires { ShapeFits B.Shape set.now }
+{
+    set.load(4, 16)
+}
+
+#[test]
+fn a_number_is_loaded_from_the_words_of_its_range(rt: HostRuntime) {
+    let asked = Asked::new();
+    let set = Probe::of(ZEROS, &asked);
+    same!(rt; load(&set), 0xFFFF);
+    same!(rt; (asked.fetches(), asked.other()), (3, 0));
+}
+
+// Stores a number in the bits 4 to 19.
+fn store<B: BitsMut>(set: &mut B, value: u64)
+    requires fits { ShapeFits B.Shape set.old }
+    requires within { 20 ≤ (B.big set.old).capacity }
+{
+    set.store(4, 16, value);
+}
+
+#[test]
+fn a_number_is_stored_in_the_words_of_its_range(rt: HostRuntime) {
+    let asked = Asked::new();
+    let mut set = Probe::of(ONES, &asked);
+    store(&mut set, 0xFACE);
+    same!(rt; set.bytes, [0xE1, 0xAC, 0x0F, 0x80]);
+    same!(rt; (asked.fetches(), asked.other()), (3, 3));
+}
+
+// Copies the first 16 bits of another set to the indexes from 4 on.
+fn copy<A: BitsMut, B: Bits>(set: &mut A, other: &B)
+    requires fits { ShapeFits A.Shape set.old }
+    requires other_fits { ShapeFits B.Shape other.now }
+    requires within { 20 ≤ (A.big set.old).capacity }
+{
+    set.copy_range(other, 0, 16, 4);
+}
+
+#[test]
+fn a_range_is_copied_from_two_words_to_each_at_most(rt: HostRuntime) {
+    // Of the other set are read the words 0, 0 and 1, and 1.
+    let (ours, theirs) = (Asked::new(), Asked::new());
+    let mut set = Probe::of(ZEROS, &ours);
+    copy(&mut set, &Probe::of(ONES, &theirs));
+    same!(rt; set.bytes, [0x1E, 0, 0xF0, 0x7F]);
+    same!(rt; (ours.fetches(), ours.other()), (3, 3));
+    same!(rt; (theirs.fetches(), theirs.other()), (4, 0));
+}
+
+// Copies the first 16 bits of a set to its indexes from 4 on.
+fn move_up<B: BitsMut>(set: &mut B)
+    requires fits { ShapeFits B.Shape set.old }
+    requires within { 20 ≤ (B.big set.old).capacity }
+{
+    set.copy_within(0, 16, 4);
+}
+
+#[test]
+fn a_range_is_copied_within_a_set_from_its_words(rt: HostRuntime) {
+    // For the three words that are written, four are read, and each of the three.
+    let asked = Asked::new();
+    let mut set = Probe::of(ONES, &asked);
+    move_up(&mut set);
+    same!(rt; set.bytes, [0x11, 0, 0, 0x80]);
+    same!(rt; (asked.fetches(), asked.other()), (7, 3));
+}

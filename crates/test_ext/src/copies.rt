@@ -1,0 +1,200 @@
+//! Ranges of bits that are copied, with values worked out by hand, beside a loop over the indexes,
+//! and drawn ones beside a loop over 24 flags.
+
+ghost use Rattle.std.specs.Prelude.{IsTrue};
+ghost use Rattle.bittle.specs.Values.{ShapeFits};
+
+use crate::checks::same;
+use crate::random::{draw, draw_row, flags_of};
+use bittle::prelude::*;
+use bittle::{BigEndian, BitsOwned, Endian, LittleEndian, Set};
+use bittle_ext::prelude::*;
+use std::process::Abort;
+
+// Returns the set with a range of another one copied, or unchanged where that is not allowed.
+fn pasted<A: BitsOwned, B: Bits>(set: A, other: &B, from: u32, to: u32, at: u32) -> A
+    requires indexable { IsTrue A.indexable }
+    requires other_fits { ShapeFits B.Shape other.now }
+{
+    let mut now = set;
+    let capacity = now.bits_capacity();
+    if from <= to && at <= capacity && to - from <= capacity - at {
+        now.copy_range(other, from, to, at);
+    }
+    now
+}
+
+// Returns the set with a range of it copied, or unchanged where that is not allowed.
+fn moved<A: BitsOwned>(set: A, from: u32, to: u32, at: u32) -> A
+    requires { IsTrue A.indexable }
+{
+    let mut now = set;
+    let capacity = now.bits_capacity();
+    if from <= to && at <= capacity && to - from <= capacity - at {
+        now.copy_within(from, to, at);
+    }
+    now
+}
+
+#[test]
+fn words_of_other_widths(rt: HostRuntime) {
+    // Of the word the bits 4 to 11 are 1010_0101.
+    let word = 0x0A50u16;
+    same!(rt; pasted([0xFFu8; 2], &word, 4, 12, 6), [0x7F, 0xE9]);
+    same!(rt; pasted(0u64, &[0x12u8, 0x34, 0x56], 4, 20, 1), 0x6341 << 1);
+    same!(rt; pasted(u128::MAX, &0u8, 0, 8, 120), u128::MAX >> 8);
+    same!(rt; pasted(-1i8, &word, 7, 7, 3), -1);
+}
+
+#[test]
+fn past_the_end_of_the_other_set(rt: HostRuntime) {
+    // Its bits 6 and 7 are set, and it has no others.
+    same!(rt; pasted([0xFFu8; 2], &0xFFu8, 6, 12, 2), [0x0F, 0xFF]);
+    same!(rt; pasted(0xFFu8, &0xFFu8, u32::MAX - 4, u32::MAX, 1), 0b1110_0001);
+}
+
+#[test]
+fn other_orders(rt: HostRuntime) {
+    // From the left the members 0 and 3.
+    let left = Set::new_le(0b1001_0000u8);
+    same!(rt; pasted(0u8, &left, 0, 8, 0), 0b0000_1001);
+    same!(rt; pasted(Set::new_le([0u16; 2]), &left, 0, 4, 14).into_bits(), [2, 0x4000]);
+    same!(rt; pasted(Set::new_le(0u8), &0b0000_0011u8, 1, 3, 4).into_bits(), 0b0000_1000);
+}
+
+#[test]
+fn ranges_that_overlap(rt: HostRuntime) {
+    same!(rt; moved([0x35u8, 0x00], 0, 8, 4), [0x55, 0x03]);
+    same!(rt; moved([0x53u8, 0x04], 4, 12, 0), [0x45, 0x04]);
+    same!(rt; moved([0x81u8, 0x7E, 0x18], 0, 16, 8), [0x81, 0x81, 0x7E]);
+    same!(rt; moved([0x81u8, 0x7E, 0x18], 8, 24, 0), [0x7E, 0x18, 0x18]);
+    same!(rt; moved(Set::new_le([0x80u8, 0x01]), 0, 15, 1).into_bits(), [0xC0, 0]);
+}
+
+// Returns the set with the bits of a range of another one, bit by bit.
+fn by_bits<A: BitsOwned, B: Bits, E: Endian, F: Endian>(
+    set: &A,
+    other: &B,
+    from: u32,
+    to: u32,
+    at: u32,
+) -> A
+    requires indexable { IsTrue A.indexable }
+    requires other_fits { ShapeFits B.Shape other.now }
+{
+    let mut made = *set;
+    for index in from..to {
+        let place = at.saturating_add(index - from);
+        if index < other.bits_capacity() && other.test_bit_in::<F>(index) {
+            made.set_bit_in::<E>(place);
+        } else {
+            made.clear_bit_in::<E>(place);
+        }
+    }
+    made
+}
+
+// Compares the calls with the loop, at one range.
+fn agree_at<A: BitsOwned, B: BitsOwned, E: Endian, F: Endian>(
+    rt: &impl Abort,
+    set: A,
+    other: B,
+    from: u32,
+    to: u32,
+    at: u32,
+)
+    requires indexable { IsTrue A.indexable }
+    requires other_indexable { IsTrue B.indexable }
+{
+    let all = A::bits();
+    if from <= to && at <= all && to - from <= all - at {
+        let ours = Set::<A, E>::new_in(set);
+        let made = pasted(ours, &Set::<B, F>::new_in(other), from, to, at).into_bits();
+        let looped = by_bits::<A, B, E, F>(&set, &other, from, to, at);
+        crate::checks::ask(rt, "from another set", made == looped);
+        let within = moved(ours, from, to, at).into_bits();
+        let looped = by_bits::<A, A, E, E>(&set, &set, from, to, at);
+        crate::checks::ask(rt, "within the set", within == looped);
+    }
+}
+
+// Compares the calls with the loop, at ranges beside the ends of words and of the set, in each pair
+// of orders.
+fn agree<A: BitsOwned, B: BitsOwned>(rt: &impl Abort, width: u32, set: A, other: B)
+    requires indexable { IsTrue A.indexable }
+    requires other_indexable { IsTrue B.indexable }
+{
+    for from in [0, 1, width.wrapping_sub(1), width] {
+        for to in [
+            from,
+            from.wrapping_add(7),
+            from.wrapping_add(width),
+            A::bits(),
+        ] {
+            for at in [0, 1, 3, width, A::bits().wrapping_sub(7)] {
+                agree_at::<A, B, BigEndian, BigEndian>(rt, set, other, from, to, at);
+                agree_at::<A, B, LittleEndian, LittleEndian>(rt, set, other, from, to, at);
+                agree_at::<A, B, BigEndian, LittleEndian>(rt, set, other, from, to, at);
+                agree_at::<A, B, LittleEndian, BigEndian>(rt, set, other, from, to, at);
+            }
+        }
+    }
+}
+
+#[test]
+fn words_agree_with_a_loop(rt: HostRuntime) {
+    agree(&rt, 8, 0b1001_0110u8, -0x5A93i16);
+    agree(&rt, 64, 0x8001_0203_F8F9_FAFBu64, 0x8F03u32);
+    agree(
+        &rt,
+        64,
+        0x8001_0203_0405_0607_F8F9_FAFB_FCFD_FE01u128,
+        0xC35Au16,
+    );
+}
+
+#[test]
+fn rows_agree_with_a_loop(rt: HostRuntime) {
+    agree(&rt, 8, [0xC5u8, 0x3A, 0x91], [0x8000_0003u32, 0xF0F0_1235]);
+    agree(
+        &rt,
+        64,
+        [0x8000_0000_0000_0003u64, 0xF0F0_1234_5678_9ABD],
+        [0x53u8, 0xA6, 0x19],
+    );
+    agree(
+        &rt,
+        16,
+        [[0x8003u16, 0x1234], [0xFEDC, 0x4001]],
+        Set::new_le([0xC5u8, 0x3A, 0x91]),
+    );
+}
+
+#[test]
+fn capacity_0(rt: HostRuntime) {
+    let none: [u32; 0] = [];
+    agree(&rt, 32, none, 0xC5u8);
+    agree(&rt, 8, 0xC5u8, none);
+    same!(rt; pasted(0xFFu8, &none, 0, 3, 2), 0b1110_0011);
+    same!(rt; (pasted(none, &1u8, 4, 4, 0), moved(none, 9, 9, 0)), (none, none));
+}
+
+#[test]
+fn drawn_copies_agree_with_plain_loops(rt: HostRuntime) {
+    let mut state = 23;
+    for _ in 0..1000 {
+        let (row, other) = (draw_row(&mut state), draw_row(&mut state));
+        let (from, at) = (draw(&mut state) % 25, draw(&mut state) % 25);
+        let count = draw(&mut state) % (25 - from.max(at));
+        let (ours, theirs) = (flags_of(&row), flags_of(&other));
+        let (mut copied, mut within) = (ours, ours);
+        for i in 0..24u32 {
+            if i < count && from + i < 24 && at + i < 24 {
+                copied[(at + i) as usize] = theirs[(from + i) as usize];
+                within[(at + i) as usize] = ours[(from + i) as usize];
+            }
+        }
+        same!(rt; flags_of(&pasted(row, &other, from, from + count, at)), copied);
+        same!(rt; flags_of(&moved(row, from, from + count, at)), within);
+    }
+}

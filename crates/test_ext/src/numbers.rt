@@ -1,0 +1,207 @@
+//! Ranges of bits that are read and written as numbers, with values worked out by hand, beside a
+//! loop over the indexes, and drawn ones beside a loop over 24 flags.
+
+ghost use Rattle.std.specs.Prelude.{IsTrue};
+ghost use Rattle.bittle.specs.Values.{ShapeFits};
+
+use crate::checks::{holds, same};
+use crate::random::{draw, draw_row, flags_of};
+use bittle::prelude::*;
+use bittle::{BigEndian, BitsOwned, Endian, LittleEndian, Set};
+use bittle_ext::prelude::*;
+use std::process::Abort;
+
+// Returns the number of a range, of which no more than 64 bits are asked.
+fn loaded<B: Bits>(set: &B, first: u32, count: u32) -> u64
+    requires { ShapeFits B.Shape set.now }
+{
+    set.load(first, count.min(64))
+}
+
+// Returns the set with a number stored in a range, or unchanged where the range is not allowed.
+fn stored<B: BitsOwned>(set: B, first: u32, count: u32, value: u64) -> B
+    requires { IsTrue B.indexable }
+{
+    let mut now = set;
+    let capacity = now.bits_capacity();
+    if count <= 64 && first <= capacity && count <= capacity - first {
+        now.store(first, count, value);
+    }
+    now
+}
+
+#[test]
+fn a_row(rt: HostRuntime) {
+    // The bits of 0x1234, the lowest ones first.
+    let row = [0x34u8, 0x12];
+    same!(rt; (row.load(0, 16), row.load(0, 8), row.load(4, 8)), (0x1234, 0x34, 0x23));
+    same!(rt; (row.load(2, 3), row.load(5, 0), row.load(12, 64)), (0b101, 0, 1));
+    same!(rt; (row.load(16, 8), row.load(u32::MAX, 64)), (0, 0));
+}
+
+#[test]
+fn a_row_that_is_written(rt: HostRuntime) {
+    same!(rt; stored([0u8, 0], 4, 8, 0x123), [0x30, 0x02]);
+    same!(rt; stored([0xFFu8, 0xFF], 6, 4, 0b0110), [0xBF, 0xFD]);
+    same!(rt; stored([0xFFu8, 0xFF], 3, 0, 9), [0xFF, 0xFF]);
+    same!(rt; stored([0u8; 2], 0, 16, u64::MAX), [0xFF, 0xFF]);
+}
+
+#[test]
+fn a_row_from_the_left(rt: HostRuntime) {
+    // From the left the members 1, 2 and 11.
+    let row = Set::new_le([0b0110_0000u8, 0b0001_0000]);
+    same!(rt; (loaded(&row, 0, 4), loaded(&row, 1, 16)), (0b0110, 0b100_0000_0011));
+    same!(rt; stored(row, 6, 4, 0b1101).into_bits(), [0b0110_0010, 0b1101_0000]);
+}
+
+#[test]
+fn words(rt: HostRuntime) {
+    same!(rt; (i8::MIN.load(6, 2), (-1i64).load(1, 64)), (0b10, u64::MAX / 2));
+    same!(rt; 0x1_2345_6789_ABCD_EF01u128.load(4, 64), 0x1234_5678_9ABC_DEF0);
+    same!(rt; stored(0u128, 60, 8, 0xA5), 0xA5 << 60);
+    same!(rt; stored(-1i32, 28, 4, 0), 0x0FFF_FFFF);
+}
+
+// Returns the number of a range, bit by bit.
+fn by_bits<B: Bits, E: Endian>(set: &B, first: u32, count: u32) -> u64
+    requires { ShapeFits B.Shape set.now }
+{
+    let capacity = set.bits_capacity();
+    let mut number = 0u64;
+    for i in 0..count.min(64) {
+        let index = first as u64 + i as u64;
+        if index < capacity as u64 {
+            if set.test_bit_in::<E>(index as u32) {
+                number |= 1 << i;
+            }
+        }
+    }
+    number
+}
+
+// Returns the set with the bits of a number in a range, bit by bit.
+fn put_by_bits<B: BitsOwned, E: Endian>(set: &B, first: u32, count: u32, value: u64) -> B
+    requires { IsTrue B.indexable }
+{
+    let mut made = *set;
+    for i in 0..count.min(64) {
+        let index = first.saturating_add(i);
+        if value >> i & 1 == 1 {
+            made.set_bit_in::<E>(index);
+        } else {
+            made.clear_bit_in::<E>(index);
+        }
+    }
+    made
+}
+
+// Compares the calls with the loops, in one order.
+fn agree_at<B: BitsOwned, E: Endian>(rt: &impl Abort, set: B, first: u32, count: u32)
+    requires { IsTrue B.indexable }
+{
+    let number = loaded(&Set::<B, E>::new_in(set), first, count);
+    crate::checks::compare(rt, "load", number, by_bits::<B, E>(&set, first, count));
+    if first <= B::bits() && count <= B::bits() - first {
+        let value = 0xC5A3_9F71_0E68_D24B;
+        let made = stored(Set::<B, E>::new_in(set), first, count, value).into_bits();
+        crate::checks::ask(
+            rt,
+            "store",
+            made == put_by_bits::<B, E>(&set, first, count, value),
+        );
+        let back = loaded(&Set::<B, E>::new_in(made), first, count);
+        let low = by_bits::<u64, BigEndian>(&value, 0, count);
+        crate::checks::compare(rt, "what is stored", back, low);
+    }
+}
+
+// Compares the calls with the loops, at the ends of words and of the set.
+fn agree<B: BitsOwned>(rt: &impl Abort, width: u32, set: B)
+    requires { IsTrue B.indexable }
+{
+    let all = B::bits();
+    for first in [
+        0,
+        1,
+        width.wrapping_sub(1),
+        width,
+        all.wrapping_sub(9),
+        all,
+        u32::MAX,
+    ] {
+        for count in [0, 1, 8, 9, 33, 64] {
+            agree_at::<B, BigEndian>(rt, set, first, count);
+            agree_at::<B, LittleEndian>(rt, set, first, count);
+        }
+    }
+}
+
+#[test]
+fn words_agree_with_a_loop(rt: HostRuntime) {
+    agree(&rt, 8, 0b1001_0110u8);
+    agree(&rt, 16, -0x5A93i16);
+    agree(&rt, 64, 0x8001_0203_F8F9_FAFBu64);
+    agree(&rt, 128, 0x8001_0203_0405_0607_F8F9_FAFB_FCFD_FE01u128);
+}
+
+#[test]
+fn rows_agree_with_a_loop(rt: HostRuntime) {
+    agree(
+        &rt,
+        8,
+        [0xC5u8, 0x3A, 0x91, 0x07, 0xE8, 0x55, 0x0F, 0xA1, 0x77],
+    );
+    agree(&rt, 64, [0x8000_0000_0000_0003u64, 0xF0F0_1234_5678_9ABD]);
+    agree(&rt, 16, [[0x8003u16, 0x1234], [0xFEDC, 0x4001]]);
+    agree(&rt, 16, Set::new_le([0xC001u16, 0x1234, 0xF08D]));
+}
+
+// Writes a number through a view from the left, and returns that of the whole set.
+fn through_a_view<B: BitsMut>(set: &mut B, value: u64) -> u64
+    requires { ShapeFits B.Shape set.old }
+{
+    if 12 <= set.bits_capacity() {
+        set.in_order_mut::<LittleEndian>().store(4, 8, value);
+    }
+    set.in_order::<LittleEndian>().load(0, 64)
+}
+
+#[test]
+fn slices_and_views(rt: HostRuntime) {
+    let mut words = [0u8; 4];
+    let mut lent = Set::from_mut(words.as_mut_slice());
+    same!(rt; through_a_view(&mut lent, 0b1000_0011), 0b1000_0011_0000);
+    same!(rt; words, [0b0000_1100, 0b0001_0000, 0, 0]);
+    let part = Set::from_ref(&words[..2]);
+    same!(rt; (loaded(&part, 2, 2), loaded(&part, 10, 64)), (0b11, 0b100));
+}
+
+#[test]
+fn capacity_0(rt: HostRuntime) {
+    let none: [u32; 0] = [];
+    agree(&rt, 32, none);
+    same!(rt; (none.load(0, 64), none.load(u32::MAX, 1)), (0, 0));
+    holds!(rt; stored(none, 0, 0, u64::MAX).all_zeros());
+}
+
+#[test]
+fn drawn_numbers_agree_with_plain_loops(rt: HostRuntime) {
+    let mut state = 19;
+    for _ in 0..1000 {
+        let (row, value) = (draw_row(&mut state), draw(&mut state) as u64);
+        let first = draw(&mut state) % 25;
+        let count = draw(&mut state) % (25 - first);
+        let mut flags = flags_of(&row);
+        let mut number = 0u64;
+        for i in 0..count.min(24) {
+            if first + i < 24 {
+                let at = (first + i) as usize;
+                number |= (flags[at] as u64) << i;
+                flags[at] = value >> i & 1 == 1;
+            }
+        }
+        same!(rt; loaded(&row, first, count), number);
+        same!(rt; flags_of(&stored(row, first, count, value)), flags);
+    }
+}
