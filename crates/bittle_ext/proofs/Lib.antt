@@ -5,6 +5,7 @@ pub mod CombinedSets
 mod CombinedWords
 mod Complements
 mod CopiedRanges
+mod DigitTexts
 mod GatheredWords
 mod GrownSets
 mod LongestRuns

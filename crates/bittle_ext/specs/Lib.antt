@@ -9,5 +9,6 @@ pub mod Ranks
 pub mod Rotations
 pub mod Runs
 pub mod SetRelations
+pub mod Texts
 pub mod ViewLaws
 pub mod Views

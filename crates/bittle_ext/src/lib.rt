@@ -36,6 +36,7 @@
 
 // A file `bits_.._ext` has the extension trait of its name, `views` has the views and their traits,
 // and the other files have the bodies that these pass on to, a subject each.
+pub mod binary_text;
 mod bits_combine_ext;
 mod bits_copy_ext;
 mod bits_ext;
@@ -74,6 +75,7 @@ mod short_runs;
 mod spans;
 pub mod views;
 
+pub use binary_text::BitsTextExt;
 pub use bits_combine_ext::BitsCombineExt;
 pub use bits_copy_ext::BitsCopyExt;
 pub use bits_ext::BitsExt;

@@ -1,5 +1,6 @@
 //! The extension traits of sets, for `use bittle_ext::prelude::*`.
 
+pub use crate::binary_text::BitsTextExt;
 pub use crate::bits_combine_ext::BitsCombineExt;
 pub use crate::bits_copy_ext::BitsCopyExt;
 pub use crate::bits_ext::BitsExt;

@@ -18,5 +18,6 @@ pub mod run_walks;
 pub mod sets_between;
 pub mod shape_changes;
 pub mod spans;
+pub mod texts;
 pub mod views;
 pub mod word_changes;

@@ -24,6 +24,20 @@ fn a_number_is_loaded_from_the_words_of_its_range(rt: HostRuntime) {
     same!(rt; (asked.fetches(), asked.other()), (3, 0));
 }
 
+// Makes the text of a set, and prints it nowhere.
+fn shown<B: Bits>(set: &B)
+    requires { ShapeFits B.Shape set.now }
+{
+    let _ = set.binary_text();
+}
+
+#[test]
+fn a_text_that_is_not_printed_reads_nothing(rt: HostRuntime) {
+    let asked = Asked::new();
+    shown(&Probe::of(ONES, &asked));
+    same!(rt; (asked.fetches(), asked.other()), (0, 0));
+}
+
 // Stores a number in the bits 4 to 19.
 fn store<B: BitsMut>(set: &mut B, value: u64)
     requires fits { ShapeFits B.Shape set.old }

@@ -108,11 +108,11 @@ fn agree_at<A: BitsOwned, B: BitsOwned, E: Endian, F: Endian>(
 {
     let all = A::bits();
     if from <= to && at <= all && to - from <= all - at {
-        let ours = Set::<A, E>::new_in(set);
-        let made = pasted(ours, &Set::<B, F>::new_in(other), from, to, at).into_bits();
+        let theirs = Set::<B, F>::new_in(other);
+        let made = pasted(Set::<A, E>::new_in(set), &theirs, from, to, at).into_bits();
         let looped = by_bits::<A, B, E, F>(&set, &other, from, to, at);
         crate::checks::ask(rt, "from another set", made == looped);
-        let within = moved(ours, from, to, at).into_bits();
+        let within = moved(Set::<A, E>::new_in(set), from, to, at).into_bits();
         let looped = by_bits::<A, A, E, E>(&set, &set, from, to, at);
         crate::checks::ask(rt, "within the set", within == looped);
     }

@@ -34,6 +34,8 @@ mod rotations;
 #[cfg(test)]
 mod spans;
 #[cfg(test)]
+mod texts;
+#[cfg(test)]
 mod unlike;
 #[cfg(test)]
 mod views;
