@@ -1,15 +1,15 @@
 //! A set changed in place by another one, of any width and order, a word at a time.
 
-ghost use Rattle.std.specs.Prelude.{◌≡◌, ◌↔◌, ◌<◌, ℕ, false, IsTrue};
+ghost use Rattle.std.specs.Prelude.{◌≡◌, ◌↔◌, ◌<◌, ◌≤◌, ℕ, true, false, IsTrue};
 ghost use Rattle.bittle_ext.specs.Between.{members_to, Differ};
 ghost use Rattle.bittle_ext.specs.Combined.{decided_set};
 ghost use Rattle.bittle.specs.PlainSet.{contains};
 ghost use Rattle.bittle.specs.Values.{set_in, ShapeFits};
 
 use crate::capacities::capacity_of;
-use crate::other_words::other_word;
+use crate::other_words::{Part, Reach, Whole, other_word};
 use bittle::{Bits, BitsMut, Endian};
-use bittle_bits::extension::{Operation, Word, word_width};
+use bittle_bits::extension::{Operation, Word, are_alike, word_width};
 
 /// The operation that makes the first set have what the second one has.
 pub enum Replacement {}
@@ -23,8 +23,47 @@ impl Operation for Replacement {
     }
 }
 
+// Combines a set with another one by an operation, below the capacity of the first, and returns
+// whether that changed it. `R` names whether the other set is known to have as many words.
+#[inline(always)]
+fn combine_words<A: BitsMut, B: Bits, E: Endian, F: Endian, O: Operation, R: Reach>(
+    set: &mut A,
+    other: &B,
+) -> bool
+    requires fits { ShapeFits A.Shape set.old }
+    requires other_fits { ShapeFits B.Shape other.now }
+    requires reach { R.ALL ≡ true → (A.width ≡ B.width)
+        × ((A.big set.old).capacity ≤ (B.big other.now).capacity) }
+    ensures set { set_in A.Shape E.Endian set.new ≡ members_to (A.big set.old).capacity
+        (decided_set O.decide (set_in A.Shape E.Endian set.old)
+        (set_in B.Shape F.Endian other.now)) }
+    ensures each { (i : ℕ) → i < (A.big set.old).capacity
+        → contains (set_in A.Shape E.Endian set.new) i
+        ≡ O.decide (contains (set_in A.Shape E.Endian set.old) i)
+        ((set_in B.Shape F.Endian other.now).has i) }
+    ensures changed { IsTrue result ↔ Differ (set_in A.Shape E.Endian set.old)
+        (set_in A.Shape E.Endian set.new) }
+    ensures unchanged { result ≡ false → set_in A.Shape E.Endian set.new
+        ≡ set_in A.Shape E.Endian set.old }
+    ensures stays { A.loan set.old ≡ A.loan set.new }
+{
+    let words = (capacity_of::<A, E>(set) / word_width::<A>()) as usize;
+    let mut changed = false;
+    for k in 0..words {
+        let ours = set.nth_leaf_word(k);
+        let theirs = other_word::<A, B, E, F, R>(other, k);
+        let word = O::on_words::<A::LeafWord>(ours, theirs);
+        changed |= !word.xor(ours).is_zero();
+        set.set_nth_leaf_word(k, word);
+    }
+    changed
+}
+
 /// Combines a set with another one by an operation, below the capacity of the first, and returns
 /// whether that changed it.
+///
+/// Where both have words of one width in one order, and the other is no shorter, no word is tested
+/// against its end. The compiler then takes several words at a time.
 #[inline]
 pub fn combine_with<A: BitsMut, B: Bits, E: Endian, F: Endian, O: Operation>(
     set: &mut A,
@@ -45,14 +84,9 @@ pub fn combine_with<A: BitsMut, B: Bits, E: Endian, F: Endian, O: Operation>(
         ≡ set_in A.Shape E.Endian set.old }
     ensures stays { A.loan set.old ≡ A.loan set.new }
 {
-    let words = (capacity_of::<A, E>(set) / word_width::<A>()) as usize;
-    let mut changed = false;
-    for k in 0..words {
-        let ours = set.nth_leaf_word(k);
-        let theirs = other_word::<A, B, E, F>(other, k);
-        let word = O::on_words::<A::LeafWord>(ours, theirs);
-        changed |= !word.xor(ours).is_zero();
-        set.set_nth_leaf_word(k, word);
+    if are_alike::<A, B, E, F>() && set.bits_capacity() <= other.bits_capacity() {
+        combine_words::<A, B, E, F, O, Whole>(set, other)
+    } else {
+        combine_words::<A, B, E, F, O, Part>(set, other)
     }
-    changed
 }

@@ -1,6 +1,6 @@
 //! The words of a set as another one has its words: of their width, and read in their order.
 
-ghost use Rattle.std.specs.Prelude.{◌≡◌, ◌*◌, ◌<◌};
+ghost use Rattle.std.specs.Prelude.{◌≡◌, ◌*◌, ◌<◌, Bool, true, false};
 ghost use Rattle.bittle.specs.BitPatterns.{bit_set};
 ghost use Rattle.bittle.specs.Words.{word_of};
 ghost use Rattle.bittle.specs.Orders.{read_in};
@@ -10,12 +10,42 @@ use crate::range_iterators::iter_within;
 use bittle::{Bits, Endian};
 use bittle_bits::extension::{Ones, Word, are_alike, set_bit};
 
+/// Names whether a set is known to have each word that is read of it. A loop that knows so tests no
+/// word against the end of that set.
+pub trait Reach {
+    ghost ALL: { Bool };
+
+    const ALL: bool;
+}
+
+/// The set has each word.
+pub enum Whole {}
+
+/// The set may end before a word.
+pub enum Part {}
+
+impl Reach for Whole {
+    ghost ALL = { true };
+
+    const ALL: bool = true;
+}
+
+impl Reach for Part {
+    ghost ALL = { false };
+
+    const ALL: bool = false;
+}
+
 /// Returns word `k` of a set, or an empty word from its capacity on.
-#[inline]
-pub fn word_or_empty<S: Bits>(set: &S, k: usize) -> S::LeafWord
-    requires { ShapeFits S.Shape set.now }
+#[inline(always)]
+pub fn word_or_empty<S: Bits, R: Reach>(set: &S, k: usize) -> S::LeafWord
+    requires fits { ShapeFits S.Shape set.now }
+    requires reach { R.ALL ≡ true → k * S.width < (S.big set.now).capacity }
     ensures { bit_set S.width (S.LeafWord.pattern result) ≡ word_of S.width (S.big set.now) k }
 {
+    if R::ALL {
+        return set.nth_leaf_word(k);
+    }
     if k < (set.bits_capacity() / <S::LeafWord as Word>::width()) as usize {
         set.nth_leaf_word(k)
     } else {
@@ -42,15 +72,19 @@ fn gathered_word<W: Word, B: Bits, E: Endian, F: Endian>(set: &B, k: u32) -> W
 
 /// Returns the word that has in the order `E` what a set has in the order `F`, as its word `k` of
 /// the width of another type's words. From the capacity on it is empty.
-#[inline]
-pub fn other_word<A: Bits, B: Bits, E: Endian, F: Endian>(set: &B, k: usize) -> A::LeafWord
+#[inline(always)]
+pub fn other_word<A: Bits, B: Bits, E: Endian, F: Endian, R: Reach>(
+    set: &B,
+    k: usize,
+) -> A::LeafWord
     requires fits { ShapeFits B.Shape set.now }
     requires within { k * A.width < 4294967296 }
+    requires reach { R.ALL ≡ true → k * B.width < (B.big set.now).capacity }
     ensures { read_in E.mirrored A.width (bit_set A.width (A.LeafWord.pattern result))
         ≡ word_of A.width (set_in B.Shape F.Endian set.now) k }
 {
     if are_alike::<A, B, E, F>() {
-        <A::LeafWord as Word>::from_bits(word_or_empty(set, k).to_bits())
+        <A::LeafWord as Word>::from_bits(word_or_empty::<B, R>(set, k).to_bits())
     } else {
         gathered_word::<A::LeafWord, B, E, F>(set, k as u32)
     }

@@ -9,7 +9,7 @@ ghost use Rattle.bittle.specs.PlainSet.{ascending};
 ghost use Rattle.bittle.specs.Values.{set_in, ShapeFits};
 
 use crate::capacities::capacity_of;
-use crate::other_words::{other_word, word_or_empty};
+use crate::other_words::{Part, other_word, word_or_empty};
 use crate::views::by_groups::{passed_by_groups, told_of_both};
 use crate::views::by_words::{count, is_empty, is_full, passed, test};
 use bittle::{Bits, Endian, Shape};
@@ -203,11 +203,11 @@ impl<'a, A: Bits, B: Bits, E: Endian, F: Endian, O: ViewOperation> ReadWords
 
     #[inline(always)]
     fn nth_leaf_word(&self, k: usize) -> A::LeafWord {
-        let theirs = other_word::<A, B, E, F>(self.right, k);
+        let theirs = other_word::<A, B, E, F, Part>(self.right, k);
         if O::keeps_to_first() {
             return O::on_words::<A::LeafWord>(self.left.nth_leaf_word(k), theirs);
         }
-        O::on_words::<A::LeafWord>(word_or_empty(self.left, k), theirs)
+        O::on_words::<A::LeafWord>(word_or_empty::<A, Part>(self.left, k), theirs)
     }
 
     #[inline(always)]

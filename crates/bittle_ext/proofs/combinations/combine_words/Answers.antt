@@ -6,7 +6,7 @@ use Rattle.bittle_ext.proofs.CombinedSets.{combined, combined_past, combined_eac
 use Rattle.bittle_ext.proofs.CommonCounts.{word_inside}
 use Rattle.bittle_ext.proofs.RankFacts.{end_of_words}
 use Rattle.bittle_ext.proofs.WordsReplaced.{adds_upward, more_replaced, none_replaced, all_replaced}
-use Rattle.bittle_ext.proofs.combinations.combine_with.Goals as goal
+use Rattle.bittle_ext.proofs.combinations.combine_words.Goals as goal
 
 pub loop-k-init : goal.loop-k-init
 loop-k-init g c =

@@ -2,7 +2,7 @@ use Rattle.std.proofs.Common.{◌≡◌, ◌*◌, nat_lt}
 use Rattle.bittle.specs.Values.{set_in}
 use Rattle.bittle_ext.proofs.CombinedSets.{combined, TellsBelow}
 use Rattle.bittle_ext.proofs.WordsReplaced.{replaced_where}
-use Rattle.bittle_ext.proofs.combinations.combine_with.Given as goal
+use Rattle.bittle_ext.proofs.combinations.combine_words.Given as goal
 
 abbrev pub invariant-loop-k : goal.invariant-loop-k
 invariant-loop-k g l =
