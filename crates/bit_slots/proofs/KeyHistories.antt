@@ -1,10 +1,10 @@
 -- What follows for every history of calls: no key goes back, one that was removed finds nothing,
 -- and none is given twice.
-use Rattle.std.proofs.Common.{◌≡◌, ℕ, zero, suc, ◌<◌, ◌≤◌, Bool, true, false, cond, List, [], ◌∷◌, Some, None, inl, inr, refl, sym, ap, ◌∙◌, subst, arith}
+use Rattle.std.proofs.Common.{◌≡◌, ℕ, zero, suc, ◌<◌, ◌≤◌, Bool, true, false, cond, Option, is_some, List, [], ◌∷◌, Some, None, inl, inr, refl, sym, ap, ◌∙◌, subst, arith}
 use Rattle.std.specs.Prelude.{◌==◌, slice_get}
 use Rattle.std.proofs.lemmas.Bool.{cases_Bool, eq-eqb, eqb-true, and_parts}
 use Rattle.bit_slots.specs.declared.Key.{Key}
-use Rattle.bit_slots.specs.Keys.{Stage, Stages, Unused, Holds, Spent, found, spent, is_key, IsKeyInserted, IsRemoved}
+use Rattle.bit_slots.specs.Keys.{Stage, Stages, Unused, Holds, Spent, found, spent, is_key, IsKeyInserted, IsKeyReplaced, IsRemoved, IsUpdated}
 use Rattle.bit_slots.specs.KeyLaws.{Call, Inserts, Removes, Replaces, Refuses, IsCall, IsHistory, age}
 
 -- a key is itself
@@ -32,6 +32,36 @@ key_gone before after key is =
     ap found (is key.slot key.generation ∙ ap (λ b. cond b (spent (before key.slot key.generation))
     (before key.slot key.generation)) (is_own key))
     ∙ spent_found (before key.slot key.generation)
+
+-- a key that had its value changed finds what was made of it
+module _ {V : Type 0} (Makes : V → V → Type 0) (before after : Stages V) (key : Key) where
+  key_made : (old value : V) → IsKeyReplaced before key value old after →
+      found (after key.slot key.generation) ≡ Some value
+  key_made old value is = ap found (is.stages key.slot key.generation
+      ∙ ap (λ b. cond b (Holds value) (before key.slot key.generation)) (is_own key))
+
+  pub update_finds : (b : Bool) → IsUpdated Makes before key b after →
+      b ≡ is_some (found (before key.slot key.generation))
+  update_finds true is = sym (ap (λ s. is_some (found s)) is.3.was)
+  update_finds false is = sym (ap is_some is.0)
+
+  pub update_stays : (b : Bool) → IsUpdated Makes before key b after →
+      is_some (found (after key.slot key.generation))
+      ≡ is_some (found (before key.slot key.generation))
+  update_stays true is = ap is_some (key_made is.0 is.1 is.3) ∙ update_finds true is
+  update_stays false is = ap (λ s. is_some (found s)) (is.1 key.slot key.generation)
+
+  pub update_makes : (b : Bool) → IsUpdated Makes before key b after → (value : V) →
+      found (after key.slot key.generation) ≡ Some value →
+      (old : V) × (found (before key.slot key.generation) ≡ Some old) × Makes old value
+  update_makes true is value some =
+      let same : is.1 ≡ value = by (key_made is.0 is.1 is.3) some in
+      (is.0, ap found is.3.was, subst (Makes is.0) same is.2)
+    where
+      by : {o : Option V} {one other : V} → o ≡ Some one → o ≡ Some other → one ≡ other
+      by e f = cc
+  update_makes false is value some =
+      let none = ap found (is.1 key.slot key.generation) ∙ is.0 in absurd (cc)
 
 -- a key that may be removed goes on
 spent_goes_on : {V : Type 0} (b : Bool) (stage : Stage V) →

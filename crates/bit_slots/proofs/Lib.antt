@@ -1,3 +1,4 @@
 pub mod KeyHistories
+pub mod RowEntries
 pub mod SlotChanges
 pub mod SlotMarks

@@ -1,12 +1,13 @@
 -- What a change of one slot does to what the keys stand for.
-use Rattle.std.proofs.Common.{◌≡◌, ◌≢◌, ℕ, ◌<◌, cond, ◌==◌, List, length, set, get_or, Some, inl, inr, refl, sym, ap, ◌∙◌, arith}
+use Rattle.std.proofs.Common.{◌≡◌, ◌≢◌, ℕ, ◌<◌, Bool, true, false, cond, ◌==◌, List, length, set, get_or, Some, inl, inr, refl, sym, ap, ◌∙◌, arith}
 use Rattle.std.specs.Prelude.{slice_get, Result, Ok, Err}
-use Rattle.std.proofs.lemmas.Bool.{cases_eq, cases_lt, eq-eqb, ne_eqb}
+use Rattle.std.proofs.lemmas.Bool.{cases_eq, cases_lt, eq-eqb, le-ltb, ne_eqb}
 use Rattle.std.proofs.lemmas.List.{get_or-set_same, get_or-set_other, length-set}
 use Rattle.std.proofs.lemmas.Option.{slice_get-get_or, slice_get_past}
 use Rattle.bit_slots.specs.declared.slot.Slot.{Slot}
+use Rattle.bit_slots.specs.declared.slot.Slot.TheVariants.{Live}
 use Rattle.bit_slots.specs.declared.Key.{Key}
-use Rattle.bit_slots.specs.Keys.{stage_of, stage_at, stages, removed, AreSameKeys, IsExchanged, IsFilled, IsKeyInserted, IsRemoved, IsReplaced}
+use Rattle.bit_slots.specs.Keys.{Holds, stage_of, stage_at, stages, removed, AreSameKeys, IsExchanged, IsExchangedWith, IsFilled, IsKeyInserted, IsRemoved, IsReplaced, IsUpdated, IsUpdatedIn}
 
 -- a list after a write of one element
 pub slice_get_set : {X : Type 0} (xs : List X) (i : ℕ) (y : X) → i < length xs → (k : ℕ) →
@@ -26,6 +27,27 @@ slice_get_set xs i y h k = elim (cases_eq k i) [
       | inr g ↦ slice_get_past (set xs i y) k (omega (arith, length-set xs i y))
           ∙ sym (slice_get_past xs k g)
     ]
+
+-- a slot with a value has it in its generation
+pub live_holds : {V : Type 0} (generation : ℕ) (value : V) →
+    stage_of (Live generation value) generation ≡ Holds value
+live_holds generation value =
+    let below = le-ltb generation generation (omega arith) in
+    let here = eq-eqb generation generation refl in rw (below, here) refl
+
+-- and with another value the other one; its other generations stay
+pub value_changed : {V : Type 0} (generation : ℕ) (value back : V) →
+    IsExchangedWith (Live generation back) generation value back (Live generation value)
+value_changed generation value back = record {
+  was = live_holds generation back;
+  stages = λ k. elim (cases_eq k generation) [
+    | inl here ↦ let below = le-ltb k generation (omega (arith, here)) in
+        rw (below, eq-eqb k generation here) refl
+    | inr apart ↦ rw (ne_eqb k generation apart) refl
+  ];
+  free = refl;
+  live = refl;
+}
 
 module _ {V : Type 0} (row : List (Slot V)) (i : ℕ) (d f : Slot V) (h : i < length row) where
   -- the slot as it stood
@@ -87,3 +109,14 @@ module _ {V : Type 0} (row : List (Slot V)) (i : ℕ) (d f : Slot V) (h : i < le
           | inr apart ↦ rw (ne_eqb slot i apart) refl
         ]);
   }
+
+  -- a slot whose value a call changed
+  pub updated_in : (Makes : V → V → Type 0) (key : Key) → key.slot ≡ i → (b : Bool) →
+      IsUpdatedIn Makes (get_or row i d) key.generation b f →
+      IsUpdated Makes (stages row) key b (stages (set row i f))
+  updated_in Makes key at true is =
+      (is.0, is.1, is.2, replaced_in key is.1 at (Ok is.0) is.3)
+  updated_in Makes key at false is = (
+    (let here = stood key.slot at in rw here is.0),
+    kept_in is.1,
+  )

@@ -1,5 +1,5 @@
 -- What a key stands for, and what a call makes of it.
-use Rattle.std.specs.Prelude.{◌≡◌, ℕ, Bool, ◌&&◌, ◌==◌, nat_lt, cond, true, is_some, List, slice_get, Option, Some, None, Result, Ok, Err}
+use Rattle.std.specs.Prelude.{◌≡◌, ℕ, Bool, ◌&&◌, ◌==◌, nat_lt, cond, true, false, is_some, List, slice_get, Option, Some, None, Result, Ok, Err}
 use Rattle.bit_slots.specs.SlotSets.{is_free, is_live}
 use Rattle.bit_slots.specs.declared.Key.{Key}
 use Rattle.bit_slots.specs.declared.slot.Slot.{Slot}
@@ -94,6 +94,13 @@ IsReplaced before key value (Ok old) after = IsKeyReplaced before key value old 
 IsReplaced before key value (Err back) after = (back ≡ value)
     × (found (before key.slot key.generation) ≡ None) × AreSameKeys before after
 
+-- the value of a key became what a call made of it, or nothing changed where the key finds none
+abbrev pub IsUpdated : {V : Type 0} → (V → V → Type 0) → Stages V → Key → Bool → Stages V → Type 0
+IsUpdated {V} Makes before key true after = (old : V) × (value : V) × Makes old value
+    × IsKeyReplaced before key value old after
+IsUpdated Makes before key false after = (found (before key.slot key.generation) ≡ None)
+    × AreSameKeys before after
+
 -- the same of the generations of one slot: of a free one that is filled, and of one that is emptied
 pub record IsFilled {V : Type 0} (old : Slot V) (value : V) (generation : ℕ)
     (new : Slot V) : Type 0 where
@@ -115,3 +122,9 @@ abbrev pub IsExchanged : {V : Type 0} → Slot V → ℕ → V → Result V V �
 IsExchanged old generation value (Ok back) new = IsExchangedWith old generation value back new
 IsExchanged old generation value (Err back) new = (back ≡ value)
     × (found (stage_of old generation) ≡ None) × (new ≡ old)
+
+-- and of a value that a call changed
+abbrev pub IsUpdatedIn : {V : Type 0} → (V → V → Type 0) → Slot V → ℕ → Bool → Slot V → Type 0
+IsUpdatedIn {V} Makes old generation true new = (back : V) × (value : V) × Makes back value
+    × IsExchangedWith old generation value back new
+IsUpdatedIn Makes old generation false new = (found (stage_of old generation) ≡ None) × (new ≡ old)

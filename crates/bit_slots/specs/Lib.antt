@@ -1,3 +1,4 @@
+pub mod Entries
 pub mod KeyLaws
 pub mod Keys
 pub mod SlotSets

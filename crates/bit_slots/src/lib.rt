@@ -15,21 +15,28 @@
 //! ```
 #![tactic(auto)]
 
+ghost use Rattle.std.specs.Borrow.{MutBor};
+ghost use Rattle.std.specs.Fn.{FnOnceReturnsAtMut};
+ghost use Rattle.std.specs.List.{All};
 ghost use Rattle.std.specs.Option.{is_some};
 ghost use Rattle.std.specs.Prelude.{◌≡◌, ◌<◌, ◌≤◌, ℕ, false, true, length, None, Some};
 ghost use Rattle.std.specs.Prelude.{option_copied, IfErr, IfOk, IsTrue, MatchOption, slice_get};
 ghost use Rattle.bittle.specs.PlainSet.{size};
 ghost use Rattle.bittle.specs.Shapes.{Fits};
 ghost use Rattle.bittle.specs.Values.{set_in};
+ghost use Rattle.bit_slots.specs.Entries.{entries, IsEntry};
 ghost use Rattle.bit_slots.specs.Keys.{stages, found, IsInserted, IsRemoved, IsReplaced, HasKey};
+ghost use Rattle.bit_slots.specs.Keys.{IsUpdated};
 ghost use Rattle.bit_slots.specs.SlotSets.{is_free, is_live, is_slot, slots_where, HasSlots};
 
+mod entries;
 #[doc(hidden)]
 pub mod key_laws;
 mod row;
 mod slot;
 
 use bittle::{BitsOwned, Shape};
+pub use entries::Iter;
 use row::{Row, free_slots, live_slots};
 pub use slot::Slot;
 
@@ -122,6 +129,42 @@ impl<'a, V: Drop, B: BitsOwned> Slots<'a, V, B> {
         ensures same_row { self.new.row.slots.ghost_name ≡ self.old.row.slots.ghost_name }
     {
         self.row.replace(key, value)
+    }
+
+    /// Calls the function on the value of a key, which the function may change, and returns `true`,
+    /// or calls nothing, changes nothing and returns `false` where the key finds none. The key
+    /// stays. `slots.update(key, |count| *count = 0)` sets a count to 0.
+    pub fn update<F: FnOnce(&mut V)>(&mut self, key: Key, change: F) -> bool
+        requires { (value : MutBor V)
+            → found (stages self.old.row.slots.now key.slot key.generation) ≡ Some value.now
+            → F.pre change value }
+        ensures found { result
+            ≡ is_some (found (stages self.old.row.slots.now key.slot key.generation)) }
+        ensures stays { is_some (found (stages self.new.row.slots.now key.slot key.generation))
+            ≡ is_some (found (stages self.old.row.slots.now key.slot key.generation)) }
+        ensures value { (value : V)
+            → found (stages self.new.row.slots.now key.slot key.generation) ≡ Some value
+            → (old : V)
+            × (found (stages self.old.row.slots.now key.slot key.generation) ≡ Some old)
+            × FnOnceReturnsAtMut F.FnOnce change old tt value }
+        ensures stages { IsUpdated (λ old new. FnOnceReturnsAtMut F.FnOnce change old tt new)
+            (stages self.old.row.slots.now) key result (stages self.new.row.slots.now) }
+        ensures same_row { self.new.row.slots.ghost_name ≡ self.old.row.slots.ghost_name }
+    {
+        self.row.update(key, change)
+    }
+
+    /// Returns an iterator over the keys that find a value, each with its value, in the order of
+    /// their slots. It takes no memory, and reads each slot once. Where few slots hold a value,
+    /// [`live`](Slots::live) finds them by words.
+    pub fn iter(&self) -> Iter<'_, V>
+        ensures entries { result ≡ entries self.now.row.slots.now }
+        ensures found { All (λ entry. IsEntry self.now.row.slots.now entry) result }
+    {
+        Iter {
+            slots: self.row.slots,
+            slot: 0,
+        }
     }
 
     /// Returns the value of a key, or `None` where the key finds none.

@@ -1,9 +1,11 @@
 //! A row of slots that a caller lends.
 
+ghost use Rattle.std.specs.Borrow.{MutBor};
+ghost use Rattle.std.specs.Fn.{FnOnceReturnsAtMut};
 ghost use Rattle.std.specs.Option.{is_some};
 ghost use Rattle.std.specs.Prelude.{◌≡◌, ◌<◌, ◌≤◌, false, None, Some, true, cond, length};
 ghost use Rattle.std.specs.Prelude.{option_copied, IfSome, IsTrue, MatchBool, MatchOption};
-ghost use Rattle.bit_slots.specs.Keys.{stages, found, IsKeyInserted, IsRemoved, IsReplaced, HasKey};
+ghost use Rattle.bit_slots.specs.Keys.{stages, found, IsKeyInserted, IsRemoved, IsReplaced, IsUpdated, HasKey};
 ghost use Rattle.bit_slots.specs.SlotSets.{is_free, is_live, is_slot, HasSlots};
 ghost use Rattle.bit_slots.specs.SlotSets.{Joins, Leaves, Stays};
 ghost use Rattle.bittle.specs.PlainSet.{with_index};
@@ -73,6 +75,24 @@ impl<'a, V: Drop> Row<'a, V> {
             return Err(value);
         }
         self.slots[key.slot as usize].replace(key.generation, value)
+    }
+
+    // Calls a function on the value of a key, and returns whether the key finds one.
+    pub(crate) fn update<F: FnOnce(&mut V)>(&mut self, key: Key, change: F) -> bool
+        requires { (value : MutBor V)
+            → found (stages self.old.slots.now key.slot key.generation) ≡ Some value.now
+            → F.pre change value }
+        ensures stages { IsUpdated (λ old new. FnOnceReturnsAtMut F.FnOnce change old tt new)
+            (stages self.old.slots.now) key result (stages self.new.slots.now) }
+        ensures free { Stays is_free self.old.slots.now self.new.slots.now }
+        ensures live { Stays is_live self.old.slots.now self.new.slots.now }
+        ensures same_length { length self.new.slots.now ≡ length self.old.slots.now }
+        ensures same_row { self.new.slots.ghost_name ≡ self.old.slots.ghost_name }
+    {
+        if self.slots.len() <= key.slot as usize {
+            return false;
+        }
+        self.slots[key.slot as usize].update(key.generation, change)
     }
 
     // Returns the key of the value that a slot holds.

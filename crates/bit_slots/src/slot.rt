@@ -1,8 +1,11 @@
 //! One slot.
 
 ghost use Rattle.std.specs.Option.{is_some};
-ghost use Rattle.std.specs.Prelude.{◌≡◌, ℕ, false, true, option_copied, IfSome, IsTrue};
+ghost use Rattle.std.specs.Borrow.{MutBor};
+ghost use Rattle.std.specs.Fn.{FnOnceReturnsAtMut};
+ghost use Rattle.std.specs.Prelude.{◌≡◌, ℕ, false, true, option_copied, IfSome, IsTrue, Some};
 ghost use Rattle.bit_slots.specs.Keys.{Unused, stage_of, found, removed, IsExchanged, IsFilled};
+ghost use Rattle.bit_slots.specs.Keys.{IsUpdatedIn};
 ghost use Rattle.bit_slots.specs.SlotSets.{is_free, is_live};
 
 use std::mem;
@@ -87,6 +90,22 @@ impl<V: Drop> Slot<V> {
         match self {
             Slot::Live(current, held) if *current == generation => Ok(mem::replace(held, value)),
             _ => Err(value),
+        }
+    }
+
+    // Calls a function on the value of a generation, and returns whether it holds one.
+    pub(crate) fn update<F: FnOnce(&mut V)>(&mut self, generation: u32, change: F) -> bool
+        requires { (value : MutBor V) → found (stage_of self.old generation) ≡ Some value.now
+            → F.pre change value }
+        ensures { IsUpdatedIn (λ old new. FnOnceReturnsAtMut F.FnOnce change old tt new) self.old
+            generation result self.new }
+    {
+        match self {
+            Slot::Live(current, value) if *current == generation => {
+                change(value);
+                true
+            }
+            _ => false,
         }
     }
 

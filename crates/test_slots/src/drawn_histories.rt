@@ -39,7 +39,28 @@ fn agrees<B: BitsOwned>(slots: &Slots<u64, B>, given: &Given) -> bool {
             return false;
         }
     }
-    slots.len() == count(given)
+    slots.len() == count(given) && walks(slots, given)
+}
+
+// Returns whether an iterator yields just the keys that are still there, each with its value, in
+// the order of their slots.
+fn walks<B: BitsOwned>(slots: &Slots<u64, B>, given: &Given) -> bool {
+    let mut next = 0u32;
+    let mut yielded = 0u32;
+    for (key, value) in slots.iter() {
+        let mut is_there = false;
+        for step in 0..48 {
+            if given.keys[step] == key && given.values[step] == *value {
+                is_there = given.there[step];
+            }
+        }
+        if !is_there || key.slot < next {
+            return false;
+        }
+        next = key.slot.saturating_add(1);
+        yielded = yielded.saturating_add(1);
+    }
+    yielded == count(given)
 }
 
 // Puts a value in, and returns whether the answer is as the list says of five slots.
@@ -77,6 +98,18 @@ fn cut<B: BitsOwned>(slots: &mut Slots<u64, B>, given: &mut Given, step: usize) 
     slots.remove(given.keys[step]) == expected
 }
 
+// Changes the value of the key of a step, and returns whether the answer is as the list says.
+fn change<B: BitsOwned>(slots: &mut Slots<u64, B>, given: &mut Given, step: usize) -> bool {
+    if 48 <= step {
+        return true;
+    }
+    if given.there[step] {
+        given.values[step] = given.values[step].wrapping_add(7);
+    }
+    let is_changed = slots.update(given.keys[step], |value| *value = value.wrapping_add(7));
+    is_changed == given.there[step]
+}
+
 // Returns whether 48 drawn calls on five slots answer as the list says.
 fn drawn<B: BitsOwned>(seed: u64) -> bool
     requires fits { Fits B.indexable B.type_capacity }
@@ -105,10 +138,11 @@ fn drawn<B: BitsOwned>(seed: u64) -> bool
         state = state
             .wrapping_mul(6_364_136_223_846_793_005)
             .wrapping_add(1_442_695_040_888_963_407);
-        let answer = if (state >> 33) % 5 < 3 {
-            put(&mut slots, &mut given, step, state)
-        } else {
-            cut(&mut slots, &mut given, ((state >> 40) % 48) as usize)
+        let drawn = ((state >> 40) % 48) as usize;
+        let answer = match (state >> 33) % 7 {
+            0..=3 => put(&mut slots, &mut given, step, state),
+            4..=5 => cut(&mut slots, &mut given, drawn),
+            _ => change(&mut slots, &mut given, drawn),
         };
         right = right && answer && agrees(&slots, &given);
     }

@@ -39,6 +39,27 @@ fn a_value_is_replaced_under_its_key(rt: HostRuntime) {
 }
 
 #[test]
+fn a_value_is_changed_under_its_key(rt: HostRuntime) {
+    let mut row = [Slot::new(), Slot::new()];
+    let mut slots = Slots::<u64, u8>::over(row.as_mut_slice());
+    let key = Key {
+        slot: 0,
+        generation: 0,
+    };
+    holds!(rt; !slots.update(key, |value| *value = 1));
+    same!(rt; slots.insert(10), Ok(key));
+    holds!(rt; slots.update(key, |value| *value = *value / 3));
+    same!(rt; slots.get(key).copied(), Some(3));
+    same!(rt; slots.insert(20), Ok(Key { slot: 1, generation: 0 }));
+    holds!(rt; slots.update(key, |value| *value = 5));
+    same!(rt; slots.remove(key), Some(5));
+    holds!(rt; !slots.update(key, |value| *value = 6));
+    holds!(rt; !slots.update(Key { slot: 2, generation: 0 }, |value| *value = 6));
+    same!(rt; slots.get(Key { slot: 1, generation: 0 }).copied(), Some(20));
+    same!(rt; slots.len(), 1);
+}
+
+#[test]
 fn a_slot_retires_after_its_last_generation(rt: HostRuntime) {
     let mut row = [Slot::Free(4_294_967_294), Slot::Retired];
     let mut slots = Slots::<u64, u8>::over(row.as_mut_slice());
@@ -76,4 +97,9 @@ fn slots_are_walked_in_order(rt: HostRuntime) {
     same!(rt; slots.key_at(3), Some(Key { slot: 3, generation: 0 }));
     same!(rt; slots.key_at(4), None);
     same!(rt; (slots.len(), slots.capacity()), (2, 4));
+    let mut walk = slots.iter();
+    same!(rt; walk.next(), Some((Key { slot: 0, generation: 3 }, &30)));
+    same!(rt; walk.next(), Some((Key { slot: 3, generation: 0 }, &33)));
+    same!(rt; walk.next(), None);
+    same!(rt; walk.next(), None);
 }

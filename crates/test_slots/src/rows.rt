@@ -21,7 +21,8 @@ fn a_row_of_no_slots(rt: HostRuntime) {
     same!(rt; slots.insert(1), Err(1));
     same!(rt; slots.remove(key), None);
     same!(rt; (slots.len(), slots.capacity()), (0, 0));
-    holds!(rt; !slots.contains(key));
+    holds!(rt; !slots.contains(key) && !slots.update(key, |value| *value = 2));
+    same!(rt; slots.iter().next(), None);
 }
 
 #[test]
@@ -51,6 +52,7 @@ fn values_that_are_moved(rt: HostRuntime) {
     };
     same!(rt; slots.insert(Name { number: 4 }), Ok(key));
     same!(rt; slots.get(key), Some(&Name { number: 4 }));
-    same!(rt; slots.remove(key), Some(Name { number: 4 }));
+    holds!(rt; slots.update(key, |name| *name = Name { number: 6 }));
+    same!(rt; slots.remove(key), Some(Name { number: 6 }));
     same!(rt; slots.get(key), None);
 }

@@ -1,0 +1,34 @@
+-- The entries of a row are those whose keys find their values.
+use Rattle.std.proofs.Common.{◌≡◌, ℕ, zero, suc, ◌+◌, ◌<◌, List, [], ◌∷◌, length, Some, ap, ◌∙◌, arith, slice_get, slice_index_or}
+use Rattle.bit_slots.specs.declared.Key.{Key}
+use Rattle.bit_slots.specs.declared.slot.Slot.{Slot}
+use Rattle.bit_slots.specs.declared.slot.Slot.TheVariants.{Free, Live, Retired}
+use Rattle.bit_slots.specs.Entries.{entries_from, IsEntry}
+use Rattle.bit_slots.specs.Keys.{found, stage_at}
+use Rattle.bit_slots.proofs.SlotChanges.{live_holds}
+
+-- the slots past the first stand one number further on
+later : {V : Type 0} (row : List (Slot V)) (slot : Slot V) (rest : List (Slot V)) (from : ℕ) →
+    ((k : ℕ) → slice_get row (from + k) ≡ slice_get (slot ∷ rest) k) →
+    (k : ℕ) → slice_get row (from + 1 + k) ≡ slice_get rest k
+later row slot rest from same k =
+    let next : from + 1 + k ≡ from + suc k = omega arith in ap (slice_get row) next ∙ same (suc k)
+
+-- so each entry of the slots from one on is an entry of the row
+pub entries_are : {V : Type 0} (row rest : List (Slot V)) (from : ℕ) →
+    ((k : ℕ) → slice_get row (from + k) ≡ slice_get rest k) → (k : ℕ) (d : Key × V) →
+    k < length (entries_from from rest) → IsEntry row (slice_index_or (entries_from from rest) k d)
+entries_are row [] from same k d h = absurd (omega arith)
+entries_are row (Free generation ∷ rest) from same k d h =
+    entries_are row rest (from + 1) (later row (Free generation) rest from same) k d h
+entries_are row (Retired ∷ rest) from same k d h =
+    entries_are row rest (from + 1) (later row Retired rest from same) k d h
+entries_are row (Live generation value ∷ rest) from same zero d h =
+    let start : from ≡ from + 0 = omega arith in
+    let first : slice_get row from ≡ Some (Live generation value) =
+    ap (slice_get row) start ∙ same 0 in
+    ap (λ o. found (stage_at o generation)) first
+    ∙ ap found (live_holds generation value)
+entries_are row (Live generation value ∷ rest) from same (suc k) d h =
+    entries_are row rest (from + 1) (later row (Live generation value) rest from same) k d
+    (omega arith)

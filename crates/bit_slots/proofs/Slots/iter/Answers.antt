@@ -1,0 +1,8 @@
+use Rattle.std.proofs.Common.{◌≡◌, ◌+◌, ap, slice_get, arith}
+use Rattle.bit_slots.proofs.RowEntries.{entries_are}
+use Rattle.bit_slots.proofs.Slots.iter.Goals as goal
+
+pub returns-clause-found : goal.returns-clause-found
+returns-clause-found g c =
+    let row = c.args.self.now.row.slots.now in
+    entries_are row row 0 (λ k. let same : 0 + k ≡ k = omega arith in ap (slice_get row) same)

@@ -1,0 +1,49 @@
+//! Iterates over the values of a row.
+
+ghost use Rattle.std.specs.Iterator.{YieldsFirstBy, item_count};
+
+use crate::Key;
+use crate::slot::Slot;
+use std::marker::Model;
+
+/// An iterator over the keys of a row that find a value, each with its value, in the order of their
+/// slots. A contract sees it as the list of those that are left.
+#[derive(Drop)]
+pub struct Iter<'a, V> {
+    pub(crate) slots: &'a [Slot<V>],
+    // The number of the first of them.
+    pub(crate) slot: u32,
+}
+
+impl<'a, V> Model for Iter<'a, V> {
+    ghost use Rattle.std.specs.Prelude.{◌+◌, ◌<◌, length, List};
+    ghost use Rattle.bit_slots.specs.declared.Key.{Key};
+    ghost use Rattle.bit_slots.specs.Entries.{entries_from};
+
+    ghost Value = { List (Key × V) };
+
+    ghost view = { λ it. entries_from it.slot it.slots.now };
+
+    ghost invariant = { λ it. it.slot + length it.slots.now < 4294967296 };
+}
+
+impl<'a, V> Iterator for Iter<'a, V> {
+    type Item = (Key, &'a V);
+
+    ghost next_gives = { YieldsFirstBy (λ item. (item.0, item.1.now)) (λ rest. rest) };
+
+    ghost remaining = { item_count (λ rest. rest) };
+
+    fn next(&mut self) -> Option<(Key, &'a V)> {
+        while let Some((first, rest)) = self.slots.split_first() {
+            let slot = self.slot;
+            self.slots = rest;
+            self.slot += 1;
+            if let Slot::Live(generation, value) = first {
+                let generation = *generation;
+                return Some((Key { slot, generation }, value));
+            }
+        }
+        None
+    }
+}
