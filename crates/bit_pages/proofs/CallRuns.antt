@@ -11,7 +11,7 @@ pub history_is_run : (before after : PlainSet) (calls : List (Request × Answer)
     IsHistory before calls after →
     (map (λ call. call.1) calls ≡ request_answers before (map (λ call. call.0) calls))
     × (after ≡ final_state before (map (λ call. call.0) calls))
-unfolding IsHistory request_answers final_state
+unfolding request_answers final_state
 history_is_run before after [] is = (refl, is)
 history_is_run before after (call ∷ calls) is =
     let later = history_is_run is.0 after calls is.2 in

@@ -9,15 +9,15 @@ use Rattle.bit_pages.specs.PageLaws.{IsLeastFree}
 use Rattle.bit_pages.specs.Pages.{is_taken, least_free_from, least_free}
 
 -- each of the n pages from one on is taken
-abbrev AllTakenFrom : (ℕ → Bool) → ℕ → ℕ → Type 0
+abbrev pub AllTakenFrom : (ℕ → Bool) → ℕ → ℕ → Type 0
 AllTakenFrom taken from n = (k : ℕ) → from ≤ k → k < from + n → taken k ≡ true
 
 -- p is the least of the n pages from one on that is free
-record IsFoundFrom (taken : ℕ → Bool) (from n p : ℕ) : Type 0 where
-  from_one_on : from ≤ p
-  within : p < from + n
-  is_free : taken p ≡ false
-  taken_below : (k : ℕ) → from ≤ k → k < p → taken k ≡ true
+pub record IsFoundFrom (taken : ℕ → Bool) (from n p : ℕ) : Type 0 where
+  pub from_one_on : from ≤ p
+  pub within : p < from + n
+  pub is_free : taken p ≡ false
+  pub taken_below : (k : ℕ) → from ≤ k → k < p → taken k ≡ true
 
 from_here : (taken : ℕ → Bool) (from end : ℕ) → taken from ≡ true →
     ((k : ℕ) → suc from ≤ k → k < end → taken k ≡ true) → (k : ℕ) → from ≤ k → k < end →
@@ -25,7 +25,7 @@ from_here : (taken : ℕ → Bool) (from end : ℕ) → taken from ≡ true →
 from_here taken from end here later k p q =
     elim (cases_eq from k) [ inl e ↦ ap taken (sym e) ∙ here | inr n ↦ later k (omega arith) q ]
 
-least_free_from-is : (taken : ℕ → Bool) (from n : ℕ) →
+pub least_free_from-is : (taken : ℕ → Bool) (from n : ℕ) →
     MatchOption (least_free_from taken from n) (AllTakenFrom taken from n)
     (IsFoundFrom taken from n)
 unfolding least_free_from

@@ -1,24 +1,27 @@
 -- What follows from the page machine for every history: whose state an answer is of, how many pages
 -- are taken, and which are outstanding.
-use Rattle.std.proofs.Common.{◌≡◌, ℕ, zero, suc, ◌+◌, ◌<◌, ◌⊎◌, Bool, true, false, not, cond, ◌&&◌, ◌||◌, ◌==◌, Option, Some, None, List, [], ◌∷◌, ◌++◌, length, inl, inr, refl, sym, ap, ◌∙◌, arith}
-use Rattle.std.specs.List.{count_by, filter, list_any, IsDistinct, AllByRecursion}
+use Rattle.std.proofs.Common.{◌≡◌, ◌≢◌, ℕ, zero, suc, ◌+◌, ◌<◌, ◌≤◌, Bool, true, false, not, cond, ◌&&◌, ◌||◌, ◌==◌, Option, Some, None, List, [], ◌∷◌, ◌++◌, inl, inr, refl, sym, ap, ◌∙◌, arith}
+use Rattle.std.specs.List.{filter, list_any, IsDistinct, AllByRecursion}
 use Rattle.std.proofs.lemmas.Cmp.{nat_eq_equiv}
 use Rattle.std.proofs.Math.Bool.{or-false}
-use Rattle.std.proofs.lemmas.Bool.{cases_eq, cases_Bool, eqb-true, ne_eqb, and_parts, or_parts}
+use Rattle.std.proofs.lemmas.Bool.{cases_eq, cases_lt, eqb-true, eq-eqb, ne_eqb, or_from, or_parts, true≢false}
 use Rattle.std.proofs.lemmas.List.Folds.{list_any-append}
-use Rattle.std.proofs.lemmas.List.Sums.{length-filter}
 use Rattle.std.proofs.lemmas.Map.Keys.{IsDistinct-head, IsDistinct-tail, IsDistinct-cons, IsDistinct-push}
 use Rattle.std.proofs.lemmas.Map.Views.{any-filter_same}
 use Rattle.std.specs.Prelude.{MatchOption, slice_get}
-use Rattle.bittle.specs.PlainSet.{PlainSet, size}
-use Rattle.bittle.proofs.CallerChanges.{size_added, size_removed}
-use Rattle.bit_pages.specs.PageLaws.{IsLeastFree, IsAnsweredAt, is_page, is_given, held_after, held_after_run, outstanding, gives_back, came_back, AreOutstanding}
-use Rattle.bit_pages.specs.Pages.{is_taken, least_free, page_or_full, with_found, without_page, answer_to, state_after, request_answers, final_state}
+use Rattle.bittle.specs.PlainSet.{PlainSet, complement, is_in_span, size}
+use Rattle.bittle_bits.proofs.Spans.{is_in_span-inside, is_in_span-outside}
+use Rattle.bittle_ext.specs.Runs.{IsFirstRun}
+use Rattle.bit_pages.specs.PageLaws.{IsLeastFree, IsAnsweredAt, asks_back, gives, pages_back, pages_given, total, held_with, held_after, held_after_run, outstanding, gives_back, came_back, AreOutstanding}
+use Rattle.bit_pages.specs.Pages.{is_taken, is_run_taken, least_free, first_free_run, page_or_full, run_or_none, answer_to, state_after, request_answers, final_state}
 use Rattle.bit_pages.specs.declared.Answer.{Answer}
 use Rattle.bit_pages.specs.declared.Answer.TheVariants as answer
 use Rattle.bit_pages.specs.declared.Request.{Request}
-use Rattle.bit_pages.specs.declared.Request.TheVariants.{Take, GiveBack}
-use Rattle.bit_pages.proofs.LeastFree.{least_free-is, taken-within, taken-member}
+use Rattle.bit_pages.specs.declared.Request.TheVariants.{Take, GiveBack, TakeRun, GiveBackRun}
+use Rattle.bit_pages.proofs.FreeRuns.{first_free_run-is}
+use Rattle.bit_pages.proofs.LeastFree.{least_free-is}
+use Rattle.bit_pages.proofs.PageSteps.{step}
+use Rattle.bit_pages.proofs.RunCounts.{run_is_free}
 
 -- an answer of a run is of the state that the requests before it leave
 pub answered_at : (s : PlainSet) (requests : List Request) (i : ℕ) (a : Answer) →
@@ -37,53 +40,21 @@ answered_at s (request ∷ requests) (suc i) a e =
       answered = later.answered;
     }
 
--- one request counts
-counted_one : (s : PlainSet) (request : Request) →
-    size (state_after s request) + cond (is_given (answer_to s request)) 1 0
-    ≡ size s + cond (is_page (answer_to s request)) 1 0
-counted_one s Take = by (least_free s) (least_free-is s)
-  where
-    by : (o : Option ℕ) → MatchOption o ((k : ℕ) → k < s.capacity → s.has k ≡ true)
-        (IsLeastFree s) → size (with_found s o) + cond (is_given (page_or_full o)) 1 0
-        ≡ size s + cond (is_page (page_or_full o)) 1 0
-    by None all = refl
-    by (Some q) least = omega (arith, size_added s q least.within least.is_free)
-counted_one s (GiveBack p) = by (cases_Bool (is_taken s p))
-  where
-    by : (is_taken s p ≡ true) ⊎ (is_taken s p ≡ false) →
-        size (state_after s (GiveBack p)) + cond (is_given (answer_to s (GiveBack p))) 1 0
-        ≡ size s + cond (is_page (answer_to s (GiveBack p))) 1 0
-    by (inl given) = rw given (omega (arith, size_removed s p (taken-within s p given) (taken-member s p given)))
-    by (inr none) = rw none refl
-
--- an answer more counts
-count_more : (p : Answer → Bool) (a : Answer) (answers : List Answer) →
-    count_by p (a ∷ answers) ≡ cond (p a) 1 0 + count_by p answers
-count_more p a answers = sym (length-filter p (a ∷ answers)) ∙ by (p a)
-  where
-    by : (b : Bool) → length (cond b (a ∷ filter p answers) (filter p answers))
-        ≡ cond b 1 0 + count_by p answers
-    by true = omega (arith, length-filter p answers)
-    by false = omega (arith, length-filter p answers)
-
--- a run counts
+-- a list of requests counts
 pub counted : (s : PlainSet) (requests : List Request) →
-    size (final_state s requests) + count_by is_given (request_answers s requests)
-    ≡ size s + count_by is_page (request_answers s requests)
-unfolding request_answers final_state
+    size (final_state s requests) + total pages_back requests (request_answers s requests)
+    ≡ size s + total pages_given requests (request_answers s requests)
+unfolding request_answers final_state total
 counted s [] = refl
 counted s (request ∷ requests) =
-    let next = state_after s request in
-    let given = count_more is_given (answer_to s request) (request_answers next requests) in
-    let pages = count_more is_page (answer_to s request) (request_answers next requests) in
-    omega (arith, counted_one s request, counted next requests, given, pages)
+    omega (arith, (step s request).counts, counted (state_after s request) requests)
 
 -- of what a test finds a filter keeps what passes
-kept_by : (page q : ℕ) (held : List ℕ) →
-    list_any (◌==◌ q) (filter (λ p. not (p == page)) held)
-    ≡ (not (q == page) && list_any (◌==◌ q) held)
-kept_by page q held = any-filter_same (◌==◌ q) (λ p. not (p == page)) (not (q == page))
-    (λ k e. ap (λ n. not (n == page)) (sym (eqb-true q k e))) held
+kept_by : (goes : ℕ → Bool) (q : ℕ) (held : List ℕ) →
+    list_any (◌==◌ q) (filter (λ p. not (goes p)) held)
+    ≡ (not (goes q) && list_any (◌==◌ q) held)
+kept_by goes q held = any-filter_same (◌==◌ q) (λ p. not (goes p)) (not (goes q))
+    (λ k e. ap (λ n. not (goes n)) (sym (eqb-true q k e))) held
 
 -- what a page differs from it differs from under a filter
 filter_apart : (test : ℕ → Bool) (page : ℕ) (held : List ℕ) →
@@ -120,29 +91,57 @@ any_push : (q page : ℕ) (held : List ℕ) →
 any_push q page held = list_any-append (◌==◌ q) held (page ∷ [])
     ∙ ap (λ b. list_any (◌==◌ q) held || b) (or-false (q == page))
 
--- a page is taken by whether it is the new one, held, or kept
-with_new : (new held kept : Bool) → (new || (held || kept)) ≡ ((held || new) || (kept && true))
-with_new true true kept = refl
-with_new true false kept = refl
-with_new false true kept = refl
-with_new false false true = refl
-with_new false false false = refl
+-- so many pages more from one on are in it then
+any_with : (q : ℕ) (held : List ℕ) (first n : ℕ) → list_any (◌==◌ q) (held_with held first n)
+    ≡ (is_in_span first (first + n) q || list_any (◌==◌ q) held)
+any_with q held first zero =
+    sym (ap (λ b. b || list_any (◌==◌ q) held) (elim (cases_lt q first) [
+      | inl l ↦ is_in_span-outside first (first + 0) q (inl l)
+      | inr g ↦ is_in_span-outside first (first + 0) q (inr (omega arith))
+    ]))
+any_with q held first (suc n) = any_with q (held ++ first ∷ []) (suc first) n
+    ∙ ap (λ b. is_in_span (suc first) (suc first + n) q || b) (any_push q first held)
+    ∙ elim (cases_eq q first) [
+      | inl is ↦ ap (λ b. is_in_span (suc first) (suc first + n) q
+            || (list_any (◌==◌ q) held || b)) (eq-eqb q first is)
+          ∙ both (is_in_span (suc first) (suc first + n) q) (list_any (◌==◌ q) held)
+          ∙ sym (ap (λ b. b || list_any (◌==◌ q) held)
+          (is_in_span-inside first (first + suc n) q (omega arith) (omega arith)))
+      | inr apart ↦ ap (λ b. is_in_span (suc first) (suc first + n) q
+            || (list_any (◌==◌ q) held || b)) (ne_eqb q first apart)
+          ∙ ap (λ b. is_in_span (suc first) (suc first + n) q || b)
+          (or-false (list_any (◌==◌ q) held))
+          ∙ ap (λ b. b || list_any (◌==◌ q) held) (further apart)
+    ]
+  where
+    both : (x y : Bool) → (x || (y || true)) ≡ true
+    both true y = refl
+    both false true = refl
+    both false false = refl
 
--- and by whether it is the one given back
-without_old : (old held kept : Bool) →
-    (not old && (held || kept)) ≡ ((not old && held) || (kept && not (old && true)))
-without_old true held true = refl
-without_old true held false = refl
-without_old false true kept = refl
-without_old false false true = refl
-without_old false false false = refl
+    further : q ≢ first →
+        is_in_span (suc first) (suc first + n) q ≡ is_in_span first (first + suc n) q
+    further apart = elim (cases_lt q first) [
+      | inl l ↦ is_in_span-outside (suc first) (suc first + n) q (inl (omega arith))
+          ∙ sym (is_in_span-outside first (first + suc n) q (inl l))
+      | inr g ↦ elim (cases_lt q (first + suc n)) [
+        | inl l ↦ is_in_span-inside (suc first) (suc first + n) q (omega arith) (omega arith)
+            ∙ sym (is_in_span-inside first (first + suc n) q g l)
+        | inr h ↦ is_in_span-outside (suc first) (suc first + n) q (inr (omega arith))
+            ∙ sym (is_in_span-outside first (first + suc n) q (inr h))
+      ]
+    ]
 
--- what is kept stays so where nothing is given back
-kept_all : (old kept : Bool) → (kept && not (old && false)) ≡ kept
-kept_all true true = refl
-kept_all true false = refl
-kept_all false true = refl
-kept_all false false = refl
+-- pages that are not held are distinct from those that are, and from one another
+with_distinct : (held : List ℕ) (first n : ℕ) → IsDistinct ◌==◌ held →
+    ((k : ℕ) → first ≤ k → k < first + n → list_any (◌==◌ k) held ≡ false) →
+    IsDistinct ◌==◌ (held_with held first n)
+with_distinct held first zero d none = d
+with_distinct held first (suc n) d none =
+    with_distinct (held ++ first ∷ []) (suc first) n
+    (IsDistinct-push nat_eq_equiv held first d (none first (omega arith) (omega arith)))
+    (λ k p q. any_push k first held ∙ or_from (list_any (◌==◌ k) held) (k == first)
+        (none k (omega arith) (omega arith)) (ne_eqb k first (λ e. absurd (omega arith))))
 
 -- what is kept after two requests
 kept_twice : (kept one more : Bool) → ((kept && not one) && not more) ≡ (kept && not (one || more))
@@ -150,9 +149,25 @@ kept_twice false one more = refl
 kept_twice true true more = refl
 kept_twice true false more = refl
 
--- what is not kept before is not kept after
-lost : (kept old : Bool) → kept ≡ false → (kept && not old) ≡ false
-lost kept old e = ap (λ b. b && not old) e
+-- a page is taken by whether it is given, held, or kept
+still_taken : (out back held kept : Bool) →
+    (out || (not back && (held || kept))) ≡ ((out || (not back && held)) || (kept && not back))
+still_taken true back held kept = refl
+still_taken false true held true = refl
+still_taken false true held false = refl
+still_taken false false true kept = refl
+still_taken false false false true = refl
+still_taken false false false false = refl
+
+-- what is held and was given or kept before is not kept after
+still_apart : (out back held kept : Bool) → (out ≡ true → (held || kept) ≡ false) →
+    (held ≡ true → kept ≡ false) → (out || (not back && held)) ≡ true →
+    (kept && not back) ≡ false
+still_apart out back held false free apart e = refl
+still_apart out true held true free apart e = refl
+still_apart true false held true free apart e =
+    let none = or_parts held true (free refl) in absurd (true≢false none.1)
+still_apart false false held true free apart e = absurd (true≢false (apart e))
 
 -- the pages that are held, and those that were taken before and are kept, are those that are taken
 record AreHeld (s : PlainSet) (held : List ℕ) (kept : ℕ → Bool) : Type 0 where
@@ -160,57 +175,97 @@ record AreHeld (s : PlainSet) (held : List ℕ) (kept : ℕ → Bool) : Type 0 w
   apart : (page : ℕ) → list_any (◌==◌ page) held ≡ true → kept page ≡ false
   taken : (page : ℕ) → s.has page ≡ (list_any (◌==◌ page) held || kept page)
 
--- a request keeps that
-held_on : (s : PlainSet) (held : List ℕ) (kept : ℕ → Bool) (request : Request) →
-    AreHeld s held kept →
-    AreHeld (state_after s request) (held_after held request (answer_to s request))
-    (λ page. kept page && not (gives_back s request page))
-held_on s held kept Take h = by (least_free s) (least_free-is s)
-  where
-    by : (o : Option ℕ) → MatchOption o ((k : ℕ) → k < s.capacity → s.has k ≡ true)
-        (IsLeastFree s) → AreHeld (with_found s o) (held_after held Take (page_or_full o))
-        (λ page. kept page && true)
-    by None all = record {
-      distinct = h.distinct;
-      apart = λ page e. lost (kept page) false (h.apart page e);
-      taken = λ page. h.taken page
-          ∙ ap (λ b. list_any (◌==◌ page) held || b) (sym (kept_all false (kept page)));
-    }
-    by (Some q) least =
-        let none : (list_any (◌==◌ q) held || kept q) ≡ false = sym (h.taken q) ∙ least.is_free in
-        let parts = or_parts (list_any (◌==◌ q) held) (kept q) none in record {
-          distinct = IsDistinct-push nat_eq_equiv held q h.distinct parts.0;
-          apart = λ page e. lost (kept page) false (elim (cases_eq page q) [
-            | inl is ↦ ap kept is ∙ parts.1
-            | inr apart ↦ h.apart page (sym (any_push page q held
-                ∙ ap (λ b. list_any (◌==◌ page) held || b) (ne_eqb page q apart)
-                ∙ or-false (list_any (◌==◌ page) held)) ∙ e)
-          ]);
-          taken = λ page. ap (λ b. (page == q) || b) (h.taken page)
-              ∙ with_new (page == q) (list_any (◌==◌ page) held) (kept page)
-              ∙ ap (λ b. b || (kept page && true)) (sym (any_push page q held));
-        }
-held_on s held kept (GiveBack p) h = by (is_taken s p)
-  where
-    by : (b : Bool) →
-        AreHeld (cond b (without_page s p) s) (held_after held (GiveBack p) (cond b answer.Given
-        answer.NotTaken))
-        (λ page. kept page && not ((page == p) && b))
-    by true = record {
-      distinct = filter_distinct (λ r. not (r == p)) held h.distinct;
-      apart = λ page e. lost (kept page) ((page == p) && true) (h.apart page
-          (and_parts (not (page == p)) (list_any (◌==◌ page) held)
-          (sym (kept_by p page held) ∙ e)).1);
-      taken = λ page. ap (λ b. not (page == p) && b) (h.taken page)
-          ∙ without_old (page == p) (list_any (◌==◌ page) held) (kept page)
-          ∙ ap (λ b. b || (kept page && not ((page == p) && true))) (sym (kept_by p page held));
-    }
-    by false = record {
-      distinct = h.distinct;
-      apart = λ page e. lost (kept page) ((page == p) && false) (h.apart page e);
-      taken = λ page. h.taken page
-          ∙ ap (λ b. list_any (◌==◌ page) held || b) (sym (kept_all (page == p) (kept page)));
-    }
+-- a list that has what was held, with what is given and without what comes back
+record AreHeldAfter (held after : List ℕ) (out back : ℕ → Bool) : Type 0 where
+  distinct : IsDistinct ◌==◌ after
+  any : (page : ℕ) → list_any (◌==◌ page) after
+      ≡ (out page || (not (back page) && list_any (◌==◌ page) held))
+
+-- where nothing comes back and nothing is given, it is what was held
+same_held : (held : List ℕ) (back : ℕ → Bool) → ((page : ℕ) → back page ≡ false) →
+    IsDistinct ◌==◌ held → AreHeldAfter held held (λ _. false) back
+same_held held back none d = record {
+  distinct = d;
+  any = λ page. sym (ap (λ b. not b && list_any (◌==◌ page) held) (none page));
+}
+
+none_back : (b : Bool) → (b && false) ≡ false
+none_back true = refl
+none_back false = refl
+
+all_back : (b : Bool) → (b && true) ≡ b
+all_back true = refl
+all_back false = refl
+
+-- so is what is held after each request
+module _ (s : PlainSet) (held : List ℕ) (kept : ℕ → Bool) (h : AreHeld s held kept) where
+  -- what is given was not held
+  not_held : (page : ℕ) → s.has page ≡ false → list_any (◌==◌ page) held ≡ false
+  not_held page e =
+      (or_parts (list_any (◌==◌ page) held) (kept page) (sym (h.taken page) ∙ e)).0
+
+  held_take : (o : Option ℕ) → MatchOption o ((k : ℕ) → k < s.capacity → s.has k ≡ true)
+      (IsLeastFree s) → AreHeldAfter held (held_after held Take (page_or_full o))
+      (gives Take (page_or_full o)) (λ _. false)
+  held_take None all = same_held held (λ _. false) (λ _. refl) h.distinct
+  held_take (Some q) least = record {
+    distinct = IsDistinct-push nat_eq_equiv held q h.distinct (not_held q least.is_free);
+    any = λ page. any_push page q held ∙ swap_or (list_any (◌==◌ page) held) (page == q);
+  }
+    where
+      swap_or : (x y : Bool) → (x || y) ≡ (y || x)
+      swap_or true true = refl
+      swap_or true false = refl
+      swap_or false true = refl
+      swap_or false false = refl
+
+  held_run : (n : ℕ) (o : Option ℕ) → IsFirstRun (complement s) 0 n o →
+      AreHeldAfter held (held_after held (TakeRun n) (run_or_none o))
+      (gives (TakeRun n) (run_or_none o)) (λ _. false)
+  held_run n None none = same_held held (λ _. false) (λ _. refl) h.distinct
+  held_run n (Some f) first = record {
+    distinct = with_distinct held f n h.distinct
+        (λ k p q. not_held k (run_is_free s n f first.1 k p q));
+    any = λ page. any_with page held f n;
+  }
+
+  held_back : (request : Request) (b : Bool) →
+      AreHeldAfter held (held_after held request (cond b answer.Given answer.NotTaken))
+      (gives request (cond b answer.Given answer.NotTaken)) (λ page. asks_back request page && b)
+  held_back request false = same_held held (λ page. asks_back request page && false)
+      (λ page. none_back (asks_back request page)) h.distinct
+  held_back request true = record {
+    distinct = filter_distinct (λ r. not (asks_back request r)) held h.distinct;
+    any = λ page. kept_by (asks_back request) page held
+        ∙ sym (ap (λ b. not b && list_any (◌==◌ page) held) (all_back (asks_back request page)));
+  }
+
+  held_next : (request : Request) →
+      AreHeldAfter held (held_after held request (answer_to s request))
+      (gives request (answer_to s request)) (gives_back s request)
+  held_next Take = held_take (least_free s) (least_free-is s)
+  held_next (GiveBack p) = held_back (GiveBack p) (is_taken s p)
+  held_next (TakeRun n) = held_run n (first_free_run s n) (first_free_run-is s n)
+  held_next (GiveBackRun f n) = held_back (GiveBackRun f n) (is_run_taken s f n)
+
+  -- a request keeps that they are those that are taken
+  held_on : (request : Request) →
+      AreHeld (state_after s request) (held_after held request (answer_to s request))
+      (λ page. kept page && not (gives_back s request page))
+  held_on request =
+      let one = step s request in
+      let next = held_next request in
+      let out = gives request (answer_to s request) in
+      let back = gives_back s request in record {
+        distinct = next.distinct;
+        apart = λ page e. still_apart (out page) (back page) (list_any (◌==◌ page) held) (kept page)
+            (λ given. sym (h.taken page) ∙ one.was_free page given) (h.apart page)
+            (sym (next.any page) ∙ e);
+        taken = λ page. one.has page
+            ∙ ap (λ b. out page || (not (back page) && b)) (h.taken page)
+            ∙ still_taken (out page) (back page) (list_any (◌==◌ page) held) (kept page)
+            ∙ ap (λ b. b || (kept page && not (back page))) (sym (next.any page));
+      }
 
 -- so does a run
 held_on_run : (s : PlainSet) (held : List ℕ) (kept : ℕ → Bool) (requests : List Request) →
@@ -220,14 +275,14 @@ held_on_run : (s : PlainSet) (held : List ℕ) (kept : ℕ → Bool) (requests :
 unfolding held_after_run came_back final_state
 held_on_run s held kept [] h = record {
   distinct = h.distinct;
-  apart = λ page e. lost (kept page) false (h.apart page e);
+  apart = λ page e. ap (λ b. b && true) (h.apart page e);
   taken = λ page. h.taken page
-      ∙ ap (λ b. list_any (◌==◌ page) held || b) (sym (kept_all false (kept page)));
+      ∙ ap (λ b. list_any (◌==◌ page) held || b) (sym (all_back (kept page)));
 }
 held_on_run s held kept (request ∷ requests) h =
     let next = state_after s request in
     let later = held_on_run next (held_after held request (answer_to s request))
-    (λ page. kept page && not (gives_back s request page)) requests (held_on s held kept request h) in
+    (λ page. kept page && not (gives_back s request page)) requests (held_on s held kept h request) in
     let twice = λ (page : ℕ). kept_twice (kept page) (gives_back s request page)
     (came_back next requests page) in record {
       distinct = later.distinct;

@@ -1,24 +1,54 @@
 -- What follows from the page machine for every run.
-use Rattle.std.proofs.Common.{◌≡◌, ℕ, zero, suc, ◌<◌, ◌⊎◌, Bool, true, false, not, cond, ◌&&◌, ◌||◌, ◌==◌, Option, Some, None, List, [], ◌∷◌, inl, inr, refl, sym, ap, ◌∙◌, arith}
-use Rattle.std.proofs.lemmas.Bool.{cases_eq, cases_Bool, eq-eqb, ne_eqb, or_right, true≢false}
-use Rattle.std.specs.Prelude.{◌↔◌, MatchOption, slice_get}
-use Rattle.bittle.specs.PlainSet.{PlainSet, size}
+use Rattle.std.proofs.Common.{◌≡◌, ℕ, zero, suc, ◌<◌, Bool, true, false, cond, Option, Some, None, List, [], ◌∷◌, inl, inr, refl, sym, ap, ◌∙◌, arith}
+use Rattle.std.proofs.lemmas.Bool.{true≢false}
+use Rattle.std.specs.Prelude.{◌↔◌, MatchOption}
+use Rattle.bittle.specs.PlainSet.{PlainSet, complement, size}
 use Rattle.bittle.proofs.CallerSets.{size_full, size_whole}
-use Rattle.bit_pages.specs.PageLaws.{IsLeastFree}
-use Rattle.bit_pages.specs.Pages.{is_taken, least_free, page_or_full, with_found, answer_to, state_after, request_answers}
+use Rattle.bittle_ext.specs.Runs.{IsFirstRun, IsRun}
+use Rattle.bit_pages.specs.PageLaws.{IsGiven, IsGivenBack, IsLeastFree, gives}
+use Rattle.bit_pages.specs.Pages.{is_taken, is_run_taken, least_free, first_free_run, page_or_full, run_or_none, answer_to, state_after, request_answers}
 use Rattle.bit_pages.specs.declared.Answer.TheVariants as answer
 use Rattle.bit_pages.specs.declared.Request.{Request}
-use Rattle.bit_pages.specs.declared.Request.TheVariants.{Take, GiveBack}
+use Rattle.bit_pages.specs.declared.Request.TheVariants.{Take, GiveBack, TakeRun, GiveBackRun}
+use Rattle.bit_pages.proofs.FreeRuns.{first_free_run-is}
 use Rattle.bit_pages.proofs.LeastFree.{least_free-is}
+use Rattle.bit_pages.proofs.PageSteps.{IsTaken, given_was_free, page_is_taken, stays_taken}
 
+-- what a request to give back is answered
 given_is_no_page : (b : Bool) (page : ℕ) → cond b answer.Given answer.NotTaken ≡ answer.Page page →
     ⊥
 given_is_no_page true page e = cc
 given_is_no_page false page e = cc
 
+given_is_no_run : (b : Bool) (first : ℕ) → cond b answer.Given answer.NotTaken ≡ answer.Run first →
+    ⊥
+given_is_no_run true first e = cc
+given_is_no_run false first e = cc
+
 given_is_not_full : (b : Bool) → cond b answer.Given answer.NotTaken ≡ answer.Full → ⊥
 given_is_not_full true e = cc
 given_is_not_full false e = cc
+
+given_is_not_none : (b : Bool) → cond b answer.Given answer.NotTaken ≡ answer.NoRun → ⊥
+given_is_not_none true e = cc
+given_is_not_none false e = cc
+
+-- and a request for a page, and for a run
+page_is_no_run : (o : Option ℕ) (first : ℕ) → page_or_full o ≡ answer.Run first → ⊥
+page_is_no_run None first e = cc
+page_is_no_run (Some p) first e = cc
+
+page_is_not_none : (o : Option ℕ) → page_or_full o ≡ answer.NoRun → ⊥
+page_is_not_none None e = cc
+page_is_not_none (Some p) e = cc
+
+run_is_no_page : (o : Option ℕ) (page : ℕ) → run_or_none o ≡ answer.Page page → ⊥
+run_is_no_page None page e = cc
+run_is_no_page (Some p) page e = cc
+
+run_is_not_full : (o : Option ℕ) → run_or_none o ≡ answer.Full → ⊥
+run_is_not_full None e = cc
+run_is_not_full (Some p) e = cc
 
 -- an answered page is the least free one
 pub page_is_least : (s : PlainSet) (request : Request) (page : ℕ) →
@@ -30,6 +60,24 @@ page_is_least s Take page = by (least_free s) (least_free-is s)
     by None all e = absurd (cc)
     by (Some q) least e = let same : q ≡ page = cc in rw same at least
 page_is_least s (GiveBack p) page = λ e. absurd (given_is_no_page (is_taken s p) page e)
+page_is_least s (TakeRun n) page = λ e. absurd (run_is_no_page (first_free_run s n) page e)
+page_is_least s (GiveBackRun f n) page =
+    λ e. absurd (given_is_no_page (is_run_taken s f n) page e)
+
+-- an answered run is the first of so many free pages
+pub run_is_first : (s : PlainSet) (request : Request) (first : ℕ) →
+    answer_to s request ≡ answer.Run first →
+    (n : ℕ) × (request ≡ TakeRun n) × IsFirstRun (complement s) 0 n (Some first)
+run_is_first s Take first = λ e. absurd (page_is_no_run (least_free s) first e)
+run_is_first s (GiveBack p) first = λ e. absurd (given_is_no_run (is_taken s p) first e)
+run_is_first s (TakeRun n) first = by (first_free_run s n) (first_free_run-is s n)
+  where
+    by : (o : Option ℕ) → IsFirstRun (complement s) 0 n o → run_or_none o ≡ answer.Run first →
+        (m : ℕ) × (TakeRun n ≡ TakeRun m) × IsFirstRun (complement s) 0 m (Some first)
+    by None none e = absurd (cc)
+    by (Some q) is e = let same : q ≡ first = cc in (n, refl, rw same at is)
+run_is_first s (GiveBackRun f n) first =
+    λ e. absurd (given_is_no_run (is_run_taken s f n) first e)
 
 -- an allocator is full exactly if a page is asked for and all are taken
 pub full_is_taken : (s : PlainSet) (request : Request) → (answer_to s request ≡ answer.Full)
@@ -47,88 +95,122 @@ full_is_taken s (GiveBack p) = (
   λ e. absurd (given_is_not_full (is_taken s p) e),
   λ e. absurd (cc),
 )
+full_is_taken s (TakeRun n) = (
+  λ e. absurd (run_is_not_full (first_free_run s n) e),
+  λ e. absurd (cc),
+)
+full_is_taken s (GiveBackRun f n) = (
+  λ e. absurd (given_is_not_full (is_run_taken s f n) e),
+  λ e. absurd (cc),
+)
 
--- the page is one, and taken
-record IsTaken (s : PlainSet) (page : ℕ) : Type 0 where
-  within : page < s.capacity
-  is_member : s.has page ≡ true
-
--- an answered page is taken afterwards
-page_is_taken : (s : PlainSet) (request : Request) (page : ℕ) →
-    answer_to s request ≡ answer.Page page → IsTaken (state_after s request) page
-page_is_taken s Take page = λ e. by (least_free s) (page_is_least s Take page e) e
+-- a run is refused exactly if it is asked for and no so many neighbours are free
+pub none_is_free : (s : PlainSet) (request : Request) → (answer_to s request ≡ answer.NoRun)
+    ↔ ((n : ℕ) × (request ≡ TakeRun n) × ((first : ℕ) → IsRun (complement s) n first → ⊥))
+none_is_free s Take = (
+  λ e. absurd (page_is_not_none (least_free s) e),
+  λ e. let kind = e.1 in absurd (cc),
+)
+none_is_free s (GiveBack p) = (
+  λ e. absurd (given_is_not_none (is_taken s p) e),
+  λ e. let kind = e.1 in absurd (cc),
+)
+none_is_free s (TakeRun n) = by (first_free_run s n) (first_free_run-is s n)
   where
-    by : (o : Option ℕ) → IsLeastFree s page → page_or_full o ≡ answer.Page page →
-        IsTaken (with_found s o) page
-    by None least e = absurd (cc)
-    by (Some q) least e =
-        let same : page ≡ q = cc in
-        record { within = least.within; is_member = ap (λ b. b || s.has page) (eq-eqb page q same) }
-page_is_taken s (GiveBack p) page = λ e. absurd (given_is_no_page (is_taken s p) page e)
+    by : (o : Option ℕ) → IsFirstRun (complement s) 0 n o → (run_or_none o ≡ answer.NoRun)
+        ↔ ((m : ℕ) × (TakeRun n ≡ TakeRun m)
+        × ((first : ℕ) → IsRun (complement s) m first → ⊥))
+    by None none = (λ e. (n, refl, λ first run. none first (omega arith) run), λ e. refl)
+    by (Some q) is = (
+      λ e. absurd (cc),
+      λ e. let kind = e.1 in let same : n ≡ e.0 = cc in
+          absurd (e.2 q (rw same at is.1)),
+    )
+none_is_free s (GiveBackRun f n) = (
+  λ e. absurd (given_is_not_none (is_run_taken s f n) e),
+  λ e. let kind = e.1 in absurd (cc),
+)
 
--- a page stays taken until it is given back
-stays_taken : (s : PlainSet) (request : Request) (page : ℕ) → IsTaken s page →
-    IsTaken (state_after s request) page
-    ⊎ ((request ≡ GiveBack page) × (answer_to s request ≡ answer.Given))
-stays_taken s Take page t = inl (by (least_free s))
-  where
-    by : (o : Option ℕ) → IsTaken (with_found s o) page
-    by None = t
-    by (Some q) = record {
-      within = t.within;
-      is_member = or_right (page == q) (s.has page) t.is_member;
-    }
-stays_taken s (GiveBack p) page t = by (cases_eq page p) (cases_Bool (is_taken s p))
-  where
-    by : (page ≡ p) ⊎ (page ≡ p → ⊥) → (is_taken s p ≡ true) ⊎ (is_taken s p ≡ false) →
-        IsTaken (state_after s (GiveBack p)) page
-        ⊎ ((GiveBack p ≡ GiveBack page) × (answer_to s (GiveBack p) ≡ answer.Given))
-    by (inl same) (inl given) = inr (ap GiveBack (sym same), rw given refl)
-    by (inr apart) (inl given) =
-        let kept : (not (page == p) && s.has page) ≡ true = rw (ne_eqb page p apart) t.is_member in
-        rw given (inl (record { within = t.within; is_member = kept }))
-    by _ (inr none) = rw none (inl t)
-
--- a taken page that is answered later was given back before
-given_before : (s : PlainSet) (requests : List Request) (page j : ℕ) → IsTaken s page →
-    slice_get (request_answers s requests) j ≡ Some (answer.Page page) →
-    (k : ℕ) × (k < j) × (slice_get requests k ≡ Some (GiveBack page))
-    × (slice_get (request_answers s requests) k ≡ Some answer.Given)
+-- of a request and its answer at the first place of a run
+gives_first : (s : PlainSet) (request : Request) (requests : List Request) (page : ℕ) →
+    IsGiven s (request ∷ requests) zero page →
+    gives request (answer_to s request) page ≡ true
 unfolding request_answers
-given_before s [] page j t e = absurd (cc)
-given_before s (request ∷ requests) page zero t e =
-    let is : answer_to s request ≡ answer.Page page = cc in
-    absurd (true≢false (sym t.is_member ∙ (page_is_least s request page is).is_free))
-given_before s (request ∷ requests) page (suc j) t e =
+gives_first s request requests page out =
+    let asked : request ≡ out.request = some_is out.asked in
+    let answered : answer_to s request ≡ out.answer = some_is out.answered in
+    ap (λ r. gives r (answer_to s request) page) asked
+    ∙ ap (λ a. gives out.request a page) answered ∙ out.has
+  where
+    some_is : {X : Type 0} {x y : X} → Some x ≡ Some y → x ≡ y
+    some_is e = cc
+
+-- and at a later place
+gives_later : (s : PlainSet) (request : Request) (requests : List Request) (page j : ℕ) →
+    IsGiven s (request ∷ requests) (suc j) page →
+    IsGiven (state_after s request) requests j page
+unfolding request_answers
+gives_later s request requests page j out = record {
+  request = out.request;
+  answer = out.answer;
+  asked = out.asked;
+  answered = out.answered;
+  has = out.has;
+}
+
+back_later : (s : PlainSet) (request : Request) (requests : List Request) (page k : ℕ) →
+    IsGivenBack (state_after s request) requests k page →
+    IsGivenBack s (request ∷ requests) (suc k) page
+unfolding request_answers
+back_later s request requests page k back = record {
+  request = back.request;
+  asked = back.asked;
+  answered = back.answered;
+  has = back.has;
+}
+
+-- a taken page that is given later was given back before
+given_before : (s : PlainSet) (requests : List Request) (page j : ℕ) → IsTaken s page →
+    IsGiven s requests j page → (k : ℕ) × (k < j) × IsGivenBack s requests k page
+unfolding request_answers
+given_before s [] page j t out = let none = out.asked in absurd (cc)
+given_before s (request ∷ requests) page zero t out =
+    absurd (given_was_free s request page t (gives_first s request requests page out))
+given_before s (request ∷ requests) page (suc j) t out =
     elim (stays_taken s request page t) [
       | inl stays ↦
-          let later = given_before (state_after s request) requests page j stays e in
-          (suc later.0, omega (arith, later.1), later.2, later.3)
-      | inr given ↦ (zero, omega arith, ap Some given.0, ap Some given.1)
+          let later = given_before (state_after s request) requests page j stays
+          (gives_later s request requests page j out) in
+          (suc later.0, omega (arith, later.1), back_later s request requests page later.0 later.2)
+      | inr given ↦ (zero, omega arith, record {
+          request = request;
+          asked = refl;
+          answered = ap Some given.1;
+          has = given.0;
+        })
     ]
 
--- between two answers of one page that page was given back
+-- between two answers that give one page that page was given back
 pub given_between : (s : PlainSet) (requests : List Request) (page i j : ℕ) → i < j →
-    slice_get (request_answers s requests) i ≡ Some (answer.Page page) →
-    slice_get (request_answers s requests) j ≡ Some (answer.Page page) →
-    (k : ℕ) × (i < k) × (k < j) × (slice_get requests k ≡ Some (GiveBack page))
-    × (slice_get (request_answers s requests) k ≡ Some answer.Given)
-unfolding request_answers
+    IsGiven s requests i page → IsGiven s requests j page →
+    (k : ℕ) × (i < k) × (k < j) × IsGivenBack s requests k page
 given_between s requests page i zero h a b = absurd (omega arith)
-given_between s [] page i (suc j) h a b = absurd (cc)
+given_between s [] page i (suc j) h a b = let none = b.asked in absurd (cc)
 given_between s (request ∷ requests) page zero (suc j) h a b =
-    let is : answer_to s request ≡ answer.Page page = cc in
     let later = given_before (state_after s request) requests page j
-    (page_is_taken s request page is) b in
-    (suc later.0, omega arith, omega (arith, later.1), later.2, later.3)
+    (page_is_taken s request page (gives_first s request requests page a))
+    (gives_later s request requests page j b) in
+    (suc later.0, omega arith, omega (arith, later.1),
+    back_later s request requests page later.0 later.2)
 given_between s (request ∷ requests) page (suc i) (suc j) h a b =
-    let later = given_between (state_after s request) requests page i j (omega arith) a b in
-    (suc later.0, omega (arith, later.1), omega (arith, later.2), later.3, later.4)
+    let later = given_between (state_after s request) requests page i j (omega arith)
+    (gives_later s request requests page i a) (gives_later s request requests page j b) in
+    (suc later.0, omega (arith, later.1), omega (arith, later.2),
+    back_later s request requests page later.0 later.3)
 
--- a page that is taken before a run is answered in it only after it was given back
+-- a page that is taken before a run is given in it only after it was given back
 pub given_first : (s : PlainSet) (requests : List Request) (page j : ℕ) → page < s.capacity →
-    s.has page ≡ true → slice_get (request_answers s requests) j ≡ Some (answer.Page page) →
-    (k : ℕ) × (k < j) × (slice_get requests k ≡ Some (GiveBack page))
-    × (slice_get (request_answers s requests) k ≡ Some answer.Given)
-given_first s requests page j h t e = given_before s requests page j
-    (record { within = h; is_member = t }) e
+    s.has page ≡ true → IsGiven s requests j page →
+    (k : ℕ) × (k < j) × IsGivenBack s requests k page
+given_first s requests page j h t out = given_before s requests page j
+    (record { within = h; is_member = t }) out

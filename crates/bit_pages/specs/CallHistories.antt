@@ -12,7 +12,7 @@ pub record IsCall (before : PlainSet) (request : Request) (answer : Answer)
   pub left : after ≡ state_after before request
 
 -- calls, one after the other
-unfoldable pub IsHistory : PlainSet → List (Request × Answer) → PlainSet → Type 0
+abbrev pub IsHistory : PlainSet → List (Request × Answer) → PlainSet → Type 0
 IsHistory before [] after = after ≡ before
 IsHistory before (call ∷ calls) after =
     (between : PlainSet) × IsCall before call.0 call.1 between × IsHistory between calls after

@@ -1,12 +1,13 @@
 -- What the page machine keeps, whatever is asked of it.
-use Rattle.std.specs.List.{count_by, filter, list_any, IsDistinct}
-use Rattle.std.specs.Prelude.{◌≡◌, ℕ, ◌+◌, ◌<◌, ◌↔◌, Bool, true, false, not, ◌&&◌, ◌||◌, ◌==◌, Some, List, [], ◌∷◌, ◌++◌, slice_get, take}
-use Rattle.bittle.specs.PlainSet.{PlainSet, size}
-use Rattle.bit_pages.specs.Pages.{is_taken, answer_to, state_after, request_answers, final_state}
+use Rattle.std.specs.List.{filter, list_any, IsDistinct}
+use Rattle.std.specs.Prelude.{◌≡◌, ℕ, zero, suc, ◌+◌, ◌<◌, ◌↔◌, Bool, true, false, not, ◌&&◌, ◌||◌, ◌==◌, Some, List, [], ◌∷◌, ◌++◌, slice_get, take}
+use Rattle.bittle.specs.PlainSet.{PlainSet, complement, is_in_span, size}
+use Rattle.bittle_ext.specs.Runs.{IsFirstRun, IsRun}
+use Rattle.bit_pages.specs.Pages.{is_taken, is_run_taken, answer_to, state_after, request_answers, final_state}
 use Rattle.bit_pages.specs.declared.Request.{Request}
-use Rattle.bit_pages.specs.declared.Request.TheVariants.{Take, GiveBack}
+use Rattle.bit_pages.specs.declared.Request.TheVariants.{Take, GiveBack, TakeRun, GiveBackRun}
 use Rattle.bit_pages.specs.declared.Answer.{Answer}
-use Rattle.bit_pages.specs.declared.Answer.TheVariants.{Page, Full, Given, NotTaken}
+use Rattle.bit_pages.specs.declared.Answer.TheVariants.{Page, Full, Given, NotTaken, Run, NoRun}
 
 -- the page is one, it is free, and all below it are taken
 pub record IsLeastFree (s : PlainSet) (page : ℕ) : Type 0 where
@@ -21,11 +22,26 @@ PagesAreLeastFree =
     → answer_to s request ≡ Page page
     → IsLeastFree s page
 
+-- each run that is answered is the first of so many free pages as were asked for
+abbrev pub RunsAreFirst : Type 0
+RunsAreFirst =
+    (s : PlainSet) (request : Request) (first : ℕ)
+    → answer_to s request ≡ Run first
+    → (length : ℕ) × (request ≡ TakeRun length)
+    × IsFirstRun (complement s) 0 length (Some first)
+
 -- Full is answered exactly if a page is asked for and as many pages are taken as there are
 abbrev pub FullExactlyIfAllAreTaken : Type 0
 FullExactlyIfAllAreTaken =
     (s : PlainSet) (request : Request)
     → (answer_to s request ≡ Full) ↔ ((request ≡ Take) × (size s ≡ s.capacity))
+
+-- NoRun is answered exactly if a run is asked for and no so many neighbours are free
+abbrev pub NoRunExactlyIfNoneIsFree : Type 0
+NoRunExactlyIfNoneIsFree =
+    (s : PlainSet) (request : Request)
+    → (answer_to s request ≡ NoRun) ↔ ((length : ℕ) × (request ≡ TakeRun length)
+    × ((first : ℕ) → IsRun (complement s) length first → ⊥))
 
 -- an answer of a run is that to its request, from the state that the requests before it leave
 pub record IsAnsweredAt (s : PlainSet) (requests : List Request) (i : ℕ) (answer : Answer) : Type 0 where
@@ -39,66 +55,108 @@ AnswersAreOfTheirStates =
     → slice_get (request_answers s requests) i ≡ Some answer
     → IsAnsweredAt s requests i answer
 
--- whether an answer gives a page
-abbrev pub is_page : Answer → Bool
-is_page (Page page) = true
-is_page Full = false
-is_page Given = false
-is_page NotTaken = false
+-- how many pages a request asks for, or gives back
+abbrev pub length_of : Request → ℕ
+length_of Take = 1
+length_of (GiveBack page) = 1
+length_of (TakeRun length) = length
+length_of (GiveBackRun first length) = length
 
--- whether an answer takes a page back
-abbrev pub is_given : Answer → Bool
-is_given (Page page) = false
-is_given Full = false
-is_given Given = true
-is_given NotTaken = false
+-- how many pages an answer to a request gives
+abbrev pub pages_given : Request → Answer → ℕ
+pages_given request (Page page) = 1
+pages_given request Full = 0
+pages_given request Given = 0
+pages_given request NotTaken = 0
+pages_given request (Run first) = length_of request
+pages_given request NoRun = 0
+
+-- how many pages it takes back
+abbrev pub pages_back : Request → Answer → ℕ
+pages_back request (Page page) = 0
+pages_back request Full = 0
+pages_back request Given = length_of request
+pages_back request NotTaken = 0
+pages_back request (Run first) = 0
+pages_back request NoRun = 0
+
+-- the sum of a count over requests and their answers
+unfoldable pub total : (Request → Answer → ℕ) → List Request → List Answer → ℕ
+total count [] answers = 0
+total count (request ∷ requests) [] = 0
+total count (request ∷ requests) (answer ∷ answers) =
+    count request answer + total count requests answers
 
 -- as many pages are taken after a run as before it, with those that it gives, less those that come
 -- back
 abbrev pub PagesAreCounted : Type 0
 PagesAreCounted =
     (s : PlainSet) (requests : List Request)
-    → size (final_state s requests) + count_by is_given (request_answers s requests)
-    ≡ size s + count_by is_page (request_answers s requests)
+    → size (final_state s requests) + total pages_back requests (request_answers s requests)
+    ≡ size s + total pages_given requests (request_answers s requests)
 
--- a page that was taken before a run is answered in it only after it was given back
+-- whether an answer to a request gives a page
+abbrev pub gives : Request → Answer → ℕ → Bool
+gives request (Page p) page = page == p
+gives request Full page = false
+gives request Given page = false
+gives request NotTaken page = false
+gives request (Run first) page = is_in_span first (first + length_of request) page
+gives request NoRun page = false
+
+-- whether a request asks that a page be free again
+abbrev pub asks_back : Request → ℕ → Bool
+asks_back Take page = false
+asks_back (GiveBack p) page = page == p
+asks_back (TakeRun length) page = false
+asks_back (GiveBackRun first length) page = is_in_span first (first + length) page
+
+-- an answer of a run gives a page, alone or among others
+pub record IsGiven (s : PlainSet) (requests : List Request) (i page : ℕ) : Type 0 where
+  pub request : Request
+  pub answer : Answer
+  pub asked : slice_get requests i ≡ Some request
+  pub answered : slice_get (request_answers s requests) i ≡ Some answer
+  pub has : gives request answer page ≡ true
+
+-- a request of a run asked that a page be free again, alone or among others, and it was given back
+pub record IsGivenBack (s : PlainSet) (requests : List Request) (k page : ℕ) : Type 0 where
+  pub request : Request
+  pub asked : slice_get requests k ≡ Some request
+  pub answered : slice_get (request_answers s requests) k ≡ Some Given
+  pub has : asks_back request page ≡ true
+
+-- a page that was taken before a run is given in it only after it was given back
 abbrev pub TakenPagesAreGivenFirst : Type 0
 TakenPagesAreGivenFirst =
     (s : PlainSet) (requests : List Request) (page j : ℕ)
     → page < s.capacity → s.has page ≡ true
-    → slice_get (request_answers s requests) j ≡ Some (Page page)
-    → (k : ℕ) × (k < j)
-    × (slice_get requests k ≡ Some (GiveBack page))
-    × (slice_get (request_answers s requests) k ≡ Some Given)
+    → IsGiven s requests j page
+    → (k : ℕ) × (k < j) × IsGivenBack s requests k page
 
--- between two requests of a run the page was asked to be given back, and was
-abbrev pub IsGivenBetween : PlainSet → List Request → ℕ → ℕ → ℕ → Type 0
-IsGivenBetween s requests page i j =
-    (k : ℕ) × (i < k) × (k < j)
-    × (slice_get requests k ≡ Some (GiveBack page))
-    × (slice_get (request_answers s requests) k ≡ Some Given)
-
--- between two answers of one page that page was given back
+-- between two answers that give one page that page was given back
 abbrev pub PagesAreGivenBetween : Type 0
 PagesAreGivenBetween =
     (s : PlainSet) (requests : List Request) (page i j : ℕ)
     → i < j
-    → slice_get (request_answers s requests) i ≡ Some (Page page)
-    → slice_get (request_answers s requests) j ≡ Some (Page page)
-    → IsGivenBetween s requests page i j
+    → IsGiven s requests i page
+    → IsGiven s requests j page
+    → (k : ℕ) × (i < k) × (k < j) × IsGivenBack s requests k page
 
--- the pages that are held without the one that is given back
-abbrev pub without_given : List ℕ → Request → List ℕ
-without_given held Take = held
-without_given held (GiveBack page) = filter (λ p. not (p == page)) held
+-- the pages that are held, and so many more from one on
+abbrev pub held_with : List ℕ → ℕ → ℕ → List ℕ
+held_with held first zero = held
+held_with held first (suc n) = held_with (held ++ first ∷ []) (suc first) n
 
--- the pages that are held after a request and its answer: one that is given is a new one, one that
--- is given back is none
+-- the pages that are held after a request and its answer: those that are given are new ones, those
+-- that are given back are none
 abbrev pub held_after : List ℕ → Request → Answer → List ℕ
 held_after held request (Page page) = held ++ page ∷ []
 held_after held request Full = held
-held_after held request Given = without_given held request
+held_after held request Given = filter (λ page. not (asks_back request page)) held
 held_after held request NotTaken = held
+held_after held request (Run first) = held_with held first (length_of request)
+held_after held request NoRun = held
 
 -- the pages that are held after a run, where some were held before it
 unfoldable pub held_after_run : List ℕ → PlainSet → List Request → List ℕ
@@ -114,6 +172,9 @@ outstanding = held_after_run []
 abbrev pub gives_back : PlainSet → Request → ℕ → Bool
 gives_back s Take page = false
 gives_back s (GiveBack p) page = (page == p) && is_taken s p
+gives_back s (TakeRun length) page = false
+gives_back s (GiveBackRun first length) page =
+    is_in_span first (first + length) page && is_run_taken s first length
 
 -- whether a page came back in a run
 unfoldable pub came_back : PlainSet → List Request → ℕ → Bool

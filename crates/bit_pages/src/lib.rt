@@ -10,7 +10,7 @@ ghost use Rattle.bittle.specs.Searches.{NoneIn};
 ghost use Rattle.bittle.specs.Shapes.{Fits};
 ghost use Rattle.bittle.specs.Values.{set_in};
 ghost use Rattle.bit_pages.specs.Pages.{is_taken, least_free, answer_to, state_after};
-ghost use Rattle.bit_pages.specs.Pages.{request_answers, final_state};
+ghost use Rattle.bit_pages.specs.Pages.{first_free_run, is_run_taken, request_answers, final_state};
 ghost use Rattle.bittle_ext.specs.Runs.{IsFirstRun, IsRun};
 
 #[doc(hidden)]
@@ -28,6 +28,11 @@ pub enum Request {
     Take,
     /// Gives a page back: answered by [`Answer::Given`] or [`Answer::NotTaken`].
     GiveBack(u32),
+    /// Asks for so many neighbours: answered by [`Answer::Run`] or [`Answer::NoRun`].
+    TakeRun(u32),
+    /// Gives the pages from one on back, so many: answered by [`Answer::Given`] or
+    /// [`Answer::NotTaken`].
+    GiveBackRun(u32, u32),
 }
 
 /// The answer to a request.
@@ -37,10 +42,14 @@ pub enum Answer {
     Page(u32),
     /// All pages are taken.
     Full,
-    /// The page is free again.
+    /// The page is free again, or the run.
     Given,
-    /// The page was not taken.
+    /// The page was not taken, or one of the run.
     NotTaken,
+    /// The least page of the run that was taken.
+    Run(u32),
+    /// No so many neighbours are free.
+    NoRun,
 }
 
 /// The page that was given back was not taken.
@@ -172,6 +181,10 @@ impl<B: BitsOwned> Pages<B> {
             MatchOption result
             (after ≡ before)
             (λ first. after ≡ with_span before first (first + length)) }
+        ensures first { result
+            ≡ first_free_run (set_in B.Shape B.Order.Endian self.old.map) length }
+        ensures state { set_in B.Shape B.Order.Endian self.new.map
+            ≡ state_after (set_in B.Shape B.Order.Endian self.old.map) (Request.TakeRun length) }
     {
         let first = self.map.take_first_zero_run(length)?;
         self.count += length;
@@ -193,6 +206,11 @@ impl<B: BitsOwned> Pages<B> {
         ensures pages { let before = set_in B.Shape B.Order.Endian self.old.map in
             set_in B.Shape B.Order.Endian self.new.map
             ≡ cond (is_ok result) (without_span before first (first + length)) before }
+        ensures whole { is_ok result
+            ≡ is_run_taken (set_in B.Shape B.Order.Endian self.old.map) first length }
+        ensures state { set_in B.Shape B.Order.Endian self.new.map
+            ≡ state_after (set_in B.Shape B.Order.Endian self.old.map)
+            (Request.GiveBackRun first length) }
     {
         if !self.is_run_taken(first, length) {
             return Err(NotTaken);
@@ -267,6 +285,14 @@ impl<B: BitsOwned> Pages<B> {
                 None => Answer::Full,
             },
             Request::GiveBack(page) => match self.give_back(page) {
+                Ok(()) => Answer::Given,
+                Err(NotTaken) => Answer::NotTaken,
+            },
+            Request::TakeRun(length) => match self.take_run(length) {
+                Some(first) => Answer::Run(first),
+                None => Answer::NoRun,
+            },
+            Request::GiveBackRun(first, length) => match self.give_back_run(first, length) {
                 Ok(()) => Answer::Given,
                 Err(NotTaken) => Answer::NotTaken,
             },

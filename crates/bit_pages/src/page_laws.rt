@@ -3,6 +3,7 @@
 //! runs by its contract.
 
 ghost use Rattle.bit_pages.specs.PageLaws.{PagesAreLeastFree, FullExactlyIfAllAreTaken};
+ghost use Rattle.bit_pages.specs.PageLaws.{RunsAreFirst, NoRunExactlyIfNoneIsFree};
 ghost use Rattle.bit_pages.specs.PageLaws.{PagesAreGivenBetween, TakenPagesAreGivenFirst};
 ghost use Rattle.bit_pages.specs.CallHistories.{HistoriesAreRuns};
 ghost use Rattle.bit_pages.specs.PageLaws.{AnswersAreOfTheirStates, PagesAreCounted, PagesAreOutstanding};
@@ -17,6 +18,17 @@ pub fn full_exactly_if_all_are_taken()
     ensures { FullExactlyIfAllAreTaken }
 {}
 
+/// States that each run of pages that is answered is the first of so many free neighbours as were
+/// asked for.
+pub fn runs_are_first()
+    ensures { RunsAreFirst }
+{}
+
+/// States that a run is refused exactly if it is asked for and no so many neighbours are free.
+pub fn no_run_exactly_if_none_is_free()
+    ensures { NoRunExactlyIfNoneIsFree }
+{}
+
 /// States that each answer of a run is that to its request from the state that the requests before
 /// it leave, so that what holds of an answer and its state holds at each place of a run.
 pub fn answers_are_of_their_states()
@@ -29,7 +41,8 @@ pub fn pages_are_counted()
     ensures { PagesAreCounted }
 {}
 
-/// States that between two answers of one page that page was given back.
+/// States that between two answers that give one page, alone or in a run of pages, that page was
+/// given back, alone or in a run of pages.
 pub fn pages_are_given_between()
     ensures { PagesAreGivenBetween }
 {}
@@ -46,8 +59,9 @@ pub fn pages_are_outstanding()
     ensures { PagesAreOutstanding }
 {}
 
-/// States that calls of `take` and `give_back` in any sequence, by what the clauses `page`, `taken`
-/// and `pages` of each say, are a run of their requests: each law of runs holds of them.
+/// States that calls of `take`, `give_back`, `take_run` and `give_back_run` in any sequence, by what
+/// the clauses of each say of its answer and of the pages, are a run of their requests: each law of
+/// runs holds of them.
 pub fn histories_are_runs()
     ensures { HistoriesAreRuns }
 {}

@@ -4,7 +4,7 @@ ghost use Rattle.std.specs.Prelude.{◌≡◌};
 ghost use Rattle.bittle.specs.Shapes.{Fits};
 
 use crate::checks::{holds, same};
-use bit_pages::{NotTaken, Pages};
+use bit_pages::{Answer, NotTaken, Pages, Request};
 use bittle::{BitsOwned, LittleEndian, Set};
 
 #[test]
@@ -18,6 +18,38 @@ fn runs_of_eight_pages(rt: HostRuntime) {
     same!(rt; pages.give_back_run(0, 2), Err(NotTaken));
     same!(rt; pages.taken(), 2);
     same!(rt; pages.into_map(), 0b0100_0001);
+}
+
+#[test]
+fn requests_of_pages_and_runs(rt: HostRuntime) {
+    let mut pages = Pages::with_taken(0b0100_1001u8);
+    let mut answers = [Answer::Full; 9];
+    let requests = [
+        Request::TakeRun(3),
+        Request::TakeRun(2),
+        Request::Take,
+        Request::GiveBackRun(1, 2),
+        Request::GiveBackRun(0, 2),
+        Request::TakeRun(0),
+        Request::GiveBackRun(8, 0),
+        Request::GiveBackRun(9, 0),
+        Request::GiveBackRun(4_294_967_295, 2),
+    ];
+    pages.serve(&requests, &mut answers);
+    let expected = [
+        Answer::NoRun,
+        Answer::Run(1),
+        Answer::Page(4),
+        Answer::Given,
+        Answer::NotTaken,
+        Answer::Run(0),
+        Answer::Given,
+        Answer::NotTaken,
+        Answer::NotTaken,
+    ];
+    same!(rt; answers, expected);
+    same!(rt; pages.taken(), 4);
+    same!(rt; pages.into_map(), 0b0101_1001);
 }
 
 #[test]
@@ -121,4 +153,71 @@ fn drawn<B: BitsOwned>(seed: u64) -> bool
 fn drawn_runs(rt: HostRuntime) {
     holds!(rt; drawn::<u16>(1) && drawn::<u16>(2));
     holds!(rt; drawn::<[u8; 2]>(3) && drawn::<Set<[u8; 2], LittleEndian>>(4));
+}
+
+// Answers a request by the row.
+fn answer(taken: &mut [bool; 16], request: Request) -> Answer {
+    match request {
+        Request::Take => match first_free(taken, 1) {
+            Some(page) => {
+                assign(taken, page, 1, true);
+                Answer::Page(page)
+            }
+            None => Answer::Full,
+        },
+        Request::TakeRun(length) => match first_free(taken, length) {
+            Some(first) => {
+                assign(taken, first, length, true);
+                Answer::Run(first)
+            }
+            None => Answer::NoRun,
+        },
+        Request::GiveBack(page) => give_back(taken, page, 1),
+        Request::GiveBackRun(first, length) => give_back(taken, first, length),
+    }
+}
+
+// Gives so many pages back, if there are such and all are taken.
+fn give_back(taken: &mut [bool; 16], first: u32, length: u32) -> Answer {
+    if 16 < first.saturating_add(length) || !all_are(taken, first, length, true) {
+        return Answer::NotTaken;
+    }
+    assign(taken, first, length, false);
+    Answer::Given
+}
+
+// Returns whether 40 drawn requests on sixteen pages are answered as the row says.
+fn drawn_requests<B: BitsOwned>(seed: u64) -> bool
+    requires fits { Fits B.indexable B.type_capacity }
+    requires sixteen { B.type_capacity ≡ 16 }
+{
+    let mut requests = [Request::Take; 40];
+    let mut expected = [Answer::Full; 40];
+    let mut taken = [false; 16];
+    let mut state = seed;
+    for i in 0..40usize {
+        state = state
+            .wrapping_mul(6_364_136_223_846_793_005)
+            .wrapping_add(1_442_695_040_888_963_407);
+        let length = ((state >> 40) % 6) as u32;
+        let first = ((state >> 48) % 18) as u32;
+        requests[i] = match (state >> 33) % 6 {
+            0..=1 => Request::Take,
+            2 => Request::GiveBack(first),
+            3..=4 => Request::TakeRun(length),
+            _ => Request::GiveBackRun(first, length % 3),
+        };
+        expected[i] = answer(&mut taken, requests[i]);
+    }
+    let mut pages = Pages::<B>::new();
+    let mut answers = [Answer::Given; 40];
+    pages.serve(&requests, &mut answers);
+    answers == expected && agrees(&pages, &taken)
+}
+
+#[test]
+fn drawn_requests_of_pages_and_runs(rt: HostRuntime) {
+    holds!(rt; drawn_requests::<u16>(5) && drawn_requests::<u16>(6) && drawn_requests::<u16>(7));
+    holds!(rt; drawn_requests::<[u8; 2]>(8) && drawn_requests::<[u8; 2]>(9));
+    holds!(rt; drawn_requests::<Set<[u8; 2], LittleEndian>>(10));
 }

@@ -1,7 +1,8 @@
-use Rattle.std.proofs.Common.{◌+◌, sym, ap, ◌∙◌, subst, arith}
-use Rattle.bittle.specs.PlainSet.{PlainSet, size}
+use Rattle.std.proofs.Common.{◌+◌, cond, sym, ap, ◌∙◌, subst, arith}
+use Rattle.bittle.specs.PlainSet.{PlainSet, size, without_span}
 use Rattle.bittle.specs.Searches.{NoneIn}
 use Rattle.bittle.specs.Values.{set_in}
+use Rattle.bit_pages.proofs.FreeRuns.{run_answer}
 use Rattle.bit_pages.proofs.RunCounts.{given_counts, run_is_given}
 use Rattle.bit_pages.proofs.Pages.give_back_run.Goals as goal
 
@@ -37,3 +38,34 @@ returns-clause-count g c =
     let run = c.is_run_taken.ensures.0 c.if-not-is_run_taken.false in
     given_counts old c.args.length c.args.first run
     ∙ sym (ap (λ s. size s + c.args.length) c.clear_range.ensures.set)
+
+pub returns-then-not-is_run_taken-clause-whole : goal.returns-then-not-is_run_taken-clause-whole
+returns-then-not-is_run_taken-clause-whole g c =
+    let old : PlainSet = set_in g.B.Shape g.B.Order.Endian c.args.self.now.map in
+    let answer = run_answer old c.args.first c.args.length c.is_run_taken.result
+    c.is_run_taken.ensures.0 c.is_run_taken.ensures.1 in
+    sym c.if-not-is_run_taken.true ∙ answer
+
+pub returns-then-not-is_run_taken-clause-state : goal.returns-then-not-is_run_taken-clause-state
+returns-then-not-is_run_taken-clause-state g c =
+    let old : PlainSet = set_in g.B.Shape g.B.Order.Endian c.args.self.now.map in
+    let answer = run_answer old c.args.first c.args.length c.is_run_taken.result
+    c.is_run_taken.ensures.0 c.is_run_taken.ensures.1 in
+    ap (λ b. cond b (without_span old c.args.first (c.args.first + c.args.length)) old)
+    (sym c.if-not-is_run_taken.true ∙ answer)
+
+pub returns-clause-whole : goal.returns-clause-whole
+returns-clause-whole g c =
+    let old : PlainSet = set_in g.B.Shape g.B.Order.Endian c.args.self.now.map in
+    let answer = run_answer old c.args.first c.args.length c.is_run_taken.result
+    c.is_run_taken.ensures.0 c.is_run_taken.ensures.1 in
+    sym c.if-not-is_run_taken.false ∙ answer
+
+pub returns-clause-state : goal.returns-clause-state
+returns-clause-state g c =
+    let old : PlainSet = set_in g.B.Shape g.B.Order.Endian c.args.self.now.map in
+    let answer = run_answer old c.args.first c.args.length c.is_run_taken.result
+    c.is_run_taken.ensures.0 c.is_run_taken.ensures.1 in
+    c.clear_range.ensures.set
+    ∙ ap (λ b. cond b (without_span old c.args.first (c.args.first + c.args.length)) old)
+    (sym c.if-not-is_run_taken.false ∙ answer)

@@ -1,8 +1,9 @@
-use Rattle.std.proofs.Common.{◌≡◌, ◌+◌, sym, ap, ◌∙◌, subst, arith}
+use Rattle.std.proofs.Common.{◌≡◌, ◌+◌, Some, None, sym, ap, ◌∙◌, subst, arith}
 use Rattle.bittle.specs.PlainSet.{PlainSet, size}
 use Rattle.bittle.specs.Values.{set_in}
 use Rattle.bittle.proofs.CallerSets.{size_at_most}
 use Rattle.bittle_ext.specs.Runs.{IsRun}
+use Rattle.bit_pages.proofs.FreeRuns.{first_run_is, run_state}
 use Rattle.bit_pages.proofs.RunCounts.{run_counts, run_is_free, run_is_taken}
 use Rattle.bit_pages.proofs.Pages.take_run.Goals as goal
 
@@ -33,3 +34,27 @@ returns-clause-taken g c =
     let old : PlainSet = set_in g.B.Shape g.B.Order.Endian c.args.self.now.map in
     subst (λ s. IsRun s c.args.length c.in_ok-first.first) (sym c.in_ok-first.ensures.set)
     (run_is_taken old c.args.length c.in_ok-first.first c.in_ok-first.ensures.first.1)
+
+pub returns-in_err-first-clause-first : goal.returns-in_err-first-clause-first
+returns-in_err-first-clause-first g c =
+    let old : PlainSet = set_in g.B.Shape g.B.Order.Endian c.args.self.now.map in
+    c.from_residual.ensures ∙ first_run_is old c.args.length None c.in_err-first.ensures.first
+
+pub returns-in_err-first-clause-state : goal.returns-in_err-first-clause-state
+returns-in_err-first-clause-state g c =
+    let old : PlainSet = set_in g.B.Shape g.B.Order.Endian c.args.self.now.map in
+    let new : PlainSet = set_in g.B.Shape g.B.Order.Endian c.take_first_zero_run.new.self in
+    run_state old new c.args.length None c.in_err-first.ensures.first
+    (ap (λ map. set_in g.B.Shape g.B.Order.Endian map) c.in_err-first.ensures.set)
+
+pub returns-clause-first : goal.returns-clause-first
+returns-clause-first g c =
+    let old : PlainSet = set_in g.B.Shape g.B.Order.Endian c.args.self.now.map in
+    first_run_is old c.args.length (Some c.in_ok-first.first) c.in_ok-first.ensures.first
+
+pub returns-clause-state : goal.returns-clause-state
+returns-clause-state g c =
+    let old : PlainSet = set_in g.B.Shape g.B.Order.Endian c.args.self.now.map in
+    let new : PlainSet = set_in g.B.Shape g.B.Order.Endian c.take_first_zero_run.new.self in
+    run_state old new c.args.length (Some c.in_ok-first.first) c.in_ok-first.ensures.first
+    c.in_ok-first.ensures.set
