@@ -1,5 +1,5 @@
 -- The entries of a row are those whose keys find their values.
-use Rattle.std.proofs.Common.{◌≡◌, ℕ, zero, suc, ◌+◌, ◌<◌, List, [], ◌∷◌, length, Some, ap, ◌∙◌, arith, slice_get, slice_index_or}
+use Rattle.std.proofs.Common.{◌≡◌, ℕ, zero, suc, ◌+◌, ◌<◌, ◌≤◌, List, [], ◌∷◌, length, Some, ap, ◌∙◌, arith, slice_get, slice_index_or}
 use Rattle.bit_slots.specs.declared.Key.{Key}
 use Rattle.bit_slots.specs.declared.slot.Slot.{Slot}
 use Rattle.bit_slots.specs.declared.slot.Slot.TheVariants.{Free, Live, Retired}
@@ -32,3 +32,12 @@ entries_are row (Live generation value ∷ rest) from same zero d h =
 entries_are row (Live generation value ∷ rest) from same (suc k) d h =
     entries_are row rest (from + 1) (later row (Live generation value) rest from same) k d
     (omega arith)
+
+-- there are no more of them than slots
+pub entries_at_most : {V : Type 0} (rest : List (Slot V)) (from : ℕ) →
+    length (entries_from from rest) ≤ length rest
+entries_at_most [] from = omega arith
+entries_at_most (Free generation ∷ rest) from = omega (arith, entries_at_most rest (from + 1))
+entries_at_most (Live generation value ∷ rest) from =
+    omega (arith, entries_at_most rest (from + 1))
+entries_at_most (Retired ∷ rest) from = omega (arith, entries_at_most rest (from + 1))

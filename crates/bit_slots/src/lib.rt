@@ -160,6 +160,7 @@ impl<'a, V: Drop, B: BitsOwned> Slots<'a, V, B> {
     pub fn iter(&self) -> Iter<'_, V>
         ensures entries { result ≡ entries self.now.row.slots.now }
         ensures found { All (λ entry. IsEntry self.now.row.slots.now entry) result }
+        ensures at_most { length result ≤ length self.now.row.slots.now }
     {
         Iter {
             slots: self.row.slots,
