@@ -198,3 +198,53 @@ given_once before after (Inserts v k ∷ calls) is key value other zero (suc j) 
     given_before is.0 after calls is.2 key other j (omega (arith, ap age stage)) b
 given_once before after (call ∷ calls) is key value other (suc i) (suc j) h a b =
     given_once is.0 after calls is.2 key value other i j (omega arith) a b
+
+-- a key whose slot and generation are those of another one is that one
+same_key : (k key : Key) → is_key k key.slot key.generation ≡ true → k ≡ key
+same_key k key own =
+    let parts = and_parts (key.slot == k.slot) (key.generation == k.generation) own in
+    let slot = eqb-true key.slot k.slot parts.0 in
+    let generation = eqb-true key.generation k.generation parts.1 in
+    sym (λ p. record { slot = slot p; generation = generation p })
+
+-- what finds nothing finds nothing once it is removed
+removed_none : {V : Type 0} (b : Bool) (stage : Stage V) → found stage ≡ None →
+    found (cond b (spent stage) stage) ≡ None
+removed_none true stage none = spent_found stage
+removed_none false stage none = none
+
+-- a call that does not give a key leaves it finding nothing
+stays_none : {V : Type 0} (before after : Stages V) (call : Call V) → IsCall before call after →
+    (key : Key) → found (before key.slot key.generation) ≡ None →
+    ((value : V) → call ≡ Inserts value key → ⊥) → found (after key.slot key.generation) ≡ None
+stays_none before after (Inserts value k) is key none apart =
+    elim (cases_Bool (is_key k key.slot key.generation)) [
+      | inl own ↦ absurd (apart value (ap (Inserts value) (same_key k key own)))
+      | inr other ↦ ap found (is.stages key.slot key.generation
+          ∙ ap (λ b. cond b (Holds value) (before key.slot key.generation)) other) ∙ none
+    ]
+stays_none before after (Removes k) is key none apart =
+    ap found (is key.slot key.generation)
+    ∙ removed_none (is_key k key.slot key.generation) (before key.slot key.generation) none
+stays_none before after (Replaces k value) is key none apart =
+    elim (cases_Bool (is_key k key.slot key.generation)) [
+      | inl own ↦
+          let some = ap (λ (l : Key). found (before l.slot l.generation)) (sym (same_key k key own))
+          ∙ ap found is.1.was in absurd (cc)
+      | inr other ↦ ap found (is.1.stages key.slot key.generation
+          ∙ ap (λ b. cond b (Holds value) (before key.slot key.generation)) other) ∙ none
+    ]
+stays_none before after Refuses is key none apart = ap found (is key.slot key.generation) ∙ none
+
+-- so do calls that do not
+pub not_given : {V : Type 0} (before after : Stages V) (calls : List (Call V)) →
+    IsHistory before calls after → (key : Key) →
+    found (before key.slot key.generation) ≡ None →
+    ((value : V) (i : ℕ) → slice_get calls i ≡ Some (Inserts value key) → ⊥) →
+    found (after key.slot key.generation) ≡ None
+unfolding IsHistory
+not_given before after [] is key none apart = ap found (is key.slot key.generation) ∙ none
+not_given before after (call ∷ calls) is key none apart =
+    not_given is.0 after calls is.2 key
+    (stays_none before is.0 call is.1 key none (λ value e. apart value 0 (ap Some e)))
+    (λ value i e. apart value (suc i) e)

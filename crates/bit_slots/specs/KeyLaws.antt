@@ -51,3 +51,11 @@ KeysAreGivenOnce V =
     → (key : Key) (value other : V) (i j : ℕ) → i < j
     → slice_get calls i ≡ Some (Inserts value key)
     → slice_get calls j ≡ Some (Inserts other key) → ⊥
+
+-- a key that finds nothing, and that no call gives, finds nothing after any calls
+abbrev pub KeysNotGivenFindNothing : Type 0 → Type 0
+KeysNotGivenFindNothing V =
+    (before after : Stages V) (calls : List (Call V)) → IsHistory before calls after
+    → (key : Key) → found (before key.slot key.generation) ≡ None
+    → ((value : V) (i : ℕ) → slice_get calls i ≡ Some (Inserts value key) → ⊥)
+    → found (after key.slot key.generation) ≡ None

@@ -2,6 +2,7 @@
 //! clause `stages` of each call says what it made of the keys, as `IsHistory` asks.
 
 ghost use Rattle.bit_slots.specs.KeyLaws.{KeysGoOn, RemovedKeysFindNothing, KeysAreGivenOnce};
+ghost use Rattle.bit_slots.specs.KeyLaws.{KeysNotGivenFindNothing};
 
 /// States that no key goes back: it stands for nothing yet, then for a value, then for nothing any
 /// more.
@@ -17,4 +18,10 @@ pub fn removed_keys_find_nothing<V>()
 /// States that no two calls of a history give the same key.
 pub fn keys_are_given_once<V>()
     ensures { KeysAreGivenOnce V }
+{}
+
+/// States that a key which finds nothing, and which none of the calls gives, finds nothing after
+/// them. So a key of another table finds nothing, as long as this table has not given it too.
+pub fn keys_not_given_find_nothing<V>()
+    ensures { KeysNotGivenFindNothing V }
 {}

@@ -40,13 +40,27 @@ pub use entries::Iter;
 use row::{Row, free_slots, live_slots};
 pub use slot::Slot;
 
-/// The key of a value: a slot, and a generation of it.
+/// The key of a value: a slot, and a generation of it. A table of slots alone makes keys.
 #[derive(Clone, Copy, Debug, PartialEq, Eq)]
 pub struct Key {
-    /// The number of the slot in its row.
-    pub slot: u32,
-    /// How many values the slot had before.
-    pub generation: u32,
+    slot: u32,
+    generation: u32,
+}
+
+impl Key {
+    /// Returns the number of the slot in its row.
+    pub fn slot(self) -> u32
+        ensures { result ≡ self.slot }
+    {
+        self.slot
+    }
+
+    /// Returns how many values the slot had before.
+    pub fn generation(self) -> u32
+        ensures { result ≡ self.generation }
+    {
+        self.generation
+    }
 }
 
 /// A row of slots that a caller lends, with the sets of those that are free and of those that hold

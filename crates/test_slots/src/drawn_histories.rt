@@ -11,7 +11,7 @@ use bittle::{BitsOwned, LittleEndian, Set};
 // The keys that were given, one a step, with their values and whether each is still there.
 #[derive(Drop)]
 struct Given {
-    keys: [Key; 48],
+    keys: [Option<Key>; 48],
     values: [u64; 48],
     there: [bool; 48],
 }
@@ -27,6 +27,11 @@ fn count(given: &Given) -> u32 {
     count
 }
 
+// Returns what a key finds, if it was given.
+fn found<B: BitsOwned>(slots: &Slots<u64, B>, key: Option<Key>) -> Option<u64> {
+    slots.get(key?).copied()
+}
+
 // Returns whether each key that was ever given finds just what the list says.
 fn agrees<B: BitsOwned>(slots: &Slots<u64, B>, given: &Given) -> bool {
     for step in 0..48 {
@@ -35,7 +40,7 @@ fn agrees<B: BitsOwned>(slots: &Slots<u64, B>, given: &Given) -> bool {
         } else {
             None
         };
-        if slots.get(given.keys[step]).copied() != expected {
+        if found(slots, given.keys[step]) != expected {
             return false;
         }
     }
@@ -50,14 +55,14 @@ fn walks<B: BitsOwned>(slots: &Slots<u64, B>, given: &Given) -> bool {
     for (key, value) in slots.iter() {
         let mut is_there = false;
         for step in 0..48 {
-            if given.keys[step] == key && given.values[step] == *value {
+            if given.keys[step] == Some(key) && given.values[step] == *value {
                 is_there = given.there[step];
             }
         }
-        if !is_there || key.slot < next {
+        if !is_there || key.slot() < next {
             return false;
         }
-        next = key.slot.saturating_add(1);
+        next = key.slot().saturating_add(1);
         yielded = yielded.saturating_add(1);
     }
     yielded == count(given)
@@ -72,9 +77,9 @@ fn put<B: BitsOwned>(
 ) -> bool {
     match slots.insert(value) {
         Ok(key) => {
-            let is_new = !given.keys.contains(&key);
+            let is_new = !given.keys.contains(&Some(key));
             if step < 48 {
-                given.keys[step] = key;
+                given.keys[step] = Some(key);
                 given.values[step] = value;
                 given.there[step] = true;
             }
@@ -95,7 +100,10 @@ fn cut<B: BitsOwned>(slots: &mut Slots<u64, B>, given: &mut Given, step: usize) 
         None
     };
     given.there[step] = false;
-    slots.remove(given.keys[step]) == expected
+    match given.keys[step] {
+        Some(key) => slots.remove(key) == expected,
+        None => true,
+    }
 }
 
 // Changes the value of the key of a step, and returns whether the answer is as the list says.
@@ -106,8 +114,12 @@ fn change<B: BitsOwned>(slots: &mut Slots<u64, B>, given: &mut Given, step: usiz
     if given.there[step] {
         given.values[step] = given.values[step].wrapping_add(7);
     }
-    let is_changed = slots.update(given.keys[step], |value| *value = value.wrapping_add(7));
-    is_changed == given.there[step]
+    match given.keys[step] {
+        Some(key) => {
+            slots.update(key, |value| *value = value.wrapping_add(7)) == given.there[step]
+        }
+        None => true,
+    }
 }
 
 // Returns whether 48 drawn calls on five slots answer as the list says.
@@ -115,12 +127,8 @@ fn drawn<B: BitsOwned>(seed: u64) -> bool
     requires fits { Fits B.indexable B.type_capacity }
     requires enough { 5 ≤ B.type_capacity }
 {
-    let none = Key {
-        slot: 9,
-        generation: 9,
-    };
     let mut given = Given {
-        keys: [none; 48],
+        keys: [None; 48],
         values: [0; 48],
         there: [false; 48],
     };
