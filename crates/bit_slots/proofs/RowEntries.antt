@@ -1,5 +1,5 @@
 -- The entries of a row are those whose keys find their values.
-use Rattle.std.proofs.Common.{◌≡◌, ℕ, zero, suc, ◌+◌, ◌<◌, ◌≤◌, List, [], ◌∷◌, length, Some, ap, subst, All, ◌∙◌, arith, slice_get, slice_index_or}
+use Rattle.std.proofs.Common.{◌≡◌, ℕ, zero, suc, ◌+◌, ◌<◌, ◌≤◌, List, [], ◌∷◌, length, Some, ap, ◌∙◌, arith, slice_get, slice_index_or}
 use Rattle.bit_slots.specs.declared.Key.{Key}
 use Rattle.bit_slots.specs.declared.slot.Slot.{Slot}
 use Rattle.bit_slots.specs.declared.slot.Slot.TheVariants.{Free, Live, Retired}
@@ -41,10 +41,3 @@ entries_at_most (Free generation ∷ rest) from = omega (arith, entries_at_most 
 entries_at_most (Live generation value ∷ rest) from =
     omega (arith, entries_at_most rest (from + 1))
 entries_at_most (Retired ∷ rest) from = omega (arith, entries_at_most rest (from + 1))
-
--- the first of them is one
-pub first_is_entry : {V : Type 0} (row : List (Slot V)) (xs rest : List (Key × V))
-    (entry : Key × V) → All (λ e. IsEntry row e) xs → xs ≡ entry ∷ rest → IsEntry row entry
-first_is_entry row xs rest entry all is =
-    subst (λ e. IsEntry row e) (ap (λ l. slice_index_or l 0 entry) is)
-    (all 0 entry (omega (arith, ap length is)))
