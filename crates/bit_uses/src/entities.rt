@@ -1,7 +1,7 @@
 //! Entities with components in the hands of a caller.
 
-ghost use Rattle.std.specs.Prelude.{◌≡◌, ◌≢◌, ◌≤◌, ℕ, length, false, true, [], ◌∷◌, IfSome};
-ghost use Rattle.std.specs.Prelude.{option_map, slice_index, Option};
+ghost use Rattle.std.specs.Prelude.{◌≡◌, ◌≢◌, ◌<◌, ◌≤◌, ℕ, length, false, true, [], ◌∷◌, IfSome};
+ghost use Rattle.std.specs.Prelude.{option_map, slice_get, slice_index, Option};
 ghost use Rattle.bittle.specs.BitPatterns.{bit_set};
 ghost use Rattle.bittle.specs.Rows.{row_set};
 ghost use Rattle.bittle.specs.Searches.{IsFirstIn};
@@ -20,31 +20,73 @@ pub const PLACE: u32 = 0;
 /// The component of an entity that has a speed.
 pub const SPEED: u32 = 1;
 
-/// Moves each entity that has a place and a speed. The check proves that an entity is an index of
-/// tables as long as there are entities.
-pub fn step<B: BitsOwned, const N: usize>(world: &World<B, N>, places: &mut [i32], speeds: &[i32])
+/// Moves each entity that has a place and a speed, and returns how many these are. The check proves
+/// that an entity is an index of tables as long as there are entities.
+pub fn step<B: BitsOwned, const N: usize>(
+    world: &World<B, N>,
+    places: &mut [i32],
+    speeds: &[i32],
+) -> u32
     requires places { B.type_capacity ≤ length places.old }
     requires speeds { B.type_capacity ≤ length speeds.now }
+    ensures moved { result ≡ size (matching (world_of N (set_in B.Shape B.Order.Endian)
+        world.now.alive world.now.components) (0 ∷ 1 ∷ [])) }
+    ensures at_most { result ≤ B.type_capacity }
+    ensures same_length { length places.new ≡ length places.old }
 {
     let movers = world.matching(&[PLACE, SPEED]);
     for entity in movers.iter_ones() {
         let entity = entity as usize;
         places[entity] = places[entity].wrapping_add(speeds[entity]);
     }
+    movers.count_ones()
 }
 
-/// Moves those of 4,096 entities, of which few move: each mask has a summary of its words.
-pub fn step_few(world: &World<Tiered4K<Ones>, 2>, places: &mut [i32; 4096], speeds: &[i32; 4096]) {
-    step::<Tiered4K<Ones>, 2>(world, places, speeds);
+/// Moves an entity if it has a place and a speed. Others stay where they are.
+pub fn step_one<B: BitsOwned, const N: usize>(
+    world: &World<B, N>,
+    places: &mut [i32],
+    speeds: &[i32],
+    entity: u32,
+)
+    requires places { entity < length places.old }
+    requires speeds { entity < length speeds.now }
+    ensures others { (other : ℕ) → other ≢ entity
+        → slice_get places.new other ≡ slice_get places.old other }
+    ensures stays { let all = world_of N (set_in B.Shape B.Order.Endian) world.now.alive
+        world.now.components in
+        all.has entity 0 ≡ false → places.new ≡ places.old }
+{
+    let index = entity as usize;
+    if world.has(entity, PLACE) && world.has(entity, SPEED) {
+        places[index] = places[index].wrapping_add(speeds[index]);
+    }
 }
 
-/// Moves those of 256 entities, of which each component has a mask of four words.
-pub fn step_256(world: &World<[u64; 4], 3>, places: &mut [i32; 256], speeds: &[i32; 256]) {
+/// Moves those of 4,096 entities, of which few move, and returns how many these are: each mask has
+/// a summary of its words.
+pub fn step_few(
+    world: &World<Tiered4K<Ones>, 2>,
+    places: &mut [i32; 4096],
+    speeds: &[i32; 4096],
+) -> u32
+    ensures { result ≤ 4096 }
+{
+    step::<Tiered4K<Ones>, 2>(world, places, speeds)
+}
+
+/// Moves those of 256 entities, of which each component has a mask of four words, and returns how
+/// many these are.
+pub fn step_256(world: &World<[u64; 4], 3>, places: &mut [i32; 256], speeds: &[i32; 256]) -> u32
+    ensures { result ≡ size (matching (world_of 3 (row_set 4 64 (bit_set 64)) world.now.alive
+        world.now.components) (0 ∷ 1 ∷ [])) }
+{
     let movers = world.matching(&[PLACE, SPEED]);
     for entity in movers.iter_ones() {
         let entity = entity as usize;
         places[entity] = places[entity].wrapping_add(speeds[entity]);
     }
+    how_many_move::<[u64; 4], 3>(world)
 }
 
 /// Returns an iterator over the entities that have a place and a speed. It owns their mask, so the
@@ -54,6 +96,14 @@ pub fn movers<B: BitsOwned, const N: usize>(world: &World<B, N>) -> IntoIterOnes
         world.now.alive world.now.components) (0 ∷ 1 ∷ [])) }
 {
     world.matching(&[PLACE, SPEED]).into_iter_ones()
+}
+
+/// Returns how many entities have a place and a speed.
+pub fn how_many_move<B: BitsOwned, const N: usize>(world: &World<B, N>) -> u32
+    ensures { result ≡ size (matching (world_of N (set_in B.Shape B.Order.Endian) world.now.alive
+        world.now.components) (0 ∷ 1 ∷ [])) }
+{
+    world.matching(&[PLACE, SPEED]).count_ones()
 }
 
 /// Returns how many entities have a place.
