@@ -46,8 +46,11 @@ module _ (s : PlainSet) (n : ℕ) where
           true≢false (sym e ∙ pass_none s.has k n (run_is_free s n k run))
 
       begins : (k : ℕ) → k + n ≤ s.capacity → taken_from k ≡ false → IsRun (complement s) n k
-      begins k within e = (within, λ i p q. complement_within s i (omega arith)
-          ∙ ap not (none_pass s.has k n e i p q))
+      begins k within e = (
+        within,
+        λ i p q. complement_within s i (omega arith)
+            ∙ ap not (none_pass s.has k n e i p q),
+      )
 
       by : (o : Option ℕ) → MatchOption o (AllTakenFrom taken_from 0 (suc s.capacity - n))
           (IsFoundFrom taken_from 0 (suc s.capacity - n)) → IsFirstRun (complement s) 0 n o

@@ -103,12 +103,12 @@ any_with q held first (suc n) = any_with q (held ++ first ∷ []) (suc first) n
     ∙ ap (λ b. is_in_span (suc first) (suc first + n) q || b) (any_push q first held)
     ∙ elim (cases_eq q first) [
       | inl is ↦ ap (λ b. is_in_span (suc first) (suc first + n) q
-            || (list_any (◌==◌ q) held || b)) (eq-eqb q first is)
+          || (list_any (◌==◌ q) held || b)) (eq-eqb q first is)
           ∙ both (is_in_span (suc first) (suc first + n) q) (list_any (◌==◌ q) held)
           ∙ sym (ap (λ b. b || list_any (◌==◌ q) held)
           (is_in_span-inside first (first + suc n) q (omega arith) (omega arith)))
       | inr apart ↦ ap (λ b. is_in_span (suc first) (suc first + n) q
-            || (list_any (◌==◌ q) held || b)) (ne_eqb q first apart)
+          || (list_any (◌==◌ q) held || b)) (ne_eqb q first apart)
           ∙ ap (λ b. is_in_span (suc first) (suc first + n) q || b)
           (or-false (list_any (◌==◌ q) held))
           ∙ ap (λ b. b || list_any (◌==◌ q) held) (further apart)
@@ -141,7 +141,7 @@ with_distinct held first (suc n) d none =
     with_distinct (held ++ first ∷ []) (suc first) n
     (IsDistinct-push nat_eq_equiv held first d (none first (omega arith) (omega arith)))
     (λ k p q. any_push k first held ∙ or_from (list_any (◌==◌ k) held) (k == first)
-        (none k (omega arith) (omega arith)) (ne_eqb k first (λ e. absurd (omega arith))))
+    (none k (omega arith) (omega arith)) (ne_eqb k first (λ e. absurd (omega arith))))
 
 -- what is kept after two requests
 kept_twice : (kept one more : Bool) → ((kept && not one) && not more) ≡ (kept && not (one || more))

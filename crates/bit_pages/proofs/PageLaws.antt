@@ -182,12 +182,16 @@ given_before s (request ∷ requests) page (suc j) t out =
           let later = given_before (state_after s request) requests page j stays
           (gives_later s request requests page j out) in
           (suc later.0, omega (arith, later.1), back_later s request requests page later.0 later.2)
-      | inr given ↦ (zero, omega arith, record {
+      | inr given ↦ (
+        zero,
+        omega arith,
+        record {
           request = request;
           asked = refl;
           answered = ap Some given.1;
           has = given.0;
-        })
+        },
+      )
     ]
 
 -- between two answers that give one page that page was given back
@@ -199,14 +203,20 @@ given_between s [] page i (suc j) h a b = let none = b.asked in absurd (cc)
 given_between s (request ∷ requests) page zero (suc j) h a b =
     let later = given_before (state_after s request) requests page j
     (page_is_taken s request page (gives_first s request requests page a))
-    (gives_later s request requests page j b) in
-    (suc later.0, omega arith, omega (arith, later.1),
-    back_later s request requests page later.0 later.2)
+    (gives_later s request requests page j b) in (
+      suc later.0,
+      omega arith,
+      omega (arith, later.1),
+      back_later s request requests page later.0 later.2,
+    )
 given_between s (request ∷ requests) page (suc i) (suc j) h a b =
     let later = given_between (state_after s request) requests page i j (omega arith)
-    (gives_later s request requests page i a) (gives_later s request requests page j b) in
-    (suc later.0, omega (arith, later.1), omega (arith, later.2),
-    back_later s request requests page later.0 later.3)
+    (gives_later s request requests page i a) (gives_later s request requests page j b) in (
+      suc later.0,
+      omega (arith, later.1),
+      omega (arith, later.2),
+      back_later s request requests page later.0 later.3,
+    )
 
 -- a page that is taken before a run is given in it only after it was given back
 pub given_first : (s : PlainSet) (requests : List Request) (page j : ℕ) → page < s.capacity →

@@ -160,12 +160,12 @@ pub stays_taken : (s : PlainSet) (request : Request) (page : ℕ) → IsTaken s 
 stays_taken s request page t = elim (cases_Bool (gives_back s request page)) [
   | inl given ↦ inr (given_back s request page given)
   | inr none ↦ let one = step s request in inl (record {
-      within = omega (arith, one.capacity, t.within);
-      is_member = one.has page
-          ∙ or_right (gives request (answer_to s request) page)
-          (not (gives_back s request page) && s.has page)
-          (ap (λ b. not b && s.has page) none ∙ t.is_member);
-    })
+    within = omega (arith, one.capacity, t.within);
+    is_member = one.has page
+        ∙ or_right (gives request (answer_to s request) page)
+        (not (gives_back s request page) && s.has page)
+        (ap (λ b. not b && s.has page) none ∙ t.is_member);
+  })
 ]
 
 -- a page that is given was not taken before

@@ -59,9 +59,9 @@ pub fn pages_are_outstanding()
     ensures { PagesAreOutstanding }
 {}
 
-/// States that calls of `take`, `give_back`, `take_run` and `give_back_run` in any sequence, by what
-/// the clauses of each say of its answer and of the pages, are a run of their requests: each law of
-/// runs holds of them.
+/// States that calls of `take`, `give_back`, `take_run` and `give_back_run` in any sequence, by
+/// what the clauses of each say of its answer and of the pages, are a run of their requests: each
+/// law of runs holds of them.
 pub fn histories_are_runs()
     ensures { HistoriesAreRuns }
 {}
