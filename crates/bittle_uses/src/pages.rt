@@ -1,12 +1,14 @@
 //! An allocator of pages in the hands of a caller: what an answer says is what the next call needs.
 //! None has a proof file.
 
-ghost use Rattle.std.specs.Prelude.{◌≡◌, ◌≢◌, ◌+◌, ◌≤◌, IfSome, true};
-ghost use Rattle.bit_pages.specs.Pages.{is_taken};
+ghost use Rattle.std.specs.Prelude.{◌≡◌, ◌≢◌, ◌+◌, ◌≤◌, IfSome, true, length, map, [], ◌∷◌, List};
+ghost use Rattle.bit_pages.specs.CallHistories.{IsHistory};
+ghost use Rattle.bit_pages.specs.PageLaws.{pages_back, pages_given, total};
+ghost use Rattle.bit_pages.specs.Pages.{is_taken, page_or_full, run_or_none};
 ghost use Rattle.bittle.specs.Values.{set_in};
-ghost use Rattle.bittle.specs.PlainSet.{size};
+ghost use Rattle.bittle.specs.PlainSet.{PlainSet, size};
 
-use bit_pages::Pages;
+use bit_pages::{Answer, Pages, Request, page_laws};
 use bittle::BitsOwned;
 
 /// Takes two pages, which differ.
@@ -93,4 +95,44 @@ pub fn turn_over<B: BitsOwned>(pages: &mut Pages<B>) -> Option<(u32, u32)>
     let _given = pages.give_back(first);
     let third = pages.take()?;
     Some((second, third))
+}
+
+/// Serves requests, of pages and of runs of them. By a law on runs of requests the answers tell how
+/// many pages more are taken then.
+pub fn serve_and_count<B: BitsOwned>(
+    pages: &mut Pages<B>,
+    requests: &[Request],
+    answers: &mut [Answer],
+)
+    requires { length answers.old ≡ length requests.now }
+    ensures { size (set_in B.Shape B.Order.Endian pages.new.map)
+        + total pages_back requests.now answers.new
+        ≡ size (set_in B.Shape B.Order.Endian pages.old.map)
+        + total pages_given requests.now answers.new }
+{
+    page_laws::pages_are_counted();
+    pages.serve(requests, answers);
+}
+
+/// Takes a page and a run of pages, which is a history of two calls.
+pub fn take_both<B: BitsOwned>(pages: &mut Pages<B>, length: u32) -> (Option<u32>, Option<u32>)
+    ensures { IsHistory (set_in B.Shape B.Order.Endian pages.old.map)
+        ((Request.Take, page_or_full result.0) ∷ (Request.TakeRun length, run_or_none result.1)
+        ∷ []) (set_in B.Shape B.Order.Endian pages.new.map) }
+{
+    let page = pages.take();
+    let first = pages.take_run(length);
+    (page, first)
+}
+
+/// States that the answers of calls in any sequence tell how many pages more are taken after them.
+pub fn calls_are_counted()
+    ensures { (before after : PlainSet) (calls : List (Request × Answer))
+        → IsHistory before calls after
+        → size after + total pages_back (map (λ call. call.0) calls) (map (λ call. call.1) calls)
+        ≡ size before + total pages_given (map (λ call. call.0) calls)
+        (map (λ call. call.1) calls) }
+{
+    page_laws::histories_are_runs();
+    page_laws::pages_are_counted();
 }
