@@ -29,8 +29,8 @@ fn map_with_three_free() -> Map
 }
 
 /// Serves requests, where the pages of a map are taken.
-fn serve(map: Map, requests: &[Request; 9]) -> [Answer; 9] {
-    let mut answers = [Answer::Full; 9];
+fn serve(map: Map, requests: &[Request; 12]) -> [Answer; 12] {
+    let mut answers = [Answer::Full; 12];
     Pages::with_taken(map).serve(requests, &mut answers);
     answers
 }
@@ -40,12 +40,18 @@ fn print(rt: &HostRuntime, request: Request, answer: Answer) -> io::Result<()> {
     match request {
         Request::Take => print!(rt; "take a page: ")?,
         Request::GiveBack(page) => print!(rt; "give page {page} back: ")?,
+        Request::TakeRun(length) => print!(rt; "take a run of {length} pages: ")?,
+        Request::GiveBackRun(first, length) => {
+            print!(rt; "give a run of {length} pages from {first} on back: ")?
+        }
     }
     match answer {
         Answer::Page(page) => println!(rt; "page {page}"),
         Answer::Full => println!(rt; "all are taken"),
         Answer::Given => println!(rt; "it is free"),
         Answer::NotTaken => println!(rt; "it was not taken"),
+        Answer::Run(first) => println!(rt; "the pages from {first} on"),
+        Answer::NoRun => println!(rt; "none is free"),
     }
 }
 
@@ -60,9 +66,12 @@ fn main(rt: HostRuntime) -> io::Result<()> {
         Request::Take,
         Request::GiveBack(262_143),
         Request::GiveBack(262_144),
+        Request::TakeRun(2),
+        Request::GiveBackRun(131_070, 3),
+        Request::TakeRun(2),
     ];
     let answers = serve(map_with_three_free(), &requests);
-    for i in 0..9usize {
+    for i in 0..12usize {
         print(&rt, requests[i], answers[i])?;
     }
     Ok(())
