@@ -43,7 +43,7 @@ with_living w entity = record {
   has = w.has;
 }
 
--- the world in which an entity has lost those of the first components, so many
+-- the world in which an entity has lost its components below a number
 abbrev pub without_first : World → ℕ → ℕ → World
 without_first w entity many = record {
   alive = w.alive;
@@ -67,7 +67,7 @@ with_component w entity component is = record {
   has = λ k c. if (k == entity) && (c == component) then is else w.has k c;
 }
 
--- what is answered where an entity was found, and what comes of it
+-- the answer to a spawn by the entity that was found, and the world after it
 abbrev pub spawned_or_full : Option ℕ → Answer
 spawned_or_full None = Full
 spawned_or_full (Some entity) = Spawned entity
@@ -138,7 +138,7 @@ world_of count set alive components = record {
   has = λ entity component. is_in set (slice_get components component) entity;
 }
 
--- the world of which no entity is alive
+-- the world in which no entity is alive
 abbrev pub empty_world : ℕ → ℕ → World
 empty_world capacity count = record {
   alive = empty_set capacity;

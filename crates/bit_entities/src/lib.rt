@@ -66,7 +66,7 @@ pub enum Answer {
 
 /// The entities that are alive, and for each of `N` components those that have it.
 ///
-/// The type keeps that its masks fit, and that no dead entity has a component.
+/// The type guarantees that its masks fit, and that no dead entity has a component.
 #[derive(Drop)]
 pub struct World<B: BitsOwned, const N: usize> {
     alive: B,
@@ -77,8 +77,8 @@ pub struct World<B: BitsOwned, const N: usize> {
 }
 
 impl<B: BitsOwned, const N: usize> World<B, N> {
-    /// Returns a world of which no entity is alive. The type has to be one that may be indexed:
-    /// `B::bits() < u32::MAX` tells. With capacity 0 none ever is.
+    /// Returns a world in which no entity is alive. The type has to fit: `B::bits() < u32::MAX`
+    /// checks this. With capacity 0 there is no entity.
     pub fn new() -> World<B, N>
         requires { IsTrue B.indexable }
         ensures { world_of N (set_in B.Shape B.Order.Endian) result.alive result.components
@@ -218,7 +218,8 @@ impl<B: BitsOwned, const N: usize> World<B, N> {
         }
     }
 
-    /// Serves the events in turn, and writes an answer to each. There is one place for each answer.
+    /// Serves the events in their order, and writes an answer to each. There are as many answers as
+    /// events.
     pub fn serve(&mut self, events: &[Event], answers: &mut [Answer])
         requires { length answers.old ≡ length events.now }
         ensures answers { answers.new ≡ event_answers (world_of N (set_in B.Shape B.Order.Endian)

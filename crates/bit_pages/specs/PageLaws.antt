@@ -87,8 +87,8 @@ total count (request ∷ requests) [] = 0
 total count (request ∷ requests) (answer ∷ answers) =
     count request answer + total count requests answers
 
--- as many pages are taken after a run as before it, with those that it gives, less those that come
--- back
+-- as many pages are taken after a run as before it, plus those handed out in it, less those given
+-- back in it
 abbrev pub PagesAreCounted : Type 0
 PagesAreCounted =
     (s : PlainSet) (requests : List Request)
@@ -148,8 +148,8 @@ abbrev pub held_with : List ℕ → ℕ → ℕ → List ℕ
 held_with held first zero = held
 held_with held first (suc n) = held_with (held ++ first ∷ []) (suc first) n
 
--- the pages that are held after a request and its answer: those that are given are new ones, those
--- that are given back are none
+-- the pages that are held after a request and its answer: those that are handed out are held from
+-- then on, those that are given back are not
 abbrev pub held_after : List ℕ → Request → Answer → List ℕ
 held_after held request (Page page) = held ++ page ∷ []
 held_after held request Full = held
@@ -182,8 +182,8 @@ came_back s [] page = false
 came_back s (request ∷ requests) page = gives_back s request page
     || came_back (state_after s request) requests page
 
--- the pages of a list are distinct, none was taken before the run but those that came back in it,
--- and with those that were taken and did not come back they are the pages that are taken after it
+-- the pages of a list are distinct; none was taken before the run, unless it came back in it; and
+-- with those that were taken and did not come back they are the pages that are taken after it
 pub record AreOutstanding (s : PlainSet) (requests : List Request) (held : List ℕ) : Type 0 where
   pub distinct : IsDistinct ◌==◌ held
   pub apart : (page : ℕ) → list_any (◌==◌ page) held ≡ true →

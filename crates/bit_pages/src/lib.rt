@@ -68,10 +68,10 @@ impl fmt::Display for NotTaken {
 
 impl Error for NotTaken {}
 
-/// The pages of an allocator, numbered from 0. There are as many as a `B` has numbers.
+/// An allocator of pages. The pages are the numbers below the capacity of `B`.
 ///
-/// The type keeps that it fits: `B::bits()` is below `u32::MAX`. It keeps the count of the pages
-/// that are taken too.
+/// The type guarantees that it fits: `B::bits()` is below `u32::MAX`. It also keeps the count of
+/// the pages that are taken.
 #[derive(Drop)]
 pub struct Pages<B: BitsOwned> {
     // Its members, in the order of the type, are the pages that are taken.
@@ -82,8 +82,8 @@ pub struct Pages<B: BitsOwned> {
 }
 
 impl<B: BitsOwned> Pages<B> {
-    /// Returns an allocator of which no page is taken. The type has to be one that may be indexed:
-    /// `B::bits() < u32::MAX` tells. With capacity 0 it has no page.
+    /// Returns an allocator in which no page is taken. The type has to fit: `B::bits() < u32::MAX`
+    /// checks this. With capacity 0 there is no page.
     pub fn new() -> Pages<B>
         requires { IsTrue B.indexable }
         ensures { set_in B.Shape B.Order.Endian result.map ≡ empty_set B.type_capacity }
@@ -91,8 +91,8 @@ impl<B: BitsOwned> Pages<B> {
         Pages::with_taken(B::zeros())
     }
 
-    /// Returns an allocator of which the pages in the map are taken, each by its index in the order
-    /// of the type. The type has to fit, as for [`new`](Pages::new). It counts them, O(words).
+    /// Returns an allocator in which the set bits of the map are taken, in the order of the type.
+    /// The type has to fit, as for [`new`](Pages::new). It counts the bits, O(words).
     pub fn with_taken(map: B) -> Pages<B>
         requires { IsTrue B.indexable }
         ensures { set_in B.Shape B.Order.Endian result.map ≡ set_in B.Shape B.Order.Endian map }
@@ -160,9 +160,9 @@ impl<B: BitsOwned> Pages<B> {
         Ok(())
     }
 
-    /// Takes the first `length` free pages that are neighbours, and returns the least of them, or
-    /// changes nothing and returns `None` where there is no such run. A run of no pages is at page
-    /// 0, takes nothing, and is there where all are taken too, and with capacity 0.
+    /// Takes the first `length` neighbouring free pages, and returns the least of them. If there is
+    /// no such run, it changes nothing and returns `None`. With `length` 0 it takes nothing and
+    /// returns page 0, even if all pages are taken, and with capacity 0.
     ///
     /// Up to a length of four words each word is read once, up to the end of the run. For a longer
     /// run each run that is too short costs two searches of words.
@@ -191,9 +191,9 @@ impl<B: BitsOwned> Pages<B> {
         Some(first)
     }
 
-    /// Makes `length` neighbours from the page `first` on free again, or changes nothing where one
-    /// of them is not taken. A number past the last page is no page, and does not wrap. A run of no
-    /// pages is taken at each page, and at the end of them.
+    /// Frees the `length` pages from `first` on, or changes nothing if one of them is not taken. A
+    /// number past the last page is no page, and does not wrap. With `length` 0 nothing is freed,
+    /// and `first` may be each page, and the number after the last one.
     ///
     /// The words of the run are read up to the first page that is free.
     pub fn give_back_run(&mut self, first: u32, length: u32) -> Result<(), NotTaken>
@@ -220,8 +220,8 @@ impl<B: BitsOwned> Pages<B> {
         Ok(())
     }
 
-    /// Returns whether `length` neighbours from `first` on are pages, and each is taken. A run of
-    /// no pages is so at each page, and at the end of them.
+    /// Returns whether the `length` numbers from `first` on are pages, and each is taken. With
+    /// `length` 0 it returns `true` at each page, and at the number after the last one.
     pub fn is_run_taken(&self, first: u32, length: u32) -> bool
         ensures { IsTrue result
             ↔ IsRun (set_in B.Shape B.Order.Endian self.now.map) length first }
@@ -299,8 +299,8 @@ impl<B: BitsOwned> Pages<B> {
         }
     }
 
-    /// Serves the requests in turn, and writes an answer to each. There is one place for each
-    /// answer.
+    /// Serves the requests in their order, and writes an answer to each. There are as many answers
+    /// as requests.
     pub fn serve(&mut self, requests: &[Request], answers: &mut [Answer])
         requires { length answers.old ≡ length requests.now }
         ensures answers { answers.new

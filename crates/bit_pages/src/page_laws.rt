@@ -35,8 +35,8 @@ pub fn answers_are_of_their_states()
     ensures { AnswersAreOfTheirStates }
 {}
 
-/// States that as many pages are taken after a run as before it, with those that it gives, less
-/// those that come back.
+/// States that as many pages are taken after a run as before it, plus those handed out in it, less
+/// those given back in it.
 pub fn pages_are_counted()
     ensures { PagesAreCounted }
 {}
@@ -52,9 +52,9 @@ pub fn taken_pages_are_given_first()
     ensures { TakenPagesAreGivenFirst }
 {}
 
-/// States that the pages which a run gives and which do not come back in it are distinct, that none
-/// of them was taken before the run but those that came back, and that with the others taken before
-/// they are the pages which are taken after it.
+/// States that the pages outstanding after a run are distinct: those that it hands out and that are
+/// not given back in it. None of them was taken before the run, unless it was given back. Together
+/// with the pages taken before and not given back, they are the pages taken after it.
 pub fn pages_are_outstanding()
     ensures { PagesAreOutstanding }
 {}

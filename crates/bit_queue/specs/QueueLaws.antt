@@ -22,7 +22,7 @@ MostUrgentRuns =
     → answer_to s event ≡ Runs task
     → IsMostUrgent s task
 
--- Idle is answered exactly if a step is asked for and no task is ready
+-- Idle is answered exactly if a step finds no task ready
 abbrev pub IdleExactlyIfNoneIsReady : Type 0
 IdleExactlyIfNoneIsReady =
     (s : PlainSet) (event : Event)
@@ -84,8 +84,8 @@ wakes_more_urgent task Next = false
 abbrev pub RunsIn : List Answer → ℕ → Type 0
 RunsIn answers task = (j : ℕ) × (slice_get answers j ≡ Some (Runs task))
 
--- a ready task runs within as many steps as there are more urgent tasks ready and wakes of such,
--- and one
+-- a ready task runs within m + w + 1 steps, if m more urgent tasks are ready and such tasks are
+-- woken w times
 abbrev pub TasksRunInTime : Type 0
 TasksRunInTime =
     (s : PlainSet) (events : List Event) (task : ℕ)

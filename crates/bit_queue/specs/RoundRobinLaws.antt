@@ -30,7 +30,7 @@ NextInTurnRuns =
     → answer_in_turn r event ≡ Runs task
     → IsNextInTurn r task
 
--- Idle is answered exactly if a step is asked for and no task is ready
+-- Idle is answered exactly if a step finds no task ready
 abbrev pub RoundIsIdleExactlyIfNoneIsReady : Type 0
 RoundIsIdleExactlyIfNoneIsReady =
     (r : Round) (event : Event)

@@ -1,4 +1,4 @@
-//! The queue of which the most urgent ready task runs.
+//! The queue in which the most urgent ready task runs.
 
 ghost use Rattle.std.specs.Prelude.{◌≡◌, ◌<◌, ◌↔◌, length, true, false, IfSome, IsOk};
 ghost use Rattle.std.specs.Prelude.{IsTrue, MatchOption};
@@ -13,10 +13,10 @@ ghost use Rattle.bit_queue.specs.QueueLaws.{IsMostUrgent};
 use crate::{Answer, Event, NoTask};
 use bittle::BitsOwned;
 
-/// The tasks that are ready, of which the one of the least number runs first. There are as many
-/// tasks as a `B` has numbers, from 0 on.
+/// A queue of ready tasks, in which the task with the least number runs first. The tasks are the
+/// numbers below the capacity of `B`.
 ///
-/// The type keeps that it fits: `B::bits()` is below `u32::MAX`.
+/// The type guarantees that it fits: `B::bits()` is below `u32::MAX`.
 #[derive(Drop)]
 pub struct PriorityQueue<B: BitsOwned> {
     // Its members, in the order of the type, are the tasks that are ready.
@@ -25,8 +25,8 @@ pub struct PriorityQueue<B: BitsOwned> {
 }
 
 impl<B: BitsOwned> PriorityQueue<B> {
-    /// Returns a queue of which no task is ready. The type has to be one that may be indexed:
-    /// `B::bits() < u32::MAX` tells. With capacity 0 it has no task.
+    /// Returns a queue in which no task is ready. The type has to fit: `B::bits() < u32::MAX`
+    /// checks this. With capacity 0 there is no task.
     pub fn new() -> PriorityQueue<B>
         requires { IsTrue B.indexable }
         ensures { set_in B.Shape B.Order.Endian result.ready ≡ empty_set B.type_capacity }
@@ -64,8 +64,9 @@ impl<B: BitsOwned> PriorityQueue<B> {
         Ok(())
     }
 
-    /// Takes out the most urgent ready task, which is to run, or changes nothing and returns `None`
-    /// where none is ready, as with capacity 0. It reads the words up to that of the task.
+    /// Takes out the most urgent ready task, which is to run, and returns it. If none is ready, as
+    /// with capacity 0, it changes nothing and returns `None`. It reads the words up to that of the
+    /// task.
     pub fn next(&mut self) -> Option<u32>
         ensures task { result ≡ most_urgent (set_in B.Shape B.Order.Endian self.old.ready) }
         ensures urgent { let before = set_in B.Shape B.Order.Endian self.old.ready in
@@ -101,7 +102,8 @@ impl<B: BitsOwned> PriorityQueue<B> {
         }
     }
 
-    /// Serves the events in turn, and writes an answer to each. There is one place for each answer.
+    /// Serves the events in their order, and writes an answer to each. There are as many answers as
+    /// events.
     pub fn serve(&mut self, events: &[Event], answers: &mut [Answer])
         requires { length answers.old ≡ length events.now }
         ensures answers { answers.new

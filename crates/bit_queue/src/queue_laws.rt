@@ -32,8 +32,8 @@ pub fn tasks_are_woken_between()
     ensures { TasksAreWokenBetween }
 {}
 
-/// States that a ready task runs within as many steps as there are more urgent tasks ready and
-/// wakes of such, and one.
+/// States that a ready task runs within `m + w + 1` steps, if `m` more urgent tasks are ready and
+/// such tasks are woken `w` times.
 pub fn tasks_run_in_time()
     ensures { TasksRunInTime }
 {}

@@ -1,4 +1,4 @@
-//! The queue of which the ready tasks take turns.
+//! The queue in which the ready tasks take turns.
 
 ghost use Rattle.std.specs.Prelude.{◌≡◌, ◌<◌, ◌≤◌, ◌↔◌, length, true, false, IfSome, IsOk};
 ghost use Rattle.std.specs.Prelude.{IsTrue, MatchOption};
@@ -14,10 +14,10 @@ ghost use Rattle.bit_queue.specs.RoundRobinLaws.{IsNextInTurn};
 use crate::{Answer, Event, NoTask};
 use bittle::BitsOwned;
 
-/// The tasks that are ready, which take turns: the next ready task past the one that ran last runs,
-/// or else the first of all. There are as many tasks as a `B` has numbers, from 0 on.
+/// A queue of ready tasks that take turns: the next ready task past the one that ran last runs, or
+/// else the first of all. The tasks are the numbers below the capacity of `B`.
 ///
-/// The type keeps that it fits: `B::bits()` is below `u32::MAX`.
+/// The type guarantees that it fits: `B::bits()` is below `u32::MAX`.
 #[derive(Drop)]
 pub struct RoundRobin<B: BitsOwned> {
     // Its members, in the order of the type, are the tasks that are ready.
@@ -29,8 +29,8 @@ pub struct RoundRobin<B: BitsOwned> {
 }
 
 impl<B: BitsOwned> RoundRobin<B> {
-    /// Returns a queue of which no task is ready, with the turn at task 0. The type has to be one
-    /// that may be indexed: `B::bits() < u32::MAX` tells. With capacity 0 it has no task.
+    /// Returns a queue in which no task is ready, with the turn at task 0. The type has to fit:
+    /// `B::bits() < u32::MAX` checks this. With capacity 0 there is no task.
     pub fn new() -> RoundRobin<B>
         requires { IsTrue B.indexable }
         ensures ready { set_in B.Shape B.Order.Endian result.ready ≡ empty_set B.type_capacity }
@@ -84,9 +84,9 @@ impl<B: BitsOwned> RoundRobin<B> {
         }
     }
 
-    /// Takes out the next ready task, which is to run, or changes nothing and returns `None` where
-    /// none is ready, as with capacity 0. It reads the words from the turn up to that of the task,
-    /// and where none is found there those before the turn.
+    /// Takes out the next ready task, which is to run, and returns it. If none is ready, as with
+    /// capacity 0, it changes nothing and returns `None`. It reads the words from the turn up to
+    /// that of the task, and if it finds none there, those before the turn.
     pub fn next(&mut self) -> Option<u32>
         ensures task { result ≡ next_in_turn
             (round_at (set_in B.Shape B.Order.Endian self.old.ready) self.old.turn) }
@@ -128,7 +128,8 @@ impl<B: BitsOwned> RoundRobin<B> {
         }
     }
 
-    /// Serves the events in turn, and writes an answer to each. There is one place for each answer.
+    /// Serves the events in their order, and writes an answer to each. There are as many answers as
+    /// events.
     pub fn serve(&mut self, events: &[Event], answers: &mut [Answer])
         requires { length answers.old ≡ length events.now }
         ensures answers { answers.new ≡ answers_in_turn

@@ -34,7 +34,7 @@ ParentsStayLesser =
     → HasLesserParents r
     → HasLesserParents (final_roles r requests)
 
--- so no chain of parents comes back to the role that it began at
+-- so no chain of parents leads back to the role at which it began
 abbrev pub NoChainComesBack : Type 0
 NoChainComesBack =
     (r : Roles) (role n : ℕ)

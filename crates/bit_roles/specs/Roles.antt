@@ -82,7 +82,7 @@ request_answers r requests = scan roles_after answer_to r requests
 unfoldable pub final_roles : Roles → List Request → Roles
 final_roles r requests = fold roles_after r requests
 
--- the roles of two rows, of which the one has a set of permissions and the other a parent for each
+-- the roles of two rows: one has a set of permissions for each role, the other a parent or none
 abbrev pub has_permission : {X : Type 0} → (X → PlainSet) → Option X → ℕ → Bool
 has_permission set None permission = false
 has_permission set (Some x) permission = nat_lt permission (set x).capacity && (set x).has permission
@@ -99,7 +99,7 @@ roles_of count permissions set granted parents = record {
   parent = λ role. parent_in (slice_get parents role);
 }
 
--- the roles of which none was granted anything, and none has a parent
+-- the roles with no permission and no parent
 abbrev pub bare_roles : ℕ → ℕ → Roles
 bare_roles count permissions = record {
   count = count;

@@ -65,7 +65,7 @@ impl Error for Refused {}
 
 /// `N` roles, each with a set of permissions that it was granted, and with a parent or none.
 ///
-/// The type keeps that the set fits, and that each parent has a lesser number than its role.
+/// The type guarantees that the set fits, and that each parent has a lesser number than its role.
 #[derive(Drop)]
 pub struct Roles<B: BitsOwned, const N: usize> {
     granted: [B; N],
@@ -76,8 +76,8 @@ pub struct Roles<B: BitsOwned, const N: usize> {
 }
 
 impl<B: BitsOwned, const N: usize> Roles<B, N> {
-    /// Returns roles without permissions and parents. The type has to be one that may be indexed:
-    /// `B::bits() < u32::MAX` tells. With capacity 0 there is no permission.
+    /// Returns roles without permissions and parents. The type has to fit: `B::bits() < u32::MAX`
+    /// checks this. With capacity 0 there is no permission.
     pub fn new() -> Roles<B, N>
         requires { IsTrue B.indexable }
         ensures { roles_of N B.type_capacity (set_in B.Shape B.Order.Endian)
@@ -89,8 +89,8 @@ impl<B: BitsOwned, const N: usize> Roles<B, N> {
         }
     }
 
-    /// Grants a role a permission; one that it has stays granted. Where either number is none,
-    /// nothing changes.
+    /// Grants a role a permission; one that it has stays granted. If there is no such role or
+    /// permission, nothing changes.
     pub fn grant(&mut self, role: u32, permission: u32) -> Result<(), Refused>
         ensures done { IsOk result ↔ ((role < N) × (permission < B.type_capacity)) }
         ensures granted { let after = roles_of N B.type_capacity (set_in B.Shape B.Order.Endian)
@@ -108,8 +108,8 @@ impl<B: BitsOwned, const N: usize> Roles<B, N> {
         Ok(())
     }
 
-    /// Gives a role a parent, in place of the one that it has. Where the role is none or the parent
-    /// has no lesser number, nothing changes.
+    /// Gives a role a parent, in place of the one that it has. If there is no such role, or the
+    /// parent has no lesser number, nothing changes.
     pub fn inherit(&mut self, role: u32, parent: u32) -> Result<(), Refused>
         ensures done { IsOk result ↔ ((role < N) × (parent < role)) }
         ensures parent { let after = roles_of N B.type_capacity (set_in B.Shape B.Order.Endian)
@@ -126,8 +126,8 @@ impl<B: BitsOwned, const N: usize> Roles<B, N> {
         Ok(())
     }
 
-    /// Returns whether a role itself was granted a permission. What is no role or no permission was
-    /// not.
+    /// Returns whether a permission was granted to the role itself. It returns `false` if there is
+    /// no such role or permission.
     pub fn is_granted(&self, role: u32, permission: u32) -> bool
         ensures { let roles = roles_of N B.type_capacity (set_in B.Shape B.Order.Endian)
             self.now.granted self.now.parents in result ≡ roles.granted role permission }
@@ -138,7 +138,7 @@ impl<B: BitsOwned, const N: usize> Roles<B, N> {
         }
     }
 
-    /// Returns the parent of a role, or `None` where it has none or is no role.
+    /// Returns the parent of a role, or `None` if it has none or there is no such role.
     pub fn parent(&self, role: u32) -> Option<u32>
         ensures value { let roles = roles_of N B.type_capacity (set_in B.Shape B.Order.Endian)
             self.now.granted self.now.parents in result ≡ roles.parent role }
@@ -151,7 +151,7 @@ impl<B: BitsOwned, const N: usize> Roles<B, N> {
     }
 
     /// Returns whether a role allows a permission: a chain of parents, from the role itself on,
-    /// leads to a role that was granted it. It asks one bit for each role of the chain.
+    /// leads to a role that was granted it. It tests one bit for each role of the chain.
     pub fn allows(&self, role: u32, permission: u32) -> bool
         ensures { IsTrue result ↔ Allows (roles_of N B.type_capacity
             (set_in B.Shape B.Order.Endian) self.now.granted self.now.parents) role permission }
@@ -185,8 +185,8 @@ impl<B: BitsOwned, const N: usize> Roles<B, N> {
         }
     }
 
-    /// Serves the requests in turn, and writes an answer to each. There is one place for each
-    /// answer.
+    /// Serves the requests in their order, and writes an answer to each. There are as many answers
+    /// as requests.
     pub fn serve(&mut self, requests: &[Request], answers: &mut [Answer])
         requires { length answers.old ≡ length requests.now }
         ensures answers { answers.new ≡ request_answers (roles_of N B.type_capacity

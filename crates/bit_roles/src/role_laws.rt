@@ -21,7 +21,7 @@ pub fn parents_stay_lesser()
     ensures { ParentsStayLesser }
 {}
 
-/// States that no chain of parents comes back to the role that it began at.
+/// States that no chain of parents leads back to the role at which it began.
 pub fn no_chain_comes_back()
     ensures { NoChainComesBack }
 {}

@@ -77,9 +77,9 @@ pub struct Slots<'a, V: Drop, B: BitsOwned> {
 }
 
 impl<'a, V: Drop, B: BitsOwned> Slots<'a, V, B> {
-    /// Returns the table over a row of slots, which may hold values already. There are no more
-    /// slots than a `B` has numbers, and the type has to be one that may be indexed: `B::bits()`
-    /// tells. It reads each slot twice. A row of no slots has no key.
+    /// Returns the table over a row of slots, which may hold values already. There are at most
+    /// `B::bits()` slots, and `B` has to fit: `B::bits() < u32::MAX` checks this. It reads each
+    /// slot twice. A row of no slots has no key.
     pub fn over(row: &'a mut [Slot<V>]) -> Slots<'a, V, B>
         requires fits { IsTrue B.indexable }
         requires covers { length row.old ≤ B.type_capacity }
@@ -135,8 +135,8 @@ impl<'a, V: Drop, B: BitsOwned> Slots<'a, V, B> {
         Some(value)
     }
 
-    /// Puts a value in place of that of a key, which it returns, or returns the value and changes
-    /// nothing where the key finds none. The key stays.
+    /// Replaces the value of a key, and returns the old one. If the key finds none, it changes
+    /// nothing and returns the new value in `Err`. The key stays valid.
     pub fn replace(&mut self, key: Key, value: V) -> Result<V, V>
         ensures stages { IsReplaced (stages self.old.row.slots.now) key value result
             (stages self.new.row.slots.now) }
@@ -212,7 +212,7 @@ impl<'a, V: Drop, B: BitsOwned> Slots<'a, V, B> {
         self.live.count_ones()
     }
 
-    /// Returns the set of the slots that hold a value, to walk them in order, as by `iter_ones`.
+    /// Returns the set of the slots that hold a value. Iterate over it by `iter_ones`.
     pub fn live(&self) -> &B
         ensures { HasSlots is_live (set_in B.Shape B.Order.Endian result.now)
             self.now.row.slots.now }

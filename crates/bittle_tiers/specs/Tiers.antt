@@ -8,31 +8,31 @@ use Rattle.bittle.specs.Words.{word_of}
 unfoldable pub some_in_word : Bool → ℕ → PlainSet → ℕ → Bool
 some_in_word ones w s k = not (size (ones_or_zeros ones (word_of w s k)) == 0)
 
--- t tells of each word of s whether it has a bit of the kind
+-- t has exactly the numbers of the words of s with a bit of the kind
 abbrev pub Summarizes : Bool → ℕ → PlainSet → PlainSet → Type 0
 Summarizes ones w s t = (k : ℕ) → k * w < s.capacity → t.has k ≡ some_in_word ones w s k
 
--- t tells so of each word of s but those of first to last that are not before one
+-- the same for each word of s, except those of first to last from word n on
 abbrev pub TellsAround : Bool → ℕ → PlainSet → PlainSet → ℕ → ℕ → ℕ → Type 0
 TellsAround ones w s t first last n = (j : ℕ) → (first ≤ j → j ≤ last → j < n) →
     j * w < s.capacity → t.has j ≡ some_in_word ones w s j
 
--- t tells so of each word of s before one
+-- the same for each word of s before word n
 abbrev pub SummarizesBelow : Bool → ℕ → PlainSet → PlainSet → ℕ → Type 0
 SummarizesBelow ones w s t n = (j : ℕ) → j < n → j * w < s.capacity →
     t.has j ≡ some_in_word ones w s j
 
--- the words of two sets are the same but one
+-- the words of two sets are the same, except word k
 abbrev pub SameWordsBut : ℕ → PlainSet → PlainSet → ℕ → Type 0
 SameWordsBut w s t k = (j : ℕ) → j ≢ k → j * w < s.capacity → word_of w t j ≡ word_of w s j
 
--- a pass from an end over the words from one on and before another stopped at r: at a word with a
--- bit of the kind, or at the other end, where none has one
+-- a pass from an end over the words from low on and before high stopped at r: at a word with a bit
+-- of the kind, or at the other end if no word has one
 abbrev pub StopsAtBit : Bool → Bool → ℕ → PlainSet → ℕ → ℕ → ℕ → Type 0
 StopsAtBit true ones w s low high r = r < high → some_in_word ones w s r ≡ true
 StopsAtBit false ones w s low high r = low < r → some_in_word ones w s (r - 1) ≡ true
 
--- the summary, of so many numbers, of a map whose words all have a bit of the kind, or all have none
+-- the summary, of capacity d, of a map whose words all have a bit of the kind, or all have none
 abbrev pub even_summary : Bool → ℕ → PlainSet
 even_summary true d = full_set d
 even_summary false d = empty_set d

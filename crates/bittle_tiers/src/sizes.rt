@@ -1,5 +1,5 @@
-//! Sets with a summary, of the usual sizes. A summary is searched for its set bits, so that of a
-//! summary is of the ones, whatever the kind of the set.
+//! Sets with a summary, of the usual sizes. A summary is searched for its set bits, so its own
+//! summary is of the kind [`Ones`], whatever the kind of the set.
 
 ghost use Rattle.std.specs.Prelude.{◌≡◌};
 ghost use Rattle.bittle.specs.BitPatterns.{bit_set};

@@ -23,19 +23,19 @@ use std::alloc::AllocError;
 use std::fmt;
 use std::marker::PhantomData;
 
-/// A set with a summary, which is a set itself: in it number `k` is a member exactly where word `k`
-/// of the map has a bit of the kind `K`. It stands for the same set as its map, so each call means
-/// what it means on the map.
+/// A map, which is a set, with a summary of its words. The summary is a set itself: number `k` is a
+/// member exactly if word `k` of the map has a bit of the kind `K`. A `Tiered` stands for the same
+/// set as its map, so each call means what it means on the map.
 ///
-/// Of [`Ones`] it is for sparse sets: an iterator over the set bits, or a search for one, reads a
-/// word that has one, and at most one without before the next. Of [`Zeros`] it is for allocators:
-/// the least free page of a nearly full map is found so. A change of one bit writes one of the
-/// summary too.
+/// With [`Ones`] it is for sparse sets: an iterator over the set bits, or a search for one, reads
+/// the words that have one, and before each at most one word that has none. With [`Zeros`] it is
+/// for allocators: a search finds the least free page of a nearly full map. A change of one bit
+/// also writes one bit of the summary.
 ///
 /// The summary may have a summary itself, of [`Ones`], since a search goes over its set bits.
 ///
-/// It has a number for each word of the map: where it has too few, the shape does not fit, and
-/// `bits()` and `bits_capacity()` are `u32::MAX`.
+/// The summary needs a number for each word of the map. If it has too few, the shape does not fit:
+/// `bits()` and `bits_capacity()` return `u32::MAX`.
 ///
 /// ```
 /// let mut taken = Tiered::<[u64; 64], u64, Zeros>::ones();
@@ -71,7 +71,7 @@ impl<B: Shape, S: Shape, K: Kind> Shape for Tiered<B, S, K> {
 impl<B: BitsOwned, S: BitsOwned, K: Kind> Tiered<B, S, K> {
     /// Makes the summary of a map, and keeps both.
     ///
-    /// The shape has to fit: `bits()` is below `u32::MAX`. Costs a look at each word.
+    /// The shape has to fit: `bits()` is below `u32::MAX`. It reads each word.
     ///
     /// ```
     /// Tiered::<[u64; 2], u8, Ones>::new([0, 1]).iter_ones();          // yields 64
