@@ -8,11 +8,11 @@ use Rattle.bittle.proofs.CallerSets.{contains_within, complement_within, size_fu
 use Rattle.bit_pages.specs.PageLaws.{IsLeastFree}
 use Rattle.bit_pages.specs.Pages.{is_taken, least_free_from, least_free}
 
--- each of the n pages from one on is taken
+-- each of the n pages from a page on is taken
 abbrev pub AllTakenFrom : (ℕ → Bool) → ℕ → ℕ → Type 0
 AllTakenFrom taken from n = (k : ℕ) → from ≤ k → k < from + n → taken k ≡ true
 
--- p is the least of the n pages from one on that is free
+-- p is the least free one of the n pages from a page on
 pub record IsFoundFrom (taken : ℕ → Bool) (from n p : ℕ) : Type 0 where
   pub from_one_on : from ≤ p
   pub within : p < from + n
@@ -118,7 +118,7 @@ least_free-search s end None e none = least_free-none s (λ k p q. none k p (ome
 least_free-search s end (Some p) e first =
     least_free-first s p (first.0, omega (arith, e, first.1), first.2, first.3)
 
--- of a page a test of the map tells whether it is taken
+-- a test of the map shows whether a page is taken
 pub is_taken-within : (s : PlainSet) (p : ℕ) → p < s.capacity → is_taken s p ≡ contains s p
 is_taken-within s p h = ap (λ b. b && s.has p) (lt-ltb p s.capacity h) ∙ sym (contains_within s p h)
 

@@ -11,8 +11,8 @@ use Rattle.bittle_bits.proofs.Spans.{inside_span, outside_span}
 use Rattle.bittle_ext.specs.RangeMembers.{HasAllIn, HasSomeIn}
 use Rattle.bittle_ext.specs.Runs.{IsRun}
 
--- of two tests of the numbers below c that differ at n neighbours alone, the one that each of them
--- passes counts n more
+-- two tests of the numbers below c differ only at n neighbours: the test that each neighbour passes
+-- counts n more
 count_run_more : (c from n : ℕ) (s t : ℕ → Bool) → from + n ≤ c →
     ((k : ℕ) → from ≤ k → k < from + n → s k ≡ false) →
     ((k : ℕ) → from ≤ k → k < from + n → t k ≡ true) →
@@ -43,7 +43,7 @@ module _ (s : PlainSet) (n first : ℕ) where
   pub run_is_taken : IsRun (complement s) n first → IsRun (with_span s first (first + n)) n first
   run_is_taken run = (run.0, λ k p q. inside_span (λ _. true) s first (first + n) k p q)
 
-  -- so many pages more are taken after a run was
+  -- after a run was taken, so many more pages are taken
   pub run_counts : IsRun (complement s) n first → size (with_span s first (first + n)) ≡ size s + n
   run_counts run =
       count_run_more s.capacity first n s.has (with_span s first (first + n)).has run.0
@@ -55,7 +55,7 @@ module _ (s : PlainSet) (n first : ℕ) where
   pub run_is_given : NoneIn (without_span s first (first + n)) first (first + n)
   run_is_given k p q = inside_span (λ _. false) s first (first + n) k p q
 
-  -- so many pages more were taken before a run was given back
+  -- before a run was given back, so many more pages were taken
   pub given_counts : IsRun s n first → size s ≡ size (without_span s first (first + n)) + n
   given_counts run =
       count_run_more s.capacity first n (without_span s first (first + n)).has s.has run.0

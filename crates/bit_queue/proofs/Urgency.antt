@@ -63,7 +63,7 @@ pub most_urgent-found : (s : PlainSet) (end : ℕ) (found : Option ℕ) → end 
 most_urgent-found s end found e first =
     most_urgent-first s found (subst (λ n. IsFirstIn s 0 n found) e first)
 
--- of a task a test of the set tells whether it is ready
+-- a test of the set shows whether a task is ready
 pub is_ready-within : (s : PlainSet) (task : ℕ) → task < s.capacity →
     is_ready s task ≡ contains s task
 is_ready-within s task h = ap (λ b. b && s.has task) (lt-ltb task s.capacity h)

@@ -22,7 +22,7 @@ written_other (y ∷ ys) zero (suc j) x n = refl
 written_other (y ∷ ys) (suc i) zero x n = refl
 written_other (y ∷ ys) (suc i) (suc j) x n = written_other ys i j x (λ e. n (ap suc e))
 
--- of a permission a test of the set tells whether it is in it
+-- a test of the set shows whether a permission is in it
 pub permission_within : {X : Type 0} (set : X → PlainSet) (place : Option X) (x : X)
     (permission : ℕ) → place ≡ Some x → permission < (set x).capacity →
     contains (set x) permission ≡ has_permission set place permission
