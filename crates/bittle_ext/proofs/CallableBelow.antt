@@ -1,4 +1,4 @@
--- A closure that may be called at each number below one.
+-- A closure that may be called at each number below a capacity.
 use Rattle.std.proofs.Common.{ℕ, ◌<◌, [], ◌∷◌, refl}
 use Rattle.std.specs.Fn.{Mut, Called, always_mut}
 use Rattle.bittle_ext.specs.Calls.{calls_below, IsCallableBelow}

@@ -4,27 +4,27 @@ use Rattle.std.specs.Prelude.{◌≡◌, ℕ, ◌-◌, ◌<◌, ◌≤◌, Bool,
 use Rattle.bittle.specs.PlainSet.{PlainSet, ascending, is_in_span, members_below}
 use Rattle.bittle.specs.Walk.{ones_or_zeros}
 
--- so many are the capacity, and nothing is a member from there on
+-- n is the capacity, and no number from the capacity on is a member
 pub record EndsAt (s : PlainSet) (n : ℕ) : Type 0 where
   pub capacity : n ≡ s.capacity
   pub past : (i : ℕ) → s.capacity ≤ i → s.has i ≡ false
 
--- a range is what of another one lies below a capacity
+-- start..end is the part of from..to that is below c
 pub record IsPartBelow (c from to start end : ℕ) : Type 0 where
   pub end_is : end ≡ min to c
   pub start_is : start ≡ min from end
   pub ordered : start ≤ end
   pub inside : end ≤ c
 
--- a number from one on and below another is a member
+-- some number of from..to is a member
 abbrev pub HasSomeIn : PlainSet → ℕ → ℕ → Type 0
 HasSomeIn s from to = (k : ℕ) × (from ≤ k) × (k < to) × (s.has k ≡ true)
 
--- each number from one on and below another is a member
+-- each number of from..to is a member
 abbrev pub HasAllIn : PlainSet → ℕ → ℕ → Type 0
 HasAllIn s from to = (k : ℕ) → from ≤ k → k < to → s.has k ≡ true
 
--- a number from one on and below another is no member
+-- some number of from..to is no member
 abbrev pub LacksSomeIn : PlainSet → ℕ → ℕ → Type 0
 LacksSomeIn s from to = (k : ℕ) × (from ≤ k) × (k < to) × (s.has k ≡ false)
 
@@ -33,7 +33,7 @@ abbrev pub TakesEnd : {A : Type 0} → Bool → List A → Option A → List A �
 TakesEnd true = YieldsFirst (λ xs. xs)
 TakesEnd false = YieldsLast (λ xs. xs)
 
--- the set of the members from one number on and below another
+-- the set of the members in from..to
 abbrev pub members_within : PlainSet → ℕ → ℕ → PlainSet
 members_within s from to =
     record { capacity = s.capacity; has = λ k. is_in_span from to k && s.has k }
@@ -45,14 +45,13 @@ kind_within ones s from to = record {
   has = λ k. is_in_span from to k && (ones_or_zeros ones s).has k;
 }
 
--- each number of the list is from one number on and below another, and it has no more of them than
--- lie there
+-- each number of the list is in from..to, and the list has at most as many as the range
 abbrev pub AreWithin : ℕ → ℕ → List ℕ → Type 0
 AreWithin from to xs = (length xs ≤ to - from)
     × ((k : ℕ) → k < length xs → (from ≤ slice_index xs k) × (slice_index xs k < to))
 
--- the list has the members from one number on and below another, increasing: so many as lie below
--- the end and not below the start
+-- the list has the members in from..to, increasing: as many as are below the end and not below the
+-- start
 pub record ListsWithin (s : PlainSet) (from to : ℕ) (xs : List ℕ) : Type 0 where
   pub items : xs ≡ ascending (members_within s from to)
   pub count : length xs ≡ members_below s to - members_below s from

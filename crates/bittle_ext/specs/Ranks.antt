@@ -1,13 +1,13 @@
--- Which member has so many members below it.
+-- Which member has a given number of members below it: its rank.
 use Rattle.std.specs.Prelude.{◌≡◌, ℕ, ◌+◌, ◌*◌, ◌<◌, ◌≤◌, true, Some, slice_get}
 use Rattle.bittle.specs.PlainSet.{PlainSet, ascending, members_below, size}
 
--- no member has so many below it
+-- no member has this rank
 abbrev pub HasNoRank : PlainSet → ℕ → Type 0
 HasNoRank s rank = size s ≤ rank
 
--- the member that has so many below it lies in word k, of words of w bits, and of that word so many
--- members lie below it
+-- the member of this rank is in word k, of words of w bits, and `rest` members of that word are
+-- below it
 abbrev pub IsInWord : PlainSet → ℕ → ℕ → ℕ → ℕ → Type 0
 IsInWord s w rank k rest = (k * w < s.capacity) × (members_below s (k * w) + rest ≡ rank)
     × (rank < members_below s ((k + 1) * w))

@@ -6,23 +6,22 @@ use Rattle.std.specs.declared.ops.Range.{Range}
 use Rattle.bittle.specs.PlainSet.{PlainSet}
 use Rattle.bittle_ext.specs.RangeMembers.{HasAllIn}
 
--- so many numbers from one on are all members, and none of them is past the capacity
+-- the `length` numbers from `from` on are all members, and all are below the capacity
 abbrev pub IsRun : PlainSet → ℕ → ℕ → Type 0
 IsRun s length from =
     (from + length ≤ s.capacity) × ((k : ℕ) → from ≤ k → k < from + length → s.has k ≡ true)
 
--- no run of so many members begins from one number on and before another
+-- no run of `length` members begins in from..to
 abbrev pub NoRunBegins : PlainSet → ℕ → ℕ → ℕ → Type 0
 NoRunBegins s length from to = (k : ℕ) → from ≤ k → k < to → IsRun s length k → ⊥
 
--- where the first run of so many members begins, of those that begin from one number on, or None
--- where there is none
+-- where the first run of `length` members begins, from `from` on, or None if there is none
 abbrev pub IsFirstRun : PlainSet → ℕ → ℕ → Option ℕ → Type 0
 IsFirstRun s from length None = (k : ℕ) → from ≤ k → IsRun s length k → ⊥
 IsFirstRun s from length (Some i) =
     (from ≤ i) × IsRun s length i × NoRunBegins s length from i
 
--- the numbers from one on and before another
+-- the numbers from `start` on and before `end`
 abbrev pub run : ℕ → ℕ → Range ℕ
 run start end = record { start = start; end = end }
 
@@ -31,13 +30,13 @@ unfoldable pub joined : ℕ → List (Range ℕ) → List (Range ℕ)
 joined k [] = run k (suc k) ∷ []
 joined k (r ∷ rs) = cond (r.start == suc k) (run k r.end ∷ rs) (run k (suc k) ∷ r ∷ rs)
 
--- the longest runs, increasing, of those of n numbers from one on that pass the test
+-- of the n numbers from `from` on, the longest runs that pass the test, increasing
 unfoldable pub runs_from : (ℕ → Bool) → ℕ → ℕ → List (Range ℕ)
 runs_from p from zero = []
 runs_from p from (suc n) = cond (p from) (joined from (runs_from p (suc from) n))
     (runs_from p (suc from) n)
 
--- the longest runs of members from one number on and below another
+-- the longest runs of members in from..to
 unfoldable pub runs_between : PlainSet → ℕ → ℕ → List (Range ℕ)
 runs_between s from to = runs_from s.has from (to - from)
 

@@ -19,7 +19,7 @@ use bittle_bits::extension::{Conjunction, Difference, SymmetricDifference, Union
 /// read in one order; else each word of the other one is gathered from its set bits.
 ///
 /// `union_assign` and its like of [`BitsMut`](bittle::BitsMut) take a set of the same type, hold in
-/// both orders at once, tell nothing, and leave what lies past the end of a shorter slice.
+/// both orders at once, return nothing, and leave what is past the end of a shorter slice.
 ///
 /// ```
 /// let mut row = [0b0110u8, 0];
@@ -57,9 +57,9 @@ pub trait BitsCombineExt: BitsMut {
         combine_with::<Self, B, Self::Order, B::Order, Union>(self, other)
     }
 
-    /// Clears each bit that is not set in the other set, and returns `true` if one was set before:
-    /// so each from the other one's capacity on. With capacity 0 nothing changes, and it returns
-    /// `false`.
+    /// Clears each bit that is not set in the other set, and returns `true` if one was set before.
+    /// From the other set's capacity on it clears each bit. With capacity 0 nothing changes, and it
+    /// returns `false`.
     ///
     /// ```
     /// let mut row = [0b0011u8, 1];
@@ -146,8 +146,8 @@ pub trait BitsCombineExt: BitsMut {
         combine_with::<Self, B, Self::Order, B::Order, SymmetricDifference>(self, other)
     }
 
-    /// Makes the set have what the other one has below its capacity, and nothing else: so nothing
-    /// from the other one's capacity on. With capacity 0 nothing changes.
+    /// Leaves exactly those bits set that are set in the other set. From the other set's capacity
+    /// on it leaves none. With capacity 0 nothing changes.
     ///
     /// ```
     /// let mut row = [0b0011u8, 1];

@@ -16,8 +16,8 @@ use bittle_bits::extension::{Ones, Word, Zeros};
 
 /// Questions about any set, beyond the calls of [`Bits`].
 ///
-/// Of each shape the capacity, and that of each array type within it, has to be below `u32::MAX`,
-/// which `bits_capacity() < u32::MAX` checks. No index wraps here: past the capacity no bit is set
+/// The shape has to fit: its capacity, and that of each array type within it, is below `u32::MAX`.
+/// `bits_capacity() < u32::MAX` checks this. No index wraps here: past the capacity no bit is set
 /// and none is unset. With capacity 0 nothing is found. The order is that of the type; a view that
 /// [`in_order`](crate::BitsViewExt::in_order) borrows has another one.
 pub trait BitsExt: Bits + Sized {
@@ -171,7 +171,7 @@ pub trait BitsExt: Bits + Sized {
     /// Returns the index of the set bit below which `rank` bits are set, in the order of the type,
     /// or `None` if no more than `rank` bits are set.
     ///
-    /// Words are counted whole up to that of the answer, which halves find: six of a `u64`.
+    /// Words are counted whole up to that of the answer. In it halves find the bit: six of a `u64`.
     ///
     /// ```
     /// 0b0010_0010u8.select(1);                            // Some(5)

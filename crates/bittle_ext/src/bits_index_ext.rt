@@ -11,8 +11,8 @@ use bittle::{Bits, BitsMut};
 
 /// Questions about one bit, by an index that does not wrap.
 ///
-/// An index past the capacity is an index of no bit: where `test_bit` would ask the bit that the
-/// index wraps to, these answer that there is none. The shape has to fit. The order is that of the
+/// At an index at or past the capacity there is no bit. `test_bit` tests the bit that the index
+/// wraps to; these calls return `false` or `None`. The shape has to fit. The order is that of the
 /// type; a view that [`in_order`](crate::BitsViewExt::in_order) borrows has another one.
 pub trait BitsIndexExt: Bits + Sized {
     /// Returns `true` if the bit at `index` is set, and `false` if it is unset or if `index` is at
@@ -57,8 +57,8 @@ pub trait BitsIndexExt: Bits + Sized {
 
 /// Changes of one bit, by an index that does not wrap.
 ///
-/// An index past the capacity is refused: nothing changes, and the answer says so. The shape has to
-/// fit. The order is that of the type; a view that
+/// An index past the capacity is refused: nothing changes, and the result shows it. The shape has
+/// to fit. The order is that of the type; a view that
 /// [`in_order_mut`](crate::BitsMutViewExt::in_order_mut) borrows has another one.
 pub trait BitsIndexMutExt: BitsMut + Sized {
     /// Sets the bit at `index` and returns `true`, or changes nothing and returns `false` if

@@ -299,11 +299,11 @@ pub trait BitsMutExt: BitsMut + Sized {
         Some(from)
     }
 
-    /// Asks `keep` once for each set bit, from the least index on, and clears those for which it
-    /// returns `false`, in the order of the type. With capacity 0 it asks for none, and nothing
+    /// Calls `keep` once for each set bit, from the least index on, and clears those for which it
+    /// returns `false`, in the order of the type. With capacity 0 it makes no call, and nothing
     /// changes.
     ///
-    /// The shape has to fit, and `keep` is to be callable at each index below the capacity, again
+    /// The shape has to fit, and `keep` has to be callable at each index below the capacity, again
     /// after each such call. Each word is read once, and is written once if a bit of it goes; each
     /// set bit costs a call. Words that the set knows to have no set bit are passed over.
     ///

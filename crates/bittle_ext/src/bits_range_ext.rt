@@ -14,7 +14,7 @@ use bittle::Bits;
 
 /// Iterators over a range of a set, and over its longest runs of neighbours.
 ///
-/// The shape has to fit. A range ends at the capacity where it names more: nothing wraps. The order
+/// The shape has to fit. A range that goes past the capacity ends there: nothing wraps. The order
 /// is that of the type; a view that [`in_order`](crate::BitsViewExt::in_order) borrows has another
 /// one.
 pub trait BitsRangeExt: Bits + Sized {
@@ -23,7 +23,7 @@ pub trait BitsRangeExt: Bits + Sized {
     ///
     /// The shape has to fit. Past the capacity no bit is set, and a range that runs backwards is
     /// empty. Only the words of the range are read, each once. With capacity 0 it yields nothing.
-    /// It borrows the set alone, so that it may be returned from a function that borrows the set.
+    /// It borrows only the set, so a function that borrows the set may return it.
     ///
     /// ```
     /// 0b0110_0010u8.iter_ones_in_range(1, 6);             // yields 1, 5

@@ -8,9 +8,10 @@ use crate::bits_ext::BitsExt;
 use crate::views::BitsViewExt;
 use bittle::Bits;
 
-/// What can be asked of the unset bits of any set by their ranks, in the order of the type.
+/// Counts and searches of the unset bits of any set by their ranks, in the order of the type.
 pub trait BitsRankExt: Bits + Sized {
-    /// Returns how many bits below `index` are unset. Of an index past the capacity it counts all.
+    /// Returns how many bits below `index` are unset. An `index` past the capacity means the
+    /// capacity.
     ///
     /// The shape has to fit. The words below `index` are read. With capacity 0 it returns 0.
     ///

@@ -1,4 +1,4 @@
-//! Moving all bits of a set where it stands.
+//! Moving all bits of a set in place.
 
 ghost use Rattle.std.specs.Prelude.{◌≡◌, ◌+◌, ◌<◌, ◌≤◌, ℕ, false};
 ghost use Rattle.bittle_ext.specs.Rotations.{shifted_down, shifted_up};
@@ -8,11 +8,11 @@ ghost use Rattle.bittle.specs.Values.{set_in, ShapeFits};
 use crate::shifts;
 use bittle::BitsMut;
 
-/// Moves of all bits of any set that can be changed, a mutably borrowed slice among them: no copy
-/// is made. The order is that of the type.
+/// Moves of all bits of any set that can be changed, also of a mutably borrowed slice. No copy is
+/// made. The order is that of the type.
 ///
-/// A set that is owned has [`shifted_up`](crate::BitsOwnedExt::shifted_up) and its like too, which
-/// return another set, and rotations.
+/// An owned set also has [`shifted_up`](crate::BitsOwnedExt::shifted_up) and its like, which return
+/// another set, and rotations.
 pub trait BitsShiftExt: BitsMut {
     /// Moves each bit down by `by` indexes, in the order of the type. The bits that would pass
     /// index 0 are left out.

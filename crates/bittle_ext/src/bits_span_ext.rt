@@ -18,12 +18,12 @@ use bittle::{Bits, Shape};
 use bittle_bits::extension::{Ones, Zeros};
 use std::ops::RangeBounds;
 
-/// What is asked of a range of a set: each call that ends in `_in_range` takes two numbers, its
-/// namesake here a range as Rust writes it.
+/// Reads of a range of a set. A call that ends in `_in_range` takes two numbers; its namesake here
+/// takes a range as Rust writes it.
 ///
-/// The shape has to fit. A range ends at the capacity where it names more, and where it names no
-/// end: past the capacity no bit is set and none is unset. A range that runs backwards is empty,
-/// and an `a..=b` that was iterated is none of these. The order is that of the type; a view that
+/// The shape has to fit. A range that names no end, or an end past the capacity, ends at the
+/// capacity: past it no bit is set and none is unset. A range that runs backwards is empty. An
+/// `a..=b` that was iterated over is refused. The order is that of the type; a view that
 /// [`in_order`](crate::BitsViewExt::in_order) borrows has another one.
 pub trait BitsSpanExt: Bits + Sized {
     /// Returns how many bits of the range are set. Each word of the range is counted at once. With

@@ -12,13 +12,13 @@ use crate::spans::ends_within;
 use bittle::BitsMut;
 use std::ops::RangeBounds;
 
-/// Changes of a range of a set: each call that ends in `_range` takes two numbers, its namesake
-/// here a range as Rust writes it.
+/// Changes of a range of a set. A call that ends in `_range` takes two numbers; its namesake here
+/// takes a range as Rust writes it.
 ///
 /// The shape has to fit. A range that names no end goes to the capacity. It may not run backwards,
 /// nor have an index past the capacity: nothing wraps. Only the words of the range are written. An
 /// empty range, as any with capacity 0, changes nothing. The order is that of the type; a view that
-/// [`in_order_mut`](crate::BitsMutViewExt::in_order_mut) lends has another one.
+/// [`in_order_mut`](crate::BitsMutViewExt::in_order_mut) borrows has another one.
 pub trait BitsSpanMutExt: BitsMut + Sized {
     /// Sets each bit of the range, by one mask a word.
     ///

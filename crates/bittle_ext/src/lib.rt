@@ -4,11 +4,11 @@
 //! runs.
 //!
 //! They are in extension traits, which every set of `bittle` has. They are proved from contracts
-//! alone: those that users see, and those of the parts in `bittle_bits::extension`, which the
-//! library keeps for crates of this project. The twelve words, the orders, searches, iterators,
-//! joins and the operations on two sets are in `bittle`. A call takes the order of the type. In a
-//! named order it is made on a view that [`in_order`](BitsViewExt::in_order) or
-//! [`in_order_mut`](BitsMutViewExt::in_order_mut) borrows; a set that is owned is wrapped in a
+//! alone: those that users see, and those of `bittle_bits::extension`, which is for the crates of
+//! this project. The twelve words, the orders, searches, iterators,
+//! joins and the operations on two sets are in `bittle`. A call takes the order of the type. For a
+//! named order, make it on a view that [`in_order`](BitsViewExt::in_order) or
+//! [`in_order_mut`](BitsMutViewExt::in_order_mut) borrows; wrap an owned set in a
 //! `Set`, which remembers its order.
 //!
 //! ```rust

@@ -39,14 +39,14 @@ pub mod of_both;
 pub mod within;
 
 /// Views of any set. A view borrows the set and is a set itself, so each call that reads a set can
-/// be made on it. All but a view in a named order ask that each shape fits, and read each set in
-/// the order of its type.
+/// be made on it. Each view, except one in a named order, requires that each shape fits, and reads
+/// each set in the order of its type.
 pub trait BitsViewExt: Bits {
     /// Borrows the set, to be read in the order `E`.
     ///
     /// Always callable. The view has the capacity of the set, and a call on it costs what it costs
-    /// on the set. An iterator borrows the view: one that is kept in a variable needs another for
-    /// its view.
+    /// on the set. An iterator borrows the view: to keep the iterator in a variable, keep the
+    /// view in one too.
     ///
     /// ```
     /// 0b0001_0010u8.in_order::<LittleEndian>().next_one(4); // Some(6)
@@ -133,7 +133,7 @@ pub trait BitsViewExt: Bits {
     /// Views the indexes that are set in either of two sets of like words: a set of the greater
     /// capacity, in the order of the first one's type.
     ///
-    /// Both shapes have to fit. Each word is made when it is read. Of unlike words there is
+    /// Both shapes have to fit. Each word is made when it is read. For unlike words call
     /// [`or_unlike`](BitsViewExt::or_unlike). With capacity 0 on both sides it is the empty set.
     ///
     /// ```
@@ -206,8 +206,8 @@ pub trait BitsViewExt: Bits {
     /// the first one's, in the order of its type.
     ///
     /// Both shapes have to fit. The capacity is the greater one, rounded up to whole words of the
-    /// first set, and that has to be below `u32::MAX` too: where the words of the first set are not
-    /// the wider ones the rounding adds nothing. Each word is made when it is read, with a
+    /// first set, and that has to be below `u32::MAX` too: if the words of the first set are not
+    /// the wider ones, the rounding adds nothing. Each word is made when it is read, with a
     /// search for each set bit of the second set in it. With capacity 0 on both sides it is the
     /// empty set.
     ///
@@ -308,11 +308,12 @@ pub trait BitsViewExt: Bits {
         Complement::of(self)
     }
 
-    /// Views the set bits of `from..to`: a set of as many bits, in the order of the type.
+    /// Views the set bits of `from..to`: a set of the same capacity, in the order of the type, in
+    /// which every other bit is unset.
     ///
     /// The shape has to fit. Past the capacity no bit is set, and a range that runs backwards is
-    /// empty. A test for any bit and a count read the words of the range
-    /// alone. With capacity 0 it is the empty set.
+    /// empty. A test for any bit and a count read only the words of the range. With capacity 0 it
+    /// is the empty set.
     ///
     /// ```
     /// 0b0110_0010u8.within(1, 6).iter_ones();             // yields 1, 5
