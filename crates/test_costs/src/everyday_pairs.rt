@@ -61,6 +61,9 @@ fn relate_by_the_first_word<B: Bits>(rt: &impl Abort, left: &B, right: &B, asked
     costs!(rt; asked, left.first_common(right), Some(0), 10, 0);
     costs!(rt; asked, right.first_alone(left), Some(1), 10, 0);
     costs!(rt; asked, right.is_subset(left), false, 10, 0);
+    costs!(rt; asked, left.is_superset(right), false, 10, 0);
+    costs!(rt; asked, left.intersects(right), true, 10, 0);
+    costs!(rt; asked, left.is_disjoint(right), false, 10, 0);
 }
 
 #[test]

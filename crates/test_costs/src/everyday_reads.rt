@@ -9,7 +9,7 @@ ghost use Rattle.bittle.specs.Values.{ShapeFits};
 use crate::asked::Asked;
 use crate::probe_rows::{TWO, costs, row_of};
 use bittle::Bits;
-use bittle_ext::{BitsExt, BitsIndexExt};
+use bittle_ext::{BitsExt, BitsIndexExt, BitsSpanExt};
 use std::process::Abort;
 
 fn ask_for_ends<B: Bits>(rt: &impl Abort, few: &B, most: &B, asked: &Asked)
@@ -64,6 +64,23 @@ fn counts_of_a_range_fetch_its_words_once(rt: HostRuntime) {
     count_ranges(&rt, &row_of(0, TWO, &asked), &asked);
 }
 
+fn count_spans<B: Bits>(rt: &impl Abort, few: &B, asked: &Asked)
+    requires { ShapeFits B.Shape few.now }
+{
+    costs!(rt; asked, few.count_ones_in_span(130..500), 1, 6, 0);
+    costs!(rt; asked, few.iter_ones_in_span(130..500).count(), 1, 6, 0);
+    costs!(rt; asked, few.first_one_in_span(130..768), Some(451), 6, 0);
+    costs!(rt; asked, few.last_one_in_range(0, 640), Some(508), 3, 0);
+    costs!(rt; asked, few.any_in_span(130..768), true, 6, 0);
+    costs!(rt; asked, few.all_in_span(130..768), false, 1, 0);
+}
+
+#[test]
+fn a_range_as_rust_writes_it_costs_what_its_two_numbers_cost(rt: HostRuntime) {
+    let asked = Asked::new();
+    count_spans(&rt, &row_of(0, TWO, &asked), &asked);
+}
+
 fn question_ranges<B: Bits>(rt: &impl Abort, few: &B, most: &B, asked: &Asked)
     requires few { ShapeFits B.Shape few.now }
     requires most { ShapeFits B.Shape most.now }
@@ -81,17 +98,20 @@ fn questions_about_a_range_fetch_up_to_the_answer(rt: HostRuntime) {
     question_ranges(&rt, &few, &most, &asked);
 }
 
-fn select_two<B: Bits>(rt: &impl Abort, few: &B, asked: &Asked)
-    requires { ShapeFits B.Shape few.now }
+fn select_two<B: Bits>(rt: &impl Abort, few: &B, many: &B, asked: &Asked)
+    requires few { ShapeFits B.Shape few.now }
+    requires many { ShapeFits B.Shape many.now }
 {
     costs!(rt; asked, few.select(1), Some(508), 14, 0);
     costs!(rt; asked, few.select(2), None, 12, 0);
+    costs!(rt; asked, many.select(0), Some(0), 7, 0);
 }
 
 #[test]
 fn select_fetches_up_to_its_word_and_then_that_word_for_each_half(rt: HostRuntime) {
     let asked = Asked::new();
-    select_two(&rt, &row_of(0, TWO, &asked), &asked);
+    let (few, many) = (row_of(0, TWO, &asked), row_of(1, TWO, &asked));
+    select_two(&rt, &few, &many, &asked);
 }
 
 // Each word once: eight to the first bit, and twelve to the end.

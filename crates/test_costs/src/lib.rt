@@ -22,6 +22,10 @@ mod numbers;
 #[cfg(test)]
 mod pages;
 #[cfg(test)]
+mod plain_changes;
+#[cfg(test)]
+mod plain_reads;
+#[cfg(test)]
 mod probe;
 #[cfg(test)]
 mod probe_rows;

@@ -5,6 +5,7 @@ ghost use Rattle.bittle.specs.Shapes.{Fits};
 use crate::asked::Asked;
 use crate::checks::{holds, same};
 use crate::probe::{ONES, Probe, ZEROS};
+use crate::probe_rows::{TWO, costs, row_of};
 use bit_pages::{Answer, NotTaken, Pages, Request};
 use bittle::BitsOwned;
 use std::process::Abort;
@@ -49,6 +50,27 @@ fn give_one_back<B: BitsOwned>(rt: &impl Abort, mut pages: Pages<B>, asked: &Ask
 fn giving_a_page_back_is_two_calls(rt: HostRuntime) {
     let asked = Asked::new();
     give_one_back(&rt, Pages::with_taken(Probe::of(ONES, &asked)), &asked);
+}
+
+// Takes the pages 451 and 508 of 768, and gives back those of words 1, 2 and 3.
+fn change_many<B: BitsOwned>(rt: &impl Abort, most: B, asked: &Asked)
+    requires { Fits B.indexable B.type_capacity }
+{
+    costs!(rt; asked, { let _ = Pages::with_taken(most); }, (), 0, 12);
+    let mut pages = Pages::with_taken(most);
+    costs!(rt; asked, pages.take(), Some(451), 8, 1);
+    costs!(rt; asked, pages.take_run(1), Some(508), 8, 1);
+    costs!(rt; asked, pages.take(), None, 0, 0);
+    costs!(rt; asked, pages.is_run_taken(100, 100), true, 3, 0);
+    costs!(rt; asked, pages.give_back_run(100, 100) == Ok(()), true, 3, 3);
+    costs!(rt; asked, pages.give_back(451) == Ok(()), true, 0, 2);
+    costs!(rt; asked, pages.is_taken(451), false, 0, 1);
+}
+
+#[test]
+fn a_run_of_pages_is_tested_and_changed_word_by_word(rt: HostRuntime) {
+    let asked = Asked::new();
+    change_many(&rt, row_of(!0, !TWO, &asked), &asked);
 }
 
 // Returns how many pages there are, and how many of them are taken and free.

@@ -1,0 +1,88 @@
+//! What calls that change a whole set or a range of it ask of its words, and of those of another set.
+//!
+//! The calls are made on any owned set, so that each is proved once: the row of the tests has twelve
+//! words and two members, 451 and 508.
+
+ghost use Rattle.std.specs.Prelude.{◌≤◌, IsTrue};
+
+use crate::asked::Asked;
+use crate::probe_rows::{TWO, costs, row_of};
+use bittle::{BigEndian, BitsMut, BitsOwned};
+use bittle_ext::{BitsCombineExt, BitsOwnedExt, BitsShiftExt};
+use std::process::Abort;
+
+// Indexes 100 to 199 lie in words 1, 2 and 3.
+fn change_ranges<B: BitsOwned>(rt: &impl Abort, mut few: B, asked: &Asked)
+    requires indexable { IsTrue B.indexable }
+    requires long { 200 ≤ B.type_capacity }
+{
+    costs!(rt; asked, few.set_range_in::<BigEndian>(100, 200), (), 0, 3);
+    costs!(rt; asked, few.toggle_range_in::<BigEndian>(100, 200), (), 0, 3);
+    costs!(rt; asked, few.clear_range_in::<BigEndian>(100, 200), (), 0, 3);
+    costs!(rt; asked, few.set_bit(100), (), 0, 1);
+    costs!(rt; asked, few.clear_bit(100), (), 0, 1);
+}
+
+#[test]
+fn a_change_of_a_range_in_an_order_asks_each_element_of_it_once(rt: HostRuntime) {
+    let asked = Asked::new();
+    change_ranges(&rt, row_of(0, TWO, &asked), &asked);
+}
+
+// An operation on two sets of one type is a call of each element, which reads the other's.
+fn change_all<B: BitsOwned>(rt: &impl Abort, mut few: B, asked: &Asked)
+    requires { IsTrue B.indexable }
+{
+    let other = few;
+    costs!(rt; asked, few.union_assign(&other), (), 0, 12);
+    costs!(rt; asked, few.set_all(), (), 0, 12);
+    costs!(rt; asked, few.clear_bits(), (), 0, 12);
+}
+
+#[test]
+fn a_change_of_all_bits_asks_each_element_once(rt: HostRuntime) {
+    let asked = Asked::new();
+    change_all(&rt, row_of(0, TWO, &asked), &asked);
+}
+
+// Each word of both sets is read, and each of the first is written.
+fn change_by_another<B: BitsOwned>(rt: &impl Abort, mut few: B, other: B, asked: &Asked)
+    requires { IsTrue B.indexable }
+{
+    costs!(rt; asked, few.union_with(&other), false, 24, 12);
+    costs!(rt; asked, few.intersect_with(&other), true, 24, 12);
+    costs!(rt; asked, few.difference_with(&other), true, 24, 12);
+    costs!(rt; asked, few.symmetric_difference_with(&other), true, 24, 12);
+    costs!(rt; asked, few.copy_from(&other), (), 24, 12);
+}
+
+#[test]
+fn a_change_by_another_set_reads_each_word_of_both_once(rt: HostRuntime) {
+    let asked = Asked::new();
+    change_by_another(&rt, row_of(0, TWO, &asked), row_of(0, 8, &asked), &asked);
+}
+
+// By 65 indexes ten words come from two each, one from the end of one, and one is empty.
+fn shift<B: BitsOwned>(rt: &impl Abort, mut few: B, asked: &Asked)
+    requires { IsTrue B.indexable }
+{
+    costs!(rt; asked, { let _ = few.shifted_up(65); }, (), 21, 12);
+    costs!(rt; asked, { let _ = few.shifted_down(65); }, (), 21, 12);
+    costs!(rt; asked, few.shift_up(65), (), 21, 12);
+    costs!(rt; asked, few.shift_down(65), (), 21, 12);
+}
+
+// Each word comes from two.
+fn rotate<B: BitsOwned>(rt: &impl Abort, few: B, asked: &Asked)
+    requires { IsTrue B.indexable }
+{
+    costs!(rt; asked, { let _ = few.rotated_up(65); }, (), 24, 12);
+    costs!(rt; asked, { let _ = few.rotated_down(65); }, (), 24, 12);
+}
+
+#[test]
+fn a_move_of_all_bits_reads_each_word_twice_at_most(rt: HostRuntime) {
+    let asked = Asked::new();
+    shift(&rt, row_of(0, TWO, &asked), &asked);
+    rotate(&rt, row_of(0, TWO, &asked), &asked);
+}

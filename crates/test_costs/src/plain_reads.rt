@@ -1,0 +1,110 @@
+//! What the library's own calls that read a set ask of it: counts and iterators each word once, and
+//! questions and searches the words up to the answer.
+//!
+//! The calls are made on any owned set, so that each is proved once: the row of the tests has twelve
+//! words and two members, 451 and 508, or lacks these two alone.
+
+ghost use Rattle.std.specs.Prelude.{◌≤◌, IsTrue};
+
+use crate::asked::Asked;
+use crate::probe_rows::{TWO, costs, row_of};
+use crate::word_probe::WordProbe;
+use bittle::{BigEndian, Bits, BitsOwned, Set};
+use std::cmp::Ordering;
+use std::hash::{DefaultHasher, Hash};
+use std::process::Abort;
+
+fn count_all<B: BitsOwned>(rt: &impl Abort, few: B, asked: &Asked)
+    requires { IsTrue B.indexable }
+{
+    costs!(rt; asked, few.count_ones(), 2, 0, 12);
+    costs!(rt; asked, few.count_zeros(), 766, 0, 12);
+    costs!(rt; asked, few.test_bit(451), true, 0, 1);
+    costs!(rt; asked, few.bits_capacity(), 768, 0, 0);
+}
+
+#[test]
+fn a_count_asks_each_word_once_and_a_test_one(rt: HostRuntime) {
+    let asked = Asked::new();
+    count_all(&rt, row_of(0, TWO, &asked), &asked);
+}
+
+// The first word is tested, and then eight and eight: word 9 decides.
+fn question_all<B: BitsOwned>(rt: &impl Abort, long: B, long_most: B, asked: &Asked)
+    requires { IsTrue B.indexable }
+{
+    costs!(rt; asked, long.all_zeros(), false, 0, 17);
+    costs!(rt; asked, long_most.all_ones(), false, 0, 17);
+}
+
+// Returns 24 words, of which word 9 is another one.
+fn long_row_of(rest: u64, word: u64, asked: &Asked) -> [WordProbe<'_>; 24] {
+    let mut row = [WordProbe::of(rest, asked); 24];
+    row[9] = WordProbe::of(word, asked);
+    row
+}
+
+#[test]
+fn a_question_about_all_bits_asks_up_to_the_eight_words_that_decide(rt: HostRuntime) {
+    let asked = Asked::new();
+    let (long, long_most) = (long_row_of(0, 1, &asked), long_row_of(!0, 1, &asked));
+    question_all(&rt, long, long_most, &asked);
+}
+
+fn search<B: BitsOwned>(rt: &impl Abort, few: B, most: B, asked: &Asked)
+    requires indexable { IsTrue B.indexable }
+    requires long { 768 ≤ B.type_capacity }
+{
+    costs!(rt; asked, few.first_one_in::<BigEndian>(320, 768), Some(451), 3, 0);
+    costs!(rt; asked, few.last_one_in::<BigEndian>(0, 640), Some(508), 3, 0);
+    costs!(rt; asked, most.first_zero_in::<BigEndian>(320, 768), Some(451), 3, 0);
+    costs!(rt; asked, most.last_zero_in::<BigEndian>(0, 640), Some(508), 3, 0);
+    costs!(rt; asked, few.count_ones_in_range_in::<BigEndian>(130, 500), 1, 6, 0);
+}
+
+#[test]
+fn searches_fetch_the_words_up_to_the_answer(rt: HostRuntime) {
+    let asked = Asked::new();
+    search(
+        &rt,
+        row_of(0, TWO, &asked),
+        row_of(!0, !TWO, &asked),
+        &asked,
+    );
+}
+
+fn iterate<B: BitsOwned>(rt: &impl Abort, few: B, asked: &Asked)
+    requires { IsTrue B.indexable }
+{
+    costs!(rt; asked, few.iter_ones().count(), 2, 12, 0);
+    costs!(rt; asked, few.iter_zeros().count(), 766, 12, 0);
+    costs!(rt; asked, few.into_iter_ones().count(), 2, 12, 0);
+    costs!(rt; asked, few.into_iter_zeros().rev().count(), 766, 12, 0);
+    costs!(rt; asked, few.join_ones(0u32..768).count(), 2, 12, 0);
+}
+
+#[test]
+fn an_iterator_fetches_each_word_once(rt: HostRuntime) {
+    let asked = Asked::new();
+    iterate(&rt, row_of(0, TWO, &asked), &asked);
+}
+
+// The first word decides: four of both are tested at once, and it is read again.
+fn compare<B: BitsOwned>(rt: &impl Abort, left: B, right: B, low: B, asked: &Asked)
+    requires { IsTrue B.indexable }
+{
+    let set = Set::new(left);
+    costs!(rt; asked, set.eq_bits(&right), true, 24, 0);
+    costs!(rt; asked, set.eq_bits(&low), false, 10, 0);
+    // The least index that decides, 0, is in the right one alone. The left one is asked for its word,
+    // and for the eight words up to its first member.
+    costs!(rt; asked, set.cmp_bits(&low), Ordering::Greater, 19, 0);
+    costs!(rt; asked, set.hash(&mut DefaultHasher::new()), (), 12, 0);
+}
+
+#[test]
+fn a_comparison_fetches_both_up_to_the_words_that_decide(rt: HostRuntime) {
+    let asked = Asked::new();
+    let (left, right) = (row_of(0, TWO, &asked), row_of(0, TWO, &asked));
+    compare(&rt, left, right, row_of(1, TWO, &asked), &asked);
+}
