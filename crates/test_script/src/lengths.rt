@@ -86,6 +86,42 @@ fn scripts_of_many_lengths_are_read_in_small_pieces_after_interruptions(rt: Host
     read_lengths(&rt, 71, 7, 2);
 }
 
+/// Returns a text of 4,096 bytes that is refused at its first line.
+fn refused_text() -> Script {
+    let mut text = Script::new();
+    text.put(b"?");
+    for _ in 1..4096 {
+        text.put(b"\n");
+    }
+    text
+}
+
+/// Reads the beginning of the text that is refused, of so many bytes, in pieces of at most `most`.
+fn reads_and_refuses(rt: &impl Abort, text: &[u8], length: usize, most: usize) {
+    let mut input = Source::new(&text[..min(length, text.len())]);
+    input.most = most;
+    let mut output = Sink::new();
+    same!(rt; (length, most, status_of(&mut input, &mut output)), (length, most, 2));
+    same!(rt; output.text(), b"line 1: not understood\n".as_slice());
+}
+
+#[test]
+fn a_text_of_each_length_is_read_at_once(rt: HostRuntime) {
+    let text = refused_text();
+    for length in 1..=4096 {
+        reads_and_refuses(&rt, text.text(), length, usize::MAX);
+    }
+}
+
+#[test]
+fn a_text_is_read_in_pieces_of_each_length(rt: HostRuntime) {
+    // Pieces of 2,048 bytes and more are two: that many, and what is left.
+    let text = refused_text();
+    for most in 1..=4096 {
+        reads_and_refuses(&rt, text.text(), 4096, most);
+    }
+}
+
 #[test]
 fn a_script_that_is_longer_is_refused_in_each_way(rt: HostRuntime) {
     for length in [4097, 4098, 4099] {
