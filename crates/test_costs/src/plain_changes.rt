@@ -6,9 +6,10 @@
 ghost use Rattle.std.specs.Prelude.{◌≤◌, IsTrue};
 
 use crate::asked::Asked;
+use crate::checks::same;
 use crate::probe_rows::{TWO, costs, row_of};
 use bittle::{BigEndian, BitsMut, BitsOwned};
-use bittle_ext::{BitsCombineExt, BitsOwnedExt, BitsShiftExt};
+use bittle_ext::{BitsCombineExt, BitsOwnedExt, BitsShiftExt, BitsSpanMutExt};
 use std::process::Abort;
 
 // Indexes 100 to 199 lie in words 1, 2 and 3.
@@ -19,6 +20,7 @@ fn change_ranges<B: BitsOwned>(rt: &impl Abort, mut few: B, asked: &Asked)
     costs!(rt; asked, few.set_range_in::<BigEndian>(100, 200), (), 0, 3);
     costs!(rt; asked, few.toggle_range_in::<BigEndian>(100, 200), (), 0, 3);
     costs!(rt; asked, few.clear_range_in::<BigEndian>(100, 200), (), 0, 3);
+    costs!(rt; asked, few.set_span(100..200), (), 0, 3);
     costs!(rt; asked, few.set_bit(100), (), 0, 1);
     costs!(rt; asked, few.clear_bit(100), (), 0, 1);
 }
@@ -43,6 +45,21 @@ fn change_all<B: BitsOwned>(rt: &impl Abort, mut few: B, asked: &Asked)
 fn a_change_of_all_bits_asks_each_element_once(rt: HostRuntime) {
     let asked = Asked::new();
     change_all(&rt, row_of(0, TWO, &asked), &asked);
+}
+
+// The unset bits are those of the set with each bit, which counts nothing, less the set: the set
+// itself is asked for no count or search.
+fn complement<B: BitsOwned>(rt: &impl Abort, few: B, asked: &Asked)
+    requires { IsTrue B.indexable }
+{
+    let _ = few.complement();
+    same!(rt; (asked.fetches(), asked.other()), (0, 0));
+}
+
+#[test]
+fn a_complement_asks_the_set_for_nothing_before_it_is_taken_away(rt: HostRuntime) {
+    let asked = Asked::new();
+    complement(&rt, row_of(0, TWO, &asked), &asked);
 }
 
 // Each word of both sets is read, and each of the first is written.

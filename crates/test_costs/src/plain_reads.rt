@@ -9,9 +9,13 @@ ghost use Rattle.std.specs.Prelude.{◌≤◌, IsTrue};
 use crate::asked::Asked;
 use crate::probe_rows::{TWO, costs, row_of};
 use crate::word_probe::WordProbe;
-use bittle::{BigEndian, Bits, BitsOwned, Set};
+use bittle::join::JoinOnes;
+use bittle::{BigEndian, Bits, BitsOwned, DefaultEndian, Set};
+use bittle_ext::BitsRangeExt;
+use bittle_ext::run_iterators::IterOneRuns;
 use std::cmp::Ordering;
 use std::hash::{DefaultHasher, Hash};
+use std::ops::Range;
 use std::process::Abort;
 
 fn count_all<B: BitsOwned>(rt: &impl Abort, few: B, asked: &Asked)
@@ -80,7 +84,26 @@ fn iterate<B: BitsOwned>(rt: &impl Abort, few: B, asked: &Asked)
     costs!(rt; asked, few.iter_zeros().count(), 766, 12, 0);
     costs!(rt; asked, few.into_iter_ones().count(), 2, 12, 0);
     costs!(rt; asked, few.into_iter_zeros().rev().count(), 766, 12, 0);
-    costs!(rt; asked, few.join_ones(0u32..768).count(), 2, 12, 0);
+    costs!(rt; asked, third_of(few.join_ones(0u32..768)), None, 12, 0);
+}
+
+// Returns the third item of a join.
+fn third_of<B: Bits>(mut join: JoinOnes<'_, B, DefaultEndian, Range<u32>>) -> Option<u32> {
+    let _ = join.next();
+    let _ = join.next();
+    join.next()
+}
+
+// Names the type of an iterator over runs by the crate that users name.
+fn name_type<B: BitsOwned>(few: &B)
+    requires { IsTrue B.indexable }
+{
+    let _runs: IterOneRuns<'_, B, B::Order> = few.iter_one_runs();
+}
+
+#[test]
+fn the_type_of_an_iterator_over_runs_has_a_path(_rt: HostRuntime) {
+    name_type(&0u64);
 }
 
 #[test]
