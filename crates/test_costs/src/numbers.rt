@@ -6,8 +6,10 @@ ghost use Rattle.bittle.specs.Values.{ShapeFits};
 use crate::asked::Asked;
 use crate::checks::same;
 use crate::probe::{ONES, Probe, ZEROS};
+use crate::probe_rows::{TWO, costs, row_of};
 use bittle::{Bits, BitsMut};
 use bittle_ext::prelude::*;
+use std::process::Abort;
 
 // Returns the number of the bits 4 to 19.
 fn load<B: Bits>(set: &B) -> u64
@@ -91,4 +93,20 @@ fn a_range_is_copied_within_a_set_from_its_words(rt: HostRuntime) {
     move_up(&mut set);
     same!(rt; set.bytes, [0x11, 0, 0, 0x80]);
     same!(rt; (asked.fetches(), asked.other()), (7, 3));
+}
+
+// Of the row are read and written the words 2, 3 and 4.
+fn copy_to_row<B: BitsMut>(rt: &impl Abort, few: &mut B, asked: &Asked)
+    requires fits { ShapeFits B.Shape few.old }
+    requires within { 258 ≤ (B.big few.old).capacity }
+{
+    let plain = [0u64; 2];
+    costs!(rt; asked, few.copy_range(&plain, 0, 128, 130), (), 3, 3);
+}
+
+#[test]
+fn a_range_is_copied_to_each_of_its_words_once(rt: HostRuntime) {
+    let asked = Asked::new();
+    let mut few = row_of(0, TWO, &asked);
+    copy_to_row(&rt, &mut few, &asked);
 }
