@@ -8,7 +8,7 @@ use Rattle.bittle.specs.Orders.{read_in}
 use Rattle.bittle.specs.PlainSet.{PlainSet, contains, is_in_span}
 use Rattle.bittle.specs.Words.{word_of, ReplacesWord}
 use Rattle.bittle_bits.proofs.BitSets.{bit_has-at}
-use Rattle.bittle_bits.proofs.PlainSets.{plain_set, members-past}
+use Rattle.bittle_bits.proofs.PlainSets.{plain_set}
 use Rattle.bittle_bits.proofs.Spans.{is_in_span-inside, is_in_span-outside}
 use Rattle.bittle_bits.proofs.Words.{digit_at}
 use Rattle.bittle.proofs.CallerSets.{contains_within}
@@ -111,7 +111,7 @@ bits_outside s t at n from first more d apart bits i h =
 
 -- a set of which one word has got the bits of a number has them from an index of that word on
 module _ (m : Bool) (w k first from count p r : ℕ) (s t u : PlainSet) (word : 0 < w)
-    (at : k * w + from ≡ first) (within : from + count ≤ w) (ends : first + count ≤ s.capacity)
+    (at : k * w + from ≡ first) (within : from + count ≤ w)
     (ours : bit_set w p ≡ word_of w s k)
     (is : (i : ℕ) → i < w → (read_in m w (bit_set w r)).has i
     ≡ has_copied (read_in m w (bit_set w p)) from count u 0 i)
@@ -138,10 +138,10 @@ module _ (m : Bool) (w k first from count p r : ℕ) (s t u : PlainSet) (word : 
         ]
       ]
 
-  adds : AddsWord w k s.capacity (λ _. false) (is_in_span (k * w) ((k + 1) * w))
+  adds : AddsWord w k (λ _. false) (is_in_span (k * w) ((k + 1) * w))
   adds = record {
     here = λ o h. is_in_span-inside (k * w) ((k + 1) * w) (k * w + o) (omega arith) (omega arith);
-    others = λ i l n. elim (cases_lt i ((k + 1) * w)) [
+    others = λ i n. elim (cases_lt i ((k + 1) * w)) [
       | inl h ↦ is_in_span-outside (k * w) ((k + 1) * w) i (inl (word_at_most w k i word h n))
       | inr h ↦ is_in_span-outside (k * w) ((k + 1) * w) i (inr h)
     ];
@@ -171,11 +171,8 @@ module _ (m : Bool) (w k first from count p r : ℕ) (s t u : PlainSet) (word : 
       ((i : ℕ) → t.capacity ≤ i → t.has i ≡ false) →
       read_in m w t ≡ with_copied before first count u 0
   word_copied whole past also =
-      let none = members-past m w s word whole past in
       more_replaced m w k r (λ _. false) (is_in_span (k * w) ((k + 1) * w))
-      (has_copied before first count u 0) before s t word whole past also none
-      (λ i h. copied-outside before u first count 0 i (inr (omega (arith, ends, h))) ∙ none i h)
-      adds replaced here refl
+      (has_copied before first count u 0) before s t word whole past also adds replaced here refl
       ∙ ap (plain_set s.capacity) (fun_ext all_here)
 
 -- so many bits up to and with an index of a word, and no more than it has there, lie in that word

@@ -14,7 +14,7 @@ returns-clause-set g c =
     let wide = c.width_of_words-width.ensures.width in
     word_copied g.E.Endian.mirrored w (first / w) first (first % w) c.args.count _ _
     (g.A.Shape.big old) (g.A.Shape.big new) (bit_set 128 c.args.number) b.width_positive
-    (div-add-mod' first w) c.requires.word c.requires.within
+    (div-add-mod' first w) c.requires.word
     (rw wide at c.nth_leaf_word-word.ensures) (rw (b.leaf_width, wide) at c.with_number.ensures)
     (rw wide at c.set_nth_leaf_word.ensures.set) (b.whole_words old) (b.none_past old)
     (b.none_past new)

@@ -1,7 +1,7 @@
 use Rattle.std.proofs.Common.{false, ap, ◌∙◌}
 use Rattle.bittle.specs.SetOperations.{combination_of, first_alone}
 use Rattle.bittle.specs.Values.{set_mirrored}
-use Rattle.bittle_ext.proofs.Complements.{full_alone}
+use Rattle.bittle.proofs.CallerSets.{full_without}
 use Rattle.bittle_ext.proofs.bits_owned_ext.BitsOwnedExt.complement.Goals as goal
 
 pub returns-clause-in_each_order : goal.returns-clause-in_each_order
@@ -9,7 +9,7 @@ returns-clause-in_each_order g c m =
     let s = set_mirrored g.Self.Shape m c.args.self in
     c.difference.ensures m
     ∙ ap (λ u. combination_of first_alone u s) (c.ones.ensures.in_each_order m)
-    ∙ full_alone s _ (g.met.Self.BitsOwned.one_capacity c.args.self)
+    ∙ full_without _ s (g.met.Self.BitsOwned.one_capacity c.args.self)
 
 pub returns-clause-value : goal.returns-clause-value
 returns-clause-value g c = returns-clause-in_each_order g c false
