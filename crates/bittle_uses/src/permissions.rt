@@ -24,7 +24,8 @@ pub fn together(one: Set<u32>, other: Set<u32>) -> Set<u32>
 
 /// Returns the permissions that a role does not have.
 pub fn withheld(role: Set<u32>) -> Set<u32>
-    ensures { bit_set 32 result.bits ≡ complement (bit_set 32 role.bits) }
+    ensures { (mirrored : Bool) → read_in mirrored 32 (bit_set 32 result.bits)
+        ≡ complement (read_in mirrored 32 (bit_set 32 role.bits)) }
 {
     !role
 }
