@@ -26,7 +26,7 @@
 //! word.set_bit(0);                  // 0b0010_0011
 //! word.clear_bit(9);                // 9 wraps to 1: 0b0010_0001
 //! word.test_bit(5);                 // true
-//! word.test_bit_le(2);              // true: the same bit, counted from the left
+//! word.test_bit_le(2);              // true: index 2 from the left is bit 5
 //! ```
 //!
 //! # Arrays and slices

@@ -14,7 +14,7 @@ fn words(rt: HostRuntime) {
     same!(rt; word, 0b0010_0001);
     word.test_bit(5); // true
     holds!(rt; word.test_bit(5));
-    word.test_bit_le(2); // true: the same bit, counted from the left
+    word.test_bit_le(2); // true: index 2 from the left is bit 5
     holds!(rt; word.test_bit_le(2));
 }
 
