@@ -4,8 +4,8 @@ use Rattle.std.proofs.Common.{add-zero}
 use Rattle.std.proofs.Math.Nat.{add-mod_right}
 use Rattle.std.proofs.lemmas.Nat.{mod_below}
 use Rattle.std.proofs.lemmas.Bool.{cases_eq, eq-eqb, ne_eqb, lt-ltb}
-use Rattle.bittle_bits.specs.PlainSet.{PlainSet, contains, with_index, has_with, without_index, has_without, with_span, without_span, has_changed, count_below, is_in_span, members_below, size}
-use Rattle.bittle_bits.proofs.Counts.{count-same, count-add}
+use Rattle.bittle_bits.specs.PlainSet.{PlainSet, contains, with_index, has_with, without_index, has_without, with_span, without_span, count_below, size}
+use Rattle.bittle_bits.proofs.Counts.{count-same}
 use Rattle.bittle_bits.proofs.Spans.{inside_span, outside_span}
 use Rattle.bittle.proofs.CallerSets.{contains_within, with_index_within, without_index_within}
 
