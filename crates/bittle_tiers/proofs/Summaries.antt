@@ -322,13 +322,17 @@ same_around change m w from to s t word some changed = λ j outside.
         ap t.has (sym back) ∙ ap (λ u. u.has p) changed
         ∙ rw apart (ap s.has back)
 
--- a number of a set, and every other, after a bit is put there
+-- the number of an index, and every other, after a bit is put at the index
+bit_at : (v : Bool) (s : PlainSet) (i at : ℕ) → 0 < s.capacity → at ≡ i % s.capacity →
+    (with_bit v s i).has at ≡ v
+bit_at true s i at some is = ap (λ p. p at) (has_with-in s s.capacity i refl some)
+    ∙ rw (eq-eqb at (i % s.capacity) is) refl
+bit_at false s i at some is = ap (λ p. p at) (has_without-in s s.capacity i refl some)
+    ∙ rw (eq-eqb at (i % s.capacity) is) refl
+
 pub bit_here : (v : Bool) (s : PlainSet) (k : ℕ) → k < s.capacity →
     (with_bit v s k).has k ≡ v
-bit_here true s k h = ap (λ p. p k) (has_with-in s s.capacity k refl (omega arith))
-    ∙ rw (mod-eq_of_lt h, eq-eqb k k refl) refl
-bit_here false s k h = ap (λ p. p k) (has_without-in s s.capacity k refl (omega arith))
-    ∙ rw (mod-eq_of_lt h, eq-eqb k k refl) refl
+bit_here v s k h = bit_at v s k k (omega (arith, h)) (sym (mod-eq_of_lt h))
 
 pub bit_elsewhere : (v : Bool) (s : PlainSet) (i j : ℕ) → 0 < s.capacity → j ≢ i % s.capacity →
     (with_bit v s i).has j ≡ s.has j
@@ -361,6 +365,37 @@ same_words v m w i at s t word some is put = λ j other within.
         ∙ ap (λ q. q / w) (sym moved ∙ e ∙ sym is)) in
         ap t.has (sym back) ∙ ap (λ u. u.has p) put
         ∙ bit_elsewhere v (read_in m w s) i p some apart ∙ ap s.has back
+
+-- after a bit is put at an index in an order, the word of the index has one of that kind
+pub some_put : (v m : Bool) (w i at : ℕ) (s t : PlainSet) → 0 < w →
+    (words : ℕ) × (s.capacity ≡ words * w) → t.capacity ≡ s.capacity → at < s.capacity →
+    at ≡ i % s.capacity → read_in m w t ≡ with_bit v (read_in m w s) i →
+    some_in_word v w t (at / w) ≡ true
+unfolding lacks
+some_put v m w i at s t word whole size below is put = by_none _ (λ none.
+    let k = at / w in
+    let n = at % w in
+    let low = mod_below at w word in
+    let split : k * (1 * w) + n ≡ at = omega (arith, div-add-mod' at w) in
+    let b : n < 1 * w = omega (arith, low) in
+    let moved : place m w at ≡ k * (1 * w) + place m w n =
+    rw split at (place_part m w 1 k n word b) in
+    let inside = place_in_word m w n low in
+    let ends = word_ends w k s.capacity whole (index_word w at s.capacity below) in
+    let bit : t.has (place m w at) ≡ v = ap (λ u. u.has at) put
+    ∙ bit_at v (read_in m w s) i at (omega (arith, below)) is in
+    true≢false (sym (of_kind v t (place m w at) (omega (arith, moved, inside, ends, size)) bit)
+    ∙ none_in_word v w k t (omega (arith, ends, size)) none (place m w at)
+    (omega (arith, moved)) (omega (arith, moved, inside))))
+  where
+    by_none : (b : Bool) → (b ≡ false → ⊥) → b ≡ true
+    by_none true none = refl
+    by_none false none = absurd (none refl)
+
+    of_kind : (v : Bool) (t : PlainSet) (p : ℕ) → p < t.capacity → t.has p ≡ v →
+        (ones_or_zeros v t).has p ≡ true
+    of_kind true t p within bit = bit
+    of_kind false t p within bit = rw (lt-ltb p t.capacity within, bit) refl
 
 -- a summary that is made to tell of the one word that changed tells of each
 pub renewed : (ones : Bool) (w k : ℕ) (s t u v : PlainSet) → Summarizes ones w s u →

@@ -256,9 +256,9 @@ fn put_bit<B: BitsOwned, S: BitsOwned, K: Kind, E: Endian, V: Kind>(
     upkeep::put_bit::<B, E, V>(&mut tiered.map, index);
     let bits = B::bits();
     if bits != 0 {
-        let at = upkeep::wrapped(index, bits);
+        let at = index % bits;
         let k = (at / word_width::<B>()) as usize;
-        upkeep::refresh::<B, S, K>(&tiered.map, &mut tiered.summary, k);
+        upkeep::refresh_after::<B, S, K, V>(&tiered.map, &mut tiered.summary, k);
     }
 }
 

@@ -1,6 +1,6 @@
 //! The upkeep of a summary: how it is read and written word by word.
 
-ghost use Rattle.std.specs.Prelude.{◌≡◌, ◌≢◌, ℕ, ◌*◌, ◌%◌, ◌^◌, ◌<◌, ◌≤◌, ◌==◌, IsTrue};
+ghost use Rattle.std.specs.Prelude.{◌≡◌, ◌≢◌, ℕ, ◌*◌, ◌%◌, ◌^◌, ◌<◌, ◌≤◌, ◌==◌, true, IsTrue};
 ghost use Rattle.bittle.specs.PlainSet.{size};
 ghost use Rattle.bittle.specs.Rows.{with_bit};
 ghost use Rattle.bittle.specs.Searches.{PassesOver, TellsGroups};
@@ -25,19 +25,6 @@ fn has_some<B: ReadWords, K: Kind>(map: &B, k: usize) -> bool
     ensures { result ≡ some_in_word K.ONES B.width (B.big map.now) k }
 {
     !is_without_bits::<B::LeafWord>(word_of_kind::<B, K>(map, k))
-}
-
-/// Returns an index modulo a capacity that is not 0.
-#[inline]
-pub(crate) fn wrapped(index: u32, capacity: u32) -> u32
-    requires { 0 < capacity }
-    ensures { result ≡ index % capacity }
-{
-    if index < capacity {
-        index
-    } else {
-        index % capacity
-    }
 }
 
 /// Puts a bit of the kind `V` at an index, which wraps.
@@ -80,6 +67,25 @@ pub(crate) fn refresh<B: ReadWords, S: BitsMut, K: Kind>(map: &B, summary: &mut 
     ensures others { (j : ℕ) → j ≢ k → (S.big summary.new).has j ≡ (S.big summary.old).has j }
 {
     put::<S>(summary, k, has_some::<B, K>(map, k));
+}
+
+/// Makes a summary tell of word `k`, in which a bit of the kind `V` was put. Such a bit of the kind
+/// `K` is one, so the word is not read.
+#[inline]
+pub(crate) fn refresh_after<B: ReadWords, S: BitsMut, K: Kind, V: Kind>(
+    map: &B,
+    summary: &mut S,
+    k: usize,
+)
+    requires map_fits { ShapeFits B.Shape map.now }
+    requires word { k * B.width < (B.big map.now).capacity }
+    requires put { V.ONES ≡ K.ONES → some_in_word K.ONES B.width (B.big map.now) k ≡ true }
+    requires fits { ShapeFits S.Shape summary.old }
+    requires within { k < (S.big summary.old).capacity }
+    ensures here { (S.big summary.new).has k ≡ some_in_word K.ONES B.width (B.big map.now) k }
+    ensures others { (j : ℕ) → j ≢ k → (S.big summary.new).has j ≡ (S.big summary.old).has j }
+{
+    put::<S>(summary, k, V::ONES == K::ONES || has_some::<B, K>(map, k));
 }
 
 /// Returns the summary that tells of all words, or of none.
