@@ -29,5 +29,6 @@ pub mod RunFacts
 mod RunEnds
 mod RunLists
 mod ShortRuns
+mod TurnedSets
 pub mod SetFacts
 mod ViewFacts

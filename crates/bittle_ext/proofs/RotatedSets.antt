@@ -20,7 +20,7 @@ unfolding contains
 contains_as s i j e = ap (λ k. nat_lt 0 s.capacity && s.has k) e
 
 -- an index that has wrapped once
-contains_past : (s : PlainSet) (i j : ℕ) → i ≡ s.capacity + j → j < s.capacity →
+pub contains_past : (s : PlainSet) (i j : ℕ) → i ≡ s.capacity + j → j < s.capacity →
     contains s i ≡ s.has j
 contains_past s i j e h =
     contains_as s i j (ap (λ k. k % s.capacity) e ∙ add-mod_left s.capacity j) ∙ contains_within s j h
@@ -103,7 +103,7 @@ wrapped_at w c words by skipped from k at whole parts where_is i =
           ∙ add-mod-mod (k * w + i) by c
     ]
 
-rotated-below : (s : PlainSet) (by k : ℕ) → k < s.capacity → has_rotated s by k ≡ contains s (k + by)
+pub rotated-below : (s : PlainSet) (by k : ℕ) → k < s.capacity → has_rotated s by k ≡ contains s (k + by)
 unfolding has_rotated
 rotated-below s by k h = rw (lt-ltb k s.capacity h) refl
 

@@ -1,6 +1,6 @@
 -- Sets whose members are all moved up or down.
-use Rattle.std.specs.Prelude.{◌≡◌, ℕ, ◌+◌, ◌-◌, ◌*◌, ◌%◌, ◌<◌, ◌≤◌, ◌⊎◌, Bool, ◌&&◌, nat_lt, nat_le}
-use Rattle.bittle.specs.PlainSet.{PlainSet, contains}
+use Rattle.std.specs.Prelude.{◌≡◌, ℕ, ◌+◌, ◌-◌, ◌*◌, ◌%◌, ◌<◌, ◌≤◌, ◌⊎◌, Bool, cond, ◌==◌, ◌&&◌, nat_lt, nat_le}
+use Rattle.bittle.specs.PlainSet.{PlainSet, contains, is_in_span}
 
 -- whether a number below the capacity has a member so far above it, where an index wraps
 unfoldable pub has_rotated : PlainSet → ℕ → ℕ → Bool
@@ -50,3 +50,16 @@ pub record IsDistance (w capacity by words skipped rest : ℕ) : Type 0 where
 -- the members of one word of w bits are those of a set from an index on, which wraps
 abbrev pub IsWordFrom : ℕ → PlainSet → ℕ → PlainSet → Type 0
 IsWordFrom w s from u = (i : ℕ) → i < w → u.has i ≡ contains s (from + i)
+
+-- word k of t, of w bits, has the members of word f k of s
+pub record HasWordsOf (w : ℕ) (f : ℕ → ℕ) (s t : PlainSet) : Type 0 where
+  pub capacity : t.capacity ≡ s.capacity
+  pub words : (k i : ℕ) → k * w < s.capacity → i < w → t.has (k * w + i) ≡ s.has (f k * w + i)
+
+-- a number, where i and j change places
+unfoldable pub exchanged : ℕ → ℕ → ℕ → ℕ
+exchanged i j k = cond (k == j) i (cond (k == i) j k)
+
+-- a number, where those of from..to stand the other way round
+unfoldable pub mirrored_within : ℕ → ℕ → ℕ → ℕ
+mirrored_within from to k = cond (is_in_span from to k) (from + to - 1 - k) k

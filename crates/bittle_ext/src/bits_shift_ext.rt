@@ -1,18 +1,18 @@
 //! Moving all bits of a set in place.
 
 ghost use Rattle.std.specs.Prelude.{◌≡◌, ◌+◌, ◌<◌, ◌≤◌, ℕ, false};
-ghost use Rattle.bittle_ext.specs.Rotations.{shifted_down, shifted_up};
+ghost use Rattle.bittle_ext.specs.Rotations.{rotated_down, rotated_up, shifted_down, shifted_up};
 ghost use Rattle.bittle.specs.PlainSet.{contains};
 ghost use Rattle.bittle.specs.Values.{set_in, ShapeFits};
 
-use crate::shifts;
+use crate::{shifts, turns};
 use bittle::BitsMut;
 
 /// Moves of all bits of any set that can be changed, also of a mutably borrowed slice. No copy is
 /// made. The order is that of the type.
 ///
 /// An owned set also has [`shifted_up`](crate::BitsOwnedExt::shifted_up) and its like, which return
-/// another set, and rotations.
+/// another set.
 pub trait BitsShiftExt: BitsMut {
     /// Moves each bit down by `by` indexes, in the order of the type. The bits that would pass
     /// index 0 are left out.
@@ -63,6 +63,52 @@ pub trait BitsShiftExt: BitsMut {
         ensures stays { Self.loan self.old ≡ Self.loan self.new }
     {
         shifts::shift_up::<Self, Self::Order>(self, by);
+    }
+
+    /// Moves each bit down by `by` indexes, in the order of the type. The bits that pass index 0 go
+    /// on at the last one.
+    ///
+    /// The shape has to fit. A distance of the capacity or more wraps; with capacity 0 nothing
+    /// changes. Each word is read four times at most and written three times, and the last one
+    /// once more.
+    ///
+    /// ```
+    /// let mut row = [0x12u8, 0x01];
+    /// row.rotate_down(2);                                 // row is [0x44, 0x80]
+    /// ```
+    #[inline]
+    final fn rotate_down(&mut self, by: u32)
+        requires { ShapeFits Self.Shape self.old }
+        ensures set { set_in Self.Shape Self.Order.Endian self.new
+            ≡ rotated_down (set_in Self.Shape Self.Order.Endian self.old) by }
+        ensures moved { (i : ℕ) → contains (set_in Self.Shape Self.Order.Endian self.new) i
+            ≡ contains (set_in Self.Shape Self.Order.Endian self.old) (i + by) }
+        ensures stays { Self.loan self.old ≡ Self.loan self.new }
+    {
+        turns::turn_down::<Self, Self::Order>(self, by);
+    }
+
+    /// Moves each bit up by `by` indexes, in the order of the type. The bits that pass the last
+    /// index go on at 0.
+    ///
+    /// The shape has to fit. A distance of the capacity or more wraps; with capacity 0 nothing
+    /// changes. Each word is read four times at most and written three times, and the last one
+    /// once more.
+    ///
+    /// ```
+    /// let mut row = [0x48u8, 0x80];
+    /// row.rotate_up(2);                                   // row is [0x22, 0x01]
+    /// ```
+    #[inline]
+    final fn rotate_up(&mut self, by: u32)
+        requires { ShapeFits Self.Shape self.old }
+        ensures set { set_in Self.Shape Self.Order.Endian self.new
+            ≡ rotated_up (set_in Self.Shape Self.Order.Endian self.old) by }
+        ensures moved { (i : ℕ) → contains (set_in Self.Shape Self.Order.Endian self.new) (i + by)
+            ≡ contains (set_in Self.Shape Self.Order.Endian self.old) i }
+        ensures stays { Self.loan self.old ≡ Self.loan self.new }
+    {
+        turns::turn_up::<Self, Self::Order>(self, by);
     }
 }
 

@@ -11,7 +11,7 @@ use bittle::{Bits, BitsMut, Endian};
 
 /// Returns how many bits each word of a set has: 128 at most.
 #[inline]
-fn width_of_words<B: Bits>() -> u32
+pub fn width_of_words<B: Bits>() -> u32
     ensures width { result ≡ B.width }
     ensures within { B.width ≤ 128 }
 {

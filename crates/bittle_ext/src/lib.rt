@@ -73,6 +73,7 @@ mod select;
 mod shifts;
 mod short_runs;
 mod spans;
+mod turns;
 pub mod views;
 
 pub use binary_text::BitsTextExt;

@@ -89,16 +89,20 @@ fn shift<B: BitsOwned>(rt: &impl Abort, mut few: B, asked: &Asked)
     costs!(rt; asked, few.shift_down(65), (), 21, 12);
 }
 
-// Each word comes from two.
-fn rotate<B: BitsOwned>(rt: &impl Abort, few: B, asked: &Asked)
+// Each word comes from two. In place, down by a word and a bit, 5 and then 6 pairs of words are
+// exchanged; up by as much, 6 and then 6. Then each word comes from two, and the bits that pass the
+// end from the first to the last one.
+fn rotate<B: BitsOwned>(rt: &impl Abort, mut few: B, asked: &Asked)
     requires { IsTrue B.indexable }
 {
     costs!(rt; asked, { let _ = few.rotated_up(65); }, (), 24, 12);
     costs!(rt; asked, { let _ = few.rotated_down(65); }, (), 24, 12);
+    costs!(rt; asked, few.rotate_down(65), (), 47, 35);
+    costs!(rt; asked, few.rotate_up(65), (), 49, 37);
 }
 
 #[test]
-fn a_move_of_all_bits_reads_each_word_twice_at_most(rt: HostRuntime) {
+fn a_move_of_all_bits_reads_each_word_a_few_times(rt: HostRuntime) {
     let asked = Asked::new();
     shift(&rt, row_of(0, TWO, &asked), &asked);
     rotate(&rt, row_of(0, TWO, &asked), &asked);

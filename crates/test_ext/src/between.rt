@@ -407,6 +407,70 @@ fn drawn_shifts_in_place_agree_with_plain_loops(rt: HostRuntime) {
     }
 }
 
+// Returns a set rotated up in place, or else down.
+fn turned<B: BitsMut>(up: bool, set: B, by: u32) -> B
+    requires { ShapeFits B.Shape set }
+{
+    let mut now = set;
+    if up {
+        now.rotate_up(by);
+    } else {
+        now.rotate_down(by);
+    }
+    now
+}
+
+#[test]
+fn rotations_in_place(rt: HostRuntime) {
+    // The members 0, 7 and 23.
+    let row = [0x81u8, 0, 0x80];
+    same!(rt; (turned(false, row, 8), turned(false, row, 7)), ([0, 0x80, 0x81], [0x01, 0, 0x03]));
+    same!(rt; (turned(true, row, 9), turned(true, row, 16)), ([0, 0x03, 0x01], [0, 0x80, 0x81]));
+    same!(rt; (turned(true, row, 0), turned(false, row, 24)), (row, row));
+    // 33 wraps to 9, and the greatest distance to 15.
+    same!(rt; (turned(true, row, 33), turned(true, row, u32::MAX)), ([0, 3, 1], [0, 0xC0, 0x40]));
+}
+
+#[test]
+fn rotations_in_place_from_the_left(rt: HostRuntime) {
+    // From the left the members 0, 7 and 16.
+    let row = [0x81u8, 0, 0x80];
+    same!(rt; turned(true, Set::new_le(row), 9).into_bits(), [0x40, 0x40, 0x80]);
+    same!(rt; turned(false, Set::new_le(row), 7).into_bits(), [0x80, 0x40, 0x40]);
+}
+
+#[test]
+fn rotations_in_place_of_one_word_and_of_none(rt: HostRuntime) {
+    let wide = 0x8000_0000_0000_0000_0000_0000_0000_0001u128;
+    same!(rt; (turned(false, wide, 127), turned(true, 0x81u8, 1)), (3, 0x03));
+    same!(rt; (turned(true, [0u8; 0], 1), turned(false, [0u8; 0], 0)), ([], []));
+}
+
+#[test]
+fn a_lent_slice_is_rotated(rt: HostRuntime) {
+    // Of 96 bits the members 0, 31, 65 and 66; the last two go on at 2.
+    let mut row = [0x8000_0001u32, 0, 6];
+    let mut held = (row.as_mut_slice(),);
+    let lent = &mut held;
+    lent.0.rotate_up(33);
+    same!(rt; row, [0xC, 2, 1]);
+}
+
+#[test]
+fn drawn_rotations_in_place_agree_with_plain_loops(rt: HostRuntime) {
+    let mut state = 31;
+    for turn in 0..2000u32 {
+        let (row, up, by) = (draw_row(&mut state), turn % 2 == 0, draw(&mut state) % 60);
+        let (flags, far) = (flags_of(&row), (by % 24) as usize);
+        let mut expected = [false; 24];
+        for i in 0..24usize {
+            let from = if up { i + 24 - far } else { i + far };
+            expected[i] = flags[from % 24];
+        }
+        same!(rt; flags_of(&turned(up, row, by)), expected);
+    }
+}
+
 #[test]
 fn unset_bits_by_rank(rt: HostRuntime) {
     // The bits 0, 2, 3, 4, 6 and 7 are unset, and from the left all but 2 and 6.

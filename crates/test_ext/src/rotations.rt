@@ -164,6 +164,31 @@ pub(crate) fn moved<B: BitsOwned>(way: u32, set: B, by: u32) -> B
     }
 }
 
+// Returns the set with its bits rotated in place, down in the first way and else up.
+fn turned_in<B: BitsOwned, E: Endian>(way: u32, set: B, by: u32) -> B
+    requires { IsTrue B.indexable }
+{
+    let mut ring = Set::<B, E>::new_in(set);
+    if way == 0 {
+        ring.rotate_down(by);
+    } else {
+        ring.rotate_up(by);
+    }
+    ring.into_bits()
+}
+
+// Compares rotations in place with the loop, at one distance.
+fn agree_in_place<B: BitsOwned>(rt: &impl Abort, set: B, by: u32)
+    requires { IsTrue B.indexable }
+{
+    for way in 0..2u32 {
+        let left = turned_in::<B, LittleEndian>(way, set, by);
+        crate::checks::ask(rt, "LE", left == looped::<B, LittleEndian>(way, &set, by));
+        let right = turned_in::<B, BigEndian>(way, set, by);
+        crate::checks::ask(rt, "BE", right == looped::<B, BigEndian>(way, &set, by));
+    }
+}
+
 // Compares the calls with the loop, at one distance.
 fn agree_at<B: BitsOwned>(rt: &impl Abort, set: B, by: u32)
     requires { IsTrue B.indexable }
@@ -203,6 +228,7 @@ fn agree<B: BitsOwned>(rt: &impl Abort, width: u32, set: B)
         u32::MAX,
     ] {
         agree_at(rt, set, by);
+        agree_in_place(rt, set, by);
         crate::checks::ask(rt, "LE comes back", comes_back::<B, LittleEndian>(set, by));
         crate::checks::ask(rt, "BE comes back", comes_back::<B, BigEndian>(set, by));
     }
