@@ -217,6 +217,10 @@ pub trait BitsMutExt: BitsMut + Sized {
         ensures set { MatchOption result (self.new ≡ self.old)
             (λ index. set_in Self.Shape Self.Order.Endian self.new
             ≡ without_index (set_in Self.Shape Self.Order.Endian self.old) index) }
+        ensures fewer { MatchOption result
+            (size (set_in Self.Shape Self.Order.Endian self.old) ≡ 0)
+            (λ index. size (set_in Self.Shape Self.Order.Endian self.new) + 1
+            ≡ size (set_in Self.Shape Self.Order.Endian self.old)) }
         ensures stays { Self.loan self.old ≡ Self.loan self.new }
     {
         let first = self.first_one_in::<Self::Order>(0, self.bits_capacity())?;
@@ -241,6 +245,10 @@ pub trait BitsMutExt: BitsMut + Sized {
         ensures set { MatchOption result (self.new ≡ self.old)
             (λ index. set_in Self.Shape Self.Order.Endian self.new
             ≡ without_index (set_in Self.Shape Self.Order.Endian self.old) index) }
+        ensures fewer { MatchOption result
+            (size (set_in Self.Shape Self.Order.Endian self.old) ≡ 0)
+            (λ index. size (set_in Self.Shape Self.Order.Endian self.new) + 1
+            ≡ size (set_in Self.Shape Self.Order.Endian self.old)) }
         ensures stays { Self.loan self.old ≡ Self.loan self.new }
     {
         let last = self.last_one_in::<Self::Order>(0, self.bits_capacity())?;

@@ -1,0 +1,16 @@
+use Rattle.std.proofs.Common.{◌+◌, sym, ap, ◌∙◌}
+use Rattle.bittle.specs.PlainSet.{size}
+use Rattle.bittle.proofs.CallerChanges.{size_without}
+use Rattle.bittle.proofs.CallerSets.{size_zero}
+use Rattle.bittle_ext.proofs.bits_mut_ext.BitsMutExt.pop_last.Goals as goal
+
+pub returns-in_err-last-clause-fewer : goal.returns-in_err-last-clause-fewer
+returns-in_err-last-clause-fewer g c =
+    let cap = c.bits_capacity.ensures.value c.requires in
+    rw c.from_residual.ensures (size_zero _ (rw cap at c.in_err-last.ensures))
+
+pub returns-clause-fewer : goal.returns-clause-fewer
+returns-clause-fewer g c =
+    let cap = c.bits_capacity.ensures.value c.requires in
+    let found = rw cap at c.in_ok-last.ensures in
+    ap (λ s. size s + 1) c.clear_bit_in.ensures.set ∙ sym (size_without _ _ found.1 found.2)
