@@ -1,5 +1,6 @@
 -- The digits of a set, one after another.
-use Rattle.std.proofs.Common.{◌≡◌, ℕ, suc, Bool, [], ◌++◌, refl}
+use Rattle.std.proofs.Common.{◌≡◌, ℕ, zero, suc, ◌+◌, ◌<◌, Bool, [], ◌++◌, refl, sym, ap, ◌∙◌, arith}
+use Rattle.std.proofs.lemmas.List.{append_assoc}
 use Rattle.bittle_ext.specs.Texts.{digit, digits_below}
 
 -- the digit of the greatest number comes first
@@ -12,3 +13,26 @@ digits_next p n = refl
 pub digits_none : (p : ℕ → Bool) → digits_below p 0 ≡ []
 unfolding digits_below
 digits_none p = refl
+
+-- the same bits have the same digits
+pub digits_same : (p q : ℕ → Bool) (n : ℕ) → ((i : ℕ) → i < n → p i ≡ q i) →
+    digits_below p n ≡ digits_below q n
+digits_same p q zero same = digits_none p ∙ sym (digits_none q)
+digits_same p q (suc n) same =
+    digits_next p n ∙ ap (λ b. digit b ++ digits_below p n) (same n (omega arith))
+    ∙ ap (λ xs. digit (q n) ++ xs) (digits_same p q n (λ i h. same i (omega (arith, h))))
+    ∙ sym (digits_next q n)
+
+-- the digits of n numbers from another one on come before those below it
+pub digits_from : (p : ℕ → Bool) (from n : ℕ) →
+    digits_below p (from + n) ≡ digits_below (λ i. p (from + i)) n ++ digits_below p from
+digits_from p from zero =
+    let none : from + 0 ≡ from = omega arith in
+    ap (digits_below p) none ∙ sym (ap (λ xs. xs ++ digits_below p from) (digits_none (λ i. p (from + i))))
+digits_from p from (suc n) =
+    let q : ℕ → Bool = λ i. p (from + i) in
+    let next : from + suc n ≡ suc (from + n) = omega arith in
+    ap (digits_below p) next ∙ digits_next p (from + n)
+    ∙ ap (λ xs. digit (q n) ++ xs) (digits_from p from n)
+    ∙ sym (append_assoc (digit (q n)) (digits_below q n) (digits_below p from))
+    ∙ sym (ap (λ xs. xs ++ digits_below p from) (digits_next q n))

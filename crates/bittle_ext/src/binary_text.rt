@@ -2,10 +2,15 @@
 
 ghost use Rattle.std.specs.Prelude.{◌≡◌, Some};
 ghost use Rattle.std.specs.Fmt.{WritesOnOk};
+ghost use Rattle.bittle.specs.BitPatterns.{bit_set};
+ghost use Rattle.bittle.specs.Orders.{read_in};
 ghost use Rattle.bittle.specs.Values.{set_in, ShapeFits};
 ghost use Rattle.bittle_ext.specs.Texts.{binary_text, digit};
 
+use crate::copies::width_of_words;
+use crate::numbers::{number_of, width_of};
 use bittle::{Bits, Endian};
+use bittle_bits::extension::Word;
 use std::fmt;
 
 /// A set that it borrows, printed as a binary number: a digit for each bit, the greatest index
@@ -24,16 +29,30 @@ impl<'a, B: Bits> fmt::Display for BinaryText<'a, B> {
     }
 }
 
-/// Writes a digit for each bit, the greatest index first.
+/// Writes a digit for each bit, the greatest index first: word by word, from the last one on.
 fn write_bits<B: Bits, E: Endian, W: fmt::Write>(set: &B, f: &mut fmt::Formatter<W>) -> fmt::Result
     requires { ShapeFits B.Shape set.now }
     ensures { WritesOnOk W.write_str_gives f.old result
         (binary_text (set_in B.Shape E.Endian set.now)) f.new }
 {
-    let mut index = set.bits_capacity();
+    let mut k = (set.bits_capacity() / width_of_words::<B>()) as usize;
+    while 0 < k {
+        k -= 1;
+        write_word::<B::LeafWord, E, W>(set.nth_leaf_word(k), f)?;
+    }
+    Ok(())
+}
+
+/// Writes a digit for each bit of a word, the greatest index first.
+fn write_word<T: Word, E: Endian, W: fmt::Write>(word: T, f: &mut fmt::Formatter<W>) -> fmt::Result
+    ensures { WritesOnOk W.write_str_gives f.old result
+        (binary_text (read_in E.mirrored T.width (bit_set T.width (T.pattern word)))) f.new }
+{
+    let number = number_of::<T, E>(word);
+    let mut index = width_of::<T>();
     while 0 < index {
         index -= 1;
-        write_bit(f, set.test_bit_in::<E>(index))?;
+        write_bit(f, number >> index & 1 == 1)?;
     }
     Ok(())
 }
@@ -56,7 +75,7 @@ pub trait BitsTextExt: Bits {
     /// index of the order of the type first.
     ///
     /// The shape has to fit. With capacity 0 the text is empty. Nothing is read or written before it
-    /// is printed; then each digit is one write.
+    /// is printed; then each word is read once, and each digit is one write.
     ///
     /// ```
     /// let row = [0x05u8, 0x80];

@@ -9,7 +9,9 @@ use crate::probe::{ONES, Probe, ZEROS};
 use crate::probe_rows::{TWO, costs, row_of};
 use bittle::{Bits, BitsMut};
 use bittle_ext::prelude::*;
+use std::alloc::{AllocError, Global};
 use std::process::Abort;
+use std::test::Fail;
 
 // Returns the number of the bits 4 to 19.
 fn load<B: Bits>(set: &B) -> u64
@@ -38,6 +40,23 @@ fn a_text_that_is_not_printed_reads_nothing(rt: HostRuntime) {
     let asked = Asked::new();
     shown(&Probe::of(ONES, &asked));
     same!(rt; (asked.fetches(), asked.other()), (0, 0));
+}
+
+// Prints the text of a set into a string.
+fn printed<B: Bits>(alloc: Global, set: &B) -> Result<bool, AllocError>
+    requires { ShapeFits B.Shape set.now }
+{
+    let text = format!(in alloc; "{}", set.binary_text())?;
+    Ok(text.as_str() == "10000000000000000000000000000001")
+}
+
+#[test]
+fn a_text_that_is_printed_fetches_each_word_once(rt: HostRuntime) -> Result<(), Fail> {
+    let asked = Asked::new();
+    let set = Probe::of(ONES, &asked);
+    same!(rt; printed(rt.alloc(), &set)?, true);
+    same!(rt; (asked.fetches(), asked.other()), (4, 0));
+    Ok(())
 }
 
 // Stores a number in the bits 4 to 19.
