@@ -60,15 +60,6 @@ pub freed : {V : Type 0} (row : List (Slot V)) (i : ℕ) (d f : Slot V) → i < 
 freed row i d f h true is was = joins is_free row i d f h (sym is)
 freed row i d f h false is was = stays is_free row i d f h (sym is ∙ sym was)
 
--- which of two is said where a test passes, and where it does not
-pub where_true : (X Y : Type 0) (b : Bool) → b ≡ true → MatchBool b X Y → X
-where_true X Y true e said = said
-where_true X Y false e said = absurd (cc)
-
-pub where_false : (X Y : Type 0) (b : Bool) → b ≡ false → MatchBool b X Y → Y
-where_false X Y true e said = absurd (cc)
-where_false X Y false e said = said
-
 -- a set of the slots that pass a test
 module _ {V : Type 0} (test : Slot V → Bool) (s t : PlainSet) (row next : List (Slot V))
     (marks : HasSlots test s row) where

@@ -1,9 +1,10 @@
 use Rattle.std.proofs.Common.{◌<◌, arith}
+use Rattle.std.proofs.lemmas.Bool.{MatchBool-at_true, MatchBool-at_false}
 use Rattle.bit_slots.proofs.KeyHistories.{key_gone}
 use Rattle.bittle.specs.PlainSet.{PlainSet}
 use Rattle.bittle.specs.Values.{set_in}
 use Rattle.bit_slots.specs.SlotSets.{is_free, is_live}
-use Rattle.bit_slots.proofs.SlotMarks.{marks_same, marks_with, marks_without, where_true, where_false}
+use Rattle.bit_slots.proofs.SlotMarks.{marks_same, marks_with, marks_without}
 use Rattle.bit_slots.proofs.Slots.remove.Goals as goal
 
 pub invariant_of-self-then-not-is_free : goal.invariant_of-self-then-not-is_free
@@ -18,7 +19,7 @@ invariant_of-self-then-not-is_free g c =
       fits = old.fits;
       covers = omega (arith, old.covers, out.same_length);
       marks_free = marks_same is_free free free _ _ old.marks_free
-          (where_false _ _ _ c.if-not-is_free.true out.free);
+          (MatchBool-at_false _ _ c.if-not-is_free.true out.free);
       marks_live = marks_without is_live live _ _ _ old.marks_live c.args.key.slot in_live
           out.live c.clear_bit.ensures.set;
     }
@@ -37,7 +38,7 @@ invariant_of-self-2 g c =
       fits = old.fits;
       covers = omega (arith, old.covers, out.same_length);
       marks_free = marks_with is_free free _ _ _ old.marks_free c.args.key.slot in_free
-          (where_true _ _ _ c.if-not-is_free.false out.free) c.set_bit.ensures.set;
+          (MatchBool-at_true _ _ c.if-not-is_free.false out.free) c.set_bit.ensures.set;
       marks_live = marks_without is_live live _ _ _ old.marks_live c.args.key.slot in_live
           out.live c.clear_bit.ensures.set;
     }
