@@ -1,5 +1,7 @@
 -- The entries of a row are those whose keys find their values.
-use Rattle.std.proofs.Common.{◌≡◌, ℕ, zero, suc, ◌+◌, ◌<◌, ◌≤◌, List, [], ◌∷◌, length, Some, ap, ◌∙◌, arith, slice_get, slice_index_or}
+use Rattle.std.proofs.Common.{◌≡◌, ℕ, zero, suc, ◌+◌, ◌<◌, ◌≤◌, List, [], ◌∷◌, length, Some, inl, inr, ap, ◌∙◌, arith, slice_get, slice_index_or}
+use Rattle.std.proofs.lemmas.Bool.{cases_lt}
+use Rattle.std.proofs.lemmas.Option.{slice_get_past}
 use Rattle.bit_slots.specs.declared.Key.{Key}
 use Rattle.bit_slots.specs.declared.slot.Slot.{Slot}
 use Rattle.bit_slots.specs.declared.slot.Slot.TheVariants.{Free, Live, Retired}
@@ -32,6 +34,16 @@ entries_are row (Live generation value ∷ rest) from same zero d h =
 entries_are row (Live generation value ∷ rest) from same (suc k) d h =
     entries_are row rest (from + 1) (later row (Live generation value) rest from same) k d
     (omega arith)
+
+-- its slot is one of the row
+pub entry_within : {V : Type 0} (row : List (Slot V)) (entry : Key × V) → IsEntry row entry →
+    entry.0.slot < length row
+entry_within row entry is = elim (cases_lt entry.0.slot (length row)) [
+  | inl l ↦ l
+  | inr g ↦
+      let none = ap (λ o. found (stage_at o entry.0.generation))
+      (slice_get_past row entry.0.slot g) in absurd (cc)
+]
 
 -- there are no more of them than slots
 pub entries_at_most : {V : Type 0} (rest : List (Slot V)) (from : ℕ) →

@@ -20,7 +20,7 @@ ghost use Rattle.std.specs.Fn.{FnOnceReturnsAtMut};
 ghost use Rattle.std.specs.List.{All};
 ghost use Rattle.std.specs.Option.{is_some};
 ghost use Rattle.std.specs.Prelude.{◌≡◌, ◌<◌, ◌≤◌, ℕ, false, true, length, None, Some};
-ghost use Rattle.std.specs.Prelude.{option_copied, IfErr, IfOk, IsTrue, MatchOption, slice_get};
+ghost use Rattle.std.specs.Prelude.{option_copied, IfErr, IfOk, IfSome, IsTrue, MatchOption, slice_get};
 ghost use Rattle.bittle.specs.PlainSet.{size};
 ghost use Rattle.bittle.specs.Shapes.{Fits};
 ghost use Rattle.bittle.specs.Values.{set_in};
@@ -174,6 +174,7 @@ impl<'a, V: Drop, B: BitsOwned> Slots<'a, V, B> {
     pub fn iter(&self) -> Iter<'_, V>
         ensures entries { result ≡ entries self.now.row.slots.now }
         ensures found { All (λ entry. IsEntry self.now.row.slots.now entry) result }
+        ensures within { All (λ entry. entry.0.slot < length self.now.row.slots.now) result }
         ensures at_most { length result ≤ length self.now.row.slots.now }
     {
         Iter {
@@ -182,18 +183,21 @@ impl<'a, V: Drop, B: BitsOwned> Slots<'a, V, B> {
         }
     }
 
-    /// Returns the value of a key, or `None` where the key finds none.
+    /// Returns the value of a key, or `None` where the key finds none. The slot of a key that finds
+    /// one is an index of any table as long as the row.
     pub fn get(&self, key: Key) -> Option<&V>
-        ensures { option_copied result
+        ensures value { option_copied result
             ≡ found (stages self.now.row.slots.now key.slot key.generation) }
+        ensures within { IfSome result (λ _. key.slot < length self.now.row.slots.now) }
     {
         self.row.get(key)
     }
 
     /// Returns whether the key finds a value.
     pub fn contains(&self, key: Key) -> bool
-        ensures { result
+        ensures found { result
             ≡ is_some (found (stages self.now.row.slots.now key.slot key.generation)) }
+        ensures within { IsTrue result → key.slot < length self.now.row.slots.now }
     {
         self.get(key).is_some()
     }

@@ -112,8 +112,9 @@ impl<'a, V: Drop> Row<'a, V> {
 
     // Returns the value of a key.
     pub(crate) fn get(&self, key: Key) -> Option<&V>
-        ensures { option_copied result
+        ensures value { option_copied result
             ≡ found (stages self.now.slots.now key.slot key.generation) }
+        ensures within { IfSome result (λ _. key.slot < length self.now.slots.now) }
     {
         let slot = self.slots.get(key.slot as usize)?;
         slot.get(key.generation)
