@@ -1,6 +1,6 @@
 //! Relations of two sets.
 
-ghost use Rattle.std.specs.Prelude.{◌≡◌, ◌↔◌, IsTrue, MatchOption, ◌<◌, ◌≤◌, IfSome, max};
+ghost use Rattle.std.specs.Prelude.{◌≡◌, ◌↔◌, IsTrue, ◌<◌, ◌≤◌, IfSome, max};
 ghost use Rattle.bittle_ext.specs.Combined.{both_of, first_only_of, just_one_of};
 ghost use Rattle.bittle_ext.specs.SetRelations.{IsSubset, AreDisjoint, Meet};
 ghost use Rattle.bittle_ext.specs.SetRelations.{IsFirstAlone, IsFirstCommon};
@@ -36,9 +36,8 @@ pub trait BitsRelationExt: Bits + Sized {
     final fn first_common<B: Bits>(&self, other: &B) -> Option<u32>
         requires fits { ShapeFits Self.Shape self.now }
         requires other_fits { ShapeFits B.Shape other.now }
-        ensures first { let ours = set_in Self.Shape Self.Order.Endian self.now in
-            let theirs = set_in B.Shape B.Order.Endian other.now in
-            MatchOption result (AreDisjoint ours theirs) (IsFirstCommon ours theirs) }
+        ensures first { IsFirstCommon (set_in Self.Shape Self.Order.Endian self.now)
+            (set_in B.Shape B.Order.Endian other.now) result }
         ensures below { IfSome result (λ index. index < (Self.big self.now).capacity) }
     {
         let end = capacity_of::<Self, Self::Order>(self).min(capacity_of::<B, B::Order>(other));
@@ -55,9 +54,8 @@ pub trait BitsRelationExt: Bits + Sized {
     final fn first_alone<B: Bits>(&self, other: &B) -> Option<u32>
         requires fits { ShapeFits Self.Shape self.now }
         requires other_fits { ShapeFits B.Shape other.now }
-        ensures first { let ours = set_in Self.Shape Self.Order.Endian self.now in
-            let theirs = set_in B.Shape B.Order.Endian other.now in
-            MatchOption result (IsSubset ours theirs) (IsFirstAlone ours theirs) }
+        ensures first { IsFirstAlone (set_in Self.Shape Self.Order.Endian self.now)
+            (set_in B.Shape B.Order.Endian other.now) result }
         ensures below { IfSome result (λ index. index < (Self.big self.now).capacity) }
     {
         let end = capacity_of::<Self, Self::Order>(self);

@@ -1,8 +1,9 @@
 //! The search that relations of two sets make: word by word if their words have one width and are
 //! read in one order, else by alternating searches, each from where the other one stopped.
 
-ghost use Rattle.std.specs.Prelude.{◌≡◌, min, not, MatchOption};
-ghost use Rattle.bittle_ext.specs.SetRelations.{AgreesBelow, IsFirstWhere};
+ghost use Rattle.std.specs.Prelude.{◌≡◌, min, MatchOption};
+ghost use Rattle.bittle_ext.specs.SetRelations.{first_and};
+ghost use Rattle.bittle.specs.Decided.{NoneDecidedBelow, IsFirstDecided};
 ghost use Rattle.bittle.specs.Values.{set_in, ShapeFits};
 
 use bittle::{Bits, Endian};
@@ -23,8 +24,8 @@ pub fn first_below<A: Bits, B: Bits, E: Endian, F: Endian, K: Kind>(
     requires least { end ≡ min (A.big left.now).capacity (B.big right.now).capacity }
     ensures { let ours = set_in A.Shape E.Endian left.now in
         let theirs = set_in B.Shape F.Endian right.now in
-        MatchOption result (AgreesBelow (not K.ONES) ours theirs end)
-        (IsFirstWhere K.ONES ours theirs) }
+        MatchOption result (NoneDecidedBelow (first_and K.ONES) ours theirs end)
+        (IsFirstDecided (first_and K.ONES) ours theirs) }
 {
     if are_alike::<A, B, E, F>() {
         return if K::ONES {

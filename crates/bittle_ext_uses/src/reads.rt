@@ -166,7 +166,7 @@ pub fn are_disjoint_le(one: u16, other: u32) -> bool
 pub fn first_missing(wanted: u64, granted: &[u8; 8]) -> Option<u32>
     ensures { let ours = bit_set 64 wanted in
         let theirs = row_set 8 8 (bit_set 8) granted.now in
-        MatchOption result (IsSubset ours theirs) (IsFirstAlone ours theirs) }
+        IsFirstAlone ours theirs result }
 {
     wanted.first_alone(granted)
 }
@@ -177,7 +177,7 @@ pub fn first_of_both<A: Bits, B: Bits>(one: &A, other: &B) -> Option<u32>
     requires other_fits { ShapeFits B.Shape other.now }
     ensures { let ours = set_in A.Shape A.Order.Endian one.now in
         let theirs = set_in B.Shape B.Order.Endian other.now in
-        MatchOption result (AreDisjoint ours theirs) (IsFirstCommon ours theirs) }
+        IsFirstCommon ours theirs result }
 {
     one.first_common(other)
 }

@@ -9,7 +9,6 @@ ghost use Rattle.bittle.specs.BitPatterns.{bit_set};
 ghost use Rattle.bittle.specs.PlainSet.{without_span};
 ghost use Rattle.bittle.specs.Rows.{row_set};
 ghost use Rattle.bittle.specs.Values.{set_in, ShapeFits};
-ghost use Rattle.bittle_ext.specs.SetRelations.{AreDisjoint, IsSubset};
 ghost use Rattle.bittle_ext.specs.SetRelations.{IsFirstAlone, IsFirstCommon};
 
 use bittle::{Bits, BitsMut};
@@ -19,7 +18,7 @@ use bittle_ext::{BitsMutExt, BitsRelationExt, BitsViewExt};
 pub fn entry_of_both(one: u64, other: &[u8; 8], table: &[u32; 64]) -> u32
     ensures { let ours = bit_set 64 one in
         let theirs = row_set 8 8 (bit_set 8) other.now in
-        (found : Option ℕ) × MatchOption found (AreDisjoint ours theirs) (IsFirstCommon ours theirs)
+        (found : Option ℕ) × IsFirstCommon ours theirs found
         × (result ≡ unwrap_or (option_map (λ i. slice_index table.now i) found) 0) }
 {
     match one.first_common(other) {
@@ -32,7 +31,7 @@ pub fn entry_of_both(one: u64, other: &[u8; 8], table: &[u32; 64]) -> u32
 pub fn entry_of_one(one: u64, other: u16, table: &[u32; 64]) -> u32
     ensures { let ours = bit_set 64 one in
         let theirs = bit_set 16 other in
-        (found : Option ℕ) × MatchOption found (IsSubset ours theirs) (IsFirstAlone ours theirs)
+        (found : Option ℕ) × IsFirstAlone ours theirs found
         × (result ≡ unwrap_or (option_map (λ i. slice_index table.now i) found) 0) }
 {
     match one.first_alone(&other) {
@@ -47,8 +46,7 @@ pub fn clear_before_common<A: BitsMut, B: Bits>(set: &mut A, other: &B)
     requires other_fits { ShapeFits B.Shape other.now }
     ensures { let before = set_in A.Shape A.Order.Endian set.old in
         let theirs = set_in B.Shape B.Order.Endian other.now in
-        (first : Option ℕ)
-        × MatchOption first (AreDisjoint before theirs) (IsFirstCommon before theirs)
+        (first : Option ℕ) × IsFirstCommon before theirs first
         × MatchOption first (set.new ≡ set.old)
         (λ index. set_in A.Shape A.Order.Endian set.new ≡ without_span before 0 index) }
 {
