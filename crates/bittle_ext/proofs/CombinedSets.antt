@@ -50,33 +50,40 @@ TellsBelow g s n b = MatchBool b ((i : ℕ) × (i < n) × (g i ≡ not (s.has i)
 pub tells_none : (w : ℕ) (g : ℕ → Bool) (s : PlainSet) → TellsBelow g s (0 * w) false
 tells_none w g s = λ i h. absurd (omega arith)
 
--- word k of a set, of which the words before it are decided, and of another set
-module _ (f : Bool → Bool → Bool) (m : Bool) (w k x y r : ℕ) (s t now : PlainSet) (word : 0 < w)
-    (ends : (k + 1) * w ≤ s.capacity)
-    (before : read_in m w now ≡ replaced_where (λ i. nat_lt i (k * w)) (combined f s t).has s)
-    (ours : bit_set w x ≡ word_of w now k) (theirs : read_in m w (bit_set w y) ≡ word_of w t k)
-    (is : bit_set w r ≡ combination_of f (bit_set w x) (bit_set w y)) where
+-- word k of a set, of which the words before it are decided, word k of another set, and what the
+-- operation makes of the two
+pub record DecidesWord (f : Bool → Bool → Bool) (m : Bool) (w k x y r : ℕ) (s t now : PlainSet) :
+    Type 0 where
+  pub word : 0 < w
+  pub ends : (k + 1) * w ≤ s.capacity
+  pub before : read_in m w now ≡ replaced_where (λ i. nat_lt i (k * w)) (combined f s t).has s
+  pub ours : bit_set w x ≡ word_of w now k
+  pub theirs : read_in m w (bit_set w y) ≡ word_of w t k
+  pub is : bit_set w r ≡ combination_of f (bit_set w x) (bit_set w y)
+
+module _ {f : Bool → Bool → Bool} {m : Bool} {w k x y r : ℕ} {s t now : PlainSet}
+    (d : DecidesWord f m w k x y r s t now) where
   -- the word as it was
   was : (o : ℕ) → o < w → (read_in m w (bit_set w x)).has o ≡ s.has (k * w + o)
-  was o h = digit_at m w k now x word ours o h ∙ ap (λ u. u.has (k * w + o)) before
+  was o h = digit_at m w k now x d.word d.ours o h ∙ ap (λ u. u.has (k * w + o)) d.before
       ∙ ap (λ b. cond b ((combined f s t).has (k * w + o)) (s.has (k * w + o)))
       (le-ltb (k * w + o) (k * w) (omega arith))
 
   -- the word as the operation makes it
   pub made : (o : ℕ) → o < w → (read_in m w (bit_set w r)).has o ≡ (combined f s t).has (k * w + o)
   made o h =
-      ap (λ u. u.has o) (word_combined f w x y r m word is)
+      ap (λ u. u.has o) (word_combined f w x y r m d.word d.is)
       ∙ combination-below f (read_in m w (bit_set w x)) (read_in m w (bit_set w y)) o h h
       ∙ ap (λ b. f b ((read_in m w (bit_set w y)).has o)) (was o h)
-      ∙ ap (f (s.has (k * w + o))) (ap (λ u. u.has o) theirs ∙ word_has-at w t k o h)
-      ∙ sym (combined_below f s t (k * w + o) (omega (arith, ends)))
+      ∙ ap (f (s.has (k * w + o))) (ap (λ u. u.has o) d.theirs ∙ word_has-at w t k o h)
+      ∙ sym (combined_below f s t (k * w + o) (omega (arith, d.ends)))
 
   -- where the two differ, by the word of their exclusive or
   module _ (z : ℕ) (differ : z ≡ bit_xor r x) (fits : z < 2 ^ w) where
     parts : (o : ℕ) → o < w → (read_in m w (bit_set w z)).has o
         ≡ just_one ((combined f s t).has (k * w + o)) (s.has (k * w + o))
     parts o h =
-        ap (λ u. u.has o) (word_combined just_one w r x z m word
+        ap (λ u. u.has o) (word_combined just_one w r x z m d.word
         (ap (bit_set w) differ ∙ digits_just_one w r x))
         ∙ combination-below just_one (read_in m w (bit_set w r)) (read_in m w (bit_set w x)) o h h
         ∙ (λ j. just_one (made o h j) (was o h j))
@@ -116,7 +123,7 @@ module _ (f : Bool → Bool → Bool) (m : Bool) (w k x y r : ℕ) (s t now : Pl
               rw (e ∙ ap not (ne_eqb z 0 some)) (
                 k * w + o,
                 omega (arith, low),
-                unlike _ _ (sym (parts o low) ∙ ap (bit_has w z) (place-place m w p.0 word) ∙ p.1),
+                unlike _ _ (sym (parts o low) ∙ ap (bit_has w z) (place-place m w p.0 d.word) ∙ p.1),
               )
         ]
 

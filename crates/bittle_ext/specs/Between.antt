@@ -1,6 +1,7 @@
 -- What another set, of any capacity, makes of a set that keeps its own.
-use Rattle.std.specs.Prelude.{◌≡◌, ℕ, ◌<◌, Bool, not, ◌&&◌, nat_lt}
-use Rattle.bittle.specs.PlainSet.{PlainSet}
+use Rattle.std.specs.Prelude.{◌≡◌, ℕ, ◌<◌, Bool, false, not, ◌&&◌, nat_lt, IsTrue, ◌↔◌}
+use Rattle.bittle.specs.PlainSet.{PlainSet, contains}
+use Rattle.bittle_ext.specs.Combined.{decided_set}
 
 -- whether a number below a capacity is a member
 unfoldable pub has_below : ℕ → PlainSet → ℕ → Bool
@@ -14,3 +15,13 @@ members_to c t = record { capacity = c; has = has_below c t }
 -- a number below the capacity of the first set is a member of just one
 abbrev pub Differ : PlainSet → PlainSet → Type 0
 Differ s t = (i : ℕ) × (i < s.capacity) × (t.has i ≡ not (s.has i))
+
+-- a set becomes what an operation with another one makes of it below its capacity, and `told` is
+-- whether that changed it
+pub record Combines (decide : Bool → Bool → Bool) (before other after : PlainSet) (told : Bool) :
+    Type 0 where
+  pub set : after ≡ members_to before.capacity (decided_set decide before other)
+  pub each : (i : ℕ) → i < before.capacity →
+      contains after i ≡ decide (contains before i) (other.has i)
+  pub changed : IsTrue told ↔ Differ before after
+  pub unchanged : told ≡ false → after ≡ before

@@ -1,8 +1,7 @@
 //! Changing a set by another one of any shape.
 
-ghost use Rattle.std.specs.Prelude.{◌≡◌, ◌↔◌, ◌<◌, ℕ, Bool, ◌||◌, ◌&&◌, false, IsTrue};
-ghost use Rattle.bittle_ext.specs.Between.{members_to, Differ};
-ghost use Rattle.bittle_ext.specs.Combined.{both_of, either_of, first_only_of, just_one_of};
+ghost use Rattle.std.specs.Prelude.{◌≡◌, ◌<◌, ℕ, Bool, ◌||◌, ◌&&◌, IsTrue};
+ghost use Rattle.bittle_ext.specs.Between.{members_to, Combines};
 ghost use Rattle.bittle.specs.PlainSet.{contains, full_set, size};
 ghost use Rattle.bittle.specs.SetOperations.{first_alone, just_one};
 ghost use Rattle.bittle.specs.Values.{set_in, set_mirrored, ShapeFits};
@@ -38,18 +37,9 @@ pub trait BitsCombineExt: BitsMut {
     final fn union_with<B: Bits>(&mut self, other: &B) -> bool
         requires fits { ShapeFits Self.Shape self.old }
         requires other_fits { ShapeFits B.Shape other.now }
-        ensures set { set_in Self.Shape Self.Order.Endian self.new
-            ≡ members_to (Self.big self.old).capacity
-            (either_of (set_in Self.Shape Self.Order.Endian self.old)
-            (set_in B.Shape B.Order.Endian other.now)) }
-        ensures each { (i : ℕ) → i < (Self.big self.old).capacity
-            → contains (set_in Self.Shape Self.Order.Endian self.new) i
-            ≡ (contains (set_in Self.Shape Self.Order.Endian self.old) i
-            || (set_in B.Shape B.Order.Endian other.now).has i) }
-        ensures changed { IsTrue result ↔ Differ (set_in Self.Shape Self.Order.Endian self.old)
-            (set_in Self.Shape Self.Order.Endian self.new) }
-        ensures unchanged { result ≡ false → set_in Self.Shape Self.Order.Endian self.new
-            ≡ set_in Self.Shape Self.Order.Endian self.old }
+        ensures combined { Combines ◌||◌ (set_in Self.Shape Self.Order.Endian self.old)
+            (set_in B.Shape B.Order.Endian other.now)
+            (set_in Self.Shape Self.Order.Endian self.new) result }
         ensures grew { IsTrue result → size (set_in Self.Shape Self.Order.Endian self.old)
             < size (set_in Self.Shape Self.Order.Endian self.new) }
         ensures stays { Self.loan self.old ≡ Self.loan self.new }
@@ -69,18 +59,9 @@ pub trait BitsCombineExt: BitsMut {
     final fn intersect_with<B: Bits>(&mut self, other: &B) -> bool
         requires fits { ShapeFits Self.Shape self.old }
         requires other_fits { ShapeFits B.Shape other.now }
-        ensures set { set_in Self.Shape Self.Order.Endian self.new
-            ≡ members_to (Self.big self.old).capacity
-            (both_of (set_in Self.Shape Self.Order.Endian self.old)
-            (set_in B.Shape B.Order.Endian other.now)) }
-        ensures each { (i : ℕ) → i < (Self.big self.old).capacity
-            → contains (set_in Self.Shape Self.Order.Endian self.new) i
-            ≡ (contains (set_in Self.Shape Self.Order.Endian self.old) i
-            && (set_in B.Shape B.Order.Endian other.now).has i) }
-        ensures changed { IsTrue result ↔ Differ (set_in Self.Shape Self.Order.Endian self.old)
-            (set_in Self.Shape Self.Order.Endian self.new) }
-        ensures unchanged { result ≡ false → set_in Self.Shape Self.Order.Endian self.new
-            ≡ set_in Self.Shape Self.Order.Endian self.old }
+        ensures combined { Combines ◌&&◌ (set_in Self.Shape Self.Order.Endian self.old)
+            (set_in B.Shape B.Order.Endian other.now)
+            (set_in Self.Shape Self.Order.Endian self.new) result }
         ensures shrank { IsTrue result → size (set_in Self.Shape Self.Order.Endian self.new)
             < size (set_in Self.Shape Self.Order.Endian self.old) }
         ensures stays { Self.loan self.old ≡ Self.loan self.new }
@@ -99,18 +80,9 @@ pub trait BitsCombineExt: BitsMut {
     final fn difference_with<B: Bits>(&mut self, other: &B) -> bool
         requires fits { ShapeFits Self.Shape self.old }
         requires other_fits { ShapeFits B.Shape other.now }
-        ensures set { set_in Self.Shape Self.Order.Endian self.new
-            ≡ members_to (Self.big self.old).capacity
-            (first_only_of (set_in Self.Shape Self.Order.Endian self.old)
-            (set_in B.Shape B.Order.Endian other.now)) }
-        ensures each { (i : ℕ) → i < (Self.big self.old).capacity
-            → contains (set_in Self.Shape Self.Order.Endian self.new) i
-            ≡ first_alone (contains (set_in Self.Shape Self.Order.Endian self.old) i)
-            ((set_in B.Shape B.Order.Endian other.now).has i) }
-        ensures changed { IsTrue result ↔ Differ (set_in Self.Shape Self.Order.Endian self.old)
-            (set_in Self.Shape Self.Order.Endian self.new) }
-        ensures unchanged { result ≡ false → set_in Self.Shape Self.Order.Endian self.new
-            ≡ set_in Self.Shape Self.Order.Endian self.old }
+        ensures combined { Combines first_alone (set_in Self.Shape Self.Order.Endian self.old)
+            (set_in B.Shape B.Order.Endian other.now)
+            (set_in Self.Shape Self.Order.Endian self.new) result }
         ensures shrank { IsTrue result → size (set_in Self.Shape Self.Order.Endian self.new)
             < size (set_in Self.Shape Self.Order.Endian self.old) }
         ensures stays { Self.loan self.old ≡ Self.loan self.new }
@@ -129,18 +101,9 @@ pub trait BitsCombineExt: BitsMut {
     final fn symmetric_difference_with<B: Bits>(&mut self, other: &B) -> bool
         requires fits { ShapeFits Self.Shape self.old }
         requires other_fits { ShapeFits B.Shape other.now }
-        ensures set { set_in Self.Shape Self.Order.Endian self.new
-            ≡ members_to (Self.big self.old).capacity
-            (just_one_of (set_in Self.Shape Self.Order.Endian self.old)
-            (set_in B.Shape B.Order.Endian other.now)) }
-        ensures each { (i : ℕ) → i < (Self.big self.old).capacity
-            → contains (set_in Self.Shape Self.Order.Endian self.new) i
-            ≡ just_one (contains (set_in Self.Shape Self.Order.Endian self.old) i)
-            ((set_in B.Shape B.Order.Endian other.now).has i) }
-        ensures changed { IsTrue result ↔ Differ (set_in Self.Shape Self.Order.Endian self.old)
-            (set_in Self.Shape Self.Order.Endian self.new) }
-        ensures unchanged { result ≡ false → set_in Self.Shape Self.Order.Endian self.new
-            ≡ set_in Self.Shape Self.Order.Endian self.old }
+        ensures combined { Combines just_one (set_in Self.Shape Self.Order.Endian self.old)
+            (set_in B.Shape B.Order.Endian other.now)
+            (set_in Self.Shape Self.Order.Endian self.new) result }
         ensures stays { Self.loan self.old ≡ Self.loan self.new }
     {
         combine_with::<Self, B, Self::Order, B::Order, SymmetricDifference>(self, other)

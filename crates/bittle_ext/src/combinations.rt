@@ -1,9 +1,7 @@
 //! A set changed in place by another one, of any width and order, a word at a time.
 
-ghost use Rattle.std.specs.Prelude.{◌≡◌, ◌↔◌, ◌<◌, ◌≤◌, ℕ, true, false, IsTrue};
-ghost use Rattle.bittle_ext.specs.Between.{members_to, Differ};
-ghost use Rattle.bittle_ext.specs.Combined.{decided_set};
-ghost use Rattle.bittle.specs.PlainSet.{contains};
+ghost use Rattle.std.specs.Prelude.{◌≡◌, ◌≤◌, true};
+ghost use Rattle.bittle_ext.specs.Between.{Combines};
 ghost use Rattle.bittle.specs.Values.{set_in, ShapeFits};
 
 use crate::capacities::capacity_of;
@@ -34,17 +32,8 @@ fn combine_words<A: BitsMut, B: Bits, E: Endian, F: Endian, O: Operation, R: Rea
     requires other_fits { ShapeFits B.Shape other.now }
     requires reach { R.ALL ≡ true → (A.width ≡ B.width)
         × ((A.big set.old).capacity ≤ (B.big other.now).capacity) }
-    ensures set { set_in A.Shape E.Endian set.new ≡ members_to (A.big set.old).capacity
-        (decided_set O.decide (set_in A.Shape E.Endian set.old)
-        (set_in B.Shape F.Endian other.now)) }
-    ensures each { (i : ℕ) → i < (A.big set.old).capacity
-        → contains (set_in A.Shape E.Endian set.new) i
-        ≡ O.decide (contains (set_in A.Shape E.Endian set.old) i)
-        ((set_in B.Shape F.Endian other.now).has i) }
-    ensures changed { IsTrue result ↔ Differ (set_in A.Shape E.Endian set.old)
-        (set_in A.Shape E.Endian set.new) }
-    ensures unchanged { result ≡ false → set_in A.Shape E.Endian set.new
-        ≡ set_in A.Shape E.Endian set.old }
+    ensures combined { Combines O.decide (set_in A.Shape E.Endian set.old)
+        (set_in B.Shape F.Endian other.now) (set_in A.Shape E.Endian set.new) result }
     ensures stays { A.loan set.old ≡ A.loan set.new }
 {
     let words = (capacity_of::<A, E>(set) / word_width::<A>()) as usize;
@@ -71,17 +60,8 @@ pub fn combine_with<A: BitsMut, B: Bits, E: Endian, F: Endian, O: Operation>(
 ) -> bool
     requires fits { ShapeFits A.Shape set.old }
     requires other_fits { ShapeFits B.Shape other.now }
-    ensures set { set_in A.Shape E.Endian set.new ≡ members_to (A.big set.old).capacity
-        (decided_set O.decide (set_in A.Shape E.Endian set.old)
-        (set_in B.Shape F.Endian other.now)) }
-    ensures each { (i : ℕ) → i < (A.big set.old).capacity
-        → contains (set_in A.Shape E.Endian set.new) i
-        ≡ O.decide (contains (set_in A.Shape E.Endian set.old) i)
-        ((set_in B.Shape F.Endian other.now).has i) }
-    ensures changed { IsTrue result ↔ Differ (set_in A.Shape E.Endian set.old)
-        (set_in A.Shape E.Endian set.new) }
-    ensures unchanged { result ≡ false → set_in A.Shape E.Endian set.new
-        ≡ set_in A.Shape E.Endian set.old }
+    ensures combined { Combines O.decide (set_in A.Shape E.Endian set.old)
+        (set_in B.Shape F.Endian other.now) (set_in A.Shape E.Endian set.new) result }
     ensures stays { A.loan set.old ≡ A.loan set.new }
 {
     if are_alike::<A, B, E, F>() && set.bits_capacity() <= other.bits_capacity() {

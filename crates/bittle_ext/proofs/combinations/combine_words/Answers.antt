@@ -2,7 +2,7 @@ use Rattle.std.proofs.Common.{◌+◌, ◌*◌, ◌≤◌, not, ◌||◌, nat_lt
 use Rattle.std.proofs.Math.Nat.{mul-le-mul_right}
 use Rattle.std.proofs.lemmas.Bool.{lt-ltb, le-ltb}
 use Rattle.bittle.specs.Values.{set_in}
-use Rattle.bittle_ext.proofs.CombinedSets.{combined, combined_past, combined_each, tells_none, made, tells_more, tells_all, told_where, told_same}
+use Rattle.bittle_ext.proofs.CombinedSets.{combined, DecidesWord, combined_past, combined_each, tells_none, made, tells_more, tells_all, told_where, told_same}
 use Rattle.bittle_ext.proofs.CommonCounts.{word_inside}
 use Rattle.bittle_ext.proofs.RankFacts.{end_of_words}
 use Rattle.bittle_ext.proofs.WordsReplaced.{adds_upward, more_replaced, none_replaced, all_replaced}
@@ -39,16 +39,20 @@ loop-k-preserved g c =
       word_inside w _ _ k (c.word_width.ensures) c.loop-k-test.true,
       c.capacity_of.ensures.ends.capacity,
     ) in
-    let is = rw wide at c.on_words-word.ensures in
+    let word : DecidesWord f m w k _ _ _ s t (g.A.Shape.big now) = record {
+      word = b.width_positive;
+      ends = ends;
+      before = v.replaced;
+      ours = c.nth_leaf_word-ours.ensures;
+      theirs = c.other_word-theirs.ensures;
+      is = rw wide at c.on_words-word.ensures;
+    } in
     record {
       replaced = more_replaced m w k _ _ _ (combined f s t).has s (g.A.Shape.big now)
           (g.A.Shape.big new) b.width_positive (b.whole_words now) (b.none_past now)
           (b.none_past new) (adds_upward w k b.width_positive) c.set_nth_leaf_word.ensures.set
-          (made f m w k _ _ _ s t (g.A.Shape.big now) b.width_positive ends v.replaced
-          c.nth_leaf_word-ours.ensures c.other_word-theirs.ensures is) v.replaced;
-      told = tells_more f m w k _ _ _ s t (g.A.Shape.big now) b.width_positive ends v.replaced
-          c.nth_leaf_word-ours.ensures c.other_word-theirs.ensures is _ c.xor.ensures
-          (rw wide at c.is_zero.ensures.range) c.loop-k.changed _
+          (made word) v.replaced;
+      told = tells_more word _ c.xor.ensures (rw wide at c.is_zero.ensures.range) c.loop-k.changed _
           (ap (λ z. c.loop-k.changed || not z) c.is_zero.ensures.zero) v.told;
       stays = v.stays ∙ c.set_nth_leaf_word.ensures.stays;
     }
@@ -70,9 +74,11 @@ returns g c =
     let told = tells_all f (c.loop-k.k * w) c.loop-k.changed s t _ (omega (arith, whole, far))
     ends.past set c.loop-k.invariant.told in
     record {
-      set = set;
-      each = combined_each f s t _ set;
-      changed = told_where _ _ _ told;
-      unchanged = told_same _ _ _ told;
+      combined = record {
+        set = set;
+        each = combined_each f s t _ set;
+        changed = told_where _ _ _ told;
+        unchanged = told_same _ _ _ told;
+      };
       stays = c.loop-k.invariant.stays;
     }
