@@ -29,31 +29,42 @@ assigned_within s i false h = without_index_within s i h
     ∙ ap (plain_set s.capacity) (fun_ext λ n. elim (n == i) as (λ e. not e && s.has n
     ≡ cond e false (s.has n)) [ true ↦ refl | false ↦ refl ])
 
--- word k of a set, where the index lies
-module _ (m : Bool) (w k i d : ℕ) (s : PlainSet) (word : 0 < w) (where_is : k ≡ i / w)
-    (within : i < s.capacity) (ours : bit_set w d ≡ word_of w s k) where
+-- word k of a set, where an index below the capacity lies
+pub record HoldsIndex (m : Bool) (w k i d : ℕ) (s : PlainSet) : Type 0 where
+  pub word : 0 < w
+  pub where_is : k ≡ i / w
+  pub within : i < s.capacity
+  pub ours : bit_set w d ≡ word_of w s k
+
+-- the word that an operation makes of it and of the word of the index alone, in its place
+pub record CombinesIndex (f : Bool → Bool → Bool) (m : Bool) (w k i d mask r : ℕ) (s t : PlainSet) :
+    Type 0 where
+  pub keeps : (b : Bool) → f b false ≡ b
+  pub one : read_in m w (bit_set w mask) ≡ with_index (empty_set w) i
+  pub is : bit_set w r ≡ combination_of f (bit_set w d) (bit_set w mask)
+  pub replaced : ReplacesWord w s k (bit_set w r) t
+
+module _ {m : Bool} {w k i d : ℕ} {s : PlainSet} (at : HoldsIndex m w k i d s) where
   -- the index, from the start of its word on
   at_index : k * w + i % w ≡ i
-  at_index = rw where_is (div-add-mod' i w)
+  at_index = rw at.where_is (div-add-mod' i w)
 
   -- the word has the index where the set has it
   pub contained_in_word : contains (read_in m w (bit_set w d)) i ≡ contains (read_in m w s) i
   contained_in_word =
-      contains_in (read_in m w (bit_set w d)) w i refl word
-      ∙ digit_at m w k s d word ours (i % w) (mod_below i w word)
-      ∙ ap (read_in m w s).has at_index ∙ sym (contains_within (read_in m w s) i within)
+      contains_in (read_in m w (bit_set w d)) w i refl at.word
+      ∙ digit_at m w k s d at.word at.ours (i % w) (mod_below i w at.word)
+      ∙ ap (read_in m w s).has at_index ∙ sym (contains_within (read_in m w s) i at.within)
 
-  -- the word, combined with that of the index alone
-  module _ (f : Bool → Bool → Bool) (keeps : (b : Bool) → f b false ≡ b) (mask r : ℕ)
-      (t : PlainSet) (one : read_in m w (bit_set w mask) ≡ with_index (empty_set w) i)
-      (is : bit_set w r ≡ combination_of f (bit_set w d) (bit_set w mask))
-      (replaced : ReplacesWord w s k (bit_set w r) t) where
+  module _ {f : Bool → Bool → Bool} {mask r : ℕ} {t : PlainSet}
+      (new : CombinesIndex f m w k i d mask r s t) where
     abbrev before : PlainSet
     before = read_in m w s
 
     -- the mask has the index alone
     mask_at : (o : ℕ) → (read_in m w (bit_set w mask)).has o ≡ (o == i % w)
-    mask_at o = ap (λ u. u.has o) one ∙ ap (λ p. p o) (has_with-in (empty_set w) w i refl word)
+    mask_at o = ap (λ u. u.has o) new.one
+        ∙ ap (λ p. p o) (has_with-in (empty_set w) w i refl at.word)
         ∙ or-false (o == i % w)
 
     -- replacing it combines the index alone
@@ -67,29 +78,29 @@ module _ (m : Bool) (w k i d : ℕ) (s : PlainSet) (word : 0 < w) (where_is : k 
         let decided : (n : ℕ) → n / w ≡ k →
         (read_in m w t).has n ≡ f (before.has n) (n % w == i % w) = λ n e.
         let o = n % w in
-        let h = mod_below n w word in
-        in_word m w k r s t word whole past also replaced n e
-        ∙ ap (λ u. u.has o) (word_combined f w d mask r m word is)
+        let h = mod_below n w at.word in
+        in_word m w k r s t at.word whole past also new.replaced n e
+        ∙ ap (λ u. u.has o) (word_combined f w d mask r m at.word new.is)
         ∙ combination-below f (read_in m w (bit_set w d)) (read_in m w (bit_set w mask)) o h h
-        ∙ ap (λ b. f b ((read_in m w (bit_set w mask)).has o)) (digit_at m w k s d word ours o h
+        ∙ ap (λ b. f b ((read_in m w (bit_set w mask)).has o)) (digit_at m w k s d at.word at.ours o h
         ∙ ap before.has (place_in w k n e))
         ∙ ap (f (before.has n)) (mask_at o) in
         let each : (n : ℕ) → (read_in m w t).has n ≡ cond (n == i) value (before.has n) = λ n.
         elim (cases_eq n i) [
-          | inl at ↦ decided n (ap (λ j. j / w) at ∙ sym where_is)
-              ∙ ap (f (before.has n)) (eq-eqb (n % w) (i % w) (ap (λ j. j % w) at))
-              ∙ ap (λ j. f (before.has j) true) at
-              ∙ ap (λ b. f b true) (sym (contains_within before i within))
-              ∙ sym (ap (λ b. cond b value (before.has n)) (eq-eqb n i at))
+          | inl e ↦ decided n (ap (λ j. j / w) e ∙ sym at.where_is)
+              ∙ ap (f (before.has n)) (eq-eqb (n % w) (i % w) (ap (λ j. j % w) e))
+              ∙ ap (λ j. f (before.has j) true) e
+              ∙ ap (λ b. f b true) (sym (contains_within before i at.within))
+              ∙ sym (ap (λ b. cond b value (before.has n)) (eq-eqb n i e))
           | inr other ↦ elim (cases_eq (n / w) k) [
             | inl e ↦ decided n e ∙ ap (f (before.has n)) (ne_eqb (n % w) (i % w)
                 (λ z. other (sym (place_in w k n e) ∙ ap (λ o. k * w + o) z ∙ at_index)))
-                ∙ keeps (before.has n)
-            | inr apart ↦ in_others m w k r s t word whole past also replaced n apart
+                ∙ new.keeps (before.has n)
+            | inr apart ↦ in_others m w k r s t at.word whole past also new.replaced n apart
           ] ∙ sym (ap (λ b. cond b value (before.has n)) (ne_eqb n i other))
         ] in
-        (λ j. plain_set (replaced.capacity j) (λ n. each n j))
-        ∙ sym (assigned_within before i value within)
+        (λ j. plain_set (new.replaced.capacity j) (λ n. each n j))
+        ∙ sym (assigned_within before i value at.within)
 
 -- an index that wraps to another one is assigned as that is
 assigned_as : (s : PlainSet) (i j : ℕ) (value : Bool) → i % s.capacity ≡ j % s.capacity →
