@@ -41,6 +41,7 @@ pub fn width_of<W: Word>() -> u32
     ensures width { result ≡ W.width }
     ensures within { W.width ≤ 128 }
 {
+    // For its clause alone: all bits of a word are a `u128`.
     let _ = all_bits::<W>();
     W::width()
 }
@@ -101,6 +102,7 @@ pub fn with_number<W: Word, E: Endian>(word: W, from: u32, count: u32, number: u
         ≡ has_copied (read_in E.mirrored W.width (bit_set W.width (W.pattern word))) from count
         (bit_set 128 number) 0 i }
 {
+    // For its clause alone: a shift by less than the width is one by less than 128.
     let _ = width_of::<W>();
     let bits = word_of::<W, E>(number << from);
     let rest = Difference::on_words::<W>(word, range::<W, E>(from, from + count));
