@@ -3,15 +3,17 @@
 //! The check proves that the second call is allowed, or that the index lies in the table, from the
 //! contract of the first call alone.
 
-ghost use Rattle.std.specs.Prelude.{◌≡◌, ◌≤◌, ℕ, MatchOption, Option};
+ghost use Rattle.std.specs.Prelude.{◌≡◌, ◌≤◌, ℕ, true, MatchOption, Option};
 ghost use Rattle.std.specs.Prelude.{option_map, slice_index, unwrap_or};
 ghost use Rattle.bittle.specs.BitPatterns.{bit_set};
+ghost use Rattle.bittle.specs.Orders.{read_in};
 ghost use Rattle.bittle.specs.PlainSet.{without_span};
 ghost use Rattle.bittle.specs.Rows.{row_set};
 ghost use Rattle.bittle.specs.Values.{set_in, ShapeFits};
+ghost use Rattle.bittle_ext.specs.Combined.{both_of};
 ghost use Rattle.bittle_ext.specs.SetRelations.{IsFirstAlone, IsFirstCommon};
 
-use bittle::{Bits, BitsMut};
+use bittle::{Bits, BitsMut, LittleEndian, Set};
 use bittle_ext::{BitsMutExt, BitsRelationExt, BitsViewExt};
 
 /// Returns the entry of a table at the first index of both masks, or 0.
@@ -38,6 +40,14 @@ pub fn entry_of_one(one: u64, other: u16, table: &[u32; 64]) -> u32
         Some(index) => table[index as usize],
         None => 0,
     }
+}
+
+/// Returns the first index of two words and of a row that is read from the left.
+pub fn first_of_three(one: u64, other: u64, third: &Set<[u8; 8], LittleEndian>) -> Option<u32>
+    ensures { IsFirstCommon (both_of (bit_set 64 one) (bit_set 64 other))
+        (read_in true 8 (row_set 8 8 (bit_set 8) third.now.bits)) result }
+{
+    one.and(&other).first_common(third)
 }
 
 /// Clears the bits of any set before the first one that another set has too.
