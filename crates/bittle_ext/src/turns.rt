@@ -71,6 +71,7 @@ fn turn_bits<B: BitsMut, E: Endian>(set: &mut B, by: u32)
         ≡ rotated_down (set_in B.Shape E.Endian set.old) by }
     ensures stays { B.loan set.old ≡ B.loan set.new }
 {
+    // For its clause alone: the bits of a word are a `u128`.
     let _ = width_of_words::<B>();
     let end = capacity_of::<B, E>(set);
     if by == 0 {
