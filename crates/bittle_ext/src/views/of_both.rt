@@ -1,6 +1,6 @@
 //! Views of what an operation makes of two sets, of any widths and orders.
 
-ghost use Rattle.std.specs.Prelude.{◌≡◌, ◌<◌, Bool, false, true, refl, max, ⊤, IsTrue};
+ghost use Rattle.std.specs.Prelude.{◌≡◌, ◌<◌, ◌≤◌, Bool, false, true, refl, max, ⊤, IsTrue, IfSome};
 ghost use Rattle.bittle_ext.specs.Combined.{decided_set};
 ghost use Rattle.bittle_ext.specs.ViewLaws.{none_past_both, whole_words_of};
 ghost use Rattle.bittle_ext.specs.Views.{decided_until, decided_of_first, read_back};
@@ -9,13 +9,13 @@ ghost use Rattle.bittle.specs.PlainSet.{ascending};
 ghost use Rattle.bittle.specs.Values.{set_in, ShapeFits};
 
 use crate::capacities::capacity_of;
-use crate::other_words::{Part, other_word, word_or_empty};
+use crate::other_words::{Part, Reach, Whole, other_word, word_or_empty};
 use crate::views::by_groups::{passed_by_groups, told_of_both};
 use crate::views::by_words::{count, is_empty, is_full, passed, test};
 use bittle::{Bits, Endian, Shape};
 use bittle_bits::extension::{
     Conjunction, Difference, End, Kind, Ones, Operation, ReadWords, Sealed, SymmetricDifference,
-    Union, word_width,
+    Union, are_alike, word_width,
 };
 use std::alloc::AllocError;
 use std::marker::PhantomData;
@@ -135,23 +135,27 @@ fn combines_groups<A: ReadWords, B: ReadWords, O: ViewOperation>() -> bool
 /// the second in `F`: a set of words as the first one's, read in `E`.
 ///
 /// Each word of it is made when it is read. Where the words of the two sets differ in width or
-/// order, the second one is searched for each of its set bits there.
+/// order, the second one is searched for each of its set bits there. `R` names whether both sets are
+/// known to have each word.
 #[derive(Drop)]
-pub struct OfBoth<'a, A: Shape, B: Shape, E: Endian, F: Endian, O: Operation> {
+pub struct OfBoth<'a, A: Shape, B: Shape, E: Endian, F: Endian, O: Operation, R: Reach = Part> {
     left: &'a A,
     right: &'a B,
     end: u32,
     order: PhantomData<E>,
     other_order: PhantomData<F>,
     operation: PhantomData<O>,
+    reach: PhantomData<R>,
     pub ghost left_fits: { ShapeFits A.Shape left.now },
     pub ghost right_fits: { ShapeFits B.Shape right.now },
     pub ghost holds: { HoldsBoth O.decide A.width (set_in A.Shape E.Endian left.now)
         (set_in B.Shape F.Endian right.now) end },
+    pub ghost reaches: { R.ALL ≡ true → (A.width ≡ B.width)
+        × (end ≤ (A.big left.now).capacity) × (end ≤ (B.big right.now).capacity) },
 }
 
-impl<'a, A: Shape, B: Shape, E: Endian, F: Endian, O: Operation> Shape
-    for OfBoth<'a, A, B, E, F, O> {
+impl<'a, A: Shape, B: Shape, E: Endian, F: Endian, O: Operation, R: Reach> Shape
+    for OfBoth<'a, A, B, E, F, O, R> {
     type LeafWord = A::LeafWord;
 
     ghost width = { A.width };
@@ -164,23 +168,23 @@ impl<'a, A: Shape, B: Shape, E: Endian, F: Endian, O: Operation> Shape
     fn seal(_: Sealed) {}
 }
 
-impl<'a, A: Shape, B: Shape, E: Endian, F: Endian, O: Operation> Clone
-    for OfBoth<'a, A, B, E, F, O> {
+impl<'a, A: Shape, B: Shape, E: Endian, F: Endian, O: Operation, R: Reach> Clone
+    for OfBoth<'a, A, B, E, F, O, R> {
     ghost is_clone = { λ s r. r ≡ s };
 
     ghost is_infallible = { λ _. ⊤ };
 
     #[inline]
-    fn clone(&self) -> Result<OfBoth<'a, A, B, E, F, O>, AllocError> {
+    fn clone(&self) -> Result<OfBoth<'a, A, B, E, F, O, R>, AllocError> {
         Ok(*self)
     }
 }
 
-impl<'a, A: Shape, B: Shape, E: Endian, F: Endian, O: Operation> Copy
-    for OfBoth<'a, A, B, E, F, O> {}
+impl<'a, A: Shape, B: Shape, E: Endian, F: Endian, O: Operation, R: Reach> Copy
+    for OfBoth<'a, A, B, E, F, O, R> {}
 
-impl<'a, A: Bits, B: Bits, E: Endian, F: Endian, O: ViewOperation> ReadWords
-    for OfBoth<'a, A, B, E, F, O> {
+impl<'a, A: Bits, B: Bits, E: Endian, F: Endian, O: ViewOperation, R: Reach> ReadWords
+    for OfBoth<'a, A, B, E, F, O, R> {
     ghost leaf_width = { A.leaf_width };
 
     ghost width_positive = { A.width_positive };
@@ -203,11 +207,11 @@ impl<'a, A: Bits, B: Bits, E: Endian, F: Endian, O: ViewOperation> ReadWords
 
     #[inline(always)]
     fn nth_leaf_word(&self, k: usize) -> A::LeafWord {
-        let theirs = other_word::<A, B, E, F, Part>(self.right, k);
+        let theirs = other_word::<A, B, E, F, R>(self.right, k);
         if O::keeps_to_first() {
             return O::on_words::<A::LeafWord>(self.left.nth_leaf_word(k), theirs);
         }
-        O::on_words::<A::LeafWord>(word_or_empty::<A, Part>(self.left, k), theirs)
+        O::on_words::<A::LeafWord>(word_or_empty::<A, R>(self.left, k), theirs)
     }
 
     #[inline(always)]
@@ -270,28 +274,55 @@ impl<'a, A: Bits, B: Bits, E: Endian, F: Endian, O: ViewOperation> ReadWords
     }
 }
 
-impl<'a, A: Bits, B: Bits, U: Endian, F: Endian, O: ViewOperation> Bits
-    for OfBoth<'a, A, B, U, F, O> {
+// Returns a view of the same words, which tests none against the end of a set, if both sets have
+// each of them, of one width and in one order.
+#[inline(always)]
+fn whole<'a, A: Bits, B: Bits, E: Endian, F: Endian, O: Operation, R: Reach>(
+    view: &OfBoth<'a, A, B, E, F, O, R>,
+) -> Option<OfBoth<'a, A, B, E, F, O, Whole>>
+    ensures { IfSome result (λ found. ⟦<OfBoth<'a, A, B, E, F, O, Whole> as Shape>⟧.big found
+        ≡ ⟦<OfBoth<'a, A, B, E, F, O, R> as Shape>⟧.big view.now) }
+{
+    let shorter = view.left.bits_capacity().min(view.right.bits_capacity());
+    if !are_alike::<A, B, E, F>() || shorter < view.end {
+        return None;
+    }
+    Some(OfBoth {
+        left: view.left,
+        right: view.right,
+        end: view.end,
+        order: PhantomData,
+        other_order: PhantomData,
+        operation: PhantomData,
+        reach: PhantomData,
+    })
+}
+
+impl<'a, A: Bits, B: Bits, U: Endian, F: Endian, O: ViewOperation, R: Reach> Bits
+    for OfBoth<'a, A, B, U, F, O, R> {
     type Order = U;
 
     #[inline]
     fn count_ones(&self) -> u32 {
-        count::<OfBoth<'a, A, B, U, F, O>>(self)
+        match whole::<A, B, U, F, O, R>(self) {
+            Some(view) => count::<OfBoth<'a, A, B, U, F, O, Whole>>(&view),
+            None => count::<OfBoth<'a, A, B, U, F, O, R>>(self),
+        }
     }
 
     #[inline]
     fn all_zeros(&self) -> bool {
-        is_empty::<OfBoth<'a, A, B, U, F, O>>(self)
+        is_empty::<OfBoth<'a, A, B, U, F, O, R>>(self)
     }
 
     #[inline]
     fn all_ones(&self) -> bool {
-        is_full::<OfBoth<'a, A, B, U, F, O>>(self)
+        is_full::<OfBoth<'a, A, B, U, F, O, R>>(self)
     }
 
     #[inline]
     fn test_bit_in<E: Endian>(&self, index: u32) -> bool {
-        test::<OfBoth<'a, A, B, U, F, O>, E>(self, index)
+        test::<OfBoth<'a, A, B, U, F, O, R>, E>(self, index)
     }
 }
 
@@ -319,6 +350,7 @@ impl<'a, A: Bits, B: Bits, E: Endian, F: Endian, O: Operation> OfBoth<'a, A, B, 
             order: PhantomData,
             other_order: PhantomData,
             operation: PhantomData,
+            reach: PhantomData,
         }
     }
 }

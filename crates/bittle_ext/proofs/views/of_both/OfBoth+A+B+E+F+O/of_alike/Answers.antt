@@ -3,7 +3,7 @@ use Rattle.bittle.specs.PlainSet.{PlainSet, ascending}
 use Rattle.bittle.specs.Values.{set_in}
 use Rattle.bittle_ext.specs.Views.{decided_until}
 use Rattle.bittle_ext.proofs.ViewFacts.{holds_either, multiple, whole_greater}
-use Rattle.bittle_ext.proofs.views.of_both.OfBoth.of_alike.Goals as goal
+use Rattle.bittle_ext.proofs.views.of_both.OfBoth+A+B+E+F+O.of_alike.Goals as goal
 
 pub until-requires-clause-holds : goal.until-requires-clause-holds
 until-requires-clause-holds g c =

@@ -3,7 +3,7 @@ use Rattle.bittle.specs.PlainSet.{PlainSet, ascending}
 use Rattle.bittle.specs.Values.{set_in}
 use Rattle.bittle_ext.specs.Views.{decided_until}
 use Rattle.bittle_ext.proofs.ViewFacts.{ascending_longer, holds_first, multiple}
-use Rattle.bittle_ext.proofs.views.of_both.OfBoth.of_first.Goals as goal
+use Rattle.bittle_ext.proofs.views.of_both.OfBoth+A+B+E+F+O.of_first.Goals as goal
 
 pub until-requires-clause-holds : goal.until-requires-clause-holds
 until-requires-clause-holds g c =

@@ -3,7 +3,7 @@ use Rattle.bittle.specs.PlainSet.{PlainSet, ascending}
 use Rattle.bittle.specs.Values.{set_in}
 use Rattle.bittle_ext.specs.Views.{decided_until, rounded_up}
 use Rattle.bittle_ext.proofs.ViewFacts.{ascending_longer, holds_either}
-use Rattle.bittle_ext.proofs.views.of_both.OfBoth.of_unlike.Goals as goal
+use Rattle.bittle_ext.proofs.views.of_both.OfBoth+A+B+E+F+O.of_unlike.Goals as goal
 
 -- the end is the greater capacity, rounded up
 end_is : (x y a b v w n r : ℕ) → x ≡ a → y ≡ b → n ≡ max x y → v ≡ w → r ≡ rounded_up n v →
