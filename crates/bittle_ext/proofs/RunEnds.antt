@@ -1,17 +1,19 @@
 -- Where a run begins and ends, and how far the runs of a list reach.
-use Rattle.std.proofs.Common.{◌≡◌, ℕ, zero, suc, ◌+◌, ◌-◌, ◌<◌, ◌≤◌, ◌==◌, Bool, true, false, not, cond, List, [], ◌∷◌, length, Some, inl, inr, sym, ap, ◌∙◌, arith}
-use Rattle.std.proofs.lemmas.Bool.{cases_eq, not-false, not-true}
+use Rattle.std.proofs.Common.{◌≡◌, ℕ, zero, suc, ◌+◌, ◌-◌, ◌*◌, ◌<◌, ◌≤◌, ◌==◌, Bool, true, false, not, ◌&&◌, cond, List, [], ◌∷◌, length, Option, Some, None, inl, inr, sym, ap, ◌∙◌, arith}
+use Rattle.std.proofs.lemmas.Bool.{and_parts, cases_eq, cases_lt, not-false, not-true, true≢false}
 use Rattle.std.specs.Iterator.{YieldsFirst, YieldsLast}
 use Rattle.std.proofs.iter.runs.Sources.{from_front, from_back, as_is, as_is_back}
 use Rattle.std.specs.declared.ops.Range.{Range}
-use Rattle.bittle.specs.PlainSet.{PlainSet}
+use Rattle.bittle.specs.PlainSet.{PlainSet, is_in_span, IsLeastMember}
 use Rattle.bittle.specs.Searches.{NoneIn, IsFirstIn, IsLastIn}
 use Rattle.bittle.specs.Walk.{ones_or_zeros}
 use Rattle.bittle_bits.proofs.OnesOrZeros.{ones_or_zeros-capacity}
 use Rattle.bittle_ext.specs.RangeMembers.{HasAllIn}
 use Rattle.bittle_ext.specs.Runs.{run, joined, runs_from, runs_between, runs, AreRunsBelow, EndsRun, BeginsRun, RunsInOrder, RunsInReverse}
+use Rattle.bittle_bits.proofs.Spans.{is_in_span-outside, is_in_span-inside}
 use Rattle.bittle_ext.proofs.LongestRuns.{runs_are_longest}
 use Rattle.bittle_ext.proofs.RunFacts.{others_opposite}
+use Rattle.bittle_ext.proofs.ShortRuns.{IsReading, word_below}
 
 -- the bits of a kind of a set, and those of the other kind
 module _ (kind : Bool) (set : PlainSet) where
@@ -61,6 +63,63 @@ module _ (kind : Bool) (set : PlainSet) where
       NoneIn t (start + 1) to → EndsRun s start to to
   end_none start to some within here none =
       (some, omega arith, all_from start to within here none, λ l. absurd (omega arith))
+
+  -- where none of the other kind is before a number, the first one from there on is the first
+  pub search_on : (start mid to : ℕ) (r : Option ℕ) → start < mid → NoneIn t (start + 1) mid →
+      IsFirstIn t mid to r → IsFirstIn t (start + 1) to r
+  search_on start mid to None on none h = λ j lo hi.
+      elim (cases_lt j mid) [ inl l ↦ none j lo l | inr g ↦ h j g hi ]
+  search_on start mid to (Some i) on none h = (
+    omega (arith, h.0, on),
+    h.1,
+    h.2,
+    λ j lo hi. elim (cases_lt j mid) [ inl l ↦ none j lo l | inr g ↦ h.3 j g hi ],
+  )
+
+  -- word k of the other kind, from a member in it on, begins with a bit at the place `lead`
+  module _ (w words k start lead : ℕ) (word : PlainSet) (below : k * w ≤ start)
+      (p : IsReading w words start 1 k (k * w) t word) (least : IsLeastMember word lead) where
+    -- so none of that kind is before it
+    none_ahead : NoneIn t start (k * w + lead)
+    none_ahead j lo hi =
+        let o = j - k * w in
+        let at : k * w + o ≡ j = omega (arith, below, lo) in
+        let low : o < w = omega (arith, hi, below, lo, least.within, p.read.wide) in
+        sym (ap (λ b. b && t.has j) (is_in_span-inside start t.capacity j lo
+        (omega (arith, at, low, word_below _ _ _ _ _ _ _ _ p))))
+        ∙ ap (λ n. is_in_span start t.capacity n && t.has n) (sym at)
+        ∙ sym (p.read.here o low) ∙ least.none_below o (omega (arith, at, hi))
+
+    -- and it is of that kind, and past the member, if it is in the word
+    bit_ahead : start < set.capacity → s.has start ≡ true → lead < w →
+        (start < k * w + lead) × (t.has (k * w + lead) ≡ true)
+    bit_ahead within here low =
+        let both = and_parts _ _ (sym (p.read.here lead low)
+        ∙ least.is_member (omega (arith, low, p.read.wide))) in (
+          elim (cases_lt start (k * w + lead)) [
+            | inl l ↦ l
+            | inr g ↦ elim (cases_eq (k * w + lead) start) [
+              | inl e ↦ absurd (true≢false (sym here ∙ no_member start within
+                  (ap t.has (sym e) ∙ both.1)))
+              | inr n ↦ absurd (true≢false (sym both.0
+                  ∙ is_in_span-outside start t.capacity (k * w + lead) (inl (omega (arith, g, n)))))
+            ]
+          ],
+          both.1,
+        )
+
+    -- so the run goes on up to it, or past the word
+    pub word_end : start < set.capacity → s.has start ≡ true →
+        (start < k * w + lead) × NoneIn t (start + 1) (k * w + lead)
+        × ((lead ≡ w → ⊥) → t.has (k * w + lead) ≡ true)
+    word_end within here = (
+      elim (cases_lt lead w) [
+        | inl l ↦ (bit_ahead within here l).0
+        | inr g ↦ omega (arith, g, p.begun)
+      ],
+      λ j lo hi. none_ahead j (omega (arith, lo)) hi,
+      λ n. (bit_ahead within here (omega (arith, n, least.within, p.read.wide))).1,
+    )
 
   -- the run that ends with a member begins past the last number before it that is none, or with the
   -- first number

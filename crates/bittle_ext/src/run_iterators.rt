@@ -1,16 +1,19 @@
 //! Iterators over the longest runs of set bits, and of unset bits.
 
 ghost use Rattle.std.specs.Iterator.{YieldsFirst, YieldsLast, item_count};
-ghost use Rattle.std.specs.Prelude.{◌≡◌, ◌<◌, ◌≤◌, true, ⊤};
+ghost use Rattle.std.specs.Prelude.{◌≡◌, ◌+◌, ◌<◌, ◌≤◌, true, not, ⊤, IsTrue};
 ghost use Rattle.bittle_ext.specs.RangeMembers.{TakesEnd};
 ghost use Rattle.bittle_ext.specs.Runs.{runs, runs_between, AreRunsBelow};
 ghost use Rattle.bittle_ext.specs.Runs.{BeginsRun, EndsRun, RunsInOrder, RunsInReverse};
+ghost use Rattle.bittle.specs.Searches.{NoneIn};
 ghost use Rattle.bittle.specs.Values.{set_in, ShapeFits};
 ghost use Rattle.bittle.specs.Walk.{ones_or_zeros};
 
 use crate::runs::Others;
 use bittle::{Bits, Endian, Shape};
-use bittle_bits::extension::{Back, End, Front, Kind, Ones, Zeros, end_in};
+use bittle_bits::extension::{
+    Back, End, Front, Kind, Ones, Word, Zeros, end_in, word_of_kind, word_width,
+};
 use std::alloc::AllocError;
 use std::marker::{Model, PhantomData};
 use std::ops::Range;
@@ -22,8 +25,9 @@ pub type IterOneRuns<'a, B, E> = IterRuns<'a, B, E, Ones>;
 pub type IterZeroRuns<'a, B, E> = IterRuns<'a, B, E, Zeros>;
 
 /// Iterates over the longest runs of neighbours in a set that it borrows, of the bits that `K`
-/// names, increasing, in the order `E`, from both ends. Each step is two searches by whole words.
-/// After its end it returns `None` on both sides.
+/// names, increasing, in the order `E`, from both ends. Each step searches by whole words for a run,
+/// and for its other end; from the front the latter only past the word that has its start. After
+/// its end it returns `None` on both sides.
 #[derive(Drop)]
 pub struct IterRuns<'a, B: Shape, E: Endian, K: Kind> {
     bits: &'a B,
@@ -110,7 +114,31 @@ impl<'a, B: Bits, E: Endian, K: Kind> Clone for IterRuns<'a, B, E, K> {
     }
 }
 
-/// Returns where the run that begins at `start` ends, in `start..to`.
+/// Returns the first index after `start` in its word whose bit is not of the kind, or else the end of
+/// the word, and whether it is such an index.
+#[inline]
+fn end_in_word<B: Bits, E: Endian, K: Kind>(bits: &B, start: u32) -> (u32, bool)
+    requires fits { ShapeFits B.Shape bits.now }
+    requires inside { start < (B.big bits.now).capacity }
+    requires member { (ones_or_zeros K.ONES (set_in B.Shape E.Endian bits.now)).has start ≡ true }
+    ensures after { start < result.0 }
+    ensures within { result.0 ≤ (B.big bits.now).capacity }
+    ensures none { NoneIn (ones_or_zeros (not K.ONES) (set_in B.Shape E.Endian bits.now))
+        (start + 1) result.0 }
+    ensures ended { IsTrue result.1 → (ones_or_zeros (not K.ONES)
+        (set_in B.Shape E.Endian bits.now)).has result.0 ≡ true }
+{
+    let width = word_width::<B>();
+    let k = start / width;
+    let since = E::from_index::<B::LeafWord>(start % width);
+    let word = word_of_kind::<B, Others<K>>(bits, k as usize).and(since);
+    let lead = E::zeros::<B::LeafWord>(word);
+    let end = k * width + lead;
+    (end, lead != width)
+}
+
+/// Returns where the run that begins at `start` ends, in `start..to`. A search begins only after the
+/// word that has the start.
 #[inline]
 fn end_of_run<B: Bits, E: Endian, K: Kind>(bits: &B, start: u32, to: u32) -> u32
     requires fits { ShapeFits B.Shape bits.now }
@@ -119,8 +147,15 @@ fn end_of_run<B: Bits, E: Endian, K: Kind>(bits: &B, start: u32, to: u32) -> u32
     requires member { (ones_or_zeros K.ONES (set_in B.Shape E.Endian bits.now)).has start ≡ true }
     ensures { EndsRun (ones_or_zeros K.ONES (set_in B.Shape E.Endian bits.now)) start to result }
 {
-    match end_in::<B, E, Others<K>, Front>(bits, start + 1, to) {
-        Some(end) => end,
+    let (end, is_ended) = end_in_word::<B, E, K>(bits, start);
+    if to <= end {
+        return to;
+    }
+    if is_ended {
+        return end;
+    }
+    match end_in::<B, E, Others<K>, Front>(bits, end, to) {
+        Some(later) => later,
         None => to,
     }
 }
