@@ -1,4 +1,5 @@
-//! Callers of the everyday calls, each proved from public contracts with no proof file.
+//! Callers of the everyday calls, each proved from public contracts with no proof file but for the
+//! measures of loops.
 #![tactic(auto)]
 
 pub mod any_changes;
@@ -9,6 +10,7 @@ pub mod first_forms;
 pub mod lent_changes;
 pub mod made_sets;
 pub mod numbers;
+pub mod pops;
 pub mod range_walks;
 pub mod reads;
 pub mod relation_chains;
