@@ -4,11 +4,11 @@ ghost use Rattle.std.specs.Prelude.{◌≡◌, ◌+◌, ◌<◌, ℕ, false, IsT
 ghost use Rattle.bittle.specs.BitPatterns.{bit_set};
 ghost use Rattle.bittle.specs.PlainSet.{contains};
 ghost use Rattle.bittle.specs.Rows.{row_set};
-ghost use Rattle.bittle.specs.Values.{set_in};
+ghost use Rattle.bittle.specs.Values.{set_in, ShapeFits};
 ghost use Rattle.bittle_ext.specs.Rotations.{rotated_up, shifted_down, shifted_up};
 
 use bittle::{Bits, Endian, Set};
-use bittle_ext::BitsOwnedExt;
+use bittle_ext::{BitsOwnedExt, BitsShiftExt};
 
 /// Returns a chess board with each piece one rank up; those of the last rank leave the board.
 pub fn one_rank_up(board: u64) -> u64
@@ -73,6 +73,23 @@ pub fn turn<B: BitsOwnedExt, E: Endian>(set: B, by: u32) -> B
         ≡ contains (set_in B.Shape E.Endian set) i }
 {
     Set::<B, E>::new_in(set).rotated_up(by).into_bits()
+}
+
+/// Turns a set of any shape in place, also a slice that a caller lends.
+pub fn turn_in_place<B: BitsShiftExt>(ring: &mut B, by: u32)
+    requires { ShapeFits B.Shape ring.old }
+    ensures { (i : ℕ) → contains (set_in B.Shape B.Order.Endian ring.new) (i + by)
+        ≡ contains (set_in B.Shape B.Order.Endian ring.old) i }
+{
+    ring.rotate_up(by);
+}
+
+/// Turns a ring of slots in place, and counts them from another one.
+pub fn count_from(slots: &mut [u32; 4], first: u32)
+    ensures { (i : ℕ) → contains (row_set 4 32 (bit_set 32) slots.new) i
+        ≡ contains (row_set 4 32 (bit_set 32) slots.old) (i + first) }
+{
+    slots.rotate_down(first);
 }
 
 /// Delays the tasks of a timetable of any length; those past its end are dropped.
