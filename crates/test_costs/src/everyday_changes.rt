@@ -4,13 +4,67 @@
 //! The calls are made on any owned set, so that each is proved once: the row of the tests has twelve
 //! words and two members, 451 and 508, or lacks these two alone.
 
-ghost use Rattle.std.specs.Prelude.{◌≤◌, IsTrue};
+ghost use Rattle.std.specs.Prelude.{◌*◌, ◌≤◌, IsTrue};
 
 use crate::asked::Asked;
 use crate::probe_rows::{TWO, costs, row_of};
-use bittle::BitsOwned;
+use bittle::{BitsOwned, Shape};
 use bittle_ext::{BitsIndexMutExt, BitsMutExt};
 use std::process::Abort;
+
+// What is changed in the rows.
+#[derive(Drop)]
+enum Kind {
+    OneBitTold,
+    OneBit,
+    Refused,
+    Ranges,
+    Taken,
+    Retained,
+    Lists,
+}
+
+// Changes a set with the two members, or one that lacks these two alone.
+fn change<B: BitsOwned>(rt: &impl Abort, kind: Kind, few: B, most: B, asked: &Asked)
+    requires indexable { IsTrue B.indexable }
+    requires long { 200 ≤ B.type_capacity }
+{
+    match kind {
+        Kind::OneBitTold => change_one_bit(rt, few, asked),
+        Kind::OneBit => assign_one_bit(rt, few, asked),
+        Kind::Refused => change_past_the_capacity(rt, few, asked),
+        Kind::Ranges => change_ranges(rt, few, asked),
+        Kind::Taken => {
+            take_members(rt, few, asked);
+            take_others(rt, most, asked);
+        }
+        Kind::Retained => {
+            retain_some(rt, few, asked);
+            retain_none(rt, few, asked);
+        }
+        Kind::Lists => add_lists(rt, few, asked),
+    }
+}
+
+// Changes rows of any element, which is proved in less time than of the rows of the tests.
+fn change_any_rows<T: BitsOwned>(
+    rt: &impl Abort,
+    kind: Kind,
+    few: [T; 12],
+    most: [T; 12],
+    asked: &Asked,
+)
+    requires indexable { IsTrue ⟦<[T; 12] as Shape>⟧.indexable }
+    requires long { 200 ≤ 12 * T.type_capacity }
+{
+    change(rt, kind, few, most, asked);
+}
+
+fn change_rows(rt: &impl Abort, kind: Kind) {
+    let asked = Asked::new();
+    let (few, most) = (row_of(0, TWO, &asked), row_of(!0, !TWO, &asked));
+    change_any_rows(rt, kind, few, most, &asked);
+}
 
 fn change_one_bit<B: BitsOwned>(rt: &impl Abort, mut few: B, asked: &Asked)
     requires { IsTrue B.indexable }
@@ -26,8 +80,7 @@ fn change_one_bit<B: BitsOwned>(rt: &impl Abort, mut few: B, asked: &Asked)
 
 #[test]
 fn a_change_of_one_bit_that_reports_it_reads_one_word_and_writes_it(rt: HostRuntime) {
-    let asked = Asked::new();
-    change_one_bit(&rt, row_of(0, TWO, &asked), &asked);
+    change_rows(&rt, Kind::OneBitTold);
 }
 
 fn assign_one_bit<B: BitsOwned>(rt: &impl Abort, mut few: B, asked: &Asked)
@@ -42,8 +95,7 @@ fn assign_one_bit<B: BitsOwned>(rt: &impl Abort, mut few: B, asked: &Asked)
 
 #[test]
 fn a_change_of_one_bit_that_reports_nothing_makes_one_call(rt: HostRuntime) {
-    let asked = Asked::new();
-    assign_one_bit(&rt, row_of(0, TWO, &asked), &asked);
+    change_rows(&rt, Kind::OneBit);
 }
 
 fn change_past_the_capacity<B: BitsOwned>(rt: &impl Abort, mut few: B, asked: &Asked)
@@ -57,8 +109,7 @@ fn change_past_the_capacity<B: BitsOwned>(rt: &impl Abort, mut few: B, asked: &A
 
 #[test]
 fn a_change_that_is_refused_asks_nothing(rt: HostRuntime) {
-    let asked = Asked::new();
-    change_past_the_capacity(&rt, row_of(0, TWO, &asked), &asked);
+    change_rows(&rt, Kind::Refused);
 }
 
 // Indexes 100 to 199 lie in words 1, 2 and 3.
@@ -76,8 +127,7 @@ fn change_ranges<B: BitsOwned>(rt: &impl Abort, mut few: B, asked: &Asked)
 
 #[test]
 fn a_change_of_a_range_asks_each_element_of_it_once(rt: HostRuntime) {
-    let asked = Asked::new();
-    change_ranges(&rt, row_of(0, TWO, &asked), &asked);
+    change_rows(&rt, Kind::Ranges);
 }
 
 fn take_members<B: BitsOwned>(rt: &impl Abort, mut few: B, asked: &Asked)
@@ -100,9 +150,7 @@ fn take_others<B: BitsOwned>(rt: &impl Abort, mut most: B, asked: &Asked)
 
 #[test]
 fn what_is_taken_is_searched_for_once_and_changed_once(rt: HostRuntime) {
-    let asked = Asked::new();
-    take_members(&rt, row_of(0, TWO, &asked), &asked);
-    take_others(&rt, row_of(!0, !TWO, &asked), &asked);
+    change_rows(&rt, Kind::Taken);
 }
 
 // Each word is fetched once. Word 7 is written once if a bit of it goes, or both.
@@ -122,9 +170,7 @@ fn retain_none<B: BitsOwned>(rt: &impl Abort, mut few: B, asked: &Asked)
 
 #[test]
 fn retain_reads_each_word_once_and_writes_those_that_change(rt: HostRuntime) {
-    let asked = Asked::new();
-    retain_some(&rt, row_of(0, TWO, &asked), &asked);
-    retain_none(&rt, row_of(0, TWO, &asked), &asked);
+    change_rows(&rt, Kind::Retained);
 }
 
 fn add_lists<B: BitsOwned>(rt: &impl Abort, mut few: B, asked: &Asked)
@@ -136,6 +182,5 @@ fn add_lists<B: BitsOwned>(rt: &impl Abort, mut few: B, asked: &Asked)
 
 #[test]
 fn a_list_of_indexes_makes_one_call_for_each(rt: HostRuntime) {
-    let asked = Asked::new();
-    add_lists(&rt, row_of(0, TWO, &asked), &asked);
+    change_rows(&rt, Kind::Lists);
 }

@@ -4,13 +4,68 @@
 //! The calls are made on any set, so that each is proved once: the row of the tests has twelve words
 //! and two members, 451 and 508, or lacks these two alone.
 
+ghost use Rattle.std.specs.Prelude.{IsTrue};
 ghost use Rattle.bittle.specs.Values.{ShapeFits};
 
 use crate::asked::Asked;
 use crate::probe_rows::{TWO, costs, row_of};
-use bittle::Bits;
+use bittle::{Bits, BitsOwned, Shape};
 use bittle_ext::{BitsExt, BitsIndexExt, BitsSpanExt};
 use std::process::Abort;
+
+// What is asked of the rows.
+#[derive(Drop)]
+enum Question {
+    Ends,
+    Neighbours,
+    Ranges,
+    Spans,
+    AnyAndAll,
+    Select,
+    Runs,
+    LongerRuns,
+    OneBit,
+}
+
+// Asks a set with the two members, one that lacks these two alone, and one with many members.
+fn ask<B: BitsOwned>(rt: &impl Abort, question: Question, few: B, most: B, many: B, asked: &Asked)
+    requires { IsTrue B.indexable }
+{
+    match question {
+        Question::Ends => ask_for_ends(rt, &few, &most, asked),
+        Question::Neighbours => ask_for_neighbours(rt, &few, &most, asked),
+        Question::Ranges => count_ranges(rt, &few, asked),
+        Question::Spans => count_spans(rt, &few, asked),
+        Question::AnyAndAll => question_ranges(rt, &few, &most, asked),
+        Question::Select => select_two(rt, &few, &many, asked),
+        Question::Runs => {
+            search_for_runs_of_ones(rt, &few, asked);
+            search_for_runs_of_zeros(rt, &most, &few, asked);
+        }
+        Question::LongerRuns => search_for_longer_runs(rt, &few, asked),
+        Question::OneBit => ask_for_one_bit(rt, &few, asked),
+    }
+}
+
+// Asks rows of any element, which is proved in less time than of the rows of the tests.
+fn ask_any_rows<T: BitsOwned>(
+    rt: &impl Abort,
+    question: Question,
+    few: [T; 12],
+    most: [T; 12],
+    many: [T; 12],
+    asked: &Asked,
+)
+    requires { IsTrue ⟦<[T; 12] as Shape>⟧.indexable }
+{
+    ask(rt, question, few, most, many, asked);
+}
+
+fn ask_rows(rt: &impl Abort, question: Question) {
+    let asked = Asked::new();
+    let (few, most) = (row_of(0, TWO, &asked), row_of(!0, !TWO, &asked));
+    ask_any_rows(rt, question, few, most, row_of(1, TWO, &asked), &asked);
+}
 
 fn ask_for_ends<B: Bits>(rt: &impl Abort, few: &B, most: &B, asked: &Asked)
     requires few { ShapeFits B.Shape few.now }
@@ -24,9 +79,7 @@ fn ask_for_ends<B: Bits>(rt: &impl Abort, few: &B, most: &B, asked: &Asked)
 
 #[test]
 fn ends_fetch_the_words_up_to_the_answer(rt: HostRuntime) {
-    let asked = Asked::new();
-    let (few, most) = (row_of(0, TWO, &asked), row_of(!0, !TWO, &asked));
-    ask_for_ends(&rt, &few, &most, &asked);
+    ask_rows(&rt, Question::Ends);
 }
 
 fn ask_for_neighbours<B: Bits>(rt: &impl Abort, few: &B, most: &B, asked: &Asked)
@@ -43,9 +96,7 @@ fn ask_for_neighbours<B: Bits>(rt: &impl Abort, few: &B, most: &B, asked: &Asked
 
 #[test]
 fn neighbours_fetch_the_words_up_to_the_answer(rt: HostRuntime) {
-    let asked = Asked::new();
-    let (few, most) = (row_of(0, TWO, &asked), row_of(!0, !TWO, &asked));
-    ask_for_neighbours(&rt, &few, &most, &asked);
+    ask_rows(&rt, Question::Neighbours);
 }
 
 fn count_ranges<B: Bits>(rt: &impl Abort, few: &B, asked: &Asked)
@@ -60,8 +111,7 @@ fn count_ranges<B: Bits>(rt: &impl Abort, few: &B, asked: &Asked)
 
 #[test]
 fn counts_of_a_range_fetch_its_words_once(rt: HostRuntime) {
-    let asked = Asked::new();
-    count_ranges(&rt, &row_of(0, TWO, &asked), &asked);
+    ask_rows(&rt, Question::Ranges);
 }
 
 fn count_spans<B: Bits>(rt: &impl Abort, few: &B, asked: &Asked)
@@ -77,8 +127,7 @@ fn count_spans<B: Bits>(rt: &impl Abort, few: &B, asked: &Asked)
 
 #[test]
 fn a_range_as_rust_writes_it_costs_what_its_two_numbers_cost(rt: HostRuntime) {
-    let asked = Asked::new();
-    count_spans(&rt, &row_of(0, TWO, &asked), &asked);
+    ask_rows(&rt, Question::Spans);
 }
 
 fn question_ranges<B: Bits>(rt: &impl Abort, few: &B, most: &B, asked: &Asked)
@@ -93,9 +142,7 @@ fn question_ranges<B: Bits>(rt: &impl Abort, few: &B, most: &B, asked: &Asked)
 
 #[test]
 fn questions_about_a_range_fetch_up_to_the_answer(rt: HostRuntime) {
-    let asked = Asked::new();
-    let (few, most) = (row_of(0, TWO, &asked), row_of(!0, !TWO, &asked));
-    question_ranges(&rt, &few, &most, &asked);
+    ask_rows(&rt, Question::AnyAndAll);
 }
 
 fn select_two<B: Bits>(rt: &impl Abort, few: &B, many: &B, asked: &Asked)
@@ -109,9 +156,7 @@ fn select_two<B: Bits>(rt: &impl Abort, few: &B, many: &B, asked: &Asked)
 
 #[test]
 fn select_fetches_up_to_its_word_and_then_that_word_for_each_half(rt: HostRuntime) {
-    let asked = Asked::new();
-    let (few, many) = (row_of(0, TWO, &asked), row_of(1, TWO, &asked));
-    select_two(&rt, &few, &many, &asked);
+    ask_rows(&rt, Question::Select);
 }
 
 // Each word once: eight to the first bit, and twelve to the end.
@@ -140,10 +185,7 @@ fn search_for_runs_of_zeros<B: Bits>(rt: &impl Abort, most: &B, few: &B, asked: 
 
 #[test]
 fn runs_of_up_to_four_words_fetch_each_word_once(rt: HostRuntime) {
-    let asked = Asked::new();
-    let (few, most) = (row_of(0, TWO, &asked), row_of(!0, !TWO, &asked));
-    search_for_runs_of_ones(&rt, &few, &asked);
-    search_for_runs_of_zeros(&rt, &most, &few, &asked);
+    ask_rows(&rt, Question::Runs);
 }
 
 // A search from the front finds where a run may begin, and one from the back whether it is broken.
@@ -160,8 +202,7 @@ fn search_for_longer_runs<B: Bits>(rt: &impl Abort, few: &B, asked: &Asked)
 
 #[test]
 fn longer_runs_fetch_twice_for_each_shorter_run(rt: HostRuntime) {
-    let asked = Asked::new();
-    search_for_longer_runs(&rt, &row_of(0, TWO, &asked), &asked);
+    ask_rows(&rt, Question::LongerRuns);
 }
 
 fn ask_for_one_bit<B: Bits>(rt: &impl Abort, few: &B, asked: &Asked)
@@ -175,6 +216,5 @@ fn ask_for_one_bit<B: Bits>(rt: &impl Abort, few: &B, asked: &Asked)
 
 #[test]
 fn an_index_that_does_not_wrap_asks_for_one_bit_or_nothing(rt: HostRuntime) {
-    let asked = Asked::new();
-    ask_for_one_bit(&rt, &row_of(0, TWO, &asked), &asked);
+    ask_rows(&rt, Question::OneBit);
 }
