@@ -1,12 +1,12 @@
 -- The entries of a row are those whose keys find their values.
-use Rattle.std.proofs.Common.{◌≡◌, ℕ, zero, suc, ◌+◌, ◌<◌, ◌≤◌, List, [], ◌∷◌, length, Some, inl, inr, ap, ◌∙◌, arith, slice_get, slice_index_or}
-use Rattle.std.proofs.lemmas.Bool.{cases_lt}
+use Rattle.std.proofs.Common.{◌≡◌, ℕ, zero, suc, ◌+◌, ◌<◌, ◌≤◌, Bool, true, false, cond, ◌==◌, nat_lt, Option, None, List, [], ◌∷◌, length, Some, inl, inr, refl, sym, ap, ◌∙◌, arith, slice_get, slice_index_or}
+use Rattle.std.proofs.lemmas.Bool.{cases_eq, cases_lt, eq-eqb, le-ltb, ne_eqb}
 use Rattle.std.proofs.lemmas.Option.{slice_get_past}
 use Rattle.bit_slots.specs.declared.Key.{Key}
 use Rattle.bit_slots.specs.declared.slot.Slot.{Slot}
 use Rattle.bit_slots.specs.declared.slot.Slot.TheVariants.{Free, Live, Retired}
-use Rattle.bit_slots.specs.Entries.{entries_from, IsEntry}
-use Rattle.bit_slots.specs.Keys.{found, stage_at}
+use Rattle.bit_slots.specs.Entries.{key_of, entries_from, IsEntry, HasEntry}
+use Rattle.bit_slots.specs.Keys.{Unused, Holds, Spent, found, stage_of, stage_at}
 use Rattle.bit_slots.proofs.SlotChanges.{live_holds}
 
 -- the slots past the first stand one number further on
@@ -53,3 +53,112 @@ entries_at_most (Free generation ∷ rest) from = omega (arith, entries_at_most 
 entries_at_most (Live generation value ∷ rest) from =
     omega (arith, entries_at_most rest (from + 1))
 entries_at_most (Retired ∷ rest) from = omega (arith, entries_at_most rest (from + 1))
+
+-- a slot of which a generation finds a value holds it in that generation
+holds_is : {V : Type 0} (slot : Slot V) (generation : ℕ) (value : V) →
+    found (stage_of slot generation) ≡ Some value → slot ≡ Live generation value
+holds_is {V = V} (Free current) generation value is =
+    absurd (by (nat_lt generation current) (generation == current) is)
+  where
+    by : (a b : Bool) → found {V = V} (cond a Spent (cond b Unused Unused)) ≡ Some value → ⊥
+    by true b e = cc
+    by false true e = cc
+    by false false e = cc
+holds_is {V = V} Retired generation value is =
+    absurd (by (nat_lt generation 4294967296) (generation == 4294967296) is)
+  where
+    by : (a b : Bool) → found {V = V} (cond a Spent (cond b Unused Unused)) ≡ Some value → ⊥
+    by true b e = cc
+    by false true e = cc
+    by false false e = cc
+holds_is {V = V} (Live current held) generation value is = elim (cases_eq generation current) [
+  | inl same ↦
+      let low = le-ltb generation current (omega (arith, same)) in
+      let here = eq-eqb generation current same in
+      let held_is : held ≡ value = one (sym (ap found (by low here)) ∙ is) in
+      ap (λ n. Live n held) (sym same) ∙ ap (Live generation) held_is
+  | inr apart ↦ absurd (none (nat_lt generation current)
+      (sym (ap (λ b. found (cond (nat_lt generation current) Spent (cond b (Holds held) Unused)))
+      (ne_eqb generation current apart)) ∙ is))
+]
+  where
+    one : {v w : V} → Some v ≡ Some w → v ≡ w
+    one e = cc
+
+    by : nat_lt generation current ≡ false → (generation == current) ≡ true →
+        stage_of (Live current held) generation ≡ Holds held
+    by low here = rw (low, here) refl
+
+    none : (a : Bool) → found {V = V} (cond a Spent Unused) ≡ Some value → ⊥
+    none true e = cc
+    none false e = cc
+
+-- a slot with a value has its entry
+has_at : {V : Type 0} (rest : List (Slot V)) (from i generation : ℕ) (value : V) →
+    slice_get rest i ≡ Some (Live generation value) →
+    HasEntry (entries_from from rest) (key_of (from + i) generation, value)
+has_at [] from i generation value is = absurd (cc)
+has_at (Free current ∷ rest) from zero generation value is = absurd (cc)
+has_at (Retired ∷ rest) from zero generation value is = absurd (cc)
+has_at (Live current held ∷ rest) from zero generation value is =
+    let first : from ≡ from + 0 = omega arith in
+    (0, cc)
+has_at (Free current ∷ rest) from (suc i) generation value is =
+    let next : from + 1 + i ≡ from + suc i = omega arith in
+    let later = has_at rest (from + 1) i generation value is in
+    (later.0, later.1 ∙ ap (λ n. Some (key_of n generation, value)) next)
+has_at (Retired ∷ rest) from (suc i) generation value is =
+    let next : from + 1 + i ≡ from + suc i = omega arith in
+    let later = has_at rest (from + 1) i generation value is in
+    (later.0, later.1 ∙ ap (λ n. Some (key_of n generation, value)) next)
+has_at (Live current held ∷ rest) from (suc i) generation value is =
+    let next : from + 1 + i ≡ from + suc i = omega arith in
+    let later = has_at rest (from + 1) i generation value is in
+    (suc later.0, later.1 ∙ ap (λ n. Some (key_of n generation, value)) next)
+
+-- so each key that finds a value has one
+pub entries_have : {V : Type 0} (row : List (Slot V)) (key : Key) (value : V) →
+    IsEntry row (key, value) → HasEntry (entries_from 0 row) (key, value)
+entries_have {V = V} row key value is =
+    let at = has_at row 0 key.slot key.generation value (by (slice_get row key.slot) is) in
+    let same : 0 + key.slot ≡ key.slot = omega arith in
+    (at.0, at.1 ∙ ap (λ n. Some (key_of n key.generation, value)) same)
+  where
+    by : (place : Option (Slot V)) → found (stage_at place key.generation) ≡ Some value →
+        place ≡ Some (Live key.generation value)
+    by None e = absurd (cc)
+    by (Some slot) e = ap Some (holds_is slot key.generation value e)
+
+-- the entries of the slots from a number on have their slots from there on
+from_there : {V : Type 0} (rest : List (Slot V)) (from i : ℕ) (entry : Key × V) →
+    slice_get (entries_from from rest) i ≡ Some entry → from ≤ entry.0.slot
+from_there [] from i entry is = absurd (cc)
+from_there (Free current ∷ rest) from i entry is =
+    omega (arith, from_there rest (from + 1) i entry is)
+from_there (Retired ∷ rest) from i entry is =
+    omega (arith, from_there rest (from + 1) i entry is)
+from_there {V = V} (Live current held ∷ rest) from zero entry is =
+    let here : from ≡ entry.0.slot = ap (λ e. e.0.slot) (one is) in omega (arith, here)
+  where
+    one : {e f : Key × V} → Some e ≡ Some f → e ≡ f
+    one e = cc
+from_there (Live current held ∷ rest) from (suc i) entry is =
+    omega (arith, from_there rest (from + 1) i entry is)
+
+-- so each has a lesser slot than the next
+pub slots_rise : {V : Type 0} (rest : List (Slot V)) (from i : ℕ) (first second : Key × V) →
+    slice_get (entries_from from rest) i ≡ Some first →
+    slice_get (entries_from from rest) (suc i) ≡ Some second → first.0.slot < second.0.slot
+slots_rise [] from i first second is next = absurd (cc)
+slots_rise (Free current ∷ rest) from i first second is next =
+    slots_rise rest (from + 1) i first second is next
+slots_rise (Retired ∷ rest) from i first second is next =
+    slots_rise rest (from + 1) i first second is next
+slots_rise {V = V} (Live current held ∷ rest) from zero first second is next =
+    let here : from ≡ first.0.slot = ap (λ e. e.0.slot) (one is) in
+    omega (arith, here, from_there rest (from + 1) zero second next)
+  where
+    one : {e f : Key × V} → Some e ≡ Some f → e ≡ f
+    one e = cc
+slots_rise (Live current held ∷ rest) from (suc i) first second is next =
+    slots_rise rest (from + 1) i first second is next

@@ -1,5 +1,5 @@
 -- The values of a row, each with its key, in the order of their slots.
-use Rattle.std.specs.Prelude.{◌≡◌, ℕ, ◌+◌, List, [], ◌∷◌, Some}
+use Rattle.std.specs.Prelude.{◌≡◌, ℕ, ◌+◌, List, [], ◌∷◌, Some, slice_get}
 use Rattle.bit_slots.specs.declared.Key.{Key}
 use Rattle.bit_slots.specs.declared.slot.Slot.{Slot}
 use Rattle.bit_slots.specs.declared.slot.Slot.TheVariants.{Free, Live, Retired}
@@ -24,3 +24,7 @@ entries row = entries_from 0 row
 -- the key of an entry finds its value
 abbrev pub IsEntry : {V : Type 0} → List (Slot V) → Key × V → Type 0
 IsEntry row entry = found (stages row entry.0.slot entry.0.generation) ≡ Some entry.1
+
+-- it is among the entries
+abbrev pub HasEntry : {V : Type 0} → List (Key × V) → Key × V → Type 0
+HasEntry entries entry = (i : ℕ) × (slice_get entries i ≡ Some entry)

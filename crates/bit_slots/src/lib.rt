@@ -19,12 +19,12 @@ ghost use Rattle.std.specs.Borrow.{MutBor};
 ghost use Rattle.std.specs.Fn.{FnOnceReturnsAtMut};
 ghost use Rattle.std.specs.List.{All};
 ghost use Rattle.std.specs.Option.{is_some};
-ghost use Rattle.std.specs.Prelude.{◌≡◌, ◌<◌, ◌≤◌, ℕ, false, true, length, None, Some};
+ghost use Rattle.std.specs.Prelude.{◌≡◌, ◌<◌, ◌≤◌, ℕ, suc, false, true, length, None, Some};
 ghost use Rattle.std.specs.Prelude.{option_copied, IfErr, IfOk, IfSome, IsTrue, MatchOption, slice_get};
 ghost use Rattle.bittle.specs.PlainSet.{size};
 ghost use Rattle.bittle.specs.Shapes.{Fits};
 ghost use Rattle.bittle.specs.Values.{set_in};
-ghost use Rattle.bit_slots.specs.Entries.{entries, IsEntry};
+ghost use Rattle.bit_slots.specs.Entries.{entries, HasEntry, IsEntry};
 ghost use Rattle.bit_slots.specs.Keys.{stages, found, IsInserted, IsRemoved, IsReplaced, HasKey};
 ghost use Rattle.bit_slots.specs.Keys.{IsUpdated};
 ghost use Rattle.bit_slots.specs.SlotSets.{is_free, is_live, is_slot, slots_where, HasSlots};
@@ -174,6 +174,11 @@ impl<'a, V: Drop, B: BitsOwned> Slots<'a, V, B> {
     pub fn iter(&self) -> Iter<'_, V>
         ensures entries { result ≡ entries self.now.row.slots.now }
         ensures found { All (λ entry. IsEntry self.now.row.slots.now entry) result }
+        ensures order { (i : ℕ) (first second : Key × V) → slice_get result i ≡ Some first
+            → slice_get result (suc i) ≡ Some second → first.0.slot < second.0.slot }
+        ensures all { (key : Key) (value : V)
+            → found (stages self.now.row.slots.now key.slot key.generation) ≡ Some value
+            → HasEntry result (key, value) }
         ensures within { All (λ entry. entry.0.slot < length self.now.row.slots.now) result }
         ensures at_most { length result ≤ length self.now.row.slots.now }
     {
