@@ -1,7 +1,8 @@
-//! Callers of the ready queues, of roles and of entities: what an answer says is what the next call
-//! needs, from the contracts alone. None has a proof file.
+//! Callers of the ready queues, of roles, of entities and of slots: what an answer says is what the
+//! next call needs, from the contracts alone. None has a proof file, but the sum has an invariant.
 #![tactic(auto)]
 
 pub mod entities;
 pub mod queues;
 pub mod roles;
+pub mod slots;
