@@ -99,6 +99,58 @@ pub fn up(words: &mut [u64]) {
     }
 }
 
+/// Moves each set bit down by so many places, from index 0 on to the last one.
+pub fn turn(words: &mut [u64], by: usize) {
+    let by = by % (words.len() * 64);
+    words.rotate_left(by / 64);
+    if by % 64 > 0 {
+        let (down, up) = (by % 64, 64 - by % 64);
+        let mut first = words[0];
+        for word in words.iter_mut().rev() {
+            let moved = *word >> down | first << up;
+            first = *word;
+            *word = moved;
+        }
+    }
+}
+
+/// Returns the bits at so many indexes, from one to 64.
+pub fn load(words: &[u64], from: usize, count: usize) -> u64 {
+    let (at, place) = (from / 64, from % 64);
+    let low = words.get(at).map_or(0, |word| word >> place);
+    let after = if place + count > 64 { words.get(at + 1) } else { None };
+    (low | after.map_or(0, |word| word << (64 - place))) & (u64::MAX >> (64 - count))
+}
+
+/// Writes the lowest bits of a number, 64 at most.
+pub fn store(words: &mut [u64], from: usize, count: usize, value: u64) {
+    if count == 0 {
+        return;
+    }
+    let (at, place, mask) = (from / 64, from % 64, u64::MAX >> (64 - count));
+    words[at] = words[at] & !(mask << place) | (value & mask) << place;
+    if place + count > 64 {
+        let done = 64 - place;
+        words[at + 1] = words[at + 1] & !(mask >> done) | (value & mask) >> done;
+    }
+}
+
+/// Copies a range of other words to the indexes from 0 on.
+pub fn copy_range(words: &mut [u64], others: &[u64], range: Range<usize>) {
+    for (at, from) in range.clone().step_by(64).enumerate() {
+        let count = (range.end - from).min(64);
+        store(words, at * 64, count, load(others, from, count));
+    }
+}
+
+/// Copies a range to the indexes from 0 on.
+pub fn copy_within(words: &mut [u64], range: Range<usize>) {
+    for (at, from) in range.clone().step_by(64).enumerate() {
+        let count = (range.end - from).min(64);
+        store(words, at * 64, count, load(words, from, count));
+    }
+}
+
 /// Returns the sum of the indexes of the set bits in a range.
 pub fn sum_in(words: &[u64], range: Range<usize>) -> u64 {
     let mut sum = 0u64;
