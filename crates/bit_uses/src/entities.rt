@@ -1,6 +1,8 @@
 //! Entities with components in the hands of a caller.
 
 ghost use Rattle.std.specs.Prelude.{◌≡◌, ◌≢◌, ◌<◌, ◌≤◌, ℕ, length, false, true, [], ◌∷◌, IfSome};
+ghost use Rattle.std.specs.Int.{int_wrapping_add, w32};
+ghost use Rattle.std.specs.Prelude.{Some, ℤ};
 ghost use Rattle.std.specs.Prelude.{option_map, slice_get, slice_index, Option};
 ghost use Rattle.bittle.specs.BitPatterns.{bit_set};
 ghost use Rattle.bittle.specs.Rows.{row_set};
@@ -20,8 +22,8 @@ pub const PLACE: u32 = 0;
 /// The component of an entity that has a speed.
 pub const SPEED: u32 = 1;
 
-/// Moves each entity that has a place and a speed, and returns how many these are. The check proves
-/// that an entity is an index of tables as long as there are entities.
+/// Moves each entity that has a place and a speed, once, and returns how many these are. The others
+/// stay. The check proves that an entity is an index of tables as long as there are entities.
 pub fn step<B: BitsOwned, const N: usize>(
     world: &World<B, N>,
     places: &mut [i32],
@@ -33,6 +35,15 @@ pub fn step<B: BitsOwned, const N: usize>(
         world.now.alive world.now.components) (0 ∷ 1 ∷ [])) }
     ensures at_most { result ≤ B.type_capacity }
     ensures same_length { length places.new ≡ length places.old }
+    ensures others { let all = world_of N (set_in B.Shape B.Order.Endian) world.now.alive
+        world.now.components in
+        (other : ℕ) → (matching all (0 ∷ 1 ∷ [])).has other ≡ false
+        → slice_get places.new other ≡ slice_get places.old other }
+    ensures once { let all = world_of N (set_in B.Shape B.Order.Endian) world.now.alive
+        world.now.components in
+        (entity : ℕ) (place speed : ℤ) → (matching all (0 ∷ 1 ∷ [])).has entity ≡ true
+        → slice_get places.old entity ≡ Some place → slice_get speeds.now entity ≡ Some speed
+        → slice_get places.new entity ≡ Some (int_wrapping_add w32 place speed) }
 {
     let movers = world.matching(&[PLACE, SPEED]);
     for entity in movers.iter_ones() {
