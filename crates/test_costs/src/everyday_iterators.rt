@@ -3,13 +3,57 @@
 //! The calls are made on any set, so that each is proved once: the row of the tests has twelve words
 //! and two members, 451 and 508, or lacks these two alone.
 
+ghost use Rattle.std.specs.Prelude.{IsTrue};
 ghost use Rattle.bittle.specs.Values.{ShapeFits};
 
 use crate::asked::Asked;
 use crate::probe_rows::{TWO, costs, row_of};
-use bittle::{Bits, LittleEndian, Shape};
+use bittle::{Bits, BitsOwned, LittleEndian, Shape};
 use bittle_ext::{BitsExt, BitsRangeExt, BitsViewExt};
 use std::process::Abort;
+
+// What goes over the rows.
+#[derive(Drop)]
+enum Walk {
+    Ranges,
+    Runs,
+    OneSet,
+    RangeViews,
+    TwoSets,
+}
+
+// Goes over a set with the two members, one that lacks these two alone, and one with index 451.
+fn go_over<B: BitsOwned>(rt: &impl Abort, walk: Walk, few: B, most: B, one: B, asked: &Asked)
+    requires { IsTrue B.indexable }
+{
+    match walk {
+        Walk::Ranges => iterate_over_ranges(rt, &few, &most, asked),
+        Walk::Runs => iterate_over_runs(rt, &few, &most, asked),
+        Walk::OneSet => view_one_set(rt, &few, asked),
+        Walk::RangeViews => view_ranges(rt, &few, asked),
+        Walk::TwoSets => view_two_sets(rt, &few, &one, asked),
+    }
+}
+
+// Goes over rows of any element, which is proved in less time than over the rows of the tests.
+fn go_over_any_rows<T: BitsOwned>(
+    rt: &impl Abort,
+    walk: Walk,
+    few: [T; 12],
+    most: [T; 12],
+    one: [T; 12],
+    asked: &Asked,
+)
+    requires { IsTrue ⟦<[T; 12] as Shape>⟧.indexable }
+{
+    go_over(rt, walk, few, most, one, asked);
+}
+
+fn go_over_rows(rt: &impl Abort, walk: Walk) {
+    let asked = Asked::new();
+    let (few, most) = (row_of(0, TWO, &asked), row_of(!0, !TWO, &asked));
+    go_over_any_rows(rt, walk, few, most, row_of(0, 8, &asked), &asked);
+}
 
 // Over a row an iterator begins with a word loaded, which has no item of an empty range.
 fn iterate_over_ranges<B: Bits>(rt: &impl Abort, few: &B, most: &B, asked: &Asked)
@@ -25,9 +69,7 @@ fn iterate_over_ranges<B: Bits>(rt: &impl Abort, few: &B, most: &B, asked: &Aske
 
 #[test]
 fn an_iterator_over_a_range_fetches_each_word_of_it_once(rt: HostRuntime) {
-    let asked = Asked::new();
-    let (few, most) = (row_of(0, TWO, &asked), row_of(!0, !TWO, &asked));
-    iterate_over_ranges(&rt, &few, &most, &asked);
+    go_over_rows(&rt, Walk::Ranges);
 }
 
 // Eight words to the first bit and one to its end, one to the second bit and one to its end, and five
@@ -42,9 +84,7 @@ fn iterate_over_runs<B: Bits>(rt: &impl Abort, few: &B, most: &B, asked: &Asked)
 
 #[test]
 fn an_iterator_over_runs_searches_twice_for_each(rt: HostRuntime) {
-    let asked = Asked::new();
-    let (few, most) = (row_of(0, TWO, &asked), row_of(!0, !TWO, &asked));
-    iterate_over_runs(&rt, &few, &most, &asked);
+    go_over_rows(&rt, Walk::Runs);
 }
 
 fn view_one_set<B: Bits>(rt: &impl Abort, few: &B, asked: &Asked)
@@ -59,8 +99,7 @@ fn view_one_set<B: Bits>(rt: &impl Abort, few: &B, asked: &Asked)
 
 #[test]
 fn a_view_asks_what_a_call_on_its_set_asks(rt: HostRuntime) {
-    let asked = Asked::new();
-    view_one_set(&rt, &row_of(0, TWO, &asked), &asked);
+    go_over_rows(&rt, Walk::OneSet);
 }
 
 // A search fetches its first word before it learns which words to pass over.
@@ -77,8 +116,7 @@ fn view_ranges<B: Bits>(rt: &impl Abort, few: &B, asked: &Asked)
 
 #[test]
 fn a_view_of_a_range_fetches_the_words_of_the_range(rt: HostRuntime) {
-    let asked = Asked::new();
-    view_ranges(&rt, &row_of(0, TWO, &asked), &asked);
+    go_over_rows(&rt, Walk::RangeViews);
 }
 
 fn view_two_sets<A: Bits, B: Bits + Shape<LeafWord = A::LeafWord>>(
@@ -99,7 +137,5 @@ fn view_two_sets<A: Bits, B: Bits + Shape<LeafWord = A::LeafWord>>(
 
 #[test]
 fn a_view_of_two_sets_of_like_words_fetches_each_word_of_both_once(rt: HostRuntime) {
-    let asked = Asked::new();
-    let (left, right) = (row_of(0, TWO, &asked), row_of(0, 8, &asked));
-    view_two_sets(&rt, &left, &right, &asked);
+    go_over_rows(&rt, Walk::TwoSets);
 }

@@ -1,5 +1,6 @@
 //! What an allocator asks of its map: a page is found by a search, and changed by one call.
 
+ghost use Rattle.std.specs.Prelude.{◌*◌};
 ghost use Rattle.bittle.specs.Shapes.{Fits};
 
 use crate::asked::Asked;
@@ -7,7 +8,7 @@ use crate::checks::{holds, same};
 use crate::probe::{ONES, Probe, ZEROS};
 use crate::probe_rows::{TWO, costs, row_of};
 use bit_pages::{Answer, NotTaken, Pages, Request};
-use bittle::BitsOwned;
+use bittle::{BitsOwned, Shape};
 use std::process::Abort;
 
 // Takes the pages 0 and 31, and then none.
@@ -67,10 +68,17 @@ fn change_many<B: BitsOwned>(rt: &impl Abort, most: B, asked: &Asked)
     costs!(rt; asked, pages.is_taken(451), false, 0, 1);
 }
 
+// The same of a row of any element, which is proved in less time than of the row of the test.
+fn change_many_of_any_row<T: BitsOwned>(rt: &impl Abort, most: [T; 12], asked: &Asked)
+    requires { Fits ⟦<[T; 12] as Shape>⟧.indexable (12 * T.type_capacity) }
+{
+    change_many(rt, most, asked);
+}
+
 #[test]
 fn a_run_of_pages_is_tested_and_changed_word_by_word(rt: HostRuntime) {
     let asked = Asked::new();
-    change_many(&rt, row_of(!0, !TWO, &asked), &asked);
+    change_many_of_any_row(&rt, row_of(!0, !TWO, &asked), &asked);
 }
 
 // Returns how many pages there are, and how many of them are taken and free.

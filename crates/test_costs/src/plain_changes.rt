@@ -3,14 +3,66 @@
 //! The calls are made on any owned set, so that each is proved once: the row of the tests has twelve
 //! words and two members, 451 and 508.
 
-ghost use Rattle.std.specs.Prelude.{◌≤◌, IsTrue};
+ghost use Rattle.std.specs.Prelude.{◌*◌, ◌≤◌, IsTrue};
 
 use crate::asked::Asked;
 use crate::checks::same;
 use crate::probe_rows::{TWO, costs, row_of};
-use bittle::{BigEndian, BitsMut, BitsOwned};
+use bittle::{BigEndian, BitsMut, BitsOwned, Shape};
 use bittle_ext::{BitsCombineExt, BitsOwnedExt, BitsShiftExt, BitsSpanMutExt};
 use std::process::Abort;
+
+// What is changed in the rows.
+#[derive(Drop)]
+enum Kind {
+    Ranges,
+    All,
+    Complement,
+    ByAnother,
+    Moves,
+}
+
+// Changes a set with the two members, by one that has index 451 alone where there are two.
+fn change<B: BitsOwned>(rt: &impl Abort, kind: Kind, few: B, one: B, asked: &Asked)
+    requires indexable { IsTrue B.indexable }
+    requires long { 200 ≤ B.type_capacity }
+{
+    match kind {
+        Kind::Ranges => change_ranges(rt, few, asked),
+        Kind::All => change_all(rt, few, asked),
+        Kind::Complement => complement(rt, few, asked),
+        Kind::ByAnother => change_by_another(rt, few, one, asked),
+        Kind::Moves => {
+            shift(rt, few, asked);
+            rotate(rt, few, asked);
+        }
+    }
+}
+
+// Changes rows of any element, which is proved in less time than of the rows of the tests.
+fn change_any_rows<T: BitsOwned>(
+    rt: &impl Abort,
+    kind: Kind,
+    few: [T; 12],
+    one: [T; 12],
+    asked: &Asked,
+)
+    requires indexable { IsTrue ⟦<[T; 12] as Shape>⟧.indexable }
+    requires long { 200 ≤ 12 * T.type_capacity }
+{
+    change(rt, kind, few, one, asked);
+}
+
+fn change_rows(rt: &impl Abort, kind: Kind) {
+    let asked = Asked::new();
+    change_any_rows(
+        rt,
+        kind,
+        row_of(0, TWO, &asked),
+        row_of(0, 8, &asked),
+        &asked,
+    );
+}
 
 // Indexes 100 to 199 lie in words 1, 2 and 3.
 fn change_ranges<B: BitsOwned>(rt: &impl Abort, mut few: B, asked: &Asked)
@@ -27,8 +79,7 @@ fn change_ranges<B: BitsOwned>(rt: &impl Abort, mut few: B, asked: &Asked)
 
 #[test]
 fn a_change_of_a_range_in_an_order_asks_each_element_of_it_once(rt: HostRuntime) {
-    let asked = Asked::new();
-    change_ranges(&rt, row_of(0, TWO, &asked), &asked);
+    change_rows(&rt, Kind::Ranges);
 }
 
 // An operation on two sets of one type is a call of each element, which reads the other's.
@@ -43,8 +94,7 @@ fn change_all<B: BitsOwned>(rt: &impl Abort, mut few: B, asked: &Asked)
 
 #[test]
 fn a_change_of_all_bits_asks_each_element_once(rt: HostRuntime) {
-    let asked = Asked::new();
-    change_all(&rt, row_of(0, TWO, &asked), &asked);
+    change_rows(&rt, Kind::All);
 }
 
 // The unset bits are those of the set with each bit, which counts nothing, less the set: the set
@@ -58,8 +108,7 @@ fn complement<B: BitsOwned>(rt: &impl Abort, few: B, asked: &Asked)
 
 #[test]
 fn a_complement_asks_the_set_for_nothing_before_it_is_taken_away(rt: HostRuntime) {
-    let asked = Asked::new();
-    complement(&rt, row_of(0, TWO, &asked), &asked);
+    change_rows(&rt, Kind::Complement);
 }
 
 // Each word of both sets is read, and each of the first is written.
@@ -75,8 +124,7 @@ fn change_by_another<B: BitsOwned>(rt: &impl Abort, mut few: B, other: B, asked:
 
 #[test]
 fn a_change_by_another_set_reads_each_word_of_both_once(rt: HostRuntime) {
-    let asked = Asked::new();
-    change_by_another(&rt, row_of(0, TWO, &asked), row_of(0, 8, &asked), &asked);
+    change_rows(&rt, Kind::ByAnother);
 }
 
 // By 65 indexes ten words come from two each, one from the end of one, and one is empty.
@@ -103,7 +151,5 @@ fn rotate<B: BitsOwned>(rt: &impl Abort, mut few: B, asked: &Asked)
 
 #[test]
 fn a_move_of_all_bits_reads_each_word_a_few_times(rt: HostRuntime) {
-    let asked = Asked::new();
-    shift(&rt, row_of(0, TWO, &asked), &asked);
-    rotate(&rt, row_of(0, TWO, &asked), &asked);
+    change_rows(&rt, Kind::Moves);
 }

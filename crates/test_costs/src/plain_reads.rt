@@ -4,19 +4,62 @@
 //! The calls are made on any owned set, so that each is proved once: the row of the tests has twelve
 //! words and two members, 451 and 508, or lacks these two alone.
 
-ghost use Rattle.std.specs.Prelude.{◌≤◌, IsTrue};
+ghost use Rattle.std.specs.Prelude.{◌*◌, ◌≤◌, IsTrue};
 
 use crate::asked::Asked;
 use crate::probe_rows::{TWO, costs, row_of};
 use crate::word_probe::WordProbe;
 use bittle::join::JoinOnes;
-use bittle::{BigEndian, Bits, BitsOwned, DefaultEndian, Set};
+use bittle::{BigEndian, Bits, BitsOwned, DefaultEndian, Set, Shape};
 use bittle_ext::BitsRangeExt;
 use bittle_ext::run_iterators::IterOneRuns;
 use std::cmp::Ordering;
 use std::hash::{DefaultHasher, Hash};
 use std::ops::Range;
 use std::process::Abort;
+
+// What is asked of the rows.
+#[derive(Drop)]
+enum Question {
+    Counts,
+    Searches,
+    Iterators,
+    Comparisons,
+}
+
+// Asks a set with the two members, one that lacks these two alone, and one with many members.
+fn ask<B: BitsOwned>(rt: &impl Abort, question: Question, few: B, most: B, low: B, asked: &Asked)
+    requires indexable { IsTrue B.indexable }
+    requires long { 768 ≤ B.type_capacity }
+{
+    match question {
+        Question::Counts => count_all(rt, few, asked),
+        Question::Searches => search(rt, few, most, asked),
+        Question::Iterators => iterate(rt, few, asked),
+        Question::Comparisons => compare(rt, few, few, low, asked),
+    }
+}
+
+// Asks rows of any element, which is proved in less time than of the rows of the tests.
+fn ask_any_rows<T: BitsOwned>(
+    rt: &impl Abort,
+    question: Question,
+    few: [T; 12],
+    most: [T; 12],
+    low: [T; 12],
+    asked: &Asked,
+)
+    requires indexable { IsTrue ⟦<[T; 12] as Shape>⟧.indexable }
+    requires long { 768 ≤ 12 * T.type_capacity }
+{
+    ask(rt, question, few, most, low, asked);
+}
+
+fn ask_rows(rt: &impl Abort, question: Question) {
+    let asked = Asked::new();
+    let (few, most) = (row_of(0, TWO, &asked), row_of(!0, !TWO, &asked));
+    ask_any_rows(rt, question, few, most, row_of(1, TWO, &asked), &asked);
+}
 
 fn count_all<B: BitsOwned>(rt: &impl Abort, few: B, asked: &Asked)
     requires { IsTrue B.indexable }
@@ -29,8 +72,7 @@ fn count_all<B: BitsOwned>(rt: &impl Abort, few: B, asked: &Asked)
 
 #[test]
 fn a_count_asks_each_word_once_and_a_test_one(rt: HostRuntime) {
-    let asked = Asked::new();
-    count_all(&rt, row_of(0, TWO, &asked), &asked);
+    ask_rows(&rt, Question::Counts);
 }
 
 // The first word is tested, and then eight and eight: word 9 decides.
@@ -48,11 +90,23 @@ fn long_row_of(rest: u64, word: u64, asked: &Asked) -> [WordProbe<'_>; 24] {
     row
 }
 
+// Asks rows of any element.
+fn question_any_rows<T: BitsOwned>(
+    rt: &impl Abort,
+    long: [T; 24],
+    long_most: [T; 24],
+    asked: &Asked,
+)
+    requires { IsTrue ⟦<[T; 24] as Shape>⟧.indexable }
+{
+    question_all(rt, long, long_most, asked);
+}
+
 #[test]
 fn a_question_about_all_bits_asks_up_to_the_eight_words_that_decide(rt: HostRuntime) {
     let asked = Asked::new();
     let (long, long_most) = (long_row_of(0, 1, &asked), long_row_of(!0, 1, &asked));
-    question_all(&rt, long, long_most, &asked);
+    question_any_rows(&rt, long, long_most, &asked);
 }
 
 fn search<B: BitsOwned>(rt: &impl Abort, few: B, most: B, asked: &Asked)
@@ -68,13 +122,7 @@ fn search<B: BitsOwned>(rt: &impl Abort, few: B, most: B, asked: &Asked)
 
 #[test]
 fn searches_fetch_the_words_up_to_the_answer(rt: HostRuntime) {
-    let asked = Asked::new();
-    search(
-        &rt,
-        row_of(0, TWO, &asked),
-        row_of(!0, !TWO, &asked),
-        &asked,
-    );
+    ask_rows(&rt, Question::Searches);
 }
 
 fn iterate<B: BitsOwned>(rt: &impl Abort, few: B, asked: &Asked)
@@ -108,8 +156,7 @@ fn the_type_of_an_iterator_over_runs_has_a_path(_rt: HostRuntime) {
 
 #[test]
 fn an_iterator_fetches_each_word_once(rt: HostRuntime) {
-    let asked = Asked::new();
-    iterate(&rt, row_of(0, TWO, &asked), &asked);
+    ask_rows(&rt, Question::Iterators);
 }
 
 // The first word decides: four of both are tested at once, and it is read again.
@@ -127,7 +174,5 @@ fn compare<B: BitsOwned>(rt: &impl Abort, left: B, right: B, low: B, asked: &Ask
 
 #[test]
 fn a_comparison_fetches_both_up_to_the_words_that_decide(rt: HostRuntime) {
-    let asked = Asked::new();
-    let (left, right) = (row_of(0, TWO, &asked), row_of(0, TWO, &asked));
-    compare(&rt, left, right, row_of(1, TWO, &asked), &asked);
+    ask_rows(&rt, Question::Comparisons);
 }
