@@ -6,6 +6,8 @@ mod calls;
 #[cfg(test)]
 mod checks;
 #[cfg(test)]
+mod common;
+#[cfg(test)]
 mod drawn;
 #[cfg(test)]
 mod flags;

@@ -1,0 +1,199 @@
+//! What two drawn sets have in common, compared with lists that a plain loop makes.
+
+ghost use Rattle.std.specs.Prelude.{IsTrue};
+ghost use Rattle.bittle.specs.Values.{ShapeFits};
+
+use crate::checks::compare;
+use crate::flags::draw;
+use bittle::{Bits, BitsMut, BitsOwned, Endian, Shape};
+use bittle_ext::BitsViewExt;
+use bittle_tiers::{Ones, Tiered, Tiered4K};
+use std::process::Abort;
+
+// The numbers that two sets have in common, in increasing order.
+#[derive(Drop)]
+struct Common {
+    items: [u32; 40],
+    many: u32,
+}
+
+impl Common {
+    // Adds a number that is greater than each before.
+    fn add(&mut self, item: u32) {
+        if let Some(place) = self.items.get_mut(self.many as usize) {
+            *place = item;
+            self.many = self.many.saturating_add(1);
+        }
+    }
+
+    // Returns the number at a place of the list.
+    fn at(&self, place: u32) -> Option<u32> {
+        if place < self.many {
+            self.items.get(place as usize).copied()
+        } else {
+            None
+        }
+    }
+}
+
+// Draws how far the next number lies: in the same word, in the next one, in the same 64 words, or
+// any way off up to a bound.
+fn draw_gap(state: &mut u32, most: u32) -> u32 {
+    let kind = draw(state) % 4;
+    let any = draw(state);
+    match kind {
+        0 => 1 + any % 7,
+        1 => 64,
+        2 => 1 + any % 4096,
+        _ => 1 + any % most.max(1),
+    }
+}
+
+// Draws two sets of no members, and returns what they have in common: of each number that is drawn,
+// one of them has it or both have.
+fn draw_both<A: BitsMut, B: BitsMut, E: Endian, F: Endian>(
+    state: &mut u32,
+    one: &mut A,
+    other: &mut B,
+    numbers: u32,
+) -> Common
+    requires one { IsTrue A.indexable }
+    requires other { IsTrue B.indexable }
+{
+    let mut common = Common {
+        items: [0; 40],
+        many: 0,
+    };
+    let mut number = draw(state) % 70;
+    for _ in 0..40u32 {
+        if number >= numbers {
+            break;
+        }
+        let kind = draw(state) % 3;
+        if kind != 0 {
+            one.set_bit_in::<E>(number);
+        }
+        if kind != 1 {
+            other.set_bit_in::<F>(number);
+        }
+        if kind == 2 {
+            common.add(number);
+        }
+        number = number.saturating_add(draw_gap(state, numbers / 8));
+    }
+    common
+}
+
+// Asks both ends of an iterator over what two sets have in common for each number of the list, and
+// steps it to its end, from either end as drawn.
+fn ask_common<A: Bits, B: Bits>(
+    rt: &impl Abort,
+    state: &mut u32,
+    one: &A,
+    other: &B,
+    common: &Common,
+)
+    requires one { ShapeFits A.Shape one.now }
+    requires other { ShapeFits B.Shape other.now }
+{
+    let both = one.and(other);
+    let mut walk = both.iter_ones();
+    let (mut low, mut high) = (0, common.many);
+    for _ in 0..42u32 {
+        if draw(state) % 2 == 0 {
+            let expected = if low < high { common.at(low) } else { None };
+            low = low.saturating_add(1).min(high);
+            compare(rt, "next", walk.next(), expected);
+        } else {
+            let expected = if low < high {
+                common.at(high.saturating_sub(1))
+            } else {
+                None
+            };
+            high = high.saturating_sub(1).max(low);
+            compare(rt, "next_back", walk.next_back(), expected);
+        }
+    }
+    compare(rt, "count", both.iter_ones().count(), common.many as usize);
+}
+
+// Draws pairs of sets from a seed on, and asks each pair for what it has in common.
+fn agree_on_common<A: BitsOwned, B: BitsOwned>(rt: &impl Abort, seed: u32, pairs: u32)
+    requires one { IsTrue A.indexable }
+    requires other { IsTrue B.indexable }
+{
+    let mut state = seed;
+    for _ in 0..pairs {
+        let (mut one, mut other) = (A::zeros(), B::zeros());
+        let numbers = A::bits().min(B::bits());
+        let common = draw_both::<A, B, A::Order, B::Order>(
+            &mut state, &mut one, &mut other, numbers,
+        );
+        ask_common(rt, &mut state, &one, &other, &common);
+    }
+}
+
+// The same of sets with a summary over any words, which is proved in less time than of a usual size.
+fn agree_on_tiers<A: BitsOwned, S: BitsOwned, B: BitsOwned, T: BitsOwned>(
+    rt: &impl Abort,
+    seed: u32,
+    pairs: u32,
+)
+    requires one { IsTrue ⟦<Tiered<A, S, Ones> as Shape>⟧.indexable }
+    requires other { IsTrue ⟦<Tiered<B, T, Ones> as Shape>⟧.indexable }
+{
+    agree_on_common::<Tiered<A, S, Ones>, Tiered<B, T, Ones>>(rt, seed, pairs);
+}
+
+// The same of sets with two levels of summaries.
+fn agree_on_two_tiers<
+    A: BitsOwned,
+    S: BitsOwned,
+    X: BitsOwned,
+    B: BitsOwned,
+    T: BitsOwned,
+    Y: BitsOwned,
+>(rt: &impl Abort, seed: u32, pairs: u32)
+    requires one { IsTrue ⟦<Tiered<A, Tiered<S, X, Ones>, Ones> as Shape>⟧.indexable }
+    requires other { IsTrue ⟦<Tiered<B, Tiered<T, Y, Ones>, Ones> as Shape>⟧.indexable }
+{
+    agree_on_tiers::<A, Tiered<S, X, Ones>, B, Tiered<T, Y, Ones>>(rt, seed, pairs);
+}
+
+// The parts are those of `Tiered4K` and of `Tiered64K`.
+
+#[test]
+fn of_one_group_of_words(rt: HostRuntime) {
+    agree_on_tiers::<[u64; 64], u64, [u64; 64], u64>(&rt, 1, 20);
+}
+
+#[test]
+fn of_two_levels_of_groups(rt: HostRuntime) {
+    agree_on_two_tiers::<[u64; 1024], [u64; 16], u64, [u64; 1024], [u64; 16], u64>(&rt, 2, 20);
+}
+
+// A summary of words that are not of 64 bits tells of no group, as a plain set does.
+#[test]
+fn of_sets_that_tell_of_no_group(rt: HostRuntime) {
+    type Narrow = Tiered<[u64; 64], [u32; 2], Ones>;
+    agree_on_common::<Narrow, Tiered4K<Ones>>(&rt, 8, 10);
+    agree_on_common::<[u64; 64], Tiered4K<Ones>>(&rt, 9, 10);
+}
+
+// A full set tells of each word, and its summary has members past the last one.
+#[test]
+fn of_full_sets(rt: HostRuntime) {
+    let all = <Tiered<[u64; 5], u64, Ones>>::ones();
+    compare(&rt, "count", count_common(&all, &all), 320);
+    let part = Tiered::<[u64; 5], u64, Ones>::new([0, 2, 0, 0, 1]);
+    compare(&rt, "count", count_common(&all, &part), 2);
+}
+
+// Counts what two sets have in common, by an iterator from each end.
+fn count_common<B: Bits>(one: &B, other: &B) -> usize
+    requires one { ShapeFits B.Shape one.now }
+    requires other { ShapeFits B.Shape other.now }
+{
+    let front = one.and(other).iter_ones().count();
+    front.max(one.and(other).iter_ones().rev().count())
+}
