@@ -79,14 +79,16 @@ fn a_search_reads_its_first_word_and_that_of_its_answer(rt: HostRuntime) {
 }
 
 #[test]
-fn a_change_of_a_bit_is_a_call_and_a_word(rt: HostRuntime) {
+fn a_change_of_a_bit_is_a_call_and_at_most_a_word(rt: HostRuntime) {
     let asked = Asked::new();
     let mut set = Tiered::<Probe, u8, Ones>::new(Probe::of(ONES, &asked));
     let made = asked.fetches();
+
+    // The word of a bit that is set has one, so it is not read.
     set.set_bit(9);
-    same!(rt; (asked.fetched_since(made), asked.other()), (1, 1));
+    same!(rt; (asked.fetched_since(made), asked.other()), (0, 1));
     set.clear_bit(9);
-    same!(rt; (asked.fetched_since(made), asked.other()), (2, 2));
+    same!(rt; (asked.fetched_since(made), asked.other()), (1, 2));
 }
 
 #[test]
