@@ -1,26 +1,11 @@
 -- A row of which one place is written, and what that makes of roles.
-use Rattle.std.proofs.Common.{◌≡◌, ℕ, zero, suc, ◌<◌, true, false, cond, ◌&&◌, ◌||◌, ◌==◌, nat_lt, Option, Some, None, List, [], ◌∷◌, length, set, inl, inr, refl, sym, ap, ◌∙◌, arith}
+use Rattle.std.proofs.Common.{◌≡◌, ℕ, ◌<◌, true, false, cond, ◌&&◌, ◌||◌, ◌==◌, nat_lt, Option, Some, None, List, length, set, inl, inr, refl, sym, ap, ◌∙◌, arith}
 use Rattle.std.specs.Prelude.{slice_get, IfSome}
 use Rattle.bittle.specs.PlainSet.{PlainSet, contains, with_index}
 use Rattle.bittle.proofs.CallerSets.{contains_within, with_index_within}
+use Rattle.bittle.proofs.CallerTables.{slice_get_set_same, slice_get_set_other}
 use Rattle.bit_roles.specs.Roles.{Roles, roles_of, has_permission, parent_in, may_grant, with_granted}
 use Rattle.std.proofs.lemmas.Bool.{cases_eq, eq-eqb, ne_eqb, lt-ltb}
-
--- the place that is written has the value
-pub written_same : {X : Type 0} (xs : List X) (i : ℕ) (x : X) → i < length xs →
-    slice_get (set xs i x) i ≡ Some x
-written_same [] i x h = absurd (omega (arith, h))
-written_same (y ∷ ys) zero x h = refl
-written_same (y ∷ ys) (suc i) x h = written_same ys i x (omega (arith, h))
-
--- and the others stay
-pub written_other : {X : Type 0} (xs : List X) (i j : ℕ) (x : X) → (j ≡ i → ⊥) →
-    slice_get (set xs i x) j ≡ slice_get xs j
-written_other [] i j x n = refl
-written_other (y ∷ ys) zero zero x n = absurd (n refl)
-written_other (y ∷ ys) zero (suc j) x n = refl
-written_other (y ∷ ys) (suc i) zero x n = refl
-written_other (y ∷ ys) (suc i) (suc j) x n = written_other ys i j x (λ e. n (ap suc e))
 
 -- a test of the set shows whether a permission is in it
 pub permission_within : {X : Type 0} (set : X → PlainSet) (place : Option X) (x : X)
@@ -73,7 +58,7 @@ module _ {X : Type 0} (count permissions : ℕ) (set_of : X → PlainSet) (grant
   each k p = elim (cases_eq k role) [
     | inl same ↦
         ap (λ i. has_permission set_of (slice_get (set granted role y) i) p) same
-        ∙ ap (λ o. has_permission set_of o p) (written_same granted role y inside)
+        ∙ ap (λ o. has_permission set_of o p) (slice_get_set_same granted role y inside)
         ∙ ap (λ s. nat_lt p s.capacity && s.has p) plain
         ∙ one_place p
         ∙ ap (λ o. (true && (p == permission)) || has_permission set_of o p) (sym at)
@@ -82,7 +67,7 @@ module _ {X : Type 0} (count permissions : ℕ) (set_of : X → PlainSet) (grant
         ∙ ap (λ b. (b && (p == permission)) || has_permission set_of (slice_get granted k) p)
         (sym (eq-eqb k role same))
     | inr apart ↦
-        ap (λ o. has_permission set_of o p) (written_other granted role k y apart)
+        ap (λ o. has_permission set_of o p) (slice_get_set_other granted role k y apart)
         ∙ ap (λ b. (b && (p == permission)) || has_permission set_of (slice_get granted k) p)
         (sym (ne_eqb k role apart))
   ]

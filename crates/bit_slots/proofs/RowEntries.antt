@@ -1,7 +1,7 @@
 -- The entries of a row are those whose keys find their values.
 use Rattle.std.proofs.Common.{◌≡◌, ℕ, zero, suc, ◌+◌, ◌<◌, ◌≤◌, Bool, true, false, cond, ◌==◌, nat_lt, Option, None, List, [], ◌∷◌, length, Some, inl, inr, refl, sym, ap, ◌∙◌, arith, slice_get, slice_index_or}
 use Rattle.std.proofs.lemmas.Bool.{cases_eq, cases_lt, eq-eqb, le-ltb, ne_eqb}
-use Rattle.std.proofs.lemmas.Option.{slice_get_past}
+use Rattle.std.proofs.lemmas.Option.{same_Some, slice_get_past}
 use Rattle.bit_slots.specs.declared.Key.{Key}
 use Rattle.bit_slots.specs.declared.slot.Slot.{Slot}
 use Rattle.bit_slots.specs.declared.slot.Slot.TheVariants.{Free, Live, Retired}
@@ -54,44 +54,42 @@ entries_at_most (Live generation value ∷ rest) from =
     omega (arith, entries_at_most rest (from + 1))
 entries_at_most (Retired ∷ rest) from = omega (arith, entries_at_most rest (from + 1))
 
+-- a generation of a slot with no value finds nothing
+none_found : {V : Type 0} (is_spent is_current : Bool) (value : V) →
+    found {V = V} (cond is_spent Spent (cond is_current Unused Unused)) ≡ Some value → ⊥
+none_found true is_current value e = cc
+none_found false true value e = cc
+none_found false false value e = cc
+
 -- a slot of which a generation finds a value holds it in that generation
 holds_is : {V : Type 0} (slot : Slot V) (generation : ℕ) (value : V) →
     found (stage_of slot generation) ≡ Some value → slot ≡ Live generation value
-holds_is {V = V} (Free current) generation value is =
-    absurd (by (nat_lt generation current) (generation == current) is)
-  where
-    by : (a b : Bool) → found {V = V} (cond a Spent (cond b Unused Unused)) ≡ Some value → ⊥
-    by true b e = cc
-    by false true e = cc
-    by false false e = cc
-holds_is {V = V} Retired generation value is =
-    absurd (by (nat_lt generation 4294967296) (generation == 4294967296) is)
-  where
-    by : (a b : Bool) → found {V = V} (cond a Spent (cond b Unused Unused)) ≡ Some value → ⊥
-    by true b e = cc
-    by false true e = cc
-    by false false e = cc
-holds_is {V = V} (Live current held) generation value is = elim (cases_eq generation current) [
+holds_is (Free current) generation value is =
+    absurd (none_found (nat_lt generation current) (generation == current) value is)
+holds_is Retired generation value is =
+    absurd (none_found (nat_lt generation 4294967296) (generation == 4294967296) value is)
+holds_is (Live current held) generation value is = elim (cases_eq generation current) [
   | inl same ↦
       let low = le-ltb generation current (omega (arith, same)) in
       let here = eq-eqb generation current same in
-      let held_is : held ≡ value = one (sym (ap found (by low here)) ∙ is) in
+      let held_is = same_Some held value (sym (ap found (holds low here)) ∙ is) in
       ap (λ n. Live n held) (sym same) ∙ ap (Live generation) held_is
-  | inr apart ↦ absurd (none (nat_lt generation current)
+  | inr apart ↦ absurd (none_found (nat_lt generation current) false value
       (sym (ap (λ b. found (cond (nat_lt generation current) Spent (cond b (Holds held) Unused)))
       (ne_eqb generation current apart)) ∙ is))
 ]
   where
-    one : {v w : V} → Some v ≡ Some w → v ≡ w
-    one e = cc
-
-    by : nat_lt generation current ≡ false → (generation == current) ≡ true →
+    holds : nat_lt generation current ≡ false → (generation == current) ≡ true →
         stage_of (Live current held) generation ≡ Holds held
-    by low here = rw (low, here) refl
+    holds low here = rw (low, here) refl
 
-    none : (a : Bool) → found {V = V} (cond a Spent Unused) ≡ Some value → ⊥
-    none true e = cc
-    none false e = cc
+-- an entry of a slot counted from the next one, and from this one
+counted : {V : Type 0} (entries : List (Key × V)) (from i generation : ℕ) (value : V) →
+    HasEntry entries (key_of (from + 1 + i) generation, value) →
+    HasEntry entries (key_of (from + suc i) generation, value)
+counted entries from i generation value is =
+    let next : from + 1 + i ≡ from + suc i = omega arith in
+    (is.0, is.1 ∙ ap (λ n. Some (key_of n generation, value)) next)
 
 -- a slot with a value has its entry
 has_at : {V : Type 0} (rest : List (Slot V)) (from i generation : ℕ) (value : V) →
@@ -104,17 +102,12 @@ has_at (Live current held ∷ rest) from zero generation value is =
     let first : from ≡ from + 0 = omega arith in
     (0, cc)
 has_at (Free current ∷ rest) from (suc i) generation value is =
-    let next : from + 1 + i ≡ from + suc i = omega arith in
-    let later = has_at rest (from + 1) i generation value is in
-    (later.0, later.1 ∙ ap (λ n. Some (key_of n generation, value)) next)
+    counted _ from i generation value (has_at rest (from + 1) i generation value is)
 has_at (Retired ∷ rest) from (suc i) generation value is =
-    let next : from + 1 + i ≡ from + suc i = omega arith in
-    let later = has_at rest (from + 1) i generation value is in
-    (later.0, later.1 ∙ ap (λ n. Some (key_of n generation, value)) next)
+    counted _ from i generation value (has_at rest (from + 1) i generation value is)
 has_at (Live current held ∷ rest) from (suc i) generation value is =
-    let next : from + 1 + i ≡ from + suc i = omega arith in
-    let later = has_at rest (from + 1) i generation value is in
-    (suc later.0, later.1 ∙ ap (λ n. Some (key_of n generation, value)) next)
+    let later = counted _ from i generation value (has_at rest (from + 1) i generation value is) in
+    (suc later.0, later.1)
 
 -- so each key that finds a value has one
 pub entries_have : {V : Type 0} (row : List (Slot V)) (key : Key) (value : V) →
@@ -137,11 +130,8 @@ from_there (Free current ∷ rest) from i entry is =
     omega (arith, from_there rest (from + 1) i entry is)
 from_there (Retired ∷ rest) from i entry is =
     omega (arith, from_there rest (from + 1) i entry is)
-from_there {V = V} (Live current held ∷ rest) from zero entry is =
-    let here : from ≡ entry.0.slot = ap (λ e. e.0.slot) (one is) in omega (arith, here)
-  where
-    one : {e f : Key × V} → Some e ≡ Some f → e ≡ f
-    one e = cc
+from_there (Live current held ∷ rest) from zero entry is =
+    let here : from ≡ entry.0.slot = ap (λ e. e.0.slot) (same_Some _ _ is) in omega (arith, here)
 from_there (Live current held ∷ rest) from (suc i) entry is =
     omega (arith, from_there rest (from + 1) i entry is)
 
@@ -154,11 +144,8 @@ slots_rise (Free current ∷ rest) from i first second is next =
     slots_rise rest (from + 1) i first second is next
 slots_rise (Retired ∷ rest) from i first second is next =
     slots_rise rest (from + 1) i first second is next
-slots_rise {V = V} (Live current held ∷ rest) from zero first second is next =
-    let here : from ≡ first.0.slot = ap (λ e. e.0.slot) (one is) in
+slots_rise (Live current held ∷ rest) from zero first second is next =
+    let here : from ≡ first.0.slot = ap (λ e. e.0.slot) (same_Some _ _ is) in
     omega (arith, here, from_there rest (from + 1) zero second next)
-  where
-    one : {e f : Key × V} → Some e ≡ Some f → e ≡ f
-    one e = cc
 slots_rise (Live current held ∷ rest) from (suc i) first second is next =
     slots_rise rest (from + 1) i first second is next

@@ -1,32 +1,13 @@
 -- What a change of one slot does to what the keys stand for.
-use Rattle.std.proofs.Common.{◌≡◌, ◌≢◌, ℕ, ◌<◌, Bool, true, false, cond, ◌==◌, List, length, set, get_or, Some, inl, inr, refl, sym, ap, ◌∙◌, arith}
+use Rattle.std.proofs.Common.{◌≡◌, ℕ, ◌<◌, Bool, true, false, List, length, set, get_or, Some, inl, inr, refl, ap, ◌∙◌, arith}
 use Rattle.std.specs.Prelude.{slice_get, Result, Ok, Err}
-use Rattle.std.proofs.lemmas.Bool.{cases_eq, cases_lt, eq-eqb, le-ltb, ne_eqb}
-use Rattle.std.proofs.lemmas.List.{get_or-set_same, get_or-set_other, length-set}
-use Rattle.std.proofs.lemmas.Option.{slice_get-get_or, slice_get_past}
+use Rattle.std.proofs.lemmas.Bool.{cases_eq, eq-eqb, le-ltb, ne_eqb}
+use Rattle.std.proofs.lemmas.Option.{slice_get-get_or}
+use Rattle.bittle.proofs.CallerTables.{slice_get_set}
 use Rattle.bit_slots.specs.declared.slot.Slot.{Slot}
 use Rattle.bit_slots.specs.declared.slot.Slot.TheVariants.{Live}
 use Rattle.bit_slots.specs.declared.Key.{Key}
 use Rattle.bit_slots.specs.Keys.{Holds, stage_of, stage_at, stages, removed, AreSameKeys, IsExchanged, IsExchangedWith, IsFilled, IsKeyInserted, IsRemoved, IsReplaced, IsUpdated, IsUpdatedIn}
-
--- a list after a write of one element
-pub slice_get_set : {X : Type 0} (xs : List X) (i : ℕ) (y : X) → i < length xs → (k : ℕ) →
-    slice_get (set xs i y) k ≡ cond (k == i) (Some y) (slice_get xs k)
-slice_get_set xs i y h k = elim (cases_eq k i) [
-  | inl e ↦ ap (λ n. slice_get (set xs i y) n) e
-      ∙ slice_get-get_or (set xs i y) i y (omega (arith, length-set xs i y))
-      ∙ ap Some (get_or-set_same xs i y y h)
-      ∙ sym (ap (λ b. cond b (Some y) (slice_get xs k)) (eq-eqb k i e))
-  | inr n ↦ other n ∙ sym (ap (λ b. cond b (Some y) (slice_get xs k)) (ne_eqb k i n))
-]
-  where
-    other : k ≢ i → slice_get (set xs i y) k ≡ slice_get xs k
-    other n = elim (cases_lt k (length xs)) [
-      | inl l ↦ slice_get-get_or (set xs i y) k y (omega (arith, length-set xs i y))
-          ∙ ap Some (get_or-set_other xs i k y y n) ∙ sym (slice_get-get_or xs k y l)
-      | inr g ↦ slice_get_past (set xs i y) k (omega (arith, length-set xs i y))
-          ∙ sym (slice_get_past xs k g)
-    ]
 
 -- a slot with a value has it in its generation
 pub live_holds : {V : Type 0} (generation : ℕ) (value : V) →

@@ -6,9 +6,10 @@ use Rattle.std.proofs.lemmas.Option.{slice_get_past}
 use Rattle.bittle.specs.PlainSet.{PlainSet, empty_set, size, with_index, without_index}
 use Rattle.bittle.specs.Searches.{NoneIn}
 use Rattle.bittle.proofs.CallerSets.{with_index_within, without_index_within}
+use Rattle.bittle.proofs.CallerTables.{slice_get_set}
 use Rattle.bit_slots.specs.declared.slot.Slot.{Slot}
 use Rattle.bit_slots.specs.SlotSets.{is_free, passes, is_slot, slots_where, HasSlots, MarksBelow, Joins, Leaves, Stays}
-use Rattle.bit_slots.proofs.SlotChanges.{slice_get_set, stood}
+use Rattle.bit_slots.proofs.SlotChanges.{stood}
 
 module _ {V : Type 0} (test : Slot V → Bool) (row : List (Slot V)) where
   -- a slot that passes a test is one of the row
