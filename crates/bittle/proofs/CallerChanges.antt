@@ -4,8 +4,9 @@ use Rattle.std.proofs.Common.{add-zero}
 use Rattle.std.proofs.Math.Nat.{add-mod_right}
 use Rattle.std.proofs.lemmas.Nat.{mod_below}
 use Rattle.std.proofs.lemmas.Bool.{cases_eq, eq-eqb, ne_eqb, lt-ltb}
-use Rattle.bittle_bits.specs.PlainSet.{PlainSet, contains, with_index, has_with, without_index, has_without, with_span, without_span, count_below, size}
-use Rattle.bittle_bits.proofs.Counts.{count-same}
+use Rattle.bittle_bits.specs.PlainSet.{PlainSet, contains, with_index, has_with, without_index, has_without, with_span_changed, has_changed, with_span, without_span, count_below, members_below, size}
+use Rattle.bittle_bits.proofs.Counts.{count-add, count-never, count-others, count-same}
+use Rattle.bittle_bits.proofs.MembersBelow.{below_between}
 use Rattle.bittle_bits.proofs.Spans.{inside_span, outside_span}
 use Rattle.bittle.proofs.CallerSets.{contains_within, with_index_within, without_index_within}
 
@@ -204,3 +205,53 @@ contains_outside_span s from to i out l =
     contains_within (with_span s from to) i l
     ∙ outside_span (λ _. true) s from to i out
     ∙ sym (contains_within s i l)
+
+-- the members below the ends of a span, and how many a change leaves in the span, tell the size
+-- after the change
+size_changed : (change : Bool → Bool) (s : PlainSet) (from to : ℕ) → from ≤ to → to ≤ s.capacity →
+    size (with_span_changed change s from to) + members_below s to
+    ≡ size s + members_below s from + count_below (to - from) (λ k. change (s.has (from + k)))
+size_changed change s from to h l =
+    let here = to - from in
+    let past = s.capacity - to in
+    let changed = has_changed change s from to in
+    let begin : from + here ≡ to = omega arith in
+    let all : to + past ≡ s.capacity = omega arith in
+    let low = count-same from changed s.has (λ k b. outside_span change s from to k (inl b)) in
+    let high = count-same past (λ k. changed (to + k)) (λ k. s.has (to + k))
+    (λ k b. outside_span change s from to (to + k) (inr (omega arith))) in
+    let inside = count-same here (λ k. changed (from + k)) (λ k. change (s.has (from + k)))
+    (λ k b. inside_span change s from to (from + k) (omega arith) (omega arith)) in
+    omega (
+      arith,
+      rw all at (count-add to past changed),
+      rw all at (count-add to past s.has),
+      rw begin at (count-add from here changed),
+      low,
+      high,
+      inside,
+    )
+
+-- the size after a span was put in: the members outside of it, and the span
+pub size_with_span : (s : PlainSet) (from to : ℕ) → from ≤ to → to ≤ s.capacity →
+    size (with_span s from to)
+    ≡ size s - (members_below s to - members_below s from) + (to - from)
+size_with_span s from to h l =
+    let counted = size_changed (λ _. true) s from to h l in
+    let each : count_below (to - from) (λ _. true) + count_below (to - from) (λ _. false)
+    ≡ to - from = count-others (to - from) (λ _. false) in
+    omega (
+      arith,
+      counted,
+      each,
+      count-never (to - from),
+      (below_between s from to h).0,
+      (below_between s to s.capacity l).0,
+    )
+
+-- the size after a span was taken out: the members outside of it
+pub size_without_span : (s : PlainSet) (from to : ℕ) → from ≤ to → to ≤ s.capacity →
+    size (without_span s from to) ≡ size s - (members_below s to - members_below s from)
+size_without_span s from to h l =
+    let counted = size_changed (λ _. false) s from to h l in
+    omega (arith, counted, count-never (to - from), (below_between s from to h).0)

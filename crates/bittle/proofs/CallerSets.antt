@@ -6,6 +6,7 @@ use Rattle.std.proofs.lemmas.Bool.{cases_Bool, lt-ltb}
 use Rattle.bittle_bits.specs.PlainSet.{PlainSet, contains, with_index, has_with, without_index, has_without, complement, lacks, empty_set, full_set, size}
 use Rattle.bittle_bits.specs.Searches.{NoneIn}
 use Rattle.bittle_bits.specs.SetOperations.{combination_of, combination_has, first_alone}
+pub use Rattle.bittle_bits.proofs.PlainSets.{members-past}
 use Rattle.bittle_bits.proofs.Counts as counts
 use Rattle.bittle_bits.proofs.Sizes as sizes
 
