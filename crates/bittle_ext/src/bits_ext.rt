@@ -3,7 +3,7 @@
 ghost use Rattle.std.specs.Prelude.{◌≡◌, ◌-◌, ◌<◌, ◌≤◌, IfSome, MatchBool, slice_get};
 ghost use Rattle.bittle_ext.specs.RangeMembers.{HasSomeIn, HasAllIn, LacksSomeIn};
 ghost use Rattle.bittle_ext.specs.Runs.{IsFirstRun};
-ghost use Rattle.bittle.specs.PlainSet.{ascending, complement, members_below};
+ghost use Rattle.bittle.specs.PlainSet.{ascending, complement, members_below, size};
 ghost use Rattle.bittle.specs.Searches.{IsFirstIn, IsLastIn, NoneIn};
 ghost use Rattle.bittle.specs.Values.{set_in, ShapeFits};
 
@@ -161,6 +161,7 @@ pub trait BitsExt: Bits + Sized {
         ensures value { result
             ≡ members_below (set_in Self.Shape Self.Order.Endian self.now) index }
         ensures at_most { result ≤ (Self.big self.now).capacity }
+        ensures at_most_all { result ≤ size (set_in Self.Shape Self.Order.Endian self.now) }
     {
         self.count_ones_in_range_in::<Self::Order>(
             0,
@@ -271,6 +272,7 @@ pub trait BitsExt: Bits + Sized {
             result ≡ members_below ours to - members_below ours from }
         ensures at_most { result ≤ to - from }
         ensures at_most_capacity { result ≤ (Self.big self.now).capacity }
+        ensures at_most_all { result ≤ size (set_in Self.Shape Self.Order.Endian self.now) }
     {
         self.count_ones_in_span(from..to)
     }

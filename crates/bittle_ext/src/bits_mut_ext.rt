@@ -1,6 +1,6 @@
 //! Changing a set.
 
-ghost use Rattle.std.specs.Prelude.{◌≡◌, ◌+◌, ◌<◌, ◌≤◌, ℕ, Bool, List, cond, not, IsTrue};
+ghost use Rattle.std.specs.Prelude.{◌≡◌, ◌+◌, ◌-◌, ◌<◌, ◌≤◌, ℕ, Bool, List, cond, not, IsTrue};
 ghost use Rattle.std.specs.Prelude.{MatchOption};
 ghost use Rattle.std.specs.Iterator.{Drains, IsFinite};
 ghost use Rattle.std.specs.Iterator.Runs.{WholeRun};
@@ -9,7 +9,8 @@ ghost use Rattle.bittle_ext.specs.Runs.{IsFirstRun};
 ghost use Rattle.bittle_ext.specs.Calls.{IsCallableBelow};
 ghost use Rattle.bittle_ext.specs.Changes.{with_index_assigned, with_index_toggled};
 ghost use Rattle.bittle_ext.specs.Changes.{with_span_assigned, Retains};
-ghost use Rattle.bittle.specs.PlainSet.{contains, complement, size, with_index, without_index};
+ghost use Rattle.bittle.specs.PlainSet.{contains, complement, members_below, size};
+ghost use Rattle.bittle.specs.PlainSet.{with_index, without_index};
 ghost use Rattle.bittle.specs.PlainSet.{with_span, without_span, with_span_toggled};
 ghost use Rattle.bittle.specs.Searches.{IsFirstIn, IsLastIn};
 ghost use Rattle.bittle.specs.Values.{set_in, set_mirrored, ShapeFits};
@@ -395,6 +396,9 @@ pub trait BitsMutExt: BitsMut + Sized {
         requires within { to ≤ (Self.big self.old).capacity }
         ensures set { set_in Self.Shape Self.Order.Endian self.new
             ≡ with_span (set_in Self.Shape Self.Order.Endian self.old) from to }
+        ensures count { let before = set_in Self.Shape Self.Order.Endian self.old in
+            size (set_in Self.Shape Self.Order.Endian self.new)
+            ≡ size before - (members_below before to - members_below before from) + (to - from) }
         ensures stays { Self.loan self.old ≡ Self.loan self.new }
     {
         self.set_range_in::<Self::Order>(from, to);
@@ -414,6 +418,9 @@ pub trait BitsMutExt: BitsMut + Sized {
         requires within { to ≤ (Self.big self.old).capacity }
         ensures set { set_in Self.Shape Self.Order.Endian self.new
             ≡ without_span (set_in Self.Shape Self.Order.Endian self.old) from to }
+        ensures count { let before = set_in Self.Shape Self.Order.Endian self.old in
+            size (set_in Self.Shape Self.Order.Endian self.new)
+            ≡ size before - (members_below before to - members_below before from) }
         ensures stays { Self.loan self.old ≡ Self.loan self.new }
     {
         self.clear_range_in::<Self::Order>(from, to);

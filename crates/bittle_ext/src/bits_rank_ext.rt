@@ -1,7 +1,7 @@
 //! The unset bits of a set by their ranks.
 
 ghost use Rattle.std.specs.Prelude.{◌≡◌, ◌<◌, ◌≤◌, IfSome, slice_get};
-ghost use Rattle.bittle.specs.PlainSet.{ascending, complement, members_below};
+ghost use Rattle.bittle.specs.PlainSet.{ascending, complement, members_below, size};
 ghost use Rattle.bittle.specs.Values.{set_in, ShapeFits};
 
 use crate::bits_ext::BitsExt;
@@ -24,6 +24,8 @@ pub trait BitsRankExt: Bits + Sized {
         ensures value { result ≡ members_below
             (complement (set_in Self.Shape Self.Order.Endian self.now)) index }
         ensures at_most { result ≤ (Self.big self.now).capacity }
+        ensures at_most_all { result
+            ≤ size (complement (set_in Self.Shape Self.Order.Endian self.now)) }
     {
         self.complement_view().rank(index)
     }

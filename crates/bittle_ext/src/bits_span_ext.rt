@@ -5,7 +5,7 @@ ghost use Rattle.std.specs.Prelude.{◌≡◌, ◌-◌, ◌<◌, ◌≤◌, IfSo
 ghost use Rattle.std.specs.Range.Bound.{start_index, end_index};
 ghost use Rattle.bittle_ext.specs.RangeMembers.{members_within, HasSomeIn, HasAllIn, IsPartBelow};
 ghost use Rattle.bittle_ext.specs.RangeMembers.{LacksSomeIn, ListsWithin};
-ghost use Rattle.bittle.specs.PlainSet.{complement, members_below};
+ghost use Rattle.bittle.specs.PlainSet.{complement, members_below, size};
 ghost use Rattle.bittle.specs.Searches.{IsFirstIn, IsLastIn, NoneIn};
 ghost use Rattle.bittle.specs.Values.{set_in, word_count, ShapeFits};
 ghost use Rattle.bittle.specs.Walk.{AreBelow, IsFresh};
@@ -44,6 +44,7 @@ pub trait BitsSpanExt: Bits + Sized {
             let end = end_index (R.end_bound range) (Self.big self.now).capacity in
             result ≤ end - start }
         ensures at_most_capacity { result ≤ (Self.big self.now).capacity }
+        ensures at_most_all { result ≤ size (set_in Self.Shape Self.Order.Endian self.now) }
     {
         let (start, end) = part_of::<Self, Self::Order, R>(self, &range);
         self.count_ones_in_range_in::<Self::Order>(start, end)

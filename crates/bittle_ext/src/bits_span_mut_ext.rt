@@ -1,9 +1,10 @@
 //! Changing a range of a set that is written as Rust writes it: `2..7`, `2..=6`, `..7`, `50..`,
 //! `..`.
 
-ghost use Rattle.std.specs.Prelude.{◌≡◌, ◌≤◌};
+ghost use Rattle.std.specs.Prelude.{◌≡◌, ◌+◌, ◌-◌, ◌≤◌};
 ghost use Rattle.std.specs.Range.Bound.{start_index, end_index};
 ghost use Rattle.bittle_ext.specs.Changes.{with_span_assigned};
+ghost use Rattle.bittle.specs.PlainSet.{members_below, size};
 ghost use Rattle.bittle.specs.PlainSet.{with_span, without_span, with_span_toggled};
 ghost use Rattle.bittle.specs.Values.{set_in, ShapeFits};
 
@@ -38,6 +39,11 @@ pub trait BitsSpanMutExt: BitsMut + Sized {
             let end = end_index (R.end_bound range) (Self.big self.old).capacity in
             set_in Self.Shape Self.Order.Endian self.new
             ≡ with_span (set_in Self.Shape Self.Order.Endian self.old) start end }
+        ensures count { let before = set_in Self.Shape Self.Order.Endian self.old in
+            let start = start_index (R.start_bound range) in
+            let end = end_index (R.end_bound range) (Self.big self.old).capacity in
+            size (set_in Self.Shape Self.Order.Endian self.new)
+            ≡ size before - (members_below before end - members_below before start) + (end - start) }
         ensures stays { Self.loan self.old ≡ Self.loan self.new }
     {
         let (from, to) = ends_within::<Self, R>(self, &range);
@@ -62,6 +68,11 @@ pub trait BitsSpanMutExt: BitsMut + Sized {
             let end = end_index (R.end_bound range) (Self.big self.old).capacity in
             set_in Self.Shape Self.Order.Endian self.new
             ≡ without_span (set_in Self.Shape Self.Order.Endian self.old) start end }
+        ensures count { let before = set_in Self.Shape Self.Order.Endian self.old in
+            let start = start_index (R.start_bound range) in
+            let end = end_index (R.end_bound range) (Self.big self.old).capacity in
+            size (set_in Self.Shape Self.Order.Endian self.new)
+            ≡ size before - (members_below before end - members_below before start) }
         ensures stays { Self.loan self.old ≡ Self.loan self.new }
     {
         let (from, to) = ends_within::<Self, R>(self, &range);

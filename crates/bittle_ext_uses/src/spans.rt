@@ -4,7 +4,7 @@ ghost use Rattle.std.specs.Prelude.{◌≡◌, ◌+◌, ◌-◌, ◌<◌, ◌≤
 ghost use Rattle.std.specs.Range.Bound.{start_index, end_index};
 ghost use Rattle.bittle.specs.BitPatterns.{bit_set};
 ghost use Rattle.bittle.specs.Orders.{read_in};
-ghost use Rattle.bittle.specs.PlainSet.{complement, members_below};
+ghost use Rattle.bittle.specs.PlainSet.{complement, members_below, size};
 ghost use Rattle.bittle.specs.PlainSet.{with_span, without_span, with_span_toggled};
 ghost use Rattle.bittle.specs.Rows.{row_set};
 ghost use Rattle.bittle.specs.Searches.{IsFirstIn, IsLastIn, NoneIn};
@@ -163,4 +163,33 @@ pub fn without_high(word: u32, from: u32) -> u32
     ensures { bit_set 32 result ≡ without_span (bit_set 32 word) from 32 }
 {
     word.without_span(from..)
+}
+
+/// Counts the members from an index on: no more are below it than there are.
+pub fn count_not_below(mask: u32, index: u32) -> u32
+    ensures { result ≡ size (bit_set 32 mask) - members_below (bit_set 32 mask) index }
+{
+    Bits::count_ones(&mask) - mask.rank(index)
+}
+
+/// Clears a range, and returns how many members are left, with no count after it.
+pub fn clear_and_count(mask: &mut u64, from: u32, to: u32) -> u32
+    requires ordered { from ≤ to }
+    requires within { to ≤ 64 }
+    ensures { result ≡ size (bit_set 64 mask.new) }
+{
+    let left = Bits::count_ones(mask) - mask.count_ones_in_range(from, to);
+    mask.clear_range(from, to);
+    left
+}
+
+/// Sets a range, and returns how many members there are then, with no count after it.
+pub fn fill_and_count(mask: &mut u64, from: u32, to: u32) -> u32
+    requires ordered { from ≤ to }
+    requires within { to ≤ 64 }
+    ensures { result ≡ size (bit_set 64 mask.new) }
+{
+    let others = Bits::count_ones(mask) - mask.count_ones_in_range(from, to);
+    mask.set_range(from, to);
+    others + (to - from)
 }

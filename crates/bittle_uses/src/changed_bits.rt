@@ -60,6 +60,16 @@ pub fn drain_and_test(row: [u8; 8]) -> bool
     row.test_bit_in::<LittleEndian>(9)
 }
 
+/// Sets the bits of a range, and finds one past it as it was.
+#[tactic(auto, using(bittle::proofs::CallerChanges::contains_outside_span))]
+pub fn fill_and_test_other(mask: u64) -> bool
+    ensures { result ≡ contains (bit_set 64 mask) 17 }
+{
+    let mut mask = mask;
+    mask.set_range_in::<BigEndian>(3, 17);
+    mask.test_bit(17)
+}
+
 /// Tests a bit one turn of wrapping further.
 #[tactic(auto, using(bittle::proofs::CallerChanges::contains_turned))]
 pub fn test_after_a_turn(mask: u64, index: u32) -> bool
