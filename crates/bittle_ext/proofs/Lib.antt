@@ -15,6 +15,7 @@ pub mod CommonCounts
 mod RangeItems
 mod RangesBelow
 mod PassingMembers
+mod RankedBits
 pub mod RankFacts
 pub mod RelationFacts
 mod RetainSteps

@@ -21,6 +21,7 @@ use Rattle.bittle_bits.proofs.Spans.{is_in_span-inside, is_in_span-outside}
 use Rattle.bittle_bits.proofs.WordOperations.{word_combined}
 use Rattle.bittle_bits.proofs.Words.{digit_at}
 use Rattle.bittle_ext.specs.Numbers.{number_in, HasBitsOf, has_copied}
+use Rattle.bittle_ext.specs.Rotations.{IsWindow}
 use Rattle.bittle_ext.proofs.ReversedBits.{bit_at_up_high, bit_at_up_low}
 use Rattle.bittle_ext.proofs.Windows.{bit_at_masked, bit_at_shifted}
 
@@ -77,10 +78,12 @@ read_twice m w s t word is =
     ∙ ap (plain_set s.capacity) (fun_ext λ i. ap s.has (place-place m w i word))
 
 -- the mask of the lowest bits
-pub lowest : (n k : ℕ) → k ≤ 128 → bit_and n ((2 ^ 128 - 1) / 2 ^ (128 - k)) ≡ n % 2 ^ k
-lowest n k h =
-    let e : 128 - (128 - k) ≡ k = omega (arith, h) in
-    ap (bit_and n) (ones_shr 128 (128 - k) (omega arith) ∙ ap (λ j. 2 ^ j - 1) e) ∙ and_mask n k
+pub lowest : (n w k by ones : ℕ) → ones ≡ 2 ^ w - 1 → k ≤ w → by ≡ w - k →
+    bit_and n (ones / 2 ^ by) ≡ n % 2 ^ k
+lowest n w k by ones all h is =
+    let e : w - by ≡ k = omega (arith, h, is) in
+    ap (λ o. bit_and n (o / 2 ^ by)) all
+    ∙ ap (bit_and n) (ones_shr w by (omega (arith, is)) ∙ ap (λ j. 2 ^ j - 1) e) ∙ and_mask n k
 
 -- so many bits of a word from an index of it on, which are those of the set from there on
 pub bits_of_word : (m : Bool) (w k from more index p x v : ℕ) (s : PlainSet) → 0 < w →
@@ -94,6 +97,39 @@ bits_of_word m w k from more index p x v s word ours number at within is i h =
     ∙ sym (bit_has-at w x (i + from) inside) ∙ ap (λ u. u.has (i + from)) number
     ∙ digit_at m w k s p word ours (i + from) inside
     ∙ ap (read_in m w s).has (omega (arith, at))
+
+-- a window over word k of a set begins with the bits of the set from an index of that word on
+module _ (m : Bool) (w k from first count p r : ℕ) (s t : PlainSet) (word : 0 < w)
+    (at : k * w + from ≡ first) (ours : bit_set w p ≡ word_of w s k)
+    (is : IsWindow w from (read_in m w (bit_set w p)) t (read_in m w (bit_set w r))) where
+  here : (i : ℕ) → i + from < w →
+      (read_in m w (bit_set w r)).has i ≡ (read_in m w s).has (first + i)
+  here i h = is.first i h ∙ digit_at m w k s p word ours (i + from) h
+      ∙ ap (read_in m w s).has (omega (arith, at))
+
+  pub near_one : from + count ≤ w → (i : ℕ) → i < count →
+      (read_in m w (bit_set w r)).has i ≡ (read_in m w s).has (first + i)
+  near_one within i h = here i (omega (arith, within, h))
+
+  pub near_two : (q : ℕ) → t ≡ read_in m w (bit_set w q) → bit_set w q ≡ word_of w s (k + 1) →
+      from < w → count ≤ w → (i : ℕ) → i < count →
+      (read_in m w (bit_set w r)).has i ≡ (read_in m w s).has (first + i)
+  near_two q second theirs low within i h = elim (cases_lt (i + from) w) [
+    | inl l ↦ here i l
+    | inr g ↦
+        let o = i + from - w in
+        let on : (k + 1) * w ≡ k * w + w = omega arith in
+        is.second i (omega (arith, h, within)) g ∙ ap (λ (u : PlainSet). u.has o) second
+        ∙ digit_at m w (k + 1) s q word theirs o (omega (arith, low, h, within, g))
+        ∙ ap (read_in m w s).has (omega (arith, at, on, g))
+  ]
+
+-- the number of the first bits of a word, which are those of a set
+pub bits_of_first : (w first count x v : ℕ) (s : PlainSet) → count ≤ w → v ≡ x % 2 ^ count →
+    ((i : ℕ) → i < count → (bit_set w x).has i ≡ s.has (first + i)) → HasBitsOf s first count v
+bits_of_first w first count x v s within is same i h =
+    ap (λ b. b == 1) (ap (λ n. bit_at n i) is ∙ bit_at_masked x count i h)
+    ∙ sym (bit_has-at w x i (omega (arith, within, h))) ∙ same i h
 
 -- a number of `done` bits below one of `more` bits
 module _ (s : PlainSet) (first done more number v r : ℕ) (below : number < 2 ^ done)

@@ -1,20 +1,22 @@
 -- A word of a set, of whose bits some have been asked for, and are kept or taken out.
 use Rattle.std.proofs.Common.{◌≡◌, ℕ, ◌+◌, ◌-◌, ◌*◌, ◌/◌, ◌%◌, ◌<◌, ◌≤◌, Bool, true, false, not, ◌&&◌, ◌||◌, ◌==◌, [], ◌∷◌, Some, inl, inr, refl, sym, ap, ◌∙◌, arith}
-use Rattle.std.proofs.Math.Bool.{or-false}
+use Rattle.std.proofs.Math.Bool.{or-false, or-true}
 use Rattle.std.proofs.Math.Nat.{mul-le-mul_right}
 use Rattle.std.proofs.lemmas.Nat.{div-mul-add, mod_below}
 use Rattle.std.proofs.lemmas.Bool.{cases_eq, cases_lt, eq-eqb, ne_eqb, true≢false}
 use Rattle.bittle.specs.BitPatterns.{bit_set}
-use Rattle.bittle.specs.Orders.{place, read_in}
-use Rattle.bittle.specs.PlainSet.{PlainSet, ascending, with_index, without_index, IsLeastMember}
+use Rattle.bittle.specs.Orders.{read_in}
+use Rattle.bittle.specs.PlainSet.{PlainSet, ascending, without_index, IsLeastMember}
 use Rattle.bittle.specs.Searches.{IsFirstIn, NoneIn}
+use Rattle.bittle.specs.SetOperations.{combination_of, just_one}
 use Rattle.bittle.specs.Words.{ReplacesWord, word_of}
 use Rattle.bittle_bits.proofs.AscendingLists.{ascending_from-agree, end-taken}
 use Rattle.bittle_bits.proofs.BitSets.{bit_has-zero}
 use Rattle.bittle_bits.proofs.PlainSets.{plain_set}
+use Rattle.bittle_bits.proofs.SetOperations.{combination-below}
 use Rattle.bittle_bits.proofs.Words.{digit_at}
 use Rattle.bittle.proofs.CallerLists.{ascending_first, ascending_none}
-use Rattle.bittle.proofs.CallerSets.{with_index_within, without_index_within}
+use Rattle.bittle.proofs.CallerSets.{without_index_within}
 use Rattle.bittle_ext.proofs.WordsReplaced.{place_in, in_word, in_others}
 
 -- a word before the end of whole words ends below the capacity
@@ -57,11 +59,25 @@ popped w i p q taken =
       others = λ o h n. each o h ∙ ap (λ b. not b && p o) (ne_eqb o i n);
     }
 
--- a word with a bit more
-pub one_more : (w i : ℕ) (p q : ℕ → Bool) → i < w →
-    plain_set w q ≡ with_index (plain_set w p) i → (o : ℕ) → o < w → q o ≡ ((o == i) || p o)
-one_more w i p q h is o l =
-    ap (λ (s : PlainSet). s.has o) (is ∙ with_index_within (plain_set w p) i h)
+-- a word with the bit more that another one has lost
+pub one_more : (w i : ℕ) (a b d e r : PlainSet) → a.capacity ≡ w → b.capacity ≡ w →
+    d.capacity ≡ w → IsPopped w i a.has b.has → e ≡ combination_of just_one a b →
+    r ≡ combination_of ◌||◌ d e → (o : ℕ) → o < w → r.has o ≡ ((o == i) || d.has o)
+one_more w i a b d e r first second third pop lost is o h =
+    let wide : e.capacity ≡ w = ap (λ (u : PlainSet). u.capacity) lost ∙ first in
+    let bit : e.has o ≡ just_one (a.has o) (b.has o) = ap (λ (u : PlainSet). u.has o) lost
+    ∙ combination-below just_one a b o (omega (arith, h, first)) (omega (arith, h, second)) in
+    ap (λ (u : PlainSet). u.has o) is
+    ∙ combination-below ◌||◌ d e o (omega (arith, h, third)) (omega (arith, h, wide))
+    ∙ ap (λ t. d.has o || t) bit
+    ∙ elim (cases_eq o i) [
+      | inl same ↦ rw (same, pop.is, pop.gone, eq-eqb i i refl) (or-true (d.has i))
+      | inr n ↦ rw (pop.others o h n, ne_eqb o i n) (by (a.has o) (d.has o))
+    ]
+  where
+    by : (b c : Bool) → c || just_one b b ≡ c
+    by true c = or-false c
+    by false c = or-false c
 
 -- a word of which the list is empty
 pub none_left : (w : ℕ) (p : ℕ → Bool) → ascending (plain_set w p) ≡ [] → (o : ℕ) → o < w →
@@ -81,19 +97,18 @@ pub record IsHalfway (w k : ℕ) (kept rest : ℕ → Bool) (s t : PlainSet) (fr
   pub kept_below : (o : ℕ) → o < w → from ≤ k * w + o → kept o ≡ false
   pub rest_above : (o : ℕ) → o < w → k * w + o < from → rest o ≡ false
 
--- at first none is kept
-pub halfway_none : (m : Bool) (w k d r : ℕ) (s : PlainSet) → 0 < w → d ≡ 0 →
-    bit_set w r ≡ word_of w s k → IsHalfway w k (read_in m w (bit_set w d)).has
-    (read_in m w (bit_set w r)).has (read_in m w s) (read_in m w s) (k * w)
-halfway_none m w k d r s word none is =
-    let empty : (o : ℕ) → (read_in m w (bit_set w d)).has o ≡ false = λ o.
-    ap (λ p. p (place m w o)) (bit_has-zero w d none) in
+-- at first none is kept, and the rest is the word as it is read
+pub halfway_none : (m : Bool) (w k d r x : ℕ) (s : PlainSet) → 0 < w → d ≡ 0 →
+    bit_set w r ≡ word_of w s k → bit_set w x ≡ read_in m w (bit_set w r) →
+    IsHalfway w k (bit_set w d).has (bit_set w x).has (read_in m w s) (read_in m w s) (k * w)
+halfway_none m w k d r x s word none is turned =
+    let empty : (o : ℕ) → (bit_set w d).has o ≡ false = λ o. ap (λ p. p o) (bit_has-zero w d none) in
     record {
       capacity = refl;
       begins = omega arith;
       ends = omega arith;
-      here = λ o h. sym (digit_at m w k s r word is o h)
-          ∙ sym (ap (λ b. b || (read_in m w (bit_set w r)).has o) (empty o));
+      here = λ o h. sym (digit_at m w k s r word is o h) ∙ sym (ap (λ (u : PlainSet). u.has o) turned)
+          ∙ sym (ap (λ b. b || (bit_set w x).has o) (empty o));
       others = λ i n. refl;
       kept_below = λ o h l. empty o;
       rest_above = λ o h l. absurd (omega arith);
@@ -196,17 +211,18 @@ module _ (w k : ℕ) (kept rest : ℕ → Bool) (s t : PlainSet) (from : ℕ) (w
     kept_all o h = so_far.here o h ∙ ap (λ b. kept o || b) (none o h) ∙ or-false (kept o)
 
 -- and once the word is what is kept, the set is that
-pub halfway_all : (m : Bool) (w k r from : ℕ) (rest : ℕ → Bool) (s after t : PlainSet) → 0 < w →
+pub halfway_all : (m : Bool) (w k d r from : ℕ) (rest : ℕ → Bool) (s after t : PlainSet) → 0 < w →
     (words : ℕ) × (s.capacity ≡ words * w) → ((i : ℕ) → s.capacity ≤ i → s.has i ≡ false) →
     ((i : ℕ) → after.capacity ≤ i → after.has i ≡ false) →
-    IsHalfway w k (read_in m w (bit_set w r)).has rest (read_in m w s) t from →
+    IsHalfway w k (bit_set w d).has rest (read_in m w s) t from →
     ((o : ℕ) → o < w → rest o ≡ false) → ReplacesWord w s k (bit_set w r) after →
-    t ≡ read_in m w after
-halfway_all m w k r from rest s after t word whole past also so_far none is =
+    read_in m w (bit_set w r) ≡ bit_set w d → t ≡ read_in m w after
+halfway_all m w k d r from rest s after t word whole past also so_far none is turned =
     let each : (i : ℕ) → t.has i ≡ (read_in m w after).has i = λ i. elim (cases_eq (i / w) k) [
       | inl e ↦ ap t.has (sym (place_in w k i e))
           ∙ kept_all w k _ rest (read_in m w s) t from word so_far none (i % w) (mod_below i w word)
-          ∙ sym (in_word m w k r s after word whole past also is i e)
+          ∙ sym (in_word m w k r s after word whole past also is i e
+          ∙ ap (λ (u : PlainSet). u.has (i % w)) turned)
       | inr n ↦ so_far.others i n ∙ sym (in_others m w k r s after word whole past also is i n)
     ] in
     λ j. plain_set ((so_far.capacity ∙ sym is.capacity) j) (λ i. each i j)

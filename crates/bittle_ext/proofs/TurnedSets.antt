@@ -1,22 +1,23 @@
 -- Sets that are turned where they stand: their words change places, and then their bits.
-use Rattle.std.proofs.Common.{◌≡◌, ◌≢◌, ℕ, ◌+◌, ◌-◌, ◌*◌, ◌/◌, ◌%◌, ◌<◌, ◌≤◌, ◌⊎◌, Bool, false, cond, ◌==◌, inl, inr, refl, sym, ap, ◌∙◌, arith}
+use Rattle.std.proofs.Common.{◌≡◌, ◌≢◌, ℕ, ◌+◌, ◌-◌, ◌*◌, ◌/◌, ◌%◌, ◌<◌, ◌≤◌, ◌⊎◌, Bool, false, cond, nat_lt, ◌==◌, inl, inr, refl, sym, ap, ◌∙◌, arith}
 use Rattle.std.proofs.Math.Path.{fun_ext}
-use Rattle.std.proofs.Math.Nat.{add-mod-mod, mul-le-mul_right, lt_of_mul-lt-mul_right}
+use Rattle.std.proofs.Math.Nat.{add-mod-mod, mod-eq_of_lt, mul-le-mul_right, lt_of_mul-lt-mul_right}
 use Rattle.std.proofs.lemmas.Nat.{div-add-mod', mod_below}
-use Rattle.std.proofs.lemmas.Bool.{cases_eq, cases_lt, eq-eqb, ne_eqb}
+use Rattle.std.proofs.lemmas.Bool.{cases_eq, cases_lt, eq-eqb, ne_eqb, lt-ltb, le-ltb}
 use Rattle.bittle.specs.BitPatterns.{bit_set}
 use Rattle.bittle.specs.Orders.{read_in}
 use Rattle.bittle.specs.PlainSet.{PlainSet, contains, is_in_span}
 use Rattle.bittle.specs.Words.{word_of, ReplacesWord}
 use Rattle.bittle_bits.proofs.BitSets.{bit_has-at}
-use Rattle.bittle_bits.proofs.PlainSets.{plain_set}
+use Rattle.bittle_bits.proofs.PlainSets.{members-past, plain_set}
 use Rattle.bittle_bits.proofs.Spans.{is_in_span-inside, is_in_span-outside}
 use Rattle.bittle_bits.proofs.Words.{digit_at, same_word}
 use Rattle.bittle.proofs.CallerSets.{contains_within}
 use Rattle.bittle_ext.specs.Numbers.{HasBitsOf, with_copied}
-use Rattle.bittle_ext.specs.Rotations.{exchanged, has_rotated, HasWordsOf, mirrored_within, rotated_down, shifted_down}
+use Rattle.bittle_ext.specs.Rotations.{exchanged, has_rotated, HasWordsOf, mirrored_within, rotated_down, shifted_down, shifted_up, IsDistance, IsWindow}
 use Rattle.bittle_ext.proofs.CopiedRanges.{copied-inside, copied-outside}
-use Rattle.bittle_ext.proofs.RotatedSets.{contains_as, contains_past, down-inside, down-past, rotated-below, rotated-past, rotated_from, word_within}
+use Rattle.bittle_ext.proofs.RotatedSets.{contains_as, contains_past, down-inside, down-past, rotated-below, rotated-past, rotated_from, turned_word, up-inside, up-past, window_from, word_within}
+use Rattle.bittle_ext.proofs.WordsReplaced.{adds_upward, all_replaced, more_replaced, none_replaced}
 
 -- which number stands where i and j have changed places
 exchanged-second : (i j : ℕ) → exchanged i j j ≡ i
@@ -271,6 +272,58 @@ ends_put s by d small inside bits =
             ∙ down-past s by i (omega (arith, h)) ∙ sym (rotated-past s by i h)
       ]
     ])
+
+-- a set moved up, and the bits that passed its end put at its start
+pub starts_put : (s : PlainSet) (by up d : ℕ) → up ≤ 128 → by + up ≡ s.capacity → 0 < up →
+    HasBitsOf s by up d →
+    with_copied (shifted_up s up) 0 up (bit_set 128 d) 0 ≡ rotated_down s by
+starts_put s by up d small parts some bits =
+    let u = shifted_up s up in
+    let v = bit_set 128 d in
+    ap (plain_set s.capacity) (fun_ext λ i. elim (cases_lt i up) [
+      | inl l ↦
+          let same : i - 0 + 0 ≡ i = omega arith in
+          let on : by + i ≡ i + by = omega arith in
+          copied-inside u v 0 up 0 i (omega arith) (omega (arith, l)) ∙ ap v.has same
+          ∙ bit_has-at 128 d i (omega (arith, l, small)) ∙ bits i l ∙ ap s.has on
+          ∙ sym (rotated-below s by i (omega (arith, l, parts))
+          ∙ contains_within s (i + by) (omega (arith, l, parts)))
+      | inr g ↦ copied-outside u v 0 up 0 i (inr (omega (arith, g))) ∙ elim (cases_lt i s.capacity) [
+        | inl l ↦ up-inside s up i g l
+            ∙ sym (rotated-below s by i l ∙ contains_past s (i + by) (i - up)
+            (omega (arith, g, parts)) (omega (arith, l)))
+        | inr h ↦ up-past s up i h ∙ sym (rotated-past s by i h)
+      ]
+    ])
+
+-- a set of one word, which is replaced by its window onto itself
+pub word_turned : (m : Bool) (w by p r : ℕ) (s t : PlainSet) → 0 < w → s.capacity ≡ w → by < w →
+    ((i : ℕ) → s.capacity ≤ i → s.has i ≡ false) → ((i : ℕ) → t.capacity ≤ i → t.has i ≡ false) →
+    bit_set w p ≡ word_of w s 0 →
+    IsWindow w by (read_in m w (bit_set w p)) (read_in m w (bit_set w p))
+    (read_in m w (bit_set w r)) →
+    ReplacesWord w s 0 (bit_set w r) t → read_in m w t ≡ rotated_down (read_in m w s) by
+word_turned m w by p r s t word one low past also ours is replaced =
+    let u = read_in m w s in
+    let all : 1 * w ≡ s.capacity = omega (arith, one) in
+    let whole : (words : ℕ) × (s.capacity ≡ words * w) = (1, omega (arith, one)) in
+    let small : by % w ≡ by = mod-eq_of_lt low in
+    let far : IsDistance w w (by % w) 1 0 by = record {
+      whole = omega arith;
+      fewer = omega arith;
+      within = low;
+      parts = omega (arith, small);
+    } in
+    let g = has_rotated u by in
+    let gone = rotated-past u by in
+    let none = members-past m w s word whole past in
+    let here = turned_word m w w 1 0 by by 0 0 r u far (omega (arith, one)) (omega arith) (inl refl)
+    (window_from m w 0 by p p r s word whole low 0 (inl (omega (arith, one), refl)) ours ours is) in
+    more_replaced m w 0 r (λ i. nat_lt i (0 * w)) (λ i. nat_lt i (1 * w)) g u s t word whole past
+    also (adds_upward w 0 word) replaced here
+    (none_replaced (λ i. nat_lt i (0 * w)) g u none gone (λ i l. le-ltb i (0 * w) (omega arith)))
+    ∙ all_replaced (λ i. nat_lt i (1 * w)) g u none gone
+    (λ i l. lt-ltb i (1 * w) (omega (arith, l, one)))
 
 -- a set moved down twice
 pub rotated_twice : (s : PlainSet) (a b : ℕ) →

@@ -6,7 +6,7 @@ ghost use Rattle.bittle.specs.Values.{set_in, ShapeFits};
 ghost use Rattle.bittle_ext.specs.Numbers.{HasBitsOf, number_in, with_copied};
 
 use crate::copies;
-use bittle::{BigEndian, Bits, BitsMut};
+use bittle::{Bits, BitsMut};
 
 /// Reading up to 64 neighbouring bits as a number, a word at a time.
 ///
@@ -76,7 +76,7 @@ pub trait BitsNumberMutExt: BitsMut {
             ≡ number_in (set_in Self.Shape Self.Order.Endian self.old) at n }
         ensures stays { Self.loan self.old ≡ Self.loan self.new }
     {
-        copies::copy_range::<Self, u64, Self::Order, BigEndian>(self, first, &value, 0, count);
+        copies::put_value::<Self, Self::Order>(self, first, count, value);
     }
 }
 

@@ -1,13 +1,16 @@
 //! Ranges of a set as numbers, and ranges copied, a word at a time.
 
-ghost use Rattle.std.specs.Prelude.{◌≡◌, ◌+◌, ◌%◌, ◌^◌, ◌<◌, ◌≤◌};
+ghost use Rattle.std.specs.Prelude.{◌≡◌, ◌+◌, ◌%◌, ◌^◌, ◌<◌, ◌≤◌, ℕ};
 ghost use Rattle.bittle.specs.BitPatterns.{bit_set};
+ghost use Rattle.bittle.specs.Orders.{read_in};
 ghost use Rattle.bittle.specs.Values.{set_in, ShapeFits};
 ghost use Rattle.bittle_ext.specs.Numbers.{HasBitsOf, with_copied};
 
 use crate::capacities::capacity_of;
-use crate::numbers::{low_bits, number_of, width_of, with_number};
+use crate::numbers::{low_bits, low_bits_of, number_of, width_of, with_number};
+use crate::rotations::window;
 use bittle::{Bits, BitsMut, Endian};
+use bittle_bits::extension::Word;
 
 /// Returns how many bits each word of a set has: 128 at most.
 #[inline]
@@ -16,6 +19,43 @@ pub fn width_of_words<B: Bits>() -> u32
     ensures within { B.width ≤ 128 }
 {
     width_of::<B::LeafWord>()
+}
+
+/// Returns a word that begins with the bits at `count` indexes from `first` on, which lie in one
+/// word or in two. What comes after them is of no account.
+#[inline]
+fn word_near<B: Bits, E: Endian>(set: &B, first: u32, count: u32) -> B::LeafWord
+    requires fits { ShapeFits B.Shape set.now }
+    requires some { 0 < count }
+    requires within { count ≤ B.width }
+    requires ends { first + count ≤ (B.big set.now).capacity }
+    ensures { (i : ℕ) → i < count
+        → (read_in E.mirrored B.width (bit_set B.width (B.LeafWord.pattern result))).has i
+        ≡ (set_in B.Shape E.Endian set.now).has (first + i) }
+{
+    let width = width_of_words::<B>();
+    let k = (first / width) as usize;
+    let from = first % width;
+    let word = set.nth_leaf_word(k);
+    if count <= width - from {
+        return window::<B::LeafWord, E>(word, <B::LeafWord as Word>::zero(), from);
+    }
+    window::<B::LeafWord, E>(word, set.nth_leaf_word(k + 1), from)
+}
+
+/// Returns the bits at `count` indexes from `first` on, which lie in one word or in two, as a
+/// number.
+#[inline]
+fn number_near<B: Bits, E: Endian>(set: &B, first: u32, count: u32) -> u128
+    requires fits { ShapeFits B.Shape set.now }
+    requires some { 0 < count }
+    requires within { count ≤ B.width }
+    requires ends { first + count ≤ (B.big set.now).capacity }
+    ensures below { result < 2 ^ count }
+    ensures bits { HasBitsOf (set_in B.Shape E.Endian set.now) first count result }
+{
+    let word = word_near::<B, E>(set, first, count);
+    low_bits_of::<B::LeafWord>(number_of::<B::LeafWord, E>(word), count)
 }
 
 /// Returns the bits at `count` indexes from `first` on as a number. From the capacity on no bit is
@@ -29,6 +69,9 @@ pub fn number_from<B: Bits, E: Endian>(set: &B, first: u32, count: u32) -> u128
 {
     let width = width_of_words::<B>();
     let end = count.min(capacity_of::<B, E>(set).saturating_sub(first));
+    if 0 < end && end <= width {
+        return number_near::<B, E>(set, first, end);
+    }
     let mut number = 0;
     let mut done = 0;
     while done < end {
@@ -62,6 +105,37 @@ fn put_number<A: BitsMut, E: Endian>(set: &mut A, first: u32, count: u32, number
         k,
         with_number::<A::LeafWord, E>(word, first % width, count, number),
     );
+}
+
+/// Returns `count` bits of a number from bit `first` on.
+#[inline]
+fn part_of(value: u64, first: u32, count: u32) -> u128
+    requires some { 0 < count }
+    requires within { first + count ≤ 64 }
+    ensures below { result < 2 ^ count }
+    ensures bits { HasBitsOf (bit_set 64 value) first count result }
+{
+    (value >> first & u64::MAX >> (64 - count)) as u128
+}
+
+/// Sets and clears the bits at `count` indexes, from `first` on, as those of a number.
+#[inline]
+pub fn put_value<A: BitsMut, E: Endian>(set: &mut A, first: u32, count: u32, value: u64)
+    requires fits { ShapeFits A.Shape set.old }
+    requires number { count ≤ 64 }
+    requires within { first + count ≤ (A.big set.old).capacity }
+    ensures set { set_in A.Shape E.Endian set.new ≡ with_copied (set_in A.Shape E.Endian set.old)
+        first count (bit_set 64 value) 0 }
+    ensures stays { A.loan set.old ≡ A.loan set.new }
+{
+    let width = width_of_words::<A>();
+    let mut done = 0;
+    while done < count {
+        let at = first + done;
+        let more = (width - at % width).min(count - done);
+        put_number::<A, E>(set, at, more, part_of(value, done, more));
+        done += more;
+    }
 }
 
 /// Copies the bits at `count` indexes of another set, from `from` on, to the indexes from `at` on.

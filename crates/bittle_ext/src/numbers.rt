@@ -71,6 +71,24 @@ pub fn number_of<W: Word, E: Endian>(word: W) -> u128
     ordered::<W, E>(word.to_bits())
 }
 
+/// Returns the word whose bit `i` is the bit at index `i` of a word.
+#[inline]
+pub fn turned<W: Word, E: Endian>(word: W) -> W
+    ensures { bit_set W.width (W.pattern result)
+        ≡ read_in E.mirrored W.width (bit_set W.width (W.pattern word)) }
+{
+    W::from_bits(number_of::<W, E>(word))
+}
+
+/// Returns the word whose bit at index `i` is bit `i` of a word.
+#[inline]
+pub fn turned_back<W: Word, E: Endian>(word: W) -> W
+    ensures { read_in E.mirrored W.width (bit_set W.width (W.pattern result))
+        ≡ bit_set W.width (W.pattern word) }
+{
+    word_of::<W, E>(word.to_bits())
+}
+
 /// Returns the word whose bit at index `i` is bit `i` of a number.
 #[inline]
 fn word_of<W: Word, E: Endian>(number: u128) -> W
@@ -91,7 +109,20 @@ pub fn low_bits(number: u128, count: u32) -> u128
     number & u128::MAX >> (128 - count)
 }
 
-/// Returns a word with the bits of a number at `count` indexes, from the index `from` on.
+/// Returns the lowest bits of a number that a word holds. The remainder changes nothing: so the
+/// compiler shifts words, and not 128 bits.
+#[inline]
+pub fn low_bits_of<W: Word>(number: u128, count: u32) -> u128
+    requires some { 0 < count }
+    requires within { count ≤ W.width }
+    ensures { result ≡ number % 2 ^ count }
+{
+    let width = width_of::<W>();
+    number & all_bits::<W>() >> ((width - count) % width)
+}
+
+/// Returns a word with the bits of a number at `count` indexes, from the index `from` on. If these
+/// are all bits of the word, nothing is masked.
 #[inline]
 pub fn with_number<W: Word, E: Endian>(word: W, from: u32, count: u32, number: u128) -> W
     requires some { 0 < count }
@@ -102,8 +133,9 @@ pub fn with_number<W: Word, E: Endian>(word: W, from: u32, count: u32, number: u
         ≡ has_copied (read_in E.mirrored W.width (bit_set W.width (W.pattern word))) from count
         (bit_set 128 number) 0 i }
 {
-    // For its clause alone: a shift by less than the width is one by less than 128.
-    let _ = width_of::<W>();
+    if count == width_of::<W>() {
+        return word_of::<W, E>(number);
+    }
     let bits = word_of::<W, E>(number << from);
     let rest = Difference::on_words::<W>(word, range::<W, E>(from, from + count));
     Union::on_words::<W>(rest, bits)

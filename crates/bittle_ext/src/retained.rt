@@ -7,8 +7,11 @@ ghost use Rattle.bittle.specs.BitPatterns.{bit_set};
 ghost use Rattle.bittle.specs.Values.{set_in, ShapeFits};
 ghost use Rattle.bittle.specs.Words.{ReplacesWord, word_of};
 
-use bittle::{Bits, BitsMut, Endian};
-use bittle_bits::extension::{Front, Ones, ReadWords, Word, pop, set_bit, word_width};
+use crate::numbers::{turned, turned_back};
+use bittle::{BigEndian, Bits, BitsMut, Endian};
+use bittle_bits::extension::{
+    Front, Ones, Operation, ReadWords, SymmetricDifference, Union, Word, pop, word_width,
+};
 
 /// Replaces word `k` of a set, which is `word`, and writes nothing if it stays the same.
 #[inline]
@@ -29,6 +32,10 @@ fn change_word<B: BitsMut>(bits: &mut B, k: usize, word: B::LeafWord, by: B::Lea
 /// Asks `keep` once for each set bit, from the least index on, and clears those for which it
 /// returns `false`. Each word is read once, and is written once if a bit of it goes. Words that the
 /// set knows to have no set bit are passed over.
+///
+/// A little-endian word is reversed before its bits are asked for, and what stays of it is reversed
+/// afterwards. So the bit of least weight comes next in both orders, which one subtraction takes out.
+/// A bit that stays is what the word has lost by that, so no mask is made of its index.
 #[inline]
 pub fn retain<B: BitsMut, E: Endian, F: FnMut(u32) -> bool>(bits: &mut B, mut keep: F)
     requires fits { ShapeFits B.Shape bits.old }
@@ -43,14 +50,17 @@ pub fn retain<B: BitsMut, E: Endian, F: FnMut(u32) -> bool>(bits: &mut B, mut ke
     while k < words {
         let word = bits.nth_leaf_word(k);
         let start = k as u32 * width;
-        let mut rest = word;
+        let mut rest = turned::<B::LeafWord, E>(word);
         let mut kept = <B::LeafWord as Word>::zero();
-        while let Some(index) = pop::<B::LeafWord, E, Front>(&mut rest) {
+        let mut before = rest;
+        while let Some(index) = pop::<B::LeafWord, BigEndian, Front>(&mut rest) {
             if keep(start + index) {
-                set_bit::<B::LeafWord, E>(&mut kept, index);
+                let bit = SymmetricDifference::on_words::<B::LeafWord>(before, rest);
+                kept = Union::on_words::<B::LeafWord>(kept, bit);
             }
+            before = rest;
         }
-        change_word(bits, k, word, kept);
+        change_word(bits, k, word, turned_back::<B::LeafWord, E>(kept));
         k = bits.pass_over::<Ones, Front>(k + 1, words);
     }
 }

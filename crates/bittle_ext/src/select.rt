@@ -1,12 +1,13 @@
 //! The set bit of a rank: its word by the counts of whole words, its place there by halves.
 
-ghost use Rattle.std.specs.Prelude.{◌≡◌, ◌+◌, ◌*◌, ◌<◌, true, MatchOption};
+ghost use Rattle.std.specs.Prelude.{◌≡◌, ◌+◌, ◌*◌, ◌/◌, ◌^◌, ◌<◌, true, MatchOption};
 ghost use Rattle.bittle_ext.specs.Ranks.{HasNoRank, IsInWord};
 ghost use Rattle.bittle.specs.PlainSet.{members_below};
 ghost use Rattle.bittle.specs.Values.{set_in, ShapeFits};
 
+use crate::numbers::{low_bits_of, turned, width_of};
 use bittle::{Bits, Endian};
-use bittle_bits::extension::{Word, count_in_word};
+use bittle_bits::extension::Word;
 
 /// Counts the set bits of word `k`.
 #[inline]
@@ -39,10 +40,20 @@ pub fn word_of_rank<B: Bits, E: Endian>(bits: &B, rank: u32) -> Option<(u32, u32
     None
 }
 
+/// Returns a word with its bits moved down. The remainder changes nothing: so the compiler shifts a
+/// word, and not 128 bits.
+#[inline]
+fn shifted<W: Word>(word: W, by: u32) -> W
+    requires { by < W.width }
+    ensures { W.pattern result ≡ W.pattern word / 2 ^ by }
+{
+    W::from_bits(word.to_bits() >> (by % width_of::<W>()))
+}
+
 /// Returns the place in word `k` of the set bit below which `rest` bits of the word are set.
 ///
-/// It lies in a span of the word, which is halved: the lower half has it if more than `rest` bits
-/// are set below the half's end. There is no branch on which half has it.
+/// The word is shifted down past each half that does not have it, so all halves begin at place 0, and
+/// a constant masks each.
 #[inline]
 pub fn place_of_rank<B: Bits, E: Endian>(bits: &B, k: u32, rest: u32) -> u32
     requires fits { ShapeFits B.Shape bits.now }
@@ -54,13 +65,19 @@ pub fn place_of_rank<B: Bits, E: Endian>(bits: &B, k: u32, rest: u32) -> u32
         let index = k * B.width + result in (ours.has index ≡ true)
         × (members_below ours index ≡ members_below ours (k * B.width) + rest) }
 {
+    let width = width_of::<B::LeafWord>();
+    let mut word = turned::<B::LeafWord, E>(bits.nth_leaf_word(k as usize));
+    let mut left = rest;
     let mut at = 0;
-    let mut span = <B::LeafWord as Word>::width();
+    let mut span = width;
     while span > 1 {
         let half = span / 2;
         span -= half;
-        if count_in_word::<B, E>(bits, k, 0, at + half) <= rest {
+        let below = low_bits_of::<B::LeafWord>(word.to_bits(), half).count_ones();
+        if below <= left {
+            left -= below;
             at += half;
+            word = shifted(word, half);
         }
     }
     at

@@ -1,15 +1,15 @@
-//! All bits of a set turned in place: whole words by three reversals, and then the bits by less
-//! than a word, of which those that pass the end are kept as a number.
+//! All bits of a set turned in place. The bits that pass an end are kept as a number, if that is at
+//! most 128 bits either way. Else whole words are turned first, by three reversals.
 
-ghost use Rattle.std.specs.Prelude.{◌≡◌, ◌*◌, ◌<◌, ◌≤◌};
+ghost use Rattle.std.specs.Prelude.{◌≡◌, ◌+◌, ◌*◌, ◌<◌, ◌≤◌};
 ghost use Rattle.bittle_ext.specs.Rotations.{exchanged, HasWordsOf, mirrored_within};
 ghost use Rattle.bittle_ext.specs.Rotations.{rotated_down, rotated_up};
 ghost use Rattle.bittle.specs.Values.{set_in, ShapeFits};
 
 use crate::capacities::capacity_of;
 use crate::copies::{copy_range, number_from, width_of_words};
-use crate::rotations::distance;
-use crate::shifts::shift_down;
+use crate::rotations::{distance, window};
+use crate::shifts::{shift_down, shift_up};
 use bittle::{BigEndian, BitsMut, Endian};
 
 /// Exchanges two words.
@@ -29,7 +29,7 @@ fn swap_words<B: BitsMut, E: Endian>(set: &mut B, i: usize, j: usize)
 }
 
 /// Reverses the words `from..to`.
-#[inline]
+#[inline(always)]
 fn reverse_words<B: BitsMut, E: Endian>(set: &mut B, from: usize, to: usize)
     requires fits { ShapeFits B.Shape set.old }
     requires ordered { from ≤ to }
@@ -44,7 +44,7 @@ fn reverse_words<B: BitsMut, E: Endian>(set: &mut B, from: usize, to: usize)
 }
 
 /// Moves each word down by so many words, from the first one on to the last.
-#[inline]
+#[inline(always)]
 fn turn_words<B: BitsMut, E: Endian>(set: &mut B, by: usize, words: usize)
     requires fits { ShapeFits B.Shape set.old }
     requires whole { words * B.width ≡ (B.big set.old).capacity }
@@ -61,18 +61,30 @@ fn turn_words<B: BitsMut, E: Endian>(set: &mut B, by: usize, words: usize)
     reverse_words::<B, E>(set, 0, words);
 }
 
-/// Moves each bit down by less than a word, from index 0 on to the last one.
-#[inline]
-fn turn_bits<B: BitsMut, E: Endian>(set: &mut B, by: u32)
+/// Moves each bit of a set of one word down by less than a word, from index 0 on to the last one.
+#[inline(always)]
+fn turn_word<B: BitsMut, E: Endian>(set: &mut B, by: u32)
     requires fits { ShapeFits B.Shape set.old }
     requires part { by < B.width }
+    requires one { (B.big set.old).capacity ≡ B.width }
+    ensures set { set_in B.Shape E.Endian set.new
+        ≡ rotated_down (set_in B.Shape E.Endian set.old) by }
+    ensures stays { B.loan set.old ≡ B.loan set.new }
+{
+    let word = set.nth_leaf_word(0);
+    set.set_nth_leaf_word(0, window::<B::LeafWord, E>(word, word, by));
+}
+
+/// Moves each bit down by at most 128, from index 0 on to the last one.
+#[inline(always)]
+fn turn_bits<B: BitsMut, E: Endian>(set: &mut B, by: u32)
+    requires fits { ShapeFits B.Shape set.old }
+    requires part { by ≤ 128 }
     requires within { by < (B.big set.old).capacity }
     ensures set { set_in B.Shape E.Endian set.new
         ≡ rotated_down (set_in B.Shape E.Endian set.old) by }
     ensures stays { B.loan set.old ≡ B.loan set.new }
 {
-    // For its clause alone: the bits of a word are a `u128`.
-    let _ = width_of_words::<B>();
     let end = capacity_of::<B, E>(set);
     if by == 0 {
         return;
@@ -82,8 +94,50 @@ fn turn_bits<B: BitsMut, E: Endian>(set: &mut B, by: u32)
     copy_range::<B, u128, E, BigEndian>(set, end - by, &first, 0, by);
 }
 
+/// Moves each bit up by at most 128, from the last index on to 0: down by `by`, which is so much
+/// less than the capacity.
+#[inline(always)]
+fn turn_bits_up<B: BitsMut, E: Endian>(set: &mut B, by: u32)
+    requires fits { ShapeFits B.Shape set.old }
+    requires part { (B.big set.old).capacity ≤ by + 128 }
+    requires within { by < (B.big set.old).capacity }
+    ensures set { set_in B.Shape E.Endian set.new
+        ≡ rotated_down (set_in B.Shape E.Endian set.old) by }
+    ensures stays { B.loan set.old ≡ B.loan set.new }
+{
+    let up = capacity_of::<B, E>(set) - by;
+    let last = number_from::<B, E>(set, by, up);
+    shift_up::<B, E>(set, up);
+    copy_range::<B, u128, E, BigEndian>(set, 0, &last, 0, up);
+}
+
+/// Moves each bit down by less than the capacity, from index 0 on to the last one.
+#[inline(always)]
+fn turn_within<B: BitsMut, E: Endian>(set: &mut B, by: u32)
+    requires fits { ShapeFits B.Shape set.old }
+    requires within { by < (B.big set.old).capacity }
+    ensures set { set_in B.Shape E.Endian set.new
+        ≡ rotated_down (set_in B.Shape E.Endian set.old) by }
+    ensures stays { B.loan set.old ≡ B.loan set.new }
+{
+    // For its clause alone: the bits of a word are a `u128`.
+    let width = width_of_words::<B>();
+    let capacity = capacity_of::<B, E>(set);
+    if capacity == width {
+        turn_word::<B, E>(set, by);
+    } else if by <= 128 {
+        turn_bits::<B, E>(set, by);
+    } else if capacity - by <= 128 {
+        turn_bits_up::<B, E>(set, by);
+    } else {
+        let (words, skipped, rest) = distance::<B>(set, by);
+        turn_words::<B, E>(set, skipped, words);
+        turn_bits::<B, E>(set, rest);
+    }
+}
+
 /// Moves each bit down, from index 0 on to the last one.
-#[inline]
+#[inline(always)]
 pub fn turn_down<B: BitsMut, E: Endian>(set: &mut B, by: u32)
     requires { ShapeFits B.Shape set.old }
     ensures set { set_in B.Shape E.Endian set.new
@@ -91,16 +145,13 @@ pub fn turn_down<B: BitsMut, E: Endian>(set: &mut B, by: u32)
     ensures stays { B.loan set.old ≡ B.loan set.new }
 {
     let capacity = capacity_of::<B, E>(set);
-    if capacity == 0 {
-        return;
+    if capacity > 0 {
+        turn_within::<B, E>(set, by % capacity);
     }
-    let (words, skipped, rest) = distance::<B>(set, by % capacity);
-    turn_words::<B, E>(set, skipped, words);
-    turn_bits::<B, E>(set, rest);
 }
 
 /// Moves each bit up, from the last index on to 0.
-#[inline]
+#[inline(always)]
 pub fn turn_up<B: BitsMut, E: Endian>(set: &mut B, by: u32)
     requires { ShapeFits B.Shape set.old }
     ensures set { set_in B.Shape E.Endian set.new

@@ -80,3 +80,31 @@ returns-clause-bits g c =
         ends.capacity,
       ))
     ]) v.below v.bits
+
+pub returns-then-end-width-clause-below : goal.returns-then-end-width-clause-below
+returns-then-end-width-clause-below g c =
+    let less : c.min-end.result ≤ c.args.count = omega (arith, c.min-end.ensures) in
+    omega (arith, c.number_near.ensures.below, pow_mono less)
+
+pub returns-then-end-width-clause-bits : goal.returns-then-end-width-clause-bits
+returns-then-end-width-clause-bits g c =
+    let ends = c.capacity_of.ensures.ends in
+    let s = set_in g.B.Shape g.E.Endian c.args.set.now in
+    bits_past s c.args.first c.args.count c.min-end.result _ ends.past
+    (elim (cases_lt (s.capacity - c.args.first) c.args.count) [
+      | inl l ↦ inr (omega (
+        arith,
+        l,
+        c.if-end-gt0.true,
+        c.min-end.ensures,
+        c.saturating_sub.ensures,
+        ends.capacity,
+      ))
+      | inr g' ↦ inl (omega (
+        arith,
+        g',
+        c.min-end.ensures,
+        c.saturating_sub.ensures,
+        ends.capacity,
+      ))
+    ]) c.number_near.ensures.below c.number_near.ensures.bits

@@ -1,6 +1,7 @@
 use Rattle.std.proofs.Common.{◌≡◌, ◌+◌, ◌*◌, ◌≤◌, true, false, false, inl, inr, length, refl, sym, ap, ◌∙◌, subst, arith}
 use Rattle.std.proofs.Math.Nat.{mul-le-mul_right}
 use Rattle.std.proofs.lemmas.Bool.{cases_lt}
+use Rattle.bittle.specs.BitPatterns.{bit_set}
 use Rattle.bittle.specs.PlainSet.{PlainSet, without_index}
 use Rattle.bittle.specs.Searches.{NoneIn}
 use Rattle.bittle.specs.Values.{set_in}
@@ -58,11 +59,13 @@ loop-index-init g c =
       callable = subst (λ n. IsCallableBelow n g.F.FnMut c.loop-k.keep) (sym v.retains.capacity)
           v.callable;
       inside = word_inside w c.loop-k.k _ _ _ v.whole v.retains.capacity c.loop-k-test.true;
+      same = refl;
       halfway = (
         now,
         c.loop-k.k * w,
-        halfway_none g.E.Endian.mirrored w c.loop-k.k _ _ (g.B.Shape.big c.loop-k.bits)
-            b.width_positive c.zero-kept.ensures c.nth_leaf_word-word.ensures,
+        halfway_none g.E.Endian.mirrored w c.loop-k.k _ _ _ (g.B.Shape.big c.loop-k.bits)
+            b.width_positive c.zero-kept.ensures c.nth_leaf_word-word.ensures
+            (rw b.leaf_width at c.turned-rest.ensures),
         λ first old h. h,
       );
     }
@@ -108,11 +111,14 @@ loop-index-preserved-then-keep g c =
       callable = next_below _ g.F.FnMut c.loop-index.keep (k * c.word_width-width.result + i)
           v.callable (omega (arith, v.inside, start, pop.inside)) _ _ c.keep.ensures;
       inside = v.inside;
+      same = refl;
       halfway = (
         h.0,
         k * w + i + 1,
         halfway_kept w k _ _ _ h.0 h.1 b.width_positive h.2 i _ pop _
-            (one_more w i _ _ pop.inside (rw b.leaf_width at c.set_bit.ensures)),
+            (one_more w i (bit_set w (g.B.LeafWord.Word.pattern c.loop-index.rest)) _ _ _ _ refl refl
+            refl pop (rw (b.leaf_width, v.same) at c.on_words-bit.ensures)
+            (rw b.leaf_width at c.on_words-kept.ensures)),
         λ first old so_far. retains_kept R _ _ _ _ _ (h.3 first old so_far) (k * w + i)
             c.keep.new.self found called,
       );
@@ -139,6 +145,7 @@ loop-index-preserved g c =
       callable = next_below _ g.F.FnMut c.loop-index.keep (k * c.word_width-width.result + i)
           v.callable (omega (arith, v.inside, start, pop.inside)) _ _ c.keep.ensures;
       inside = v.inside;
+      same = refl;
       halfway = (
         without_index h.0 (k * w + i),
         k * w + i + 1,
@@ -187,8 +194,9 @@ loop-k-preserved g c =
     let s = set_in g.B.Shape g.E.Endian c.args.bits.now in
     let after = set_in g.B.Shape g.E.Endian new in
     let none = none_left w _ (rw b.leaf_width at c.in_default.ensures.found).0 in
-    let is = halfway_all m w k _ h.1 _ (g.B.Shape.big now) (g.B.Shape.big new) h.0 b.width_positive
-    (b.whole_words now) (b.none_past now) (b.none_past new) h.2 none c.change_word.ensures.set in
+    let is = halfway_all m w k _ _ h.1 _ (g.B.Shape.big now) (g.B.Shape.big new) h.0 b.width_positive
+    (b.whole_words now) (b.none_past now) (b.none_past new) h.2 none c.change_word.ensures.set
+    (rw b.leaf_width at c.turned_back.ensures) in
     let asked = subst (λ u. RetainsBelow R c.args.keep s c.loop-index.keep u h.1) is
     (h.3 c.args.keep s v.retains) in
     let e = c.pass_over-k-in-loop-k.ensures in

@@ -1,6 +1,5 @@
 use Rattle.std.proofs.Common.{◌≡◌, ◌+◌, ◌-◌, ◌*◌, ◌≤◌, ℕ, length}
 use Rattle.bittle.specs.BitPatterns.{bit_set}
-use Rattle.bittle.specs.Orders.{read_in}
 use Rattle.bittle.specs.PlainSet.{PlainSet, ascending}
 use Rattle.bittle.specs.Values.{set_in}
 use Rattle.bittle_ext.specs.Calls.{IsCallableBelow}
@@ -26,16 +25,16 @@ decreases-loop-k g l = l.words - l.k
 -- the calls so far in the word go on from those before it
 abbrev pub invariant-loop-index : goal.invariant-loop-index
 invariant-loop-index g l =
-    let m = g.E.Endian.mirrored in
     let w = g.B.Shape.width in
     let R = goal.F-step g in
     let now = set_in g.B.Shape g.E.Endian l.bits in
     record {
       callable : IsCallableBelow now.capacity g.F.FnMut l.keep;
       inside : l.k * w + w ≤ now.capacity;
+      same : l.before ≡ l.rest;
       halfway : (t : PlainSet) × (from : ℕ) × IsHalfway w l.k
-          (read_in m w (bit_set w (g.B.LeafWord.Word.pattern l.kept))).has
-          (read_in m w (bit_set w (g.B.LeafWord.Word.pattern l.rest))).has now t from
+          (bit_set w (g.B.LeafWord.Word.pattern l.kept)).has
+          (bit_set w (g.B.LeafWord.Word.pattern l.rest)).has now t from
           × ((first : g.row.F.Denot) (old : PlainSet) →
           RetainsBelow R first old l.initial.keep now (l.k * w) →
           RetainsBelow R first old l.keep t from);
@@ -44,4 +43,4 @@ invariant-loop-index g l =
 abbrev pub decreases-loop-index : goal.decreases-loop-index
 decreases-loop-index g l =
     let w = g.B.Shape.width in
-    length (ascending (read_in g.E.Endian.mirrored w (bit_set w (g.B.LeafWord.Word.pattern l.rest))))
+    length (ascending (bit_set w (g.B.LeafWord.Word.pattern l.rest)))

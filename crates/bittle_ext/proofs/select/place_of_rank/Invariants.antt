@@ -1,6 +1,7 @@
-use Rattle.std.proofs.Common.{◌+◌, ◌*◌, ◌<◌, ◌≤◌}
+use Rattle.std.proofs.Common.{◌≡◌, ◌+◌, ◌*◌, ◌<◌, ◌≤◌}
 use Rattle.bittle.specs.Orders.{read_in}
 use Rattle.bittle.specs.PlainSet.{members_below}
+use Rattle.bittle_ext.specs.Numbers.{HasBitsOf}
 use Rattle.bittle_ext.proofs.select.place_of_rank.Given as goal
 
 abbrev pub invariant-loop-span : goal.invariant-loop-span
@@ -11,8 +12,9 @@ invariant-loop-span g l =
     record {
       some : 0 < l.span;
       within : l.at + l.span ≤ w;
-      from : members_below ours (start + l.at) ≤ members_below ours start + l.rest;
+      left : members_below ours (start + l.at) + l.left ≡ members_below ours start + l.rest;
       to : members_below ours start + l.rest < members_below ours (start + l.at + l.span);
+      bits : HasBitsOf ours (start + l.at) l.span (g.B.LeafWord.Word.pattern l.word);
     }
 
 abbrev pub decreases-loop-span : goal.decreases-loop-span

@@ -1,4 +1,4 @@
-use Rattle.std.proofs.Common.{◌-◌, ◌≤◌, ap, ◌∙◌, arith}
+use Rattle.std.proofs.Common.{◌-◌, ap, ◌∙◌}
 use Rattle.bittle.specs.BitPatterns.{bit_set}
 use Rattle.bittle.specs.Values.{set_in}
 use Rattle.bittle_ext.specs.Numbers.{with_copied}
@@ -16,9 +16,8 @@ returns-clause-set g c =
     let d = c.number_from-first.result in
     let s = set_in g.B.Shape g.E.Endian c.args.set.now in
     let cap = c.capacity_of-end.ensures.ends.capacity in
-    let small : by ≤ 128 = omega (arith, c.requires.part, c.width_of_words.ensures.within) in
     c.copy_range.ensures.set
     ∙ ap (λ u. with_copied u (c.capacity_of-end.result - by) by (bit_set 128 d) 0)
     c.shift_down.ensures.set
     ∙ ap (λ n. with_copied (shifted_down s by) (n - by) by (bit_set 128 d) 0) cap
-    ∙ ends_put s by d small c.requires.within c.number_from-first.ensures.bits
+    ∙ ends_put s by d c.requires.part c.requires.within c.number_from-first.ensures.bits
