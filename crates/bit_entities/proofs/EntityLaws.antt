@@ -1,7 +1,7 @@
 -- What follows from the entity machine for each event, and for each list of them.
 use Rattle.std.proofs.Common.{◌≡◌, ℕ, ◌<◌, ◌⊎◌, ◌↔◌, Bool, true, false, not, cond, Option, Some, None, List, [], ◌∷◌, inl, inr, refl, sym, ap, ◌∙◌, arith}
 use Rattle.std.proofs.lemmas.Bool.{true≢false}
-use Rattle.bittle.specs.PlainSet.{PlainSet, complement}
+use Rattle.bittle.specs.PlainSet.{PlainSet, complement, empty_set}
 use Rattle.bittle.specs.Searches.{IsFirstIn}
 use Rattle.bittle.proofs.CallerSets.{complement_within}
 use Rattle.bit_entities.specs.Entities.{World, IsWorld, empty_world, least_dead, may_have, with_living, without_entity, with_component, spawned_or_full, with_spawned, answer_to, world_after, final_world}
@@ -11,7 +11,7 @@ use Rattle.bit_entities.specs.declared.Event.TheVariants.{Spawn, Remove, Attach,
 use Rattle.bit_entities.specs.declared.Answer.TheVariants.{Spawned, Full, Done, Refused}
 use Rattle.bit_entities.proofs.LeastDead.{listed_first, outside}
 use Rattle.bit_entities.proofs.Masks.{number_now}
-use Rattle.bit_entities.proofs.Worlds.{may_parts, dead_lacks, living_is_world, going_is_world, having_is_world}
+use Rattle.bit_entities.proofs.Worlds.{may_parts, bare_is_world, dead_lacks, living_is_world, going_is_world, having_is_world}
 
 -- a change of a component keeps it so
 changed_is_world : (w : World) (entity component : ℕ) (is : Bool) → IsWorld w → IsWorld
@@ -49,11 +49,9 @@ stay_worlds w (event ∷ events) is =
 -- and from a new world on
 pub new_worlds : (capacity count : ℕ) (events : List Event) →
     IsWorld (final_world (empty_world capacity count) events)
-new_worlds capacity count events = stay_worlds (empty_world capacity count) events (record {
-  dead_have_nothing = λ k c e. absurd (true≢false (sym e));
-  living_are_below = λ k e. absurd (true≢false (sym e));
-  components_are_below = λ k c e. absurd (true≢false (sym e));
-})
+new_worlds capacity count events =
+    stay_worlds (empty_world capacity count) events
+    (bare_is_world (empty_set capacity) count (λ k h. refl))
 
 no_spawn : (b : Bool) (entity : ℕ) → cond b Done Refused ≡ Spawned entity → ⊥
 no_spawn true entity e = cc

@@ -1,26 +1,11 @@
 -- A mask and a row of masks of which one is changed, and what that makes of a world.
-use Rattle.std.proofs.Common.{◌≡◌, ◌≢◌, ℕ, zero, suc, ◌+◌, ◌<◌, Bool, true, false, not, cond, ◌&&◌, ◌||◌, ◌==◌, nat_lt, Some, List, [], ◌∷◌, length, set, inl, inr, refl, sym, ap, ◌∙◌, arith}
+use Rattle.std.proofs.Common.{◌≡◌, ℕ, ◌+◌, ◌<◌, Bool, true, false, not, cond, ◌&&◌, ◌||◌, ◌==◌, nat_lt, Some, List, length, set, inl, inr, refl, sym, ap, ◌∙◌, arith}
 use Rattle.std.specs.Prelude.{slice_get}
 use Rattle.std.proofs.lemmas.Bool.{cases_eq, cases_lt, eq-eqb, ne_eqb, lt-ltb, le-ltb}
 use Rattle.bittle.specs.PlainSet.{PlainSet, with_index, without_index}
 use Rattle.bittle.proofs.CallerSets.{with_index_within, without_index_within}
+use Rattle.bittle.proofs.CallerTables.{slice_get_set_same, slice_get_set_other}
 use Rattle.bit_entities.specs.Entities.{World, world_of, is_in, with_number, with_component, without_first}
-
--- the place that is written has the value
-written_same : {X : Type 0} (xs : List X) (i : ℕ) (x : X) → i < length xs →
-    slice_get (set xs i x) i ≡ Some x
-written_same [] i x h = absurd (omega (arith, h))
-written_same (y ∷ ys) zero x h = refl
-written_same (y ∷ ys) (suc i) x h = written_same ys i x (omega (arith, h))
-
--- and the others stay
-written_other : {X : Type 0} (xs : List X) (i j : ℕ) (x : X) → j ≢ i →
-    slice_get (set xs i x) j ≡ slice_get xs j
-written_other [] i j x n = refl
-written_other (y ∷ ys) zero zero x n = absurd (n refl)
-written_other (y ∷ ys) zero (suc j) x n = refl
-written_other (y ∷ ys) (suc i) zero x n = refl
-written_other (y ∷ ys) (suc i) (suc j) x n = written_other ys i j x (λ e. n (ap suc e))
 
 -- a number below the capacity that is put in, and one that is taken out
 pub put_in : (s : PlainSet) (i : ℕ) → i < s.capacity → with_index s i ≡ with_number s i true
@@ -59,13 +44,13 @@ module _ {X : Type 0} (count : ℕ) (set_of : X → PlainSet) (alive : X) (masks
   each k c = elim (cases_eq c component) [
     | inl same ↦
         ap (λ i. is_in set_of (slice_get (set masks component y) i) k) same
-        ∙ ap (λ o. is_in set_of o k) (written_same masks component y inside)
+        ∙ ap (λ o. is_in set_of o k) (slice_get_set_same masks component y inside)
         ∙ ap (λ s. s.has k) after
         ∙ ap (λ o. cond (k == entity) is (is_in set_of o k)) (sym at)
         ∙ ap (λ i. cond (k == entity) is (is_in set_of (slice_get masks i) k)) (sym same)
         ∙ there (k == entity) (c == component) _ (eq-eqb c component same)
     | inr apart ↦
-        ap (λ o. is_in set_of o k) (written_other masks component c y apart)
+        ap (λ o. is_in set_of o k) (slice_get_set_other masks component c y apart)
         ∙ elsewhere (k == entity) (c == component) _ (ne_eqb c component apart)
   ]
     where

@@ -1,9 +1,11 @@
 -- What each change keeps of a world: no dead entity has a component, and each living one is below
 -- the capacity.
-use Rattle.std.proofs.Common.{◌≡◌, ℕ, ◌<◌, ◌≤◌, Bool, true, false, cond, ◌&&◌, ◌==◌, nat_lt, inl, inr, refl, sym, ap, ◌∙◌, arith}
+use Rattle.std.proofs.Common.{◌≡◌, ℕ, zero, suc, ◌<◌, ◌≤◌, Bool, true, false, cond, ◌&&◌, ◌==◌, nat_lt, inl, inr, refl, sym, ap, ◌∙◌, arith}
+use Rattle.std.proofs.Math.ListN.{replicate}
+use Rattle.std.specs.Prelude.{slice_get}
 use Rattle.std.proofs.lemmas.Bool.{cases_Bool, cases_eq, cases_lt, eq-eqb, ne_eqb, lt-ltb, ltb-true, and_parts, true≢false}
 use Rattle.bittle.specs.PlainSet.{PlainSet}
-use Rattle.bit_entities.specs.Entities.{World, IsWorld, may_have, with_number, with_living, without_first, without_entity, with_component}
+use Rattle.bit_entities.specs.Entities.{World, IsWorld, EndsAtCapacity, is_in, world_of, bare_world, may_have, with_number, with_living, without_first, without_entity, with_component}
 
 -- a world with other living entities
 abbrev pub with_alive : World → PlainSet → World
@@ -33,6 +35,37 @@ no_other w is entity component h = elim (cases_Bool (w.has entity component)) [
   | inl has ↦ absurd (omega (arith, h, is.components_are_below entity component has))
   | inr lacks ↦ lacks
 ]
+
+-- a row of masks in which nothing is gives an entity no component
+nothing_in : {X : Type 0} (set_of : X → PlainSet) (none : X) (entity : ℕ) →
+    (set_of none).has entity ≡ false → (count component : ℕ) →
+    is_in set_of (slice_get (replicate count none) component) entity ≡ false
+nothing_in set_of none entity empty zero component = refl
+nothing_in set_of none entity empty (suc count) zero = empty
+nothing_in set_of none entity empty (suc count) (suc component) =
+    nothing_in set_of none entity empty count component
+
+-- so the world of such a row is bare
+pub bare_is : {X : Type 0} (count : ℕ) (set_of : X → PlainSet) (alive none : X) →
+    ((k : ℕ) → (set_of none).has k ≡ false) →
+    world_of count set_of alive (replicate count none) ≡ bare_world (set_of alive) count
+bare_is count set_of alive none empty = λ i. record {
+  alive = set_of alive;
+  components = count;
+  has = λ k c. nothing_in set_of none k (empty k) count c i;
+}
+
+-- a bare world is one, if no number past the capacity is alive
+pub bare_is_world : (alive : PlainSet) (count : ℕ) → EndsAtCapacity alive →
+    IsWorld (bare_world alive count)
+bare_is_world alive count ends = record {
+  dead_have_nothing = λ k c e. absurd (true≢false (sym e));
+  living_are_below = λ k e. elim (cases_lt k alive.capacity) [
+    | inl l ↦ l
+    | inr g ↦ absurd (true≢false (sym e ∙ ends k g))
+  ];
+  components_are_below = λ k c e. absurd (true≢false (sym e));
+}
 
 -- an entity below the capacity may live
 pub living_is_world : (w : World) (entity : ℕ) → IsWorld w → entity < w.alive.capacity →

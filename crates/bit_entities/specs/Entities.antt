@@ -138,10 +138,14 @@ world_of count set alive components = record {
   has = λ entity component. is_in set (slice_get components component) entity;
 }
 
--- the world in which no entity is alive
-abbrev pub empty_world : ℕ → ℕ → World
-empty_world capacity count = record {
-  alive = empty_set capacity;
+-- the world in which these entities are alive, and have no component
+abbrev pub bare_world : PlainSet → ℕ → World
+bare_world alive count = record {
+  alive = alive;
   components = count;
   has = λ entity component. false;
 }
+
+-- the world in which no entity is alive
+abbrev pub empty_world : ℕ → ℕ → World
+empty_world capacity count = bare_world (empty_set capacity) count

@@ -28,7 +28,7 @@ ghost use Rattle.bittle.specs.PlainSet.{complement};
 ghost use Rattle.bittle.specs.Searches.{IsFirstIn};
 ghost use Rattle.bittle.specs.Shapes.{Fits};
 ghost use Rattle.bittle.specs.Values.{set_in};
-ghost use Rattle.bit_entities.specs.Entities.{IsWorld, world_of, empty_world};
+ghost use Rattle.bit_entities.specs.Entities.{IsWorld, world_of, bare_world, empty_world};
 ghost use Rattle.bit_entities.specs.Entities.{may_have, least_dead};
 ghost use Rattle.bit_entities.specs.Entities.{answer_to, world_after, event_answers, final_world};
 
@@ -84,8 +84,20 @@ impl<B: BitsOwned, const N: usize> World<B, N> {
         ensures { world_of N (set_in B.Shape B.Order.Endian) result.alive result.components
             ≡ empty_world B.type_capacity N }
     {
+        World::with_alive(B::zeros())
+    }
+
+    /// Returns a world in which the set bits of a mask are alive, in the order of the type. They
+    /// have no components. The type has to fit, as for [`new`](World::new).
+    ///
+    /// `World::<u64, 2>::with_alive(0b1011)` has the entities 0, 1 and 3.
+    pub fn with_alive(alive: B) -> World<B, N>
+        requires { IsTrue B.indexable }
+        ensures { world_of N (set_in B.Shape B.Order.Endian) result.alive result.components
+            ≡ bare_world (set_in B.Shape B.Order.Endian alive) N }
+    {
         World {
-            alive: B::zeros(),
+            alive,
             components: [B::zeros(); N],
         }
     }

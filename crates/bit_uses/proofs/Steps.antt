@@ -1,11 +1,12 @@
 -- A step that changes the entry of each member of a set once, in a table as long as the set.
-use Rattle.std.proofs.Common.{◌≡◌, ◌≢◌, ℕ, suc, ◌<◌, ◌≤◌, true, false, cond, Some, List, [], ◌∷◌, length, set, inl, inr, refl, sym, ap, ◌∙◌, subst, arith}
+use Rattle.std.proofs.Common.{◌≡◌, ◌≢◌, ℕ, suc, ◌<◌, ◌≤◌, true, false, Some, List, [], ◌∷◌, length, set, inl, inr, refl, sym, ap, ◌∙◌, subst, arith}
 use Rattle.std.specs.Prelude.{slice_get}
-use Rattle.std.proofs.lemmas.Bool.{cases_eq, cases_lt, eq-eqb, ne_eqb, true≢false}
+use Rattle.std.proofs.lemmas.Bool.{cases_eq, cases_lt, true≢false}
+use Rattle.std.proofs.lemmas.Option.{same_Some}
 use Rattle.bittle.specs.PlainSet.{PlainSet}
 use Rattle.bit_entities.specs.Entities.{EndsAtCapacity}
 use Rattle.bit_entities.specs.EntityLaws.{VisitsFrom}
-use Rattle.bit_slots.proofs.SlotChanges.{slice_get_set}
+use Rattle.bittle.proofs.CallerTables.{slice_get_set_same, slice_get_set_other}
 
 module _ {X Y : Type 0} (s : PlainSet) (change : X → Y → X) (before : List X) (other : List Y) where
   -- the members that are left are visited from a number on: the entries from there are as they
@@ -45,11 +46,11 @@ module _ {X Y : Type 0} (s : PlainSet) (change : X → Y → X) (before : List X
     ];
     members = λ k x y h has was own. elim (cases_eq k e) [
       | inl same ↦
-          let here = slice_get_set now e (change a b) within k
-          ∙ ap (λ t. cond t (Some (change a b)) (slice_get now k)) (eq-eqb k e same) in
+          let here = ap (slice_get (set now e (change a b))) same
+          ∙ slice_get_set_same now e (change a b) within in
           let stood = is.later e is.visits.0.0 in
-          let first : a ≡ x = one (sym at ∙ stood ∙ ap (slice_get before) (sym same) ∙ was) in
-          let second : b ≡ y = one (sym there ∙ ap (slice_get other) (sym same) ∙ own) in
+          let first : a ≡ x = same_Some _ _ (sym at ∙ stood ∙ ap (slice_get before) (sym same) ∙ was) in
+          let second : b ≡ y = same_Some _ _ (sym there ∙ ap (slice_get other) (sym same) ∙ own) in
           here ∙ ap (λ v. Some (change v b)) first ∙ ap (λ v. Some (change x v)) second
       | inr n ↦ apart k n ∙ elim (cases_lt k is.from) [
         | inl l ↦ is.members k x y l has was own
@@ -59,9 +60,6 @@ module _ {X Y : Type 0} (s : PlainSet) (change : X → Y → X) (before : List X
     ];
   }
     where
-      one : {V : Type 0} {v w : V} → Some v ≡ Some w → v ≡ w
-      one e = cc
-
       below : (k : ℕ) → k < suc e → k ≢ e → k < e
       below k h n = elim (cases_lt k e) [
         | inl l ↦ l
@@ -69,8 +67,7 @@ module _ {X Y : Type 0} (s : PlainSet) (change : X → Y → X) (before : List X
       ]
 
       apart : (k : ℕ) → k ≢ e → slice_get (set now e (change a b)) k ≡ slice_get now k
-      apart k n = slice_get_set now e (change a b) within k
-          ∙ ap (λ t. cond t (Some (change a b)) (slice_get now k)) (ne_eqb k e n)
+      apart k n = slice_get_set_other now e k (change a b) n
 
   module _ (all left : List ℕ) (e : ℕ) (now : List X) (is : IsStepped all now)
       (first : all ≡ e ∷ left) where

@@ -7,14 +7,15 @@ ghost use Rattle.std.specs.Prelude.{option_map, slice_get, slice_index, Option};
 ghost use Rattle.bittle.specs.BitPatterns.{bit_set};
 ghost use Rattle.bittle.specs.Rows.{row_set};
 ghost use Rattle.bittle.specs.Searches.{IsFirstIn};
-ghost use Rattle.bit_entities.specs.Entities.{empty_world, event_answers, matching, world_of};
+ghost use Rattle.bit_entities.specs.Entities.{bare_world, empty_world, event_answers, matching};
+ghost use Rattle.bit_entities.specs.Entities.{world_of};
 ghost use Rattle.bittle.specs.PlainSet.{ascending, size};
 ghost use Rattle.bittle.specs.Values.{set_in};
 
 use bit_entities::{Answer, Event, World};
 use bittle::walk::IntoIterOnes;
 use bittle::{Bits, BitsOwned};
-use bittle_tiers::{Ones, Tiered4K};
+use bittle_tiers::{Ones, Tiered4K, Zeros};
 
 /// The component of an entity that has a place.
 pub const PLACE: u32 = 0;
@@ -174,5 +175,38 @@ pub fn serve(events: &[Event], answers: &mut [Answer])
     ensures { answers.new ≡ event_answers (empty_world 64 2) events.now }
 {
     let mut world = World::<u64, 2>::new();
+    world.serve(events, answers);
+}
+
+/// Serves events in a world of any shape in which no entity is alive.
+fn serve_first<B: BitsOwned, const N: usize>(
+    world: &mut World<B, N>,
+    events: &[Event],
+    answers: &mut [Answer],
+)
+    requires new { world_of N (set_in B.Shape B.Order.Endian) world.old.alive world.old.components
+        ≡ empty_world B.type_capacity N }
+    requires answers { length answers.old ≡ length events.now }
+    ensures { answers.new ≡ event_answers (empty_world B.type_capacity N) events.now }
+{
+    world.serve(events, answers);
+}
+
+/// Serves events, of 4,096 numbers of which none is alive. Each mask has a summary of the words
+/// with an unset bit, by which a spawn finds a number.
+pub fn serve_tiered(events: &[Event], answers: &mut [Answer])
+    requires { length answers.old ≡ length events.now }
+    ensures { answers.new ≡ event_answers (empty_world 4096 2) events.now }
+{
+    let mut world = World::<Tiered4K<Zeros>, 2>::new();
+    serve_first::<Tiered4K<Zeros>, 2>(&mut world, events, answers);
+}
+
+/// Serves events, of 64 numbers of which those of a mask are alive.
+pub fn serve_beside(alive: u64, events: &[Event], answers: &mut [Answer])
+    requires { length answers.old ≡ length events.now }
+    ensures { answers.new ≡ event_answers (bare_world (bit_set 64 alive) 2) events.now }
+{
+    let mut world = World::<u64, 2>::with_alive(alive);
     world.serve(events, answers);
 }

@@ -1,5 +1,5 @@
 //! Callers of the ready queues, of roles, of entities and of slots: what an answer says is what the
-//! next call needs, from the contracts alone. What a loop makes of a table has a proof file.
+//! next call needs, from the contracts alone. Few have a proof file.
 #![tactic(auto)]
 
 pub mod entities;

@@ -248,3 +248,17 @@ fn drawn_events_in_the_other_order(rt: HostRuntime) {
     let mut world = World::<Set<u32, LittleEndian>, 3>::new();
     holds!(rt; are_as_tables::<Set<u32, LittleEndian>>(&mut world, 11, 300));
 }
+
+// On a byte 9 would wrap to 1; the other order has bit 0 at the other end.
+#[test]
+fn a_world_of_those_of_a_mask(rt: HostRuntime) {
+    let mut world = World::<u8, 2>::with_alive(0b1000_1011);
+    same!(rt; world.matching(&[]), 0b1000_1011);
+    same!(rt; (world.matching(&[0]), world.matching(&[1])), (0, 0));
+    holds!(rt; world.is_alive(3) && world.is_alive(7) && !world.is_alive(2) && !world.is_alive(9));
+    same!(rt; (world.spawn(), world.spawn(), world.spawn()), (Some(2), Some(4), Some(5)));
+    holds!(rt; world.attach(7, 1) && world.has(7, 1) && world.remove(7) && !world.has(7, 1));
+    let other = World::<Set<u8, LittleEndian>, 1>::with_alive(Set::new_le(0b1000_0000));
+    holds!(rt; other.is_alive(0) && !other.is_alive(7));
+    same!(rt; World::<[u8; 0], 1>::with_alive([]).spawn(), None);
+}
