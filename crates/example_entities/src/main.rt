@@ -30,13 +30,6 @@ const AWAKE: u32 = 2;
 /// Which entities are alive, and which have a component.
 type Mask = Tiered64K<Zeros>;
 
-/// Makes so many entities that have no component.
-fn fill<B: BitsOwned>(world: &mut World<B, 3>, many: u32) {
-    for _ in 0..many {
-        let _entity = world.spawn();
-    }
-}
-
 /// Makes an entity with a place, and with a speed unless it is 0. If all are alive, it changes
 /// nothing.
 fn place<B: BitsOwned>(
@@ -125,21 +118,57 @@ fn populate<B: BitsOwned>(world: &mut World<B, 3>, places: &mut [i32], speeds: &
     let _sleeper = place(world, places, speeds, 40, 7);
 }
 
-fn main(rt: HostRuntime) -> io::Result<()> {
-    let mut world = World::<Mask, 3>::new();
-    let mut places = [0; 65536];
-    let mut speeds = [0; 65536];
-    fill(&mut world, 60_000);
-    populate(&mut world, &mut places, &mut speeds);
-    step(&world, &mut places, &speeds);
-    let many = step(&world, &mut places, &speeds);
+/// Makes the movers, lets them move twice, and prints where they are.
+fn move_twice<B: BitsOwned>(
+    rt: &HostRuntime,
+    world: &mut World<B, 3>,
+    places: &mut [i32],
+    speeds: &mut [i32],
+) -> io::Result<()>
+    requires places { B.type_capacity ≤ length places.old }
+    requires speeds { B.type_capacity ≤ length speeds.old }
+{
+    populate(world, places, speeds);
+    step(world, places, speeds);
+    let many = step(world, places, speeds);
     println!(rt; "{many} entities move")?;
-    print_places(&rt, &world, &places)?;
+    print_places(rt, world, places)
+}
+
+/// Removes two entities and makes three, and prints these, who sleeps, and what is refused.
+fn turn_over<B: BitsOwned>(rt: &HostRuntime, world: &mut World<B, 3>) -> io::Result<()> {
     world.remove(60_001);
     world.remove(4_000);
-    print_new(&rt, &mut world, 3)?;
-    print_sleepers(&rt, &world)?;
+    print_new(rt, world, 3)?;
+    print_sleepers(rt, world)?;
     let is_refused = !world.attach(65_536, SPEED);
-    println!(rt; "entity 65536 is refused: {is_refused}")?;
-    Ok(())
+    println!(rt; "entity 65536 is refused: {is_refused}")
+}
+
+/// Lets some entities of the world live.
+fn live<B: BitsOwned>(
+    rt: &HostRuntime,
+    world: &mut World<B, 3>,
+    places: &mut [i32],
+    speeds: &mut [i32],
+) -> io::Result<()>
+    requires places { B.type_capacity ≤ length places.old }
+    requires speeds { B.type_capacity ≤ length speeds.old }
+{
+    move_twice(rt, world, places, speeds)?;
+    turn_over(rt, world)
+}
+
+/// Returns a world of which the first 60,000 entities are alive, with no component.
+fn begin() -> World<Mask, 3> {
+    let mut alive = Mask::zeros();
+    alive.set_span(..60_000);
+    World::with_alive(alive)
+}
+
+fn main(rt: HostRuntime) -> io::Result<()> {
+    let mut world = begin();
+    let mut places = [0; 65536];
+    let mut speeds = [0; 65536];
+    live(&rt, &mut world, &mut places, &mut speeds)
 }
