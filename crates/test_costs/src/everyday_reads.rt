@@ -149,13 +149,13 @@ fn select_two<B: Bits>(rt: &impl Abort, few: &B, many: &B, asked: &Asked)
     requires few { ShapeFits B.Shape few.now }
     requires many { ShapeFits B.Shape many.now }
 {
-    costs!(rt; asked, few.select(1), Some(508), 14, 0);
+    costs!(rt; asked, few.select(1), Some(508), 9, 0);
     costs!(rt; asked, few.select(2), None, 12, 0);
-    costs!(rt; asked, many.select(0), Some(0), 7, 0);
+    costs!(rt; asked, many.select(0), Some(0), 2, 0);
 }
 
 #[test]
-fn select_fetches_up_to_its_word_and_then_that_word_for_each_half(rt: HostRuntime) {
+fn select_fetches_up_to_its_word_and_then_that_word_again(rt: HostRuntime) {
     ask_rows(&rt, Question::Select);
 }
 

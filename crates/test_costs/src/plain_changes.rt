@@ -137,16 +137,17 @@ fn shift<B: BitsOwned>(rt: &impl Abort, mut few: B, asked: &Asked)
     costs!(rt; asked, few.shift_down(65), (), 21, 12);
 }
 
-// Each word comes from two. In place, down by a word and a bit, 5 and then 6 pairs of words are
-// exchanged; up by as much, 6 and then 6. Then each word comes from two, and the bits that pass the
-// end from the first to the last one.
+// Each word comes from two. In place, down by three words and 8 bits, 1 + 4 and then 6 pairs of words
+// are exchanged, each word comes from two, and the bits that pass the end from the first to the last
+// one. Up by a word and a bit all is moved at once, and the bits of the last two words go to the
+// first two.
 fn rotate<B: BitsOwned>(rt: &impl Abort, mut few: B, asked: &Asked)
     requires { IsTrue B.indexable }
 {
     costs!(rt; asked, { let _ = few.rotated_up(65); }, (), 24, 12);
     costs!(rt; asked, { let _ = few.rotated_down(65); }, (), 24, 12);
-    costs!(rt; asked, few.rotate_down(65), (), 47, 35);
-    costs!(rt; asked, few.rotate_up(65), (), 49, 37);
+    costs!(rt; asked, few.rotate_down(200), (), 47, 35);
+    costs!(rt; asked, few.rotate_up(65), (), 25, 14);
 }
 
 #[test]

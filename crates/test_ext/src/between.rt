@@ -408,7 +408,7 @@ fn drawn_shifts_in_place_agree_with_plain_loops(rt: HostRuntime) {
 }
 
 // Returns a set rotated up in place, or else down.
-fn turned<B: BitsMut>(up: bool, set: B, by: u32) -> B
+pub(crate) fn turned<B: BitsMut>(up: bool, set: B, by: u32) -> B
     requires { ShapeFits B.Shape set }
 {
     let mut now = set;
@@ -471,14 +471,36 @@ fn drawn_rotations_in_place_agree_with_plain_loops(rt: HostRuntime) {
     }
 }
 
+// Returns the unset bits of these ranks.
+fn selected_zeros<B: Bits, const N: usize>(set: &B, ranks: [u32; N]) -> [Option<u32>; N]
+    requires { ShapeFits B.Shape set.now }
+{
+    let mut answers = [None; N];
+    for k in 0..N {
+        answers[k] = set.select_zero(ranks[k]);
+    }
+    answers
+}
+
+// Returns how many bits before each of these indexes are unset.
+fn zero_ranks<B: Bits, const N: usize>(set: &B, indexes: [u32; N]) -> [u32; N]
+    requires { ShapeFits B.Shape set.now }
+{
+    let mut answers = [0; N];
+    for k in 0..N {
+        answers[k] = set.rank_zero(indexes[k]);
+    }
+    answers
+}
+
 #[test]
 fn unset_bits_by_rank(rt: HostRuntime) {
     // The bits 0, 2, 3, 4, 6 and 7 are unset, and from the left all but 2 and 6.
     let word = 0b0010_0010u8;
-    same!(rt; (word.select_zero(0), word.select_zero(5)), (Some(0), Some(7)));
-    same!(rt; (word.select_zero(1), word.select_zero(6)), (Some(2), None));
-    same!(rt; (word.rank_zero(5), word.rank_zero(100)), (4, 6));
+    same!(rt; selected_zeros(&word, [0, 1, 5, 6]), [Some(0), Some(2), Some(7), None]);
+    same!(rt; zero_ranks(&word, [5, 100]), [4, 6]);
     let left = Set::new_le([0xFFu8, 0b0010_0010]);
-    same!(rt; (left.select_zero(2), left.rank_zero(12)), (Some(11), 3));
-    same!(rt; ([0u64; 0].select_zero(0), [0u64; 0].rank_zero(3)), (None, 0));
+    same!(rt; (selected_zeros(&left, [2]), zero_ranks(&left, [12])), ([Some(11)], [3]));
+    let none = [0u64; 0];
+    same!(rt; (selected_zeros(&none, [0]), zero_ranks(&none, [3])), ([None], [0]));
 }

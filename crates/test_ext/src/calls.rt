@@ -44,7 +44,7 @@ pub(crate) fn taken<W: DoubleEndedIterator<Item = u32>, const N: usize>(
 }
 
 /// Takes a run from each of these ends in turn, as where it begins and where it ends.
-fn runs_taken<W: DoubleEndedIterator<Item = Range<u32>>, const N: usize>(
+pub(crate) fn runs_taken<W: DoubleEndedIterator<Item = Range<u32>>, const N: usize>(
     walk: &mut W,
     ends: [bool; N],
 ) -> [Option<(u32, u32)>; N]
@@ -123,6 +123,13 @@ pub(crate) fn zero_runs<B: Bits, const N: usize>(
     runs_taken(&mut bits.iter_zero_runs(), ends)
 }
 
+/// Walks over the set bits of a view.
+fn ones_of<V: View, const N: usize>(view: V, ends: [bool; N]) -> [Option<u32>; N]
+    requires { ShapeFits V.Shape view }
+{
+    taken(&mut view.into_ones(), ends)
+}
+
 /// Walks over the indexes in either of two sets.
 pub(crate) fn union<A: Bits, B: Bits, const N: usize>(
     one: &A,
@@ -134,7 +141,7 @@ pub(crate) fn union<A: Bits, B: Bits, const N: usize>(
     requires rounded { rounded_up (max (A.big one.now).capacity (B.big other.now).capacity) A.width
         < 4294967295 }
 {
-    taken(&mut one.or_unlike(other).into_ones(), ends)
+    ones_of(one.or_unlike(other), ends)
 }
 
 /// Walks over the indexes in either of two sets, in the order `E`.
@@ -160,7 +167,7 @@ pub(crate) fn conjunction<A: Bits, B: Bits, const N: usize>(
     requires one_fits { ShapeFits A.Shape one.now }
     requires other_fits { ShapeFits B.Shape other.now }
 {
-    taken(&mut one.and(other).into_ones(), ends)
+    ones_of(one.and(other), ends)
 }
 
 /// Walks over the indexes in the first of two sets alone.
@@ -172,7 +179,7 @@ pub(crate) fn difference<A: Bits, B: Bits, const N: usize>(
     requires one_fits { ShapeFits A.Shape one.now }
     requires other_fits { ShapeFits B.Shape other.now }
 {
-    taken(&mut one.minus(other).into_ones(), ends)
+    ones_of(one.minus(other), ends)
 }
 
 /// Walks over the indexes in just one of two sets.
@@ -186,7 +193,7 @@ pub(crate) fn symmetric_difference<A: Bits, B: Bits, const N: usize>(
     requires rounded { rounded_up (max (A.big one.now).capacity (B.big other.now).capacity) A.width
         < 4294967295 }
 {
-    taken(&mut one.xor_unlike(other).into_ones(), ends)
+    ones_of(one.xor_unlike(other), ends)
 }
 
 /// Walks over what one of the four operations makes of two sets.

@@ -4,11 +4,10 @@ ghost use Rattle.std.specs.Prelude.{◌≤◌, IsTrue};
 ghost use Rattle.bittle.specs.Values.{ShapeFits};
 
 use crate::calls::{flip, inserted};
-use crate::checks::{holds, same};
+use crate::checks::same;
 use bittle::prelude::*;
 use bittle::{Endian, LittleEndian, Set};
 use bittle_ext::prelude::*;
-use std::process::Abort;
 
 /// Inserts the indexes 0 and 8 and removes 13 and 5, and returns what each call answered, with the
 /// set after every second one.
@@ -138,13 +137,18 @@ fn one_bit_of_longer_shapes(rt: HostRuntime) {
     same!(rt; words, [0, 2]);
 }
 
-/// Changes the bits of a set of capacity 0 in each way.
-fn no_bit_is_changed<B: BitsMut>(rt: &impl Abort, none: &mut B)
+/// Inserts an index of a set of capacity 0, removes it and replaces its bit, and returns what each
+/// call answered.
+fn asked_of_no_bit<B: BitsMut>(none: &mut B) -> [bool; 3]
     requires { IsTrue B.indexable }
 {
-    holds!(*rt; none.insert(3));
-    holds!(*rt; !none.remove(3));
-    holds!(*rt; !none.replace(3, true));
+    [none.insert(3), none.remove(3), none.replace(3, true)]
+}
+
+/// Flips a bit of a set of capacity 0, and inserts a list.
+fn change_no_bit<B: BitsMut>(none: &mut B)
+    requires { IsTrue B.indexable }
+{
     none.toggle(0);
     none.insert_all(&[1, 2]);
 }
@@ -161,7 +165,8 @@ fn nothing_is_taken<B: BitsOwned>(mut none: B) -> [Option<u32>; 3]
 #[test]
 fn capacity_0_is_never_changed(rt: HostRuntime) {
     let mut none: [u8; 0] = [];
-    no_bit_is_changed(&rt, &mut none);
+    same!(rt; asked_of_no_bit(&mut none), [true, false, false]);
+    change_no_bit(&mut none);
     same!(rt; nothing_is_taken(none), [None; 3]);
 }
 

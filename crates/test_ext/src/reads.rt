@@ -3,7 +3,7 @@
 ghost use Rattle.bittle.specs.Values.{ShapeFits};
 
 use crate::calls::{counts, counts_in, ends, ranks, selected, stand};
-use crate::checks::{holds, same};
+use crate::checks::same;
 use crate::found_runs::plain_run;
 use bittle::prelude::*;
 use bittle::{LittleEndian, Set};
@@ -12,12 +12,11 @@ use std::process::Abort;
 
 #[test]
 fn ends_of_a_word(rt: HostRuntime) {
-    let word = 0b0010_0010u8;
-    same!(rt; (word.first_one(), word.last_one()), (Some(1), Some(5)));
-    same!(rt; (word.first_zero(), word.last_zero()), (Some(0), Some(7)));
-    same!(rt; (0u8.first_one(), 0u8.last_one()), (None, None));
-    same!(rt; (255u8.first_zero(), (-1i8).last_zero()), (None, None));
-    same!(rt; (i128::MIN.first_one(), i128::MIN.last_one()), (Some(127), Some(127)));
+    same!(rt; ends(&0b0010_0010u8), [Some(1), Some(5), Some(0), Some(7)]);
+    same!(rt; ends(&0u8), [None, None, Some(0), Some(7)]);
+    same!(rt; ends(&255u8), [Some(0), Some(7), None, None]);
+    same!(rt; ends(&-1i8), [Some(0), Some(7), None, None]);
+    same!(rt; ends(&i128::MIN), [Some(127), Some(127), Some(0), Some(126)]);
 }
 
 #[test]
@@ -32,33 +31,58 @@ fn ends_of_longer_shapes(rt: HostRuntime) {
     same!(rt; ends(&none), [None; 4]);
 }
 
+/// Returns the first set bit from an index on, the last one before it, and the same of unset bits.
+fn neighbours<B: Bits>(set: &B, index: u32) -> [Option<u32>; 4]
+    requires { ShapeFits B.Shape set.now }
+{
+    [
+        set.next_one(index),
+        set.prev_one(index),
+        set.next_zero(index),
+        set.prev_zero(index),
+    ]
+}
+
 #[test]
 fn neighbours_in_a_word(rt: HostRuntime) {
     let word = 0b0010_0010u8;
-    same!(rt; (word.next_one(1), word.next_one(2)), (Some(1), Some(5)));
-    same!(rt; (word.next_one(6), word.next_one(u32::MAX)), (None, None));
-    same!(rt; (word.prev_one(5), word.prev_one(6)), (Some(1), Some(5)));
-    same!(rt; (word.prev_one(1), word.prev_one(u32::MAX)), (None, Some(5)));
-    same!(rt; (word.next_zero(5), word.prev_zero(2)), (Some(6), Some(0)));
-    same!(rt; (255u8.next_zero(3), 255u8.prev_zero(9)), (None, None));
+    same!(rt; neighbours(&word, 1), [Some(1), None, Some(2), Some(0)]);
+    same!(rt; neighbours(&word, 2), [Some(5), Some(1), Some(2), Some(0)]);
+    same!(rt; neighbours(&word, 5), [Some(5), Some(1), Some(6), Some(4)]);
+    same!(rt; neighbours(&word, 6), [None, Some(5), Some(6), Some(4)]);
+    same!(rt; neighbours(&word, u32::MAX), [None, Some(5), None, Some(7)]);
+}
+
+#[test]
+fn neighbours_in_a_full_word(rt: HostRuntime) {
+    same!(rt; neighbours(&255u8, 3), [Some(3), Some(2), None, None]);
+    same!(rt; neighbours(&255u8, 9), [None, Some(7), None, None]);
 }
 
 #[test]
 fn neighbours_from_the_left(rt: HostRuntime) {
     // From the left bits 2 and 6 are set.
     let view = 0b0010_0010u8.in_order::<LittleEndian>();
-    same!(rt; (view.next_one(3), view.prev_one(6)), (Some(6), Some(2)));
-    same!(rt; (view.next_zero(6), view.prev_zero(3)), (Some(7), Some(1)));
+    same!(rt; neighbours(&view, 3), [Some(6), Some(2), Some(3), Some(1)]);
+    same!(rt; neighbours(&view, 6), [Some(6), Some(2), Some(7), Some(5)]);
 }
 
 #[test]
 fn neighbours_in_other_words(rt: HostRuntime) {
+    // Bits 15 and 24 are set.
     let row: [u8; 4] = [0, 0x80, 0, 0x01];
-    same!(rt; (row.next_one(0), row.next_one(16)), (Some(15), Some(24)));
-    same!(rt; (row.prev_one(24), row.prev_one(15)), (Some(15), None));
-    same!(rt; (row.next_zero(15), row.prev_zero(25)), (Some(16), Some(23)));
+    same!(rt; neighbours(&row, 0), [Some(15), None, Some(0), None]);
+    same!(rt; neighbours(&row, 15), [Some(15), None, Some(16), Some(14)]);
+    same!(rt; neighbours(&row, 16), [Some(24), Some(15), Some(16), Some(14)]);
+    same!(rt; neighbours(&row, 24), [Some(24), Some(15), Some(25), Some(23)]);
+    same!(rt; neighbours(&row, 25), [None, Some(24), Some(25), Some(23)]);
+}
+
+#[test]
+fn neighbours_in_no_word(rt: HostRuntime) {
     let none: [u32; 0] = [];
-    same!(rt; (none.next_one(0), none.prev_one(7)), (None, None));
+    same!(rt; neighbours(&none, 0), [None; 4]);
+    same!(rt; neighbours(&none, 7), [None; 4]);
 }
 
 #[test]
@@ -69,7 +93,7 @@ fn ranks_and_selection(rt: HostRuntime) {
     same!(rt; selected(&row, [65, 66]), [Some(129), Some(131)]);
     same!(rt; selected(&row, [67, u32::MAX]), [None, None]);
     let none: [u8; 0] = [];
-    same!(rt; (none.rank(3), none.select(0)), (0, None));
+    same!(rt; (ranks(&none, [3]), selected(&none, [0])), ([0], [None]));
 }
 
 #[test]
@@ -77,56 +101,123 @@ fn ranks_from_the_left(rt: HostRuntime) {
     // From the left bits 0, 1, 7 and 15 are set.
     let row: [u8; 2] = [0b1100_0001, 0b0000_0001];
     let view = row.in_order::<LittleEndian>();
-    same!(rt; (view.rank(7), view.rank(15)), (2, 3));
-    same!(rt; (view.select(2), view.select(3), view.select(4)), (Some(7), Some(15), None));
-    same!(rt; (i8::MIN.in_order::<LittleEndian>().select(0), i8::MIN.select(0)), (Some(0), Some(7)));
+    same!(rt; ranks(&view, [7, 15]), [2, 3]);
+    same!(rt; selected(&view, [2, 3, 4]), [Some(7), Some(15), None]);
+    let least = i8::MIN.in_order::<LittleEndian>();
+    same!(rt; (selected(&least, [0]), selected(&i8::MIN, [0])), ([Some(0)], [Some(7)]));
+}
+
+/// Counts the set bits and the unset bits of a range.
+fn counted<B: Bits>(set: &B, from: u32, to: u32) -> (u32, u32)
+    requires { ShapeFits B.Shape set.now }
+{
+    (
+        set.count_ones_in_range(from, to),
+        set.count_zeros_in_range(from, to),
+    )
 }
 
 #[test]
 fn counts_of_ranges(rt: HostRuntime) {
+    // Bits 12 to 19 are set.
     let row: [u16; 2] = [0xF000, 0x000F];
-    assert!(rt; row.bits_capacity() == 32);
-    same!(rt; row.count_ones_in_range(12, 20), 8);
-    same!(rt; row.count_ones_in_range(13, 18), 5);
-    same!(rt; row.count_zeros_in_range(0, 32), 24);
-    same!(rt; row.count_zeros_in_range(10, 14), 2);
-    same!(rt; row.in_order::<LittleEndian>().count_zeros_in_range(0, 4), 0);
-    same!(rt; (row.count_ones_in_range(7, 7), row.count_zeros_in_range(32, 32)), (0, 0));
+    same!(rt; counted(&row, 12, 20), (8, 0));
+    same!(rt; counted(&row, 13, 18), (5, 0));
+    same!(rt; counted(&row, 0, 32), (8, 24));
+    same!(rt; counted(&row, 10, 14), (2, 2));
+    same!(rt; (counted(&row, 7, 7), counted(&row, 32, 32)), ((0, 0), (0, 0)));
+    same!(rt; counted(&row.in_order::<LittleEndian>(), 0, 4), (4, 0));
+}
+
+/// Asks whether any bit of a range is set, and whether all are.
+fn any_and_all<B: Bits>(set: &B, from: u32, to: u32) -> (bool, bool)
+    requires { ShapeFits B.Shape set.now }
+{
+    (set.any_in_range(from, to), set.all_in_range(from, to))
 }
 
 #[test]
 fn any_and_all_of_ranges(rt: HostRuntime) {
+    // Bits 12 to 19 are set.
     let row: [u16; 2] = [0xF000, 0x000F];
-    assert!(rt; row.bits_capacity() == 32);
-    holds!(rt; row.any_in_range(0, 13) && !row.any_in_range(0, 12));
-    holds!(rt; row.all_in_range(12, 20) && !row.all_in_range(12, 21));
-    holds!(rt; row.all_in_range(5, 5) && !row.any_in_range(13, 13));
-    holds!(rt; row.in_order::<LittleEndian>().all_in_range(0, 4));
-    holds!(rt; !row.in_order::<LittleEndian>().any_in_range(4, 28));
+    same!(rt; any_and_all(&row, 0, 13), (true, false));
+    same!(rt; any_and_all(&row, 0, 12), (false, false));
+    same!(rt; any_and_all(&row, 12, 20), (true, true));
+    same!(rt; any_and_all(&row, 12, 21), (true, false));
+    same!(rt; any_and_all(&row, 5, 5), (false, true));
+    same!(rt; any_and_all(&row, 13, 13), (false, true));
 }
 
 #[test]
-fn runs_of_a_word(rt: HostRuntime) {
+fn any_and_all_of_ranges_from_the_left(rt: HostRuntime) {
+    // From the left bits 0 to 3 and 28 to 31 are set.
+    let row: [u16; 2] = [0xF000, 0x000F];
+    let view = row.in_order::<LittleEndian>();
+    same!(rt; any_and_all(&view, 0, 4), (true, true));
+    same!(rt; any_and_all(&view, 4, 28), (false, false));
+}
+
+/// Returns where the first run of so many set bits begins, and of so many unset ones.
+fn first_runs<B: Bits>(set: &B, length: u32) -> [Option<u32>; 2]
+    requires { ShapeFits B.Shape set.now }
+{
+    [set.first_one_run(length), set.first_zero_run(length)]
+}
+
+/// Returns the same of the runs from an index on.
+fn next_runs<B: Bits>(set: &B, from: u32, length: u32) -> [Option<u32>; 2]
+    requires { ShapeFits B.Shape set.now }
+{
+    [
+        set.next_one_run(from, length),
+        set.next_zero_run(from, length),
+    ]
+}
+
+#[test]
+fn first_runs_of_a_word(rt: HostRuntime) {
     // Bits 1 to 3, 5, 6, 8, 9, 11 and 12 are unset.
     let pages = 0b1110_0100_1001_0001u16;
-    same!(rt; (pages.first_zero_run(1), pages.first_zero_run(3)), (Some(1), Some(1)));
-    same!(rt; (pages.first_zero_run(4), pages.first_zero_run(0)), (None, Some(0)));
-    same!(rt; (pages.next_zero_run(2, 2), pages.next_zero_run(3, 2)), (Some(2), Some(5)));
-    same!(rt; (pages.first_one_run(3), pages.next_one_run(14, 3)), (Some(13), None));
-    same!(rt; (pages.next_zero_run(16, 0), pages.next_zero_run(17, 0)), (Some(16), None));
+    same!(rt; first_runs(&pages, 0), [Some(0), Some(0)]);
+    same!(rt; first_runs(&pages, 1), [Some(0), Some(1)]);
+    same!(rt; first_runs(&pages, 3), [Some(13), Some(1)]);
+    same!(rt; first_runs(&pages, 4), [None, None]);
+}
+
+#[test]
+fn runs_of_a_word_from_an_index_on(rt: HostRuntime) {
+    let pages = 0b1110_0100_1001_0001u16;
+    same!(rt; next_runs(&pages, 2, 2), [Some(13), Some(2)]);
+    same!(rt; next_runs(&pages, 3, 2), [Some(13), Some(5)]);
+    same!(rt; next_runs(&pages, 14, 3), [None, None]);
+    same!(rt; next_runs(&pages, 16, 0), [Some(16), Some(16)]);
+    same!(rt; next_runs(&pages, 17, 0), [None, None]);
 }
 
 #[test]
 fn runs_over_words(rt: HostRuntime) {
+    // Bits 7 and 9 to 21 are unset, and then bits 6 to 16 are set.
     let row: [u8; 3] = [0b0111_1111, 0b0000_0001, 0b1100_0000];
-    same!(rt; (row.first_zero_run(2), row.first_zero_run(13)), (Some(9), Some(9)));
-    same!(rt; (row.first_zero_run(14), row.next_zero_run(10, 13)), (None, None));
+    same!(rt; (first_runs(&row, 2), first_runs(&row, 13)), ([Some(0), Some(9)], [None, Some(9)]));
+    same!(rt; (first_runs(&row, 14), next_runs(&row, 10, 13)), ([None; 2], [None; 2]));
     let ones: [u8; 3] = [0b1100_0000, 0xFF, 0b0000_0001];
-    same!(rt; (ones.first_one_run(11), ones.first_one_run(12)), (Some(6), None));
-    same!(rt; ones.in_order::<LittleEndian>().first_zero_run(6), Some(2));
-    same!(rt; ones.in_order::<LittleEndian>().first_one_run(8), Some(8));
+    same!(rt; (first_runs(&ones, 11), first_runs(&ones, 12)), ([Some(6), None], [None; 2]));
+}
+
+#[test]
+fn runs_over_words_from_the_left(rt: HostRuntime) {
+    // From the left bits 0, 1, 8 to 15 and 23 are set.
+    let ones: [u8; 3] = [0b1100_0000, 0xFF, 0b0000_0001];
+    let view = ones.in_order::<LittleEndian>();
+    same!(rt; first_runs(&view, 6), [Some(8), Some(2)]);
+    same!(rt; first_runs(&view, 8), [Some(8), None]);
+}
+
+#[test]
+fn runs_over_no_word(rt: HostRuntime) {
     let none: [u64; 0] = [];
-    same!(rt; (none.first_zero_run(0), none.first_one_run(1)), (Some(0), None));
+    same!(rt; first_runs(&none, 0), [Some(0), Some(0)]);
+    same!(rt; first_runs(&none, 1), [None, None]);
 }
 
 /// Bits of `N` words, as a plain loop sees them.
@@ -244,23 +335,34 @@ fn relations_of_like_words(rt: HostRuntime) {
 
 #[test]
 fn relations_in_each_order(rt: HostRuntime) {
-    // From the left each of the two has the one index 0.
-    let left = 0x80u8.in_order::<LittleEndian>();
-    holds!(rt; left.is_subset(&0x8000u16.in_order::<LittleEndian>()));
-    holds!(rt; left.intersects(&0x8000u16.in_order::<LittleEndian>()));
-    holds!(rt; 0x80u8.is_disjoint(&0x8000u16));
-    holds!(rt; Set::new_le(0x80u8).is_subset(&1u16));
-    holds!(rt; 1u16.is_superset(&Set::new_le(0x80u8)));
-    same!(rt; Set::new_le(0x41u8).first_common(&0xFFu8), Some(1));
-    same!(rt; Set::new_le(0x41u8).first_alone(&0x02u8), Some(7));
+    // From the left each of the first two has the one index 0.
+    let (byte, word) = (0x80u8, 0x8000u16);
+    let (left, right) = (
+        byte.in_order::<LittleEndian>(),
+        word.in_order::<LittleEndian>(),
+    );
+    same!(rt; stand(&left, &right), ([true, true, false, true], [Some(0), None]));
+    same!(rt; stand(&byte, &word), ([false, false, true, false], [None, Some(7)]));
+}
+
+#[test]
+fn relations_in_two_orders(rt: HostRuntime) {
+    // From the left the sets have the index 0, and 1 and 7.
+    let (first, second) = (Set::new_le(0x80u8), Set::new_le(0x41u8));
+    same!(rt; stand(&first, &1u16), ([true, true, false, true], [Some(0), None]));
+    same!(rt; stand(&1u16, &first), ([true, true, false, true], [Some(0), None]));
+    same!(rt; stand(&second, &0xFFu8), ([true, false, false, true], [Some(1), None]));
+    same!(rt; stand(&second, &0x02u8), ([false, true, false, true], [Some(1), Some(7)]));
 }
 
 #[test]
 fn relations_of_no_capacity(rt: HostRuntime) {
     let none: [u8; 0] = [];
-    holds!(rt; none.is_subset(&5u8) && !5u8.is_subset(&none));
-    holds!(rt; none.is_disjoint(&none) && !none.intersects(&none));
-    same!(rt; (5u32.first_alone(&none), none.first_common(&5u32)), (Some(0), None));
+    let within = ([true, false, true, false], [None, None]);
+    same!(rt; (stand(&none, &5u8), stand(&none, &5u32)), (within, within));
+    let around = ([false, true, true, false], [None, Some(0)]);
+    same!(rt; (stand(&5u8, &none), stand(&5u32, &none)), (around, around));
+    same!(rt; stand(&none, &none), ([true, true, true, false], [None, None]));
 }
 
 /// Returns the first index of two sets in common, and the first of the first alone, one by one.

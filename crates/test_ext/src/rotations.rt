@@ -2,73 +2,12 @@
 
 ghost use Rattle.std.specs.Prelude.{◌<◌, IsTrue};
 
+use crate::between::turned;
 use crate::checks::{holds, same};
 use bittle::prelude::*;
 use bittle::{BigEndian, BitsOwned, Endian, LittleEndian, Set};
 use bittle_ext::prelude::*;
 use std::process::Abort;
-
-#[test]
-fn a_word(rt: HostRuntime) {
-    // The members 1 and 4.
-    let word = 0b0001_0010u8;
-    same!(rt; word.rotated_down(2), 0b1000_0100);
-    same!(rt; word.rotated_up(4), 0b0010_0001);
-    same!(rt; word.shifted_down(2), 0b0000_0100);
-    same!(rt; word.shifted_up(4), 0b0010_0000);
-    same!(rt; (word.rotated_up(0), word.shifted_down(0)), (word, word));
-}
-
-#[test]
-fn a_word_from_the_left(rt: HostRuntime) {
-    // From the left the members 1 and 4.
-    let word = 0b0100_1000u8;
-    same!(rt; Set::new_le(word).rotated_down(2).into_bits(), 0b0010_0001);
-    same!(rt; Set::new_le(word).rotated_up(4).into_bits(), 0b1000_0100);
-    same!(rt; Set::new_le(word).shifted_down(2).into_bits(), 0b0010_0000);
-    same!(rt; Set::new_le(word).shifted_up(4).into_bits(), 0b0000_0100);
-}
-
-#[test]
-fn distances_past_the_capacity(rt: HostRuntime) {
-    // The members 1 and 4; the greatest distance is one of 7.
-    let word = 0b0001_0010u8;
-    same!(rt; (word.rotated_down(8), word.rotated_up(8)), (word, word));
-    same!(rt; word.rotated_down(10), 0b1000_0100);
-    same!(rt; word.rotated_up(u32::MAX), 0b0000_1001);
-    same!(rt; (word.shifted_down(8), word.shifted_up(8)), (0, 0));
-    same!(rt; (word.shifted_down(u32::MAX), word.shifted_up(u32::MAX)), (0, 0));
-}
-
-#[test]
-fn words_of_other_types(rt: HostRuntime) {
-    same!(rt; i16::MIN.rotated_up(1), 1);
-    same!(rt; (-1i16).shifted_down(1), i16::MAX);
-    same!(rt; 3u128.rotated_down(1), 0x8000_0000_0000_0000_0000_0000_0000_0001);
-    same!(rt; 1u128.shifted_up(64), 0x1_0000_0000_0000_0000);
-    same!(rt; 6usize.shifted_down(1), 3);
-}
-
-#[test]
-fn a_row(rt: HostRuntime) {
-    // The members 0, 7 and 23.
-    let row = [0x81u8, 0, 0x80];
-    same!(rt; row.rotated_up(1), [0x03, 0x01, 0]);
-    same!(rt; row.rotated_down(7), [0x01, 0, 0x03]);
-    same!(rt; row.rotated_down(8), [0, 0x80, 0x81]);
-    same!(rt; row.shifted_down(8), [0, 0x80, 0]);
-    same!(rt; row.shifted_up(9), [0, 0x02, 0x01]);
-}
-
-#[test]
-fn a_row_from_the_left(rt: HostRuntime) {
-    // From the left the members 0, 7 and 16.
-    let row = [0x81u8, 0, 0x80];
-    same!(rt; Set::new_le(row).rotated_up(9).into_bits(), [0x40, 0x40, 0x80]);
-    same!(rt; Set::new_le(row).rotated_down(1).into_bits(), [0x02, 0x01, 0x01]);
-    same!(rt; Set::new_le(row).shifted_up(9).into_bits(), [0, 0x40, 0x80]);
-    same!(rt; Set::new_le(row).shifted_down(7).into_bits(), [0x80, 0x40, 0]);
-}
 
 // Returns the set rotated down, rotated up, shifted down and shifted up, each by its distance.
 fn moved_each_way<B: BitsOwned>(set: B, by: [u32; 4]) -> [B; 4]
@@ -80,6 +19,70 @@ fn moved_each_way<B: BitsOwned>(set: B, by: [u32; 4]) -> [B; 4]
         moved(2, set, by[2]),
         moved(3, set, by[3]),
     ]
+}
+
+// Returns the same of the set in the order `E`.
+fn moved_each_way_in<B: BitsOwned, E: Endian>(set: B, by: [u32; 4]) -> [B; 4]
+    requires { IsTrue B.indexable }
+{
+    [
+        moved_in::<B, E>(0, set, by[0]),
+        moved_in::<B, E>(1, set, by[1]),
+        moved_in::<B, E>(2, set, by[2]),
+        moved_in::<B, E>(3, set, by[3]),
+    ]
+}
+
+#[test]
+fn a_word(rt: HostRuntime) {
+    // The members 1 and 4.
+    let word = 0b0001_0010u8;
+    let words = moved_each_way(word, [2, 4, 2, 4]);
+    same!(rt; words, [0b1000_0100, 0b0010_0001, 0b0000_0100, 0b0010_0000]);
+    same!(rt; moved_each_way(word, [0; 4]), [word; 4]);
+}
+
+#[test]
+fn a_word_from_the_left(rt: HostRuntime) {
+    // From the left the members 1 and 4.
+    let words = moved_each_way_in::<_, LittleEndian>(0b0100_1000u8, [2, 4, 2, 4]);
+    same!(rt; words, [0b0010_0001, 0b1000_0100, 0b0010_0000, 0b0000_0100]);
+}
+
+#[test]
+fn distances_past_the_capacity(rt: HostRuntime) {
+    // The members 1 and 4; the greatest distance is one of 7.
+    let word = 0b0001_0010u8;
+    same!(rt; moved_each_way(word, [8; 4]), [word, word, 0, 0]);
+    let words = moved_each_way(word, [10, u32::MAX, u32::MAX, u32::MAX]);
+    same!(rt; words, [0b1000_0100, 0b0000_1001, 0, 0]);
+}
+
+#[test]
+fn words_of_other_types(rt: HostRuntime) {
+    same!(rt; moved(1, i16::MIN, 1), 1);
+    same!(rt; moved(2, -1i16, 1), i16::MAX);
+    same!(rt; moved(0, 3u128, 1), 0x8000_0000_0000_0000_0000_0000_0000_0001);
+    same!(rt; moved(3, 1u128, 64), 0x1_0000_0000_0000_0000);
+    same!(rt; moved(2, 6usize, 1), 3);
+}
+
+#[test]
+fn a_row(rt: HostRuntime) {
+    // The members 0, 7 and 23.
+    let row = [0x81u8, 0, 0x80];
+    let rows = moved_each_way(row, [7, 1, 8, 9]);
+    same!(rt; (rows[0], rows[1]), ([0x01, 0, 0x03], [0x03, 0x01, 0]));
+    same!(rt; (rows[2], rows[3]), ([0, 0x80, 0], [0, 0x02, 0x01]));
+    same!(rt; moved(0, row, 8), [0, 0x80, 0x81]);
+}
+
+#[test]
+fn a_row_from_the_left(rt: HostRuntime) {
+    // From the left the members 0, 7 and 16.
+    let rows = moved_each_way_in::<_, LittleEndian>([0x81u8, 0, 0x80], [1, 9, 7, 9]);
+    same!(rt; (rows[0], rows[1]), ([0x02, 0x01, 0x01], [0x40, 0x40, 0x80]));
+    same!(rt; (rows[2], rows[3]), ([0x80, 0x40, 0], [0, 0x40, 0x80]));
 }
 
 #[test]
@@ -168,13 +171,7 @@ pub(crate) fn moved<B: BitsOwned>(way: u32, set: B, by: u32) -> B
 fn turned_in<B: BitsOwned, E: Endian>(way: u32, set: B, by: u32) -> B
     requires { IsTrue B.indexable }
 {
-    let mut ring = Set::<B, E>::new_in(set);
-    if way == 0 {
-        ring.rotate_down(by);
-    } else {
-        ring.rotate_up(by);
-    }
-    ring.into_bits()
+    turned(way != 0, Set::<B, E>::new_in(set), by).into_bits()
 }
 
 // Compares rotations in place with the loop, at one distance.
@@ -207,8 +204,7 @@ fn agree_at<B: BitsOwned>(rt: &impl Abort, set: B, by: u32)
 fn comes_back<B: BitsOwned, E: Endian>(set: B, by: u32) -> bool
     requires { IsTrue B.indexable }
 {
-    let ring = Set::<B, E>::new_in(set);
-    ring.rotated_up(by).rotated_down(by).into_bits() == set
+    moved_in::<B, E>(0, moved_in::<B, E>(1, set, by), by) == set
 }
 
 // Compares the calls with the loop, at distances beside those of a word and of the set.
@@ -261,17 +257,23 @@ fn rows_of_other_words_agree_with_a_loop(rt: HostRuntime) {
     );
 }
 
+// Compares the calls on a set in the order `E` with the loop.
+fn agree_in<B: BitsOwned, E: Endian>(rt: &impl Abort, width: u32, bits: B)
+    requires { IsTrue B.indexable }
+{
+    agree(rt, width, Set::<B, E>::new_in(bits));
+}
+
 #[test]
 fn sets_agree_with_a_loop(rt: HostRuntime) {
-    agree(&rt, 16, Set::new_le([0xC001u16, 0x1234, 0xF08D]));
-    agree(&rt, 16, Set::new([0xC001u16, 0x1234, 0xF08D]));
+    agree_in::<_, LittleEndian>(&rt, 16, [0xC001u16, 0x1234, 0xF08D]);
+    agree_in::<_, BigEndian>(&rt, 16, [0xC001u16, 0x1234, 0xF08D]);
 }
 
 #[test]
 fn capacity_0(rt: HostRuntime) {
     let none: [u32; 0] = [];
     agree(&rt, 32, none);
-    same!(rt; (none.rotated_up(3), none.rotated_down(3)), (none, none));
-    same!(rt; (none.shifted_up(3), none.shifted_down(0)), (none, none));
-    holds!(rt; none.rotated_up(u32::MAX).all_zeros());
+    same!(rt; moved_each_way(none, [3, 3, 0, 3]), [none; 4]);
+    holds!(rt; moved(1, none, u32::MAX).all_zeros());
 }

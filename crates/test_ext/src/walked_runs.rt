@@ -1,33 +1,30 @@
 //! Iterators over the longest runs of a set, with values worked out by hand.
 
-use crate::calls::{BACK, FRONT, one_runs, zero_runs};
+ghost use Rattle.bittle.specs.Values.{ShapeFits};
+
+use crate::calls::{BACK, FRONT, one_runs, runs_taken, zero_runs};
 use crate::checks::same;
-use bittle::{LittleEndian, Set};
+use bittle::{Bits, LittleEndian, Set};
 use bittle_ext::prelude::*;
 
 #[test]
 fn the_one_runs_of_a_word(rt: HostRuntime) {
     // The members 1, 5 and 6; from the left 1, 2 and 6.
     let word = 0b0110_0010u8;
-    let mut walk = word.iter_one_runs();
-    same!(rt; (walk.next(), walk.next(), walk.next()), (Some(1..2), Some(5..7), None));
-    same!(rt; (walk.next(), walk.next_back()), (None, None));
-    let view = word.in_order::<LittleEndian>();
-    let mut left = view.iter_one_runs();
-    same!(rt; (left.next_back(), left.next_back()), (Some(6..7), Some(1..3)));
-    same!(rt; (left.next_back(), left.next()), (None, None));
+    let ones = one_runs(&word, [FRONT, FRONT, FRONT, FRONT, BACK]);
+    same!(rt; ones, [Some((1, 2)), Some((5, 7)), None, None, None]);
+    let left = one_runs(&word.in_order::<LittleEndian>(), [BACK, BACK, BACK, FRONT]);
+    same!(rt; left, [Some((6, 7)), Some((1, 3)), None, None]);
 }
 
 #[test]
 fn the_zero_runs_of_a_word(rt: HostRuntime) {
     // No members are 0, 2, 3, 4 and 7; from the left 0, 3, 4, 5 and 7.
     let word = 0b0110_0010u8;
-    let mut walk = word.iter_zero_runs();
-    same!(rt; (walk.next(), walk.next_back(), walk.next()), (Some(0..1), Some(7..8), Some(2..5)));
-    same!(rt; (walk.next_back(), walk.next()), (None, None));
-    let view = word.in_order::<LittleEndian>();
-    let mut left = view.iter_zero_runs();
-    same!(rt; (left.next(), left.next(), left.next()), (Some(0..1), Some(3..6), Some(7..8)));
+    let zeros = zero_runs(&word, [FRONT, BACK, FRONT, BACK, FRONT]);
+    same!(rt; zeros, [Some((0, 1)), Some((7, 8)), Some((2, 5)), None, None]);
+    let left = zero_runs(&word.in_order::<LittleEndian>(), [FRONT; 3]);
+    same!(rt; left, [Some((0, 1)), Some((3, 6)), Some((7, 8))]);
 }
 
 #[test]
@@ -54,18 +51,27 @@ fn runs_of_a_slice_and_of_a_set(rt: HostRuntime) {
 #[test]
 fn one_run_or_none(rt: HostRuntime) {
     let none: [u8; 0] = [];
-    same!(rt; (none.iter_one_runs().next(), none.iter_zero_runs().next_back()), (None, None));
-    same!(rt; (0xFFFFu16.iter_one_runs().next(), 0u16.iter_one_runs().next()), (Some(0..16), None));
-    same!(rt; 0u16.iter_zero_runs().next_back(), Some(0..16));
-    same!(rt; 0xFFFFu16.iter_zero_runs().next_back(), None);
+    same!(rt; (one_runs(&none, [FRONT]), zero_runs(&none, [BACK])), ([None], [None]));
+    let all = [Some((0, 16))];
+    same!(rt; (one_runs(&0xFFFFu16, [FRONT]), zero_runs(&0xFFFFu16, [BACK])), (all, [None]));
+    same!(rt; (one_runs(&0u16, [FRONT]), zero_runs(&0u16, [BACK])), ([None], all));
+}
+
+// Walks over the runs of set bits from the front, and by a clone of the iterator from the back and
+// then from the front.
+fn one_runs_and_of_a_clone<B: Bits>(bits: &B) -> [[Option<(u32, u32)>; 3]; 2]
+    requires { ShapeFits B.Shape bits.now }
+{
+    let mut walk = bits.iter_one_runs();
+    let mut clone = walk.clone().unwrap();
+    let runs = runs_taken(&mut walk, [FRONT; 3]);
+    [runs, runs_taken(&mut clone, [BACK, FRONT, FRONT])]
 }
 
 #[test]
 fn a_clone_goes_on_from_its_source(rt: HostRuntime) {
     // Bits 1, 5 and 6 are set.
-    let word = 0b0110_0010u8;
-    let mut walk = word.iter_one_runs();
-    let mut clone = walk.clone().unwrap();
-    same!(rt; (walk.next(), walk.next(), walk.next()), (Some(1..2), Some(5..7), None));
-    same!(rt; (clone.next_back(), clone.next(), clone.next()), (Some(5..7), Some(1..2), None));
+    let [runs, of_clone] = one_runs_and_of_a_clone(&0b0110_0010u8);
+    same!(rt; runs, [Some((1, 2)), Some((5, 7)), None]);
+    same!(rt; of_clone, [Some((5, 7)), Some((1, 2)), None]);
 }

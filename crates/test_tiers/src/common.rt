@@ -7,7 +7,7 @@ use crate::checks::compare;
 use crate::flags::draw;
 use bittle::{Bits, BitsMut, BitsOwned, Endian, Shape};
 use bittle_ext::BitsViewExt;
-use bittle_tiers::{Ones, Tiered, Tiered4K};
+use bittle_tiers::{Ones, Tiered};
 use std::process::Abort;
 
 // The numbers that two sets have in common, in increasing order.
@@ -172,21 +172,23 @@ fn of_two_levels_of_groups(rt: HostRuntime) {
     agree_on_two_tiers::<[u64; 1024], [u64; 16], u64, [u64; 1024], [u64; 16], u64>(&rt, 2, 20);
 }
 
+// The same of a set without a summary and of one with a summary.
+fn agree_on_tier_and_plain<A: BitsOwned, B: BitsOwned, T: BitsOwned>(
+    rt: &impl Abort,
+    seed: u32,
+    pairs: u32,
+)
+    requires one { IsTrue A.indexable }
+    requires other { IsTrue ⟦<Tiered<B, T, Ones> as Shape>⟧.indexable }
+{
+    agree_on_common::<A, Tiered<B, T, Ones>>(rt, seed, pairs);
+}
+
 // A summary of words that are not of 64 bits tells of no group, as a plain set does.
 #[test]
 fn of_sets_that_tell_of_no_group(rt: HostRuntime) {
-    type Narrow = Tiered<[u64; 64], [u32; 2], Ones>;
-    agree_on_common::<Narrow, Tiered4K<Ones>>(&rt, 8, 10);
-    agree_on_common::<[u64; 64], Tiered4K<Ones>>(&rt, 9, 10);
-}
-
-// A full set tells of each word, and its summary has members past the last one.
-#[test]
-fn of_full_sets(rt: HostRuntime) {
-    let all = <Tiered<[u64; 5], u64, Ones>>::ones();
-    compare(&rt, "count", count_common(&all, &all), 320);
-    let part = Tiered::<[u64; 5], u64, Ones>::new([0, 2, 0, 0, 1]);
-    compare(&rt, "count", count_common(&all, &part), 2);
+    agree_on_tiers::<[u64; 64], [u32; 2], [u64; 64], u64>(&rt, 8, 10);
+    agree_on_tier_and_plain::<[u64; 64], [u64; 64], u64>(&rt, 9, 10);
 }
 
 // Counts what two sets have in common, by an iterator from each end.
@@ -196,4 +198,19 @@ fn count_common<B: Bits>(one: &B, other: &B) -> usize
 {
     let front = one.and(other).iter_ones().count();
     front.max(one.and(other).iter_ones().rev().count())
+}
+
+// Counts what the full set has in common with itself and with another one.
+fn count_with_full<B: BitsOwned>(part: B) -> [usize; 2]
+    requires { IsTrue B.indexable }
+{
+    let all = B::ones();
+    [count_common(&all, &all), count_common(&all, &part)]
+}
+
+// A full set tells of each word, and its summary has members past the last one.
+#[test]
+fn of_full_sets(rt: HostRuntime) {
+    let part = Tiered::<[u64; 5], u64, Ones>::new([0, 2, 0, 0, 1]);
+    compare(&rt, "count", count_with_full(part), [320, 2]);
 }

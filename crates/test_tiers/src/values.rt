@@ -1,11 +1,14 @@
 //! Values: what is wrapped, compared, copied and printed.
 
+ghost use Rattle.std.specs.Prelude.{IsTrue};
+ghost use Rattle.bittle.specs.Values.{ShapeFits};
+
 use crate::calls::{
     Full, Sparse, ends_of_ones, ends_of_zeros, even, first_runs, searches, whole, with, with_range,
     without,
 };
-use crate::checks::{holds, same};
-use bittle::{BigEndian, BitsOwned, LittleEndian, Set};
+use crate::checks::same;
+use bittle::{BigEndian, Bits, BitsOwned, LittleEndian, Set};
 use bittle_tiers::{Ones, Tiered, Tiered4K, Tiered64K, Tiered256K, Zeros};
 use std::alloc::{AllocError, Global};
 use std::fmt::Debug;
@@ -20,68 +23,100 @@ fn a_map_is_wrapped_and_unwrapped(rt: HostRuntime) {
     same!(rt; set.into_map(), [0, 1, 0]);
 }
 
+// Asks whether the set of 9 equals one and not the empty set, whether it equals that without 9, and
+// whether the full set equals one.
+fn compared<B: BitsOwned>(nine: B, full: B) -> [bool; 4]
+    requires { IsTrue B.indexable }
+{
+    let set = with::<B, BigEndian>(even(false), &[9]);
+    [
+        set == nine,
+        set != even(false),
+        without(set, &[9]) == even(false),
+        even::<B>(true) == full,
+    ]
+}
+
 #[test]
 fn sets_are_equal_by_their_maps(rt: HostRuntime) {
-    let set = with::<Sparse, BigEndian>(even(false), &[9]);
-    holds!(rt; set == Sparse::new([0, 2, 0]));
-    holds!(rt; set != even(false));
-    holds!(rt; without(set, &[9]) == even(false));
     // Each number of the summary of a full set is a member, also past the last word.
-    holds!(rt; even::<Sparse>(true) == Sparse::new([255; 3]));
+    let answers = compared(Sparse::new([0, 2, 0]), Sparse::new([255; 3]));
+    same!(rt; answers, [true; 4]);
+}
+
+// Takes 23 out of a copy of the full set, and returns the ends of what the copy and the set have not.
+fn ends_of_copy_and_source<B: BitsOwned>() -> [[Option<u32>; 2]; 2]
+    requires { IsTrue B.indexable }
+{
+    let set = even::<B>(true);
+    let copy = without(set, &[23]);
+    [ends_of_zeros(&copy), ends_of_zeros(&set)]
 }
 
 #[test]
 fn a_copy_goes_its_own_way(rt: HostRuntime) {
-    let set = even::<Full>(true);
-    let copy = without(set, &[23]);
-    same!(rt; ends_of_zeros(&copy), [Some(23), Some(23)]);
-    same!(rt; ends_of_zeros(&set), [None, None]);
+    same!(rt; ends_of_copy_and_source::<Full>(), [[Some(23), Some(23)], [None, None]]);
+}
+
+// Sets a range and searches the set, clears most of it and returns the ends, and toggles what is
+// left, from the left.
+fn after_ranges<B: BitsOwned>() -> (B, [Option<u32>; 4], [Option<u32>; 2], (u32, bool, bool))
+    requires { IsTrue B.indexable }
+{
+    let first = with_range::<B, BigEndian>(even(false), 0, 6, 18);
+    let found = searches::<B, BigEndian>(&first, 0, 24);
+    let second = with_range::<B, BigEndian>(first, 1, 6, 17);
+    // Index 22 from the left of the last byte is its bit 1, which was set.
+    let third = with_range::<B, LittleEndian>(second, 2, 22, 23);
+    (first, found, ends_of_ones(&second), whole(&third))
 }
 
 #[test]
 fn a_range_across_words(rt: HostRuntime) {
-    let set = with_range::<Sparse, BigEndian>(even(false), 0, 6, 18);
+    let (set, found, ends, all) = after_ranges::<Sparse>();
     same!(rt; set.into_map(), [0xC0, 0xFF, 0x03]);
-    let first = [Some(6), Some(17), Some(0), Some(23)];
-    same!(rt; searches::<Sparse, BigEndian>(&set, 0, 24), first);
-    let set = with_range::<Sparse, BigEndian>(set, 1, 6, 17);
-    same!(rt; ends_of_ones(&set), [Some(17), Some(17)]);
-    // Index 22 from the left of the last byte is its bit 1, which was set.
-    let set = with_range::<Sparse, LittleEndian>(set, 2, 22, 23);
-    same!(rt; whole(&set), (0, true, false));
+    same!(rt; found, [Some(6), Some(17), Some(0), Some(23)]);
+    same!(rt; (ends, all), ([Some(17), Some(17)], (0, true, false)));
+}
+
+// Returns where the first runs of each of these lengths begin.
+fn runs<B: Bits, const N: usize>(set: &B, lengths: [u32; N]) -> [[Option<u32>; 2]; N]
+    requires { ShapeFits B.Shape set.now }
+{
+    let mut found = [[None; 2]; N];
+    for k in 0..N {
+        found[k] = first_runs(set, lengths[k]);
+    }
+    found
 }
 
 #[test]
 fn runs_about_a_word_that_is_passed_over(rt: HostRuntime) {
     // The members 7, 16 and 17: the byte between them is passed over, and no run goes through it.
-    let set = Sparse::new([0x80, 0, 0x03]);
-    same!(rt; first_runs(&set, 1), [Some(7), Some(0)]);
-    same!(rt; first_runs(&set, 2), [Some(16), Some(0)]);
-    same!(rt; first_runs(&set, 3), [None, Some(0)]);
-    same!(rt; first_runs(&set, 8), [None, Some(8)]);
-    let full = Full::new([0x7F, 0xFF, 0xFC]);
-    same!(rt; first_runs(&full, 2), [Some(0), Some(16)]);
-    same!(rt; first_runs(&full, 3), [Some(0), None]);
-    same!(rt; first_runs(&full, 8), [Some(8), None]);
+    let of_set = runs(&Sparse::new([0x80, 0, 0x03]), [1, 2, 3, 8]);
+    same!(rt; (of_set[0], of_set[1]), ([Some(7), Some(0)], [Some(16), Some(0)]));
+    same!(rt; (of_set[2], of_set[3]), ([None, Some(0)], [None, Some(8)]));
+    let of_full = runs(&Full::new([0x7F, 0xFF, 0xFC]), [2, 3, 8]);
+    same!(rt; of_full, [[Some(0), Some(16)], [Some(0), None], [Some(8), None]]);
 }
 
-// Returns what each of the four operations makes of two sets.
-fn combined<B: BitsOwned>(one: B, other: B) -> [B; 4] {
+// Returns the ends of what each of the four operations makes of two sets.
+fn ends_of_combined<B: BitsOwned>(one: B, other: B) -> [[Option<u32>; 2]; 4]
+    requires { IsTrue B.indexable }
+{
     [
-        one.union(other),
-        one.conjunction(other),
-        one.difference(other),
-        one.symmetric_difference(other),
+        ends_of_ones(&one.union(other)),
+        ends_of_ones(&one.conjunction(other)),
+        ends_of_ones(&one.difference(other)),
+        ends_of_ones(&one.symmetric_difference(other)),
     ]
 }
 
 #[test]
 fn operations_on_two_sets(rt: HostRuntime) {
-    let [union, both, first, one] = combined(Sparse::new([1, 0, 0]), Sparse::new([1, 0, 128]));
-    same!(rt; ends_of_ones(&union), [Some(0), Some(23)]);
-    same!(rt; ends_of_ones(&both), [Some(0), Some(0)]);
-    same!(rt; ends_of_ones(&first), [None, None]);
-    same!(rt; ends_of_ones(&one), [Some(23), Some(23)]);
+    let ends = ends_of_combined(Sparse::new([1, 0, 0]), Sparse::new([1, 0, 128]));
+    same!(rt; (ends[0], ends[1]), ([Some(0), Some(23)], [Some(0), Some(0)]));
+    same!(rt; (ends[2], ends[3]), ([None, None], [Some(23), Some(23)]));
 }
 
 #[test]
