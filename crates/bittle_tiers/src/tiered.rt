@@ -258,7 +258,7 @@ fn put_bit<B: BitsOwned, S: BitsOwned, K: Kind, E: Endian, V: Kind>(
     if bits != 0 {
         let at = index % bits;
         let k = (at / word_width::<B>()) as usize;
-        upkeep::refresh_after::<B, S, K, V>(&tiered.map, &mut tiered.summary, k);
+        upkeep::refresh::<B, S, K>(&tiered.map, &mut tiered.summary, k, V::ONES == K::ONES);
     }
 }
 
@@ -300,7 +300,7 @@ impl<B: BitsOwned, S: BitsOwned, K: Kind> BitsMut for Tiered<B, S, K> {
     #[inline]
     fn set_nth_leaf_word(&mut self, k: usize, word: B::LeafWord) {
         self.map.set_nth_leaf_word(k, word);
-        upkeep::refresh::<B, S, K>(&self.map, &mut self.summary, k);
+        upkeep::refresh::<B, S, K>(&self.map, &mut self.summary, k, false);
     }
 }
 

@@ -56,36 +56,23 @@ fn put<S: BitsMut>(summary: &mut S, k: usize, some: bool)
     }
 }
 
-/// Makes a summary tell of word `k`.
+/// Makes a summary tell of word `k`. The word is not read if it is known to have a bit of the kind.
 #[inline]
-pub(crate) fn refresh<B: ReadWords, S: BitsMut, K: Kind>(map: &B, summary: &mut S, k: usize)
-    requires map_fits { ShapeFits B.Shape map.now }
-    requires word { k * B.width < (B.big map.now).capacity }
-    requires fits { ShapeFits S.Shape summary.old }
-    requires within { k < (S.big summary.old).capacity }
-    ensures here { (S.big summary.new).has k ≡ some_in_word K.ONES B.width (B.big map.now) k }
-    ensures others { (j : ℕ) → j ≢ k → (S.big summary.new).has j ≡ (S.big summary.old).has j }
-{
-    put::<S>(summary, k, has_some::<B, K>(map, k));
-}
-
-/// Makes a summary tell of word `k`, in which a bit of the kind `V` was put. Such a bit of the kind
-/// `K` is one, so the word is not read.
-#[inline]
-pub(crate) fn refresh_after<B: ReadWords, S: BitsMut, K: Kind, V: Kind>(
+pub(crate) fn refresh<B: ReadWords, S: BitsMut, K: Kind>(
     map: &B,
     summary: &mut S,
     k: usize,
+    is_known: bool,
 )
     requires map_fits { ShapeFits B.Shape map.now }
     requires word { k * B.width < (B.big map.now).capacity }
-    requires put { V.ONES ≡ K.ONES → some_in_word K.ONES B.width (B.big map.now) k ≡ true }
+    requires known { is_known ≡ true → some_in_word K.ONES B.width (B.big map.now) k ≡ true }
     requires fits { ShapeFits S.Shape summary.old }
     requires within { k < (S.big summary.old).capacity }
     ensures here { (S.big summary.new).has k ≡ some_in_word K.ONES B.width (B.big map.now) k }
     ensures others { (j : ℕ) → j ≢ k → (S.big summary.new).has j ≡ (S.big summary.old).has j }
 {
-    put::<S>(summary, k, V::ONES == K::ONES || has_some::<B, K>(map, k));
+    put::<S>(summary, k, is_known || has_some::<B, K>(map, k));
 }
 
 /// Returns the summary that tells of all words, or of none.
@@ -106,7 +93,7 @@ pub(crate) fn rebuild<B: BitsOwned, S: BitsOwned, K: Kind>(map: &B, summary: &mu
 {
     let words = (B::bits() / word_width::<B>()) as usize;
     for k in 0..words {
-        refresh::<B, S, K>(map, summary, k);
+        refresh::<B, S, K>(map, summary, k, false);
     }
 }
 
@@ -145,7 +132,7 @@ pub(crate) fn refresh_range<B: BitsOwned, S: BitsOwned, K: Kind>(
     ensures { Summarizes K.ONES B.width (B.big map.now) (S.big summary.new) }
 {
     for k in first..last + 1 {
-        refresh::<B, S, K>(map, summary, k);
+        refresh::<B, S, K>(map, summary, k, false);
     }
 }
 

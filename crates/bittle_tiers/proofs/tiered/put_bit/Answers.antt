@@ -1,12 +1,21 @@
-use Rattle.std.proofs.Common.{◌≡◌, ◌<◌, ◌≤◌, ◌+◌, ◌*◌, ◌/◌, ◌%◌, refl, sym, ap, ◌∙◌, arith}
+use Rattle.std.proofs.Common.{◌≡◌, ◌<◌, ◌≤◌, ◌+◌, ◌*◌, ◌/◌, ◌%◌, Bool, true, false, refl, sym, ap, ◌∙◌, arith}
+use Rattle.std.proofs.Math.Bool.{beq}
+use Rattle.std.proofs.lemmas.Bool.{true≢false}
 use Rattle.std.proofs.lemmas.Nat.{mod_below}
 use Rattle.bittle_bits.proofs.Words.{word_ends}
 use Rattle.bittle_tiers.specs.TierLaws.{map_indexable, summary_reaches}
 use Rattle.bittle_tiers.proofs.Summaries.{index_word, reaches, renewed, same_words, some_put}
 use Rattle.bittle_tiers.proofs.tiered.put_bit.Goals as goal
 
-pub refresh_after-requires-clause-word : goal.refresh_after-requires-clause-word
-refresh_after-requires-clause-word g c =
+-- two kinds that compare as equal are one
+one_kind : (a b : Bool) → beq a b ≡ true → a ≡ b
+one_kind true true e = refl
+one_kind true false e = absurd (true≢false (sym e))
+one_kind false true e = absurd (true≢false (sym e))
+one_kind false false e = refl
+
+pub refresh-requires-clause-word : goal.refresh-requires-clause-word
+refresh-requires-clause-word g c =
     let wide = c.word_width.ensures in
     let fits = map_indexable g.B.Shape.indexable g.S.Shape.indexable g.B.Shape.type_capacity
     g.S.Shape.type_capacity g.B.Shape.width c.args.tiered.now.fits in
@@ -18,8 +27,9 @@ refresh_after-requires-clause-word g c =
     mod_below c.args.index c.bits-bits.result (omega (arith, c.if-bits-ne0.true)) in
     rw wide (index_word g.B.Shape.width at _ (omega (arith, below, bits, size)))
 
-pub refresh_after-requires-clause-put : goal.refresh_after-requires-clause-put
-refresh_after-requires-clause-put g c = λ kind.
+pub refresh-requires-clause-known : goal.refresh-requires-clause-known
+refresh-requires-clause-known g c = λ known.
+    let kind = sym c.ONES.ensures ∙ one_kind _ _ known ∙ c.ONES-then-bits-ne0.ensures in
     let w = g.B.Shape.width in
     let before = c.args.tiered.now in
     let s = g.B.Shape.big before.map in
@@ -39,8 +49,8 @@ refresh_after-requires-clause-put g c = λ kind.
     g.met.B.ReadWords.width_positive (g.met.B.ReadWords.whole_words before.map)
     (size_now ∙ sym size) (omega (arith, below, bits, size)) is c.put_bit.ensures)
 
-pub refresh_after-requires-clause-within : goal.refresh_after-requires-clause-within
-refresh_after-requires-clause-within g c =
+pub refresh-requires-clause-within : goal.refresh-requires-clause-within
+refresh-requires-clause-within g c =
     let w = g.B.Shape.width in
     let wide = c.word_width.ensures in
     let fits = map_indexable g.B.Shape.indexable g.S.Shape.indexable g.B.Shape.type_capacity
@@ -79,9 +89,9 @@ invariant_of-tiered g c =
     record {
       fits = before.fits;
       tells = renewed g.K.Kind.ONES w (at / w) s t (g.S.Shape.big before.summary)
-          (g.S.Shape.big c.refresh_after.new.summary) before.tells
+          (g.S.Shape.big c.refresh.new.summary) before.tells
           (same_words g.V.Kind.ONES g.E.Endian.mirrored w c.args.index at s t
           g.met.B.ReadWords.width_positive (omega (arith, bits, size, c.if-bits-ne0.true)) is
-          c.put_bit.ensures) (size_now ∙ sym size) (rw wide at c.refresh_after.ensures.here)
-          (rw wide at c.refresh_after.ensures.others);
+          c.put_bit.ensures) (size_now ∙ sym size) (rw wide at c.refresh.ensures.here)
+          (rw wide at c.refresh.ensures.others);
     }
