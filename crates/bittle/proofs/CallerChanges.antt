@@ -3,7 +3,7 @@ use Rattle.std.proofs.Common.{◌≡◌, ◌≢◌, ℕ, zero, suc, ◌+◌, ◌
 use Rattle.std.proofs.Common.{add-zero}
 use Rattle.std.proofs.Math.Nat.{add-mod_right}
 use Rattle.std.proofs.lemmas.Nat.{mod_below}
-use Rattle.std.proofs.lemmas.Bool.{cases_eq, eq-eqb, ne_eqb, lt-ltb}
+use Rattle.std.proofs.lemmas.Bool.{and_parts, cases_eq, eq-eqb, ne_eqb, lt-ltb, true≢false}
 use Rattle.bittle_bits.specs.PlainSet.{PlainSet, contains, with_index, has_with, without_index, has_without, with_span_changed, has_changed, with_span, without_span, count_below, members_below, size}
 use Rattle.bittle_bits.proofs.Counts.{count-add, count-never, count-others, count-same}
 use Rattle.bittle_bits.proofs.MembersBelow.{below_between}
@@ -255,3 +255,54 @@ pub size_without_span : (s : PlainSet) (from to : ℕ) → from ≤ to → to �
 size_without_span s from to h l =
     let counted = size_changed (λ _. false) s from to h l in
     omega (arith, counted, count-never (to - from), (below_between s from to h).0)
+
+-- ---- the same of a set t that a clause says is the set s after a change. A search finds the clause
+-- as a premise, so a caller states a fact of its own value
+
+-- the index that was set is a member
+pub contains_after_set : (s t : PlainSet) (i : ℕ) → t ≡ with_index s i → 0 < s.capacity →
+    contains t i ≡ true
+contains_after_set s t i is some = ap (λ u. contains u i) is ∙ contains_with s i some
+
+-- the index that was cleared is none
+pub contains_after_clear : (s t : PlainSet) (i : ℕ) → t ≡ without_index s i → contains t i ≡ false
+contains_after_clear s t i is = ap (λ u. contains u i) is ∙ contains_without s i
+
+-- a member stays one after another index was set
+pub still_after_set : (s t : PlainSet) (i j : ℕ) → t ≡ with_index s i → contains s j ≡ true →
+    contains t j ≡ true
+unfolding contains has_with
+still_after_set s t i j is has =
+    let parts = and_parts (nat_lt 0 s.capacity) (s.has (j % s.capacity)) has in
+    ap (λ u. contains u j) is ∙ rw (parts.0, parts.1) (by ((j % s.capacity) == (i % s.capacity)))
+  where
+    by : (b : Bool) → (b || true) ≡ true
+    by true = refl
+    by false = refl
+
+-- an index that is no member stays none after another one was cleared
+pub still_after_clear : (s t : PlainSet) (i j : ℕ) → t ≡ without_index s i →
+    contains s j ≡ false → contains t j ≡ false
+unfolding contains has_without
+still_after_clear s t i j is has =
+    ap (λ u. contains u j) is ∙ by (nat_lt 0 s.capacity) (s.has (j % s.capacity))
+    ((j % s.capacity) == (i % s.capacity)) has
+  where
+    by : (some member same : Bool) → (some && member) ≡ false →
+        (some && (not (some && same) && member)) ≡ false
+    by true true same e = absurd (true≢false e)
+    by true false true e = refl
+    by true false false e = refl
+    by false member same e = refl
+
+-- an index of the range that was set is a member
+pub contains_after_set_span : (s t : PlainSet) (from to i : ℕ) → t ≡ with_span s from to →
+    from ≤ i → i < to → i < s.capacity → contains t i ≡ true
+contains_after_set_span s t from to i is low up within =
+    ap (λ u. contains u i) is ∙ contains_with_span s from to i low up within
+
+-- an index of the range that was cleared is none
+pub contains_after_clear_span : (s t : PlainSet) (from to i : ℕ) → t ≡ without_span s from to →
+    from ≤ i → i < to → i < s.capacity → contains t i ≡ false
+contains_after_clear_span s t from to i is low up within =
+    ap (λ u. contains u i) is ∙ contains_without_span s from to i low up within

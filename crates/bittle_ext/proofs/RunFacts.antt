@@ -1,8 +1,8 @@
 -- Runs of members, as far as searches have come.
-use Rattle.std.proofs.Common.{◌≡◌, ℕ, ◌+◌, ◌-◌, ◌<◌, ◌≤◌, Bool, true, false, not, Some, None, inl, inr, sym, ap, ◌∙◌, arith}
+use Rattle.std.proofs.Common.{◌≡◌, ℕ, ◌+◌, ◌-◌, ◌<◌, ◌≤◌, Bool, true, false, not, Option, Some, None, inl, inr, sym, ap, ◌∙◌, subst, arith}
 use Rattle.std.proofs.Math.Bool.{not-not}
 use Rattle.std.proofs.lemmas.Bool.{cases_lt, true≢false, not-false}
-use Rattle.bittle.specs.PlainSet.{PlainSet}
+use Rattle.bittle.specs.PlainSet.{PlainSet, complement}
 use Rattle.bittle.specs.Searches.{NoneIn, IsFirstIn, IsLastIn}
 use Rattle.bittle.specs.Walk.{ones_or_zeros}
 use Rattle.bittle.proofs.CallerSets.{complement_within}
@@ -78,3 +78,10 @@ module _ {s : PlainSet} {length from end at : ℕ} (p : IsSearched s length from
           ∙ ap not (run.1 last (omega arith) (omega (arith, gone.1))))
     ];
   }
+
+-- the first run of numbers that are none of a set, such as a view, is that of the set which a
+-- clause says it is
+pub first_run_of_same : (s t : PlainSet) (from n : ℕ) (r : Option ℕ) → s ≡ t →
+    IsFirstRun (complement s) from n r → IsFirstRun (complement t) from n r
+first_run_of_same s t from n r same is =
+    subst (λ (u : PlainSet). IsFirstRun (complement u) from n r) same is

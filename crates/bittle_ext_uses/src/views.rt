@@ -122,6 +122,15 @@ pub fn rank_of_both(one: u64, other: u64, index: u32) -> u32
     one.and(&other).rank(index)
 }
 
+/// Returns where the first run of numbers begins that are free in two maps.
+#[tactic(auto, using(bittle_ext::proofs::RunFacts::first_run_of_same))]
+pub fn free_in_both(one: u64, other: u64, length: u32) -> Option<u32>
+    ensures { IsFirstRun (complement (either_of (bit_set 64 one) (bit_set 64 other))) 0 length
+        result }
+{
+    one.or(&other).first_zero_run(length)
+}
+
 /// Returns where the first run of a length of unset bits begins.
 pub fn first_free_run(word: u64, length: u32) -> Option<u32>
     ensures { IsFirstRun (complement (bit_set 64 word)) 0 length result }

@@ -1,11 +1,12 @@
 //! Changes of an index or of a span, and tests and counts after them. The lemma for callers stands
 //! in the attribute of the function, and none has a proof file.
 
-ghost use Rattle.std.specs.Prelude.{◌≡◌, ◌≢◌, ◌<◌, true, false};
+ghost use Rattle.std.specs.Prelude.{◌≡◌, ◌≢◌, ◌<◌, ◌≤◌, true, false};
 ghost use Rattle.bittle.specs.BitPatterns.{bit_set};
 ghost use Rattle.bittle.specs.PlainSet.{contains};
+ghost use Rattle.bittle.specs.Rows.{row_set};
 
-use bittle::{BigEndian, Bits, BitsMut, LittleEndian};
+use bittle::{BigEndian, Bits, BitsMut, BitsOwned, LittleEndian};
 
 /// Sets a bit, and finds it set.
 #[tactic(auto, using(bittle::proofs::CallerChanges::contains_with))]
@@ -38,6 +39,46 @@ pub fn set_and_test_other(mask: u64, index: u32, other: u32) -> bool
     let mut mask = mask;
     mask.set_bit(index);
     mask.test_bit(other)
+}
+
+/// Grants a permission, which the result has.
+#[tactic(auto, using(bittle::proofs::CallerChanges::contains_after_set))]
+pub fn granted(role: u32, permission: u32) -> u32
+    ensures { contains (bit_set 32 result) permission ≡ true }
+{
+    role.with_bit(permission)
+}
+
+/// Grants a permission to a role that has another one, and still has it.
+#[tactic(auto, using(bittle::proofs::CallerChanges::contains_after_set, bittle::proofs::CallerChanges::still_after_set))]
+pub fn grant_another(role: &mut u32, first: u32, second: u32)
+    requires has { contains (bit_set 32 role.old) first ≡ true }
+    ensures first { contains (bit_set 32 role.new) first ≡ true }
+    ensures second { contains (bit_set 32 role.new) second ≡ true }
+{
+    role.set_bit(second);
+}
+
+/// Takes a permission away, so the role lacks it and gets no other.
+#[tactic(auto, using(bittle::proofs::CallerChanges::contains_after_clear, bittle::proofs::CallerChanges::still_after_clear))]
+pub fn take_away(role: &mut u32, permission: u32, other: u32)
+    requires lacks { contains (bit_set 32 role.old) other ≡ false }
+    ensures gone { contains (bit_set 32 role.new) permission ≡ false }
+    ensures other { contains (bit_set 32 role.new) other ≡ false }
+{
+    role.clear_bit(permission);
+}
+
+/// Returns a map whose numbers from 100 on are taken, as a map of 100 pages is begun.
+#[tactic(auto, using(bittle::proofs::CallerChanges::contains_after_set_span))]
+pub fn reserved(map: [u64; 2], page: u32) -> [u64; 2]
+    requires past { 100 ≤ page }
+    requires below { page < 128 }
+    ensures { contains (row_set 2 64 (bit_set 64) result) page ≡ true }
+{
+    let mut map = map;
+    map.set_range_in::<BigEndian>(100, 128);
+    map
 }
 
 /// Sets the bits of a range, and finds one of them set.
