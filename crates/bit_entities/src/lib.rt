@@ -88,7 +88,8 @@ impl<B: BitsOwned, const N: usize> World<B, N> {
     }
 
     /// Returns a world in which the set bits of a mask are alive, in the order of the type. They
-    /// have no components. The type has to fit, as for [`new`](World::new).
+    /// have no components. The type has to fit, as for [`new`](World::new). It writes the mask and
+    /// the words of the `N` components once. With capacity 0 there is no entity.
     ///
     /// `World::<u64, 2>::with_alive(0b1011)` has the entities 0, 1 and 3.
     pub fn with_alive(alive: B) -> World<B, N>

@@ -109,7 +109,7 @@ module _ (p : ℕ → Bool) where
         ]
       ]
 
--- each run of a list of longest ones is one
+-- each run of a list of maximal ones is one
 longest_at : (s : PlainSet) (from : ℕ) (rs : List (Range ℕ)) (k : ℕ) (d : Range ℕ) →
     (0 < from → from < s.capacity → s.has from ≡ true → s.has (from - 1) ≡ false) →
     k < length rs → AreLongest s.has from s.capacity rs → IsLongestRun s (slice_index_or rs k d)

@@ -9,7 +9,7 @@ use Rattle.bittle_ext.specs.Runs.{run, runs_between}
 use Rattle.bittle_ext.proofs.LongestRuns.{AreLongest, runs_longest}
 
 module _ (p : ℕ → Bool) where
-  -- of two lists of longest runs, the first runs begin at one number, and end at one
+  -- of two lists of maximal runs, the first runs begin at one number, and end at one
   not_before : (from to : ℕ) (r q : Range ℕ) (rs qs : List (Range ℕ)) →
       AreLongest p from to (r ∷ rs) → AreLongest p from to (q ∷ qs) → q.start ≤ r.start
   not_before from to r q rs qs h g =

@@ -30,17 +30,17 @@ unfoldable pub joined : ℕ → List (Range ℕ) → List (Range ℕ)
 joined k [] = run k (suc k) ∷ []
 joined k (r ∷ rs) = cond (r.start == suc k) (run k r.end ∷ rs) (run k (suc k) ∷ r ∷ rs)
 
--- of the n numbers from `from` on, the longest runs that pass the test, increasing
+-- of the n numbers from `from` on, the maximal runs that pass the test, increasing
 unfoldable pub runs_from : (ℕ → Bool) → ℕ → ℕ → List (Range ℕ)
 runs_from p from zero = []
 runs_from p from (suc n) = cond (p from) (joined from (runs_from p (suc from) n))
     (runs_from p (suc from) n)
 
--- the longest runs of members in from..to
+-- the maximal runs of members in from..to
 unfoldable pub runs_between : PlainSet → ℕ → ℕ → List (Range ℕ)
 runs_between s from to = runs_from s.has from (to - from)
 
--- the longest runs of members
+-- the maximal runs of members
 abbrev pub runs : PlainSet → List (Range ℕ)
 runs s = runs_between s 0 s.capacity
 

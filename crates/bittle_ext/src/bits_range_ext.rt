@@ -1,4 +1,4 @@
-//! Iterators over a range of a set, and over its longest runs.
+//! Iterators over a range of a set, and over its maximal runs.
 
 ghost use Rattle.std.specs.Prelude.{◌≡◌};
 ghost use Rattle.bittle_ext.specs.RangeMembers.{ListsWithin};
@@ -12,7 +12,7 @@ use crate::range_iterators::{IterOnesInRange, IterZerosInRange};
 use crate::run_iterators::{IterOneRuns, IterRuns, IterZeroRuns};
 use bittle::Bits;
 
-/// Iterators over a range of a set, and over its longest runs of neighbours.
+/// Iterators over a range of a set, and over its maximal runs of neighbours.
 ///
 /// The shape has to fit. A range that goes past the capacity ends there: nothing wraps. The order
 /// is that of the type; a view that [`in_order`](crate::BitsViewExt::in_order) borrows has another
@@ -60,7 +60,7 @@ pub trait BitsRangeExt: Bits + Sized {
         self.iter_zeros_in_span(from..to)
     }
 
-    /// Returns an iterator over the longest runs of set bits, each a range of indexes, in the order
+    /// Returns an iterator over the maximal runs of set bits, each a range of indexes, in the order
     /// of the type, increasing, from both ends.
     ///
     /// The shape has to fit. Each step is two searches by whole words. With capacity 0 it yields
@@ -80,7 +80,7 @@ pub trait BitsRangeExt: Bits + Sized {
         IterRuns::new(self)
     }
 
-    /// Returns an iterator over the longest runs of unset bits. All else is as with
+    /// Returns an iterator over the maximal runs of unset bits. All else is as with
     /// [`iter_one_runs`](BitsRangeExt::iter_one_runs).
     ///
     /// ```

@@ -1,4 +1,4 @@
-//! Iterators over the longest runs of set bits, and of unset bits.
+//! Iterators over the maximal runs of set bits, and of unset bits.
 
 ghost use Rattle.std.specs.Iterator.{YieldsFirst, YieldsLast, item_count};
 ghost use Rattle.std.specs.Prelude.{◌≡◌, ◌+◌, ◌<◌, ◌≤◌, true, not, ⊤, IsTrue};
@@ -18,13 +18,13 @@ use std::alloc::AllocError;
 use std::marker::{Model, PhantomData};
 use std::ops::Range;
 
-/// Yields the longest runs of set bits.
+/// Yields the maximal runs of set bits.
 pub type IterOneRuns<'a, B, E> = IterRuns<'a, B, E, Ones>;
 
-/// Yields the longest runs of unset bits.
+/// Yields the maximal runs of unset bits.
 pub type IterZeroRuns<'a, B, E> = IterRuns<'a, B, E, Zeros>;
 
-/// Iterates over the longest runs of neighbours in a set that it borrows, of the bits that `K`
+/// Iterates over the maximal runs of neighbours in a set that it borrows, of the bits that `K`
 /// names, increasing, in the order `E`, from both ends. Each step searches by whole words for a run,
 /// and for its other end; from the front the latter only past the word that has its start. After
 /// its end it returns `None` on both sides.

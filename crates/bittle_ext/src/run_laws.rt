@@ -2,7 +2,7 @@
 
 ghost use Rattle.bittle_ext.specs.Runs.{RunsAreLongest};
 
-/// States that the runs of a set are its longest ones in their order, and that each set bit lies in
+/// States that the runs of a set are its maximal ones in their order, and that each set bit lies in
 /// one of them.
 pub fn runs_are_longest()
     ensures { RunsAreLongest }

@@ -1,4 +1,4 @@
-//! Iterators over the longest runs of a set.
+//! Iterators over the maximal runs of a set.
 
 ghost use Rattle.std.specs.Iterator.{YieldsFirst, YieldsLast};
 ghost use Rattle.std.specs.Prelude.{◌≡◌, ℕ, List, length};

@@ -1,4 +1,4 @@
-//! Iterators over the longest runs of a set, with values worked out by hand.
+//! Iterators over the maximal runs of a set, with values worked out by hand.
 
 ghost use Rattle.bittle.specs.Values.{ShapeFits};
 
