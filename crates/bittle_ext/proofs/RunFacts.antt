@@ -1,11 +1,12 @@
 -- Runs of members, as far as searches have come.
-use Rattle.std.proofs.Common.{◌≡◌, ℕ, ◌+◌, ◌-◌, ◌<◌, ◌≤◌, Bool, true, false, not, Option, Some, None, inl, inr, sym, ap, ◌∙◌, subst, arith}
+use Rattle.std.proofs.Common.{◌≡◌, ℕ, zero, suc, nat_le, nat_lt, IfSome, ◌+◌, ◌-◌, ◌<◌, ◌≤◌, Bool, true, false, not, Option, Some, None, inl, inr, sym, ap, ◌∙◌, subst, arith}
 use Rattle.std.proofs.Math.Bool.{not-not}
-use Rattle.std.proofs.lemmas.Bool.{cases_lt, true≢false, not-false}
-use Rattle.bittle.specs.PlainSet.{PlainSet, complement}
+use Rattle.std.proofs.lemmas.Bool.{and_parts, cases_lt, ltb-true, true≢false, not-false}
+use Rattle.bittle.specs.PlainSet.{PlainSet, complement, is_in_span}
 use Rattle.bittle.specs.Searches.{NoneIn, IsFirstIn, IsLastIn}
 use Rattle.bittle.specs.Walk.{ones_or_zeros}
 use Rattle.bittle.proofs.CallerSets.{complement_within}
+use Rattle.bittle_ext.specs.RangeMembers.{members_within}
 use Rattle.bittle_ext.specs.Runs.{NoRunBegins, IsFirstRun}
 
 -- t has each number below the capacity that s has not
@@ -85,3 +86,33 @@ pub first_run_of_same : (s t : PlainSet) (from n : ℕ) (r : Option ℕ) → s �
     IsFirstRun (complement s) from n r → IsFirstRun (complement t) from n r
 first_run_of_same s t from n r same is =
     subst (λ (u : PlainSet). IsFirstRun (complement u) from n r) same is
+
+-- the same of a run of members
+pub first_set_run_of_same : (s t : PlainSet) (from n : ℕ) (r : Option ℕ) → s ≡ t →
+    IsFirstRun s from n r → IsFirstRun t from n r
+first_set_run_of_same s t from n r same is =
+    subst (λ (u : PlainSet). IsFirstRun u from n r) same is
+
+-- the same in a range of an equal set, as a view within a range of another view has it
+pub first_run_within_same : (v s t : PlainSet) (low high from n : ℕ) (r : Option ℕ) →
+    IsFirstRun v from n r → v ≡ members_within s low high → s ≡ t →
+    IsFirstRun (members_within t low high) from n r
+first_run_within_same v s t low high from n r is outer same = subst
+    (λ (u : PlainSet). IsFirstRun u from n r)
+    (outer ∙ ap (λ u. members_within u low high) same) is
+
+-- the first run in a range ends in it
+pub run_inside : (s : PlainSet) (low high n : ℕ) (r : Option ℕ) →
+    IsFirstRun (members_within s low high) low n r → low ≤ high → IfSome r (λ i. i + n ≤ high)
+run_inside s low high n None is ordered = tt
+run_inside s low high zero (Some i) is ordered = elim (cases_lt low i) [
+  | inl l ↦ absurd (is.2 low (omega arith) l
+      (omega (arith, l, is.1.0), λ k h b. absurd (omega (arith, h, b))))
+  | inr g ↦ omega (arith, g, ordered)
+]
+run_inside s low high (suc m) (Some i) is ordered =
+    let last = is.1.1 (i + m) (omega arith) (omega arith) in
+    let span = (and_parts (is_in_span low high (i + m)) (s.has (i + m)) last).0 in
+    let below = ltb-true (i + m) high
+    ((and_parts (nat_le low (i + m)) (nat_lt (i + m) high) span).1) in
+    omega (arith, below)

@@ -1,7 +1,7 @@
 //! Reading a set.
 
-ghost use Rattle.std.specs.Prelude.{◌≡◌, ◌-◌, ◌<◌, ◌≤◌, IfSome, MatchBool, slice_get};
-ghost use Rattle.bittle_ext.specs.RangeMembers.{HasSomeIn, HasAllIn, LacksSomeIn};
+ghost use Rattle.std.specs.Prelude.{◌≡◌, ◌+◌, ◌-◌, ◌<◌, ◌≤◌, IfSome, MatchBool, slice_get};
+ghost use Rattle.bittle_ext.specs.RangeMembers.{HasSomeIn, HasAllIn, LacksSomeIn, members_within};
 ghost use Rattle.bittle_ext.specs.Runs.{IsFirstRun};
 ghost use Rattle.bittle.specs.PlainSet.{ascending, complement, members_below, size};
 ghost use Rattle.bittle.specs.Searches.{IsFirstIn, IsLastIn, NoneIn};
@@ -11,6 +11,7 @@ use crate::bits_span_ext::BitsSpanExt;
 use crate::capacities::capacity_of;
 use crate::runs;
 use crate::select::{place_of_rank, word_of_rank};
+use crate::views::BitsViewExt;
 use bittle::Bits;
 use bittle_bits::extension::{Ones, Word, Zeros};
 
@@ -401,6 +402,46 @@ pub trait BitsExt: Bits + Sized {
         ensures { IsFirstRun (set_in Self.Shape Self.Order.Endian self.now) 0 length result }
     {
         self.next_one_run(0, length)
+    }
+
+    /// Returns the least index in `from..to` where `length` set bits begin that all lie in
+    /// `from..to`, in the order of the type, or `None` if there is no such run.
+    ///
+    /// A `to` past the capacity means the capacity, and in a range that runs backwards no bit is
+    /// set. With `length` 0 it returns `from`, and `None` past the capacity. It costs what
+    /// [`next_one_run`](BitsExt::next_one_run) costs within the range.
+    ///
+    /// ```
+    /// 0b0110_0111u8.first_one_run_in_range(1, 6, 2);       // Some(1)
+    /// 0b0110_0011u8.first_one_run_in_range(1, 6, 2);       // None
+    /// ```
+    #[inline]
+    final fn first_one_run_in_range(&self, from: u32, to: u32, length: u32) -> Option<u32>
+        requires { ShapeFits Self.Shape self.now }
+        ensures run { IsFirstRun (members_within (set_in Self.Shape Self.Order.Endian self.now)
+            from to) from length result }
+        ensures inside { from ≤ to → IfSome result (λ index. index + length ≤ to) }
+    {
+        self.within(from, to).next_one_run(from, length)
+    }
+
+    /// Returns the least index in `from..to` where `length` unset bits begin that all lie in
+    /// `from..to`, in the order of the type, or `None` if there is no such run. All else is as with
+    /// [`first_one_run_in_range`](BitsExt::first_one_run_in_range): past the capacity no bit is
+    /// unset.
+    ///
+    /// ```
+    /// 0b0110_0011u8.first_zero_run_in_range(1, 6, 3);      // Some(2)
+    /// ```
+    #[inline]
+    final fn first_zero_run_in_range(&self, from: u32, to: u32, length: u32) -> Option<u32>
+        requires { ShapeFits Self.Shape self.now }
+        ensures run { IsFirstRun (members_within (complement (set_in Self.Shape Self.Order.Endian
+            self.now)) from to) from length result }
+        ensures inside { from ≤ to → IfSome result (λ index. index + length ≤ to) }
+    {
+        let unset = self.complement_view();
+        unset.within(from, to).next_one_run(from, length)
     }
 }
 

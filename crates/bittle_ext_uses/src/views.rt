@@ -131,6 +131,32 @@ pub fn free_in_both(one: u64, other: u64, length: u32) -> Option<u32>
     one.or(&other).first_zero_run(length)
 }
 
+/// Returns where the first run of lots begins that are free, of the 200 of a map.
+#[tactic(auto, using(bittle_ext::proofs::RunFacts::first_run_within_same))]
+pub fn free_lots(taken: [u64; 4], lots: u32) -> Option<u32>
+    ensures { IsFirstRun (members_within (complement (row_set 4 64 (bit_set 64) taken)) 0 200) 0
+        lots result }
+{
+    let free = taken.complement_view();
+    free.within(0, 200).first_one_run(lots)
+}
+
+/// Returns where the first run of numbers begins that are in two maps.
+#[tactic(auto, using(bittle_ext::proofs::RunFacts::first_set_run_of_same))]
+pub fn run_in_both(one: u64, other: u64, length: u32) -> Option<u32>
+    ensures { IsFirstRun (both_of (bit_set 64 one) (bit_set 64 other)) 0 length result }
+{
+    one.and(&other).first_one_run(length)
+}
+
+/// Counts the free numbers of a part of a map.
+pub fn free_in_part(taken: [u64; 4]) -> u32
+    ensures { result ≡ size (members_within (complement (row_set 4 64 (bit_set 64) taken)) 0 200) }
+{
+    let free = taken.complement_view();
+    free.within(0, 200).count_ones()
+}
+
 /// Returns where the first run of a length of unset bits begins.
 pub fn first_free_run(word: u64, length: u32) -> Option<u32>
     ensures { IsFirstRun (complement (bit_set 64 word)) 0 length result }

@@ -74,6 +74,42 @@ fn runs_of_four_words_and_of_more(rt: HostRuntime) {
     same!(rt; one_runs(&row, 0, [8, 9, 15, 16]), [Some(0), Some(49), Some(49), None]);
 }
 
+/// Returns where the first run of set bits begins in a range, and the first of unset bits.
+fn runs_within<B: Bits>(set: &B, from: u32, to: u32, length: u32) -> [Option<u32>; 2]
+    requires { ShapeFits B.Shape set.now }
+{
+    [
+        set.first_one_run_in_range(from, to, length),
+        set.first_zero_run_in_range(from, to, length),
+    ]
+}
+
+#[test]
+fn runs_within_a_range(rt: HostRuntime) {
+    // Bits 7 to 16 are unset; from the left bits 0, 8 to 15, and 23 are.
+    let row: [u8; 3] = [0b0111_1111, 0, 0b1111_1110];
+    same!(rt; runs_within(&row, 3, 12, 4), [Some(3), Some(7)]);
+    same!(rt; runs_within(&row, 3, 10, 4), [Some(3), None]);
+    same!(rt; runs_within(&row, 5, 6, 2), [None, None]);
+    let left = row.in_order::<LittleEndian>();
+    same!(rt; runs_within(&left, 1, 12, 3), [Some(1), Some(8)]);
+    same!(rt; runs_within(&left, 1, 10, 3), [Some(1), None]);
+}
+
+#[test]
+fn runs_within_a_range_past_the_capacity_or_backwards(rt: HostRuntime) {
+    let row: [u8; 3] = [0b0111_1111, 0, 0b1111_1110];
+    same!(rt; runs_within(&row, 20, 40, 4), [Some(20), None]);
+    same!(rt; runs_within(&row, 20, 40, 5), [None, None]);
+    same!(rt; runs_within(&row, 9, 3, 1), [None, None]);
+    same!(rt; runs_within(&row, 9, 3, 0), [Some(9), Some(9)]);
+    same!(rt; runs_within(&row, 24, 30, 0), [Some(24), Some(24)]);
+    same!(rt; runs_within(&row, 25, 30, 0), [None, None]);
+    let none: [u16; 0] = [];
+    same!(rt; runs_within(&none, 0, 9, 0), [Some(0), Some(0)]);
+    same!(rt; runs_within(&none, 0, 9, 1), [None, None]);
+}
+
 /// Sets the first run of unset bits of a length, and returns its begin and the set.
 fn taken<B: BitsOwned>(mut set: B, length: u32) -> (Option<u32>, B)
     requires { IsTrue B.indexable }
@@ -123,6 +159,33 @@ pub(crate) fn plain_run(flags: &[bool; 64], value: bool, from: u32, length: u32)
 /// How long runs are that are looked for in rows of bytes.
 const LENGTHS: [u32; 11] = [0, 1, 2, 3, 5, 7, 8, 9, 16, 32, 33];
 
+/// Returns the bits of a range, and outside of it another value than is looked for.
+fn part_of(flags: &[bool; 64], value: bool, from: u32, to: u32) -> [bool; 64] {
+    let mut part = *flags;
+    for k in 0..64usize {
+        if (k as u32) < from || to <= k as u32 {
+            part[k] = !value;
+        }
+    }
+    part
+}
+
+/// Compares the runs in a range of a set of 64 bits with those of the plain loop.
+fn runs_within_as_plain<B: Bits>(rt: &impl Abort, set: &B, flags: &[bool; 64], from: u32, to: u32)
+    requires { ShapeFits B.Shape set.now }
+{
+    let ones = part_of(flags, true, from, to);
+    let zeros = part_of(flags, false, from, to);
+    for k in 0..11usize {
+        let length = LENGTHS[k];
+        let plain = [
+            plain_run(&ones, true, from, length),
+            plain_run(&zeros, false, from, length),
+        ];
+        same!(*rt; runs_within(set, from, to, length), plain);
+    }
+}
+
 /// Compares the runs that a set of 64 bits has with those of the plain loop.
 fn runs_as_plain<B: Bits>(rt: &impl Abort, set: &B, flags: &[bool; 64], from: u32)
     requires { ShapeFits B.Shape set.now }
@@ -158,5 +221,9 @@ fn drawn_rows_have_the_runs_of_plain_arrays(rt: HostRuntime) {
             from,
         );
         runs_as_plain(&rt, &word, &flags(&row, false), from);
+        let to = draw(&mut state) % 80;
+        runs_within_as_plain(&rt, &row, &flags(&row, false), from, to);
+        let left = row.in_order::<LittleEndian>();
+        runs_within_as_plain(&rt, &left, &flags(&row, true), from, to);
     }
 }

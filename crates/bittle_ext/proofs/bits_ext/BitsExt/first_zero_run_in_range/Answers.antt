@@ -1,0 +1,11 @@
+use Rattle.bittle_ext.proofs.RunFacts.{first_run_within_same, run_inside}
+use Rattle.bittle_ext.proofs.bits_ext.BitsExt.first_zero_run_in_range.Goals as goal
+
+pub returns-clause-run : goal.returns-clause-run
+returns-clause-run g c = first_run_within_same _ _ _ c.args.from c.args.to c.args.from
+    c.args.length c.next_one_run.result c.next_one_run.ensures c.within.ensures.set
+    c.complement_view-unset.ensures.set
+
+pub returns-clause-inside : goal.returns-clause-inside
+returns-clause-inside g c = run_inside _ c.args.from c.args.to c.args.length c.next_one_run.result
+    (returns-clause-run g c)
