@@ -1,6 +1,8 @@
 pub mod PassedGroups
 pub mod PassedWords
 pub mod CallableBelow
+pub mod CallerMembers
+pub mod CallerSpans
 pub mod CombinedSets
 mod CombinedWords
 mod Complements

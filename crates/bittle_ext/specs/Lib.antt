@@ -6,6 +6,7 @@ pub mod Groups
 pub mod Numbers
 pub mod RangeMembers
 pub mod Ranks
+pub mod ReservedSpans
 pub mod Rotations
 pub mod Runs
 pub mod SetRelations

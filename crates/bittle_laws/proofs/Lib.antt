@@ -1,3 +1,4 @@
 pub mod AlgebraLaws
+pub mod CallerAlgebra
 pub mod CountLaws
 pub mod ListLaws

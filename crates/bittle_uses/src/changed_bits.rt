@@ -69,6 +69,26 @@ pub fn take_away(role: &mut u32, permission: u32, other: u32)
     role.clear_bit(permission);
 }
 
+/// Takes a permission away from a role that has another one, and still has it.
+#[tactic(auto, using(bittle_ext::proofs::CallerMembers::still_set_after_clear))]
+pub fn take_one(role: &mut u32, permission: u32, other: u32)
+    requires has { contains (bit_set 32 role.old) other ≡ true }
+    requires apart { other ≢ permission }
+    requires below { permission < 32 }
+    requires other_below { other < 32 }
+    ensures { contains (bit_set 32 role.new) other ≡ true }
+{
+    role.clear_bit(permission);
+}
+
+/// Returns a role without a permission.
+#[tactic(auto, using(bittle_ext::proofs::CallerMembers::contains_empty))]
+pub fn no_permission(permission: u32) -> u32
+    ensures { contains (bit_set 32 result) permission ≡ false }
+{
+    u32::zeros()
+}
+
 /// Returns a map whose numbers from 100 on are taken, as a map of 100 pages is begun.
 #[tactic(auto, using(bittle::proofs::CallerChanges::contains_after_set_span))]
 pub fn reserved(map: [u64; 2], page: u32) -> [u64; 2]

@@ -16,6 +16,7 @@ pub mod pages;
 pub mod permissions;
 pub mod ranks;
 pub mod relations;
+pub mod reserved;
 pub mod rows;
 pub mod scheduler;
 pub mod searches;

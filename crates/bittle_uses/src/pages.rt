@@ -1,15 +1,35 @@
 //! An allocator of pages in the hands of a caller: what an answer says is what the next call needs.
 //! None has a proof file.
 
-ghost use Rattle.std.specs.Prelude.{◌≡◌, ◌≢◌, ◌+◌, ◌≤◌, IfSome, true, length, map, [], ◌∷◌, List};
+ghost use Rattle.std.specs.Prelude.{◌≡◌, ◌≢◌, ◌+◌, ◌<◌, ◌≤◌, IfSome, IsTrue, true, length, map, [], ◌∷◌, List};
 ghost use Rattle.bit_pages.specs.CallHistories.{IsHistory};
 ghost use Rattle.bit_pages.specs.PageLaws.{pages_back, pages_given, total};
 ghost use Rattle.bit_pages.specs.Pages.{is_taken, page_or_full, run_or_none};
 ghost use Rattle.bittle.specs.Values.{set_in};
-ghost use Rattle.bittle.specs.PlainSet.{PlainSet, size};
+ghost use Rattle.bittle.specs.PlainSet.{PlainSet, empty_set, size};
 
 use bit_pages::{Answer, Pages, Request, page_laws};
 use bittle::BitsOwned;
+
+/// Returns an allocator over any type that fits, in which no page is taken, or `None`.
+pub fn new_pool<B: BitsOwned>() -> Option<Pages<B>>
+    ensures { IfSome result
+        (λ pages. set_in B.Shape B.Order.Endian pages.map ≡ empty_set B.type_capacity) }
+{
+    if B::bits() == u32::MAX {
+        return None;
+    }
+    Some(Pages::new())
+}
+
+/// Takes the first page of a new allocator. Its type fits, as that of the allocator has to.
+pub fn first_page<B: BitsOwned>() -> Option<u32>
+    requires { IsTrue B.indexable }
+    ensures { IfSome result (λ page. page < B.type_capacity) }
+{
+    let mut pages = Pages::<B>::new();
+    pages.take()
+}
 
 /// Takes two pages, which differ.
 pub fn take_two<B: BitsOwned>(pages: &mut Pages<B>) -> Option<(u32, u32)>

@@ -10,7 +10,7 @@ ghost use Rattle.bittle.specs.PlainSet.{complement};
 ghost use Rattle.bittle.specs.SetOperations.{union_of};
 ghost use Rattle.bittle_ext.specs.SetRelations.{IsSubset};
 
-use bittle::Set;
+use bittle::{BitsOwned, Set};
 use bittle_ext::BitsRelationExt;
 
 /// Returns what two roles grant together, in whichever order they are read.
@@ -20,6 +20,14 @@ pub fn together(one: Set<u32>, other: Set<u32>) -> Set<u32>
         (read_in mirrored 32 (bit_set 32 other.bits)) }
 {
     one | other
+}
+
+/// Returns what two roles grant together. It is the union of the second role and the first, too.
+#[tactic(auto, using(bittle_laws::proofs::CallerAlgebra::union_either_way))]
+pub fn merged(one: u32, other: u32) -> u32
+    ensures { bit_set 32 result ≡ union_of (bit_set 32 other) (bit_set 32 one) }
+{
+    one.union(other)
 }
 
 /// Returns the permissions that a role does not have.

@@ -1,0 +1,93 @@
+-- A span that a set keeps, after the calls of its owner.
+use Rattle.std.proofs.Common.{◌≡◌, ℕ, zero, suc, ◌+◌, ◌-◌, ◌%◌, ◌<◌, ◌≤◌, Bool, true, false, cond, not, ◌&&◌, ◌||◌, ◌==◌, nat_lt, inl, inr, refl, sym, ap, ◌∙◌, arith}
+use Rattle.std.proofs.Math.Bool.{and-false, or-true}
+use Rattle.std.proofs.Math.Nat.{div-add-mod', mod-eq_of_lt}
+use Rattle.std.proofs.lemmas.Bool.{and_parts, cases_eq, ne_eqb, le-leb, lt-ltb}
+use Rattle.bittle.specs.PlainSet.{PlainSet, is_in_span, has_changed, has_with, has_without, with_index, with_span, without_index}
+use Rattle.bittle_ext.specs.ReservedSpans.{each_from, has_span}
+
+-- a test that each of some numbers passes
+each_passes : (p : ℕ → Bool) (from n : ℕ) → ((k : ℕ) → from ≤ k → k < from + n → p k ≡ true) →
+    each_from p from n ≡ true
+unfolding each_from
+each_passes p from zero all = refl
+each_passes p from (suc n) all =
+    ap (λ b. b && each_from p (suc from) n) (all from (omega arith) (omega arith))
+    ∙ each_passes p (suc from) n (λ k low up. all k (omega (arith, low)) (omega (arith, up)))
+
+passes_each : (p : ℕ → Bool) (from n : ℕ) → each_from p from n ≡ true → (k : ℕ) → from ≤ k →
+    k < from + n → p k ≡ true
+unfolding each_from
+passes_each p from zero all k low up = absurd (omega (arith, low, up))
+passes_each p from (suc n) all k low up =
+    let parts = and_parts (p from) (each_from p (suc from) n) all in
+    elim (cases_eq k from) [
+      | inl e ↦ ap p e ∙ parts.0
+      | inr apart ↦
+          passes_each p (suc from) n parts.1 k (omega (arith, low, apart)) (omega (arith, up))
+    ]
+
+-- a span is kept where each of its numbers is
+kept : (s : PlainSet) (from to : ℕ) → ((k : ℕ) → from ≤ k → k < to → s.has k ≡ true) →
+    has_span s from to ≡ true
+unfolding has_span
+kept s from to all =
+    each_passes s.has from (to - from) (λ k low up. all k low (omega (arith, low, up)))
+
+keeps : (s : PlainSet) (from to : ℕ) → has_span s from to ≡ true → (k : ℕ) → from ≤ k → k < to →
+    s.has k ≡ true
+unfolding has_span
+keeps s from to has k low up = passes_each s.has from (to - from) has k low (omega (arith, low, up))
+
+-- a span that was set is kept
+pub has_span_after_set_span : (s t : PlainSet) (from to : ℕ) → t ≡ with_span s from to →
+    has_span t from to ≡ true
+unfolding has_changed
+has_span_after_set_span s t from to is = kept t from to (λ k low up.
+    ap (λ (u : PlainSet). u.has k) is ∙ rw (le-leb from k low, lt-ltb k to up) refl)
+
+-- a span stays where an index was set
+pub has_span_after_set : (s t : PlainSet) (i from to : ℕ) → t ≡ with_index s i →
+    has_span s from to ≡ true → has_span t from to ≡ true
+unfolding has_with
+has_span_after_set s t i from to is has = kept t from to (λ k low up.
+    ap (λ (u : PlainSet). u.has k) is
+    ∙ ap (λ b. (nat_lt 0 s.capacity && (k == i % s.capacity)) || b) (keeps s from to has k low up)
+    ∙ or-true (nat_lt 0 s.capacity && (k == i % s.capacity)))
+
+-- a span stays where an index before it was cleared
+pub has_span_after_clear : (s t : PlainSet) (i from to : ℕ) → t ≡ without_index s i → i < from →
+    has_span s from to ≡ true → has_span t from to ≡ true
+unfolding has_without
+has_span_after_clear s t i from to is before has = kept t from to (λ k low up.
+    let apart : (k == i % s.capacity) ≡ false = ne_eqb k (i % s.capacity)
+    (λ e. absurd (omega (arith, e, low, before, div-add-mod' i s.capacity))) in
+    ap (λ (u : PlainSet). u.has k) is
+    ∙ ap (λ b. not (nat_lt 0 s.capacity && b) && s.has k) apart
+    ∙ ap (λ b. not b && s.has k) (and-false (nat_lt 0 s.capacity))
+    ∙ keeps s from to has k low up)
+
+-- a span stays where another one was set
+pub has_span_after_other_span : (s t : PlainSet) (low high from to : ℕ) → t ≡ with_span s low high →
+    has_span s from to ≡ true → has_span t from to ≡ true
+unfolding has_changed
+has_span_after_other_span s t low high from to is has = kept t from to (λ k lo up.
+    ap (λ (u : PlainSet). u.has k) is
+    ∙ ap (λ b. cond (is_in_span low high k) true b) (keeps s from to has k lo up)
+    ∙ by (is_in_span low high k))
+  where
+    by : (b : Bool) → cond b true true ≡ true
+    by true = refl
+    by false = refl
+
+-- a span stays where an index past it was cleared
+pub has_span_after_clear_past : (s t : PlainSet) (i from to : ℕ) → t ≡ without_index s i → to ≤ i →
+    i < s.capacity → has_span s from to ≡ true → has_span t from to ≡ true
+unfolding has_without
+has_span_after_clear_past s t i from to is past within has = kept t from to (λ k low up.
+    let apart : (k == i % s.capacity) ≡ false = ne_eqb k (i % s.capacity)
+    (λ e. absurd (omega (arith, e, up, past, mod-eq_of_lt within))) in
+    ap (λ (u : PlainSet). u.has k) is
+    ∙ ap (λ b. not (nat_lt 0 s.capacity && b) && s.has k) apart
+    ∙ ap (λ b. not b && s.has k) (and-false (nat_lt 0 s.capacity))
+    ∙ keeps s from to has k low up)

@@ -1,0 +1,56 @@
+//! A set of which some numbers are always members, as the reserved ones of an allocator. The type
+//! keeps them by ghost fields, and none of its functions has a proof file.
+
+ghost use Rattle.std.specs.Prelude.{◌≡◌, ◌+◌, ◌<◌, ◌≤◌, true, false, IfSome};
+ghost use Rattle.bittle.specs.BitPatterns.{bit_set};
+ghost use Rattle.bittle.specs.PlainSet.{contains};
+ghost use Rattle.bittle.specs.Rows.{row_set};
+ghost use Rattle.bittle_ext.specs.ReservedSpans.{has_span};
+
+use bittle::{BitsMut, BitsOwned};
+use bittle_ext::{BitsExt, BitsMutExt};
+
+/// Leases of 256 addresses. The first ten and the last six are reserved, and count as leased.
+pub struct Leases {
+    leased: [u64; 4],
+    pub ghost first: { has_span (row_set 4 64 (bit_set 64) leased) 0 10 ≡ true },
+    pub ghost last: { has_span (row_set 4 64 (bit_set 64) leased) 250 256 ≡ true },
+}
+
+impl Leases {
+    /// Returns leases of which only the reserved ones are taken.
+    #[tactic(auto, using(bittle_ext::proofs::CallerSpans::has_span_after_set_span, bittle_ext::proofs::CallerSpans::has_span_after_other_span))]
+    pub fn new() -> Leases {
+        let mut leased = <[u64; 4]>::zeros();
+        leased.set_range(0, 10);
+        leased.set_range(250, 256);
+        Leases { leased }
+    }
+
+    /// Leases the least free address.
+    #[tactic(auto, using(bittle::proofs::CallerChanges::contains_after_set, bittle_ext::proofs::CallerSpans::has_span_after_set, bittle_ext::proofs::CallerMembers::unset_where_found))]
+    pub fn lease(&mut self) -> Option<u32>
+        ensures not_reserved { IfSome result (λ address. (10 ≤ address) × (address < 250)) }
+        ensures was_free { IfSome result
+            (λ address. contains (row_set 4 64 (bit_set 64) self.old.leased) address ≡ false) }
+        ensures is_leased { IfSome result
+            (λ address. contains (row_set 4 64 (bit_set 64) self.new.leased) address ≡ true) }
+    {
+        let address = self.leased.first_zero_in_range(10, 250)?;
+        self.leased.set_bit(address);
+        Some(address)
+    }
+
+    /// Releases an address that is not reserved, and returns whether it was leased.
+    #[tactic(auto, using(bittle_ext::proofs::CallerSpans::has_span_after_clear, bittle_ext::proofs::CallerSpans::has_span_after_clear_past))]
+    pub fn release(&mut self, address: u32) -> bool {
+        10 <= address && address < 250 && self.leased.remove(address)
+    }
+
+    /// Returns where the first run of free addresses begins. It has no reserved one.
+    pub fn first_run(&self, length: u32) -> Option<u32>
+        ensures { IfSome result (λ address. address + length ≤ 250) }
+    {
+        self.leased.first_zero_run_in_range(10, 250, length)
+    }
+}
