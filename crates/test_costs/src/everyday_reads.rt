@@ -167,9 +167,8 @@ fn search_for_runs_of_ones<B: Bits>(rt: &impl Abort, few: &B, asked: &Asked)
     costs!(rt; asked, few.first_one_run(2), None, 12, 0);
     costs!(rt; asked, few.next_one_run(452, 1), Some(508), 1, 0);
     costs!(rt; asked, few.next_one_run(769, 1), None, 0, 0);
-    // Words 1 to 7 have the bits 100 to 451, and word 7 has those from 452 to 507.
+    // Words 1 to 7 have the bits 100 to 451.
     costs!(rt; asked, few.first_one_run_in_range(100, 700, 1), Some(451), 7, 0);
-    costs!(rt; asked, few.first_one_run_in_range(452, 508, 1), None, 1, 0);
 }
 
 // The runs that begin at 509 have three bits of word 7, and the last ones are in words 8 and 11.
