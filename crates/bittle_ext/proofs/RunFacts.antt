@@ -1,13 +1,15 @@
 -- Runs of members, as far as searches have come.
-use Rattle.std.proofs.Common.{◌≡◌, ℕ, zero, suc, nat_le, nat_lt, IfSome, ◌+◌, ◌-◌, ◌<◌, ◌≤◌, Bool, true, false, not, Option, Some, None, inl, inr, sym, ap, ◌∙◌, subst, arith}
+use Rattle.std.proofs.Common.{◌≡◌, ℕ, zero, suc, nat_le, nat_lt, IfSome, ◌+◌, ◌-◌, ◌*◌, ◌<◌, ◌≤◌, Bool, true, false, not, ◌&&◌, Option, Some, None, ◌⊎◌, inl, inr, min, sym, ap, ◌∙◌, subst, arith}
 use Rattle.std.proofs.Math.Bool.{not-not}
+use Rattle.std.proofs.Math.Nat.{lt_of_mul-lt-mul_right, mul-le-mul_right}
 use Rattle.std.proofs.lemmas.Bool.{and_parts, cases_lt, ltb-true, true≢false, not-false}
 use Rattle.bittle.specs.PlainSet.{PlainSet, complement, is_in_span}
 use Rattle.bittle.specs.Searches.{NoneIn, IsFirstIn, IsLastIn}
 use Rattle.bittle.specs.Walk.{ones_or_zeros}
 use Rattle.bittle.proofs.CallerSets.{complement_within}
-use Rattle.bittle_ext.specs.RangeMembers.{members_within}
-use Rattle.bittle_ext.specs.Runs.{NoRunBegins, IsFirstRun}
+use Rattle.bittle_bits.proofs.Spans.{is_in_span-inside}
+use Rattle.bittle_ext.specs.RangeMembers.{kind_within, members_within}
+use Rattle.bittle_ext.specs.Runs.{cut_off, IsFirstRun, IsRun, NoRunBegins}
 
 -- t has each number below the capacity that s has not
 pub record AreOpposite (s t : PlainSet) : Type 0 where
@@ -19,6 +21,41 @@ pub others_opposite : (ones : Bool) (s : PlainSet) →
 others_opposite true s = record { other = λ k h. complement_within s k h }
 others_opposite false s =
     record { other = λ k h. sym (ap not (complement_within s k h) ∙ not-not (s.has k)) }
+
+-- so are those up to a number
+pub cut_off_opposite : {s t : PlainSet} → AreOpposite s t → (end : ℕ) → end ≤ s.capacity →
+    AreOpposite (cut_off end s) t
+cut_off_opposite opposite end low =
+    record { other = λ k h. opposite.other k (omega (arith, h, low)) }
+
+-- a set that is cut off at its capacity is itself
+pub cut_off_whole : (s : PlainSet) (end : ℕ) → end ≡ s.capacity → cut_off end s ≡ s
+cut_off_whole s end same = ap (λ n. cut_off n s) same
+
+-- of the runs that end at a number or before, the first one ends at a lower number or before
+pub first_run_before : (s : PlainSet) (from n stop end i : ℕ) → end ≤ stop →
+    IsFirstRun (cut_off stop s) from n (Some i) → i + n ≤ end →
+    IsFirstRun (cut_off end s) from n (Some i)
+first_run_before s from n stop end i low first ends = (
+  first.0,
+  (ends, first.1.1),
+  λ k lo hi run. first.2 k lo hi (omega (arith, low, run.0), run.1),
+)
+
+-- it ends past the lower number: then none ends there or before
+pub first_run_past : (s : PlainSet) (from n stop end i : ℕ) → end ≤ stop →
+    IsFirstRun (cut_off stop s) from n (Some i) → end < i + n →
+    IsFirstRun (cut_off end s) from n None
+first_run_past s from n stop end i low first past k lo run = elim (cases_lt k i) [
+  | inl l ↦ first.2 k lo l (omega (arith, low, run.0), run.1)
+  | inr g ↦ omega (arith, g, past, run.0)
+]
+
+-- where none ends at a number or before, none ends at a lower number or before
+pub no_run_before : (s : PlainSet) (from n stop end : ℕ) → end ≤ stop →
+    IsFirstRun (cut_off stop s) from n None → IsFirstRun (cut_off end s) from n None
+no_run_before s from n stop end low none k lo run =
+    none k lo (omega (arith, low, run.0), run.1)
 
 -- as far as searches for a run of so many members have come
 pub record IsSearched (s : PlainSet) (length from end at : ℕ) : Type 0 where
@@ -101,6 +138,63 @@ first_run_within_same v s t low high from n r is outer same = subst
     (λ (u : PlainSet). IsFirstRun u from n r)
     (outer ∙ ap (λ u. members_within u low high) same) is
 
+-- the words that have the numbers before another one lie below the capacity, as that one does
+pub words_before : (w c end n : ℕ) → (words : ℕ) × (c ≡ words * w) → end ≤ c →
+    n * w < end + w → n * w ≤ c
+words_before w c end n whole low near =
+    let next : n * w < (whole.0 + 1) * w = omega (arith, whole.1, low, near) in
+    let few : n < whole.0 + 1 = lt_of_mul-lt-mul_right w next in
+    let least : n ≤ whole.0 = omega (arith, few) in
+    omega (arith, whole.1, mul-le-mul_right w least)
+
+-- where the runs of two sets are the same, so is the first one
+same_runs : (s t : PlainSet) (from n : ℕ) (r : Option ℕ) →
+    ((k : ℕ) → from ≤ k → IsRun s n k → IsRun t n k) →
+    ((k : ℕ) → from ≤ k → IsRun t n k → IsRun s n k) → IsFirstRun s from n r →
+    IsFirstRun t from n r
+same_runs s t from n None there back first = λ k lo run. first k lo (back k lo run)
+same_runs s t from n (Some i) there back first =
+    (first.0, there i first.0 first.1, λ k lo hi run. first.2 k lo hi (back k lo run))
+
+-- a run in a range ends in it
+ends_within : (s : PlainSet) (low high n i : ℕ) → 0 < n → IsRun (members_within s low high) n i →
+    i + n ≤ high
+ends_within s low high n i some run =
+    let k = i + n - 1 in
+    let last = run.1 k (omega (arith, some)) (omega (arith, some)) in
+    let span = (and_parts (is_in_span low high k) (s.has k) last).0 in
+    let below = ltb-true k high ((and_parts (nat_le low k) (nat_lt k high) span).1) in
+    omega (arith, some, below)
+
+-- the first run that ends at the end of a range or before is the first one in the range; of no
+-- members, each begins up to the capacity
+first_within : (s : PlainSet) (from to n end : ℕ) (r : Option ℕ) →
+    ((n ≡ 0) × (end ≡ s.capacity)) ⊎ ((0 < n) × (end ≡ min to s.capacity)) →
+    IsFirstRun (cut_off end s) from n r → IsFirstRun (members_within s from to) from n r
+first_within s from to n end r (inl none) = same_runs (cut_off end s) (members_within s from to)
+    from n r
+    (λ k lo run. (omega (arith, none.1, run.0), λ j p q. absurd (omega (arith, none.0, p, q))))
+    (λ k lo run. (omega (arith, none.1, run.0), λ j p q. absurd (omega (arith, none.0, p, q))))
+first_within s from to n end r (inr some) = same_runs (cut_off end s) (members_within s from to)
+    from n r
+    (λ k lo run. (
+      omega (arith, some.1, run.0),
+      λ j p q. ap (λ b. b && s.has j) (is_in_span-inside from to j (omega (arith, lo, p))
+          (omega (arith, some.1, run.0, q))) ∙ run.1 j p q,
+    ))
+    (λ k lo run. (
+      omega (arith, some.1, run.0, ends_within s from to n k some.0 run),
+      λ j p q. (and_parts (is_in_span from to j) (s.has j) (run.1 j p q)).1,
+    ))
+
+-- the same of the bits of a kind
+pub first_of_kind_within : (ones : Bool) (s : PlainSet) (from to n end : ℕ) (r : Option ℕ) →
+    ((n ≡ 0) × (end ≡ s.capacity)) ⊎ ((0 < n) × (end ≡ min to s.capacity)) →
+    IsFirstRun (cut_off end (ones_or_zeros ones s)) from n r →
+    IsFirstRun (kind_within ones s from to) from n r
+first_of_kind_within true s = first_within s
+first_of_kind_within false s = first_within (complement s)
+
 -- the first run in a range ends in it
 pub run_inside : (s : PlainSet) (low high n : ℕ) (r : Option ℕ) →
     IsFirstRun (members_within s low high) low n r → low ≤ high → IfSome r (λ i. i + n ≤ high)
@@ -111,8 +205,10 @@ run_inside s low high zero (Some i) is ordered = elim (cases_lt low i) [
   | inr g ↦ omega (arith, g, ordered)
 ]
 run_inside s low high (suc m) (Some i) is ordered =
-    let last = is.1.1 (i + m) (omega arith) (omega arith) in
-    let span = (and_parts (is_in_span low high (i + m)) (s.has (i + m)) last).0 in
-    let below = ltb-true (i + m) high
-    ((and_parts (nat_le low (i + m)) (nat_lt (i + m) high) span).1) in
-    omega (arith, below)
+    ends_within s low high (suc m) i (omega arith) is.1
+
+-- the same of the bits of a kind
+pub run_of_kind_inside : (ones : Bool) (s : PlainSet) (low high n : ℕ) (r : Option ℕ) →
+    IsFirstRun (kind_within ones s low high) low n r → low ≤ high → IfSome r (λ i. i + n ≤ high)
+run_of_kind_inside true s = run_inside s
+run_of_kind_inside false s = run_inside (complement s)

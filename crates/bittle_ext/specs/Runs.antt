@@ -21,6 +21,10 @@ IsFirstRun s from length None = (k : ℕ) → from ≤ k → IsRun s length k �
 IsFirstRun s from length (Some i) =
     (from ≤ i) × IsRun s length i × NoRunBegins s length from i
 
+-- the set as one that ends at another number: the runs of it are those that end there or before
+abbrev pub cut_off : ℕ → PlainSet → PlainSet
+cut_off end s = record { capacity = end; has = s.has }
+
 -- the numbers from `start` on and before `end`
 abbrev pub run : ℕ → ℕ → Range ℕ
 run start end = record { start = start; end = end }

@@ -11,7 +11,6 @@ use crate::bits_span_ext::BitsSpanExt;
 use crate::capacities::capacity_of;
 use crate::runs;
 use crate::select::{place_of_rank, word_of_rank};
-use crate::views::BitsViewExt;
 use bittle::Bits;
 use bittle_bits::extension::{Ones, Word, Zeros};
 
@@ -422,7 +421,7 @@ pub trait BitsExt: Bits + Sized {
             from to) from length result }
         ensures inside { from ≤ to → IfSome result (λ index. index + length ≤ to) }
     {
-        self.within(from, to).next_one_run(from, length)
+        runs::run_in_range::<Self, Self::Order, Ones>(self, from, to, length)
     }
 
     /// Returns the least index in `from..to` where `length` unset bits begin that all lie in
@@ -440,8 +439,7 @@ pub trait BitsExt: Bits + Sized {
             self.now)) from to) from length result }
         ensures inside { from ≤ to → IfSome result (λ index. index + length ≤ to) }
     {
-        let unset = self.complement_view();
-        unset.within(from, to).next_one_run(from, length)
+        runs::run_in_range::<Self, Self::Order, Zeros>(self, from, to, length)
     }
 }
 

@@ -1,8 +1,9 @@
 //! Runs of neighbours that are all set, or all unset.
 
-ghost use Rattle.std.specs.Prelude.{◌<◌, not};
-ghost use Rattle.bittle_ext.specs.Runs.{IsFirstRun};
-ghost use Rattle.bittle.specs.Values.{set_in, ShapeFits};
+ghost use Rattle.std.specs.Prelude.{◌+◌, ◌<◌, ◌≤◌, not, IfSome};
+ghost use Rattle.bittle_ext.specs.RangeMembers.{kind_within};
+ghost use Rattle.bittle_ext.specs.Runs.{cut_off, IsFirstRun};
+ghost use Rattle.bittle.specs.Values.{kind_in, set_in, ShapeFits};
 ghost use Rattle.bittle.specs.Walk.{ones_or_zeros};
 
 use crate::short_runs::next_short_run;
@@ -29,16 +30,55 @@ impl<K: Kind> Kind for Others<K> {
 const FEW_WORDS: u32 = 4;
 
 /// Returns the least index from `from` on where `length` bits of the kind begin, or `None`.
-///
-/// A run of a few words is found word by word. For a longer one a search finds where such bits
-/// begin, another one whether a bit of the other kind follows too soon: from past that bit both go
-/// on.
+#[inline]
 pub fn next_run<B: Bits, E: Endian, K: Kind>(bits: &B, from: u32, length: u32) -> Option<u32>
     requires { ShapeFits B.Shape bits.now }
     ensures { IsFirstRun (ones_or_zeros K.ONES (set_in B.Shape E.Endian bits.now)) from length
         result }
 {
-    let end = bits.bits_capacity();
+    next_run_before::<B, E, K>(bits, from, bits.bits_capacity(), length)
+}
+
+/// Returns the least index in `from..to` where `length` bits of the kind begin that all lie in
+/// `from..to`, or `None`. A run of no bits begins at each index up to the capacity.
+#[inline]
+pub fn run_in_range<B: Bits, E: Endian, K: Kind>(
+    bits: &B,
+    from: u32,
+    to: u32,
+    length: u32,
+) -> Option<u32>
+    requires { ShapeFits B.Shape bits.now }
+    ensures run { IsFirstRun (kind_within K.ONES (set_in B.Shape E.Endian bits.now) from to) from
+        length result }
+    ensures inside { from ≤ to → IfSome result (λ index. index + length ≤ to) }
+{
+    let capacity = bits.bits_capacity();
+    let end = if length == 0 {
+        capacity
+    } else {
+        to.min(capacity)
+    };
+    next_run_before::<B, E, K>(bits, from, end, length)
+}
+
+/// Returns the least index from `from` on where `length` bits of the kind begin that all lie before
+/// `end`, or `None`. It reads no word that begins at `end` or after it.
+///
+/// A run of a few words is found word by word. For a longer one a search finds where such bits
+/// begin, another one whether a bit of the other kind follows too soon: from past that bit both go
+/// on.
+fn next_run_before<B: Bits, E: Endian, K: Kind>(
+    bits: &B,
+    from: u32,
+    end: u32,
+    length: u32,
+) -> Option<u32>
+    requires fits { ShapeFits B.Shape bits.now }
+    requires within { end ≤ (B.big bits.now).capacity }
+    ensures { IsFirstRun (cut_off end (kind_in B.Shape E.Endian K.Kind bits.now)) from length
+        result }
+{
     if end < from {
         return None;
     }
@@ -48,8 +88,14 @@ pub fn next_run<B: Bits, E: Endian, K: Kind>(bits: &B, from: u32, length: u32) -
     if end - from < length {
         return None;
     }
-    if (length - 1) / FEW_WORDS < word_width::<B>() {
-        return next_short_run::<B, E, K>(bits, from, end, length);
+    let width = word_width::<B>();
+    if (length - 1) / FEW_WORDS < width {
+        let start = next_short_run::<B, E, K>(bits, from, end.div_ceil(width), length)?;
+        return if start + length <= end {
+            Some(start)
+        } else {
+            None
+        };
     }
     let mut at = from;
     while let Some(start) = end_in::<B, E, K, Front>(bits, at, end) {

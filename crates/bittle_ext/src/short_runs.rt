@@ -1,7 +1,7 @@
 //! Runs of a few words at most, found word by word: each word is read once.
 
-ghost use Rattle.std.specs.Prelude.{◌≡◌, ◌<◌};
-ghost use Rattle.bittle_ext.specs.Runs.{IsFirstRun};
+ghost use Rattle.std.specs.Prelude.{◌*◌, ◌<◌, ◌≤◌};
+ghost use Rattle.bittle_ext.specs.Runs.{cut_off, IsFirstRun};
 ghost use Rattle.bittle.specs.Values.{kind_in, word_in, ShapeFits};
 
 use crate::rotations::window;
@@ -33,7 +33,8 @@ fn first_in_word<W: Word, E: Endian>(word: W, length: u32) -> Option<u32>
     Some(index)
 }
 
-/// Returns the least index from `from` on where `length` bits of the kind begin, or `None`.
+/// Returns the least index from `from` on where `length` bits of the kind begin that all lie in the
+/// first `words` words, or `None`.
 ///
 /// Of the words before, only `start` is kept: where the bits of the kind begin that lead up to the
 /// word. No run that is to be found begins before them.
@@ -41,17 +42,17 @@ fn first_in_word<W: Word, E: Endian>(word: W, length: u32) -> Option<u32>
 pub fn next_short_run<B: Bits, E: Endian, K: Kind>(
     bits: &B,
     from: u32,
-    end: u32,
+    words: u32,
     length: u32,
 ) -> Option<u32>
     requires fits { ShapeFits B.Shape bits.now }
     requires some { 0 < length }
-    requires ordered { from < end }
-    requires whole { end ≡ (B.big bits.now).capacity }
-    ensures { IsFirstRun (kind_in B.Shape E.Endian K.Kind bits.now) from length result }
+    requires ordered { from < words * B.width }
+    requires within { words * B.width ≤ (B.big bits.now).capacity }
+    ensures { IsFirstRun (cut_off (words * B.width) (kind_in B.Shape E.Endian K.Kind bits.now)) from
+        length result }
 {
     let width = word_width::<B>();
-    let words = end / width;
     let mut k = from / width;
     let mut start = k * width;
     let since = E::from_index::<B::LeafWord>(from % width);

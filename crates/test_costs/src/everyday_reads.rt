@@ -169,6 +169,7 @@ fn search_for_runs_of_ones<B: Bits>(rt: &impl Abort, few: &B, asked: &Asked)
     costs!(rt; asked, few.next_one_run(769, 1), None, 0, 0);
     // Words 1 to 7 have the bits 100 to 451.
     costs!(rt; asked, few.first_one_run_in_range(100, 700, 1), Some(451), 7, 0);
+    costs!(rt; asked, few.first_one_run_in_range(452, 508, 1), None, 1, 0);
 }
 
 // The runs that begin at 509 have three bits of word 7, and the last ones are in words 8 and 11.
@@ -201,6 +202,8 @@ fn search_for_longer_runs<B: Bits>(rt: &impl Abort, few: &B, asked: &Asked)
     costs!(rt; asked, few.first_zero_run(257), Some(0), 6, 0);
     // The same from 452 on, where bit 508 breaks the run, and from 509 on.
     costs!(rt; asked, few.next_zero_run(452, 257), Some(509), 12, 0);
+    // Word 4, words 8 and 7 from the back, and word 7, after which the range is too short.
+    costs!(rt; asked, few.first_zero_run_in_range(300, 600, 257), None, 4, 0);
 }
 
 #[test]

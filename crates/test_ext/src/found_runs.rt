@@ -97,6 +97,24 @@ fn runs_within_a_range(rt: HostRuntime) {
 }
 
 #[test]
+fn runs_that_end_with_a_range_or_go_past_its_end(rt: HostRuntime) {
+    // Bits 7 to 16 are unset.
+    let row: [u8; 3] = [0b0111_1111, 0, 0b1111_1110];
+    same!(rt; runs_within(&row, 3, 11, 4), [Some(3), Some(7)]);
+    same!(rt; runs_within(&row, 3, 7, 4), [Some(3), None]);
+    same!(rt; runs_within(&row, 3, 6, 4), [None, None]);
+    same!(rt; runs_within(&row, 0, 16, 9), [None, Some(7)]);
+    same!(rt; runs_within(&row, 0, 15, 9), [None, None]);
+    // Bits 8 to 14, and 16 to 48, are unset.
+    let row: [u8; 8] = [255, 128, 0, 0, 0, 0, 254, 255];
+    same!(rt; runs_within(&row, 0, 49, 33), [None, Some(16)]);
+    same!(rt; runs_within(&row, 0, 48, 33), [None, None]);
+    same!(rt; runs_within(&row, 40, 49, 9), [None, Some(40)]);
+    same!(rt; runs_within(&row, 41, 64, 15), [Some(49), None]);
+    same!(rt; runs_within(&row, 41, 63, 15), [None, None]);
+}
+
+#[test]
 fn runs_within_a_range_past_the_capacity_or_backwards(rt: HostRuntime) {
     let row: [u8; 3] = [0b0111_1111, 0, 0b1111_1110];
     same!(rt; runs_within(&row, 20, 40, 4), [Some(20), None]);

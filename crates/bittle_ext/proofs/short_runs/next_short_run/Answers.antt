@@ -1,12 +1,11 @@
-use Rattle.std.proofs.Common.{◌≡◌, ◌+◌, ◌-◌, ◌*◌, ◌/◌, ◌≤◌, Some, None, true, sym, ap, ◌∙◌, arith}
+use Rattle.std.proofs.Common.{◌≡◌, ◌+◌, ◌-◌, ◌*◌, ◌/◌, ◌<◌, ◌≤◌, Some, None, true, refl, ap, ◌∙◌, arith}
 use Rattle.std.proofs.Math.Nat.{mul-le-mul_left, mul-le-mul_right}
 use Rattle.std.proofs.lemmas.Nat.{div-add-mod'}
 use Rattle.bittle.specs.Searches.{PassesOver}
-use Rattle.bittle.specs.Values.{kind_in, set_in, word_in}
-use Rattle.bittle_bits.proofs.DecidedWords.{words_make_up}
-use Rattle.bittle_bits.proofs.OnesOrZeros.{ones_or_zeros-capacity, passes_in_order}
+use Rattle.bittle.specs.Values.{kind_in, word_in}
+use Rattle.bittle_bits.proofs.OnesOrZeros.{passes_in_order}
 use Rattle.bittle_ext.specs.RangeMembers.{members_within}
-use Rattle.bittle_ext.specs.Runs.{IsFirstRun}
+use Rattle.bittle_ext.specs.Runs.{cut_off, IsFirstRun}
 use Rattle.bittle_ext.proofs.ShortRuns.{IsOpen, first_since, open_found, run_in_word_found, none_in_word, open_stays, open_anew, open_after_none, open_ended, kind_at, reading_begins, word_below, reading_on, none_since}
 use Rattle.bittle_ext.proofs.short_runs.next_short_run.Goals.{After-ones-lead, Joined-lead-width, then-length-width+in_default, else-length-width, then-lead-width, else-lead-width, then-next-after, else-next-after}
 use Rattle.bittle_ext.proofs.short_runs.next_short_run.Given.{Over}
@@ -22,25 +21,23 @@ loop-k-init g c =
     let from = c.args.from in
     let ones = g.K.Kind.ONES in
     let big = g.B.Shape.big c.args.bits.now in
-    let cap = ones_or_zeros-capacity ones (set_in g.B.Shape g.E.Endian c.args.bits.now) in
+    let s = kind_in g.B.Shape g.E.Endian g.K.Kind c.args.bits.now in
     let wide = c.word_width-width.ensures in
-    let whole = words_make_up w big.capacity law.width_positive (law.whole_words c.args.bits.now) in
     rw (wide, law.leaf_width, c.and-word.ensures) (reading_begins g.E.Endian.mirrored w
-    (c.args.end / w) from c.args.length _ _ _ law.width_positive c.requires.some
-    (cap ∙ sym whole ∙ ap (λ n. n / w * w) (sym c.requires.whole))
-    (omega (arith, c.requires.ordered, c.requires.whole, cap))
+    c.args.words from c.args.length _ _ (cut_off (c.args.words * w) s) law.width_positive
+    c.requires.some refl c.requires.ordered
     (kind_at ones g.E.Endian.mirrored w (from / w) _ big law.width_positive
     (law.whole_words c.args.bits.now) (rw wide at c.word_of_kind.ensures))
     (rw (wide, law.leaf_width) at c.from_index-since.ensures))
 
 -- word k ends below the capacity
 below : (g : Over) (c : goal.After-ones-lead g) →
-    c.loop-k.k * c.word_width-width.result + c.word_width-width.result ≤ c.args.end
+    c.loop-k.k * c.word_width-width.result + c.word_width-width.result < 4294967295
 below g c = rw c.word_width-width.ensures (omega (
   arith,
   word_below _ _ _ _ _ _ _ _ c.loop-k.invariant,
-  ones_or_zeros-capacity g.K.Kind.ONES (set_in g.B.Shape g.E.Endian c.args.bits.now),
-  c.requires.whole,
+  c.requires.within,
+  c.requires.fits.1,
 ))
 
 pub overflow_mul-k : goal.overflow_mul-k
@@ -61,7 +58,8 @@ overflow_sub-k g c =
 
 pub returns-then-length-k : goal.returns-then-length-k
 returns-then-length-k g c =
-    let s = kind_in g.B.Shape g.E.Endian g.K.Kind c.args.bits.now in
+    let s = cut_off (c.args.words * g.B.Shape.width)
+    (kind_in g.B.Shape g.E.Endian g.K.Kind c.args.bits.now) in
     first_since s c.args.from c.args.length (Some c.loop-k.start) c.requires.some
     (open_found _ _ _ _ _ c.ones-lead.result _ _ c.loop-k.invariant.read c.ones-lead.ensures
     (rw c.word_width-width.ensures at c.if-length-k.true))
@@ -81,7 +79,8 @@ overflow_add-result g c = omega (
 
 pub returns-in-Some : goal.returns-in-Some
 returns-in-Some g c =
-    let s = kind_in g.B.Shape g.E.Endian g.K.Kind c.args.bits.now in
+    let s = cut_off (c.args.words * g.B.Shape.width)
+    (kind_in g.B.Shape g.E.Endian g.K.Kind c.args.bits.now) in
     rw c.word_width-width.ensures (first_since s c.args.from c.args.length
     (Some (c.loop-k.k * g.B.Shape.width + c.in-Some.index)) c.requires.some
     (run_in_word_found _ _ _ _ _ c.ones-lead.result _ _ c.loop-k.invariant.read
@@ -113,7 +112,7 @@ overflow_sub-start g c = omega (
 -- the run that is open after word k, of the members from a number on
 past : (g : Over) (c : goal.Joined-lead-width g) →
     let w = g.B.Shape.width in
-    let s = kind_in g.B.Shape g.E.Endian g.K.Kind c.args.bits.now in
+    let s = cut_off (c.args.words * w) (kind_in g.B.Shape g.E.Endian g.K.Kind c.args.bits.now) in
     IsOpen (members_within s c.args.from s.capacity) c.args.length c.if-lead-width.start
     (c.loop-k.k * w + w)
 past g c =
@@ -145,14 +144,14 @@ returns-then-next-words g c =
     let law = g.met.B.ReadWords in
     let w = g.B.Shape.width in
     let k = c.loop-k.k in
-    let s = kind_in g.B.Shape g.E.Endian g.K.Kind c.args.bits.now in
+    let s = cut_off (c.args.words * w) (kind_in g.B.Shape g.E.Endian g.K.Kind c.args.bits.now) in
     let p = c.loop-k.invariant in
-    let passed : PassesOver true w s (k + 1) (c.args.end / c.word_width-width.result)
-    c.pass_over-next.result = passes_in_order true g.K.Kind.ONES g.E.Endian.mirrored w _ _ _
+    let passed : PassesOver true w s (k + 1) c.args.words c.pass_over-next.result
+    = passes_in_order true g.K.Kind.ONES g.E.Endian.mirrored w _ _ _
     (g.B.Shape.big c.args.bits.now) law.width_positive (law.whole_words c.args.bits.now)
     c.pass_over-next.ensures in
     let next : c.pass_over-next.result * w ≡ s.capacity =
-    ap (λ n. n * w) c.if-next-words.true ∙ sym p.read.whole in
+    ap (λ n. n * w) c.if-next-words.true in
     let from : (k + 1) * w ≡ k * w + w = omega arith in
     let ended = past g (goal.at.returns-then-next-words g c).Joined-lead-width in
     first_since s c.args.from c.args.length None c.requires.some
@@ -163,9 +162,8 @@ pub overflow_mul-start-then-next-after : goal.overflow_mul-start-then-next-after
 overflow_mul-start-then-next-after g c = rw c.word_width-width.ensures (omega (
   arith,
   mul-le-mul_right g.B.Shape.width c.pass_over-next.ensures.1,
-  c.loop-k.invariant.read.whole,
-  ones_or_zeros-capacity g.K.Kind.ONES (set_in g.B.Shape g.E.Endian c.args.bits.now),
-  c.requires.whole,
+  c.requires.within,
+  c.requires.fits.1,
 ))
 
 pub loop-k-smaller : goal.loop-k-smaller
@@ -178,12 +176,12 @@ loop-k-preserved g c =
     let w = g.B.Shape.width in
     let k = c.loop-k.k in
     let n = c.args.length in
-    let s = kind_in g.B.Shape g.E.Endian g.K.Kind c.args.bits.now in
+    let s = cut_off (c.args.words * w) (kind_in g.B.Shape g.E.Endian g.K.Kind c.args.bits.now) in
     let t = members_within s c.args.from s.capacity in
     let p = c.loop-k.invariant in
     let wide = c.word_width-width.ensures in
     let next = c.pass_over-next.result in
-    let passed : PassesOver true w s (k + 1) (c.args.end / c.word_width-width.result) next =
+    let passed : PassesOver true w s (k + 1) c.args.words next =
     passes_in_order true g.K.Kind.ONES g.E.Endian.mirrored w _ _ _
     (g.B.Shape.big c.args.bits.now) law.width_positive (law.whole_words c.args.bits.now)
     c.pass_over-next.ensures in
