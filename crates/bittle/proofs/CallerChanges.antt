@@ -269,10 +269,10 @@ pub contains_after_clear : (s t : PlainSet) (i : ℕ) → t ≡ without_index s 
 contains_after_clear s t i is = ap (λ u. contains u i) is ∙ contains_without s i
 
 -- a member stays one after another index was set
-pub still_after_set : (s t : PlainSet) (i j : ℕ) → t ≡ with_index s i → contains s j ≡ true →
+pub still_set_after_set : (s t : PlainSet) (i j : ℕ) → t ≡ with_index s i → contains s j ≡ true →
     contains t j ≡ true
 unfolding contains has_with
-still_after_set s t i j is has =
+still_set_after_set s t i j is has =
     let parts = and_parts (nat_lt 0 s.capacity) (s.has (j % s.capacity)) has in
     ap (λ u. contains u j) is ∙ rw (parts.0, parts.1) (by ((j % s.capacity) == (i % s.capacity)))
   where
@@ -281,10 +281,10 @@ still_after_set s t i j is has =
     by false = refl
 
 -- an index that is no member stays none after another one was cleared
-pub still_after_clear : (s t : PlainSet) (i j : ℕ) → t ≡ without_index s i →
+pub still_unset_after_clear : (s t : PlainSet) (i j : ℕ) → t ≡ without_index s i →
     contains s j ≡ false → contains t j ≡ false
 unfolding contains has_without
-still_after_clear s t i j is has =
+still_unset_after_clear s t i j is has =
     ap (λ u. contains u j) is ∙ by (nat_lt 0 s.capacity) (s.has (j % s.capacity))
     ((j % s.capacity) == (i % s.capacity)) has
   where

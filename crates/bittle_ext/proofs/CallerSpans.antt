@@ -28,52 +28,55 @@ passes_each p from (suc n) all k low up =
     ]
 
 -- a span is kept where each of its numbers is
-kept : (s : PlainSet) (from to : ℕ) → ((k : ℕ) → from ≤ k → k < to → s.has k ≡ true) →
-    has_span s from to ≡ true
+has_span_if_each : (s : PlainSet) (from to : ℕ) →
+    ((k : ℕ) → from ≤ k → k < to → s.has k ≡ true) → has_span s from to ≡ true
 unfolding has_span
-kept s from to all =
+has_span_if_each s from to all =
     each_passes s.has from (to - from) (λ k low up. all k low (omega (arith, low, up)))
 
-keeps : (s : PlainSet) (from to : ℕ) → has_span s from to ≡ true → (k : ℕ) → from ≤ k → k < to →
-    s.has k ≡ true
+-- and each number of a span that is kept is one
+each_if_has_span : (s : PlainSet) (from to : ℕ) → has_span s from to ≡ true → (k : ℕ) → from ≤ k →
+    k < to → s.has k ≡ true
 unfolding has_span
-keeps s from to has k low up = passes_each s.has from (to - from) has k low (omega (arith, low, up))
+each_if_has_span s from to has k low up =
+    passes_each s.has from (to - from) has k low (omega (arith, low, up))
 
 -- a span that was set is kept
 pub has_span_after_set_span : (s t : PlainSet) (from to : ℕ) → t ≡ with_span s from to →
     has_span t from to ≡ true
 unfolding has_changed
-has_span_after_set_span s t from to is = kept t from to (λ k low up.
+has_span_after_set_span s t from to is = has_span_if_each t from to (λ k low up.
     ap (λ (u : PlainSet). u.has k) is ∙ rw (le-leb from k low, lt-ltb k to up) refl)
 
 -- a span stays where an index was set
 pub has_span_after_set : (s t : PlainSet) (i from to : ℕ) → t ≡ with_index s i →
     has_span s from to ≡ true → has_span t from to ≡ true
 unfolding has_with
-has_span_after_set s t i from to is has = kept t from to (λ k low up.
+has_span_after_set s t i from to is has = has_span_if_each t from to (λ k low up.
     ap (λ (u : PlainSet). u.has k) is
-    ∙ ap (λ b. (nat_lt 0 s.capacity && (k == i % s.capacity)) || b) (keeps s from to has k low up)
+    ∙ ap (λ b. (nat_lt 0 s.capacity && (k == i % s.capacity)) || b)
+    (each_if_has_span s from to has k low up)
     ∙ or-true (nat_lt 0 s.capacity && (k == i % s.capacity)))
 
 -- a span stays where an index before it was cleared
 pub has_span_after_clear : (s t : PlainSet) (i from to : ℕ) → t ≡ without_index s i → i < from →
     has_span s from to ≡ true → has_span t from to ≡ true
 unfolding has_without
-has_span_after_clear s t i from to is before has = kept t from to (λ k low up.
+has_span_after_clear s t i from to is before has = has_span_if_each t from to (λ k low up.
     let apart : (k == i % s.capacity) ≡ false = ne_eqb k (i % s.capacity)
     (λ e. absurd (omega (arith, e, low, before, div-add-mod' i s.capacity))) in
     ap (λ (u : PlainSet). u.has k) is
     ∙ ap (λ b. not (nat_lt 0 s.capacity && b) && s.has k) apart
     ∙ ap (λ b. not b && s.has k) (and-false (nat_lt 0 s.capacity))
-    ∙ keeps s from to has k low up)
+    ∙ each_if_has_span s from to has k low up)
 
 -- a span stays where another one was set
 pub has_span_after_other_span : (s t : PlainSet) (low high from to : ℕ) → t ≡ with_span s low high →
     has_span s from to ≡ true → has_span t from to ≡ true
 unfolding has_changed
-has_span_after_other_span s t low high from to is has = kept t from to (λ k lo up.
+has_span_after_other_span s t low high from to is has = has_span_if_each t from to (λ k lo up.
     ap (λ (u : PlainSet). u.has k) is
-    ∙ ap (λ b. cond (is_in_span low high k) true b) (keeps s from to has k lo up)
+    ∙ ap (λ b. cond (is_in_span low high k) true b) (each_if_has_span s from to has k lo up)
     ∙ by (is_in_span low high k))
   where
     by : (b : Bool) → cond b true true ≡ true
@@ -84,10 +87,10 @@ has_span_after_other_span s t low high from to is has = kept t from to (λ k lo 
 pub has_span_after_clear_past : (s t : PlainSet) (i from to : ℕ) → t ≡ without_index s i → to ≤ i →
     i < s.capacity → has_span s from to ≡ true → has_span t from to ≡ true
 unfolding has_without
-has_span_after_clear_past s t i from to is past within has = kept t from to (λ k low up.
+has_span_after_clear_past s t i from to is past within has = has_span_if_each t from to (λ k low up.
     let apart : (k == i % s.capacity) ≡ false = ne_eqb k (i % s.capacity)
     (λ e. absurd (omega (arith, e, up, past, mod-eq_of_lt within))) in
     ap (λ (u : PlainSet). u.has k) is
     ∙ ap (λ b. not (nat_lt 0 s.capacity && b) && s.has k) apart
     ∙ ap (λ b. not b && s.has k) (and-false (nat_lt 0 s.capacity))
-    ∙ keeps s from to has k low up)
+    ∙ each_if_has_span s from to has k low up)

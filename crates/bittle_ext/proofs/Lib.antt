@@ -10,7 +10,7 @@ mod CopiedRanges
 mod DigitTexts
 mod GatheredWords
 mod GrownSets
-mod LongestRuns
+mod MaximalRuns
 pub mod NumberBits
 mod OneBit
 pub mod CommonCounts

@@ -1,10 +1,10 @@
--- The runs of a set are longest, and each member lies in one of them.
+-- The runs of a set are maximal, and each member lies in one of them.
 use Rattle.std.proofs.Common.{◌≡◌, ℕ, zero, suc, ◌+◌, ◌-◌, ◌<◌, ◌≤◌, Bool, true, false, List, [], ◌∷◌, length, ◌⊎◌, inl, inr, sym, ap, ◌∙◌, arith}
 use Rattle.std.proofs.lemmas.Bool.{cases_Bool, cases_eq, cases_lt, eq-eqb, ne_eqb, true≢false}
 use Rattle.std.specs.Prelude.{slice_index_or}
 use Rattle.std.specs.declared.ops.Range.{Range}
 use Rattle.bittle.specs.PlainSet.{PlainSet}
-use Rattle.bittle_ext.specs.Runs.{joined, runs_from, runs_between, runs, IsLongestRun, HasLongestRuns, RunsAreLongest}
+use Rattle.bittle_ext.specs.Runs.{joined, runs_from, runs_between, runs, IsMaximalRun, HasMaximalRuns, RunsAreMaximal}
 
 -- a number lies in a run of the list
 abbrev LiesIn : ℕ → List (Range ℕ) → Type 0
@@ -26,12 +26,12 @@ module _ (p : ℕ → Bool) where
 
   -- the runs of the list, from one number on and below another, cannot be longer, and no number
   -- between them passes
-  abbrev pub AreLongest : ℕ → ℕ → List (Range ℕ) → Type 0
-  AreLongest from to [] = NonePass from to
-  AreLongest from to (r ∷ rs) =
+  abbrev pub AreMaximal : ℕ → ℕ → List (Range ℕ) → Type 0
+  AreMaximal from to [] = NonePass from to
+  AreMaximal from to (r ∷ rs) =
       (from ≤ r.start) × (r.start < r.end) × (r.end ≤ to)
       × ((k : ℕ) → r.start ≤ k → k < r.end → p k ≡ true) × NonePass from r.start
-      × (r.end < to → p r.end ≡ false) × AreLongest r.end to rs
+      × (r.end < to → p r.end ≡ false) × AreMaximal r.end to rs
 
   none_more : (from to : ℕ) → p from ≡ false → NonePass (suc from) to → NonePass from to
   none_more from to gone none k lo hi =
@@ -40,18 +40,18 @@ module _ (p : ℕ → Bool) where
         | inr n ↦ none k (omega (arith, n)) hi
       ]
 
-  -- a number that does not pass leaves the runs after it longest
+  -- a number that does not pass leaves the runs after it maximal
   gone_before : (from to : ℕ) (rs : List (Range ℕ)) → p from ≡ false →
-      AreLongest (suc from) to rs → AreLongest from to rs
+      AreMaximal (suc from) to rs → AreMaximal from to rs
   gone_before from to [] gone h = none_more from to gone h
   gone_before from to (r ∷ rs) gone h =
       (omega (arith, h.0), h.1, h.2, h.3, none_more from r.start gone h.4, h.5, h.6)
 
   -- one that passes joins them, or is a run of its own
-  joined_longest : (from to : ℕ) (rs : List (Range ℕ)) → from < to → p from ≡ true →
-      AreLongest (suc from) to rs → AreLongest from to (joined from rs)
+  joined_maximal : (from to : ℕ) (rs : List (Range ℕ)) → from < to → p from ≡ true →
+      AreMaximal (suc from) to rs → AreMaximal from to (joined from rs)
   unfolding joined
-  joined_longest from to [] low here h = (
+  joined_maximal from to [] low here h = (
     omega arith,
     omega arith,
     low,
@@ -60,7 +60,7 @@ module _ (p : ℕ → Bool) where
     λ l. h (suc from) (omega arith) l,
     h,
   )
-  joined_longest from to (r ∷ rs) low here h =
+  joined_maximal from to (r ∷ rs) low here h =
       elim (cases_eq r.start (suc from)) [
         | inl e ↦ rw (eq-eqb r.start (suc from) e) (
           omega arith,
@@ -85,36 +85,36 @@ module _ (p : ℕ → Bool) where
         )
       ]
 
-  pub runs_longest : (from n to : ℕ) → to ≡ from + n → AreLongest from to (runs_from p from n)
+  pub runs_maximal : (from n to : ℕ) → to ≡ from + n → AreMaximal from to (runs_from p from n)
   unfolding runs_from
-  runs_longest from zero to e = λ k lo hi. absurd (omega arith)
-  runs_longest from (suc n) to e =
-      let rest = runs_longest (suc from) n to (omega arith) in
+  runs_maximal from zero to e = λ k lo hi. absurd (omega arith)
+  runs_maximal from (suc n) to e =
+      let rest = runs_maximal (suc from) n to (omega arith) in
       elim (cases_Bool (p from)) [
         | inl here ↦ rw here
-            (joined_longest from to (runs_from p (suc from) n) (omega arith) here rest)
+            (joined_maximal from to (runs_from p (suc from) n) (omega arith) here rest)
         | inr gone ↦ rw gone (gone_before from to (runs_from p (suc from) n) gone rest)
       ]
 
   -- so each number that passes lies in one
-  longest_have : (from to i : ℕ) (rs : List (Range ℕ)) → from ≤ i → i < to → p i ≡ true →
-      AreLongest from to rs → LiesIn i rs
-  longest_have from to i [] lo hi here h = true≢false (sym here ∙ h i lo hi)
-  longest_have from to i (r ∷ rs) lo hi here h =
+  maximal_have : (from to i : ℕ) (rs : List (Range ℕ)) → from ≤ i → i < to → p i ≡ true →
+      AreMaximal from to rs → LiesIn i rs
+  maximal_have from to i [] lo hi here h = true≢false (sym here ∙ h i lo hi)
+  maximal_have from to i (r ∷ rs) lo hi here h =
       elim (cases_lt i r.start) [
         | inl l ↦ absurd (true≢false (sym here ∙ h.4 i lo l))
         | inr g ↦ elim (cases_lt i r.end) [
           | inl l ↦ inl (g, l)
-          | inr past ↦ inr (longest_have r.end to i rs past hi here h.6)
+          | inr past ↦ inr (maximal_have r.end to i rs past hi here h.6)
         ]
       ]
 
 -- each run of a list of maximal ones is one
-longest_at : (s : PlainSet) (from : ℕ) (rs : List (Range ℕ)) (k : ℕ) (d : Range ℕ) →
+maximal_at : (s : PlainSet) (from : ℕ) (rs : List (Range ℕ)) (k : ℕ) (d : Range ℕ) →
     (0 < from → from < s.capacity → s.has from ≡ true → s.has (from - 1) ≡ false) →
-    k < length rs → AreLongest s.has from s.capacity rs → IsLongestRun s (slice_index_or rs k d)
-longest_at s from [] k d edge l h = absurd (omega arith)
-longest_at s from (r ∷ rs) zero d edge l h = (
+    k < length rs → AreMaximal s.has from s.capacity rs → IsMaximalRun s (slice_index_or rs k d)
+maximal_at s from [] k d edge l h = absurd (omega arith)
+maximal_at s from (r ∷ rs) zero d edge l h = (
   h.1,
   h.2,
   h.3,
@@ -125,13 +125,13 @@ longest_at s from (r ∷ rs) zero d edge l h = (
   ],
   h.5,
 )
-longest_at s from (r ∷ rs) (suc k) d edge l h =
-    longest_at s r.end rs k d (λ some low here. absurd (true≢false (sym here ∙ h.5 low)))
+maximal_at s from (r ∷ rs) (suc k) d edge l h =
+    maximal_at s r.end rs k d (λ some low here. absurd (true≢false (sym here ∙ h.5 low)))
     (omega arith) h.6
 
 -- a list begins from its first number on, and a later run begins where the one before ends or later
 starts_from : (p : ℕ → Bool) (from to : ℕ) (rs : List (Range ℕ)) (k : ℕ) (d : Range ℕ) →
-    k < length rs → AreLongest p from to rs → from ≤ (slice_index_or rs k d).start
+    k < length rs → AreMaximal p from to rs → from ≤ (slice_index_or rs k d).start
 starts_from p from to [] k d l h = absurd (omega arith)
 starts_from p from to (r ∷ rs) zero d l h = h.0
 starts_from p from to (r ∷ rs) (suc k) d l h =
@@ -139,7 +139,7 @@ starts_from p from to (r ∷ rs) (suc k) d l h =
     omega (arith, later, h.0, h.1)
 
 rise : (p : ℕ → Bool) (from to : ℕ) (rs : List (Range ℕ)) (j k : ℕ) (d : Range ℕ) → j < k →
-    k < length rs → AreLongest p from to rs →
+    k < length rs → AreMaximal p from to rs →
     (slice_index_or rs j d).end ≤ (slice_index_or rs k d).start
 rise p from to [] j k d o l h = absurd (omega arith)
 rise p from to (r ∷ rs) j zero d o l h = absurd (omega arith)
@@ -147,17 +147,17 @@ rise p from to (r ∷ rs) zero (suc k) d o l h = starts_from p r.end to rs k d (
 rise p from to (r ∷ rs) (suc j) (suc k) d o l h =
     rise p r.end to rs j k d (omega arith) (omega arith) h.6
 
-has_longest_runs : (s : PlainSet) → HasLongestRuns s
+has_maximal_runs : (s : PlainSet) → HasMaximalRuns s
 unfolding runs_between
-has_longest_runs s =
-    let longest = runs_longest s.has 0 (s.capacity - 0) s.capacity (omega arith) in
+has_maximal_runs s =
+    let maximal = runs_maximal s.has 0 (s.capacity - 0) s.capacity (omega arith) in
     record {
-      longest = λ k d l. longest_at s 0 (runs s) k d (λ some low here. absurd (omega arith)) l
-          longest;
-      rise = λ j k d o l. rise s.has 0 s.capacity (runs s) j k d o l longest;
+      maximal = λ k d l. maximal_at s 0 (runs s) k d (λ some low here. absurd (omega arith)) l
+          maximal;
+      rise = λ j k d o l. rise s.has 0 s.capacity (runs s) j k d o l maximal;
       all = λ i l here. place_in i (runs s)
-          (longest_have s.has 0 s.capacity i (runs s) (omega arith) l here longest);
+          (maximal_have s.has 0 s.capacity i (runs s) (omega arith) l here maximal);
     }
 
-pub runs_are_longest : RunsAreLongest
-runs_are_longest s = has_longest_runs s
+pub runs_are_maximal : RunsAreMaximal
+runs_are_maximal s = has_maximal_runs s

@@ -11,7 +11,7 @@ use Rattle.bittle_bits.proofs.OnesOrZeros.{ones_or_zeros-capacity}
 use Rattle.bittle_ext.specs.RangeMembers.{HasAllIn}
 use Rattle.bittle_ext.specs.Runs.{run, joined, runs_from, runs_between, runs, AreRunsBelow, EndsRun, BeginsRun, RunsInOrder, RunsInReverse}
 use Rattle.bittle_bits.proofs.Spans.{is_in_span-outside, is_in_span-inside}
-use Rattle.bittle_ext.proofs.LongestRuns.{runs_are_longest}
+use Rattle.bittle_ext.proofs.MaximalRuns.{runs_are_maximal}
 use Rattle.bittle_ext.proofs.RunFacts.{others_opposite}
 use Rattle.bittle_ext.proofs.ShortRuns.{IsReading, word_below}
 
@@ -160,7 +160,7 @@ pub are_runs_below : (s : PlainSet) (c : ℕ) (rs : List (Range ℕ)) → s.capa
 unfolding runs_between
 are_runs_below s c rs is e = rw e (
   omega (arith, is, runs_length s.has 0 (s.capacity - 0)),
-  λ k d l. let at = (runs_are_longest s).longest k d l in (at.0, omega (arith, is, at.1)),
+  λ k d l. let at = (runs_are_maximal s).maximal k d l in (at.0, omega (arith, is, at.1)),
 )
 
 -- what steps over a list of runs give

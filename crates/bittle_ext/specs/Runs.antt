@@ -55,14 +55,14 @@ AreRunsBelow c rs = (length rs ≤ c) × ((k : ℕ) (d : Range ℕ) → k < leng
     × ((slice_index_or rs k d).end ≤ c))
 
 -- a run of members that the numbers beside it are none of
-abbrev pub IsLongestRun : PlainSet → Range ℕ → Type 0
-IsLongestRun s r = (r.start < r.end) × (r.end ≤ s.capacity) × HasAllIn s r.start r.end
+abbrev pub IsMaximalRun : PlainSet → Range ℕ → Type 0
+IsMaximalRun s r = (r.start < r.end) × (r.end ≤ s.capacity) × HasAllIn s r.start r.end
     × (0 < r.start → s.has (r.start - 1) ≡ false) × (r.end < s.capacity → s.has r.end ≡ false)
 
--- each of the runs is longest, a later one begins past an earlier one, and each member lies in one
-pub record HasLongestRuns (s : PlainSet) : Type 0 where
-  pub longest : (k : ℕ) (d : Range ℕ) → k < length (runs s) →
-      IsLongestRun s (slice_index_or (runs s) k d)
+-- each of the runs is maximal, a later one begins past an earlier one, and each member lies in one
+pub record HasMaximalRuns (s : PlainSet) : Type 0 where
+  pub maximal : (k : ℕ) (d : Range ℕ) → k < length (runs s) →
+      IsMaximalRun s (slice_index_or (runs s) k d)
   pub rise : (j k : ℕ) (d : Range ℕ) → j < k → k < length (runs s) →
       (slice_index_or (runs s) j d).end ≤ (slice_index_or (runs s) k d).start
   pub all : (i : ℕ) → i < s.capacity → s.has i ≡ true → (k : ℕ) × (k < length (runs s))
@@ -70,8 +70,8 @@ pub record HasLongestRuns (s : PlainSet) : Type 0 where
       × (i < (slice_index_or (runs s) k d).end))
 
 -- so it is of every set
-abbrev pub RunsAreLongest : Type 0
-RunsAreLongest = (s : PlainSet) → HasLongestRuns s
+abbrev pub RunsAreMaximal : Type 0
+RunsAreMaximal = (s : PlainSet) → HasMaximalRuns s
 
 -- steps over a list of runs give it from its first item on, and from the back in reverse
 abbrev pub RunsInOrder : Type 0

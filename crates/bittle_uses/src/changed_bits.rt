@@ -50,7 +50,7 @@ pub fn granted(role: u32, permission: u32) -> u32
 }
 
 /// Grants a permission to a role that has another one, and still has it.
-#[tactic(auto, using(bittle::proofs::CallerChanges::contains_after_set, bittle::proofs::CallerChanges::still_after_set))]
+#[tactic(auto, using(bittle::proofs::CallerChanges::contains_after_set, bittle::proofs::CallerChanges::still_set_after_set))]
 pub fn grant_another(role: &mut u32, first: u32, second: u32)
     requires has { contains (bit_set 32 role.old) first ≡ true }
     ensures first { contains (bit_set 32 role.new) first ≡ true }
@@ -60,7 +60,7 @@ pub fn grant_another(role: &mut u32, first: u32, second: u32)
 }
 
 /// Takes a permission away, so the role lacks it and gets no other.
-#[tactic(auto, using(bittle::proofs::CallerChanges::contains_after_clear, bittle::proofs::CallerChanges::still_after_clear))]
+#[tactic(auto, using(bittle::proofs::CallerChanges::contains_after_clear, bittle::proofs::CallerChanges::still_unset_after_clear))]
 pub fn take_away(role: &mut u32, permission: u32, other: u32)
     requires lacks { contains (bit_set 32 role.old) other ≡ false }
     ensures gone { contains (bit_set 32 role.new) permission ≡ false }

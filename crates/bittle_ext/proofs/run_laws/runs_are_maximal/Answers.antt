@@ -1,5 +1,5 @@
-use Rattle.bittle_ext.proofs.LongestRuns.{runs_are_longest}
-use Rattle.bittle_ext.proofs.run_laws.runs_are_longest.Goals as goal
+use Rattle.bittle_ext.proofs.MaximalRuns.{runs_are_maximal}
+use Rattle.bittle_ext.proofs.run_laws.runs_are_maximal.Goals as goal
 
 pub returns : goal.returns
-returns c = runs_are_longest
+returns c = runs_are_maximal
