@@ -1,5 +1,5 @@
 -- A span that a set keeps, after the calls of its owner.
-use Rattle.std.proofs.Common.{◌≡◌, ℕ, zero, suc, ◌+◌, ◌-◌, ◌%◌, ◌<◌, ◌≤◌, Bool, true, false, cond, not, ◌&&◌, ◌||◌, ◌==◌, nat_lt, inl, inr, refl, sym, ap, ◌∙◌, arith}
+use Rattle.std.proofs.Common.{◌≡◌, ◌≢◌, ℕ, zero, suc, ◌+◌, ◌-◌, ◌%◌, ◌<◌, ◌≤◌, Bool, true, false, cond, not, ◌&&◌, ◌||◌, ◌==◌, nat_lt, inl, inr, refl, ap, ◌∙◌, arith}
 use Rattle.std.proofs.Math.Bool.{and-false, or-true}
 use Rattle.std.proofs.Math.Nat.{div-add-mod', mod-eq_of_lt}
 use Rattle.std.proofs.lemmas.Bool.{and_parts, cases_eq, ne_eqb, le-leb, lt-ltb}
@@ -58,17 +58,29 @@ has_span_after_set s t i from to is has = has_span_if_each t from to (λ k low u
     (each_if_has_span s from to has k low up)
     ∙ or-true (nat_lt 0 s.capacity && (k == i % s.capacity)))
 
--- a span stays where an index before it was cleared
-pub has_span_after_clear : (s t : PlainSet) (i from to : ℕ) → t ≡ without_index s i → i < from →
-    has_span s from to ≡ true → has_span t from to ≡ true
+-- a span stays where an index that it lacks was cleared
+has_span_without : (s t : PlainSet) (i from to : ℕ) → t ≡ without_index s i →
+    ((k : ℕ) → from ≤ k → k < to → k ≢ i % s.capacity) → has_span s from to ≡ true →
+    has_span t from to ≡ true
 unfolding has_without
-has_span_after_clear s t i from to is before has = has_span_if_each t from to (λ k low up.
-    let apart : (k == i % s.capacity) ≡ false = ne_eqb k (i % s.capacity)
-    (λ e. absurd (omega (arith, e, low, before, div-add-mod' i s.capacity))) in
+has_span_without s t i from to is lacks has = has_span_if_each t from to (λ k low up.
     ap (λ (u : PlainSet). u.has k) is
-    ∙ ap (λ b. not (nat_lt 0 s.capacity && b) && s.has k) apart
+    ∙ ap (λ b. not (nat_lt 0 s.capacity && b) && s.has k)
+    (ne_eqb k (i % s.capacity) (lacks k low up))
     ∙ ap (λ b. not b && s.has k) (and-false (nat_lt 0 s.capacity))
     ∙ each_if_has_span s from to has k low up)
+
+-- an index before it
+pub has_span_after_clear : (s t : PlainSet) (i from to : ℕ) → t ≡ without_index s i → i < from →
+    has_span s from to ≡ true → has_span t from to ≡ true
+has_span_after_clear s t i from to is before = has_span_without s t i from to is
+    (λ k low up e. omega (arith, e, low, before, div-add-mod' i s.capacity))
+
+-- an index past it
+pub has_span_after_clear_past : (s t : PlainSet) (i from to : ℕ) → t ≡ without_index s i → to ≤ i →
+    i < s.capacity → has_span s from to ≡ true → has_span t from to ≡ true
+has_span_after_clear_past s t i from to is past within = has_span_without s t i from to is
+    (λ k low up e. omega (arith, e, up, past, mod-eq_of_lt within))
 
 -- a span stays where another one was set
 pub has_span_after_other_span : (s t : PlainSet) (low high from to : ℕ) → t ≡ with_span s low high →
@@ -82,15 +94,3 @@ has_span_after_other_span s t low high from to is has = has_span_if_each t from 
     by : (b : Bool) → cond b true true ≡ true
     by true = refl
     by false = refl
-
--- a span stays where an index past it was cleared
-pub has_span_after_clear_past : (s t : PlainSet) (i from to : ℕ) → t ≡ without_index s i → to ≤ i →
-    i < s.capacity → has_span s from to ≡ true → has_span t from to ≡ true
-unfolding has_without
-has_span_after_clear_past s t i from to is past within has = has_span_if_each t from to (λ k low up.
-    let apart : (k == i % s.capacity) ≡ false = ne_eqb k (i % s.capacity)
-    (λ e. absurd (omega (arith, e, up, past, mod-eq_of_lt within))) in
-    ap (λ (u : PlainSet). u.has k) is
-    ∙ ap (λ b. not (nat_lt 0 s.capacity && b) && s.has k) apart
-    ∙ ap (λ b. not b && s.has k) (and-false (nat_lt 0 s.capacity))
-    ∙ each_if_has_span s from to has k low up)
