@@ -7,6 +7,7 @@ ghost use Rattle.bittle.specs.PlainSet.{contains};
 ghost use Rattle.bittle.specs.Rows.{row_set};
 
 use bittle::{BigEndian, Bits, BitsMut, BitsOwned, LittleEndian};
+use bittle_ext::BitsMutExt;
 
 /// Sets a bit, and finds it set.
 #[tactic(auto, using(bittle::proofs::CallerChanges::contains_with))]
@@ -79,6 +80,24 @@ pub fn take_one(role: &mut u32, permission: u32, other: u32)
     ensures { contains (bit_set 32 role.new) other ≡ true }
 {
     role.clear_bit(permission);
+}
+
+/// Flips a lamp that is off, so it is on.
+#[tactic(auto, using(bittle_ext::proofs::CallerMembers::set_after_toggle))]
+pub fn turn_on(lamps: &mut u32, lamp: u32)
+    requires { contains (bit_set 32 lamps.old) lamp ≡ false }
+    ensures { contains (bit_set 32 lamps.new) lamp ≡ true }
+{
+    lamps.toggle(lamp);
+}
+
+/// Flips a lamp that is on, so it is off.
+#[tactic(auto, using(bittle_ext::proofs::CallerMembers::unset_after_toggle))]
+pub fn turn_off(lamps: &mut u32, lamp: u32)
+    requires { contains (bit_set 32 lamps.old) lamp ≡ true }
+    ensures { contains (bit_set 32 lamps.new) lamp ≡ false }
+{
+    lamps.toggle(lamp);
 }
 
 /// Returns a role without a permission.
