@@ -1,11 +1,13 @@
 -- A row of which one place is written, and what that makes of roles.
-use Rattle.std.proofs.Common.{◌≡◌, ℕ, ◌<◌, true, false, cond, ◌&&◌, ◌||◌, ◌==◌, nat_lt, Option, Some, None, List, length, set, inl, inr, refl, sym, ap, ◌∙◌, arith}
+use Rattle.std.proofs.Common.{◌≡◌, ℕ, zero, suc, ◌<◌, Bool, true, false, cond, ◌&&◌, ◌||◌, ◌==◌, nat_lt, Option, Some, None, List, length, set, inl, inr, refl, sym, ap, ◌∙◌, arith}
+use Rattle.std.proofs.Math.ListN.{replicate}
 use Rattle.std.specs.Prelude.{slice_get, IfSome}
 use Rattle.bittle.specs.PlainSet.{PlainSet, contains, with_index}
 use Rattle.bittle.proofs.CallerSets.{contains_within, with_index_within}
-use Rattle.bittle.proofs.CallerTables.{slice_get_set_same, slice_get_set_other}
-use Rattle.bit_roles.specs.Roles.{Roles, roles_of, has_permission, parent_in, may_grant, with_granted}
-use Rattle.std.proofs.lemmas.Bool.{cases_eq, eq-eqb, ne_eqb, lt-ltb}
+use Rattle.bittle.proofs.CallerTables.{slice_get_set, slice_get_set_same, slice_get_set_other}
+use Rattle.bit_roles.specs.Roles.{Roles, bare_roles, roles_of, has_permission, parent_in, may_grant, may_inherit, with_granted, with_parent}
+use Rattle.std.proofs.lemmas.Bool.{and_right, cases_eq, eq-eqb, ne_eqb, lt-ltb}
+use Rattle.std.proofs.lemmas.Option.{same_Some}
 
 -- a test of the set shows whether a permission is in it
 pub permission_within : {X : Type 0} (set : X → PlainSet) (place : Option X) (x : X)
@@ -84,3 +86,89 @@ module _ {X : Type 0} (count permissions : ℕ) (set_of : X → PlainSet) (grant
     granted = λ k p. each k p i;
     parent = before.parent;
   }) ∙ ap (λ b. cond b (with_granted before role permission) before) (sym may)
+
+-- a row of sets without members has no permission
+granted_nothing : {X : Type 0} (set_of : X → PlainSet) (none : X) (permission : ℕ) →
+    (set_of none).has permission ≡ false → (count role : ℕ) →
+    has_permission set_of (slice_get (replicate count none) role) permission ≡ false
+granted_nothing set_of none permission empty zero role = refl
+granted_nothing set_of none permission empty (suc count) zero =
+    rw empty (and_right (nat_lt permission (set_of none).capacity) false refl)
+granted_nothing set_of none permission empty (suc count) (suc role) =
+    granted_nothing set_of none permission empty count role
+
+-- a row without parents has none
+no_parent : (count role : ℕ) →
+    parent_in (slice_get (replicate {A = Option ℕ} count None) role) ≡ None
+no_parent zero role = refl
+no_parent (suc count) zero = refl
+no_parent (suc count) (suc role) = no_parent count role
+
+-- so the roles of such rows are bare
+pub rows_are_bare : {X : Type 0} (count permissions : ℕ) (set_of : X → PlainSet) (none : X) →
+    ((p : ℕ) → (set_of none).has p ≡ false) →
+    roles_of count permissions set_of (replicate count none) (replicate {A = Option ℕ} count None)
+    ≡ bare_roles count permissions
+rows_are_bare count permissions set_of none empty = λ i. record {
+  count = count;
+  permissions = permissions;
+  granted = λ k p. granted_nothing set_of none p (empty p) count k i;
+  parent = λ k. no_parent count k i;
+}
+
+-- and each parent is lesser
+pub none_lesser : (count role parent : ℕ) →
+    parent_in (slice_get (replicate {A = Option ℕ} count None) role) ≡ Some parent → parent < role
+none_lesser count role parent is = let no = no_parent count role in absurd (cc)
+
+-- a row of parents in which one role has another parent
+module _ (parents : List (Option ℕ)) (role parent : ℕ) (inside : role < length parents) where
+  parents_written : (k : ℕ) → parent_in (slice_get (set parents role (Some parent)) k)
+      ≡ cond (k == role) (Some parent) (parent_in (slice_get parents k))
+  parents_written k =
+      ap parent_in (slice_get_set parents role (Some parent) inside k) ∙ by (k == role)
+    where
+      by : (b : Bool) → parent_in (cond b (Some (Some parent)) (slice_get parents k))
+          ≡ cond b (Some parent) (parent_in (slice_get parents k))
+      by true = refl
+      by false = refl
+
+  -- each is still lesser than its role
+  pub lesser_written : parent < role →
+      ((k other : ℕ) → parent_in (slice_get parents k) ≡ Some other → other < k) →
+      (k other : ℕ) → parent_in (slice_get (set parents role (Some parent)) k) ≡ Some other →
+      other < k
+  lesser_written below lesser k other is = elim (cases_eq k role) [
+    | inl same ↦
+        let own : Some parent ≡ Some other =
+        sym (parents_written k ∙ ap (λ b. cond b (Some parent) (parent_in (slice_get parents k)))
+        (eq-eqb k role same)) ∙ is in
+        omega (arith, same, below, same_Some parent other own)
+    | inr apart ↦ lesser k other (sym (parents_written k
+        ∙ ap (λ b. cond b (Some parent) (parent_in (slice_get parents k)))
+        (ne_eqb k role apart)) ∙ is)
+  ]
+
+  -- the role has that parent
+  pub parent_written : parent_in (slice_get (set parents role (Some parent)) role) ≡ Some parent
+  parent_written =
+      ap parent_in (slice_get_set_same parents role (Some parent) inside)
+
+  -- the roles of that row are those after the request
+  module _ {X : Type 0} (count permissions : ℕ) (set_of : X → PlainSet) (granted : List X)
+      (is_role : role < count) (below : parent < role) where
+    abbrev pub whole : Roles
+    whole = roles_of count permissions set_of granted parents
+
+    may_be : may_inherit whole role parent ≡ true
+    may_be = let is = lt-ltb role count is_role in
+        let it = lt-ltb parent role below in rw (is, it) refl
+
+    pub row_inherits : roles_of count permissions set_of granted (set parents role (Some parent))
+        ≡ cond (may_inherit whole role parent) (with_parent whole role parent) whole
+    row_inherits = (λ i. record {
+      count = count;
+      permissions = permissions;
+      granted = whole.granted;
+      parent = λ k. parents_written k i;
+    }) ∙ ap (λ b. cond b (with_parent whole role parent) whole) (sym may_be)

@@ -1,13 +1,13 @@
 -- What a change of one slot does to what the keys stand for.
-use Rattle.std.proofs.Common.{◌≡◌, ℕ, ◌<◌, Bool, true, false, List, length, set, get_or, Some, inl, inr, refl, ap, ◌∙◌, arith}
-use Rattle.std.specs.Prelude.{slice_get, Result, Ok, Err}
-use Rattle.std.proofs.lemmas.Bool.{cases_eq, eq-eqb, le-ltb, ne_eqb}
-use Rattle.std.proofs.lemmas.Option.{slice_get-get_or}
+use Rattle.std.proofs.Common.{◌≡◌, ℕ, ◌<◌, ◌≤◌, Bool, true, false, List, length, set, get_or, Some, inl, inr, None, refl, ap, ◌∙◌, arith}
+use Rattle.std.specs.Prelude.{◌==◌, slice_get, Result, Ok, Err}
+use Rattle.std.proofs.lemmas.Bool.{and_parts, cases_Bool, cases_eq, eq-eqb, eqb-true, le-ltb, ne_eqb}
+use Rattle.std.proofs.lemmas.Option.{slice_get-get_or, slice_get_past}
 use Rattle.bittle.proofs.CallerTables.{slice_get_set}
 use Rattle.bit_slots.specs.declared.slot.Slot.{Slot}
 use Rattle.bit_slots.specs.declared.slot.Slot.TheVariants.{Live}
 use Rattle.bit_slots.specs.declared.Key.{Key}
-use Rattle.bit_slots.specs.Keys.{Holds, stage_of, stage_at, stages, removed, AreSameKeys, IsExchanged, IsExchangedWith, IsFilled, IsKeyInserted, IsRemoved, IsReplaced, IsUpdated, IsUpdatedIn}
+use Rattle.bit_slots.specs.Keys.{Unused, Holds, found, is_key, stage_of, stage_at, stages, removed, AreSameKeys, IsExchanged, IsExchangedWith, IsFilled, IsKeyInserted, IsRemoved, IsReplaced, IsUpdated, IsUpdatedIn}
 
 -- a slot with a value has it in its generation
 pub live_holds : {V : Type 0} (generation : ℕ) (value : V) →
@@ -101,3 +101,22 @@ module _ {V : Type 0} (row : List (Slot V)) (i : ℕ) (d f : Slot V) (h : i < le
     (let here = stood key.slot at in rw here is.0),
     kept_in is.1,
   )
+
+-- a key past the row finds nothing, and a call that changes nothing serves it
+module _ {V : Type 0} (row : List (Slot V)) (key : Key) (past : length row ≤ key.slot) where
+  pub found_past : found (stages row key.slot key.generation) ≡ None
+  found_past = ap (λ o. found (stage_at o key.generation)) (slice_get_past row key.slot past)
+
+  pub removed_past : IsRemoved (stages row) key (stages row)
+  removed_past slot generation = elim (cases_Bool (is_key key slot generation)) [
+    | inl own ↦
+        let at = and_parts (slot == key.slot) (generation == key.generation) own in
+        let within = eqb-true slot key.slot at.0 in
+        let none : stages row slot generation ≡ Unused =
+        ap (λ o. stage_at o generation) (slice_get_past row slot (omega (arith, within, past))) in
+        rw (own, none) refl
+    | inr other ↦ rw other refl
+  ]
+
+  pub replaced_past : (value : V) → IsReplaced (stages row) key value (Err value) (stages row)
+  replaced_past value = (refl, found_past, λ slot generation. refl)

@@ -1,6 +1,6 @@
 -- Which slots are of a kind after a change of one, and the sets of them.
 use Rattle.std.proofs.Common.{◌≡◌, ◌≢◌, ◌+◌, nat_lt, ℕ, ◌<◌, ◌≤◌, Bool, true, false, not, cond, ◌&&◌, ◌||◌, ◌==◌, List, length, set, get_or, Some, inl, inr, refl, sym, ap, ◌∙◌, arith}
-use Rattle.std.specs.Prelude.{slice_get, MatchBool}
+use Rattle.std.specs.Prelude.{slice_get, MatchBool, Result, Ok, Err}
 use Rattle.std.proofs.lemmas.Bool.{cases_eq, cases_lt, eq-eqb, ne_eqb, lt-ltb, le-ltb, and_right}
 use Rattle.std.proofs.lemmas.Option.{slice_get_past}
 use Rattle.bittle.specs.PlainSet.{PlainSet, empty_set, size, with_index, without_index}
@@ -8,7 +8,8 @@ use Rattle.bittle.specs.Searches.{NoneIn}
 use Rattle.bittle.proofs.CallerSets.{with_index_within, without_index_within}
 use Rattle.bittle.proofs.CallerTables.{slice_get_set}
 use Rattle.bit_slots.specs.declared.slot.Slot.{Slot}
-use Rattle.bit_slots.specs.SlotSets.{is_free, passes, is_slot, slots_where, HasSlots, MarksBelow, Joins, Leaves, Stays}
+use Rattle.bit_slots.specs.Keys.{IsExchanged, IsUpdatedIn}
+use Rattle.bit_slots.specs.SlotSets.{is_free, is_live, passes, is_slot, slots_where, HasSlots, MarksBelow, Joins, Leaves, Stays}
 use Rattle.bit_slots.proofs.SlotChanges.{stood}
 
 module _ {V : Type 0} (test : Slot V → Bool) (row : List (Slot V)) where
@@ -60,6 +61,29 @@ pub freed : {V : Type 0} (row : List (Slot V)) (i : ℕ) (d f : Slot V) → i < 
     MatchBool b (Joins is_free row i (set row i f)) (Stays is_free row (set row i f))
 freed row i d f h true is was = joins is_free row i d f h (sym is)
 freed row i d f h false is was = stays is_free row i d f h (sym is ∙ sym was)
+
+-- a slot whose value changed is free and holds a value as before
+module _ {V : Type 0} (row : List (Slot V)) (i : ℕ) (d f : Slot V) (h : i < length row)
+    (generation : ℕ) where
+  pub replaced_free : (value : V) (r : Result V V) →
+      IsExchanged (get_or row i d) generation value r f → Stays is_free row (set row i f)
+  replaced_free value (Ok back) is = stays is_free row i d f h is.free
+  replaced_free value (Err back) is = stays is_free row i d f h (ap is_free is.2)
+
+  pub replaced_live : (value : V) (r : Result V V) →
+      IsExchanged (get_or row i d) generation value r f → Stays is_live row (set row i f)
+  replaced_live value (Ok back) is = stays is_live row i d f h is.live
+  replaced_live value (Err back) is = stays is_live row i d f h (ap is_live is.2)
+
+  pub updated_free : (Makes : V → V → Type 0) (b : Bool) →
+      IsUpdatedIn Makes (get_or row i d) generation b f → Stays is_free row (set row i f)
+  updated_free Makes true is = stays is_free row i d f h is.3.free
+  updated_free Makes false is = stays is_free row i d f h (ap is_free is.1)
+
+  pub updated_live : (Makes : V → V → Type 0) (b : Bool) →
+      IsUpdatedIn Makes (get_or row i d) generation b f → Stays is_live row (set row i f)
+  updated_live Makes true is = stays is_live row i d f h is.3.live
+  updated_live Makes false is = stays is_live row i d f h (ap is_live is.1)
 
 -- a set of the slots that pass a test
 module _ {V : Type 0} (test : Slot V → Bool) (s t : PlainSet) (row next : List (Slot V))

@@ -15,3 +15,10 @@ returns-in-Some-clause-lesser g c =
 pub returns-in-None-clause-value : goal.returns-in-None-clause-value
 returns-in-None-clause-value g c = ap parent_in
     (sym (slice_get_past c.args.self.now.parents c.args.role c.in-None.ensures.lookup.3))
+
+pub returns-in-Some-clause-value : goal.returns-in-Some-clause-value
+returns-in-Some-clause-value g c =
+    let parents = c.args.self.now.parents in
+    let found = c.in-Some.ensures.lookup in
+    ap parent_in (sym (slice_get_read parents (length parents) c.args.role c.in-Some.parent.now refl
+    found.3.0 found.1))

@@ -1,10 +1,30 @@
-use Rattle.std.proofs.Common.{refl, sym, ap, ◌∙◌, arith}
-use Rattle.std.proofs.lemmas.List.{get_or-set_same}
+use Rattle.std.proofs.Common.{is_some, set, refl, sym, ap, ◌∙◌, arith}
+use Rattle.std.proofs.lemmas.List.{get_or-set_same, set-get_or}
 use Rattle.bit_slots.specs.Keys.{stage_at, found}
 use Rattle.bit_slots.specs.SlotSets.{is_free, is_live}
-use Rattle.bit_slots.proofs.SlotChanges.{emptied_in, stood}
+use Rattle.bit_slots.proofs.SlotChanges.{emptied_in, found_past, removed_past, stood}
 use Rattle.bit_slots.proofs.SlotMarks.{freed, leaves}
 use Rattle.bit_slots.proofs.row.Row.empty.Goals as goal
+
+pub returns-then-self-key-clause-found : goal.returns-then-self-key-clause-found
+returns-then-self-key-clause-found g c = found_past _ c.args.key (omega arith)
+
+pub returns-then-self-key-clause-stages : goal.returns-then-self-key-clause-stages
+returns-then-self-key-clause-stages g c = removed_past _ c.args.key (omega arith)
+
+pub returns-in_err-value-clause-found : goal.returns-in_err-value-clause-found
+returns-in_err-value-clause-found g c =
+    rw c.from_residual.ensures (ap (λ o. found (stage_at o c.args.key.generation))
+    (stood _ c.args.key.slot c.index-self-key.result c.empty.new.self (omega arith)
+    c.args.key.slot refl)
+    ∙ sym c.empty.ensures.found ∙ c.in_err-value.was)
+
+pub returns-in_err-value-clause-live : goal.returns-in_err-value-clause-live
+returns-in_err-value-clause-live g c =
+    let row = c.args.self.now.slots.now in
+    rw c.from_residual.ensures (ap (set row c.args.key.slot)
+    (c.empty.ensures.kept (ap is_some c.in_err-value.was))
+    ∙ set-get_or row c.args.key.slot c.index-self-key.result)
 
 pub returns-in_err-value-clause-stages : goal.returns-in_err-value-clause-stages
 returns-in_err-value-clause-stages g c =

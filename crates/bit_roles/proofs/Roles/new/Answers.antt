@@ -1,0 +1,12 @@
+use Rattle.std.proofs.Common.{ap}
+use Rattle.bittle.specs.Values.{set_in}
+use Rattle.bit_roles.proofs.Rows.{none_lesser, rows_are_bare}
+use Rattle.bit_roles.proofs.Roles.new.Goals as goal
+
+pub invariant_of-result-clause-lesser : goal.invariant_of-result-clause-lesser
+invariant_of-result-clause-lesser g c = none_lesser g.row.N
+
+pub returns : goal.returns
+returns g c =
+    rows_are_bare g.row.N _ (set_in g.B.Shape g.B.Order.Endian) c.zeros.result
+    (λ p. ap (λ s. s.has p) (c.zeros.ensures.in_each_order g.B.Order.Endian.mirrored))
