@@ -1,8 +1,9 @@
 //! Each call over every value of the words of 8 digits, against plain arithmetic.
 
 ghost use Rattle.std.specs.Prelude.{◌<◌, IsTrue};
+ghost use Rattle.bittle.specs.Values.{ShapeFits};
 
-use crate::checks::{holds, same};
+use crate::checks::same;
 use bittle::number::{IterOnes, IterZeros};
 use bittle::prelude::*;
 use bittle::{BigEndian, Endian, LittleEndian};
@@ -31,14 +32,22 @@ fn every_byte(rt: HostRuntime) {
 fn counts(rt: &impl Abort, byte: u8, signed: i8) {
     let high = ONES_OF_HALF[(byte / 16) as usize];
     let low = ONES_OF_HALF[(byte % 16) as usize];
-    let count = u32::from(high) + u32::from(low);
-    holds!(rt; Bits::count_ones(&byte) == count && Bits::count_ones(&signed) == count);
-    holds!(rt;
-        Bits::count_zeros(&byte) == 8u32.wrapping_sub(count)
-            && Bits::count_zeros(&signed) == 8u32.wrapping_sub(count)
-    );
-    holds!(rt; byte.all_zeros() == (byte == 0) && signed.all_zeros() == (byte == 0));
-    holds!(rt; byte.all_ones() == (byte == 255) && signed.all_ones() == (byte == 255));
+    let ones = u32::from(high) + u32::from(low);
+    let expected = (ones, 8u32.wrapping_sub(ones), byte == 0, byte == 255);
+    same!(rt; counts_of(&byte), expected);
+    same!(rt; counts_of(&signed), expected);
+}
+
+// Returns how many bits are set and unset, and whether all are unset and set.
+fn counts_of<B: Bits>(bits: &B) -> (u32, u32, bool, bool)
+    requires { ShapeFits B.Shape bits.now }
+{
+    (
+        bits.count_ones(),
+        bits.count_zeros(),
+        bits.all_zeros(),
+        bits.all_ones(),
+    )
 }
 
 // Makes the calls on one digit of a byte and of the signed one of the same digits, in both orders.
@@ -75,13 +84,12 @@ fn at_index<T: BitsOwned, E: Endian>(
     requires indexable { IsTrue T.indexable }
     requires within { index < 8 }
 {
-    holds!(rt; word.test_bit_in::<E>(index) == digit && word.test_bit_in::<E>(index + 8) == digit);
+    same!(rt; [word.test_bit_in::<E>(index), word.test_bit_in::<E>(index + 8)], [digit; 2]);
     let mut with = word;
     with.set_bit_in::<E>(index);
-    holds!(rt; with == changed.0);
     let mut without = word;
     without.clear_bit_in::<E>(index + 16);
-    holds!(rt; without == changed.1);
+    same!(rt; [with == changed.0, without == changed.1], [true; 2]);
 }
 
 // The searches and the iterators of a word whose set bits in the order are those of the byte.
