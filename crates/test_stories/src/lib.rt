@@ -1,5 +1,5 @@
-//! Tests of the ready queues, of roles and of entities: values worked out by hand, and drawn
-//! histories beside a plain model.
+//! Tests of the ready queues, of roles, of entities, of slots with generations and of runs of pages:
+//! values worked out by hand, and drawn histories beside a plain model.
 #![tactic(auto)]
 
 #[cfg(test)]
@@ -9,6 +9,14 @@ mod drawn;
 #[cfg(test)]
 mod entities;
 #[cfg(test)]
+mod page_runs;
+#[cfg(test)]
 mod queues;
 #[cfg(test)]
 mod roles;
+#[cfg(test)]
+mod slot_histories;
+#[cfg(test)]
+mod slot_keys;
+#[cfg(test)]
+mod slot_rows;
