@@ -16,23 +16,27 @@ use Rattle.bittle_ext.proofs.CommonCounts.{all_numbers}
 abbrev Implies : ℕ → (ℕ → Bool) → (ℕ → Bool) → Type 0
 Implies n p q = (k : ℕ) → k < n → p k ≡ true → q k ≡ true
 
+-- a set has as many members as it has in common with one that has all of them
+all_common : (s t : PlainSet) → Implies s.capacity s.has t.has →
+    count_below s.capacity (λ k. t.has k && s.has k) ≡ size s
+all_common s t all =
+    count-same s.capacity (λ k. t.has k && s.has k) s.has (λ k l. elim (cases_Bool (s.has k)) [
+      | inl here ↦ ap (λ b. b && s.has k) (all k l here)
+      | inr gone ↦ and_right (t.has k) (s.has k) gone ∙ sym gone
+    ])
+
 -- a set that has all members of another of its capacity, and a number of it that is none there
 more_members : (s t : PlainSet) → t.capacity ≡ s.capacity → Implies s.capacity s.has t.has →
     (i : ℕ) → i < s.capacity → t.has i ≡ not (s.has i) → size s < size t
 more_members s t same all i low differs =
     let n = s.capacity in
-    let both : count_below n (λ k. t.has k && s.has k) ≡ size s = count-same n
-    (λ k. t.has k && s.has k) s.has (λ k l. elim (cases_Bool (s.has k)) [
-      | inl here ↦ ap (λ b. b && s.has k) (all k l here)
-      | inr gone ↦ and_right (t.has k) (s.has k) gone ∙ sym gone
-    ]) in
     let some : 0 < count_below n (λ k. first_alone (t.has k) (s.has k)) =
     elim (cases_Bool (s.has i)) [
       | inl here ↦ absurd (true≢false (sym (all i low here) ∙ differs ∙ ap not here))
       | inr gone ↦ count-some n i (λ k. first_alone (t.has k) (s.has k)) low
           (rw (differs, gone) refl)
     ] in
-    rw same (omega (arith, (all_numbers n t.has s.has).0, both, some))
+    rw same (omega (arith, (all_numbers n t.has s.has).0, all_common s t all, some))
 
 -- a set that an operation changes, which takes none out, grows
 pub grows : (f : Bool → Bool → Bool) (s t u : PlainSet) →
@@ -42,15 +46,27 @@ grows f s t u keeps is differ =
     more_members s u (ap (λ v. v.capacity) is) (λ k l h. ap (λ v. v.has k) is
     ∙ combined_below f s t k l ∙ keeps (s.has k) (t.has k) h) differ.0 differ.1 differ.2
 
--- and one that an operation changes, which brings none in, shrinks
-pub shrinks : (f : Bool → Bool → Bool) (s t u : PlainSet) →
-    ((a b : Bool) → f a b ≡ true → a ≡ true) → u ≡ combined f s t → Differ s u →
-    size u < size s
-shrinks f s t u brings is differ =
-    let same : u.capacity ≡ s.capacity = ap (λ v. v.capacity) is in
-    more_members u s (sym same) (λ k l h. brings (s.has k) (t.has k)
-    (sym (ap (λ v. v.has k) is ∙ combined_below f s t k (omega (arith, l, same))) ∙ h)) differ.0
-    (omega (arith, differ.1, same)) (sym (ap not differ.2 ∙ not-not (s.has differ.0)))
+module _ (f : Bool → Bool → Bool) (s t u : PlainSet) (brings : (a b : Bool) → f a b ≡ true →
+    a ≡ true) (is : u ≡ combined f s t) where
+  -- a set that an operation makes, which brings none in, has members of the first alone
+  from_first : Implies u.capacity u.has s.has
+  from_first k l h =
+      brings (s.has k) (t.has k)
+      (sym (ap (λ v. v.has k) is ∙ combined_below f s t k (omega (arith, l, ap (λ v. v.capacity) is))) ∙ h)
+
+  -- so it has no more
+  pub never_grows : size u ≤ size s
+  never_grows =
+      let same : u.capacity ≡ s.capacity = ap (λ v. v.capacity) is in
+      let sums = (all_numbers u.capacity s.has u.has).0 in
+      rw (sym same) (omega (arith, sums, all_common u s from_first))
+
+  -- and fewer if the operation changes it
+  pub shrinks : Differ s u → size u < size s
+  shrinks differ =
+      let same : u.capacity ≡ s.capacity = ap (λ v. v.capacity) is in
+      more_members u s (sym same) from_first differ.0
+      (omega (arith, differ.1, same)) (sym (ap not differ.2 ∙ not-not (s.has differ.0)))
 
 pub either_keeps : (a b : Bool) → a ≡ true → a || b ≡ true
 either_keeps true b h = refl

@@ -1,6 +1,6 @@
 //! Changing a set by another one of any shape.
 
-ghost use Rattle.std.specs.Prelude.{◌≡◌, ◌<◌, ℕ, Bool, ◌||◌, ◌&&◌, IsTrue};
+ghost use Rattle.std.specs.Prelude.{◌≡◌, ◌<◌, ◌≤◌, ℕ, Bool, ◌||◌, ◌&&◌, IsTrue};
 ghost use Rattle.bittle_ext.specs.Between.{members_to, Combines};
 ghost use Rattle.bittle.specs.PlainSet.{contains, full_set, size};
 ghost use Rattle.bittle.specs.SetOperations.{first_alone, just_one};
@@ -64,6 +64,8 @@ pub trait BitsCombineExt: BitsMut {
             (set_in Self.Shape Self.Order.Endian self.new) result }
         ensures shrank { IsTrue result → size (set_in Self.Shape Self.Order.Endian self.new)
             < size (set_in Self.Shape Self.Order.Endian self.old) }
+        ensures at_most { size (set_in Self.Shape Self.Order.Endian self.new)
+            ≤ size (set_in Self.Shape Self.Order.Endian self.old) }
         ensures stays { Self.loan self.old ≡ Self.loan self.new }
     {
         combine_with::<Self, B, Self::Order, B::Order, Conjunction>(self, other)
@@ -85,6 +87,8 @@ pub trait BitsCombineExt: BitsMut {
             (set_in Self.Shape Self.Order.Endian self.new) result }
         ensures shrank { IsTrue result → size (set_in Self.Shape Self.Order.Endian self.new)
             < size (set_in Self.Shape Self.Order.Endian self.old) }
+        ensures at_most { size (set_in Self.Shape Self.Order.Endian self.new)
+            ≤ size (set_in Self.Shape Self.Order.Endian self.old) }
         ensures stays { Self.loan self.old ≡ Self.loan self.new }
     {
         combine_with::<Self, B, Self::Order, B::Order, Difference>(self, other)

@@ -151,6 +151,8 @@ pub trait BitsRelationExt: Bits + Sized {
             let theirs = set_in B.Shape B.Order.Endian other.now in
             result ≡ size (both_of ours theirs) }
         ensures at_most { result ≤ (Self.big self.now).capacity }
+        ensures at_most_ours { result ≤ size (Self.big self.now) }
+        ensures at_most_theirs { result ≤ size (B.big other.now) }
     {
         count_common::<Self, B, Self::Order, B::Order>(self, other)
     }

@@ -7,7 +7,7 @@ ghost use Rattle.std.specs.Prelude.{◌≡◌, ◌≤◌, ℕ, true, MatchOption
 ghost use Rattle.std.specs.Prelude.{option_map, slice_index, unwrap_or};
 ghost use Rattle.bittle.specs.BitPatterns.{bit_set};
 ghost use Rattle.bittle.specs.Orders.{read_in};
-ghost use Rattle.bittle.specs.PlainSet.{without_span};
+ghost use Rattle.bittle.specs.PlainSet.{size, without_span};
 ghost use Rattle.bittle.specs.Rows.{row_set};
 ghost use Rattle.bittle.specs.Values.{set_in, ShapeFits};
 ghost use Rattle.bittle_ext.specs.Combined.{both_of};
@@ -88,6 +88,14 @@ pub fn counts(one: u64, other: u64) -> (u8, u8, u8)
         one.count_alone(&other) as u8,
         one.count_different(&other) as u8,
     )
+}
+
+/// Returns how many of the six numbers of a ticket were drawn.
+pub fn right_numbers(ticket: u64, drawn: u64) -> u32
+    requires { size (bit_set 64 ticket) ≡ 6 }
+    ensures { result ≤ 6 }
+{
+    ticket.count_common(&drawn)
 }
 
 /// Returns how many indexes of a row are not in another one.

@@ -1,6 +1,7 @@
 //! Sets changed by sets of other shapes, with what is told of the change.
 
-ghost use Rattle.std.specs.Prelude.{◌≡◌, ◌<◌, ◌+◌, ◌*◌, ◌||◌, ◌&&◌, false, length, slice_get, IfSome, IsTrue};
+ghost use Rattle.std.specs.Prelude.{◌≡◌, ◌<◌, ◌≤◌, ◌+◌, ◌*◌, ◌||◌, ◌&&◌, false, length};
+ghost use Rattle.std.specs.Prelude.{slice_get, IfSome, IsTrue};
 ghost use Rattle.bittle.specs.BitPatterns.{bit_set};
 ghost use Rattle.bittle.specs.PlainSet.{ascending, complement, contains, full_set};
 ghost use Rattle.bittle.specs.PlainSet.{members_below, size};
@@ -54,6 +55,15 @@ pub fn take_out<A: BitsMut, B: Bits, E: Endian>(set: &mut A, other: &B) -> bool
 {
     set.in_order_mut::<E>()
         .difference_with(&other.in_order::<E>())
+}
+
+/// Takes what is done out of what is left, and returns how many are left, which are no more.
+pub fn finish(left: &mut u64, done: &[u8; 8]) -> u32
+    ensures count { result ≡ size (bit_set 64 left.new) }
+    ensures at_most { result ≤ size (bit_set 64 left.old) }
+{
+    left.difference_with(done);
+    Bits::count_ones(left)
 }
 
 /// Adds the roles of a word to those of a lent slice.

@@ -8,3 +8,6 @@ returns-clause-at_most g c = omega (
   c.count_common.ensures.first_only,
   size-le (g.Self.Shape.big c.args.self.now),
 )
+
+pub returns-clause-at_most_ours : goal.returns-clause-at_most_ours
+returns-clause-at_most_ours g c = omega (arith, c.count_common.ensures.first_only)
