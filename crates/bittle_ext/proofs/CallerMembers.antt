@@ -1,10 +1,11 @@
 -- Members of a set, after the calls of its owner.
-use Rattle.std.proofs.Common.{◌≡◌, ◌≢◌, ℕ, ◌<◌, Bool, true, false, not, nat_lt, refl, sym, ap, ◌∙◌}
-use Rattle.std.proofs.Math.Bool.{and-false}
-use Rattle.std.proofs.lemmas.Bool.{and_parts, ltb-true, true≢false}
-use Rattle.bittle.proofs.CallerChanges.{contains_after_clear, contains_after_set, contains_without_other}
-use Rattle.bittle.proofs.CallerSets.{contains_within}
-use Rattle.bittle.specs.PlainSet.{PlainSet, contains, empty_set, lacks, without_index}
+use Rattle.std.proofs.Common.{◌≡◌, ◌≢◌, ◌==◌, ◌&&◌, ◌||◌, ℕ, ◌+◌, ◌<◌, ◌≤◌, Bool, true, false, not, cond, nat_lt, inl, inr, refl, sym, ap, ◌∙◌, arith}
+use Rattle.std.proofs.Math.Bool.{and-false, or-true}
+use Rattle.std.proofs.lemmas.Bool.{and_parts, cases_Bool, eq-eqb, ne_eqb, ltb-true, true≢false}
+use Rattle.bittle.proofs.CallerChanges.{contains_after_clear, contains_after_set, contains_without_other, size_inserted, size_with, size_without}
+use Rattle.bittle.proofs.CallerSets.{combination_within, contains_within, with_index_within, without_index_within}
+use Rattle.bittle.specs.PlainSet.{PlainSet, contains, empty_set, lacks, size, with_index, without_index}
+use Rattle.bittle.specs.SetOperations.{combination_of}
 use Rattle.bittle_ext.specs.Changes.{with_index_assigned, with_index_toggled}
 
 -- the empty set has no index
@@ -41,3 +42,78 @@ pub unset_after_toggle : (s t : PlainSet) (i : ℕ) → t ≡ with_index_toggled
     contains s i ≡ true → contains t i ≡ false
 unset_after_toggle s t i is set =
     contains_after_clear s t i (is ∙ ap (λ b. with_index_assigned s i (not b)) set)
+
+-- a set has one member more at most after an index was set
+pub size_after_set : (s t : PlainSet) (i : ℕ) → t ≡ with_index s i → 0 < s.capacity →
+    size t ≤ size s + 1
+size_after_set s t i is some =
+    let grown : size t ≡ size s + cond (not (contains s i)) 1 0 =
+    ap size is ∙ size_inserted s i some in
+    elim (cases_Bool (contains s i)) [
+      | inl set ↦ omega (arith, grown ∙ ap (λ b. size s + cond (not b) 1 0) set)
+      | inr unset ↦ omega (arith, grown ∙ ap (λ b. size s + cond (not b) 1 0) unset)
+    ]
+
+-- and just one more if the index was unset
+pub size_after_set_new : (s t : PlainSet) (i : ℕ) → t ≡ with_index s i → i < s.capacity →
+    contains s i ≡ false → size t ≡ size s + 1
+size_after_set_new s t i is below unset =
+    ap size is ∙ size_with s i below (sym (contains_within s i below) ∙ unset)
+
+-- a set has one member fewer after a member was cleared
+pub size_after_clear_member : (s t : PlainSet) (i : ℕ) → t ≡ without_index s i →
+    i < s.capacity → contains s i ≡ true → size s ≡ size t + 1
+size_after_clear_member s t i is below set =
+    size_without s i below (sym (contains_within s i below) ∙ set)
+    ∙ sym (ap (λ u. size u + 1) is)
+
+-- a set with an index below the capacity has that number and its own members
+pub has_with_index : (s : PlainSet) (i k : ℕ) → i < s.capacity →
+    (with_index s i).has k ≡ ((k == i) || s.has k)
+has_with_index s i k below = ap (λ t. t.has k) (with_index_within s i below)
+
+-- so, below the capacity, an index is a member after it was set
+pub has_after_set : (s t : PlainSet) (i : ℕ) → t ≡ with_index s i → i < s.capacity →
+    t.has i ≡ true
+has_after_set s t i is below =
+    ap (λ u. u.has i) is ∙ has_with_index s i i below ∙ ap (λ b. b || s.has i) (eq-eqb i i refl)
+
+-- a member stays one
+pub still_has_after_set : (s t : PlainSet) (i j : ℕ) → t ≡ with_index s i → i < s.capacity →
+    s.has j ≡ true → t.has j ≡ true
+still_has_after_set s t i j is below has =
+    ap (λ u. u.has j) is ∙ has_with_index s i j below ∙ ap (λ b. (j == i) || b) has
+    ∙ or-true (j == i)
+
+-- and another number is a member exactly if it was one
+pub has_other_after_set : (s t : PlainSet) (i j : ℕ) → t ≡ with_index s i → i < s.capacity →
+    j ≢ i → t.has j ≡ s.has j
+has_other_after_set s t i j is below apart =
+    ap (λ u. u.has j) is ∙ has_with_index s i j below
+    ∙ ap (λ b. b || s.has j) (ne_eqb j i apart)
+
+-- an index below the capacity is no member after it was cleared
+pub has_after_clear : (s t : PlainSet) (i : ℕ) → t ≡ without_index s i → i < s.capacity →
+    t.has i ≡ false
+has_after_clear s t i is below =
+    ap (λ u. u.has i) is ∙ ap (λ u. u.has i) (without_index_within s i below)
+    ∙ ap (λ b. not b && s.has i) (eq-eqb i i refl)
+
+-- and another number is a member exactly if it was one
+pub has_other_after_clear : (s t : PlainSet) (i j : ℕ) → t ≡ without_index s i →
+    i < s.capacity → j ≢ i → t.has j ≡ s.has j
+has_other_after_clear s t i j is below apart =
+    ap (λ u. u.has j) is ∙ ap (λ u. u.has j) (without_index_within s i below)
+    ∙ ap (λ b. not b && s.has j) (ne_eqb j i apart)
+
+-- ---- one index after an operation
+
+-- below both capacities the operation decides by the tests of both sets
+pub contains_after_operation : (decide : Bool → Bool → Bool) (u s t : PlainSet) (i : ℕ) →
+    u ≡ combination_of decide s t → i < s.capacity → i < t.capacity →
+    contains u i ≡ decide (contains s i) (contains t i)
+contains_after_operation decide u s t i is below within =
+    let result = combination_of decide s t in
+    ap (λ v. contains v i) is ∙ contains_within result i below
+    ∙ combination_within decide s t i below within
+    ∙ rw (contains_within s i below, contains_within t i within) refl

@@ -1,10 +1,38 @@
--- A span that a set keeps, after the calls of its owner.
-use Rattle.std.proofs.Common.{◌≡◌, ◌≢◌, ℕ, zero, suc, ◌+◌, ◌-◌, ◌%◌, ◌<◌, ◌≤◌, Bool, true, false, cond, not, ◌&&◌, ◌||◌, ◌==◌, nat_lt, inl, inr, refl, ap, ◌∙◌, arith}
+-- Spans of a set, after the calls of its owner.
+use Rattle.std.proofs.Common.{◌≡◌, ◌≢◌, ℕ, zero, suc, ◌+◌, ◌-◌, ◌%◌, ◌<◌, ◌≤◌, ◌⊎◌, Bool, true, false, cond, not, ◌&&◌, ◌||◌, ◌==◌, nat_lt, inl, inr, refl, ap, ◌∙◌, arith}
 use Rattle.std.proofs.Math.Bool.{and-false, or-true}
 use Rattle.std.proofs.Math.Nat.{div-add-mod', mod-eq_of_lt}
 use Rattle.std.proofs.lemmas.Bool.{and_parts, cases_eq, ne_eqb, le-leb, lt-ltb}
-use Rattle.bittle.specs.PlainSet.{PlainSet, is_in_span, has_changed, has_with, has_without, with_index, with_span, without_index}
+use Rattle.bittle.specs.PlainSet.{PlainSet, is_in_span, has_changed, has_with, has_without, with_index, with_span, without_index, without_span}
+use Rattle.bittle_bits.proofs.Spans.{inside_span, outside_span}
 use Rattle.bittle_ext.specs.ReservedSpans.{each_from, has_span}
+
+-- ---- one index after a span was set or cleared
+
+-- an index of a span is a member after the span was set
+pub has_after_set_span : (s t : PlainSet) (from to i : ℕ) → t ≡ with_span s from to →
+    from ≤ i → i < to → t.has i ≡ true
+has_after_set_span s t from to i is low up =
+    ap (λ (u : PlainSet). u.has i) is ∙ inside_span (λ _. true) s from to i low up
+
+-- and none after the span was cleared
+pub has_after_clear_span : (s t : PlainSet) (from to i : ℕ) → t ≡ without_span s from to →
+    from ≤ i → i < to → t.has i ≡ false
+has_after_clear_span s t from to i is low up =
+    ap (λ (u : PlainSet). u.has i) is ∙ inside_span (λ _. false) s from to i low up
+
+-- an index outside the span is a member exactly if it was one
+pub has_outside_set_span : (s t : PlainSet) (from to i : ℕ) → t ≡ with_span s from to →
+    (i < from) ⊎ (to ≤ i) → t.has i ≡ s.has i
+has_outside_set_span s t from to i is outside =
+    ap (λ (u : PlainSet). u.has i) is ∙ outside_span (λ _. true) s from to i outside
+
+pub has_outside_clear_span : (s t : PlainSet) (from to i : ℕ) → t ≡ without_span s from to →
+    (i < from) ⊎ (to ≤ i) → t.has i ≡ s.has i
+has_outside_clear_span s t from to i is outside =
+    ap (λ (u : PlainSet). u.has i) is ∙ outside_span (λ _. false) s from to i outside
+
+-- ---- a span that a set keeps
 
 -- a test that each of some numbers passes
 each_passes : (p : ℕ → Bool) (from n : ℕ) → ((k : ℕ) → from ≤ k → k < from + n → p k ≡ true) →

@@ -1,6 +1,7 @@
 pub mod PassedGroups
 pub mod PassedWords
 pub mod CallableBelow
+pub mod ListedMembers
 pub mod CallerMembers
 pub mod CallerSpans
 pub mod CombinedSets

@@ -1,0 +1,49 @@
+//! Sets and lists of their members: what a caller knows of one number after each of a list was set,
+//! and the first members in a slice.
+
+ghost use Rattle.std.specs.List.{All};
+ghost use Rattle.std.specs.Prelude.{◌≡◌, true};
+ghost use Rattle.bittle.specs.BitPatterns.{bit_set};
+ghost use Rattle.bittle.specs.PlainSet.{contains};
+ghost use Rattle.bittle.specs.Rows.{row_set};
+
+use bittle::Bits;
+use bittle_ext::{BitsMutExt, BitsOwnedExt};
+
+/// Returns the set of the numbers that are never given out.
+#[tactic(auto, using(bittle_ext::proofs::ListedMembers::contains_after_all))]
+pub fn never_given(numbers: &[u32]) -> u64
+    ensures { All (λ i. contains (bit_set 64 result) i ≡ true) numbers.now }
+{
+    u64::from_indexes(numbers)
+}
+
+/// Takes seats, which may be taken already.
+#[tactic(auto, using(bittle_ext::proofs::ListedMembers::contains_after_all))]
+pub fn take(taken: &mut [u64; 4], seats: &[u32])
+    ensures { All (λ i. contains (row_set 4 64 (bit_set 64) taken.new) i ≡ true) seats.now }
+{
+    taken.insert_all(seats);
+}
+
+/// Takes seats where one is taken already, which stays so.
+#[tactic(auto, using(bittle_ext::proofs::ListedMembers::still_set_after_all))]
+pub fn take_beside(taken: &mut [u64; 4], seats: &[u32], seat: u32)
+    requires { contains (row_set 4 64 (bit_set 64) taken.old) seat ≡ true }
+    ensures { contains (row_set 4 64 (bit_set 64) taken.new) seat ≡ true }
+{
+    taken.insert_all(seats);
+}
+
+/// Writes the least members into a slice, as many as there is room for, and returns how many.
+pub fn write_first(members: &[u64; 4], room: &mut [u32]) -> usize {
+    let mut count = 0;
+    for index in members.iter_ones() {
+        if room.len() <= count {
+            break;
+        }
+        room[count] = index;
+        count += 1;
+    }
+    count
+}
