@@ -1,6 +1,7 @@
 //! Tests of the proved callers and of the allocator: values worked out by hand.
 //!
-//! The callers are in `bittle_uses` and the allocator in `bit_pages`, each with its contracts.
+//! The callers are in `bittle_uses` and `bittle_ext_uses`, the allocator in `bit_pages`, each with its
+//! contracts.
 #![tactic(auto)]
 
 #[cfg(test)]
@@ -9,6 +10,8 @@ mod checks;
 mod debug_texts;
 #[cfg(test)]
 mod error_texts;
+#[cfg(test)]
+mod everyday_callers;
 #[cfg(test)]
 mod requests;
 #[cfg(test)]

@@ -1,0 +1,36 @@
+//! Callers of the everyday calls, with values worked out by hand.
+
+use crate::checks::same;
+use bittle::Bits;
+use bittle_ext_uses::graphs::reachable;
+use bittle_ext_uses::listed::write_first;
+use bittle_ext_uses::relation_chains::right_numbers;
+
+#[test]
+fn nodes_that_edges_lead_to(rt: HostRuntime) {
+    // Edges lead from 0 to 1 and 63, from 63 to 2, from 2 back to 0, and from 5 to 1.
+    let mut rows = [0u64; 64];
+    rows[0] = 1 << 63 | 0b0010;
+    rows[2] = 0b0001;
+    rows[5] = 0b0010;
+    rows[63] = 0b0100;
+    same!(rt; reachable(&rows, 0), 1 << 63 | 0b0111);
+    same!(rt; (reachable(&rows, 5), reachable(&rows, 1)), (0b0010_0010, 0b0010));
+    same!(rt; (reachable(&rows, 64), reachable(&rows, u32::MAX)), (0, 0));
+}
+
+#[test]
+fn first_members_in_a_slice(rt: HostRuntime) {
+    let members = [0b1010u64, 0, 1, 0];
+    let mut room = [9u32; 4];
+    same!(rt; (write_first(&members, &mut room), room), (3, [1, 3, 128, 9]));
+    same!(rt; (write_first(&members, &mut room[..2]), write_first(&members, &mut [])), (2, 0));
+}
+
+#[test]
+fn right_numbers_of_a_ticket(rt: HostRuntime) {
+    // Of 1, 2, 3, 10, 20 and 49 the numbers 3, 10 and 49 were drawn.
+    let ticket = 1 << 49 | 1 << 20 | 1 << 10 | 0b1110u64;
+    assert!(rt; Bits::count_ones(&ticket) == 6);
+    same!(rt; right_numbers(ticket, 1 << 49 | 1 << 48 | 1 << 10 | 0b1000), 3);
+}
