@@ -48,11 +48,14 @@ grows f s t u keeps is differ =
 
 module _ (f : Bool → Bool → Bool) (s t u : PlainSet) (brings : (a b : Bool) → f a b ≡ true →
     a ≡ true) (is : u ≡ combined f s t) where
-  -- a set that an operation makes, which brings none in, has members of the first alone
+  -- a set that an operation makes, which brings none in, has members of the first set only
   from_first : Implies u.capacity u.has s.has
   from_first k l h =
       brings (s.has k) (t.has k)
-      (sym (ap (λ v. v.has k) is ∙ combined_below f s t k (omega (arith, l, ap (λ v. v.capacity) is))) ∙ h)
+      (sym (ap (λ v. v.has k) is ∙ combined_below f s t k below) ∙ h)
+    where
+      below : k < s.capacity
+      below = omega (arith, l, ap (λ v. v.capacity) is)
 
   -- so it has no more
   pub never_grows : size u ≤ size s
