@@ -1,11 +1,12 @@
 -- Members of a set, after the calls of its owner.
-use Rattle.std.proofs.Common.{◌≡◌, ◌≢◌, ◌==◌, ◌&&◌, ◌||◌, ℕ, ◌+◌, ◌<◌, ◌≤◌, Bool, true, false, not, cond, nat_lt, inl, inr, refl, sym, ap, ◌∙◌, arith}
+use Rattle.std.proofs.Common.{◌≡◌, ◌≢◌, ◌==◌, ◌&&◌, ◌||◌, ℕ, ◌+◌, ◌%◌, ◌<◌, ◌≤◌, Bool, true, false, not, cond, nat_lt, inl, inr, refl, sym, ap, ◌∙◌, arith}
 use Rattle.std.proofs.Math.Bool.{and-false, or-true}
-use Rattle.std.proofs.lemmas.Bool.{and_parts, cases_Bool, eq-eqb, ne_eqb, ltb-true, true≢false}
-use Rattle.bittle.proofs.CallerChanges.{contains_after_clear, contains_after_set, contains_without_other, size_inserted, size_with, size_without}
-use Rattle.bittle.proofs.CallerSets.{combination_within, contains_within, with_index_within, without_index_within}
-use Rattle.bittle.specs.PlainSet.{PlainSet, contains, empty_set, lacks, size, with_index, without_index}
-use Rattle.bittle.specs.SetOperations.{combination_of}
+use Rattle.std.proofs.lemmas.Bool.{and_parts, cases_Bool, eq-eqb, ne_eqb, ltb-true, not-false, not-true}
+use Rattle.bittle.proofs.CallerChanges.{contains_after_clear, contains_after_set, contains_without_other, contains_with_other, size_inserted, size_with, size_without}
+use Rattle.bittle.proofs.CallerSets.{combination_within, complement_within, contains_within, size_whole, with_index_within, without_index_within}
+use Rattle.bittle.specs.PlainSet.{PlainSet, complement, contains, empty_set, lacks, size, with_index, without_index}
+use Rattle.bittle.specs.Searches.{NoneIn}
+use Rattle.bittle.specs.SetOperations.{combination_of, combination_has, union_of}
 use Rattle.bittle_ext.specs.Changes.{with_index_assigned, with_index_toggled}
 
 -- the empty set has no index
@@ -13,23 +14,28 @@ pub contains_empty : (c i : ℕ) → contains (empty_set c) i ≡ false
 unfolding contains
 contains_empty c i = and-false (nat_lt 0 c)
 
--- a member stays one after another index was cleared
-pub still_set_after_clear : (s t : PlainSet) (i j : ℕ) → t ≡ without_index s i → j ≢ i →
-    i < s.capacity → j < s.capacity → contains s j ≡ true → contains t j ≡ true
-still_set_after_clear s t i j is apart low up has =
-    ap (λ u. contains u j) is
-    ∙ contains_without_other s i j low up apart ∙ has
-
 -- what a search for an unset bit finds is unset
 pub unset_where_found : (s : PlainSet) (i : ℕ) → lacks s i ≡ true → contains s i ≡ false
 unfolding lacks
 unset_where_found s i found =
     let parts = and_parts (nat_lt i s.capacity) (not (s.has i)) found in
     contains_within s i (ltb-true i s.capacity parts.0) ∙ not-true (s.has i) parts.1
-  where
-    not-true : (b : Bool) → not b ≡ true → b ≡ false
-    not-true true e = absurd (true≢false (sym e))
-    not-true false e = refl
+
+-- a set has its capacity as its size where no number is found unset
+pub full_if_none_unset : (s : PlainSet) → NoneIn (complement s) 0 s.capacity → size s ≡ s.capacity
+full_if_none_unset s none = size_whole s (λ k below.
+    not-false (s.has k) (sym (complement_within s k below) ∙ none k (omega arith) below))
+
+-- another index is a member after a change exactly if it was one
+pub contains_other_after_set : (s t : PlainSet) (i j : ℕ) (b : Bool) → t ≡ with_index s i →
+    j ≢ i → i < s.capacity → j < s.capacity → contains s j ≡ b → contains t j ≡ b
+contains_other_after_set s t i j b is apart low up was =
+    ap (λ u. contains u j) is ∙ contains_with_other s i j low up apart ∙ was
+
+pub contains_other_after_clear : (s t : PlainSet) (i j : ℕ) (b : Bool) → t ≡ without_index s i →
+    j ≢ i → i < s.capacity → j < s.capacity → contains s j ≡ b → contains t j ≡ b
+contains_other_after_clear s t i j b is apart low up was =
+    ap (λ u. contains u j) is ∙ contains_without_other s i j low up apart ∙ was
 
 -- an index that was unset is set after it was flipped
 pub set_after_toggle : (s t : PlainSet) (i : ℕ) → t ≡ with_index_toggled s i → 0 < s.capacity →
@@ -117,3 +123,17 @@ contains_after_operation decide u s t i is below within =
     ap (λ v. contains v i) is ∙ contains_within result i below
     ∙ combination_within decide s t i below within
     ∙ rw (contains_within s i below, contains_within t i within) refl
+
+-- a member stays one after a union
+pub still_set_after_union : (s t u : PlainSet) (i : ℕ) → u ≡ union_of s t → contains s i ≡ true →
+    contains u i ≡ true
+unfolding contains combination_has
+still_set_after_union s t u i is has =
+    let k = i % s.capacity in
+    let parts = and_parts (nat_lt 0 s.capacity) (s.has k) has in
+    ap (λ v. contains v i) is
+    ∙ rw (parts.0, parts.1) (either (nat_lt k s.capacity && nat_lt k t.capacity) (t.has k))
+  where
+    either : (below other : Bool) → cond below (true || other) true ≡ true
+    either true other = refl
+    either false other = refl

@@ -1,10 +1,11 @@
 -- Spans of a set, after the calls of its owner.
-use Rattle.std.proofs.Common.{◌≡◌, ◌≢◌, ℕ, zero, suc, ◌+◌, ◌-◌, ◌%◌, ◌<◌, ◌≤◌, ◌⊎◌, Bool, true, false, cond, not, ◌&&◌, ◌||◌, ◌==◌, nat_lt, inl, inr, refl, ap, ◌∙◌, arith}
+use Rattle.std.proofs.Common.{◌≡◌, ◌≢◌, ℕ, zero, suc, ◌+◌, ◌-◌, ◌%◌, ◌<◌, ◌≤◌, ◌⊎◌, Bool, true, false, cond, not, ◌&&◌, ◌||◌, ◌==◌, nat_lt, inl, inr, refl, sym, ap, ◌∙◌, arith}
 use Rattle.std.proofs.Math.Bool.{and-false, or-true}
 use Rattle.std.proofs.Math.Nat.{div-add-mod', mod-eq_of_lt}
 use Rattle.std.proofs.lemmas.Bool.{and_parts, cases_eq, ne_eqb, le-leb, lt-ltb}
-use Rattle.bittle.specs.PlainSet.{PlainSet, is_in_span, has_changed, has_with, has_without, with_index, with_span, without_index, without_span}
+use Rattle.bittle.specs.PlainSet.{PlainSet, contains, is_in_span, has_changed, has_with, has_without, with_index, with_span, without_index, without_span}
 use Rattle.bittle_bits.proofs.Spans.{inside_span, outside_span}
+use Rattle.bittle.proofs.CallerSets.{contains_within}
 use Rattle.bittle_ext.specs.ReservedSpans.{each_from, has_span}
 
 -- ---- one index after a span was set or cleared
@@ -32,10 +33,25 @@ pub has_outside_clear_span : (s t : PlainSet) (from to i : ℕ) → t ≡ withou
 has_outside_clear_span s t from to i is outside =
     ap (λ (u : PlainSet). u.has i) is ∙ outside_span (λ _. false) s from to i outside
 
+-- the same of a test by `contains`
+pub contains_outside_set_span : (s t : PlainSet) (from to i : ℕ) (b : Bool) →
+    t ≡ with_span s from to → (i < from) ⊎ (to ≤ i) → i < s.capacity → contains s i ≡ b →
+    contains t i ≡ b
+contains_outside_set_span s t from to i b is outside below was =
+    ap (λ (u : PlainSet). contains u i) is ∙ contains_within (with_span s from to) i below
+    ∙ outside_span (λ _. true) s from to i outside ∙ sym (contains_within s i below) ∙ was
+
+pub contains_outside_clear_span : (s t : PlainSet) (from to i : ℕ) (b : Bool) →
+    t ≡ without_span s from to → (i < from) ⊎ (to ≤ i) → i < s.capacity → contains s i ≡ b →
+    contains t i ≡ b
+contains_outside_clear_span s t from to i b is outside below was =
+    ap (λ (u : PlainSet). contains u i) is ∙ contains_within (without_span s from to) i below
+    ∙ outside_span (λ _. false) s from to i outside ∙ sym (contains_within s i below) ∙ was
+
 -- ---- a span that a set keeps
 
 -- a test that each of some numbers passes
-each_passes : (p : ℕ → Bool) (from n : ℕ) → ((k : ℕ) → from ≤ k → k < from + n → p k ≡ true) →
+pub each_passes : (p : ℕ → Bool) (from n : ℕ) → ((k : ℕ) → from ≤ k → k < from + n → p k ≡ true) →
     each_from p from n ≡ true
 unfolding each_from
 each_passes p from zero all = refl
@@ -43,7 +59,7 @@ each_passes p from (suc n) all =
     ap (λ b. b && each_from p (suc from) n) (all from (omega arith) (omega arith))
     ∙ each_passes p (suc from) n (λ k low up. all k (omega (arith, low)) (omega (arith, up)))
 
-passes_each : (p : ℕ → Bool) (from n : ℕ) → each_from p from n ≡ true → (k : ℕ) → from ≤ k →
+pub passes_each : (p : ℕ → Bool) (from n : ℕ) → each_from p from n ≡ true → (k : ℕ) → from ≤ k →
     k < from + n → p k ≡ true
 unfolding each_from
 passes_each p from zero all k low up = absurd (omega (arith, low, up))
@@ -56,14 +72,14 @@ passes_each p from (suc n) all k low up =
     ]
 
 -- a span is kept where each of its numbers is
-has_span_if_each : (s : PlainSet) (from to : ℕ) →
+pub has_span_if_each : (s : PlainSet) (from to : ℕ) →
     ((k : ℕ) → from ≤ k → k < to → s.has k ≡ true) → has_span s from to ≡ true
 unfolding has_span
 has_span_if_each s from to all =
     each_passes s.has from (to - from) (λ k low up. all k low (omega (arith, low, up)))
 
 -- and each number of a span that is kept is one
-each_if_has_span : (s : PlainSet) (from to : ℕ) → has_span s from to ≡ true → (k : ℕ) → from ≤ k →
+pub each_if_has_span : (s : PlainSet) (from to : ℕ) → has_span s from to ≡ true → (k : ℕ) → from ≤ k →
     k < to → s.has k ≡ true
 unfolding has_span
 each_if_has_span s from to has k low up =

@@ -1,16 +1,17 @@
 //! Changes of single words.
 
 ghost use Rattle.std.specs.Int.{w64, cast_unsigned};
-ghost use Rattle.std.specs.Prelude.{◌≡◌, ◌<◌, ◌≤◌, ◌==◌, ◌%◌, ℕ, not, true, MatchOption, Option};
+ghost use Rattle.std.specs.Prelude.{◌≡◌, ◌≢◌, ◌<◌, ◌≤◌, ◌==◌, ◌%◌, ℕ, not, true, MatchOption, Option};
 ghost use Rattle.bittle.specs.BitPatterns.{bit_set};
 ghost use Rattle.bittle.specs.Orders.{read_in};
 ghost use Rattle.bittle.specs.PlainSet.{complement, contains, size, with_index, without_index};
 ghost use Rattle.bittle.specs.PlainSet.{with_span, with_span_toggled, without_span};
+ghost use Rattle.bittle.specs.Rows.{row_set};
 ghost use Rattle.bittle.specs.Searches.{IsFirstIn, IsLastIn};
 ghost use Rattle.bittle_ext.specs.Changes.{with_index_assigned, with_index_toggled, those_passing};
 
-use bittle::{Bits, LittleEndian};
-use bittle_ext::{BitsMutExt, BitsMutViewExt};
+use bittle::{Bits, BitsMut, LittleEndian};
+use bittle_ext::{BitsMutExt, BitsMutViewExt, BitsSpanMutExt};
 
 /// Sets a bit, and returns whether it was unset.
 pub fn add(mask: &mut u64, index: u32) -> bool
@@ -37,6 +38,41 @@ pub fn put(mask: &mut u8, index: u32, value: bool) -> bool
         ≡ with_index_assigned (read_in true 8 (bit_set 8 mask.old)) index value }
 {
     mask.in_order_mut::<LittleEndian>().replace(index, value)
+}
+
+/// Sets a bit of a row. Each other bit is as before.
+#[tactic(auto, using(bittle_ext::proofs::CallerMembers::contains_other_after_set))]
+pub fn mark(row: &mut [u64; 4], index: u32)
+    requires { index < 256 }
+    ensures { (k : ℕ) → k < 256 → k ≢ index
+        → contains (row_set 4 64 (bit_set 64) row.new) k
+        ≡ contains (row_set 4 64 (bit_set 64) row.old) k }
+{
+    row.set_bit(index);
+}
+
+/// Sets a bit in place of another one. Each other bit is as before.
+#[tactic(auto, using(bittle_ext::proofs::CallerMembers::contains_other_after_clear, bittle_ext::proofs::CallerMembers::contains_other_after_set))]
+pub fn move_mark(row: &mut [u64; 4], from: u32, to: u32)
+    requires from { from < 256 }
+    requires to { to < 256 }
+    ensures { (k : ℕ) → k < 256 → k ≢ from → k ≢ to
+        → contains (row_set 4 64 (bit_set 64) row.new) k
+        ≡ contains (row_set 4 64 (bit_set 64) row.old) k }
+{
+    row.clear_bit(from);
+    row.set_bit(to);
+}
+
+/// Clears some bits of a row. Each other bit is as before.
+#[tactic(auto, using(bittle_ext::proofs::CallerSpans::contains_outside_clear_span))]
+pub fn clear_first(row: &mut [u64; 4], end: u32)
+    requires { end ≤ 256 }
+    ensures { (k : ℕ) → end ≤ k → k < 256
+        → contains (row_set 4 64 (bit_set 64) row.new) k
+        ≡ contains (row_set 4 64 (bit_set 64) row.old) k }
+{
+    row.clear_span(..end);
 }
 
 /// Sets a bit by its value.

@@ -71,7 +71,7 @@ pub fn take_away(role: &mut u32, permission: u32, other: u32)
 }
 
 /// Takes a permission away from a role that has another one, and still has it.
-#[tactic(auto, using(bittle_ext::proofs::CallerMembers::still_set_after_clear))]
+#[tactic(auto, using(bittle_ext::proofs::CallerMembers::contains_other_after_clear))]
 pub fn take_one(role: &mut u32, permission: u32, other: u32)
     requires has { contains (bit_set 32 role.old) other ≡ true }
     requires apart { other ≢ permission }
