@@ -4,6 +4,7 @@ pub mod CallableBelow
 pub mod ListedMembers
 pub mod CallerMembers
 pub mod CallerSpans
+pub mod CallerShifts
 pub mod CombinedSets
 mod CombinedWords
 mod Complements
@@ -14,7 +15,9 @@ mod GrownSets
 mod MaximalRuns
 pub mod NumberBits
 mod OneBit
+pub mod IncludedSets
 pub mod CommonCounts
+pub mod RangeAnswers
 mod RangeItems
 mod RangesBelow
 mod PassingMembers
@@ -34,5 +37,6 @@ mod RunEnds
 mod RunLists
 mod ShortRuns
 mod TurnedSets
+pub mod UnsetSpans
 pub mod SetFacts
 mod ViewFacts

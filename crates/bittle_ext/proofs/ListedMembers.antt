@@ -1,11 +1,17 @@
--- A set after each index of a list was set, as by `from_indexes` and `insert_all`.
-use Rattle.std.proofs.Common.{◌≡◌, ◌==◌, ◌||◌, ℕ, ◌<◌, Bool, true, false, List, [], ◌∷◌, All, inl, inr, refl, sym, ap, ◌∙◌, subst}
+-- Lists of a set's members, and a set after each index of a list was set, as by `from_indexes` and
+-- `insert_all`.
+use Rattle.std.proofs.Common.{◌≡◌, ◌==◌, ◌||◌, ℕ, ◌+◌, ◌<◌, ◌≤◌, Bool, true, false, List, [], ◌∷◌, length, All, inl, inr, refl, sym, ap, ◌∙◌, subst, arith}
 use Rattle.std.specs.List.{fold}
 use Rattle.std.proofs.lemmas.Bool.{cases_Bool, eqb-true}
 use Rattle.std.proofs.lemmas.List.Elements.{All-nil, All-cons, All-head, All-tail}
-use Rattle.bittle.specs.PlainSet.{PlainSet, contains, with_index}
+use Rattle.bittle.specs.PlainSet.{PlainSet, ascending, contains, size, with_index}
 use Rattle.bittle.proofs.CallerChanges.{contains_after_set, still_set_after_set}
-use Rattle.bittle_ext.proofs.CallerMembers.{has_with_index}
+use Rattle.bittle_ext.proofs.CallerMembers.{has_with_index, size_after_set}
+use Rattle.bittle_bits.proofs.AscendingLists as lists
+
+-- the increasing list has as many items as the set has members
+pub ascending_length : (s : PlainSet) → length (ascending s) ≡ size s
+ascending_length = lists.ascending-length
 
 -- a member stays one where each index of a list is set
 kept : (xs : List ℕ) (s : PlainSet) (i : ℕ) → contains s i ≡ true →
@@ -33,12 +39,12 @@ contains_after_all s t xs is some =
     subst (λ (u : PlainSet). All (λ i. contains u i ≡ true) xs) (sym is) (each_added xs s some)
 
 -- what holds of each member and of each index of the list holds of each member then
-each_passes : (P : ℕ → Type 0) (xs : List ℕ) (s : PlainSet) → All (λ i. i < s.capacity) xs →
+each_member : (P : ℕ → Type 0) (xs : List ℕ) (s : PlainSet) → All (λ i. i < s.capacity) xs →
     All P xs → ((k : ℕ) → s.has k ≡ true → P k) → (k : ℕ) →
     (fold with_index s xs).has k ≡ true → P k
-each_passes P [] s below items members = members
-each_passes P (x ∷ xs) s below items members =
-    each_passes P xs (with_index s x) (All-tail (λ i. i < s.capacity) x xs below)
+each_member P [] s below items members = members
+each_member P (x ∷ xs) s below items members =
+    each_member P xs (with_index s x) (All-tail (λ i. i < s.capacity) x xs below)
     (All-tail P x xs items) with_one
   where
     with_one : (k : ℕ) → (with_index s x).has k ≡ true → P k
@@ -53,4 +59,19 @@ pub each_after_all : (P : ℕ → Type 0) (s t : PlainSet) (xs : List ℕ) →
     t ≡ fold with_index s xs → All (λ i. i < s.capacity) xs → All P xs →
     ((k : ℕ) → s.has k ≡ true → P k) → (k : ℕ) → t.has k ≡ true → P k
 each_after_all P s t xs is below items members k has =
-    each_passes P xs s below items members k (sym (ap (λ u. u.has k) is) ∙ has)
+    each_member P xs s below items members k (sym (ap (λ u. u.has k) is) ∙ has)
+
+-- the set has at most as many members more as the list has items
+pub size_after_all : (s t : PlainSet) (xs : List ℕ) → t ≡ fold with_index s xs →
+    0 < s.capacity → size t ≤ size s + length xs
+size_after_all s t xs is some = omega (arith, ap size is, each_adds xs s some)
+  where
+    each_adds : (xs : List ℕ) (s : PlainSet) → 0 < s.capacity →
+        size (fold with_index s xs) ≤ size s + length xs
+    each_adds [] s some = omega arith
+    each_adds (x ∷ xs) s some =
+        omega (
+          arith,
+          each_adds xs (with_index s x) some,
+          size_after_set s (with_index s x) x refl some,
+        )

@@ -1,6 +1,6 @@
--- A span of numbers that a set keeps, as those past the last page of an allocator.
-use Rattle.std.specs.Prelude.{ℕ, zero, suc, ◌-◌, Bool, true, ◌&&◌}
-use Rattle.bittle.specs.PlainSet.{PlainSet}
+-- Numbers that a set keeps set or unset, as those past the last page of an allocator.
+use Rattle.std.specs.Prelude.{ℕ, zero, suc, ◌-◌, Bool, true, not, ◌&&◌, ◌||◌}
+use Rattle.bittle.specs.PlainSet.{PlainSet, complement}
 
 -- whether each of the n numbers from a first one on passes the test
 unfoldable pub each_from : (ℕ → Bool) → ℕ → ℕ → Bool
@@ -10,3 +10,11 @@ each_from p from (suc n) = p from && each_from p (suc from) n
 -- whether each number of from..to is a member
 unfoldable pub has_span : PlainSet → ℕ → ℕ → Bool
 has_span s from to = each_from s.has from (to - from)
+
+-- whether each number of from..to is below the capacity, and no member
+unfoldable pub lacks_span : PlainSet → ℕ → ℕ → Bool
+lacks_span s from to = has_span (complement s) from to
+
+-- whether each member of the second set is one of the first
+unfoldable pub includes : PlainSet → PlainSet → Bool
+includes s r = each_from (λ k. not (r.has k) || s.has k) 0 r.capacity
