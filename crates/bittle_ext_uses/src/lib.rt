@@ -1,17 +1,19 @@
 //! Callers of the everyday calls, each proved from public contracts with no proof file but for the
-//! measures of loops.
+//! measures of loops, and in `one_line` an answer of one line.
 #![tactic(auto)]
 
 pub mod any_changes;
 pub mod chains;
 pub mod checked_indexes;
 pub mod combined_walks;
+pub mod field;
 pub mod first_forms;
 pub mod graphs;
 pub mod lent_changes;
 pub mod listed;
 pub mod made_sets;
 pub mod numbers;
+pub mod one_line;
 pub mod pops;
 pub mod range_walks;
 pub mod reads;
@@ -19,6 +21,7 @@ pub mod relation_chains;
 pub mod retained;
 pub mod rotations;
 pub mod run_walks;
+pub mod seats;
 pub mod sets_between;
 pub mod shape_changes;
 pub mod spans;

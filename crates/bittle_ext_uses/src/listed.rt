@@ -2,9 +2,9 @@
 //! and the first members in a slice.
 
 ghost use Rattle.std.specs.List.{All};
-ghost use Rattle.std.specs.Prelude.{◌≡◌, true};
+ghost use Rattle.std.specs.Prelude.{◌≡◌, ◌<◌, ℕ, min, length, get_or, true};
 ghost use Rattle.bittle.specs.BitPatterns.{bit_set};
-ghost use Rattle.bittle.specs.PlainSet.{contains};
+ghost use Rattle.bittle.specs.PlainSet.{ascending, contains, size};
 ghost use Rattle.bittle.specs.Rows.{row_set};
 
 use bittle::Bits;
@@ -36,7 +36,12 @@ pub fn take_beside(taken: &mut [u64; 4], seats: &[u32], seat: u32)
 }
 
 /// Writes the least members into a slice, as many as there is room for, and returns how many.
-pub fn write_first(members: &[u64; 4], room: &mut [u32]) -> usize {
+pub fn write_first(members: &[u64; 4], room: &mut [u32]) -> usize
+    ensures length { length room.new ≡ length room.old }
+    ensures count { result ≡ min (size (row_set 4 64 (bit_set 64) members.now)) (length room.new) }
+    ensures items { (k : ℕ) → k < result → get_or room.new k 0
+        ≡ get_or (ascending (row_set 4 64 (bit_set 64) members.now)) k 0 }
+{
     let mut count = 0;
     for index in members.iter_ones() {
         if room.len() <= count {

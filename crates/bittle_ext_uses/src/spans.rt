@@ -1,6 +1,6 @@
 //! Ranges of a set, written as Rust writes them, and with no condition where a call only reads.
 
-ghost use Rattle.std.specs.Prelude.{◌≡◌, ◌+◌, ◌-◌, ◌<◌, ◌≤◌, true, MatchBool};
+ghost use Rattle.std.specs.Prelude.{◌≡◌, ◌+◌, ◌-◌, ◌<◌, ◌≤◌, true, IsTrue, MatchBool, ◌↔◌};
 ghost use Rattle.std.specs.Range.Bound.{start_index, end_index};
 ghost use Rattle.bittle.specs.BitPatterns.{bit_set};
 ghost use Rattle.bittle.specs.Orders.{read_in};
@@ -192,4 +192,21 @@ pub fn fill_and_count(mask: &mut u64, from: u32, to: u32) -> u32
     let others = Bits::count_ones(mask) - mask.count_ones_in_range(from, to);
     mask.set_range(from, to);
     others + (to - from)
+}
+
+/// Returns whether each bit of a range is set.
+#[tactic(auto, using(bittle_ext::proofs::RangeAnswers::exactly_if_all))]
+pub fn are_all_set(board: &[u64; 4], from: u32, to: u32) -> bool
+    requires { to ≤ 256 }
+    ensures { IsTrue result ↔ HasAllIn (row_set 4 64 (bit_set 64) board.now) from to }
+{
+    board.all_in_range(from, to)
+}
+
+/// Returns whether some bit of a range is set.
+#[tactic(auto, using(bittle_ext::proofs::RangeAnswers::exactly_if_any))]
+pub fn is_any_set(mask: u64, from: u32, to: u32) -> bool
+    ensures { IsTrue result ↔ HasSomeIn (bit_set 64 mask) from to }
+{
+    mask.any_in_range(from, to)
 }

@@ -1,0 +1,54 @@
+//! Clauses that want one line of proof: a lemma that the prover does not find by itself.
+
+ghost use Rattle.std.specs.Prelude.{◌≡◌, ◌≢◌, ◌+◌, ◌-◌, ◌<◌, ◌≤◌, ℕ, true, false, length};
+ghost use Rattle.bittle.specs.BitPatterns.{bit_set};
+ghost use Rattle.bittle.specs.PlainSet.{contains, size};
+ghost use Rattle.bittle.specs.Rows.{row_set};
+
+use bittle::BitsMut;
+use bittle_ext::prelude::*;
+
+/// Clears a bit, and returns whether it was set. Each other bit is as before.
+pub fn unmark(row: &mut [u64; 4], index: u32) -> bool
+    requires { index < 256 }
+    ensures { (k : ℕ) → k < 256 → k ≢ index
+        → contains (row_set 4 64 (bit_set 64) row.new) k
+        ≡ contains (row_set 4 64 (bit_set 64) row.old) k }
+{
+    row.remove(index)
+}
+
+/// Sets a bit that is unset: one more is set.
+pub fn mark_new(row: &mut [u64; 4], index: u32)
+    requires below { index < 256 }
+    requires unset { contains (row_set 4 64 (bit_set 64) row.old) index ≡ false }
+    ensures { size (row_set 4 64 (bit_set 64) row.new)
+        ≡ size (row_set 4 64 (bit_set 64) row.old) + 1 }
+{
+    row.set_bit(index);
+}
+
+/// Sets the bits of a list: no more are new than the list has items.
+pub fn mark_all(row: &mut [u64; 4], indexes: &[u32])
+    ensures { size (row_set 4 64 (bit_set 64) row.new)
+        ≤ size (row_set 4 64 (bit_set 64) row.old) + length indexes.now }
+{
+    row.insert_all(indexes);
+}
+
+/// Moves all bits up.
+pub fn move_up(row: &mut [u64; 4], by: u32)
+    ensures { (k : ℕ) → by ≤ k → k < 256
+        → contains (row_set 4 64 (bit_set 64) row.new) k
+        ≡ contains (row_set 4 64 (bit_set 64) row.old) (k - by) }
+{
+    row.shift_up(by);
+}
+
+/// Adds another set: each member stays.
+pub fn add(row: &mut [u64; 4], other: &[u64; 4])
+    ensures { (k : ℕ) → contains (row_set 4 64 (bit_set 64) row.old) k ≡ true
+        → contains (row_set 4 64 (bit_set 64) row.new) k ≡ true }
+{
+    row.union_assign(other);
+}

@@ -1,0 +1,64 @@
+//! A set that always has the members of another one: the reserved seats of a hall. The type keeps
+//! that by a ghost field, and none of its functions has a proof file.
+
+ghost use Rattle.std.specs.Prelude.{◌≡◌, true, false, IfSome};
+ghost use Rattle.bittle.specs.BitPatterns.{bit_set};
+ghost use Rattle.bittle.specs.PlainSet.{contains};
+ghost use Rattle.bittle.specs.Rows.{row_set};
+ghost use Rattle.bittle_ext.specs.ReservedSpans.{includes};
+
+use bittle::{Bits, BitsMut};
+use bittle_ext::{BitsExt, BitsMutExt};
+
+/// A hall of 256 seats. The reserved ones count as taken.
+#[derive(Drop)]
+pub struct Seats {
+    taken: [u64; 4],
+    reserved: [u64; 4],
+    pub ghost kept: { includes (row_set 4 64 (bit_set 64) taken) (row_set 4 64 (bit_set 64) reserved) ≡ true },
+}
+
+impl Seats {
+    /// Returns a hall of which only the reserved seats are taken.
+    #[tactic(auto, using(bittle_ext::proofs::IncludedSets::includes_itself))]
+    pub fn new(reserved: [u64; 4]) -> Seats {
+        Seats {
+            taken: reserved,
+            reserved,
+        }
+    }
+
+    /// Takes the first free seat, which is not reserved.
+    #[tactic(auto, using(bittle_ext::proofs::IncludedSets::includes_after_set, bittle_ext::proofs::IncludedSets::not_included_if_unset, bittle_ext::proofs::CallerMembers::unset_where_found))]
+    pub fn take(&mut self) -> Option<u32>
+        ensures free { IfSome result
+            (λ seat. contains (row_set 4 64 (bit_set 64) self.old.reserved) seat ≡ false) }
+        ensures reserved { self.new.reserved ≡ self.old.reserved }
+    {
+        let seat = self.taken.first_zero()?;
+        self.taken.set_bit(seat);
+        Some(seat)
+    }
+
+    /// Takes seats, which may be taken already.
+    #[tactic(auto, using(bittle_ext::proofs::IncludedSets::includes_after_all))]
+    pub fn take_all(&mut self, seats: &[u32]) {
+        self.taken.insert_all(seats);
+    }
+
+    /// Gives a seat back unless it is reserved, and returns whether it was taken.
+    #[tactic(auto, using(bittle_ext::proofs::IncludedSets::includes_after_clear))]
+    pub fn give_back(&mut self, seat: u32) -> bool {
+        !self.reserved.test_bit(seat) && self.taken.remove(seat)
+    }
+
+    /// Returns whether a seat is taken. A reserved one is.
+    #[tactic(auto, using(bittle_ext::proofs::IncludedSets::set_if_included))]
+    pub fn is_taken(&self, seat: u32) -> bool
+        ensures taken { result ≡ contains (row_set 4 64 (bit_set 64) self.now.taken) seat }
+        ensures reserved { contains (row_set 4 64 (bit_set 64) self.now.reserved) seat ≡ true
+            → contains (row_set 4 64 (bit_set 64) self.now.taken) seat ≡ true }
+    {
+        self.taken.test_bit(seat)
+    }
+}
