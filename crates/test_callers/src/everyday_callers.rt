@@ -2,9 +2,11 @@
 
 use crate::checks::same;
 use bittle::Bits;
+use bittle_ext_uses::field::Field;
 use bittle_ext_uses::graphs::reachable;
 use bittle_ext_uses::listed::write_first;
 use bittle_ext_uses::relation_chains::right_numbers;
+use bittle_ext_uses::seats::Seats;
 
 #[test]
 fn nodes_that_edges_lead_to(rt: HostRuntime) {
@@ -33,4 +35,37 @@ fn right_numbers_of_a_ticket(rt: HostRuntime) {
     let ticket = 1 << 49 | 1 << 20 | 1 << 10 | 0b1110u64;
     assert!(rt; Bits::count_ones(&ticket) == 6);
     same!(rt; right_numbers(ticket, 1 << 49 | 1 << 48 | 1 << 10 | 0b1000), 3);
+}
+
+#[test]
+fn a_field_of_cells(rt: HostRuntime) {
+    let mut field = Field::new();
+    field.fill_first(3);
+    field.fill(199);
+    field.fill(200);
+    same!(rt; (field.count(), field.first()), (4, Some(0)));
+    // The cells 0 to 2 go with their row, and cell 199 comes to the row below.
+    field.remove_row();
+    same!(rt; (field.count(), field.first(), field.is_full(199)), (1, Some(189), false));
+    field.empty(189);
+    same!(rt; (field.count(), field.first()), (0, None));
+}
+
+#[test]
+fn two_fields_in_one(rt: HostRuntime) {
+    let (mut field, mut other) = (Field::new(), Field::new());
+    field.fill(7);
+    other.fill_first(2);
+    field.join(&other);
+    same!(rt; (field.count(), field.first(), field.is_full(7)), (3, Some(0), true));
+}
+
+#[test]
+fn seats_of_which_some_are_reserved(rt: HostRuntime) {
+    // The seats 0 and 1 are reserved.
+    let mut seats = Seats::new([0b11, 0, 0, 0]);
+    same!(rt; (seats.take(), seats.give_back(1), seats.give_back(2)), (Some(2), false, true));
+    seats.take_all(&[2, 255]);
+    same!(rt; (seats.take(), seats.is_taken(1), seats.is_taken(4)), (Some(3), true, false));
+    same!(rt; (seats.give_back(255), seats.give_back(255)), (true, false));
 }
