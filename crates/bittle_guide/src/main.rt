@@ -4,14 +4,19 @@
 use bittle::{Bits, BitsMut, Set};
 use std::io;
 
+#[derive(Drop)]
+struct Board {
+    marked: u64,
+}
+
 fn main(rt: HostRuntime) -> io::Result<()> {
-    let mut board = 0u64;
-    board.set_bit(3);
-    board.set_bit(60);
-    for square in board.iter_ones() {
+    let mut board = Board { marked: 0 };
+    board.marked.set_bit(3);
+    board.marked.set_bit(60);
+    for square in board.marked.iter_ones() {
         println!(rt; "square {square}")?;
     }
-    let set = Set::new(board);
+    let set = Set::new(board.marked);
     println!(rt; "{set:?}")?;
     Ok(())
 }
