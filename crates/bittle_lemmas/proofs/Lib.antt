@@ -1,0 +1,5 @@
+pub mod ExcludedSets
+pub mod FoundNumbers
+pub mod IncludedPairs
+pub mod ListedNumbers
+pub mod SetSpans
