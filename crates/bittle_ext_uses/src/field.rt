@@ -1,9 +1,10 @@
 //! A set that is smaller than its words: a field of 200 cells in 256 bits. The type keeps by a ghost
-//! field that no bit past the last cell is set. Only `join` has a proof file, of one answer.
+//! field that no bit past the last cell is set. Two of its functions have a proof file, of one
+//! answer.
 
 ghost use Rattle.std.specs.Prelude.{◌≡◌, ◌<◌, ◌≤◌, true, false, IfSome};
 ghost use Rattle.bittle.specs.BitPatterns.{bit_set};
-ghost use Rattle.bittle.specs.PlainSet.{contains};
+ghost use Rattle.bittle.specs.PlainSet.{contains, size};
 ghost use Rattle.bittle.specs.Rows.{row_set};
 ghost use Rattle.bittle_ext.specs.ReservedSpans.{lacks_span};
 
@@ -69,6 +70,14 @@ impl Field {
         ensures { result ≤ 200 }
     {
         self.cells.count_ones_in_range(0, 200)
+    }
+
+    /// Returns the number of full cells, as a clause on the set says it.
+    pub fn size(&self) -> u32
+        ensures all { result ≡ size (row_set 4 64 (bit_set 64) self.now.cells) }
+        ensures at_most { result ≤ 200 }
+    {
+        self.cells.count_ones()
     }
 
     /// Returns whether a cell is full. The 56 numbers past the last cell are none.

@@ -3,6 +3,7 @@
 #![tactic(auto)]
 
 pub mod any_changes;
+pub mod blocks;
 pub mod chains;
 pub mod checked_indexes;
 pub mod combined_walks;
@@ -12,6 +13,7 @@ pub mod graphs;
 pub mod lent_changes;
 pub mod listed;
 pub mod made_sets;
+pub mod mines;
 pub mod numbers;
 pub mod one_line;
 pub mod pops;

@@ -1,9 +1,12 @@
 //! Clauses that want one line of proof: a lemma that the prover does not find by itself.
 
-ghost use Rattle.std.specs.Prelude.{◌≡◌, ◌≢◌, ◌+◌, ◌-◌, ◌<◌, ◌≤◌, ℕ, true, false, length};
+ghost use Rattle.std.specs.List.{All, list_any};
+ghost use Rattle.std.specs.Prelude.{◌≡◌, ◌≢◌, ◌==◌, ◌+◌, ◌-◌, ◌<◌, ◌≤◌, ℕ, true, false, length};
+ghost use Rattle.std.specs.Prelude.{IfSome};
 ghost use Rattle.bittle.specs.BitPatterns.{bit_set};
 ghost use Rattle.bittle.specs.PlainSet.{contains, size};
 ghost use Rattle.bittle.specs.Rows.{row_set};
+ghost use Rattle.bittle.specs.Searches.{NoneIn};
 
 use bittle::BitsMut;
 use bittle_ext::prelude::*;
@@ -34,6 +37,36 @@ pub fn mark_all(row: &mut [u64; 4], indexes: &[u32])
         ≤ size (row_set 4 64 (bit_set 64) row.old) + length indexes.now }
 {
     row.insert_all(indexes);
+}
+
+/// Sets the bits of a range in which none is set: as many more are set.
+pub fn fill_free(row: &mut [u64; 4], from: u32, to: u32)
+    requires ordered { from ≤ to }
+    requires within { to ≤ 256 }
+    requires free { NoneIn (row_set 4 64 (bit_set 64) row.old) from to }
+    ensures { size (row_set 4 64 (bit_set 64) row.new)
+        ≡ size (row_set 4 64 (bit_set 64) row.old) + (to - from) }
+{
+    row.set_range(from, to);
+}
+
+/// Returns the first hour that is not taken. Each hour before it is.
+#[tactic(auto, using(bittle_ext::proofs::CallerMembers::unset_where_found))]
+pub fn free_hour(taken: u32) -> Option<u32>
+    ensures unset { IfSome result (λ hour. contains (bit_set 32 taken) hour ≡ false) }
+    ensures before { IfSome result
+        (λ hour. (k : ℕ) → k < hour → contains (bit_set 32 taken) k ≡ true) }
+{
+    let hour = taken.first_zero()?;
+    Some(hour)
+}
+
+/// Returns the letters of a word, of which each is below 26.
+pub fn letters(word: &[u32]) -> u32
+    requires { All (λ letter. letter < 26) word.now }
+    ensures { (k : ℕ) → (bit_set 32 result).has k ≡ list_any (λ letter. letter == k) word.now }
+{
+    u32::from_indexes(word)
 }
 
 /// Moves all bits up.

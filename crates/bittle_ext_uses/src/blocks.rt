@@ -1,0 +1,46 @@
+//! A set that keeps another one, where both grow: the used blocks of a memory, and those among them
+//! that are bad.
+
+ghost use Rattle.std.specs.Prelude.{◌≡◌, ◌+◌, ◌<◌, ◌≤◌, true, false, IfSome};
+ghost use Rattle.bittle.specs.BitPatterns.{bit_set};
+ghost use Rattle.bittle.specs.PlainSet.{contains, size};
+ghost use Rattle.bittle.specs.Rows.{row_set};
+ghost use Rattle.bittle_ext.specs.ReservedSpans.{includes};
+
+use bittle::BitsMut;
+use bittle_ext::prelude::*;
+
+/// A memory of 1,024 blocks. A bad block counts as used.
+#[derive(Drop)]
+pub struct Blocks {
+    used: [u64; 16],
+    bad: [u64; 16],
+    pub ghost kept: { includes (row_set 16 64 (bit_set 64) used) (row_set 16 64 (bit_set 64) bad) ≡ true },
+}
+
+impl Blocks {
+    /// Returns a memory of which only the bad blocks are used.
+    #[tactic(auto, using(bittle_ext::proofs::IncludedSets::includes_itself))]
+    pub fn new(bad: [u64; 16]) -> Blocks {
+        Blocks { used: bad, bad }
+    }
+
+    /// Marks a block as bad, and so as used. A number past the last block changes nothing.
+    #[tactic(auto, using(bittle_lemmas::proofs::IncludedPairs::includes_after_both))]
+    pub fn mark_bad(&mut self, block: u32) {
+        if block < 1024 {
+            self.used.set_bit(block);
+            self.bad.set_bit(block);
+        }
+    }
+
+    /// Uses the first run of so many free blocks, and returns where it begins.
+    #[tactic(auto, using(bittle_ext::proofs::IncludedSets::includes_after_set_span))]
+    pub fn take_run(&mut self, length: u32) -> Option<u32>
+        ensures { IfSome result (λ first. first + length ≤ 1024) }
+    {
+        let first = self.used.first_zero_run(length)?;
+        self.used.set_range(first, first + length);
+        Some(first)
+    }
+}
