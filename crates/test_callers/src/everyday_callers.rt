@@ -2,9 +2,12 @@
 
 use crate::checks::same;
 use bittle::Bits;
+use bittle_ext_uses::blocks::Blocks;
 use bittle_ext_uses::field::Field;
 use bittle_ext_uses::graphs::reachable;
 use bittle_ext_uses::listed::write_first;
+use bittle_ext_uses::mines::Board;
+use bittle_ext_uses::one_line::{free_hour, letters};
 use bittle_ext_uses::relation_chains::right_numbers;
 use bittle_ext_uses::seats::Seats;
 
@@ -68,4 +71,34 @@ fn seats_of_which_some_are_reserved(rt: HostRuntime) {
     seats.take_all(&[2, 255]);
     same!(rt; (seats.take(), seats.is_taken(1), seats.is_taken(4)), (Some(3), true, false));
     same!(rt; (seats.give_back(255), seats.give_back(255)), (true, false));
+}
+
+#[test]
+fn squares_of_a_board_with_mines(rt: HostRuntime) {
+    // There is a mine at square 3.
+    let mut board = Board::new(0b1000);
+    same!(rt; (board.show(3), board.show(2), board.show(64)), (false, true, false));
+    same!(rt; (board.lay(2), board.lay(5), board.show(5)), (false, true, false));
+    same!(rt; (board.disarm(5), board.disarm(5), board.show(5)), (true, false, true));
+    board.hide(2);
+    same!(rt; (board.is_shown(2), board.is_shown(5), board.is_shown(3)), (false, true, false));
+}
+
+#[test]
+fn blocks_of_which_some_are_bad(rt: HostRuntime) {
+    // Block 0 is bad, and later block 4.
+    let mut first = [0u64; 16];
+    first[0] = 1;
+    let mut blocks = Blocks::new(first);
+    same!(rt; blocks.take_run(3), Some(1));
+    blocks.mark_bad(4);
+    blocks.mark_bad(1024);
+    same!(rt; (blocks.take_run(2), blocks.take_run(1017)), (Some(5), Some(7)));
+    same!(rt; (blocks.take_run(1), blocks.take_run(0)), (None, Some(0)));
+}
+
+#[test]
+fn clauses_of_one_line(rt: HostRuntime) {
+    same!(rt; (free_hour(0b1011), free_hour(u32::MAX)), (Some(2), None));
+    same!(rt; (letters(&[2, 0, 2, 25]), letters(&[])), (1 << 25 | 0b101, 0));
 }
