@@ -1,6 +1,7 @@
 //! Views of sets, as sets and as what iterators own.
 
 ghost use Rattle.std.specs.Prelude.{◌≡◌, ◌↔◌, ◌==◌, ◌-◌, ◌≤◌, ◌<◌, ◌&&◌, max, length, IsTrue, true};
+ghost use Rattle.std.specs.Prelude.{false, IfSome};
 ghost use Rattle.bittle.specs.BitPatterns.{bit_set};
 ghost use Rattle.bittle.specs.Comparison.{AreSame};
 ghost use Rattle.bittle.specs.Orders.{read_in};
@@ -277,4 +278,21 @@ pub fn items_from_left(one: u64, other: u64) -> usize
         (both_of (bit_set 64 one) (bit_set 64 other)))) }
 {
     Set::new_le(one.and(&other)).iter_ones().count()
+}
+
+/// Returns the least number that neither of two sets has.
+pub fn first_free(one: u64, other: u64) -> Option<u32>
+    ensures { IsFirstIn (complement (either_of (bit_set 64 one) (bit_set 64 other))) 0 64 result }
+{
+    one.or(&other).first_zero()
+}
+
+/// Returns it, as a clause on single bits says it.
+#[tactic(auto, using(bittle_lemmas::proofs::FoundNumbers::unset_in_first, bittle_lemmas::proofs::FoundNumbers::unset_in_second))]
+pub fn unset_in_both(one: u64, other: u64) -> Option<u32>
+    ensures one { IfSome result (λ number. contains (bit_set 64 one) number ≡ false) }
+    ensures other { IfSome result (λ number. contains (bit_set 64 other) number ≡ false) }
+{
+    let number = first_free(one, other)?;
+    Some(number)
 }
