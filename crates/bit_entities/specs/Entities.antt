@@ -15,7 +15,8 @@ pub record World : Type 0 where
   pub components : ℕ
   pub has : ℕ → ℕ → Bool
 
--- no dead entity has a component, and both are below their numbers
+-- no dead entity has a component; the components are below their number, and the living below the
+-- capacity
 pub record IsWorld (w : World) : Type 0 where
   pub dead_have_nothing : (entity component : ℕ) → w.has entity component ≡ true →
       w.alive.has entity ≡ true
@@ -23,7 +24,7 @@ pub record IsWorld (w : World) : Type 0 where
   pub components_are_below : (entity component : ℕ) → w.has entity component ≡ true →
       component < w.components
 
--- the least number that is not alive, or None where all are
+-- the least number that is not alive, or None if all are
 abbrev pub least_dead : World → Option ℕ
 least_dead w = slice_get (ascending (complement w.alive)) 0
 
@@ -43,7 +44,7 @@ with_living w entity = record {
   has = w.has;
 }
 
--- the world in which an entity has lost its components below a number
+-- the world in which an entity has lost each of its components below a number
 abbrev pub without_first : World → ℕ → ℕ → World
 without_first w entity many = record {
   alive = w.alive;
@@ -67,7 +68,8 @@ with_component w entity component is = record {
   has = λ k c. if (k == entity) && (c == component) then is else w.has k c;
 }
 
--- the answer to a spawn by the entity that was found, and the world after it
+-- the answer to a spawn: the entity that was found, or Full if none was; then the world after the
+-- spawn
 abbrev pub spawned_or_full : Option ℕ → Answer
 spawned_or_full None = Full
 spawned_or_full (Some entity) = Spawned entity
@@ -102,15 +104,14 @@ event_answers w events = scan world_after answer_to w events
 unfoldable pub final_world : World → List Event → World
 final_world w events = fold world_after w events
 
--- the living entities that have each of these components
+-- the living entities that have each of the required components
 abbrev pub matching : World → List ℕ → PlainSet
 matching w required = record {
   capacity = w.alive.capacity;
   has = λ entity. w.alive.has entity && list_all (w.has entity) required;
 }
 
--- a mask leads to the entities that have each of these components: it has them all, and only
--- living ones
+-- a mask includes each living entity that has the required components, and has only living ones
 pub record LeadsTo (w : World) (required : List ℕ) (mask : PlainSet) : Type 0 where
   pub has_all : (entity : ℕ) → (matching w required).has entity ≡ true → mask.has entity ≡ true
   pub are_alive : (entity : ℕ) → mask.has entity ≡ true → w.alive.has entity ≡ true
@@ -126,7 +127,7 @@ having w mask component = record {
   has = λ entity. mask.has entity && w.has entity component;
 }
 
--- the world of a mask of the living and a row of masks, one for each component
+-- the world given by a mask of the living and a row of masks, one for each component
 abbrev pub is_in : {X : Type 0} → (X → PlainSet) → Option X → ℕ → Bool
 is_in set None entity = false
 is_in set (Some mask) entity = (set mask).has entity

@@ -9,11 +9,11 @@ use Rattle.bit_entities.specs.declared.Event.TheVariants.{Spawn, Remove, Attach,
 use Rattle.bit_entities.specs.declared.Answer.{Answer}
 use Rattle.bit_entities.specs.declared.Answer.TheVariants.{Spawned, Full, Done, Refused}
 
--- events keep that no dead entity has a component
+-- if no dead entity has a component, this stays so after any events
 abbrev pub WorldsStayWorlds : Type 0
 WorldsStayWorlds = (w : World) (events : List Event) → IsWorld w → IsWorld (final_world w events)
 
--- so from a new world on no dead entity ever has one
+-- from a new world on no dead entity ever has a component
 abbrev pub DeadHaveNothing : Type 0
 DeadHaveNothing =
     (capacity count : ℕ) (events : List Event)
@@ -41,14 +41,14 @@ FullExactlyIfAllAreAlive =
     → (answer_to w event ≡ Full)
     ↔ ((event ≡ Spawn) × ((k : ℕ) → k < w.alive.capacity → w.alive.has k ≡ true))
 
--- what is refused changes nothing
+-- an event that is refused changes nothing
 abbrev pub RefusedChangesNothing : Type 0
 RefusedChangesNothing =
     (w : World) (event : Event)
     → (answer_to w event ≡ Refused) ⊎ (answer_to w event ≡ Full)
     → world_after w event ≡ w
 
--- an answer of a list is that to its event, from the world that the events before it leave
+-- an answer of a list is the answer to its event in the world that the events before it leave
 pub record IsAnsweredAt (w : World) (events : List Event) (i : ℕ) (reply : Answer) : Type 0 where
   pub event : Event
   pub asked : slice_get events i ≡ Some event
@@ -60,7 +60,7 @@ AnswersAreOfTheirWorlds =
     → slice_get (event_answers w events) i ≡ Some reply
     → IsAnsweredAt w events i reply
 
--- a number that is spawned again was removed since
+-- a number that is spawned again was removed since it was last spawned
 abbrev pub SpawnedAreRemovedBetween : Type 0
 SpawnedAreRemovedBetween =
     (w : World) (events : List Event) (entity i j : ℕ)
@@ -76,8 +76,8 @@ pub record IsKeptFrom (w : World) (events : List Event) (entity component k : �
   pub not_removed : (j : ℕ) → k < j → slice_get events j ≢ Some (Remove entity)
   pub not_detached : (j : ℕ) → k < j → slice_get events j ≢ Some (Detach entity component)
 
--- where it did not have a component, an entity has it after a list of events exactly if it was
--- given it there, and since then neither was it removed nor the component taken from it
+-- an entity without a component has it after a list of events exactly if the list gives it, and
+-- since then neither removes the entity nor takes the component away
 abbrev pub ComponentsAreThoseKept : Type 0
 ComponentsAreThoseKept =
     (w : World) (events : List Event) (entity component : ℕ)
@@ -86,7 +86,8 @@ ComponentsAreThoseKept =
     → ((final_world w events).has entity component ≡ true)
     ↔ ((k : ℕ) × IsKeptFrom w events entity component k)
 
--- a list visits the members from a number on: first the least one, and then those past it
+-- a list visits the members from a number on: first the least one, and then the members past that
+-- one
 unfoldable pub VisitsFrom : PlainSet → ℕ → List ℕ → Type 0
 VisitsFrom s from [] = NoneIn s from s.capacity
 VisitsFrom s from (entity ∷ rest) =

@@ -1,14 +1,13 @@
 //! The main theorems of entities: what holds of every list of events. Each function does nothing:
-//! its contract is the law. They rest on the machine of `specs/Entities.antt`, which `serve` runs
-//! by its contract, and on `matching`, which the call of that name returns.
+//! its contract is the law. The laws speak of the machine of `specs/Entities.antt`, which `serve`
+//! runs by its contract, and of `matching`, which the call `matching` returns.
 
 ghost use Rattle.bit_entities.specs.EntityLaws.{WorldsStayWorlds, DeadHaveNothing, SpawnedAreNew};
 ghost use Rattle.bit_entities.specs.EntityLaws.{FullExactlyIfAllAreAlive, RefusedChangesNothing};
 ghost use Rattle.bit_entities.specs.EntityLaws.{AnswersAreOfTheirWorlds, SpawnedAreRemovedBetween};
 ghost use Rattle.bit_entities.specs.EntityLaws.{ComponentsAreThoseKept, QueriesVisitEachOnce};
 
-/// States that no list of events makes a world in which a dead entity has a component, from one in
-/// which none has.
+/// States that if no dead entity has a component, this stays so after any list of events.
 pub fn worlds_stay_worlds()
     ensures { WorldsStayWorlds }
 {}
@@ -24,7 +23,7 @@ pub fn spawned_are_new()
     ensures { SpawnedAreNew }
 {}
 
-/// States that a spawn finds no number exactly if each is alive.
+/// States that a spawn finds no number exactly if each number is alive.
 pub fn full_exactly_if_all_are_alive()
     ensures { FullExactlyIfAllAreAlive }
 {}
@@ -35,7 +34,7 @@ pub fn refused_changes_nothing()
 {}
 
 /// States that each answer of a list is the answer to its event in the world that the events before
-/// it leave. So what holds of one answer and its world holds at each place.
+/// it leave. So what holds of one answer and its world holds at each place of the list.
 pub fn answers_are_of_their_worlds()
     ensures { AnswersAreOfTheirWorlds }
 {}
@@ -45,8 +44,8 @@ pub fn spawned_are_removed_between()
     ensures { SpawnedAreRemovedBetween }
 {}
 
-/// States that an entity has a component exactly if it was given it, and since then was not removed
-/// and did not lose it.
+/// States that an entity has a component exactly if it was given the component, and since then
+/// neither was removed nor lost the component.
 pub fn components_are_those_kept()
     ensures { ComponentsAreThoseKept }
 {}

@@ -1,8 +1,8 @@
 //! Entities with components, where each component has a mask of the entities that have it.
 //!
-//! An entity is a number below the capacity of the masks, a component one below `N`. An entity is
-//! alive from its spawn to its removal, and only a living one has components: a number that is
-//! spawned again has none of its former life.
+//! An entity is a number below the capacity of the masks, and a component is a number below `N`. An
+//! entity is alive from its spawn to its removal, and only a living one has components: a number
+//! that is spawned again has no component of its former life.
 //!
 //! ```rust
 //! use bit_entities::World;
@@ -58,7 +58,7 @@ pub enum Answer {
     Spawned(u32),
     /// Nothing changed: each number is alive.
     Full,
-    /// It is done.
+    /// The event took effect.
     Done,
     /// Nothing changed: the entity is not alive, or there is no such component.
     Refused,
@@ -103,7 +103,7 @@ impl<B: BitsOwned, const N: usize> World<B, N> {
         }
     }
 
-    /// Returns whether an entity is alive. A number past the capacity is not.
+    /// Returns whether an entity is alive. A number past the capacity is not alive.
     pub fn is_alive(&self, entity: u32) -> bool
         ensures { let world = world_of N (set_in B.Shape B.Order.Endian) self.now.alive
             self.now.components in result ≡ world.alive.has entity }
@@ -111,8 +111,8 @@ impl<B: BitsOwned, const N: usize> World<B, N> {
         entity < B::bits() && self.alive.test_bit(entity)
     }
 
-    /// Returns whether an entity has a component: `false` if the entity is not alive, or if there is
-    /// no such component.
+    /// Returns whether an entity has a component: `false` if the entity is not alive, or if there
+    /// is no such component.
     pub fn has(&self, entity: u32, component: u32) -> bool
         ensures { let world = world_of N (set_in B.Shape B.Order.Endian) self.now.alive
             self.now.components in result ≡ world.has entity component }
@@ -124,7 +124,8 @@ impl<B: BitsOwned, const N: usize> World<B, N> {
     }
 
     /// Makes the least number that is not alive an entity with no component, and returns it. If all
-    /// are alive, it returns `None` and changes nothing. It reads the words up to the number.
+    /// are alive, it returns `None` and changes nothing. It reads the words up to the one that has
+    /// the number.
     pub fn spawn(&mut self) -> Option<u32>
         ensures entity { result ≡ least_dead (world_of N (set_in B.Shape B.Order.Endian)
             self.old.alive self.old.components) }
@@ -176,8 +177,9 @@ impl<B: BitsOwned, const N: usize> World<B, N> {
         (component as usize) < N && self.is_alive(entity)
     }
 
-    /// Gives an entity a component, and returns `true`, also if the entity had it before. If the
-    /// entity is not alive, or there is no such component, it returns `false` and changes nothing.
+    /// Gives an entity a component, and returns `true`, also if the entity had the component
+    /// before. If the entity is not alive, or there is no such component, it returns `false` and
+    /// changes nothing.
     pub fn attach(&mut self, entity: u32, component: u32) -> bool
         ensures done { result ≡ may_have (world_of N (set_in B.Shape B.Order.Endian)
             self.old.alive self.old.components) entity component }
@@ -194,8 +196,9 @@ impl<B: BitsOwned, const N: usize> World<B, N> {
         true
     }
 
-    /// Takes a component from an entity, and returns `true`, also if the entity lacked it. If the
-    /// entity is not alive, or there is no such component, it returns `false` and changes nothing.
+    /// Takes a component from an entity, and returns `true`, also if the entity lacked the
+    /// component. If the entity is not alive, or there is no such component, it returns `false` and
+    /// changes nothing.
     pub fn detach(&mut self, entity: u32, component: u32) -> bool
         ensures done { result ≡ may_have (world_of N (set_in B.Shape B.Order.Endian)
             self.old.alive self.old.components) entity component }
@@ -247,7 +250,7 @@ impl<B: BitsOwned, const N: usize> World<B, N> {
     }
 }
 
-// Returns the answer to a request that was done or not.
+// Returns `Done` if the event took effect, else `Refused`.
 fn done_or_refused(done: bool) -> Answer
     ensures { result ≡ if done then Answer.Done else Answer.Refused }
 {

@@ -12,8 +12,8 @@ use bittle::BitsOwned;
 
 impl<B: BitsOwned, const N: usize> World<B, N> {
     /// Returns the mask of the living entities that have each of the components. If no component is
-    /// named, these are all the living. If a number is no component, there are none. The mask is a
-    /// copy, so the world may change. It reads each word once for each component.
+    /// named, the mask has all living entities. If a number is no component, the mask is empty. The
+    /// mask is a copy, so the world may change. Each word is read once for each component.
     pub fn matching(&self, required: &[u32]) -> B
         ensures mask { set_in B.Shape B.Order.Endian result ≡ matching
             (world_of N (set_in B.Shape B.Order.Endian) self.now.alive self.now.components)
@@ -41,9 +41,9 @@ impl<B: BitsOwned, const N: usize> World<B, N> {
         }
     }
 
-    /// Returns the least living entity from a number on that has each of the components, or `None`.
-    /// From the capacity on there is none. It reads the words of the first component's mask up to the
-    /// answer, and tests a bit of each other mask for each entity there.
+    /// Returns the least living entity, from the number `from` on, that has each of the components,
+    /// or `None`. From the capacity on there is no entity. It reads the words of the first
+    /// component's mask up to the answer, and tests a bit of each other mask for each entity there.
     pub fn first_with(&self, required: &[u32], from: u32) -> Option<u32>
         ensures first { IsFirstIn (matching
             (world_of N (set_in B.Shape B.Order.Endian) self.now.alive self.now.components)
@@ -62,8 +62,8 @@ impl<B: BitsOwned, const N: usize> World<B, N> {
         None
     }
 
-    // Returns the mask of the first component, or that of the living if none is required. If there
-    // is no such component, it returns `None`.
+    // Returns the mask of the first required component, or the mask of the living if none is
+    // required. If there is no such component, it returns `None`.
     fn lead(&self, required: &[u32]) -> Option<&B>
         ensures { let world = world_of N (set_in B.Shape B.Order.Endian) self.now.alive
             self.now.components in MatchOption result

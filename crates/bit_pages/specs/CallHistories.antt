@@ -1,11 +1,12 @@
--- A history of calls of take and give_back: each with what it asks, and its answer.
+-- A history of calls of take, give_back, take_run and give_back_run: each call has a request and an
+-- answer.
 use Rattle.std.specs.Prelude.{◌≡◌, List, [], ◌∷◌, map}
 use Rattle.bittle.specs.PlainSet.{PlainSet}
 use Rattle.bit_pages.specs.Pages.{answer_to, state_after, request_answers, final_state}
 use Rattle.bit_pages.specs.declared.Request.{Request}
 use Rattle.bit_pages.specs.declared.Answer.{Answer}
 
--- what a call says of itself: its answer, and the pages that are taken after it
+-- a call answers as the machine does, and leaves those pages taken that the machine leaves taken
 pub record IsCall (before : PlainSet) (request : Request) (answer : Answer)
     (after : PlainSet) : Type 0 where
   pub answered : answer ≡ answer_to before request
@@ -17,7 +18,7 @@ IsHistory before [] after = after ≡ before
 IsHistory before (call ∷ calls) after =
     (between : PlainSet) × IsCall before call.0 call.1 between × IsHistory between calls after
 
--- they answer as a run of their requests, and leave what it leaves
+-- calls answer as the machine does on the list of their requests, and leave the same pages taken
 abbrev pub HistoriesAreRuns : Type 0
 HistoriesAreRuns =
     (before after : PlainSet) (calls : List (Request × Answer)) → IsHistory before calls after

@@ -1,4 +1,5 @@
--- What the page machine keeps, whatever is asked of it.
+-- What holds of the page machine, whatever is asked of it. A run of requests is a list that it
+-- serves.
 use Rattle.std.specs.List.{filter, list_any, IsDistinct}
 use Rattle.std.specs.Prelude.{◌≡◌, ℕ, zero, suc, ◌+◌, ◌<◌, ◌↔◌, Bool, true, false, not, ◌&&◌, ◌||◌, ◌==◌, Some, List, [], ◌∷◌, ◌++◌, slice_get, take}
 use Rattle.bittle.specs.PlainSet.{PlainSet, complement, is_in_span, size}
@@ -9,20 +10,20 @@ use Rattle.bit_pages.specs.declared.Request.TheVariants.{Take, GiveBack, TakeRun
 use Rattle.bit_pages.specs.declared.Answer.{Answer}
 use Rattle.bit_pages.specs.declared.Answer.TheVariants.{Page, Full, Given, NotTaken, Run, NoRun}
 
--- the page is one, it is free, and all below it are taken
+-- the number is a page, it is free, and all pages below it are taken
 pub record IsLeastFree (s : PlainSet) (page : ℕ) : Type 0 where
   pub within : page < s.capacity
   pub is_free : s.has page ≡ false
   pub taken_below : (k : ℕ) → k < page → s.has k ≡ true
 
--- each page that is answered is the least free one
+-- each page that `Page` answers is the least free one
 abbrev pub PagesAreLeastFree : Type 0
 PagesAreLeastFree =
     (s : PlainSet) (request : Request) (page : ℕ)
     → answer_to s request ≡ Page page
     → IsLeastFree s page
 
--- each run that is answered is the first of so many free pages as were asked for
+-- each run of pages that `Run` answers is the first of as many free pages as were asked for
 abbrev pub RunsAreFirst : Type 0
 RunsAreFirst =
     (s : PlainSet) (request : Request) (first : ℕ)
@@ -36,14 +37,14 @@ FullExactlyIfAllAreTaken =
     (s : PlainSet) (request : Request)
     → (answer_to s request ≡ Full) ↔ ((request ≡ Take) × (size s ≡ s.capacity))
 
--- NoRun is answered exactly if a run is asked for and no so many neighbours are free
+-- NoRun is answered exactly if a run of pages is asked for and no free run has that length
 abbrev pub NoRunExactlyIfNoneIsFree : Type 0
 NoRunExactlyIfNoneIsFree =
     (s : PlainSet) (request : Request)
     → (answer_to s request ≡ NoRun) ↔ ((length : ℕ) × (request ≡ TakeRun length)
     × ((first : ℕ) → IsRun (complement s) length first → ⊥))
 
--- an answer of a run is that to its request, from the state that the requests before it leave
+-- an answer of a run is the answer to its request in the state that the requests before it leave
 pub record IsAnsweredAt (s : PlainSet) (requests : List Request) (i : ℕ) (answer : Answer) : Type 0 where
   pub request : Request
   pub asked : slice_get requests i ≡ Some request
@@ -71,7 +72,7 @@ pages_given request NotTaken = 0
 pages_given request (Run first) = length_of request
 pages_given request NoRun = 0
 
--- how many pages it takes back
+-- how many pages an answer to a request takes back
 abbrev pub pages_back : Request → Answer → ℕ
 pages_back request (Page page) = 0
 pages_back request Full = 0
@@ -87,15 +88,15 @@ total count (request ∷ requests) [] = 0
 total count (request ∷ requests) (answer ∷ answers) =
     count request answer + total count requests answers
 
--- as many pages are taken after a run as before it, plus those handed out in it, less those given
--- back in it
+-- as many pages are taken after a run of requests as before it, plus those handed out in it, less
+-- those given back in it
 abbrev pub PagesAreCounted : Type 0
 PagesAreCounted =
     (s : PlainSet) (requests : List Request)
     → size (final_state s requests) + total pages_back requests (request_answers s requests)
     ≡ size s + total pages_given requests (request_answers s requests)
 
--- whether an answer to a request gives a page
+-- whether an answer to a request hands out a page
 abbrev pub gives : Request → Answer → ℕ → Bool
 gives request (Page p) page = page == p
 gives request Full page = false
@@ -111,7 +112,7 @@ asks_back (GiveBack p) page = page == p
 asks_back (TakeRun length) page = false
 asks_back (GiveBackRun first length) page = is_in_span first (first + length) page
 
--- an answer of a run gives a page, alone or among others
+-- answer i of a run of requests hands out a page, alone or among others
 pub record IsGiven (s : PlainSet) (requests : List Request) (i page : ℕ) : Type 0 where
   pub request : Request
   pub answer : Answer
@@ -119,14 +120,16 @@ pub record IsGiven (s : PlainSet) (requests : List Request) (i page : ℕ) : Typ
   pub answered : slice_get (request_answers s requests) i ≡ Some answer
   pub has : gives request answer page ≡ true
 
--- a request of a run asked that a page be free again, alone or among others, and it was given back
+-- request k of a run asked that a page be free again, alone or among others, and the page was given
+-- back
 pub record IsGivenBack (s : PlainSet) (requests : List Request) (k page : ℕ) : Type 0 where
   pub request : Request
   pub asked : slice_get requests k ≡ Some request
   pub answered : slice_get (request_answers s requests) k ≡ Some Given
   pub has : asks_back request page ≡ true
 
--- a page that was taken before a run is given in it only after it was given back
+-- a page that was taken before a run of requests is handed out in it only after the page was given
+-- back
 abbrev pub TakenPagesAreGivenFirst : Type 0
 TakenPagesAreGivenFirst =
     (s : PlainSet) (requests : List Request) (page j : ℕ)
@@ -134,7 +137,7 @@ TakenPagesAreGivenFirst =
     → IsGiven s requests j page
     → (k : ℕ) × (k < j) × IsGivenBack s requests k page
 
--- between two answers that give one page that page was given back
+-- between two answers that hand out the same page, that page was given back
 abbrev pub PagesAreGivenBetween : Type 0
 PagesAreGivenBetween =
     (s : PlainSet) (requests : List Request) (page i j : ℕ)
@@ -143,7 +146,7 @@ PagesAreGivenBetween =
     → IsGiven s requests j page
     → (k : ℕ) × (i < k) × (k < j) × IsGivenBack s requests k page
 
--- the pages that are held, and so many more from one on
+-- the pages that are held, and n more from page `first` on
 abbrev pub held_with : List ℕ → ℕ → ℕ → List ℕ
 held_with held first zero = held
 held_with held first (suc n) = held_with (held ++ first ∷ []) (suc first) n
@@ -158,17 +161,18 @@ held_after held request NotTaken = held
 held_after held request (Run first) = held_with held first (length_of request)
 held_after held request NoRun = held
 
--- the pages that are held after a run, where some were held before it
+-- the pages that are held after a run of requests, if `held` were held before it
 unfoldable pub held_after_run : List ℕ → PlainSet → List Request → List ℕ
 held_after_run held s [] = held
 held_after_run held s (request ∷ requests) =
     held_after_run (held_after held request (answer_to s request)) (state_after s request) requests
 
--- the pages outstanding: those that a run gave, and that did not come back in it since
+-- the pages outstanding: those that a run of requests handed out, and that were not given back in
+-- it since
 abbrev pub outstanding : PlainSet → List Request → List ℕ
 outstanding = held_after_run []
 
--- whether a request gives a page back that is taken
+-- whether a request gives back a page that is taken
 abbrev pub gives_back : PlainSet → Request → ℕ → Bool
 gives_back s Take page = false
 gives_back s (GiveBack p) page = (page == p) && is_taken s p
@@ -176,14 +180,15 @@ gives_back s (TakeRun length) page = false
 gives_back s (GiveBackRun first length) page =
     is_in_span first (first + length) page && is_run_taken s first length
 
--- whether a page came back in a run
+-- whether a page was given back in a run of requests
 unfoldable pub came_back : PlainSet → List Request → ℕ → Bool
 came_back s [] page = false
 came_back s (request ∷ requests) page = gives_back s request page
     || came_back (state_after s request) requests page
 
--- the pages of a list are distinct; none was taken before the run, unless it came back in it; and
--- with those that were taken and did not come back they are the pages that are taken after it
+-- the pages of a list are distinct. None was taken before the run of requests, unless it came back
+-- in the run. With the pages that were taken before and did not come back, they are the pages taken
+-- after the run
 pub record AreOutstanding (s : PlainSet) (requests : List Request) (held : List ℕ) : Type 0 where
   pub distinct : IsDistinct ◌==◌ held
   pub apart : (page : ℕ) → list_any (◌==◌ page) held ≡ true →
@@ -191,7 +196,7 @@ pub record AreOutstanding (s : PlainSet) (requests : List Request) (held : List 
   pub taken : (page : ℕ) → (final_state s requests).has page
       ≡ (list_any (◌==◌ page) held || (s.has page && not (came_back s requests page)))
 
--- so are the pages outstanding, after each run
+-- the pages outstanding after each run of requests are such a list
 abbrev pub PagesAreOutstanding : Type 0
 PagesAreOutstanding =
     (s : PlainSet) (requests : List Request)

@@ -28,10 +28,11 @@ pub enum Request {
     Take,
     /// Gives a page back: answered by [`Answer::Given`] or [`Answer::NotTaken`].
     GiveBack(u32),
-    /// Asks for so many neighbours: answered by [`Answer::Run`] or [`Answer::NoRun`].
+    /// Asks for a run of neighbouring pages, by its length: answered by [`Answer::Run`] or
+    /// [`Answer::NoRun`].
     TakeRun(u32),
-    /// Gives the pages from one on back, so many: answered by [`Answer::Given`] or
-    /// [`Answer::NotTaken`].
+    /// Gives a run of pages back, by its first page and its length: answered by [`Answer::Given`]
+    /// or [`Answer::NotTaken`].
     GiveBackRun(u32, u32),
 }
 
@@ -42,13 +43,13 @@ pub enum Answer {
     Page(u32),
     /// All pages are taken.
     Full,
-    /// The page is free again, or the run.
+    /// The page, or the run of pages, is free again.
     Given,
-    /// The page was not taken, or one of the run.
+    /// The page, or one page of the run, was not taken.
     NotTaken,
     /// The least page of the run that was taken.
     Run(u32),
-    /// No so many neighbours are free.
+    /// No run of the length that was asked for is free.
     NoRun,
 }
 
@@ -70,11 +71,11 @@ impl Error for NotTaken {}
 
 /// An allocator of pages. The pages are the numbers below the capacity of `B`.
 ///
-/// The type guarantees that it fits: `B::bits()` is below `u32::MAX`. It also keeps the count of
+/// The type guarantees that `B` fits: `B::bits()` is below `u32::MAX`. It also keeps the count of
 /// the pages that are taken.
 #[derive(Drop)]
 pub struct Pages<B: BitsOwned> {
-    // Its members, in the order of the type, are the pages that are taken.
+    // The members of the map, in the order of the type, are the pages that are taken.
     map: B,
     count: u32,
     pub ghost fits: { Fits B.indexable B.type_capacity },
@@ -110,9 +111,9 @@ impl<B: BitsOwned> Pages<B> {
         self.map
     }
 
-    /// Takes the least page that is free, or changes nothing and returns `None` where all are
-    /// taken, as with capacity 0. It reads the map up to the page; where all are taken it reads
-    /// nothing.
+    /// Takes the least page that is free and returns it. If all pages are taken, as with capacity
+    /// 0, it changes nothing and returns `None`. It reads the map up to the page; if all pages are
+    /// taken it reads nothing.
     pub fn take(&mut self) -> Option<u32>
         ensures page { result ≡ least_free (set_in B.Shape B.Order.Endian self.old.map) }
         ensures below { IfSome result (λ page. page < B.type_capacity) }
@@ -138,8 +139,8 @@ impl<B: BitsOwned> Pages<B> {
         Some(page)
     }
 
-    /// Makes a page free again, or changes nothing where it is not taken. A number past the last
-    /// page is no page, and does not wrap.
+    /// Makes a page free again, or changes nothing and returns `Err` if the page is not taken. A
+    /// number past the last page is no page, and does not wrap.
     pub fn give_back(&mut self, page: u32) -> Result<(), NotTaken>
         ensures taken { IsOk result
             ↔ IsTrue (is_taken (set_in B.Shape B.Order.Endian self.old.map) page) }
@@ -191,9 +192,9 @@ impl<B: BitsOwned> Pages<B> {
         Some(first)
     }
 
-    /// Frees the `length` pages from `first` on, or changes nothing if one of them is not taken. A
-    /// number past the last page is no page, and does not wrap. With `length` 0 nothing is freed,
-    /// and `first` may be each page, and the number after the last one.
+    /// Frees the `length` pages from `first` on, or changes nothing and returns `Err` if one of
+    /// them is not taken. A number past the last page is no page, and does not wrap. With `length`
+    /// 0 nothing is freed, and `first` may be any page, or the number after the last page.
     ///
     /// The words of the run are read up to the first page that is free.
     pub fn give_back_run(&mut self, first: u32, length: u32) -> Result<(), NotTaken>
@@ -221,7 +222,7 @@ impl<B: BitsOwned> Pages<B> {
     }
 
     /// Returns whether the `length` numbers from `first` on are pages, and each is taken. With
-    /// `length` 0 it returns `true` at each page, and at the number after the last one.
+    /// `length` 0 it returns `true` if `first` is a page or the number after the last page.
     pub fn is_run_taken(&self, first: u32, length: u32) -> bool
         ensures { IsTrue result
             ↔ IsRun (set_in B.Shape B.Order.Endian self.now.map) length first }
@@ -232,8 +233,8 @@ impl<B: BitsOwned> Pages<B> {
         end <= B::bits() && self.map.all_in_range(first, end)
     }
 
-    /// Returns whether the number is a page, and taken. A number past the last page is none.
-    // The map would take such a number for another.
+    /// Returns whether the number is a page, and taken. A number past the last page is no page.
+    // In the map such a number would wrap to another page.
     pub fn is_taken(&self, page: u32) -> bool
         ensures { result ≡ is_taken (set_in B.Shape B.Order.Endian self.now.map) page }
     {
@@ -247,7 +248,7 @@ impl<B: BitsOwned> Pages<B> {
         B::bits()
     }
 
-    /// Returns how many pages are taken, at once.
+    /// Returns how many pages are taken. It costs O(1).
     pub fn taken(&self) -> u32
         ensures value { result ≡ size (set_in B.Shape B.Order.Endian self.now.map) }
         ensures at_most { result ≤ B.type_capacity }
@@ -255,7 +256,7 @@ impl<B: BitsOwned> Pages<B> {
         self.count
     }
 
-    /// Returns how many pages are free, at once.
+    /// Returns how many pages are free. It costs O(1).
     pub fn free(&self) -> u32
         ensures value { result
             ≡ B.type_capacity - size (set_in B.Shape B.Order.Endian self.now.map) }
@@ -264,7 +265,8 @@ impl<B: BitsOwned> Pages<B> {
         B::bits() - self.count
     }
 
-    /// Returns whether both have the same pages taken. One may have more pages than the other.
+    /// Returns whether both allocators have the same pages taken. One may have more pages than the
+    /// other.
     pub fn same_pages<C: BitsOwned>(&self, other: &Pages<C>) -> bool
         ensures { IsTrue result ↔ AreSame
             (set_in B.Shape B.Order.Endian self.now.map)

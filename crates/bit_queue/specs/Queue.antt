@@ -13,7 +13,7 @@ use Rattle.bit_queue.specs.declared.Answer.TheVariants.{Woken, NoTask, Runs, Idl
 abbrev pub is_ready : PlainSet → ℕ → Bool
 is_ready s task = nat_lt task s.capacity && s.has task
 
--- the most urgent ready task, which is the first in increasing order, or None where none is ready
+-- the most urgent ready task, which is the first in increasing order, or None if no task is ready
 abbrev pub most_urgent : PlainSet → Option ℕ
 most_urgent s = slice_get (ascending s) 0
 
@@ -31,7 +31,7 @@ woken_or_none s task = if nat_lt task s.capacity then Woken else NoTask
 abbrev pub with_woken : PlainSet → ℕ → PlainSet
 with_woken s task = if nat_lt task s.capacity then with_task s task else s
 
--- the answer of a step by the task that was picked
+-- the answer of a step: the task that was picked runs, or Idle if none was picked
 abbrev pub runs_or_idle : Option ℕ → Answer
 runs_or_idle None = Idle
 runs_or_idle (Some task) = Runs task

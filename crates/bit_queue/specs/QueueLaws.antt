@@ -1,4 +1,4 @@
--- What the queue machine keeps, whatever happens.
+-- What holds of the queue machine, whatever the events.
 use Rattle.std.specs.List.{count_by, fold}
 use Rattle.std.specs.Prelude.{◌≡◌, ℕ, ◌+◌, ◌<◌, ◌≤◌, ◌↔◌, Bool, true, false, nat_lt, Some, List, slice_get, take}
 use Rattle.bittle.specs.PlainSet.{PlainSet, members_below}
@@ -9,7 +9,7 @@ use Rattle.bit_queue.specs.declared.Event.TheVariants.{Wake, Next}
 use Rattle.bit_queue.specs.declared.Answer.{Answer}
 use Rattle.bit_queue.specs.declared.Answer.TheVariants.{Runs, Idle}
 
--- the task is one, it is ready, and no ready task is more urgent
+-- the number is a task, it is ready, and no ready task is more urgent
 pub record IsMostUrgent (s : PlainSet) (task : ℕ) : Type 0 where
   pub within : task < s.capacity
   pub is_ready : s.has task ≡ true
@@ -28,7 +28,7 @@ IdleExactlyIfNoneIsReady =
     (s : PlainSet) (event : Event)
     → (answer_to s event ≡ Idle) ↔ ((event ≡ Next) × NoneIn s 0 s.capacity)
 
--- an answer of a list is that to its event, from the state that the events before it leave
+-- an answer of a list is the answer to its event in the state that the events before it leave
 pub record IsAnsweredAt {S : Type 0} (answer : S → Event → Answer) (after : S → Event → S) (s : S)
     (events : List Event) (i : ℕ) (reply : Answer) : Type 0 where
   pub event : Event
@@ -64,7 +64,7 @@ RestingTasksAreWokenFirst =
     → s.has task ≡ false
     → IsWokenFirst events (event_answers s events) task
 
--- a task that runs again was woken since
+-- a task that runs again was woken since it last ran
 abbrev pub TasksAreWokenBetween : Type 0
 TasksAreWokenBetween =
     (s : PlainSet) (events : List Event) (task : ℕ)
@@ -84,8 +84,8 @@ wakes_more_urgent task Next = false
 abbrev pub RunsIn : List Answer → ℕ → Type 0
 RunsIn answers task = (j : ℕ) × (slice_get answers j ≡ Some (Runs task))
 
--- a ready task runs within m + w + 1 steps, if m more urgent tasks are ready and such tasks are
--- woken w times
+-- a ready task runs within m + w + 1 steps, if m more urgent tasks are ready, and more urgent tasks
+-- are woken w times
 abbrev pub TasksRunInTime : Type 0
 TasksRunInTime =
     (s : PlainSet) (events : List Event) (task : ℕ)

@@ -1,5 +1,5 @@
--- The machine of taking turns: its state is the set of the tasks that are ready and the number that
--- the turn has come to, which is the one past the task that ran last.
+-- The machine of taking turns: its state is the set of the ready tasks, and the turn. The turn is
+-- the number past the task that ran last.
 use Rattle.std.specs.List.{fold, scan}
 use Rattle.std.specs.Prelude.{ℕ, ◌+◌, ◌&&◌, nat_le}
 use Rattle.std.specs.Prelude.{Option, Some, None, List}
@@ -25,7 +25,7 @@ to_come r = record {
   has = λ k. nat_le r.turn k && r.ready.has k;
 }
 
--- the one that was found, or else the other
+-- the first argument if it is a task, or else the second
 abbrev pub found_or : Option ℕ → Option ℕ → Option ℕ
 found_or None other = other
 found_or (Some task) other = Some task

@@ -1,4 +1,4 @@
--- What taking turns keeps, whatever happens.
+-- What holds of the machine of taking turns, whatever the events.
 use Rattle.std.specs.List.{count_by, list_any}
 use Rattle.std.specs.Prelude.{◌≡◌, ℕ, ◌<◌, ◌≤◌, ◌↔◌, Bool, true, false, ◌&&◌, ◌||◌, ◌==◌, nat_le, nat_lt, if◌then◌else◌, Some, List, slice_get}
 use Rattle.bittle.specs.PlainSet.{PlainSet, size}
@@ -16,7 +16,7 @@ comes_before turn one other = if nat_le turn other
     then (nat_le turn one && nat_lt one other)
     else (nat_le turn one || nat_lt one other)
 
--- the task is one, it is ready, and no ready task comes before it
+-- the number is a task, it is ready, and no ready task comes before it in turn
 pub record IsNextInTurn (r : Round) (task : ℕ) : Type 0 where
   pub within : task < r.ready.capacity
   pub is_ready : r.ready.has task ≡ true
@@ -36,7 +36,7 @@ RoundIsIdleExactlyIfNoneIsReady =
     (r : Round) (event : Event)
     → (answer_in_turn r event ≡ Idle) ↔ ((event ≡ Next) × NoneIn r.ready 0 r.ready.capacity)
 
--- an answer of a list is that to its event, from the round that the events before it leave
+-- an answer of a list is the answer to its event in the round that the events before it leave
 abbrev pub AnswersAreOfTheirRounds : Type 0
 AnswersAreOfTheirRounds =
     (r : Round) (events : List Event) (i : ℕ) (reply : Answer)
@@ -50,7 +50,7 @@ RestingTasksAreWokenFirstInTurn =
     → r.ready.has task ≡ false
     → IsWokenFirst events (answers_in_turn r events) task
 
--- a task that runs again was woken since
+-- a task that runs again was woken since it last ran
 abbrev pub TasksAreWokenBetweenTurns : Type 0
 TasksAreWokenBetweenTurns =
     (r : Round) (events : List Event) (task : ℕ)
@@ -78,7 +78,7 @@ TasksRunInTheirTurn =
     → size (ever_ready r.ready events) ≤ count_by is_next events
     → RunsIn (answers_in_turn r events) task
 
--- so it runs within as many steps as there are tasks, whatever is woken
+-- a ready task runs within as many steps as there are tasks, whatever is woken
 abbrev pub TasksRunWithinARound : Type 0
 TasksRunWithinARound =
     (r : Round) (events : List Event) (task : ℕ)

@@ -16,10 +16,10 @@ use bittle::BitsOwned;
 /// A queue of ready tasks, in which the task with the least number runs first. The tasks are the
 /// numbers below the capacity of `B`.
 ///
-/// The type guarantees that it fits: `B::bits()` is below `u32::MAX`.
+/// The type guarantees that `B` fits: `B::bits()` is below `u32::MAX`.
 #[derive(Drop)]
 pub struct PriorityQueue<B: BitsOwned> {
-    // Its members, in the order of the type, are the tasks that are ready.
+    // The members of `ready`, in the order of the type, are the tasks that are ready.
     ready: B,
     pub ghost fits: { Fits B.indexable B.type_capacity },
 }
@@ -41,15 +41,15 @@ impl<B: BitsOwned> PriorityQueue<B> {
         B::bits()
     }
 
-    /// Returns whether the number is a task, and ready. A number past the last task is none.
+    /// Returns whether the number is a task, and ready. A number past the last task is no task.
     pub fn is_ready(&self, task: u32) -> bool
         ensures { result ≡ is_ready (set_in B.Shape B.Order.Endian self.now.ready) task }
     {
         task < B::bits() && self.ready.test_bit(task)
     }
 
-    /// Makes a task ready; one that is ready stays so. A number past the last task is refused, and
-    /// nothing changes.
+    /// Makes a task ready; a task that is ready stays ready. For a number past the last task it
+    /// returns `Err`, and nothing changes.
     pub fn wake(&mut self, task: u32) -> Result<(), NoTask>
         ensures a_task { IsOk result ↔ task < B.type_capacity }
         ensures is_ready { task < B.type_capacity
@@ -65,8 +65,8 @@ impl<B: BitsOwned> PriorityQueue<B> {
     }
 
     /// Takes out the most urgent ready task, which is to run, and returns it. If none is ready, as
-    /// with capacity 0, it changes nothing and returns `None`. It reads the words up to that of the
-    /// task.
+    /// with capacity 0, it changes nothing and returns `None`. It reads the words up to the one
+    /// that has the task.
     pub fn next(&mut self) -> Option<u32>
         ensures task { result ≡ most_urgent (set_in B.Shape B.Order.Endian self.old.ready) }
         ensures urgent { let before = set_in B.Shape B.Order.Endian self.old.ready in

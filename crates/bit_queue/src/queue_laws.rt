@@ -1,6 +1,6 @@
-//! The main theorems of the queue by urgency: what holds of every list of events. Each function
-//! does nothing: its contract is the law. They rest on the machine of `specs/Queue.antt`, which
-//! `serve` runs by its contract.
+//! The main theorems of `PriorityQueue`: what holds of every list of events. Each function does
+//! nothing: its contract is the law. The laws speak of the machine in `specs/Queue.antt`. The
+//! contract of `serve` states that it runs this machine.
 
 ghost use Rattle.bit_queue.specs.QueueLaws.{MostUrgentRuns, IdleExactlyIfNoneIsReady};
 ghost use Rattle.bit_queue.specs.QueueLaws.{AnswersAreOfTheirStates, RestingTasksAreWokenFirst};
@@ -16,8 +16,8 @@ pub fn idle_exactly_if_none_is_ready()
     ensures { IdleExactlyIfNoneIsReady }
 {}
 
-/// States that each answer is that to its event from the tasks that the events before it leave
-/// ready, so that what holds of an answer and its state holds at each place of a list.
+/// States that each answer is the answer to its event when those tasks are ready that the events
+/// before it leave ready. So what holds of one answer and its state holds at each place of a list.
 pub fn answers_are_of_their_states()
     ensures { AnswersAreOfTheirStates }
 {}
@@ -32,8 +32,8 @@ pub fn tasks_are_woken_between()
     ensures { TasksAreWokenBetween }
 {}
 
-/// States that a ready task runs within `m + w + 1` steps, if `m` more urgent tasks are ready and
-/// such tasks are woken `w` times.
+/// States that a ready task runs within `m + w + 1` steps, if `m` more urgent tasks are ready, and
+/// more urgent tasks are woken `w` times.
 pub fn tasks_run_in_time()
     ensures { TasksRunInTime }
 {}

@@ -14,13 +14,14 @@ ghost use Rattle.bit_queue.specs.RoundRobinLaws.{IsNextInTurn};
 use crate::{Answer, Event, NoTask};
 use bittle::BitsOwned;
 
-/// A queue of ready tasks that take turns: the next ready task past the one that ran last runs, or
-/// else the first of all. The tasks are the numbers below the capacity of `B`.
+/// A queue of ready tasks that take turns. The task that runs next is the first ready one past the
+/// task that ran last, or else the first ready one of all. The tasks are the numbers below the
+/// capacity of `B`.
 ///
-/// The type guarantees that it fits: `B::bits()` is below `u32::MAX`.
+/// The type guarantees that `B` fits: `B::bits()` is below `u32::MAX`.
 #[derive(Drop)]
 pub struct RoundRobin<B: BitsOwned> {
-    // Its members, in the order of the type, are the tasks that are ready.
+    // The members of `ready`, in the order of the type, are the tasks that are ready.
     ready: B,
     // The number past the task that ran last, at first 0.
     turn: u32,
@@ -49,15 +50,15 @@ impl<B: BitsOwned> RoundRobin<B> {
         B::bits()
     }
 
-    /// Returns whether the number is a task, and ready. A number past the last task is none.
+    /// Returns whether the number is a task, and ready. A number past the last task is no task.
     pub fn is_ready(&self, task: u32) -> bool
         ensures { result ≡ is_ready (set_in B.Shape B.Order.Endian self.now.ready) task }
     {
         task < B::bits() && self.ready.test_bit(task)
     }
 
-    /// Makes a task ready; one that is ready stays so. A number past the last task is refused, and
-    /// nothing changes.
+    /// Makes a task ready; a task that is ready stays ready. For a number past the last task it
+    /// returns `Err`, and nothing changes.
     pub fn wake(&mut self, task: u32) -> Result<(), NoTask>
         ensures a_task { IsOk result ↔ task < B.type_capacity }
         ensures is_ready { task < B.type_capacity
@@ -86,7 +87,7 @@ impl<B: BitsOwned> RoundRobin<B> {
 
     /// Takes out the next ready task, which is to run, and returns it. If none is ready, as with
     /// capacity 0, it changes nothing and returns `None`. It reads the words from the turn up to
-    /// that of the task, and if it finds none there, those before the turn.
+    /// the one that has the task. If no task is ready there, it reads those before the turn.
     pub fn next(&mut self) -> Option<u32>
         ensures task { result ≡ next_in_turn
             (round_at (set_in B.Shape B.Order.Endian self.old.ready) self.old.turn) }

@@ -1,6 +1,6 @@
-//! The main theorems of the queue of turns: what holds of every list of events. Each function does
-//! nothing: its contract is the law. They rest on the machine of `specs/RoundRobin.antt`, which
-//! `serve` runs by its contract.
+//! The main theorems of `RoundRobin`: what holds of every list of events. Each function does
+//! nothing: its contract is the law. The laws speak of the machine in `specs/RoundRobin.antt`. The
+//! contract of `serve` states that it runs this machine.
 
 ghost use Rattle.bit_queue.specs.RoundRobinLaws.{NextInTurnRuns, RoundIsIdleExactlyIfNoneIsReady};
 ghost use Rattle.bit_queue.specs.RoundRobinLaws.{AnswersAreOfTheirRounds};
@@ -18,8 +18,9 @@ pub fn idle_exactly_if_none_is_ready()
     ensures { RoundIsIdleExactlyIfNoneIsReady }
 {}
 
-/// States that each answer is that to its event from the round that the events before it leave, so
-/// that what holds of an answer and its round holds at each place of a list.
+/// States that each answer is the answer to its event in the round (the ready tasks and the turn)
+/// that the events before it leave. So what holds of one answer and its round holds at each place
+/// of a list.
 pub fn answers_are_of_their_rounds()
     ensures { AnswersAreOfTheirRounds }
 {}

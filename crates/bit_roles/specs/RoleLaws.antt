@@ -1,4 +1,4 @@
--- What the role machine keeps, whatever is asked of it.
+-- What holds of the role machine, whatever is asked of it.
 use Rattle.std.specs.List.{list_any}
 use Rattle.std.specs.Prelude.{◌≡◌, ℕ, suc, ◌<◌, Bool, false, ◌&&◌, ◌||◌, ◌==◌, Some, List}
 use Rattle.bit_roles.specs.Roles.{Roles, ancestor, Allows, HasLesserParents, roles_after, final_roles}
@@ -27,14 +27,15 @@ GrantingTakesNothingAway =
     → Allows r other allowed
     → Allows (roles_after r (Grant role permission)) other allowed
 
--- requests keep that each parent has a lesser number than its role
+-- if each parent has a lesser number than its role, this stays so after any requests
 abbrev pub ParentsStayLesser : Type 0
 ParentsStayLesser =
     (r : Roles) (requests : List Request)
     → HasLesserParents r
     → HasLesserParents (final_roles r requests)
 
--- so no chain of parents leads back to the role at which it began
+-- if each parent has a lesser number than its role, no chain of parents leads back to the role at
+-- which it began
 abbrev pub NoChainComesBack : Type 0
 NoChainComesBack =
     (r : Roles) (role n : ℕ)

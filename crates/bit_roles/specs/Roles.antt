@@ -21,12 +21,13 @@ abbrev pub parent_of : Roles → Option ℕ → Option ℕ
 parent_of r None = None
 parent_of r (Some role) = r.parent role
 
--- the role that a chain of so many parents leads to
+-- the role that a chain of n parents leads to
 unfoldable pub ancestor : Roles → ℕ → ℕ → Option ℕ
 ancestor r role zero = Some role
 ancestor r role (suc n) = parent_of r (ancestor r role n)
 
--- a chain of parents leads to a role that was granted the permission; the role itself is one
+-- a chain of parents leads to a role that was granted the permission; the role itself counts as
+-- such a chain
 abbrev pub Allows : Roles → ℕ → ℕ → Type 0
 Allows r role permission =
     (n : ℕ) × (other : ℕ) × (ancestor r role n ≡ Some other) × (r.granted other permission ≡ true)
@@ -35,14 +36,15 @@ Allows r role permission =
 abbrev pub HasLesserParents : Roles → Type 0
 HasLesserParents r = (role parent : ℕ) → r.parent role ≡ Some parent → parent < role
 
--- whether the two are a role and a permission, and whether the two are a role and a parent for it
+-- whether two numbers are a role and a permission; then, whether two numbers are a role and a
+-- parent for it
 abbrev pub may_grant : Roles → ℕ → ℕ → Bool
 may_grant r role permission = nat_lt role r.count && nat_lt permission r.permissions
 
 abbrev pub may_inherit : Roles → ℕ → ℕ → Bool
 may_inherit r role parent = nat_lt role r.count && nat_lt parent role
 
--- the roles after a role was granted one permission more
+-- the roles after one role was granted one more permission
 abbrev pub with_granted : Roles → ℕ → ℕ → Roles
 with_granted r role permission = record {
   count = r.count;
@@ -82,7 +84,8 @@ request_answers r requests = scan roles_after answer_to r requests
 unfoldable pub final_roles : Roles → List Request → Roles
 final_roles r requests = fold roles_after r requests
 
--- the roles of two rows: one has a set of permissions for each role, the other a parent or none
+-- the roles given by two rows: one row has a set of permissions for each role, the other a parent
+-- or none
 abbrev pub has_permission : {X : Type 0} → (X → PlainSet) → Option X → ℕ → Bool
 has_permission set None permission = false
 has_permission set (Some x) permission = nat_lt permission (set x).capacity && (set x).has permission

@@ -1,8 +1,8 @@
 //! Roles with permissions, where a role inherits from its parent.
 //!
-//! A role is a number below `N`, a permission one below the capacity of the set. A role allows what
-//! it was granted and what its parent allows. A parent has a lesser number than its role, so that
-//! no chain of parents comes back.
+//! A role is a number below `N`, and a permission is a number below the capacity of the set. A role
+//! allows what it was granted and what its parent allows. A parent has a lesser number than its
+//! role, so no chain of parents comes back to its first role.
 //!
 //! ```rust
 //! use bit_roles::Roles;
@@ -41,7 +41,7 @@ pub enum Request {
 /// The answer to a request.
 #[derive(Clone, Copy, Debug, PartialEq, Eq)]
 pub enum Answer {
-    /// It is done.
+    /// The request took effect.
     Done,
     /// Nothing changed: a number is no role, no permission or no parent for the role.
     Refused,
@@ -89,8 +89,8 @@ impl<B: BitsOwned, const N: usize> Roles<B, N> {
         }
     }
 
-    /// Grants a role a permission; one that it has stays granted. If there is no such role or
-    /// permission, nothing changes.
+    /// Grants a role a permission; a permission that the role has stays granted. If there is no
+    /// such role or permission, nothing changes.
     pub fn grant(&mut self, role: u32, permission: u32) -> Result<(), Refused>
         ensures done { IsOk result ↔ ((role < N) × (permission < B.type_capacity)) }
         ensures granted { let after = roles_of N B.type_capacity (set_in B.Shape B.Order.Endian)
@@ -109,7 +109,7 @@ impl<B: BitsOwned, const N: usize> Roles<B, N> {
     }
 
     /// Gives a role a parent, in place of the one that it has. If there is no such role, or the
-    /// parent has no lesser number, nothing changes.
+    /// number of the parent is not less than the role's, nothing changes.
     pub fn inherit(&mut self, role: u32, parent: u32) -> Result<(), Refused>
         ensures done { IsOk result ↔ ((role < N) × (parent < role)) }
         ensures parent { let after = roles_of N B.type_capacity (set_in B.Shape B.Order.Endian)
@@ -150,8 +150,9 @@ impl<B: BitsOwned, const N: usize> Roles<B, N> {
         }
     }
 
-    /// Returns whether a role allows a permission: a chain of parents, from the role itself on,
-    /// leads to a role that was granted it. It tests one bit for each role of the chain.
+    /// Returns whether a role allows a permission: whether its chain of parents, from the role
+    /// itself on, leads to a role that was granted the permission. It tests one bit for each role
+    /// of the chain.
     pub fn allows(&self, role: u32, permission: u32) -> bool
         ensures { IsTrue result ↔ Allows (roles_of N B.type_capacity
             (set_in B.Shape B.Order.Endian) self.now.granted self.now.parents) role permission }

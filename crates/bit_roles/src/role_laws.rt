@@ -1,6 +1,6 @@
 //! The main theorems of roles: what holds of every list of requests. Each function does nothing:
-//! its contract is the law. They rest on the machine of `specs/Roles.antt`, which `serve` runs by
-//! its contract, and on `Allows`, which `allows` answers by its own.
+//! its contract is the law. The laws speak of the machine of `specs/Roles.antt`, which `serve` runs
+//! by its contract, and of `Allows`, by which the contract of `allows` says what it returns.
 
 ghost use Rattle.bit_roles.specs.RoleLaws.{GrantsAreThoseAskedFor, GrantingTakesNothingAway};
 ghost use Rattle.bit_roles.specs.RoleLaws.{ParentsStayLesser, NoChainComesBack};
@@ -16,12 +16,13 @@ pub fn granting_takes_nothing_away()
     ensures { GrantingTakesNothingAway }
 {}
 
-/// States that requests keep that each parent has a lesser number than its role.
+/// States that if each parent has a lesser number than its role, this stays so after any requests.
 pub fn parents_stay_lesser()
     ensures { ParentsStayLesser }
 {}
 
-/// States that no chain of parents leads back to the role at which it began.
+/// States that if each parent has a lesser number than its role, no chain of parents leads back to
+/// the role at which it began.
 pub fn no_chain_comes_back()
     ensures { NoChainComesBack }
 {}

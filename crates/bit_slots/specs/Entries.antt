@@ -9,7 +9,7 @@ use Rattle.bit_slots.specs.Keys.{stages, found}
 abbrev pub key_of : ℕ → ℕ → Key
 key_of slot generation = record { slot = slot; generation = generation }
 
--- those of the slots of a list, of which the first has this number
+-- the values of a list of slots, each with its key; the first slot of the list has this number
 abbrev pub entries_from : {V : Type 0} → ℕ → List (Slot V) → List (Key × V)
 entries_from slot [] = []
 entries_from slot (Free generation ∷ rest) = entries_from (slot + 1) rest
@@ -17,7 +17,7 @@ entries_from slot (Live generation value ∷ rest) =
     (key_of slot generation, value) ∷ entries_from (slot + 1) rest
 entries_from slot (Retired ∷ rest) = entries_from (slot + 1) rest
 
--- those of a row
+-- the values of a row, each with its key
 abbrev pub entries : {V : Type 0} → List (Slot V) → List (Key × V)
 entries row = entries_from 0 row
 
@@ -25,6 +25,6 @@ entries row = entries_from 0 row
 abbrev pub IsEntry : {V : Type 0} → List (Slot V) → Key × V → Type 0
 IsEntry row entry = found (stages row entry.0.slot entry.0.generation) ≡ Some entry.1
 
--- it is among the entries
+-- the entry is one of the list
 abbrev pub HasEntry : {V : Type 0} → List (Key × V) → Key × V → Type 0
 HasEntry entries entry = (i : ℕ) × (slice_get entries i ≡ Some entry)

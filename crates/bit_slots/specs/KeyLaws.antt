@@ -3,8 +3,8 @@ use Rattle.std.specs.Prelude.{◌≡◌, ℕ, ◌<◌, ◌≤◌, List, [], ◌�
 use Rattle.bit_slots.specs.declared.Key.{Key}
 use Rattle.bit_slots.specs.Keys.{Stage, Stages, Unused, Holds, Spent, found, AreSameKeys, IsKeyInserted, IsKeyReplaced, IsRemoved}
 
--- a call: a value was put in and has the key, what the key stood for was taken out, a value took
--- the place of that of the key, or nothing changed
+-- a call: a value was put in and got the key, the value of the key was taken out, a new value
+-- replaced that of the key, or nothing changed
 pub data Call (V : Type 0) : Type 0 where
   Inserts : V → Key → Call V
   Removes : Key → Call V
@@ -24,13 +24,13 @@ IsHistory before [] after = AreSameKeys before after
 IsHistory {V} before (call ∷ calls) after =
     (between : Stages V) × IsCall before call between × IsHistory between calls after
 
--- how far a key came: it stands for nothing yet, for a value, or for nothing any more
+-- the stage of a key as a number: it stands for nothing yet, for a value, or for nothing any more
 abbrev pub age : {V : Type 0} → Stage V → ℕ
 age Unused = 0
 age (Holds value) = 1
 age Spent = 2
 
--- no key goes back, whatever is called
+-- no key goes back to an earlier stage, whatever is called
 abbrev pub KeysGoOn : Type 0 → Type 0
 KeysGoOn V =
     (before after : Stages V) (calls : List (Call V)) → IsHistory before calls after

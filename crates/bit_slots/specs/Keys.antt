@@ -15,13 +15,13 @@ pub data Stage (V : Type 0) : Type 0 where
 abbrev pub Stages : Type 0 → Type 0
 Stages V = ℕ → ℕ → Stage V
 
--- the generation of a slot, below which all are used up: of a retired one all below 2 ^ 32
+-- the current generation of a slot: all below it are used up. For a retired slot it is 2 ^ 32
 abbrev pub current : {V : Type 0} → Slot V → ℕ
 current (Free generation) = generation
 current (Live generation value) = generation
 current Retired = 4294967296
 
--- what the generation of a slot stands for
+-- what the current generation of a slot stands for
 abbrev pub held : {V : Type 0} → Slot V → Stage V
 held (Free generation) = Unused
 held (Live generation value) = Holds value
@@ -31,7 +31,7 @@ held Retired = Unused
 abbrev pub stage_of : {V : Type 0} → Slot V → ℕ → Stage V
 stage_of slot k = cond (nat_lt k (current slot)) Spent (cond (k == current slot) (held slot) Unused)
 
--- the same of a slot that may be none
+-- what a generation of a slot stands for: nothing yet, if there is no such slot
 abbrev pub stage_at : {V : Type 0} → Option (Slot V) → ℕ → Stage V
 stage_at None k = Unused
 stage_at (Some slot) k = stage_of slot k
@@ -50,7 +50,7 @@ found Spent = None
 abbrev pub HasKey : {V : Type 0} → List (Slot V) → ℕ → Key → Type 0
 HasKey row slot key = (key.slot ≡ slot) × (is_some (found (stages row slot key.generation)) ≡ true)
 
--- a key that is removed: what it stood for is spent
+-- the stage of a key after it was removed: a value is spent
 abbrev pub spent : {V : Type 0} → Stage V → Stage V
 spent Unused = Unused
 spent (Holds value) = Spent
@@ -60,7 +60,7 @@ spent Spent = Spent
 abbrev pub is_key : Key → ℕ → ℕ → Bool
 is_key key slot generation = (slot == key.slot) && (generation == key.generation)
 
--- the key stood for nothing yet, and has the value; no other key changes
+-- the key stood for nothing yet, and now has the value; no other key changes
 pub record IsKeyInserted {V : Type 0} (before : Stages V) (value : V) (key : Key)
     (after : Stages V) : Type 0 where
   pub unused : before key.slot key.generation ≡ Unused
@@ -71,7 +71,7 @@ pub record IsKeyInserted {V : Type 0} (before : Stages V) (value : V) (key : Key
 abbrev pub AreSameKeys : {V : Type 0} → Stages V → Stages V → Type 0
 AreSameKeys before after = (slot generation : ℕ) → after slot generation ≡ before slot generation
 
--- a value has a key, or came back
+-- a value got a key, or was returned and no key changed
 abbrev pub IsInserted : {V : Type 0} → Stages V → V → Result Key V → Stages V → Type 0
 IsInserted before value (Ok key) after = IsKeyInserted before value key after
 IsInserted before value (Err back) after = (back ≡ value) × AreSameKeys before after
@@ -81,27 +81,28 @@ abbrev pub IsRemoved : {V : Type 0} → Stages V → Key → Stages V → Type 0
 IsRemoved before key after = (slot generation : ℕ) → after slot generation
     ≡ cond (is_key key slot generation) (spent (before slot generation)) (before slot generation)
 
--- the key had a value, and has another; no other key changes
+-- the key had the old value, and now has the new one; no other key changes
 pub record IsKeyReplaced {V : Type 0} (before : Stages V) (key : Key) (value old : V)
     (after : Stages V) : Type 0 where
   pub was : before key.slot key.generation ≡ Holds old
   pub stages : (slot generation : ℕ) → after slot generation
       ≡ cond (is_key key slot generation) (Holds value) (before slot generation)
 
--- a value took the place of another, or came back where the key finds none
+-- a value replaced the value of a key, or was returned since the key finds none
 abbrev pub IsReplaced : {V : Type 0} → Stages V → Key → V → Result V V → Stages V → Type 0
 IsReplaced before key value (Ok old) after = IsKeyReplaced before key value old after
 IsReplaced before key value (Err back) after = (back ≡ value)
     × (found (before key.slot key.generation) ≡ None) × AreSameKeys before after
 
--- the value of a key became what a call made of it, or nothing changed where the key finds none
+-- a call changed the value of a key, or nothing changed since the key finds none
 abbrev pub IsUpdated : {V : Type 0} → (V → V → Type 0) → Stages V → Key → Bool → Stages V → Type 0
 IsUpdated {V} Makes before key true after = (old : V) × (value : V) × Makes old value
     × IsKeyReplaced before key value old after
 IsUpdated Makes before key false after = (found (before key.slot key.generation) ≡ None)
     × AreSameKeys before after
 
--- the same of the generations of one slot: of a free one that is filled, and of one that is emptied
+-- in one slot: a generation stood for nothing yet, and now has the value; then, what a generation
+-- stands for after it was emptied
 pub record IsFilled {V : Type 0} (old : Slot V) (value : V) (generation : ℕ)
     (new : Slot V) : Type 0 where
   pub unused : stage_of old generation ≡ Unused
@@ -110,7 +111,7 @@ pub record IsFilled {V : Type 0} (old : Slot V) (value : V) (generation : ℕ)
 abbrev pub removed : {V : Type 0} → ℕ → ℕ → Stage V → Stage V
 removed generation k stage = cond (k == generation) (spent stage) stage
 
--- the same of a value that took the place of that of a generation
+-- in one slot: a value replaced the value of a generation
 pub record IsExchangedWith {V : Type 0} (old : Slot V) (generation : ℕ) (value back : V)
     (new : Slot V) : Type 0 where
   pub was : stage_of old generation ≡ Holds back
@@ -123,7 +124,7 @@ IsExchanged old generation value (Ok back) new = IsExchangedWith old generation 
 IsExchanged old generation value (Err back) new = (back ≡ value)
     × (found (stage_of old generation) ≡ None) × (new ≡ old)
 
--- and of a value that a call changed
+-- in one slot: a call changed the value of a generation, or nothing changed
 abbrev pub IsUpdatedIn : {V : Type 0} → (V → V → Type 0) → Slot V → ℕ → Bool → Slot V → Type 0
 IsUpdatedIn {V} Makes old generation true new = (back : V) × (value : V) × Makes back value
     × IsExchangedWith old generation value back new

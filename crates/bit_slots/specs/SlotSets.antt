@@ -1,4 +1,4 @@
--- The sets of the slots of a kind.
+-- The sets of the slots that pass a test, such as being free.
 use Rattle.std.specs.Prelude.{◌≡◌, ◌==◌, ◌&&◌, ◌||◌, ℕ, Bool, true, false, not, nat_lt, List, slice_get, Option, Some, None}
 use Rattle.bittle.specs.PlainSet.{PlainSet}
 use Rattle.bit_slots.specs.declared.slot.Slot.{Slot}
@@ -16,28 +16,28 @@ is_live (Free generation) = false
 is_live (Live generation value) = true
 is_live Retired = false
 
--- whether there is a slot, and it passes the test
+-- whether there is such a slot, and it passes the test
 abbrev pub passes : {V : Type 0} → (Slot V → Bool) → Option (Slot V) → Bool
 passes test None = false
 passes test (Some slot) = test slot
 
--- whether the number is that of a slot of the row which passes the test
+-- whether the number names a slot of the row, and that slot passes the test
 abbrev pub is_slot : {V : Type 0} → (Slot V → Bool) → List (Slot V) → ℕ → Bool
 is_slot test row slot = passes test (slice_get row slot)
 
--- the set of those slots
+-- the set of the slots of a row that pass the test
 abbrev pub slots_where : {V : Type 0} → (Slot V → Bool) → ℕ → List (Slot V) → PlainSet
 slots_where test c row = record { capacity = c; has = is_slot test row }
 
--- a set has just those slots
+-- a set has exactly the slots of a row that pass the test
 abbrev pub HasSlots : {V : Type 0} → (Slot V → Bool) → PlainSet → List (Slot V) → Type 0
 HasSlots test s row = (slot : ℕ) → s.has slot ≡ is_slot test row slot
 
--- a set has just those of them that are below a number
+-- a set has exactly the slots below a number that pass the test
 abbrev pub MarksBelow : {V : Type 0} → (Slot V → Bool) → PlainSet → List (Slot V) → ℕ → Type 0
 MarksBelow test s row i = (slot : ℕ) → s.has slot ≡ (nat_lt slot i && is_slot test row slot)
 
--- a slot comes to those that pass a test, leaves them, or all stay
+-- one slot begins to pass a test (`Joins`), stops passing it (`Leaves`), or none changes (`Stays`)
 abbrev pub Joins : {V : Type 0} → (Slot V → Bool) → List (Slot V) → ℕ → List (Slot V) → Type 0
 Joins test before slot after = (k : ℕ) →
     is_slot test after k ≡ ((k == slot) || is_slot test before k)

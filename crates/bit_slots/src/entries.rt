@@ -1,4 +1,4 @@
-//! Iterates over the values of a row.
+//! An iterator over the values of a row of slots.
 
 ghost use Rattle.std.specs.Iterator.{YieldsFirstBy, item_count};
 
@@ -7,11 +7,11 @@ use crate::slot::Slot;
 use std::marker::Model;
 
 /// An iterator over the keys of a row that find a value, each with its value, in the order of their
-/// slots. A contract sees it as the list of those that are left.
+/// slots. A contract sees it as the list of the pairs that are left.
 #[derive(Drop)]
 pub struct Iter<'a, V> {
     pub(crate) slots: &'a [Slot<V>],
-    // The number of the first of them.
+    // The number of the first of `slots` in the row.
     pub(crate) slot: u32,
 }
 

@@ -1,11 +1,11 @@
 //! What holds of every history of calls. Each function does nothing: its contract is the law. The
-//! clause `stages` of each call says what it made of the keys, as `IsHistory` asks.
+//! clause `stages` of each call says what the call made of the keys, as `IsHistory` asks.
 
 ghost use Rattle.bit_slots.specs.KeyLaws.{KeysGoOn, RemovedKeysFindNothing, KeysAreGivenOnce};
 ghost use Rattle.bit_slots.specs.KeyLaws.{KeysNotGivenFindNothing};
 
-/// States that no key goes back: it stands for nothing yet, then for a value, then for nothing any
-/// more.
+/// States that no key goes back to an earlier stage: it stands for nothing yet, then for a value,
+/// then for nothing any more.
 pub fn keys_go_on<V>()
     ensures { KeysGoOn V }
 {}
@@ -21,7 +21,7 @@ pub fn keys_are_given_once<V>()
 {}
 
 /// States that a key which finds nothing, and which none of the calls gives, finds nothing after
-/// them. So a key of another table finds nothing, as long as this table has not given it too.
+/// them. So a key of another table finds nothing, as long as this table has not given the same key.
 pub fn keys_not_given_find_nothing<V>()
     ensures { KeysNotGivenFindNothing V }
 {}

@@ -1,10 +1,10 @@
-//! Slots with generations: each value that is put in has a key, and a key whose value was taken out
-//! finds nothing any more.
+//! Slots with generations: each value that is put in has a key. A key whose value was taken out
+//! finds nothing from then on.
 //!
 //! A key names a slot and a generation of it. When a value is taken out, its slot goes on to the
-//! next generation, so that what takes the slot next has another key. A slot whose generations are
-//! used up is retired: no key ever means two things. The row of slots is the caller's, and no
-//! memory is taken.
+//! next generation, so the next value in that slot has another key. A slot whose generations are
+//! used up is retired: no key ever means two things. The caller owns the row of slots, and no
+//! memory is allocated.
 //!
 //! ```rust
 //! let mut row = [Slot::new(), Slot::new()];
@@ -40,7 +40,7 @@ pub use entries::Iter;
 use row::{Row, free_slots, live_slots};
 pub use slot::Slot;
 
-/// The key of a value: a slot, and a generation of it. A table of slots alone makes keys.
+/// The key of a value: a slot, and a generation of it. Only a table of slots makes keys.
 #[derive(Clone, Copy, Debug, PartialEq, Eq)]
 pub struct Key {
     slot: u32,
@@ -63,8 +63,8 @@ impl Key {
     }
 }
 
-/// A row of slots that a caller lends, with the sets of those that are free and of those that hold
-/// a value, each in the order of its type. The row that was lent holds the changes.
+/// A row of slots that a caller lends, with the set of the free slots and the set of those that
+/// hold a value. Each set is in the order of its type. Changes are made in the lent row.
 #[derive(Drop)]
 pub struct Slots<'a, V: Drop, B: BitsOwned> {
     row: Row<'a, V>,
@@ -95,8 +95,9 @@ impl<'a, V: Drop, B: BitsOwned> Slots<'a, V, B> {
         }
     }
 
-    /// Puts a value into the least slot that is free, and returns its key, or returns the value and
-    /// changes nothing where none is free. It reads the set of the free slots up to the slot.
+    /// Puts a value into the least free slot, and returns the value's key. If no slot is free, it
+    /// changes nothing and returns the value in `Err`. It reads the set of the free slots up to the
+    /// slot.
     pub fn insert(&mut self, value: V) -> Result<Key, V>
         ensures stages { IsInserted (stages self.old.row.slots.now) value result
             (stages self.new.row.slots.now) }
@@ -117,8 +118,8 @@ impl<'a, V: Drop, B: BitsOwned> Slots<'a, V, B> {
         Ok(key)
     }
 
-    /// Takes out the value of a key and returns it, or changes nothing and returns `None` where the
-    /// key finds none. The key finds nothing from then on.
+    /// Takes out the value of a key and returns it. From then on the key finds nothing. If the key
+    /// finds no value, it changes nothing and returns `None`.
     pub fn remove(&mut self, key: Key) -> Option<V>
         ensures found { result ≡ found (stages self.old.row.slots.now key.slot key.generation) }
         ensures stages { IsRemoved (stages self.old.row.slots.now) key
@@ -135,7 +136,7 @@ impl<'a, V: Drop, B: BitsOwned> Slots<'a, V, B> {
         Some(value)
     }
 
-    /// Replaces the value of a key, and returns the old one. If the key finds none, it changes
+    /// Replaces the value of a key, and returns the old one. If the key finds no value, it changes
     /// nothing and returns the new value in `Err`. The key stays valid.
     pub fn replace(&mut self, key: Key, value: V) -> Result<V, V>
         ensures stages { IsReplaced (stages self.old.row.slots.now) key value result
@@ -145,9 +146,9 @@ impl<'a, V: Drop, B: BitsOwned> Slots<'a, V, B> {
         self.row.replace(key, value)
     }
 
-    /// Calls the function on the value of a key, which the function may change, and returns `true`,
-    /// or calls nothing, changes nothing and returns `false` where the key finds none. The key
-    /// stays. `slots.update(key, |count| *count = 0)` sets a count to 0.
+    /// Calls the function on the value of a key, which the function may change, and returns `true`.
+    /// The key stays valid. If the key finds no value, it calls nothing, changes nothing and
+    /// returns `false`. `slots.update(key, |count| *count = 0)` sets a count to 0.
     pub fn update<F: FnOnce(&mut V)>(&mut self, key: Key, change: F) -> bool
         requires { (value : MutBor V)
             → found (stages self.old.row.slots.now key.slot key.generation) ≡ Some value.now
@@ -169,8 +170,8 @@ impl<'a, V: Drop, B: BitsOwned> Slots<'a, V, B> {
     }
 
     /// Returns an iterator over the keys that find a value, each with its value, in the order of
-    /// their slots. It takes no memory, and reads each slot once. Where few slots hold a value,
-    /// [`live`](Slots::live) finds them by words.
+    /// their slots. It allocates no memory, and reads each slot once. If few slots hold a value,
+    /// the set [`live`](Slots::live) finds these slots by words.
     pub fn iter(&self) -> Iter<'_, V>
         ensures entries { result ≡ entries self.now.row.slots.now }
         ensures found { All (λ entry. IsEntry self.now.row.slots.now entry) result }
@@ -188,8 +189,8 @@ impl<'a, V: Drop, B: BitsOwned> Slots<'a, V, B> {
         }
     }
 
-    /// Returns the value of a key, or `None` where the key finds none. The slot of a key that finds
-    /// one is an index of any table as long as the row.
+    /// Returns the value of a key, or `None` if the key finds no value. If it finds one, the key's
+    /// slot is an index of any table as long as the row.
     pub fn get(&self, key: Key) -> Option<&V>
         ensures value { option_copied result
             ≡ found (stages self.now.row.slots.now key.slot key.generation) }
@@ -229,7 +230,7 @@ impl<'a, V: Drop, B: BitsOwned> Slots<'a, V, B> {
         &self.live
     }
 
-    /// Returns the key of the value that a slot holds, or `None` where it holds none.
+    /// Returns the key of the value that a slot holds, or `None` if the slot holds no value.
     pub fn key_at(&self, slot: u32) -> Option<Key>
         ensures { MatchOption result
             (is_slot is_live self.now.row.slots.now slot ≡ false)

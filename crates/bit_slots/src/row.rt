@@ -39,8 +39,8 @@ impl<'a, V: Drop> Row<'a, V> {
         Key { slot, generation }
     }
 
-    // Takes out the value of a key, and returns it with whether its slot is free again, or changes
-    // nothing.
+    // Takes out the value of a key, and returns it with whether its slot is free again. If the key
+    // finds no value, changes nothing and returns `None`.
     pub(crate) fn empty(&mut self, key: Key) -> Option<(V, bool)>
         ensures found { MatchOption result
             (found (stages self.old.slots.now key.slot key.generation) ≡ None)
@@ -62,7 +62,8 @@ impl<'a, V: Drop> Row<'a, V> {
         Some((value, self.slots[key.slot as usize].is_free()))
     }
 
-    // Puts a value in place of that of a key, or returns it and changes nothing.
+    // Replaces the value of a key and returns the old one. If the key finds no value, changes
+    // nothing and returns the new value in `Err`.
     pub(crate) fn replace(&mut self, key: Key, value: V) -> Result<V, V>
         ensures stages { IsReplaced (stages self.old.slots.now) key value result
             (stages self.new.slots.now) }
@@ -147,7 +148,7 @@ pub(crate) fn live_slots<V: Drop, B: BitsOwned>(row: &[Slot<V>]) -> B
     set
 }
 
-// Returns the set with the number where it is to be a member, else the set as it was.
+// Returns the set with the number if `is_member` is `true`, else the set as it was.
 fn assigned<B: BitsOwned>(set: B, number: u32, is_member: bool) -> B
     requires { IsTrue B.indexable }
     ensures { set_in B.Shape B.Order.Endian result

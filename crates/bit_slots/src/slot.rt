@@ -13,11 +13,11 @@ use std::mem;
 /// A slot of a row.
 #[derive(Drop)]
 pub enum Slot<V> {
-    /// It is free, and the generation comes next.
+    /// The slot is free, and the next value gets this generation.
     Free(u32),
-    /// It holds a value of the generation.
+    /// The slot holds a value of this generation.
     Live(u32, V),
-    /// Its generations are used up.
+    /// The generations of the slot are used up.
     Retired,
 }
 
@@ -29,14 +29,14 @@ impl<V: Drop> Slot<V> {
         Slot::Free(0)
     }
 
-    // Returns whether it is free.
+    // Returns whether the slot is free.
     pub(crate) fn is_free(&self) -> bool
         ensures { result ≡ is_free self.now }
     {
         matches!(self, Slot::Free(_))
     }
 
-    // Returns whether it holds a value.
+    // Returns whether the slot holds a value.
     pub(crate) fn is_live(&self) -> bool
         ensures { result ≡ is_live self.now }
     {
@@ -58,8 +58,8 @@ impl<V: Drop> Slot<V> {
         generation
     }
 
-    // Takes out the value of a generation, and goes on to the next, or changes nothing where it
-    // holds none.
+    // Takes out the value of a generation, and goes on to the next generation. If the slot holds no
+    // value of that generation, changes nothing.
     pub(crate) fn empty(&mut self, generation: u32) -> Option<V>
         ensures found { result ≡ found (stage_of self.old generation) }
         ensures stages { (k : ℕ)
@@ -82,8 +82,8 @@ impl<V: Drop> Slot<V> {
         }
     }
 
-    // Puts a value in place of that of a generation, and returns it, or returns the value and
-    // changes nothing where it holds none.
+    // Replaces the value of a generation and returns the old one. If the slot holds no value of
+    // that generation, changes nothing and returns the new value in `Err`.
     pub(crate) fn replace(&mut self, generation: u32, value: V) -> Result<V, V>
         ensures { IsExchanged self.old generation value result self.new }
     {
@@ -93,7 +93,7 @@ impl<V: Drop> Slot<V> {
         }
     }
 
-    // Calls a function on the value of a generation, and returns whether it holds one.
+    // Calls a function on the value of a generation, and returns whether the slot holds one.
     pub(crate) fn update<F: FnOnce(&mut V)>(&mut self, generation: u32, change: F) -> bool
         requires { (value : MutBor V) → found (stage_of self.old generation) ≡ Some value.now
             → F.pre change value }

@@ -20,11 +20,11 @@ list_cmp = slice_cmp nat_cmp
 abbrev pub list_eq : List ℕ → List ℕ → Bool
 list_eq = pointwise nat_eq
 
--- each number is a member of both or of neither
+-- each number is a member of both sets or of neither
 abbrev pub AreSame : PlainSet → PlainSet → Type 0
 AreSame s t = (i : ℕ) → s.has i ≡ t.has i
 
--- each number below n is a member of both or of neither
+-- each number below n is a member of both sets or of neither
 abbrev pub AreSameBelow : PlainSet → PlainSet → ℕ → Type 0
 AreSameBelow s t n = (i : ℕ) → i < n → s.has i ≡ t.has i
 
@@ -37,35 +37,36 @@ pub record AreCompared {V W X Y : Type 0} (a : shape.Ghosts V W) (b : shape.Ghos
   pub capacity : n ≡ (a.big left).capacity
   pub other : m ≡ (b.big right).capacity
 
--- d is the least number that is in just one
+-- d is the least number that is in just one of the two sets
 abbrev pub IsFirstDifference : PlainSet → PlainSet → ℕ → Type 0
 IsFirstDifference = IsFirstDecided just_one
 
--- r is that number, or `None` if the two have the same members
+-- r is the least number that is in just one of the two sets, or `None` if they have the same
+-- members
 abbrev pub IsDifference : PlainSet → PlainSet → Option ℕ → Type 0
 IsDifference s t r = MatchOption r (AreSame s t) (IsFirstDifference s t)
 
--- the same for the sets of two values, read in one order
+-- `IsDifference` for the sets of two values, both read in the same order
 abbrev pub IsDifferenceOf : {V W X Y E : Type 0} → shape.Ghosts V W → shape.Ghosts X Y →
     endian.Ghosts E → V → X → Option ℕ → Type 0
 IsDifferenceOf a b e left right r = IsDifference (set_in a e left) (set_in b e right) r
 
--- a member lies past the number
+-- some member is greater than the number
 abbrev pub HasPast : PlainSet → ℕ → Type 0
 HasPast s d = (m : ℕ) × (d < m) × (s.has m ≡ true)
 
--- no member lies past the number
+-- no member is greater than the number
 abbrev pub HasNonePast : PlainSet → ℕ → Type 0
 HasNonePast s d = (m : ℕ) → d < m → s.has m ≡ false
 
--- whether the set that lacks the number has a member past it; that set is t if the number is in s,
+-- whether the set that lacks the number d has a member greater than d; that set is t if d is in s,
 -- and else s
 abbrev pub GoesOn : Bool → PlainSet → PlainSet → ℕ → Bool → Type 0
 GoesOn is_first s t d b = MatchBool b
     (HasPast (cond is_first t s) d) (HasNonePast (cond is_first t s) d)
 
 -- Let d be the least number that is in just one of the two. Either d is in s and t has a member
--- past it, or d is in t and s has none past it.
+-- greater than d, or d is in t and s has no member greater than d.
 abbrev pub Precedes : PlainSet → PlainSet → Type 0
 Precedes s t =
     (d : ℕ) × AreSameBelow s t d

@@ -62,7 +62,7 @@ abbrev pub items_given : List (Option ℕ) → ℕ
 items_given answers = count_by is_some answers
 
 -- The scans, one number for each answer, never fall. Each is at least the number of items yielded
--- so far, and at most that number plus the words.
+-- so far, and at most that number plus the number of words.
 pub record AreScanBounded (scans : List ℕ) (answers : List (Option ℕ)) (words : ℕ) : Type 0 where
   pub each : length scans ≡ length answers
   pub rise : (k : ℕ) → k + 1 < length scans → slice_index scans k ≤ slice_index scans (k + 1)

@@ -3,7 +3,7 @@ use Rattle.std.specs.Prelude.{◌≡◌, ℕ, Bool}
 use Rattle.bittle_bits.specs.Orders.{read_in}
 use Rattle.bittle_bits.specs.PlainSet.{PlainSet}
 
--- in both orders, the set r is what the operation makes of s and t; the words have w bits
+-- in both orders, the set r is the result of the operation on s and t; the words have w bits
 abbrev pub IsInBothOrders : (PlainSet → PlainSet → PlainSet) → ℕ → PlainSet → PlainSet → PlainSet →
     Type 0
 IsInBothOrders operation w s t r = (mirrored : Bool) →

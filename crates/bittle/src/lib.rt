@@ -46,7 +46,8 @@
 //! ```
 //!
 //! A slice reference is a set too. A `&[T]` can be read; a `&mut [T]` changes the caller's words. A
-//! `Vec` is a set through its slice. A part of a slice needs its borrow, as `(&mut words[1..3])`.
+//! `Vec` is a set through its slice. To use a part of a slice as a set, borrow the part, as in
+//! `(&mut words[1..3])`.
 //!
 //! An iterator borrows the slice reference. If you keep the iterator in a variable, keep the
 //! reference in one too.
@@ -68,8 +69,8 @@
 //!
 //! # Macros
 //!
-//! [`set!`] makes the set of a list, in the order of its type. [`set_le!`] and [`set_be!`] make it
-//! in the order that they name.
+//! [`set!`] makes the set of a list, in the order of the set's type. [`set_le!`] and [`set_be!`]
+//! make the set in the order that they name.
 //!
 //! ```rust
 //! let mask: u8 = bittle::set![0, 2..=3, 6..];       // 0b1100_1101
@@ -105,7 +106,8 @@
 //!
 //! # A set that remembers its order
 //!
-//! A [`Set`] remembers its order. It is compared and hashed by its indexes, and prints them.
+//! A [`Set`] remembers its order. It is compared and hashed by the indexes of its set bits, and
+//! prints these indexes.
 //!
 //! ```rust
 //! let set = Set::new_le(0b1101_0000u8);
@@ -116,12 +118,13 @@
 //!
 //! # Names
 //!
-//! A call that ends in `_in` names its order, as `test_bit_in::<LittleEndian>(3)`. `_le` and `_be`
-//! are its short forms. A call without an ending takes the order of the type. That is
-//! [`BigEndian`], or the order that a [`Set`] remembers; `join_ones` takes [`BigEndian`] always.
+//! A call that ends in `_in` names its order, as `test_bit_in::<LittleEndian>(3)`. Calls that end
+//! in `_le` and `_be` are short forms for the two orders. A call without an ending takes the order
+//! of the type: [`BigEndian`], or the order that a [`Set`] remembers. `join_ones` always takes
+//! [`BigEndian`].
 //!
-//! The names avoid `is_empty` and `len`, which slices have: call `all_zeros`, `all_ones`,
-//! `count_ones` and `bits_capacity`.
+//! No call is named `is_empty` or `len`, since slices have methods of these names. Call
+//! `all_zeros`, `all_ones`, `count_ones` and `bits_capacity` instead.
 #![tactic(auto)]
 
 #[doc(hidden)]

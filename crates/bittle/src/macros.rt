@@ -9,17 +9,17 @@ use bittle_bits::bits_mut::BitsMut;
 use bittle_bits::bits_owned::BitsOwned;
 use bittle_bits::endian::{BigEndian, Endian, LittleEndian};
 
-/// Makes the set of a list, in the order of its type.
+/// Makes the set of a list, in the order of the set's type.
 ///
-/// A list has indexes, which are expressions of the type `u32`. It also has ranges `a..=b`, `a..b`
-/// and `a..`, whose bounds are literals; `a..` ends at the capacity. A range that ends before it
-/// starts sets nothing.
+/// The items of a list are indexes and ranges. An index is an expression of the type `u32`. A range
+/// is `a..=b`, `a..b` or `a..`, and its bounds are literals; `a..` ends at the capacity. A range
+/// that ends before it starts sets nothing.
 ///
 /// The use of the macro has to determine the type, and the type has to fit. The empty set costs
-/// O(words), an index O(1), and a range one mask for each word of it. An index past the capacity
-/// wraps. With capacity 0 the set is empty.
+/// O(words), an index O(1), and a range one mask for each word of the range. An index past the
+/// capacity wraps. With capacity 0 the set is empty.
 ///
-/// The macro is not a constant. In place of a constant, write a function that returns the set.
+/// The macro makes no constant. In place of a constant, write a function that returns the set.
 ///
 /// ```
 /// let mask: u8 = bittle::set![0, 2..=3, 6..];         // 0b1100_1101
@@ -69,8 +69,8 @@ macro_rules! set_be {
     };
 }
 
-// Makes the set of a list. It is given the calls for an index, for a range `a..b` and for a range
-// `a..=b`.
+// Makes the set of a list. Before the list it takes three calls: for an index, for a range `a..b`
+// and for a range `a..=b`.
 #[doc(hidden)]
 #[macro_export]
 macro_rules! set_of_listed {
@@ -112,8 +112,8 @@ macro_rules! put_listed {
 
 /// Sets the bits at the indexes `from..to`, in the order of the type. Each index wraps.
 ///
-/// The shape has to fit. A range that ends before it starts changes nothing. With capacity 0
-/// nothing changes.
+/// The shape has to fit (`bits_capacity() < u32::MAX`). A range that ends before it starts changes
+/// nothing. With capacity 0 nothing changes.
 #[inline]
 pub fn put_until<B: BitsMut>(bits: &mut B, from: u32, to: u32)
     requires { ShapeFits B.Shape bits.old }
@@ -139,8 +139,8 @@ pub fn put_until_in<B: BitsMut, E: Endian>(bits: &mut B, from: u32, to: u32)
 
 /// Sets the bits at the indexes `from..=to`, in the order of the type. Each index wraps.
 ///
-/// The shape has to fit. A range that ends before it starts changes nothing. With capacity 0
-/// nothing changes.
+/// The shape has to fit (`bits_capacity() < u32::MAX`). A range that ends before it starts changes
+/// nothing. With capacity 0 nothing changes.
 #[inline]
 pub fn put_through<B: BitsMut>(bits: &mut B, from: u32, to: u32)
     requires { ShapeFits B.Shape bits.old }
@@ -165,7 +165,7 @@ pub fn put_through_in<B: BitsMut, E: Endian>(bits: &mut B, from: u32, to: u32)
     if capacity == 0 {
         return;
     }
-    // As many consecutive indexes as the capacity name every bit, so a range needs no more.
+    // `capacity` consecutive indexes name every bit, so a longer range is cut to this length.
     let count = (to - from).min(capacity - 1) + 1;
     let start = from % capacity;
     let room = capacity - start;
@@ -177,8 +177,9 @@ pub fn put_through_in<B: BitsMut, E: Endian>(bits: &mut B, from: u32, to: u32)
     }
 }
 
-// Makes the set of a list with two indexes and each kind of range, by each macro. The crate of
-// proved callers has the other lists, with each kind of item before another.
+// These functions make the set of a list with two indexes and each kind of range, one function for
+// each macro. The crate `bittle_uses`, of proved callers, has the other lists, in which each kind
+// of item stands before another.
 fn listed<B: BitsOwned>(a: u32, b: u32) -> B
     requires { IsTrue B.indexable }
     ensures { set_in B.Shape B.Order.Endian result ≡ listed_set B.type_capacity a b }

@@ -24,12 +24,12 @@ mod operators;
 
 /// A set that remembers the order in which its bits are indexed.
 ///
-/// Calls that name no order use the remembered one; `join_ones` alone uses [`DefaultEndian`].
+/// Calls that name no order use the remembered order. Only `join_ones` uses [`DefaultEndian`].
 /// Iteration, comparison, hashing and debug text use the remembered order too.
 ///
 /// The wrapped value always fits: its capacity, and that of every array type inside, is below
-/// `u32::MAX`. So a call requires of the set at most that `from <= to <= capacity`, for a range or
-/// a search. Another set, of any shape, has to fit.
+/// `u32::MAX`. So the only condition that a call puts on the set is `from <= to <= capacity`, for a
+/// range or a search. If a call takes another set of any shape, that set has to fit.
 ///
 /// ```
 /// let set = Set::new_le(0b1101_0000u8);
@@ -37,9 +37,9 @@ mod operators;
 /// set.iter_ones();                                    // yields 0, 1, 3
 /// ```
 ///
-/// The operators `|`, `&`, `^` and `-`, and their assigning forms, are the operations on sets. `!`
-/// has the indexes below the capacity that are not members. For each integer type, `from` makes the
-/// set of an integer and `default` makes the empty set.
+/// The operators `|`, `&`, `^` and `-`, and their assigning forms such as `|=`, are the operations
+/// on sets. `!` returns the indexes below the capacity that are not members. For each integer type,
+/// `from` makes the set of an integer and `default` makes the empty set.
 ///
 /// ```
 /// let one: Set<u8> = Set::from(0b0011);
@@ -58,7 +58,7 @@ pub struct Set<T: Shape, E: Endian = DefaultEndian> {
     pub ghost fits: { ShapeFits T.Shape bits },
 }
 
-/// States that a set which names no order has the big-endian one.
+/// States that a `Set` type that names no order has the big-endian order.
 #[doc(hidden)]
 pub fn default_order_is_big_endian()
     ensures { ⟦<DefaultEndian as Endian>⟧.mirrored ≡ false }
@@ -67,7 +67,7 @@ pub fn default_order_is_big_endian()
 impl<T: Bits> Set<T> {
     /// Makes a set of `bits`, read in [`DefaultEndian`] order.
     ///
-    /// The shape has to fit. It costs O(1), and the move of `bits`.
+    /// The shape has to fit (`bits_capacity() < u32::MAX`). It costs O(1), and the move of `bits`.
     ///
     /// ```
     /// Set::new(0b1101_0000u8).iter_ones();                // yields 4, 6, 7
@@ -84,7 +84,7 @@ impl<T: Bits> Set<T> {
 impl<T: Bits> Set<T, LittleEndian> {
     /// Makes a set of `bits`, read in [`LittleEndian`] order.
     ///
-    /// The shape has to fit. It costs O(1), and the move of `bits`.
+    /// The shape has to fit (`bits_capacity() < u32::MAX`). It costs O(1), and the move of `bits`.
     ///
     /// ```
     /// Set::new_le(0b1101_0000u8).iter_ones();             // yields 0, 1, 3
@@ -101,7 +101,7 @@ impl<T: Bits> Set<T, LittleEndian> {
 impl<T: Bits, E: Endian> Set<T, E> {
     /// Makes a set of `bits`, read in the order `E`.
     ///
-    /// The shape has to fit. It costs O(1), and the move of `bits`.
+    /// The shape has to fit (`bits_capacity() < u32::MAX`). It costs O(1), and the move of `bits`.
     ///
     /// ```
     /// Set::<u8, LittleEndian>::new_in(0x80).iter_ones();  // yields 0
@@ -136,7 +136,7 @@ impl<T: Bits, E: Endian> Set<T, E> {
 impl<'a, U: BitsOwned> Set<&'a [U]> {
     /// Makes a set of a slice, read in [`DefaultEndian`] order.
     ///
-    /// The shape has to fit. It costs O(1).
+    /// The shape has to fit (`bits_capacity() < u32::MAX`). It costs O(1).
     ///
     /// ```
     /// Set::from_ref(&[1u8, 16]).iter_ones();              // yields 0, 12
@@ -156,7 +156,7 @@ impl<'a, U: BitsOwned> Set<&'a [U]> {
 impl<'a, U: BitsOwned> Set<&'a [U], LittleEndian> {
     /// Makes a set of a slice, read in [`LittleEndian`] order.
     ///
-    /// The shape has to fit. It costs O(1).
+    /// The shape has to fit (`bits_capacity() < u32::MAX`). It costs O(1).
     ///
     /// ```
     /// Set::from_ref_le(&[1u8, 16]).iter_ones();           // yields 7, 11
@@ -177,7 +177,7 @@ impl<'a, U: BitsOwned> Set<&'a mut [U]> {
     /// Makes a set of a mutably borrowed slice, read in [`DefaultEndian`] order. The caller's slice
     /// holds the changes.
     ///
-    /// The shape has to fit. It costs O(1).
+    /// The shape has to fit (`bits_capacity() < u32::MAX`). It costs O(1).
     ///
     /// ```
     /// let mut words = [0u8; 2];
@@ -200,7 +200,7 @@ impl<'a, U: BitsOwned> Set<&'a mut [U], LittleEndian> {
     /// Makes a set of a mutably borrowed slice, read in [`LittleEndian`] order. The caller's slice
     /// holds the changes.
     ///
-    /// The shape has to fit. It costs O(1).
+    /// The shape has to fit (`bits_capacity() < u32::MAX`). It costs O(1).
     ///
     /// ```
     /// let mut words = [0u8; 2];

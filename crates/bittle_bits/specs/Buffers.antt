@@ -15,8 +15,8 @@ use Rattle.bittle_bits.specs.declared.word.Word as word
 unfoldable pub members_between : PlainSet → ℕ → ℕ → List ℕ
 members_between s from to = ascending_from s.has from (to - from)
 
--- the members of a word of w bits, moved by a base; they are indexes of the set that the word was
--- fetched from, in which its first bit has the index base
+-- the members of a word of w bits, each plus base; these are their indexes in the set that the word
+-- was fetched from, where the first bit of the word has the index base
 abbrev pub items_of : Bool → ℕ → ℕ → ℕ → List ℕ
 items_of mirrored w pattern base = map (λ i. base + i)
     (ascending (read_in mirrored w (bit_set w pattern)))
@@ -32,7 +32,7 @@ buffered_items mirrored w pattern c = cond c.is_loaded
     (Some (items_of mirrored w (pattern c.word) (c.edge - edge_from_first mirrored w)))
     None
 
--- the indexes of a loaded word have 32 bits, and a buffer with no word loaded has no item
+-- the indexes of a loaded word fit in 32 bits, and a buffer with no word loaded has no item
 unfoldable pub IsSound : {W : Type 0} → Bool → ℕ → (W → ℕ) → BufferedWord W → Type 0
 IsSound mirrored w pattern c = (c.is_loaded ≡ true →
     (first : ℕ) × (c.edge ≡ first + edge_from_first mirrored w) × (first + w < 4294967296))
@@ -42,7 +42,7 @@ IsSound mirrored w pattern c = (c.is_loaded ≡ true →
 abbrev pub word_items : {W E : Type 0} → word.Ghosts W → endian.Ghosts E → W → ℕ → List ℕ
 word_items t e v k = items_of e.mirrored t.width (t.pattern v) (k * t.width)
 
--- the members of word k of a value, for the bits of a kind, in an order
+-- the indexes of the bits of a kind (set or unset) in word k of a value, read in an order
 abbrev pub members_in_word : {V W E K : Type 0} → shape.Ghosts V W → endian.Ghosts E →
     kind.Ghosts K → V → ℕ → List ℕ
 members_in_word b e k v n = members_between (kind_in b e k v) (n * b.width) (n * b.width + b.width)
@@ -52,7 +52,7 @@ abbrev pub items_held : {W E : Type 0} → word.Ghosts W → endian.Ghosts E →
     Option (List ℕ)
 items_held t e c = buffered_items e.mirrored t.width t.pattern c
 
--- a buffered word is sound
+-- a buffered word is sound, as `IsSound` says
 abbrev pub HoldsSound : {W E : Type 0} → word.Ghosts W → endian.Ghosts E → BufferedWord W → Type 0
 HoldsSound t e c = IsSound e.mirrored t.width t.pattern c
 
@@ -73,7 +73,7 @@ abbrev pub buffer_count : Option (List ℕ) → ℕ
 buffer_count None = 0
 buffer_count (Some xs) = 1
 
--- the head, or the tail, of two buffered words
+-- the head (for `true`) or the tail of two buffered words
 abbrev pub buffer_of : Bool → BufferPair → Option (List ℕ)
 buffer_of true b = b.head
 buffer_of false b = b.tail
@@ -83,12 +83,13 @@ abbrev pub ScansFrom : Bool → Option (List ℕ) → Option ℕ → Option (Lis
 ScansFrom front before r after = MatchOption r ((items_in before ≡ []) × (after ≡ None))
     (λ item. (xs : List ℕ) × (before ≡ Some (with_end front item xs)) × (after ≡ Some xs))
 
--- a word at an end is dropped if it has no item, and stays if it has one
+-- the buffered word at an end is dropped if it has no item, and stays if it has one
 abbrev pub TellsExhausted : Bool → Option (List ℕ) → Option (List ℕ) → Type 0
 TellsExhausted r before after = MatchBool r ((items_in before ≡ []) × (after ≡ None))
     ((items_in before ≢ []) × (after ≡ before))
 
--- a word that is fetched for an end is loaded there if it has an item; else the test was its scan
+-- a word that is fetched for an end is loaded there if it has an item; else the test for an item
+-- counts as its scan
 abbrev pub Refills : Bool → List ℕ → Bool → BufferPair → BufferPair → Type 0
 Refills front xs r b c = MatchBool r
     ((xs ≢ []) × (c ≡ record {

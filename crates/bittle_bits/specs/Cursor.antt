@@ -12,7 +12,7 @@ use Rattle.bittle_bits.specs.declared.shape.Shape as shape
 -- B is the type of the set, E the order, and W the type of the words
 module _ {B E W : Type 0} where
   -- What remains: the head's items, the members of the words between, and the tail's items. It is
-  -- not an abbreviation, since a caller's search would expand the buffers of each iterator.
+  -- no abbreviation, since a caller's proof search would expand the buffers of each iterator.
   unfoldable pub items_left_in : PlainSet → ℕ → Cursor B E W → List ℕ
   items_left_in s w at = items_in at.buffers.head
       ++ (members_between s (at.low * w) (at.high * w) ++ items_in at.buffers.tail)
@@ -29,8 +29,8 @@ module _ {B E W : Type 0} where
     words = words;
   }
 
--- Each scan yielded an item or exhausted a word. Each word was fetched once, is between the
--- buffered ones, or was passed over.
+-- Each scan yielded an item or found a word exhausted. Each word was fetched once, is between the
+-- two buffered words, or was passed over (skipped unread).
 pub record IsCounted {B E W : Type 0} (words : ℕ) (at : Cursor B E W) : Type 0 where
   pub ordered : at.low ≤ at.high
   pub within : at.high ≤ words
@@ -39,7 +39,7 @@ pub record IsCounted {B E W : Type 0} (words : ℕ) (at : Cursor B E W) : Type 0
       at.buffers.tail ≤ at.items + words
   pub once : at.buffers.fetches + (at.high - at.low) + at.passed ≡ words
 
--- all items remain, and nothing is counted except the words that were fetched
+-- all items remain, no scan is counted, and no word but those fetched and those passed over
 pub record IsWalkStart {B E W : Type 0} (s : PlainSet) (words w : ℕ) (t : Cursor B E W) :
     Type 0 where
   pub remaining : items_left_in s w t ≡ ascending s
@@ -51,7 +51,7 @@ abbrev pub walk_at : {V W E K L : Type 0} → shape.Ghosts V W → endian.Ghosts
     Cursor V E L → Walk
 walk_at b e k v at = walk_of (kind_in b e k v) (word_count b v) b.width at
 
--- the counts at a position in the words of a value
+-- the counts at a position in the words of a value are as `IsCounted` says
 abbrev pub IsCountedIn : {V W E L : Type 0} → shape.Ghosts V W → V → Cursor V E L → Type 0
 IsCountedIn b v at = IsCounted (word_count b v) at
 

@@ -8,12 +8,12 @@ abbrev pub with_end : Bool → ℕ → List ℕ → List ℕ
 with_end true x xs = x ∷ xs
 with_end false x xs = xs ++ x ∷ []
 
--- `YieldsFirst` from the front, and `YieldsLast` from the back
+-- a step from the front yields as `YieldsFirst` says, a step from the back as `YieldsLast` says
 abbrev pub YieldsFrom : {S : Type 0} → Bool → (S → List ℕ) → S → Option ℕ → S → Type 0
 YieldsFrom front rest s r t = MatchOption r ((rest s ≡ []) × (rest t ≡ []))
     (λ x. rest s ≡ with_end front x (rest t))
 
--- the item at an end is taken, and r is its place; or none was left, and nothing changed
+-- the item at an end is taken, and r is its place; or no item was left, and nothing changed
 abbrev pub YieldsPlace : {S : Type 0} → Bool → (ℕ → ℕ) → (S → List ℕ) → S → Option ℕ → S → Type 0
 YieldsPlace front index rest s r t = MatchOption r ((rest s ≡ []) × (t ≡ s))
     (λ at. rest s ≡ with_end front (index at) (rest t))
@@ -23,12 +23,13 @@ abbrev pub IsEndMember : Bool → PlainSet → ℕ → Type 0
 IsEndMember true = IsLeastMember
 IsEndMember false = IsGreatestMember
 
--- the first member of a range, or the last one
+-- the least member in a range, seen from the front; the greatest one, seen from the back
 abbrev pub IsEndIn : Bool → PlainSet → ℕ → ℕ → Option ℕ → Type 0
 IsEndIn true = IsFirstIn
 IsEndIn false = IsLastIn
 
--- whether a number is not before the start of a range, seen from the end
+-- whether a number is at least `from`, seen from the front; whether it is below `to`, seen from the
+-- back
 abbrev pub is_ahead : Bool → ℕ → ℕ → ℕ → Bool
 is_ahead true from to k = not (nat_lt k from)
 is_ahead false from to k = nat_lt k to

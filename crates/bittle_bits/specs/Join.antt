@@ -38,8 +38,8 @@ module _ {I A : Type 0} (steps : I → Option A → I → Type 0) where
   join_steps s r t = MatchOption r (t.ended ≡ true) (λ _. t.ended ≡ false)
       × (s.ended ≡ true → (r ≡ None) × (t ≡ s)) × (s.ended ≡ false → JoinsNext s.mask.remaining s r t)
 
--- The next item of the iterator was at position `from`. Then `taken` were taken from it, up to the
--- last member that has an answer. The answers are the items of `taken` at the first of `members`.
+-- The next item of the iterator was at position `from`. Then the items `taken` were taken from it,
+-- up to the last member that has an answer. Answer k is the taken item whose position is member k.
 pub record IsJoin {A : Type 0} (from : ℕ) (members : List ℕ) (taken answers : List A) : Type 0 where
   pub among : length answers ≤ length members
   pub given : (k : ℕ) → k < length answers →
@@ -48,7 +48,7 @@ pub record IsJoin {A : Type 0} (from : ℕ) (members : List ℕ) (taken answers 
 
 module _ {I A : Type 0} (steps : I → Option A → I → Type 0) (s : Join I) where
   -- As long as a join returns items, they are the iterator's items at the mask's members, in turn.
-  -- It takes no item past the last of these members.
+  -- The join takes no item past the last of these members.
   abbrev pub AnswersItemsAtMembers : Type 0
   AnswersItemsAtMembers = (answers : List A) (t : Join I) → Yields (join_steps steps) s answers t
       → (taken : List A) × Yields steps s.iter taken t.iter
@@ -64,7 +64,7 @@ module _ {I A : Type 0} (steps : I → Option A → I → Type 0) (s : Join I) w
       × (s.taken + length (taken ++ last) ≤ m)
 
   -- A join ends after the last member, and takes nothing further. Or it ends at the first member
-  -- that is not before the iterator's end, and has reached that end.
+  -- for which the iterator has no item, and has reached the iterator's end.
   abbrev pub EndsAfterMembers : Type 0
   EndsAfterMembers = (answers : List A) (t : Join I) →
       YieldsThen (join_steps steps) s answers None t

@@ -14,7 +14,7 @@ pub bit_has-past : (w d i : ℕ) → w ≤ i → bit_has w d i ≡ false
 unfolding bit_has
 bit_has-past w d i h = rw (le-ltb i w h)
 
--- a word is whole words: it is one
+-- a word is a whole number of words: one
 pub one_word : (w : ℕ) → (words : ℕ) × (w ≡ words * w)
 one_word w = (1, omega arith)
 
@@ -27,7 +27,7 @@ none_past_word w d s is i h = rw (is) (bit_has-past w d i (rw (is) at h))
 pub word_capacity : (w d c : ℕ) (s : PlainSet) → s ≡ bit_set w d → c ≡ w → s.capacity ≡ c
 word_capacity w d c s is same = rw (is, same) refl
 
--- a capacity that is the width of a word is whole words: it is one
+-- a capacity that is the width of a word is a whole number of words: one
 pub one_word_whole : (w own c : ℕ) → w ≡ own → c ≡ own → (words : ℕ) × (c ≡ words * w)
 one_word_whole w own c same whole = rw (whole, same) (one_word own)
 
@@ -35,17 +35,17 @@ one_word_whole w own c same whole = rw (whole, same) (one_word own)
 pub positive_width : (w own : ℕ) → w ≡ own → 0 < own → 0 < w
 positive_width w own same h = omega (arith, same, h)
 
--- words that are equal are one set
+-- words that are equal are the same set
 pub equal_words : (w u v : ℕ) → IsTrue (nat_eq u v) → bit_set w u ≡ bit_set w v
 equal_words w u v h = ap (bit_set w) (eqb-true u v h)
 
--- signed words that are equal are one set, whatever their patterns are
+-- signed words that are equal are the same set, whatever their patterns are
 pub equal_signed_words : (w : ℕ) (pattern : ℤ → ℕ) (u v : ℤ) → IsTrue (int_eq u v) →
     bit_set w (pattern u) ≡ bit_set w (pattern v)
 equal_signed_words w pattern u v h = ap (λ x. bit_set w (pattern x)) ((signed_Decides u v).0 h)
 
--- An integer type is a word that is the set of its bits. Its shape has the word's width and
--- capacity, it fits, all values hold the same borrows, and equal values are one set.
+-- An integer type is a word that is the set of its bits. Its shape has the width and the capacity
+-- of the word, and fits. All values hold the same borrows, and equal values are the same set.
 pub record IsWord {V : Type 0} (eq : V → V → Bool) (indexable : Bool) (capacity width own : ℕ)
     (big : V → PlainSet) (pattern : V → ℕ) (loan : V → List ℕ) : Type 0 where
   pub same_width : width ≡ own
@@ -83,13 +83,14 @@ signed_word w pattern few = record {
 pub positive_bytes : (w : ℕ) → (log : ℕ) × (w ≡ 2 ^ (3 + log)) → 0 < w
 positive_bytes w bytes = rw bytes.1 (pow_pos (3 + bytes.0))
 
--- in what an operation makes of two sets below n, no number from n on is a member
+-- the result of an operation on two sets, taken below n, has no member from n on
 pub none_past_decided : (f : Bool → Bool → Bool) (n : ℕ) (s t : PlainSet) (i : ℕ) → n ≤ i →
     has_decided f n s t i ≡ false
 unfolding has_decided
 none_past_decided f n s t i past = ap (λ b. b && f (s.has i) (t.has i)) (le-ltb i n past)
 
--- the lesser of two capacities of whole words of one width is whole words
+-- if two capacities are whole numbers of words of the same width, then the lesser of them is one
+-- too
 pub whole_lesser : (a b w v c : ℕ) → w ≡ v → c ≡ min a b → (words : ℕ) × (a ≡ words * w) →
     (words : ℕ) × (b ≡ words * v) → (words : ℕ) × (c ≡ words * w)
 whole_lesser a b w v c same is ours theirs =

@@ -92,7 +92,7 @@ size s = count_below s.capacity s.has
 abbrev pub members_below : PlainSet → ℕ → ℕ
 members_below s n = count_below n s.has
 
--- of the n numbers from a first one on, those that pass the test, in increasing order
+-- those of the n numbers from `from` on that pass the test, in increasing order
 unfoldable pub ascending_from : (ℕ → Bool) → ℕ → ℕ → List ℕ
 ascending_from p from zero = []
 ascending_from p from (suc n) = cond (p from) (from ∷ ascending_from p (suc from) n)

@@ -12,11 +12,11 @@ pub row_has-past : {X : Type 0} (n c : ℕ) (f : X → ℕ → Bool) (xs : List 
 unfolding row_has
 row_has-past n c f xs i h = rw (le-ltb i (n * c) h)
 
--- elements of whole words make a row of whole words
+-- a row is a whole number of words if each element is
 pub words_of : (n c w : ℕ) → (words : ℕ) × (c ≡ words * w) → (words : ℕ) × (n * c ≡ words * w)
 words_of n c w h = (n * h.0, ap (λ t. n * t) h.1 ∙ sym (mul_assoc n h.0 w))
 
--- a number is below another if a test says so, after some other test
+-- if the test `a && nat_lt m n` is true, then m is below n
 pub second_is_below : (a : Bool) (m n : ℕ) → IsTrue (a && nat_lt m n) → m < n
 second_is_below a m n h = ltb-true m n (and_parts a (nat_lt m n) h).1
 
@@ -38,7 +38,7 @@ module _ {X : Type 0} {eq : X → X → Bool} (c : ℕ) (big : X → PlainSet) (
   unfolding row_has
   same_test n xs ys h i = ap (λ b. nat_lt i (n * c) && b) (equal_elements xs ys (i / c) (i % c) h)
 
--- two rows that are equal element by element are one set
+-- two rows that are equal element by element are the same set
 pub equal_rows : {X : Type 0} {eq : X → X → Bool} (n c : ℕ) (big : X → PlainSet) →
     ((x y : X) → IsTrue (eq x y) → big x ≡ big y) →
     (xs ys : List X) → IsTrue (pointwise eq xs ys) →

@@ -17,20 +17,20 @@ abbrev pub IsLastIn : PlainSet → ℕ → ℕ → Option ℕ → Type 0
 IsLastIn s from to None = NoneIn s from to
 IsLastIn s from to (Some i) = (from ≤ i) × (i < to) × (s.has i ≡ true) × NoneIn s (i + 1) to
 
--- Of the words low..high, those from an end up to r have no member. From the front r is the first
--- word that is not passed over; from the back it is the word after the last such one.
+-- The words of low..high that are passed over (skipped) have no member. From the front these are
+-- the words low..r; from the back they are the words r..high.
 abbrev pub PassesOver : Bool → ℕ → PlainSet → ℕ → ℕ → ℕ → Type 0
 PassesOver true w s low high r = (low ≤ r) × (r ≤ high) × NoneIn s (low * w) (r * w)
 PassesOver false w s low high r = (low ≤ r) × (r ≤ high) × NoneIn s (r * w) (high * w)
 
--- Of 64 groups of so many words of w numbers, from group 64 * n on, each whose bit of a word of 64
--- bits is unset has no member.
+-- There are 64 groups of `each` words of w numbers, from group 64 * n on. Group 64 * n + i has no
+-- member if bit i of a word of 64 bits is unset.
 abbrev pub TellsGroups : ℕ → ℕ → PlainSet → ℕ → ℕ → Type 0
 TellsGroups each w s n word = (i : ℕ) → i < 64 → (bit_set 64 word).has i ≡ false →
     NoneIn s ((64 * n + i) * each * w) ((64 * n + i + 1) * each * w)
 
--- The next word after word k of words p to q, seen from an end, such that the words between have no
--- member; or None, if no word after k has one.
+-- The result is a word after word k among the words p to q, seen from an end, and the words between
+-- the two have no member. Or it is None, and no word after k has a member.
 abbrev pub IsNextWord : Bool → ℕ → PlainSet → ℕ → ℕ → ℕ → Option ℕ → Type 0
 IsNextWord true w s p q k None = NoneIn s ((k + 1) * w) ((q + 1) * w)
 IsNextWord true w s p q k (Some n) = (k < n) × (n ≤ q) × NoneIn s ((k + 1) * w) (n * w)

@@ -21,26 +21,28 @@ pub record Walk : Type 0 where
   pub scans : ℕ
   pub items : ℕ
   -- How many words it has fetched, how many it has not fetched yet, and how many it never fetches.
-  -- It never fetches a word that its set passed over; a clone, none that its source was done with.
+  -- It never fetches a word that its set passed over. A clone never fetches a word that its source
+  -- was done with.
   pub fetches : ℕ
   pub unread : ℕ
   pub passed : ℕ
   -- how many words its set has
   pub words : ℕ
 
--- There are at least as many scans as items yielded, and at most items plus words. The words that
--- are fetched, unread and passed over are together all the words.
+-- There are at least as many scans as items yielded, and at most as many as items and words
+-- together. Each word is counted once: as fetched, as unread or as passed over (skipped).
 pub record IsScanBounded (w : Walk) : Type 0 where
   pub at_least : w.items ≤ w.scans
   pub at_most : w.scans ≤ w.items + w.words
   pub once : w.fetches + w.unread + w.passed ≡ w.words
 
--- one more if a step yielded an item
+-- the count n after a step: one more if the step yielded an item
 abbrev pub count_after : ℕ → Option ℕ → ℕ
 count_after n None = n
 count_after n (Some item) = n + 1
 
 -- a step: it returned what `gives` states, and each word that it fetched or passed over was unread
+-- before
 pub record Steps (gives : Walk → Option ℕ → Walk → Type 0) (before : Walk) (r : Option ℕ)
     (after : Walk) : Type 0 where
   pub gave : gives before r after
@@ -72,8 +74,8 @@ StepsFront = Steps (YieldsFirst (λ w. w.remaining))
 abbrev pub StepsBack : Walk → Option ℕ → Walk → Type 0
 StepsBack = Steps (YieldsLast (λ w. w.remaining))
 
--- a walk that has not stepped yet, and has fetched at most one word; and what runs of its steps
--- yield
+-- A walk that has not stepped yet, and has fetched at most one word. The last two fields say what
+-- runs of steps yield.
 pub record IsFresh (words : ℕ) (w : Walk) : Type 0 where
   pub scans : w.scans ≡ 0
   pub items : w.items ≡ 0

@@ -24,10 +24,10 @@ use crate::walk::{Iter, IterOnes, IterZeros};
 /// too. An index at or past the capacity wraps: it means the index modulo the capacity. With
 /// capacity 0 no bit is set, and no call changes anything.
 ///
-/// A shape *fits* if its capacity, and that of each array type inside, is below `u32::MAX`.
-/// `bits_capacity() < u32::MAX` checks this. Calls that count, iterate, join or search require that
-/// the shape fits. A call on one index requires less of a slice: only its element type has to fit,
-/// so the call works at any length.
+/// A shape (an integer, an array, or a slice of some length) *fits* if its capacity is below
+/// `u32::MAX`, and so is that of each array type inside it. `bits_capacity() < u32::MAX` checks
+/// this. Calls that count, iterate, join or search require that the shape fits. A call on one index
+/// requires less of a slice: only its element type has to fit, so the call works at any length.
 pub trait Bits: Drop + ReadWords {
     /// The order of calls that name no order. It is [`DefaultEndian`]; for a `Set` it is the order
     /// that the set remembers.
@@ -50,7 +50,8 @@ pub trait Bits: Drop + ReadWords {
 
     /// Returns how many bits are set. The number is the same in both orders.
     ///
-    /// The shape has to fit. Each word is counted at once. With capacity 0 it returns 0.
+    /// The shape has to fit (`bits_capacity() < u32::MAX`). The call goes word by word, not bit by
+    /// bit. With capacity 0 it returns 0.
     ///
     /// ```
     /// [0b0001_0000u8, 0b0100_1000].count_ones();          // 3
@@ -64,7 +65,8 @@ pub trait Bits: Drop + ReadWords {
 
     /// Returns how many bits are unset. The number is the same in both orders.
     ///
-    /// The shape has to fit. Each word is counted at once. With capacity 0 it returns 0.
+    /// The shape has to fit (`bits_capacity() < u32::MAX`). The call goes word by word, not bit by
+    /// bit. With capacity 0 it returns 0.
     ///
     /// ```
     /// [0b0001_0000u8, 0b0100_1000].count_zeros();         // 13
@@ -81,8 +83,8 @@ pub trait Bits: Drop + ReadWords {
 
     /// Returns `true` if no bit is set. With capacity 0 it returns `true`.
     ///
-    /// Always callable. Words are read up to the answer, at most eight at a time. An array of at
-    /// most 128 bytes is read whole.
+    /// Always callable. It reads words until one decides the result, at most eight at a time. It
+    /// reads an array of at most 128 bytes whole.
     ///
     /// ```
     /// [0u8; 4].all_zeros();                               // true
@@ -94,8 +96,8 @@ pub trait Bits: Drop + ReadWords {
 
     /// Returns `true` if each bit is set. With capacity 0 it returns `true`.
     ///
-    /// Always callable. Words are read up to the answer, at most eight at a time. An array of at
-    /// most 128 bytes is read whole.
+    /// Always callable. It reads words until one decides the result, at most eight at a time. It
+    /// reads an array of at most 128 bytes whole.
     ///
     /// ```
     /// [255u8; 4].all_ones();                              // true
@@ -108,7 +110,7 @@ pub trait Bits: Drop + ReadWords {
     /// Returns `true` if the bit at `index` is set, in the order `E`. An index past the capacity
     /// wraps. With capacity 0 it returns `false`.
     ///
-    /// The type has to fit; for a slice, its element type. It costs O(1).
+    /// The type has to fit; for a slice, only its element type has to. It costs O(1).
     ///
     /// ```
     /// 0b1000_0000u8.test_bit_in::<LittleEndian>(0);       // true
@@ -160,8 +162,9 @@ pub trait Bits: Drop + ReadWords {
     /// Returns the least index of a set bit in `from..to`, in the order `E`, or `None` if no bit of
     /// the range is set.
     ///
-    /// The shape has to fit, and `from <= to <= capacity`: no index wraps. Only words of the range
-    /// are read, up to the answer. With capacity 0 it returns `None`.
+    /// The shape has to fit (`bits_capacity() < u32::MAX`), and `from <= to <= capacity`: no index
+    /// wraps. It reads only words of the range, and stops when it has found a bit. With capacity 0
+    /// it returns `None`.
     ///
     /// ```
     /// [0x10u8, 0x01].first_one_in::<BigEndian>(5, 16);    // Some(8)
@@ -197,8 +200,8 @@ pub trait Bits: Drop + ReadWords {
     }
 
     /// Returns the greatest index of a set bit in `from..to`, in the order `E`, or `None` if no bit
-    /// of the range is set. Words are read from the last word of the range back. All else is as
-    /// with [`first_one_in`](Bits::first_one_in).
+    /// of the range is set. It reads the words of the range backward, from the last one. All else
+    /// is as with [`first_one_in`](Bits::first_one_in).
     ///
     /// ```
     /// [0x10u8, 0x01].last_one_in::<BigEndian>(0, 8);      // Some(4)
@@ -235,8 +238,8 @@ pub trait Bits: Drop + ReadWords {
 
     /// Returns how many bits of `from..to` are set, in the order `E`.
     ///
-    /// The shape has to fit, and `from <= to <= capacity`: no index wraps. Each word of the range
-    /// is counted at once. With capacity 0 it returns 0.
+    /// The shape has to fit (`bits_capacity() < u32::MAX`), and `from <= to <= capacity`: no index
+    /// wraps. The call goes word by word, not bit by bit. With capacity 0 it returns 0.
     ///
     /// ```
     /// [0x90u8, 0x03].count_ones_in_range_in::<BigEndian>(5, 9);    // 2: bits 7 and 8
@@ -258,7 +261,8 @@ pub trait Bits: Drop + ReadWords {
     /// Returns an iterator over the indexes of the set bits, increasing, in the order `E`. It can
     /// be stepped from both ends.
     ///
-    /// The shape has to fit. Each word is read at most once. With capacity 0 it yields nothing.
+    /// The shape has to fit (`bits_capacity() < u32::MAX`). Each word is read at most once. With
+    /// capacity 0 it yields nothing.
     ///
     /// The iterator borrows the set. For a slice it borrows the slice reference: if you keep the
     /// iterator in a variable, keep the reference in one too.
@@ -412,13 +416,13 @@ pub trait Bits: Drop + ReadWords {
         self.iter_zeros_in::<BigEndian>()
     }
 
-    /// Returns an iterator over the items of `iter` at the set bits. For each set bit, increasing
-    /// in the order `E`, it yields the item at that position.
+    /// Returns an iterator over the items of `iter` at the set bits. For each index of a set bit,
+    /// increasing, in the order `E`, it yields the item of `iter` at that position, counted from 0.
     ///
-    /// The shape has to fit. Each word is read at most once, and `iter` is stepped up to the last
-    /// set bit. With capacity 0 it yields nothing.
+    /// The shape has to fit (`bits_capacity() < u32::MAX`). Each word is read at most once, and
+    /// `iter` is stepped up to the last set bit. With capacity 0 it yields nothing.
     ///
-    /// [`JoinOnes`] says what is taken from `iter`, and where the join ends.
+    /// [`JoinOnes`] says which items the join takes from `iter`, and where the join ends.
     ///
     /// ```
     /// 0b1010_0000u8.join_ones_in::<_, LittleEndian>([10, 20, 30]);    // yields 10, 30

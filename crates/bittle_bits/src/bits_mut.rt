@@ -17,8 +17,8 @@ use crate::operation::{
 pub trait BitsMut: Bits {
     /// Sets the bit at `index`, in the order `E`. No other bit changes.
     ///
-    /// The type has to fit; for a slice, its element type. An index past the capacity wraps. With
-    /// capacity 0 nothing changes. It costs O(1).
+    /// The type has to fit; for a slice, only its element type has to. An index past the capacity
+    /// wraps. With capacity 0 nothing changes. It costs O(1).
     ///
     /// ```
     /// let mut word = 0u8;
@@ -32,8 +32,8 @@ pub trait BitsMut: Bits {
 
     /// Clears the bit at `index`, in the order `E`: it is unset afterwards. No other bit changes.
     ///
-    /// The type has to fit; for a slice, its element type. An index past the capacity wraps. With
-    /// capacity 0 nothing changes. It costs O(1).
+    /// The type has to fit; for a slice, only its element type has to. An index past the capacity
+    /// wraps. With capacity 0 nothing changes. It costs O(1).
     ///
     /// ```
     /// let mut word = 0b1000_0001u8;
@@ -57,8 +57,8 @@ pub trait BitsMut: Bits {
         ensures set { Self.big self.new ≡ without_members (Self.big self.old) }
         ensures stays { Self.loan self.old ≡ Self.loan self.new };
 
-    /// Combines each bit of `from..to` with a set bit by an operation, in the order `E`. No other
-    /// bit changes.
+    /// Changes each bit of `from..to` by the operation `O`, in the order `E`. `Union` sets these
+    /// bits, `Difference` clears them, and `SymmetricDifference` flips them. No other bit changes.
     #[doc(hidden)]
     fn assign_range_by_operation<E: Endian, O: RangeOperation>(&mut self, from: u32, to: u32)
         requires fits { ShapeFits Self.Shape self.old }
@@ -68,8 +68,8 @@ pub trait BitsMut: Bits {
             ≡ with_span_changed (λ b. O.decide b true) (set_in Self.Shape E.Endian self.old) from to }
         ensures stays { Self.loan self.old ≡ Self.loan self.new };
 
-    /// Combines the set with another one by an operation, as
-    /// [`union_assign`](BitsMut::union_assign) does.
+    /// Changes the set by the operation `O` with `other`, as
+    /// [`union_assign`](BitsMut::union_assign) does by the union.
     #[doc(hidden)]
     fn assign_by_operation<O: Operation>(&mut self, other: &Self)
         ensures set { (mirrored : Bool) → set_mirrored Self.Shape mirrored self.new
@@ -77,7 +77,7 @@ pub trait BitsMut: Bits {
             (set_mirrored Self.Shape mirrored other.now) }
         ensures stays { Self.loan self.old ≡ Self.loan self.new };
 
-    /// Replaces word `k` of the set, whose bits begin at index `k` times the width.
+    /// Replaces word `k` of the set. The bits of this word begin at index `k` times the width.
     #[doc(hidden)]
     fn set_nth_leaf_word(&mut self, k: usize, word: Self::LeafWord)
         requires fits { ShapeFits Self.Shape self.old }
@@ -88,9 +88,9 @@ pub trait BitsMut: Bits {
 
     /// Sets each bit at the indexes `from..to`, in the order `E`. No other bit changes.
     ///
-    /// The shape has to fit, and `from <= to <= capacity`: no index wraps. Only the words of the
-    /// range are written, by one mask each. An empty range changes nothing. With capacity 0 only an
-    /// empty range is allowed.
+    /// The shape has to fit (`bits_capacity() < u32::MAX`), and `from <= to <= capacity`: no index
+    /// wraps. Only the words of the range are written, by one mask each. An empty range changes
+    /// nothing. With capacity 0 only an empty range is allowed.
     ///
     /// ```
     /// let mut row = [0u8; 2];
@@ -148,9 +148,9 @@ pub trait BitsMut: Bits {
 
     /// Sets each bit that is set in `other`.
     ///
-    /// Always callable. It holds in both orders at once. Each word is read and written once.
-    /// Between two slices of unequal length, only the elements that both have change. With capacity
-    /// 0 nothing changes.
+    /// Always callable. It does the same in both orders. Each word is read and written once.
+    /// Between two slices of unequal length, elements past the end of the shorter slice do not
+    /// change. With capacity 0 nothing changes.
     ///
     /// ```
     /// let mut word = 0b0011u8;

@@ -12,7 +12,7 @@ use crate::endian::{BigEndian, Endian, LittleEndian};
 use crate::internal::source::OwnedSource;
 use crate::walk::{IntoIter, IntoIterOnes, IntoIterZeros};
 
-/// A set that owns its bits: copying the value copies the set. All values of the type have one
+/// A set that owns its bits: copying the value copies the set. All values of the type have the same
 /// capacity.
 pub trait BitsOwned: Copy + Eq + BitsMut {
     /// Returns how many bits a set of the type has, or `u32::MAX` if the type does not fit.
@@ -54,7 +54,7 @@ pub trait BitsOwned: Copy + Eq + BitsMut {
         ensures in_each_order { (mirrored : Bool) →
             set_mirrored Self.Shape mirrored result ≡ full_set Self.type_capacity };
 
-    /// Returns the set with the bit at `bit` set, in the order `E`.
+    /// Returns the set with the bit at index `bit` set, in the order `E`.
     ///
     /// The type has to fit. The set is copied. An index past the capacity wraps. With capacity 0 it
     /// returns the same set.
@@ -118,7 +118,7 @@ pub trait BitsOwned: Copy + Eq + BitsMut {
         self.with_bit_in::<BigEndian>(bit)
     }
 
-    /// Returns the set with the bit at `bit` unset, in the order `E`.
+    /// Returns the set with the bit at index `bit` unset, in the order `E`.
     ///
     /// The type has to fit. The set is copied. An index past the capacity wraps. With capacity 0 it
     /// returns the same set.
@@ -184,7 +184,7 @@ pub trait BitsOwned: Copy + Eq + BitsMut {
 
     /// Returns the bits that are set in either set.
     ///
-    /// Always callable. It holds in both orders at once. Each word is read and written once. With
+    /// Always callable. It does the same in both orders. Each word is read and written once. With
     /// capacity 0 it returns the same set.
     ///
     /// ```
@@ -252,8 +252,8 @@ pub trait BitsOwned: Copy + Eq + BitsMut {
         set
     }
 
-    /// Returns an iterator over the indexes of the set bits, increasing, in the order `E`. It owns
-    /// the set, and can be stepped from both ends.
+    /// Returns an iterator over the indexes of the set bits, increasing, in the order `E`. The
+    /// iterator owns the set, and can be stepped from both ends.
     ///
     /// The type has to fit. Each word is read at most once. With capacity 0 it yields nothing.
     ///
@@ -330,7 +330,7 @@ pub trait BitsOwned: Copy + Eq + BitsMut {
     }
 
     /// Returns an iterator over the indexes of the unset bits below the capacity, increasing, in
-    /// the order `E`. It owns the set, and can be stepped from both ends.
+    /// the order `E`. The iterator owns the set, and can be stepped from both ends.
     ///
     /// The type has to fit. Each word is read at most once. With capacity 0 it yields nothing.
     ///
@@ -414,6 +414,6 @@ pub trait BitsOwned: Copy + Eq + BitsMut {
     // A type that may be indexed fits.
     ghost type_fits: { IsTrue Self.indexable → Self.type_capacity < 4294967295 };
 
-    // Values that are equal by `==` are one set.
+    // Values that are equal by `==` are the same set.
     ghost eq_is_same: { (u v : Self) → IsTrue (Self.eq u v) → Self.big u ≡ Self.big v };
 }

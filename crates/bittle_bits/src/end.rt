@@ -1,4 +1,4 @@
-//! The two ends of a set. Code that names an end has one body for both.
+//! The two ends of a set. A function with an end as its type parameter has one body for both ends.
 
 ghost use Rattle.std.specs.Prelude.{◌≡◌, Bool, true, false, cond};
 

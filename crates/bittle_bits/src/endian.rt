@@ -10,7 +10,7 @@ use crate::word::Word;
 
 /// An order in which the bits of each word are indexed: [`BigEndian`] or [`LittleEndian`].
 ///
-/// The words of a set keep their places in both orders.
+/// Only the indexes within a word depend on the order. Word 0 comes first in both orders.
 pub trait Endian: Drop {
     // Whether index 0 is the bit of greatest weight.
     ghost mirrored: { Bool };
@@ -25,8 +25,8 @@ pub trait Endian: Drop {
     fn is_mirrored() -> bool
         ensures { result ≡ mirrored };
 
-    /// Returns the place of the bit at `index`: its weight is that power of two. The index wraps at
-    /// the width.
+    /// Returns the place of the bit at `index`: this bit has the weight `2 ^ place`. The index
+    /// wraps at the width.
     ///
     /// ```
     /// LittleEndian::place::<u8>(9);                       // 6
@@ -98,8 +98,8 @@ pub trait Endian: Drop {
     }
 }
 
-/// Counts indexes from the bit of least weight, which is the rightmost one as a number is written.
-/// It is the default order.
+/// Counts indexes from the bit of least weight, the rightmost bit of a written number. This is the
+/// default order.
 ///
 /// ```
 /// 0b0010_0010u8.iter_ones_in::<BigEndian>();          // yields 1, 5
@@ -107,8 +107,7 @@ pub trait Endian: Drop {
 #[derive(Drop)]
 pub enum BigEndian {}
 
-/// Counts indexes from the bit of greatest weight, which is the leftmost one as a number is
-/// written.
+/// Counts indexes from the bit of greatest weight, the leftmost bit of a written number.
 ///
 /// ```
 /// 0b0010_0010u8.iter_ones_in::<LittleEndian>();       // yields 2, 6
@@ -116,7 +115,7 @@ pub enum BigEndian {}
 #[derive(Drop)]
 pub enum LittleEndian {}
 
-/// The order of calls that name none: [`BigEndian`].
+/// The order of calls that name no order: [`BigEndian`].
 pub type DefaultEndian = BigEndian;
 
 impl Endian for BigEndian {

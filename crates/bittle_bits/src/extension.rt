@@ -1,5 +1,6 @@
-//! What the project's own crates above use, and no other crate: `Set` of `bittle`, the everyday
-//! calls of `bittle_ext`, the sets with a summary of `bittle_tiers`, and the tests with probes.
+//! Items for the project's own crates, and for no other crate. Their users are `Set` of `bittle`,
+//! the everyday calls of `bittle_ext`, the sets with a summary of `bittle_tiers`, and the tests
+//! with probes.
 
 pub use crate::end::{Back, End, Front};
 pub use crate::integer::Integer;

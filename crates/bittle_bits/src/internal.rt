@@ -1,5 +1,5 @@
 //! The parts that the public modules are built on. [`extension`](crate::extension) exports those
-//! that the project's crates above need.
+//! parts that the project's other crates need.
 
 pub(crate) mod buffer;
 pub(crate) mod by_fours;

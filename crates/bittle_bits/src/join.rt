@@ -1,4 +1,4 @@
-//! Joins: the items of an iterator at the members of a set.
+//! Joins: they yield the items of an iterator at the members of a set.
 
 ghost use Rattle.std.specs.Prelude.{◌≡◌, false, length, OnSome};
 ghost use Rattle.std.specs.Iterator.{at_most, SkipsThenYields};
@@ -16,11 +16,11 @@ use std::marker::Model;
 /// Yields the items of an iterator at the set bits of a mask.
 ///
 /// For each set bit in turn, the join steps its iterator to the item at that position, and yields
-/// the item. Positions are counted from the iterator's first item. It takes no item past the
-/// greatest set bit.
+/// the item. Positions are counted from the iterator's first item, which has position 0. The join
+/// takes no item past the greatest set bit.
 ///
-/// The join returns `None` after the last set bit, or at the first set bit that is not before the
-/// iterator's end. From then on it steps neither its mask nor its iterator.
+/// The join returns `None` after the last set bit, or at the first set bit for which its iterator
+/// has no item left. After that the join steps neither its mask nor its iterator.
 ///
 /// ```
 /// let mask = 0b0101u8;
@@ -73,8 +73,8 @@ where
     }
 }
 
-/// Takes the next item. A loop that calls this has a measure of its own. A loop that calls `next`
-/// would need an iterator that ends.
+/// Takes the next item. A loop that calls this function ends by a measure of its own. A loop that
+/// calls `next` would need an iterator that ends.
 #[inline]
 fn take<I: Iterator>(iter: &mut I) -> Option<I::Item>
     requires { I.can_next iter.old }
@@ -84,10 +84,10 @@ fn take<I: Iterator>(iter: &mut I) -> Option<I::Item>
     iter.next()
 }
 
-/// Passes over `count` items and takes the next one.
+/// Skips `count` items and takes the next one.
 ///
-/// If `size_hint` says that more items are left than needed, a loop here counts them down. Over a
-/// slice, whose length the compiler sees, the loop needs no test for the end. It becomes one
+/// If `size_hint` says that more items are left than needed, a loop here counts `count` down. Over
+/// a slice the compiler sees the length. Then the loop needs no test for the end, and becomes one
 /// addition.
 #[inline]
 fn skip_to<I: Iterator>(iter: &mut I, count: usize) -> Option<I::Item>
@@ -98,7 +98,8 @@ where
     ensures keeps { OnSome result (I.can_next iter.new) }
 {
     let (least, _) = iter.size_hint();
-    // Not `least <= count`: with the length less one, the compiler sees that the count ends first.
+    // Not `least <= count`: from `least - 1` the compiler sees that the count ends before the
+    // items.
     if least == 0 || least - 1 <= count {
         return iter.nth(count);
     }

@@ -1,5 +1,5 @@
-//! The two kinds of bits of a set: the ones and the zeros. An iterator or a search is over one of
-//! them.
+//! The two kinds of bits of a set: the ones and the zeros. An iterator or a search is over one
+//! kind.
 
 ghost use Rattle.std.specs.Prelude.{◌≡◌, Bool, true, false};
 ghost use Rattle.bittle_bits.specs.BitPatterns.{bit_set};
@@ -44,7 +44,7 @@ impl Kind for Zeros {
     fn seal(_: Sealed) {}
 }
 
-/// Returns the word whose set bits are the bits of the kind. For zeros, each bit is flipped.
+/// Returns the word whose set bits are the bits of the kind `K`. For zeros, each bit is flipped.
 #[doc(hidden)]
 #[inline]
 pub fn bits_of_kind<T: Word, K: Kind>(word: T) -> T

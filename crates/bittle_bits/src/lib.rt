@@ -1,8 +1,8 @@
-//! Sets of small numbers over integers, arrays and slices. The crate has the traits of sets, the
-//! two orders, the twelve words, the shapes, and the iterators over them.
+//! Sets of small numbers over integers, arrays and slices. This crate has the traits of sets, the
+//! two orders, the twelve integers as words, the shapes, and the iterators over sets.
 //!
-//! Users name the crate `bittle`, which exports the public items of this one. The project's own
-//! crates find what else they need in the hidden module `extension`.
+//! Users name the crate `bittle`, which exports the public items of this crate. The project's own
+//! crates also use the hidden module `extension`.
 #![tactic(auto)]
 
 mod array;

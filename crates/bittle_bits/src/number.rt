@@ -31,11 +31,11 @@ pub type IterOnes<T, E> = Iter<T, E, Ones>;
 /// ```
 pub type IterZeros<T, E> = Iter<T, E, Zeros>;
 
-/// Iterates over the bits of one word that `K` names. Once no item remains, steps from both ends
-/// return `None`.
+/// Iterates over the set bits of one word, or over its unset bits, as `K` names. Once no item
+/// remains, steps from both ends return `None`.
 #[derive(Drop)]
 pub struct Iter<T: Word, E: Endian, K: Kind> {
-    // Its set bits are the items that remain.
+    // The set bits of this word are the items that remain.
     remaining: T,
     order: PhantomData<E>,
     kind: PhantomData<K>,

@@ -1,4 +1,5 @@
-//! The calls on a word, and the steps of its iterators, written once for all widths.
+//! The calls on a word, and the steps of its iterators, written once for all widths. The member at
+//! the end `N` is the first or the last index of a set bit.
 
 ghost use Rattle.std.specs.Prelude.{◌≡◌, ◌==◌, Bool, ◌+◌, ◌*◌, ◌-◌, ◌<◌, ◌≤◌, true, IfSome};
 ghost use Rattle.bittle_bits.specs.Ends.{IsEndMember, YieldsFrom, YieldsPlace};
@@ -41,8 +42,8 @@ pub fn clear_bit<T: Word, E: Endian>(word: &mut T, index: u32)
     *word = word.and(E::mask::<T>(index).not());
 }
 
-/// Returns the word in which the bits at `from..to` are set: the bits from `from` on, without those
-/// from `to` on.
+/// Returns the word in which the bits at `from..to` are set: the bits from `from` on, without the
+/// bits from `to` on.
 #[inline]
 pub fn range<T: Word, E: Endian>(from: u32, to: u32) -> T
     requires ordered { from ≤ to }
@@ -59,7 +60,8 @@ pub fn range<T: Word, E: Endian>(from: u32, to: u32) -> T
     since.and(E::from_index::<T>(to).not())
 }
 
-/// Combines each bit of `from..to` with a set bit by the operation.
+/// Changes each bit of `from..to` by the operation `O`: `Union` sets these bits, `Difference`
+/// clears them, and `SymmetricDifference` flips them.
 #[inline]
 pub fn assign_range<T: Word, E: Endian, O: RangeOperation>(word: &mut T, from: u32, to: u32)
     requires ordered { from ≤ to }
@@ -78,7 +80,8 @@ pub fn clear_bits<T: Word>(word: &mut T)
     *word = T::zero();
 }
 
-/// Combines a word with another one, bit by bit; a word of 128 bits by its halves.
+/// Combines `word` with `other` by the operation `O`, bit by bit. It combines words of 128 bits
+/// half by half.
 #[inline(always)]
 pub fn combine<T: Word, O: Operation>(word: &mut T, other: T)
     ensures { (mirrored : Bool) → word_mirrored T.Word mirrored word.new ≡ combination_of O.decide
@@ -141,7 +144,7 @@ pub fn ones<T: Word>() -> T
     T::zero().not()
 }
 
-// Returns how far the member at the end `N` lies from that end, or the width if there is none.
+// Returns how far the member at the end `N` lies from that end, or the width if no bit is set.
 #[inline(always)]
 pub fn from_end<T: Word, E: Endian, N: End>(word: T) -> u32
     ensures member { IsEndMember N.FRONT (word_in T.Word E.Endian word) result }
@@ -154,9 +157,9 @@ pub fn from_end<T: Word, E: Endian, N: End>(word: T) -> u32
     }
 }
 
-// Takes the member at the end `N` out of the word, and returns its place: its weight is that power
-// of two. If the member is the set bit of least weight, `word & (word - 1)` clears it. So the next
-// step does not wait for the place.
+// Takes the member at the end `N` out of the word, and returns its place: its bit has the weight
+// `2 ^ place`. If this is the set bit of least weight, `word & (word - 1)` clears it. Then the next
+// step need not wait until the place is known.
 #[inline(always)]
 fn pop_at_once<T: Word, E: Endian, N: End>(word: &mut T) -> Option<u32>
     ensures found { YieldsPlace N.FRONT (place E.mirrored T.width) (λ w. ascending
@@ -206,8 +209,8 @@ fn pop_from_half<T: Word, E: Endian, N: End>(word: &mut T) -> Option<u32>
     }
 }
 
-/// Takes the member at the end `N` out of the word, and returns its place: its weight is that power
-/// of two. It returns `None` if no bit is set.
+/// Takes the member at the end `N` out of the word, and returns its place: its bit has the weight
+/// `2 ^ place`. It returns `None` if no bit is set.
 #[inline(always)]
 pub fn pop_place<T: Word, E: Endian, N: End>(word: &mut T) -> Option<u32>
     ensures found { YieldsPlace N.FRONT (place E.mirrored T.width) (λ w. ascending
@@ -237,7 +240,7 @@ pub fn pop<T: Word, E: Endian, N: End>(word: &mut T) -> Option<u32>
     })
 }
 
-/// Returns word `k` of a word, which is its only one.
+/// Returns word `k` of a set that is one word: `k` is 0, and the result is the word itself.
 #[inline]
 pub fn leaf_word<T: Word>(word: T, k: usize) -> T
     requires { k * T.width < T.width }
@@ -247,7 +250,7 @@ pub fn leaf_word<T: Word>(word: T, k: usize) -> T
     word
 }
 
-/// Replaces word `k` of a word, which is its only one.
+/// Replaces word `k` of a set that is one word: `k` is 0, and the whole word is replaced.
 #[inline]
 pub fn set_leaf_word<T: Word>(word: &mut T, k: usize, by: T)
     requires { k * T.width < T.width }

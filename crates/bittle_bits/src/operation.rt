@@ -8,8 +8,8 @@ use crate::word::Word;
 
 /// An operation on two sets.
 pub trait Operation {
-    // Whether a number is a member afterwards, by whether it is a member of the first set and of
-    // the second.
+    // Whether a number is a member after the operation. The first argument is whether it is a
+    // member of the first set, the second whether it is a member of the second set.
     ghost decide: { Bool → Bool → Bool };
 
     /// Combines the bits of two words by the operation.
@@ -18,8 +18,8 @@ pub trait Operation {
             (bits_of T.Word other) };
 }
 
-/// An operation that changes no bit that is unset in the other set. With a range of indexes as the
-/// other set, it changes only bits of the range.
+/// An operation that changes only bits that are set in the other set. So if the other set is a
+/// range of indexes, the operation changes only bits of the range.
 pub trait RangeOperation: Operation {
     // A number that the other set lacks stays as it was.
     ghost keeps_others: { (b : Bool) → Self.decide b false ≡ b };

@@ -1,4 +1,5 @@
-//! Reading a set word by word: all that a search, a count or an iterator needs.
+//! Reading a set word by word: all that a search, a count or an iterator needs. The kind `K` names
+//! the set bits or the unset bits. To pass over words is to skip them without reading them.
 
 ghost use Rattle.std.specs.Prelude.{◌≡◌, ℕ, ◌*◌, ◌^◌, ◌<◌, ◌≤◌, ◌↔◌, false, IsTrue};
 ghost use Rattle.bittle_bits.specs.BitPatterns.{bit_set};
@@ -20,18 +21,18 @@ use crate::word::Word;
 pub trait ReadWords: Drop + Shape {
     /// Returns `true` if all values of the type have the same number of words.
     ///
-    /// It affects speed only, so it has no contract: how an iterator begins, and whether a
-    /// comparison tests the first word by itself.
+    /// It affects speed only, so it has no contract. It decides how an iterator begins, and whether
+    /// a comparison tests the first word by itself.
     #[doc(hidden)]
     #[inline]
     fn is_fixed() -> bool {
         false
     }
 
-    /// Returns `true` if a value of the type may pass over words.
+    /// Returns `true` if `pass_over` of a value of the type may skip words.
     ///
-    /// It affects speed only, so it has no contract: whether a row calls `pass_over` on its
-    /// elements.
+    /// It affects speed only, so it has no contract. It decides whether a row calls `pass_over` on
+    /// its elements.
     #[doc(hidden)]
     #[inline(always)]
     fn may_pass_over() -> bool {
@@ -46,7 +47,7 @@ pub trait ReadWords: Drop + Shape {
         ensures value { ShapeFits Self.Shape self.now → result ≡ (Self.big self.now).capacity }
         ensures fits { result < 4294967295 → ShapeFits Self.Shape self.now };
 
-    /// Returns word `k` of the set, whose bits begin at index `k` times the width.
+    /// Returns word `k` of the set. The bits of this word begin at index `k` times the width.
     #[doc(hidden)]
     fn nth_leaf_word(&self, k: usize) -> Self::LeafWord
         requires fits { ShapeFits Self.Shape self.now }
@@ -54,12 +55,13 @@ pub trait ReadWords: Drop + Shape {
         ensures { bit_set Self.width (Self.LeafWord.pattern result)
             ≡ word_of Self.width (Self.big self.now) k };
 
-    /// Passes over words of `low..high` at the end `N` that have no bit of the kind `K`. From the
-    /// front it returns the first word that is not passed over; from the back, the word after the
-    /// last such one.
+    /// Skips words without a bit of the kind `K` at the end `N` of the words `low..high`. From the
+    /// front it returns the number of the first word that it does not skip. From the back it
+    /// returns one more than the number of the last word that it does not skip.
     ///
-    /// It affects speed only. A set may pass over as many words as it knows at once, or over none,
-    /// as most shapes do. A type whose values pass over words returns `true` from `may_pass_over`.
+    /// It affects speed only. A set may skip the words of which it knows at once that they have no
+    /// such bit. Most shapes skip no word. A type whose values skip words returns `true` from
+    /// `may_pass_over`.
     #[doc(hidden)]
     #[inline(always)]
     fn pass_over<K: Kind, N: End>(&self, low: usize, high: usize) -> usize
@@ -72,21 +74,22 @@ pub trait ReadWords: Drop + Shape {
         if N::FRONT { low } else { high }
     }
 
-    /// Returns `true` if a value of the type may tell of groups of words without a bit of the kind.
+    /// Returns `true` if `groups_told` of a value of the type may leave a bit unset.
     ///
-    /// It affects speed only, so it has no contract: whether a view of two sets combines what both
-    /// tell of groups, or has each pass over words.
+    /// It affects speed only, so it has no contract. It decides whether a view of two sets combines
+    /// the results of `groups_told` of both sets, or calls `pass_over` of each set.
     #[doc(hidden)]
     #[inline(always)]
     fn tells_groups<K: Kind>() -> bool {
         false
     }
 
-    /// Tells of 64 groups of `64 ^ level` words, from group `64 * n` on. Bit `i` is unset only if
-    /// group `64 * n + i` has no bit of the kind `K`. Past the last word a group has none.
+    /// Returns one bit for each of 64 groups of `64 ^ level` words, from group `64 * n` on. Bit `i`
+    /// is unset only if group `64 * n + i` has no bit of the kind `K`. A group past the last word
+    /// has no bit.
     ///
-    /// It affects speed only. Most shapes tell of no group, so that all bits are set. A type whose
-    /// values tell of some returns `true` from `tells_groups`.
+    /// It affects speed only. Most shapes set all 64 bits. A type whose values may leave a bit
+    /// unset returns `true` from `tells_groups`.
     #[doc(hidden)]
     #[inline(always)]
     #[tactic(auto, using(crate::proofs::WordGroups::none_told))]
@@ -98,13 +101,13 @@ pub trait ReadWords: Drop + Shape {
         u64::MAX
     }
 
-    // The integers of the set have the width of its words.
+    // The type `LeafWord` has as many bits as a word of the set.
     ghost leaf_width: { Self.LeafWord.width ≡ Self.width };
 
     // A word has a bit.
     ghost width_positive: { 0 < Self.width };
 
-    // The capacity is whole words.
+    // The capacity is a whole number of words.
     ghost whole_words: { (v : Self) → (words : ℕ) × ((Self.big v).capacity ≡ words * Self.width) };
 
     // No number from the capacity on is a member.
@@ -121,7 +124,7 @@ pub fn word_width<B: ReadWords>() -> u32
     <B::LeafWord as Word>::width()
 }
 
-/// Returns whether two sets have words of one width and are read in one order.
+/// Returns whether two sets have words of the same width and are read in the same order.
 #[doc(hidden)]
 #[inline]
 pub fn are_alike<A: ReadWords, B: ReadWords, E: Endian, F: Endian>() -> bool

@@ -1,8 +1,9 @@
 //! What a value stands for, stated by ghosts alone.
 //!
-//! A struct over any set names the bound `Shape`, since each type has one impl of it. Two impls of
-//! [`Bits`](crate::bits::Bits) match an array: its own, and that of all words, which requires
-//! `Integer`. For a `Shape` the checker need not decide which impl holds.
+//! A struct that is generic over sets has the bound `Shape`, since each type has only one impl of
+//! `Shape`. Two impls of [`Bits`](crate::bits::Bits) match an array: the impl for arrays, and the
+//! impl for all words, which requires `Integer`. With `Shape` the checker need not decide which
+//! impl holds.
 
 ghost use Rattle.std.specs.Prelude.{ℕ, Bool, List, []};
 ghost use Rattle.bittle_bits.specs.PlainSet.{PlainSet};
@@ -12,8 +13,8 @@ use crate::word::Word;
 
 /// A type whose values stand for sets. Its members are ghosts, which only contracts see.
 ///
-/// A struct over any set names this bound. Its functions name [`Bits`](crate::bits::Bits), or a
-/// trait that requires `Bits`. A crate that names `bittle` alone cannot implement this trait.
+/// A struct that is generic over sets has this bound. Its functions have a bound with calls, such as
+/// [`Bits`](crate::bits::Bits). A crate that names `bittle` alone cannot implement this trait.
 pub trait Shape: Drop {
     /// The integer type of the words of the set.
     #[doc(hidden)]
@@ -22,8 +23,8 @@ pub trait Shape: Drop {
     // The bits of each word.
     ghost width: { ℕ };
 
-    // Whether the type may be indexed: it fits, or, for a slice, its element type does. Then an
-    // index finds its element.
+    // Whether a value of the type may be indexed: the type fits, or, for a slice, its element type
+    // fits. Then an index finds its element.
     ghost indexable: { Bool };
 
     // The set in big-endian order.
@@ -32,8 +33,8 @@ pub trait Shape: Drop {
     // The capacity of each value of a type that owns its bits. For a slice it means nothing.
     ghost type_capacity: { ℕ } = { 0 };
 
-    // The mutable borrows that a value holds, the outer one first, as a `&mut [T]` is one. No
-    // change alters them. An owned value has none.
+    // The mutable borrows that a value holds, the outer one first. A `&mut [T]` is such a borrow
+    // itself. A change of the set leaves the borrows as they are. An owned value has none.
     ghost loan: { Self → List ℕ } = { λ _. [] };
 
     /// Seals the trait. A crate that names `bittle` alone cannot name the parameter's type, so it

@@ -1,7 +1,7 @@
 //! Iterators over the set bits of a set, and over its unset bits, from both ends.
 //!
-//! An iterator fetches each word at most once. It scans a word once for each item, and once more
-//! to find that no item is left.
+//! An iterator fetches each word at most once. It scans a word once for each item, and once more to
+//! find that no item is left in it.
 
 ghost use Rattle.std.specs.Prelude.{◌≡◌, ⊤, Option, ℕ, None, IfSome};
 ghost use Rattle.std.specs.Iterator.{item_count, UpTo};
@@ -52,7 +52,7 @@ pub type IntoIterOnes<B, E> = IntoIter<B, E, Ones>;
 /// ```
 pub type IntoIterZeros<B, E> = IntoIter<B, E, Zeros>;
 
-/// An iterator that counts its scans.
+/// An iterator that counts its scans of words.
 pub trait Counted: DoubleEndedIterator<Item = u32> {
     // What contracts see of the iterator.
     ghost walk: { Self → Walk };
@@ -71,7 +71,7 @@ pub trait Counted: DoubleEndedIterator<Item = u32> {
         → Self.next_back_gives before r after → StepsBack (walk before) r (walk after) };
 }
 
-/// Iterates over the bits of a borrowed set that `K` names.
+/// Iterates over the set bits of a borrowed set, or over its unset bits, as `K` names.
 ///
 /// Each step yields the first or the last item that remains. Once no item remains, steps from both
 /// ends return `None`. A clone yields the items that remain in its source.
@@ -176,7 +176,7 @@ impl<'a, B: ReadWords, E: Endian, K: Kind> Counted for Iter<'a, B, E, K> {
     }
 }
 
-/// Iterates over the bits of an owned set that `K` names.
+/// Iterates over the set bits of an owned set, or over its unset bits, as `K` names.
 ///
 /// Each step yields the first or the last item that remains. Once no item remains, steps from both
 /// ends return `None`. A clone yields the items that remain in its source.

@@ -10,7 +10,8 @@ pub trait Word: Copy {
     // How many bits a word has.
     ghost width: { ℕ };
 
-    // The bit pattern of a word as a number. A negative word has that of its two's complement.
+    // The bit pattern of a word as a number. A negative word has the pattern of its two's
+    // complement.
     ghost pattern: { Self → ℕ };
 
     /// Returns the number of bits.
@@ -23,7 +24,8 @@ pub trait Word: Copy {
         ensures { pattern result ≡ 2 ^ index };
 
     /// Returns the word whose one set bit lies `below` bits below the bit of greatest weight. It
-    /// shifts the word of that bit, which is one instruction fewer than `one_at` of the difference.
+    /// shifts the word in which only the bit of greatest weight is set. That takes one instruction
+    /// fewer than `one_at` of the difference.
     #[inline]
     final fn one_below_top(below: u32) -> Self
         requires { below < width }
@@ -128,6 +130,6 @@ pub trait Word: Copy {
     // The number of bytes, of eight bits each, is a power of two.
     ghost whole_bytes: { (log : ℕ) × (width ≡ 2 ^ (3 + log)) };
 
-    // So it has a bit.
+    // So a word has at least one bit.
     ghost width_positive: { 0 < width } = { positive_bytes width whole_bytes };
 }

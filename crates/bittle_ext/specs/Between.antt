@@ -1,4 +1,4 @@
--- What another set, of any capacity, makes of a set that keeps its own.
+-- What an operation with another set, of any capacity, makes of a set that keeps its own capacity.
 use Rattle.std.specs.Prelude.{◌≡◌, ℕ, ◌<◌, Bool, false, not, ◌&&◌, nat_lt, IsTrue, ◌↔◌}
 use Rattle.bittle.specs.PlainSet.{PlainSet, contains}
 use Rattle.bittle_ext.specs.Combined.{decided_set}
@@ -7,17 +7,17 @@ use Rattle.bittle_ext.specs.Combined.{decided_set}
 unfoldable pub has_below : ℕ → PlainSet → ℕ → Bool
 has_below c t k = nat_lt k c && t.has k
 
--- the members of a set below a capacity, which the set of them has: what an operation with another
--- set leaves in one that keeps its capacity
+-- the members of a set below c, as a set of capacity c: what an operation with another set leaves
+-- in a set that keeps its capacity c
 abbrev pub members_to : ℕ → PlainSet → PlainSet
 members_to c t = record { capacity = c; has = has_below c t }
 
--- a number below the capacity of the first set is a member of just one
+-- some number below the capacity of the first set is a member of just one of the two sets
 abbrev pub Differ : PlainSet → PlainSet → Type 0
 Differ s t = (i : ℕ) × (i < s.capacity) × (t.has i ≡ not (s.has i))
 
--- a set becomes what an operation with another one makes of it below its capacity, and `told` is
--- whether that changed it
+-- below its capacity, a set becomes the result of an operation with another set; `told` is whether
+-- that changed the set
 pub record Combines (decide : Bool → Bool → Bool) (before other after : PlainSet) (told : Bool) :
     Type 0 where
   pub set : after ≡ members_to before.capacity (decided_set decide before other)

@@ -4,7 +4,8 @@ use Rattle.bittle.specs.PlainSet.{PlainSet, size}
 use Rattle.bittle.specs.SetOperations.{first_alone, just_one}
 use Rattle.bittle_ext.specs.Views.{decided_until}
 
--- the set of the numbers that are members by whether they are members of each of two sets
+-- the set of the numbers for which `decide` is true, given whether the number is in each of two
+-- sets
 abbrev pub decided_set : (Bool → Bool → Bool) → PlainSet → PlainSet → PlainSet
 decided_set decide s t = decided_until decide (max s.capacity t.capacity) s t
 
@@ -16,7 +17,7 @@ either_of s t = decided_set ◌||◌ s t
 abbrev pub both_of : PlainSet → PlainSet → PlainSet
 both_of s t = decided_set ◌&&◌ s t
 
--- the members of the first set that are none of the second
+-- the members of the first set that are not in the second
 abbrev pub first_only_of : PlainSet → PlainSet → PlainSet
 first_only_of s t = decided_set first_alone s t
 
@@ -24,7 +25,7 @@ first_only_of s t = decided_set first_alone s t
 abbrev pub just_one_of : PlainSet → PlainSet → PlainSet
 just_one_of s t = decided_set just_one s t
 
--- n members are in both sets, of which the first has a members and the second has b
+-- n members are in both sets; the first set has a members, and the second has b
 pub record CountsBoth (s t : PlainSet) (a b n : ℕ) : Type 0 where
   pub both : n ≡ size (both_of s t)
   pub first_only : size (first_only_of s t) + n ≡ a

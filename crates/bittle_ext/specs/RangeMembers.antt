@@ -1,4 +1,4 @@
--- What a set has between two numbers.
+-- Which members a set has between two numbers.
 use Rattle.std.specs.Iterator.{YieldsFirst, YieldsLast}
 use Rattle.std.specs.Prelude.{◌≡◌, ℕ, ◌-◌, ◌<◌, ◌≤◌, Bool, ◌&&◌, true, false, List, length, min, slice_index, Option}
 use Rattle.bittle.specs.PlainSet.{PlainSet, ascending, is_in_span, members_below}
@@ -28,7 +28,7 @@ HasAllIn s from to = (k : ℕ) → from ≤ k → k < to → s.has k ≡ true
 abbrev pub LacksSomeIn : PlainSet → ℕ → ℕ → Type 0
 LacksSomeIn s from to = (k : ℕ) × (from ≤ k) × (k < to) × (s.has k ≡ false)
 
--- a step over a list took its first item, or else its last one
+-- a step over a list took its first item (if true), or its last one, or found the list empty
 abbrev pub TakesEnd : {A : Type 0} → Bool → List A → Option A → List A → Type 0
 TakesEnd true = YieldsFirst (λ xs. xs)
 TakesEnd false = YieldsLast (λ xs. xs)
@@ -38,20 +38,20 @@ abbrev pub members_within : PlainSet → ℕ → ℕ → PlainSet
 members_within s from to =
     record { capacity = s.capacity; has = λ k. is_in_span from to k && s.has k }
 
--- the same of the bits of a kind: of the set, or of its complement
+-- the set of the numbers in from..to that are members of s (if true), or of its complement
 abbrev pub kind_within : Bool → PlainSet → ℕ → ℕ → PlainSet
 kind_within ones s from to = record {
   capacity = s.capacity;
   has = λ k. is_in_span from to k && (ones_or_zeros ones s).has k;
 }
 
--- each number of the list is in from..to, and the list has at most as many as the range
+-- each number of the list is in from..to, and the list is at most as long as the range
 abbrev pub AreWithin : ℕ → ℕ → List ℕ → Type 0
 AreWithin from to xs = (length xs ≤ to - from)
     × ((k : ℕ) → k < length xs → (from ≤ slice_index xs k) × (slice_index xs k < to))
 
--- the list has the members in from..to, increasing: as many as are below the end and not below the
--- start
+-- the list has the members in from..to, increasing; its length is how many members are below `to`
+-- and not below `from`
 pub record ListsWithin (s : PlainSet) (from to : ℕ) (xs : List ℕ) : Type 0 where
   pub items : xs ≡ ascending (members_within s from to)
   pub count : length xs ≡ members_below s to - members_below s from

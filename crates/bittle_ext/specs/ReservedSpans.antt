@@ -1,4 +1,4 @@
--- Numbers that a set keeps set or unset, as those past the last page of an allocator.
+-- Numbers that stay set or unset in a set, such as those past the last page of an allocator.
 use Rattle.std.specs.Prelude.{ℕ, zero, suc, ◌-◌, Bool, true, not, ◌&&◌, ◌||◌}
 use Rattle.bittle.specs.PlainSet.{PlainSet, complement}
 

@@ -21,7 +21,7 @@ IsFirstRun s from length None = (k : ℕ) → from ≤ k → IsRun s length k �
 IsFirstRun s from length (Some i) =
     (from ≤ i) × IsRun s length i × NoRunBegins s length from i
 
--- the set as one that ends at another number: the runs of it are those that end there or before
+-- the set with its capacity changed to `end`: its runs are those that end at or before `end`
 abbrev pub cut_off : ℕ → PlainSet → PlainSet
 cut_off end s = record { capacity = end; has = s.has }
 
@@ -29,12 +29,13 @@ cut_off end s = record { capacity = end; has = s.has }
 abbrev pub run : ℕ → ℕ → Range ℕ
 run start end = record { start = start; end = end }
 
--- a number joins the run that begins right after it; before any other it is a run of its own
+-- a list of runs with one more number before them: k joins the first run if that run begins right
+-- after k, else k is a run of its own
 unfoldable pub joined : ℕ → List (Range ℕ) → List (Range ℕ)
 joined k [] = run k (suc k) ∷ []
 joined k (r ∷ rs) = cond (r.start == suc k) (run k r.end ∷ rs) (run k (suc k) ∷ r ∷ rs)
 
--- of the n numbers from `from` on, the maximal runs that pass the test, increasing
+-- the maximal runs of numbers that pass the test, among the n numbers from `from` on, increasing
 unfoldable pub runs_from : (ℕ → Bool) → ℕ → ℕ → List (Range ℕ)
 runs_from p from zero = []
 runs_from p from (suc n) = cond (p from) (joined from (runs_from p (suc from) n))
@@ -48,18 +49,19 @@ runs_between s from to = runs_from s.has from (to - from)
 abbrev pub runs : PlainSet → List (Range ℕ)
 runs s = runs_between s 0 s.capacity
 
--- each run of the list has a number and none from c on, and there are at most c of them
+-- each run of the list has a number, and no number from c on; there are at most c runs
 abbrev pub AreRunsBelow : ℕ → List (Range ℕ) → Type 0
 AreRunsBelow c rs = (length rs ≤ c) × ((k : ℕ) (d : Range ℕ) → k < length rs →
     ((slice_index_or rs k d).start < (slice_index_or rs k d).end)
     × ((slice_index_or rs k d).end ≤ c))
 
--- a run of members that the numbers beside it are none of
+-- a run of members, where the numbers right before and after the run are no members
 abbrev pub IsMaximalRun : PlainSet → Range ℕ → Type 0
 IsMaximalRun s r = (r.start < r.end) × (r.end ≤ s.capacity) × HasAllIn s r.start r.end
     × (0 < r.start → s.has (r.start - 1) ≡ false) × (r.end < s.capacity → s.has r.end ≡ false)
 
--- each of the runs is maximal, a later one begins past an earlier one, and each member lies in one
+-- each of the runs is maximal, each later run begins past the earlier ones, and each member lies in
+-- a run
 pub record HasMaximalRuns (s : PlainSet) : Type 0 where
   pub maximal : (k : ℕ) (d : Range ℕ) → k < length (runs s) →
       IsMaximalRun s (slice_index_or (runs s) k d)
@@ -69,23 +71,25 @@ pub record HasMaximalRuns (s : PlainSet) : Type 0 where
       × ((d : Range ℕ) → ((slice_index_or (runs s) k d).start ≤ i)
       × (i < (slice_index_or (runs s) k d).end))
 
--- so it is of every set
+-- the runs of every set are maximal
 abbrev pub RunsAreMaximal : Type 0
 RunsAreMaximal = (s : PlainSet) → HasMaximalRuns s
 
--- steps over a list of runs give it from its first item on, and from the back in reverse
+-- steps from the front yield a list of runs from its first item on, and steps from the back yield
+-- it in reverse
 abbrev pub RunsInOrder : Type 0
 RunsInOrder = YieldsInOrder (YieldsFirst (λ (rs : List (Range ℕ)). rs)) (λ rs. rs)
 
 abbrev pub RunsInReverse : Type 0
 RunsInReverse = YieldsInReverse (YieldsLast (λ (rs : List (Range ℕ)). rs)) (λ rs. rs)
 
--- of the numbers before another one, the members from the first on go up to the end
+-- each number of start..end is a member, and `end` is either `to` or no member
 abbrev pub EndsRun : PlainSet → ℕ → ℕ → ℕ → Type 0
 EndsRun s start to end = (start < end) × (end ≤ to) × HasAllIn s start end
     × (end < to → s.has end ≡ false)
 
--- of the numbers from another one on, the members up to the last begin at the start
+-- each number of start..=last is a member, and either `start` is `from` or the number before
+-- `start` is no member
 abbrev pub BeginsRun : PlainSet → ℕ → ℕ → ℕ → Type 0
 BeginsRun s from last start = (from ≤ start) × (start ≤ last) × HasAllIn s start (last + 1)
     × (from < start → s.has (start - 1) ≡ false)

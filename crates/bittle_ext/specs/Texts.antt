@@ -6,7 +6,7 @@ use Rattle.bittle.specs.PlainSet.{PlainSet}
 abbrev pub digit : Bool → List ℕ
 digit bit = if bit then codes "1" else codes "0"
 
--- the digits of the numbers below one, the greatest first
+-- a digit for each number below a given one, the greatest first
 unfoldable pub digits_below : (ℕ → Bool) → ℕ → List ℕ
 digits_below p zero = []
 digits_below p (suc n) = digit (p n) ++ digits_below p n

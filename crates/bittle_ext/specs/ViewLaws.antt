@@ -13,7 +13,7 @@ use Rattle.bittle_ext.specs.Views.{decided_until, is_placed, read_back, HoldsBot
 pub whole_words_of : (w c : ℕ) → c % w ≡ 0 → (words : ℕ) × (c ≡ words * w)
 whole_words_of w c whole = (c / w, omega (arith, div-add-mod' c w, whole))
 
--- nothing past the capacity is in a set that is read back
+-- no number past the capacity is in the set `read_back`
 none_past_back : (m : Bool) (w : ℕ) (s : PlainSet) → 0 < w →
     (words : ℕ) × (s.capacity ≡ words * w) → ((i : ℕ) → s.capacity ≤ i → s.has i ≡ false) →
     (i : ℕ) → s.capacity ≤ i → (read_back m w s).has i ≡ false
@@ -21,26 +21,26 @@ unfolding is_placed
 none_past_back true w s word whole past = members-past true w s word whole past
 none_past_back false w s word whole past = past
 
--- past the end of what holds all that an operation makes of two sets it makes none
+-- past `end` the result of an operation on two sets has no member
 pub none_past_both : (f : Bool → Bool → Bool) (m : Bool) (w : ℕ) (s t : PlainSet) (end : ℕ) →
     0 < w → HoldsBoth f w s t end → (i : ℕ) → end ≤ i →
     (read_back m w (decided_until f end s t)).has i ≡ false
 none_past_both f m w s t end word holds =
     none_past_back m w (decided_until f end s t) word (whole_words_of w end holds.whole) holds.past
 
--- nothing past the capacity is in a complement
+-- no number past the capacity is in a complement
 pub none_past_complement : (s : PlainSet) (i : ℕ) → s.capacity ≤ i → (complement s).has i ≡ false
 unfolding lacks
 none_past_complement s i past = rw (le-ltb i s.capacity past) refl
 
--- nor is it a bit of a kind, in an order
+-- no number past the capacity has a bit of a kind (set or unset), in an order
 none_past_kind : (ones m : Bool) (w : ℕ) (s : PlainSet) → 0 < w →
     (words : ℕ) × (s.capacity ≡ words * w) → ((i : ℕ) → s.capacity ≤ i → s.has i ≡ false) →
     (i : ℕ) → s.capacity ≤ i → (ones_or_zeros ones (read_in m w s)).has i ≡ false
 none_past_kind true m w s word whole past = members-past m w s word whole past
 none_past_kind false m w s word whole past = none_past_complement (read_in m w s)
 
--- nor is it in a range of them
+-- no number past the capacity is in a range of the bits of a kind
 pub none_past_within : (ones m : Bool) (w : ℕ) (s : PlainSet) (from to : ℕ) → 0 < w →
     (words : ℕ) × (s.capacity ≡ words * w) → ((i : ℕ) → s.capacity ≤ i → s.has i ≡ false) →
     (i : ℕ) → s.capacity ≤ i →

@@ -3,32 +3,33 @@ use Rattle.std.specs.Prelude.{◌≡◌, ℕ, ◌+◌, ◌-◌, ◌%◌, ◌<◌
 use Rattle.bittle.specs.Orders.{place}
 use Rattle.bittle.specs.PlainSet.{PlainSet}
 
--- the set, of so many numbers, of those that are members by whether they are members of each of two
--- sets
+-- the set of capacity `end` of the numbers for which `decide` is true, given whether the number is
+-- in each of two sets
 abbrev pub decided_until : (Bool → Bool → Bool) → ℕ → PlainSet → PlainSet → PlainSet
 decided_until decide end s t =
     record { capacity = end; has = λ k. decide (s.has k) (t.has k) }
 
--- the same, of as many numbers as the first set
+-- `decided_until` with the capacity of the first set
 abbrev pub decided_of_first : (Bool → Bool → Bool) → PlainSet → PlainSet → PlainSet
 decided_of_first decide s t = decided_until decide s.capacity s t
 
--- whether a number is a member of a set by the place that a mirrored order gives it. It is no
+-- whether the place that the mirrored order gives a number is a member of a set. It is no
 -- abbreviation, so that a caller's search does not open the sets behind each view
 unfoldable pub is_placed : ℕ → PlainSet → ℕ → Bool
 is_placed w s k = s.has (place true w k)
 
--- so in an order
+-- whether the place that an order gives a number is a member: the mirrored order (if true) or the
+-- other
 abbrev pub has_placed : Bool → ℕ → PlainSet → ℕ → Bool
 has_placed true w s = is_placed w s
 has_placed false w s = s.has
 
--- the set that, read in an order, is a set
+-- the set that is s when it is read in an order
 abbrev pub read_back : Bool → ℕ → PlainSet → PlainSet
 read_back mirrored w s = record { capacity = s.capacity; has = has_placed mirrored w s }
 
--- so many numbers are whole words, fit an index, and have all that an operation makes of two sets;
--- and the first set has them all where the operation makes none of what is not in it
+-- the numbers below `end` are whole words, are indexes, and include each member of the result of an
+-- operation on two sets. If the result has only members of s, `end` is at most the capacity of s
 pub record HoldsBoth (decide : Bool → Bool → Bool) (w : ℕ) (s t : PlainSet) (end : ℕ) : Type 0 where
   pub fits : end < 4294967295
   pub whole : end % w ≡ 0

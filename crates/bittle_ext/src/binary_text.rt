@@ -13,8 +13,8 @@ use bittle::{Bits, Endian};
 use bittle_bits::extension::Word;
 use std::fmt;
 
-/// A set that it borrows, printed as a binary number: a digit for each bit, the greatest index
-/// first, so index 0 is the last digit in both orders. The flags of the format change nothing.
+/// A borrowed set that is printed as a binary number: a digit for each bit, the greatest index
+/// first. So index 0 is the last digit in both orders. The flags of the format change nothing.
 #[derive(Drop)]
 pub struct BinaryText<'a, B: Bits> {
     set: &'a B,
@@ -71,11 +71,12 @@ fn write_bit<W: fmt::Write>(f: &mut fmt::Formatter<W>, bit: bool) -> fmt::Result
 
 /// Text of any set.
 pub trait BitsTextExt: Bits {
-    /// Returns the set as a binary number, which `{}` prints: a digit for each bit, the greatest
-    /// index of the order of the type first.
+    /// Returns the set as a binary number, which `{}` prints: a digit for each bit, in the order of
+    /// the type, the greatest index first.
     ///
-    /// The shape has to fit. With capacity 0 the text is empty. Nothing is read or written before it
-    /// is printed; then each word is read once, and each digit is one write.
+    /// The shape has to fit (`bits_capacity() < u32::MAX`). With capacity 0 the text is empty.
+    /// Nothing is read or written before the result is printed. Then each word is read once, and
+    /// each digit is one write.
     ///
     /// ```
     /// let row = [0x05u8, 0x80];

@@ -10,15 +10,17 @@ use crate::combinations::{Replacement, combine_with};
 use bittle::{BigEndian, Bits, BitsMut, BitsOwned};
 use bittle_bits::extension::{Conjunction, Difference, SymmetricDifference, Union};
 
-/// Changes of a set by another one, of any two shapes that fit: a view is one too.
+/// Changes of a set by another one. The two shapes may differ, and both have to fit. A view is a
+/// set too.
 ///
-/// Each set is read in the order of its type; a view has the order that it names. The set keeps its
-/// capacity. An index of the other set at or past it does nothing, and from its own capacity on the
-/// other set has no index. Words combine words where both sets have words of one width that are
-/// read in one order; else each word of the other one is gathered from its set bits.
+/// Each set is read in the order of its type; a view has the order that it names. The changed set
+/// keeps its capacity: an index of the other set at or past it does nothing. From its own capacity
+/// on, the other set has no bit set. If both sets have words of one width, read in one order, whole
+/// words are combined. Else each word of the other set is gathered from its set bits.
 ///
-/// `union_assign` and its like of [`BitsMut`](bittle::BitsMut) take a set of the same type, hold in
-/// both orders at once, return nothing, and leave what is past the end of a shorter slice.
+/// `union_assign` and the other three `_assign` calls of [`BitsMut`](bittle::BitsMut) take a set of
+/// the same type, mean the same in both orders, and return nothing. They leave the bits past the
+/// end of a shorter slice.
 ///
 /// ```
 /// let mut row = [0b0110u8, 0];
@@ -26,8 +28,8 @@ use bittle_bits::extension::{Conjunction, Difference, SymmetricDifference, Union
 /// row.union_with(&0x0104u16);                             // false
 /// ```
 pub trait BitsCombineExt: BitsMut {
-    /// Sets each bit that is set in the other set, and returns `true` if one was unset before. With
-    /// capacity 0 nothing changes, and it returns `false`.
+    /// Sets each bit that is set in the other set, and returns `true` if one of them was unset
+    /// before. With capacity 0 nothing changes, and it returns `false`.
     ///
     /// ```
     /// let mut word = 0b0011u8;
@@ -47,9 +49,9 @@ pub trait BitsCombineExt: BitsMut {
         combine_with::<Self, B, Self::Order, B::Order, Union>(self, other)
     }
 
-    /// Clears each bit that is not set in the other set, and returns `true` if one was set before.
-    /// From the other set's capacity on it clears each bit. With capacity 0 nothing changes, and it
-    /// returns `false`.
+    /// Clears each bit that is not set in the other set, and returns `true` if one of them was set
+    /// before. From the other set's capacity on it clears each bit. With capacity 0 nothing
+    /// changes, and it returns `false`.
     ///
     /// ```
     /// let mut row = [0b0011u8, 1];
@@ -71,8 +73,8 @@ pub trait BitsCombineExt: BitsMut {
         combine_with::<Self, B, Self::Order, B::Order, Conjunction>(self, other)
     }
 
-    /// Clears each bit that is set in the other set, and returns `true` if one was set before. With
-    /// capacity 0 nothing changes, and it returns `false`.
+    /// Clears each bit that is set in the other set, and returns `true` if one of them was set
+    /// before. With capacity 0 nothing changes, and it returns `false`.
     ///
     /// ```
     /// let mut word = 0b0011u8;
@@ -94,8 +96,8 @@ pub trait BitsCombineExt: BitsMut {
         combine_with::<Self, B, Self::Order, B::Order, Difference>(self, other)
     }
 
-    /// Flips each bit that is set in the other set, and returns `true` if there was one. With
-    /// capacity 0 nothing changes, and it returns `false`.
+    /// Flips each bit that is set in the other set, and returns `true` if there was such a bit.
+    /// With capacity 0 nothing changes, and it returns `false`.
     ///
     /// ```
     /// let mut word = 0b0011u8;
@@ -113,8 +115,8 @@ pub trait BitsCombineExt: BitsMut {
         combine_with::<Self, B, Self::Order, B::Order, SymmetricDifference>(self, other)
     }
 
-    /// Leaves exactly those bits set that are set in the other set. From the other set's capacity
-    /// on it leaves none. With capacity 0 nothing changes.
+    /// Sets each bit that is set in the other set, and clears all others. From the other set's
+    /// capacity on every bit is cleared. With capacity 0 nothing changes.
     ///
     /// ```
     /// let mut row = [0b0011u8, 1];
@@ -134,8 +136,8 @@ pub trait BitsCombineExt: BitsMut {
         combine_with::<Self, B, Self::Order, B::Order, Replacement>(self, other);
     }
 
-    /// Returns the set of what another one has below the capacity of the type. With capacity 0 it
-    /// is empty.
+    /// Returns the set of the indexes that another set has below the capacity of the type. With
+    /// capacity 0 the set is empty.
     ///
     /// The type has to fit.
     ///
@@ -158,7 +160,7 @@ pub trait BitsCombineExt: BitsMut {
 
     /// Sets every bit, by one mask a word: the set is full, in both orders.
     ///
-    /// The shape has to fit. With capacity 0 nothing changes.
+    /// The shape has to fit (`bits_capacity() < u32::MAX`). With capacity 0 nothing changes.
     ///
     /// ```
     /// let mut row = [7u8, 9];

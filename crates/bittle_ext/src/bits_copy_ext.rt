@@ -1,4 +1,4 @@
-//! Ranges of bits that are copied to another place.
+//! Copies of a range of bits to another place.
 
 ghost use Rattle.std.specs.Prelude.{◌≡◌, ◌+◌, ◌-◌, ◌<◌, ◌≤◌, ℕ};
 ghost use Rattle.bittle.specs.PlainSet.{contains};
@@ -8,20 +8,20 @@ ghost use Rattle.bittle_ext.specs.Numbers.{with_copied};
 use crate::copies;
 use bittle::{Bits, BitsMut};
 
-/// Copies of a range of bits, from another set of any shape and order or within one, a word at a
-/// time.
+/// Copies of a range of bits, a word at a time: from another set, of any shape and order, or within
+/// one set.
 ///
 /// `from..to` are the indexes that are read and `at` is the first one that is written. Each set is
-/// read in the order of its type; a view has the order that it names. From its capacity on a set
-/// that is read has no bit set. No bit that is written lies past the capacity.
+/// read in the order of its type; a view has the order that it names. From its capacity on, a set
+/// that is read has no bit set. Each written bit lies below the capacity of its set.
 pub trait BitsCopyExt: BitsMut {
-    /// Makes the bits from `at` on what the bits `from..to` of another set are, and leaves all
-    /// others.
+    /// Copies the bits `from..to` of another set to the indexes from `at` on. No other bit changes.
     ///
-    /// Both shapes have to fit, `from <= to`, and the range that is written ends at the capacity or
-    /// below: with capacity 0 only an empty range is allowed, which changes nothing. A word of the
-    /// range is read and written once, for which one or two words of its width are read, or as many
-    /// narrower ones as it is wide.
+    /// Both shapes have to fit, `from <= to`, and the written range has to end at or below the
+    /// capacity. With capacity 0 only an empty range is allowed, which changes nothing. Each word
+    /// of the written range is read and written once. For each, the words of the other set that
+    /// have its bits are read: at most two, or if they are narrower, at most one more than make up
+    /// its width.
     ///
     /// ```
     /// let mut row = [0xFFu8; 2];
@@ -50,12 +50,13 @@ pub trait BitsCopyExt: BitsMut {
         copies::copy_range::<Self, B, Self::Order, B::Order>(self, at, other, from, to - from);
     }
 
-    /// Makes the bits from `at` on what the bits `from..to` were before, and leaves all others. The
+    /// Copies the bits `from..to` of the set to the indexes from `at` on. No other bit changes. The
     /// two ranges may overlap: each bit is read before it is written.
     ///
-    /// The shape has to fit, `from <= to`, and the range that is written ends at the capacity or
-    /// below: with capacity 0 only an empty range is allowed, which changes nothing. A word of the
-    /// range is read and written once, for which one or two words are read.
+    /// The shape has to fit (`bits_capacity() < u32::MAX`), `from <= to`, and the written range has
+    /// to end at or below the capacity. With capacity 0 only an empty range is allowed, which
+    /// changes nothing. Each word of the written range is read and written once. For each, the
+    /// words that have the bits to copy are read too: at most two.
     ///
     /// ```
     /// let mut row = [0x35u8, 0x00];

@@ -18,8 +18,9 @@ use bittle_bits::extension::{Ones, Word, Zeros};
 ///
 /// The shape has to fit: its capacity, and that of each array type within it, is below `u32::MAX`.
 /// `bits_capacity() < u32::MAX` checks this. No index wraps here: past the capacity no bit is set
-/// and none is unset. With capacity 0 nothing is found. The order is that of the type; a view that
-/// [`in_order`](crate::BitsViewExt::in_order) borrows has another one.
+/// and none is unset. With capacity 0 nothing is found. The bit order (big- or little-endian) is
+/// that of the type; for another order, use the view that
+/// [`in_order`](crate::BitsViewExt::in_order) returns.
 pub trait BitsExt: Bits + Sized {
     /// Returns the least index of a set bit, in the order of the type, or `None` if there is
     /// none. Words are read from the first word on, up to the answer.
@@ -82,8 +83,8 @@ pub trait BitsExt: Bits + Sized {
     }
 
     /// Returns the least index of a set bit from `from` on, in the order of the type, or `None` if
-    /// there is none. A `from` at or past the capacity finds none. Words are read from that of
-    /// `from` on, up to the answer.
+    /// there is none. A `from` at or past the capacity finds none. Words are read from the one that
+    /// has index `from`, up to the answer.
     ///
     /// ```
     /// 0b0010_0010u8.next_one(2);                          // Some(5)
@@ -99,8 +100,8 @@ pub trait BitsExt: Bits + Sized {
     }
 
     /// Returns the least index of an unset bit from `from` on, in the order of the type, or `None`
-    /// if there is none. A `from` at or past the capacity finds none. Words are read from that of
-    /// `from` on, up to the answer.
+    /// if there is none. A `from` at or past the capacity finds none. Words are read from the one
+    /// that has index `from`, up to the answer.
     ///
     /// ```
     /// 0b0001_1110u8.next_zero(1);                         // Some(5)
@@ -116,8 +117,8 @@ pub trait BitsExt: Bits + Sized {
     }
 
     /// Returns the greatest index of a set bit below `to`, in the order of the type, or `None` if
-    /// there is none. A `to` past the capacity means the capacity. Words are read from that below
-    /// `to` back, down to the answer.
+    /// there is none. A `to` past the capacity means the capacity. Words are read from the one that
+    /// has index `to - 1` back, down to the answer.
     ///
     /// ```
     /// 0b0010_0010u8.prev_one(5);                          // Some(1)
@@ -133,8 +134,8 @@ pub trait BitsExt: Bits + Sized {
     }
 
     /// Returns the greatest index of an unset bit below `to`, in the order of the type, or `None`
-    /// if there is none. A `to` past the capacity means the capacity. Words are read from that
-    /// below `to` back, down to the answer.
+    /// if there is none. A `to` past the capacity means the capacity. Words are read from the one
+    /// that has index `to - 1` back, down to the answer.
     ///
     /// ```
     /// 0b0001_1110u8.prev_zero(5);                         // Some(0)
@@ -150,7 +151,8 @@ pub trait BitsExt: Bits + Sized {
     }
 
     /// Returns how many set bits lie below `index`, in the order of the type. An `index` past the
-    /// capacity means the capacity. Words are counted whole, the last one by a mask.
+    /// capacity means the capacity. Each word is counted at once; a mask cuts the last one off at
+    /// `index`.
     ///
     /// ```
     /// 0b0010_0010u8.rank(5);                              // 1
@@ -169,10 +171,11 @@ pub trait BitsExt: Bits + Sized {
         )
     }
 
-    /// Returns the index of the set bit below which `rank` bits are set, in the order of the type,
-    /// or `None` if no more than `rank` bits are set.
+    /// Returns the index of the set bit that has exactly `rank` set bits below it, in the order of
+    /// the type. It returns `None` if no more than `rank` bits are set.
     ///
-    /// Words are counted whole up to that of the answer. In it halves find the bit: six of a `u64`.
+    /// Each word up to the one that has the answer is counted at once. In that word the bit is
+    /// found by halving, in six steps for a `u64`.
     ///
     /// ```
     /// 0b0010_0010u8.select(1);                            // Some(5)
@@ -193,7 +196,7 @@ pub trait BitsExt: Bits + Sized {
 
     /// Returns the least index of a set bit in `from..to`, in the order of the type, or `None` if
     /// there is none. A `to` past the capacity means the capacity, and a range that runs backwards
-    /// is empty. Words of the range are read from its first one on, up to the answer.
+    /// is empty. The words of the range are read from the first one on, up to the answer.
     ///
     /// ```
     /// 0b0110_0010u8.first_one_in_range(2, 6);             // Some(5)
@@ -226,7 +229,8 @@ pub trait BitsExt: Bits + Sized {
 
     /// Returns the greatest index of a set bit in `from..to`, in the order of the type, or `None`
     /// if there is none. A `to` past the capacity means the capacity, and a range that runs
-    /// backwards is empty. Words of the range are read from its last one back, down to the answer.
+    /// backwards is empty. The words of the range are read from the last one back, down to the
+    /// answer.
     ///
     /// ```
     /// 0b0110_0010u8.last_one_in_range(0, 6);              // Some(5)
@@ -259,8 +263,9 @@ pub trait BitsExt: Bits + Sized {
 
     /// Returns how many bits of `from..to` are set, in the order of the type.
     ///
-    /// The shape has to fit. Past the capacity no bit is set, and a range that runs backwards is
-    /// empty. Each word of the range is counted at once. With capacity 0 it returns 0.
+    /// The shape has to fit (`bits_capacity() < u32::MAX`). Past the capacity no bit is set, and a
+    /// range that runs backwards is empty. Each word of the range is counted at once. With capacity
+    /// 0 it returns 0.
     ///
     /// ```
     /// 0b0110_0010u8.count_ones_in_range(1, 6);            // 2: bits 1 and 5
@@ -279,8 +284,9 @@ pub trait BitsExt: Bits + Sized {
 
     /// Returns how many bits of `from..to` are unset, in the order of the type.
     ///
-    /// The shape has to fit. Past the capacity no bit is unset, and a range that runs backwards is
-    /// empty. Each word of the range is counted at once. With capacity 0 it returns 0.
+    /// The shape has to fit (`bits_capacity() < u32::MAX`). Past the capacity no bit is unset, and
+    /// a range that runs backwards is empty. Each word of the range is counted at once. With
+    /// capacity 0 it returns 0.
     ///
     /// ```
     /// 0b0110_0010u8.count_zeros_in_range(1, 6);           // 3: bits 2, 3 and 4
@@ -298,8 +304,9 @@ pub trait BitsExt: Bits + Sized {
 
     /// Returns `true` if a bit of `from..to` is set, in the order of the type.
     ///
-    /// The shape has to fit. Past the capacity no bit is set, and in an empty range, as in one that
-    /// runs backwards, none is. Words are read up to the first set bit.
+    /// The shape has to fit (`bits_capacity() < u32::MAX`). Past the capacity no bit is set. For an
+    /// empty range, or one that runs backwards, it returns `false`. Words are read up to the first
+    /// set bit.
     ///
     /// ```
     /// 0b0110_0000u8.any_in_range(3, 6);                   // true: bit 5
@@ -315,9 +322,9 @@ pub trait BitsExt: Bits + Sized {
 
     /// Returns `true` if each bit of `from..to` is set, in the order of the type.
     ///
-    /// The shape has to fit. A range with an index past the capacity has a bit that is not set, so
-    /// the answer is `false`. In an empty range, as in one that runs backwards, each is set. Words
-    /// are read up to the first unset bit.
+    /// The shape has to fit (`bits_capacity() < u32::MAX`). If the range has an index past the
+    /// capacity, where no bit is set, it returns `false`. For an empty range, or one that runs
+    /// backwards, it returns `true`. Words are read up to the first unset bit.
     ///
     /// ```
     /// 0b0110_0000u8.all_in_range(5, 8);                   // false: bit 7 is unset
@@ -338,10 +345,10 @@ pub trait BitsExt: Bits + Sized {
     /// Returns the least index from `from` on where `length` unset bits begin, in the order of the
     /// type, or `None` if there is no such run.
     ///
-    /// No run goes past the capacity. A run of no bits begins at each index up to the capacity:
-    /// with `length` 0 it returns `from`, and `None` past the capacity. Up to a length of four words
-    /// each word is read once, up to the end of the run. For a longer run each run that is too short
-    /// costs two searches of words.
+    /// No run goes past the capacity. An empty run begins at each index up to the capacity: with
+    /// `length` 0 it returns `from`, or `None` if `from` is past the capacity. If `length` is at
+    /// most four words, each word is read once, up to the end of the run. For a longer run, each
+    /// run that is too short costs two searches of words.
     ///
     /// ```
     /// 0b0010_0001u8.next_zero_run(2, 2);                   // Some(2)
@@ -373,10 +380,10 @@ pub trait BitsExt: Bits + Sized {
     /// Returns the least index from `from` on where `length` set bits begin, in the order of the
     /// type, or `None` if there is no such run.
     ///
-    /// No run goes past the capacity. A run of no bits begins at each index up to the capacity:
-    /// with `length` 0 it returns `from`, and `None` past the capacity. Up to a length of four words
-    /// each word is read once, up to the end of the run. For a longer run each run that is too short
-    /// costs two searches of words.
+    /// No run goes past the capacity. An empty run begins at each index up to the capacity: with
+    /// `length` 0 it returns `from`, or `None` if `from` is past the capacity. If `length` is at
+    /// most four words, each word is read once, up to the end of the run. For a longer run, each
+    /// run that is too short costs two searches of words.
     ///
     /// ```
     /// 0b0110_0011u8.next_one_run(1, 2);                    // Some(5)
@@ -403,11 +410,11 @@ pub trait BitsExt: Bits + Sized {
         self.next_one_run(0, length)
     }
 
-    /// Returns the least index in `from..to` where `length` set bits begin that all lie in
-    /// `from..to`, in the order of the type, or `None` if there is no such run.
+    /// Returns the least index where a run of `length` set bits begins that lies within `from..to`,
+    /// in the order of the type, or `None` if there is no such run.
     ///
-    /// A `to` past the capacity means the capacity, and in a range that runs backwards no bit is
-    /// set. With `length` 0 it returns `from`, and `None` past the capacity. It costs what
+    /// A `to` past the capacity means the capacity, and a range that runs backwards has no bit.
+    /// With `length` 0 it returns `from`, or `None` if `from` is past the capacity. It costs what
     /// [`next_one_run`](BitsExt::next_one_run) costs within the range.
     ///
     /// ```
@@ -424,7 +431,7 @@ pub trait BitsExt: Bits + Sized {
         runs::run_in_range::<Self, Self::Order, Ones>(self, from, to, length)
     }
 
-    /// Returns the least index in `from..to` where `length` unset bits begin that all lie in
+    /// Returns the least index where a run of `length` unset bits begins that lies within
     /// `from..to`, in the order of the type, or `None` if there is no such run. All else is as with
     /// [`first_one_run_in_range`](BitsExt::first_one_run_in_range): past the capacity no bit is
     /// unset.

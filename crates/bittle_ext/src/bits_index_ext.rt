@@ -11,12 +11,13 @@ use bittle::{Bits, BitsMut};
 
 /// Questions about one bit, by an index that does not wrap.
 ///
-/// At an index at or past the capacity there is no bit. `test_bit` tests the bit that the index
-/// wraps to; these calls return `false` or `None`. The shape has to fit. The order is that of the
-/// type; a view that [`in_order`](crate::BitsViewExt::in_order) borrows has another one.
+/// At an index at or past the capacity these calls return `false` or `None`, where `test_bit` tests
+/// the bit that the index wraps to. The shape has to fit (`bits_capacity() < u32::MAX`). The bit
+/// order (big- or little-endian) is that of the type; for another order, use the view that
+/// [`in_order`](crate::BitsViewExt::in_order) returns.
 pub trait BitsIndexExt: Bits + Sized {
-    /// Returns `true` if the bit at `index` is set, and `false` if it is unset or if `index` is at
-    /// or past the capacity, as each is with capacity 0.
+    /// Returns `true` if the bit at `index` is set. It returns `false` if the bit is unset, or if
+    /// `index` is at or past the capacity, as every index is with capacity 0.
     ///
     /// ```
     /// 0b0110u8.contains_index(2);                         // true
@@ -33,7 +34,7 @@ pub trait BitsIndexExt: Bits + Sized {
     }
 
     /// Returns whether the bit at `index` is set, or `None` if `index` is at or past the capacity,
-    /// as each is with capacity 0.
+    /// as every index is with capacity 0.
     ///
     /// ```
     /// 0b0110u8.get_bit(3);                                // Some(false)
@@ -57,12 +58,13 @@ pub trait BitsIndexExt: Bits + Sized {
 
 /// Changes of one bit, by an index that does not wrap.
 ///
-/// An index past the capacity is refused: nothing changes, and the result shows it. The shape has
-/// to fit. The order is that of the type; a view that
-/// [`in_order_mut`](crate::BitsMutViewExt::in_order_mut) borrows has another one.
+/// If an index is at or past the capacity, nothing changes, and the call returns `false` or `None`.
+/// The shape has to fit (`bits_capacity() < u32::MAX`). The bit order (big- or little-endian) is
+/// that of the type; for another order, use the view that
+/// [`in_order_mut`](crate::BitsMutViewExt::in_order_mut) returns.
 pub trait BitsIndexMutExt: BitsMut + Sized {
-    /// Sets the bit at `index` and returns `true`, or changes nothing and returns `false` if
-    /// `index` is at or past the capacity, as each is with capacity 0.
+    /// Sets the bit at `index` and returns `true`. If `index` is at or past the capacity, as every
+    /// index is with capacity 0, it changes nothing and returns `false`.
     ///
     /// ```
     /// let mut word = 0b0001u8;
@@ -85,8 +87,8 @@ pub trait BitsIndexMutExt: BitsMut + Sized {
         within
     }
 
-    /// Clears the bit at `index` and returns `true`, or changes nothing and returns `false` if
-    /// `index` is at or past the capacity, as each is with capacity 0.
+    /// Clears the bit at `index` and returns `true`. If `index` is at or past the capacity, as
+    /// every index is with capacity 0, it changes nothing and returns `false`.
     ///
     /// ```
     /// let mut word = 0b1001u8;
@@ -109,8 +111,8 @@ pub trait BitsIndexMutExt: BitsMut + Sized {
         within
     }
 
-    /// Sets the bit at `index` and returns whether it was unset, or changes nothing and returns
-    /// `None` if `index` is at or past the capacity, as each is with capacity 0.
+    /// Sets the bit at `index` and returns whether it was unset. If `index` is at or past the
+    /// capacity, as every index is with capacity 0, it changes nothing and returns `None`.
     ///
     /// ```
     /// let mut seen = 0b0001u8;
@@ -137,8 +139,8 @@ pub trait BitsIndexMutExt: BitsMut + Sized {
         }
     }
 
-    /// Clears the bit at `index` and returns whether it was set, or changes nothing and returns
-    /// `None` if `index` is at or past the capacity, as each is with capacity 0.
+    /// Clears the bit at `index` and returns whether it was set. If `index` is at or past the
+    /// capacity, as every index is with capacity 0, it changes nothing and returns `None`.
     ///
     /// ```
     /// let mut seen = 0b1001u8;

@@ -22,14 +22,15 @@ use crate::retained::retain;
 use bittle::{BigEndian, BitsMut};
 use bittle_bits::extension::{Difference, SymmetricDifference, Union};
 
-/// Everyday changes of any set that can be changed. No change alters the capacity. The order is
-/// that of the type; a view that [`in_order_mut`](crate::BitsMutViewExt::in_order_mut) borrows has
-/// another one.
+/// Everyday changes of any set that can be changed. No change alters the capacity. A shape or type
+/// fits if its capacity, and that of each array type within it, is below `u32::MAX`. The bit order
+/// (big- or little-endian) is that of the type; for another order, use the view that
+/// [`in_order_mut`](crate::BitsMutViewExt::in_order_mut) returns.
 pub trait BitsMutExt: BitsMut + Sized {
     /// Sets the bit at `index`, in the order of the type, and returns `true` if it was unset. An
     /// index past the capacity wraps. With capacity 0 nothing changes, and it returns `true`.
     ///
-    /// The type has to fit; of a slice its element type.
+    /// The type has to fit; for a slice, its element type.
     ///
     /// ```
     /// let mut row = [0u16, 1];
@@ -59,7 +60,7 @@ pub trait BitsMutExt: BitsMut + Sized {
     /// Clears the bit at `index`, in the order of the type, and returns `true` if it was set. An
     /// index past the capacity wraps. With capacity 0 nothing changes, and it returns `false`.
     ///
-    /// The type has to fit; of a slice its element type.
+    /// The type has to fit; for a slice, its element type.
     ///
     /// ```
     /// let mut row = [0u16, 1];
@@ -88,7 +89,7 @@ pub trait BitsMutExt: BitsMut + Sized {
     /// Sets the bit at `index` if `value` is `true`, else clears it, in the order of the type. An
     /// index past the capacity wraps. With capacity 0 nothing changes.
     ///
-    /// The type has to fit; of a slice its element type.
+    /// The type has to fit; for a slice, its element type.
     ///
     /// ```
     /// let mut word = 0b0001u8;
@@ -112,7 +113,7 @@ pub trait BitsMutExt: BitsMut + Sized {
     /// returns `true` if it was set before. An index past the capacity wraps. With capacity 0
     /// nothing changes, and it returns `false`.
     ///
-    /// The type has to fit; of a slice its element type.
+    /// The type has to fit; for a slice, its element type.
     ///
     /// ```
     /// let mut word = 0b0001u8;
@@ -134,7 +135,7 @@ pub trait BitsMutExt: BitsMut + Sized {
     /// Flips the bit at `index`, in the order of the type. An index past the capacity wraps. With
     /// capacity 0 nothing changes.
     ///
-    /// The type has to fit; of a slice its element type.
+    /// The type has to fit; for a slice, its element type.
     ///
     /// ```
     /// let mut row = [0u8; 2];
@@ -158,8 +159,9 @@ pub trait BitsMutExt: BitsMut + Sized {
     /// Sets each bit at the indexes `from..to` if `value` is `true`, else clears each, in the order
     /// of the type, by one mask a word.
     ///
-    /// The shape has to fit, and `from <= to <= capacity`: nothing wraps. Only the words of the
-    /// range are written. An empty range, as any with capacity 0, changes nothing.
+    /// The shape has to fit (`bits_capacity() < u32::MAX`), and `from <= to <= capacity`: no index
+    /// wraps. Only the words of the range are written. An empty range changes nothing; with
+    /// capacity 0 only an empty range is allowed.
     ///
     /// ```
     /// let mut word = 0b1111_1111u8;
@@ -183,7 +185,7 @@ pub trait BitsMutExt: BitsMut + Sized {
 
     /// Flips every bit, by one mask a word: the set becomes its complement, in both orders.
     ///
-    /// The shape has to fit. With capacity 0 nothing changes.
+    /// The shape has to fit (`bits_capacity() < u32::MAX`). With capacity 0 nothing changes.
     ///
     /// ```
     /// let mut row = [0xFFu8, 0x0F];
@@ -204,7 +206,7 @@ pub trait BitsMutExt: BitsMut + Sized {
     /// Clears the least set bit, in the order of the type, and returns its index. If no bit is set,
     /// as with capacity 0, nothing changes, and it returns `None`.
     ///
-    /// The shape has to fit. The words up to the answer are read.
+    /// The shape has to fit (`bits_capacity() < u32::MAX`). The words up to the answer are read.
     ///
     /// ```
     /// let mut row = [0x00u8, 0x81];
@@ -232,7 +234,8 @@ pub trait BitsMutExt: BitsMut + Sized {
     /// Clears the greatest set bit, in the order of the type, and returns its index. If no bit is
     /// set, as with capacity 0, nothing changes, and it returns `None`.
     ///
-    /// The shape has to fit. The words from the answer on are read.
+    /// The shape has to fit (`bits_capacity() < u32::MAX`). The words are read from the last one
+    /// back to the answer.
     ///
     /// ```
     /// let mut row = [0x00u8, 0x81];
@@ -261,7 +264,7 @@ pub trait BitsMutExt: BitsMut + Sized {
     /// of slots does. If each bit is set, as with capacity 0, nothing changes, and it returns
     /// `None`.
     ///
-    /// The shape has to fit. The words up to the answer are read.
+    /// The shape has to fit (`bits_capacity() < u32::MAX`). The words up to the answer are read.
     ///
     /// ```
     /// let mut row = [0xFFu8, 0x0F];
@@ -282,12 +285,12 @@ pub trait BitsMutExt: BitsMut + Sized {
         Some(free)
     }
 
-    /// Sets the first `length` unset bits that are neighbours, in the order of the type, and
-    /// returns the least index of them, as an allocator of runs does. If there is no such run,
-    /// nothing changes, and it returns `None`; with `length` 0 nothing changes, and it returns 0.
+    /// Sets the bits of the first run of `length` unset bits, in the order of the type, and returns
+    /// the run's least index, as an allocator of runs does. If there is no such run, nothing
+    /// changes, and it returns `None`. With `length` 0 nothing changes, and it returns 0.
     ///
-    /// The shape has to fit. The search costs what [`next_zero_run`](crate::BitsExt::next_zero_run)
-    /// costs.
+    /// The shape has to fit (`bits_capacity() < u32::MAX`). The search costs what
+    /// [`next_zero_run`](crate::BitsExt::next_zero_run) costs.
     ///
     /// ```
     /// let mut word = 0b0100_1101u8;
@@ -308,13 +311,14 @@ pub trait BitsMutExt: BitsMut + Sized {
         Some(from)
     }
 
-    /// Calls `keep` once for each set bit, from the least index on, and clears those for which it
-    /// returns `false`, in the order of the type. With capacity 0 it makes no call, and nothing
-    /// changes.
+    /// Calls `keep` with the index of each set bit once, from the least one on, in the order of the
+    /// type. It clears each bit for which `keep` returns `false`. With capacity 0 it makes no call,
+    /// and nothing changes.
     ///
-    /// The shape has to fit, and `keep` has to be callable at each index below the capacity, again
-    /// after each such call. Each word is read once, and is written once if a bit of it goes; each
-    /// set bit costs a call. Words that the set knows to have no set bit are passed over.
+    /// The shape has to fit (`bits_capacity() < u32::MAX`), and `keep` has to be callable with each
+    /// index below the capacity, and again after each such call. Each word is read once, and is
+    /// written once if one of its bits is cleared. Each set bit costs a call. Words that the set
+    /// knows to have no set bit are skipped.
     ///
     /// ```
     /// let mut row = [0x07u8, 0x81];
@@ -334,7 +338,7 @@ pub trait BitsMutExt: BitsMut + Sized {
     /// Sets the bit at each of the indexes, in the order of the type. An index past the capacity
     /// wraps. With capacity 0 nothing changes.
     ///
-    /// The type has to fit; of a slice its element type.
+    /// The type has to fit; for a slice, its element type.
     ///
     /// ```
     /// let mut row = [0u8; 2];
@@ -355,7 +359,7 @@ pub trait BitsMutExt: BitsMut + Sized {
     /// Sets the bit at each index of an array, a `Vec`, a range or an iterator, in the order of the
     /// type. An index past the capacity wraps. With capacity 0 nothing changes.
     ///
-    /// The type has to fit; of a slice its element type. The iterator has to end.
+    /// The type has to fit; for a slice, its element type. The iterator has to end.
     ///
     /// ```
     /// let mut row = [0u8; 2];
@@ -382,7 +386,7 @@ pub trait BitsMutExt: BitsMut + Sized {
         insert_each::<Self, Self::Order, I::IntoIter>(self, indexes.into_iter());
     }
 
-    /// Sets the bits of a range in the order of the type, as
+    /// Sets the bits `from..to`, in the order of the type, as
     /// [`set_range_in`](bittle::BitsMut::set_range_in) does.
     ///
     /// ```
@@ -404,7 +408,7 @@ pub trait BitsMutExt: BitsMut + Sized {
         self.set_range_in::<Self::Order>(from, to);
     }
 
-    /// Clears the bits of a range in the order of the type, as
+    /// Clears the bits `from..to`, in the order of the type, as
     /// [`clear_range_in`](bittle::BitsMut::clear_range_in) does.
     ///
     /// ```
@@ -426,7 +430,7 @@ pub trait BitsMutExt: BitsMut + Sized {
         self.clear_range_in::<Self::Order>(from, to);
     }
 
-    /// Flips the bits of a range in the order of the type, as
+    /// Flips the bits `from..to`, in the order of the type, as
     /// [`toggle_range_in`](bittle::BitsMut::toggle_range_in) does.
     ///
     /// ```

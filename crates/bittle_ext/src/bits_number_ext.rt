@@ -11,13 +11,14 @@ use bittle::{Bits, BitsMut};
 /// Reading up to 64 neighbouring bits as a number, a word at a time.
 ///
 /// Bit `i` of the number is the bit at index `first + i`, in the order of the type: index `first`
-/// has the weight 1, in both orders. A view that [`in_order`](crate::BitsViewExt::in_order) borrows
-/// has another order.
+/// has the weight 1, in both orders. For another order, call on the view that
+/// [`in_order`](crate::BitsViewExt::in_order) returns.
 pub trait BitsNumberExt: Bits {
     /// Returns the bits at the `count` indexes from `first` on as a number.
     ///
-    /// The shape has to fit, and `count` is at most 64. From the capacity on no bit is set, so with
-    /// capacity 0 the number is 0. Only the words of the range are read, once each.
+    /// The shape has to fit (`bits_capacity() < u32::MAX`), and `count` is at most 64. From the
+    /// capacity on no bit is set, so with capacity 0 the number is 0. Only the words of the range
+    /// are read, once each.
     ///
     /// ```
     /// let row = [0x34u8, 0x12];
@@ -43,16 +44,16 @@ impl<B: Bits> BitsNumberExt for B {}
 
 /// Writing up to 64 neighbouring bits as a number, a word at a time.
 ///
-/// The bit at index `first + i` becomes bit `i` of the number, in the order of the type. In another
-/// order a range is written through a view that
-/// [`in_order_mut`](crate::BitsMutViewExt::in_order_mut) borrows.
+/// The bit at index `first + i` takes the value of bit `i` of the number, in the order of the type.
+/// For another order, call on the view that [`in_order_mut`](crate::BitsMutViewExt::in_order_mut)
+/// returns.
 pub trait BitsNumberMutExt: BitsMut {
-    /// Sets and clears the bits at the `count` indexes from `first` on, as those of a number: its
-    /// bits from `count` on are ignored.
+    /// Writes the lowest `count` bits of a number to the `count` indexes from `first` on. The other
+    /// bits of the number are ignored.
     ///
-    /// The shape has to fit, `count` is at most 64, and the range ends at the capacity or below:
-    /// with capacity 0 only an empty range is allowed, which changes nothing. Only the words of the
-    /// range are read and written, once each.
+    /// The shape has to fit (`bits_capacity() < u32::MAX`), `count` is at most 64, and the range
+    /// has to end at or below the capacity. With capacity 0 only an empty range is allowed, which
+    /// changes nothing. Only the words of the range are read and written, once each.
     ///
     /// ```
     /// let mut row = [0u8; 2];

@@ -17,8 +17,9 @@ use crate::shifts::{shift_down, shift_up};
 use bittle::BitsOwned;
 use std::ops::RangeBounds;
 
-/// Sets made of one set, of a list of indexes or of an iterator. The type has to fit. The order is
-/// that of the type; a `Set` remembers another one, as in `Set::new_le(word).rotated_up(1)`.
+/// Sets made from one set, from a list of indexes or from an iterator. The type has to fit
+/// (`Self::bits() < u32::MAX`). The bit order is that of the type; a `Set` can remember another
+/// order, as in `Set::new_le(word).rotated_up(1)`.
 pub trait BitsOwnedExt: BitsOwned {
     /// Returns the set of the bits that are unset, the same in both orders. With capacity 0 it
     /// returns the same set. Each word is read once.
@@ -39,8 +40,8 @@ pub trait BitsOwnedExt: BitsOwned {
     /// Returns the set with each bit at the indexes `from..to` set, in the order of the type, by
     /// one mask a word.
     ///
-    /// `from <= to <= capacity`: nothing wraps. An empty range, as any with capacity 0, changes
-    /// nothing.
+    /// It requires `from <= to <= capacity`: no index wraps. An empty range changes nothing; with
+    /// capacity 0 only an empty range is allowed.
     ///
     /// ```
     /// [0u8; 2].with_range(6, 11);                         // [0xC0, 0x07]
@@ -61,8 +62,8 @@ pub trait BitsOwnedExt: BitsOwned {
     /// Returns the set with each bit at the indexes `from..to` unset, in the order of the type, by
     /// one mask a word.
     ///
-    /// `from <= to <= capacity`: nothing wraps. An empty range, as any with capacity 0, changes
-    /// nothing.
+    /// It requires `from <= to <= capacity`: no index wraps. An empty range changes nothing; with
+    /// capacity 0 only an empty range is allowed.
     ///
     /// ```
     /// [0xFFu8; 2].without_range(6, 11);                   // [0x3F, 0xF8]
@@ -83,8 +84,8 @@ pub trait BitsOwnedExt: BitsOwned {
     /// Returns the set with each bit at the indexes `from..to` flipped, in the order of the type,
     /// by one mask a word.
     ///
-    /// `from <= to <= capacity`: nothing wraps. An empty range, as any with capacity 0, changes
-    /// nothing.
+    /// It requires `from <= to <= capacity`: no index wraps. An empty range changes nothing; with
+    /// capacity 0 only an empty range is allowed.
     ///
     /// ```
     /// 0b0011_1100u8.with_range_toggled(0, 4);             // 0b0011_0011
@@ -102,9 +103,9 @@ pub trait BitsOwnedExt: BitsOwned {
         set
     }
 
-    /// Returns the set with each bit of the range set, by one mask a word. The range goes to
-    /// the capacity where it names no end. It may not run backwards, nor have an index past the
-    /// capacity: nothing wraps.
+    /// Returns the set with each bit of the range set, by one mask a word. A range that names no
+    /// end goes up to the capacity. The range must not run backwards, and has to end at or below
+    /// the capacity: no index wraps.
     ///
     /// ```
     /// [0u8; 2].with_span(6..=10);                         // [0xC0, 0x07]
@@ -126,9 +127,9 @@ pub trait BitsOwnedExt: BitsOwned {
         set
     }
 
-    /// Returns the set with each bit of the range unset, by one mask a word. The range goes to
-    /// the capacity where it names no end. It may not run backwards, nor have an index past the
-    /// capacity: nothing wraps.
+    /// Returns the set with each bit of the range unset, by one mask a word. A range that names no
+    /// end goes up to the capacity. The range must not run backwards, and has to end at or below
+    /// the capacity: no index wraps.
     ///
     /// ```
     /// [0xFFu8; 2].without_span(..11);                     // [0x00, 0xF8]
@@ -150,9 +151,9 @@ pub trait BitsOwnedExt: BitsOwned {
         set
     }
 
-    /// Returns the set with each bit of the range flipped, by one mask a word. The range goes to
-    /// the capacity where it names no end. It may not run backwards, nor have an index past the
-    /// capacity: nothing wraps.
+    /// Returns the set with each bit of the range flipped, by one mask a word. A range that names
+    /// no end goes up to the capacity. The range must not run backwards, and has to end at or below
+    /// the capacity: no index wraps.
     ///
     /// ```
     /// 0b0011_1100u8.with_span_toggled(4..);               // 0b1100_1100
@@ -174,11 +175,11 @@ pub trait BitsOwnedExt: BitsOwned {
         set
     }
 
-    /// Returns the set with each bit moved down by `by` indexes, in the order of the type. The bits
-    /// that pass index 0 go on at the last index.
+    /// Returns the set with each bit moved down by `by` indexes, in the order of the type. A bit
+    /// that would pass index 0 goes on at the last index.
     ///
-    /// A distance past the capacity wraps. With capacity 0 it returns the same set. Each word is
-    /// read twice and written once.
+    /// A `by` past the capacity wraps. With capacity 0 it returns the same set. Each word is read
+    /// twice and written once.
     ///
     /// ```
     /// [0x12u8, 0].rotated_down(2);                        // [0x04, 0x80]
@@ -194,11 +195,11 @@ pub trait BitsOwnedExt: BitsOwned {
         rotate_down::<Self, Self::Order>(&self, by)
     }
 
-    /// Returns the set with each bit moved up by `by` indexes, in the order of the type. The bits
-    /// that pass the last index go on at index 0.
+    /// Returns the set with each bit moved up by `by` indexes, in the order of the type. A bit that
+    /// would pass the last index goes on at index 0.
     ///
-    /// A distance past the capacity wraps. With capacity 0 it returns the same set. Each word is
-    /// read twice and written once.
+    /// A `by` past the capacity wraps. With capacity 0 it returns the same set. Each word is read
+    /// twice and written once.
     ///
     /// ```
     /// [0u8, 0x48].rotated_up(2);                          // [0x01, 0x20]
@@ -217,8 +218,8 @@ pub trait BitsOwnedExt: BitsOwned {
     /// Returns the set with each bit moved down by `by` indexes, in the order of the type. The bits
     /// that would pass index 0 are left out.
     ///
-    /// With a distance of the capacity or more, as with capacity 0, the set is empty. Each word is
-    /// read twice at most and written once.
+    /// If `by` is the capacity or more, as with capacity 0, the set is empty. Each word is read
+    /// twice at most and written once.
     ///
     /// ```
     /// [0x12u8, 0x01].shifted_down(2);                     // [0x44, 0]
@@ -242,8 +243,8 @@ pub trait BitsOwnedExt: BitsOwned {
     /// Returns the set with each bit moved up by `by` indexes, in the order of the type. The bits
     /// that would reach the capacity are left out.
     ///
-    /// With a distance of the capacity or more, as with capacity 0, the set is empty. Each word is
-    /// read twice at most and written once.
+    /// If `by` is the capacity or more, as with capacity 0, the set is empty. Each word is read
+    /// twice at most and written once.
     ///
     /// ```
     /// [0x48u8, 0x80].shifted_up(2);                       // [0x20, 0x01]

@@ -12,18 +12,20 @@ use crate::range_iterators::{IterOnesInRange, IterZerosInRange};
 use crate::run_iterators::{IterOneRuns, IterRuns, IterZeroRuns};
 use bittle::Bits;
 
-/// Iterators over a range of a set, and over its maximal runs of neighbours.
+/// Iterators over a range of a set, and over its maximal runs: ranges of set (or unset) bits, with
+/// no such bit right before or after the range.
 ///
-/// The shape has to fit. A range that goes past the capacity ends there: nothing wraps. The order
-/// is that of the type; a view that [`in_order`](crate::BitsViewExt::in_order) borrows has another
-/// one.
+/// The shape has to fit (`bits_capacity() < u32::MAX`). A range that goes past the capacity ends
+/// there: no index wraps. The bit order (big- or little-endian) is that of the type; for another
+/// one, call on the view that [`in_order`](crate::BitsViewExt::in_order) returns.
 pub trait BitsRangeExt: Bits + Sized {
-    /// Returns an iterator over the indexes of the set bits in `from..to`, in the order of the
-    /// type, increasing, from both ends.
+    /// Returns a double-ended iterator over the indexes of the set bits in `from..to`, increasing,
+    /// in the order of the type.
     ///
-    /// The shape has to fit. Past the capacity no bit is set, and a range that runs backwards is
-    /// empty. Only the words of the range are read, each once. With capacity 0 it yields nothing.
-    /// It borrows only the set, so a function that borrows the set may return it.
+    /// The shape has to fit (`bits_capacity() < u32::MAX`). Past the capacity no bit is set, and a
+    /// range that runs backwards is empty. Only the words of the range are read, each once. With
+    /// capacity 0 it yields nothing. The iterator borrows only the set, so a function that borrows
+    /// the set may return the iterator.
     ///
     /// ```
     /// 0b0110_0010u8.iter_ones_in_range(1, 6);             // yields 1, 5
@@ -60,11 +62,11 @@ pub trait BitsRangeExt: Bits + Sized {
         self.iter_zeros_in_span(from..to)
     }
 
-    /// Returns an iterator over the maximal runs of set bits, each a range of indexes, in the order
-    /// of the type, increasing, from both ends.
+    /// Returns a double-ended iterator over the maximal runs of set bits, increasing, in the order
+    /// of the type. Each run is a range of indexes.
     ///
-    /// The shape has to fit. Each step is two searches by whole words. With capacity 0 it yields
-    /// nothing.
+    /// The shape has to fit (`bits_capacity() < u32::MAX`). Each step is two searches by whole
+    /// words. With capacity 0 it yields nothing.
     ///
     /// ```
     /// 0b0110_0010u8.iter_one_runs();                      // yields 1..2, 5..7

@@ -8,12 +8,14 @@ use crate::bits_ext::BitsExt;
 use crate::views::BitsViewExt;
 use bittle::Bits;
 
-/// Counts and searches of the unset bits of any set by their ranks, in the order of the type.
+/// Counts and searches of the unset bits of any set by their ranks, in the order of the type. The
+/// rank of an unset bit is how many unset bits lie below it.
 pub trait BitsRankExt: Bits + Sized {
     /// Returns how many bits below `index` are unset. An `index` past the capacity means the
     /// capacity.
     ///
-    /// The shape has to fit. The words below `index` are read. With capacity 0 it returns 0.
+    /// The shape has to fit (`bits_capacity() < u32::MAX`). The words below `index` are read. With
+    /// capacity 0 it returns 0.
     ///
     /// ```
     /// 0b0010_0010u8.rank_zero(5);                         // 4: bits 0, 2, 3 and 4
@@ -30,10 +32,11 @@ pub trait BitsRankExt: Bits + Sized {
         self.complement_view().rank(index)
     }
 
-    /// Returns the index of the unset bit below which `rank` bits are unset, or `None` if no more
-    /// than `rank` bits are unset, as with capacity 0.
+    /// Returns the index of the unset bit that has exactly `rank` unset bits below it, or `None` if
+    /// no more than `rank` bits are unset, as with capacity 0.
     ///
-    /// The shape has to fit. Words are counted whole up to that of the answer.
+    /// The shape has to fit (`bits_capacity() < u32::MAX`). Each word up to the one that has the
+    /// answer is counted at once.
     ///
     /// ```
     /// 0b0010_0010u8.select_zero(1);                       // Some(2)

@@ -14,20 +14,20 @@ use crate::views::of_both::OfBoth;
 use bittle::Bits;
 use bittle_bits::extension::{Difference, Ones, SymmetricDifference, Zeros, are_alike};
 
-/// Relations of two sets, of any two shapes that fit.
+/// Relations of two sets. The two shapes may differ, and both have to fit.
 ///
-/// Each set is read in the order of its type; a view has the order that it names. Words decide
-/// where both sets have words of one width that are read in one order; else searches alternate,
-/// each from where the other one stopped. Past its capacity a set has no index, so capacities may
-/// differ. With capacity 0 a set is the empty one.
+/// Each set is read in the order of its type; a view has the order that it names. If both sets have
+/// words of one width, read in one order, they are compared word by word. Else searches in the two
+/// sets alternate, each from where the other one stopped. Past its capacity a set has no bit set,
+/// so capacities may differ. With capacity 0 a set is empty.
 ///
 /// ```
 /// let view = 0x80u8.in_order::<LittleEndian>();
 /// view.is_subset(&0x8000u16.in_order::<LittleEndian>()); // true: each has index 0
 /// ```
 pub trait BitsRelationExt: Bits + Sized {
-    /// Returns the least index that is set in both sets, each in its own order, or `None` if there
-    /// is none. It stops at the answer.
+    /// Returns the least index that is set in both sets, each set in its own order, or `None` if
+    /// there is none. It stops at the answer.
     ///
     /// ```
     /// 0b0110u8.first_common(&0x0104u16);                  // Some(2)
@@ -44,8 +44,8 @@ pub trait BitsRelationExt: Bits + Sized {
         first_below::<Self, B, Self::Order, B::Order, Ones>(self, other, end)
     }
 
-    /// Returns the least index that is set in this set and not in the other one, each in its own
-    /// order, or `None` if there is none. It stops at the answer.
+    /// Returns the least index that is set in this set and not in the other one, each set in its
+    /// own order, or `None` if there is none. It stops at the answer.
     ///
     /// ```
     /// 0b0110u8.first_alone(&0x0102u16);                   // Some(2)
@@ -68,8 +68,8 @@ pub trait BitsRelationExt: Bits + Sized {
         self.first_one_in::<Self::Order>(common, end)
     }
 
-    /// Returns `true` if each bit that is set in this set is set in the other one too, each in its
-    /// own order. It stops at the first bit that is not.
+    /// Returns `true` if each bit that is set in this set is set in the other one too, each set in
+    /// its own order. It stops at the first bit that is not set in the other one.
     ///
     /// ```
     /// 0b0110u8.is_subset(&0x010Fu16);                     // true
@@ -85,8 +85,8 @@ pub trait BitsRelationExt: Bits + Sized {
         self.first_alone(other).is_none()
     }
 
-    /// Returns `true` if each bit that is set in the other set is set in this one too, each in its
-    /// own order. It stops at the first bit that is not.
+    /// Returns `true` if each bit that is set in the other set is set in this one too, each set in
+    /// its own order. It stops at the first bit that is not set in this one.
     ///
     /// ```
     /// 0b0110u8.is_superset(&0x0106u16);                   // false: index 8 is not in it
@@ -102,8 +102,8 @@ pub trait BitsRelationExt: Bits + Sized {
         other.first_alone(self).is_none()
     }
 
-    /// Returns `true` if no index is set in both sets, each in its own order. It stops at the first
-    /// index that is.
+    /// Returns `true` if no index is set in both sets, each set in its own order. It stops at the
+    /// first index that is set in both.
     ///
     /// ```
     /// 0b0110u8.is_disjoint(&0b1001u64);                   // true
@@ -119,8 +119,8 @@ pub trait BitsRelationExt: Bits + Sized {
         self.first_common(other).is_none()
     }
 
-    /// Returns `true` if an index is set in both sets, each in its own order. It stops at the first
-    /// one.
+    /// Returns `true` if an index is set in both sets, each set in its own order. It stops at the
+    /// first such index.
     ///
     /// ```
     /// 0b0110u8.intersects(&0b1100u64);                    // true: index 2
@@ -136,9 +136,9 @@ pub trait BitsRelationExt: Bits + Sized {
         self.first_common(other).is_some()
     }
 
-    /// Returns how many indexes are set in both sets, each in its own order. No set is made: words
-    /// of one width are counted one by one, else each set bit of this set is tested in the other
-    /// one.
+    /// Returns how many indexes are set in both sets, each set in its own order. No set is made.
+    /// Words of one width and order are counted one by one; else each set bit of this set is tested
+    /// in the other one.
     ///
     /// ```
     /// 0b0110u8.count_common(&0x0107u16);                  // 2
@@ -157,9 +157,10 @@ pub trait BitsRelationExt: Bits + Sized {
         count_common::<Self, B, Self::Order, B::Order>(self, other)
     }
 
-    /// Returns how many indexes are set in this set and not in the other one, each in its own
+    /// Returns how many indexes are set in this set and not in the other one, each set in its own
     /// order. Each word of both is counted once if their words have one width and are read in one
-    /// order. Else it costs a count of this set and [`count_common`](BitsRelationExt::count_common).
+    /// order. Else it costs a count of this set and
+    /// [`count_common`](BitsRelationExt::count_common).
     ///
     /// ```
     /// 0b0110u8.count_alone(&0x0104u16);                   // 1: index 1
@@ -181,9 +182,9 @@ pub trait BitsRelationExt: Bits + Sized {
         self.count_ones() - count_common::<Self, B, Self::Order, B::Order>(self, other)
     }
 
-    /// Returns how many indexes are set in just one of the two sets, each in its own order. Each
-    /// word of both is counted once if their words have one width and are read in one order. Else it
-    /// costs a count of each set and [`count_common`](BitsRelationExt::count_common).
+    /// Returns how many indexes are set in just one of the two sets, each set in its own order.
+    /// Each word of both is counted once if their words have one width and are read in one order.
+    /// Else it costs a count of each set and [`count_common`](BitsRelationExt::count_common).
     ///
     /// ```
     /// 0b0110u8.count_different(&0x0104u16);               // 2: indexes 1 and 8

@@ -11,14 +11,15 @@ use bittle::BitsMut;
 /// Moves of all bits of any set that can be changed, also of a mutably borrowed slice. No copy is
 /// made. The order is that of the type.
 ///
-/// An owned set also has [`shifted_up`](crate::BitsOwnedExt::shifted_up) and its like, which return
-/// another set.
+/// An owned set also has [`shifted_up`](crate::BitsOwnedExt::shifted_up), `shifted_down`,
+/// `rotated_up` and `rotated_down`, which return another set.
 pub trait BitsShiftExt: BitsMut {
     /// Moves each bit down by `by` indexes, in the order of the type. The bits that would pass
     /// index 0 are left out.
     ///
-    /// The shape has to fit. With a distance of the capacity or more the set is empty; with
-    /// capacity 0 nothing changes. Each word is read twice at most and written once.
+    /// The shape has to fit (`bits_capacity() < u32::MAX`). If `by` is the capacity or more, the
+    /// set becomes empty; with capacity 0 nothing changes. Each word is read twice at most and
+    /// written once.
     ///
     /// ```
     /// let mut row = [0x12u8, 0x01];
@@ -43,8 +44,9 @@ pub trait BitsShiftExt: BitsMut {
     /// Moves each bit up by `by` indexes, in the order of the type. The bits that would reach the
     /// capacity are left out.
     ///
-    /// The shape has to fit. With a distance of the capacity or more the set is empty; with
-    /// capacity 0 nothing changes. Each word is read twice at most and written once.
+    /// The shape has to fit (`bits_capacity() < u32::MAX`). If `by` is the capacity or more, the
+    /// set becomes empty; with capacity 0 nothing changes. Each word is read twice at most and
+    /// written once.
     ///
     /// ```
     /// let mut row = [0x48u8, 0x80];
@@ -65,12 +67,12 @@ pub trait BitsShiftExt: BitsMut {
         shifts::shift_up::<Self, Self::Order>(self, by);
     }
 
-    /// Moves each bit down by `by` indexes, in the order of the type. The bits that pass index 0 go
-    /// on at the last one.
+    /// Moves each bit down by `by` indexes, in the order of the type. A bit that would pass index 0
+    /// goes on at the last index.
     ///
-    /// The shape has to fit. A distance of the capacity or more wraps; with capacity 0 nothing
-    /// changes. Each word is read four times at most and written three times, and the last one
-    /// once more.
+    /// The shape has to fit (`bits_capacity() < u32::MAX`). A `by` of the capacity or more wraps;
+    /// with capacity 0 nothing changes. Each word is read four times at most and written three
+    /// times, and the last word once more.
     ///
     /// ```
     /// let mut row = [0x12u8, 0x01];
@@ -88,12 +90,12 @@ pub trait BitsShiftExt: BitsMut {
         turns::turn_down::<Self, Self::Order>(self, by);
     }
 
-    /// Moves each bit up by `by` indexes, in the order of the type. The bits that pass the last
-    /// index go on at 0.
+    /// Moves each bit up by `by` indexes, in the order of the type. A bit that would pass the last
+    /// index goes on at index 0.
     ///
-    /// The shape has to fit. A distance of the capacity or more wraps; with capacity 0 nothing
-    /// changes. Each word is read four times at most and written three times, and the last one
-    /// once more.
+    /// The shape has to fit (`bits_capacity() < u32::MAX`). A `by` of the capacity or more wraps;
+    /// with capacity 0 nothing changes. Each word is read four times at most and written three
+    /// times, and the last word once more.
     ///
     /// ```
     /// let mut row = [0x48u8, 0x80];

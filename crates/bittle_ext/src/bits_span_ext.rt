@@ -1,4 +1,4 @@
-//! Reading a range of a set that is written as Rust writes it: `2..7`, `2..=6`, `..7`, `50..`,
+//! Reads of a range of a set, where the range is a Rust range: `2..7`, `2..=6`, `..7`, `50..`,
 //! `..`.
 
 ghost use Rattle.std.specs.Prelude.{◌≡◌, ◌-◌, ◌<◌, ◌≤◌, IfSome, MatchBool};
@@ -18,13 +18,14 @@ use bittle::{Bits, Shape};
 use bittle_bits::extension::{Ones, Zeros};
 use std::ops::RangeBounds;
 
-/// Reads of a range of a set. A call that ends in `_in_range` takes two numbers; its namesake here
-/// takes a range as Rust writes it.
+/// Reads of a range of a set. A call that ends in `_in_range` takes two numbers; the call that ends
+/// in `_in_span` takes a Rust range, such as `2..=6`.
 ///
-/// The shape has to fit. A range that names no end, or an end past the capacity, ends at the
-/// capacity: past it no bit is set and none is unset. A range that runs backwards is empty. An
-/// `a..=b` that was iterated over is refused. The order is that of the type; a view that
-/// [`in_order`](crate::BitsViewExt::in_order) borrows has another one.
+/// The shape has to fit (`bits_capacity() < u32::MAX`). A range that names no end, or an end past
+/// the capacity, ends at the capacity: past the capacity no bit is set and none is unset. A range
+/// that runs backwards is empty. A range `a..=b` that was iterated over before is not allowed. The
+/// bit order (big- or little-endian) is that of the type; for another order, use the view that
+/// [`in_order`](crate::BitsViewExt::in_order) returns.
 pub trait BitsSpanExt: Bits + Sized {
     /// Returns how many bits of the range are set. Each word of the range is counted at once. With
     /// capacity 0 it returns 0.
@@ -73,8 +74,8 @@ pub trait BitsSpanExt: Bits + Sized {
         end - start - self.count_ones_in_range_in::<Self::Order>(start, end)
     }
 
-    /// Returns the least index of a set bit in the range, or `None` if there is none. Words of the
-    /// range are read from its first one on, up to the answer.
+    /// Returns the least index of a set bit in the range, or `None` if there is none. The words of
+    /// the range are read from the first one on, up to the answer.
     ///
     /// ```
     /// 0b0110_0010u8.first_one_in_span(2..);               // Some(5)
@@ -93,8 +94,8 @@ pub trait BitsSpanExt: Bits + Sized {
         self.first_one_in::<Self::Order>(start, end)
     }
 
-    /// Returns the least index of an unset bit in the range, or `None` if there is none. Words of
-    /// the range are read from its first one on, up to the answer.
+    /// Returns the least index of an unset bit in the range, or `None` if there is none. The words
+    /// of the range are read from the first one on, up to the answer.
     ///
     /// ```
     /// 0b0110_0110u8.first_zero_in_span(1..=6);            // Some(3)
@@ -114,8 +115,8 @@ pub trait BitsSpanExt: Bits + Sized {
         self.first_zero_in::<Self::Order>(start, end)
     }
 
-    /// Returns the greatest index of a set bit in the range, or `None` if there is none. Words of
-    /// the range are read from its last one back, down to the answer.
+    /// Returns the greatest index of a set bit in the range, or `None` if there is none. The words
+    /// of the range are read from the last one back, down to the answer.
     ///
     /// ```
     /// 0b0110_0010u8.last_one_in_span(..5);                // Some(1)
@@ -134,8 +135,8 @@ pub trait BitsSpanExt: Bits + Sized {
         self.last_one_in::<Self::Order>(start, end)
     }
 
-    /// Returns the greatest index of an unset bit in the range, or `None` if there is none. Words
-    /// of the range are read from its last one back, down to the answer.
+    /// Returns the greatest index of an unset bit in the range, or `None` if there is none. The
+    /// words of the range are read from the last one back, down to the answer.
     ///
     /// ```
     /// 0b0110_0110u8.last_zero_in_span(..7);               // Some(4)
@@ -155,8 +156,8 @@ pub trait BitsSpanExt: Bits + Sized {
         self.last_zero_in::<Self::Order>(start, end)
     }
 
-    /// Returns `true` if a bit of the range is set. In an empty range none is. Words are read up to
-    /// the first set bit.
+    /// Returns `true` if a bit of the range is set, and `false` for an empty range. Words are read
+    /// up to the first set bit.
     ///
     /// ```
     /// 0b0110_0000u8.any_in_span(..=4);                    // false
@@ -173,8 +174,8 @@ pub trait BitsSpanExt: Bits + Sized {
         self.first_one_in_span(range).is_some()
     }
 
-    /// Returns `true` if each bit of the range is set. A range with an index past the capacity has
-    /// a bit that is not set, so the answer is `false`. In an empty range each is set. Words are
+    /// Returns `true` if each bit of the range is set. If the range has an index past the capacity,
+    /// where no bit is set, it returns `false`. For an empty range it returns `true`. Words are
     /// read up to the first unset bit.
     ///
     /// ```
@@ -207,9 +208,9 @@ pub trait BitsSpanExt: Bits + Sized {
             .is_none()
     }
 
-    /// Returns an iterator over the indexes of the set bits in the range, in the order of the type,
-    /// increasing, from both ends, as
-    /// [`iter_ones_in_range`](crate::BitsRangeExt::iter_ones_in_range) does.
+    /// Returns a double-ended iterator over the indexes of the set bits in the range, increasing,
+    /// in the bit order of the type, as [`iter_ones_in_range`](crate::BitsRangeExt::iter_ones_in_range)
+    /// does.
     ///
     /// ```
     /// 0b0110_0010u8.iter_ones_in_span(2..);               // yields 5, 6
@@ -256,8 +257,8 @@ pub trait BitsSpanExt: Bits + Sized {
         iter_within::<Self, Self::Order, Zeros>(self, start, end)
     }
 
-    /// Views the set bits of the range: a set of as many bits, in the order of the type, as
-    /// [`within`](crate::BitsViewExt::within) does.
+    /// Returns a view of the set bits of the range, as [`within`](crate::BitsViewExt::within) does:
+    /// a set of the same capacity, in the order of the type.
     ///
     /// ```
     /// 0b0110_0010u8.within_span(2..).count_ones();        // 2: bits 5 and 6

@@ -1,4 +1,4 @@
-//! Changing a range of a set that is written as Rust writes it: `2..7`, `2..=6`, `..7`, `50..`,
+//! Changes of a range of a set, where the range is a Rust range: `2..7`, `2..=6`, `..7`, `50..`,
 //! `..`.
 
 ghost use Rattle.std.specs.Prelude.{◌≡◌, ◌+◌, ◌-◌, ◌≤◌};
@@ -13,13 +13,15 @@ use crate::spans::ends_within;
 use bittle::BitsMut;
 use std::ops::RangeBounds;
 
-/// Changes of a range of a set. A call that ends in `_range` takes two numbers; its namesake here
-/// takes a range as Rust writes it.
+/// Changes of a range of a set. A call that ends in `_range` takes two numbers; the call that ends
+/// in `_span` takes a Rust range, such as `2..=6`.
 ///
-/// The shape has to fit. A range that names no end goes to the capacity. It may not run backwards,
-/// nor have an index past the capacity: nothing wraps. Only the words of the range are written. An
-/// empty range, as any with capacity 0, changes nothing. The order is that of the type; a view that
-/// [`in_order_mut`](crate::BitsMutViewExt::in_order_mut) borrows has another one.
+/// The shape has to fit (`bits_capacity() < u32::MAX`). A range that names no end goes up to the
+/// capacity. The range must not run backwards, and has to end at or below the capacity: no index
+/// wraps. Only the words of the range are written. An empty range changes nothing; with capacity 0
+/// only an empty range is allowed. The bit order (big- or little-endian) is that of the type; for
+/// another one, call on the view that [`in_order_mut`](crate::BitsMutViewExt::in_order_mut)
+/// returns.
 pub trait BitsSpanMutExt: BitsMut + Sized {
     /// Sets each bit of the range, by one mask a word.
     ///

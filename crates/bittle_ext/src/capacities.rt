@@ -7,7 +7,7 @@ ghost use Rattle.bittle.specs.Values.{set_in, ShapeFits};
 
 use bittle::{Bits, Endian};
 
-/// Returns the capacity of a set, from which on it has no bit set in the order `E` either.
+/// Returns the capacity of a set. From the capacity on no bit is set, also in the order `E`.
 #[inline]
 pub(crate) fn capacity_of<B: Bits, E: Endian>(set: &B) -> u32
     requires { ShapeFits B.Shape set.now }

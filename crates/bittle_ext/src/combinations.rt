@@ -22,7 +22,8 @@ impl Operation for Replacement {
 }
 
 // Combines a set with another one by an operation, below the capacity of the first, and returns
-// whether that changed it. `R` names whether the other set is known to have as many words.
+// whether the first set changed. `R` says whether the other set is known to have at least as many
+// words as the first.
 #[inline(always)]
 fn combine_words<A: BitsMut, B: Bits, E: Endian, F: Endian, O: Operation, R: Reach>(
     set: &mut A,
@@ -49,10 +50,10 @@ fn combine_words<A: BitsMut, B: Bits, E: Endian, F: Endian, O: Operation, R: Rea
 }
 
 /// Combines a set with another one by an operation, below the capacity of the first, and returns
-/// whether that changed it.
+/// whether the first set changed.
 ///
-/// Where both have words of one width in one order, and the other is no shorter, no word is tested
-/// against its end. The compiler then takes several words at a time.
+/// If both sets have words of one width and order, and the other set is as long or longer, the loop
+/// makes no test for the end of the other set. The compiler then combines several words at a time.
 #[inline]
 pub fn combine_with<A: BitsMut, B: Bits, E: Endian, F: Endian, O: Operation>(
     set: &mut A,

@@ -22,7 +22,7 @@ pub fn width_of_words<B: Bits>() -> u32
 }
 
 /// Returns a word that begins with the bits at `count` indexes from `first` on, which lie in one
-/// word or in two. What comes after them is of no account.
+/// word or in two. The other bits of the result may be set or unset.
 #[inline]
 fn word_near<B: Bits, E: Endian>(set: &B, first: u32, count: u32) -> B::LeafWord
     requires fits { ShapeFits B.Shape set.now }
@@ -58,8 +58,8 @@ fn number_near<B: Bits, E: Endian>(set: &B, first: u32, count: u32) -> u128
     low_bits_of::<B::LeafWord>(number_of::<B::LeafWord, E>(word), count)
 }
 
-/// Returns the bits at `count` indexes from `first` on as a number. From the capacity on no bit is
-/// set.
+/// Returns, as a number, the bits at `count` indexes from `first` on. Bits at or past the capacity
+/// count as unset.
 #[inline]
 pub fn number_from<B: Bits, E: Endian>(set: &B, first: u32, count: u32) -> u128
     requires fits { ShapeFits B.Shape set.now }
@@ -86,7 +86,7 @@ pub fn number_from<B: Bits, E: Endian>(set: &B, first: u32, count: u32) -> u128
     number
 }
 
-/// Sets and clears the bits at `count` indexes of one word, from `first` on, as those of a number.
+/// Writes the lowest `count` bits of a number to `count` indexes of one word, from `first` on.
 #[inline]
 fn put_number<A: BitsMut, E: Endian>(set: &mut A, first: u32, count: u32, number: u128)
     requires fits { ShapeFits A.Shape set.old }
@@ -118,7 +118,7 @@ fn part_of(value: u64, first: u32, count: u32) -> u128
     (value >> first & u64::MAX >> (64 - count)) as u128
 }
 
-/// Sets and clears the bits at `count` indexes, from `first` on, as those of a number.
+/// Writes the lowest `count` bits of a number to `count` indexes of the set, from `first` on.
 #[inline]
 pub fn put_value<A: BitsMut, E: Endian>(set: &mut A, first: u32, count: u32, value: u64)
     requires fits { ShapeFits A.Shape set.old }
@@ -138,8 +138,8 @@ pub fn put_value<A: BitsMut, E: Endian>(set: &mut A, first: u32, count: u32, val
     }
 }
 
-/// Copies the bits at `count` indexes of another set, from `from` on, to the indexes from `at` on.
-/// From its capacity on the other set has no bit set.
+/// Copies `count` bits of another set, from index `from` on, to the indexes from `at` on. From its
+/// own capacity on the other set has no bit set.
 #[inline]
 pub fn copy_range<A: BitsMut, B: Bits, E: Endian, F: Endian>(
     set: &mut A,
@@ -166,8 +166,8 @@ pub fn copy_range<A: BitsMut, B: Bits, E: Endian, F: Endian>(
     }
 }
 
-/// Copies the bits at `count` indexes, from `from` on, to the indexes from `at` on, which lies at
-/// or below `from`: the first ones first.
+/// Copies `count` bits, from index `from` on, to the indexes from `at` on, where `at <= from`. The
+/// least indexes are copied first.
 #[inline]
 fn copy_down<A: BitsMut, E: Endian>(set: &mut A, at: u32, from: u32, count: u32)
     requires fits { ShapeFits A.Shape set.old }
@@ -188,8 +188,8 @@ fn copy_down<A: BitsMut, E: Endian>(set: &mut A, at: u32, from: u32, count: u32)
     }
 }
 
-/// Copies the bits at `count` indexes, from `from` on, to the indexes from `at` on, which lies past
-/// `from`: the last ones first.
+/// Copies `count` bits, from index `from` on, to the indexes from `at` on, where `from < at`. The
+/// greatest indexes are copied first.
 #[inline]
 fn copy_up<A: BitsMut, E: Endian>(set: &mut A, at: u32, from: u32, count: u32)
     requires fits { ShapeFits A.Shape set.old }
@@ -209,8 +209,8 @@ fn copy_up<A: BitsMut, E: Endian>(set: &mut A, at: u32, from: u32, count: u32)
     }
 }
 
-/// Copies the bits at `count` indexes, from `from` on, to the indexes from `at` on, as if all were
-/// read before any is written. From the capacity on no bit is set.
+/// Copies `count` bits, from index `from` on, to the indexes from `at` on, as if all were read
+/// before any is written. From the capacity on no bit is set.
 #[inline]
 pub fn copy_within<A: BitsMut, E: Endian>(set: &mut A, at: u32, from: u32, count: u32)
     requires fits { ShapeFits A.Shape set.old }

@@ -1,5 +1,6 @@
-//! How many indexes are set in both of two sets, with no set made: by the view of both where their
-//! words have one width and are read in one order, else by the set bits of the first.
+//! Counts the indexes that are set in both of two sets; no set is made. If their words have one
+//! width and order, the view of both is counted. Else each set bit of the first is tested in the
+//! second.
 
 ghost use Rattle.bittle_ext.specs.Combined.{CountsBoth};
 ghost use Rattle.bittle.specs.PlainSet.{size};
@@ -10,7 +11,7 @@ use crate::views::of_both::OfBoth;
 use bittle::{Bits, Endian};
 use bittle_bits::extension::{Conjunction, are_alike};
 
-/// Counts the indexes that are set in both.
+/// Counts the indexes that are set in both sets.
 #[inline]
 pub fn count_common<A: Bits, B: Bits, E: Endian, F: Endian>(left: &A, right: &B) -> u32
     requires left_fits { ShapeFits A.Shape left.now }

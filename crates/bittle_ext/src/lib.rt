@@ -1,15 +1,15 @@
-//! Everyday calls on any set, above the library: the ends of a set and the neighbours of an index,
-//! a change that returns whether the set changed, a range changed at once, the first and the last
-//! bit taken out, a set made of a list of indexes, a complement, iterators over a range and over
-//! runs.
+//! Everyday calls on any set, above `bittle`. They find the first and the last bit, and the next
+//! and the previous one from an index. They change a bit and return whether it changed, change a
+//! range at once, take out the first or last bit, and complement. They make a set of a list of
+//! indexes, and iterate over a range and over runs.
 //!
-//! They are in extension traits, which every set of `bittle` has. They are proved from contracts
-//! alone: those that users see, and those of `bittle_bits::extension`, which is for the crates of
-//! this project. The twelve words, the orders, searches, iterators,
-//! joins and the operations on two sets are in `bittle`. A call takes the order of the type. For a
-//! named order, make it on a view that [`in_order`](BitsViewExt::in_order) or
-//! [`in_order_mut`](BitsMutViewExt::in_order_mut) borrows; wrap an owned set in a
-//! `Set`, which remembers its order.
+//! The calls are in extension traits, which every set of `bittle` has. They are proved from
+//! contracts alone: those that users see, and those of `bittle_bits::extension`, which is for the
+//! crates of this project. The twelve integer types, the orders, searches, iterators, joins and the
+//! operations on two sets are in `bittle`. A call uses the order of the type. For another order,
+//! call on the view that [`in_order`](BitsViewExt::in_order) or
+//! [`in_order_mut`](BitsMutViewExt::in_order_mut) returns, or wrap an owned set in a `Set`, which
+//! remembers its order.
 //!
 //! ```rust
 //! use bittle::prelude::*;
@@ -34,8 +34,8 @@
 //! ```
 #![tactic(auto)]
 
-// A file `bits_.._ext` has the extension trait of its name, `views` has the views and their traits,
-// and the other files have the bodies that these pass on to, a subject each.
+// A file `bits_.._ext` has the extension trait of its name, and `views` has the views and their
+// traits. Each other file has the function bodies of one subject, which the traits call.
 pub mod binary_text;
 mod bits_combine_ext;
 mod bits_copy_ext;

@@ -10,8 +10,8 @@ use crate::rotations::all_bits;
 use bittle::Endian;
 use bittle_bits::extension::{Difference, Operation, Union, Word, range};
 
-/// Returns a number of which the bits of the mask are moved up by `by`, and those so far above them
-/// down.
+/// Returns a number in which each bit `i` of the mask has moved up to `i + by`, and bit `i + by`
+/// down to `i`.
 #[inline]
 fn swapped(bits: u128, by: u32, mask: u128) -> u128
     requires { by < 128 }
@@ -20,8 +20,8 @@ fn swapped(bits: u128, by: u32, mask: u128) -> u128
     (bits & mask) << by | bits >> by & mask
 }
 
-/// Returns a number whose 128 bits stand the other way round: single bits change places, then
-/// pairs, and so on up to the halves.
+/// Returns a number with its 128 bits reversed: single bits change places, then pairs, and so on up
+/// to the halves.
 #[inline]
 fn reversed(bits: u128) -> u128
     ensures { (i : ℕ) → i < 128 → bit_at result i ≡ bit_at bits (127 - i) }
@@ -41,13 +41,13 @@ pub fn width_of<W: Word>() -> u32
     ensures width { result ≡ W.width }
     ensures within { W.width ≤ 128 }
 {
-    // For its clause alone: all bits of a word are a `u128`.
+    // Called only for its contract: all bits of a word fit in a `u128`.
     let _ = all_bits::<W>();
     W::width()
 }
 
-/// Returns the bits of a word in the order `E`, as a number of the width of a word: in big-endian
-/// order they are as they were, and else they stand the other way round.
+/// Returns the bits of a word in the order `E`, as a number of the width of a word: unchanged in
+/// big-endian order, and reversed in little-endian order.
 #[inline]
 fn ordered<W: Word, E: Endian>(bits: u128) -> u128
     requires { bits < 2 ^ W.width }
@@ -71,7 +71,7 @@ pub fn number_of<W: Word, E: Endian>(word: W) -> u128
     ordered::<W, E>(word.to_bits())
 }
 
-/// Returns the word whose bit `i` is the bit at index `i` of a word.
+/// Returns the word whose bit `i` is the bit at index `i` of the given word.
 #[inline]
 pub fn turned<W: Word, E: Endian>(word: W) -> W
     ensures { bit_set W.width (W.pattern result)
@@ -80,7 +80,7 @@ pub fn turned<W: Word, E: Endian>(word: W) -> W
     W::from_bits(number_of::<W, E>(word))
 }
 
-/// Returns the word whose bit at index `i` is bit `i` of a word.
+/// Returns the word whose bit at index `i` is bit `i` of the given word.
 #[inline]
 pub fn turned_back<W: Word, E: Endian>(word: W) -> W
     ensures { read_in E.mirrored W.width (bit_set W.width (W.pattern result))
@@ -99,7 +99,7 @@ fn word_of<W: Word, E: Endian>(number: u128) -> W
     W::from_bits(ordered::<W, E>(number))
 }
 
-/// Returns the lowest bits of a number.
+/// Returns the lowest `count` bits of a number.
 #[inline]
 pub fn low_bits(number: u128, count: u32) -> u128
     requires some { 0 < count }
@@ -109,8 +109,8 @@ pub fn low_bits(number: u128, count: u32) -> u128
     number & u128::MAX >> (128 - count)
 }
 
-/// Returns the lowest bits of a number that a word holds. The remainder changes nothing: so the
-/// compiler shifts words, and not 128 bits.
+/// Returns the lowest `count` bits of a number: at most as many as a word has. The remainder (`%`)
+/// changes no result; with it the compiler shifts words, and not 128 bits.
 #[inline]
 pub fn low_bits_of<W: Word>(number: u128, count: u32) -> u128
     requires some { 0 < count }
@@ -122,7 +122,7 @@ pub fn low_bits_of<W: Word>(number: u128, count: u32) -> u128
 }
 
 /// Returns a word with the bits of a number at `count` indexes, from the index `from` on. If these
-/// are all bits of the word, nothing is masked.
+/// are all bits of the word, no mask is made.
 #[inline]
 pub fn with_number<W: Word, E: Endian>(word: W, from: u32, count: u32, number: u128) -> W
     requires some { 0 < count }

@@ -8,7 +8,7 @@ ghost use Rattle.bittle.specs.Values.{set_in, ShapeFits};
 use bittle::{Bits, BitsMut, Endian};
 use bittle_bits::extension::{RangeOperation, Word};
 
-/// Returns whether the shape of a set fits, and it has a bit.
+/// Returns whether the shape of a set fits, and its capacity is not 0.
 #[inline]
 pub fn has_bits<B: Bits>(set: &B) -> bool
     ensures fits { IsTrue result → ShapeFits B.Shape set.now × (0 < (B.big set.now).capacity) }
@@ -18,7 +18,8 @@ pub fn has_bits<B: Bits>(set: &B) -> bool
     0 < capacity && capacity < u32::MAX
 }
 
-/// Combines the bit at an index below the capacity with a set one, and returns whether it was set.
+/// Combines the bit at an index below the capacity with a set bit, by the operation `O`. Returns
+/// whether the bit was set before.
 #[inline]
 fn combine_within<B: BitsMut, E: Endian, O: RangeOperation>(set: &mut B, index: u32) -> bool
     requires fits { ShapeFits B.Shape set.old }
@@ -36,7 +37,8 @@ fn combine_within<B: BitsMut, E: Endian, O: RangeOperation>(set: &mut B, index: 
     !word.and(mask).is_zero()
 }
 
-/// Combines the bit at an index, which wraps, with a set one, and returns whether it was set.
+/// Combines the bit at an index, which wraps, with a set bit, by the operation `O`. Returns whether
+/// the bit was set before.
 #[inline]
 pub fn combine_bit<B: BitsMut, E: Endian, O: RangeOperation>(set: &mut B, index: u32) -> bool
     requires fits { ShapeFits B.Shape set.old }

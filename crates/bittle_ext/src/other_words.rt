@@ -1,4 +1,4 @@
-//! The words of a set as another one has its words: of their width, and read in their order.
+//! Reads a set in words of the width and the order of another set's words.
 
 ghost use Rattle.std.specs.Prelude.{◌≡◌, ◌*◌, ◌<◌, Bool, true, false};
 ghost use Rattle.bittle.specs.BitPatterns.{bit_set};
@@ -10,18 +10,18 @@ use crate::range_iterators::iter_within;
 use bittle::{Bits, Endian};
 use bittle_bits::extension::{Ones, Word, are_alike, set_bit};
 
-/// Names whether a set is known to have each word that is read of it. A loop that knows so tests no
-/// word against the end of that set.
+/// Says whether a set is known to have each word that is read from it. If it is, a loop over its
+/// words makes no test for the end of the set.
 pub trait Reach {
     ghost ALL: { Bool };
 
     const ALL: bool;
 }
 
-/// The set has each word.
+/// The set has each word that is read.
 pub enum Whole {}
 
-/// The set may end before a word.
+/// The set may end before a word that is read.
 pub enum Part {}
 
 impl Reach for Whole {
@@ -53,8 +53,8 @@ pub fn word_or_empty<S: Bits, R: Reach>(set: &S, k: usize) -> S::LeafWord
     }
 }
 
-/// Gathers the word that has in the order `E` what a set has in the order `F`, as its word `k` of
-/// that width, one set bit after another.
+/// Gathers word `k` of a set that is read in the order `F`, as a word of the type `W` in the order
+/// `E`: one set bit after another. Here `k` counts words of the type `W`.
 fn gathered_word<W: Word, B: Bits, E: Endian, F: Endian>(set: &B, k: u32) -> W
     requires fits { ShapeFits B.Shape set.now }
     requires within { k * W.width < 4294967296 }
@@ -70,8 +70,9 @@ fn gathered_word<W: Word, B: Bits, E: Endian, F: Endian>(set: &B, k: u32) -> W
     word
 }
 
-/// Returns the word that has in the order `E` what a set has in the order `F`, as its word `k` of
-/// the width of another type's words. From the capacity on it is empty.
+/// Returns word `k` of a set that is read in the order `F`, as a word of the width of `A`'s words,
+/// in the order `E`. Here `k` counts words of that width. From the set's capacity on the word is
+/// empty.
 #[inline(always)]
 pub fn other_word<A: Bits, B: Bits, E: Endian, F: Endian, R: Reach>(
     set: &B,

@@ -1,4 +1,4 @@
-//! The iterators over the set, and over the unset bits of a range.
+//! The iterators over the set bits of a range, and over its unset bits.
 
 ghost use Rattle.std.specs.Prelude.{◌≤◌};
 ghost use Rattle.bittle_ext.specs.RangeMembers.{ListsWithin};
@@ -16,7 +16,8 @@ pub type IterOnesInRange<'a, B, E> = IntoIterOnes<KindWithin<'a, B, E, Ones>, E>
 /// Yields the indexes of the unset bits of a range.
 pub type IterZerosInRange<'a, B, E> = IntoIterOnes<KindWithin<'a, B, E, Zeros>, E>;
 
-/// Begins an iterator over the bits of a kind of a range: over the view of them.
+/// Begins an iterator over the bits of the kind `K` (set or unset) in a range: over the view of
+/// these bits.
 #[inline]
 pub(crate) fn iter_within<'a, B: Bits, E: Endian, K: Kind>(
     bits: &'a B,

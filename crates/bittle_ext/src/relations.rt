@@ -1,5 +1,5 @@
-//! The search that relations of two sets make: word by word if their words have one width and are
-//! read in one order, else by alternating searches, each from where the other one stopped.
+//! The search that relations of two sets make. If their words have one width and order, it goes
+//! word by word. Else searches in the two sets alternate, each from where the other one stopped.
 
 ghost use Rattle.std.specs.Prelude.{◌≡◌, min, MatchOption};
 ghost use Rattle.bittle_ext.specs.SetRelations.{first_and};
@@ -11,8 +11,8 @@ use bittle_bits::extension::{
     Conjunction, Difference, Front, Kind, are_alike, end_in, first_decided_below,
 };
 
-/// Returns the least index below both capacities that is set in the first and of the kind in the
-/// second, or `None`.
+/// Returns the least index below both capacities that is set in the first set, and whose bit in the
+/// second is of the kind `K` (set or unset), or `None`.
 #[inline]
 pub fn first_below<A: Bits, B: Bits, E: Endian, F: Endian, K: Kind>(
     left: &A,

@@ -13,7 +13,7 @@ use bittle_bits::extension::{
     Front, Ones, Operation, ReadWords, SymmetricDifference, Union, Word, pop, word_width,
 };
 
-/// Replaces word `k` of a set, which is `word`, and writes nothing if it stays the same.
+/// Replaces word `k` of a set, which is `word`, by `by`. If both are the same, writes nothing.
 #[inline]
 fn change_word<B: BitsMut>(bits: &mut B, k: usize, word: B::LeafWord, by: B::LeafWord)
     requires fits { ShapeFits B.Shape bits.old }
@@ -29,13 +29,14 @@ fn change_word<B: BitsMut>(bits: &mut B, k: usize, word: B::LeafWord, by: B::Lea
     }
 }
 
-/// Asks `keep` once for each set bit, from the least index on, and clears those for which it
-/// returns `false`. Each word is read once, and is written once if a bit of it goes. Words that the
-/// set knows to have no set bit are passed over.
+/// Calls `keep` once for each set bit, from the least index on, and clears each bit for which it
+/// returns `false`. Each word is read once, and is written once if one of its bits is cleared.
+/// Words that the set knows to have no set bit are skipped.
 ///
-/// A little-endian word is reversed before its bits are asked for, and what stays of it is reversed
-/// afterwards. So the bit of least weight comes next in both orders, which one subtraction takes out.
-/// A bit that stays is what the word has lost by that, so no mask is made of its index.
+/// A little-endian word is reversed before its bits are taken out, and the bits that stay are
+/// reversed back. So in both orders the next bit is the one of least weight, and one subtraction
+/// takes it out. That bit is the difference of the word before and after, so no mask is made from
+/// its index.
 #[inline]
 pub fn retain<B: BitsMut, E: Endian, F: FnMut(u32) -> bool>(bits: &mut B, mut keep: F)
     requires fits { ShapeFits B.Shape bits.old }

@@ -20,11 +20,12 @@ pub fn all_bits<W: Word>() -> u128
     W::zero().not().to_bits()
 }
 
-/// Returns the word of the bits of two words from the weight `2 ^ by` of the lower one on.
+/// Returns one word of the bits of two neighbouring words: those from the weight `2 ^ by` of the
+/// lower one on.
 ///
-/// The higher one is moved by 1 and then by the rest, so 0 is no case of its own. Each distance is
-/// below the width by the remainder, which changes nothing: so the compiler shifts words, and not
-/// 128 bits.
+/// The higher word is shifted by 1 and then by the rest, so `by` 0 needs no branch. The remainder
+/// (`%`) changes no result; with it the compiler knows that `by` is below the width, and shifts
+/// words, not 128 bits.
 #[inline]
 fn funnel_down<W: Word>(low: W, high: W, by: u32) -> W
     requires { by < W.width }
@@ -38,8 +39,8 @@ fn funnel_down<W: Word>(low: W, high: W, by: u32) -> W
     W::from_bits(upper | low.to_bits() >> by)
 }
 
-/// Returns the word of the bits of two words up to the weight `2 ^ by` of the higher one, which it
-/// excludes.
+/// Returns one word of the bits of two neighbouring words: the `by` bits of greatest weight of the
+/// lower one, and above them the bits of the higher one below the weight `2 ^ (width - by)`.
 #[inline]
 fn funnel_up<W: Word>(low: W, high: W, by: u32) -> W
     requires { by < W.width }
@@ -53,7 +54,8 @@ fn funnel_up<W: Word>(low: W, high: W, by: u32) -> W
     W::from_bits(high.to_bits() << by & ones | lower)
 }
 
-/// Returns the word of the bits of two words from the index `from` of the first one on.
+/// Returns one word of the bits of two neighbouring words, from the index `from` of the first one
+/// on.
 #[inline]
 pub fn window<W: Word, E: Endian>(first: W, second: W, from: u32) -> W
     requires { from < W.width }
@@ -69,7 +71,8 @@ pub fn window<W: Word, E: Endian>(first: W, second: W, from: u32) -> W
     }
 }
 
-/// Returns the word of the bits of two words up to the index `to` of the second one.
+/// Returns one word of the bits of two neighbouring words: the last `to` bits of the first one, and
+/// then the bits of the second one below the index `width - to`.
 #[inline]
 pub fn window_up_to<W: Word, E: Endian>(first: W, second: W, to: u32) -> W
     requires { to < W.width }
@@ -85,7 +88,8 @@ pub fn window_up_to<W: Word, E: Endian>(first: W, second: W, to: u32) -> W
     }
 }
 
-/// Returns how many words a set has, how many of them a distance skips, and how many bits more.
+/// Returns how many words a set has, how many whole words a move by `by` bits skips, and how many
+/// bits are left of `by`.
 #[inline]
 pub fn distance<B: Bits>(set: &B, by: u32) -> (usize, usize, u32)
     requires fits { ShapeFits B.Shape set.now }
@@ -97,8 +101,8 @@ pub fn distance<B: Bits>(set: &B, by: u32) -> (usize, usize, u32)
     (words, (by / width) as usize, by % width)
 }
 
-/// Returns the word of the bits of a set from an index of its word `at` on. After that word comes
-/// word `next`.
+/// Returns one word of the bits of a set, from index `from` of its word `at` on. The bits past that
+/// word are those of word `next`.
 #[inline]
 fn word_from<B: Bits, E: Endian>(set: &B, at: usize, next: usize, from: u32) -> B::LeafWord
     requires fits { ShapeFits B.Shape set.now }
@@ -110,10 +114,11 @@ fn word_from<B: Bits, E: Endian>(set: &B, at: usize, next: usize, from: u32) -> 
     window::<B::LeafWord, E>(set.nth_leaf_word(at), set.nth_leaf_word(next), from)
 }
 
-/// Returns the set with each member moved down, from index 0 on to the last one.
+/// Returns the set with each set bit moved down by `by`. Past index 0 a bit goes on at the last
+/// index.
 ///
-/// First come the words up to the last one, and then those from the first one on: so no word asks
-/// whether it wraps.
+/// The words of `set` up to the last one come first, then those from the first one on. So the loops
+/// make no test whether an index wraps.
 #[inline]
 pub fn rotate_down<B: BitsOwned, E: Endian>(set: &B, by: u32) -> B
     requires { IsTrue B.indexable }
@@ -138,7 +143,7 @@ pub fn rotate_down<B: BitsOwned, E: Endian>(set: &B, by: u32) -> B
     result
 }
 
-/// Returns the set with each member moved up, from the last index on to 0.
+/// Returns the set with each set bit moved up by `by`. Past the last index a bit goes on at 0.
 #[inline]
 pub fn rotate_up<B: BitsOwned, E: Endian>(set: &B, by: u32) -> B
     requires { IsTrue B.indexable }

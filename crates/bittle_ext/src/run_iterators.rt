@@ -24,10 +24,10 @@ pub type IterOneRuns<'a, B, E> = IterRuns<'a, B, E, Ones>;
 /// Yields the maximal runs of unset bits.
 pub type IterZeroRuns<'a, B, E> = IterRuns<'a, B, E, Zeros>;
 
-/// Iterates over the maximal runs of neighbours in a set that it borrows, of the bits that `K`
-/// names, increasing, in the order `E`, from both ends. Each step searches by whole words for a run,
-/// and for its other end; from the front the latter only past the word that has its start. After
-/// its end it returns `None` on both sides.
+/// Iterates over the maximal runs of bits of the kind `K` (set or unset) in a borrowed set,
+/// increasing, in the order `E`, from both ends. Each step searches by whole words for a run and
+/// for its other end. From the front, the second search begins only past the word in which the run
+/// starts. After the last run it returns `None` at both ends.
 #[derive(Drop)]
 pub struct IterRuns<'a, B: Shape, E: Endian, K: Kind> {
     bits: &'a B,
@@ -114,8 +114,8 @@ impl<'a, B: Bits, E: Endian, K: Kind> Clone for IterRuns<'a, B, E, K> {
     }
 }
 
-/// Returns the first index after `start` in its word whose bit is not of the kind, or else the end of
-/// the word, and whether it is such an index.
+/// Returns the first index after `start`, in the word of `start`, whose bit is not of the kind `K`,
+/// and `true`. If there is none, it returns the end of the word, and `false`.
 #[inline]
 fn end_in_word<B: Bits, E: Endian, K: Kind>(bits: &B, start: u32) -> (u32, bool)
     requires fits { ShapeFits B.Shape bits.now }
@@ -137,8 +137,8 @@ fn end_in_word<B: Bits, E: Endian, K: Kind>(bits: &B, start: u32) -> (u32, bool)
     (end, lead != width)
 }
 
-/// Returns where the run that begins at `start` ends, in `start..to`. A search begins only after the
-/// word that has the start.
+/// Returns where the run that begins at `start` ends, in `start..to`. A search begins only after
+/// the word of `start`, and only if the run reaches the end of that word.
 #[inline]
 fn end_of_run<B: Bits, E: Endian, K: Kind>(bits: &B, start: u32, to: u32) -> u32
     requires fits { ShapeFits B.Shape bits.now }
@@ -175,7 +175,7 @@ fn start_of_run<B: Bits, E: Endian, K: Kind>(bits: &B, from: u32, last: u32) -> 
     }
 }
 
-/// Takes the run of the kind at an end of those that remain: the first one at the front.
+/// Takes out the first of the remaining runs if the end `N` is the front, else the last one.
 #[inline]
 fn step<B: Bits, E: Endian, K: Kind, N: End>(
     bits: &B,

@@ -1,4 +1,4 @@
-//! Runs of neighbours that are all set, or all unset.
+//! Runs of neighbouring bits of one kind: all set (`K` is `Ones`), or all unset (`Zeros`).
 
 ghost use Rattle.std.specs.Prelude.{◌+◌, ◌<◌, ◌≤◌, not, IfSome};
 ghost use Rattle.bittle_ext.specs.RangeMembers.{kind_within};
@@ -11,7 +11,7 @@ use bittle::{Bits, Endian};
 use bittle_bits::extension::{Back, Front, Kind, Sealed, end_in, word_width};
 use std::marker::PhantomData;
 
-/// Names the bits that `K` does not name.
+/// Names the other kind of bits than `K`: the unset bits if `K` is `Ones`.
 #[derive(Drop)]
 pub(crate) struct Others<K: Kind> {
     kind: PhantomData<K>,
@@ -25,8 +25,8 @@ impl<K: Kind> Kind for Others<K> {
     fn seal(_: Sealed) {}
 }
 
-/// Up to so many words' length a run is looked for in each word in turn. A longer one takes two
-/// searches for each run that is too short, which cost more than reading so many words.
+/// A run of at most this many words' length is searched for word by word. For a longer run, each
+/// run that is too short takes two searches, which cost more than reading this many words.
 const FEW_WORDS: u32 = 4;
 
 /// Returns the least index from `from` on where `length` bits of the kind begin, or `None`.
@@ -39,8 +39,8 @@ pub fn next_run<B: Bits, E: Endian, K: Kind>(bits: &B, from: u32, length: u32) -
     next_run_before::<B, E, K>(bits, from, bits.bits_capacity(), length)
 }
 
-/// Returns the least index in `from..to` where `length` bits of the kind begin that all lie in
-/// `from..to`, or `None`. A run of no bits begins at each index up to the capacity.
+/// Returns the least index where a run of `length` bits of the kind begins that lies within
+/// `from..to`, or `None`. An empty run begins at each index up to the capacity.
 #[inline]
 pub fn run_in_range<B: Bits, E: Endian, K: Kind>(
     bits: &B,
@@ -62,12 +62,12 @@ pub fn run_in_range<B: Bits, E: Endian, K: Kind>(
     next_run_before::<B, E, K>(bits, from, end, length)
 }
 
-/// Returns the least index from `from` on where `length` bits of the kind begin that all lie before
-/// `end`, or `None`. It reads no word that begins at `end` or after it.
+/// Returns the least index from `from` on where a run of `length` bits of the kind begins that lies
+/// before `end`, or `None`. It reads no word that begins at `end` or after it.
 ///
-/// A run of a few words is found word by word. For a longer one a search finds where such bits
-/// begin, another one whether a bit of the other kind follows too soon: from past that bit both go
-/// on.
+/// A run of a few words is found word by word. For a longer run, one search finds where bits of the
+/// kind begin. A second one finds whether a bit of the other kind lies within `length` of there; if
+/// so, both go on past that bit.
 fn next_run_before<B: Bits, E: Endian, K: Kind>(
     bits: &B,
     from: u32,

@@ -1,4 +1,5 @@
-//! The set bit of a rank: its word by the counts of whole words, its place there by halves.
+//! Finds the set bit of a rank: its word by counting whole words, and its place in the word by
+//! halving.
 
 ghost use Rattle.std.specs.Prelude.{◌≡◌, ◌+◌, ◌*◌, ◌/◌, ◌^◌, ◌<◌, true, MatchOption};
 ghost use Rattle.bittle_ext.specs.Ranks.{HasNoRank, IsInWord};
@@ -20,8 +21,8 @@ fn count_word<B: Bits, E: Endian>(bits: &B, k: u32) -> u32
     bits.nth_leaf_word(k as usize).count_ones()
 }
 
-/// Returns the word with the set bit of a rank, and how many bits of the word are set below that
-/// one, or `None` if there is no such bit.
+/// Returns the number of the word that has the set bit of a rank, and how many bits of that word
+/// are set below that bit. Returns `None` if there is no such bit.
 #[inline]
 pub fn word_of_rank<B: Bits, E: Endian>(bits: &B, rank: u32) -> Option<(u32, u32)>
     requires { ShapeFits B.Shape bits.now }
@@ -40,8 +41,8 @@ pub fn word_of_rank<B: Bits, E: Endian>(bits: &B, rank: u32) -> Option<(u32, u32
     None
 }
 
-/// Returns a word with its bits moved down. The remainder changes nothing: so the compiler shifts a
-/// word, and not 128 bits.
+/// Returns a word with its bits moved down. The remainder (`%`) changes no result; with it the
+/// compiler shifts a word, and not 128 bits.
 #[inline]
 fn shifted<W: Word>(word: W, by: u32) -> W
     requires { by < W.width }
@@ -52,8 +53,8 @@ fn shifted<W: Word>(word: W, by: u32) -> W
 
 /// Returns the place in word `k` of the set bit below which `rest` bits of the word are set.
 ///
-/// The word is shifted down past each half that does not have it, so all halves begin at place 0, and
-/// a constant masks each.
+/// The word is shifted down past each half that does not have the bit. So every half begins at
+/// place 0, and its mask is a constant.
 #[inline]
 pub fn place_of_rank<B: Bits, E: Endian>(bits: &B, k: u32, rest: u32) -> u32
     requires fits { ShapeFits B.Shape bits.now }

@@ -1,5 +1,5 @@
-//! All bits of a set moved in place, a word at a time: down from the first word on,
-//! up from the last one back, so that a word is read before it is written.
+//! Moves all bits of a set in place, a word at a time. A move down begins at the first word, a move
+//! up at the last one, so each word is read before it is written.
 
 ghost use Rattle.std.specs.Prelude.{◌≡◌};
 ghost use Rattle.bittle_ext.specs.Rotations.{shifted_down, shifted_up};
@@ -10,7 +10,7 @@ use crate::rotations::{distance, window, window_up_to};
 use bittle::{BitsMut, Endian};
 use bittle_bits::extension::Word;
 
-/// Moves each member down; those that would pass index 0 are left out.
+/// Moves each set bit down by `by`; those that would pass index 0 are left out.
 #[inline]
 pub fn shift_down<B: BitsMut, E: Endian>(set: &mut B, by: u32)
     requires { ShapeFits B.Shape set.old }
@@ -37,7 +37,7 @@ pub fn shift_down<B: BitsMut, E: Endian>(set: &mut B, by: u32)
     }
 }
 
-/// Moves each member up; those that would reach the capacity are left out.
+/// Moves each set bit up by `by`; those that would reach the capacity are left out.
 #[inline]
 pub fn shift_up<B: BitsMut, E: Endian>(set: &mut B, by: u32)
     requires { ShapeFits B.Shape set.old }

@@ -8,10 +8,10 @@ use crate::rotations::window;
 use bittle::{Bits, Endian};
 use bittle_bits::extension::{Front, Kind, Word, word_of_kind, word_width};
 
-/// Returns the least index of a word where `length` set bits of it begin, or `None`.
+/// Returns the least index of a word where a run of `length` set bits begins, or `None`.
 ///
-/// Where so many set bits begin, and as many or fewer right after them, all of both begin: the
-/// number doubles with each step but the last one.
+/// If runs of `known` set bits begin at `i` and at `i + more`, where `more <= known`, a run of
+/// `known + more` begins at `i`. So `known` doubles with each step, except the last one.
 #[inline]
 fn first_in_word<W: Word, E: Endian>(word: W, length: u32) -> Option<u32>
     requires some { 0 < length }
@@ -21,7 +21,8 @@ fn first_in_word<W: Word, E: Endian>(word: W, length: u32) -> Option<u32>
     let mut begin = word;
     let mut known = 1;
     while known < length && !begin.is_zero() {
-        // The remainder changes nothing: it tells the compiler that the shift is within the word.
+        // The remainder (`%`) changes no result; it tells the compiler that the shift is within the
+        // word.
         let more = known.min(length - known) % W::width();
         begin = begin.and(window::<W, E>(begin, W::zero(), more));
         known += more;
@@ -33,11 +34,11 @@ fn first_in_word<W: Word, E: Endian>(word: W, length: u32) -> Option<u32>
     Some(index)
 }
 
-/// Returns the least index from `from` on where `length` bits of the kind begin that all lie in the
-/// first `words` words, or `None`.
+/// Returns the least index from `from` on where a run of `length` bits of the kind `K` (set or
+/// unset) begins that lies in the first `words` words, or `None`.
 ///
-/// Of the words before, only `start` is kept: where the bits of the kind begin that lead up to the
-/// word. No run that is to be found begins before them.
+/// Of the words before the current one only `start` is kept: the index where the bits of the kind
+/// begin that reach up to the current word. No run that can still be found begins before `start`.
 #[inline]
 pub fn next_short_run<B: Bits, E: Endian, K: Kind>(
     bits: &B,

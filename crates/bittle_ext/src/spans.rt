@@ -1,4 +1,4 @@
-//! The two ends of a range that is written as Rust writes it.
+//! The two ends of a Rust range, such as `2..=6`.
 
 ghost use Rattle.std.specs.Prelude.{◌≡◌, ◌<◌, ◌≤◌};
 ghost use Rattle.std.specs.Range.Bound.{start_index, end_index};
@@ -10,7 +10,8 @@ use crate::capacities::capacity_of;
 use bittle::{Bits, Endian};
 use std::ops::{Bound, RangeBounds};
 
-/// Returns the first index of a range, and the index after its last one in a set of a capacity.
+/// Returns the first index of a range, and the index after its last one. A range that names no end
+/// ends at `capacity`.
 #[inline]
 pub(crate) fn ends_of<R: RangeBounds<u32>>(range: &R, capacity: u32) -> (u64, u64)
     requires { R.has_bounds range.now }
@@ -30,8 +31,8 @@ pub(crate) fn ends_of<R: RangeBounds<u32>>(range: &R, capacity: u32) -> (u64, u6
     (start, end)
 }
 
-/// Returns what of a range lies below the capacity of a set, as the ends of a range that does not
-/// run backwards. From the capacity on the set has no bit in the order `E`, set or unset.
+/// Returns the two ends of that part of a range that lies below the capacity of a set. The part
+/// does not run backwards. From the capacity on the set has no bit in the order `E`, set or unset.
 #[inline]
 pub(crate) fn part_of<B: Bits, E: Endian, R: RangeBounds<u32>>(set: &B, range: &R) -> (u32, u32)
     requires fits { ShapeFits B.Shape set.now }
@@ -48,8 +49,8 @@ pub(crate) fn part_of<B: Bits, E: Endian, R: RangeBounds<u32>>(set: &B, range: &
     (from.min(end) as u32, end as u32)
 }
 
-/// Returns the two ends of a range that does not run backwards, and ends at or below the capacity
-/// of a set.
+/// Returns the two ends of a range, which must not run backwards and has to end at or below the
+/// capacity of a set.
 #[inline]
 pub(crate) fn ends_within<B: Bits, R: RangeBounds<u32>>(set: &B, range: &R) -> (u32, u32)
     requires fits { ShapeFits B.Shape set.now }

@@ -1,5 +1,5 @@
-//! All bits of a set turned in place. The bits that pass an end are kept as a number, if that is at
-//! most 128 bits either way. Else whole words are turned first, by three reversals.
+//! Rotates all bits of a set in place. If at most 128 bits pass an end, moved down or up, these are
+//! kept as a number meanwhile. Else whole words are rotated first, by three reversals.
 
 ghost use Rattle.std.specs.Prelude.{◌≡◌, ◌+◌, ◌*◌, ◌<◌, ◌≤◌};
 ghost use Rattle.bittle_ext.specs.Rotations.{exchanged, HasWordsOf, mirrored_within};
@@ -43,7 +43,8 @@ fn reverse_words<B: BitsMut, E: Endian>(set: &mut B, from: usize, to: usize)
     }
 }
 
-/// Moves each word down by so many words, from the first one on to the last.
+/// Moves each of the `words` words down by `by` words. Past the first place a word goes on at the
+/// last.
 #[inline(always)]
 fn turn_words<B: BitsMut, E: Endian>(set: &mut B, by: usize, words: usize)
     requires fits { ShapeFits B.Shape set.old }
@@ -61,7 +62,8 @@ fn turn_words<B: BitsMut, E: Endian>(set: &mut B, by: usize, words: usize)
     reverse_words::<B, E>(set, 0, words);
 }
 
-/// Moves each bit of a set of one word down by less than a word, from index 0 on to the last one.
+/// Moves each bit of a set of one word down by `by`, which is less than a word. Past index 0 a bit
+/// goes on at the last index.
 #[inline(always)]
 fn turn_word<B: BitsMut, E: Endian>(set: &mut B, by: u32)
     requires fits { ShapeFits B.Shape set.old }
@@ -75,7 +77,7 @@ fn turn_word<B: BitsMut, E: Endian>(set: &mut B, by: u32)
     set.set_nth_leaf_word(0, window::<B::LeafWord, E>(word, word, by));
 }
 
-/// Moves each bit down by at most 128, from index 0 on to the last one.
+/// Moves each bit down by `by`, at most 128. Past index 0 a bit goes on at the last index.
 #[inline(always)]
 fn turn_bits<B: BitsMut, E: Endian>(set: &mut B, by: u32)
     requires fits { ShapeFits B.Shape set.old }
@@ -94,8 +96,8 @@ fn turn_bits<B: BitsMut, E: Endian>(set: &mut B, by: u32)
     copy_range::<B, u128, E, BigEndian>(set, end - by, &first, 0, by);
 }
 
-/// Moves each bit up by at most 128, from the last index on to 0: down by `by`, which is so much
-/// less than the capacity.
+/// Rotates the bits down by `by`, by moving each up by `capacity - by`, which is at most 128. Past
+/// the last index a bit goes on at 0.
 #[inline(always)]
 fn turn_bits_up<B: BitsMut, E: Endian>(set: &mut B, by: u32)
     requires fits { ShapeFits B.Shape set.old }
@@ -111,7 +113,8 @@ fn turn_bits_up<B: BitsMut, E: Endian>(set: &mut B, by: u32)
     copy_range::<B, u128, E, BigEndian>(set, 0, &last, 0, up);
 }
 
-/// Moves each bit down by less than the capacity, from index 0 on to the last one.
+/// Moves each bit down by `by`, which is below the capacity. Past index 0 a bit goes on at the last
+/// index.
 #[inline(always)]
 fn turn_within<B: BitsMut, E: Endian>(set: &mut B, by: u32)
     requires fits { ShapeFits B.Shape set.old }
@@ -120,7 +123,7 @@ fn turn_within<B: BitsMut, E: Endian>(set: &mut B, by: u32)
         ≡ rotated_down (set_in B.Shape E.Endian set.old) by }
     ensures stays { B.loan set.old ≡ B.loan set.new }
 {
-    // For its clause alone: the bits of a word are a `u128`.
+    // The contract of `width_of_words` says that the bits of a word fit in a `u128`.
     let width = width_of_words::<B>();
     let capacity = capacity_of::<B, E>(set);
     if capacity == width {
@@ -136,7 +139,7 @@ fn turn_within<B: BitsMut, E: Endian>(set: &mut B, by: u32)
     }
 }
 
-/// Moves each bit down, from index 0 on to the last one.
+/// Moves each bit down by `by`. Past index 0 a bit goes on at the last index.
 #[inline(always)]
 pub fn turn_down<B: BitsMut, E: Endian>(set: &mut B, by: u32)
     requires { ShapeFits B.Shape set.old }
@@ -150,7 +153,7 @@ pub fn turn_down<B: BitsMut, E: Endian>(set: &mut B, by: u32)
     }
 }
 
-/// Moves each bit up, from the last index on to 0.
+/// Moves each bit up by `by`. Past the last index a bit goes on at 0.
 #[inline(always)]
 pub fn turn_up<B: BitsMut, E: Endian>(set: &mut B, by: u32)
     requires { ShapeFits B.Shape set.old }

@@ -1,8 +1,8 @@
-//! Views: a set in a named order, what an operation makes of two sets, a complement, and a range of
-//! a set, each a set itself, with no set made.
+//! Views: a set in a named order, the result of an operation on two sets, a complement, and a range
+//! of a set. Each view is a set itself, but stores no bits of its own.
 //!
-//! A view borrows its sets, and makes each of its words when it is read. Every call of
-//! `bittle` and of this crate that reads a set works on a view, also one that makes a view.
+//! A view borrows its sets, and computes each of its words when that word is read. Every call of
+//! `bittle` and of this crate that reads a set works on a view, also a call that makes a view.
 //!
 //! ```rust
 //! 0b0011u8.in_order::<LittleEndian>().first_one();  // Some(6)
@@ -44,8 +44,8 @@ pub mod within;
 pub trait BitsViewExt: Bits {
     /// Borrows the set, to be read in the order `E`.
     ///
-    /// Always callable. The view has the capacity of the set, and a call on it costs what it costs
-    /// on the set. An iterator borrows the view: to keep the iterator in a variable, keep the
+    /// Always callable. The view has the capacity of the set, and a call on the view costs what it
+    /// costs on the set. An iterator borrows the view: to keep the iterator in a variable, keep the
     /// view in one too.
     ///
     /// ```
@@ -60,12 +60,13 @@ pub trait BitsViewExt: Bits {
         InOrder::of(self)
     }
 
-    /// Views the indexes that are set in both sets: a set of as many bits as the first one, in the
-    /// order of its type.
+    /// Returns a view of the indexes that are set in both sets. The view is a set with the capacity
+    /// of the first set, in the order of the first set's type.
     ///
-    /// The shapes may differ, and both have to fit. Each word is made when it is read; where
-    /// the words of the two sets differ in width or order, each set bit of the second set in it is
-    /// searched for. Past its capacity the second set has no bit. With capacity 0 nothing is set.
+    /// The shapes may differ, and both have to fit. Each word is computed when it is read. If the
+    /// words of the two sets differ in width or order, each set bit of the second set in that word
+    /// is searched for. Past its capacity the second set has no bit set. With capacity 0 nothing is
+    /// set.
     ///
     /// ```
     /// 0b0011u8.and(&0b0110u8).count_ones();               // 1
@@ -96,8 +97,8 @@ pub trait BitsViewExt: Bits {
         OfBoth::of_first(self, other)
     }
 
-    /// Views the indexes that are set in the first set and unset in the second. All else is as with
-    /// [`and`](BitsViewExt::and).
+    /// Returns a view of the indexes that are set in the first set and not in the second. All else
+    /// is as with [`and`](BitsViewExt::and).
     ///
     /// ```
     /// 0b0011u8.minus(&0b0110u8).iter_ones();              // yields 0
@@ -130,11 +131,12 @@ pub trait BitsViewExt: Bits {
         OfBoth::of_first(self, other)
     }
 
-    /// Views the indexes that are set in either of two sets of like words: a set of the greater
-    /// capacity, in the order of the first one's type.
+    /// Returns a view of the indexes that are set in either of two sets whose words have one type.
+    /// The view is a set of the greater capacity, in the order of the first set's type.
     ///
-    /// Both shapes have to fit. Each word is made when it is read. For unlike words call
-    /// [`or_unlike`](BitsViewExt::or_unlike). With capacity 0 on both sides it is the empty set.
+    /// Both shapes have to fit. Each word is computed when it is read. If the word types differ,
+    /// call [`or_unlike`](BitsViewExt::or_unlike). If both capacities are 0, the view is the empty
+    /// set.
     ///
     /// ```
     /// 0b0011u8.or(&[0b0110u8, 1]).iter_ones();            // yields 0, 1, 2, 8
@@ -167,8 +169,8 @@ pub trait BitsViewExt: Bits {
         OfBoth::of_alike(self, other)
     }
 
-    /// Views the indexes that are set in just one of two sets of like words. All else is as with
-    /// [`or`](BitsViewExt::or).
+    /// Returns a view of the indexes that are set in just one of two sets whose words have one
+    /// type. All else is as with [`or`](BitsViewExt::or).
     ///
     /// ```
     /// 0b0011u8.xor(&[0b0110u8, 1]).iter_ones();           // yields 0, 2, 8
@@ -202,14 +204,15 @@ pub trait BitsViewExt: Bits {
         OfBoth::of_alike(self, other)
     }
 
-    /// Views the indexes that are set in either of two sets of any words: a set of whole words as
-    /// the first one's, in the order of its type.
+    /// Returns a view of the indexes that are set in either of two sets, whose words may have two
+    /// types. The view is a set of words of the first set's type, in the order of the first set's
+    /// type.
     ///
     /// Both shapes have to fit. The capacity is the greater one, rounded up to whole words of the
-    /// first set, and that has to be below `u32::MAX` too: if the words of the first set are not
-    /// the wider ones, the rounding adds nothing. Each word is made when it is read, with a
-    /// search for each set bit of the second set in it. With capacity 0 on both sides it is the
-    /// empty set.
+    /// first set. The rounded capacity has to be below `u32::MAX` too. The rounding can only add
+    /// bits if the words of the first set are the wider ones. Each word is computed when it is
+    /// read, with a search for each set bit of the second set in that word. If both capacities are
+    /// 0, the view is the empty set.
     ///
     /// ```
     /// 0x8000_0000u32.or_unlike(&[0u8, 0, 0, 0, 1]).iter_ones(); // yields 31, 32
@@ -246,8 +249,8 @@ pub trait BitsViewExt: Bits {
         OfBoth::of_unlike(self, other)
     }
 
-    /// Views the indexes that are set in just one of two sets of any words. All else is as with
-    /// [`or_unlike`](BitsViewExt::or_unlike).
+    /// Returns a view of the indexes that are set in just one of two sets, whose words may have two
+    /// types. All else is as with [`or_unlike`](BitsViewExt::or_unlike).
     ///
     /// ```
     /// 0x8000_0000u32.xor_unlike(&[0u8, 0, 0, 0x80, 1]).iter_ones(); // yields 24, 31, 32
@@ -285,10 +288,11 @@ pub trait BitsViewExt: Bits {
         OfBoth::of_unlike(self, other)
     }
 
-    /// Views the unset bits below the capacity: a set of as many bits, in the order of the type.
+    /// Returns a view of the unset bits below the capacity. The view is a set of the same capacity,
+    /// in the order of the type.
     ///
-    /// The shape has to fit. Each word is flipped when it is read. With capacity 0 it is the
-    /// empty set.
+    /// The shape has to fit (`bits_capacity() < u32::MAX`). Each word is flipped when it is read.
+    /// With capacity 0 the view is the empty set.
     ///
     /// ```
     /// 0b1111_0101u8.complement_view().iter_ones();        // yields 1, 3
@@ -308,12 +312,12 @@ pub trait BitsViewExt: Bits {
         Complement::of(self)
     }
 
-    /// Views the set bits of `from..to`: a set of the same capacity, in the order of the type, in
-    /// which every other bit is unset.
+    /// Returns a view of the set bits of `from..to`. The view is a set of the same capacity, in the
+    /// order of the type, in which every other bit is unset.
     ///
-    /// The shape has to fit. Past the capacity no bit is set, and a range that runs backwards is
-    /// empty. A test for any bit and a count read only the words of the range. With capacity 0 it
-    /// is the empty set.
+    /// The shape has to fit (`bits_capacity() < u32::MAX`). Past the capacity no bit is set, and a
+    /// range that runs backwards is empty. A count, or a test whether any bit is set, reads only
+    /// the words of the range. With capacity 0 the view is the empty set.
     ///
     /// ```
     /// 0b0110_0010u8.within(1, 6).iter_ones();             // yields 1, 5
@@ -337,12 +341,12 @@ pub trait BitsViewExt: Bits {
 
 impl<A: Bits> BitsViewExt for A {}
 
-/// A view, which an iterator may own.
+/// A view that an iterator may own.
 pub trait View: Bits + Copy {
-    /// Returns an iterator over the indexes of the set bits in the order of the type, increasing,
-    /// from both ends. It borrows what the view borrows, so that it may be returned where a view is
-    /// made. The view has to fit, as each that this module makes does. With capacity 0 it yields
-    /// nothing.
+    /// Returns a double-ended iterator over the indexes of the set bits, increasing, in the order
+    /// of the type. The iterator owns the view and borrows what the view borrows, so a function
+    /// that makes a view may return the iterator. The view has to fit, as each `View` that this
+    /// crate makes does. With capacity 0 it yields nothing.
     ///
     /// ```
     /// 0b0011u8.and(&0b0110u8).into_ones();                // yields 1

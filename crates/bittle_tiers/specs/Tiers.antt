@@ -1,4 +1,5 @@
--- The summary of a set: one number for each word, a member where the word has a bit of a kind.
+-- The summary of a set: one number for each word, a member if the word has a bit of a kind (set or
+-- unset).
 use Rattle.std.specs.Prelude.{◌≡◌, ◌≢◌, ℕ, ◌*◌, ◌-◌, ◌<◌, ◌≤◌, Bool, true, false, not, ◌&&◌, ◌==◌, nat_le}
 use Rattle.bittle.specs.PlainSet.{PlainSet, empty_set, full_set, size}
 use Rattle.bittle.specs.Walk.{ones_or_zeros}
@@ -8,16 +9,16 @@ use Rattle.bittle.specs.Words.{word_of}
 unfoldable pub some_in_word : Bool → ℕ → PlainSet → ℕ → Bool
 some_in_word ones w s k = not (size (ones_or_zeros ones (word_of w s k)) == 0)
 
--- t has exactly the numbers of the words of s with a bit of the kind
+-- t has exactly the numbers of the words of s that have a bit of the kind
 abbrev pub Summarizes : Bool → ℕ → PlainSet → PlainSet → Type 0
 Summarizes ones w s t = (k : ℕ) → k * w < s.capacity → t.has k ≡ some_in_word ones w s k
 
--- the same for each word of s, except those of first to last from word n on
+-- `Summarizes` for each word of s, except those words of first..=last that are at or past word n
 abbrev pub TellsAround : Bool → ℕ → PlainSet → PlainSet → ℕ → ℕ → ℕ → Type 0
 TellsAround ones w s t first last n = (j : ℕ) → (first ≤ j → j ≤ last → j < n) →
     j * w < s.capacity → t.has j ≡ some_in_word ones w s j
 
--- the same for each word of s before word n
+-- `Summarizes` for each word of s before word n
 abbrev pub SummarizesBelow : Bool → ℕ → PlainSet → PlainSet → ℕ → Type 0
 SummarizesBelow ones w s t n = (j : ℕ) → j < n → j * w < s.capacity →
     t.has j ≡ some_in_word ones w s j
@@ -26,17 +27,19 @@ SummarizesBelow ones w s t n = (j : ℕ) → j < n → j * w < s.capacity →
 abbrev pub SameWordsBut : ℕ → PlainSet → PlainSet → ℕ → Type 0
 SameWordsBut w s t k = (j : ℕ) → j ≢ k → j * w < s.capacity → word_of w t j ≡ word_of w s j
 
--- a pass from an end over the words from low on and before high stopped at r: at a word with a bit
--- of the kind, or at the other end if no word has one
+-- a search from one end of the words low..high stopped at r: at a word with a bit of the kind, or
+-- else at the other end
 abbrev pub StopsAtBit : Bool → Bool → ℕ → PlainSet → ℕ → ℕ → ℕ → Type 0
 StopsAtBit true ones w s low high r = r < high → some_in_word ones w s r ≡ true
 StopsAtBit false ones w s low high r = low < r → some_in_word ones w s (r - 1) ≡ true
 
--- the summary, of capacity d, of a map whose words all have a bit of the kind, or all have none
+-- the summary, of capacity d, of a map whose words all have a bit of the kind (if true), or all
+-- have none
 abbrev pub even_summary : Bool → ℕ → PlainSet
 even_summary true d = full_set d
 even_summary false d = empty_set d
 
--- whether a map may be summarized: both may be indexed, and the summary has a number for each word
+-- whether a map may be summarized: map and summary may be indexed, and the summary has a number for
+-- each word
 abbrev pub can_summarize : Bool → Bool → ℕ → ℕ → ℕ → Bool
 can_summarize map summary c d w = map && (summary && nat_le c (d * w))

@@ -1,5 +1,6 @@
-//! Sets with a summary of their words, which is a set itself: a search or an iterator passes over
-//! words without a bit of a kind by the summary, in place of reading each.
+//! Sets with a summary of their words. The summary is a set itself: it shows which words have a bit
+//! of one kind, set or unset. A search or an iterator skips the other words, in place of reading
+//! each.
 //!
 //! ```rust
 //! use bittle::{Bits, BitsMut, BitsOwned};

@@ -1,4 +1,4 @@
-//! Sets with a summary, the kinds that one is of, and the traits of sets, for
+//! Sets with a summary, the kinds `Ones` and `Zeros` of a summary, and the traits of sets, for
 //! `use bittle_tiers::prelude::*`.
 
 pub use crate::sizes::{Tiered4K, Tiered64K, Tiered256K};

@@ -10,7 +10,7 @@ use crate::tiered::Tiered;
 use bittle_bits::bits_owned::BitsOwned;
 use bittle_bits::extension::{Kind, Ones};
 
-/// Has 4,096 numbers: 64 words, and one word above them.
+/// Has 4,096 bits: 64 words, and a summary of one word.
 ///
 /// ```
 /// Tiered4K::<Ones>::zeros();                          // for sparse sets
@@ -18,14 +18,14 @@ use bittle_bits::extension::{Kind, Ones};
 /// ```
 pub type Tiered4K<K> = Tiered<[u64; 64], u64, K>;
 
-/// Has 65,536 numbers: 1,024 words, 16 above them, and one above those.
+/// Has 65,536 bits: 1,024 words, a summary of 16 words, and one word as the summary of these.
 ///
 /// ```
 /// Tiered64K::<Ones>::bits();                          // 65,536
 /// ```
 pub type Tiered64K<K> = Tiered<[u64; 1024], Tiered<[u64; 16], u64, Ones>, K>;
 
-/// Has 262,144 numbers: 4,096 words, 64 above them, and one above those.
+/// Has 262,144 bits: 4,096 words, a summary of 64 words, and one word as the summary of these.
 ///
 /// ```
 /// Tiered256K::<Zeros>::bits();                        // 262,144

@@ -24,13 +24,13 @@ use std::fmt;
 use std::marker::PhantomData;
 
 /// A map, which is a set, with a summary of its words. The summary is a set itself: number `k` is a
-/// member exactly if word `k` of the map has a bit of the kind `K`. A `Tiered` stands for the same
-/// set as its map, so each call means what it means on the map.
+/// member exactly if word `k` of the map has a bit of the kind `K` (set or unset). A `Tiered`
+/// stands for the same set as its map, so each call means what it means on the map.
 ///
 /// With [`Ones`] it is for sparse sets: an iterator over the set bits, or a search for one, reads
-/// the words that have one, and before each at most one word that has none. With [`Zeros`] it is
-/// for allocators: a search finds the least free page of a nearly full map. A change of one bit
-/// also writes one bit of the summary.
+/// the words that have one. Before each of these it reads at most one word that has none. With
+/// [`Zeros`] it is for allocators: a search finds the least free page of a nearly full map. A
+/// change of one bit also writes one bit of the summary.
 ///
 /// The summary may have a summary itself, of [`Ones`], since a search goes over its set bits.
 ///
@@ -244,7 +244,8 @@ impl<B: BitsOwned, S: BitsOwned, K: Kind> Bits for Tiered<B, S, K> {
     }
 }
 
-// Puts a bit at an index, which wraps, and makes the summary tell of its word.
+// Sets the bit at an index, which wraps, if `V` is `Ones`, else clears it. Then updates the summary
+// for the word of that bit.
 #[inline]
 fn put_bit<B: BitsOwned, S: BitsOwned, K: Kind, E: Endian, V: Kind>(
     tiered: &mut Tiered<B, S, K>,

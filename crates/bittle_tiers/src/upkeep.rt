@@ -1,4 +1,5 @@
-//! The upkeep of a summary: how it is read and written word by word.
+//! The upkeep of a summary: how it is read and written word by word. A summary has number `k`
+//! exactly if word `k` of its map has a bit of the kind `K` (set or unset).
 
 ghost use Rattle.std.specs.Prelude.{◌≡◌, ◌≢◌, ℕ, ◌*◌, ◌%◌, ◌^◌, ◌<◌, ◌≤◌, ◌==◌, true, IsTrue};
 ghost use Rattle.bittle.specs.PlainSet.{size};
@@ -27,7 +28,7 @@ fn has_some<B: ReadWords, K: Kind>(map: &B, k: usize) -> bool
     !is_without_bits::<B::LeafWord>(word_of_kind::<B, K>(map, k))
 }
 
-/// Puts a bit of the kind `V` at an index, which wraps.
+/// Sets the bit at an index, which wraps, if `V` is `Ones`, else clears it.
 #[inline]
 pub(crate) fn put_bit<B: BitsMut, E: Endian, V: Kind>(map: &mut B, index: u32)
     requires { IsTrue B.indexable }
@@ -41,7 +42,7 @@ pub(crate) fn put_bit<B: BitsMut, E: Endian, V: Kind>(map: &mut B, index: u32)
     }
 }
 
-// Makes number `k` a member of a summary, or none.
+// Makes number `k` a member of a summary if `some` is `true`, else takes it out.
 #[inline]
 fn put<S: BitsMut>(summary: &mut S, k: usize, some: bool)
     requires fits { ShapeFits S.Shape summary.old }
@@ -56,7 +57,8 @@ fn put<S: BitsMut>(summary: &mut S, k: usize, some: bool)
     }
 }
 
-/// Makes a summary tell of word `k`. The word is not read if it is known to have a bit of the kind.
+/// Updates a summary for word `k` of the map. The word is not read if it is known to have a bit of
+/// the kind.
 #[inline]
 pub(crate) fn refresh<B: ReadWords, S: BitsMut, K: Kind>(
     map: &B,
@@ -75,7 +77,7 @@ pub(crate) fn refresh<B: ReadWords, S: BitsMut, K: Kind>(
     put::<S>(summary, k, is_known || has_some::<B, K>(map, k));
 }
 
-/// Returns the summary that tells of all words, or of none.
+/// Returns the summary that has the numbers of all words, or of none.
 #[inline]
 pub(crate) fn even<S: BitsOwned>(all: bool) -> S
     requires { IsTrue S.indexable }
@@ -84,7 +86,7 @@ pub(crate) fn even<S: BitsOwned>(all: bool) -> S
     if all { S::ones() } else { S::zeros() }
 }
 
-/// Makes a summary tell of each word.
+/// Updates a summary for each word of the map.
 pub(crate) fn rebuild<B: BitsOwned, S: BitsOwned, K: Kind>(map: &B, summary: &mut S)
     requires map_fits { IsTrue B.indexable }
     requires fits { IsTrue S.indexable }
@@ -97,7 +99,7 @@ pub(crate) fn rebuild<B: BitsOwned, S: BitsOwned, K: Kind>(map: &B, summary: &mu
     }
 }
 
-/// Returns whether the summary tells of no word.
+/// Returns whether the summary has the number of no word.
 #[inline]
 pub(crate) fn has_none<B: BitsOwned, S: BitsOwned, K: Kind>(map: &B, summary: &S) -> bool
     requires map_fits { IsTrue B.indexable }
@@ -113,8 +115,7 @@ pub(crate) fn has_none<B: BitsOwned, S: BitsOwned, K: Kind>(map: &B, summary: &S
     }
 }
 
-/// Makes a summary, which tells of each word but those from `first` on and up to `last`, tell of
-/// those too.
+/// Updates a summary for the words `first..=last`. For all other words it has to be right already.
 #[inline]
 pub(crate) fn refresh_range<B: BitsOwned, S: BitsOwned, K: Kind>(
     map: &B,
@@ -136,8 +137,8 @@ pub(crate) fn refresh_range<B: BitsOwned, S: BitsOwned, K: Kind>(
     }
 }
 
-/// Returns the end `N` of the words from `low` on and before `high`, moved past all words at that
-/// end without a bit of the kind.
+/// Returns the end `N` of the words `low..high`, moved past all words at that end without a bit of
+/// the kind.
 #[inline]
 pub(crate) fn pass_over<B: BitsOwned, S: BitsOwned, K: Kind, N: End>(
     map: &B,
@@ -160,9 +161,9 @@ pub(crate) fn pass_over<B: BitsOwned, S: BitsOwned, K: Kind, N: End>(
     }
 }
 
-/// Tells of 64 groups of `64 ^ level` words, from group `64 * n` on, which may have a bit of the
-/// kind: by a word of the summary, or by what the summary tells of groups of its words. A summary
-/// whose words have not 64 bits tells of none.
+/// Returns which of 64 groups of `64 ^ level` words, from group `64 * n` on, may have a bit of the
+/// kind, one bit for each group. The bits are a word of the summary, or what the summary tells of
+/// groups of its own words. If the words of the summary do not have 64 bits, every bit is set.
 #[inline(always)]
 pub(crate) fn groups_told<B: BitsOwned, S: BitsOwned, K: Kind>(
     map: &B,

@@ -1,5 +1,5 @@
-//! The main theorem on iterators, which is the contract of [`replay_walk`]. Stepped through a list
-//! of steps, an iterator yields an increasing list from its two ends, and scans few words.
+//! The main theorem on iterators, which is the contract of [`replay_walk`]. An iterator that makes
+//! a list of steps yields an increasing list from its two ends, and scans few words.
 
 ghost use Rattle.std.specs.Prelude.{◌≡◌, ℕ, ◌+◌, ◌≤◌, ◌∷◌, ◌++◌, [], List, length, slice_index};
 ghost use Rattle.bittle_bits.specs.PlainSet.{ascending};
@@ -23,15 +23,15 @@ pub enum Step {
     Back,
 }
 
-// A list of numbers that keeps snapshots alone.
+// A list of numbers that holds only snapshots.
 #[derive(Drop)]
 enum CountList {
     Empty,
     And(Snapshot<CountList>, Snapshot<Count>),
 }
 
-/// For each step of an iterator, the number of scans made up to it. Contracts alone see these
-/// numbers, and they take no bytes.
+/// The number of scans up to each step of an iterator. Only contracts see these numbers, and they
+/// take no bytes.
 #[derive(Drop)]
 pub struct Scans {
     trail: Snapshot<CountList>,
@@ -71,7 +71,7 @@ impl Scans {
 
 const _: () = prove!(size_of::<Scans>() == 0);
 
-// Takes one step.
+// Makes one step of an iterator.
 #[inline]
 fn take_step<W: Counted>(walk: &mut W, step: Step) -> Option<u32>
     ensures answer { result ≡ answer_of step (W.walk walk.old).remaining }
@@ -88,8 +88,8 @@ fn take_step<W: Counted>(walk: &mut W, step: Step) -> Option<u32>
     }
 }
 
-// Steps an iterator that has yielded nothing yet through the steps. The last number is the
-// iterator's own count of scans.
+// Makes the steps with an iterator that has yielded nothing yet. The last number in the result is
+// the iterator's own count of scans.
 fn run<W: Counted>(walk: &mut W, steps: &[Step], answers: &mut [Option<u32>]) -> Scans
     requires places { length answers.old ≡ length steps.now }
     requires fresh { (W.walk walk.old).items ≡ 0 }
@@ -106,7 +106,7 @@ fn run<W: Counted>(walk: &mut W, steps: &[Step], answers: &mut [Option<u32>]) ->
     scans
 }
 
-// Steps an iterator that has yielded nothing yet through the steps, and drops it.
+// Makes the steps with an iterator that has yielded nothing yet, and drops the iterator.
 fn run_whole<W: Counted + Drop>(walk: W, steps: &[Step], answers: &mut [Option<u32>]) -> Scans
     requires places { length answers.old ≡ length steps.now }
     requires fresh { (W.walk walk).items ≡ 0 }
@@ -117,14 +117,16 @@ fn run_whole<W: Counted + Drop>(walk: W, steps: &[Step], answers: &mut [Option<u
     run(&mut walk, steps, answers)
 }
 
-/// Steps one iterator over a set through the steps, in the order `E`, and writes what each step
-/// returns. The iterator is over the set bits if `ones` is `true`, and else over the unset bits.
+/// Makes the `steps` with one iterator over a set, in the order `E`, and writes what each step
+/// returns to `answers`. The iterator is over the set bits if `ones` is `true`, and else over the
+/// unset bits.
 ///
-/// A step returns an item of the increasing list from one of its ends, or `None` once none remains.
-/// Contracts see in the result how many scans were made up to each step.
+/// The items are an increasing list. A step returns the first or the last item that remains, or
+/// `None` once no item remains. Contracts see in the result how many scans were made up to each
+/// step.
 ///
-/// The shape has to fit, and `answers` has to be as long as `steps`. Each word is fetched at most
-/// once.
+/// The shape has to fit (`bits_capacity() < u32::MAX`), and `answers` has to be as long as `steps`.
+/// Each word is fetched at most once.
 ///
 /// ```
 /// let mut answers = [None; 3];

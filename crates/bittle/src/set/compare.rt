@@ -1,5 +1,5 @@
-//! Equality and the order of two sets. If both sets have words of one width and are read in one
-//! order, they are compared by words, and their first difference decides.
+//! Equality and the order of two sets. If both sets have words of the same width and are read in
+//! the same order, they are compared by words, and their first difference decides.
 
 ghost use Rattle.std.specs.Cmp.{partial_equiv_from_equiv, partial_order_from_agreeing_total, on_equiv, on_total};
 ghost use Rattle.std.specs.Cmp.Lexicographic.{nat_list_eq_equiv, nat_list_cmp_total, texts_ties};
@@ -45,8 +45,8 @@ fn difference_by_words<A: Bits, B: Bits, E: Endian>(
     }
 }
 
-// Does the same as `difference_by_words`, never inlined. So only the test of the first word is
-// compiled into a caller.
+// Does the same as `difference_by_words`, but it is never inlined. So only the test of the first
+// word is compiled into a caller.
 #[inline(never)]
 fn difference_out_of_line<A: Bits, B: Bits, E: Endian>(
     left: &A,
@@ -83,7 +83,7 @@ fn first_difference<A: Bits, B: Bits, E: Endian>(
     difference_out_of_line::<A, B, E>(left, right, capacity, other)
 }
 
-// Returns whether an index is a member. It does not wrap.
+// Returns whether an index is a member. The index does not wrap.
 #[inline]
 fn has<B: Bits, E: Endian>(bits: &B, capacity: u32, index: u32) -> bool
     requires fits { ShapeFits B.Shape bits.now }
@@ -99,7 +99,7 @@ fn has<B: Bits, E: Endian>(bits: &B, capacity: u32, index: u32) -> bool
 }
 
 // Returns whether a member lies past an index that is not a member. The search begins at the index
-// itself, which is always the index of a bit; the next one may be past the word.
+// itself, which is always the index of a bit. The next index may be past the word.
 #[inline]
 fn has_past<B: Bits, E: Endian>(bits: &B, capacity: u32, index: u32) -> bool
     requires fits { ShapeFits B.Shape bits.now }
@@ -162,8 +162,9 @@ fn compare_words<A: Bits, B: Bits, E: Endian>(left: &A, right: &B) -> Ordering
     }
 }
 
-// Returns the order of two sets, each read in its own order. If their words are alike, words
-// decide. Otherwise both sets are iterated, up to their first difference.
+// Returns the order of two sets, each read in its own order. If their words have the same width and
+// the same order, the words are compared. Otherwise both sets are iterated, up to their first
+// difference.
 #[inline]
 fn compare<A: Bits, B: Bits, E: Endian, F: Endian>(left: &A, right: &B) -> Ordering
     requires left_fits { ShapeFits A.Shape left.now }
@@ -206,7 +207,7 @@ impl<T: Bits, E: Endian> Set<T, E> {
     /// Compares this set with another one of any shape, by their increasing lists of indexes.
     ///
     /// The other shape has to fit. Each side is read in its own order: this set in `E`, the other
-    /// one in `U::Order`. Words, or items of iterators, are compared up to the first difference.
+    /// one in `U::Order`. It compares words, or items of iterators, up to the first difference.
     ///
     /// ```
     /// Set::new(1u8).cmp_bits(&3u16);                      // Less
@@ -216,7 +217,7 @@ impl<T: Bits, E: Endian> Set<T, E> {
         ensures value { result
             ≡ list_cmp (ascending (set_in T.Shape E.Endian self.now.bits))
             (ascending (set_in U.Shape U.Order.Endian other.now)) }
-        // What decides the result.
+        // The members of the two sets decide the result.
         ensures decided { let ours = set_in T.Shape E.Endian self.now.bits in
             let theirs = set_in U.Shape U.Order.Endian other.now in
             MatchOrdering result (Precedes ours theirs) (AreSame ours theirs)
@@ -228,7 +229,7 @@ impl<T: Bits, E: Endian> Set<T, E> {
     /// Returns `true` if this set and another one of any shape have the same members.
     ///
     /// The other shape has to fit. Each side is read in its own order: this set in `E`, the other
-    /// one in `U::Order`. Words, or items of iterators, are compared up to the first difference.
+    /// one in `U::Order`. It compares words, or items of iterators, up to the first difference.
     ///
     /// ```
     /// Set::new_le(0x80u8).eq_bits(&1u16);                 // true: each has the one index 0
@@ -238,7 +239,7 @@ impl<T: Bits, E: Endian> Set<T, E> {
         ensures value { result
             ≡ list_eq (ascending (set_in T.Shape E.Endian self.now.bits))
             (ascending (set_in U.Shape U.Order.Endian other.now)) }
-        // What decides the result.
+        // The members of the two sets decide the result.
         ensures decided { IsTrue result
             ↔ AreSame (set_in T.Shape E.Endian self.now.bits)
             (set_in U.Shape U.Order.Endian other.now) }

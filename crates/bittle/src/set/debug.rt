@@ -22,7 +22,7 @@ impl<T: Bits, E: Endian> fmt::Debug for Set<T, E> {
     }
 }
 
-/// Writes the items of an iterator between braces, with a comma and a space between two.
+/// Writes the items of an iterator between braces, with a comma and a space between two items.
 pub fn write_all<I: Counted + Drop, W: fmt::Write>(
     indexes: I,
     f: &mut fmt::Formatter<W>,

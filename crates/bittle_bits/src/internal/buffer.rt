@@ -1,5 +1,5 @@
-//! Buffered words. An iterator reads its set only through them. Each fetch of a word, and each scan
-//! of a buffered word, is counted.
+//! The buffered words of an iterator. It reads its set only through them. Each fetch of a word, and
+//! each scan of a buffered word, is counted. A buffered word is exhausted if it has no item left.
 
 ghost use Rattle.std.specs.Prelude.{◌≡◌, ℕ, ◌+◌, ◌-◌, ◌*◌, ◌<◌, not, cond, false, Some, None};
 ghost use Rattle.bittle_bits.specs.Buffers.{edge_from_first, buffer_count, buffer_of, items_held, members_in_word, word_items, HoldsSound, Refills, ScansFrom, TellsExhausted};
@@ -16,14 +16,14 @@ use crate::word::Word;
 use std::marker::{Model, PhantomData};
 use std::snapshot::Snapshot;
 
-// A sum of numbers that keeps snapshots alone.
+// A sum of numbers that holds only snapshots.
 #[derive(Drop)]
 enum Sum {
     Of(Snapshot<usize>),
     And(Snapshot<Snapshot<Sum>>, Snapshot<Snapshot<Sum>>),
 }
 
-/// A count that contracts alone see. It takes no bytes.
+/// A count that only contracts see. It takes no bytes.
 #[derive(Drop)]
 pub struct Count {
     sum: Snapshot<Sum>,
@@ -85,9 +85,10 @@ impl Count {
 
 const _: () = prove!(size_of::<Count>() == 0);
 
-// A word of a set, and the index in the set of its bit of least weight. From that bit, the indexes
-// of the others go up or, mirrored, down. If no word is loaded, or if the word is exhausted, no bit
-// of `word` is set. So a step tests only `word`; the flag serves the count.
+// A word of a set. `edge` is the index in the set of the word's bit of least weight. From `edge`,
+// the indexes of the other bits go up or, in the mirrored order, down. If no word is loaded, or if
+// the word is exhausted, no bit of `word` is set. So a step tests only `word`; `is_loaded` serves
+// the count of scans.
 #[derive(Clone, Copy)]
 struct BufferedWord<W: Copy> {
     word: W,
@@ -95,9 +96,9 @@ struct BufferedWord<W: Copy> {
     is_loaded: bool,
 }
 
-// Returns how many bits `words` words have. It computes the product as a rotation. For a product
-// the compiler would keep a sum in each turn of a loop over words, but the number is needed only
-// after the loop.
+// Returns how many bits `words` words have. It computes the product as a rotation. With a
+// multiplication the compiler would keep a sum in each turn of a loop over words, but the number is
+// needed only after the loop.
 #[inline(always)]
 fn bits_of<W: Word>(words: usize) -> u32
     requires { words * W.width < 4294967296 }
@@ -106,8 +107,8 @@ fn bits_of<W: Word>(words: usize) -> u32
     words.rotate_left(W::width().trailing_zeros()) as u32
 }
 
-// Returns word `k` of a set, as it is buffered at the end `N`. At the front its first index is
-// computed from `k + 1`, since by then the cursor holds that number.
+// Returns word `k` of a set as a buffered word for the end `N`. At the front its first index is
+// computed from `k + 1`, since the cursor holds `k + 1` by then.
 #[inline(always)]
 fn buffered<W: Word, E: Endian, N: End>(word: W, k: usize) -> BufferedWord<W>
     requires { k * W.width + W.width < 4294967296 }
@@ -131,7 +132,8 @@ fn buffered<W: Word, E: Endian, N: End>(word: W, k: usize) -> BufferedWord<W>
     }
 }
 
-// Drops a buffered word that has no item. If it was loaded, this was its last scan.
+// Drops a buffered word that has no item. If the word was loaded, the test that found no item
+// counts as its last scan.
 #[inline(always)]
 fn unload<W: Copy>(buffered: &mut BufferedWord<W>, scans: &mut Count)
     ensures dropped { buffered.new ≡ record {
@@ -147,8 +149,8 @@ fn unload<W: Copy>(buffered: &mut BufferedWord<W>, scans: &mut Count)
     }
 }
 
-// Returns the index in the set of the bit at place `at` of a buffered word. `edge` is the index of
-// the word's bit of least weight.
+// Returns the index that the bit at place `at` of a buffered word has in the set. `edge` is the
+// index of the word's bit of least weight.
 #[inline(always)]
 fn index_at<W: Word, E: Endian>(edge: u32, at: u32) -> u32
     requires edge { (first : ℕ) × (edge ≡ first + edge_from_first E.mirrored W.width)
@@ -164,8 +166,8 @@ fn index_at<W: Word, E: Endian>(edge: u32, at: u32) -> u32
     }
 }
 
-// Returns whether a buffered word has no item. If so, a loaded word is dropped: this was its last
-// scan.
+// Returns whether a buffered word has no item. A loaded word without an item is dropped, and this
+// test counts as its last scan.
 #[inline(always)]
 fn is_exhausted<W: Word, E: Endian>(buffered: &mut BufferedWord<W>, scans: &mut Count) -> bool
     requires { HoldsSound W.Word E.Endian buffered.old }
@@ -182,7 +184,7 @@ fn is_exhausted<W: Word, E: Endian>(buffered: &mut BufferedWord<W>, scans: &mut 
     true
 }
 
-// Scans a buffered word for its item at the end `N`.
+// Scans a buffered word, and takes its item at the end `N`.
 #[inline(always)]
 fn scan<W: Word, E: Endian, N: End>(
     buffered: &mut BufferedWord<W>,
@@ -206,7 +208,8 @@ fn scan<W: Word, E: Endian, N: End>(
 /// The two buffered words of an iterator: its head and its tail. An iterator over unset bits holds
 /// them with each bit flipped.
 ///
-/// Each call that searches a loaded word is one scan. It yields an item, or the word is exhausted.
+/// Each call that searches a loaded word is one scan. The call yields an item or finds that the
+/// word is exhausted.
 #[derive(Drop)]
 pub struct Buffers<W: Word, E: Endian> {
     head: BufferedWord<W>,
@@ -303,7 +306,7 @@ impl<W: Word, E: Endian> Buffers<W, E> {
         }
     }
 
-    // Fetches word `k`, as a word whose set bits are the bits of the kind.
+    // Fetches word `k`, as a word whose set bits are the bits of the kind `K`.
     #[inline(always)]
     fn fetch<B: ReadWords<LeafWord = W>, K: Kind>(&mut self, source: &Source<'_, B>, k: usize) -> W
         requires fits { ShapeFits B.Shape source.now.set.now }
@@ -321,8 +324,8 @@ impl<W: Word, E: Endian> Buffers<W, E> {
         source.fetch::<K>(k, &mut self.fetches)
     }
 
-    /// Fetches word `k`, as a word whose set bits are the bits of the kind, and loads it at the end
-    /// `N`.
+    /// Fetches word `k`, as a word whose set bits are the bits of the kind `K`, and loads it at the
+    /// end `N`.
     #[inline(always)]
     pub fn load<B: ReadWords<LeafWord = W>, K: Kind, N: End>(
         &mut self,
@@ -343,9 +346,9 @@ impl<W: Word, E: Endian> Buffers<W, E> {
         self.put::<N>(word, k);
     }
 
-    /// Fetches word `k`, as a word whose set bits are the bits of the kind, and returns whether it
-    /// has an item. If so, the word is loaded at the end `N`, where the caller found none loaded.
-    /// Else the test was its one scan, and it is not loaded.
+    /// Fetches word `k`, as a word whose set bits are the bits of the kind `K`, and returns whether
+    /// it has an item. If so, the word is loaded at the end `N`, where the caller found no word
+    /// loaded. Else the word is not loaded, and this test counts as its one scan.
     #[inline(always)]
     pub fn refill<B: ReadWords<LeafWord = W>, K: Kind, N: End>(
         &mut self,
@@ -376,7 +379,7 @@ impl<W: Word, E: Endian> Buffers<W, E> {
           fetches = self.old.fetches;
         } }
     {
-        // Field by field: the padding of whole buffered words would go through memory.
+        // It swaps field by field. A swap of whole structs would send their padding through memory.
         let BufferedWord {
             word,
             edge,
@@ -390,8 +393,8 @@ impl<W: Word, E: Endian> Buffers<W, E> {
         self.tail.is_loaded = is_loaded;
     }
 
-    /// Returns whether the word at the end `N`, the head or the tail, has no item. If so, a loaded
-    /// word is dropped: this was its last scan.
+    /// Returns whether the word at the end `N`, the head or the tail, has no item. A loaded word
+    /// without an item is dropped, and this test counts as its last scan.
     #[inline(always)]
     pub fn is_exhausted<N: End>(&mut self) -> bool
         ensures told { TellsExhausted result (buffer_of N.FRONT self.old)
@@ -408,7 +411,7 @@ impl<W: Word, E: Endian> Buffers<W, E> {
         }
     }
 
-    /// Scans the word at the end `N`, the head or the tail, for its item there.
+    /// Scans the word at the end `N`, the head or the tail, and takes its item at that end.
     #[inline(always)]
     pub fn scan<N: End>(&mut self) -> Option<u32>
         ensures found { ScansFrom N.FRONT (buffer_of N.FRONT self.old) result
@@ -425,8 +428,8 @@ impl<W: Word, E: Endian> Buffers<W, E> {
         }
     }
 
-    /// Scans the word at the end opposite to `N` for its item at the end `N`. The word stays where
-    /// it is, since the two exchanges together compile to nothing.
+    /// Scans the word at the end opposite to `N`, and takes its item at the end `N`. The two
+    /// exchanges of head and tail together compile to nothing, so the word stays where it is.
     #[inline(always)]
     pub fn scan_across<N: End>(&mut self) -> Option<u32>
         ensures found { ScansFrom N.FRONT (buffer_of (not N.FRONT) self.old) result

@@ -1,5 +1,5 @@
-//! The first bit of a kind in whole words. The words that a set passes over at both ends are left
-//! out, and the others are searched four at a time.
+//! The first bit of a kind, set or unset, in whole words. A search skips the words at both ends
+//! that the set passes over, and reads the other words four at a time.
 
 ghost use Rattle.std.specs.Prelude.{◌+◌, ◌*◌, ◌≤◌, ◌↔◌, IsTrue};
 ghost use Rattle.bittle_bits.specs.Searches.{IsFirstIn, NoneIn};
@@ -12,8 +12,8 @@ use crate::kind::Kind;
 use crate::read_words::{ReadWords, word_width};
 use crate::word::Word;
 
-// Returns the least index of a bit of the kind in the words `from..to`, or `None` if they have
-// none.
+// Returns the least index of a bit of the kind `K` in the words `from..to`, or `None` if they have
+// no such bit.
 #[inline]
 fn first_among<B: ReadWords, E: Endian, K: Kind>(bits: &B, from: u32, to: u32) -> Option<u32>
     requires fits { ShapeFits B.Shape bits.now }
@@ -31,7 +31,8 @@ fn first_among<B: ReadWords, E: Endian, K: Kind>(bits: &B, from: u32, to: u32) -
     None
 }
 
-// Returns whether the four words from `from` on have no bit of the kind, by one test for all.
+// Returns whether the four words from `from` on have no bit of the kind `K`, by one test for all
+// four.
 #[inline]
 fn are_four_empty<B: ReadWords, E: Endian, K: Kind>(bits: &B, from: u32) -> bool
     requires fits { ShapeFits B.Shape bits.now }
@@ -47,8 +48,8 @@ fn are_four_empty<B: ReadWords, E: Endian, K: Kind>(bits: &B, from: u32) -> bool
     first.or(second).or(third.or(fourth)).is_zero()
 }
 
-// Returns the least index of a bit of the kind in the words `from..to`, or `None` if they have
-// none. It searches four words at a time.
+// Returns the least index of a bit of the kind `K` in the words `from..to`, or `None` if they have
+// no such bit. It searches four words at a time.
 #[inline(always)]
 fn first_by_fours<B: ReadWords, E: Endian, K: Kind>(bits: &B, from: u32, to: u32) -> Option<u32>
     requires fits { ShapeFits B.Shape bits.now }
@@ -69,8 +70,8 @@ fn first_by_fours<B: ReadWords, E: Endian, K: Kind>(bits: &B, from: u32, to: u32
     first_among::<B, E, K>(bits, from + fours * 4, to)
 }
 
-/// Returns the least index of a bit of the kind in the first `words` words, or `None` if they have
-/// none. Words at both ends that the set knows to have none are passed over.
+/// Returns the least index of a bit of the kind `K` in the first `words` words, or `None` if they
+/// have no such bit. It skips words at both ends that the set knows to have no such bit.
 #[inline]
 pub fn first_in_words<B: ReadWords, E: Endian, K: Kind>(bits: &B, words: u32) -> Option<u32>
     requires fits { ShapeFits B.Shape bits.now }

@@ -1,5 +1,5 @@
-//! The position of an iterator, and its steps. One core serves iterators over set bits and over
-//! unset bits, of borrowed and of owned sets.
+//! The position of an iterator, and its steps. The same code serves iterators over set bits and
+//! over unset bits, of borrowed and of owned sets.
 
 ghost use Rattle.std.specs.Prelude.{◌≡◌, ◌≢◌, ℕ, ◌+◌, ◌-◌, ◌<◌, cond, [], None, MatchBool};
 ghost use Rattle.bittle_bits.specs.Buffers.{buffer_of, items_in};
@@ -17,8 +17,8 @@ use crate::kind::Kind;
 use crate::read_words::ReadWords;
 use crate::shape::Shape;
 
-/// The buffered words of an iterator, and the range `low..high` of words between them that are not
-/// fetched yet.
+/// The buffered words of an iterator, and the range `low..high` of the words between them, which
+/// are not fetched yet.
 #[derive(Drop)]
 pub struct Cursor<B: Shape, E: Endian> {
     pub buffers: Buffers<B::LeafWord, E>,
@@ -28,10 +28,11 @@ pub struct Cursor<B: Shape, E: Endian> {
     pub passed: Count,
 }
 
-/// Begins an iterator between the words that the set passes over at its two ends.
+/// Begins an iterator. It leaves out the words that the set passes over at its two ends.
 ///
-/// For a type of fixed length it loads the first word between them into the head. For a slice it
-/// loads none. So an iterator over a slice that is stepped from one end has only that end's buffer.
+/// For a type of fixed length it loads the first word that is left into the head. For a slice it
+/// loads no word. So if an iterator over a slice is stepped from one end alone, the compiler drops
+/// the buffer of the other end.
 #[inline]
 pub fn begin<B: ReadWords, E: Endian, K: Kind>(source: &Source<'_, B>) -> Cursor<B, E>
     requires { ShapeFits B.Shape source.now.set.now }
@@ -58,8 +59,8 @@ pub fn begin<B: ReadWords, E: Endian, K: Kind>(source: &Source<'_, B>) -> Cursor
     at
 }
 
-/// Returns the same position with its counts at zero, for `clone`. Words that were fetched before
-/// count as passed over.
+/// Returns the same position for `clone`, with no scan, item or fetch counted. The words that were
+/// fetched before count as passed over.
 #[inline]
 pub fn duplicate<B: ReadWords, E: Endian>(at: &Cursor<B, E>) -> Cursor<B, E>
     ensures resumes { (s : PlainSet) (words w : ℕ) → IsCounted words at.now
@@ -87,7 +88,8 @@ pub fn duplicate<B: ReadWords, E: Endian>(at: &Cursor<B, E>) -> Cursor<B, E>
     }
 }
 
-// Takes the word at the end `N` of the words between the buffered ones, and returns its number.
+// Takes the word at the end `N` of `low..high`, the words between the buffered ones. It returns the
+// number of this word.
 #[inline(always)]
 fn take_word<B: Shape, E: Endian, N: End>(at: &mut Cursor<B, E>) -> usize
     requires { at.old.low < at.old.high }
@@ -110,7 +112,7 @@ fn take_word<B: Shape, E: Endian, N: End>(at: &mut Cursor<B, E>) -> usize
     }
 }
 
-// Moves the end `N` of the words between the buffered ones.
+// Moves the end `N` of `low..high`, the words between the buffered ones, to `on`.
 #[inline(always)]
 fn move_end<B: Shape, E: Endian, N: End>(at: &mut Cursor<B, E>, on: usize)
     ensures { at.new
@@ -129,8 +131,8 @@ fn move_end<B: Shape, E: Endian, N: End>(at: &mut Cursor<B, E>, on: usize)
     }
 }
 
-// Passes over words between the buffered ones, at the end `N`, that the set knows to have no item.
-// None of them is fetched.
+// Passes over words at the end `N` of `low..high`, the words between the buffered ones: those that
+// the set knows to have no item. It fetches none of these words.
 #[inline(always)]
 #[tactic(auto, unfolding(crate::specs::Cursor::items_left_in))]
 fn pass_over<B: ReadWords, E: Endian, K: Kind, N: End>(
@@ -148,12 +150,12 @@ fn pass_over<B: ReadWords, E: Endian, K: Kind, N: End>(
     move_end::<B, E, N>(at, on);
 }
 
-// Looks for a word with an item for the buffer at the end `N`, and returns whether the buffer has
-// one. Words without an item are passed over. If it returns `false`, no word is left between the
-// buffered ones.
+// Fills the buffer at the end `N` if it has no item: it takes words from `low..high`, drops words
+// without an item, and loads the next word with an item. It returns whether the buffer has an item.
+// If it returns `false`, no word is left in `low..high`.
 //
-// It calls `pass_over` only after a word without an item. A call before each fetch would cost a
-// dense iterator one call a word.
+// It calls `pass_over` only after it has fetched a word without an item. A call before each fetch
+// would cost an iterator over a dense set one call per word.
 #[inline(always)]
 #[tactic(auto, unfolding(crate::specs::Cursor::items_left_in))]
 fn seek<B: ReadWords, E: Endian, K: Kind, N: End>(
@@ -183,7 +185,8 @@ fn seek<B: ReadWords, E: Endian, K: Kind, N: End>(
     }
 }
 
-/// Takes the item at the end `N` of the items that remain.
+/// Takes the first or the last of the items that remain: the one at the end `N`. It returns `None`
+/// if no item remains.
 #[inline(always)]
 #[tactic(auto, unfolding(crate::specs::Cursor::items_left_in))]
 pub fn step<B: ReadWords, E: Endian, K: Kind, N: End>(
@@ -203,7 +206,7 @@ pub fn step<B: ReadWords, E: Endian, K: Kind, N: End>(
         }
         return found;
     }
-    // No word is left between, so the word at the other end has all that remains.
+    // No word is left in `low..high`, so the word at the other end has all items that remain.
     let found = at.buffers.scan_across::<N>();
     if found.is_some() {
         at.items.raise();

@@ -1,4 +1,4 @@
-//! The least index that an operation on two sets makes a member, found word by word.
+//! The least index that is a member of the result of an operation on two sets, found word by word.
 
 ghost use Rattle.std.specs.Prelude.{◌≡◌, ◌<◌, min, true, IfSome, MatchOption};
 ghost use Rattle.bittle_bits.specs.Decided.{decided_below, NoneDecidedBelow, IsFirstDecided};
@@ -15,8 +15,8 @@ use crate::shape::Shape;
 use crate::word::Word;
 use std::marker::PhantomData;
 
-/// What an operation makes of two borrowed sets, below both capacities. Each word is made when it
-/// is read; none is stored. The words of the two sets have one width.
+/// The result of an operation on two borrowed sets, below both capacities. Each word of the result
+/// is computed when it is read; no word is stored. The words of the two sets have the same width.
 #[derive(Drop)]
 struct Both<'a, A: Shape, B: Shape, O: Operation> {
     left: &'a A,
@@ -66,7 +66,7 @@ impl<'a, A: ReadWords, B: ReadWords, O: Operation> ReadWords for Both<'a, A, B, 
 }
 
 impl<'a, A: ReadWords, B: ReadWords, O: Operation> Both<'a, A, B, O> {
-    // Borrows two sets; `common` is the lesser capacity.
+    // Borrows two sets; `common` is the lesser of their capacities.
     #[inline]
     fn of(left: &'a A, right: &'a B, common: u32) -> Both<'a, A, B, O>
         requires width { A.width ≡ B.width }
@@ -86,9 +86,10 @@ impl<'a, A: ReadWords, B: ReadWords, O: Operation> Both<'a, A, B, O> {
     }
 }
 
-/// Returns the least index in the first words of two sets that an operation makes a member, or
-/// `None`. The words of the two have one width. `common` is the lesser capacity.
-// It is small, so a caller makes no call if the first words decide.
+/// Returns the least index in the result of an operation on the first word of each of two sets, or
+/// `None` if that result is empty. The words of the two sets have the same width. `common` is the
+/// lesser of their capacities.
+// The function is small, so a caller makes no call if the first words decide.
 #[inline]
 pub fn first_decided_at_once<A: ReadWords, B: ReadWords, E: Endian, O: Operation>(
     left: &A,
@@ -110,8 +111,9 @@ pub fn first_decided_at_once<A: ReadWords, B: ReadWords, E: Endian, O: Operation
     first_in_words::<Both<'_, A, B, O>, E, Ones>(&Both::of(left, right, common), 1)
 }
 
-/// Returns the least index below both capacities that an operation on two sets makes a member, or
-/// `None` if there is none. The words of the two have one width. `common` is the lesser capacity.
+/// Returns the least index below both capacities in the result of an operation on two sets, or
+/// `None` if there is none. The words of the two sets have the same width. `common` is the lesser
+/// of their capacities.
 #[inline]
 pub fn first_decided_below<A: ReadWords, B: ReadWords, E: Endian, O: Operation>(
     left: &A,

@@ -1,10 +1,10 @@
-//! Where a range begins and ends among pieces of one length, such as words or elements.
+//! Where a range begins and ends among pieces of equal length, such as words or elements.
 
 ghost use Rattle.std.specs.Prelude.{◌<◌};
 ghost use Rattle.bittle_bits.specs.Pieces.{LiesAt};
 
-/// Returns where the first and the last index of `from..to` lie. For each of the two, it returns
-/// the number of the piece and the place in it.
+/// Returns four numbers: the number of the piece that the first index of `from..to` lies in, its
+/// place in that piece, and the same two of the last index.
 #[inline]
 pub fn ends(length: u32, from: u32, to: u32) -> (u32, u32, u32, u32)
     requires some { 0 < length }

@@ -10,7 +10,7 @@ use crate::one_word::range;
 use crate::read_words::{ReadWords, word_width};
 use crate::word::Word;
 
-/// Counts the set bits of word `k` at its indexes `from..to`, in the order `E`.
+/// Counts the set bits at the indexes `from..to` within word `k`, in the order `E`.
 #[inline]
 pub fn count_in_word<B: ReadWords, E: Endian>(bits: &B, k: u32, from: u32, to: u32) -> u32
     requires fits { ShapeFits B.Shape bits.now }

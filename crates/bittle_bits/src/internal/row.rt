@@ -1,4 +1,5 @@
-//! The calls on a row of elements, for arrays and slices.
+//! The calls on a row: the elements of an array or of a slice. The kind `K` names the set bits or
+//! the unset bits. To pass over words is to skip them without reading them.
 
 ghost use Rattle.std.specs.Prelude.{◌≡◌, ◌+◌, ◌==◌, ◌*◌, ◌%◌, ◌<◌, ◌≤◌, ℕ, Bool, true, false, cond, get_or, length, IsTrue, List, MatchOption};
 ghost use Rattle.bittle_bits.specs.Orders.{read_in};
@@ -40,15 +41,15 @@ pub fn bits_capacity<T: BitsOwned>(len: usize) -> u32
     len as u32 * each
 }
 
-/// Returns whether an array of `len` elements is short: of at most 128 bytes. It affects speed
+/// Returns whether an array of `len` elements is short: it has at most 128 bytes. It affects speed
 /// only, so it has no contract.
 #[inline]
 pub fn is_short<T: BitsOwned>(len: usize) -> bool {
     bits_capacity::<T>(len) <= 1024
 }
 
-// Wraps an index at a capacity. A capacity of `u32::MAX` stands for a row that does not fit, whose
-// capacity is past every index: then it returns the index.
+// Wraps an index at a capacity. A capacity of `u32::MAX` stands for a row that does not fit. The
+// true capacity of such a row is past every index, so the index is returned as it is.
 #[inline]
 fn wrapped(index: u32, capacity: u32) -> u32
     requires { 0 < capacity }
@@ -62,9 +63,9 @@ fn wrapped(index: u32, capacity: u32) -> u32
     }
 }
 
-// Returns the element that an index goes to, and the index in it, or `None` with capacity 0. If the
-// length is a constant, dividing by it costs less than testing whether the index is past the
-// capacity.
+// Returns the number of the element that an index goes to, and the index within this element. With
+// capacity 0 it returns `None`. If the length is a constant, dividing by it costs less than testing
+// whether the index is past the capacity.
 #[inline]
 fn locate<T: BitsOwned>(len: usize, index: u32, is_constant: bool) -> Option<(usize, u32)>
     requires { IsTrue T.indexable }
@@ -95,8 +96,8 @@ pub fn test_bit<T: BitsOwned, E: Endian>(elements: &[T], index: u32, is_array: b
     }
 }
 
-/// Sets the bit at an index of an array or of a slice if the kind is ones, and clears it if the
-/// kind is zeros. The index wraps. With capacity 0 it changes nothing.
+/// Sets the bit at an index of an array or of a slice if `K` is `Ones`, and clears it if `K` is
+/// `Zeros`. The index wraps. With capacity 0 it changes nothing.
 #[inline]
 pub fn put_bit<T: BitsOwned, E: Endian, K: Kind>(elements: &mut [T], index: u32, is_array: bool)
     requires { IsTrue T.indexable }
@@ -121,7 +122,7 @@ pub fn clear_bits<T: BitsOwned>(elements: &mut [T])
     }
 }
 
-// Combines each bit of one element, at its indexes `from..to`, with a set bit by the operation.
+// Changes each bit of element `at` at the indexes `from..to` within it, by the operation `O`.
 #[inline]
 fn assign_in_element<T: BitsOwned, E: Endian, O: RangeOperation>(
     elements: &mut [T],
@@ -142,8 +143,8 @@ fn assign_in_element<T: BitsOwned, E: Endian, O: RangeOperation>(
     elements[at as usize].assign_range_by_operation::<E, O>(from, to);
 }
 
-// Returns how many bits an element has, and where the first and the last index of `from..to` lie.
-// For each of the two, it returns the element and the index in it.
+// Returns five numbers: how many bits an element has, the element that the first index of
+// `from..to` lies in, the index within this element, and the same two of the last index.
 #[inline]
 fn element_ends<T: BitsOwned>(len: usize, from: u32, to: u32) -> (u32, u32, u32, u32, u32)
     requires fits { IsTrue T.indexable }
@@ -158,8 +159,9 @@ fn element_ends<T: BitsOwned>(len: usize, from: u32, to: u32) -> (u32, u32, u32,
     (each, first, begin, last, top)
 }
 
-/// Combines each bit of `from..to` with a set bit by the operation. Every bit of the elements
-/// between the first and the last is combined, by one mask that is the same for all.
+/// Changes each bit of `from..to` by the operation `O`: `Union` sets these bits, `Difference`
+/// clears them, and `SymmetricDifference` flips them. The elements between the first and the last
+/// one are changed as a whole, by one mask that is the same for all.
 pub fn assign_range<T: BitsOwned, E: Endian, O: RangeOperation>(
     elements: &mut [T],
     from: u32,
@@ -186,9 +188,9 @@ pub fn assign_range<T: BitsOwned, E: Endian, O: RangeOperation>(
     assign_in_element::<T, E, O>(elements, last, 0, top + 1);
 }
 
-// Combines the element at index `at` with another one. Suppose that the row is `xs` with its
-// elements below `at` combined with those of `ys`, and that the other element is that of `ys` at
-// `at`. Then one more element is combined afterwards.
+// Combines element `at` of the row with `other`. Suppose that the row is `xs` with the elements
+// below `at` combined with those of `ys`, and that `other` is element `at` of `ys`. Then the
+// elements below `at + 1` are combined afterwards.
 #[inline]
 fn combine_element<T: BitsOwned, O: Operation>(elements: &mut [T], at: usize, other: &T)
     requires { at < length elements.old }
@@ -200,8 +202,9 @@ fn combine_element<T: BitsOwned, O: Operation>(elements: &mut [T], at: usize, ot
     elements[at].assign_by_operation::<O>(other);
 }
 
-// Combines four elements with their counterparts. All four counterparts are read before any element
-// is changed, so the compiled code needs no test whether the two rows overlap.
+// Combines four elements, from `from` on, with the elements of `others` at the same places. It
+// reads all four of `others` before it changes an element. So the compiled code needs no test
+// whether the two rows overlap.
 #[inline]
 fn combine_four<T: BitsOwned, O: Operation>(elements: &mut [T], others: &[T], from: usize)
     requires elements { from + 4 ≤ length elements.old }
@@ -221,7 +224,7 @@ fn combine_four<T: BitsOwned, O: Operation>(elements: &mut [T], others: &[T], fr
     combine_element::<T, O>(elements, from + 3, &fourth);
 }
 
-// Combines the first `common` elements with their counterparts, four at a time.
+// Combines the first `common` elements with those of `others`, four at a time.
 #[inline]
 fn combine_by_fours<T: BitsOwned, O: Operation>(elements: &mut [T], others: &[T], common: usize)
     requires elements { common ≤ length elements.old }
@@ -237,7 +240,7 @@ fn combine_by_fours<T: BitsOwned, O: Operation>(elements: &mut [T], others: &[T]
     }
 }
 
-// Combines the first `common` elements with their counterparts, one by one.
+// Combines the first `common` elements with those of `others`, one by one.
 #[inline]
 fn combine_each<T: BitsOwned, O: Operation>(elements: &mut [T], others: &[T], common: usize)
     requires elements { common ≤ length elements.old }
@@ -249,8 +252,8 @@ fn combine_each<T: BitsOwned, O: Operation>(elements: &mut [T], others: &[T], co
     }
 }
 
-/// Combines each element that both rows have with its counterpart. Words of 32 bits and more are
-/// combined four at a time.
+/// Combines each element with the element of `others` at the same place, if there is one. Elements
+/// that are words of 32 bits and more are combined four at a time.
 #[inline(always)]
 pub fn combine<T: BitsOwned, O: Operation>(elements: &mut [T], others: &[T])
     ensures { (mirrored : Bool) → row_mirrored T.Shape mirrored elements.new
@@ -281,7 +284,7 @@ pub fn count_ones<T: BitsOwned>(elements: &[T]) -> u32
     total
 }
 
-/// Returns whether an element has no bit of the kind.
+/// Returns whether an element has no bit of the kind `K`.
 #[inline]
 fn has_none<T: BitsOwned, K: Kind>(element: &T) -> bool
     ensures { result ≡ (size (T.big element.now) == cond K.ONES 0 T.type_capacity) }
@@ -293,8 +296,8 @@ fn has_none<T: BitsOwned, K: Kind>(element: &T) -> bool
     }
 }
 
-// Returns whether none of the elements `from..to` has a bit of the kind. It tests all of them, so
-// the compiler can process several at once.
+// Returns whether none of the elements `from..to` has a bit of the kind `K`. It tests all of these
+// elements, so the compiler can process several at once.
 #[inline]
 fn part_is_without<T: BitsOwned, K: Kind>(elements: &[T], from: usize, to: usize) -> bool
     requires ordered { from ≤ to }
@@ -311,8 +314,8 @@ fn part_is_without<T: BitsOwned, K: Kind>(elements: &[T], from: usize, to: usize
     without
 }
 
-// Returns whether no element has a bit of the kind, if those before `from` have none. It tests the
-// rest one by one.
+// Returns whether no element has a bit of the kind `K`. The elements before `from` are known to
+// have no such bit. It tests the other elements one by one.
 #[inline]
 fn rest_is_without<T: BitsOwned, K: Kind>(elements: &[T], from: usize) -> bool
     requires within { from ≤ length elements.now }
@@ -329,9 +332,10 @@ fn rest_is_without<T: BitsOwned, K: Kind>(elements: &[T], from: usize) -> bool
     true
 }
 
-// Returns whether no element has a bit of the kind. The first element is tested by itself, since it
-// often decides. Then eight words and more are tested eight at a time, and the rest one by one.
-// Elements of more than a word are tested one by one, since seven of eight tests might be wasted.
+// Returns whether no element has a bit of the kind `K`. It tests the first element by itself, since
+// this one often decides. It tests a row of eight words or more eight words at a time, and the rest
+// one by one. It tests elements of more than a word one by one, since seven of eight tests might be
+// wasted.
 fn is_without_by_turns<T: BitsOwned, K: Kind>(elements: &[T]) -> bool
     ensures { result ≡ (size (row_of T.Shape elements.now) == cond K.ONES 0
         (length elements.now * T.type_capacity)) }
@@ -353,7 +357,7 @@ fn is_without_by_turns<T: BitsOwned, K: Kind>(elements: &[T]) -> bool
     rest_is_without::<T, K>(elements, elements.len() / 8 * 8)
 }
 
-// Returns whether no element has a bit of the kind. It tests all elements, for a short array.
+// Returns whether no element has a bit of the kind `K`. It tests all elements, for a short array.
 #[inline]
 fn is_without_at_once<T: BitsOwned, K: Kind>(elements: &[T]) -> bool
     ensures { result ≡ (size (row_of T.Shape elements.now) == cond K.ONES 0
@@ -433,7 +437,8 @@ pub fn set_leaf_word<T: BitsOwned>(elements: &mut [T], k: usize, word: T::LeafWo
     elements[element].set_nth_leaf_word(at, word);
 }
 
-// Returns `front` if the end `N` is the front, and else `back`. Both are numbers of words.
+// Returns `front` if the end `N` is the front, and else `back`. Each of the two is the number of a
+// word.
 #[inline(always)]
 fn words_at_end<N: End>(front: usize, back: usize) -> usize
     ensures { result ≡ cond N.FRONT front back }
@@ -441,9 +446,10 @@ fn words_at_end<N: End>(front: usize, back: usize) -> usize
     if N::FRONT { front } else { back }
 }
 
-// Passes over words of `low..high`, at least one, at the end `N`, within the element at that end:
-// those that the element knows to have no bit of the kind. It returns the end of the rest, and
-// whether it passed over all of these words that lie in the element.
+// Passes over words at the end `N` of `low..high`, which is not empty, in the one element that lies
+// at that end: the words that the element knows to have no bit of the kind `K`. It returns the new
+// `low` at the front, the new `high` at the back. It also returns whether it passed over all words
+// of `low..high` that lie in the element.
 #[inline]
 fn pass_over_in_element<T: BitsOwned, K: Kind, N: End>(
     elements: &[T],
@@ -466,8 +472,9 @@ fn pass_over_in_element<T: BitsOwned, K: Kind, N: End>(
     (start + on, on == words_at_end::<N>(to, from))
 }
 
-// Passes over words of `low..high` at the end `N` that elements know to have no bit of the kind,
-// one element after another. It returns the end of the rest.
+// Passes over words at the end `N` of `low..high` that elements know to have no bit of the kind
+// `K`, one element after another. It returns the new `low` at the front, the new `high` at the
+// back.
 fn pass_over_elements<T: BitsOwned, K: Kind, N: End>(
     elements: &[T],
     low: usize,
@@ -494,8 +501,8 @@ fn pass_over_elements<T: BitsOwned, K: Kind, N: End>(
     }
 }
 
-/// Passes over words of `low..high` at the end `N` that elements know to have no bit of the kind.
-/// It returns the end of the rest: at the front the new `low`, at the back the new `high`.
+/// Passes over words at the end `N` of `low..high` that elements know to have no bit of the kind
+/// `K`. It returns the new `low` at the front, the new `high` at the back.
 ///
 /// It calls `pass_over` of elements only if their type may pass over words.
 #[inline(always)]

@@ -1,4 +1,4 @@
-//! The first or the last bit of a kind in a range, found word by word.
+//! The first or the last bit of a kind, set or unset, in a range, found word by word.
 
 ghost use Rattle.std.specs.Prelude.{◌≡◌, ◌+◌, ◌*◌, ◌<◌, ◌≤◌, Bool, ℕ};
 ghost use Rattle.bittle_bits.specs.Ends.{is_ahead, IsEndIn};
@@ -15,8 +15,9 @@ use crate::one_word::from_end;
 use crate::read_words::{ReadWords, word_width};
 use crate::word::Word;
 
-// Returns the word in which the bits from index `at` on are set, seen from the end `N`: those not
-// below it from the front, those not above it from the back.
+// Returns the word in which the bits from index `at` on are set, seen from the end `N`. From the
+// front these are bit `at` and the bits of greater index, from the back bit `at` and those of
+// lesser index.
 #[inline]
 fn ahead<T: Word, E: Endian, N: End>(at: u32) -> T
     requires { at < T.width }
@@ -30,10 +31,10 @@ fn ahead<T: Word, E: Endian, N: End>(at: u32) -> T
     since.not().or(E::mask::<T>(at))
 }
 
-// Returns the next word after word `k` of the words from `first` to `last`, seen from the end `N`.
-// It returns `None` if no word after `k` has a bit of the kind. Words that the set knows to have
-// none are passed over. The test for the last word comes first. So if a set passes over no words,
-// nothing else remains in the compiled code.
+// Returns the number of the next word after word `k`, seen from the end `N`, among the words from
+// `first` to `last`. It skips words that the set knows to have no bit of the kind `K`, and returns
+// `None` if no word is left. The test whether `k` is the last word comes first. So if a set skips
+// no words, nothing else remains in the compiled code.
 #[inline(always)]
 fn next_word<B: ReadWords, K: Kind, N: End>(bits: &B, first: u32, last: u32, k: u32) -> Option<u32>
     requires fits { ShapeFits B.Shape bits.now }
@@ -62,8 +63,9 @@ fn next_word<B: ReadWords, K: Kind, N: End>(bits: &B, first: u32, last: u32, k: 
     }
 }
 
-/// Returns the first index of `from..to`, seen from the end `N`, whose bit is of the kind, or
-/// `None` if there is none: the least index from the front, the greatest from the back.
+/// Returns the first index of `from..to`, seen from the end `N`, whose bit is of the kind `K`: the
+/// least index from the front, the greatest from the back. It returns `None` if there is no such
+/// index.
 #[inline]
 pub fn end_in<B: ReadWords, E: Endian, K: Kind, N: End>(bits: &B, from: u32, to: u32) -> Option<u32>
     requires fits { ShapeFits B.Shape bits.now }

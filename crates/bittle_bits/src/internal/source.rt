@@ -1,5 +1,6 @@
 //! What an iterator or a search reads: the set bits or the unset bits of a set, word by word. Each
-//! fetch of an iterator is counted.
+//! word that an iterator fetches is counted. To pass over words is to skip them without fetching
+//! them.
 
 ghost use Rattle.std.specs.Prelude.{◌≡◌, ◌+◌, ◌-◌, ◌*◌, ◌<◌, ◌≤◌, cond, Bool};
 ghost use Rattle.bittle_bits.specs.BitPatterns.{bit_set};
@@ -14,7 +15,7 @@ use crate::kind::{Kind, bits_of_kind};
 use crate::read_words::{ReadWords, word_width};
 use crate::shape::Shape;
 
-/// Returns word `k` of a set, as a word whose set bits are the bits of the kind.
+/// Returns word `k` of a set, as a word whose set bits are the bits of the kind `K`.
 #[inline(always)]
 pub fn word_of_kind<B: ReadWords, K: Kind>(bits: &B, k: usize) -> B::LeafWord
     requires fits { ShapeFits B.Shape bits.now }
@@ -25,9 +26,8 @@ pub fn word_of_kind<B: ReadWords, K: Kind>(bits: &B, k: usize) -> B::LeafWord
     bits_of_kind::<B::LeafWord, K>(bits.nth_leaf_word(k))
 }
 
-/// Passes over words of `low..high` at the end `N` that the set knows to have no bit of the kind,
-/// in both orders. It returns the end of the rest: at the front the new `low`, at the back the new
-/// `high`.
+/// Passes over words at the end `N` of `low..high` that the set knows to have no bit of the kind
+/// `K`, in both orders. It returns the new `low` at the front, the new `high` at the back.
 #[inline(always)]
 pub fn pass_over<B: ReadWords, K: Kind, N: End>(bits: &B, low: usize, high: usize) -> usize
     requires fits { ShapeFits B.Shape bits.now }
@@ -41,8 +41,8 @@ pub fn pass_over<B: ReadWords, K: Kind, N: End>(bits: &B, low: usize, high: usiz
     bits.pass_over::<K, N>(low, high)
 }
 
-/// A set that an iterator borrows. The iterator learns only three things of it: how many words it
-/// has, each word that it fetches, and which words it may pass over.
+/// A set that an iterator borrows. The iterator learns only three things of the set: how many words
+/// the set has, each word that the iterator fetches, and which words it may pass over.
 #[derive(Drop)]
 pub struct Source<'a, B: Shape> {
     set: &'a B,
@@ -74,7 +74,8 @@ impl<'a, B: ReadWords> Source<'a, B> {
         self.set.capacity() / word_width::<B>()
     }
 
-    /// Fetches word `k`, as a word whose set bits are the bits of the kind, and counts the fetch.
+    /// Fetches word `k`, as a word whose set bits are the bits of the kind `K`, and counts the
+    /// fetch.
     #[inline(always)]
     pub fn fetch<K: Kind>(&self, k: usize, fetches: &mut Count) -> B::LeafWord
         requires fits { ShapeFits B.Shape self.now.set.now }
@@ -87,9 +88,9 @@ impl<'a, B: ReadWords> Source<'a, B> {
         word_of_kind::<B, K>(self.set, k)
     }
 
-    /// Passes over words of `low..high` at the end `N` that the set knows to have no bit of the
-    /// kind, in both orders. It counts these words, and fetches none of them. It returns the end of
-    /// the rest: at the front the new `low`, at the back the new `high`.
+    /// Passes over words at the end `N` of `low..high` that the set knows to have no bit of the
+    /// kind `K`, in both orders. It counts these words, and fetches none of them. It returns the
+    /// new `low` at the front, the new `high` at the back.
     #[inline(always)]
     pub fn pass_over<K: Kind, N: End>(&self, low: usize, high: usize, passed: &mut Count) -> usize
         requires fits { ShapeFits B.Shape self.now.set.now }
@@ -108,7 +109,7 @@ impl<'a, B: ReadWords> Source<'a, B> {
     }
 }
 
-/// A set that an iterator owns. It can only lend its words.
+/// A set that an iterator owns. Its words can be read, and nothing can change it.
 #[derive(Drop)]
 pub struct OwnedSource<B: Shape> {
     set: B,

@@ -1,5 +1,6 @@
-//! Words without a bit that is set in both of two sets, passed over by what the sets tell of groups
-//! of words: 64 words are one test, and where none of them may have one, 64 times 64 are another.
+//! Skips words in which no bit is set in both of two sets. The sets say which groups of words may
+//! have a set bit. One test covers 64 words; if none of these may have a common bit, the next test
+//! covers 64 groups of 64 words.
 
 ghost use Rattle.std.specs.Prelude.{◌≡◌, ◌≢◌, ◌+◌, ◌%◌, ◌^◌, ◌<◌, ◌≤◌, false, cond, max, min};
 ghost use Rattle.bittle_ext.specs.Combined.{both_of};
@@ -10,8 +11,8 @@ ghost use Rattle.bittle.specs.Values.{set_in, ShapeFits};
 use bittle::{BigEndian, Endian};
 use bittle_bits::extension::{End, Ones, ReadWords, end_in};
 
-/// Tells of 64 groups of words which may have a bit that is set in both sets, as `groups_told`
-/// does of one set.
+/// Returns which of 64 groups of words may have a bit that is set in both sets, by one bit for each
+/// group, as `groups_told` does for one set.
 #[inline(always)]
 pub fn told_of_both<A: ReadWords, B: ReadWords, E: Endian, F: Endian>(
     left: &A,
@@ -36,9 +37,9 @@ fn at_end<N: End>(front: usize, back: usize) -> usize
     if N::FRONT { front } else { back }
 }
 
-// Moves the end `N` of groups of `64 ^ level` words past those of which one of the sets tells that
-// it has no bit there, up to the next multiple of 64. It returns the new end, and whether a group
-// that may have a bit stopped it.
+// Moves the end `N` past groups of `64 ^ level` words in which one of the sets has no bit, up to
+// the next multiple of 64 groups. The sets tell which groups these are. It returns the new end, and
+// whether it stopped at a group that may have a bit.
 #[inline(always)]
 fn moved<A: ReadWords, B: ReadWords, E: Endian, F: Endian, N: End>(
     left: &A,
@@ -67,7 +68,7 @@ fn moved<A: ReadWords, B: ReadWords, E: Endian, F: Endian, N: End>(
     }
 }
 
-// Returns whether the end `N` of the words `low..high` lies before their other end.
+// Returns whether `at`, as the end `N` of the words `low..high`, lies before their other end.
 #[inline(always)]
 fn is_inside<N: End>(low: usize, high: usize, at: usize) -> bool
     ensures { result ≡ is_inside N.FRONT low high at }
@@ -75,7 +76,7 @@ fn is_inside<N: End>(low: usize, high: usize, at: usize) -> bool
     if N::FRONT { at < high } else { low < at }
 }
 
-// Returns a number of words, or the other end of `low..high` where the number lies past it.
+// Returns `at`, or the other end of `low..high` if `at` lies past that end.
 #[inline(always)]
 fn clamped<N: End>(low: usize, high: usize, at: usize) -> usize
     ensures { result ≡ cond N.FRONT (min at high) (max at low) }
@@ -83,9 +84,8 @@ fn clamped<N: End>(low: usize, high: usize, at: usize) -> usize
     if N::FRONT { at.min(high) } else { at.max(low) }
 }
 
-/// Passes over words of `low..high` at the end `N` without a bit that is set in both sets, as the
-/// sets tell of groups of words. It returns the end of the rest: at the front the new `low`, at the
-/// back the new `high`.
+/// Skips words of `low..high`, from the end `N`, in which no bit is set in both sets, as the sets
+/// tell of groups of words. It returns the new `low` if `N` is the front, else the new `high`.
 #[inline(always)]
 pub fn passed_by_groups<A: ReadWords, B: ReadWords, E: Endian, F: Endian, N: End>(
     left: &A,

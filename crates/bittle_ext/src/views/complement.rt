@@ -10,8 +10,8 @@ use bittle::{Bits, Endian, Shape};
 use bittle_bits::extension::{End, Kind, Ones, ReadWords, Sealed, Zeros, word_of_kind};
 use std::alloc::AllocError;
 
-/// The unset bits below the capacity of a set that it borrows: a set of as many bits, in the order
-/// of that one's type. Each word of it is made when it is read.
+/// The unset bits of a borrowed set: a set of the same capacity, in the order of the borrowed set's
+/// type. Each word is computed when it is read.
 #[derive(Drop)]
 pub struct Complement<'a, B: Shape> {
     set: &'a B,
@@ -107,7 +107,7 @@ impl<'a, B: Bits> Bits for Complement<'a, B> {
 }
 
 impl<'a, B: Bits> Complement<'a, B> {
-    /// Views the unset bits of a set.
+    /// Returns a view of the unset bits of a set.
     #[inline]
     pub(crate) fn of(set: &'a B) -> Complement<'a, B>
         requires { ShapeFits B.Shape set.now }

@@ -1,4 +1,4 @@
-//! A set that is borrowed and read in an order.
+//! A borrowed set that is read in a named order.
 
 ghost use Rattle.std.specs.Prelude.{◌≡◌};
 
@@ -6,7 +6,7 @@ use bittle::{Bits, Endian, Shape};
 use bittle_bits::extension::{End, Kind, ReadWords, Sealed};
 use std::marker::PhantomData;
 
-/// A set that is borrowed and read in the order `E`: calls that name no order take it.
+/// A borrowed set that is read in the order `E`: a call that names no order uses `E`.
 #[derive(Drop)]
 pub struct InOrder<'a, B: Shape, E: Endian> {
     set: &'a B,

@@ -1,4 +1,4 @@
-//! A set that is borrowed for a change, and read and changed in an order.
+//! A mutably borrowed set that is read and changed in a named order.
 
 ghost use Rattle.std.specs.Prelude.{◌≡◌};
 
@@ -6,8 +6,8 @@ use bittle::{Bits, BitsMut, Endian, Shape};
 use bittle_bits::extension::{End, Kind, Operation, RangeOperation, ReadWords, Sealed};
 use std::marker::PhantomData;
 
-/// A set that is borrowed for a change, and read and changed in the order `E`: calls that name no
-/// order take it.
+/// A mutably borrowed set that is read and changed in the order `E`: a call that names no order
+/// uses `E`.
 #[derive(Drop)]
 pub struct InOrderMut<'a, B: Shape, E: Endian> {
     set: &'a mut B,
@@ -131,13 +131,13 @@ impl<'a, B: BitsMut, U: Endian> BitsMut for InOrderMut<'a, B, U> {
     }
 }
 
-/// Views of any set that can be changed, which borrow it for a change.
+/// Views of any set that can be changed, which borrow the set mutably.
 pub trait BitsMutViewExt: BitsMut {
-    /// Borrows the set for a change, to be read and changed in the order `E`. What is changed in
-    /// the view is changed in the set.
+    /// Borrows the set mutably, to be read and changed in the order `E`. A change of the view
+    /// changes the set.
     ///
-    /// Always callable. The view has the capacity of the set, and a call on it costs what it costs
-    /// on the set.
+    /// Always callable. The view has the capacity of the set, and a call on the view costs what it
+    /// costs on the set.
     ///
     /// ```
     /// let mut word = 0b1000_0000u8;

@@ -1,4 +1,4 @@
-//! Views of what an operation makes of two sets, of any widths and orders.
+//! Views of the result of an operation on two sets, of any word widths and orders.
 
 ghost use Rattle.std.specs.Prelude.{◌≡◌, ◌<◌, ◌≤◌, Bool, false, true, refl, max, ⊤, IsTrue, IfSome};
 ghost use Rattle.bittle_ext.specs.Combined.{decided_set};
@@ -20,22 +20,22 @@ use bittle_bits::extension::{
 use std::alloc::AllocError;
 use std::marker::PhantomData;
 
-/// Views the indexes that are set in both of two sets.
+/// A view of the indexes that are set in both of two sets.
 pub type AndView<'a, A, B, E, F> = OfBoth<'a, A, B, E, F, Conjunction>;
 
-/// Views the indexes that are set in the first of two sets and unset in the second.
+/// A view of the indexes that are set in the first of two sets and not in the second.
 pub type MinusView<'a, A, B, E, F> = OfBoth<'a, A, B, E, F, Difference>;
 
-/// Views the indexes that are set in either of two sets.
+/// A view of the indexes that are set in either of two sets.
 pub type OrView<'a, A, B, E, F> = OfBoth<'a, A, B, E, F, Union>;
 
-/// Views the indexes that are set in just one of two sets.
+/// A view of the indexes that are set in just one of two sets.
 pub type XorView<'a, A, B, E, F> = OfBoth<'a, A, B, E, F, SymmetricDifference>;
 
-/// An operation that a view is made by.
+/// An operation on two sets whose result a view shows.
 pub trait ViewOperation: Operation {
-    /// Returns `true` if it makes no index a member that is not in the first set. It decides how
-    /// the words of that set are read.
+    /// Returns `true` if every index of the result is in the first set. This decides how the words
+    /// of the first set are read.
     #[doc(hidden)]
     #[inline(always)]
     fn keeps_to_first() -> bool
@@ -44,8 +44,8 @@ pub trait ViewOperation: Operation {
         false
     }
 
-    /// Returns `true` if it makes no index a member that is not in the second set. It decides which
-    /// words are passed over.
+    /// Returns `true` if every index of the result is in the second set. This decides which words
+    /// are skipped.
     #[doc(hidden)]
     #[inline(always)]
     fn keeps_to_second() -> bool
@@ -54,12 +54,12 @@ pub trait ViewOperation: Operation {
         false
     }
 
-    // It makes no index a member that is in neither set.
+    // An index that is in neither set is not in the result.
     ghost keeps_empty: { Self.decide false false ≡ false };
 }
 
-/// An operation that makes an index that is not in the first set a member just where it is in the
-/// second.
+/// An operation whose result has an index that is not in the first set exactly if the second set
+/// has it.
 pub trait EitherOperation: ViewOperation {
     ghost takes_second: { (b : Bool) → Self.decide false b ≡ b };
 }
@@ -80,7 +80,7 @@ impl EitherOperation for SymmetricDifference {
     ghost takes_second = { λ _. refl };
 }
 
-/// An operation that makes no index a member that is not in the first set.
+/// An operation whose result has only indexes of the first set.
 pub trait FirstOperation: ViewOperation {
     ghost keeps_first: { (b : Bool) → Self.decide false b ≡ false };
 }
@@ -116,8 +116,8 @@ impl FirstOperation for Difference {
     ghost keeps_first = { λ _. refl };
 }
 
-// Returns `true` if a word that is passed over in either of two sets is so in what the operation
-// makes of them, and both sets may tell of groups of words.
+// Returns `true` if the result has no bit in a word in which one of the two sets has none, and both
+// sets may tell of groups of words.
 #[inline(always)]
 fn combines_groups<A: ReadWords, B: ReadWords, O: ViewOperation>() -> bool
     ensures width { IsTrue result → A.width ≡ B.width }
@@ -131,12 +131,12 @@ fn combines_groups<A: ReadWords, B: ReadWords, O: ViewOperation>() -> bool
         && B::tells_groups::<Ones>()
 }
 
-/// What the operation `O` makes of two sets that it borrows, the first read in the order `E` and
-/// the second in `F`: a set of words as the first one's, read in `E`.
+/// The result of the operation `O` on two borrowed sets, the first read in the order `E` and the
+/// second in `F`. It is a set of words of the first set's type, read in `E`.
 ///
-/// Each word of it is made when it is read. Where the words of the two sets differ in width or
-/// order, the second one is searched for each of its set bits there. `R` names whether both sets are
-/// known to have each word.
+/// Each word is computed when it is read. If the words of the two sets differ in width or order,
+/// each set bit of the second set in that word is searched for. `R` says whether both sets are
+/// known to have each word that is read.
 #[derive(Drop)]
 pub struct OfBoth<'a, A: Shape, B: Shape, E: Endian, F: Endian, O: Operation, R: Reach = Part> {
     left: &'a A,
@@ -274,8 +274,8 @@ impl<'a, A: Bits, B: Bits, E: Endian, F: Endian, O: ViewOperation, R: Reach> Rea
     }
 }
 
-// Returns a view of the same words, which tests none against the end of a set, if both sets have
-// each of them, of one width and in one order.
+// Returns a view of the same words that makes no test for the end of a set. It returns `None` if
+// one of the sets lacks a word, or if their words differ in width or order.
 #[inline(always)]
 fn whole<'a, A: Bits, B: Bits, E: Endian, F: Endian, O: Operation, R: Reach>(
     view: &OfBoth<'a, A, B, E, F, O, R>,
@@ -327,7 +327,7 @@ impl<'a, A: Bits, B: Bits, U: Endian, F: Endian, O: ViewOperation, R: Reach> Bit
 }
 
 impl<'a, A: Bits, B: Bits, E: Endian, F: Endian, O: Operation> OfBoth<'a, A, B, E, F, O> {
-    /// Views the indexes below `end`, past which the operation makes no member.
+    /// Returns a view of the indexes below `end`. From `end` on the result has no index.
     #[inline]
     fn until(left: &'a A, right: &'a B, end: u32) -> Self
         requires left_fits { ShapeFits A.Shape left.now }
@@ -356,7 +356,7 @@ impl<'a, A: Bits, B: Bits, E: Endian, F: Endian, O: Operation> OfBoth<'a, A, B, 
 }
 
 impl<'a, A: Bits, B: Bits, E: Endian, F: Endian, O: FirstOperation> OfBoth<'a, A, B, E, F, O> {
-    /// Views what an operation that keeps to the first set makes of two sets.
+    /// Returns a view of the result of an operation whose indexes are all in the first set.
     #[inline]
     pub(crate) fn of_first(left: &'a A, right: &'a B) -> Self
         requires left_fits { ShapeFits A.Shape left.now }
@@ -379,7 +379,7 @@ impl<'a, A: Bits, B: Bits, E: Endian, F: Endian, O: FirstOperation> OfBoth<'a, A
 }
 
 impl<'a, A: Bits, B: Bits, E: Endian, F: Endian, O: EitherOperation> OfBoth<'a, A, B, E, F, O> {
-    /// Views what an operation makes of two sets whose words have one width.
+    /// Returns a view of the result of an operation on two sets whose words have one width.
     #[inline]
     pub(crate) fn of_alike(left: &'a A, right: &'a B) -> Self
         requires width { A.width ≡ B.width }
@@ -402,8 +402,8 @@ impl<'a, A: Bits, B: Bits, E: Endian, F: Endian, O: EitherOperation> OfBoth<'a, 
         OfBoth::until(left, right, end)
     }
 
-    /// Views what an operation makes of two sets of any words, with the greater capacity rounded up
-    /// to whole words of the first.
+    /// Returns a view of the result of an operation on two sets of any words. Its capacity is the
+    /// greater one, rounded up to whole words of the first set.
     #[inline]
     pub(crate) fn of_unlike(left: &'a A, right: &'a B) -> Self
         requires left_fits { ShapeFits A.Shape left.now }

@@ -15,12 +15,12 @@ use bittle_bits::extension::{
 use std::alloc::AllocError;
 use std::marker::PhantomData;
 
-/// The set bits of a range of a set that it borrows.
+/// The set bits in a range of a borrowed set.
 pub type Within<'a, B, E> = KindWithin<'a, B, E, Ones>;
 
-/// The bits that `K` names of a range of a set that it borrows, read in the order `E`: a set of as
-/// many bits as that one, in `E`. Each word of it is made when it is read. An
-/// iterator over its set bits reads the words of the range alone; a search reads one more at most.
+/// The bits of the kind `K` (set or unset) in a range of a borrowed set, read in the order `E`: a
+/// set of the same capacity, in `E`. Each word is computed when it is read. An iterator over the
+/// set bits of the view reads only the words of the range; a search reads at most one more.
 #[derive(Drop)]
 pub struct KindWithin<'a, B: Shape, E: Endian, K: Kind> {
     set: &'a B,
@@ -79,7 +79,7 @@ impl<'a, B: Bits, E: Endian, K: Kind> ReadWords for KindWithin<'a, B, E, K> {
         self.set.bits_capacity()
     }
 
-    // A word without a bit needs no mask, nor does one that is all in the range.
+    // A word without a bit needs no mask, nor does a word that lies wholly in the range.
     #[inline(always)]
     fn nth_leaf_word(&self, k: usize) -> B::LeafWord {
         let word = word_of_kind::<B, K>(self.set, k);
@@ -142,7 +142,7 @@ impl<'a, B: Bits, U: Endian> Bits for Within<'a, B, U> {
 }
 
 impl<'a, B: Bits, E: Endian, K: Kind> KindWithin<'a, B, E, K> {
-    /// Views the bits of the kind of a range of a set.
+    /// Returns a view of the bits of the kind `K` in a range of a set.
     #[inline]
     pub(crate) fn of(set: &'a B, from: u32, to: u32) -> KindWithin<'a, B, E, K>
         requires fits { ShapeFits B.Shape set.now }
