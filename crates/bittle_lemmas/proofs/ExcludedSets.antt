@@ -1,5 +1,5 @@
 -- Two sets without a common member, as mines and open squares, after the calls of their owner.
-use Rattle.std.proofs.Common.{◌≡◌, ◌≢◌, ℕ, ◌%◌, ◌<◌, Bool, true, false, not, ◌&&◌, nat_lt, inl, inr, refl, sym, ap, ◌∙◌, arith}
+use Rattle.std.proofs.Common.{◌≡◌, ℕ, ◌%◌, ◌<◌, Bool, true, false, not, ◌&&◌, nat_lt, inl, inr, sym, ap, ◌∙◌, arith}
 use Rattle.std.proofs.lemmas.Bool.{and_parts, and_right, cases_Bool, cases_eq, ltb-true, not-true, true≢false}
 use Rattle.std.proofs.lemmas.Nat.{mod_below}
 use Rattle.bittle.specs.PlainSet.{PlainSet, contains, empty_set, has_without, with_index, without_index}
@@ -29,7 +29,7 @@ none_if_excludes s r apart k below has = not-true (s.has k)
 
 -- ---- what it tells of an index, which may wrap
 
--- a member of the one is none of the other
+-- a member of the second set is no member of the first
 pub unset_if_excluded : (s r : PlainSet) (i : ℕ) → excludes s r ≡ true →
     r.capacity ≡ s.capacity → contains r i ≡ true → contains s i ≡ false
 unfolding contains
@@ -40,6 +40,14 @@ unset_if_excluded s r i apart same has =
     (ap s.has (sym place)
     ∙ none_if_excludes s r apart (i % r.capacity)
     (mod_below i r.capacity (ltb-true 0 r.capacity parts.0)) parts.1)
+
+-- and a member of the first set is no member of the second
+pub unset_if_excluding : (s r : PlainSet) (i : ℕ) → excludes s r ≡ true →
+    r.capacity ≡ s.capacity → contains s i ≡ true → contains r i ≡ false
+unset_if_excluding s r i apart same has = elim (cases_Bool (contains r i)) [
+  | inl both ↦ absurd (true≢false (sym has ∙ unset_if_excluded s r i apart same both))
+  | inr lacks ↦ lacks
+]
 
 -- ---- where they stay so
 
@@ -84,3 +92,9 @@ excludes_after_other_clear s r q i is apart = excludes_if_none s q (λ k below h
   where
     and_second : (a b : Bool) → (a && b) ≡ true → b ≡ true
     and_second a b both = (and_parts a b both).1
+
+-- after any index was cleared in both
+pub excludes_after_both_clear : (s t r q : PlainSet) (i : ℕ) → t ≡ without_index s i →
+    q ≡ without_index r i → excludes s r ≡ true → excludes t q ≡ true
+excludes_after_both_clear s t r q i one other apart =
+    excludes_after_other_clear t r q i other (excludes_after_clear s t r i one apart)

@@ -1,10 +1,13 @@
 -- What a search for an unset bit found, in a set or in a union of two.
-use Rattle.std.proofs.Common.{◌≡◌, ℕ, ◌<◌, ◌≤◌, Bool, true, false, not, max, ◌&&◌, ◌||◌, nat_lt, Some, inl, inr, refl, sym, ap, ◌∙◌, arith}
+use Rattle.std.proofs.Common.{◌≡◌, ℕ, ◌+◌, ◌<◌, ◌≤◌, Bool, true, false, not, ◌||◌, nat_lt, Option, Some, inl, inr, refl, sym, ap, ◌∙◌, subst, arith}
 use Rattle.std.proofs.lemmas.Bool.{and_parts, cases_lt, ltb-true, not-false, not-true, true≢false}
-use Rattle.bittle.specs.PlainSet.{PlainSet, complement, contains, lacks, size}
-use Rattle.bittle.specs.Searches.{IsFirstIn}
+use Rattle.bittle.specs.PlainSet.{PlainSet, complement, contains, is_in_span, lacks, size}
+use Rattle.bittle.specs.Searches.{IsFirstIn, NoneIn}
 use Rattle.bittle.proofs.CallerSets.{complement_within, contains_within, size_at_most, size_full}
 use Rattle.bittle_ext.specs.Combined.{either_of}
+use Rattle.bittle_ext.specs.RangeMembers.{members_within}
+use Rattle.bittle_ext.specs.Runs.{IsFirstRun}
+use Rattle.bittle_ext.proofs.CallerMembers.{unset_where_found}
 
 -- what is found is below the capacity and no member
 pub found_below : (s : PlainSet) (i : ℕ) → lacks s i ≡ true → i < s.capacity
@@ -17,16 +20,50 @@ unfolding lacks
 none_where_found s i found =
     not-true (s.has i) (and_parts (nat_lt i s.capacity) (not (s.has i)) found).1
 
--- each number below it is a member, if it is the least one that was looked for from 0 on
-pub set_below_found : (s : PlainSet) (to i k : ℕ) → IsFirstIn (complement s) 0 to (Some i) →
-    to ≤ s.capacity → k < i → contains s k ≡ true
-set_below_found s to i k first within low =
-    let below : k < s.capacity = omega (arith, low, within, first.1) in
+-- each number of the range is a member where none was found unset
+pub set_if_none_unset : (s : PlainSet) (from to k : ℕ) → NoneIn (complement s) from to →
+    to ≤ s.capacity → from ≤ k → k < to → contains s k ≡ true
+set_if_none_unset s from to k none within low high =
+    let below : k < s.capacity = omega (arith, high, within) in
     contains_within s k below
-    ∙ not-false (s.has k)
-    (sym (complement_within s k below) ∙ first.3 k (omega arith) (omega (arith, low)))
+    ∙ not-false (s.has k) (sym (complement_within s k below) ∙ none k low high)
 
--- so the set is not full
+-- each number of the range before the least one that was found unset is a member
+pub set_below_found : (s : PlainSet) (from to i k : ℕ) → IsFirstIn (complement s) from to (Some i) →
+    to ≤ s.capacity → from ≤ k → k < i → contains s k ≡ true
+set_below_found s from to i k first within low below =
+    set_if_none_unset s from i k first.3 (omega (arith, first.1, within)) low below
+
+-- each number of the range before the first one that two sets lack is in one of them
+pub in_either_below_found : (s t : PlainSet) (from to i k : ℕ) →
+    IsFirstIn (complement (either_of s t)) from to (Some i) → to ≤ s.capacity → to ≤ t.capacity →
+    from ≤ k → k < i → (contains s k || contains t k) ≡ true
+in_either_below_found s t from to i k first one other low below =
+    let ours : k < s.capacity = omega (arith, below, first.1, one) in
+    let theirs : k < t.capacity = omega (arith, below, first.1, other) in
+    ap (λ b. b || contains t k) (contains_within s k ours)
+    ∙ ap (λ b. s.has k || b) (contains_within t k theirs)
+    ∙ sym (contains_within (either_of s t) k (omega (arith, ours)))
+    ∙ set_below_found (either_of s t) from to i k first (omega (arith, one)) low below
+
+-- what a search of a view finds is what a search finds of the set that the view is
+pub first_in_same : (s t : PlainSet) (from to : ℕ) (r : Option ℕ) → s ≡ t →
+    IsFirstIn s from to r → IsFirstIn t from to r
+first_in_same s t from to r same is = subst (λ (u : PlainSet). IsFirstIn u from to r) same is
+
+pub first_unset_in_same : (s t : PlainSet) (from to : ℕ) (r : Option ℕ) → s ≡ t →
+    IsFirstIn (complement s) from to r → IsFirstIn (complement t) from to r
+first_unset_in_same s t from to r same is =
+    subst (λ (u : PlainSet). IsFirstIn (complement u) from to r) same is
+
+-- each number of a run that was found unset in a range is no member
+pub unset_in_run : (s : PlainSet) (low high from n i k : ℕ) →
+    IsFirstRun (members_within (complement s) low high) from n (Some i) → i ≤ k → k < i + n →
+    contains s k ≡ false
+unset_in_run s low high from n i k run begun ends =
+    unset_where_found s k (and_parts (is_in_span low high k) (lacks s k) (run.1.1 k begun ends)).1
+
+-- a set in which a number was found unset is not full
 pub not_full_if_found : (s : PlainSet) (i : ℕ) → lacks s i ≡ true → size s < s.capacity
 not_full_if_found s i found = elim (cases_lt (size s) s.capacity) [
   | inl fewer ↦ fewer
@@ -36,7 +73,7 @@ not_full_if_found s i found = elim (cases_lt (size s) s.capacity) [
 ]
 
 -- if it is not so that one of two is true, neither is
-neither : (a b : Bool) → not (a || b) ≡ true → (a ≡ false) × (b ≡ false)
+pub neither : (a b : Bool) → not (a || b) ≡ true → (a ≡ false) × (b ≡ false)
 neither true b e = absurd (true≢false (sym e))
 neither false b e = (refl, not-true b e)
 

@@ -1,5 +1,5 @@
 -- Two sets without a common member, as a caller keeps them by a ghost field.
-use Rattle.std.specs.Prelude.{ℕ, Bool, not, ◌&&◌}
+use Rattle.std.specs.Prelude.{Bool, not, ◌&&◌}
 use Rattle.bittle.specs.PlainSet.{PlainSet}
 use Rattle.bittle_ext.specs.ReservedSpans.{each_from}
 
