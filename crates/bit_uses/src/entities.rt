@@ -169,7 +169,7 @@ pub fn first_moving(world: &World<[u64; 4], 3>, names: &[u32; 256]) -> Option<u3
     Some(names[entity as usize])
 }
 
-/// Serves events, of 64 numbers of which none is alive.
+/// Serves events in a world of 64 entity numbers, none alive at first.
 pub fn serve(events: &[Event], answers: &mut [Answer])
     requires { length answers.old ≡ length events.now }
     ensures { answers.new ≡ event_answers (empty_world 64 2) events.now }
@@ -192,8 +192,8 @@ fn serve_first<B: BitsOwned, const N: usize>(
     world.serve(events, answers);
 }
 
-/// Serves events, of 4,096 numbers of which none is alive. Each mask has a summary of the words
-/// with an unset bit, by which a spawn finds a number.
+/// Serves events in a world of 4,096 entity numbers, none alive at first. Each mask of the world
+/// has a summary of its words with an unset bit, so a spawn finds a number in a few steps.
 pub fn serve_tiered(events: &[Event], answers: &mut [Answer])
     requires { length answers.old ≡ length events.now }
     ensures { answers.new ≡ event_answers (empty_world 4096 2) events.now }
@@ -202,7 +202,7 @@ pub fn serve_tiered(events: &[Event], answers: &mut [Answer])
     serve_first::<Tiered4K<Zeros>, 2>(&mut world, events, answers);
 }
 
-/// Serves events, of 64 numbers of which those of a mask are alive.
+/// Serves events in a world of 64 entity numbers, of which those of a mask are alive at first.
 pub fn serve_beside(alive: u64, events: &[Event], answers: &mut [Answer])
     requires { length answers.old ≡ length events.now }
     ensures { answers.new ≡ event_answers (bare_world (bit_set 64 alive) 2) events.now }

@@ -1,5 +1,5 @@
-//! Changes of an index or of a span, and tests and counts after them. The lemma for callers stands
-//! in the attribute of the function, and none has a proof file.
+//! Functions that change one bit or a span, and then test bits. The attribute of each function
+//! names the lemmas that prove it. No function has a proof file.
 
 ghost use Rattle.std.specs.Prelude.{◌≡◌, ◌≢◌, ◌<◌, ◌≤◌, true, false};
 ghost use Rattle.bittle.specs.BitPatterns.{bit_set};

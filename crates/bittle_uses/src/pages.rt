@@ -93,7 +93,7 @@ pub fn borrow_run<B: BitsOwned>(pages: &mut Pages<B>, length: u32) -> bool
     }
 }
 
-/// Takes a page and a run of pages, and counts those that are taken.
+/// Takes a page and a run of pages, and counts all pages that are then taken.
 pub fn take_page_and_run<B: BitsOwned>(pages: &mut Pages<B>, length: u32) -> Option<u32>
     ensures { IfSome result (λ count.
         count ≡ size (set_in B.Shape B.Order.Endian pages.old.map) + 1 + length) }
