@@ -1,11 +1,12 @@
 //! A set that keeps another one, where both grow: the used blocks of a memory, and those among them
 //! that are bad.
 
-ghost use Rattle.std.specs.Prelude.{◌≡◌, ◌+◌, ◌<◌, ◌≤◌, true, false, IfSome};
+ghost use Rattle.std.specs.Prelude.{◌≡◌, ◌+◌, ◌<◌, ◌≤◌, true, IfSome};
 ghost use Rattle.bittle.specs.BitPatterns.{bit_set};
-ghost use Rattle.bittle.specs.PlainSet.{contains, size};
+ghost use Rattle.bittle.specs.PlainSet.{complement, with_index, with_span};
 ghost use Rattle.bittle.specs.Rows.{row_set};
 ghost use Rattle.bittle_ext.specs.ReservedSpans.{includes};
+ghost use Rattle.bittle_ext.specs.Runs.{IsFirstRun};
 
 use bittle::BitsMut;
 use bittle_ext::prelude::*;
@@ -21,13 +22,21 @@ pub struct Blocks {
 impl Blocks {
     /// Returns a memory of which only the bad blocks are used.
     #[tactic(auto, using(bittle_ext::proofs::IncludedSets::includes_itself))]
-    pub fn new(bad: [u64; 16]) -> Blocks {
+    pub fn new(bad: [u64; 16]) -> Blocks
+        ensures used { result.used ≡ bad }
+        ensures bad { result.bad ≡ bad }
+    {
         Blocks { used: bad, bad }
     }
 
     /// Marks a block as bad, and so as used. A number past the last block changes nothing.
     #[tactic(auto, using(bittle_lemmas::proofs::IncludedPairs::includes_after_both))]
-    pub fn mark_bad(&mut self, block: u32) {
+    pub fn mark_bad(&mut self, block: u32)
+        ensures bad { block < 1024
+            → row_set 16 64 (bit_set 64) self.new.bad ≡ with_index (row_set 16 64 (bit_set 64) self.old.bad) block }
+        ensures used { block < 1024
+            → row_set 16 64 (bit_set 64) self.new.used ≡ with_index (row_set 16 64 (bit_set 64) self.old.used) block }
+    {
         if block < 1024 {
             self.used.set_bit(block);
             self.bad.set_bit(block);
@@ -37,7 +46,11 @@ impl Blocks {
     /// Uses the first run of so many free blocks, and returns where it begins.
     #[tactic(auto, using(bittle_ext::proofs::IncludedSets::includes_after_set_span))]
     pub fn take_run(&mut self, length: u32) -> Option<u32>
-        ensures { IfSome result (λ first. first + length ≤ 1024) }
+        ensures first { IsFirstRun (complement (row_set 16 64 (bit_set 64) self.old.used)) 0 length result }
+        ensures used { IfSome result (λ first. row_set 16 64 (bit_set 64) self.new.used
+            ≡ with_span (row_set 16 64 (bit_set 64) self.old.used) first (first + length)) }
+        ensures bad { self.new.bad ≡ self.old.bad }
+        ensures below { IfSome result (λ first. first + length ≤ 1024) }
     {
         let first = self.used.first_zero_run(length)?;
         self.used.set_range(first, first + length);

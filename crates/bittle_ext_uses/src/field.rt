@@ -1,11 +1,13 @@
 //! A set that is smaller than its words: a field of 200 cells in 256 bits. The type keeps by a ghost
-//! field that no bit past the last cell is set. Two of its functions have a proof file, of one
-//! answer.
+//! field that no bit past the last cell is set. Only `join` and `size` have a proof file.
 
-ghost use Rattle.std.specs.Prelude.{◌≡◌, ◌<◌, ◌≤◌, true, false, IfSome};
+ghost use Rattle.std.specs.Prelude.{◌≡◌, ◌<◌, ◌≤◌, min, true, false, IfSome};
 ghost use Rattle.bittle.specs.BitPatterns.{bit_set};
-ghost use Rattle.bittle.specs.PlainSet.{contains, size};
+ghost use Rattle.bittle.specs.PlainSet.{contains, empty_set, size, with_index, with_span};
+ghost use Rattle.bittle.specs.PlainSet.{without_index, without_span};
 ghost use Rattle.bittle.specs.Rows.{row_set};
+ghost use Rattle.bittle.specs.SetOperations.{union_of};
+ghost use Rattle.bittle_ext.specs.Numbers.{with_copied};
 ghost use Rattle.bittle_ext.specs.ReservedSpans.{lacks_span};
 
 use bittle::{Bits, BitsMut, BitsOwned};
@@ -21,14 +23,20 @@ pub struct Field {
 impl Field {
     /// Returns a field without full cells.
     #[tactic(auto, using(bittle_ext::proofs::UnsetSpans::lacks_span_of_empty))]
-    pub fn new() -> Field {
+    pub fn new() -> Field
+        ensures { row_set 4 64 (bit_set 64) result.cells ≡ empty_set 256 }
+    {
         let cells = <[u64; 4]>::zeros();
         Field { cells }
     }
 
     /// Fills a cell. One past the last cell changes nothing.
     #[tactic(auto, using(bittle_ext::proofs::UnsetSpans::lacks_span_after_set))]
-    pub fn fill(&mut self, cell: u32) {
+    pub fn fill(&mut self, cell: u32)
+        ensures fills { cell < 200 → row_set 4 64 (bit_set 64) self.new.cells
+            ≡ with_index (row_set 4 64 (bit_set 64) self.old.cells) cell }
+        ensures past { 200 ≤ cell → self.new.cells ≡ self.old.cells }
+    {
         if cell < 200 {
             self.cells.set_bit(cell);
         }
@@ -36,25 +44,37 @@ impl Field {
 
     /// Empties a cell.
     #[tactic(auto, using(bittle_ext::proofs::UnsetSpans::lacks_span_after_clear))]
-    pub fn empty(&mut self, cell: u32) {
+    pub fn empty(&mut self, cell: u32)
+        ensures { row_set 4 64 (bit_set 64) self.new.cells ≡ without_index (row_set 4 64 (bit_set 64) self.old.cells) cell }
+    {
         self.cells.clear_bit(cell);
     }
 
     /// Fills some cells of the lowest row.
     #[tactic(auto, using(bittle_ext::proofs::UnsetSpans::lacks_span_after_set_span))]
-    pub fn fill_first(&mut self, cells: u32) {
+    pub fn fill_first(&mut self, cells: u32)
+        ensures { row_set 4 64 (bit_set 64) self.new.cells
+            ≡ with_span (row_set 4 64 (bit_set 64) self.old.cells) 0 (min cells 10) }
+    {
         self.cells.set_span(..cells.min(10));
     }
 
     /// Empties the lowest row, and moves all other rows down to it.
     #[tactic(auto, using(bittle_ext::proofs::UnsetSpans::lacks_span_after_copy, bittle_ext::proofs::UnsetSpans::lacks_span_after_clear_span))]
-    pub fn remove_row(&mut self) {
+    pub fn remove_row(&mut self)
+        ensures { let before = row_set 4 64 (bit_set 64) self.old.cells in
+            row_set 4 64 (bit_set 64) self.new.cells
+            ≡ without_span (with_copied before 0 190 before 10) 190 200 }
+    {
         self.cells.copy_within(10, 200, 0);
         self.cells.clear_span(190..200);
     }
 
     /// Fills each cell that another field fills.
-    pub fn join(&mut self, other: &Field) {
+    pub fn join(&mut self, other: &Field)
+        ensures { row_set 4 64 (bit_set 64) self.new.cells
+            ≡ union_of (row_set 4 64 (bit_set 64) self.old.cells) (row_set 4 64 (bit_set 64) other.now.cells) }
+    {
         self.cells.union_assign(&other.cells);
     }
 

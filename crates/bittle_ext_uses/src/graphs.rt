@@ -1,23 +1,43 @@
-//! A search of a graph: a loop that takes nodes out of a queue, and adds to it on its way.
+//! Graphs: a union over the rows of a table, and a search, whose loop takes nodes out of a queue and
+//! adds to it on its way.
 
-use bittle::{BitsMut, BitsOwned};
-use bittle_ext::{BitsOwnedExt, BitsRelationExt};
+ghost use Rattle.std.specs.Prelude.{◌≡◌};
+ghost use Rattle.bittle.specs.BitPatterns.{bit_set};
+ghost use Rattle.bittle.specs.PlainSet.{PlainSet};
+ghost use Rattle.bittle_ext.specs.SetRelations.{IsSubset};
+ghost use Rattle.bittle_ext_uses.specs.Graphs.{targets_of, IsClosed};
 
-/// Returns the nodes that edges lead to from a node, that node among them. Row `k` has the nodes
-/// that an edge leads to from node `k`. A start past the last node leads nowhere.
+use bittle::{Bits, BitsMut, BitsOwned};
+use bittle_ext::{BitsMutExt, BitsOwnedExt, BitsRelationExt};
+
+/// Returns the nodes that an edge leads to from one of some nodes. Row `k` has the nodes that an
+/// edge leads to from node `k`.
+pub fn targets(rows: &[u64; 64], nodes: u64) -> u64
+    ensures { bit_set 64 result ≡ targets_of rows.now (bit_set 64 nodes) }
+{
+    let mut all = u64::zeros();
+    for node in nodes.iter_ones() {
+        all.union_assign(&rows[node as usize]);
+    }
+    all
+}
+
+/// Returns the nodes that edges lead to from a node, that node among them: the least set that has
+/// it and that no edge leaves. Row `k` has the nodes that an edge leads to from node `k`. A start
+/// past the last node leads nowhere.
 ///
-/// Each turn takes one node out of those that are left, so 64 turns are enough, and the loop needs
-/// no measure.
-pub fn reachable(rows: &[u64; 64], start: u32) -> u64 {
+/// Each turn takes one node out of those that are left, which is the measure of the loop.
+pub fn reachable(rows: &[u64; 64], start: u32) -> u64
+    ensures closed { IsClosed rows.now start (bit_set 64 result) }
+    ensures least { (nodes : PlainSet) → IsClosed rows.now start nodes
+        → IsSubset (bit_set 64 result) nodes }
+{
     let (mut left, mut queue) = (u64::ones(), u64::zeros());
     if start < 64 {
         queue.set_bit(start);
     }
-    for _ in 0..64 {
-        let Some(node) = queue.first_common(&left) else {
-            break;
-        };
-        left.clear_bit(node);
+    while let Some(node) = queue.first_common(&left) {
+        left.remove(node);
         queue.union_assign(&rows[node as usize]);
     }
     left.complement()

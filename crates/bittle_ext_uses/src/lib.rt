@@ -1,5 +1,5 @@
-//! Callers of the everyday calls, each proved from public contracts with no proof file but for the
-//! measures of loops, and in `one_line` an answer of one line.
+//! Callers of the everyday calls, each proved from public contracts. Most have no proof file. Loops
+//! have a measure or an invariant, `one_line` and `found_bits` answers of one line.
 #![tactic(auto)]
 
 pub mod any_changes;
@@ -8,7 +8,9 @@ pub mod chains;
 pub mod checked_indexes;
 pub mod combined_walks;
 pub mod field;
+pub mod filled;
 pub mod first_forms;
+pub mod found_bits;
 pub mod graphs;
 pub mod lent_changes;
 pub mod listed;

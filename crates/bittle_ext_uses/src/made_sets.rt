@@ -57,7 +57,7 @@ pub fn mask_of(from: u32, to: u32) -> u64
     0u64.with_range(from, to)
 }
 
-/// Returns the word without a range, and with another one flipped.
+/// Returns the word with one range cleared and another range flipped.
 pub fn changed(mask: u32) -> u32
     ensures { bit_set 32 result
         ≡ with_span_toggled (without_span (bit_set 32 mask) 4 9) 20 32 }

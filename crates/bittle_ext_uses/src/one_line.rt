@@ -1,14 +1,14 @@
 //! Clauses that want one line of proof: a lemma that the prover does not find by itself.
 
 ghost use Rattle.std.specs.List.{All, list_any};
-ghost use Rattle.std.specs.Prelude.{◌≡◌, ◌≢◌, ◌==◌, ◌+◌, ◌-◌, ◌<◌, ◌≤◌, ℕ, true, false, length};
+ghost use Rattle.std.specs.Prelude.{◌≡◌, ◌≢◌, ◌==◌, ◌+◌, ◌-◌, ◌<◌, ◌≤◌, ◌||◌, ℕ, true, false, length};
 ghost use Rattle.std.specs.Prelude.{IfSome};
 ghost use Rattle.bittle.specs.BitPatterns.{bit_set};
 ghost use Rattle.bittle.specs.PlainSet.{contains, size};
 ghost use Rattle.bittle.specs.Rows.{row_set};
 ghost use Rattle.bittle.specs.Searches.{NoneIn};
 
-use bittle::BitsMut;
+use bittle::{BitsMut, BitsOwned};
 use bittle_ext::prelude::*;
 
 /// Clears a bit, and returns whether it was set. Each other bit is as before.
@@ -84,4 +84,28 @@ pub fn add(row: &mut [u64; 4], other: &[u64; 4])
         → contains (row_set 4 64 (bit_set 64) row.new) k ≡ true }
 {
     row.union_assign(other);
+}
+
+/// Returns the seats that are free in at least one of two halls and not reserved. No reserved seat
+/// is returned, and every other free seat is.
+pub fn offered(one: u64, other: u64, reserved: u64) -> u64
+    ensures reserved { (k : ℕ) → k < 64 → contains (bit_set 64 reserved) k ≡ true
+        → contains (bit_set 64 result) k ≡ false }
+    ensures free { (k : ℕ) → k < 64 → contains (bit_set 64 reserved) k ≡ false
+        → (contains (bit_set 64 one) k || contains (bit_set 64 other) k) ≡ true
+        → contains (bit_set 64 result) k ≡ true }
+{
+    one.union(other).difference(reserved)
+}
+
+/// Returns how many seats from the first on are taken: up to the first free one, or all.
+#[tactic(auto, using(bittle_ext::proofs::CallerMembers::unset_where_found))]
+pub fn taken_from_first(taken: u64) -> u32
+    ensures taken { (k : ℕ) → k < result → contains (bit_set 64 taken) k ≡ true }
+    ensures free { result < 64 → contains (bit_set 64 taken) result ≡ false }
+{
+    match taken.first_zero() {
+        Some(seat) => seat,
+        None => 64,
+    }
 }

@@ -1,9 +1,9 @@
 //! A set that always has the members of another one: the reserved seats of a hall. The type keeps
 //! that by a ghost field, and none of its functions has a proof file.
 
-ghost use Rattle.std.specs.Prelude.{◌≡◌, true, false, IfSome};
+ghost use Rattle.std.specs.Prelude.{◌≡◌, ◌&&◌, fold, not, true, false, IfSome};
 ghost use Rattle.bittle.specs.BitPatterns.{bit_set};
-ghost use Rattle.bittle.specs.PlainSet.{contains};
+ghost use Rattle.bittle.specs.PlainSet.{contains, with_index};
 ghost use Rattle.bittle.specs.Rows.{row_set};
 ghost use Rattle.bittle_ext.specs.ReservedSpans.{includes};
 
@@ -21,7 +21,10 @@ pub struct Seats {
 impl Seats {
     /// Returns a hall of which only the reserved seats are taken.
     #[tactic(auto, using(bittle_ext::proofs::IncludedSets::includes_itself))]
-    pub fn new(reserved: [u64; 4]) -> Seats {
+    pub fn new(reserved: [u64; 4]) -> Seats
+        ensures taken { result.taken ≡ reserved }
+        ensures reserved { result.reserved ≡ reserved }
+    {
         Seats {
             taken: reserved,
             reserved,
@@ -33,6 +36,8 @@ impl Seats {
     pub fn take(&mut self) -> Option<u32>
         ensures free { IfSome result
             (λ seat. contains (row_set 4 64 (bit_set 64) self.old.reserved) seat ≡ false) }
+        ensures taken { IfSome result (λ seat. row_set 4 64 (bit_set 64) self.new.taken
+            ≡ with_index (row_set 4 64 (bit_set 64) self.old.taken) seat) }
         ensures reserved { self.new.reserved ≡ self.old.reserved }
     {
         let seat = self.taken.first_zero()?;
@@ -42,13 +47,19 @@ impl Seats {
 
     /// Takes seats, which may be taken already.
     #[tactic(auto, using(bittle_ext::proofs::IncludedSets::includes_after_all))]
-    pub fn take_all(&mut self, seats: &[u32]) {
+    pub fn take_all(&mut self, seats: &[u32])
+        ensures { row_set 4 64 (bit_set 64) self.new.taken
+            ≡ fold with_index (row_set 4 64 (bit_set 64) self.old.taken) seats.now }
+    {
         self.taken.insert_all(seats);
     }
 
     /// Gives a seat back unless it is reserved, and returns whether it was taken.
     #[tactic(auto, using(bittle_ext::proofs::IncludedSets::includes_after_clear))]
-    pub fn give_back(&mut self, seat: u32) -> bool {
+    pub fn give_back(&mut self, seat: u32) -> bool
+        ensures { result ≡ (not (contains (row_set 4 64 (bit_set 64) self.old.reserved) seat)
+            && contains (row_set 4 64 (bit_set 64) self.old.taken) seat) }
+    {
         !self.reserved.test_bit(seat) && self.taken.remove(seat)
     }
 

@@ -1,13 +1,13 @@
 //! Sets changed by sets of other shapes, with what is told of the change.
 
-ghost use Rattle.std.specs.Prelude.{◌≡◌, ◌<◌, ◌≤◌, ◌+◌, ◌*◌, ◌||◌, ◌&&◌, false, length};
+ghost use Rattle.std.specs.Prelude.{◌≡◌, ◌↔◌, ◌<◌, ◌≤◌, ◌+◌, ◌*◌, ◌||◌, ◌&&◌, ℕ, false, length};
 ghost use Rattle.std.specs.Prelude.{slice_get, IfSome, IsTrue};
 ghost use Rattle.bittle.specs.BitPatterns.{bit_set};
 ghost use Rattle.bittle.specs.PlainSet.{ascending, complement, contains, full_set};
 ghost use Rattle.bittle.specs.PlainSet.{members_below, size};
 ghost use Rattle.bittle.specs.Rows.{row_set};
 ghost use Rattle.bittle.specs.Values.{set_in, ShapeFits};
-ghost use Rattle.bittle_ext.specs.Between.{members_to};
+ghost use Rattle.bittle_ext.specs.Between.{members_to, Differ};
 ghost use Rattle.bittle_ext.specs.Combined.{either_of, first_only_of};
 ghost use Rattle.bittle_ext.specs.Rotations.{shifted_down, shifted_up};
 
@@ -159,6 +159,18 @@ pub fn free_below(taken: &[u64; 8], page: u32) -> u32
     ensures { result ≡ members_below (complement (row_set 8 64 (bit_set 64) taken.now)) page }
 {
     taken.rank_zero(page)
+}
+
+/// Adds the lines that another run covered, and returns whether one of them is new. The clause on
+/// single lines has `contains` for this set, and `has` for the other one.
+pub fn cover(lines: &mut [u64; 8], other: &[u64; 8]) -> bool
+    ensures each { (k : ℕ) → k < 512 → contains (row_set 8 64 (bit_set 64) lines.new) k
+        ≡ (contains (row_set 8 64 (bit_set 64) lines.old) k
+        || (row_set 8 64 (bit_set 64) other.now).has k) }
+    ensures changed { IsTrue result ↔ Differ (row_set 8 64 (bit_set 64) lines.old)
+        (row_set 8 64 (bit_set 64) lines.new) }
+{
+    lines.union_with(other)
 }
 
 /// Adds the indexes of any set to another one, and returns whether it has an index then.

@@ -1,4 +1,4 @@
-//! Ranges of a set, written as Rust writes them, and with no condition where a call only reads.
+//! Ranges of a set, written as Rust ranges. A call that only reads puts no condition on their ends.
 
 ghost use Rattle.std.specs.Prelude.{◌≡◌, ◌+◌, ◌-◌, ◌<◌, ◌≤◌, true, IsTrue, MatchBool, ◌↔◌};
 ghost use Rattle.std.specs.Range.Bound.{start_index, end_index};
@@ -32,7 +32,7 @@ pub fn count_from(board: &[u64; 4], from: u32) -> u32
     board.count_ones_in_span(from..)
 }
 
-/// Counts what is free up to an index, and that one.
+/// Counts the free indexes up to and including `last`.
 pub fn count_free_through(mask: u8, last: u32) -> u32
     ensures { let free = complement (bit_set 8 mask) in
         result ≡ members_below free (last + 1) - members_below free 0 }
@@ -104,7 +104,7 @@ pub fn sum_of_free_from(mask: u32, from: u32) -> u32 {
     sum
 }
 
-/// Counts what two words have in common up to an index, and that one.
+/// Counts the common members of two words up to and including `last`.
 pub fn common_through(one: u64, other: u64, last: u32) -> u32 {
     one.and(&other).within_span(..=last).count_ones()
 }

@@ -7,3 +7,6 @@ invariant_of-self c = record {
   past = lacks_span_after_operation ◌||◌ _ _ _ 200 256 refl (c.union_assign.ensures.union false)
       c.args.self.now.past c.args.other.now.past;
 }
+
+pub returns : goal.returns
+returns c = c.union_assign.ensures.union false

@@ -1,0 +1,22 @@
+use Rattle.std.proofs.Common.{◌≡◌, ◌<◌, ℕ, List, true, false, get_or}
+use Rattle.bittle.specs.BitPatterns.{bit_set}
+use Rattle.bittle.specs.PlainSet.{PlainSet, size}
+use Rattle.bittle_ext.specs.SetRelations.{IsSubset}
+use Rattle.bittle_ext_uses.specs.Graphs.{IsClosed}
+use Rattle.bittle_ext_uses.proofs.graphs.reachable.Given as goal
+
+-- The queue has the first node, and what edges lead to from each node that is taken, which is one
+-- that is not left. Each closed set has what is in the queue, and what is taken.
+pub record IsSearched (rows : List ℕ) (first : ℕ) (left queue : PlainSet) : Type 0 where
+  pub begun : first < 64 → queue.has first ≡ true
+  pub followed : (k : ℕ) → k < 64 → left.has k ≡ false →
+      IsSubset (bit_set 64 (get_or rows k 0)) queue
+  pub queue_needed : (nodes : PlainSet) → IsClosed rows first nodes → IsSubset queue nodes
+  pub taken_needed : (nodes : PlainSet) → IsClosed rows first nodes →
+      (k : ℕ) → k < 64 → left.has k ≡ false → nodes.has k ≡ true
+
+abbrev pub invariant-loop-node : goal.invariant-loop-node
+invariant-loop-node l = IsSearched l.rows l.start (bit_set 64 l.left) (bit_set 64 l.queue)
+
+abbrev pub decreases-loop-node : goal.decreases-loop-node
+decreases-loop-node l = size (bit_set 64 l.left)

@@ -1,0 +1,22 @@
+//! A loop that fills a set, one member a turn: its measure is the room that is left.
+
+ghost use Rattle.std.specs.Prelude.{◌≡◌, ◌+◌};
+ghost use Rattle.bittle.specs.BitPatterns.{bit_set};
+ghost use Rattle.bittle.specs.PlainSet.{complement, size};
+ghost use Rattle.bittle.specs.Searches.{IsFirstIn, NoneIn};
+
+use bittle::{BitsMut, BitsOwned};
+use bittle_ext::prelude::*;
+
+/// Fills all free seats from the first on, and returns how many they were.
+pub fn fill(seats: &mut u64) -> u32
+    ensures all { size (bit_set 64 seats.new) ≡ 64 }
+    ensures count { size (bit_set 64 seats.new) ≡ size (bit_set 64 seats.old) + result }
+{
+    let mut filled = 0u32;
+    while let Some(seat) = seats.first_zero() {
+        seats.set_bit(seat);
+        filled += 1;
+    }
+    filled
+}
