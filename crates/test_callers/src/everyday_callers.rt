@@ -4,12 +4,18 @@ use crate::checks::same;
 use bittle::Bits;
 use bittle_ext_uses::blocks::Blocks;
 use bittle_ext_uses::field::Field;
-use bittle_ext_uses::graphs::reachable;
+use bittle_ext_uses::filled::fill;
+use bittle_ext_uses::found_bits::{
+    first_absence, first_missing, first_open_bay, first_wide_bay, free_for_both, free_run,
+    safe_squares, was_there_all,
+};
+use bittle_ext_uses::graphs::{reachable, targets};
 use bittle_ext_uses::listed::write_first;
 use bittle_ext_uses::mines::Board;
-use bittle_ext_uses::one_line::{free_hour, letters};
+use bittle_ext_uses::one_line::{free_hour, letters, offered, taken_from_first};
 use bittle_ext_uses::relation_chains::right_numbers;
 use bittle_ext_uses::seats::Seats;
+use bittle_ext_uses::sets_between::cover;
 
 #[test]
 fn nodes_that_edges_lead_to(rt: HostRuntime) {
@@ -22,6 +28,7 @@ fn nodes_that_edges_lead_to(rt: HostRuntime) {
     same!(rt; reachable(&rows, 0), 1 << 63 | 0b0111);
     same!(rt; (reachable(&rows, 5), reachable(&rows, 1)), (0b0010_0010, 0b0010));
     same!(rt; (reachable(&rows, 64), reachable(&rows, u32::MAX)), (0, 0));
+    same!(rt; (targets(&rows, 0b0010_0001), targets(&rows, 0)), (1 << 63 | 0b0010, 0));
 }
 
 #[test]
@@ -82,6 +89,11 @@ fn squares_of_a_board_with_mines(rt: HostRuntime) {
     same!(rt; (board.disarm(5), board.disarm(5), board.show(5)), (true, false, true));
     board.hide(2);
     same!(rt; (board.is_shown(2), board.is_shown(5), board.is_shown(3)), (false, true, false));
+    same!(rt; (board.has_mine(3), board.has_mine(5)), (true, false));
+    same!(rt; (board.sign(3), board.sign(5), board.sign(6)), (2, 1, 0));
+    board.reset(3);
+    board.reset(5);
+    same!(rt; (board.show(3), board.is_shown(3), board.is_shown(5)), (true, true, false));
 }
 
 #[test]
@@ -101,4 +113,50 @@ fn blocks_of_which_some_are_bad(rt: HostRuntime) {
 fn clauses_of_one_line(rt: HostRuntime) {
     same!(rt; (free_hour(0b1011), free_hour(u32::MAX)), (Some(2), None));
     same!(rt; (letters(&[2, 0, 2, 25]), letters(&[])), (1 << 25 | 0b101, 0));
+    same!(rt; (offered(0b0011, 0b0110, 0b1010), offered(0, 0, 1)), (0b0101, 0));
+    same!(rt; (taken_from_first(0b0111), taken_from_first(6)), (3, 0));
+    same!(rt; taken_from_first(u64::MAX), 64);
+}
+
+#[test]
+fn bays_that_are_open_or_wide(rt: HostRuntime) {
+    // Bays 0 to 63 are taken and bay 64 is closed. Bays 1, 65 and 201 are wide.
+    let (taken, closed) = ([u64::MAX, 0, 0, 0], [0, 1, 0, 0]);
+    same!(rt; first_open_bay(&taken, &closed), Some(65));
+    same!(rt; first_open_bay(&taken, &[0, u64::MAX, u64::MAX, 0xFF]), None);
+    same!(rt; first_wide_bay(&[2, 2, 0, 1 << 9], &taken), Some(65));
+    same!(rt; first_wide_bay(&[2, 0, 0, 1 << 9], &taken), None);
+}
+
+#[test]
+fn days_of_a_month(rt: HostRuntime) {
+    // Somebody was there on days 0 to 3 and on day 5.
+    let days = 0b0010_1111;
+    same!(rt; (was_there_all(days, 0, 4), was_there_all(days, 3, 6)), (true, false));
+    same!(rt; (was_there_all(days, 9, 9), was_there_all(days, 5, 31)), (true, false));
+    same!(rt; (first_absence(days, 0), first_absence(days, 5)), (Some(4), Some(6)));
+    same!(rt; (first_absence(u32::MAX, 0), first_absence(days, 31)), (None, None));
+}
+
+#[test]
+fn bits_that_a_search_finds(rt: HostRuntime) {
+    same!(rt; (first_missing(0b0111, 0b0011), first_missing(1, 3)), (Some(2), None));
+    same!(rt; (free_for_both(0b0101, 0b0010), free_for_both(1 << 24, u32::MAX)), (Some(3), None));
+    same!(rt; (safe_squares(0b0011, 0b0110), safe_squares(0, 0)), (!0b0111, u64::MAX));
+    // Numbers 1 and 4 are taken.
+    let mut taken = [0u64; 64];
+    taken[0] = 0b0001_0010;
+    same!(rt; (free_run(&taken, 2), free_run(&taken, 3)), (Some(2), Some(5)));
+    same!(rt; (free_run(&taken, 4090), free_run(&taken, 4091)), (Some(5), None));
+}
+
+#[test]
+fn seats_and_lines_that_fill(rt: HostRuntime) {
+    let mut seats = !0b0101u64;
+    same!(rt; (fill(&mut seats), fill(&mut seats)), (2, 0));
+    same!(rt; seats, u64::MAX);
+    let mut lines = [1u64, 0, 0, 0, 0, 0, 0, 0];
+    let other = [2u64, 0, 0, 0, 0, 0, 0, 1];
+    same!(rt; (cover(&mut lines, &other), cover(&mut lines, &other)), (true, false));
+    same!(rt; lines, [3, 0, 0, 0, 0, 0, 0, 1]);
 }
