@@ -32,10 +32,14 @@ impl Blocks {
     /// Marks a block as bad, and so as used. A number past the last block changes nothing.
     #[tactic(auto, using(bittle_lemmas::proofs::IncludedPairs::includes_after_both))]
     pub fn mark_bad(&mut self, block: u32)
+        ensures past { 1024 ≤ block → self.new.bad ≡ self.old.bad }
+        ensures past_used { 1024 ≤ block → self.new.used ≡ self.old.used }
         ensures bad { block < 1024
-            → row_set 16 64 (bit_set 64) self.new.bad ≡ with_index (row_set 16 64 (bit_set 64) self.old.bad) block }
+            → row_set 16 64 (bit_set 64) self.new.bad
+            ≡ with_index (row_set 16 64 (bit_set 64) self.old.bad) block }
         ensures used { block < 1024
-            → row_set 16 64 (bit_set 64) self.new.used ≡ with_index (row_set 16 64 (bit_set 64) self.old.used) block }
+            → row_set 16 64 (bit_set 64) self.new.used
+            ≡ with_index (row_set 16 64 (bit_set 64) self.old.used) block }
     {
         if block < 1024 {
             self.used.set_bit(block);
@@ -46,7 +50,8 @@ impl Blocks {
     /// Uses the first run of so many free blocks, and returns where it begins.
     #[tactic(auto, using(bittle_ext::proofs::IncludedSets::includes_after_set_span))]
     pub fn take_run(&mut self, length: u32) -> Option<u32>
-        ensures first { IsFirstRun (complement (row_set 16 64 (bit_set 64) self.old.used)) 0 length result }
+        ensures first { IsFirstRun (complement (row_set 16 64 (bit_set 64) self.old.used)) 0 length
+            result }
         ensures used { IfSome result (λ first. row_set 16 64 (bit_set 64) self.new.used
             ≡ with_span (row_set 16 64 (bit_set 64) self.old.used) first (first + length)) }
         ensures bad { self.new.bad ≡ self.old.bad }

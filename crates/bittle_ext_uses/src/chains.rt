@@ -8,9 +8,10 @@ ghost use Rattle.std.specs.Prelude.{◌≡◌, ◌+◌, ◌<◌, ◌≤◌, ℕ,
 ghost use Rattle.std.specs.Prelude.{option_map, slice_get, slice_index, unwrap_or};
 ghost use Rattle.bittle.specs.BitPatterns.{bit_set};
 ghost use Rattle.bittle.specs.PlainSet.{ascending, complement, members_below};
-ghost use Rattle.bittle.specs.PlainSet.{with_span, with_span_toggled, without_index, without_span};
+ghost use Rattle.bittle.specs.PlainSet.{with_index, with_span, with_span_toggled};
+ghost use Rattle.bittle.specs.PlainSet.{without_index, without_span};
 ghost use Rattle.bittle.specs.Rows.{row_set};
-ghost use Rattle.bittle.specs.Searches.{IsLastIn};
+ghost use Rattle.bittle.specs.Searches.{IsFirstIn, IsLastIn};
 ghost use Rattle.bittle.specs.Values.{set_in, ShapeFits};
 ghost use Rattle.bittle_ext.specs.Runs.{IsFirstRun};
 
@@ -143,7 +144,12 @@ pub fn pop_entry(mask: &mut u16, table: &[u32; 16]) -> u32
 }
 
 /// Takes the first free slot, and marks it in a table.
-pub fn take_and_mark(slots: &mut [u8; 4], table: &mut [bool; 32]) {
+pub fn take_and_mark(slots: &mut [u8; 4], table: &mut [bool; 32])
+    ensures { let before = row_set 4 8 (bit_set 8) slots.old in
+        (found : Option ℕ) × IsFirstIn (complement before) 0 32 found
+        × MatchOption found (slots.new ≡ slots.old)
+        (λ i. row_set 4 8 (bit_set 8) slots.new ≡ with_index before i) }
+{
     if let Some(slot) = slots.take_first_zero() {
         table[slot as usize] = true;
     }

@@ -45,7 +45,8 @@ impl Field {
     /// Empties a cell.
     #[tactic(auto, using(bittle_ext::proofs::UnsetSpans::lacks_span_after_clear))]
     pub fn empty(&mut self, cell: u32)
-        ensures { row_set 4 64 (bit_set 64) self.new.cells ≡ without_index (row_set 4 64 (bit_set 64) self.old.cells) cell }
+        ensures { row_set 4 64 (bit_set 64) self.new.cells
+            ≡ without_index (row_set 4 64 (bit_set 64) self.old.cells) cell }
     {
         self.cells.clear_bit(cell);
     }
@@ -73,7 +74,8 @@ impl Field {
     /// Fills each cell that another field fills.
     pub fn join(&mut self, other: &Field)
         ensures { row_set 4 64 (bit_set 64) self.new.cells
-            ≡ union_of (row_set 4 64 (bit_set 64) self.old.cells) (row_set 4 64 (bit_set 64) other.now.cells) }
+            ≡ union_of (row_set 4 64 (bit_set 64) self.old.cells)
+            (row_set 4 64 (bit_set 64) other.now.cells) }
     {
         self.cells.union_assign(&other.cells);
     }

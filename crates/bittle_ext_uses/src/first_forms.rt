@@ -1,10 +1,11 @@
 //! Forms that one writes first, and for two that the check refuses what is shortest in their place: a
 //! `return` from a `for` with an index of a row, and a closure over an iterator.
 
-ghost use Rattle.std.specs.Prelude.{◌*◌, ◌<◌, length};
+ghost use Rattle.std.specs.Prelude.{◌*◌, ◌<◌, false, length, slice_index_or};
 ghost use Rattle.bittle.specs.BitPatterns.{bit_set};
 ghost use Rattle.bittle.specs.Rows.{row_set};
 ghost use Rattle.bittle.specs.Searches.{IsFirstIn};
+ghost use Rattle.bittle_ext.specs.Changes.{those_passing};
 
 use bittle::Bits;
 use bittle_ext::prelude::*;
@@ -38,7 +39,11 @@ pub fn first_marked(mask: u64, row: &[bool; 64]) -> Option<u32> {
 }
 
 /// Returns the first member that a row marks, of a copy that keeps those alone.
-pub fn first_of_marked(mask: u64, row: &[bool; 64]) -> Option<u32> {
+#[tactic(auto, using(bittle_lemmas::proofs::FoundNumbers::first_in_same))]
+pub fn first_of_marked(mask: u64, row: &[bool; 64]) -> Option<u32>
+    ensures { IsFirstIn (those_passing (λ i. slice_index_or row.now i false) (bit_set 64 mask)) 0 64
+        result }
+{
     let mut marked = mask;
     marked.retain(|index| row[index as usize]);
     marked.first_one()

@@ -1,5 +1,5 @@
 //! What a search or a test of a range tells of single bits. Lemmas in the attribute prove
-//! `first_open_bay` and `first_missing`; each open goal of the others has an answer of one line.
+//! `first_open_bay` and `first_missing`; the others have a short answer for each open goal.
 
 ghost use Rattle.std.specs.Prelude.{◌≡◌, ◌↔◌, ◌+◌, ◌<◌, ◌≤◌, ◌||◌, ℕ, true, false, IfSome, IsTrue};
 ghost use Rattle.std.specs.Prelude.{MatchOption};
@@ -7,9 +7,11 @@ ghost use Rattle.bittle.specs.BitPatterns.{bit_set};
 ghost use Rattle.bittle.specs.PlainSet.{complement, contains};
 ghost use Rattle.bittle.specs.Rows.{row_set};
 ghost use Rattle.bittle.specs.Searches.{IsFirstIn};
-ghost use Rattle.bittle.specs.SetOperations.{first_alone};
+ghost use Rattle.bittle.specs.SetOperations.{first_alone, union_of};
 ghost use Rattle.bittle_ext.specs.Combined.{either_of};
-ghost use Rattle.bittle_ext.specs.SetRelations.{AreDisjoint};
+ghost use Rattle.bittle_ext.specs.RangeMembers.{members_within};
+ghost use Rattle.bittle_ext.specs.Runs.{IsFirstRun};
+ghost use Rattle.bittle_ext.specs.SetRelations.{AreDisjoint, IsFirstAlone};
 ghost use Rattle.bittle_ext.specs.Views.{decided_of_first};
 
 use bittle::BitsOwned;
@@ -25,8 +27,11 @@ pub fn first_open_bay(taken: &[u64; 4], closed: &[u64; 4]) -> Option<u32>
 }
 
 /// Returns the first of 24 hours that is free for two people. Each hour before it is taken for one.
+#[tactic(auto, using(bittle_lemmas::proofs::FoundNumbers::first_unset_in_same))]
 pub fn free_for_both(one: u32, other: u32) -> Option<u32>
-    ensures { IfSome result (λ hour. (k : ℕ) → k < hour
+    ensures free { IsFirstIn (complement (either_of (bit_set 32 one) (bit_set 32 other))) 0 24
+        result }
+    ensures before { IfSome result (λ hour. (k : ℕ) → k < hour
         → (contains (bit_set 32 one) k || contains (bit_set 32 other) k) ≡ true) }
 {
     let hour = one.or(&other).first_zero_in_range(0, 24)?;
@@ -44,6 +49,7 @@ pub fn first_wide_bay(wide: &[u64; 4], taken: &[u64; 4]) -> Option<u32>
 /// Returns the first member of a set that another one lacks.
 #[tactic(auto, using(bittle::proofs::CallerSets::contains_within))]
 pub fn first_missing(wanted: u64, owned: u64) -> Option<u32>
+    ensures first { IsFirstAlone (bit_set 64 wanted) (bit_set 64 owned) result }
     ensures wanted { IfSome result (λ k. contains (bit_set 64 wanted) k ≡ true) }
     ensures missing { IfSome result (λ k. contains (bit_set 64 owned) k ≡ false) }
 {
@@ -74,6 +80,8 @@ pub fn first_absence(days: u32, from: u32) -> Option<u32>
 
 /// Returns the first run of so many free numbers from 1 to 4,094.
 pub fn free_run(taken: &[u64; 64], length: u32) -> Option<u32>
+    ensures run { IsFirstRun (members_within (complement (row_set 64 64 (bit_set 64) taken.now)) 1
+        4095) 1 length result }
     ensures within { IfSome result (λ first. (1 ≤ first) × (first + length ≤ 4095)) }
     ensures free { IfSome result (λ first. (k : ℕ) → first ≤ k → k < first + length
         → contains (row_set 64 64 (bit_set 64) taken.now) k ≡ false) }
@@ -84,6 +92,8 @@ pub fn free_run(taken: &[u64; 64], length: u32) -> Option<u32>
 
 /// Returns the squares that are neither occupied nor attacked.
 pub fn safe_squares(occupied: u64, attacked: u64) -> u64
+    ensures set { bit_set 64 result
+        ≡ complement (union_of (bit_set 64 occupied) (bit_set 64 attacked)) }
     ensures free { AreDisjoint (bit_set 64 result) (bit_set 64 occupied) }
     ensures safe { AreDisjoint (bit_set 64 result) (bit_set 64 attacked) }
 {

@@ -30,9 +30,12 @@ impl Board {
     /// Shows a square, and returns whether it is on the board and has no mine.
     #[tactic(auto, using(bittle_lemmas::proofs::ExcludedSets::excludes_after_set))]
     pub fn show(&mut self, square: u32) -> bool
-        ensures allowed { result ≡ (nat_lt square 64 && not (contains (bit_set 64 self.old.mines) square)) }
+        ensures allowed { result
+            ≡ (nat_lt square 64 && not (contains (bit_set 64 self.old.mines) square)) }
         ensures shown { result ≡ true
             → bit_set 64 self.new.shown ≡ with_index (bit_set 64 self.old.shown) square }
+        ensures refused { result ≡ false → self.new.shown ≡ self.old.shown }
+        ensures mines { self.new.mines ≡ self.old.mines }
     {
         if 64 <= square || self.mines.test_bit(square) {
             return false;
@@ -52,9 +55,12 @@ impl Board {
     /// Lays a mine, and returns whether the square is on the board and is not shown.
     #[tactic(auto, using(bittle_lemmas::proofs::ExcludedSets::excludes_after_other_set))]
     pub fn lay(&mut self, square: u32) -> bool
-        ensures allowed { result ≡ (nat_lt square 64 && not (contains (bit_set 64 self.old.shown) square)) }
+        ensures allowed { result
+            ≡ (nat_lt square 64 && not (contains (bit_set 64 self.old.shown) square)) }
         ensures mined { result ≡ true
             → bit_set 64 self.new.mines ≡ with_index (bit_set 64 self.old.mines) square }
+        ensures refused { result ≡ false → self.new.mines ≡ self.old.mines }
+        ensures shown { self.new.shown ≡ self.old.shown }
     {
         if 64 <= square || self.shown.test_bit(square) {
             return false;
@@ -76,7 +82,8 @@ impl Board {
     /// Hides a square, and takes its mine away.
     #[tactic(auto, using(bittle_lemmas::proofs::ExcludedSets::excludes_after_both_clear))]
     pub fn reset(&mut self, square: u32)
-        ensures shown { bit_set 64 self.new.shown ≡ without_index (bit_set 64 self.old.shown) square }
+        ensures shown { bit_set 64 self.new.shown
+            ≡ without_index (bit_set 64 self.old.shown) square }
         ensures mines { bit_set 64 self.new.mines
             ≡ without_index (bit_set 64 self.old.mines) square }
     {

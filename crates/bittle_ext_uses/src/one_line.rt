@@ -7,6 +7,7 @@ ghost use Rattle.bittle.specs.BitPatterns.{bit_set};
 ghost use Rattle.bittle.specs.PlainSet.{contains, size};
 ghost use Rattle.bittle.specs.Rows.{row_set};
 ghost use Rattle.bittle.specs.Searches.{NoneIn};
+ghost use Rattle.bittle.specs.SetOperations.{difference_of, union_of};
 
 use bittle::{BitsMut, BitsOwned};
 use bittle_ext::prelude::*;
@@ -89,6 +90,8 @@ pub fn add(row: &mut [u64; 4], other: &[u64; 4])
 /// Returns the seats that are free in at least one of two halls and not reserved. No reserved seat
 /// is returned, and every other free seat is.
 pub fn offered(one: u64, other: u64, reserved: u64) -> u64
+    ensures set { bit_set 64 result ≡ difference_of (union_of (bit_set 64 one) (bit_set 64 other))
+        (bit_set 64 reserved) }
     ensures reserved { (k : ℕ) → k < 64 → contains (bit_set 64 reserved) k ≡ true
         → contains (bit_set 64 result) k ≡ false }
     ensures free { (k : ℕ) → k < 64 → contains (bit_set 64 reserved) k ≡ false

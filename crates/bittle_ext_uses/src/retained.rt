@@ -1,7 +1,9 @@
 //! Closures that are asked of each member: what they read of a table is below the capacity.
 
-ghost use Rattle.std.specs.Prelude.{◌≡◌, ◌*◌, ◌≤◌, length, false, nat_lt, slice_index, slice_index_or};
+ghost use Rattle.std.specs.Prelude.{◌≡◌, ◌*◌, ◌≤◌, length, true, false, nat_lt};
+ghost use Rattle.std.specs.Prelude.{slice_index, slice_index_or};
 ghost use Rattle.bittle.specs.BitPatterns.{bit_set};
+ghost use Rattle.bittle.specs.Orders.{read_in};
 ghost use Rattle.bittle.specs.Rows.{row_set};
 ghost use Rattle.bittle.specs.Values.{set_in, ShapeFits};
 ghost use Rattle.bittle_ext.specs.Changes.{those_passing, Retains};
@@ -30,6 +32,8 @@ pub fn keep_urgent(ready: &mut [u32; 4], priority: &[u8; 128], bound: u8)
 /// Keeps the members that a slice marks, which is long enough.
 pub fn keep_marked_by_slice(mask: &mut u16, table: &[bool])
     requires { 16 ≤ length table.now }
+    ensures { bit_set 16 mask.new
+        ≡ those_passing (λ i. slice_index_or table.now i false) (bit_set 16 mask.old) }
 {
     mask.retain(|index| table[index as usize]);
 }
@@ -45,7 +49,10 @@ pub fn keep_and_count(mask: &mut u32, table: &[bool; 32]) -> u32 {
 }
 
 /// Keeps the members that a table marks of a set that is read from the left.
-pub fn keep_marked_le(mask: &mut u8, table: &[bool; 8]) {
+pub fn keep_marked_le(mask: &mut u8, table: &[bool; 8])
+    ensures { read_in true 8 (bit_set 8 mask.new) ≡ those_passing
+        (λ i. slice_index_or table.now i false) (read_in true 8 (bit_set 8 mask.old)) }
+{
     mask.in_order_mut::<bittle::LittleEndian>()
         .retain(|index| table[index as usize]);
 }

@@ -1,7 +1,7 @@
 //! Iterators over the maximal runs of a set.
 
 ghost use Rattle.std.specs.Iterator.{YieldsFirst, YieldsLast};
-ghost use Rattle.std.specs.Prelude.{◌≡◌, ℕ, List, length};
+ghost use Rattle.std.specs.Prelude.{◌≡◌, ◌-◌, ℕ, List, fold, length, max};
 ghost use Rattle.std.specs.declared.ops.Range.{Range};
 ghost use Rattle.bittle.specs.BitPatterns.{bit_set};
 ghost use Rattle.bittle.specs.PlainSet.{complement};
@@ -46,10 +46,13 @@ pub fn counted_twice(mask: u32) -> (usize, usize)
 }
 
 /// Returns how long the longest run of members is. The check proves that a run ends past its start.
-pub fn longest(mask: u64) -> u32 {
+pub fn longest(mask: u64) -> u32
+    ensures { result
+        ≡ fold (λ most run. max most (run.end - run.start)) 0 (runs (bit_set 64 mask)) }
+{
     let mut longest = 0;
     for run in mask.iter_one_runs() {
-        longest = (run.end - run.start).max(longest);
+        longest = longest.max(run.end - run.start);
     }
     longest
 }

@@ -3,7 +3,8 @@
 
 ghost use Rattle.std.specs.Prelude.{◌≡◌, ◌&&◌, fold, not, true, false, IfSome};
 ghost use Rattle.bittle.specs.BitPatterns.{bit_set};
-ghost use Rattle.bittle.specs.PlainSet.{contains, with_index};
+ghost use Rattle.bittle.specs.PlainSet.{complement, contains, with_index, without_index};
+ghost use Rattle.bittle.specs.Searches.{IsFirstIn};
 ghost use Rattle.bittle.specs.Rows.{row_set};
 ghost use Rattle.bittle_ext.specs.ReservedSpans.{includes};
 
@@ -34,6 +35,8 @@ impl Seats {
     /// Takes the first free seat, which is not reserved.
     #[tactic(auto, using(bittle_ext::proofs::IncludedSets::includes_after_set, bittle_ext::proofs::IncludedSets::not_included_if_unset, bittle_ext::proofs::CallerMembers::unset_where_found))]
     pub fn take(&mut self) -> Option<u32>
+        ensures first { IsFirstIn (complement (row_set 4 64 (bit_set 64) self.old.taken)) 0 256
+            result }
         ensures free { IfSome result
             (λ seat. contains (row_set 4 64 (bit_set 64) self.old.reserved) seat ≡ false) }
         ensures taken { IfSome result (λ seat. row_set 4 64 (bit_set 64) self.new.taken
@@ -57,8 +60,11 @@ impl Seats {
     /// Gives a seat back unless it is reserved, and returns whether it was taken.
     #[tactic(auto, using(bittle_ext::proofs::IncludedSets::includes_after_clear))]
     pub fn give_back(&mut self, seat: u32) -> bool
-        ensures { result ≡ (not (contains (row_set 4 64 (bit_set 64) self.old.reserved) seat)
+        ensures was { result ≡ (not (contains (row_set 4 64 (bit_set 64) self.old.reserved) seat)
             && contains (row_set 4 64 (bit_set 64) self.old.taken) seat) }
+        ensures free { result ≡ true → row_set 4 64 (bit_set 64) self.new.taken
+            ≡ without_index (row_set 4 64 (bit_set 64) self.old.taken) seat }
+        ensures reserved { self.new.reserved ≡ self.old.reserved }
     {
         !self.reserved.test_bit(seat) && self.taken.remove(seat)
     }

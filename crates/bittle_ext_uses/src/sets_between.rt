@@ -28,7 +28,9 @@ pub fn add_live(before: &mut [u64; 4], after: &[u64; 4]) -> bool
 }
 
 /// Adds what is live after a block, without what it defines, to what is live before it.
-pub fn flow(before: &mut u64, after: u64, defined: &[u8; 8]) -> bool {
+pub fn flow(before: &mut u64, after: u64, defined: &[u8; 8]) -> bool
+    ensures { IsTrue result ↔ Differ (bit_set 64 before.old) (bit_set 64 before.new) }
+{
     before.union_with(&after.minus(defined))
 }
 

@@ -1,6 +1,7 @@
 //! Ranges of a set, written as Rust ranges. A call that only reads puts no condition on their ends.
 
 ghost use Rattle.std.specs.Prelude.{◌≡◌, ◌+◌, ◌-◌, ◌<◌, ◌≤◌, true, IsTrue, MatchBool, ◌↔◌};
+ghost use Rattle.std.specs.Prelude.{option_map, slice_index, unwrap_or, ℕ, Option};
 ghost use Rattle.std.specs.Range.Bound.{start_index, end_index};
 ghost use Rattle.bittle.specs.BitPatterns.{bit_set};
 ghost use Rattle.bittle.specs.Orders.{read_in};
@@ -9,7 +10,8 @@ ghost use Rattle.bittle.specs.PlainSet.{with_span, without_span, with_span_toggl
 ghost use Rattle.bittle.specs.Rows.{row_set};
 ghost use Rattle.bittle.specs.Searches.{IsFirstIn, IsLastIn, NoneIn};
 ghost use Rattle.bittle.specs.Values.{set_in, ShapeFits};
-ghost use Rattle.bittle_ext.specs.RangeMembers.{HasAllIn, HasSomeIn, LacksSomeIn};
+ghost use Rattle.bittle_ext.specs.Combined.{both_of};
+ghost use Rattle.bittle_ext.specs.RangeMembers.{members_within, HasAllIn, HasSomeIn, LacksSomeIn};
 
 use bittle::{Bits, BitsMut, Endian, LittleEndian, Set};
 use bittle_ext::prelude::*;
@@ -57,7 +59,10 @@ pub fn last_free_of_half(set: &Set<u16, LittleEndian>) -> Option<u32>
 
 /// Returns the entry of a table at the first free index of a range, or 0: the index is below the
 /// capacity, whatever the range is.
-pub fn entry_at_first_free(mask: u64, from: u32, to: u32, table: &[u32; 64]) -> u32 {
+pub fn entry_at_first_free(mask: u64, from: u32, to: u32, table: &[u32; 64]) -> u32
+    ensures { (found : Option ℕ) × IsFirstIn (complement (bit_set 64 mask)) from to found
+        × (result ≡ unwrap_or (option_map (λ i. slice_index table.now i) found) 0) }
+{
     match mask.first_zero_in_range(from, to) {
         Some(index) => table[index as usize],
         None => 0,
@@ -105,7 +110,10 @@ pub fn sum_of_free_from(mask: u32, from: u32) -> u32 {
 }
 
 /// Counts the common members of two words up to and including `last`.
-pub fn common_through(one: u64, other: u64, last: u32) -> u32 {
+pub fn common_through(one: u64, other: u64, last: u32) -> u32
+    ensures { result ≡ size (members_within (both_of (bit_set 64 one) (bit_set 64 other)) 0
+        (last + 1)) }
+{
     one.and(&other).within_span(..=last).count_ones()
 }
 

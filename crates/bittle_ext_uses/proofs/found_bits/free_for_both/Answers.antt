@@ -6,8 +6,8 @@ use Rattle.bittle_ext.specs.Combined.{either_of}
 use Rattle.bittle_lemmas.proofs.FoundNumbers.{first_unset_in_same, in_either_below_found}
 use Rattle.bittle_ext_uses.proofs.found_bits.free_for_both.Goals as goal
 
-pub returns : goal.returns
-returns c k below =
+pub returns-clause-before : goal.returns-clause-before
+returns-clause-before c k below =
     let s = bit_set 32 c.args.one in
     let t = bit_set 32 c.args.other in
     let hour = c.in_ok-hour.hour in

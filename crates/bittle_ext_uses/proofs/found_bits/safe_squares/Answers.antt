@@ -1,4 +1,5 @@
-use Rattle.std.proofs.Common.{false, refl}
+use Rattle.std.proofs.Common.{false, refl, ap, ◌∙◌}
+use Rattle.bittle.specs.PlainSet.{complement}
 use Rattle.bittle_lemmas.proofs.OutsideBoth.{disjoint_from_first, disjoint_from_second}
 use Rattle.bittle_ext_uses.proofs.found_bits.safe_squares.Goals as goal
 
@@ -9,3 +10,6 @@ returns-clause-free c =
 pub returns-clause-safe : goal.returns-clause-safe
 returns-clause-safe c =
     disjoint_from_second _ _ _ _ c.complement.ensures.value (c.union.ensures false) refl
+
+pub returns-clause-set : goal.returns-clause-set
+returns-clause-set c = c.complement.ensures.value ∙ ap complement (c.union.ensures false)

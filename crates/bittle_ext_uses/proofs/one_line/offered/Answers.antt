@@ -13,3 +13,6 @@ returns-clause-free c = λ k below lacks some.
     let first = contains_after_operation ◌||◌ _ _ _ k (c.union.ensures false) below below in
     let last = contains_after_operation first_alone _ _ _ k (c.difference.ensures false) below below in
     last ∙ rw (first ∙ some, lacks)
+
+pub returns-clause-set : goal.returns-clause-set
+returns-clause-set c = rw (c.difference.ensures false, c.union.ensures false)
