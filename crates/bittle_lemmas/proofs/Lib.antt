@@ -1,3 +1,4 @@
+pub mod EqualSets
 pub mod ExcludedSets
 pub mod FoundNumbers
 pub mod IncludedPairs

@@ -3,6 +3,7 @@
 use crate::checks::same;
 use bittle::Bits;
 use bittle_ext_uses::blocks::Blocks;
+use bittle_ext_uses::equal_sets::copied;
 use bittle_ext_uses::field::Field;
 use bittle_ext_uses::filled::fill;
 use bittle_ext_uses::found_bits::{
@@ -16,6 +17,7 @@ use bittle_ext_uses::one_line::{free_hour, letters, offered, taken_from_first};
 use bittle_ext_uses::relation_chains::right_numbers;
 use bittle_ext_uses::seats::Seats;
 use bittle_ext_uses::sets_between::cover;
+use bittle_ext_uses::shots::{Shot, fire};
 
 #[test]
 fn nodes_that_edges_lead_to(rt: HostRuntime) {
@@ -159,4 +161,30 @@ fn seats_and_lines_that_fill(rt: HostRuntime) {
     let other = [2u64, 0, 0, 0, 0, 0, 0, 1];
     same!(rt; (cover(&mut lines, &other), cover(&mut lines, &other)), (true, false));
     same!(rt; lines, [3, 0, 0, 0, 0, 0, 0, 1]);
+}
+
+#[test]
+fn a_set_copied_number_by_number(rt: HostRuntime) {
+    same!(rt; (copied(0), copied(u64::MAX)), (0, u64::MAX));
+    same!(rt; copied(1 << 63 | 0b1010), 1 << 63 | 0b1010);
+}
+
+// The number of an answer: 0 for a square that was fired at before, 1 for water, 2 for a ship.
+fn number_of(answer: Shot) -> u32 {
+    match answer {
+        Shot::Repeated => 0,
+        Shot::Missed => 1,
+        Shot::Hit => 2,
+    }
+}
+
+#[test]
+fn shots_at_ships(rt: HostRuntime) {
+    // Ships are at the squares 1 and 63.
+    let (ships, mut fired) = (1 << 63 | 0b0010, 0u64);
+    let mut answers = [9; 5];
+    for (k, square) in [63, 2, 63, 1, 2].iter().enumerate() {
+        answers[k] = number_of(fire(ships, &mut fired, *square));
+    }
+    same!(rt; (answers, fired), ([2, 1, 0, 2, 0], 1 << 63 | 0b0110));
 }

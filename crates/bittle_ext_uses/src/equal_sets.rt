@@ -1,0 +1,19 @@
+//! Sets that are equal since each number is a member of both or of neither.
+
+ghost use Rattle.std.specs.Prelude.{◌≡◌};
+ghost use Rattle.bittle.specs.BitPatterns.{bit_set};
+
+use bittle::{Bits, BitsMut, BitsOwned};
+
+/// Copies a set by a loop over its numbers, as a caller does who asks something else of each.
+pub fn copied(from: u64) -> u64
+    ensures { bit_set 64 result ≡ bit_set 64 from }
+{
+    let mut to = u64::zeros();
+    for k in 0..64u32 {
+        if from.test_bit(k) {
+            to.set_bit(k);
+        }
+    }
+    to
+}
