@@ -1,76 +1,14 @@
-//! A set of numbers that grows. Its words are in a `Vec` of the program's own, which takes memory;
-//! for the length of a call a slice of them is the set.
+//! A set of numbers that grows. Its words are in a `Vec` of the program's own, which takes memory.
 //!
 //! What is proved: no call reads past the words, none panics, and each ends. A number past the words
 //! is no member, and only `insert` takes memory.
 #![tactic(auto)]
 
+mod growing;
+
+use crate::growing::Growing;
 use bittle::Bits;
-use bittle_ext::prelude::*;
-use std::alloc::{AllocError, Global};
 use std::io;
-
-/// A set of numbers that grows.
-#[derive(Drop)]
-struct Growing {
-    words: Vec<u64>,
-}
-
-impl Growing {
-    /// Returns the empty set, which has no words yet.
-    fn new(alloc: Global) -> Growing {
-        Growing {
-            words: Vec::new(alloc),
-        }
-    }
-
-    /// Adds a number, and returns whether it was no member. Where it lies past the words, words with
-    /// no bit set are added first. Where there is no memory for them, nothing changes.
-    fn insert(&mut self, number: u32) -> Result<bool, AllocError> {
-        let wanted = number as usize / 64 + 1;
-        if self.words.len() < wanted {
-            self.words.resize(wanted, 0)?;
-        }
-        let mut set = self.words.as_mut_slice();
-        Ok(set.insert(number))
-    }
-
-    /// Takes a number out, and returns whether it was a member.
-    fn remove(&mut self, number: u32) -> bool {
-        if !self.contains(number) {
-            return false;
-        }
-        let mut set = self.words.as_mut_slice();
-        set.remove(number)
-    }
-
-    /// Returns whether a number is a member: one past the words is none, and does not wrap.
-    fn contains(&self, number: u32) -> bool {
-        let set = self.words.as_slice();
-        (number as usize) / 64 < set.len() && set.test_bit(number)
-    }
-
-    /// Returns the least number from one on that is no member: past the words each is none.
-    fn next_free(&self, from: u32) -> u32 {
-        let set = self.words.as_slice();
-        if set.bits_capacity() == u32::MAX {
-            return from;
-        }
-        match set.next_zero(from) {
-            Some(number) => number,
-            None => from.max(set.bits_capacity()),
-        }
-    }
-
-    /// Returns how many members there are.
-    fn count(&self) -> u32 {
-        let set = self.words.as_slice();
-        if set.bits_capacity() == u32::MAX {
-            return u32::MAX;
-        }
-        Bits::count_ones(&set)
-    }
-}
 
 fn main(rt: HostRuntime) -> io::Result<()> {
     let mut numbers = Growing::new(rt.alloc());

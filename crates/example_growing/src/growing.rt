@@ -1,0 +1,67 @@
+//! A set over a `Vec` of words: for the length of a call a slice of them is the set.
+
+use bittle::Bits;
+use bittle_ext::prelude::*;
+use std::alloc::{AllocError, Global};
+
+/// A set of numbers that grows.
+#[derive(Drop)]
+pub(crate) struct Growing {
+    pub(crate) words: Vec<u64>,
+}
+
+impl Growing {
+    /// Returns the empty set, which has no words yet.
+    pub(crate) fn new(alloc: Global) -> Growing {
+        Growing {
+            words: Vec::new(alloc),
+        }
+    }
+
+    /// Adds a number, and returns whether it was no member. Where it lies past the words, words with
+    /// no bit set are added first. Where there is no memory for them, nothing changes.
+    pub(crate) fn insert(&mut self, number: u32) -> Result<bool, AllocError> {
+        let wanted = number as usize / 64 + 1;
+        if self.words.len() < wanted {
+            self.words.resize(wanted, 0)?;
+        }
+        let mut set = self.words.as_mut_slice();
+        Ok(set.insert(number))
+    }
+
+    /// Takes a number out, and returns whether it was a member.
+    pub(crate) fn remove(&mut self, number: u32) -> bool {
+        if !self.contains(number) {
+            return false;
+        }
+        let mut set = self.words.as_mut_slice();
+        set.remove(number)
+    }
+
+    /// Returns whether a number is a member: one past the words is none, and does not wrap.
+    pub(crate) fn contains(&self, number: u32) -> bool {
+        let set = self.words.as_slice();
+        (number as usize) / 64 < set.len() && set.test_bit(number)
+    }
+
+    /// Returns the least number from one on that is no member: past the words each is none.
+    pub(crate) fn next_free(&self, from: u32) -> u32 {
+        let set = self.words.as_slice();
+        if set.bits_capacity() == u32::MAX {
+            return from;
+        }
+        match set.next_zero(from) {
+            Some(number) => number,
+            None => from.max(set.bits_capacity()),
+        }
+    }
+
+    /// Returns how many members there are.
+    pub(crate) fn count(&self) -> u32 {
+        let set = self.words.as_slice();
+        if set.bits_capacity() == u32::MAX {
+            return u32::MAX;
+        }
+        Bits::count_ones(&set)
+    }
+}
