@@ -42,7 +42,7 @@ ascending_from-add p from (suc a) b (suc c) mid e f =
     (ascending_from p (suc from) a) ++ ascending_from p mid b)
     [ true ↦ ap (λ xs. from ∷ xs) rest | false ↦ rest ]
 
--- tests that agree over the range have one list
+-- tests that agree on the range have the same list
 pub ascending_from-same : (p q : ℕ → Bool) (from n : ℕ) →
     ((k : ℕ) → from ≤ k → k < from + n → p k ≡ q k) →
     ascending_from p from n ≡ ascending_from q from n
@@ -66,7 +66,7 @@ late_head p from (suc n) k rest h e =
           (sym (ascending-no p from n not_here) ∙ e)
     ]
 
--- tests that have one list over the range agree there
+-- tests that have the same list over the range agree on it
 pub ascending_from-agree : (p q : ℕ → Bool) (from n : ℕ) →
     ascending_from p from n ≡ ascending_from q from n → (k : ℕ) → from ≤ k → k < from + n →
     p k ≡ q k
@@ -190,7 +190,7 @@ ascending-none s h = ascending_from-none s.has 0 s.capacity (λ k lo hi. h k (om
 
 -- one member of a set
 module _ (s : PlainSet) (r : ℕ) (inside : r < s.capacity) (here : s.has r ≡ true) where
-  -- the list is the members before it, the member, and the members after it
+  -- the list is the members before r, then r, then the members after r
   pub ascending-at : ascending s ≡ (ascending_from s.has 0 r ++ r ∷ [])
       ++ ascending_from s.has (suc r) (s.capacity - suc r)
   ascending-at =
@@ -213,7 +213,7 @@ module _ (s : PlainSet) (r : ℕ) (inside : r < s.capacity) (here : s.has r ≡ 
       ∙ ap (λ t. not (r == t) && s.has r) (mod-eq_of_lt inside)
       ∙ ap (λ b. not b && s.has r) (eq-eqb r r refl)
 
-  -- without the member, the list is the members before and after it
+  -- without r, the list is the members before r, then the members after r
   pub ascending-without : ascending (without_index s r) ≡ ascending_from s.has 0 r
       ++ ascending_from s.has (suc r) (s.capacity - suc r)
   ascending-without =

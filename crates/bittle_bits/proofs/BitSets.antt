@@ -1,4 +1,4 @@
--- What the operations on words make of their sets.
+-- What the operations on words do to the sets of their bits.
 use Rattle.std.proofs.Common.{◌≡◌, ℕ, ◌+◌, ◌-◌, suc, ◌*◌, ◌/◌, ◌^◌, ◌<◌, ◌≤◌, Bool, true, false, not, ◌&&◌, ◌||◌, ◌==◌, nat_lt, inl, inr, refl, sym, ap, ◌∙◌, arith, bit_and, bit_or, min, max}
 use Rattle.std.proofs.Math.Bool.{and-true}
 use Rattle.std.proofs.Math.Path.{fun_ext}
@@ -47,7 +47,7 @@ unfolding bit_has
 bit_has-and w a b = fun_ext λ k. rw (bit_at_and a b k)
     (both (nat_lt k w) (bit_at a k) (bit_at b k) (bit_at-lt a k) (bit_at-lt b k))
 
--- the inverted word has exactly the bits set that the word lacks
+-- the inverted word has a bit set exactly if the bit is unset in the word
 pub bit_has-not : (w d : ℕ) → d < 2 ^ w → bit_has w (2 ^ w - 1 - d) ≡ lacks (bit_set w d)
 unfolding bit_has lacks
 bit_has-not w d h = fun_ext λ k.
@@ -108,7 +108,7 @@ all_digits w z d none fits is =
     ∙ fun_ext λ k. ap (λ t. nat_lt k w && not (t k)) (bit_has-zero w z none)
     ∙ and-true (nat_lt k w))
 
--- a word with all its bits set has each number below the width in each order
+-- in a word with all its bits set, each number below the width is a member, in each order
 pub full_word : (w d : ℕ) → 0 < w → bit_set w d ≡ full_set w → (m : Bool) →
     read_in m w (bit_set w d) ≡ full_set w
 full_word w d word = full_set_in_each_order w w (bit_set w d) word (1, omega arith)

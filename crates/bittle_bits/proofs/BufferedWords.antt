@@ -26,7 +26,7 @@ moved_none base [] e = refl
 moved_none base (x ∷ xs) e = cc
 
 module _ {W : Type 0} (m : Bool) (w : ℕ) (pattern : W → ℕ) where
-  -- a word counts if it is loaded
+  -- the count of a buffered word is 1 if it is loaded, and else 0
   pub loaded_count : (c : BufferedWord W) →
       buffer_count (buffered_items m w pattern c) ≡ cond c.is_loaded 1 0
   unfolding buffered_items
@@ -62,7 +62,7 @@ module _ {W : Type 0} (m : Bool) (w : ℕ) (pattern : W → ℕ) where
   with_items c sound some none =
       some (moved_none _ _ (rw (with_member c sound some) at none))
 
-  -- a dropped word without a member
+  -- after a word without a member is dropped, no word is loaded, and the buffer is sound
   pub dropped : (word : W) (edge : ℕ) (d : BufferedWord W) →
       ascending (read_in m w (bit_set w (pattern word))) ≡ [] →
       d ≡ record { word = word; edge = edge; is_loaded = false } →

@@ -101,7 +101,7 @@ unfolding count_below
 count-never zero = refl
 count-never (suc c) = omega (arith, count-never c)
 
--- the count of what passes a test and the count of what does not add up to the bound
+-- below c, the numbers that fail a test and those that pass it are c in all
 pub count-others : (c : ℕ) (s : ℕ → Bool) → count_below c (λ k. not (s k)) + count_below c s ≡ c
 unfolding count_below
 count-others zero s = refl

@@ -1,4 +1,4 @@
--- What an operation makes of two sets, word by word.
+-- The result of an operation on two sets, word by word.
 use Rattle.std.proofs.Common.{◌≡◌, ℕ, ◌+◌, ◌*◌, ◌/◌, ◌<◌, ◌≤◌, Bool, ◌&&◌, inl, inr, Option, Some, None, MatchOption, refl, sym, ap, ◌∙◌, arith}
 use Rattle.std.proofs.Math.Path.{fun_ext}
 use Rattle.std.proofs.Math.Nat.{div-eq_of_lt, mul-div_left}
@@ -15,7 +15,7 @@ use Rattle.bittle_bits.proofs.PlainSets.{plain_set}
 use Rattle.bittle_bits.proofs.SetOperations.{combination-below, combination-outside}
 use Rattle.bittle_bits.proofs.Words.{word_has-at}
 
--- an operation on word k of two sets makes word k of what it makes of the sets
+-- the result of an operation on word k of each of two sets is word k of the result on the sets
 pub word_decided : (f : Bool → Bool → Bool) (w k n x : ℕ) (s t : PlainSet) → k * w + w ≤ n →
     bit_set w x ≡ combination_of f (word_of w s k) (word_of w t k) →
     bit_set w x ≡ word_of w (decided_below f n s t) k
@@ -41,7 +41,8 @@ module _ (f : Bool → Bool → Bool) (m : Bool) (w n : ℕ) (s t : PlainSet) (w
       ap (λ b. b && f (s.has (place m w i)) (t.has (place m w i)))
       (lt-ltb (place m w i) n (omega (arith, low, whole.1)))
 
-  -- the first of them is the first number that the operation makes a member
+  -- the first member of the result, read in an order, is the first member that the operation gives
+  -- on the two sets, read in that order
   pub first_decided : (end : ℕ) (r : Option ℕ) → end ≤ n →
       IsFirstIn (read_in m w (decided_below f n s t)) 0 end r →
       MatchOption r (NoneDecidedBelow f (read_in m w s) (read_in m w t) end)
@@ -53,7 +54,7 @@ module _ (f : Bool → Bool → Bool) (m : Bool) (w n : ℕ) (s t : PlainSet) (w
     sym (decided_at d (omega (arith, first.1))) ∙ first.2,
   )
 
--- the words of a capacity of whole words make it up
+-- a capacity of whole words is the number of its words times the width
 pub words_make_up : (w n : ℕ) → 0 < w → (words : ℕ) × (n ≡ words * w) → n / w * w ≡ n
 words_make_up w n word whole = rw (whole.1) (ap (λ k. k * w) (mul-div_left whole.0 word))
 

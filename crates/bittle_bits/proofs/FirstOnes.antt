@@ -42,7 +42,7 @@ module _ (m : Bool) (w : ℕ) (s : PlainSet) (word : 0 < w) (from k x : ℕ)
     none_up_to r least.within least.none_below,
   )
 
--- a word of a set that has no member there is 0
+-- if a set has no member in its word k, that word is 0
 pub zero_if_none : (m : Bool) (w : ℕ) (s : PlainSet) (k x : ℕ) → 0 < w → x < 2 ^ w →
     bit_set w x ≡ word_of w s k → NoneIn (read_in m w s) (k * w) ((k + 1) * w) → x ≡ 0
 zero_if_none m w s k x word fits is none =
@@ -88,7 +88,7 @@ each_within a b c d ab cd all one two both =
       omega (arith, second, two, le_or_r c d),
     )
 
--- the or of four words is 0 exactly where each is
+-- if the or of four words is 0, each of the words is 0
 pub each_is_zero : (a b c d ab cd all : ℕ) → ab ≡ bit_or a b → cd ≡ bit_or c d →
     all ≡ bit_or ab cd → all ≡ 0 → (a ≡ 0) × (b ≡ 0) × (c ≡ 0) × (d ≡ 0)
 each_is_zero a b c d ab cd all one two both none =
@@ -99,6 +99,7 @@ each_is_zero a b c d ab cd all one two both none =
       omega (arith, none, t.3),
     )
 
+-- if each of four words is 0, their or is 0
 pub all_is_zero : (a b c d ab cd all : ℕ) → ab ≡ bit_or a b → cd ≡ bit_or c d →
     all ≡ bit_or ab cd → a ≡ 0 → b ≡ 0 → c ≡ 0 → d ≡ 0 → all ≡ 0
 all_is_zero a b c d ab cd all one two both i j k l = both ∙ (λ t. bit_or (one t) (two t))

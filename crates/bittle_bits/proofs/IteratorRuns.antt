@@ -14,7 +14,7 @@ in_reverse p seen = as_is_back p p.from.remaining
     (from_back StepsBack (λ x. x) (λ w. w.remaining) (λ s t h. ap length h.gave.0)
     (λ s x t h. h.gave) p seen)
 
--- an iterator that has counted no scans and no items, and has fetched at most one word
+-- an iterator is fresh if it has counted no scans and no items, and has fetched at most one word
 pub is_fresh : (words : ℕ) (w : Walk) → w.scans ≡ 0 → w.items ≡ 0 → w.fetches ≤ 1 →
     w.words ≡ words → w.fetches + w.unread + w.passed ≡ words → IsFresh words w
 is_fresh words w l i f n u = record {
@@ -27,7 +27,8 @@ is_fresh words w l i f n u = record {
   in_reverse = in_reverse;
 }
 
--- an iterator that has what remains in another, and has counted nothing
+-- a clone resumes as its source if it has the same items and words left, and has counted only the
+-- words that the source had fetched or passed over
 pub resumes_as : (source clone : Walk) → clone.remaining ≡ source.remaining → clone.unread ≡ source.unread →
     clone.words ≡ source.words → clone.scans ≡ 0 → clone.items ≡ 0 → clone.fetches ≡ 0 →
     clone.passed ≡ source.passed + source.fetches →

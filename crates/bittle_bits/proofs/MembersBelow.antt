@@ -13,7 +13,7 @@ use Rattle.bittle_bits.proofs.Sizes.{size-members}
 use Rattle.bittle_bits.proofs.Spans.{is_in_span-outside, is_in_span-inside}
 use Rattle.bittle_bits.proofs.Words.{digit_at}
 
--- at least as many lie below a greater number, and at most as many more as it is greater
+-- from `from` to `to` the count does not fall, and it grows by at most `to - from`
 pub below_between : (s : PlainSet) (from to : ℕ) → from ≤ to →
     (members_below s from ≤ members_below s to)
     × (members_below s to ≤ members_below s from + (to - from))
@@ -55,7 +55,7 @@ module _ (m : Bool) (w : ℕ) (s : PlainSet) (word : 0 < w) where
   abbrev t : PlainSet
   t = read_in m w s
 
-  -- the count grows over a span of word k by the bits of the word in the span
+  -- over a span of word k, the count grows by the number of set bits that the word has in the span
   pub below_in_word : (k d e r n from to : ℕ) → bit_set w d ≡ word_of w s k →
       read_in m w (bit_set w e) ≡ span_set w from to → r ≡ bit_and d e →
       n ≡ size (bit_set w r) → from ≤ to → to ≤ w →
@@ -78,7 +78,7 @@ module _ (m : Bool) (w : ℕ) (s : PlainSet) (word : 0 < w) where
         count-add (k * w) to t.has,
       )
 
-  -- the count grows over word k by the bits of the word
+  -- over word k, the count grows by the number of set bits of the word
   pub below_next_word : (k d n : ℕ) → bit_set w d ≡ word_of w s k → n ≡ size (bit_set w d) →
       members_below t (k * w) + n ≡ members_below t ((k + 1) * w)
   below_next_word k d n is count =

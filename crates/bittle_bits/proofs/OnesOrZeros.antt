@@ -1,4 +1,4 @@
--- What an iterator or a search of a kind goes over: the set itself, or its complement.
+-- What an iterator or a search over one kind of bits goes over: the set itself, or its complement.
 use Rattle.std.proofs.Common.{◌≡◌, ℕ, ◌+◌, ◌-◌, ◌*◌, ◌^◌, ◌<◌, ◌≤◌, Bool, true, false, inl, inr, List, refl, ap, ◌∙◌, subst, arith}
 use Rattle.std.proofs.Math.Path.{fun_ext}
 use Rattle.std.proofs.lemmas.Bool.{cases_lt, lt-ltb, le-ltb}
@@ -25,7 +25,7 @@ pub ones_or_zeros-below : (ones : Bool) (s : PlainSet) (items : List ℕ) →
 ones_or_zeros-below ones s items e = subst (λ c. AreBelow c items) (ones_or_zeros-capacity ones s)
     (are_below (ones_or_zeros ones s) items e)
 
--- the bits of the kind of a set that is read in an order are those of the set, read in that order
+-- taking the bits of the kind before reading in an order gives the same as taking them after it
 pub ones_or_zeros-members : (ones m : Bool) (w : ℕ) (s : PlainSet) → 0 < w →
     (words : ℕ) × (s.capacity ≡ words * w) →
     ones_or_zeros ones (read_in m w s) ≡ read_in m w (ones_or_zeros ones s)
@@ -37,7 +37,7 @@ pub digits_of_complement : (w d e : ℕ) → d < 2 ^ w → e ≡ 2 ^ w - 1 - d �
     bit_set w e ≡ complement (bit_set w d)
 digits_of_complement w d e fits is = ap (plain_set w) (ap (bit_has w) is ∙ bit_has-not w d fits)
 
--- the bits of the kind of word k are word k of the bits of the kind of the set
+-- the bits of the kind in word k are word k of the bits of the kind in the set
 pub ones_or_zeros-word_of : (ones : Bool) (w k : ℕ) (s : PlainSet) → k * w + w ≤ s.capacity →
     ones_or_zeros ones (word_of w s k) ≡ word_of w (ones_or_zeros ones s) k
 unfolding word_has lacks

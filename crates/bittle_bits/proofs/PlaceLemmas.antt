@@ -5,7 +5,7 @@ use Rattle.std.proofs.lemmas.Nat.{mod-mul-add, mod_below, div_below, mul-add-lt}
 use Rattle.std.proofs.lemmas.Bool.{eq-eqb, ne_eqb, cases_eq, cases_lt, lt-ltb, le-ltb}
 use Rattle.bittle_bits.specs.Orders.{mirror, place}
 
--- the mirrored index by its word and its place there
+-- index o of word q is mirrored to index w - 1 - o of that word
 pub mirror_at : (w q o : ℕ) → o < w → mirror w (q * w + o) ≡ q * w + (w - 1 - o)
 unfolding mirror
 mirror_at w q o h = let e = mod-mul-add q w o h in omega (arith, e)
@@ -28,7 +28,7 @@ pub place-place : (m : Bool) (w i : ℕ) → 0 < w → place m w (place m w i) �
 place-place false w i h = refl
 place-place true w i h = mirror-mirror w i h
 
--- an index stays in its word, and in each part that is made of whole words
+-- an index in a part of whole words is mirrored within that part
 pub mirror_part : (w d q r : ℕ) → 0 < w → r < d * w →
     mirror w (q * (d * w) + r) ≡ q * (d * w) + mirror w r
 mirror_part w d q r h b =

@@ -11,7 +11,7 @@ use Rattle.bittle_bits.specs.Rows.{row_has, row_set, with_bit, GoesTo}
 use Rattle.bittle_bits.proofs.PlainSets.{plain_set, contains_in, with_in, without_in}
 use Rattle.bittle_bits.proofs.RowSets.{at_element-read, at_element-set_same, at_element-set_other, elements_has_at, by_place, elements_placed}
 
--- the place of an index that wraps
+-- an index that wraps at the capacity of the row is index i % c of element i / c % n
 pub wraps_at : (n c i : ℕ) → 0 < n → 0 < c → i % (n * c) ≡ i / c % n * c + i % c
 wraps_at n c i h l =
     let a = mod_below (i / c) n h in
@@ -102,7 +102,7 @@ module _ {X : Type 0} (m : Bool) (w c n i q r : ℕ) (big : X → PlainSet) (xs 
       ∙ ap (λ p. (λ k. h (k == p) (row_has n c test xs k))) (sym goes.at)
       ∙ ap (λ p k. h (k == i % (n * c)) (p k)) (sym (placed xs)))
 
-  -- the element with a bit put at the index makes the row with the bit put there
+  -- to put a bit at the index in its element is to put it at the index in the row
   pub row_put : (ones : Bool) (y : X) →
       read_in m w (big y) ≡ with_bit ones (read_in m w (big x)) r →
       read_in m w (row_set n c big (set xs q y))
@@ -113,7 +113,7 @@ module _ {X : Type 0} (m : Bool) (w c n i q r : ℕ) (big : X → PlainSet) (xs 
       (is ∙ without_in (read_in m w (big x)) c r owned some)
       ∙ sym (without_in (read_in m w (row_set n c big xs)) (n * c) i refl there)
 
--- where an index goes, by the quotient and the remainder by the element's capacity
+-- the quotient and the remainder of an index by the element's capacity tell where the index goes
 pub goes_to : (n c each i q : ℕ) → each ≡ c → 0 < n → 0 < c → q ≡ i / each % n →
     GoesTo n c i q (i % each)
 goes_to n c each i q asked some any is =
@@ -123,7 +123,7 @@ goes_to n c each i q asked some any is =
       at = wraps_at n c i some any;
     })
 
--- where an index goes, if it wraps at the capacity before it is divided
+-- they also tell it if the index wraps at the capacity before it is divided
 pub goes_wrapped : (n c each i j : ℕ) → each ≡ c → 0 < n → 0 < c → j ≡ i % (n * c) →
     GoesTo n c i (j / each) (j % each)
 goes_wrapped n c each i j asked filled any is =

@@ -9,7 +9,7 @@ use Rattle.bittle_bits.specs.Searches.{NoneIn, PassesOver}
 use Rattle.bittle_bits.specs.Walk.{ones_or_zeros}
 use Rattle.bittle_bits.proofs.RowSets.{elements_has_at, at_element-read}
 
--- no word is passed over
+-- it is allowed to pass over no word
 pub passes_none : (front : Bool) (w : ℕ) (s : PlainSet) (low high : ℕ) → low ≤ high →
     PassesOver front w s low high (cond front low high)
 passes_none true w s low high order = (omega arith, order, λ k lo hi. absurd (omega arith))
@@ -32,8 +32,8 @@ end_begins front low high k w n word is some within = omega (
   mul-lt-mul_of_pos_right (end_before front low high k is some) word,
 )
 
--- the words from..to of an element that begins at word `start` and has `each` words are those that
--- lie in low..high
+-- An element begins at word `start` and has `each` words. Its words from..to lie in low..high. Both
+-- ranges begin at the same word or, from the back, end at the same word.
 pub record IsPart (front : Bool) (low high each start from to : ℕ) : Type 0 where
   pub ordered : from ≤ to
   pub within : to ≤ each
@@ -41,7 +41,7 @@ pub record IsPart (front : Bool) (low high each start from to : ℕ) : Type 0 wh
   pub high_is : start + to ≤ high
   pub same_end : cond front (start + from) (start + to) ≡ cond front low high
 
--- the part of low..high in the element in which the word at the end lies
+-- the words from..to of the element that has the word at the end are such a part of low..high
 pub part_at_end : (front : Bool) (low high k at each start from to : ℕ) →
     k ≡ cond front low (high - 1) → low < high → at < each → start + at ≡ k →
     from ≡ max low start - start → to ≡ min (high - start) each →

@@ -12,7 +12,7 @@ use Rattle.bittle_bits.proofs.RowSets.{elements_has_at, by_place}
 use Rattle.bittle_bits.proofs.Counts.{count-same, count-le, count-add, count-none}
 use Rattle.bittle_bits.proofs.Sizes.{size-le}
 
--- a row has the members of its elements
+-- a row has as many members as its elements have together
 pub size-elements : {X : Type 0} (c : ℕ) (f : X → ℕ → Bool) (xs : List X) →
     count_below (length xs * c) (row_has (length xs) c f xs)
     ≡ sum_by (λ x. count_below c (f x)) xs

@@ -89,7 +89,7 @@ module _ {X : Type 0} (change : Bool → Bool) (m : Bool) (w c n q : ℕ) (big :
             ∙ ap (λ f. f k) (placed xs) ∙ row_has-past n c test xs k g)
       ])
 
--- the elements of a row that has an index do not have capacity 0
+-- if a row has an index, its elements do not have capacity 0
 pub some_each : (to n c : ℕ) → 0 < to → to ≤ n * c → 0 < c
 some_each to n c h l = elim (cases_eq c 0)
     [ inl z ↦ absurd (let t : to ≤ n * 0 = rw z at l in omega arith) | inr s ↦ omega arith ]

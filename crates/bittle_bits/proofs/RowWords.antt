@@ -22,7 +22,7 @@ some_words n c w d k whole within = elim (cases_eq d 0) [
   | inr p ↦ omega arith
 ]
 
--- the element and the index to which the first index of word k goes, if an element has d words
+-- if each element has d words, the first index of word k is index k % d * w of element k / d
 pub word_goes : (n c w d k : ℕ) → 0 < w → c ≡ d * w → k * w < n * c →
     GoesTo n c (k * w) (k / d) (k % d * w)
 word_goes n c w d k word whole within =
@@ -36,7 +36,7 @@ word_goes n c w d k word whole within =
           ∙ omega (arith, ap (λ t. k / d * t) whole, mul_assoc (k / d) d w);
     }
 
--- how many words an element of a capacity has
+-- an element of capacity d * w has d words
 pub words_each : (bits wide c w d : ℕ) → 0 < w → bits ≡ c → wide ≡ w → c ≡ d * w →
     bits / wide ≡ d
 words_each bits wide c w d word b v whole = rw (b, v, whole) (mul-div_left d word)

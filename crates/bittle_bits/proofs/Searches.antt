@@ -22,8 +22,8 @@ abbrev NoneBefore : Bool → ℕ → PlainSet → ℕ → ℕ → ℕ → ℕ �
 NoneBefore true w t from to k r = NoneIn t from (k * w + r)
 NoneBefore false w t from to k r = NoneIn t (k * w + (w - r)) to
 
--- a search found no member before word k of words p to q, and looks for those of the pattern d in
--- word k
+-- A search of the words p to q found no member before word k. It now looks for the members in word
+-- k that the pattern d has.
 pub record Searches (front m : Bool) (w : ℕ) (t : PlainSet) (from to p q k d : ℕ) : Type 0 where
   pub first : p ≤ k
   pub last : k ≤ q
@@ -63,7 +63,7 @@ mask_up_to m w e n o at word low from fits other one i h =
       | inr n ↦ rw (le-ltb i at g, ne_eqb i at n, le-ltb i (at + 1) (omega arith)) refl
     ]
 
--- no word is after the last one, seen from the end
+-- seen from an end, no word comes after the last word
 pub next_ended : (front : Bool) (w p q k : ℕ) (s : PlainSet) → k ≡ cond front q p →
     IsNextWord front w s p q k None
 next_ended true w p q k s e = λ n lo hi. absurd (omega (arith, ap (λ k. k * w) e))
@@ -92,7 +92,8 @@ module _ (ones m : Bool) (w : ℕ) (big : PlainSet) (word : 0 < w)
   has_at k d i is h = digit_at m w k s d word is i h
       ∙ sym (ap (λ t. t.has (k * w + i)) (ones_or_zeros-members ones m w big word whole))
 
-  -- the search begins at the word of the number at the end, masked from the number's place on
+  -- the search begins in the word of the range's first number, seen from the end; a mask keeps the
+  -- bits from that number on
   pub search_start : (front : Bool) (k o d e : ℕ) → k ≡ cond front p q → o ≡ cond front i j →
       bit_set w d ≡ word_of w s k →
       ((n : ℕ) → n < w → (read_in m w (bit_set w e)).has n ≡ is_ahead front o (o + 1) n) →

@@ -104,7 +104,7 @@ combined_with_span f keeps s from end h =
           ∙ sym (outside_span change s from end k (inr (omega arith)))
     ])
 
--- a span with one more index, which another index wraps to
+-- if i wraps to the end of a span, the span with i is the span with one more index
 pub with_span-more : (s : PlainSet) (from end i : ℕ) → 0 < s.capacity → i % s.capacity ≡ end →
     from ≤ end → with_index (with_span s from end) i ≡ with_span s from (end + 1)
 with_span-more s from end i some at h =

@@ -214,7 +214,7 @@ module _ {B E W : Type 0} (s : PlainSet) (words w : ℕ) where
       (sym (members_between-split s (t.low * w) ((t.high - 1) * w) ((t.high - 1) * w + w) up
       (omega arith)) ∙ sym (append-nil (members_between s (t.low * w) ((t.high - 1) * w + w)))))
 
-  -- so the iterator yielded nothing, and `IsCounted` still holds
+  -- so a fetch yields nothing, and `IsCounted` still holds
   pub fetched : (front : Bool) (t : Cursor B E W) (c : BufferPair) →
       IsCounted words t → t.low < t.high → Fetches front (next_members front t) t.buffers c →
       let u = after_next front t c in

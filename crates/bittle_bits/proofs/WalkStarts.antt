@@ -1,4 +1,4 @@
--- Where an iterator begins: with no word loaded, or with one more word loaded.
+-- Where an iterator begins: with no word loaded, or with one word loaded.
 use Rattle.std.proofs.Common.{◌≡◌, ℕ, ◌+◌, ◌-◌, ◌*◌, ◌/◌, ◌<◌, ◌≤◌, None, refl, sym, ap, ◌∙◌, arith, append-nil}
 use Rattle.std.proofs.Math.Nat.{mul-div_left, mul-le-mul_right, zero-mul}
 use Rattle.bittle_bits.specs.Buffers.{BufferPair}
@@ -11,7 +11,8 @@ use Rattle.bittle_bits.proofs.IteratorRuns.{is_fresh}
 use Rattle.bittle_bits.specs.Walk.{Seeks}
 
 module _ {B E W : Type 0} (s : PlainSet) (words w : ℕ) where
-  -- with no word loaded, if the words before and after have no member
+  -- an iterator may begin with no word loaded, at low..high, if the words before low and those from
+  -- high on have no member
   pub walk_start : (c low high i p : ℕ) (h : BufferPair) → 0 < w → s.capacity ≡ c →
       (n : ℕ) × (c ≡ n * w) → words ≡ c / w →
       h ≡ record { head = None; tail = None; scans = 0; fetches = 0 } → low ≤ high → high ≤ words →
@@ -40,7 +41,7 @@ module _ {B E W : Type 0} (s : PlainSet) (words w : ℕ) where
         };
       })
 
-  -- with one more word loaded than at another start
+  -- a start from which at most one word is fetched, and none is scanned, is still a start
   pub walk_start_on : (t u : Cursor B E W) → IsWalkStart s words w t →
       Seeks (walk_of s words w t) (walk_of s words w u) × IsCounted words u →
       u.buffers.scans ≡ t.buffers.scans → u.buffers.fetches ≤ 1 → IsWalkStart s words w u

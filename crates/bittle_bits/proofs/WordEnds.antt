@@ -257,7 +257,7 @@ less_greatest w d r greatest h =
         ∙ place_eq true w k (w - 1 - r) (omega arith)
         ∙ ap (λ x. k == x) (sym (mod-eq_of_lt (omega arith))))
 
--- the member at an end of a word that is not 0 lies in it
+-- the member at an end of a word that is not 0 lies below the width
 pub end_within : (front m : Bool) (w d r : ℕ) → 0 < w → d < 2 ^ w → (d ≡ 0 → ⊥) →
     IsEndMember front (read_in m w (bit_set w d)) r → r < w
 end_within front m w d r word fits some end = elim (cases_lt r w) [
@@ -266,8 +266,7 @@ end_within front m w d r word fits some end = elim (cases_lt r w) [
       (end-none front (read_in m w (bit_set w d)) r end g)))
 ]
 
--- if the member at an end is the set bit of least weight, the and with the word less one takes it
--- out
+-- if the member at an end is the set bit of least weight, the and of d and d - 1 takes it out of d
 pub least_taken : (front m : Bool) (w d r : ℕ) → beq m front ≡ false →
     IsEndMember front (read_in m w (bit_set w d)) r → r < w →
     ascending (read_in m w (bit_set w d)) ≡ with_end front (place m w r)

@@ -5,7 +5,7 @@ use Rattle.bittle_bits.specs.PlainSet.{PlainSet}
 use Rattle.bittle_bits.specs.Searches.{TellsGroups}
 use Rattle.bittle_bits.proofs.BitSets.{all_digits}
 
--- a word whose bits are all set tells of none
+-- a word whose bits are all set says of no group that it has no member
 pub none_told : (each w n word : ℕ) (s : PlainSet) → word ≡ 18446744073709551615 →
     TellsGroups each w s n word
 none_told each w n word s full = λ i within unset. absurd (true≢false (sym (lt-ltb i 64 within)

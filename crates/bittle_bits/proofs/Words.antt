@@ -15,7 +15,7 @@ pub word_has-at : (w : ℕ) (s : PlainSet) (k i : ℕ) → i < w → word_has w 
 unfolding word_has
 word_has-at w s k i h = ap (λ b. b && s.has (k * w + i)) (lt-ltb i w h)
 
--- a word is its own only word
+-- the only word of a word is the word itself
 pub word_of-pattern : (w d k : ℕ) → k * w < w → bit_set w d ≡ word_of w (bit_set w d) k
 unfolding word_has bit_has
 word_of-pattern w d k h =
@@ -53,7 +53,7 @@ module _ (m : Bool) (w k : ℕ) (s : PlainSet) (d : ℕ) (word : 0 < w) where
       in
       ap s.has e
 
-  -- the bits of word k in an order
+  -- in an order, the bits of word k are those of the set, counted from k * w
   pub digit_at : bit_set w d ≡ word_of w s k → (i : ℕ) → i < w →
       (read_in m w (bit_set w d)).has i ≡ (read_in m w s).has (k * w + i)
   digit_at is i h = ap (λ t. t.has (place m w i)) is ∙ word_has-at w s k (place m w i)

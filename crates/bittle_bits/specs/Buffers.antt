@@ -15,8 +15,8 @@ use Rattle.bittle_bits.specs.declared.word.Word as word
 unfoldable pub members_between : PlainSet → ℕ → ℕ → List ℕ
 members_between s from to = ascending_from s.has from (to - from)
 
--- the members of a word of w bits, each plus base; these are their indexes in the set that the word
--- was fetched from, where the first bit of the word has the index base
+-- The members of a word of w bits, each plus base. If the first bit of the word has the index base
+-- in the set that the word was fetched from, these are the members' indexes in that set.
 abbrev pub items_of : Bool → ℕ → ℕ → ℕ → List ℕ
 items_of mirrored w pattern base = map (λ i. base + i)
     (ascending (read_in mirrored w (bit_set w pattern)))
@@ -38,7 +38,7 @@ IsSound mirrored w pattern c = (c.is_loaded ≡ true →
     (first : ℕ) × (c.edge ≡ first + edge_from_first mirrored w) × (first + w < 4294967296))
     × (c.is_loaded ≡ false → ascending (read_in mirrored w (bit_set w (pattern c.word))) ≡ [])
 
--- the items of a word, as word k of a set
+-- the items of a word that is word k of a set
 abbrev pub word_items : {W E : Type 0} → word.Ghosts W → endian.Ghosts E → W → ℕ → List ℕ
 word_items t e v k = items_of e.mirrored t.width (t.pattern v) (k * t.width)
 
@@ -56,7 +56,7 @@ items_held t e c = buffered_items e.mirrored t.width t.pattern c
 abbrev pub HoldsSound : {W E : Type 0} → word.Ghosts W → endian.Ghosts E → BufferedWord W → Type 0
 HoldsSound t e c = IsSound e.mirrored t.width t.pattern c
 
--- two buffered words: the items that remain in each, their scans, and the fetches of words
+-- two buffered words: the items that remain in each, and the counts of scans and of fetches
 pub record BufferPair : Type 0 where
   pub head : Option (List ℕ)
   pub tail : Option (List ℕ)

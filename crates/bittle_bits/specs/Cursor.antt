@@ -11,13 +11,13 @@ use Rattle.bittle_bits.specs.declared.shape.Shape as shape
 
 -- B is the type of the set, E the order, and W the type of the words
 module _ {B E W : Type 0} where
-  -- What remains: the head's items, the members of the words between, and the tail's items. It is
-  -- no abbreviation, since a caller's proof search would expand the buffers of each iterator.
+  -- What remains: the head's items, the members of the words between, and the tail's items. If it
+  -- were an `abbrev`, a caller's proof search would expand the buffers of each iterator.
   unfoldable pub items_left_in : PlainSet → ℕ → Cursor B E W → List ℕ
   items_left_in s w at = items_in at.buffers.head
       ++ (members_between s (at.low * w) (at.high * w) ++ items_in at.buffers.tail)
 
-  -- what contracts see of an iterator over a set that has this many words of w bits
+  -- what contracts see of an iterator over the set s, which has `words` words of w bits
   abbrev pub walk_of : PlainSet → ℕ → ℕ → Cursor B E W → Walk
   walk_of s words w at = record {
     remaining = items_left_in s w at;
@@ -39,14 +39,16 @@ pub record IsCounted {B E W : Type 0} (words : ℕ) (at : Cursor B E W) : Type 0
       at.buffers.tail ≤ at.items + words
   pub once : at.buffers.fetches + (at.high - at.low) + at.passed ≡ words
 
--- all items remain, no scan is counted, and no word but those fetched and those passed over
+-- the start of an iterator: all items remain, no scan and no item is counted, and at most one word
+-- was fetched
 pub record IsWalkStart {B E W : Type 0} (s : PlainSet) (words w : ℕ) (t : Cursor B E W) :
     Type 0 where
   pub remaining : items_left_in s w t ≡ ascending s
   pub fresh : IsFresh words (walk_of s words w t)
   pub counted : IsCounted words t
 
--- what contracts see of an iterator at a position in a value, over its bits of a kind in an order
+-- what contracts see of an iterator at a position in a value; the iterator goes over the value's
+-- bits of a kind, read in an order
 abbrev pub walk_at : {V W E K L : Type 0} → shape.Ghosts V W → endian.Ghosts E → kind.Ghosts K → V →
     Cursor V E L → Walk
 walk_at b e k v at = walk_of (kind_in b e k v) (word_count b v) b.width at

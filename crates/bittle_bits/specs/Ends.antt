@@ -28,8 +28,8 @@ abbrev pub IsEndIn : Bool → PlainSet → ℕ → ℕ → Option ℕ → Type 0
 IsEndIn true = IsFirstIn
 IsEndIn false = IsLastIn
 
--- whether a number is at least `from`, seen from the front; whether it is below `to`, seen from the
--- back
+-- seen from the front, whether a number is at least `from`; seen from the back, whether it is below
+-- `to`
 abbrev pub is_ahead : Bool → ℕ → ℕ → ℕ → Bool
 is_ahead true from to k = not (nat_lt k from)
 is_ahead false from to k = nat_lt k to

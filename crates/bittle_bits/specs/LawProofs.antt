@@ -31,7 +31,7 @@ word_capacity w d c s is same = rw (is, same) refl
 pub one_word_whole : (w own c : ℕ) → w ≡ own → c ≡ own → (words : ℕ) × (c ≡ words * w)
 one_word_whole w own c same whole = rw (whole, same) (one_word own)
 
--- a word has a bit
+-- a word has at least one bit
 pub positive_width : (w own : ℕ) → w ≡ own → 0 < own → 0 < w
 positive_width w own same h = omega (arith, same, h)
 
@@ -39,7 +39,7 @@ positive_width w own same h = omega (arith, same, h)
 pub equal_words : (w u v : ℕ) → IsTrue (nat_eq u v) → bit_set w u ≡ bit_set w v
 equal_words w u v h = ap (bit_set w) (eqb-true u v h)
 
--- signed words that are equal are the same set, whatever their patterns are
+-- signed words that are equal are the same set, whatever function gives their patterns
 pub equal_signed_words : (w : ℕ) (pattern : ℤ → ℕ) (u v : ℤ) → IsTrue (int_eq u v) →
     bit_set w (pattern u) ≡ bit_set w (pattern v)
 equal_signed_words w pattern u v h = ap (λ x. bit_set w (pattern x)) ((signed_Decides u v).0 h)
@@ -79,7 +79,7 @@ signed_word w pattern few = record {
   same_pattern = equal_signed_words w pattern;
 }
 
--- a word of whole bytes has a bit
+-- a word of whole bytes has at least one bit
 pub positive_bytes : (w : ℕ) → (log : ℕ) × (w ≡ 2 ^ (3 + log)) → 0 < w
 positive_bytes w bytes = rw bytes.1 (pow_pos (3 + bytes.0))
 

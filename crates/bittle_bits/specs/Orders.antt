@@ -6,7 +6,8 @@ use Rattle.bittle_bits.specs.PlainSet.{PlainSet}
 unfoldable pub mirror : ℕ → ℕ → ℕ
 mirror w i = (i - i % w) + (w - 1 - i % w)
 
--- the place of an index: its index in big-endian order, which is the same or the mirrored index
+-- the place of an index: the index of the same bit in big-endian order, which is the index itself
+-- or the mirrored one
 abbrev pub place : Bool → ℕ → ℕ → ℕ
 place false w i = i
 place true w i = mirror w i

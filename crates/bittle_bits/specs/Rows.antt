@@ -17,7 +17,7 @@ row_has n c has xs i = nat_lt i (n * c) && at_element (λ x. has x (i % c)) xs (
 abbrev pub row_set : {X : Type 0} → ℕ → ℕ → (X → PlainSet) → List X → PlainSet
 row_set n c big xs = record { capacity = n * c; has = row_has n c (λ x. (big x).has) xs }
 
--- an index, which wraps at the capacity of n elements of capacity c, is index r of element q
+-- in a row of n elements of capacity c, index i, which wraps, is index r of element q
 pub record GoesTo (n c i q r : ℕ) : Type 0 where
   pub is_element : q < n
   pub within : r < c

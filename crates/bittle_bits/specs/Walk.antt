@@ -22,7 +22,7 @@ pub record Walk : Type 0 where
   pub items : ℕ
   -- How many words it has fetched, how many it has not fetched yet, and how many it never fetches.
   -- It never fetches a word that its set passed over. A clone never fetches a word that its source
-  -- was done with.
+  -- had fetched or passed over.
   pub fetches : ℕ
   pub unread : ℕ
   pub passed : ℕ
@@ -85,8 +85,8 @@ pub record IsFresh (words : ℕ) (w : Walk) : Type 0 where
   pub in_order : YieldsInOrder StepsFront (λ s. s.remaining)
   pub in_reverse : YieldsInReverse StepsBack (λ s. s.remaining)
 
--- A clone has the remaining items and the unread words of its source. It has counted nothing except
--- the words that its source was done with.
+-- A clone has the remaining items and the unread words of its source. The words that its source had
+-- fetched or passed over count as passed over. The clone has counted nothing else.
 pub record ResumesAs (source clone : Walk) : Type 0 where
   pub remaining : clone.remaining ≡ source.remaining
   pub unread : clone.unread ≡ source.unread

@@ -25,9 +25,10 @@ use crate::walk::{Iter, IterOnes, IterZeros};
 /// capacity 0 no bit is set, and no call changes anything.
 ///
 /// A shape (an integer, an array, or a slice of some length) *fits* if its capacity is below
-/// `u32::MAX`, and so is that of each array type inside it. `bits_capacity() < u32::MAX` checks
-/// this. Calls that count, iterate, join or search require that the shape fits. A call on one index
-/// requires less of a slice: only its element type has to fit, so the call works at any length.
+/// `u32::MAX`, and the capacity of each array type in it is too. `bits_capacity() < u32::MAX`
+/// checks this. Calls that count, iterate, join or search require that the shape fits. A call on
+/// one index requires less of a slice: only its element type has to fit, so the call works at any
+/// length.
 pub trait Bits: Drop + ReadWords {
     /// The order of calls that name no order. It is [`DefaultEndian`]; for a `Set` it is the order
     /// that the set remembers.
@@ -83,8 +84,8 @@ pub trait Bits: Drop + ReadWords {
 
     /// Returns `true` if no bit is set. With capacity 0 it returns `true`.
     ///
-    /// Always callable. It reads words until one decides the result, at most eight at a time. It
-    /// reads an array of at most 128 bytes whole.
+    /// Always callable. It reads words until one decides the result, at most eight at a time. If it
+    /// reads a word of an array of at most 128 bytes, it reads every word of this array.
     ///
     /// ```
     /// [0u8; 4].all_zeros();                               // true
@@ -96,8 +97,8 @@ pub trait Bits: Drop + ReadWords {
 
     /// Returns `true` if each bit is set. With capacity 0 it returns `true`.
     ///
-    /// Always callable. It reads words until one decides the result, at most eight at a time. It
-    /// reads an array of at most 128 bytes whole.
+    /// Always callable. It reads words until one decides the result, at most eight at a time. If it
+    /// reads a word of an array of at most 128 bytes, it reads every word of this array.
     ///
     /// ```
     /// [255u8; 4].all_ones();                              // true
@@ -416,11 +417,12 @@ pub trait Bits: Drop + ReadWords {
         self.iter_zeros_in::<BigEndian>()
     }
 
-    /// Returns an iterator over the items of `iter` at the set bits. For each index of a set bit,
-    /// increasing, in the order `E`, it yields the item of `iter` at that position, counted from 0.
+    /// Returns an iterator over the items of `iter` at the set bits. It goes over the indexes of
+    /// the set bits, increasing, in the order `E`. For each index it yields the item of `iter` at
+    /// that position, counted from 0.
     ///
-    /// The shape has to fit (`bits_capacity() < u32::MAX`). Each word is read at most once, and
-    /// `iter` is stepped up to the last set bit. With capacity 0 it yields nothing.
+    /// The shape has to fit (`bits_capacity() < u32::MAX`). Each word is read at most once. No item
+    /// of `iter` past the last set bit is taken. With capacity 0 it yields nothing.
     ///
     /// [`JoinOnes`] says which items the join takes from `iter`, and where the join ends.
     ///

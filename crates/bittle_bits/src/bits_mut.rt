@@ -68,8 +68,8 @@ pub trait BitsMut: Bits {
             ≡ with_span_changed (λ b. O.decide b true) (set_in Self.Shape E.Endian self.old) from to }
         ensures stays { Self.loan self.old ≡ Self.loan self.new };
 
-    /// Changes the set by the operation `O` with `other`, as
-    /// [`union_assign`](BitsMut::union_assign) does by the union.
+    /// Changes the set to the result of the operation `O` on it and `other`. With `Union` it does
+    /// what [`union_assign`](BitsMut::union_assign) does.
     #[doc(hidden)]
     fn assign_by_operation<O: Operation>(&mut self, other: &Self)
         ensures set { (mirrored : Bool) → set_mirrored Self.Shape mirrored self.new

@@ -411,7 +411,7 @@ pub trait BitsOwned: Copy + Eq + BitsMut {
 
     ghost type_whole_words: { (words : ℕ) × (Self.type_capacity ≡ words * Self.width) };
 
-    // A type that may be indexed fits.
+    // If the type may be indexed, its capacity is below `u32::MAX`.
     ghost type_fits: { IsTrue Self.indexable → Self.type_capacity < 4294967295 };
 
     // Values that are equal by `==` are the same set.

@@ -15,8 +15,8 @@ pub trait Endian: Drop {
     // Whether index 0 is the bit of greatest weight.
     ghost mirrored: { Bool };
 
-    /// Seals the trait. A crate that names `bittle` alone cannot name the parameter's type, so it
-    /// cannot implement the trait.
+    /// Seals the trait. A crate that depends only on `bittle` cannot name the parameter's type, so
+    /// it cannot implement the trait.
     #[doc(hidden)]
     fn seal(_: Sealed);
 
@@ -73,8 +73,8 @@ pub trait Endian: Drop {
         Self::zeros::<T>(value.not())
     }
 
-    /// Returns how far the greatest set bit lies below the last index, or the width if no bit is
-    /// set.
+    /// Returns how far the greatest index of a set bit lies below the last index, or the width if
+    /// no bit is set.
     ///
     /// ```
     /// LittleEndian::zeros_rev(0b0001_0000u8);             // 4
@@ -83,8 +83,8 @@ pub trait Endian: Drop {
     fn zeros_rev<T: Word>(value: T) -> u32
         ensures { IsGreatestMember (word_mirrored T.Word mirrored value) result };
 
-    /// Returns how far the greatest unset bit lies below the last index, or the width if every bit
-    /// is set.
+    /// Returns how far the greatest index of an unset bit lies below the last index, or the width
+    /// if every bit is set.
     ///
     /// ```
     /// BigEndian::ones_rev(0b1110_0000u8);                 // 3

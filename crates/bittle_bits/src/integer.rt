@@ -19,7 +19,7 @@ use crate::word::Word;
 
 /// A word that is the set of its bits.
 pub trait Integer: Word + Eq + Shape<LeafWord = Self> {
-    // The type is a word, and the set of its bits.
+    // A value of the type is a word, and stands for the set of its bits.
     ghost is_word: { IsWord Self.eq Self.indexable Self.type_capacity
         ⟦<Self as Shape>⟧.width ⟦<Self as Word>⟧.width Self.big Self.pattern Self.loan };
 }

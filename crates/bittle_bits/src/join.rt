@@ -73,8 +73,8 @@ where
     }
 }
 
-/// Takes the next item. A loop that calls this function ends by a measure of its own. A loop that
-/// calls `next` would need an iterator that ends.
+/// Takes the next item. A loop that calls `next` would need an iterator that ends. A loop that
+/// calls this function needs only a number of its own that decreases in each turn.
 #[inline]
 fn take<I: Iterator>(iter: &mut I) -> Option<I::Item>
     requires { I.can_next iter.old }
@@ -86,9 +86,9 @@ fn take<I: Iterator>(iter: &mut I) -> Option<I::Item>
 
 /// Skips `count` items and takes the next one.
 ///
-/// If `size_hint` says that more items are left than needed, a loop here counts `count` down. Over
-/// a slice the compiler sees the length. Then the loop needs no test for the end, and becomes one
-/// addition.
+/// If `size_hint` says that more items are left than needed, a loop here counts `count` down. If
+/// the iterator is over a slice, the compiler sees the length. Then it drops the loop's test for
+/// the end of the items, and turns the loop into one addition.
 #[inline]
 fn skip_to<I: Iterator>(iter: &mut I, count: usize) -> Option<I::Item>
 where
@@ -98,8 +98,8 @@ where
     ensures keeps { OnSome result (I.can_next iter.new) }
 {
     let (least, _) = iter.size_hint();
-    // Not `least <= count`: from `least - 1` the compiler sees that the count ends before the
-    // items.
+    // The test is not `least <= count`. From the test of `least - 1` the compiler sees that the
+    // loop below ends before the items do.
     if least == 0 || least - 1 <= count {
         return iter.nth(count);
     }

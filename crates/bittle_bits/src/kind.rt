@@ -14,8 +14,8 @@ pub trait Kind: Drop {
 
     const ONES: bool;
 
-    /// Seals the trait. A crate that names `bittle` alone cannot name the parameter's type, so it
-    /// cannot implement the trait.
+    /// Seals the trait. A crate that depends only on `bittle` cannot name the parameter's type, so
+    /// it cannot implement the trait.
     #[doc(hidden)]
     fn seal(_: Sealed);
 }
@@ -44,7 +44,8 @@ impl Kind for Zeros {
     fn seal(_: Sealed) {}
 }
 
-/// Returns the word whose set bits are the bits of the kind `K`. For zeros, each bit is flipped.
+/// Returns the word whose set bits are the bits of the kind `K` in `word`. For `Zeros` each bit is
+/// flipped.
 #[doc(hidden)]
 #[inline]
 pub fn bits_of_kind<T: Word, K: Kind>(word: T) -> T

@@ -1,5 +1,5 @@
-//! Sets of small numbers over integers, arrays and slices. This crate has the traits of sets, the
-//! two orders, the twelve integers as words, the shapes, and the iterators over sets.
+//! Sets of small numbers in the bits of integers, arrays and slices. This crate has the traits of
+//! sets, the two bit orders, the impls for integers, arrays and slices, and the iterators.
 //!
 //! Users name the crate `bittle`, which exports the public items of this crate. The project's own
 //! crates also use the hidden module `extension`.

@@ -31,7 +31,7 @@ pub type IterOnes<T, E> = Iter<T, E, Ones>;
 /// ```
 pub type IterZeros<T, E> = Iter<T, E, Zeros>;
 
-/// Iterates over the set bits of one word, or over its unset bits, as `K` names. Once no item
+/// Iterates over the bits of the kind `K` of one word: its set bits or its unset bits. Once no item
 /// remains, steps from both ends return `None`.
 #[derive(Drop)]
 pub struct Iter<T: Word, E: Endian, K: Kind> {
@@ -54,7 +54,7 @@ impl<T: Word, E: Endian, K: Kind> Model for Iter<T, E, K> {
 }
 
 impl<T: Word, E: Endian, K: Kind> Iter<T, E, K> {
-    /// Makes an iterator over the set bits of the word, or over its unset bits, as `K` names.
+    /// Makes an iterator over the bits of the kind `K` of the word: its set bits or its unset bits.
     ///
     /// Always callable. A step costs O(1).
     ///

@@ -1,5 +1,6 @@
-//! The calls on a word, and the steps of its iterators, written once for all widths. The member at
-//! the end `N` is the first or the last index of a set bit.
+//! The calls on a word, and the steps of its iterators, written once for all widths. A member is
+//! the index of a set bit. The member at the end `N` is the least one if `N` is the front, and the
+//! greatest one if `N` is the back.
 
 ghost use Rattle.std.specs.Prelude.{◌≡◌, ◌==◌, Bool, ◌+◌, ◌*◌, ◌-◌, ◌<◌, ◌≤◌, true, IfSome};
 ghost use Rattle.bittle_bits.specs.Ends.{IsEndMember, YieldsFrom, YieldsPlace};
@@ -158,8 +159,8 @@ pub fn from_end<T: Word, E: Endian, N: End>(word: T) -> u32
 }
 
 // Takes the member at the end `N` out of the word, and returns its place: its bit has the weight
-// `2 ^ place`. If this is the set bit of least weight, `word & (word - 1)` clears it. Then the next
-// step need not wait until the place is known.
+// `2 ^ place`. If this bit is the set bit of least weight, `word & (word - 1)` clears it. Then the
+// next step need not wait until the place is known.
 #[inline(always)]
 fn pop_at_once<T: Word, E: Endian, N: End>(word: &mut T) -> Option<u32>
     ensures found { YieldsPlace N.FRONT (place E.mirrored T.width) (λ w. ascending
@@ -180,9 +181,9 @@ fn pop_at_once<T: Word, E: Endian, N: End>(word: &mut T) -> Option<u32>
     }
 }
 
-// Takes the member at the end `N` out of a word of 128 bits, by the half that it lies in, and
-// returns its place. A half takes one instruction to search and one to change; the whole word takes
-// about ten.
+// Takes the member at the end `N` out of a word of 128 bits, and returns its place. It works on the
+// half that the member lies in. A half takes one instruction to search and one to change; the whole
+// word takes about ten.
 #[inline(always)]
 fn pop_from_half<T: Word, E: Endian, N: End>(word: &mut T) -> Option<u32>
     requires { T.width ≡ 128 }

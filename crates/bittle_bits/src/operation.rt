@@ -1,4 +1,4 @@
-//! The four operations on two sets. Each shape has one body for all four.
+//! The four operations on two sets. Each shape has one function for all four.
 
 ghost use Rattle.std.specs.Prelude.{◌≡◌, Bool, ◌||◌, ◌&&◌, true, false, refl};
 ghost use Rattle.bittle_bits.specs.SetOperations.{combination_of, first_alone, just_one};

@@ -16,8 +16,8 @@ use crate::word::Word;
 
 /// A set that is read word by word.
 ///
-/// Searches, counts and iterators use this trait. So one body of each serves plain shapes, owned
-/// sets and views of sets.
+/// Searches, counts and iterators read sets through this trait. So each of them is written once,
+/// for all shapes and for all views of sets.
 pub trait ReadWords: Drop + Shape {
     /// Returns `true` if all values of the type have the same number of words.
     ///
@@ -59,9 +59,9 @@ pub trait ReadWords: Drop + Shape {
     /// front it returns the number of the first word that it does not skip. From the back it
     /// returns one more than the number of the last word that it does not skip.
     ///
-    /// It affects speed only. A set may skip the words of which it knows at once that they have no
-    /// such bit. Most shapes skip no word. A type whose values skip words returns `true` from
-    /// `may_pass_over`.
+    /// It affects speed only. A set may skip words if it knows, without reading them, that they
+    /// have no such bit. Most shapes skip no word. A type whose values skip words returns `true`
+    /// from `may_pass_over`.
     #[doc(hidden)]
     #[inline(always)]
     fn pass_over<K: Kind, N: End>(&self, low: usize, high: usize) -> usize
@@ -104,7 +104,7 @@ pub trait ReadWords: Drop + Shape {
     // The type `LeafWord` has as many bits as a word of the set.
     ghost leaf_width: { Self.LeafWord.width ≡ Self.width };
 
-    // A word has a bit.
+    // A word has at least one bit.
     ghost width_positive: { 0 < Self.width };
 
     // The capacity is a whole number of words.

@@ -3,7 +3,7 @@
 //! A struct that is generic over sets has the bound `Shape`, since each type has only one impl of
 //! `Shape`. Two impls of [`Bits`](crate::bits::Bits) match an array: the impl for arrays, and the
 //! impl for all words, which requires `Integer`. With `Shape` the checker need not decide which
-//! impl holds.
+//! impl applies.
 
 ghost use Rattle.std.specs.Prelude.{ℕ, Bool, List, []};
 ghost use Rattle.bittle_bits.specs.PlainSet.{PlainSet};
@@ -13,18 +13,19 @@ use crate::word::Word;
 
 /// A type whose values stand for sets. Its members are ghosts, which only contracts see.
 ///
-/// A struct that is generic over sets has this bound. Its functions have a bound with calls, such as
-/// [`Bits`](crate::bits::Bits). A crate that names `bittle` alone cannot implement this trait.
+/// A struct that is generic over sets has this bound. Its functions have a bound with calls, such
+/// as [`Bits`](crate::bits::Bits). A crate that depends only on `bittle` cannot implement this
+/// trait.
 pub trait Shape: Drop {
     /// The integer type of the words of the set.
     #[doc(hidden)]
     type LeafWord: Word;
 
-    // The bits of each word.
+    // How many bits each word has.
     ghost width: { ℕ };
 
-    // Whether a value of the type may be indexed: the type fits, or, for a slice, its element type
-    // fits. Then an index finds its element.
+    // Whether calls on one index are allowed: whether the type fits or, for a slice, whether its
+    // element type fits.
     ghost indexable: { Bool };
 
     // The set in big-endian order.
@@ -37,8 +38,8 @@ pub trait Shape: Drop {
     // itself. A change of the set leaves the borrows as they are. An owned value has none.
     ghost loan: { Self → List ℕ } = { λ _. [] };
 
-    /// Seals the trait. A crate that names `bittle` alone cannot name the parameter's type, so it
-    /// cannot implement the trait.
+    /// Seals the trait. A crate that depends only on `bittle` cannot name the parameter's type, so
+    /// it cannot implement the trait.
     #[doc(hidden)]
     fn seal(_: Sealed);
 }

@@ -71,7 +71,7 @@ pub trait Counted: DoubleEndedIterator<Item = u32> {
         → Self.next_back_gives before r after → StepsBack (walk before) r (walk after) };
 }
 
-/// Iterates over the set bits of a borrowed set, or over its unset bits, as `K` names.
+/// Iterates over the bits of the kind `K` of a borrowed set: its set bits or its unset bits.
 ///
 /// Each step yields the first or the last item that remains. Once no item remains, steps from both
 /// ends return `None`. A clone yields the items that remain in its source.
@@ -176,7 +176,7 @@ impl<'a, B: ReadWords, E: Endian, K: Kind> Counted for Iter<'a, B, E, K> {
     }
 }
 
-/// Iterates over the set bits of an owned set, or over its unset bits, as `K` names.
+/// Iterates over the bits of the kind `K` of an owned set: its set bits or its unset bits.
 ///
 /// Each step yields the first or the last item that remains. Once no item remains, steps from both
 /// ends return `None`. A clone yields the items that remain in its source.

@@ -25,7 +25,7 @@ pub trait Word: Copy {
 
     /// Returns the word whose one set bit lies `below` bits below the bit of greatest weight. It
     /// shifts the word in which only the bit of greatest weight is set. That takes one instruction
-    /// fewer than `one_at` of the difference.
+    /// fewer than `one_at(width - 1 - below)`.
     #[inline]
     final fn one_below_top(below: u32) -> Self
         requires { below < width }

@@ -1,4 +1,4 @@
--- Members of a set, after the calls of its owner.
+-- The members of a set after calls on it, for proofs of callers.
 use Rattle.std.proofs.Common.{◌≡◌, ◌≢◌, ◌==◌, ◌&&◌, ◌||◌, ℕ, ◌+◌, ◌%◌, ◌<◌, ◌≤◌, Bool, true, false, not, cond, nat_lt, inl, inr, refl, sym, ap, ◌∙◌, arith}
 use Rattle.std.proofs.Math.Bool.{and-false, or-true}
 use Rattle.std.proofs.lemmas.Bool.{and_parts, cases_Bool, eq-eqb, ne_eqb, ltb-true, not-false, not-true}
@@ -9,24 +9,24 @@ use Rattle.bittle.specs.Searches.{NoneIn}
 use Rattle.bittle.specs.SetOperations.{combination_of, combination_has, union_of}
 use Rattle.bittle_ext.specs.Changes.{with_index_assigned, with_index_toggled}
 
--- the empty set has no index
+-- the empty set has no member
 pub contains_empty : (c i : ℕ) → contains (empty_set c) i ≡ false
 unfolding contains
 contains_empty c i = and-false (nat_lt 0 c)
 
--- what a search for an unset bit finds is unset
+-- an index that a search for an unset bit returns is unset
 pub unset_where_found : (s : PlainSet) (i : ℕ) → lacks s i ≡ true → contains s i ≡ false
 unfolding lacks
 unset_where_found s i found =
     let parts = and_parts (nat_lt i s.capacity) (not (s.has i)) found in
     contains_within s i (ltb-true i s.capacity parts.0) ∙ not-true (s.has i) parts.1
 
--- a set has its capacity as its size where no number is found unset
+-- if a search finds no unset bit, the size of the set is its capacity
 pub full_if_none_unset : (s : PlainSet) → NoneIn (complement s) 0 s.capacity → size s ≡ s.capacity
 full_if_none_unset s none = size_whole s (λ k below.
     not-false (s.has k) (sym (complement_within s k below) ∙ none k (omega arith) below))
 
--- another index is a member after a change exactly if it was one
+-- after index i was set (or cleared), another index is a member exactly if it was one before
 pub contains_other_after_set : (s t : PlainSet) (i j : ℕ) (b : Bool) → t ≡ with_index s i →
     j ≢ i → i < s.capacity → j < s.capacity → contains s j ≡ b → contains t j ≡ b
 contains_other_after_set s t i j b is apart low up was =
@@ -49,7 +49,7 @@ pub unset_after_toggle : (s t : PlainSet) (i : ℕ) → t ≡ with_index_toggled
 unset_after_toggle s t i is set =
     contains_after_clear s t i (is ∙ ap (λ b. with_index_assigned s i (not b)) set)
 
--- a set has one member more at most after an index was set
+-- after an index was set, a set has at most one member more
 pub size_after_set : (s t : PlainSet) (i : ℕ) → t ≡ with_index s i → 0 < s.capacity →
     size t ≤ size s + 1
 size_after_set s t i is some =
@@ -60,38 +60,38 @@ size_after_set s t i is some =
       | inr unset ↦ omega (arith, grown ∙ ap (λ b. size s + cond (not b) 1 0) unset)
     ]
 
--- and just one more if the index was unset
+-- after an index that was unset was set, a set has just one member more
 pub size_after_set_new : (s t : PlainSet) (i : ℕ) → t ≡ with_index s i → i < s.capacity →
     contains s i ≡ false → size t ≡ size s + 1
 size_after_set_new s t i is below unset =
     ap size is ∙ size_with s i below (sym (contains_within s i below) ∙ unset)
 
--- a set has one member fewer after a member was cleared
+-- after a member was cleared, a set has one member fewer
 pub size_after_clear_member : (s t : PlainSet) (i : ℕ) → t ≡ without_index s i →
     i < s.capacity → contains s i ≡ true → size s ≡ size t + 1
 size_after_clear_member s t i is below set =
     size_without s i below (sym (contains_within s i below) ∙ set)
     ∙ sym (ap (λ u. size u + 1) is)
 
--- a set with an index below the capacity has that number and its own members
+-- the members of a set with an index below the capacity are that index and the set's own members
 pub has_with_index : (s : PlainSet) (i k : ℕ) → i < s.capacity →
     (with_index s i).has k ≡ ((k == i) || s.has k)
 has_with_index s i k below = ap (λ t. t.has k) (with_index_within s i below)
 
--- so, below the capacity, an index is a member after it was set
+-- after an index below the capacity was set, it is a member
 pub has_after_set : (s t : PlainSet) (i : ℕ) → t ≡ with_index s i → i < s.capacity →
     t.has i ≡ true
 has_after_set s t i is below =
     ap (λ u. u.has i) is ∙ has_with_index s i i below ∙ ap (λ b. b || s.has i) (eq-eqb i i refl)
 
--- a member stays one
+-- after an index below the capacity was set, each member is still one
 pub still_has_after_set : (s t : PlainSet) (i j : ℕ) → t ≡ with_index s i → i < s.capacity →
     s.has j ≡ true → t.has j ≡ true
 still_has_after_set s t i j is below has =
     ap (λ u. u.has j) is ∙ has_with_index s i j below ∙ ap (λ b. (j == i) || b) has
     ∙ or-true (j == i)
 
--- and another number is a member exactly if it was one
+-- after an index was set, another number is a member exactly if it was one before
 pub has_other_after_set : (s t : PlainSet) (i j : ℕ) → t ≡ with_index s i → i < s.capacity →
     j ≢ i → t.has j ≡ s.has j
 has_other_after_set s t i j is below apart =
@@ -105,7 +105,7 @@ has_after_clear s t i is below =
     ap (λ u. u.has i) is ∙ ap (λ u. u.has i) (without_index_within s i below)
     ∙ ap (λ b. not b && s.has i) (eq-eqb i i refl)
 
--- and another number is a member exactly if it was one
+-- after an index was cleared, another number is a member exactly if it was one before
 pub has_other_after_clear : (s t : PlainSet) (i j : ℕ) → t ≡ without_index s i →
     i < s.capacity → j ≢ i → t.has j ≡ s.has j
 has_other_after_clear s t i j is below apart =
@@ -114,7 +114,8 @@ has_other_after_clear s t i j is below apart =
 
 -- ---- one index after an operation
 
--- below both capacities the operation decides by the tests of both sets
+-- after an operation, an index below both capacities is a member exactly if `decide` of its two
+-- tests is true
 pub contains_after_operation : (decide : Bool → Bool → Bool) (u s t : PlainSet) (i : ℕ) →
     u ≡ combination_of decide s t → i < s.capacity → i < t.capacity →
     contains u i ≡ decide (contains s i) (contains t i)
@@ -124,7 +125,7 @@ contains_after_operation decide u s t i is below within =
     ∙ combination_within decide s t i below within
     ∙ rw (contains_within s i below, contains_within t i within) refl
 
--- a member stays one after a union
+-- after a union, each member is still one
 pub still_set_after_union : (s t u : PlainSet) (i : ℕ) → u ≡ union_of s t → contains s i ≡ true →
     contains u i ≡ true
 unfolding contains combination_has

@@ -1,4 +1,4 @@
--- Spans of a set, after the calls of its owner.
+-- The spans of a set after calls on it, for proofs of callers.
 use Rattle.std.proofs.Common.{◌≡◌, ◌≢◌, ℕ, zero, suc, ◌+◌, ◌-◌, ◌%◌, ◌<◌, ◌≤◌, ◌⊎◌, Bool, true, false, cond, not, ◌&&◌, ◌||◌, ◌==◌, nat_lt, inl, inr, refl, sym, ap, ◌∙◌, arith}
 use Rattle.std.proofs.Math.Bool.{and-false, or-true}
 use Rattle.std.proofs.Math.Nat.{div-add-mod', mod-eq_of_lt}
@@ -10,19 +10,19 @@ use Rattle.bittle_ext.specs.ReservedSpans.{each_from, has_span}
 
 -- ---- one index after a span was set or cleared
 
--- an index of a span is a member after the span was set
+-- after a span was set, each index of it is a member
 pub has_after_set_span : (s t : PlainSet) (from to i : ℕ) → t ≡ with_span s from to →
     from ≤ i → i < to → t.has i ≡ true
 has_after_set_span s t from to i is low up =
     ap (λ (u : PlainSet). u.has i) is ∙ inside_span (λ _. true) s from to i low up
 
--- and none after the span was cleared
+-- after a span was cleared, no index of it is a member
 pub has_after_clear_span : (s t : PlainSet) (from to i : ℕ) → t ≡ without_span s from to →
     from ≤ i → i < to → t.has i ≡ false
 has_after_clear_span s t from to i is low up =
     ap (λ (u : PlainSet). u.has i) is ∙ inside_span (λ _. false) s from to i low up
 
--- an index outside the span is a member exactly if it was one
+-- after a span was set (or cleared), an index outside it is a member exactly if it was one before
 pub has_outside_set_span : (s t : PlainSet) (from to i : ℕ) → t ≡ with_span s from to →
     (i < from) ⊎ (to ≤ i) → t.has i ≡ s.has i
 has_outside_set_span s t from to i is outside =
@@ -33,7 +33,7 @@ pub has_outside_clear_span : (s t : PlainSet) (from to i : ℕ) → t ≡ withou
 has_outside_clear_span s t from to i is outside =
     ap (λ (u : PlainSet). u.has i) is ∙ outside_span (λ _. false) s from to i outside
 
--- the same of a test by `contains`
+-- `has_outside_set_span`, for a test by `contains`
 pub contains_outside_set_span : (s t : PlainSet) (from to i : ℕ) (b : Bool) →
     t ≡ with_span s from to → (i < from) ⊎ (to ≤ i) → i < s.capacity → contains s i ≡ b →
     contains t i ≡ b
@@ -50,7 +50,8 @@ contains_outside_clear_span s t from to i b is outside below was =
 
 -- ---- a span that a set keeps
 
--- a test that each of some numbers passes
+-- `each_from` is true if each of the n numbers passes the test; and if it is true, each of them
+-- passes
 pub each_passes : (p : ℕ → Bool) (from n : ℕ) → ((k : ℕ) → from ≤ k → k < from + n → p k ≡ true) →
     each_from p from n ≡ true
 unfolding each_from
@@ -71,28 +72,28 @@ passes_each p from (suc n) all k low up =
           passes_each p (suc from) n parts.1 k (omega (arith, low, apart)) (omega (arith, up))
     ]
 
--- a span is kept where each of its numbers is
+-- `has_span` is true if each number of the span is a member
 pub has_span_if_each : (s : PlainSet) (from to : ℕ) →
     ((k : ℕ) → from ≤ k → k < to → s.has k ≡ true) → has_span s from to ≡ true
 unfolding has_span
 has_span_if_each s from to all =
     each_passes s.has from (to - from) (λ k low up. all k low (omega (arith, low, up)))
 
--- and each number of a span that is kept is one
+-- if `has_span` is true, each number of the span is a member
 pub each_if_has_span : (s : PlainSet) (from to : ℕ) → has_span s from to ≡ true → (k : ℕ) → from ≤ k →
     k < to → s.has k ≡ true
 unfolding has_span
 each_if_has_span s from to has k low up =
     passes_each s.has from (to - from) has k low (omega (arith, low, up))
 
--- a span that was set is kept
+-- after a span was set, `has_span` of it is true
 pub has_span_after_set_span : (s t : PlainSet) (from to : ℕ) → t ≡ with_span s from to →
     has_span t from to ≡ true
 unfolding has_changed
 has_span_after_set_span s t from to is = has_span_if_each t from to (λ k low up.
     ap (λ (u : PlainSet). u.has k) is ∙ rw (le-leb from k low, lt-ltb k to up) refl)
 
--- a span stays where an index was set
+-- `has_span` stays true after an index was set
 pub has_span_after_set : (s t : PlainSet) (i from to : ℕ) → t ≡ with_index s i →
     has_span s from to ≡ true → has_span t from to ≡ true
 unfolding has_with
@@ -114,19 +115,19 @@ has_span_without s t i from to is lacks has = has_span_if_each t from to (λ k l
     ∙ ap (λ b. not b && s.has k) (and-false (nat_lt 0 s.capacity))
     ∙ each_if_has_span s from to has k low up)
 
--- an index before it
+-- `has_span` stays true after an index before the span was cleared
 pub has_span_after_clear : (s t : PlainSet) (i from to : ℕ) → t ≡ without_index s i → i < from →
     has_span s from to ≡ true → has_span t from to ≡ true
 has_span_after_clear s t i from to is before = has_span_without s t i from to is
     (λ k low up e. omega (arith, e, low, before, div-add-mod' i s.capacity))
 
--- an index past it
+-- `has_span` stays true after an index past the span was cleared
 pub has_span_after_clear_past : (s t : PlainSet) (i from to : ℕ) → t ≡ without_index s i → to ≤ i →
     i < s.capacity → has_span s from to ≡ true → has_span t from to ≡ true
 has_span_after_clear_past s t i from to is past within = has_span_without s t i from to is
     (λ k low up e. omega (arith, e, up, past, mod-eq_of_lt within))
 
--- a span stays where another one was set
+-- `has_span` stays true after another span was set
 pub has_span_after_other_span : (s t : PlainSet) (low high from to : ℕ) → t ≡ with_span s low high →
     has_span s from to ≡ true → has_span t from to ≡ true
 unfolding has_changed

@@ -18,40 +18,40 @@ use Rattle.bittle_ext.specs.Between.{has_below, members_to, Differ}
 use Rattle.bittle_ext.specs.Combined.{decided_set}
 use Rattle.bittle_ext.proofs.WordsReplaced.{replaced_where}
 
--- what an operation with another set leaves of a set that keeps its capacity
+-- the result of an operation on two sets, cut off at the capacity of the first
 abbrev pub combined : (Bool → Bool → Bool) → PlainSet → PlainSet → PlainSet
 combined f s t = members_to s.capacity (decided_set f s t)
 
--- past the capacity an operation makes no member
+-- past the capacity of the first set, the result has no member
 pub combined_past : (f : Bool → Bool → Bool) (s t : PlainSet) (i : ℕ) → s.capacity ≤ i →
     (combined f s t).has i ≡ false
 unfolding has_below
 combined_past f s t i h = ap (λ b. b && f (s.has i) (t.has i)) (le-ltb i s.capacity h)
 
--- below it the operation decides
+-- below the capacity of the first set, the operation decides which numbers are members
 pub combined_below : (f : Bool → Bool → Bool) (s t : PlainSet) (i : ℕ) → i < s.capacity →
     (combined f s t).has i ≡ f (s.has i) (t.has i)
 unfolding has_below
 combined_below f s t i h = ap (λ b. b && f (s.has i) (t.has i)) (lt-ltb i s.capacity h)
 
--- so it does of an index of the set afterwards
+-- `combined_below`, for a test of the result by `contains`
 pub combined_each : (f : Bool → Bool → Bool) (s t u : PlainSet) → u ≡ combined f s t →
     (i : ℕ) → i < s.capacity → contains u i ≡ f (contains s i) (t.has i)
 combined_each f s t u is i h =
     ap (λ v. contains v i) is ∙ contains_within (combined f s t) i h
     ∙ combined_below f s t i h ∙ ap (λ b. f b (t.has i)) (sym (contains_within s i h))
 
--- whether a test of the numbers below one differs anywhere from the members of a set
+-- b is whether, for some number below n, the test g differs from membership in s
 abbrev pub TellsBelow : (ℕ → Bool) → PlainSet → ℕ → Bool → Type 0
 TellsBelow g s n b = MatchBool b ((i : ℕ) × (i < n) × (g i ≡ not (s.has i)))
     ((i : ℕ) → i < n → g i ≡ s.has i)
 
--- below 0 it does nowhere
+-- no number is below 0, so there the test does not differ
 pub tells_none : (w : ℕ) (g : ℕ → Bool) (s : PlainSet) → TellsBelow g s (0 * w) false
 tells_none w g s = λ i h. absurd (omega arith)
 
--- word k of a set, of which the words before it are decided, word k of another set, and what the
--- operation makes of the two
+-- x is word k of `now`, in which the words before word k are decided; y is word k of t; and r is
+-- the result of the operation on x and y
 pub record DecidesWord (f : Bool → Bool → Bool) (m : Bool) (w k x y r : ℕ) (s t now : PlainSet) :
     Type 0 where
   pub word : 0 < w
@@ -69,7 +69,7 @@ module _ {f : Bool → Bool → Bool} {m : Bool} {w k x y r : ℕ} {s t now : Pl
       ∙ ap (λ b. cond b ((combined f s t).has (k * w + o)) (s.has (k * w + o)))
       (le-ltb (k * w + o) (k * w) (omega arith))
 
-  -- the word as the operation makes it
+  -- r, read in the order, is word k of the result
   pub made : (o : ℕ) → o < w → (read_in m w (bit_set w r)).has o ≡ (combined f s t).has (k * w + o)
   made o h =
       ap (λ u. u.has o) (word_combined f w x y r m d.word d.is)
@@ -96,7 +96,7 @@ module _ {f : Bool → Bool → Bool} {m : Bool} {w k x y r : ℕ} {s t now : Pl
     alike true b e = sym (not-false b e)
     alike false b e = sym e
 
-    -- so it is told of the words up to this one
+    -- if b is told of the words before word k, c is told of the words up to word k
     pub tells_more : (b c : Bool) → c ≡ (b || not (z == 0)) →
         TellsBelow (combined f s t).has s (k * w) b →
         TellsBelow (combined f s t).has s ((k + 1) * w) c
@@ -127,7 +127,7 @@ module _ {f : Bool → Bool → Bool} {m : Bool} {w k x y r : ℕ} {s t now : Pl
               )
         ]
 
--- told of all numbers below the capacity, it is told of the sets
+-- if `TellsBelow` holds up to the capacity, b is whether the operation changed the set
 pub tells_all : (f : Bool → Bool → Bool) (n : ℕ) (b : Bool) (s t after : PlainSet) →
     s.capacity ≤ n → ((i : ℕ) → s.capacity ≤ i → s.has i ≡ false) →
     after ≡ combined f s t → TellsBelow (combined f s t).has s n b →
@@ -145,7 +145,7 @@ tells_all f n false s t after far past is told =
       | inr g ↦ combined_past f s t i g ∙ sym (past i g)
     ])
 
--- what is told of two sets says where they differ, and else that they are one
+-- b is true exactly if the two sets differ; if it is false, they are equal
 pub told_where : (b : Bool) (s t : PlainSet) → MatchBool b (Differ s t) (t ≡ s) →
     IsTrue b ↔ Differ s t
 told_where true s t told = (λ _. told, λ _. refl)

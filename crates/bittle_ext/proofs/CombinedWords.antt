@@ -1,4 +1,4 @@
--- What an operation makes of two sets, word by word.
+-- The words of the result of an operation on two sets.
 use Rattle.std.proofs.Common.{◌≡◌, ℕ, ◌*◌, ◌+◌, ◌/◌, ◌<◌, ◌≤◌, Bool, false, inl, inr, refl, sym, ap, ◌∙◌, arith}
 use Rattle.std.proofs.Math.Path.{fun_ext}
 use Rattle.std.proofs.Math.Nat.{mul-div_left, mul-le-mul_right}
@@ -16,7 +16,7 @@ use Rattle.bittle_bits.proofs.SetOperations.{combination-below, combination-outs
 use Rattle.bittle_bits.proofs.Words.{word_has-at, digit_at}
 use Rattle.bittle_ext.specs.Combined.{decided_set}
 
--- the word 0 is each word past those of a set
+-- the empty word is each word past the last one of a set
 pub empty_past : (w words k d : ℕ) (s : PlainSet) → words * w ≡ s.capacity →
     ((i : ℕ) → s.capacity ≤ i → s.has i ≡ false) → words ≤ k → d ≡ 0 → bit_set w d ≡ word_of w s k
 unfolding word_has
@@ -27,7 +27,7 @@ empty_past w words k d s whole past few none =
       | inr g ↦ rw (le-ltb i w g) refl
     ])
 
--- so it is where a number of bits and a width tell how many there are
+-- `empty_past`, with the number of words computed as the capacity divided by the width
 pub word_past : (w c v k d : ℕ) (s : PlainSet) → 0 < w → (words : ℕ) × (s.capacity ≡ words * w) →
     ((i : ℕ) → s.capacity ≤ i → s.has i ≡ false) → c ≡ s.capacity → v ≡ w → c / v ≤ k → d ≡ 0 →
     bit_set w d ≡ word_of w s k
@@ -36,7 +36,7 @@ word_past w c v k d s word whole past is wide far none =
     let few : whole.0 ≤ k = omega (arith, mul-div_left whole.0 word, rw (e, wide) at far) in
     empty_past w whole.0 k d s (sym whole.1) past few none
 
--- what the operation makes of word k of both sets is word k of what it makes of them
+-- the operation on word k of both sets gives word k of its result on the sets
 pub decided_word : (f : Bool → Bool → Bool) (w : ℕ) (s t : PlainSet) (k : ℕ) →
     combination_of f (word_of w s k) (word_of w t k) ≡ word_of w (decided_set f s t) k
 unfolding word_has
@@ -60,7 +60,7 @@ word_in_order m w k s d word is =
           ∙ rw (le-ltb (place m w i) w (omega (arith, past)), le-ltb i w g) refl
     ])
 
--- so it is of what an operation makes of a word of each
+-- `decided_word`, for words of two sets that are read in an order
 pub decided_in_order : (f : Bool → Bool → Bool) (m : Bool) (w k : ℕ) (s t : PlainSet)
     (d x y : ℕ) → 0 < w → bit_set w d ≡ combination_of f (bit_set w x) (bit_set w y) →
     read_in m w (bit_set w x) ≡ word_of w s k → read_in m w (bit_set w y) ≡ word_of w t k →

@@ -25,8 +25,9 @@ one_number true false = (refl, refl, omega arith)
 one_number false true = (refl, refl, omega arith)
 one_number false false = (refl, refl, omega arith)
 
--- those in the first alone and those in both make up the first; those in just one, and twice those
--- in both, are as many as both have; and those in both are in the second
+-- the numbers in the first set alone plus those in both are as many as the first set has; those in
+-- just one, plus twice those in both, are as many as the sets have together; and those in both are
+-- at most as many as the second has
 pub all_numbers : (n : ℕ) (p q : ℕ → Bool) → (count_below n (λ k. first_alone (p k) (q k))
     + count_below n (λ k. p k && q k) ≡ count_below n p)
     × (count_below n (λ k. just_one (p k) (q k)) + count_below n (λ k. p k && q k)
@@ -42,7 +43,7 @@ all_numbers (suc n) p q =
       omega (arith, below.2, here.2),
     )
 
--- a word that has in an order what word k of a set has counts its members there
+-- the number of bits in word k, read in an order, is the number of the set's members in that word
 pub below_next_in_order : (m : Bool) (w k : ℕ) (s : PlainSet) (d n : ℕ) → 0 < w →
     read_in m w (bit_set w d) ≡ word_of w s k → n ≡ size (bit_set w d) →
     members_below s ((k + 1) * w) ≡ members_below s (k * w) + n
@@ -53,14 +54,15 @@ below_next_in_order m w k s d n word is count =
     ∙ count-same w _ _ (λ i b. ap (λ t. t.has i) is ∙ word_has-at w s k i b) in
     rw next (omega (arith, counted, count-add (k * w) w s.has))
 
--- a word below those that a number of bits has ends within it
+-- if k is below the number of words of c bits, word k ends at or before c
 pub word_inside : (w v c k : ℕ) → v ≡ w → k < c / v → (k + 1) * w ≤ c
 word_inside w v c k same below =
     let low : k < c / w = rw (← same) below in
     let up : (k + 1) * w ≤ c / w * w = mul-le-mul_right w (omega (arith, low)) in
     omega (arith, up, div-mul-le_self c w)
 
--- the next member of the first set is counted just where it is one of the second
+-- a count of common members stays right: the first set's next member adds 1 exactly if the second
+-- set has it
 pub counted_next : (s t : PlainSet) (from to index count next : ℕ) (b : Bool) →
     IsFirstIn s from to (Some index) → t.has index ≡ b →
     count ≡ members_below (both_of s t) from → next ≡ count + cond b 1 0 →
@@ -71,20 +73,20 @@ counted_next s t from to index count next b first is before after =
     let one : u.has index ≡ b = ap (λ a. a && t.has index) first.2 ∙ is in
     omega (arith, after, before, stays, below_next u index ∙ ap (λ a. members_below u index + cond a 1 0) one)
 
--- where the first set has none left, as many are counted
+-- if the first set has no member in from..to, neither has the set of common members
 pub counted_all : (s t : PlainSet) (from to : ℕ) → from ≤ to → NoneIn s from to →
     members_below (both_of s t) to ≡ members_below (both_of s t) from
 counted_all s t from to h none =
     below_stays (both_of s t) from to h (λ k p q. ap (λ a. a && t.has k) (none k p q))
 
 module _ {s t : PlainSet} {a b : ℕ} (x : EndsAt s a) (y : EndsAt t b) where
-  -- of two sets that end at their capacities, all that are in both lie below the lesser one
+  -- all common members of two sets lie below the lesser capacity
   pub all_in_both : (end : ℕ) → end ≡ min a b → members_below (both_of s t) end ≡ size (both_of s t)
   all_in_both end least =
       sym (below_past (both_of s t) end (max s.capacity t.capacity) end
       (none_in_both x y end least) (omega (arith, least, x.capacity, y.capacity)))
 
-  -- where so many are in both, what is left of either follows
+  -- the other counts of two sets follow from the number of common members
   pub counts_both : (p q n : ℕ) → p ≡ size s → q ≡ size t → n ≡ size (both_of s t) →
       CountsBoth s t p q n
   counts_both p q n ours theirs is =

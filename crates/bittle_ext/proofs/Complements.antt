@@ -1,4 +1,4 @@
--- Complements.
+-- The complement of a set.
 use Rattle.std.proofs.Common.{◌≡◌, ℕ, ◌≤◌, false, not, inl, inr, refl, ap, ◌∙◌, arith}
 use Rattle.std.proofs.Math.Path.{fun_ext}
 use Rattle.std.proofs.lemmas.Bool.{cases_lt, lt-ltb, le-ltb}
@@ -6,7 +6,7 @@ use Rattle.bittle.specs.PlainSet.{PlainSet, complement, lacks, with_span_toggled
 use Rattle.bittle_bits.proofs.PlainSets.{plain_set}
 use Rattle.bittle_bits.proofs.Spans.{inside_span, outside_span}
 
--- a set in which each index below the capacity is toggled is its complement
+-- to toggle each index below the capacity makes a set its complement
 pub all_toggled : (s : PlainSet) (c : ℕ) → c ≡ s.capacity →
     ((i : ℕ) → s.capacity ≤ i → s.has i ≡ false) → with_span_toggled s 0 c ≡ complement s
 unfolding lacks

@@ -1,4 +1,4 @@
--- Sets of which a range is copied from another one.
+-- Sets after a range was copied to them from a set.
 use Rattle.std.proofs.Common.{◌≡◌, ℕ, zero, suc, ◌+◌, ◌-◌, ◌*◌, ◌/◌, ◌%◌, ◌^◌, ◌<◌, ◌≤◌, ◌⊎◌, Bool, false, cond, ◌==◌, inl, inr, refl, sym, ap, ◌∙◌, arith}
 use Rattle.std.proofs.Math.Path.{fun_ext}
 use Rattle.std.proofs.lemmas.Bool.{cases_lt}
@@ -17,28 +17,29 @@ use Rattle.bittle_ext.proofs.NumberBits.{number_is}
 use Rattle.bittle_ext.proofs.Windows.{bit_at_masked}
 use Rattle.bittle_ext.proofs.WordsReplaced.{AddsWord, more_replaced, word_at_most}
 
--- a number of the range is copied
+-- a number of the range at..at + n is a member exactly if the number that it is copied from is one
 pub copied-inside : (s t : PlainSet) (at n from k : ℕ) → at ≤ k → k < at + n →
     has_copied s at n t from k ≡ t.has (k - at + from)
 unfolding has_copied
 copied-inside s t at n from k low high =
     ap (λ b. cond b (t.has (k - at + from)) (s.has k)) (is_in_span-inside at (at + n) k low high)
 
--- any other number stays
+-- a number outside the range is a member exactly if it was one before
 pub copied-outside : (s t : PlainSet) (at n from k : ℕ) → (k < at) ⊎ (at + n ≤ k) →
     has_copied s at n t from k ≡ s.has k
 unfolding has_copied
 copied-outside s t at n from k out =
     ap (λ b. cond b (t.has (k - at + from)) (s.has k)) (is_in_span-outside at (at + n) k out)
 
--- where no number is copied, the set stays
+-- a copy of 0 numbers does not change the set
 pub copied_none : (s t : PlainSet) (at from : ℕ) → s ≡ with_copied s at 0 t from
 copied_none s t at from = ap (plain_set s.capacity) (fun_ext λ k. elim (cases_lt k at) [
   | inl l ↦ sym (copied-outside s t at 0 from k (inl l))
   | inr g ↦ sym (copied-outside s t at 0 from k (inr (omega (arith, g))))
 ])
 
--- numbers copied as the bits of a number, after the others
+-- if the first `done` numbers are copied, and then `more` after them as the bits of a number,
+-- `done + more` are copied
 pub copied_after : (s t : PlainSet) (at done more from d : ℕ) → more ≤ 128 →
     HasBitsOf t (from + done) more d →
     with_copied (with_copied s at done t from) (at + done) more (bit_set 128 d) 0
@@ -68,7 +69,8 @@ copied_after s t at done more from d small bits =
       ]
     ])
 
--- numbers copied as the bits of a number, before the others
+-- if the last n numbers are copied, and then `more` before them as the bits of a number, `more + n`
+-- are copied
 pub copied_before : (s t : PlainSet) (at more n from d : ℕ) → more ≤ 128 →
     HasBitsOf t from more d →
     with_copied (with_copied s (at + more) n t (from + more)) at more (bit_set 128 d) 0
@@ -99,7 +101,7 @@ copied_before s t at more n from d small bits =
       ]
     ])
 
--- a number whose bits are those of a set outside what was copied has those of the set before
+-- outside the copied range, the bits of a number read after the copy are those of the set before it
 pub bits_outside : (s t : PlainSet) (at n from first more d : ℕ) →
     (first + more ≤ at) ⊎ (at + n ≤ first) →
     HasBitsOf (with_copied s at n t from) first more d → HasBitsOf s first more d
@@ -175,7 +177,7 @@ module _ (m : Bool) (w k first from count p r : ℕ) (s t u : PlainSet) (word : 
       (has_copied before first count u 0) before s t word whole past also adds replaced here refl
       ∙ ap (plain_set s.capacity) (fun_ext all_here)
 
--- so many bits up to and with an index of a word, and no more than it has there, lie in that word
+-- the `less` bits that end with index e lie in the word of e, if that word has as many up to e
 pub last_part : (w e less : ℕ) → 0 < w → 0 < less → less ≤ e % w + 1 →
     (e + 1 - less) % w + less ≤ w
 last_part w e less word some most =
@@ -190,7 +192,7 @@ last_part w e less word some most =
       most,
     )
 
--- an index of a range that is copied within the capacity
+-- `copied-inside`, for a test by `contains`
 pub copied_each : (s t u : PlainSet) (at n from : ℕ) → u ≡ with_copied s at n t from →
     at + n ≤ s.capacity → (i : ℕ) → i < n → contains u (at + i) ≡ t.has (from + i)
 copied_each s t u at n from is within i h =
@@ -199,7 +201,7 @@ copied_each s t u at n from is within i h =
     ∙ copied-inside s t at n from (at + i) (omega arith) (omega (arith, h))
     ∙ ap t.has (omega arith)
 
--- and one outside the range
+-- `copied-outside`, for a test by `contains`
 pub kept_each : (s t u : PlainSet) (at n from : ℕ) → u ≡ with_copied s at n t from → (i : ℕ) →
     i < s.capacity → (i < at) ⊎ (at + n ≤ i) → contains u i ≡ contains s i
 kept_each s t u at n from is i h out =
@@ -217,7 +219,7 @@ same_number s t first (suc n) same =
     let high = ap (λ b. cond b (2 ^ n) 0) (same n (omega arith)) in
     (λ j. low j + high j)
 
--- so it is outside a range that is copied
+-- outside a copied range, the number of a range is the same as before the copy
 pub number_outside : (s t u : PlainSet) (at n from first k : ℕ) → u ≡ with_copied s at n t from →
     (first + k ≤ at) ⊎ (at + n ≤ first) → number_in u first k ≡ number_in s first k
 number_outside s t u at n from first k is out =
@@ -227,7 +229,8 @@ number_outside s t u at n from first k is out =
       | inr g ↦ copied-outside s t at n from (first + i) (inr (omega (arith, g)))
     ])
 
--- a range to which the bits of a number are copied has that number, cut to its length
+-- after the bits of a number were copied to a range of n bits, the number of the range is that
+-- number modulo 2 ^ n
 pub number_copied : (s u : PlainSet) (w first n d : ℕ) → u ≡ with_copied s first n (bit_set w d) 0 →
     n ≤ w → number_in u first n ≡ d % 2 ^ n
 number_copied s u w first n d is small =

@@ -3,18 +3,18 @@ use Rattle.std.proofs.Common.{◌≡◌, ℕ, zero, suc, ◌+◌, ◌<◌, Bool,
 use Rattle.std.proofs.lemmas.List.{append_assoc}
 use Rattle.bittle_ext.specs.Texts.{digit, digits_below}
 
--- the digit of the greatest number comes first
+-- the digits below n + 1 are the digit of n and then the digits below n
 pub digits_next : (p : ℕ → Bool) (n : ℕ) →
     digits_below p (suc n) ≡ digit (p n) ++ digits_below p n
 unfolding digits_below
 digits_next p n = refl
 
--- below 0 there are none
+-- there are no digits below 0
 pub digits_none : (p : ℕ → Bool) → digits_below p 0 ≡ []
 unfolding digits_below
 digits_none p = refl
 
--- the same bits have the same digits
+-- two tests that agree below n have the same digits
 pub digits_same : (p q : ℕ → Bool) (n : ℕ) → ((i : ℕ) → i < n → p i ≡ q i) →
     digits_below p n ≡ digits_below q n
 digits_same p q zero same = digits_none p ∙ sym (digits_none q)
@@ -23,7 +23,7 @@ digits_same p q (suc n) same =
     ∙ ap (λ xs. digit (q n) ++ xs) (digits_same p q n (λ i h. same i (omega (arith, h))))
     ∙ sym (digits_next q n)
 
--- the digits of n numbers from another one on come before those below it
+-- the digits below from + n are those of the n numbers from `from` on, and then those below `from`
 pub digits_from : (p : ℕ → Bool) (from n : ℕ) →
     digits_below p (from + n) ≡ digits_below (λ i. p (from + i)) n ++ digits_below p from
 digits_from p from zero =

@@ -22,17 +22,17 @@ one_more a b = or_comm a b ∙ ap (λ c. b || c) (sym (or-false a))
 
 -- a word of w bits, and the number of its first bit
 module _ (w start : ℕ) where
-  -- the places of the word that the numbers of a list have there
+  -- the set of the places in the word of the numbers of a list
   abbrev pub listed : List ℕ → PlainSet
   listed xs =
       record { capacity = w; has = λ i. nat_lt i w && list_any (λ x. x == start + i) xs }
 
-  -- the word 0 has none
+  -- the empty word has the places of the empty list
   pub gathered_none : (m : Bool) (d : ℕ) → d ≡ 0 → read_in m w (bit_set w d) ≡ listed []
   gathered_none m d none = ap (read_in m w) (no_digits w d none)
       ∙ ap (plain_set w) (fun_ext λ i. sym (and_right (nat_lt i w) false refl))
 
-  -- with the bit at the place of a number it has that one too
+  -- once the bit at the place of one more number is set, the word has that place too
   pub gathered_next : (m : Bool) (d e x at : ℕ) (xs : List ℕ) → read_in m w (bit_set w d) ≡ listed xs →
       read_in m w (bit_set w e) ≡ with_index (read_in m w (bit_set w d)) at → start ≤ x →
       x < start + w → at ≡ x - start → read_in m w (bit_set w e) ≡ listed (xs ++ x ∷ [])
@@ -50,7 +50,7 @@ module _ (w start : ℕ) where
             (ap (λ b. b || false) (ne_eqb i at (λ h. omega (arith, h, is))))
       ])
 
-  -- with all members of a set there it is word k of the set
+  -- a word that has the places of all members of a set in word k is that word
   pub gathered_all : (m : Bool) (k d end : ℕ) (s : PlainSet) (xs : List ℕ) → start ≡ k * w →
       read_in m w (bit_set w d) ≡ listed xs → xs ≡ ascending (members_within s (min start end) end) →
       end ≡ min (start + w) s.capacity → ((i : ℕ) → s.capacity ≤ i → s.has i ≡ false) →

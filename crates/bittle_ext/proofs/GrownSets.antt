@@ -1,4 +1,4 @@
--- Sets of which one has all members of the other, and more.
+-- The sizes of two sets, if one has all members of the other and more.
 use Rattle.std.proofs.Common.{◌≡◌, ℕ, ◌<◌, ◌≤◌, Bool, true, false, not, ◌&&◌, ◌||◌, inl, inr, refl, sym, ap, ◌∙◌, arith}
 use Rattle.std.proofs.Math.Bool.{not-not}
 use Rattle.std.proofs.Math.Path.{fun_ext}
@@ -38,7 +38,7 @@ more_members s t same all i low differs =
     ] in
     rw same (omega (arith, (all_numbers n t.has s.has).0, all_common s t all, some))
 
--- a set that an operation changes, which takes none out, grows
+-- an operation that removes no member, and changes a set, makes it grow
 pub grows : (f : Bool → Bool → Bool) (s t u : PlainSet) →
     ((a b : Bool) → a ≡ true → f a b ≡ true) → u ≡ combined f s t → Differ s u →
     size s < size u
@@ -57,14 +57,14 @@ module _ (f : Bool → Bool → Bool) (s t u : PlainSet) (brings : (a b : Bool) 
       below : k < s.capacity
       below = omega (arith, l, ap (λ v. v.capacity) is)
 
-  -- so it has no more
+  -- so u has at most as many members as s
   pub never_grows : size u ≤ size s
   never_grows =
       let same : u.capacity ≡ s.capacity = ap (λ v. v.capacity) is in
       let sums = (all_numbers u.capacity s.has u.has).0 in
       rw (sym same) (omega (arith, sums, all_common u s from_first))
 
-  -- and fewer if the operation changes it
+  -- u has fewer members if it differs from s
   pub shrinks : Differ s u → size u < size s
   shrinks differ =
       let same : u.capacity ≡ s.capacity = ap (λ v. v.capacity) is in
@@ -82,12 +82,12 @@ both_brings false b h = h
 pub alone_brings : (a b : Bool) → first_alone a b ≡ true → a ≡ true
 alone_brings a b h = both_brings a (not b) h
 
--- what takes over the other set's members has those below its capacity
+-- the operation that takes the second set's members gives those below the first set's capacity
 pub copied : (s t : PlainSet) → combined (λ _ b. b) s t ≡ members_to s.capacity t
 unfolding has_below
 copied s t = refl
 
--- a set with each index set is full
+-- a set is full after each index was set
 pub all_set : (s : PlainSet) (c : ℕ) → c ≡ s.capacity →
     ((i : ℕ) → s.capacity ≤ i → s.has i ≡ false) → with_span s 0 c ≡ full_set s.capacity
 all_set s c same past =

@@ -1,4 +1,5 @@
--- Sets that a set keeps, as the reserved numbers of an allocator, after the calls of its owner.
+-- Sets that another set includes after calls on it, as an allocator's set includes its reserved
+-- numbers.
 use Rattle.std.proofs.Common.{◌≡◌, ℕ, ◌%◌, ◌<◌, ◌≤◌, ◌==◌, Bool, true, false, cond, not, ◌&&◌, ◌||◌, nat_lt, List, [], ◌∷◌, inl, inr, refl, sym, ap, ◌∙◌, arith}
 use Rattle.std.specs.List.{fold}
 use Rattle.std.proofs.lemmas.Bool.{and_parts, cases_Bool, lt-ltb, ltb-true, ne_eqb, true≢false}
@@ -30,7 +31,7 @@ each_if_includes s r kept k below has =
 
 -- ---- what it tells of an index, which may wrap
 
--- an index that is in the set that is kept is a member
+-- if s includes r, each index of r is a member of s
 pub set_if_included : (s r : PlainSet) (i : ℕ) → includes s r ≡ true → r.capacity ≡ s.capacity →
     contains r i ≡ true → contains s i ≡ true
 unfolding contains
@@ -44,7 +45,7 @@ set_if_included s r i kept same has =
     (mod_below i r.capacity (ltb-true 0 r.capacity parts.0)) parts.1 in
     rw (some, member) refl
 
--- an unset one is not in it
+-- if s includes r, an index that is unset in s is unset in r
 pub not_included_if_unset : (s r : PlainSet) (i : ℕ) → includes s r ≡ true →
     r.capacity ≡ s.capacity → contains s i ≡ false → contains r i ≡ false
 not_included_if_unset s r i kept same unset = elim (cases_Bool (contains r i)) [
@@ -54,17 +55,17 @@ not_included_if_unset s r i kept same unset = elim (cases_Bool (contains r i)) [
 
 -- ---- where it stays
 
--- it is kept by itself
+-- a set includes itself
 pub includes_itself : (s r : PlainSet) → s ≡ r → includes s r ≡ true
 includes_itself s r is = includes_if_each s r (λ k below has. ap (λ t. t.has k) is ∙ has)
 
--- it stays where each member does
+-- a set still includes r if each of its members stays
 stays_included : (s t r : PlainSet) → ((k : ℕ) → s.has k ≡ true → t.has k ≡ true) →
     includes s r ≡ true → includes t r ≡ true
 stays_included s t r still kept =
     includes_if_each t r (λ k below has. still k (each_if_includes s r kept k below has))
 
--- after an index was set
+-- a set still includes r after an index was set
 pub includes_after_set : (s t r : PlainSet) (i : ℕ) → t ≡ with_index s i → includes s r ≡ true →
     includes t r ≡ true
 unfolding has_with
@@ -72,7 +73,7 @@ includes_after_set s t r i is = stays_included s t r (λ k has.
     ap (λ u. u.has k) is ∙ ap (λ b. (nat_lt 0 s.capacity && (k == i % s.capacity)) || b) has
     ∙ or-true (nat_lt 0 s.capacity && (k == i % s.capacity)))
 
--- after a span was set
+-- a set still includes r after a span was set
 pub includes_after_set_span : (s t r : PlainSet) (from to : ℕ) → t ≡ with_span s from to →
     includes s r ≡ true → includes t r ≡ true
 unfolding has_changed
@@ -84,7 +85,7 @@ includes_after_set_span s t r from to is = stays_included s t r (λ k has.
     either true = refl
     either false = refl
 
--- after each index of a list was set
+-- a set still includes r after each index of a list was set
 pub includes_after_all : (s t r : PlainSet) (xs : List ℕ) → t ≡ fold with_index s xs →
     includes s r ≡ true → includes t r ≡ true
 includes_after_all s t r xs is kept = ap (λ u. includes u r) is ∙ after xs s kept
@@ -95,7 +96,7 @@ includes_after_all s t r xs is kept = ap (λ u. includes u r) is ∙ after xs s 
     after (x ∷ xs) s kept =
         after xs (with_index s x) (includes_after_set s (with_index s x) r x refl kept)
 
--- after an index was cleared that is not in it
+-- a set still includes r after an index that is not in r was cleared
 pub includes_after_clear : (s t r : PlainSet) (i : ℕ) → t ≡ without_index s i →
     r.capacity ≡ s.capacity → contains r i ≡ false → includes s r ≡ true → includes t r ≡ true
 unfolding has_without contains

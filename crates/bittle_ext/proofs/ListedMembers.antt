@@ -1,5 +1,5 @@
--- Lists of a set's members, and a set after each index of a list was set, as by `from_indexes` and
--- `insert_all`.
+-- The list of a set's members, and sets after `from_indexes` and `insert_all`, which set each index
+-- of a list.
 use Rattle.std.proofs.Common.{◌≡◌, ◌==◌, ◌||◌, ℕ, ◌+◌, ◌<◌, ◌≤◌, Bool, true, false, List, [], ◌∷◌, length, All, inl, inr, refl, sym, ap, ◌∙◌, subst, arith}
 use Rattle.std.specs.List.{fold}
 use Rattle.std.proofs.lemmas.Bool.{cases_Bool, eqb-true}
@@ -9,7 +9,7 @@ use Rattle.bittle.proofs.CallerChanges.{contains_after_set, still_set_after_set}
 use Rattle.bittle_ext.proofs.CallerMembers.{has_with_index, size_after_set}
 use Rattle.bittle_bits.proofs.AscendingLists as lists
 
--- the increasing list has as many items as the set has members
+-- the length of the increasing list of the members is the size of the set
 pub ascending_length : (s : PlainSet) → length (ascending s) ≡ size s
 ascending_length = lists.ascending-length
 
@@ -61,7 +61,7 @@ pub each_after_all : (P : ℕ → Type 0) (s t : PlainSet) (xs : List ℕ) →
 each_after_all P s t xs is below items members k has =
     each_member P xs s below items members k (sym (ap (λ u. u.has k) is) ∙ has)
 
--- the set has at most as many members more as the list has items
+-- after each index of a list was set, a set has at most as many more members as the list has items
 pub size_after_all : (s t : PlainSet) (xs : List ℕ) → t ≡ fold with_index s xs →
     0 < s.capacity → size t ≤ size s + length xs
 size_after_all s t xs is some = omega (arith, ap size is, each_adds xs s some)

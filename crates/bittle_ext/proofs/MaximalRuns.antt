@@ -24,8 +24,8 @@ module _ (p : ℕ → Bool) where
   abbrev NonePass : ℕ → ℕ → Type 0
   NonePass from to = (k : ℕ) → from ≤ k → k < to → p k ≡ false
 
-  -- the runs of the list, from one number on and below another, cannot be longer, and no number
-  -- between them passes
+  -- the runs of the list lie in from..to and cannot be longer, and no number between them passes
+  -- the test
   abbrev pub AreMaximal : ℕ → ℕ → List (Range ℕ) → Type 0
   AreMaximal from to [] = NonePass from to
   AreMaximal from to (r ∷ rs) =

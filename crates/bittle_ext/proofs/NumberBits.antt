@@ -25,7 +25,7 @@ use Rattle.bittle_ext.specs.Rotations.{IsWindow}
 use Rattle.bittle_ext.proofs.ReversedBits.{bit_at_up_high, bit_at_up_low}
 use Rattle.bittle_ext.proofs.Windows.{bit_at_masked, bit_at_shifted}
 
--- a number has so many bits, and they are those of a set: so it is the number of that range
+-- a number below 2 ^ n whose n bits are those of a range of a set is the number of that range
 pub number_is : (s : PlainSet) (first n d : ℕ) → d < 2 ^ n → HasBitsOf s first n d →
     d ≡ number_in s first n
 unfolding number_in
@@ -71,13 +71,13 @@ module _ (w bits r : ℕ) (word : 0 < w) (small : w ≤ 128)
         ∙ sym (bit_has-past w bits (mirror w i) (omega (arith, past)))
   ])
 
--- a set that is read in an order twice is itself
+-- a set that is read in the same order twice is unchanged
 pub read_twice : (m : Bool) (w : ℕ) (s t : PlainSet) → 0 < w → t ≡ read_in m w s → read_in m w t ≡ s
 read_twice m w s t word is =
     ap (read_in m w) is
     ∙ ap (plain_set s.capacity) (fun_ext λ i. ap s.has (place-place m w i word))
 
--- the mask of the lowest bits
+-- the mask of all bits, shifted down, keeps the k lowest bits of a number
 pub lowest : (n w k by ones : ℕ) → ones ≡ 2 ^ w - 1 → k ≤ w → by ≡ w - k →
     bit_and n (ones / 2 ^ by) ≡ n % 2 ^ k
 lowest n w k by ones all h is =
@@ -85,7 +85,7 @@ lowest n w k by ones all h is =
     ap (λ o. bit_and n (o / 2 ^ by)) all
     ∙ ap (bit_and n) (ones_shr w by (omega (arith, is)) ∙ ap (λ j. 2 ^ j - 1) e) ∙ and_mask n k
 
--- so many bits of a word from an index of it on, which are those of the set from there on
+-- the `more` bits of word k from `from` on are those of the set from `index` on
 pub bits_of_word : (m : Bool) (w k from more index p x v : ℕ) (s : PlainSet) → 0 < w →
     bit_set w p ≡ word_of w s k → bit_set w x ≡ read_in m w (bit_set w p) →
     k * w + from ≡ index → from + more ≤ w → v ≡ x / 2 ^ from % 2 ^ more →
@@ -124,7 +124,7 @@ module _ (m : Bool) (w k from first count p r : ℕ) (s t : PlainSet) (word : 0 
         ∙ ap (read_in m w s).has (omega (arith, at, on, g))
   ]
 
--- the number of the first bits of a word, which are those of a set
+-- the first `count` bits of a word, as a number, are those of the set from `first` on
 pub bits_of_first : (w first count x v : ℕ) (s : PlainSet) → count ≤ w → v ≡ x % 2 ^ count →
     ((i : ℕ) → i < count → (bit_set w x).has i ≡ s.has (first + i)) → HasBitsOf s first count v
 bits_of_first w first count x v s within is same i h =
@@ -161,7 +161,8 @@ module _ (s : PlainSet) (first done more number v r : ℕ) (below : number < 2 ^
             ∙ ap s.has (omega (arith, g))
       ]
 
--- from the capacity of the set on, a number of fewer bits has none either
+-- a number of `end` bits has the bits of a range of n, if the rest of the range is past the
+-- capacity
 pub bits_past : (s : PlainSet) (first n end d : ℕ) → ((i : ℕ) → s.capacity ≤ i → s.has i ≡ false) →
     (end ≡ n) ⊎ (s.capacity ≤ first + end) → d < 2 ^ end → HasBitsOf s first end d →
     HasBitsOf s first n d
@@ -175,7 +176,7 @@ bits_past s first n end d past ends fits bits i h =
       ]
     ]
 
--- where a sum is cut at a number from which on a set has no members, its bits are those of the sum
+-- the bits from `cut` on are those from `first` on, if the two are equal or both past the capacity
 pub bits_at_most : (s : PlainSet) (first cut top n d : ℕ) →
     ((i : ℕ) → s.capacity ≤ i → s.has i ≡ false) → s.capacity ≤ top →
     (cut ≡ first) ⊎ ((top ≤ cut) × (top ≤ first)) → HasBitsOf s cut n d → HasBitsOf s first n d
@@ -186,7 +187,7 @@ bits_at_most s first cut top n d past high where_is bits i h =
           ∙ sym (past (first + i) (omega (arith, high, far.1)))
     ]
 
--- a number shifted up to an index of a word fits into it
+-- a number of `count` bits, shifted up to index `from` of a word, fits in the word
 pub shifted_fits : (w from count number : ℕ) → from + count ≤ w → w ≤ 128 → number < 2 ^ count →
     (number * 2 ^ from < 2 ^ w) × (number * 2 ^ from % 2 ^ 128 ≡ number * 2 ^ from)
 shifted_fits w from count number within small fits =

@@ -1,4 +1,4 @@
--- A set of which one bit is changed in its word.
+-- Sets after one bit was changed in its word.
 use Rattle.std.proofs.Common.{◌≡◌, ℕ, ◌+◌, ◌*◌, ◌/◌, ◌%◌, ◌<◌, ◌≤◌, Bool, true, false, cond, not, ◌&&◌, ◌||◌, ◌==◌, nat_lt, inl, inr, refl, sym, ap, ◌∙◌}
 use Rattle.std.proofs.Math.Bool.{or-false}
 use Rattle.std.proofs.Math.Path.{fun_ext}
@@ -29,14 +29,15 @@ assigned_within s i false h = without_index_within s i h
     ∙ ap (plain_set s.capacity) (fun_ext λ n. elim (n == i) as (λ e. not e && s.has n
     ≡ cond e false (s.has n)) [ true ↦ refl | false ↦ refl ])
 
--- word k of a set, where an index below the capacity lies
+-- d is word k of a set, and the word in which index i lies
 pub record HoldsIndex (m : Bool) (w k i d : ℕ) (s : PlainSet) : Type 0 where
   pub word : 0 < w
   pub where_is : k ≡ i / w
   pub within : i < s.capacity
   pub ours : bit_set w d ≡ word_of w s k
 
--- the word that an operation makes of it and of the word of the index alone, in its place
+-- r is the result of an operation on the word of index i and the word that has that index alone,
+-- and t is the set with r in the place of that word
 pub record CombinesIndex (f : Bool → Bool → Bool) (m : Bool) (w k i d mask r : ℕ) (s t : PlainSet) :
     Type 0 where
   pub keeps : (b : Bool) → f b false ≡ b
@@ -49,7 +50,7 @@ module _ {m : Bool} {w k i d : ℕ} {s : PlainSet} (at : HoldsIndex m w k i d s)
   at_index : k * w + i % w ≡ i
   at_index = rw at.where_is (div-add-mod' i w)
 
-  -- the word has the index where the set has it
+  -- the word, read in the order, has the index exactly if the set has it
   pub contained_in_word : contains (read_in m w (bit_set w d)) i ≡ contains (read_in m w s) i
   contained_in_word =
       contains_in (read_in m w (bit_set w d)) w i refl at.word
@@ -67,7 +68,7 @@ module _ {m : Bool} {w k i d : ℕ} {s : PlainSet} (at : HoldsIndex m w k i d s)
         ∙ ap (λ p. p o) (has_with-in (empty_set w) w i refl at.word)
         ∙ or-false (o == i % w)
 
-    -- replacing it combines the index alone
+    -- the set with the word replaced is the set with that one index changed
     pub bit_combined : (whole : (words : ℕ) × (s.capacity ≡ words * w)) →
         ((n : ℕ) → s.capacity ≤ n → s.has n ≡ false) →
         ((n : ℕ) → t.capacity ≤ n → t.has n ≡ false) →
@@ -113,7 +114,7 @@ assigned_as s i j false e =
     let some = nat_lt 0 s.capacity in
     ap (λ n. plain_set s.capacity (λ k. not (some && (k == n)) && s.has k)) e
 
--- combining the index that one wraps to combines that one
+-- two indexes that wrap to the same one give the same result
 pub combined_as : (f : Bool → Bool → Bool) (s : PlainSet) (i j : ℕ) →
     i % s.capacity ≡ j % s.capacity → with_index_assigned s i (f (contains s i) true)
     ≡ with_index_assigned s j (f (contains s j) true)

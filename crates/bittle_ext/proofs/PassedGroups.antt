@@ -1,4 +1,4 @@
--- Words that a view passes over, as its sets tell of groups of them.
+-- Words that a view of two sets skips because the sets say which groups of words have no set bit.
 use Rattle.std.proofs.Common.{◌≡◌, ℕ, zero, suc, ◌+◌, ◌-◌, ◌*◌, ◌/◌, ◌%◌, ◌<◌, ◌≤◌, ◌⊎◌, Bool, true, false, ◌&&◌, ◌||◌, cond, bit_and, bit_or, subst, inl, inr, Some, None, refl, sym, ap, ◌∙◌, arith}
 use Rattle.std.proofs.Math.Nat.{mul-le-mul_right}
 use Rattle.std.proofs.lemmas.Bool.{cases_lt, and_right, true≢false}
@@ -28,13 +28,13 @@ both_false true b none = absurd (true≢false none)
 -- ---- what is told of two sets
 
 module _ (each w n : ℕ) where
-  -- what is told of a set is told of each set that has no more members
+  -- bits told of the groups of a set hold for a set that has no other members
   pub tells_fewer : (word : ℕ) (s t : PlainSet) → ((k : ℕ) → s.has k ≡ false → t.has k ≡ false) →
       TellsGroups each w s n word → TellsGroups each w t n word
   tells_fewer word s t fewer tells = λ i within unset k lo hi.
       fewer k (tells i within unset k lo hi)
 
-  -- and of the set in each order
+  -- bits told of the groups of a set hold for the set in each order
   pub tells_in_order : (m : Bool) (word : ℕ) (s : PlainSet) → 0 < w →
       (words : ℕ) × (s.capacity ≡ words * w) → TellsGroups each w s n word →
       TellsGroups each w (read_in m w s) n word
@@ -42,7 +42,7 @@ module _ (each w n : ℕ) where
       none_in_order true m w ((64 * n + i) * each) ((64 * n + i + 1) * each) s positive whole
       (tells i within unset)
 
-  -- and of the one that is read back
+  -- bits told of the groups of a set hold for the set that is read back
   pub tells_read_back : (ones m : Bool) (word : ℕ) (d : PlainSet) → 0 < w → d.capacity % w ≡ 0 →
       ones ≡ true → TellsGroups each w d n word →
       TellsGroups each w (ones_or_zeros ones (read_back m w d)) n word
@@ -51,7 +51,7 @@ module _ (each w n : ℕ) where
       (sym (read_back_is m w d))
       (rw is (tells_in_order m word d positive (whole_words_of w d.capacity whole) tells))
 
-  -- a bit that is unset in either word tells of the members of both sets
+  -- the bits told of two sets, combined by `and`, hold for the set of their common members
   pub tells_both : (a b r : ℕ) (s t : PlainSet) → TellsGroups each w s n a →
       TellsGroups each w t n b → r ≡ bit_and a b → TellsGroups each w (both_of s t) n r
   tells_both a b r s t ours theirs is = λ i within unset.
@@ -63,7 +63,7 @@ module _ (each w n : ℕ) where
             ∙ and_right (s.has k) false refl
       ]
 
-  -- one that is unset in both words tells of a set with nothing that is in neither
+  -- the bits told of two sets, combined by `or`, hold for a set that has only members of either
   pub tells_either : (a b r : ℕ) (s t d : PlainSet) →
       ((k : ℕ) → s.has k ≡ false → t.has k ≡ false → d.has k ≡ false) →
       TellsGroups each w s n a → TellsGroups each w t n b → r ≡ bit_or a b →
@@ -74,13 +74,14 @@ module _ (each w n : ℕ) where
       let parts = both_false (bit_has 64 a i) (bit_has 64 b i) none in
       neither k (ours i within parts.0 k lo hi) (theirs i within parts.1 k lo hi)
 
--- an operation that keeps to both sets makes no member of what is not in both
+-- if the result of an operation lies in both sets, a number that is not in both is not in the
+-- result
 pub keeps_to_both : (f : Bool → Bool → Bool) → ((b : Bool) → f false b ≡ false) →
     ((a : Bool) → f a false ≡ false) → (a b : Bool) → a && b ≡ false → f a b ≡ false
 keeps_to_both f first second false b none = first b
 keeps_to_both f first second true b none = ap (f true) none ∙ second true
 
--- a capacity below 2 ^ 32 has no more words
+-- a capacity below `u32::MAX` has fewer than 2 ^ 32 words
 pub few_words : (w high c : ℕ) → 0 < w → high * w ≤ c → c < 4294967295 → high < 4294967296
 few_words w high c word within fits =
     let up : 1 * high ≤ w * high = mul-le-mul_right high word in omega (arith, up, within, fits)
@@ -113,7 +114,7 @@ none_between each w n word from to a b s tells none order within first last =
     rw (sym first, sym last, sym e)
     (none_told each w n word from d s tells (rw e none) (omega (arith, e, within)))
 
--- the end moves up to the group at that end whose bit is set
+-- the end moves to the first group from that end whose bit is set
 pub moves_to : (front : Bool) (each w at number word place r : ℕ) (s : PlainSet) →
     0 < at + cond front 1 0 → number ≡ at - cond front 0 1 →
     TellsGroups each w s (number / 64) word →
@@ -135,7 +136,7 @@ moves_to false each w at number word place r s some is tells found to =
           (omega (arith, split, is, some)),
     )
 
--- or to the next multiple of 64 where none is set
+-- the end moves to the next multiple of 64 groups if no bit is set
 pub moves_past : (front : Bool) (each w at number word r : ℕ) (s : PlainSet) →
     0 < at + cond front 1 0 → number ≡ at - cond front 0 1 →
     TellsGroups each w s (number / 64) word →

@@ -1,4 +1,4 @@
--- Words that a view of two sets passes over, as each of its sets passes over them.
+-- Words that a view skips because its sets skip them.
 use Rattle.std.proofs.Common.{◌≡◌, ℕ, ◌*◌, ◌/◌, ◌%◌, ◌<◌, ◌≤◌, Bool, true, false, cond, not, ◌&&◌, nat_lt, min, max, inl, inr, refl, ap, ◌∙◌, arith}
 use Rattle.std.proofs.Math.Nat.{mul-le-mul_right}
 use Rattle.std.proofs.lemmas.Bool.{cases_lt, and_right}
@@ -15,7 +15,7 @@ use Rattle.bittle_ext.proofs.ViewFacts.{read_back_is}
 
 -- ---- words past the end of a set
 
--- words that the set has not have no member
+-- words past the last one of a set have no member
 pub none_after : (w c low high last : ℕ) (s : PlainSet) → 0 < w →
     (words : ℕ) × (s.capacity ≡ words * w) → ((i : ℕ) → s.capacity ≤ i → s.has i ≡ false) →
     c ≡ s.capacity → last ≡ min high (c / w) → last ≤ low → NoneIn s (low * w) (high * w)
@@ -34,14 +34,15 @@ none_after w c low high last s word whole past is least from = λ k lo hi.
     all : c / w * w ≡ s.capacity
     all = ap (λ n. n / w * w) is ∙ words_make_up w s.capacity word whole
 
--- they are all passed over
+-- words without a member can all be skipped
 pub passes_all : (front : Bool) (w low high : ℕ) (s : PlainSet) → low ≤ high →
     NoneIn s (low * w) (high * w) →
     PassesOver front w s low high (cond front high low)
 passes_all true w low high s ordered none = (ordered, omega arith, none)
 passes_all false w low high s ordered none = (omega arith, ordered, none)
 
--- so are they after all words that the set has
+-- if all words up to `last` are skipped from the front, and the rest have no member, all words are
+-- skipped
 pub passes_to_end : (w low last high : ℕ) (s : PlainSet) → last ≤ high →
     NoneIn s (last * w) (high * w) → PassesOver true w s low last last →
     PassesOver true w s low high high
@@ -54,7 +55,8 @@ passes_to_end w low last high s far none p = (
   ],
 )
 
--- and after words of which some are passed over
+-- if some words of low..last are skipped, and the rest up to `high` have no member, the same end
+-- holds for low..high
 pub passes_further : (front : Bool) (w low last high r : ℕ) (s : PlainSet) → last ≤ high →
     NoneIn s (last * w) (high * w) → PassesOver front w s low last r →
     PassesOver front w s low high r
@@ -70,14 +72,14 @@ passes_further false w low last high r s far none p = (
 
 -- ---- words of two sets
 
--- what is passed over in a set is so in each set that has no more members
+-- words that are skipped in a set can be skipped in a set that has no other members
 pub passes_fewer : (front : Bool) (w low high r : ℕ) (s t : PlainSet) →
     ((k : ℕ) → s.has k ≡ false → t.has k ≡ false) → PassesOver front w s low high r →
     PassesOver front w t low high r
 passes_fewer true w low high r s t fewer p = (p.0, p.1, λ k lo hi. fewer k (p.2 k lo hi))
 passes_fewer false w low high r s t fewer p = (p.0, p.1, λ k lo hi. fewer k (p.2 k lo hi))
 
--- words passed over, and then others after them from the same end
+-- words that are skipped from the front, and then more after them, are skipped together
 pub passes_from : (w low high mid r : ℕ) (s : PlainSet) → PassesOver true w s low high mid →
     PassesOver true w s mid high r → PassesOver true w s low high r
 passes_from w low high mid r s p q = (
@@ -125,7 +127,7 @@ module _ (w low high o p r : ℕ) (s t d : PlainSet)
             (theirs.2 k (omega (arith, lo, far)) hi),
       )
 
--- words that are passed over in a set are so in the one that is read back
+-- words that are skipped in a set can be skipped in the set that is read back
 pub passes_read_back : (front ones m : Bool) (w low high r : ℕ) (d : PlainSet) → 0 < w →
     d.capacity % w ≡ 0 → ones ≡ true → PassesOver front w d low high r →
     PassesOver front w (ones_or_zeros ones (read_back m w d)) low high r
@@ -133,7 +135,7 @@ passes_read_back front ones m w low high r d word whole is p =
     rw (is, read_back_is m w d) (passes_in_order front true m w low high r d word
     (whole_words_of w d.capacity whole) p)
 
--- words without a bit of the other kind have none of the kind in the complement
+-- words that are skipped in a set can be skipped in the complement of its complement
 pub passes_complement : (front : Bool) (w low high r : ℕ) (s : PlainSet) →
     PassesOver front w s low high r →
     PassesOver front w (complement (complement s)) low high r
@@ -148,7 +150,8 @@ passes_complement front w low high r s = passes_fewer front w low high r s
     twice : (k : ℕ) → s.has k ≡ false → (complement (complement s)).has k ≡ false
     twice k e = rw e (none (nat_lt k s.capacity))
 
--- what a set passes over in a kind is passed over within a range of it
+-- words that are skipped in a set for a kind of bits can be skipped in a view of a range of that
+-- kind
 pub passes_within : (front kind m : Bool) (w low high r from to : ℕ) (s : PlainSet) → 0 < w →
     (words : ℕ) × (s.capacity ≡ words * w) →
     PassesOver front w (ones_or_zeros kind s) low high r →

@@ -1,4 +1,5 @@
--- Members that pass a test, and what a walk keeps whose closure answers by one.
+-- The members that pass a test are those that `retain` keeps, if its closure returns the test's
+-- result.
 use Rattle.std.proofs.Common.{◌≡◌, ◌⊎◌, ℕ, zero, suc, ◌≤◌, Bool, true, false, ◌&&◌, ◌∷◌, filter, inl, inr, refl, sym, ap, ◌∙◌, arith}
 use Rattle.std.specs.List.Retain.{IsFiltered}
 use Rattle.std.proofs.lemmas.Bool.{cases_Bool, cases_lt}
@@ -27,7 +28,7 @@ filter_ascending p test q is from (suc n) =
         ∙ rw b rest
         ∙ sym (ascending-no q from n (rw (is from, a) b))
 
--- what is kept of a set by a closure that answers by a test are the members that pass it
+-- if a closure returns the result of a test, the members that it keeps are those that pass the test
 pub kept_by_test : {F : Type 0} (step : F → ℕ → Bool → F → Type 0) (keep : F) (old new : PlainSet) →
     ((k : ℕ) → old.capacity ≤ k → old.has k ≡ false) →
     ((k : ℕ) → new.capacity ≤ k → new.has k ≡ false) → new.capacity ≡ old.capacity →

@@ -1,11 +1,11 @@
--- Tests of a range of a set as a caller states them.
+-- Results of `all_in_range` and `any_in_range`, for proofs of callers.
 use Rattle.std.proofs.Common.{◌≡◌, ℕ, Bool, true, false, IsTrue, MatchBool, ◌↔◌, refl, sym, ◌∙◌}
 use Rattle.std.proofs.lemmas.Bool.{true≢false}
 use Rattle.bittle.specs.PlainSet.{PlainSet}
 use Rattle.bittle.specs.Searches.{NoneIn}
 use Rattle.bittle_ext.specs.RangeMembers.{HasAllIn, HasSomeIn, LacksSomeIn}
 
--- a test of all numbers of a range is true exactly if each is a member
+-- the test of all numbers of a range returns true exactly if each of them is a member
 pub exactly_if_all : (s : PlainSet) (from to : ℕ) (b : Bool) →
     MatchBool b (HasAllIn s from to) (LacksSomeIn s from to) → IsTrue b ↔ HasAllIn s from to
 exactly_if_all s from to true all = (λ _. all, λ _. refl)
@@ -14,7 +14,7 @@ exactly_if_all s from to false some = (
   λ all. absurd (true≢false (sym (all some.0 some.1 some.2) ∙ some.3)),
 )
 
--- a test of any of them exactly if some number is one
+-- the test of any number of a range returns true exactly if some number of it is a member
 pub exactly_if_any : (s : PlainSet) (from to : ℕ) (b : Bool) →
     MatchBool b (HasSomeIn s from to) (NoneIn s from to) → IsTrue b ↔ HasSomeIn s from to
 exactly_if_any s from to true some = (λ _. some, λ _. refl)

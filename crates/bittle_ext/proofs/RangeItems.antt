@@ -1,4 +1,4 @@
--- The members of a range of a set: how many there are, and what a list of them has.
+-- The members of a range of a set: their number, and the list of them.
 use Rattle.std.proofs.Common.{◌≡◌, ◌⊎◌, ℕ, ◌+◌, ◌-◌, ◌<◌, ◌≤◌, Bool, true, false, ◌&&◌, List, length, get_or, inl, inr, sym, ap, ◌∙◌, subst, arith}
 use Rattle.std.proofs.lemmas.Bool.{cases_lt, true≢false}
 use Rattle.bittle.specs.PlainSet.{PlainSet, ascending, complement, members_below, size}
@@ -14,7 +14,7 @@ module _ (s : PlainSet) (from to : ℕ) where
   abbrev inner : PlainSet
   inner = members_within s from to
 
-  -- outside the range none is
+  -- no number outside the range is in the set of the members within it
   pub none_outside : (k : ℕ) → (k < from) ⊎ (to ≤ k) → inner.has k ≡ false
   none_outside k out = ap (λ b. b && s.has k) (is_in_span-outside from to k out)
 
@@ -32,7 +32,7 @@ module _ (s : PlainSet) (from to : ℕ) where
   )
 
   module _ (ordered : from ≤ to) (inside : to ≤ s.capacity) where
-    -- there are as many as lie below the end and not below the start
+    -- the size of that set is the number of members below the end, minus the number below the start
     pub size_within : size inner ≡ members_below s to - members_below s from
     size_within =
         let n = to - from in
@@ -68,7 +68,7 @@ module _ (s : PlainSet) (from to : ℕ) where
           );
         }
 
--- the list of the bits of a kind within a range
+-- the increasing list of the bits of a kind in a range is as `ListsWithin` says
 pub lists_kind : (ones : Bool) (s : PlainSet) (from to : ℕ) (xs : List ℕ) → from ≤ to →
     to ≤ s.capacity → xs ≡ ascending (kind_within ones s from to) →
     ListsWithin (ones_or_zeros ones s) from to xs

@@ -1,4 +1,5 @@
--- What is asked of a range of a set is asked of what of it lies below the capacity.
+-- A search or count in a range of a set has the same result in the part of the range below the
+-- capacity.
 use Rattle.std.proofs.Common.{◌≡◌, ◌⊎◌, ℕ, ◌-◌, ◌<◌, ◌≤◌, false, ◌&&◌, List, Option, Some, None, inl, inr, refl, sym, ap, ◌∙◌, arith}
 use Rattle.std.proofs.Math.Path.{fun_ext}
 use Rattle.std.proofs.lemmas.Bool.{and_right, cases_lt}
@@ -53,7 +54,7 @@ module _ {s : PlainSet} {n from to start end : ℕ} (x : EndsAt s n)
         ],
       )
 
-  -- as many members lie in the part
+  -- the part has as many members as the range
   pub count_of_part : members_below s end - members_below s start
       ≡ members_below s to - members_below s from
   count_of_part =
@@ -100,11 +101,11 @@ module _ {s : PlainSet} {n from to start end : ℕ} (x : EndsAt s n)
         ]
       ]
 
-  -- the members within it are those within the part
+  -- the members within the part are those within the range
   pub within_part : members_within s start end ≡ members_within s from to
   within_part = ap (plain_set s.capacity) (fun_ext within_at)
 
-  -- a list of the members within the part is one of those within it
+  -- a list of the members within the part is a list of those within the range
   pub lists_of_part : (xs : List ℕ) → ListsWithin s start end xs → ListsWithin s from to xs
   lists_of_part xs list =
       let few = list.between.0 in

@@ -1,4 +1,4 @@
--- How many members lie below a number, and which member has so many below it.
+-- How many members lie below a number, and which member has a given number of members below it.
 use Rattle.std.proofs.Common.{◌≡◌, ℕ, zero, suc, ◌+◌, ◌-◌, ◌*◌, ◌/◌, ◌<◌, ◌≤◌, true, false, not, cond, [], ◌∷◌, ◌++◌, length, length-append, append_assoc, ◌⊎◌, Some, None, inl, inr, refl, sym, ap, ◌∙◌, arith, min}
 use Rattle.std.proofs.Math.Nat.{mul-div_left}
 use Rattle.std.specs.Prelude.{slice_get}
@@ -11,7 +11,7 @@ use Rattle.bittle.proofs.CallerSets.{complement_within}
 use Rattle.bittle_bits.proofs.AscendingLists.{ascending_from-length, ascending_from-zero, ascending-at, ascending-yes, ascending-no}
 use Rattle.bittle_bits.proofs.Counts.{count-add, count-same, count-never, count-others}
 
--- nothing lies below 0
+-- no member lies below 0
 pub below_zero : (s : PlainSet) → members_below s 0 ≡ 0
 unfolding count_below
 below_zero s = refl
@@ -28,7 +28,7 @@ below_next s i =
     let next : i + 1 ≡ suc i = omega arith in
     ap (members_below s) next ∙ next_counts s i
 
--- a number that more members lie below its successor than below it is one
+-- if more members lie below i + 1 than below i, i is a member
 pub counted_is_member : (s : PlainSet) (i n : ℕ) → members_below s i ≤ n →
     n < members_below s (i + 1) → (s.has i ≡ true) × (members_below s i ≡ n)
 counted_is_member s i n low high =
@@ -39,7 +39,7 @@ counted_is_member s i n low high =
           absurd (omega (arith, e))
     ]
 
--- numbers that are no members count nothing
+-- a range without members adds nothing to the number of members below
 pub below_stays : (s : PlainSet) (from to : ℕ) → from ≤ to → NoneIn s from to →
     members_below s to ≡ members_below s from
 below_stays s from to h none =
@@ -50,7 +50,7 @@ below_stays s from to h none =
     (λ _. false) (λ k l. none (from + k) (omega arith) (omega arith)) ∙ count-never d in
     omega (arith, sum, nothing)
 
--- where nothing is from a number on, as many lie below any later number
+-- if no member is at or past c, as many lie below n as below the lesser of n and c
 pub below_past : (s : PlainSet) (c n at : ℕ) → ((i : ℕ) → c ≤ i → s.has i ≡ false) → at ≡ min n c →
     members_below s n ≡ members_below s at
 below_past s c n at past e =
@@ -60,7 +60,7 @@ below_past s c n at past e =
           ∙ sym (ap (members_below s) (omega (arith, e)))
     ]
 
--- members and other numbers are all numbers below one that is not past the capacity
+-- of the n numbers below n, each is a member or in the complement
 pub below_others : (s : PlainSet) (n : ℕ) → n ≤ s.capacity →
     members_below (complement s) n + members_below s n ≡ n
 below_others s n h =
@@ -69,7 +69,7 @@ below_others s n h =
     (λ k l. complement_within s k (omega arith)) in
     omega (arith, others, count-others n s.has)
 
--- as many words as a capacity of whole words has end at it
+-- the last word of a capacity of whole words ends at the capacity
 pub end_of_words : (w c bits wide k : ℕ) → 0 < w → (words : ℕ) × (c ≡ words * w) → bits ≡ c →
     wide ≡ w → k ≡ bits / wide → k * w ≡ c
 end_of_words w c bits wide k word whole is same last =
@@ -77,7 +77,7 @@ end_of_words w c bits wide k word whole is same last =
 
 -- ---- the list
 
--- a member is the item of the list that has as many items before it as members lie below it
+-- a member with n members below it is item n of the increasing list
 pub selected : (s : PlainSet) (i n : ℕ) → i < s.capacity → s.has i ≡ true →
     members_below s i ≡ n → Some i ≡ slice_get (ascending s) n
 selected s i n h t e =
@@ -90,7 +90,7 @@ selected s i n h t e =
     (omega (arith, length-append before (i ∷ after)))
     ∙ ap Some (get_or-append_seam before i after 0))
 
--- there is no such item where there are no more members than items before it
+-- the increasing list has no item n if the set has at most n members
 pub not_selected : (s : PlainSet) (n : ℕ) → size s ≤ n → None ≡ slice_get (ascending s) n
 not_selected s n h = sym (slice_get_past (ascending s) n
     (omega (arith, ascending_from-length s.has s.capacity)))
@@ -125,7 +125,7 @@ counted s from (suc n) r i e = by (cases_Bool (s.has from)) (counted s (suc from
       next_counts s from ∙ ap (λ b. members_below s from + cond b 1 0) f,
     )
 
--- an item has as many members below it as items before it
+-- item r of the increasing list has r members below it
 pub rank_of_item : (s : PlainSet) (r i : ℕ) → slice_get (ascending s) r ≡ Some i →
     members_below s i ≡ r
 rank_of_item s r i e = omega (arith, counted s 0 s.capacity r i e, below_zero s)

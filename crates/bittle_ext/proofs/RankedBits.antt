@@ -1,4 +1,4 @@
--- The bits of a word that is shifted down, as the members of a set, and how many there are.
+-- The bits of a word that is shifted down, as members of a set, and their number.
 use Rattle.std.proofs.Common.{◌≡◌, ℕ, ◌+◌, ◌*◌, ◌/◌, ◌%◌, ◌^◌, ◌<◌, ◌≤◌, ◌==◌, Bool, sym, ap, ◌∙◌, arith}
 use Rattle.std.specs.Int.{bit_at}
 use Rattle.std.specs.Int.Count.{ones}
@@ -14,14 +14,14 @@ use Rattle.bittle_bits.proofs.Words.{digit_at}
 use Rattle.bittle_ext.specs.Numbers.{HasBitsOf}
 use Rattle.bittle_ext.proofs.Windows.{bit_at_masked, bit_at_shifted}
 
--- word k of a set, as a number
+-- the bits of word k, as a number, are those of the set from the start of the word on
 pub bits_of_whole : (m : Bool) (w k p x : ℕ) (s : PlainSet) → 0 < w → bit_set w p ≡ word_of w s k →
     bit_set w x ≡ read_in m w (bit_set w p) → HasBitsOf (read_in m w s) (k * w) w x
 bits_of_whole m w k p x s word ours turned i h =
     sym (bit_has-at w x i h) ∙ ap (λ (u : PlainSet). u.has i) turned
     ∙ digit_at m w k s p word ours i h
 
--- the lowest bits of the number count the first members
+-- the number of set bits among the lowest `half` bits is the number of members in that range
 pub low_counted : (s : PlainSet) (x v n half from : ℕ) → v ≡ x % 2 ^ half → n ≡ ones v →
     HasBitsOf s from half x → members_below s from + n ≡ members_below s (from + half)
 low_counted s x v n half from is count bits =
@@ -32,14 +32,15 @@ low_counted s x v n half from is count bits =
     ∙ bits i h) in
     omega (arith, counted, same, count-add from half s.has)
 
--- and once they are shifted out, it begins with a later one
+-- once the lowest `half` bits are shifted out, the number's bits are those of the set from
+-- `from + half` on
 pub bits_shifted : (s : PlainSet) (x half from rest : ℕ) → HasBitsOf s from (half + rest) x →
     HasBitsOf s (from + half) rest (x / 2 ^ half)
 bits_shifted s x half from rest bits i h =
     ap (λ b. b == 1) (bit_at_shifted x half i) ∙ bits (i + half) (omega (arith, h))
     ∙ ap s.has (omega arith)
 
--- fewer of the first bits
+-- if the first `more` bits are those of the set, so are the first n, for n up to `more`
 pub bits_fewer : (s : PlainSet) (x from n more : ℕ) → n ≤ more → HasBitsOf s from more x →
     HasBitsOf s from n x
 bits_fewer s x from n more less bits i h = bits i (omega (arith, h, less))

@@ -1,4 +1,4 @@
--- How two sets stand to each other, as far as a search has come.
+-- The state of the search that compares two sets.
 use Rattle.std.proofs.Common.{◌≡◌, ℕ, ◌<◌, ◌≤◌, Bool, true, false, ◌&&◌, Some, inl, inr, refl, sym, ap, ◌∙◌, arith}
 use Rattle.std.proofs.lemmas.Bool.{cases_lt, and_right}
 use Rattle.bittle.specs.Decided.{NoneDecidedBelow, IsFirstDecided}
@@ -19,7 +19,8 @@ lacking : (v b : Bool) → first_and v false b ≡ false
 lacking true b = refl
 lacking false b = refl
 
--- what is so below a number is so below a later one too, where the first has none from there on
+-- if `first_and` holds of no number below `from`, and the first set has no member in from..to, it
+-- holds of none below `to`
 pub further : (v : Bool) (s t : PlainSet) (from to : ℕ) →
     NoneDecidedBelow (first_and v) s t from → NoneIn s from to →
     NoneDecidedBelow (first_and v) s t to
@@ -29,7 +30,7 @@ further v s t from to before none i h =
       | inr g ↦ ap (λ a. first_and v a (t.has i)) (none i g h) ∙ lacking v (t.has i)
     ]
 
--- a search has decided against all numbers below `from`, and `ours` is the next one of the first
+-- `first_and` holds of no number below `from`, and `ours` is the first set's next member
 pub record IsNext (v : Bool) (s t : PlainSet) (from end ours : ℕ) : Type 0 where
   pub within : end ≤ t.capacity
   pub before : NoneDecidedBelow (first_and v) s t from
@@ -37,7 +38,8 @@ pub record IsNext (v : Bool) (s t : PlainSet) (from end ours : ℕ) : Type 0 whe
 
 module _ {v : Bool} {s t : PlainSet} {from end ours : ℕ} (at : IsNext v s t from end ours)
     (theirs : ℕ) where
-  -- the second set goes on from it: to a later number
+  -- if the second set has no bit of the kind in ours..theirs, `first_and` holds of no number below
+  -- `theirs`
   pub turned : theirs ≤ end → NoneIn (ones_or_zeros v t) ours theirs →
       NoneDecidedBelow (first_and v) s t theirs
   turned up none i h =
@@ -48,7 +50,7 @@ module _ {v : Bool} {s t : PlainSet} {from end ours : ℕ} (at : IsNext v s t fr
             ∙ and_right (s.has i) ((ones_or_zeros v t).has i) (none i g h)
       ]
 
-  -- to the same number
+  -- if the second set's bit at `ours` is of the kind, `ours` is the number that is searched for
   pub met : IsFirstIn (ones_or_zeros v t) ours end (Some theirs) → theirs ≡ ours →
       IsFirstDecided (first_and v) s t ours
   met next e = (

@@ -1,5 +1,5 @@
--- What a walk keeps from call to call that asks a closure of each member, and takes out those that
--- it refuses.
+-- The state of `retain` between calls of its closure: the members asked so far, and those that it
+-- keeps.
 use Rattle.std.proofs.Common.{◌≡◌, ℕ, suc, ◌+◌, ◌-◌, ◌<◌, ◌≤◌, Bool, true, false, not, ◌&&◌, cond, List, [], ◌∷◌, ◌++◌, append_assoc, append-nil, Some, refl, sym, ap, ◌∙◌, subst, arith}
 use Rattle.std.specs.List.{items_where_true}
 use Rattle.std.specs.List.Retain.{IsFiltered}
@@ -55,8 +55,8 @@ module _ {F : Type 0} (R : F → ℕ → Bool → F → Type 0) where
       kept true = ap (λ zs. i ∷ zs) rest.4
       kept false = rest.4
 
-  -- the closure was first so, and is keep after the calls at the members of old below from; now has
-  -- those of them that it kept, and the others of old
+  -- the closure was `first`, and is `keep` after its calls with the members of `old` below `from`;
+  -- `now` has those of them that it kept, and the later members of `old`
   pub record RetainsBelow (first : F) (old : PlainSet) (keep : F) (now : PlainSet) (from : ℕ) : Type 0 where
     pub capacity : now.capacity ≡ old.capacity
     pub within : from ≤ old.capacity
@@ -109,13 +109,13 @@ module _ {F : Type 0} (R : F → ℕ → Bool → F → Type 0) where
               ∙ ap (λ xs. ascending_from now.has 0 from ++ xs) (in_front b i ys))) all;
         }
 
-    -- a member of which it says true stays
+    -- if it returns true for the next member, that member stays
     pub retains_kept : (i : ℕ) (next : F) → IsFirstIn now from now.capacity (Some i) →
         R keep i true next → RetainsBelow first old next now (i + 1)
     retains_kept i next found called =
         asked i true next now found called refl (λ k h. refl) found.2
 
-    -- one of which it says false is taken out
+    -- if it returns false for the next member, that member is removed
     pub retains_others : (i : ℕ) (next : F) (after : PlainSet) →
         IsFirstIn now from now.capacity (Some i) → R keep i false next →
         after ≡ without_index now i → RetainsBelow first old next after (i + 1)
@@ -125,7 +125,7 @@ module _ {F : Type 0} (R : F → ℕ → Bool → F → Type 0) where
         (λ k h. ap (λ (s : PlainSet). s.has k) less ∙ ap (λ b. not b && now.has k) (ne_eqb k i h))
         (ap (λ (s : PlainSet). s.has i) less ∙ ap (λ b. not b && now.has i) (eq-eqb i i refl))
 
-    -- numbers of which none is a member need no call
+    -- numbers that are no members need no call
     pub retains_on : (to : ℕ) → from ≤ to → to ≤ old.capacity → NoneIn now from to →
         RetainsBelow first old keep now to
     retains_on to ordered inside none =
@@ -147,7 +147,7 @@ module _ {F : Type 0} (R : F → ℕ → Bool → F → Type 0) where
               (so_far.calls ys (subst (λ xs. IsFiltered R keep xs ys) (sym passed) h));
         }
 
-    -- where no member is left, each was asked
+    -- if no member is left, the closure was called for each member
     pub retains_all : ((k : ℕ) → old.capacity ≤ k → old.has k ≡ false) →
         ((k : ℕ) → now.capacity ≤ k → now.has k ≡ false) → NoneIn now from now.capacity →
         Retains R first old now

@@ -1,4 +1,5 @@
--- A word of a set, of whose bits some have been asked for, and are kept or taken out.
+-- A word in the middle of `retain`: the closure was called for some of its bits, which are kept or
+-- cleared.
 use Rattle.std.proofs.Common.{◌≡◌, ℕ, ◌+◌, ◌-◌, ◌*◌, ◌/◌, ◌%◌, ◌<◌, ◌≤◌, Bool, true, false, not, ◌&&◌, ◌||◌, ◌==◌, [], ◌∷◌, Some, inl, inr, refl, sym, ap, ◌∙◌, arith}
 use Rattle.std.proofs.Math.Bool.{or-false, or-true}
 use Rattle.std.proofs.Math.Nat.{mul-le-mul_right}
@@ -19,7 +20,7 @@ use Rattle.bittle.proofs.CallerLists.{ascending_first, ascending_none}
 use Rattle.bittle.proofs.CallerSets.{without_index_within}
 use Rattle.bittle_ext.proofs.WordsReplaced.{place_in, in_word, in_others}
 
--- a word before the end of whole words ends below the capacity
+-- a word of a set ends at or below the capacity
 pub word_inside : (w k words c d : ℕ) → words * w ≡ c → d ≡ c → k < words → k * w + w ≤ d
 word_inside w k words c d whole same low =
     let up : (k + 1) * w ≤ words * w = mul-le-mul_right w (omega (arith, low)) in
@@ -35,7 +36,7 @@ pub record IsPopped (w i : ℕ) (p q : ℕ → Bool) : Type 0 where
   pub gone : q i ≡ false
   pub others : (o : ℕ) → o < w → (o ≡ i → ⊥) → q o ≡ p o
 
--- the list of the bits begins with the one that is taken
+-- the increasing list of the bits begins with the bit that is taken out
 pub popped : (w i : ℕ) (p q : ℕ → Bool) →
     ascending (plain_set w p) ≡ i ∷ ascending (plain_set w q) → IsPopped w i p q
 popped w i p q taken =
@@ -59,7 +60,7 @@ popped w i p q taken =
       others = λ o h n. each o h ∙ ap (λ b. not b && p o) (ne_eqb o i n);
     }
 
--- a word with the bit more that another one has lost
+-- d, in union with the difference of a word and that word without its least bit, has that bit too
 pub one_more : (w i : ℕ) (a b d e r : PlainSet) → a.capacity ≡ w → b.capacity ≡ w →
     d.capacity ≡ w → IsPopped w i a.has b.has → e ≡ combination_of just_one a b →
     r ≡ combination_of ◌||◌ d e → (o : ℕ) → o < w → r.has o ≡ ((o == i) || d.has o)
@@ -79,15 +80,15 @@ one_more w i a b d e r first second third pop lost is o h =
     by true c = or-false c
     by false c = or-false c
 
--- a word of which the list is empty
+-- a word whose list of bits is empty has no bit set
 pub none_left : (w : ℕ) (p : ℕ → Bool) → ascending (plain_set w p) ≡ [] → (o : ℕ) → o < w →
     p o ≡ false
 none_left w p empty o h = ascending_none (plain_set w p) empty o (omega arith) h
 
 -- ---- a word of which some bits have been asked for
 
--- Word k of t, which is else s, has the bits that are kept and those of the rest. What is kept is
--- below `from`, and the rest is not.
+-- Word k of t has the bits of `kept` and `rest`, and its other words are those of s. The bits of
+-- `kept` are below `from`, and those of `rest` are not.
 pub record IsHalfway (w k : ℕ) (kept rest : ℕ → Bool) (s t : PlainSet) (from : ℕ) : Type 0 where
   pub capacity : t.capacity ≡ s.capacity
   pub begins : k * w ≤ from
@@ -97,7 +98,7 @@ pub record IsHalfway (w k : ℕ) (kept rest : ℕ → Bool) (s t : PlainSet) (fr
   pub kept_below : (o : ℕ) → o < w → from ≤ k * w + o → kept o ≡ false
   pub rest_above : (o : ℕ) → o < w → k * w + o < from → rest o ≡ false
 
--- at first none is kept, and the rest is the word as it is read
+-- at first `kept` is empty, and `rest` is the word
 pub halfway_none : (m : Bool) (w k d r x : ℕ) (s : PlainSet) → 0 < w → d ≡ 0 →
     bit_set w r ≡ word_of w s k → bit_set w x ≡ read_in m w (bit_set w r) →
     IsHalfway w k (bit_set w d).has (bit_set w x).has (read_in m w s) (read_in m w s) (k * w)
@@ -146,7 +147,7 @@ module _ (w k : ℕ) (kept rest : ℕ → Bool) (s t : PlainSet) (from : ℕ) (w
       | inr n ↦ pop.others o h n ∙ pop.least o (omega (arith, l, n))
     ]
 
-    -- a bit that is kept stays in the set
+    -- after the bit is kept, the set stays as it is, and `kept` has that bit too
     pub halfway_kept : (more : ℕ → Bool) →
         ((o : ℕ) → o < w → more o ≡ ((o == i) || kept o)) →
         IsHalfway w k more less s t (k * w + i + 1)
@@ -168,7 +169,7 @@ module _ (w k : ℕ) (kept rest : ℕ → Bool) (s t : PlainSet) (from : ℕ) (w
       rest_above = rest_later;
     }
 
-    -- one that is not is taken out
+    -- if the bit is not kept, it is removed from the set
     pub halfway_gone : k * w + w ≤ t.capacity →
         IsHalfway w k kept less s (without_index t (k * w + i)) (k * w + i + 1)
     halfway_gone far =
@@ -210,7 +211,7 @@ module _ (w k : ℕ) (kept rest : ℕ → Bool) (s t : PlainSet) (from : ℕ) (w
     kept_all : (o : ℕ) → o < w → t.has (k * w + o) ≡ kept o
     kept_all o h = so_far.here o h ∙ ap (λ b. kept o || b) (none o h) ∙ or-false (kept o)
 
--- and once the word is what is kept, the set is that
+-- once `rest` is empty and `kept` replaces the word, the set is t
 pub halfway_all : (m : Bool) (w k d r from : ℕ) (rest : ℕ → Bool) (s after t : PlainSet) → 0 < w →
     (words : ℕ) × (s.capacity ≡ words * w) → ((i : ℕ) → s.capacity ≤ i → s.has i ≡ false) →
     ((i : ℕ) → after.capacity ≤ i → after.has i ≡ false) →

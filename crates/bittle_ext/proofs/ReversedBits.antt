@@ -1,4 +1,4 @@
--- The bits of a number of 128 bits, the other way round.
+-- The 128 bits of a number, reversed.
 use Rattle.std.proofs.Common.{◌≡◌, ℕ, zero, suc, ◌+◌, ◌-◌, ◌*◌, ◌/◌, ◌%◌, ◌^◌, ◌<◌, ◌≤◌, Bool, true, ◌&&◌, ◌==◌, inl, inr, refl, sym, ap, ◌∙◌, arith, bit_and, bit_or, min, max}
 use Rattle.std.specs.Int.{bit_at}
 use Rattle.std.proofs.Math.Nat.{mul-le-mul_right}
@@ -9,13 +9,13 @@ use Rattle.bittle.specs.Orders.{mirror}
 use Rattle.bittle_bits.proofs.PlaceLemmas.{mirror_at, mirror_in_word, mirror_is}
 use Rattle.bittle_ext.proofs.Windows.{bit_at_masked, bit_at_shifted}
 
--- a number shifted up has no bit below the distance
+-- a number that is shifted up by d has no set bit below d
 pub bit_at_up_low : (n d i : ℕ) → i < d → bit_at (n * 2 ^ d) i ≡ 0
 bit_at_up_low n d i h =
     let e : n * 2 ^ d ≡ n * 2 ^ d + 0 = omega arith in
     ap (λ m. bit_at m i) e ∙ bit_at_cat_low n d 0 i h ∙ bit_at-zero i
 
--- and from there on those of the number
+-- from d on, a number that is shifted up by d has the bits of the number
 pub bit_at_up_high : (n d i : ℕ) → d ≤ i → bit_at (n * 2 ^ d) i ≡ bit_at n (i - d)
 bit_at_up_high n d i h =
     let e : n * 2 ^ d ≡ n * 2 ^ d + 0 = omega arith in
@@ -41,7 +41,7 @@ abbrev is_mask : ℕ → ℕ → ℕ → Bool
 is_mask c d mask = all_below c (λ q. all_below d (λ r.
     (bit_at mask (q * (2 * d) + r) == 1) && (bit_at mask (q * (2 * d) + d + r) == 0)))
 
--- the bits of a mask moved up, and those so far above them moved down
+-- z is y with the bits of the mask moved up by d, and the bits d above them moved down
 abbrev pub Swapped : ℕ → ℕ → ℕ → ℕ → Type 0
 Swapped d mask y z =
     z ≡ bit_or (bit_and y mask * 2 ^ d % 2 ^ 128) (bit_and (y / 2 ^ d) mask)
@@ -134,7 +134,7 @@ module _ (c d mask x y z : ℕ) (some : 0 < d) (parts : c * (2 * d) ≡ 128)
             ∙ ap (bit_at x) (omega (arith, comes, goes, l, g))
       ]
 
--- so seven steps turn all bits round
+-- the seven swaps reverse all 128 bits
 pub turned_round : (x a b c d e f z : ℕ) →
     Swapped 1 113427455640312821154458202477256070485 x a →
     Swapped 2 68056473384187692692674921486353642291 a b →

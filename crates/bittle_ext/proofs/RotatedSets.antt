@@ -1,4 +1,4 @@
--- Sets whose members are all moved, word by word.
+-- Sets that are rotated or shifted, word by word.
 use Rattle.std.proofs.Common.{◌≡◌, ℕ, ◌+◌, ◌-◌, ◌*◌, ◌/◌, ◌%◌, ◌<◌, ◌≤◌, ◌⊎◌, Bool, false, ◌&&◌, nat_lt, nat_le, inl, inr, refl, sym, ap, ◌∙◌, arith}
 use Rattle.std.proofs.Math.Path.{fun_ext}
 use Rattle.std.proofs.Math.Nat.{add-mod_left, add-mod_right, add-mod-mod, mod-add-mod, add-mul-mod_self_right, mul-le-mul_right, mul-lt-mul_of_pos_right}
@@ -13,13 +13,13 @@ use Rattle.bittle_bits.proofs.Words.{digit_at, word_ends}
 use Rattle.bittle.proofs.CallerSets.{contains_within}
 use Rattle.bittle_ext.specs.Rotations.{has_rotated, rotated_down, rotated_up, has_shifted_down, shifted_down, has_shifted_up, shifted_up, IsDistance, IsNextWord, IsWindow, IsWordFrom}
 
--- an index that wraps to another one answers as that does
+-- two indexes that wrap to the same one are both members, or neither is
 pub contains_as : (s : PlainSet) (i j : ℕ) → i % s.capacity ≡ j % s.capacity →
     contains s i ≡ contains s j
 unfolding contains
 contains_as s i j e = ap (λ k. nat_lt 0 s.capacity && s.has k) e
 
--- an index that has wrapped once
+-- an index of the capacity plus j is a member exactly if j is one
 pub contains_past : (s : PlainSet) (i j : ℕ) → i ≡ s.capacity + j → j < s.capacity →
     contains s i ≡ s.has j
 contains_past s i j e h =
@@ -32,7 +32,7 @@ word_within w words k capacity word whole fewer =
     let low : k * w < words * w = mul-lt-mul_of_pos_right fewer word in
     omega (arith, low, whole)
 
--- the word after one that is not the last
+-- if word `at` is not the last one, word at + 1 comes next
 pub next_inside : (w words at capacity : ℕ) → 0 < w → words * w ≡ capacity → at + 1 < words →
     IsNextWord w capacity at (at + 1)
 next_inside w words at capacity word whole more =
@@ -87,7 +87,8 @@ module _ (m : Bool) (w at from d e r : ℕ) (s : PlainSet) (word : 0 < w)
             ]
       ]
 
--- where word `at` lies so many words above word k, and may wrap
+-- if word `at` is `skipped` words above word k, and may wrap, an index of it wraps to the same one
+-- as that of word k plus `by`
 pub wrapped_at : (w c words by skipped from k at : ℕ) → words * w ≡ c → skipped * w + from ≡ by % c →
     (at ≡ k + skipped) ⊎ (at + words ≡ k + skipped) → (i : ℕ) →
     (at * w + from + i) % c ≡ (k * w + i + by) % c
@@ -111,7 +112,8 @@ pub rotated-past : (s : PlainSet) (by k : ℕ) → s.capacity ≤ k → has_rota
 unfolding has_rotated
 rotated-past s by k h = rw (le-ltb k s.capacity h) refl
 
--- what comes to word k where that word lies so far above, and may wrap
+-- a word read from index `from` of word `at` on is word k of the rotated set, if word `at` is
+-- `skipped` words above, and may wrap
 pub turned_word : (m : Bool) (w c words skipped from by k at d : ℕ) (s : PlainSet) →
     IsDistance w c (by % c) words skipped from → c ≡ s.capacity → k < words →
     (at ≡ k + skipped) ⊎ (at + words ≡ k + skipped) →
@@ -131,7 +133,7 @@ contains_some : (s : PlainSet) (i : ℕ) → 0 < s.capacity → contains s i ≡
 unfolding contains
 contains_some s i h = rw (lt-ltb 0 s.capacity h) refl
 
--- an index of the set rotated down is a member where the one so far above it was one
+-- after a rotation down by `by`, index i is a member exactly if i + by was one
 pub rotated_from : (s : PlainSet) (by i : ℕ) → contains (rotated_down s by) i ≡ contains s (i + by)
 rotated_from s by i =
     elim (cases_eq s.capacity 0) [
@@ -142,7 +144,7 @@ rotated_from s by i =
           ∙ contains_as s (i % s.capacity + by) (i + by) (mod-add-mod i s.capacity by)
     ]
 
--- an index so far above another one, of the set rotated up, is a member where that one was one
+-- after a rotation up by `by`, index i + by is a member exactly if i was one
 pub rotated_to : (s : PlainSet) (by i : ℕ) → contains (rotated_up s by) (i + by) ≡ contains s i
 rotated_to s by i =
     let c = s.capacity in
@@ -190,18 +192,18 @@ all_up s by h = ap (plain_set s.capacity) (fun_ext λ k. sym (elim (cases_lt k b
   | inr g ↦ up-past s by k (omega arith)
 ]))
 
--- an index of the set shifted down is a member where the one so far above it was one
+-- after a shift down by `by`, index i is a member exactly if i + by was one
 pub shifted_from : (s : PlainSet) (by i : ℕ) → i + by < s.capacity →
     contains (shifted_down s by) i ≡ contains s (i + by)
 shifted_from s by i h = contains_within (shifted_down s by) i (omega arith) ∙ down-inside s by i h
     ∙ sym (contains_within s (i + by) h)
 
--- and none where there was none above it
+-- after a shift down by `by`, index i is no member if i + by is past the capacity
 pub emptied_above : (s : PlainSet) (by i : ℕ) → i < s.capacity → s.capacity ≤ i + by →
     contains (shifted_down s by) i ≡ false
 emptied_above s by i h g = contains_within (shifted_down s by) i h ∙ down-past s by i g
 
--- an index so far above another one, of the set shifted up, is a member where that one was one
+-- after a shift up by `by`, index i + by is a member exactly if i was one
 pub shifted_to : (s : PlainSet) (by i : ℕ) → i + by < s.capacity →
     contains (shifted_up s by) (i + by) ≡ contains s i
 shifted_to s by i h =
@@ -209,7 +211,7 @@ shifted_to s by i h =
     contains_within (shifted_up s by) (i + by) h ∙ up-inside s by (i + by) (omega arith) h
     ∙ ap s.has back ∙ sym (contains_within s i (omega arith))
 
--- and none where there was none below it
+-- after a shift up by `by`, an index below `by` is no member
 pub emptied_below : (s : PlainSet) (by i : ℕ) → i < s.capacity → i < by →
     contains (shifted_up s by) i ≡ false
 emptied_below s by i h l = contains_within (shifted_up s by) i h ∙ up-before s by i l

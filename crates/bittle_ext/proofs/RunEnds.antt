@@ -48,8 +48,8 @@ module _ (kind : Bool) (set : PlainSet) where
         | inr n ↦ member k (omega arith) (none k lo (omega (arith, n)))
       ]
 
-  -- the run that begins at a member ends at the first number after it that is none, or with all
-  -- numbers
+  -- the run that begins at `start` ends at the first number after it that is no member, or at `to`
+  -- if there is none
   pub end_found : (start to end : ℕ) → to ≤ set.capacity → s.has start ≡ true →
       IsFirstIn t (start + 1) to (Some end) → EndsRun s start to end
   end_found start to end within here h = (
@@ -64,7 +64,8 @@ module _ (kind : Bool) (set : PlainSet) where
   end_none start to some within here none =
       (some, omega arith, all_from start to within here none, λ l. absurd (omega arith))
 
-  -- where none of the other kind is before a number, the first one from there on is the first
+  -- if no bit of the other kind is in start + 1..mid, the first one from `mid` on is the first
+  -- after `start`
   pub search_on : (start mid to : ℕ) (r : Option ℕ) → start < mid → NoneIn t (start + 1) mid →
       IsFirstIn t mid to r → IsFirstIn t (start + 1) to r
   search_on start mid to None on none h = λ j lo hi.
@@ -108,7 +109,7 @@ module _ (kind : Bool) (set : PlainSet) where
           both.1,
         )
 
-    -- so the run goes on up to it, or past the word
+    -- the run goes on up to that number, or past the word
     pub word_end : start < set.capacity → s.has start ≡ true →
         (start < k * w + lead) × NoneIn t (start + 1) (k * w + lead)
         × ((lead ≡ w → ⊥) → t.has (k * w + lead) ≡ true)
@@ -121,8 +122,8 @@ module _ (kind : Bool) (set : PlainSet) where
       λ n. (bit_ahead within here (omega (arith, n, least.within, p.read.wide))).1,
     )
 
-  -- the run that ends with a member begins past the last number before it that is none, or with the
-  -- first number
+  -- the run that ends with `last` begins past the last number before it that is no member, or at
+  -- `from` if there is none
   pub start_found : (from last gap start : ℕ) → start ≡ gap + 1 → last < set.capacity →
       s.has last ≡ true → IsLastIn t from last (Some gap) → BeginsRun s from last start
   start_found from last gap start is within here h = (
@@ -154,7 +155,7 @@ runs_length p from (suc n) =
     elim (p from) as (λ b. length (cond b (joined from (runs_from p (suc from) n))
     (runs_from p (suc from) n)) ≤ suc n) [ true ↦ omega (arith, more) | false ↦ omega (arith, rest) ]
 
--- the runs of a set end below its capacity or there, and there are no more of them
+-- the runs of a set end at or before its capacity, and are at most as many as the capacity
 pub are_runs_below : (s : PlainSet) (c : ℕ) (rs : List (Range ℕ)) → s.capacity ≡ c →
     rs ≡ runs s → AreRunsBelow c rs
 unfolding runs_between
@@ -163,7 +164,7 @@ are_runs_below s c rs is e = rw e (
   λ k d l. let at = (runs_are_maximal s).maximal k d l in (at.0, omega (arith, is, at.1)),
 )
 
--- what steps over a list of runs give
+-- steps from the front yield a list of runs in order; steps from the back yield it in reverse
 pub runs_in_order : RunsInOrder
 runs_in_order p seen = as_is p p.from (from_front (YieldsFirst (λ (left : List (Range ℕ)). left))
     (λ x. x) (λ left. left) (λ s t h. ap length h.0) (λ s x t h. h) p seen)

@@ -1,4 +1,4 @@
--- Runs of members, as far as searches have come.
+-- The first run of members, and the state of a search for it.
 use Rattle.std.proofs.Common.{◌≡◌, ℕ, zero, suc, nat_le, nat_lt, IfSome, ◌+◌, ◌-◌, ◌*◌, ◌<◌, ◌≤◌, Bool, true, false, not, ◌&&◌, Option, Some, None, ◌⊎◌, inl, inr, min, sym, ap, ◌∙◌, subst, arith}
 use Rattle.std.proofs.Math.Bool.{not-not}
 use Rattle.std.proofs.Math.Nat.{lt_of_mul-lt-mul_right, mul-le-mul_right}
@@ -11,28 +11,29 @@ use Rattle.bittle_bits.proofs.Spans.{is_in_span-inside}
 use Rattle.bittle_ext.specs.RangeMembers.{kind_within, members_within}
 use Rattle.bittle_ext.specs.Runs.{cut_off, IsFirstRun, IsRun, NoRunBegins}
 
--- t has each number below the capacity that s has not
+-- below the capacity of s, t has exactly the numbers that s lacks
 pub record AreOpposite (s t : PlainSet) : Type 0 where
   pub other : (k : ℕ) → k < s.capacity → t.has k ≡ not (s.has k)
 
--- the bits of one kind are those that are none of the other
+-- the bits of one kind are the opposite of those of the other kind
 pub others_opposite : (ones : Bool) (s : PlainSet) →
     AreOpposite (ones_or_zeros ones s) (ones_or_zeros (not ones) s)
 others_opposite true s = record { other = λ k h. complement_within s k h }
 others_opposite false s =
     record { other = λ k h. sym (ap not (complement_within s k h) ∙ not-not (s.has k)) }
 
--- so are those up to a number
+-- a set that is cut off is still the opposite of t
 pub cut_off_opposite : {s t : PlainSet} → AreOpposite s t → (end : ℕ) → end ≤ s.capacity →
     AreOpposite (cut_off end s) t
 cut_off_opposite opposite end low =
     record { other = λ k h. opposite.other k (omega (arith, h, low)) }
 
--- a set that is cut off at its capacity is itself
+-- a set that is cut off at its capacity is unchanged
 pub cut_off_whole : (s : PlainSet) (end : ℕ) → end ≡ s.capacity → cut_off end s ≡ s
 cut_off_whole s end same = ap (λ n. cut_off n s) same
 
--- of the runs that end at a number or before, the first one ends at a lower number or before
+-- the first run among those that end at or before `stop` is the first among those that end at or
+-- before `end`, if it ends there
 pub first_run_before : (s : PlainSet) (from n stop end i : ℕ) → end ≤ stop →
     IsFirstRun (cut_off stop s) from n (Some i) → i + n ≤ end →
     IsFirstRun (cut_off end s) from n (Some i)
@@ -42,7 +43,8 @@ first_run_before s from n stop end i low first ends = (
   λ k lo hi run. first.2 k lo hi (omega (arith, low, run.0), run.1),
 )
 
--- it ends past the lower number: then none ends there or before
+-- if the first run among those that end at or before `stop` ends past `end`, no run ends at or
+-- before `end`
 pub first_run_past : (s : PlainSet) (from n stop end i : ℕ) → end ≤ stop →
     IsFirstRun (cut_off stop s) from n (Some i) → end < i + n →
     IsFirstRun (cut_off end s) from n None
@@ -51,13 +53,13 @@ first_run_past s from n stop end i low first past k lo run = elim (cases_lt k i)
   | inr g ↦ omega (arith, g, past, run.0)
 ]
 
--- where none ends at a number or before, none ends at a lower number or before
+-- if no run ends at or before `stop`, none ends at or before a lower number
 pub no_run_before : (s : PlainSet) (from n stop end : ℕ) → end ≤ stop →
     IsFirstRun (cut_off stop s) from n None → IsFirstRun (cut_off end s) from n None
 no_run_before s from n stop end low none k lo run =
     none k lo (omega (arith, low, run.0), run.1)
 
--- as far as searches for a run of so many members have come
+-- the state of a search for a run of `length` members: none begins before `at`
 pub record IsSearched (s : PlainSet) (length from end at : ℕ) : Type 0 where
   pub ordered : from ≤ at
   pub within : at ≤ end
@@ -75,18 +77,18 @@ module _ {s : PlainSet} {length from end at : ℕ} (p : IsSearched s length from
             true≢false (sym (run.1 k (omega arith) (omega (arith, p.some))) ∙ none k g l)
       ]
 
-  -- none begins anywhere
+  -- if no member is left, there is no run
   pub none_left : NoneIn s at end → IsFirstRun s from length None
   none_left none k h run =
       none_begin end none k h (omega (arith, p.whole, p.some, run.0)) run
 
-  -- the first member from a number on, after which there is no room
+  -- if fewer than `length` numbers are left from the next member on, there is no run
   pub no_room : (start : ℕ) → IsFirstIn s at end (Some start) → end - start < length →
       IsFirstRun s from length None
   no_room start first short k h run =
       none_begin start first.3 k h (omega (arith, p.whole, run.0, short)) run
 
-  -- it begins a run
+  -- if no number of the run is in t, the first run begins at the next member
   pub run_found : {t : PlainSet} → AreOpposite s t → (start : ℕ) →
       IsFirstIn s at end (Some start) → length ≤ end - start →
       NoneIn t start (start + length) → IsFirstRun s from length (Some start)
@@ -100,7 +102,7 @@ module _ {s : PlainSet} {length from end at : ℕ} (p : IsSearched s length from
     none_begin start first.3,
   )
 
-  -- a number that is no member follows too soon
+  -- if a number within `length` is in t, the search goes on past the last such number
   pub run_broken : {t : PlainSet} → AreOpposite s t → (start last : ℕ) →
       IsFirstIn s at end (Some start) → length ≤ end - start →
       IsLastIn t start (start + length) (Some last) → IsSearched s length from end (last + 1)
@@ -117,20 +119,19 @@ module _ {s : PlainSet} {length from end at : ℕ} (p : IsSearched s length from
     ];
   }
 
--- the first run of numbers that are none of a set, such as a view, is that of the set which a
--- clause says it is
+-- if a set, such as a view, is equal to t, its first run of unset bits is that of t
 pub first_run_of_same : (s t : PlainSet) (from n : ℕ) (r : Option ℕ) → s ≡ t →
     IsFirstRun (complement s) from n r → IsFirstRun (complement t) from n r
 first_run_of_same s t from n r same is =
     subst (λ (u : PlainSet). IsFirstRun (complement u) from n r) same is
 
--- the same of a run of members
+-- if a set is equal to t, its first run of members is that of t
 pub first_set_run_of_same : (s t : PlainSet) (from n : ℕ) (r : Option ℕ) → s ≡ t →
     IsFirstRun s from n r → IsFirstRun t from n r
 first_set_run_of_same s t from n r same is =
     subst (λ (u : PlainSet). IsFirstRun u from n r) same is
 
--- the same in a range of an equal set, as a view within a range of another view has it
+-- if v is a range of a set that is equal to t, its first run is that of the range of t
 pub first_run_within_same : (v s t : PlainSet) (low high from n : ℕ) (r : Option ℕ) →
     IsFirstRun v from n r → v ≡ members_within s low high → s ≡ t →
     IsFirstRun (members_within t low high) from n r
@@ -138,7 +139,7 @@ first_run_within_same v s t low high from n r is outer same = subst
     (λ (u : PlainSet). IsFirstRun u from n r)
     (outer ∙ ap (λ u. members_within u low high) same) is
 
--- the words that have the numbers before another one lie below the capacity, as that one does
+-- the words that have the numbers before `end` end at or below the capacity, if `end` does
 pub words_before : (w c end n : ℕ) → (words : ℕ) × (c ≡ words * w) → end ≤ c →
     n * w < end + w → n * w ≤ c
 words_before w c end n whole low near =
@@ -187,7 +188,7 @@ first_within s from to n end r (inr some) = same_runs (cut_off end s) (members_w
       λ j p q. (and_parts (is_in_span from to j) (s.has j) (run.1 j p q)).1,
     ))
 
--- the same of the bits of a kind
+-- the first run of the bits of a kind, cut off at the end of a range, is the first in that range
 pub first_of_kind_within : (ones : Bool) (s : PlainSet) (from to n end : ℕ) (r : Option ℕ) →
     ((n ≡ 0) × (end ≡ s.capacity)) ⊎ ((0 < n) × (end ≡ min to s.capacity)) →
     IsFirstRun (cut_off end (ones_or_zeros ones s)) from n r →
@@ -195,7 +196,7 @@ pub first_of_kind_within : (ones : Bool) (s : PlainSet) (from to n end : ℕ) (r
 first_of_kind_within true s = first_within s
 first_of_kind_within false s = first_within (complement s)
 
--- the first run in a range ends in it
+-- the first run in a range ends at or before the end of the range
 pub run_inside : (s : PlainSet) (low high n : ℕ) (r : Option ℕ) →
     IsFirstRun (members_within s low high) low n r → low ≤ high → IfSome r (λ i. i + n ≤ high)
 run_inside s low high n None is ordered = tt
@@ -207,7 +208,7 @@ run_inside s low high zero (Some i) is ordered = elim (cases_lt low i) [
 run_inside s low high (suc m) (Some i) is ordered =
     ends_within s low high (suc m) i (omega arith) is.1
 
--- the same of the bits of a kind
+-- the first run of the bits of a kind in a range ends at or before the end of the range
 pub run_of_kind_inside : (ones : Bool) (s : PlainSet) (low high n : ℕ) (r : Option ℕ) →
     IsFirstRun (kind_within ones s low high) low n r → low ≤ high → IfSome r (λ i. i + n ≤ high)
 run_of_kind_inside true s = run_inside s

@@ -1,4 +1,4 @@
--- The list of the runs between two numbers: which its first and its last run are.
+-- The list of the runs between two numbers: its first and its last run.
 use Rattle.std.proofs.Common.{◌≡◌, ℕ, ◌+◌, ◌-◌, ◌<◌, ◌≤◌, Bool, false, List, [], ◌∷◌, ◌++◌, inl, inr, refl, sym, ◌∙◌, subst, arith}
 use Rattle.std.proofs.lemmas.Bool.{cases_lt, true≢false}
 use Rattle.std.specs.declared.ops.Range.{Range}
@@ -52,14 +52,14 @@ module _ (s : PlainSet) where
   unfolding runs_between
   maximal from to low = runs_maximal s.has from (to - from) to (omega arith)
 
-  -- no run lies where no member does
+  -- a range without members has no runs
   pub runs-none : (from to : ℕ) → NoneIn s from to → runs_between s from to ≡ []
   unfolding runs_between
   runs-none from to none = only_maximal s.has from (from + (to - from)) (runs_between s from to) []
       (runs_maximal s.has from (to - from) (from + (to - from)) refl)
       (λ k lo hi. none k lo (omega arith))
 
-  -- the first run, before those past its end
+  -- the list is its first run, and then the runs past the end of that run
   pub runs-first : (from to start end : ℕ) → from ≤ start → start < end → end ≤ to →
       NoneIn s from start → HasAllIn s start end → (end < to → s.has end ≡ false) →
       runs_between s from to ≡ run start end ∷ runs_between s end to
@@ -89,7 +89,7 @@ module _ (s : PlainSet) where
       appended r.end rs h.2 (λ l. ended (omega (arith, h.0, h.1, h.2))) h.6,
     )
 
-  -- the last run, after those before its start
+  -- the list is the runs before the start of its last run, and then that run
   pub runs-last : (from to start end : ℕ) → from ≤ start → start < end → end ≤ to →
       NoneIn s end to → HasAllIn s start end → (from < start → s.has (start - 1) ≡ false) →
       runs_between s from to ≡ runs_between s from start ++ run start end ∷ []

@@ -9,7 +9,7 @@ use Rattle.bittle_ext.specs.RangeMembers.{EndsAt, HasAllIn, HasSomeIn, LacksSome
 
 -- two sets of which nothing is a member from their capacities on
 module _ {s t : PlainSet} {a b : ℕ} (x : EndsAt s a) (y : EndsAt t b) (end : ℕ) where
-  -- from the lesser on no number is in both
+  -- no number is in both sets from the lesser capacity on
   pub none_in_both : end ≡ min a b → (i : ℕ) → end ≤ i → s.has i && t.has i ≡ false
   none_in_both is i h =
       elim (cases_lt i s.capacity) [
@@ -18,8 +18,8 @@ module _ {s t : PlainSet} {a b : ℕ} (x : EndsAt s a) (y : EndsAt t b) (end : �
         | inr g ↦ ap (λ c. c && t.has i) (x.past i g)
       ]
 
--- a search at an end that found nothing tells that nothing is there, and a step over a list that is
--- empty takes nothing
+-- if a search from an end finds nothing, the range has no member; and a step over an empty list
+-- takes nothing
 pub none_at : (front : Bool) (s : PlainSet) (from to : ℕ) → IsEndIn front s from to None →
     NoneIn s from to
 none_at true s from to none = none
@@ -30,7 +30,7 @@ pub takes_none : {A : Type 0} (front : Bool) (xs ys : List A) → xs ≡ [] → 
 takes_none true xs ys before after = (before, after)
 takes_none false xs ys before after = (before, after)
 
--- a range has each number just where no number that is none was found
+-- a range has all numbers as members exactly if a search in the complement finds none
 pub all_where_none : (s : PlainSet) (from to : ℕ) (r : Option ℕ) (b : Bool) →
     is_some r ≡ not b → to ≤ s.capacity → IsFirstIn (complement s) from to r →
     MatchBool b (HasAllIn s from to) (HasSomeIn (complement s) from to)
@@ -40,7 +40,7 @@ all_where_none s from to None b e within none =
 all_where_none s from to (Some i) b e within first =
     rw (not-true b (sym e)) (i, first.0, first.1, first.2)
 
--- a number below the capacity that is in the complement is no member
+-- if some number of a range is in the complement, the range lacks some number
 pub lacks_where_some : (s : PlainSet) (from to : ℕ) (b : Bool) → to ≤ s.capacity →
     MatchBool b (HasAllIn s from to) (HasSomeIn (complement s) from to) →
     MatchBool b (HasAllIn s from to) (LacksSomeIn s from to)

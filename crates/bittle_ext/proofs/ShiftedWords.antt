@@ -1,4 +1,4 @@
--- Sets whose members are moved where they stand, word by word.
+-- Sets that are shifted in place, word by word.
 use Rattle.std.proofs.Common.{◌≡◌, ℕ, ◌+◌, ◌-◌, ◌*◌, ◌<◌, ◌≤◌, Bool, false, cond, ◌&&◌, nat_lt, nat_le, inl, inr, sym, ap, ◌∙◌, arith}
 use Rattle.std.proofs.Math.Nat.{mul-le-mul_right}
 use Rattle.std.proofs.lemmas.Bool.{cases_lt, le-ltb, lt-leb, le-leb}
@@ -12,7 +12,7 @@ use Rattle.bittle_ext.specs.Rotations.{has_shifted_down, has_shifted_up, IsDista
 use Rattle.bittle_ext.proofs.RotatedSets.{down-inside, down-past, up-inside, up-before}
 use Rattle.bittle_ext.proofs.WordsReplaced.{replaced_where}
 
--- whether a number, which may lie past the capacity, has a member so far below it
+-- whether the number `by` below k is a member; k may lie past the capacity
 unfoldable pub has_so_far_below : PlainSet → ℕ → ℕ → Bool
 has_so_far_below s by k = nat_le by k && s.has (k - by)
 
@@ -25,7 +25,8 @@ down_is s by n past =
       | inr h ↦ down-past s by n h ∙ sym (past (n + by) h)
     ]
 
--- the window from so many words and bits above word k is the word that comes to it
+-- the window that begins `skipped` words and `from` bits above word k is word k of the set shifted
+-- down
 pub window_above : (m : Bool) (w k by skipped from x y r : ℕ) (set : PlainSet) → 0 < w →
     skipped * w + from ≡ by → from < w →
     ((i : ℕ) → set.capacity ≤ i → (read_in m w set).has i ≡ false) →
@@ -43,7 +44,7 @@ window_above m w k by skipped from x y r set word parts within past first second
           ∙ ap s.has (omega (arith, parts, g))
     ] ∙ sym (down_is s by (k * w + i) past)
 
--- an empty word comes to a word that has none so many words above
+-- word k of the set shifted down is empty if no word is `skipped` words above it
 pub none_above : (m : Bool) (w c by words skipped rest k d : ℕ) (s : PlainSet) →
     IsDistance w c by words skipped rest → c ≡ s.capacity → d ≡ 0 → words ≤ k + skipped → (i : ℕ) →
     (read_in m w (bit_set w d)).has i ≡ has_shifted_down s by (k * w + i)
@@ -65,7 +66,7 @@ below_as s by n d =
           ∙ sym (ap (λ b. b && s.has (n - by)) (le-leb by n g))
     ]
 
--- below the capacity that is the set moved up
+-- below the capacity, `has_so_far_below` gives the members of the set shifted up
 pub up_is : (s : PlainSet) (by n : ℕ) → n < s.capacity →
     has_shifted_up s by n ≡ has_so_far_below s by n
 unfolding has_so_far_below
@@ -75,7 +76,7 @@ up_is s by n h =
       | inr g ↦ up-inside s by n g h ∙ sym (ap (λ b. b && s.has (n - by)) (le-leb by n g))
     ]
 
--- an empty word comes to a word that has none so many before it
+-- if no word is `words` words below word k, the word that moves there is empty
 pub none_before : (m : Bool) (w k words d : ℕ) (s : PlainSet) → d ≡ 0 → k < words →
     (i : ℕ) → i < w → (read_in m w (bit_set w d)).has i ≡ has_so_far_below s (words * w) (k * w + i)
 unfolding has_so_far_below
@@ -85,7 +86,7 @@ none_before m w k words d s none low i h =
     ∙ sym (ap (λ b. b && s.has (k * w + i - words * w))
     (lt-leb (words * w) (k * w + i) (omega (arith, up, h))))
 
--- and else the word so many before it
+-- if k is at least `words`, the word that moves to word k is word k - words
 pub word_before : (m : Bool) (w k words d : ℕ) (set : PlainSet) → 0 < w → words ≤ k →
     bit_set w d ≡ word_of w set (k - words) → (i : ℕ) → i < w → (read_in m w (bit_set w d)).has i
     ≡ has_so_far_below (read_in m w set) (words * w) (k * w + i)
@@ -99,8 +100,8 @@ word_before m w k words d set word far is i h =
     ∙ sym (ap (λ b. b && s.has (k * w + i - words * w))
     (le-leb (words * w) (k * w + i) (omega (arith, up))))
 
--- the window over words so many before word k, and over the ones after them, is the word that comes
--- to it
+-- the window from index `from` of the word `words` words below word k is the word that moves to
+-- word k in a move up by `by`
 pub window_below : (m : Bool) (w k by words from x y r : ℕ) (s : PlainSet) → from ≤ w →
     words * w ≡ by + from →
     ((i : ℕ) → i < w → (read_in m w (bit_set w x)).has i
@@ -121,7 +122,7 @@ window_below m w k by words from x y r s inside whole first second is i h =
           ∙ ap (has_so_far_below s (words * w)) (omega (arith, g))
     ] ∙ both
 
--- an empty word comes to a word that lies below the distance
+-- word k of the set shifted up is empty if k is below `skipped`
 pub none_below : (m : Bool) (w c by words skipped rest k d : ℕ) (s : PlainSet) →
     IsDistance w c by words skipped rest → d ≡ 0 → k < skipped → (i : ℕ) → i < w →
     (read_in m w (bit_set w d)).has i ≡ has_shifted_up s by (k * w + i)
@@ -130,7 +131,8 @@ none_below m w c by words skipped rest k d s far none low i h =
     ap (λ p. p (place m w i)) (bit_has-zero w d none)
     ∙ sym (up-before s by (k * w + i) (omega (arith, up, h, far.parts)))
 
--- where all words from word k on are as they were, what comes to it from above is what came
+-- if no word from word k on was changed yet, a shift down moves the same bits to word k as before
+-- the changes
 pub down_as : (w k by n : ℕ) (g : ℕ → Bool) (s now : PlainSet) →
     now ≡ replaced_where (λ i. nat_lt i (k * w)) g s → k * w ≤ n →
     ((i : ℕ) → s.capacity ≤ i → s.has i ≡ false) →
@@ -144,7 +146,8 @@ down_as w k by n g s now is h past =
       | inr g' ↦ down-past u by n g' ∙ sym (down-past s by n g')
     ]
 
--- where all words up to word k are as they were, what comes to it from below is what came
+-- if no word up to word k was changed yet, a shift up moves the same bits to word k as before the
+-- changes
 pub up_as : (w k by n : ℕ) (g : ℕ → Bool) (s now : PlainSet) →
     now ≡ replaced_where (λ i. nat_le ((k + 1) * w) i) g s → n < (k + 1) * w → n < s.capacity →
     has_shifted_up now by n ≡ has_shifted_up s by n
@@ -158,7 +161,7 @@ up_as w k by n g s now is h l =
           ∙ sym (up-inside s by n a l)
     ]
 
--- so what comes to word k while all words up to it are as they were is what came to it
+-- if no word up to word k was changed yet, the window below word k is word k of the set shifted up
 pub came_up : (m : Bool) (w c k by words skipped to x y r : ℕ) (s now : PlainSet) →
     IsDistance w c by words skipped to → c ≡ s.capacity → k < words →
     now ≡ replaced_where (λ i. nat_le ((k + 1) * w) i) (has_shifted_up s by) s →

@@ -1,4 +1,4 @@
--- The first run of so many members, found word by word.
+-- The first run of n members, found word by word.
 use Rattle.std.proofs.Common.{◌≡◌, ℕ, ◌+◌, ◌-◌, ◌*◌, ◌/◌, ◌%◌, ◌<◌, ◌≤◌, Bool, true, false, not, ◌&&◌, nat_lt, Option, Some, None, inl, inr, refl, sym, ap, ◌∙◌, arith, bit_and}
 use Rattle.std.proofs.Math.Bool.{and_comm}
 use Rattle.std.proofs.Math.Nat.{lt_of_mul-lt-mul_right, mul-le-mul_right}
@@ -56,7 +56,7 @@ module _ (s : PlainSet) (from n : ℕ) where
     | inr g ↦ g
   ]
 
-  -- the first run is the first one of the set from there on
+  -- the first run from `from` on is the first run of the set of the members from `from` on
   pub first_since : (r : Option ℕ) → 0 < n → IsFirstRun since 0 n r → IsFirstRun s from n r
   first_since None some none = λ k lo run. none k (omega arith) (run_since k lo run)
   first_since (Some i) some first = (
@@ -67,7 +67,7 @@ module _ (s : PlainSet) (from n : ℕ) where
 
 -- ---- runs of a word
 
--- runs of so many members of a set begin at the members of another one
+-- the runs of n members of s begin at the members of t
 pub record Begin (s : PlainSet) (n : ℕ) (t : PlainSet) : Type 0 where
   pub wide : t.capacity ≡ s.capacity
   pub all : (i : ℕ) → i < s.capacity → t.has i ≡ true → IsRun s n i
@@ -81,7 +81,7 @@ one_begins s = record {
   only = λ i run. run.1 i (omega arith) (omega arith);
 }
 
--- a longer run begins where one begins, and another one so many numbers further on
+-- a run of n + more members begins where a run of n begins, if another one begins `more` further on
 pub more_begin : (w n more : ℕ) (s t zeros moved both : PlainSet) → s.capacity ≡ w →
     both.capacity ≡ w → 0 < more → more ≤ n → Begin s n t → IsWindow w more t zeros moved →
     ((i : ℕ) → zeros.has i ≡ false) → ((i : ℕ) → both.has i ≡ (t.has i && moved.has i)) →
@@ -102,14 +102,14 @@ more_begin w n more s t zeros moved both wide keeps some few p is none and = rec
       ∙ p.only (i + more) (part_of_run s (n + more) n i (i + more) (omega arith) (omega arith) run);
 }
 
--- as far as the steps have come: it is known where so many members begin
+-- the state of the steps: t has the numbers where runs of `known` members begin
 pub record HasBegun (w n known : ℕ) (s t : PlainSet) : Type 0 where
   pub within : n ≤ w
   pub some : 0 < known
   pub most : known ≤ n
   pub begin : Begin s known t
 
--- where runs begin, the least number is the first run's
+-- the first run begins at the least member of the set of starts
 pub first_begins : (s t : PlainSet) (n r : ℕ) → Begin s n t → IsLeastMember t r →
     r < t.capacity → IsFirstRun s 0 n (Some r)
 first_begins s t n r p least low = (
@@ -118,7 +118,7 @@ first_begins s t n r p least low = (
   λ k lo hi run. true≢false (sym (p.only k run) ∙ least.none_below k hi),
 )
 
--- where none begins of fewer members, none begins of more
+-- if no run of fewer members begins, no run of more members does
 pub none_begins : (s t : PlainSet) (n known r : ℕ) → Begin s known t → known ≤ n → 0 < known →
     IsLeastMember t r → r ≡ t.capacity → IsFirstRun s 0 n None
 none_begins s t n known r p few some least end k lo run = true≢false
@@ -127,15 +127,15 @@ none_begins s t n known r p few some least end k lo run = true≢false
 
 -- ---- runs over words
 
--- of the runs that begin before a number only one may reach past it, that of the members from the
--- open number on
+-- no run of n members begins before `start`, and all numbers of start..at are members, but fewer
+-- than n
 pub record IsOpen (s : PlainSet) (n start at : ℕ) : Type 0 where
   pub ordered : start ≤ at
   pub short : at < start + n
   pub members : HasAllIn s start at
   pub none : NoRunBegins s n 0 start
 
--- word k of so many words of a set is read next
+-- word k of the `words` words of a set is read next
 pub record IsReadTo (w words n k start : ℕ) (s word : PlainSet) : Type 0 where
   pub element : k < words
   pub whole : s.capacity ≡ words * w
@@ -163,7 +163,8 @@ module _ (w words n k start lead : ℕ) (s word : PlainSet) (p : IsReadTo w word
       sym (p.here lead l)
       ∙ not-true (word.has lead) (sym (complement_within word lead low) ∙ least.is_member low)
 
-  -- the open run is long enough
+  -- if the open run and the word's first members are n numbers or more, the first run begins at
+  -- `start`
   pub open_found : n ≤ k * w + lead - start → IsFirstRun s 0 n (Some start)
   open_found long = (
     omega arith,
@@ -193,7 +194,7 @@ module _ (w words n k start lead : ℕ) (s word : PlainSet) (p : IsReadTo w word
       λ i b e. p.here i (omega arith) ∙ run.1 (k * w + i) (omega arith) (omega arith),
     )
 
-    -- a run within the word
+    -- the first run within the word is the first run, if the open run is not long enough
     pub run_in_word_found : (i : ℕ) → IsFirstRun word 0 n (Some i) →
         IsFirstRun s 0 n (Some (k * w + i))
     run_in_word_found i found =
@@ -213,7 +214,7 @@ module _ (w words n k start lead : ℕ) (s word : PlainSet) (p : IsReadTo w word
           ],
         )
 
-    -- where a run were all of the word, the open one would be long enough
+    -- if n is at least the width, no run lies within the word
     pub none_in_word : w ≤ n → IsFirstRun word 0 n None
     none_in_word all i lo run = elim (cases_lt lead w) [
       | inl l ↦ true≢false (sym (run.1 lead (omega (arith, run.0, p.wide, all))
@@ -221,7 +222,7 @@ module _ (w words n k start lead : ℕ) (s word : PlainSet) (p : IsReadTo w word
       | inr g ↦ omega (arith, run.0, p.wide, all, short, g, p.before.ordered)
     ]
 
-    -- the open run goes on past a word of members alone
+    -- if each number of the word is a member, the open run goes on past the word
     pub open_stays : lead ≡ w → IsOpen s n start (k * w + w)
     open_stays all = record {
       ordered = omega (arith, p.before.ordered);
@@ -287,7 +288,7 @@ module _ (w words n k start lead : ℕ) (s word : PlainSet) (p : IsReadTo w word
         ];
       }
 
--- past numbers that are no members no run is open
+-- no run is open after numbers that are no members
 pub open_after_none : (s : PlainSet) (n start at to : ℕ) → IsOpen s n start at → NoneIn s at to →
     at < to → IsOpen s n to to
 open_after_none s n start at to p none far = record {
@@ -305,7 +306,7 @@ open_after_none s n start at to p none far = record {
   ];
 }
 
--- where there are no members any more, none begins
+-- if there are no more members, no run of n members begins
 pub open_ended : (s : PlainSet) (n start at : ℕ) → IsOpen s n start at →
     NoneIn s at s.capacity → IsFirstRun s 0 n None
 open_ended s n start at p none j lo run = elim (cases_lt at s.capacity) [
@@ -316,7 +317,8 @@ open_ended s n start at p none j lo run = elim (cases_lt at s.capacity) [
 
 -- ---- words of the members from a number on
 
--- the bits of a kind of word k in an order
+-- word k of the bits of a kind, read in an order, has the bits of that kind of the set in that
+-- order
 pub kind_at : (ones m : Bool) (w k d : ℕ) (s : PlainSet) → 0 < w →
     (words : ℕ) × (s.capacity ≡ words * w) → bit_set w d ≡ word_of w (ones_or_zeros ones s) k →
     (i : ℕ) → i < w →
@@ -324,12 +326,12 @@ pub kind_at : (ones m : Bool) (w k d : ℕ) (s : PlainSet) → 0 < w →
 kind_at ones m w k d s word whole is i h = digit_at m w k (ones_or_zeros ones s) d word is i h
     ∙ sym (ap (λ t. t.has (k * w + i)) (ones_or_zeros-members ones m w s word whole))
 
--- word k of a set is read next, as it is from a number on
+-- word k of the set's members from `from` on is read next
 pub record IsReading (w words from n k start : ℕ) (s word : PlainSet) : Type 0 where
   pub begun : from < k * w + w
   pub read : IsReadTo w words n k start (members_within s from s.capacity) word
 
--- it begins with the word of the number, without the places before it
+-- the search begins with the word of `from`, without the bits before `from`
 pub reading_begins : (m : Bool) (w words from n d e : ℕ) (s : PlainSet) → 0 < w → 0 < n →
     s.capacity ≡ words * w → from < s.capacity →
     ((i : ℕ) → i < w → (read_in m w (bit_set w d)).has i ≡ s.has (from / w * w + i)) →
@@ -381,7 +383,7 @@ module _ (w words from n k start : ℕ) (s word : PlainSet)
   pub word_below : k * w + w ≤ s.capacity
   word_below = omega (arith, p.read.whole, mul-le-mul_right w p.read.element)
 
-  -- it goes on with a later word
+  -- after word k, a later word is read
   pub reading_on : (next later : ℕ) (v : PlainSet) → k < next → next < words → v.capacity ≡ w →
       IsOpen (members_within s from s.capacity) n later (next * w) →
       ((i : ℕ) → i < w → v.has i ≡ s.has (next * w + i)) →
@@ -402,6 +404,6 @@ module _ (w words from n k start : ℕ) (s word : PlainSet)
         };
       }
 
-  -- numbers that are no members of the set are none of its members from a number on
+  -- numbers that are no members of the set are not among its members from `from` on either
   pub none_since : (a b : ℕ) → NoneIn s a b → NoneIn (members_within s from s.capacity) a b
   none_since a b none j lo hi = and_right (is_in_span from s.capacity j) (s.has j) (none j lo hi)

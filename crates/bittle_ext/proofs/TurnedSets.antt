@@ -1,4 +1,4 @@
--- Sets that are turned where they stand: their words change places, and then their bits.
+-- Sets that are rotated in place: first their words, and then their bits.
 use Rattle.std.proofs.Common.{◌≡◌, ◌≢◌, ℕ, ◌+◌, ◌-◌, ◌*◌, ◌/◌, ◌%◌, ◌<◌, ◌≤◌, ◌⊎◌, Bool, false, cond, nat_lt, ◌==◌, inl, inr, refl, sym, ap, ◌∙◌, arith}
 use Rattle.std.proofs.Math.Path.{fun_ext}
 use Rattle.std.proofs.Math.Nat.{add-mod-mod, mod-eq_of_lt, mul-le-mul_right, lt_of_mul-lt-mul_right}
@@ -45,7 +45,7 @@ unfolding mirrored_within
 mirrored-outside from to k out =
     ap (λ b. cond b (from + to - 1 - k) k) (is_in_span-outside from to k out)
 
--- a number, where n of each end of from..to have been mirrored
+-- the number that k becomes once the first n and the last n numbers of from..to are mirrored
 abbrev pub ends_mirrored : ℕ → ℕ → ℕ → ℕ → ℕ
 ends_mirrored from to n k = cond (is_in_span (from + n) (to - n) k) k (mirrored_within from to k)
 
@@ -114,7 +114,7 @@ ends_all from to n k h f = elim (cases_lt k (from + n)) [
   ]
 ]
 
--- two words exchanged, one after the other
+-- two words that are each written in the place of the other are exchanged
 pub words_exchanged : (m : Bool) (w i j a b : ℕ) (s r t : PlainSet) → 0 < w → i * w < s.capacity →
     j * w < s.capacity → bit_set w a ≡ word_of w s i → bit_set w b ≡ word_of w s j →
     ReplacesWord w s i (bit_set w b) r → ReplacesWord w r j (bit_set w a) t →
@@ -141,14 +141,14 @@ words_exchanged m w i j a b s r t word low high first second one two = record {
   ];
 }
 
--- before any exchange
+-- before any exchange, no word has moved
 pub none_reversed : (w from to : ℕ) (s : PlainSet) → HasWordsOf w (ends_mirrored from to 0) s s
 none_reversed w from to s = record {
   capacity = refl;
   words = λ k o h l. ap (λ k. s.has (k * w + o)) (sym (ends_none from to k));
 }
 
--- after one more
+-- one more exchange mirrors one more word at each end
 pub more_reversed : (w from to n : ℕ) (s r t : PlainSet) → from + n + 1 ≤ to - 1 - n →
     to * w ≤ s.capacity → HasWordsOf w (ends_mirrored from to n) s r →
     HasWordsOf w (exchanged (from + n) (to - 1 - n)) r t →
@@ -172,7 +172,7 @@ more_reversed w from to n s r t h within before is =
           ∙ ap (λ k. s.has (k * w + o)) (ends_more from to n k h);
     }
 
--- and after all
+-- after the last exchange, the words from..to are reversed
 pub all_reversed : (w from to n : ℕ) (s t : PlainSet) → to - n ≤ from + n + 1 →
     n + n ≤ to - from → HasWordsOf w (ends_mirrored from to n) s t →
     HasWordsOf w (mirrored_within from to) s t
@@ -207,7 +207,7 @@ thrice by words k fewer low =
           ∙ omega (arith, g, fewer, low))
     ])
 
--- so three reversals move each word down, from the first one on to the last
+-- three reversals rotate the words down by `by` words
 pub thrice_reversed : (w by words : ℕ) (s r q t : PlainSet) → 0 < w → words * w ≡ s.capacity →
     by < words → ((i : ℕ) → t.capacity ≤ i → t.has i ≡ false) →
     HasWordsOf w (mirrored_within 0 by) s r → HasWordsOf w (mirrored_within by words) r q →
@@ -246,7 +246,7 @@ thrice_reversed w by words s r q t word whole fewer past one two three =
     ] in
     λ j. plain_set (size j) (λ i. each i j)
 
--- a set moved down, and the bits that passed index 0 put at its end
+-- a shift down, with the bits that passed index 0 copied to the end, is a rotation
 pub ends_put : (s : PlainSet) (by d : ℕ) → by ≤ 128 → by < s.capacity → HasBitsOf s 0 by d →
     with_copied (shifted_down s by) (s.capacity - by) by (bit_set 128 d) 0 ≡ rotated_down s by
 ends_put s by d small inside bits =
@@ -273,7 +273,7 @@ ends_put s by d small inside bits =
       ]
     ])
 
--- a set moved up, and the bits that passed its end put at its start
+-- a shift up, with the bits that passed the end copied to the start, is a rotation
 pub starts_put : (s : PlainSet) (by up d : ℕ) → up ≤ 128 → by + up ≡ s.capacity → 0 < up →
     HasBitsOf s by up d →
     with_copied (shifted_up s up) 0 up (bit_set 128 d) 0 ≡ rotated_down s by
@@ -296,7 +296,7 @@ starts_put s by up d small parts some bits =
       ]
     ])
 
--- a set of one word, which is replaced by its window onto itself
+-- a set of one word is rotated if its word becomes a window over that word twice
 pub word_turned : (m : Bool) (w by p r : ℕ) (s t : PlainSet) → 0 < w → s.capacity ≡ w → by < w →
     ((i : ℕ) → s.capacity ≤ i → s.has i ≡ false) → ((i : ℕ) → t.capacity ≤ i → t.has i ≡ false) →
     bit_set w p ≡ word_of w s 0 →
@@ -325,7 +325,7 @@ word_turned m w by p r s t word one low past also ours is replaced =
     ∙ all_replaced (λ i. nat_lt i (1 * w)) g u none gone
     (λ i l. lt-ltb i (1 * w) (omega (arith, l, one)))
 
--- a set moved down twice
+-- two rotations down add up
 pub rotated_twice : (s : PlainSet) (a b : ℕ) →
     rotated_down (rotated_down s a) b ≡ rotated_down s (a + b)
 rotated_twice s a b = ap (plain_set s.capacity) (fun_ext λ k. elim (cases_lt k s.capacity) [
@@ -336,7 +336,7 @@ rotated_twice s a b = ap (plain_set s.capacity) (fun_ext λ k. elim (cases_lt k 
   | inr g ↦ rotated-past (rotated_down s a) b k g ∙ sym (rotated-past s (a + b) k g)
 ])
 
--- a distance wraps at the capacity
+-- a rotation by `by` is a rotation by `by` modulo the capacity
 pub rotated_wrapped : (s : PlainSet) (by : ℕ) →
     rotated_down s (by % s.capacity) ≡ rotated_down s by
 rotated_wrapped s by = ap (plain_set s.capacity) (fun_ext λ k. elim (cases_lt k s.capacity) [
@@ -346,7 +346,7 @@ rotated_wrapped s by = ap (plain_set s.capacity) (fun_ext λ k. elim (cases_lt k
   | inr g ↦ rotated-past s (by % s.capacity) k g ∙ sym (rotated-past s by k g)
 ])
 
--- a set that is not moved, and one without numbers
+-- a rotation by 0 changes no set, and no rotation changes a set of capacity 0
 pub rotated_none : (s : PlainSet) → ((i : ℕ) → s.capacity ≤ i → s.has i ≡ false) →
     s ≡ rotated_down s 0
 rotated_none s past = ap (plain_set s.capacity) (fun_ext λ k. elim (cases_lt k s.capacity) [

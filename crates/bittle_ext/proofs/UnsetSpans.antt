@@ -1,5 +1,4 @@
--- Spans of unset bits that a set keeps, as those past the last cell of a board, after the calls of
--- its owner.
+-- Spans of bits that stay unset after calls on a set, such as those past the last cell of a board.
 use Rattle.std.proofs.Common.{◌≡◌, ℕ, ◌+◌, ◌-◌, ◌<◌, ◌≤◌, ◌⊎◌, Bool, true, false, cond, not, ◌&&◌, nat_lt, List, [], ◌∷◌, All, inl, inr, refl, sym, ap, ◌∙◌, arith}
 use Rattle.std.specs.List.{fold}
 use Rattle.std.proofs.lemmas.Bool.{and_parts, and_right, cases_Bool, cases_lt, ltb-true, not-true, true≢false}
@@ -43,7 +42,7 @@ none_if_lacks_span s from to lacked k low up = (each_lacked s from to lacked k l
 
 -- ---- what it tells
 
--- an index of the span is unset
+-- if `lacks_span` is true, an index of the span is unset
 pub unset_in_span : (s : PlainSet) (from to i : ℕ) → lacks_span s from to ≡ true → from ≤ i →
     i < to → contains s i ≡ false
 unset_in_span s from to i lacked low up =
@@ -59,35 +58,35 @@ stays_unset s t from to same still lacked = lacks_each t from to (λ k low up.
     let parts = each_lacked s from to lacked k low up in
     (omega (arith, same, parts.0), still k low up parts.1))
 
--- the empty set has it
+-- `lacks_span` is true of the empty set
 pub lacks_span_of_empty : (t : PlainSet) (c from to : ℕ) → t ≡ empty_set c → to ≤ c →
     lacks_span t from to ≡ true
 lacks_span_of_empty t c from to is within =
     ap (λ u. lacks_span u from to) is
     ∙ lacks_span_if_none (empty_set c) from to within (λ k low up. refl)
 
--- it stays after an index before it was set
+-- `lacks_span` stays true after an index before the span was set
 pub lacks_span_after_set : (s t : PlainSet) (i from to : ℕ) → t ≡ with_index s i → i < from →
     i < s.capacity → lacks_span s from to ≡ true → lacks_span t from to ≡ true
 lacks_span_after_set s t i from to is before below = stays_unset s t from to
     (ap (λ u. u.capacity) is) (λ k low up unset.
     has_other_after_set s t i k is below (λ same. omega (arith, same, low, before)) ∙ unset)
 
--- after any index was cleared
+-- `lacks_span` stays true after any index was cleared
 pub lacks_span_after_clear : (s t : PlainSet) (i from to : ℕ) → t ≡ without_index s i →
     lacks_span s from to ≡ true → lacks_span t from to ≡ true
 unfolding has_without
 lacks_span_after_clear s t i from to is = stays_unset s t from to (ap (λ u. u.capacity) is)
     (λ k low up unset. ap (λ u. u.has k) is ∙ and_right _ (s.has k) unset)
 
--- after a span before it was set
+-- `lacks_span` stays true after a span before it was set
 pub lacks_span_after_set_span : (s t : PlainSet) (low high from to : ℕ) → t ≡ with_span s low high →
     high ≤ from → lacks_span s from to ≡ true → lacks_span t from to ≡ true
 lacks_span_after_set_span s t low high from to is before = stays_unset s t from to
     (ap (λ u. u.capacity) is) (λ k lo up unset.
     has_outside_set_span s t low high k is (inr (omega (arith, before, lo))) ∙ unset)
 
--- after any span was cleared
+-- `lacks_span` stays true after any span was cleared
 pub lacks_span_after_clear_span : (s t : PlainSet) (low high from to : ℕ) →
     t ≡ without_span s low high → lacks_span s from to ≡ true → lacks_span t from to ≡ true
 unfolding has_changed
@@ -100,7 +99,7 @@ lacks_span_after_clear_span s t low high from to is = stays_unset s t from to
     either true = refl
     either false = refl
 
--- after each index of a list was set, all of them before it
+-- `lacks_span` stays true after each index of a list was set, if all of them are before the span
 pub lacks_span_after_all : (s t : PlainSet) (xs : List ℕ) (from to : ℕ) →
     t ≡ fold with_index s xs → All (λ i. i < from) xs → from ≤ s.capacity →
     lacks_span s from to ≡ true → lacks_span t from to ≡ true
@@ -119,7 +118,7 @@ lacks_span_after_all s t xs from to is items within lacked = stays_unset s t fro
     capacity_after [] s = refl
     capacity_after (x ∷ xs) s = capacity_after xs (with_index s x)
 
--- after a copy to numbers before it
+-- `lacks_span` stays true after a copy to numbers before the span
 pub lacks_span_after_copy : (s t u : PlainSet) (at n low from to : ℕ) →
     t ≡ with_copied s at n u low → at + n ≤ from → lacks_span s from to ≡ true →
     lacks_span t from to ≡ true
@@ -127,7 +126,7 @@ lacks_span_after_copy s t u at n low from to is before = stays_unset s t from to
     (ap (λ v. v.capacity) is) (λ k lo up unset.
     has_outside_copied s t u at n low k is (inr (omega (arith, before, lo))) ∙ unset)
 
--- and after an operation with a set that has it too
+-- `lacks_span` is true of the result of an operation if it is true of both sets
 pub lacks_span_after_operation : (decide : Bool → Bool → Bool) (s t u : PlainSet) (from to : ℕ) →
     decide false false ≡ false → u ≡ combination_of decide s t → lacks_span s from to ≡ true →
     lacks_span t from to ≡ true → lacks_span u from to ≡ true

@@ -1,4 +1,4 @@
--- What a view's words say of it.
+-- How the words of a view determine the view.
 use Rattle.std.proofs.Common.{◌≡◌, ℕ, ◌+◌, ◌-◌, ◌*◌, ◌%◌, ◌<◌, ◌≤◌, ◌==◌, ◌⊎◌, Bool, true, false, not, ◌&&◌, min, max, ◌++◌, append-nil, Option, Some, None, is_some, inl, inr, refl, sym, ap, ◌∙◌, arith}
 use Rattle.std.proofs.Math.Nat.{mul-le-mul_right, mul-mod_left}
 use Rattle.std.proofs.Math.Path.{fun_ext}
@@ -26,25 +26,25 @@ use Rattle.bittle_ext.proofs.RangeItems.{none_outside}
 
 -- ---- in an order and back
 
--- it is what the set has in the order
+-- a set that is read back in an order is the set that is read in it
 pub read_back_is : (m : Bool) (w : ℕ) (s : PlainSet) → read_back m w s ≡ read_in m w s
 unfolding is_placed
 read_back_is true w s = refl
 read_back_is false w s = refl
 
--- so, read in the order, it is the set
+-- a set that is read back in an order, and then read in it, is unchanged
 pub read_twice : (m : Bool) (w : ℕ) (s : PlainSet) → 0 < w → read_in m w (read_back m w s) ≡ s
 read_twice m w s word =
     ap (read_in m w) (read_back_is m w s)
     ∙ ap (plain_set s.capacity) (fun_ext λ i. ap s.has (place-place m w i word))
 
--- and as great as the set
+-- a set that is read back has as many members as the set
 pub size_read_back : (m : Bool) (w : ℕ) (s : PlainSet) → 0 < w →
     (words : ℕ) × (s.capacity ≡ words * w) → size (read_back m w s) ≡ size s
 size_read_back m w s word whole =
     ap (λ (t : PlainSet). size t) (read_back_is m w s) ∙ size-members m w s word whole
 
--- a word that has in an order what word k of a set has is word k of the set read back
+-- if a word, read in an order, is word k of a set, it is word k of the set read back
 pub word_read_back : (m : Bool) (w k c d : ℕ) (s : PlainSet) → 0 < w →
     read_in m w (bit_set w d) ≡ word_of w s k →
     bit_set w d ≡ word_of w (read_back m w (plain_set c s.has)) k
@@ -62,7 +62,7 @@ word_read_back m w k c d s word is =
       | inr g ↦ rw (le-ltb i w g) refl
     ]) ∙ ap (λ t. word_of w t k) (sym (read_back_is m w (plain_set c s.has)))
 
--- a test of the bit of a word is a test of the set that the word is of
+-- a test of a bit of a word is a test of the set at the index of that bit
 pub tested : (m : Bool) (w k o index : ℕ) (s : PlainSet) (d : ℕ) (r : Bool) → 0 < w →
     bit_set w d ≡ word_of w s k → r ≡ contains (read_in m w (bit_set w d)) o → o < w →
     k * w + o ≡ index % s.capacity → 0 < s.capacity → r ≡ contains (read_in m w s) index
@@ -72,11 +72,11 @@ tested m w k o index s d r word is got low at some =
 
 -- ---- what an operation makes of two sets
 
--- whole words are a multiple of a word
+-- a capacity of whole words is a multiple of the width
 pub multiple : (w c : ℕ) → (words : ℕ) × (c ≡ words * w) → c % w ≡ 0
 multiple w c whole = ap (λ n. n % w) whole.1 ∙ mul-mod_left whole.0 w
 
--- the greater of two capacities of whole words of one width is whole words
+-- if two capacities are whole words of one width, so is the greater one
 pub whole_greater : {a b : ℕ} (leaf w v : ℕ) → leaf ≡ w → leaf ≡ v →
     (words : ℕ) × (a ≡ words * w) → (words : ℕ) × (b ≡ words * v) →
     (words : ℕ) × (max a b ≡ words * w)
@@ -89,7 +89,8 @@ whole_greater {a} {b} leaf w v one other ours theirs =
 
 module _ (f : Bool → Bool → Bool) {s t : PlainSet} {a b : ℕ} (x : EndsAt s a) (y : EndsAt t b)
     (w : ℕ) where
-  -- one that makes what is not in the first a member as the second has it is held by both capacities
+  -- if an operation takes the second set's members outside the first set, a capacity that is at
+  -- least both holds its result
   pub holds_either : ((b : Bool) → f false b ≡ b) → (end : ℕ) → end < 4294967295 → end % w ≡ 0 →
       max a b ≤ end → HoldsBoth f w s t end
   holds_either takes end fits whole high = record {
@@ -100,7 +101,7 @@ module _ (f : Bool → Bool → Bool) {s t : PlainSet} {a b : ℕ} (x : EndsAt s
     first = λ h. absurd (true≢false (sym (takes true) ∙ h true));
   }
 
--- one that makes none of what is not in the first is held by its capacity
+-- if the result of an operation lies in the first set, the capacity of that set holds it
 pub holds_first : (f : Bool → Bool → Bool) {s : PlainSet} {a : ℕ} → EndsAt s a → (t : PlainSet)
     (w : ℕ) → ((b : Bool) → f false b ≡ false) → a < 4294967295 → a % w ≡ 0 → HoldsBoth f w s t a
 holds_first f x t w none fits whole = record {
@@ -110,7 +111,8 @@ holds_first f x t w none fits whole = record {
   first = λ _. omega (arith, x.capacity);
 }
 
--- with a greater capacity, from where on nothing is, a set has the same members
+-- a greater capacity does not change the list of members, if no number past the lesser one is a
+-- member
 pub ascending_longer : (p : ℕ → Bool) (a b : ℕ) → a ≤ b → ((i : ℕ) → a ≤ i → p i ≡ false) →
     ascending (plain_set b p) ≡ ascending (plain_set a p)
 ascending_longer p a b le none =
@@ -121,7 +123,7 @@ ascending_longer p a b le none =
 
 -- ---- a range of a set
 
--- it has none where a search of the range finds none
+-- a range of a set is empty exactly if a search of the range finds no member
 pub none_within : (s : PlainSet) (from to : ℕ) (r : Option ℕ) (b : Bool) → is_some r ≡ not b →
     to ≤ s.capacity → IsFirstIn s from to r → b ≡ (size (members_within s from to) == 0)
 none_within s from to None b e within none =
@@ -182,7 +184,7 @@ module _ (ones m : Bool) (w k from to : ℕ) (s : PlainSet) (d : ℕ) (word : 0 
   in_order = word_in_order m w k (ones_or_zeros ones s) d word is
       ∙ ap (λ u. word_of w u k) (sym (ones_or_zeros-members ones m w s word whole))
 
-  -- what a span keeps of it is word k of what it keeps of them
+  -- the word, cut to the part in the range, is word k of the range's view
   pub word_within : (e r : ℕ) →
       read_in m w (bit_set w e) ≡ span_set w (min (from - k * w) w) (min (to - k * w) w) →
       bit_set w r ≡ combination_of ◌&&◌ (bit_set w e) (bit_set w d) →
@@ -203,14 +205,14 @@ module _ (ones m : Bool) (w k from to : ℕ) (s : PlainSet) (d : ℕ) (word : 0 
         | inr g ↦ rw (le-ltb i w g) refl
       ]))
 
-  -- so it is where it has none
+  -- the empty word is word k of the range's view if word k of the set has no bits
   pub word_none : d ≡ 0 → bit_set w d ≡ word_of w (read_back m w kept) k
   word_none zero = kept_where (λ i l.
       let none : all.has (k * w + i) ≡ false = sym (word_has-at w all k i l)
       ∙ ap (λ t. t.has i) (sym in_order) ∙ ap (λ t. t.has (place m w i)) (no_digits w d zero) in
       rw none (and_right (is_in_span from to (k * w + i)) false refl))
 
-  -- and where all of it lies in the span
+  -- a word that lies wholly in the range is word k of the range's view
   pub word_inside : from ≤ k * w → k * w + w ≤ to → bit_set w d ≡ word_of w (read_back m w kept) k
   word_inside low high = kept_where (λ i l. ap (λ b. b && all.has (k * w + i))
       (is_in_span-inside from to (k * w + i) (omega (arith, low)) (omega (arith, high, l))))
@@ -225,7 +227,7 @@ module _ (ones m : Bool) (w from to low high q r : ℕ) (t : PlainSet) (word : 0
   outside i out = ap (λ (u : PlainSet). u.has i) (read_back_is m w (kind_within ones t from to))
       ∙ ap (λ b. b && (ones_or_zeros ones t).has (place m w i)) (is_in_span-outside from to (place m w i) out)
 
-  -- the words before that of its start have none of it
+  -- the words before that of the start of a range have no member of it
   pub before_range : q * w ≤ from → r ≡ min (max q low) high →
       PassesOver true w (read_back m w (kind_within ones t from to)) low high r
   before_range start is = (
@@ -242,7 +244,7 @@ module _ (ones m : Bool) (w from to low high q r : ℕ) (t : PlainSet) (word : 0
     ],
   )
 
-  -- and so have those after that of its end
+  -- the words past the end of a range have no member of it
   pub after_range : to ≤ q * w → r ≡ max (min q high) low →
       PassesOver false w (read_back m w (kind_within ones t from to)) low high r
   after_range end is = (

@@ -1,4 +1,4 @@
--- Where a set has no members.
+-- Tests whether a set is empty or full.
 use Rattle.std.proofs.Common.{◌≡◌, ◌↔◌, ◌==◌, ℕ, Bool, true, false, inl, inr, IsTrue, not, Option, Some, None, is_some, refl, sym, ◌∙◌, arith}
 use Rattle.std.proofs.lemmas.Bool.{cases_Bool, cases_eq, eq-eqb, ne_eqb, true≢false}
 use Rattle.bittle.specs.PlainSet.{PlainSet, complement, size}
@@ -6,7 +6,7 @@ use Rattle.bittle.specs.Searches.{IsFirstIn, NoneIn}
 use Rattle.bittle_bits.proofs.Sizes.{size-complement}
 use Rattle.bittle.proofs.CallerSets.{size_none, size_zero}
 
--- a search from 0 on finds nothing just where there is nothing
+-- a search from 0 on finds nothing exactly if there is no member
 pub found_none : (s : PlainSet) (n : ℕ) (r : Option ℕ) (b : Bool) → IsFirstIn s 0 n r →
     is_some r ≡ not b → IsTrue b ↔ NoneIn s 0 n
 found_none s n None true none is = (λ _. none, λ _. refl)
@@ -17,7 +17,7 @@ found_none s n (Some d) false first is = (
   λ none. absurd (true≢false (sym first.2 ∙ none d first.0 first.1)),
 )
 
--- a set of which no number is a member is one of size 0
+-- a set has size 0 exactly if no number is a member
 pub empty_just_where : (s : PlainSet) (b : Bool) → (IsTrue b ↔ NoneIn s 0 s.capacity) →
     b ≡ (size s == 0)
 empty_just_where s b told =
@@ -29,7 +29,7 @@ empty_just_where s b told =
       ]
     ]
 
--- and one of which none is lacking is one of as many as its capacity
+-- the size of a set is its capacity exactly if each number is a member
 pub full_just_where : (s : PlainSet) (b : Bool) → (IsTrue b ↔ NoneIn (complement s) 0 s.capacity) →
     b ≡ (size s == s.capacity)
 full_just_where s b told =

@@ -12,18 +12,18 @@ use Rattle.bittle_bits.proofs.BitSets.{bit_has-at}
 use Rattle.bittle_bits.proofs.PlaceLemmas.{mirror_in_word}
 use Rattle.bittle_ext.specs.Rotations.{IsWindow}
 
--- a bit of a number shifted down is a higher one of the number
+-- bit i of a number that is shifted down by k is bit i + k of the number
 pub bit_at_shifted : (n k i : ℕ) → bit_at (n / 2 ^ k) i ≡ bit_at n (i + k)
 bit_at_shifted n k i =
     let e : k + i ≡ i + k = omega arith in
     ap (λ x. x % 2) (shr-shr n k i) ∙ ap (bit_at n) e
 
--- a bit below a mask is that of the number
+-- below k, the bits of a number modulo 2 ^ k are those of the number
 pub bit_at_masked : (n k i : ℕ) → i < k → bit_at (n % 2 ^ k) i ≡ bit_at n i
 bit_at_masked n k i h =
     sym (bit_at_cat_low (n / 2 ^ k) k (n % 2 ^ k) i h) ∙ ap (λ x. bit_at x i) (shr_split n k)
 
--- a word whose ones are a number of 128 bits has no more than so many
+-- a word has at most 128 bits if the word of all ones is below 2 ^ 128
 pub at_most_128 : (w ones : ℕ) → ones ≡ 2 ^ w - 1 → ones < 2 ^ 128 → w < 129
 at_most_128 w ones all fits =
     elim (cases_lt w 129) [
@@ -31,7 +31,7 @@ at_most_128 w ones all fits =
       | inr g ↦ let big : 2 ^ 129 ≤ 2 ^ w = pow_mono g in absurd (omega (arith, all, big))
     ]
 
--- a word shifted up and cut to its width: of its low bits nothing is lost
+-- a word that is shifted up and cut to its width keeps its `from` lowest bits
 pub cut_upper : (w from rest second ones : ℕ) → from ≤ w → rest ≡ w - from → w < 129 →
     ones ≡ 2 ^ w - 1 →
     bit_and (second * 2 ^ rest % 2 ^ 128) ones ≡ second % 2 ^ from * 2 ^ rest
@@ -48,7 +48,7 @@ cut_upper w from rest second ones h left small all =
       mul-mod_left second (2 ^ rest),
     )
 
--- a word shifted up by 1 and then by the rest, and cut to its width
+-- a word can be shifted up by 1 and then by the rest: cut to its width, the result is the same
 pub cut_twice : (w from more rest second ones : ℕ) → from ≤ w → rest ≡ w - from → more + 1 ≡ rest →
     w < 129 → ones ≡ 2 ^ w - 1 →
     bit_and (second * 2 ^ 1 % 2 ^ 128 * 2 ^ more % 2 ^ 128) ones ≡ second % 2 ^ from * 2 ^ rest
@@ -60,7 +60,7 @@ cut_twice w from more rest second ones h left one small all =
     ap (λ n. bit_and n ones) (mul-mod_first (second * 2 ^ 1) (2 ^ more) (2 ^ 128)
     ∙ ap (λ n. n % 2 ^ 128) twice) ∙ cut_upper w from rest second ones h left small all
 
--- a word shifted down by 1 and then by the rest
+-- a word can be shifted down by 1 and then by the rest
 pub down_twice : (first more from : ℕ) → more + 1 ≡ from →
     first / 2 ^ 1 / 2 ^ more ≡ first / 2 ^ from
 down_twice first more from one =
@@ -85,7 +85,7 @@ module _ (w from rest first second upper lower r : ℕ) (h : from ≤ w) (left :
       let some = mul-add-lt (second % 2 ^ from) (2 ^ rest) (first / 2 ^ from) (2 ^ from) high low in
       omega (arith, value, some, pow-add 2 from rest, ap (λ k. 2 ^ k) parts)
 
-  -- and that word is the window
+  -- the low bits of the second word above the high ones of the first one are the window
   pub funnel_window : IsWindow w from (bit_set w first) (bit_set w second) (bit_set w r)
   funnel_window = record {
     first = λ i b. bit_has-at w r i (omega arith)
@@ -103,7 +103,7 @@ module _ (w from rest first second upper lower r : ℕ) (h : from ≤ w) (left :
         ∙ sym (bit_has-at w second (i + from - w) (omega arith));
   }
 
--- mirrored words have their window from the other side
+-- the window over mirrored words is the mirrored window over the words in the other order
 pub mirrored_window : (w from rest first second r : ℕ) → from ≤ w → rest ≡ w - from →
     IsWindow w rest (bit_set w second) (bit_set w first) (bit_set w r) →
     IsWindow w from (read_in true w (bit_set w first)) (read_in true w (bit_set w second))

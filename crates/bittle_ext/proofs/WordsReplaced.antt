@@ -11,12 +11,12 @@ use Rattle.bittle.specs.Words.{ReplacesWord}
 use Rattle.bittle_bits.proofs.PlainSets.{plain_set, members-past}
 use Rattle.bittle_bits.proofs.Words.{digit_at, same_word}
 
--- the set of which the numbers that pass a test are decided, and all others are as they were
+-- the set in which g decides the numbers that pass the test `done`, and all others are as in s
 abbrev pub replaced_where : (ℕ → Bool) → (ℕ → Bool) → PlainSet → PlainSet
 replaced_where done g s =
     record { capacity = s.capacity; has = λ i. cond (done i) (g i) (s.has i) }
 
--- a number of word k lies so far from its first one
+-- a number of word k is the start of the word plus its place in the word
 pub place_in : (w k i : ℕ) → i / w ≡ k → k * w + i % w ≡ i
 place_in w k i e = ap (λ n. n * w + i % w) (sym e) ∙ div-add-mod' i w
 
@@ -26,13 +26,13 @@ module _ (m : Bool) (w k r : ℕ) (s t : PlainSet) (word : 0 < w)
     (past : (i : ℕ) → s.capacity ≤ i → s.has i ≡ false)
     (also : (i : ℕ) → t.capacity ≤ i → t.has i ≡ false)
     (is : ReplacesWord w s k (bit_set w r) t) where
-  -- the numbers of the word are those of the new one
+  -- word k of t is the new word
   pub in_word : (i : ℕ) → i / w ≡ k →
       (read_in m w t).has i ≡ (read_in m w (bit_set w r)).has (i % w)
   in_word i e = ap (read_in m w t).has (sym (place_in w k i e))
       ∙ sym (digit_at m w k t r word (sym is.replaced) (i % w) (mod_below i w word))
 
-  -- all others are as they were
+  -- all other words of t are those of s
   pub in_others : (i : ℕ) → (i / w ≡ k → ⊥) → (read_in m w t).has i ≡ (read_in m w s).has i
   in_others i n =
       elim (cases_lt i s.capacity) [
@@ -46,12 +46,12 @@ module _ (m : Bool) (w k r : ℕ) (s t : PlainSet) (word : 0 < w)
             (omega (arith, is.capacity, g)) ∙ sym (members-past m w s word whole past i g)
       ]
 
--- the numbers that pass the second test are those of word k, and those that pass the first
+-- the numbers that pass `more` are those of word k, and those that pass `done`
 pub record AddsWord (w k : ℕ) (done more : ℕ → Bool) : Type 0 where
   pub here : (o : ℕ) → o < w → more (k * w + o) ≡ true
   pub others : (i : ℕ) → (i / w ≡ k → ⊥) → more i ≡ done i
 
--- once word k is decided, so are its numbers
+-- once g decides word k too, the set is the one in which g decides the numbers that pass `more`
 pub more_replaced : (m : Bool) (w k r : ℕ) (done more g : ℕ → Bool) (s now after : PlainSet) →
     0 < w → (words : ℕ) × (now.capacity ≡ words * w) →
     ((i : ℕ) → now.capacity ≤ i → now.has i ≡ false) →
@@ -72,7 +72,7 @@ more_replaced m w k r done more g s now after word whole past also adds is here 
     ] in
     λ j. plain_set ((is.capacity ∙ ap (λ u. u.capacity) before) j) (λ i. each i j)
 
--- words in turn: which word a number lies in
+-- a number below the end of word k that is not in word k lies before that word
 pub word_at_most : (w k i : ℕ) → 0 < w → i < (k + 1) * w → (i / w ≡ k → ⊥) → i < k * w
 word_at_most w k i word h n =
     let most = div_below i w (k + 1) word h in
@@ -109,14 +109,14 @@ module _ (done g : ℕ → Bool) (s : PlainSet) (past : (i : ℕ) → s.capacity
   outside true i h = ends i h
   outside false i h = past i h
 
-  -- where none below it is decided, the set is as it was
+  -- if no number below the capacity is decided, the set is as it was
   pub none_replaced : ((i : ℕ) → i < s.capacity → done i ≡ false) → s ≡ replaced_where done g s
   none_replaced none = ap (plain_set s.capacity) (fun_ext λ i. elim (cases_lt i s.capacity) [
     | inl l ↦ sym (ap (λ b. cond b (g i) (s.has i)) (none i l))
     | inr h ↦ past i h ∙ sym (outside (done i) i h)
   ])
 
-  -- where all below it are, it is the set of those that pass
+  -- if all numbers below the capacity are decided, it is the set of those that pass g
   pub all_replaced : ((i : ℕ) → i < s.capacity → done i ≡ true) →
       replaced_where done g s ≡ plain_set s.capacity g
   all_replaced all = ap (plain_set s.capacity) (fun_ext λ i. elim (cases_lt i s.capacity) [

@@ -1,4 +1,4 @@
--- What an operation with another set, of any capacity, makes of a set that keeps its own capacity.
+-- The result of an operation on two sets of any capacities, cut off at the capacity of the first.
 use Rattle.std.specs.Prelude.{◌≡◌, ℕ, ◌<◌, Bool, false, not, ◌&&◌, nat_lt, IsTrue, ◌↔◌}
 use Rattle.bittle.specs.PlainSet.{PlainSet, contains}
 use Rattle.bittle_ext.specs.Combined.{decided_set}
@@ -7,8 +7,7 @@ use Rattle.bittle_ext.specs.Combined.{decided_set}
 unfoldable pub has_below : ℕ → PlainSet → ℕ → Bool
 has_below c t k = nat_lt k c && t.has k
 
--- the members of a set below c, as a set of capacity c: what an operation with another set leaves
--- in a set that keeps its capacity c
+-- the members of a set that are below c, as a set of capacity c
 abbrev pub members_to : ℕ → PlainSet → PlainSet
 members_to c t = record { capacity = c; has = has_below c t }
 
@@ -16,8 +15,8 @@ members_to c t = record { capacity = c; has = has_below c t }
 abbrev pub Differ : PlainSet → PlainSet → Type 0
 Differ s t = (i : ℕ) × (i < s.capacity) × (t.has i ≡ not (s.has i))
 
--- below its capacity, a set becomes the result of an operation with another set; `told` is whether
--- that changed the set
+-- `after` is the result of an operation on `before` and `other`, with the capacity of `before`;
+-- `told` is whether the operation changed the set
 pub record Combines (decide : Bool → Bool → Bool) (before other after : PlainSet) (told : Bool) :
     Type 0 where
   pub set : after ≡ members_to before.capacity (decided_set decide before other)

@@ -1,11 +1,11 @@
--- What an operation makes of two sets, each of its own capacity.
+-- The result of an operation on two sets, which may differ in capacity.
 use Rattle.std.specs.Prelude.{◌≡◌, ℕ, ◌+◌, ◌≤◌, max, Bool, ◌||◌, ◌&&◌}
 use Rattle.bittle.specs.PlainSet.{PlainSet, size}
 use Rattle.bittle.specs.SetOperations.{first_alone, just_one}
 use Rattle.bittle_ext.specs.Views.{decided_until}
 
--- the set of the numbers for which `decide` is true, given whether the number is in each of two
--- sets
+-- the numbers for which `decide` returns true, given whether the number is in the first set and
+-- whether it is in the second; the capacity is the greater one
 abbrev pub decided_set : (Bool → Bool → Bool) → PlainSet → PlainSet → PlainSet
 decided_set decide s t = decided_until decide (max s.capacity t.capacity) s t
 

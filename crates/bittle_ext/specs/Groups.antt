@@ -1,4 +1,4 @@
--- What a step past groups of words without a member does.
+-- Steps past groups of words that have no member.
 use Rattle.std.specs.Prelude.{ℕ, ◌*◌, ◌≤◌, Bool, true, false, nat_lt}
 use Rattle.bittle.specs.PlainSet.{PlainSet}
 use Rattle.bittle.specs.Searches.{NoneIn}

@@ -28,7 +28,8 @@ HasAllIn s from to = (k : ℕ) → from ≤ k → k < to → s.has k ≡ true
 abbrev pub LacksSomeIn : PlainSet → ℕ → ℕ → Type 0
 LacksSomeIn s from to = (k : ℕ) × (from ≤ k) × (k < to) × (s.has k ≡ false)
 
--- a step over a list took its first item (if true), or its last one, or found the list empty
+-- a step took the first item of a list (if true) or the last one (if false), or found the list
+-- empty
 abbrev pub TakesEnd : {A : Type 0} → Bool → List A → Option A → List A → Type 0
 TakesEnd true = YieldsFirst (λ xs. xs)
 TakesEnd false = YieldsLast (λ xs. xs)
@@ -50,8 +51,8 @@ abbrev pub AreWithin : ℕ → ℕ → List ℕ → Type 0
 AreWithin from to xs = (length xs ≤ to - from)
     × ((k : ℕ) → k < length xs → (from ≤ slice_index xs k) × (slice_index xs k < to))
 
--- the list has the members in from..to, increasing; its length is how many members are below `to`
--- and not below `from`
+-- the list has the members in from..to, increasing; its length is the number of members below `to`,
+-- minus the number below `from`
 pub record ListsWithin (s : PlainSet) (from to : ℕ) (xs : List ℕ) : Type 0 where
   pub items : xs ≡ ascending (members_within s from to)
   pub count : length xs ≡ members_below s to - members_below s from

@@ -1,4 +1,4 @@
--- Which member has a given number of members below it: its rank.
+-- The rank of a member: how many members are below it.
 use Rattle.std.specs.Prelude.{◌≡◌, ℕ, ◌+◌, ◌*◌, ◌<◌, ◌≤◌, true, Some, slice_get}
 use Rattle.bittle.specs.PlainSet.{PlainSet, ascending, members_below, size}
 

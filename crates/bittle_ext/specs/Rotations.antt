@@ -7,11 +7,11 @@ use Rattle.bittle.specs.PlainSet.{PlainSet, contains, is_in_span}
 unfoldable pub has_rotated : PlainSet → ℕ → ℕ → Bool
 has_rotated s by k = nat_lt k s.capacity && contains s (k + by)
 
--- the set with each member moved down; past index 0 a member goes on at the last index
+-- the set with each member moved down; a member that passes index 0 goes on at the last index
 abbrev pub rotated_down : PlainSet → ℕ → PlainSet
 rotated_down s by = record { capacity = s.capacity; has = has_rotated s by }
 
--- the set with each member moved up; past the last index a member goes on at 0
+-- the set with each member moved up; a member that passes the last index goes on at 0
 abbrev pub rotated_up : PlainSet → ℕ → PlainSet
 rotated_up s by = rotated_down s (s.capacity - by % s.capacity)
 

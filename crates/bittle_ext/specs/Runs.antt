@@ -49,7 +49,7 @@ runs_between s from to = runs_from s.has from (to - from)
 abbrev pub runs : PlainSet → List (Range ℕ)
 runs s = runs_between s 0 s.capacity
 
--- each run of the list has a number, and no number from c on; there are at most c runs
+-- no run of the list is empty or ends past c; there are at most c runs
 abbrev pub AreRunsBelow : ℕ → List (Range ℕ) → Type 0
 AreRunsBelow c rs = (length rs ≤ c) × ((k : ℕ) (d : Range ℕ) → k < length rs →
     ((slice_index_or rs k d).start < (slice_index_or rs k d).end)

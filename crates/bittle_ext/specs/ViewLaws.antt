@@ -1,4 +1,4 @@
--- Proofs of the laws that the impls for views give.
+-- Proofs of the laws that a view's impl of `ReadWords` has to give.
 use Rattle.std.proofs.Common.{◌≡◌, ℕ, ◌*◌, ◌/◌, ◌%◌, ◌<◌, ◌≤◌, Bool, true, false, ◌&&◌, refl, ap, ◌∙◌, arith}
 use Rattle.std.proofs.lemmas.Bool.{le-ltb, and_right}
 use Rattle.std.proofs.lemmas.Nat.{div-add-mod'}
@@ -9,11 +9,11 @@ use Rattle.bittle_bits.proofs.PlainSets.{members-past}
 use Rattle.bittle_ext.specs.RangeMembers.{kind_within}
 use Rattle.bittle_ext.specs.Views.{decided_until, is_placed, read_back, HoldsBoth}
 
--- a capacity that is a multiple of a width is whole words
+-- a capacity that is a multiple of the word width is a number of whole words
 pub whole_words_of : (w c : ℕ) → c % w ≡ 0 → (words : ℕ) × (c ≡ words * w)
 whole_words_of w c whole = (c / w, omega (arith, div-add-mod' c w, whole))
 
--- no number past the capacity is in the set `read_back`
+-- no number past the capacity is in a set that is read back
 none_past_back : (m : Bool) (w : ℕ) (s : PlainSet) → 0 < w →
     (words : ℕ) × (s.capacity ≡ words * w) → ((i : ℕ) → s.capacity ≤ i → s.has i ≡ false) →
     (i : ℕ) → s.capacity ≤ i → (read_back m w s).has i ≡ false

@@ -1,10 +1,10 @@
--- What views of sets have.
+-- The members of views.
 use Rattle.std.specs.Prelude.{◌≡◌, ℕ, ◌+◌, ◌-◌, ◌%◌, ◌<◌, ◌≤◌, Bool, true, false}
 use Rattle.bittle.specs.Orders.{place}
 use Rattle.bittle.specs.PlainSet.{PlainSet}
 
--- the set of capacity `end` of the numbers for which `decide` is true, given whether the number is
--- in each of two sets
+-- the numbers for which `decide` returns true, given whether the number is in the first set and
+-- whether it is in the second, as a set of capacity `end`
 abbrev pub decided_until : (Bool → Bool → Bool) → ℕ → PlainSet → PlainSet → PlainSet
 decided_until decide end s t =
     record { capacity = end; has = λ k. decide (s.has k) (t.has k) }
@@ -14,7 +14,7 @@ abbrev pub decided_of_first : (Bool → Bool → Bool) → PlainSet → PlainSet
 decided_of_first decide s t = decided_until decide s.capacity s t
 
 -- whether the place that the mirrored order gives a number is a member of a set. It is no
--- abbreviation, so that a caller's search does not open the sets behind each view
+-- abbreviation, so that a proof search in a caller does not unfold the sets behind each view
 unfoldable pub is_placed : ℕ → PlainSet → ℕ → Bool
 is_placed w s k = s.has (place true w k)
 
@@ -28,8 +28,9 @@ has_placed false w s = s.has
 abbrev pub read_back : Bool → ℕ → PlainSet → PlainSet
 read_back mirrored w s = record { capacity = s.capacity; has = has_placed mirrored w s }
 
--- the numbers below `end` are whole words, are indexes, and include each member of the result of an
--- operation on two sets. If the result has only members of s, `end` is at most the capacity of s
+-- `end` can be the capacity of the result of an operation on two sets: it is whole words and below
+-- `u32::MAX`, and the result has no member from `end` on. If the result has only members of s,
+-- `end` is at most the capacity of s
 pub record HoldsBoth (decide : Bool → Bool → Bool) (w : ℕ) (s t : PlainSet) (end : ℕ) : Type 0 where
   pub fits : end < 4294967295
   pub whole : end % w ≡ 0

@@ -29,7 +29,7 @@ impl<'a, B: Bits> fmt::Display for BinaryText<'a, B> {
     }
 }
 
-/// Writes a digit for each bit, the greatest index first: word by word, from the last one on.
+/// Writes a digit for each bit, the greatest index first: word by word, from the last word back.
 fn write_bits<B: Bits, E: Endian, W: fmt::Write>(set: &B, f: &mut fmt::Formatter<W>) -> fmt::Result
     requires { ShapeFits B.Shape set.now }
     ensures { WritesOnOk W.write_str_gives f.old result

@@ -19,8 +19,8 @@ use bittle_bits::extension::{Conjunction, Difference, SymmetricDifference, Union
 /// words are combined. Else each word of the other set is gathered from its set bits.
 ///
 /// `union_assign` and the other three `_assign` calls of [`BitsMut`](bittle::BitsMut) take a set of
-/// the same type, mean the same in both orders, and return nothing. They leave the bits past the
-/// end of a shorter slice.
+/// the same type, mean the same in both orders, and return nothing. They do not change the bits
+/// past the end of a shorter slice.
 ///
 /// ```
 /// let mut row = [0b0110u8, 0];
@@ -158,7 +158,7 @@ pub trait BitsCombineExt: BitsMut {
         set
     }
 
-    /// Sets every bit, by one mask a word: the set is full, in both orders.
+    /// Sets every bit, with one mask per word: the set is full, in both orders.
     ///
     /// The shape has to fit (`bits_capacity() < u32::MAX`). With capacity 0 nothing changes.
     ///

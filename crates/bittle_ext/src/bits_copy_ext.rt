@@ -20,8 +20,8 @@ pub trait BitsCopyExt: BitsMut {
     /// Both shapes have to fit, `from <= to`, and the written range has to end at or below the
     /// capacity. With capacity 0 only an empty range is allowed, which changes nothing. Each word
     /// of the written range is read and written once. For each, the words of the other set that
-    /// have its bits are read: at most two, or if they are narrower, at most one more than make up
-    /// its width.
+    /// have its bits are read: at most two. If those words are narrower, they are at most one more
+    /// than it takes to fill the written word.
     ///
     /// ```
     /// let mut row = [0xFFu8; 2];

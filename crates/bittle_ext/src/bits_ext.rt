@@ -151,8 +151,8 @@ pub trait BitsExt: Bits + Sized {
     }
 
     /// Returns how many set bits lie below `index`, in the order of the type. An `index` past the
-    /// capacity means the capacity. Each word is counted at once; a mask cuts the last one off at
-    /// `index`.
+    /// capacity means the capacity. Each word is counted as a whole; a mask cuts the last one off
+    /// at `index`.
     ///
     /// ```
     /// 0b0010_0010u8.rank(5);                              // 1
@@ -174,7 +174,7 @@ pub trait BitsExt: Bits + Sized {
     /// Returns the index of the set bit that has exactly `rank` set bits below it, in the order of
     /// the type. It returns `None` if no more than `rank` bits are set.
     ///
-    /// Each word up to the one that has the answer is counted at once. In that word the bit is
+    /// Each word up to the one that has the answer is counted as a whole. In that word the bit is
     /// found by halving, in six steps for a `u64`.
     ///
     /// ```
@@ -211,7 +211,7 @@ pub trait BitsExt: Bits + Sized {
     }
 
     /// Returns the least index of an unset bit in `from..to`, in the order of the type, or `None`
-    /// if there is none: past the capacity no bit is unset. All else is as with
+    /// if there is none. Past the capacity no bit is unset. All else is as with
     /// [`first_one_in_range`](BitsExt::first_one_in_range).
     ///
     /// ```
@@ -245,7 +245,7 @@ pub trait BitsExt: Bits + Sized {
     }
 
     /// Returns the greatest index of an unset bit in `from..to`, in the order of the type, or
-    /// `None` if there is none: past the capacity no bit is unset. All else is as with
+    /// `None` if there is none. Past the capacity no bit is unset. All else is as with
     /// [`last_one_in_range`](BitsExt::last_one_in_range).
     ///
     /// ```
@@ -264,8 +264,8 @@ pub trait BitsExt: Bits + Sized {
     /// Returns how many bits of `from..to` are set, in the order of the type.
     ///
     /// The shape has to fit (`bits_capacity() < u32::MAX`). Past the capacity no bit is set, and a
-    /// range that runs backwards is empty. Each word of the range is counted at once. With capacity
-    /// 0 it returns 0.
+    /// range that runs backwards is empty. Each word of the range is counted as a whole. With
+    /// capacity 0 it returns 0.
     ///
     /// ```
     /// 0b0110_0010u8.count_ones_in_range(1, 6);            // 2: bits 1 and 5
@@ -285,7 +285,7 @@ pub trait BitsExt: Bits + Sized {
     /// Returns how many bits of `from..to` are unset, in the order of the type.
     ///
     /// The shape has to fit (`bits_capacity() < u32::MAX`). Past the capacity no bit is unset, and
-    /// a range that runs backwards is empty. Each word of the range is counted at once. With
+    /// a range that runs backwards is empty. Each word of the range is counted as a whole. With
     /// capacity 0 it returns 0.
     ///
     /// ```
@@ -342,13 +342,13 @@ pub trait BitsExt: Bits + Sized {
         self.all_in_span(from..to)
     }
 
-    /// Returns the least index from `from` on where `length` unset bits begin, in the order of the
-    /// type, or `None` if there is no such run.
+    /// Returns the least index from `from` on where a run of `length` unset bits begins, in the
+    /// order of the type, or `None` if there is no such run.
     ///
     /// No run goes past the capacity. An empty run begins at each index up to the capacity: with
     /// `length` 0 it returns `from`, or `None` if `from` is past the capacity. If `length` is at
-    /// most four words, each word is read once, up to the end of the run. For a longer run, each
-    /// run that is too short costs two searches of words.
+    /// most the width of four words, each word is read once, up to the end of the run. For a
+    /// greater `length`, each run that is too short costs two searches by whole words.
     ///
     /// ```
     /// 0b0010_0001u8.next_zero_run(2, 2);                   // Some(2)
@@ -362,8 +362,9 @@ pub trait BitsExt: Bits + Sized {
         runs::next_run::<Self, Self::Order, Zeros>(self, from, length)
     }
 
-    /// Returns the least index where `length` unset bits begin, in the order of the type, or `None`
-    /// if there is no such run, as [`next_zero_run`](BitsExt::next_zero_run) does from 0 on.
+    /// Returns the least index where a run of `length` unset bits begins, in the order of the type,
+    /// or `None` if there is no such run, as [`next_zero_run`](BitsExt::next_zero_run) does from 0
+    /// on.
     ///
     /// ```
     /// 0b0100_1101u8.first_zero_run(2);                     // Some(4)
@@ -377,13 +378,13 @@ pub trait BitsExt: Bits + Sized {
         self.next_zero_run(0, length)
     }
 
-    /// Returns the least index from `from` on where `length` set bits begin, in the order of the
-    /// type, or `None` if there is no such run.
+    /// Returns the least index from `from` on where a run of `length` set bits begins, in the order
+    /// of the type, or `None` if there is no such run.
     ///
     /// No run goes past the capacity. An empty run begins at each index up to the capacity: with
     /// `length` 0 it returns `from`, or `None` if `from` is past the capacity. If `length` is at
-    /// most four words, each word is read once, up to the end of the run. For a longer run, each
-    /// run that is too short costs two searches of words.
+    /// most the width of four words, each word is read once, up to the end of the run. For a
+    /// greater `length`, each run that is too short costs two searches by whole words.
     ///
     /// ```
     /// 0b0110_0011u8.next_one_run(1, 2);                    // Some(5)
@@ -396,8 +397,9 @@ pub trait BitsExt: Bits + Sized {
         runs::next_run::<Self, Self::Order, Ones>(self, from, length)
     }
 
-    /// Returns the least index where `length` set bits begin, in the order of the type, or `None`
-    /// if there is no such run, as [`next_one_run`](BitsExt::next_one_run) does from 0 on.
+    /// Returns the least index where a run of `length` set bits begins, in the order of the type,
+    /// or `None` if there is no such run, as [`next_one_run`](BitsExt::next_one_run) does from 0
+    /// on.
     ///
     /// ```
     /// 0b0110_0001u8.first_one_run(2);                      // Some(5)
@@ -410,8 +412,8 @@ pub trait BitsExt: Bits + Sized {
         self.next_one_run(0, length)
     }
 
-    /// Returns the least index where a run of `length` set bits begins that lies within `from..to`,
-    /// in the order of the type, or `None` if there is no such run.
+    /// Returns the least index where a run of `length` set bits within `from..to` begins, in the
+    /// order of the type, or `None` if there is no such run.
     ///
     /// A `to` past the capacity means the capacity, and a range that runs backwards has no bit.
     /// With `length` 0 it returns `from`, or `None` if `from` is past the capacity. It costs what
@@ -431,10 +433,9 @@ pub trait BitsExt: Bits + Sized {
         runs::run_in_range::<Self, Self::Order, Ones>(self, from, to, length)
     }
 
-    /// Returns the least index where a run of `length` unset bits begins that lies within
-    /// `from..to`, in the order of the type, or `None` if there is no such run. All else is as with
-    /// [`first_one_run_in_range`](BitsExt::first_one_run_in_range): past the capacity no bit is
-    /// unset.
+    /// Returns the least index where a run of `length` unset bits within `from..to` begins, in the
+    /// order of the type, or `None` if there is no such run. Past the capacity no bit is unset. All
+    /// else is as with [`first_one_run_in_range`](BitsExt::first_one_run_in_range).
     ///
     /// ```
     /// 0b0110_0011u8.first_zero_run_in_range(1, 6, 3);      // Some(2)

@@ -11,9 +11,9 @@ use bittle::{Bits, BitsMut};
 
 /// Questions about one bit, by an index that does not wrap.
 ///
-/// At an index at or past the capacity these calls return `false` or `None`, where `test_bit` tests
-/// the bit that the index wraps to. The shape has to fit (`bits_capacity() < u32::MAX`). The bit
-/// order (big- or little-endian) is that of the type; for another order, use the view that
+/// If an index is at or past the capacity, these calls return `false` or `None`, while `test_bit`
+/// tests the bit that the index wraps to. The shape has to fit (`bits_capacity() < u32::MAX`). The
+/// bit order (big- or little-endian) is that of the type; for another order, use the view that
 /// [`in_order`](crate::BitsViewExt::in_order) returns.
 pub trait BitsIndexExt: Bits + Sized {
     /// Returns `true` if the bit at `index` is set. It returns `false` if the bit is unset, or if

@@ -157,7 +157,7 @@ pub trait BitsMutExt: BitsMut + Sized {
     }
 
     /// Sets each bit at the indexes `from..to` if `value` is `true`, else clears each, in the order
-    /// of the type, by one mask a word.
+    /// of the type, with one mask per word.
     ///
     /// The shape has to fit (`bits_capacity() < u32::MAX`), and `from <= to <= capacity`: no index
     /// wraps. Only the words of the range are written. An empty range changes nothing; with
@@ -183,7 +183,7 @@ pub trait BitsMutExt: BitsMut + Sized {
         }
     }
 
-    /// Flips every bit, by one mask a word: the set becomes its complement, in both orders.
+    /// Flips every bit, with one mask per word: the set becomes its complement, in both orders.
     ///
     /// The shape has to fit (`bits_capacity() < u32::MAX`). With capacity 0 nothing changes.
     ///

@@ -37,8 +37,8 @@ pub trait BitsOwnedExt: BitsOwned {
         Self::ones().difference(self)
     }
 
-    /// Returns the set with each bit at the indexes `from..to` set, in the order of the type, by
-    /// one mask a word.
+    /// Returns the set with each bit at the indexes `from..to` set, in the order of the type, with
+    /// one mask per word.
     ///
     /// It requires `from <= to <= capacity`: no index wraps. An empty range changes nothing; with
     /// capacity 0 only an empty range is allowed.
@@ -59,8 +59,8 @@ pub trait BitsOwnedExt: BitsOwned {
         set
     }
 
-    /// Returns the set with each bit at the indexes `from..to` unset, in the order of the type, by
-    /// one mask a word.
+    /// Returns the set with each bit at the indexes `from..to` unset, in the order of the type,
+    /// with one mask per word.
     ///
     /// It requires `from <= to <= capacity`: no index wraps. An empty range changes nothing; with
     /// capacity 0 only an empty range is allowed.
@@ -82,7 +82,7 @@ pub trait BitsOwnedExt: BitsOwned {
     }
 
     /// Returns the set with each bit at the indexes `from..to` flipped, in the order of the type,
-    /// by one mask a word.
+    /// with one mask per word.
     ///
     /// It requires `from <= to <= capacity`: no index wraps. An empty range changes nothing; with
     /// capacity 0 only an empty range is allowed.
@@ -103,8 +103,8 @@ pub trait BitsOwnedExt: BitsOwned {
         set
     }
 
-    /// Returns the set with each bit of the range set, by one mask a word. A range that names no
-    /// end goes up to the capacity. The range must not run backwards, and has to end at or below
+    /// Returns the set with each bit of the range set, with one mask per word. A range that names
+    /// no end goes up to the capacity. The range must not run backwards, and has to end at or below
     /// the capacity: no index wraps.
     ///
     /// ```
@@ -127,8 +127,8 @@ pub trait BitsOwnedExt: BitsOwned {
         set
     }
 
-    /// Returns the set with each bit of the range unset, by one mask a word. A range that names no
-    /// end goes up to the capacity. The range must not run backwards, and has to end at or below
+    /// Returns the set with each bit of the range unset, with one mask per word. A range that names
+    /// no end goes up to the capacity. The range must not run backwards, and has to end at or below
     /// the capacity: no index wraps.
     ///
     /// ```
@@ -151,9 +151,9 @@ pub trait BitsOwnedExt: BitsOwned {
         set
     }
 
-    /// Returns the set with each bit of the range flipped, by one mask a word. A range that names
-    /// no end goes up to the capacity. The range must not run backwards, and has to end at or below
-    /// the capacity: no index wraps.
+    /// Returns the set with each bit of the range flipped, with one mask per word. A range that
+    /// names no end goes up to the capacity. The range must not run backwards, and has to end at or
+    /// below the capacity: no index wraps.
     ///
     /// ```
     /// 0b0011_1100u8.with_span_toggled(4..);               // 0b1100_1100

@@ -41,7 +41,7 @@ pub trait BitsRangeExt: Bits + Sized {
         self.iter_ones_in_span(from..to)
     }
 
-    /// Returns an iterator over the indexes of the unset bits in `from..to`: past the capacity no
+    /// Returns an iterator over the indexes of the unset bits in `from..to`. Past the capacity no
     /// bit is unset. All else is as with [`iter_ones_in_range`](BitsRangeExt::iter_ones_in_range).
     ///
     /// ```
@@ -65,8 +65,8 @@ pub trait BitsRangeExt: Bits + Sized {
     /// Returns a double-ended iterator over the maximal runs of set bits, increasing, in the order
     /// of the type. Each run is a range of indexes.
     ///
-    /// The shape has to fit (`bits_capacity() < u32::MAX`). Each step is two searches by whole
-    /// words. With capacity 0 it yields nothing.
+    /// The shape has to fit (`bits_capacity() < u32::MAX`). Each step makes at most two searches by
+    /// whole words. With capacity 0 it yields nothing.
     ///
     /// ```
     /// 0b0110_0010u8.iter_one_runs();                      // yields 1..2, 5..7

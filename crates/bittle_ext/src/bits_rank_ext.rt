@@ -36,7 +36,7 @@ pub trait BitsRankExt: Bits + Sized {
     /// no more than `rank` bits are unset, as with capacity 0.
     ///
     /// The shape has to fit (`bits_capacity() < u32::MAX`). Each word up to the one that has the
-    /// answer is counted at once.
+    /// answer is counted as a whole.
     ///
     /// ```
     /// 0b0010_0010u8.select_zero(1);                       // Some(2)

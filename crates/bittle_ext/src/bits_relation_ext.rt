@@ -17,9 +17,9 @@ use bittle_bits::extension::{Difference, Ones, SymmetricDifference, Zeros, are_a
 /// Relations of two sets. The two shapes may differ, and both have to fit.
 ///
 /// Each set is read in the order of its type; a view has the order that it names. If both sets have
-/// words of one width, read in one order, they are compared word by word. Else searches in the two
-/// sets alternate, each from where the other one stopped. Past its capacity a set has no bit set,
-/// so capacities may differ. With capacity 0 a set is empty.
+/// words of one width, read in one order, they are compared word by word. Else the two sets are
+/// searched in turn, each from where the search of the other stopped. Past its capacity a set has
+/// no bit set, so capacities may differ. With capacity 0 a set is empty.
 ///
 /// ```
 /// let view = 0x80u8.in_order::<LittleEndian>();
@@ -137,8 +137,8 @@ pub trait BitsRelationExt: Bits + Sized {
     }
 
     /// Returns how many indexes are set in both sets, each set in its own order. No set is made.
-    /// Words of one width and order are counted one by one; else each set bit of this set is tested
-    /// in the other one.
+    /// Each word of both is counted once if their words have one width and are read in one order.
+    /// Else each set bit of this set is tested in the other one.
     ///
     /// ```
     /// 0b0110u8.count_common(&0x0107u16);                  // 2

@@ -8,7 +8,7 @@ ghost use Rattle.bittle.specs.Values.{set_in, ShapeFits};
 use crate::{shifts, turns};
 use bittle::BitsMut;
 
-/// Moves of all bits of any set that can be changed, also of a mutably borrowed slice. No copy is
+/// Moves of all bits of any set that can be changed, such as a mutably borrowed slice. No copy is
 /// made. The order is that of the type.
 ///
 /// An owned set also has [`shifted_up`](crate::BitsOwnedExt::shifted_up), `shifted_down`,

@@ -21,14 +21,14 @@ use std::ops::RangeBounds;
 /// Reads of a range of a set. A call that ends in `_in_range` takes two numbers; the call that ends
 /// in `_in_span` takes a Rust range, such as `2..=6`.
 ///
-/// The shape has to fit (`bits_capacity() < u32::MAX`). A range that names no end, or an end past
+/// The shape has to fit (`bits_capacity() < u32::MAX`). A range without an end, or with an end past
 /// the capacity, ends at the capacity: past the capacity no bit is set and none is unset. A range
 /// that runs backwards is empty. A range `a..=b` that was iterated over before is not allowed. The
 /// bit order (big- or little-endian) is that of the type; for another order, use the view that
 /// [`in_order`](crate::BitsViewExt::in_order) returns.
 pub trait BitsSpanExt: Bits + Sized {
-    /// Returns how many bits of the range are set. Each word of the range is counted at once. With
-    /// capacity 0 it returns 0.
+    /// Returns how many bits of the range are set. Each word of the range is counted as a whole.
+    /// With capacity 0 it returns 0.
     ///
     /// ```
     /// 0b0110_0010u8.count_ones_in_span(1..=5);            // 2: bits 1 and 5
@@ -51,7 +51,7 @@ pub trait BitsSpanExt: Bits + Sized {
         self.count_ones_in_range_in::<Self::Order>(start, end)
     }
 
-    /// Returns how many bits of the range are unset. Each word of the range is counted at once.
+    /// Returns how many bits of the range are unset. Each word of the range is counted as a whole.
     /// With capacity 0 it returns 0.
     ///
     /// ```
@@ -209,8 +209,8 @@ pub trait BitsSpanExt: Bits + Sized {
     }
 
     /// Returns a double-ended iterator over the indexes of the set bits in the range, increasing,
-    /// in the bit order of the type, as [`iter_ones_in_range`](crate::BitsRangeExt::iter_ones_in_range)
-    /// does.
+    /// in the bit order of the type, as
+    /// [`iter_ones_in_range`](crate::BitsRangeExt::iter_ones_in_range) does.
     ///
     /// ```
     /// 0b0110_0010u8.iter_ones_in_span(2..);               // yields 5, 6

@@ -23,7 +23,7 @@ use std::ops::RangeBounds;
 /// another one, call on the view that [`in_order_mut`](crate::BitsMutViewExt::in_order_mut)
 /// returns.
 pub trait BitsSpanMutExt: BitsMut + Sized {
-    /// Sets each bit of the range, by one mask a word.
+    /// Sets each bit of the range, with one mask per word.
     ///
     /// ```
     /// let mut row = [0u8; 2];
@@ -52,7 +52,7 @@ pub trait BitsSpanMutExt: BitsMut + Sized {
         self.set_range(from, to);
     }
 
-    /// Clears each bit of the range, by one mask a word.
+    /// Clears each bit of the range, with one mask per word.
     ///
     /// ```
     /// let mut row = [0xFFu8; 2];
@@ -81,7 +81,7 @@ pub trait BitsSpanMutExt: BitsMut + Sized {
         self.clear_range(from, to);
     }
 
-    /// Flips each bit of the range, by one mask a word.
+    /// Flips each bit of the range, with one mask per word.
     ///
     /// ```
     /// let mut word = 0b0011_1100u8;
@@ -105,7 +105,7 @@ pub trait BitsSpanMutExt: BitsMut + Sized {
         self.toggle_range(from, to);
     }
 
-    /// Sets each bit of the range if `value` is `true`, else clears each, by one mask a word.
+    /// Sets each bit of the range if `value` is `true`, else clears each, with one mask per word.
     ///
     /// ```
     /// let mut word = 0b1111_1111u8;

@@ -7,7 +7,8 @@ ghost use Rattle.bittle.specs.Values.{set_in, ShapeFits};
 
 use bittle::{Bits, Endian};
 
-/// Returns the capacity of a set. From the capacity on no bit is set, also in the order `E`.
+/// Returns the capacity of a set. The contract adds that no bit is set from the capacity on, in the
+/// order `E` too.
 #[inline]
 pub(crate) fn capacity_of<B: Bits, E: Endian>(set: &B) -> u32
     requires { ShapeFits B.Shape set.now }

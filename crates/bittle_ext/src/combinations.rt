@@ -9,7 +9,7 @@ use crate::other_words::{Part, Reach, Whole, other_word};
 use bittle::{Bits, BitsMut, Endian};
 use bittle_bits::extension::{Operation, Word, are_alike, word_width};
 
-/// The operation that makes the first set have what the second one has.
+/// The operation that gives the first set the indexes of the second one.
 pub enum Replacement {}
 
 impl Operation for Replacement {

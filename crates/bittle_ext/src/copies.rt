@@ -1,4 +1,4 @@
-//! Ranges of a set as numbers, and ranges copied, a word at a time.
+//! Reads and writes ranges of a set as numbers, and copies ranges, a word at a time.
 
 ghost use Rattle.std.specs.Prelude.{◌≡◌, ◌+◌, ◌%◌, ◌^◌, ◌<◌, ◌≤◌, ℕ};
 ghost use Rattle.bittle.specs.BitPatterns.{bit_set};
@@ -210,7 +210,7 @@ fn copy_up<A: BitsMut, E: Endian>(set: &mut A, at: u32, from: u32, count: u32)
 }
 
 /// Copies `count` bits, from index `from` on, to the indexes from `at` on, as if all were read
-/// before any is written. From the capacity on no bit is set.
+/// before any is written. A bit that is read from the capacity on counts as unset.
 #[inline]
 pub fn copy_within<A: BitsMut, E: Endian>(set: &mut A, at: u32, from: u32, count: u32)
     requires fits { ShapeFits A.Shape set.old }

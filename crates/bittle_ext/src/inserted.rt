@@ -1,4 +1,4 @@
-//! The set bits of what an iterator yields.
+//! Sets the bits at the indexes that an iterator yields.
 
 ghost use Rattle.std.specs.Prelude.{◌≡◌, ℕ, List, IsTrue};
 ghost use Rattle.std.specs.Iterator.{Drains, IsFinite};

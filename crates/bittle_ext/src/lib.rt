@@ -1,7 +1,7 @@
-//! Everyday calls on any set, above `bittle`. They find the first and the last bit, and the next
-//! and the previous one from an index. They change a bit and return whether it changed, change a
-//! range at once, take out the first or last bit, and complement. They make a set of a list of
-//! indexes, and iterate over a range and over runs.
+//! Everyday calls on any set, in addition to those of `bittle`. They find the first and the last
+//! set or unset bit, and the next and the previous one from an index. They change a bit and return
+//! whether it changed, change a range at once, remove the first or last set bit, and flip all bits.
+//! They make a set from a list of indexes, and iterate over a range and over runs.
 //!
 //! The calls are in extension traits, which every set of `bittle` has. They are proved from
 //! contracts alone: those that users see, and those of `bittle_bits::extension`, which is for the
@@ -34,8 +34,9 @@
 //! ```
 #![tactic(auto)]
 
-// A file `bits_.._ext` has the extension trait of its name, and `views` has the views and their
-// traits. Each other file has the function bodies of one subject, which the traits call.
+// A file `bits_.._ext` has the extension trait of its name, `binary_text` has `BitsTextExt`, and
+// `views` has the views and their traits. A file `.._laws` states a law, and `prelude` exports the
+// traits. Each other file has the functions of one subject, which the traits call.
 pub mod binary_text;
 mod bits_combine_ext;
 mod bits_copy_ext;

@@ -121,8 +121,8 @@ pub fn low_bits_of<W: Word>(number: u128, count: u32) -> u128
     number & all_bits::<W>() >> ((width - count) % width)
 }
 
-/// Returns a word with the bits of a number at `count` indexes, from the index `from` on. If these
-/// are all bits of the word, no mask is made.
+/// Returns a word in which the `count` bits from the index `from` on are replaced by those of a
+/// number. If these are all bits of the word, no mask is made.
 #[inline]
 pub fn with_number<W: Word, E: Endian>(word: W, from: u32, count: u32, number: u128) -> W
     requires some { 0 < count }

@@ -18,8 +18,8 @@ pub fn has_bits<B: Bits>(set: &B) -> bool
     0 < capacity && capacity < u32::MAX
 }
 
-/// Combines the bit at an index below the capacity with a set bit, by the operation `O`. Returns
-/// whether the bit was set before.
+/// Replaces the bit at an index below the capacity by the result of the operation `O` on that bit
+/// and a set bit. Returns whether the bit was set before.
 #[inline]
 fn combine_within<B: BitsMut, E: Endian, O: RangeOperation>(set: &mut B, index: u32) -> bool
     requires fits { ShapeFits B.Shape set.old }
@@ -37,8 +37,8 @@ fn combine_within<B: BitsMut, E: Endian, O: RangeOperation>(set: &mut B, index: 
     !word.and(mask).is_zero()
 }
 
-/// Combines the bit at an index, which wraps, with a set bit, by the operation `O`. Returns whether
-/// the bit was set before.
+/// Replaces the bit at an index, which wraps, by the result of the operation `O` on that bit and a
+/// set bit. Returns whether the bit was set before.
 #[inline]
 pub fn combine_bit<B: BitsMut, E: Endian, O: RangeOperation>(set: &mut B, index: u32) -> bool
     requires fits { ShapeFits B.Shape set.old }

@@ -36,7 +36,7 @@ impl Reach for Part {
     const ALL: bool = false;
 }
 
-/// Returns word `k` of a set, or an empty word from its capacity on.
+/// Returns word `k` of a set, or an empty word if the set has no word `k`.
 #[inline(always)]
 pub fn word_or_empty<S: Bits, R: Reach>(set: &S, k: usize) -> S::LeafWord
     requires fits { ShapeFits S.Shape set.now }
@@ -71,8 +71,8 @@ fn gathered_word<W: Word, B: Bits, E: Endian, F: Endian>(set: &B, k: u32) -> W
 }
 
 /// Returns word `k` of a set that is read in the order `F`, as a word of the width of `A`'s words,
-/// in the order `E`. Here `k` counts words of that width. From the set's capacity on the word is
-/// empty.
+/// in the order `E`. Here `k` counts words of that width. The bits of the word from the set's
+/// capacity on are unset.
 #[inline(always)]
 pub fn other_word<A: Bits, B: Bits, E: Endian, F: Endian, R: Reach>(
     set: &B,

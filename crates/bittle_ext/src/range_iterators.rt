@@ -16,8 +16,8 @@ pub type IterOnesInRange<'a, B, E> = IntoIterOnes<KindWithin<'a, B, E, Ones>, E>
 /// Yields the indexes of the unset bits of a range.
 pub type IterZerosInRange<'a, B, E> = IntoIterOnes<KindWithin<'a, B, E, Zeros>, E>;
 
-/// Begins an iterator over the bits of the kind `K` (set or unset) in a range: over the view of
-/// these bits.
+/// Returns an iterator over the bits of the kind `K` (set or unset) in a range. It iterates over
+/// the set bits of a view of these bits.
 #[inline]
 pub(crate) fn iter_within<'a, B: Bits, E: Endian, K: Kind>(
     bits: &'a B,

@@ -1,4 +1,4 @@
-//! What holds of ranks in every set. The function makes no calls; its contract is the law.
+//! A law of ranks that holds for every set. The function makes no calls; its contract is the law.
 
 ghost use Rattle.bittle_ext.specs.Ranks.{RanksUndoSelection};
 

@@ -1,5 +1,6 @@
-//! The search that relations of two sets make. If their words have one width and order, it goes
-//! word by word. Else searches in the two sets alternate, each from where the other one stopped.
+//! The search behind the relations of two sets. If their words have one width and order, it goes
+//! word by word. Else the two sets are searched in turn, each from where the search of the other
+//! stopped.
 
 ghost use Rattle.std.specs.Prelude.{◌≡◌, min, MatchOption};
 ghost use Rattle.bittle_ext.specs.SetRelations.{first_and};

@@ -1,4 +1,4 @@
-//! The bits of a set that a closure keeps, word by word.
+//! Keeps the set bits for which a closure returns `true`, word by word.
 
 ghost use Rattle.std.specs.Prelude.{◌≡◌, ◌*◌, ◌<◌};
 ghost use Rattle.bittle_ext.specs.Calls.{IsCallableBelow};

@@ -1,4 +1,4 @@
-//! Sets whose bits are all moved, a word at a time.
+//! Rotates owned sets, a word at a time, and computes the words that rotations and shifts write.
 
 ghost use Rattle.std.specs.Prelude.{◌≡◌, ◌+◌, ◌-◌, ◌*◌, ◌^◌, ◌<◌, IsTrue};
 ghost use Rattle.bittle.specs.BitPatterns.{bit_set};
@@ -20,8 +20,8 @@ pub fn all_bits<W: Word>() -> u128
     W::zero().not().to_bits()
 }
 
-/// Returns one word of the bits of two neighbouring words: those from the weight `2 ^ by` of the
-/// lower one on.
+/// Returns a word of bits that begins at the weight `2 ^ by` of the lower of two neighbouring
+/// words, and goes on in the higher one.
 ///
 /// The higher word is shifted by 1 and then by the rest, so `by` 0 needs no branch. The remainder
 /// (`%`) changes no result; with it the compiler knows that `by` is below the width, and shifts
@@ -39,8 +39,8 @@ fn funnel_down<W: Word>(low: W, high: W, by: u32) -> W
     W::from_bits(upper | low.to_bits() >> by)
 }
 
-/// Returns one word of the bits of two neighbouring words: the `by` bits of greatest weight of the
-/// lower one, and above them the bits of the higher one below the weight `2 ^ (width - by)`.
+/// Returns a word of bits of two neighbouring words. Its lowest bits are the `by` bits of greatest
+/// weight of the lower word. Above them are the `width - by` lowest bits of the higher word.
 #[inline]
 fn funnel_up<W: Word>(low: W, high: W, by: u32) -> W
     requires { by < W.width }
@@ -54,8 +54,8 @@ fn funnel_up<W: Word>(low: W, high: W, by: u32) -> W
     W::from_bits(high.to_bits() << by & ones | lower)
 }
 
-/// Returns one word of the bits of two neighbouring words, from the index `from` of the first one
-/// on.
+/// Returns a word of bits that begins at the index `from` of the first of two neighbouring words,
+/// and goes on in the second one.
 #[inline]
 pub fn window<W: Word, E: Endian>(first: W, second: W, from: u32) -> W
     requires { from < W.width }
@@ -71,8 +71,8 @@ pub fn window<W: Word, E: Endian>(first: W, second: W, from: u32) -> W
     }
 }
 
-/// Returns one word of the bits of two neighbouring words: the last `to` bits of the first one, and
-/// then the bits of the second one below the index `width - to`.
+/// Returns a word of bits of two neighbouring words: the last `to` bits of the first one, and after
+/// them the bits of the second one below the index `width - to`.
 #[inline]
 pub fn window_up_to<W: Word, E: Endian>(first: W, second: W, to: u32) -> W
     requires { to < W.width }
@@ -101,8 +101,8 @@ pub fn distance<B: Bits>(set: &B, by: u32) -> (usize, usize, u32)
     (words, (by / width) as usize, by % width)
 }
 
-/// Returns one word of the bits of a set, from index `from` of its word `at` on. The bits past that
-/// word are those of word `next`.
+/// Returns a word of bits of a set that begins at the index `from` of word `at`, and goes on in
+/// word `next`.
 #[inline]
 fn word_from<B: Bits, E: Endian>(set: &B, at: usize, next: usize, from: u32) -> B::LeafWord
     requires fits { ShapeFits B.Shape set.now }
@@ -114,11 +114,11 @@ fn word_from<B: Bits, E: Endian>(set: &B, at: usize, next: usize, from: u32) -> 
     window::<B::LeafWord, E>(set.nth_leaf_word(at), set.nth_leaf_word(next), from)
 }
 
-/// Returns the set with each set bit moved down by `by`. Past index 0 a bit goes on at the last
-/// index.
+/// Returns the set with each set bit moved down by `by`. A bit that passes index 0 goes on at the
+/// last index.
 ///
-/// The words of `set` up to the last one come first, then those from the first one on. So the loops
-/// make no test whether an index wraps.
+/// One loop reads the words of `set` up to the last one, and another those from the first one on.
+/// So neither loop tests whether an index wraps.
 #[inline]
 pub fn rotate_down<B: BitsOwned, E: Endian>(set: &B, by: u32) -> B
     requires { IsTrue B.indexable }
@@ -143,7 +143,8 @@ pub fn rotate_down<B: BitsOwned, E: Endian>(set: &B, by: u32) -> B
     result
 }
 
-/// Returns the set with each set bit moved up by `by`. Past the last index a bit goes on at 0.
+/// Returns the set with each set bit moved up by `by`. A bit that passes the last index goes on at
+/// 0.
 #[inline]
 pub fn rotate_up<B: BitsOwned, E: Endian>(set: &B, by: u32) -> B
     requires { IsTrue B.indexable }

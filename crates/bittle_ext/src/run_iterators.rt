@@ -25,9 +25,9 @@ pub type IterOneRuns<'a, B, E> = IterRuns<'a, B, E, Ones>;
 pub type IterZeroRuns<'a, B, E> = IterRuns<'a, B, E, Zeros>;
 
 /// Iterates over the maximal runs of bits of the kind `K` (set or unset) in a borrowed set,
-/// increasing, in the order `E`, from both ends. Each step searches by whole words for a run and
-/// for its other end. From the front, the second search begins only past the word in which the run
-/// starts. After the last run it returns `None` at both ends.
+/// increasing, in the order `E`, from both ends. Each step makes at most two searches by whole
+/// words: for a run, and for its other end. From the front, the second search begins past the word
+/// in which the run starts. After the last run, a step returns `None` at both ends.
 #[derive(Drop)]
 pub struct IterRuns<'a, B: Shape, E: Endian, K: Kind> {
     bits: &'a B,
@@ -175,7 +175,8 @@ fn start_of_run<B: Bits, E: Endian, K: Kind>(bits: &B, from: u32, last: u32) -> 
     }
 }
 
-/// Takes out the first of the remaining runs if the end `N` is the front, else the last one.
+/// Takes out the first of the remaining runs if the end `N` is the front, else the last one, and
+/// returns it.
 #[inline]
 fn step<B: Bits, E: Endian, K: Kind, N: End>(
     bits: &B,

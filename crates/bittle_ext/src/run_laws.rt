@@ -1,4 +1,4 @@
-//! What holds of the runs of every set. The function makes no calls; its contract is the law.
+//! A law of runs that holds for every set. The function makes no calls; its contract is the law.
 
 ghost use Rattle.bittle_ext.specs.Runs.{RunsAreMaximal};
 

@@ -11,7 +11,7 @@ use bittle::{Bits, Endian};
 use bittle_bits::extension::{Back, Front, Kind, Sealed, end_in, word_width};
 use std::marker::PhantomData;
 
-/// Names the other kind of bits than `K`: the unset bits if `K` is `Ones`.
+/// Names the kind of bits that `K` is not: the unset bits if `K` is `Ones`.
 #[derive(Drop)]
 pub(crate) struct Others<K: Kind> {
     kind: PhantomData<K>,
@@ -25,11 +25,13 @@ impl<K: Kind> Kind for Others<K> {
     fn seal(_: Sealed) {}
 }
 
-/// A run of at most this many words' length is searched for word by word. For a longer run, each
-/// run that is too short takes two searches, which cost more than reading this many words.
+/// A run that is at most this many words long is searched for word by word. The search for a longer
+/// run makes two searches at each run that is too short. These cost more than reading this many
+/// words, so they pay only for a longer run.
 const FEW_WORDS: u32 = 4;
 
-/// Returns the least index from `from` on where `length` bits of the kind begin, or `None`.
+/// Returns the least index from `from` on where a run of `length` bits of the kind begins, or
+/// `None`.
 #[inline]
 pub fn next_run<B: Bits, E: Endian, K: Kind>(bits: &B, from: u32, length: u32) -> Option<u32>
     requires { ShapeFits B.Shape bits.now }
@@ -39,8 +41,8 @@ pub fn next_run<B: Bits, E: Endian, K: Kind>(bits: &B, from: u32, length: u32) -
     next_run_before::<B, E, K>(bits, from, bits.bits_capacity(), length)
 }
 
-/// Returns the least index where a run of `length` bits of the kind begins that lies within
-/// `from..to`, or `None`. An empty run begins at each index up to the capacity.
+/// Returns the least index where a run of `length` bits of the kind within `from..to` begins, or
+/// `None`. An empty run begins at each index up to the capacity.
 #[inline]
 pub fn run_in_range<B: Bits, E: Endian, K: Kind>(
     bits: &B,
@@ -62,12 +64,12 @@ pub fn run_in_range<B: Bits, E: Endian, K: Kind>(
     next_run_before::<B, E, K>(bits, from, end, length)
 }
 
-/// Returns the least index from `from` on where a run of `length` bits of the kind begins that lies
-/// before `end`, or `None`. It reads no word that begins at `end` or after it.
+/// Returns the least index from `from` on where a run of `length` bits of the kind begins, or
+/// `None`. The run must end at or before `end`. No word that begins at or past `end` is read.
 ///
 /// A run of a few words is found word by word. For a longer run, one search finds where bits of the
-/// kind begin. A second one finds whether a bit of the other kind lies within `length` of there; if
-/// so, both go on past that bit.
+/// kind begin. A second one finds the last bit of the other kind among the `length` bits from there
+/// on. If there is one, both go on past it.
 fn next_run_before<B: Bits, E: Endian, K: Kind>(
     bits: &B,
     from: u32,

@@ -1,5 +1,5 @@
-//! Finds the set bit of a rank: its word by counting whole words, and its place in the word by
-//! halving.
+//! Finds the set bit of a given rank, which is the number of set bits below it. Counts of whole
+//! words find its word, and halving finds its place in the word.
 
 ghost use Rattle.std.specs.Prelude.{◌≡◌, ◌+◌, ◌*◌, ◌/◌, ◌^◌, ◌<◌, true, MatchOption};
 ghost use Rattle.bittle_ext.specs.Ranks.{HasNoRank, IsInWord};

@@ -1,5 +1,5 @@
 //! Moves all bits of a set in place, a word at a time. A move down begins at the first word, a move
-//! up at the last one, so each word is read before it is written.
+//! up at the last one, so each word is read before it is overwritten.
 
 ghost use Rattle.std.specs.Prelude.{◌≡◌};
 ghost use Rattle.bittle_ext.specs.Rotations.{shifted_down, shifted_up};

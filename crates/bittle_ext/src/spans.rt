@@ -31,8 +31,9 @@ pub(crate) fn ends_of<R: RangeBounds<u32>>(range: &R, capacity: u32) -> (u64, u6
     (start, end)
 }
 
-/// Returns the two ends of that part of a range that lies below the capacity of a set. The part
-/// does not run backwards. From the capacity on the set has no bit in the order `E`, set or unset.
+/// Returns the two ends of the part of a range that lies below the capacity of a set. The part does
+/// not run backwards. The contract adds that the set, read in the order `E`, has no set or unset
+/// bit from the capacity on.
 #[inline]
 pub(crate) fn part_of<B: Bits, E: Endian, R: RangeBounds<u32>>(set: &B, range: &R) -> (u32, u32)
     requires fits { ShapeFits B.Shape set.now }

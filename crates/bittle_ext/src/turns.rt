@@ -1,5 +1,6 @@
-//! Rotates all bits of a set in place. If at most 128 bits pass an end, moved down or up, these are
-//! kept as a number meanwhile. Else whole words are rotated first, by three reversals.
+//! Rotates all bits of a set in place. If a move down or up takes at most 128 bits past an end, a
+//! number keeps these bits while the others move. Else whole words are rotated first, by three
+//! reversals.
 
 ghost use Rattle.std.specs.Prelude.{◌≡◌, ◌+◌, ◌*◌, ◌<◌, ◌≤◌};
 ghost use Rattle.bittle_ext.specs.Rotations.{exchanged, HasWordsOf, mirrored_within};
@@ -43,8 +44,8 @@ fn reverse_words<B: BitsMut, E: Endian>(set: &mut B, from: usize, to: usize)
     }
 }
 
-/// Moves each of the `words` words down by `by` words. Past the first place a word goes on at the
-/// last.
+/// Moves each of the `words` words down by `by` words. A word that passes the first place goes on
+/// at the last.
 #[inline(always)]
 fn turn_words<B: BitsMut, E: Endian>(set: &mut B, by: usize, words: usize)
     requires fits { ShapeFits B.Shape set.old }
@@ -62,8 +63,8 @@ fn turn_words<B: BitsMut, E: Endian>(set: &mut B, by: usize, words: usize)
     reverse_words::<B, E>(set, 0, words);
 }
 
-/// Moves each bit of a set of one word down by `by`, which is less than a word. Past index 0 a bit
-/// goes on at the last index.
+/// Moves each bit of a set of one word down by `by`, which is less than a word. A bit that passes
+/// index 0 goes on at the last index.
 #[inline(always)]
 fn turn_word<B: BitsMut, E: Endian>(set: &mut B, by: u32)
     requires fits { ShapeFits B.Shape set.old }
@@ -77,7 +78,7 @@ fn turn_word<B: BitsMut, E: Endian>(set: &mut B, by: u32)
     set.set_nth_leaf_word(0, window::<B::LeafWord, E>(word, word, by));
 }
 
-/// Moves each bit down by `by`, at most 128. Past index 0 a bit goes on at the last index.
+/// Moves each bit down by `by`, at most 128. A bit that passes index 0 goes on at the last index.
 #[inline(always)]
 fn turn_bits<B: BitsMut, E: Endian>(set: &mut B, by: u32)
     requires fits { ShapeFits B.Shape set.old }
@@ -96,8 +97,8 @@ fn turn_bits<B: BitsMut, E: Endian>(set: &mut B, by: u32)
     copy_range::<B, u128, E, BigEndian>(set, end - by, &first, 0, by);
 }
 
-/// Rotates the bits down by `by`, by moving each up by `capacity - by`, which is at most 128. Past
-/// the last index a bit goes on at 0.
+/// Rotates the bits down by `by`, by moving each up by `capacity - by`, which is at most 128. A bit
+/// that passes the last index goes on at 0.
 #[inline(always)]
 fn turn_bits_up<B: BitsMut, E: Endian>(set: &mut B, by: u32)
     requires fits { ShapeFits B.Shape set.old }
@@ -113,8 +114,8 @@ fn turn_bits_up<B: BitsMut, E: Endian>(set: &mut B, by: u32)
     copy_range::<B, u128, E, BigEndian>(set, 0, &last, 0, up);
 }
 
-/// Moves each bit down by `by`, which is below the capacity. Past index 0 a bit goes on at the last
-/// index.
+/// Moves each bit down by `by`, which is below the capacity. A bit that passes index 0 goes on at
+/// the last index.
 #[inline(always)]
 fn turn_within<B: BitsMut, E: Endian>(set: &mut B, by: u32)
     requires fits { ShapeFits B.Shape set.old }
@@ -139,7 +140,7 @@ fn turn_within<B: BitsMut, E: Endian>(set: &mut B, by: u32)
     }
 }
 
-/// Moves each bit down by `by`. Past index 0 a bit goes on at the last index.
+/// Moves each bit down by `by`. A bit that passes index 0 goes on at the last index.
 #[inline(always)]
 pub fn turn_down<B: BitsMut, E: Endian>(set: &mut B, by: u32)
     requires { ShapeFits B.Shape set.old }
@@ -153,7 +154,7 @@ pub fn turn_down<B: BitsMut, E: Endian>(set: &mut B, by: u32)
     }
 }
 
-/// Moves each bit up by `by`. Past the last index a bit goes on at 0.
+/// Moves each bit up by `by`. A bit that passes the last index goes on at 0.
 #[inline(always)]
 pub fn turn_up<B: BitsMut, E: Endian>(set: &mut B, by: u32)
     requires { ShapeFits B.Shape set.old }

@@ -2,7 +2,7 @@
 //! of a set. Each view is a set itself, but stores no bits of its own.
 //!
 //! A view borrows its sets, and computes each of its words when that word is read. Every call of
-//! `bittle` and of this crate that reads a set works on a view, also a call that makes a view.
+//! `bittle` and of this crate that reads a set works on a view, even a call that makes a view.
 //!
 //! ```rust
 //! 0b0011u8.in_order::<LittleEndian>().first_one();  // Some(6)
@@ -39,8 +39,8 @@ pub mod of_both;
 pub mod within;
 
 /// Views of any set. A view borrows the set and is a set itself, so each call that reads a set can
-/// be made on it. Each view, except one in a named order, requires that each shape fits, and reads
-/// each set in the order of its type.
+/// be made on it. Each view, except one in a named order, requires that each set's shape fits
+/// (`bits_capacity() < u32::MAX`), and reads each set in the order of its type.
 pub trait BitsViewExt: Bits {
     /// Borrows the set, to be read in the order `E`.
     ///
@@ -64,9 +64,9 @@ pub trait BitsViewExt: Bits {
     /// of the first set, in the order of the first set's type.
     ///
     /// The shapes may differ, and both have to fit. Each word is computed when it is read. If the
-    /// words of the two sets differ in width or order, each set bit of the second set in that word
-    /// is searched for. Past its capacity the second set has no bit set. With capacity 0 nothing is
-    /// set.
+    /// words of the two sets differ in width or order, the second set's set bits in that word are
+    /// searched for one by one. Past its capacity the second set has no bit set. With capacity 0
+    /// nothing is set.
     ///
     /// ```
     /// 0b0011u8.and(&0b0110u8).count_ones();               // 1
@@ -204,15 +204,15 @@ pub trait BitsViewExt: Bits {
         OfBoth::of_alike(self, other)
     }
 
-    /// Returns a view of the indexes that are set in either of two sets, whose words may have two
-    /// types. The view is a set of words of the first set's type, in the order of the first set's
+    /// Returns a view of the indexes that are set in either of two sets, whose words may differ in
+    /// type. The view is a set of words of the first set's type, in the order of the first set's
     /// type.
     ///
     /// Both shapes have to fit. The capacity is the greater one, rounded up to whole words of the
-    /// first set. The rounded capacity has to be below `u32::MAX` too. The rounding can only add
-    /// bits if the words of the first set are the wider ones. Each word is computed when it is
-    /// read, with a search for each set bit of the second set in that word. If both capacities are
-    /// 0, the view is the empty set.
+    /// first set. The rounded capacity has to be below `u32::MAX` too. The rounding adds bits only
+    /// if the words of the first set are wider. Each word is computed when it is read. If the words
+    /// differ in width or order, the second set's set bits in that word are searched for one by
+    /// one. If both capacities are 0, the view is the empty set.
     ///
     /// ```
     /// 0x8000_0000u32.or_unlike(&[0u8, 0, 0, 0, 1]).iter_ones(); // yields 31, 32
@@ -249,8 +249,8 @@ pub trait BitsViewExt: Bits {
         OfBoth::of_unlike(self, other)
     }
 
-    /// Returns a view of the indexes that are set in just one of two sets, whose words may have two
-    /// types. All else is as with [`or_unlike`](BitsViewExt::or_unlike).
+    /// Returns a view of the indexes that are set in just one of two sets, whose words may differ
+    /// in type. All else is as with [`or_unlike`](BitsViewExt::or_unlike).
     ///
     /// ```
     /// 0x8000_0000u32.xor_unlike(&[0u8, 0, 0, 0x80, 1]).iter_ones(); // yields 24, 31, 32

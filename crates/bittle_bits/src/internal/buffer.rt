@@ -1,5 +1,6 @@
-//! The buffered words of an iterator. It reads its set only through them. Each fetch of a word, and
-//! each scan of a buffered word, is counted. A buffered word is exhausted if it has no item left.
+//! The buffered words of an iterator. The iterator reads its set only through them. Each fetch of a
+//! word, and each scan of a buffered word, is counted. A buffered word is exhausted if it has no
+//! item left.
 
 ghost use Rattle.std.specs.Prelude.{◌≡◌, ℕ, ◌+◌, ◌-◌, ◌*◌, ◌<◌, not, cond, false, Some, None};
 ghost use Rattle.bittle_bits.specs.Buffers.{edge_from_first, buffer_count, buffer_of, items_held, members_in_word, word_items, HoldsSound, Refills, ScansFrom, TellsExhausted};
@@ -16,7 +17,7 @@ use crate::word::Word;
 use std::marker::{Model, PhantomData};
 use std::snapshot::Snapshot;
 
-// A sum of numbers that holds only snapshots.
+// A sum of numbers. It holds only snapshots, which take no bytes.
 #[derive(Drop)]
 enum Sum {
     Of(Snapshot<usize>),
@@ -85,10 +86,10 @@ impl Count {
 
 const _: () = prove!(size_of::<Count>() == 0);
 
-// A word of a set. `edge` is the index in the set of the word's bit of least weight. From `edge`,
-// the indexes of the other bits go up or, in the mirrored order, down. If no word is loaded, or if
-// the word is exhausted, no bit of `word` is set. So a step tests only `word`; `is_loaded` serves
-// the count of scans.
+// A word of a set. `edge` is the index that the word's bit of least weight has in the set. From
+// `edge`, the indexes of the other bits go up or, in little-endian order, down. If no word is
+// loaded, or if the word is exhausted, no bit of `word` is set. So a step tests only `word`;
+// `is_loaded` is used only to count scans.
 #[derive(Clone, Copy)]
 struct BufferedWord<W: Copy> {
     word: W,
@@ -97,8 +98,8 @@ struct BufferedWord<W: Copy> {
 }
 
 // Returns how many bits `words` words have. It computes the product as a rotation. With a
-// multiplication the compiler would keep a sum in each turn of a loop over words, but the number is
-// needed only after the loop.
+// multiplication, the compiler would update the product in each turn of a loop over words, but the
+// product is needed only after the loop.
 #[inline(always)]
 fn bits_of<W: Word>(words: usize) -> u32
     requires { words * W.width < 4294967296 }
@@ -428,8 +429,8 @@ impl<W: Word, E: Endian> Buffers<W, E> {
         }
     }
 
-    /// Scans the word at the end opposite to `N`, and takes its item at the end `N`. The two
-    /// exchanges of head and tail together compile to nothing, so the word stays where it is.
+    /// Scans the word at the end opposite to `N`, and takes its item at the end `N`. It exchanges
+    /// head and tail before the scan and after it. Both exchanges together compile to nothing.
     #[inline(always)]
     pub fn scan_across<N: End>(&mut self) -> Option<u32>
         ensures found { ScansFrom N.FRONT (buffer_of (not N.FRONT) self.old) result

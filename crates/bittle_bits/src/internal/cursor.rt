@@ -131,8 +131,8 @@ fn move_end<B: Shape, E: Endian, N: End>(at: &mut Cursor<B, E>, on: usize)
     }
 }
 
-// Passes over words at the end `N` of `low..high`, the words between the buffered ones: those that
-// the set knows to have no item. It fetches none of these words.
+// Passes over words at the end `N` of `low..high`, the words between the buffered ones. It passes
+// over words that the set knows to have no item, and fetches none of them.
 #[inline(always)]
 #[tactic(auto, unfolding(crate::specs::Cursor::items_left_in))]
 fn pass_over<B: ReadWords, E: Endian, K: Kind, N: End>(

@@ -89,7 +89,7 @@ impl<'a, A: ReadWords, B: ReadWords, O: Operation> Both<'a, A, B, O> {
 /// Returns the least index in the result of an operation on the first word of each of two sets, or
 /// `None` if that result is empty. The words of the two sets have the same width. `common` is the
 /// lesser of their capacities.
-// The function is small, so a caller makes no call if the first words decide.
+// The compiler inlines this small function. So if the first words decide, a caller makes no call.
 #[inline]
 pub fn first_decided_at_once<A: ReadWords, B: ReadWords, E: Endian, O: Operation>(
     left: &A,

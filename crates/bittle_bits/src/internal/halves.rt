@@ -29,7 +29,7 @@ pub fn joined<T: Word>(low: u64, high: u64) -> T
     T::from_bits(((high as u128) << 64) + low as u128)
 }
 
-/// Combines the bits of two words of 128 bits by their halves.
+/// Combines two words of 128 bits by the operation `O`, half by half.
 #[inline]
 pub fn on_halves<T: Word, O: Operation>(word: T, other: T) -> T
     requires { T.width ≡ 128 }

@@ -160,8 +160,8 @@ fn element_ends<T: BitsOwned>(len: usize, from: u32, to: u32) -> (u32, u32, u32,
 }
 
 /// Changes each bit of `from..to` by the operation `O`: `Union` sets these bits, `Difference`
-/// clears them, and `SymmetricDifference` flips them. The elements between the first and the last
-/// one are changed as a whole, by one mask that is the same for all.
+/// clears them, and `SymmetricDifference` flips them. Each element between the first and the last
+/// one is changed as a whole. If the elements are words, one mask serves all of these.
 pub fn assign_range<T: BitsOwned, E: Endian, O: RangeOperation>(
     elements: &mut [T],
     from: u32,
@@ -253,7 +253,7 @@ fn combine_each<T: BitsOwned, O: Operation>(elements: &mut [T], others: &[T], co
 }
 
 /// Combines each element with the element of `others` at the same place, if there is one. Elements
-/// that are words of 32 bits and more are combined four at a time.
+/// that are words of at least 32 bits are combined four at a time.
 #[inline(always)]
 pub fn combine<T: BitsOwned, O: Operation>(elements: &mut [T], others: &[T])
     ensures { (mirrored : Bool) → row_mirrored T.Shape mirrored elements.new
@@ -333,9 +333,9 @@ fn rest_is_without<T: BitsOwned, K: Kind>(elements: &[T], from: usize) -> bool
 }
 
 // Returns whether no element has a bit of the kind `K`. It tests the first element by itself, since
-// this one often decides. It tests a row of eight words or more eight words at a time, and the rest
-// one by one. It tests elements of more than a word one by one, since seven of eight tests might be
-// wasted.
+// this one often decides. If the elements are words, and there are at least eight, it tests eight
+// at a time and the rest one by one. It tests larger elements one by one, since seven of eight
+// tests might be wasted.
 fn is_without_by_turns<T: BitsOwned, K: Kind>(elements: &[T]) -> bool
     ensures { result ≡ (size (row_of T.Shape elements.now) == cond K.ONES 0
         (length elements.now * T.type_capacity)) }
@@ -357,7 +357,8 @@ fn is_without_by_turns<T: BitsOwned, K: Kind>(elements: &[T]) -> bool
     rest_is_without::<T, K>(elements, elements.len() / 8 * 8)
 }
 
-// Returns whether no element has a bit of the kind `K`. It tests all elements, for a short array.
+// Returns whether no element has a bit of the kind `K`. It tests all elements, and is called for
+// short arrays only.
 #[inline]
 fn is_without_at_once<T: BitsOwned, K: Kind>(elements: &[T]) -> bool
     ensures { result ≡ (size (row_of T.Shape elements.now) == cond K.ONES 0
@@ -366,7 +367,8 @@ fn is_without_at_once<T: BitsOwned, K: Kind>(elements: &[T]) -> bool
     part_is_without::<T, K>(elements, 0, elements.len())
 }
 
-/// Returns whether no element has a bit of the kind.
+/// Returns whether no element has a bit of the kind `K`. It tests all elements if `at_once` is
+/// `true`.
 #[inline]
 fn is_without<T: BitsOwned, K: Kind>(elements: &[T], at_once: bool) -> bool
     ensures value { result ≡ (size (row_of T.Shape elements.now) == cond K.ONES 0
@@ -446,10 +448,10 @@ fn words_at_end<N: End>(front: usize, back: usize) -> usize
     if N::FRONT { front } else { back }
 }
 
-// Passes over words at the end `N` of `low..high`, which is not empty, in the one element that lies
-// at that end: the words that the element knows to have no bit of the kind `K`. It returns the new
-// `low` at the front, the new `high` at the back. It also returns whether it passed over all words
-// of `low..high` that lie in the element.
+// Passes over words at the end `N` of `low..high`, in the one element that lies at that end. The
+// element knows that these words have no bit of the kind `K`. The call returns the new `low` if `N`
+// is the front, and the new `high` if `N` is the back. It also returns whether it passed over all
+// words of `low..high` that lie in the element. The range `low..high` must not be empty.
 #[inline]
 fn pass_over_in_element<T: BitsOwned, K: Kind, N: End>(
     elements: &[T],
@@ -472,9 +474,9 @@ fn pass_over_in_element<T: BitsOwned, K: Kind, N: End>(
     (start + on, on == words_at_end::<N>(to, from))
 }
 
-// Passes over words at the end `N` of `low..high` that elements know to have no bit of the kind
-// `K`, one element after another. It returns the new `low` at the front, the new `high` at the
-// back.
+// Passes over words at the end `N` of `low..high`, one element after another. The elements know
+// that these words have no bit of the kind `K`. The call returns the new `low` if `N` is the front,
+// and the new `high` if `N` is the back.
 fn pass_over_elements<T: BitsOwned, K: Kind, N: End>(
     elements: &[T],
     low: usize,
@@ -501,8 +503,9 @@ fn pass_over_elements<T: BitsOwned, K: Kind, N: End>(
     }
 }
 
-/// Passes over words at the end `N` of `low..high` that elements know to have no bit of the kind
-/// `K`. It returns the new `low` at the front, the new `high` at the back.
+/// Passes over words at the end `N` of `low..high`. The elements know that these words have no bit
+/// of the kind `K`. The call returns the new `low` if `N` is the front, and the new `high` if `N`
+/// is the back.
 ///
 /// It calls `pass_over` of elements only if their type may pass over words.
 #[inline(always)]

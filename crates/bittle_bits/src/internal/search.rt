@@ -34,7 +34,7 @@ fn ahead<T: Word, E: Endian, N: End>(at: u32) -> T
 // Returns the number of the next word after word `k`, seen from the end `N`, among the words from
 // `first` to `last`. It skips words that the set knows to have no bit of the kind `K`, and returns
 // `None` if no word is left. The test whether `k` is the last word comes first. So if a set skips
-// no words, nothing else remains in the compiled code.
+// no words, the compiled code makes no other test.
 #[inline(always)]
 fn next_word<B: ReadWords, K: Kind, N: End>(bits: &B, first: u32, last: u32, k: u32) -> Option<u32>
     requires fits { ShapeFits B.Shape bits.now }

@@ -26,8 +26,9 @@ pub fn word_of_kind<B: ReadWords, K: Kind>(bits: &B, k: usize) -> B::LeafWord
     bits_of_kind::<B::LeafWord, K>(bits.nth_leaf_word(k))
 }
 
-/// Passes over words at the end `N` of `low..high` that the set knows to have no bit of the kind
-/// `K`, in both orders. It returns the new `low` at the front, the new `high` at the back.
+/// Passes over words at the end `N` of `low..high`. The set knows that these words have no bit of
+/// the kind `K`, in either order. The call returns the new `low` if `N` is the front, and the new
+/// `high` if `N` is the back.
 #[inline(always)]
 pub fn pass_over<B: ReadWords, K: Kind, N: End>(bits: &B, low: usize, high: usize) -> usize
     requires fits { ShapeFits B.Shape bits.now }
@@ -88,9 +89,9 @@ impl<'a, B: ReadWords> Source<'a, B> {
         word_of_kind::<B, K>(self.set, k)
     }
 
-    /// Passes over words at the end `N` of `low..high` that the set knows to have no bit of the
-    /// kind `K`, in both orders. It counts these words, and fetches none of them. It returns the
-    /// new `low` at the front, the new `high` at the back.
+    /// Passes over words at the end `N` of `low..high`. The set knows that these words have no bit
+    /// of the kind `K`, in either order. The call counts these words, and fetches none of them. It
+    /// returns the new `low` if `N` is the front, and the new `high` if `N` is the back.
     #[inline(always)]
     pub fn pass_over<K: Kind, N: End>(&self, low: usize, high: usize, passed: &mut Count) -> usize
         requires fits { ShapeFits B.Shape self.now.set.now }
@@ -132,7 +133,7 @@ impl<B: ReadWords> OwnedSource<B> {
         Source { set: &self.set }
     }
 
-    /// Returns the same set.
+    /// Returns a copy of the set.
     #[inline]
     pub fn duplicate(&self) -> OwnedSource<B>
     where

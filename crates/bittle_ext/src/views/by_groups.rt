@@ -1,6 +1,6 @@
-//! Skips words in which no bit is set in both of two sets. The sets say which groups of words may
-//! have a set bit. One test covers 64 words; if none of these may have a common bit, the next test
-//! covers 64 groups of 64 words.
+//! Skips words in which two sets have no set bit in common. Each set says which groups of its words
+//! may have a set bit. One test covers 64 words. If none of these may have a common bit, the next
+//! test covers 64 groups of 64 words.
 
 ghost use Rattle.std.specs.Prelude.{◌≡◌, ◌≢◌, ◌+◌, ◌%◌, ◌^◌, ◌<◌, ◌≤◌, false, cond, max, min};
 ghost use Rattle.bittle_ext.specs.Combined.{both_of};
@@ -11,8 +11,8 @@ ghost use Rattle.bittle.specs.Values.{set_in, ShapeFits};
 use bittle::{BigEndian, Endian};
 use bittle_bits::extension::{End, Ones, ReadWords, end_in};
 
-/// Returns which of 64 groups of words may have a bit that is set in both sets, by one bit for each
-/// group, as `groups_told` does for one set.
+/// Returns a number with one bit for each of 64 groups of words. The bit of a group is unset only
+/// if no bit of the group is set in both sets. `groups_told` does this for one set.
 #[inline(always)]
 pub fn told_of_both<A: ReadWords, B: ReadWords, E: Endian, F: Endian>(
     left: &A,
@@ -37,9 +37,9 @@ fn at_end<N: End>(front: usize, back: usize) -> usize
     if N::FRONT { front } else { back }
 }
 
-// Moves the end `N` past groups of `64 ^ level` words in which one of the sets has no bit, up to
-// the next multiple of 64 groups. The sets tell which groups these are. It returns the new end, and
-// whether it stopped at a group that may have a bit.
+// Moves the end `N` past groups of `64 ^ level` words in which one of the sets has no set bit, up
+// to the next multiple of 64 groups. The sets tell which groups these are. It returns the new end,
+// and whether it stopped at a group that may have a common bit.
 #[inline(always)]
 fn moved<A: ReadWords, B: ReadWords, E: Endian, F: Endian, N: End>(
     left: &A,
@@ -84,8 +84,9 @@ fn clamped<N: End>(low: usize, high: usize, at: usize) -> usize
     if N::FRONT { at.min(high) } else { at.max(low) }
 }
 
-/// Skips words of `low..high`, from the end `N`, in which no bit is set in both sets, as the sets
-/// tell of groups of words. It returns the new `low` if `N` is the front, else the new `high`.
+/// Skips words of `low..high`, from the end `N`, in which the sets have no set bit in common. The
+/// sets tell this by groups of words. It returns the new `low` if `N` is the front, else the new
+/// `high`.
 #[inline(always)]
 pub fn passed_by_groups<A: ReadWords, B: ReadWords, E: Endian, F: Endian, N: End>(
     left: &A,

@@ -37,8 +37,8 @@ pub fn count<B: ReadWords>(bits: &B) -> u32
     count
 }
 
-/// Returns the end `N` of the words `low..high`, moved past words that the set does not have, or
-/// knows to have no bit set. The words have the width of the set's words, and may lie past its end.
+/// Moves the end `N` of the words `low..high` past words that the set does not have, or knows to be
+/// empty, and returns the new end. The words have the width of the set's words.
 #[inline]
 pub fn passed<B: ReadWords, N: End>(bits: &B, low: usize, high: usize) -> usize
     requires fits { ShapeFits B.Shape bits.now }

@@ -58,8 +58,8 @@ pub trait ViewOperation: Operation {
     ghost keeps_empty: { Self.decide false false ≡ false };
 }
 
-/// An operation whose result has an index that is not in the first set exactly if the second set
-/// has it.
+/// An operation whose result has, of the indexes that are not in the first set, exactly those of
+/// the second set.
 pub trait EitherOperation: ViewOperation {
     ghost takes_second: { (b : Bool) → Self.decide false b ≡ b };
 }
@@ -116,8 +116,8 @@ impl FirstOperation for Difference {
     ghost keeps_first = { λ _. refl };
 }
 
-// Returns `true` if the result has no bit in a word in which one of the two sets has none, and both
-// sets may tell of groups of words.
+// Returns `true` if each index of the result is in both sets, their words have one width, and both
+// sets can tell which groups of words may have a set bit.
 #[inline(always)]
 fn combines_groups<A: ReadWords, B: ReadWords, O: ViewOperation>() -> bool
     ensures width { IsTrue result → A.width ≡ B.width }
@@ -135,8 +135,8 @@ fn combines_groups<A: ReadWords, B: ReadWords, O: ViewOperation>() -> bool
 /// second in `F`. It is a set of words of the first set's type, read in `E`.
 ///
 /// Each word is computed when it is read. If the words of the two sets differ in width or order,
-/// each set bit of the second set in that word is searched for. `R` says whether both sets are
-/// known to have each word that is read.
+/// the second set's set bits in that word are searched for one by one. `R` says whether both sets
+/// are known to have each word that is read.
 #[derive(Drop)]
 pub struct OfBoth<'a, A: Shape, B: Shape, E: Endian, F: Endian, O: Operation, R: Reach = Part> {
     left: &'a A,
@@ -327,7 +327,8 @@ impl<'a, A: Bits, B: Bits, U: Endian, F: Endian, O: ViewOperation, R: Reach> Bit
 }
 
 impl<'a, A: Bits, B: Bits, E: Endian, F: Endian, O: Operation> OfBoth<'a, A, B, E, F, O> {
-    /// Returns a view of the indexes below `end`. From `end` on the result has no index.
+    /// Returns a view with the capacity `end`. The result of the operation must have no index from
+    /// `end` on.
     #[inline]
     fn until(left: &'a A, right: &'a B, end: u32) -> Self
         requires left_fits { ShapeFits A.Shape left.now }
@@ -402,8 +403,8 @@ impl<'a, A: Bits, B: Bits, E: Endian, F: Endian, O: EitherOperation> OfBoth<'a, 
         OfBoth::until(left, right, end)
     }
 
-    /// Returns a view of the result of an operation on two sets of any words. Its capacity is the
-    /// greater one, rounded up to whole words of the first set.
+    /// Returns a view of the result of an operation on two sets whose words may differ in width.
+    /// Its capacity is the greater one, rounded up to whole words of the first set.
     #[inline]
     pub(crate) fn of_unlike(left: &'a A, right: &'a B) -> Self
         requires left_fits { ShapeFits A.Shape left.now }

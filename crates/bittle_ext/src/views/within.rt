@@ -18,9 +18,10 @@ use std::marker::PhantomData;
 /// The set bits in a range of a borrowed set.
 pub type Within<'a, B, E> = KindWithin<'a, B, E, Ones>;
 
-/// The bits of the kind `K` (set or unset) in a range of a borrowed set, read in the order `E`: a
-/// set of the same capacity, in `E`. Each word is computed when it is read. An iterator over the
-/// set bits of the view reads only the words of the range; a search reads at most one more.
+/// The set of the bits of the kind `K` (set or unset) in a range of a borrowed set. The view has
+/// the capacity of that set, and both are read in the order `E`. Each word is computed when it is
+/// read. An iterator over the set bits of the view reads only the words of the range; a search
+/// reads at most one more.
 #[derive(Drop)]
 pub struct KindWithin<'a, B: Shape, E: Endian, K: Kind> {
     set: &'a B,
@@ -79,7 +80,7 @@ impl<'a, B: Bits, E: Endian, K: Kind> ReadWords for KindWithin<'a, B, E, K> {
         self.set.bits_capacity()
     }
 
-    // A word without a bit needs no mask, nor does a word that lies wholly in the range.
+    // A word with no set bit needs no mask, nor does a word that lies wholly in the range.
     #[inline(always)]
     fn nth_leaf_word(&self, k: usize) -> B::LeafWord {
         let word = word_of_kind::<B, K>(self.set, k);
