@@ -13,7 +13,7 @@ use Rattle.bit_entities.proofs.LeastDead.{listed_first, outside}
 use Rattle.bit_entities.proofs.Masks.{number_now}
 use Rattle.bit_entities.proofs.Worlds.{may_parts, bare_is_world, dead_lacks, living_is_world, going_is_world, having_is_world}
 
--- a change of a component keeps it so
+-- `IsWorld` still holds after a change of a component
 changed_is_world : (w : World) (entity component : ℕ) (is : Bool) → IsWorld w → IsWorld
     (cond (may_have w entity component) (with_component w entity component is) w)
 changed_is_world w entity component is so = by (may_have w entity component) refl
@@ -39,14 +39,14 @@ one_stays w (Remove entity) is = by (w.alive.has entity)
 one_stays w (Attach entity component) is = changed_is_world w entity component true is
 one_stays w (Detach entity component) is = changed_is_world w entity component false is
 
--- so it is after every list of events
+-- `IsWorld` still holds after every list of events
 pub stay_worlds : (w : World) (events : List Event) → IsWorld w → IsWorld (final_world w events)
 unfolding final_world
 stay_worlds w [] is = is
 stay_worlds w (event ∷ events) is =
     stay_worlds (world_after w event) events (one_stays w event is)
 
--- and from a new world on
+-- `IsWorld` holds after every list of events that begins with a new world
 pub new_worlds : (capacity count : ℕ) (events : List Event) →
     IsWorld (final_world (empty_world capacity count) events)
 new_worlds capacity count events =
@@ -61,7 +61,7 @@ not_full : (b : Bool) → cond b Done Refused ≡ Full → ⊥
 not_full true e = cc
 not_full false e = cc
 
--- what is spawned is the first number that is not alive, and lives
+-- a spawned entity is the first number that was not alive, and then is alive
 pub spawned_is : (w : World) (event : Event) (entity : ℕ) → answer_to w event ≡ Spawned entity →
     IsFirstIn (complement w.alive) 0 w.alive.capacity (Some entity)
     × (world_after w event ≡ with_living w entity)
@@ -82,7 +82,7 @@ spawned_is w (Attach other component) entity e =
 spawned_is w (Detach other component) entity e =
     absurd (no_spawn (may_have w other component) entity e)
 
--- a number below the capacity that is none of the complement is a member
+-- a number below the capacity that is not in the complement is a member
 in_it : (s : PlainSet) (k : ℕ) → k < s.capacity → (complement s).has k ≡ false → s.has k ≡ true
 in_it s k h e = by (s.has k) (sym (complement_within s k h) ∙ e)
   where
@@ -129,7 +129,7 @@ full_iff_all w (Attach entity component) =
 full_iff_all w (Detach entity component) =
     (λ e. absurd (not_full (may_have w entity component) e), λ all. let is = all.0 in absurd (cc))
 
--- what is not done is not there
+-- if the answer is `Refused` or `Full`, the world is as it was
 not_done : (b : Bool) (t w : World) →
     (cond b Done Refused ≡ Refused) ⊎ (cond b Done Refused ≡ Full) → cond b t w ≡ w
 not_done true t w (inl e) = absurd (cc)

@@ -14,7 +14,7 @@ use Rattle.bit_entities.proofs.LeastDead.{outside}
 use Rattle.bit_entities.proofs.Masks.{number_now}
 use Rattle.bit_entities.proofs.Worlds.{dead_lacks, left, has_now}
 
--- an answer of a list is of the world that the events before it leave
+-- an answer of a list is the answer in the world that the events before it leave
 pub answered_at : (w : World) (events : List Event) (i : ℕ) (reply : Answer) →
     slice_get (event_answers w events) i ≡ Some reply → IsAnsweredAt w events i reply
 unfolding event_answers
@@ -64,7 +64,7 @@ lives_on w (Detach other component) entity lives = inl (by (may_have w other com
     by true = lives
     by false = lives
 
--- so a living entity is spawned only after its removal
+-- so a living entity is spawned again only after its removal
 removed_first : (w : World) (events : List Event) (entity : ℕ) → w.alive.has entity ≡ true →
     (j : ℕ) → slice_get (event_answers w events) j ≡ Some (Spawned entity) →
     (k : ℕ) × (k < j) × (slice_get events k ≡ Some (Remove entity))
@@ -100,7 +100,7 @@ removed_between w (event ∷ events) entity (suc i) (suc j) h a b =
     (suc later.0, omega (arith, later.1), omega (arith, later.2), later.3)
 
 module _ (entity component : ℕ) where
-  -- an event takes the component from the entity, if it has it
+  -- the event removes the entity, or detaches the component from it
   abbrev Takes : Event → Type 0
   Takes event = (event ≡ Remove entity) ⊎ (event ≡ Detach entity component)
 
@@ -123,7 +123,7 @@ module _ (entity component : ℕ) where
         ]
       ]
 
-  -- after an event that takes it the entity does not have it
+  -- after such an event the entity does not have the component
   taken : (w : World) (event : Event) → IsWorld w → Takes event →
       (world_after w event).has entity component ≡ false
   taken w event is (inl e) =
@@ -148,7 +148,7 @@ module _ (entity component : ℕ) where
           let may : may_have w entity component ≡ true = rw (there, lives) refl in
           absurd (true≢false (sym may ∙ m))
 
-  -- an entity has what it did not have because it was given it
+  -- if an entity gets a component that it did not have, the event attached the component
   given : (w : World) (event : Event) → w.has entity component ≡ false →
       (world_after w event).has entity component ≡ true →
       (event ≡ Attach entity component) × (answer_to w event ≡ Done)
@@ -191,7 +191,7 @@ module _ (entity component : ℕ) where
           (ap (λ k. Attach k another) (sym one) ∙ ap (Attach entity) (sym same), refl)
       by false e = absurd (true≢false (sym e ∙ lacks))
 
-  -- it keeps what no event takes
+  -- an entity keeps a component that the event does not take
   kept : (w : World) (event : Event) → w.has entity component ≡ true → Leaves event →
       (world_after w event).has entity component ≡ true
   kept w Spawn has leaves = by (least_dead w)
@@ -237,7 +237,7 @@ module _ (entity component : ℕ) where
   NoneTakes events = (j : ℕ) → (slice_get events j ≢ Some (Remove entity))
       × (slice_get events j ≢ Some (Detach entity component))
 
-  -- and so to the end of a list
+  -- an entity keeps a component to the end of a list in which no event takes it
   kept_to_end : (w : World) (events : List Event) → w.has entity component ≡ true →
       NoneTakes events → (final_world w events).has entity component ≡ true
   unfolding final_world
@@ -275,7 +275,8 @@ module _ (entity component : ℕ) where
         not_detached = λ j h. from.not_detached (suc j) (omega (arith, h));
       })
 
-  -- it has at the end what it had and none took, or what it was given and none took since
+  -- if an entity has a component at the end, it had it at first or was given it, and no event took
+  -- it since
   had_or_given : (w : World) (events : List Event) → IsWorld w →
       (final_world w events).has entity component ≡ true →
       ((w.has entity component ≡ true) × NoneTakes events)

@@ -6,7 +6,7 @@ use Rattle.bittle.specs.PlainSet.{PlainSet, ascending, complement, lacks}
 use Rattle.bittle.specs.Searches.{IsFirstIn}
 use Rattle.bittle.proofs.CallerLists.{ascending_none, ascending_first}
 
--- a search through all numbers finds the first of the increasing list
+-- a search of all numbers finds the first item of the increasing list
 pub first_listed : (s : PlainSet) (end : ℕ) (found : Option ℕ) → end ≡ s.capacity →
     IsFirstIn s 0 end found → found ≡ slice_get (ascending s) 0
 first_listed s end found e first =
@@ -28,7 +28,7 @@ first_listed s end found e first =
           ]
         ]
 
--- what the list begins with is the first of all
+-- the first item of the increasing list is the first member
 pub listed_first : (s : PlainSet) (found : Option ℕ) → slice_get (ascending s) 0 ≡ found →
     IsFirstIn s 0 s.capacity found
 listed_first s found e = subst (IsFirstIn s 0 s.capacity) e (by (ascending s) refl)

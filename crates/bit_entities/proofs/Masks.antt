@@ -1,4 +1,4 @@
--- A mask and a row of masks of which one is changed, and what that makes of a world.
+-- A change of one mask, alone or in a row of masks, and the world after it.
 use Rattle.std.proofs.Common.{◌≡◌, ℕ, ◌+◌, ◌<◌, Bool, true, false, not, cond, ◌&&◌, ◌||◌, ◌==◌, nat_lt, Some, List, length, set, inl, inr, refl, sym, ap, ◌∙◌, arith}
 use Rattle.std.specs.Prelude.{slice_get}
 use Rattle.std.proofs.lemmas.Bool.{cases_eq, cases_lt, eq-eqb, ne_eqb, lt-ltb, le-ltb}
@@ -7,7 +7,7 @@ use Rattle.bittle.proofs.CallerSets.{with_index_within, without_index_within}
 use Rattle.bittle.proofs.CallerTables.{slice_get_set_same, slice_get_set_other}
 use Rattle.bit_entities.specs.Entities.{World, world_of, is_in, with_number, with_component, without_first}
 
--- a number below the capacity that is put in, and one that is taken out
+-- below the capacity, `with_index` and `without_index` are `with_number`
 pub put_in : (s : PlainSet) (i : ℕ) → i < s.capacity → with_index s i ≡ with_number s i true
 put_in s i h = with_index_within s i h ∙ (λ j. record {
   capacity = s.capacity;
@@ -28,13 +28,13 @@ taken_out s i h = without_index_within s i h ∙ (λ j. record {
     by true b = refl
     by false b = refl
 
--- it is in the set then, or is not
+-- after `with_number`, the test of the number is `is`
 pub number_now : (s : PlainSet) (i : ℕ) (is : Bool) (t : PlainSet) → t ≡ with_number s i is →
     t.has i ≡ is
 number_now s i is t e =
     ap (λ u. u.has i) e ∙ ap (λ b. cond b is (s.has i)) (eq-eqb i i refl)
 
--- the world of a row of masks in which an entity was put into one, or taken out of it
+-- the world of a row of masks after an entity was put into one mask, or taken out of it
 module _ {X : Type 0} (count : ℕ) (set_of : X → PlainSet) (alive : X) (masks : List X)
     (entity component : ℕ) (is : Bool) (x y : X) (inside : component < length masks)
     (at : slice_get masks component ≡ Some x)
@@ -70,7 +70,7 @@ module _ {X : Type 0} (count : ℕ) (set_of : X → PlainSet) (alive : X) (masks
     has = λ k c. each k c i;
   }
 
--- an entity that has lost the first components, and then the next
+-- an entity that has lost its first components, and then loses the next one
 pub one_more_lost : (w : World) (entity many : ℕ) →
     with_component (without_first w entity many) entity many false
     ≡ without_first w entity (many + 1)

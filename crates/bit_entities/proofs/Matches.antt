@@ -10,7 +10,7 @@ use Rattle.bittle.specs.SetOperations.{conjunction_of, combination_has}
 use Rattle.bittle.proofs.CallerSets.{combination_within}
 use Rattle.bit_entities.specs.Entities.{World, IsWorld, EndsAtCapacity, matching, having, LeadsTo}
 
--- a mask and that of a component
+-- the conjunction of a mask and the mask of a component is `having`
 pub kept_by_mask : (w : World) (s t : PlainSet) (component : ℕ) → s.capacity ≡ t.capacity →
     EndsAtCapacity s → ((k : ℕ) → t.has k ≡ w.has k component) →
     conjunction_of s t ≡ having w s component
@@ -27,7 +27,7 @@ kept_by_mask w s t component same past is =
           let none = past k g in rw (out, none) refl
     ]
 
--- where there is no such component none has it
+-- if there is no such component, no entity has it
 pub kept_by_none : (w : World) (s : PlainSet) (component c : ℕ) → c ≡ s.capacity →
     ((k : ℕ) → w.has k component ≡ false) → empty_set c ≡ having w s component
 kept_by_none w s component c same none =
@@ -40,7 +40,7 @@ kept_by_none w s component c same none =
         by true b e = sym e
         by false b e = refl
 
--- one component more is required
+-- `matching`, with one more required component
 pub matching_more : (w : World) (required : List ℕ) (i d : ℕ) → i < length required →
     having w (matching w (take i required)) (get_or required i d)
     ≡ matching w (take (i + 1) required)
@@ -55,7 +55,7 @@ matching_more w required i d h = λ j. record {
     by true b c = refl
     by false b c = refl
 
--- where none is required all the living match
+-- if no component is required, all living entities match
 pub matching_none : (w : World) → w.alive ≡ matching w []
 matching_none w = λ j. record { capacity = w.alive.capacity; has = λ k. by (w.alive.has k) j }
   where
@@ -71,7 +71,7 @@ matching_ends w required is k h = elim (cases_Bool (w.alive.has k)) [
   | inr dead ↦ ap (λ b. b && list_all (w.has k) required) dead
 ]
 
--- what matches is in the mask of the first component that is required
+-- each entity that matches is in the mask of the first required component
 pub first_leads : (w : World) (required : List ℕ) (component : ℕ) (mask : PlainSet) → IsWorld w →
     0 < length required → get_or required 0 component ≡ component →
     ((k : ℕ) → mask.has k ≡ w.has k component) → LeadsTo w required mask
@@ -87,7 +87,7 @@ first_leads w required component mask is some first has = record {
   are_alive = λ k e. is.dead_have_nothing k component (sym (has k) ∙ e);
 }
 
--- where there is no such component none matches
+-- if there is no such component, no entity matches
 pub first_is_none : (w : World) (required : List ℕ) (component : ℕ) → 0 < length required →
     get_or required 0 component ≡ component → ((k : ℕ) → w.has k component ≡ false) → (k : ℕ) →
     (matching w required).has k ≡ false

@@ -1,5 +1,5 @@
--- What each change keeps of a world: no dead entity has a component, and each living one is below
--- the capacity.
+-- What each change keeps of a world: no dead entity has a component, and each living entity is
+-- below the capacity.
 use Rattle.std.proofs.Common.{◌≡◌, ℕ, zero, suc, ◌<◌, ◌≤◌, Bool, true, false, cond, ◌&&◌, ◌==◌, nat_lt, inl, inr, refl, sym, ap, ◌∙◌, arith}
 use Rattle.std.proofs.Math.ListN.{replicate}
 use Rattle.std.specs.Prelude.{slice_get}
@@ -11,11 +11,11 @@ use Rattle.bit_entities.specs.Entities.{World, IsWorld, EndsAtCapacity, is_in, w
 abbrev pub with_alive : World → PlainSet → World
 with_alive w alive = record { alive = alive; components = w.components; has = w.has }
 
--- what a number's test is where it is that of another
+-- after a change for the number i, the test of another number is the old one
 test_other : (k i : ℕ) (is r : Bool) → cond (k == i) is r ≡ true → (k ≡ i → ⊥) → r ≡ true
 test_other k i is r e apart = sym (ap (λ b. cond b is r) (ne_eqb k i apart)) ∙ e
 
--- what is left where some was taken
+-- what is left was not taken, and was there before
 pub left : (a r : Bool) → cond a false r ≡ true → (a ≡ false) × (r ≡ true)
 left true r e = absurd (true≢false (sym e))
 left false r e = (refl, e)
@@ -28,7 +28,7 @@ dead_lacks w entity is dead component = elim (cases_Bool (w.has entity component
   | inr lacks ↦ lacks
 ]
 
--- and each lacks what is no component
+-- each entity lacks a number that is no component
 pub no_other : (w : World) → IsWorld w → (entity component : ℕ) → w.components ≤ component →
     w.has entity component ≡ false
 no_other w is entity component h = elim (cases_Bool (w.has entity component)) [
@@ -36,7 +36,7 @@ no_other w is entity component h = elim (cases_Bool (w.has entity component)) [
   | inr lacks ↦ lacks
 ]
 
--- a row of masks in which nothing is gives an entity no component
+-- a row of empty masks gives no entity a component
 nothing_in : {X : Type 0} (set_of : X → PlainSet) (none : X) (entity : ℕ) →
     (set_of none).has entity ≡ false → (count component : ℕ) →
     is_in set_of (slice_get (replicate count none) component) entity ≡ false
@@ -55,7 +55,7 @@ bare_is count set_of alive none empty = λ i. record {
   has = λ k c. nothing_in set_of none k (empty k) count c i;
 }
 
--- a bare world is one, if no number past the capacity is alive
+-- `IsWorld` holds for a bare world if no number past the capacity is alive
 pub bare_is_world : (alive : PlainSet) (count : ℕ) → EndsAtCapacity alive →
     IsWorld (bare_world alive count)
 bare_is_world alive count ends = record {
@@ -67,7 +67,7 @@ bare_is_world alive count ends = record {
   components_are_below = λ k c e. absurd (true≢false (sym e));
 }
 
--- an entity below the capacity may live
+-- `IsWorld` still holds after an entity below the capacity becomes alive
 pub living_is_world : (w : World) (entity : ℕ) → IsWorld w → entity < w.alive.capacity →
     IsWorld (with_living w entity)
 living_is_world w entity is below = record {
@@ -83,7 +83,7 @@ living_is_world w entity is below = record {
     by true b e = refl
     by false b e = e
 
--- components may be lost
+-- `IsWorld` still holds after an entity loses components
 pub losing_is_world : (w : World) (entity many : ℕ) → IsWorld w →
     IsWorld (without_first w entity many)
 losing_is_world w entity many is = record {
@@ -94,7 +94,7 @@ losing_is_world w entity many is = record {
       (left ((k == entity) && nat_lt c many) (w.has k c) e).1;
 }
 
--- an entity may go with its components
+-- `IsWorld` still holds after an entity is removed with its components
 pub going_is_world : (w : World) (entity : ℕ) → IsWorld w → IsWorld (without_entity w entity)
 going_is_world w entity is = record {
   dead_have_nothing = λ k c e.
@@ -106,7 +106,7 @@ going_is_world w entity is = record {
       is.components_are_below k c (left (k == entity) (w.has k c) e).1;
 }
 
--- a living entity may have a component, or have it no longer
+-- `IsWorld` still holds after a living entity gets or loses a component
 pub having_is_world : (w : World) (entity component : ℕ) (has : Bool) → IsWorld w →
     component < w.components → w.alive.has entity ≡ true →
     IsWorld (with_component w entity component has)
@@ -128,7 +128,8 @@ having_is_world w entity component has is below lives = record {
     elsewhere true b r off e = sym (ap (λ t. cond t has r) off) ∙ e
     elsewhere false b r off e = e
 
--- where each component is lost, and the entity is alive no longer, the entity is gone
+-- a world in which an entity lost each component and is no longer alive is the world without the
+-- entity
 pub all_lost : (w : World) (entity : ℕ) → IsWorld w → (t : World) →
     t ≡ without_first w entity w.components → (alive : PlainSet) →
     alive ≡ with_number t.alive entity false →
@@ -167,14 +168,14 @@ pub now_lives : (w : World) (entity : ℕ) (alive : PlainSet) →
     with_alive w alive ≡ with_living w entity
 now_lives w entity alive e = ap (with_alive w) e
 
--- what may have a component: there is one, and the entity is alive
+-- the parts of `may_have`: there is such a component, and the entity is alive
 pub may_parts : (w : World) (entity component : ℕ) → may_have w entity component ≡ true →
     (component < w.components) × (w.alive.has entity ≡ true)
 may_parts w entity component e =
     let parts = and_parts (nat_lt component w.components) (w.alive.has entity) e in
     (ltb-true component w.components parts.0, parts.1)
 
--- what was asked for a component is how it is
+-- after `with_component`, the test of the component is `is`
 pub has_now : (w : World) (entity component : ℕ) (is : Bool) (t : World) →
     t ≡ with_component w entity component is → t.has entity component ≡ is
 has_now w entity component is t e =

@@ -15,8 +15,8 @@ pub record World : Type 0 where
   pub components : ℕ
   pub has : ℕ → ℕ → Bool
 
--- no dead entity has a component; the components are below their number, and the living below the
--- capacity
+-- no dead entity has a component; each component is below the number of components, and each living
+-- entity is below the capacity
 pub record IsWorld (w : World) : Type 0 where
   pub dead_have_nothing : (entity component : ℕ) → w.has entity component ≡ true →
       w.alive.has entity ≡ true

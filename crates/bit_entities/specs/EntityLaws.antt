@@ -1,4 +1,4 @@
--- What the entity machine keeps, whatever happens.
+-- Laws of the entity machine, for all events.
 use Rattle.std.specs.List.{fold}
 use Rattle.std.specs.Prelude.{◌≡◌, ◌≢◌, ℕ, suc, ◌<◌, ◌⊎◌, ◌↔◌, true, false, Some, List, [], ◌∷◌, slice_get, take}
 use Rattle.bittle.specs.PlainSet.{PlainSet, ascending}
@@ -13,7 +13,7 @@ use Rattle.bit_entities.specs.declared.Answer.TheVariants.{Spawned, Full, Done, 
 abbrev pub WorldsStayWorlds : Type 0
 WorldsStayWorlds = (w : World) (events : List Event) → IsWorld w → IsWorld (final_world w events)
 
--- from a new world on no dead entity ever has a component
+-- in a world that began as a new world, no dead entity ever has a component
 abbrev pub DeadHaveNothing : Type 0
 DeadHaveNothing =
     (capacity count : ℕ) (events : List Event)

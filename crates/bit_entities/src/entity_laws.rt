@@ -1,6 +1,7 @@
 //! The main theorems of entities: what holds of every list of events. Each function does nothing:
-//! its contract is the law. The laws speak of the machine of `specs/Entities.antt`, which `serve`
-//! runs by its contract, and of `matching`, which the call `matching` returns.
+//! its contract is the law. The laws speak of the machine in `specs/Entities.antt`. The contract of
+//! `serve` states that it runs this machine. They also speak of `matching`, the set that the call
+//! `matching` returns.
 
 ghost use Rattle.bit_entities.specs.EntityLaws.{WorldsStayWorlds, DeadHaveNothing, SpawnedAreNew};
 ghost use Rattle.bit_entities.specs.EntityLaws.{FullExactlyIfAllAreAlive, RefusedChangesNothing};
@@ -12,7 +13,7 @@ pub fn worlds_stay_worlds()
     ensures { WorldsStayWorlds }
 {}
 
-/// States that from a new world on no dead entity ever has a component.
+/// States that in a world that began as a new world, no dead entity ever has a component.
 pub fn dead_have_nothing()
     ensures { DeadHaveNothing }
 {}

@@ -123,9 +123,9 @@ impl<B: BitsOwned, const N: usize> World<B, N> {
         }
     }
 
-    /// Makes the least number that is not alive an entity with no component, and returns it. If all
-    /// are alive, it returns `None` and changes nothing. It reads the words up to the one that has
-    /// the number.
+    /// Makes the least number that is not alive an entity without components, and returns it. If
+    /// all are alive, it returns `None` and changes nothing. It reads the words up to the one that
+    /// has the number.
     pub fn spawn(&mut self) -> Option<u32>
         ensures entity { result ≡ least_dead (world_of N (set_in B.Shape B.Order.Endian)
             self.old.alive self.old.components) }
@@ -234,8 +234,8 @@ impl<B: BitsOwned, const N: usize> World<B, N> {
         }
     }
 
-    /// Serves the events in their order, and writes an answer to each. There are as many answers as
-    /// events.
+    /// Serves the events in their order, and writes an answer to each. `answers` has to be as long
+    /// as `events`.
     pub fn serve(&mut self, events: &[Event], answers: &mut [Answer])
         requires { length answers.old ≡ length events.now }
         ensures answers { answers.new ≡ event_answers (world_of N (set_in B.Shape B.Order.Endian)

@@ -43,7 +43,8 @@ impl<B: BitsOwned, const N: usize> World<B, N> {
 
     /// Returns the least living entity, from the number `from` on, that has each of the components,
     /// or `None`. From the capacity on there is no entity. It reads the words of the first
-    /// component's mask up to the answer, and tests a bit of each other mask for each entity there.
+    /// component's mask up to the answer. For each entity there it tests one bit of each mask, up
+    /// to a mask that lacks the entity.
     pub fn first_with(&self, required: &[u32], from: u32) -> Option<u32>
         ensures first { IsFirstIn (matching
             (world_of N (set_in B.Shape B.Order.Endian) self.now.alive self.now.components)

@@ -1,4 +1,4 @@
--- The first run of free pages, and whether a run is taken whole.
+-- The first run of free pages, and whether each page of a run is taken.
 use Rattle.std.proofs.Common.{◌≡◌, ℕ, zero, suc, ◌+◌, ◌-◌, ◌<◌, ◌≤◌, Bool, true, false, not, nat_le, Option, Some, None, inl, inr, refl, sym, ap, ◌∙◌, arith}
 use Rattle.std.proofs.lemmas.Bool.{cases_eq, cases_lt, le-leb, leb-true, not-true, not-false, and_parts, or_parts, true≢false}
 use Rattle.std.specs.Prelude.{MatchOption}
@@ -10,7 +10,7 @@ use Rattle.bit_pages.proofs.LeastFree.{AllTakenFrom, IsFoundFrom, least_free_fro
 use Rattle.bit_pages.proofs.RunCounts.{run_is_free}
 
 module _ (test : ℕ → Bool) where
-  -- of numbers of which none passes each does not
+  -- if none of the n numbers passes, each fails the test
   pub none_pass : (from n : ℕ) → has_some test from n ≡ false → (k : ℕ) → from ≤ k →
       k < from + n → test k ≡ false
   unfolding has_some
@@ -22,7 +22,7 @@ module _ (test : ℕ → Bool) where
         | inr apart ↦ none_pass (suc from) n parts.1 k (omega arith) (omega arith)
       ]
 
-  -- where each does not pass, none does
+  -- if each of the n numbers fails the test, none passes
   pub pass_none : (from n : ℕ) → ((k : ℕ) → from ≤ k → k < from + n → test k ≡ false) →
       has_some test from n ≡ false
   unfolding has_some
@@ -36,7 +36,7 @@ module _ (s : PlainSet) (n : ℕ) where
   abbrev taken_from : ℕ → Bool
   taken_from first = has_some s.has first n
 
-  -- what is found is the first run of free pages
+  -- `first_free_run` finds the first run of free pages
   pub first_free_run-is : IsFirstRun (complement s) 0 n (first_free_run s n)
   first_free_run-is = by (first_free_run s n)
       (least_free_from-is taken_from 0 (suc s.capacity - n))
@@ -77,12 +77,12 @@ one_first t n (Some i) (Some j) a b = elim (cases_lt i j) [
   ]
 ]
 
--- what a search finds is it
+-- a search for the first run finds what the machine finds
 pub first_run_is : (s : PlainSet) (n : ℕ) (r : Option ℕ) → IsFirstRun (complement s) 0 n r →
     r ≡ first_free_run s n
 first_run_is s n r is = one_first (complement s) n r (first_free_run s n) is (first_free_run-is s n)
 
--- and the state after it is that of the machine
+-- the state after the run was taken is that of the machine
 pub run_state : (s t : PlainSet) (n : ℕ) (r : Option ℕ) → IsFirstRun (complement s) 0 n r →
     MatchOption r (t ≡ s) (λ first. t ≡ with_span s first (first + n)) →
     t ≡ with_run s n (first_free_run s n)
@@ -91,7 +91,7 @@ run_state s t n (Some first) is after =
     after ∙ ap (with_run s n) (first_run_is s n (Some first) is)
 
 module _ (s : PlainSet) (first n : ℕ) where
-  -- a run is taken whole just where the machine finds it so
+  -- each page of a run is taken exactly if the machine finds so
   pub run_taken : is_run_taken s first n ≡ true → IsRun s n first
   run_taken e =
       let parts = and_parts (nat_le (first + n) s.capacity)
@@ -107,7 +107,7 @@ module _ (s : PlainSet) (first n : ℕ) where
       let none = pass_none (λ page. not (s.has page)) first n
       (λ k p q. ap not (run.1 k p q)) in rw (within, none) refl
 
-  -- so the answer of a call that tests it, and the state after it, are those of the machine
+  -- the answer of a call that tests the run, and the state after the call, are those of the machine
   pub run_answer : (b : Bool) → (b ≡ true → IsRun s n first) → (IsRun s n first → b ≡ true) →
       b ≡ is_run_taken s first n
   run_answer true is back = sym (taken_run (is refl))

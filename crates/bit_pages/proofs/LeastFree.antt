@@ -1,4 +1,4 @@
--- The least free page, and how a walk over the free pages finds it.
+-- The least free page, and how a search of the free pages finds it.
 use Rattle.std.proofs.Common.{◌≡◌, ℕ, zero, suc, ◌+◌, ◌<◌, ◌≤◌, ◌⊎◌, Bool, true, false, ◌&&◌, cond, nat_lt, Option, Some, None, inl, inr, refl, sym, ap, ◌∙◌, arith}
 use Rattle.std.proofs.lemmas.Bool.{cases_eq, cases_Bool, cases_lt, lt-ltb, ltb-true, not-true, not-false, and_parts, true≢false}
 use Rattle.std.specs.Prelude.{MatchOption}
@@ -8,11 +8,11 @@ use Rattle.bittle.proofs.CallerSets.{contains_within, complement_within, size_fu
 use Rattle.bit_pages.specs.PageLaws.{IsLeastFree}
 use Rattle.bit_pages.specs.Pages.{is_taken, least_free_from, least_free}
 
--- each of the n pages from a page on is taken
+-- each of the n pages from `from` on is taken
 abbrev pub AllTakenFrom : (ℕ → Bool) → ℕ → ℕ → Type 0
 AllTakenFrom taken from n = (k : ℕ) → from ≤ k → k < from + n → taken k ≡ true
 
--- p is the least free one of the n pages from a page on
+-- p is the least free page of the n pages from `from` on
 pub record IsFoundFrom (taken : ℕ → Bool) (from n p : ℕ) : Type 0 where
   pub from_one_on : from ≤ p
   pub within : p < from + n
@@ -54,7 +54,7 @@ least_free_from-is taken from (suc n) = by (cases_Bool (taken from))
           taken_below = λ k p q. absurd (omega arith);
         })
 
--- the least free page, or that all are taken
+-- `least_free` is the least free page, or None if all pages are taken
 pub least_free-is : (s : PlainSet) → MatchOption (least_free s) ((k : ℕ) → k < s.capacity →
     s.has k ≡ true) (IsLeastFree s)
 least_free-is s = by (least_free s) (least_free_from-is s.has 0 s.capacity)
@@ -99,7 +99,7 @@ least_free-first s p first = by (least_free s) (least_free-is s)
     by None all = absurd (true≢false (sym (all p found.within) ∙ found.is_free))
     by (Some q) least = ap Some (one_least s q p least found)
 
--- where no page is free there is no least one
+-- if no page is free, `least_free` is None
 pub least_free-none : (s : PlainSet) → NoneIn (complement s) 0 s.capacity → least_free s ≡ None
 least_free-none s none = by (least_free s) (least_free-is s)
   where
@@ -111,7 +111,7 @@ least_free-none s none = by (least_free s) (least_free-is s)
         (sym (complement_within s q least.within) ∙ none q (omega arith) least.within))
         ∙ least.is_free))
 
--- what a search over all pages finds is the least free one
+-- a search over all pages finds the least free page
 pub least_free-search : (s : PlainSet) (end : ℕ) (r : Option ℕ) → end ≡ s.capacity →
     IsFirstIn (complement s) 0 end r → least_free s ≡ r
 least_free-search s end None e none = least_free-none s (λ k p q. none k p (omega (arith, e, q)))
@@ -122,15 +122,15 @@ least_free-search s end (Some p) e first =
 pub is_taken-within : (s : PlainSet) (p : ℕ) → p < s.capacity → is_taken s p ≡ contains s p
 is_taken-within s p h = ap (λ b. b && s.has p) (lt-ltb p s.capacity h) ∙ sym (contains_within s p h)
 
--- what is taken is a page
+-- a number that is taken is a page
 pub taken-within : (s : PlainSet) (p : ℕ) → is_taken s p ≡ true → p < s.capacity
 taken-within s p h = ltb-true p s.capacity (and_parts (nat_lt p s.capacity) (s.has p) h).0
 
--- and a member of the set of those that are taken
+-- a number that is taken is a member of the set
 pub taken-member : (s : PlainSet) (p : ℕ) → is_taken s p ≡ true → s.has p ≡ true
 taken-member s p h = (and_parts (nat_lt p s.capacity) (s.has p) h).1
 
--- where all pages are taken none is the least free one
+-- if all pages are taken, `least_free` is None
 pub least_free-full : (s : PlainSet) → size s ≡ s.capacity → least_free s ≡ None
 least_free-full s full = by (least_free s) (least_free-is s)
   where

@@ -1,5 +1,5 @@
--- What follows from the page machine for every history: whose state an answer is of, how many pages
--- are taken, and which are outstanding.
+-- What follows from the page machine for every history: to which state an answer belongs, how many
+-- pages are taken, and which are outstanding.
 use Rattle.std.proofs.Common.{◌≡◌, ◌≢◌, ℕ, zero, suc, ◌+◌, ◌<◌, ◌≤◌, Bool, true, false, not, cond, ◌&&◌, ◌||◌, ◌==◌, Option, Some, None, List, [], ◌∷◌, ◌++◌, inl, inr, refl, sym, ap, ◌∙◌, arith}
 use Rattle.std.specs.List.{filter, list_any, IsDistinct, AllByRecursion}
 use Rattle.std.proofs.lemmas.Cmp.{nat_eq_equiv}
@@ -23,7 +23,7 @@ use Rattle.bit_pages.proofs.LeastFree.{least_free-is}
 use Rattle.bit_pages.proofs.PageSteps.{step}
 use Rattle.bit_pages.proofs.RunCounts.{run_is_free}
 
--- an answer of a run is of the state that the requests before it leave
+-- an answer of a run is the answer in the state that the requests before it leave
 pub answered_at : (s : PlainSet) (requests : List Request) (i : ℕ) (a : Answer) →
     slice_get (request_answers s requests) i ≡ Some a → IsAnsweredAt s requests i a
 unfolding request_answers final_state
@@ -40,7 +40,7 @@ answered_at s (request ∷ requests) (suc i) a e =
       answered = later.answered;
     }
 
--- a list of requests counts
+-- the pages of a list of requests add up, as `PagesAreCounted` states
 pub counted : (s : PlainSet) (requests : List Request) →
     size (final_state s requests) + total pages_back requests (request_answers s requests)
     ≡ size s + total pages_given requests (request_answers s requests)
@@ -49,14 +49,14 @@ counted s [] = refl
 counted s (request ∷ requests) =
     omega (arith, (step s request).counts, counted (state_after s request) requests)
 
--- of what a test finds a filter keeps what passes
+-- a filtered list has a page if the list has it and the filter keeps it
 kept_by : (goes : ℕ → Bool) (q : ℕ) (held : List ℕ) →
     list_any (◌==◌ q) (filter (λ p. not (goes p)) held)
     ≡ (not (goes q) && list_any (◌==◌ q) held)
 kept_by goes q held = any-filter_same (◌==◌ q) (λ p. not (goes p)) (not (goes q))
     (λ k e. ap (λ n. not (goes n)) (sym (eqb-true q k e))) held
 
--- what a page differs from it differs from under a filter
+-- a page that differs from each page of a list differs from each page of the filtered list
 filter_apart : (test : ℕ → Bool) (page : ℕ) (held : List ℕ) →
     AllByRecursion (λ p. (page == p) ≡ false) held →
     AllByRecursion (λ p. (page == p) ≡ false) (filter test held)
@@ -85,13 +85,13 @@ filter_distinct test (p ∷ held) d =
         (filter_apart test p held (IsDistinct-head ◌==◌ p held d)) rest
     by false rest = rest
 
--- what is in a list with one page more
+-- which pages a list with one more page has
 any_push : (q page : ℕ) (held : List ℕ) →
     list_any (◌==◌ q) (held ++ page ∷ []) ≡ (list_any (◌==◌ q) held || (q == page))
 any_push q page held = list_any-append (◌==◌ q) held (page ∷ [])
     ∙ ap (λ b. list_any (◌==◌ q) held || b) (or-false (q == page))
 
--- so many pages more from one on are in it then
+-- which pages a list with n more pages from `first` on has
 any_with : (q : ℕ) (held : List ℕ) (first n : ℕ) → list_any (◌==◌ q) (held_with held first n)
     ≡ (is_in_span first (first + n) q || list_any (◌==◌ q) held)
 any_with q held first zero =
@@ -132,7 +132,7 @@ any_with q held first (suc n) = any_with q (held ++ first ∷ []) (suc first) n
       ]
     ]
 
--- pages that are not held are distinct from those that are, and from one another
+-- if n more pages are held that were not held before, the pages stay distinct
 with_distinct : (held : List ℕ) (first n : ℕ) → IsDistinct ◌==◌ held →
     ((k : ℕ) → first ≤ k → k < first + n → list_any (◌==◌ k) held ≡ false) →
     IsDistinct ◌==◌ (held_with held first n)
@@ -143,13 +143,13 @@ with_distinct held first (suc n) d none =
     (λ k p q. any_push k first held ∙ or_from (list_any (◌==◌ k) held) (k == first)
     (none k (omega arith) (omega arith)) (ne_eqb k first (λ e. absurd (omega arith))))
 
--- what is kept after two requests
+-- a page is kept after two requests if neither gives it back
 kept_twice : (kept one more : Bool) → ((kept && not one) && not more) ≡ (kept && not (one || more))
 kept_twice false one more = refl
 kept_twice true true more = refl
 kept_twice true false more = refl
 
--- a page is taken by whether it is given, held, or kept
+-- two forms of whether a page is taken, by whether it is handed out, given back, held or kept
 still_taken : (out back held kept : Bool) →
     (out || (not back && (held || kept))) ≡ ((out || (not back && held)) || (kept && not back))
 still_taken true back held kept = refl
@@ -159,7 +159,7 @@ still_taken false false true kept = refl
 still_taken false false false true = refl
 still_taken false false false false = refl
 
--- what is held and was given or kept before is not kept after
+-- a page that is held after a request is not kept after it
 still_apart : (out back held kept : Bool) → (out ≡ true → (held || kept) ≡ false) →
     (held ≡ true → kept ≡ false) → (out || (not back && held)) ≡ true →
     (kept && not back) ≡ false
@@ -169,19 +169,19 @@ still_apart true false held true free apart e =
     let none = or_parts held true (free refl) in absurd (true≢false none.1)
 still_apart false false held true free apart e = absurd (true≢false (apart e))
 
--- the pages that are held, and those that were taken before and are kept, are those that are taken
+-- the pages that are taken are those that are held, and those that were taken before and are kept
 record AreHeld (s : PlainSet) (held : List ℕ) (kept : ℕ → Bool) : Type 0 where
   distinct : IsDistinct ◌==◌ held
   apart : (page : ℕ) → list_any (◌==◌ page) held ≡ true → kept page ≡ false
   taken : (page : ℕ) → s.has page ≡ (list_any (◌==◌ page) held || kept page)
 
--- a list that has what was held, with what is given and without what comes back
+-- `after` has the pages that were held and those handed out, without those that come back
 record AreHeldAfter (held after : List ℕ) (out back : ℕ → Bool) : Type 0 where
   distinct : IsDistinct ◌==◌ after
   any : (page : ℕ) → list_any (◌==◌ page) after
       ≡ (out page || (not (back page) && list_any (◌==◌ page) held))
 
--- where nothing comes back and nothing is given, it is what was held
+-- if no page is handed out and none comes back, the same pages are held
 same_held : (held : List ℕ) (back : ℕ → Bool) → ((page : ℕ) → back page ≡ false) →
     IsDistinct ◌==◌ held → AreHeldAfter held held (λ _. false) back
 same_held held back none d = record {
@@ -197,9 +197,9 @@ all_back : (b : Bool) → (b && true) ≡ b
 all_back true = refl
 all_back false = refl
 
--- so is what is held after each request
+-- the pages that are held after each request
 module _ (s : PlainSet) (held : List ℕ) (kept : ℕ → Bool) (h : AreHeld s held kept) where
-  -- what is given was not held
+  -- a page that is free is not held
   not_held : (page : ℕ) → s.has page ≡ false → list_any (◌==◌ page) held ≡ false
   not_held page e =
       (or_parts (list_any (◌==◌ page) held) (kept page) (sym (h.taken page) ∙ e)).0
@@ -248,7 +248,7 @@ module _ (s : PlainSet) (held : List ℕ) (kept : ℕ → Bool) (h : AreHeld s h
   held_next (TakeRun n) = held_run n (first_free_run s n) (first_free_run-is s n)
   held_next (GiveBackRun f n) = held_back (GiveBackRun f n) (is_run_taken s f n)
 
-  -- a request keeps that they are those that are taken
+  -- `AreHeld` still holds after a request
   held_on : (request : Request) →
       AreHeld (state_after s request) (held_after held request (answer_to s request))
       (λ page. kept page && not (gives_back s request page))
@@ -267,7 +267,7 @@ module _ (s : PlainSet) (held : List ℕ) (kept : ℕ → Bool) (h : AreHeld s h
             ∙ ap (λ b. b || (kept page && not (back page))) (sym (next.any page));
       }
 
--- so does a run
+-- `AreHeld` still holds after a run
 held_on_run : (s : PlainSet) (held : List ℕ) (kept : ℕ → Bool) (requests : List Request) →
     AreHeld s held kept →
     AreHeld (final_state s requests) (held_after_run held s requests)

@@ -14,7 +14,7 @@ use Rattle.bit_pages.proofs.FreeRuns.{first_free_run-is}
 use Rattle.bit_pages.proofs.LeastFree.{least_free-is}
 use Rattle.bit_pages.proofs.PageSteps.{IsTaken, given_was_free, page_is_taken, stays_taken}
 
--- what a request to give back is answered
+-- a request to give back has no answer but `Given` and `NotTaken`
 given_is_no_page : (b : Bool) (page : ℕ) → cond b answer.Given answer.NotTaken ≡ answer.Page page →
     ⊥
 given_is_no_page true page e = cc
@@ -33,7 +33,7 @@ given_is_not_none : (b : Bool) → cond b answer.Given answer.NotTaken ≡ answe
 given_is_not_none true e = cc
 given_is_not_none false e = cc
 
--- and a request for a page, and for a run
+-- a request for a page has no answer of a request for a run, and the reverse
 page_is_no_run : (o : Option ℕ) (first : ℕ) → page_or_full o ≡ answer.Run first → ⊥
 page_is_no_run None first e = cc
 page_is_no_run (Some p) first e = cc
@@ -64,7 +64,7 @@ page_is_least s (TakeRun n) page = λ e. absurd (run_is_no_page (first_free_run 
 page_is_least s (GiveBackRun f n) page =
     λ e. absurd (given_is_no_page (is_run_taken s f n) page e)
 
--- an answered run is the first of so many free pages
+-- an answered run is the first run of free pages of the length that was asked for
 pub run_is_first : (s : PlainSet) (request : Request) (first : ℕ) →
     answer_to s request ≡ answer.Run first →
     (n : ℕ) × (request ≡ TakeRun n) × IsFirstRun (complement s) 0 n (Some first)
@@ -104,7 +104,7 @@ full_is_taken s (GiveBackRun f n) = (
   λ e. absurd (cc),
 )
 
--- a run is refused exactly if it is asked for and no so many neighbours are free
+-- `NoRun` is answered exactly if a run is asked for and no free run has that length
 pub none_is_free : (s : PlainSet) (request : Request) → (answer_to s request ≡ answer.NoRun)
     ↔ ((n : ℕ) × (request ≡ TakeRun n) × ((first : ℕ) → IsRun (complement s) n first → ⊥))
 none_is_free s Take = (
@@ -131,7 +131,7 @@ none_is_free s (GiveBackRun f n) = (
   λ e. let kind = e.1 in absurd (cc),
 )
 
--- of a request and its answer at the first place of a run
+-- what the first request of a run and its answer say
 gives_first : (s : PlainSet) (request : Request) (requests : List Request) (page : ℕ) →
     IsGiven s (request ∷ requests) zero page →
     gives request (answer_to s request) page ≡ true
@@ -145,7 +145,7 @@ gives_first s request requests page out =
     some_is : {X : Type 0} {x y : X} → Some x ≡ Some y → x ≡ y
     some_is e = cc
 
--- and at a later place
+-- what a later request and its answer say
 gives_later : (s : PlainSet) (request : Request) (requests : List Request) (page j : ℕ) →
     IsGiven s (request ∷ requests) (suc j) page →
     IsGiven (state_after s request) requests j page
@@ -194,7 +194,7 @@ given_before s (request ∷ requests) page (suc j) t out =
       )
     ]
 
--- between two answers that give one page that page was given back
+-- between two answers that give the same page, that page was given back
 pub given_between : (s : PlainSet) (requests : List Request) (page i j : ℕ) → i < j →
     IsGiven s requests i page → IsGiven s requests j page →
     (k : ℕ) × (i < k) × (k < j) × IsGivenBack s requests k page

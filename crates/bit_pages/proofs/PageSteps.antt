@@ -14,8 +14,8 @@ use Rattle.bit_pages.proofs.FreeRuns.{first_free_run-is, run_taken}
 use Rattle.bit_pages.proofs.LeastFree.{least_free-is, taken-within, taken-member}
 use Rattle.bit_pages.proofs.RunCounts.{given_counts, run_counts, run_is_free}
 
--- pages that pass one test are given, were free and are taken, those that pass another come back;
--- so many are given, and so many come back
+-- a step from s to t: pages that pass `out` were free and are handed out, and pages that pass
+-- `back` come back; `given` and `less` are how many
 pub record IsStep (s t : PlainSet) (out back : ℕ → Bool) (given less : ℕ) : Type 0 where
   pub capacity : t.capacity ≡ s.capacity
   pub has : (page : ℕ) → t.has page ≡ (out page || (not (back page) && s.has page))
@@ -23,7 +23,7 @@ pub record IsStep (s t : PlainSet) (out back : ℕ → Bool) (given less : ℕ) 
   pub within : (page : ℕ) → out page ≡ true → page < s.capacity
   pub counts : size t + less ≡ size s + given
 
--- where nothing is given and nothing comes back
+-- the step in which no page is handed out and none comes back
 nothing : (s : PlainSet) (back : ℕ → Bool) → ((page : ℕ) → back page ≡ false) →
     IsStep s s (λ _. false) back 0 0
 nothing s back none = record {
@@ -34,7 +34,7 @@ nothing s back none = record {
   counts = refl;
 }
 
--- a test that is to hold with another one holds just where it does, or nowhere
+-- `b && true` is b, and `b && false` is false
 and_true : (b : Bool) → (b && true) ≡ b
 and_true true = refl
 and_true false = refl
@@ -43,7 +43,7 @@ and_false : (b : Bool) → (b && false) ≡ false
 and_false true = refl
 and_false false = refl
 
--- what is in a span is taken, and free again
+-- whether a page is taken after a span was taken, and after a span was given back
 taken_or : (b c : Bool) → cond b true c ≡ (b || c)
 taken_or true c = refl
 taken_or false c = refl
@@ -52,7 +52,7 @@ free_or : (b c : Bool) → cond b false c ≡ (not (b && true) && c)
 free_or true c = refl
 free_or false c = refl
 
--- the page that was found, where one is asked for
+-- the step of a request for a page
 page_step : (s : PlainSet) (o : Option ℕ) →
     MatchOption o ((k : ℕ) → k < s.capacity → s.has k ≡ true) (IsLeastFree s) →
     IsStep s (with_found s o) (gives Take (page_or_full o)) (λ _. false)
@@ -66,7 +66,7 @@ page_step s (Some q) least = record {
   counts = omega (arith, size_added s q least.within least.is_free);
 }
 
--- the page that is given back, if it is taken
+-- the step of a request to give a page back
 back_step : (s : PlainSet) (p : ℕ) (b : Bool) → b ≡ is_taken s p →
     IsStep s (cond b (without_page s p) s) (gives (GiveBack p) (cond b answer.Given
     answer.NotTaken)) (λ page. (page == p) && b)
@@ -81,7 +81,7 @@ back_step s p true is = record {
   counts = omega (arith, size_removed s p (taken-within s p (sym is)) (taken-member s p (sym is)));
 }
 
--- the run that was found, where one is asked for
+-- the step of a request for a run of pages
 run_step : (s : PlainSet) (n : ℕ) (o : Option ℕ) → IsFirstRun (complement s) 0 n o →
     IsStep s (with_run s n o) (gives (TakeRun n) (run_or_none o)) (λ _. false)
     (pages_given (TakeRun n) (run_or_none o)) (pages_back (TakeRun n) (run_or_none o))
@@ -100,7 +100,7 @@ run_step s n (Some f) first = record {
   counts = omega (arith, run_counts s n f first.1);
 }
 
--- the run that is given back, if it is taken whole
+-- the step of a request to give a run of pages back
 back_run_step : (s : PlainSet) (f n : ℕ) (b : Bool) → b ≡ is_run_taken s f n →
     IsStep s (cond b (without_span s f (f + n)) s) (gives (GiveBackRun f n) (cond b answer.Given
     answer.NotTaken)) (λ page. is_in_span f (f + n) page && b)
@@ -126,7 +126,7 @@ step s (GiveBack p) = back_step s p (is_taken s p) refl
 step s (TakeRun n) = run_step s n (first_free_run s n) (first_free_run-is s n)
 step s (GiveBackRun f n) = back_run_step s f n (is_run_taken s f n) refl
 
--- a page that comes back was asked for
+-- a page that comes back is one that the request gives back
 pub given_back : (s : PlainSet) (request : Request) (page : ℕ) →
     gives_back s request page ≡ true →
     (asks_back request page ≡ true) × (answer_to s request ≡ answer.Given)
@@ -138,7 +138,7 @@ given_back s (GiveBackRun f n) page e =
     let parts = and_parts (is_in_span f (f + n) page) (is_run_taken s f n) e in
     (parts.0, rw parts.1 refl)
 
--- the page is one, and taken
+-- the number is a page, and it is taken
 pub record IsTaken (s : PlainSet) (page : ℕ) : Type 0 where
   pub within : page < s.capacity
   pub is_member : s.has page ≡ true

@@ -11,8 +11,8 @@ use Rattle.bittle_bits.proofs.Spans.{inside_span, outside_span}
 use Rattle.bittle_ext.specs.RangeMembers.{HasAllIn, HasSomeIn}
 use Rattle.bittle_ext.specs.Runs.{IsRun}
 
--- two tests of the numbers below c differ only at n neighbours: the test that each neighbour passes
--- counts n more
+-- if two tests of the numbers below c differ only at n neighbours, the test that each of these
+-- passes counts n more
 count_run_more : (c from n : ℕ) (s t : ℕ → Bool) → from + n ≤ c →
     ((k : ℕ) → from ≤ k → k < from + n → s k ≡ false) →
     ((k : ℕ) → from ≤ k → k < from + n → t k ≡ true) →
@@ -39,11 +39,11 @@ module _ (s : PlainSet) (n first : ℕ) where
       let within : first + n ≤ s.capacity = run.0 in
       not-true (s.has k) (sym (complement_within s k (omega arith)) ∙ run.1 k p q)
 
-  -- a run that was taken is taken whole
+  -- after a run was taken, each of its pages is taken
   pub run_is_taken : IsRun (complement s) n first → IsRun (with_span s first (first + n)) n first
   run_is_taken run = (run.0, λ k p q. inside_span (λ _. true) s first (first + n) k p q)
 
-  -- after a run was taken, so many more pages are taken
+  -- after a run was taken, n more pages are taken
   pub run_counts : IsRun (complement s) n first → size (with_span s first (first + n)) ≡ size s + n
   run_counts run =
       count_run_more s.capacity first n s.has (with_span s first (first + n)).has run.0
@@ -51,18 +51,18 @@ module _ (s : PlainSet) (n first : ℕ) where
       (λ k p q. inside_span (λ _. true) s first (first + n) k p q)
       (λ k out. outside_span (λ _. true) s first (first + n) k out)
 
-  -- a run that was given back is free whole
+  -- after a run was given back, each of its pages is free
   pub run_is_given : NoneIn (without_span s first (first + n)) first (first + n)
   run_is_given k p q = inside_span (λ _. false) s first (first + n) k p q
 
-  -- before a run was given back, so many more pages were taken
+  -- before a run was given back, n more pages were taken
   pub given_counts : IsRun s n first → size s ≡ size (without_span s first (first + n)) + n
   given_counts run =
       count_run_more s.capacity first n (without_span s first (first + n)).has s.has run.0
       (λ k p q. inside_span (λ _. false) s first (first + n) k p q) run.1
       (λ k out. sym (outside_span (λ _. false) s first (first + n) k out))
 
--- whether each page up to an end is taken tells whether the run is
+-- a test of each page up to the end of a run tells whether the run is taken
 pub all_taken : (s : PlainSet) (n first end : ℕ) (b : Bool) → end ≡ first + n →
     end ≤ s.capacity →
     MatchBool b (HasAllIn s first end) (HasSomeIn (complement s) first end) →

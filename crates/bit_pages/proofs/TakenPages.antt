@@ -18,7 +18,7 @@ found_is_least s page = by (least_free s) (least_free-is s)
     by None all e = absurd (cc)
     by (Some q) least e = let same : q ≡ page = cc in rw same at least
 
--- the least free page, and the map with it
+-- the map after the least free page was taken
 module _ (s t : PlainSet) (page : ℕ) (found : least_free s ≡ Some page)
     (after : t ≡ with_index s page) where
   least : IsLeastFree s page
@@ -36,7 +36,7 @@ module _ (s t : PlainSet) (page : ℕ) (found : least_free s ≡ Some page)
       ∙ ap (λ b. b && ((page == page) || s.has page)) (lt-ltb page s.capacity least.within)
       ∙ ap (λ b. b || s.has page) (eq-eqb page page refl)
 
-  -- what is taken stays so
+  -- a page that is taken stays taken
   pub stays_taken : (k : ℕ) → is_taken s k ≡ true → is_taken t k ≡ true
   stays_taken k h =
       let parts = and_parts (nat_lt k s.capacity) (s.has k) h in
@@ -46,7 +46,7 @@ module _ (s t : PlainSet) (page : ℕ) (found : least_free s ≡ Some page)
   pub one_more : size t ≡ size s + 1
   one_more = ap size after ∙ size_with s page least.within least.is_free
 
--- a taken page, and the map without it
+-- the map after a taken page was given back
 module _ (s t : PlainSet) (page : ℕ) (taken : is_taken s page ≡ true)
     (after : t ≡ without_index s page) where
   pub is_now_free : is_taken t page ≡ false

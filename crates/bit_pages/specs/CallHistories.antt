@@ -6,13 +6,13 @@ use Rattle.bit_pages.specs.Pages.{answer_to, state_after, request_answers, final
 use Rattle.bit_pages.specs.declared.Request.{Request}
 use Rattle.bit_pages.specs.declared.Answer.{Answer}
 
--- a call answers as the machine does, and leaves those pages taken that the machine leaves taken
+-- a call answers as the machine does, and leaves the same pages taken
 pub record IsCall (before : PlainSet) (request : Request) (answer : Answer)
     (after : PlainSet) : Type 0 where
   pub answered : answer ≡ answer_to before request
   pub left : after ≡ state_after before request
 
--- calls, one after the other
+-- calls that are made one after the other
 abbrev pub IsHistory : PlainSet → List (Request × Answer) → PlainSet → Type 0
 IsHistory before [] after = after ≡ before
 IsHistory before (call ∷ calls) after =

@@ -1,5 +1,4 @@
--- What holds of the page machine, whatever is asked of it. A run of requests is a list that it
--- serves.
+-- Laws of the page machine, for all requests. A run of requests is a list that the machine serves.
 use Rattle.std.specs.List.{filter, list_any, IsDistinct}
 use Rattle.std.specs.Prelude.{◌≡◌, ℕ, zero, suc, ◌+◌, ◌<◌, ◌↔◌, Bool, true, false, not, ◌&&◌, ◌||◌, ◌==◌, Some, List, [], ◌∷◌, ◌++◌, slice_get, take}
 use Rattle.bittle.specs.PlainSet.{PlainSet, complement, is_in_span, size}
@@ -16,14 +15,14 @@ pub record IsLeastFree (s : PlainSet) (page : ℕ) : Type 0 where
   pub is_free : s.has page ≡ false
   pub taken_below : (k : ℕ) → k < page → s.has k ≡ true
 
--- each page that `Page` answers is the least free one
+-- a page in an answer `Page` is the least free page
 abbrev pub PagesAreLeastFree : Type 0
 PagesAreLeastFree =
     (s : PlainSet) (request : Request) (page : ℕ)
     → answer_to s request ≡ Page page
     → IsLeastFree s page
 
--- each run of pages that `Run` answers is the first of as many free pages as were asked for
+-- a run of pages in an answer `Run` is the first run of free pages of the length that was asked for
 abbrev pub RunsAreFirst : Type 0
 RunsAreFirst =
     (s : PlainSet) (request : Request) (first : ℕ)
@@ -88,8 +87,8 @@ total count (request ∷ requests) [] = 0
 total count (request ∷ requests) (answer ∷ answers) =
     count request answer + total count requests answers
 
--- as many pages are taken after a run of requests as before it, plus those handed out in it, less
--- those given back in it
+-- the number of pages taken after a run of requests is the number before it, plus the pages handed
+-- out in it, minus the pages given back in it
 abbrev pub PagesAreCounted : Type 0
 PagesAreCounted =
     (s : PlainSet) (requests : List Request)

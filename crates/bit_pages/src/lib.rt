@@ -165,8 +165,8 @@ impl<B: BitsOwned> Pages<B> {
     /// no such run, it changes nothing and returns `None`. With `length` 0 it takes nothing and
     /// returns page 0, even if all pages are taken, and with capacity 0.
     ///
-    /// Up to a length of four words each word is read once, up to the end of the run. For a longer
-    /// run each run that is too short costs two searches of words.
+    /// If `length` is at most four words, it reads each word once, up to the end of the run. If
+    /// `length` is greater, each free run that is too short costs two searches of words.
     pub fn take_run(&mut self, length: u32) -> Option<u32>
         ensures run { IsFirstRun (complement (set_in B.Shape B.Order.Endian self.old.map)) 0 length
             result }
@@ -301,8 +301,8 @@ impl<B: BitsOwned> Pages<B> {
         }
     }
 
-    /// Serves the requests in their order, and writes an answer to each. There are as many answers
-    /// as requests.
+    /// Serves the requests in their order, and writes an answer to each. `answers` has to be as
+    /// long as `requests`.
     pub fn serve(&mut self, requests: &[Request], answers: &mut [Answer])
         requires { length answers.old ≡ length requests.now }
         ensures answers { answers.new

@@ -1,6 +1,6 @@
 //! The main theorems of the allocator: what holds of every list of requests. Each function does
-//! nothing: its contract is the law. The laws speak of the machine of `specs/Pages.antt`, which
-//! `serve` runs by its contract.
+//! nothing: its contract is the law. The laws speak of the machine in `specs/Pages.antt`. The
+//! contract of `serve` states that it runs this machine.
 
 ghost use Rattle.bit_pages.specs.PageLaws.{PagesAreLeastFree, FullExactlyIfAllAreTaken};
 ghost use Rattle.bit_pages.specs.PageLaws.{RunsAreFirst, NoRunExactlyIfNoneIsFree};
@@ -8,7 +8,7 @@ ghost use Rattle.bit_pages.specs.PageLaws.{PagesAreGivenBetween, TakenPagesAreGi
 ghost use Rattle.bit_pages.specs.CallHistories.{HistoriesAreRuns};
 ghost use Rattle.bit_pages.specs.PageLaws.{AnswersAreOfTheirStates, PagesAreCounted, PagesAreOutstanding};
 
-/// States that each page that `Page` answers was the least free page.
+/// States that a page in an answer `Page` was the least free page.
 pub fn pages_are_least_free()
     ensures { PagesAreLeastFree }
 {}
@@ -18,8 +18,8 @@ pub fn full_exactly_if_all_are_taken()
     ensures { FullExactlyIfAllAreTaken }
 {}
 
-/// States that each run of pages that `Run` answers was the first run of as many free pages as were
-/// asked for.
+/// States that a run of pages in an answer `Run` was the first run of free pages of the length that
+/// was asked for.
 pub fn runs_are_first()
     ensures { RunsAreFirst }
 {}
@@ -36,8 +36,8 @@ pub fn answers_are_of_their_states()
     ensures { AnswersAreOfTheirStates }
 {}
 
-/// States that as many pages are taken after a list of requests as before it, plus those handed out
-/// in it, less those given back in it.
+/// States that the number of pages taken after a list of requests is the number before it, plus the
+/// pages handed out in it, minus the pages given back in it.
 pub fn pages_are_counted()
     ensures { PagesAreCounted }
 {}
@@ -54,17 +54,18 @@ pub fn taken_pages_are_given_first()
     ensures { TakenPagesAreGivenFirst }
 {}
 
-/// States that the pages outstanding after a list of requests are distinct: those that it hands out
-/// and that are not given back in it. None of them was taken before the list, unless that page was
-/// given back. Together with the pages taken before and not given back, they are the pages taken
-/// after the list.
+/// States what the pages outstanding after a list of requests are: those that the list hands out
+/// and that are not given back in it. They are distinct. None of them was taken before the list,
+/// unless it was given back. Together with the pages taken before and not given back, they are the
+/// pages taken after the list.
 pub fn pages_are_outstanding()
     ensures { PagesAreOutstanding }
 {}
 
 /// States that calls of `take`, `give_back`, `take_run` and `give_back_run` in any sequence answer
 /// as the machine does on the list of their requests. This follows from what the clauses of each
-/// call say of its answer and of the pages. So each law of lists of requests holds of such calls.
+/// call say of its answer and of the pages. So each law of lists of requests holds for such calls
+/// too.
 pub fn histories_are_runs()
     ensures { HistoriesAreRuns }
 {}

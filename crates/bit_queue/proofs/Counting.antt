@@ -1,4 +1,4 @@
--- How many numbers below a bound pass a test, seen beside another test.
+-- How many numbers below a bound pass a test, compared with another test.
 use Rattle.std.proofs.Common.{◌≡◌, ℕ, zero, suc, ◌+◌, ◌<◌, ◌≤◌, ◌⊎◌, Bool, true, false, cond, ◌||◌, ◌==◌, nat_lt, List, ◌∷◌, inl, inr, refl, sym, ap, ◌∙◌, arith}
 use Rattle.std.specs.List.{count_by}
 use Rattle.std.proofs.lemmas.Bool.{cases_eq, cases_Bool, cases_lt, lt-ltb, ne_eqb}
@@ -11,7 +11,8 @@ bit_fewer false false h = omega arith
 bit_fewer false true h = omega arith
 bit_fewer true b h = rw (h refl) (omega arith)
 
--- where one test passes only what the other does, it counts no more
+-- if each number that passes one test passes the other, the first test counts no more than the
+-- other
 pub counts_fewer : (c : ℕ) (s t : ℕ → Bool) → ((k : ℕ) → k < c → s k ≡ true → t k ≡ true) →
     count_below c s ≤ count_below c t
 unfolding count_below
@@ -21,7 +22,7 @@ counts_fewer (suc c) s t h =
     let last = bit_fewer (s c) (t c) (h c (omega arith)) in
     omega (arith, rest, last)
 
--- and less where the other passes one that it does not
+-- it counts fewer if some number passes only the other test
 pub counts_less : (c i : ℕ) (s t : ℕ → Bool) → i < c → s i ≡ false → t i ≡ true →
     ((k : ℕ) → k < c → s k ≡ true → t k ≡ true) → count_below c s + 1 ≤ count_below c t
 unfolding count_below
@@ -39,7 +40,7 @@ counts_less (suc c) i s t l none some h =
           omega (arith, rest, last)
     ]
 
--- a number more counts at most one more, and none where it is not below the bound
+-- one more number adds at most one to the count, and nothing if it is not below the bound
 pub counts_with : (c i : ℕ) (s : ℕ → Bool) →
     count_below c (λ k. (k == i) || s k) ≤ count_below c s + cond (nat_lt i c) 1 0
 counts_with c i s = by (cases_lt i c) (cases_Bool (s i))
@@ -60,7 +61,7 @@ counts_with c i s = by (cases_lt i c) (cases_Bool (s i))
     by (inl l) (inl some) =
         omega (arith, counts_fewer c (λ k. (k == i) || s k) s (λ k m. was k (λ e. some)))
 
--- an item more counts
+-- the count of a list with one more item
 pub counts_item : {X : Type 0} (p : X → Bool) (x : X) (xs : List X) →
     count_by p (x ∷ xs) ≡ cond (p x) 1 0 + count_by p xs
 counts_item p x xs = sum_by-cons (λ y. cond (p y) 1 0) x xs

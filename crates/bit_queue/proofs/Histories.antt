@@ -1,5 +1,5 @@
--- What holds of every list of events, of any machine in which only ready tasks run, a task that runs
--- is ready no longer, and a task becomes ready only by a wake.
+-- Laws of every list of events, for any machine with these properties: only ready tasks run, a task
+-- that runs is no longer ready, and a task becomes ready only by a wake.
 use Rattle.std.proofs.Common.{◌≡◌, ℕ, zero, suc, ◌<◌, ◌⊎◌, Bool, true, false, List, [], ◌∷◌, Some, inl, inr, refl, sym, ap, ◌∙◌, arith}
 use Rattle.std.specs.List.{scan}
 use Rattle.std.specs.Prelude.{slice_get}
@@ -10,7 +10,7 @@ use Rattle.bit_queue.specs.declared.Answer.TheVariants.{Runs}
 use Rattle.bit_queue.specs.declared.Event.{Event}
 use Rattle.bit_queue.specs.declared.Event.TheVariants.{Wake}
 
--- an answer of a list is of the state that the events before it leave
+-- an answer of a list is the answer in the state that the events before it leave
 pub answered_at : {S : Type 0} (answer : S → Event → Answer) (after : S → Event → S) (s : S)
     (events : List Event) (i : ℕ) (reply : Answer) →
     slice_get (scan after answer s events) i ≡ Some reply →
@@ -51,7 +51,7 @@ module _ {S : Type 0} (answer : S → Event → Answer) (after : S → Event →
         | inr woken ↦ (zero, omega arith, ap Some woken)
       ]
 
-  -- a task that runs again was woken since
+  -- a task that runs again was woken in between
   pub woken_between : (s : S) (events : List Event) (task i j : ℕ) → i < j →
       slice_get (scan after answer s events) i ≡ Some (Runs task) →
       slice_get (scan after answer s events) j ≡ Some (Runs task) →

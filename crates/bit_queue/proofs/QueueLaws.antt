@@ -59,22 +59,22 @@ idle_is_none s Next = by (most_urgent s) (most_urgent-is s)
       λ e. absurd (true≢false (sym urgent.is_ready ∙ e.1 p (omega arith) urgent.within)),
     )
 
--- a task that was taken out rests
+-- a task that was taken out is not ready
 pub taken_out : (s : PlainSet) (task : ℕ) → (without_task s task).has task ≡ false
 taken_out s task = ap (λ b. not b && s.has task) (eq-eqb task task refl)
 
--- the others stay as they are
+-- the other tasks stay as they are
 pub others_stay : (s : PlainSet) (task k : ℕ) → (k ≡ task → ⊥) →
     (without_task s task).has k ≡ s.has k
 others_stay s task k n = ap (λ b. not b && s.has k) (ne_eqb k task n)
 
--- a task that rests still does after another was taken out
+-- a task that is not ready is still not ready after another was taken out
 pub still_rests : (s : PlainSet) (picked : Option ℕ) (task : ℕ) → s.has task ≡ false →
     (without_picked s picked).has task ≡ false
 still_rests s None task e = e
 still_rests s (Some p) task e = and_right (not (task == p)) (s.has task) e
 
--- a task that rests still does after a wake of another
+-- a task that is not ready is still not ready after another was woken
 pub wakes_alone : (s : PlainSet) (other task : ℕ) → s.has task ≡ false →
     ((with_woken s other).has task ≡ false) ⊎ (Wake other ≡ Wake task)
 wakes_alone s other task e = by (cases_eq task other) (nat_lt other s.capacity)
@@ -85,7 +85,7 @@ wakes_alone s other task e = by (cases_eq task other) (nat_lt other s.capacity)
     by (inr apart) true = inl (ap (λ b. b || s.has task) (ne_eqb task other apart) ∙ e)
     by (inr apart) false = inl e
 
--- the facts of the machine that histories rest on
+-- the facts about the machine that the lemmas of Histories.antt require
 runs_ready : (s : PlainSet) (event : Event) (task : ℕ) → answer_to s event ≡ Runs task →
     s.has task ≡ true
 runs_ready s event task e = (runs_most_urgent s event task e).is_ready

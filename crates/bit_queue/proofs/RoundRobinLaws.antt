@@ -1,4 +1,4 @@
--- What follows from the machine of taking turns for every list of events.
+-- What follows from the round-robin machine for every list of events.
 use Rattle.std.proofs.Common.{◌≡◌, ℕ, zero, suc, ◌+◌, ◌<◌, ◌≤◌, ◌⊎◌, Bool, true, false, not, cond, ◌&&◌, ◌||◌, ◌==◌, nat_lt, Option, Some, None, List, [], ◌∷◌, inl, inr, refl, sym, ap, ◌∙◌, arith}
 use Rattle.std.specs.List.{count_by, scan, list_any}
 use Rattle.std.specs.Prelude.{◌↔◌, MatchOption, slice_get}
@@ -51,7 +51,7 @@ idle_is_none r Next = by (next_in_turn r) (next_in_turn-is r)
       λ e. absurd (true≢false (sym next.is_ready ∙ e.1 p (omega arith) next.within)),
     )
 
--- the facts of the machine that histories rest on
+-- the facts about the machine that the lemmas of Histories.antt require
 runs_ready : (r : Round) (event : Event) (task : ℕ) → answer_in_turn r event ≡ Runs task →
     r.ready.has task ≡ true
 runs_ready r event task e = (runs_in_turn r event task e).is_ready
@@ -90,11 +90,11 @@ unfolding answers_in_turn
 woken_between = histories.woken_between answer_in_turn round_after (λ r k. r.ready.has k)
     runs_ready rests rests_on
 
--- how many tasks of a set come before one
+-- how many tasks of a set are ahead: they come before the task in turn
 ahead : PlainSet → ℕ → ℕ → ℕ
 ahead s turn task = count_below s.capacity (λ k. comes_before turn k task && s.has k)
 
--- those and the task itself are no more than all
+-- the tasks ahead and the task itself are at most all tasks of the set
 ahead_at_most : (s : PlainSet) (turn task : ℕ) → task < s.capacity → s.has task ≡ true →
     ahead s turn task + 1 ≤ size s
 unfolding ahead
@@ -108,7 +108,7 @@ ahead_at_most s turn task h is =
     never (inr (past, inl from)) = omega arith
     never (inr (past, inr below)) = omega arith
 
--- past a task that came before it there is one less
+-- once the turn is past a task that was ahead, at least one task fewer is ahead
 ahead_less : (s : PlainSet) (turn first task : ℕ) → first < s.capacity → s.has first ≡ true →
     Comes turn first task → ahead s (first + 1) task + 1 ≤ ahead s turn task
 unfolding ahead
@@ -141,7 +141,8 @@ picked_comes : (r : Round) (picked task : ℕ) → IsNextInTurn r picked → tas
 picked_comes r picked task next h ready apart = comes_either r.turn picked task apart
     (λ c. true≢false (sym ready ∙ next.none_before task h (comes_is r.turn task picked c)))
 
--- of all tasks that may be ready no more than are ahead run before one that is
+-- if s has all tasks that may be ready, at most the tasks of s that are ahead run before a ready
+-- task
 module _ (s : PlainSet) (task : ℕ) (h : task < s.capacity) where
   record IsWithin (r : Round) (events : List Event) : Type 0 where
     same : r.ready.capacity ≡ s.capacity
@@ -231,7 +232,7 @@ in_their_turn r events task h ready enough =
       steps = omega (arith, most, enough);
     })
 
--- so it runs within as many steps as there are tasks
+-- so a ready task runs within as many steps as there are tasks
 pub within_a_round : (r : Round) (events : List Event) (task : ℕ) → task < r.ready.capacity →
     r.ready.has task ≡ true → r.ready.capacity ≤ count_by is_next events →
     RunsIn (answers_in_turn r events) task

@@ -15,7 +15,7 @@ abbrev pub Comes : ℕ → ℕ → ℕ → Type 0
 Comes turn one other = ((turn ≤ one) × (one < other))
     ⊎ ((other < turn) × ((turn ≤ one) ⊎ (one < other)))
 
--- the test tells it
+-- `comes_before` tests whether one task comes before another
 pub comes_is : (turn one other : ℕ) → Comes turn one other → comes_before turn one other ≡ true
 comes_is turn one other (inl c) =
     let up = le-leb turn other (omega (arith, c.0, c.1)) in
@@ -88,12 +88,12 @@ comes_either turn one other apart never = elim (cases_lt other turn) [
   ]
 ]
 
--- what is not to come though it would be from the turn on is not ready
+-- a task at or past the turn that is not to come is not ready
 not_to_come : (r : Round) (k : ℕ) → r.turn ≤ k → (to_come r).has k ≡ false → r.ready.has k ≡ false
 not_to_come r k from none =
     sym (ap (λ b. b && r.ready.has k) (le-leb r.turn k from)) ∙ none
 
--- the next ready task, or that none is ready
+-- `next_in_turn` is the next ready task, or None if no task is ready
 pub next_in_turn-is : (r : Round) →
     MatchOption (next_in_turn r) (NoneIn r.ready 0 r.ready.capacity) (IsNextInTurn r)
 next_in_turn-is r = by (most_urgent (to_come r)) (most_urgent-is (to_come r))
@@ -126,7 +126,7 @@ next_in_turn-is r = by (most_urgent (to_come r)) (most_urgent-is (to_come r))
       ];
     }
 
--- none to come where none from the turn on is ready
+-- if no task from the turn on is ready, no task is to come
 none_to_come : (s : PlainSet) (turn from end : ℕ) → NoneIn s turn end →
     NoneIn (to_come (round_at s turn)) from end
 none_to_come s turn from end none k p q = elim (cases_lt k turn) [
@@ -134,7 +134,7 @@ none_to_come s turn from end none k p q = elim (cases_lt k turn) [
   | inr g ↦ and_right (nat_le turn k) (s.has k) (none k g q)
 ]
 
--- a search from the turn on finds it, which ends at the number of the tasks
+-- a search from the turn up to the number of tasks finds the next task
 pub found_from_turn : (s : PlainSet) (turn end task : ℕ) → end ≡ s.capacity →
     IsFirstIn s turn end (Some task) → Some task ≡ next_in_turn (round_at s turn)
 found_from_turn s turn end task all first =
@@ -146,7 +146,7 @@ found_from_turn s turn end task all first =
       none_to_come s turn 0 task first.3,
     ))
 
--- or else one through those before it
+-- if that search finds none, a search of the tasks before the turn finds the next task
 pub found_before_turn : (s : PlainSet) (turn end : ℕ) (found : Option ℕ) → end ≡ s.capacity →
     turn ≤ end → NoneIn s turn end → IsFirstIn s 0 turn found →
     found ≡ next_in_turn (round_at s turn)
@@ -162,7 +162,7 @@ found_before_turn s turn end found all h none first =
     ]
     through (Some task) at = (at.0, omega (arith, at.1), at.2, at.3)
 
--- what was found is the next in turn, or none is ready
+-- the task that was found is the next in turn, or nothing was found and no task is ready
 pub next_found : (s : PlainSet) (turn end : ℕ) (found : Option ℕ) → end ≡ s.capacity →
     found ≡ next_in_turn (round_at s turn) →
     MatchOption found (NoneIn s 0 end) (IsNextInTurn (round_at s turn))

@@ -9,7 +9,7 @@ use Rattle.bittle.proofs.CallerSets.{contains_within, with_index_within, without
 use Rattle.bit_queue.specs.Queue.{is_ready, most_urgent, with_task, without_task, with_woken}
 use Rattle.bit_queue.specs.QueueLaws.{IsMostUrgent}
 
--- the most urgent ready task, or that none is ready
+-- `most_urgent` is the most urgent ready task, or None if no task is ready
 pub most_urgent-is : (s : PlainSet) →
     MatchOption (most_urgent s) (NoneIn s 0 s.capacity) (IsMostUrgent s)
 most_urgent-is s = by (ascending s) refl
@@ -35,7 +35,7 @@ one_most_urgent s p q a b =
       ]
     ]
 
--- a search through all tasks finds it
+-- a search of all tasks finds the most urgent one
 pub most_urgent-first : (s : PlainSet) (found : Option ℕ) → IsFirstIn s 0 s.capacity found →
     found ≡ most_urgent s
 most_urgent-first s None none = by (most_urgent s) (most_urgent-is s)
@@ -57,7 +57,7 @@ most_urgent-first s (Some p) first = by (most_urgent s) (most_urgent-is s)
     by None all = absurd (true≢false (sym found.is_ready ∙ all p (omega arith) found.within))
     by (Some q) urgent = ap Some (one_most_urgent s p q found urgent)
 
--- so does one that ends at their number
+-- so does a search up to `end`, if that is the number of tasks
 pub most_urgent-found : (s : PlainSet) (end : ℕ) (found : Option ℕ) → end ≡ s.capacity →
     IsFirstIn s 0 end found → found ≡ most_urgent s
 most_urgent-found s end found e first =
@@ -69,7 +69,7 @@ pub is_ready-within : (s : PlainSet) (task : ℕ) → task < s.capacity →
 is_ready-within s task h = ap (λ b. b && s.has task) (lt-ltb task s.capacity h)
     ∙ sym (contains_within s task h)
 
--- a ready task that is a number below the capacity
+-- a member below the capacity is a ready task
 pub ready-member : (s : PlainSet) (task : ℕ) → task < s.capacity → s.has task ≡ true →
     is_ready s task ≡ true
 ready-member s task h e = ap (λ b. b && s.has task) (lt-ltb task s.capacity h) ∙ e

@@ -1,4 +1,4 @@
--- What holds of the queue machine, whatever the events.
+-- Laws of the queue machine, for all events.
 use Rattle.std.specs.List.{count_by, fold}
 use Rattle.std.specs.Prelude.{◌≡◌, ℕ, ◌+◌, ◌<◌, ◌≤◌, ◌↔◌, Bool, true, false, nat_lt, Some, List, slice_get, take}
 use Rattle.bittle.specs.PlainSet.{PlainSet, members_below}

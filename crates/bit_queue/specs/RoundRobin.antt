@@ -1,5 +1,5 @@
--- The machine of taking turns: its state is the set of the ready tasks, and the turn. The turn is
--- the number past the task that ran last.
+-- The round-robin machine: its state is the set of the ready tasks, and the turn. The turn is the
+-- number past the task that ran last.
 use Rattle.std.specs.List.{fold, scan}
 use Rattle.std.specs.Prelude.{ℕ, ◌+◌, ◌&&◌, nat_le}
 use Rattle.std.specs.Prelude.{Option, Some, None, List}

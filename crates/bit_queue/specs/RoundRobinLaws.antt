@@ -1,4 +1,4 @@
--- What holds of the machine of taking turns, whatever the events.
+-- Laws of the round-robin machine, for all events.
 use Rattle.std.specs.List.{count_by, list_any}
 use Rattle.std.specs.Prelude.{◌≡◌, ℕ, ◌<◌, ◌≤◌, ◌↔◌, Bool, true, false, ◌&&◌, ◌||◌, ◌==◌, nat_le, nat_lt, if◌then◌else◌, Some, List, slice_get}
 use Rattle.bittle.specs.PlainSet.{PlainSet, size}

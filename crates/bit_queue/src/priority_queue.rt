@@ -102,8 +102,8 @@ impl<B: BitsOwned> PriorityQueue<B> {
         }
     }
 
-    /// Serves the events in their order, and writes an answer to each. There are as many answers as
-    /// events.
+    /// Serves the events in their order, and writes an answer to each. `answers` has to be as long
+    /// as `events`.
     pub fn serve(&mut self, events: &[Event], answers: &mut [Answer])
         requires { length answers.old ≡ length events.now }
         ensures answers { answers.new

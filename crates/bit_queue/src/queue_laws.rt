@@ -16,8 +16,9 @@ pub fn idle_exactly_if_none_is_ready()
     ensures { IdleExactlyIfNoneIsReady }
 {}
 
-/// States that each answer is the answer to its event when those tasks are ready that the events
-/// before it leave ready. So what holds of one answer and its state holds at each place of a list.
+/// States that each answer is the answer to its event in the state (the set of the ready tasks)
+/// that the events before it leave. So what holds of one answer and its state holds at each place
+/// of a list.
 pub fn answers_are_of_their_states()
     ensures { AnswersAreOfTheirStates }
 {}

@@ -129,8 +129,8 @@ impl<B: BitsOwned> RoundRobin<B> {
         }
     }
 
-    /// Serves the events in their order, and writes an answer to each. There are as many answers as
-    /// events.
+    /// Serves the events in their order, and writes an answer to each. `answers` has to be as long
+    /// as `events`.
     pub fn serve(&mut self, events: &[Event], answers: &mut [Answer])
         requires { length answers.old ≡ length events.now }
         ensures answers { answers.new ≡ answers_in_turn

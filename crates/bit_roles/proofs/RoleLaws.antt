@@ -7,7 +7,7 @@ use Rattle.bit_roles.specs.RoleLaws.{grants}
 use Rattle.bit_roles.specs.declared.Request.{Request}
 use Rattle.bit_roles.specs.declared.Request.TheVariants.{Grant, Inherit}
 
--- a chain of parents through the parent of a role
+-- a chain of parents from a role goes on as the chain from its parent
 ancestor_up : (r : Roles) (role parent n : ℕ) → r.parent role ≡ Some parent →
     ancestor r role (suc n) ≡ ancestor r parent n
 unfolding ancestor
@@ -26,13 +26,13 @@ pub allows_granted : (r : Roles) (role permission : ℕ) → r.granted role perm
 unfolding ancestor
 allows_granted r role permission e = (zero, role, refl, e)
 
--- it allows what its parent allows
+-- a role allows what its parent allows
 pub allows_up : (r : Roles) (role parent permission : ℕ) → r.parent role ≡ Some parent →
     Allows r parent permission → Allows r role permission
 allows_up r role parent permission e a =
     (suc a.0, a.1, ancestor_up r role parent a.0 e ∙ a.2, a.3)
 
--- and nothing else
+-- if a role allows a permission that it was not granted, its parent allows the permission
 pub allows_down : (r : Roles) (role parent permission : ℕ) → r.parent role ≡ Some parent →
     r.granted role permission ≡ false → Allows r role permission → Allows r parent permission
 unfolding ancestor
@@ -52,7 +52,7 @@ allows_nothing r role permission e none (zero, other, is, granted) =
 allows_nothing r role permission e none (suc n, other, is, granted) =
     let gone = ancestor_none r role n e in cc
 
--- a chain of parents goes down
+-- along a chain of parents the numbers of the roles decrease
 chain_goes_down : (r : Roles) (role n other : ℕ) → HasLesserParents r →
     ancestor r role n ≡ Some other → other + n ≤ role
 unfolding ancestor
@@ -65,12 +65,13 @@ chain_goes_down r role (suc n) other lesser e =
     by None below up = absurd (cc)
     by (Some k) below up = omega (arith, lesser k other up, below k refl)
 
--- so it does not come back
+-- so no chain of parents comes back to its first role
 pub no_way_back : (r : Roles) (role n : ℕ) → HasLesserParents r →
     ancestor r role (suc n) ≡ Some role → ⊥
 no_way_back r role n lesser e = omega (arith, chain_goes_down r role (suc n) role lesser e)
 
--- a parent that has a lesser number keeps that each has
+-- after a role is given a parent with a lesser number, each parent still has a lesser number than
+-- its role
 pub parent_stays_lesser : (r : Roles) (role parent : ℕ) → parent < role → HasLesserParents r →
     HasLesserParents (with_parent r role parent)
 parent_stays_lesser r role parent h lesser k p e = elim (cases_eq k role) [
@@ -112,7 +113,7 @@ same_chain r role permission other zero = refl
 same_chain r role permission other (suc n) =
     ap (parent_of r) (same_chain r role permission other n)
 
--- what is allowed stays so after a grant
+-- what is allowed is still allowed after a grant
 pub stays_allowed : (r : Roles) (role permission other allowed : ℕ) → Allows r other allowed →
     Allows (roles_after r (Grant role permission)) other allowed
 stays_allowed r role permission other allowed a = by (may_grant r role permission)

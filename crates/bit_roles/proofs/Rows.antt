@@ -1,4 +1,4 @@
--- A row of which one place is written, and what that makes of roles.
+-- A row after a write to one place, and the roles that it stands for then.
 use Rattle.std.proofs.Common.{◌≡◌, ℕ, zero, suc, ◌<◌, Bool, true, false, cond, ◌&&◌, ◌||◌, ◌==◌, nat_lt, Option, Some, None, List, length, set, inl, inr, refl, sym, ap, ◌∙◌, arith}
 use Rattle.std.proofs.Math.ListN.{replicate}
 use Rattle.std.specs.Prelude.{slice_get, IfSome}
@@ -18,12 +18,12 @@ permission_within set place x permission is h =
     ∙ ap (λ b. b && (set x).has permission) (sym (lt-ltb permission (set x).capacity h))
     ∙ ap (λ o. has_permission set o permission) (sym is)
 
--- what is no place has no permission
+-- a number that is no place of the row has no permission
 pub permission_none : {X : Type 0} (set : X → PlainSet) (place : Option X) (permission : ℕ) →
     place ≡ None → false ≡ has_permission set place permission
 permission_none set place permission is = ap (λ o. has_permission set o permission) (sym is)
 
--- a parent that was found has a lesser number, where each has
+-- if each parent has a lesser number than its role, so has a parent that was found
 pub lesser_found : (parents : List (Option ℕ)) (role : ℕ) (found : Option ℕ) →
     slice_get parents role ≡ Some found →
     ((k parent : ℕ) → parent_in (slice_get parents k) ≡ Some parent → parent < k) →
@@ -31,7 +31,7 @@ pub lesser_found : (parents : List (Option ℕ)) (role : ℕ) (found : Option �
 lesser_found parents role None is lesser = tt
 lesser_found parents role (Some parent) is lesser = lesser role parent (ap parent_in is)
 
--- a row of sets in which one has a permission more, at a place that had the set x and has y
+-- a row of sets after one place got one more permission: it had the set x, and has the set y now
 module _ {X : Type 0} (count permissions : ℕ) (set_of : X → PlainSet) (granted : List X)
     (parents : List (Option ℕ)) (role permission : ℕ) (x y : X) (inside : role < length granted)
     (at : slice_get granted role ≡ Some x) (capacity : (set_of x).capacity ≡ permissions)
@@ -87,7 +87,7 @@ module _ {X : Type 0} (count permissions : ℕ) (set_of : X → PlainSet) (grant
     parent = before.parent;
   }) ∙ ap (λ b. cond b (with_granted before role permission) before) (sym may)
 
--- a row of sets without members has no permission
+-- a row of empty sets grants no permission
 granted_nothing : {X : Type 0} (set_of : X → PlainSet) (none : X) (permission : ℕ) →
     (set_of none).has permission ≡ false → (count role : ℕ) →
     has_permission set_of (slice_get (replicate count none) role) permission ≡ false
@@ -97,14 +97,14 @@ granted_nothing set_of none permission empty (suc count) zero =
 granted_nothing set_of none permission empty (suc count) (suc role) =
     granted_nothing set_of none permission empty count role
 
--- a row without parents has none
+-- in a row of `None`, no role has a parent
 no_parent : (count role : ℕ) →
     parent_in (slice_get (replicate {A = Option ℕ} count None) role) ≡ None
 no_parent zero role = refl
 no_parent (suc count) zero = refl
 no_parent (suc count) (suc role) = no_parent count role
 
--- so the roles of such rows are bare
+-- so roles of such rows have no permission and no parent
 pub rows_are_bare : {X : Type 0} (count permissions : ℕ) (set_of : X → PlainSet) (none : X) →
     ((p : ℕ) → (set_of none).has p ≡ false) →
     roles_of count permissions set_of (replicate count none) (replicate {A = Option ℕ} count None)
@@ -116,12 +116,12 @@ rows_are_bare count permissions set_of none empty = λ i. record {
   parent = λ k. no_parent count k i;
 }
 
--- and each parent is lesser
+-- in a row of `None`, each parent is lesser than its role, since there is no parent
 pub none_lesser : (count role parent : ℕ) →
     parent_in (slice_get (replicate {A = Option ℕ} count None) role) ≡ Some parent → parent < role
 none_lesser count role parent is = let no = no_parent count role in absurd (cc)
 
--- a row of parents in which one role has another parent
+-- a row of parents after one role was given another parent
 module _ (parents : List (Option ℕ)) (role parent : ℕ) (inside : role < length parents) where
   parents_written : (k : ℕ) → parent_in (slice_get (set parents role (Some parent)) k)
       ≡ cond (k == role) (Some parent) (parent_in (slice_get parents k))
@@ -133,7 +133,7 @@ module _ (parents : List (Option ℕ)) (role parent : ℕ) (inside : role < leng
       by true = refl
       by false = refl
 
-  -- each is still lesser than its role
+  -- each parent still has a lesser number than its role
   pub lesser_written : parent < role →
       ((k other : ℕ) → parent_in (slice_get parents k) ≡ Some other → other < k) →
       (k other : ℕ) → parent_in (slice_get (set parents role (Some parent)) k) ≡ Some other →
@@ -149,7 +149,7 @@ module _ (parents : List (Option ℕ)) (role parent : ℕ) (inside : role < leng
         (ne_eqb k role apart)) ∙ is)
   ]
 
-  -- the role has that parent
+  -- the role has the parent that it was given
   pub parent_written : parent_in (slice_get (set parents role (Some parent)) role) ≡ Some parent
   parent_written =
       ap parent_in (slice_get_set_same parents role (Some parent) inside)

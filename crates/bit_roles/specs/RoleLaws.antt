@@ -1,4 +1,4 @@
--- What holds of the role machine, whatever is asked of it.
+-- Laws of the role machine, for all requests.
 use Rattle.std.specs.List.{list_any}
 use Rattle.std.specs.Prelude.{◌≡◌, ℕ, suc, ◌<◌, Bool, false, ◌&&◌, ◌||◌, ◌==◌, Some, List}
 use Rattle.bit_roles.specs.Roles.{Roles, ancestor, Allows, HasLesserParents, roles_after, final_roles}

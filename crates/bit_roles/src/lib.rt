@@ -186,8 +186,8 @@ impl<B: BitsOwned, const N: usize> Roles<B, N> {
         }
     }
 
-    /// Serves the requests in their order, and writes an answer to each. There are as many answers
-    /// as requests.
+    /// Serves the requests in their order, and writes an answer to each. `answers` has to be as
+    /// long as `requests`.
     pub fn serve(&mut self, requests: &[Request], answers: &mut [Answer])
         requires { length answers.old ≡ length requests.now }
         ensures answers { answers.new ≡ request_answers (roles_of N B.type_capacity

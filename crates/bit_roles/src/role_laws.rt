@@ -1,6 +1,7 @@
 //! The main theorems of roles: what holds of every list of requests. Each function does nothing:
-//! its contract is the law. The laws speak of the machine of `specs/Roles.antt`, which `serve` runs
-//! by its contract, and of `Allows`, by which the contract of `allows` says what it returns.
+//! its contract is the law. The laws speak of the machine in `specs/Roles.antt`. The contract of
+//! `serve` states that it runs this machine. They also speak of `Allows`, which the contract of
+//! `allows` uses.
 
 ghost use Rattle.bit_roles.specs.RoleLaws.{GrantsAreThoseAskedFor, GrantingTakesNothingAway};
 ghost use Rattle.bit_roles.specs.RoleLaws.{ParentsStayLesser, NoChainComesBack};

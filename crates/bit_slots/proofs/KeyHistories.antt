@@ -1,5 +1,5 @@
--- What follows for every history of calls: no key goes back, one that was removed finds nothing,
--- and none is given twice.
+-- What follows for every history of calls: no key goes back to an earlier stage, a removed key
+-- finds nothing, and no key is given twice.
 use Rattle.std.proofs.Common.{◌≡◌, ℕ, zero, suc, ◌<◌, ◌≤◌, Bool, true, false, cond, Option, is_some, List, [], ◌∷◌, Some, None, inl, inr, refl, sym, ap, ◌∙◌, subst, arith}
 use Rattle.std.specs.Prelude.{◌==◌, slice_get}
 use Rattle.std.proofs.lemmas.Bool.{cases_Bool, eq-eqb, eqb-true, and_parts}
@@ -7,25 +7,25 @@ use Rattle.bit_slots.specs.declared.Key.{Key}
 use Rattle.bit_slots.specs.Keys.{Stage, Stages, Unused, Holds, Spent, found, spent, is_key, IsKeyInserted, IsKeyReplaced, IsRemoved, IsUpdated}
 use Rattle.bit_slots.specs.KeyLaws.{Call, Inserts, Removes, Replaces, Refuses, IsCall, IsHistory, age}
 
--- a key is itself
+-- a key has its own slot and generation
 is_own : (key : Key) → is_key key key.slot key.generation ≡ true
 is_own key = let one = eq-eqb key.slot key.slot refl in
     let other = eq-eqb key.generation key.generation refl in rw (one, other) refl
 
--- after it was inserted a key finds its value
+-- after a key was inserted, it finds its value
 pub key_holds : {V : Type 0} (before after : Stages V) (value : V) (key : Key) →
     IsKeyInserted before value key after → found (after key.slot key.generation) ≡ Some value
 key_holds before after value key is =
     ap found (is.stages key.slot key.generation
     ∙ ap (λ b. cond b (Holds value) (before key.slot key.generation)) (is_own key))
 
--- what was removed finds nothing
+-- a stage that was spent finds nothing
 spent_found : {V : Type 0} (stage : Stage V) → found (spent stage) ≡ None
 spent_found Unused = refl
 spent_found (Holds value) = refl
 spent_found Spent = refl
 
--- after it was removed a key finds nothing
+-- after a key was removed, it finds nothing
 pub key_gone : {V : Type 0} (before after : Stages V) (key : Key) → IsRemoved before key after →
     found (after key.slot key.generation) ≡ None
 key_gone before after key is =
@@ -33,7 +33,7 @@ key_gone before after key is =
     (before key.slot key.generation)) (is_own key))
     ∙ spent_found (before key.slot key.generation)
 
--- a key that had its value changed finds what was made of it
+-- a key whose value was changed finds the changed value
 module _ {V : Type 0} (Makes : V → V → Type 0) (before after : Stages V) (key : Key) where
   key_made : (old value : V) → IsKeyReplaced before key value old after →
       found (after key.slot key.generation) ≡ Some value
@@ -63,7 +63,7 @@ module _ {V : Type 0} (Makes : V → V → Type 0) (before after : Stages V) (ke
   update_makes false is value some =
       let none = ap found (is.1 key.slot key.generation) ∙ is.0 in absurd (cc)
 
--- a key that may be removed goes on
+-- a stage that may become spent does not go back
 spent_goes_on : {V : Type 0} (b : Bool) (stage : Stage V) →
     age stage ≤ age (cond b (spent stage) stage)
 spent_goes_on false stage = omega arith
@@ -77,7 +77,7 @@ spent_is Unused some = absurd (omega arith)
 spent_is (Holds value) some = refl
 spent_is Spent some = refl
 
--- and finds nothing
+-- a key that stands for nothing any more finds nothing
 found_none : {V : Type 0} (stage : Stage V) → 2 ≤ age stage → found stage ≡ None
 found_none Unused old = absurd (omega arith)
 found_none (Holds value) old = absurd (omega arith)
@@ -119,7 +119,7 @@ call_goes_on before after (Replaces key value) is slot generation =
     ]
 call_goes_on before after Refuses is slot generation = omega (arith, ap age (is slot generation))
 
--- nor in a history
+-- no key goes back in a history
 pub goes_on : {V : Type 0} (before after : Stages V) (calls : List (Call V)) →
     IsHistory before calls after → (slot generation : ℕ) →
     age (before slot generation) ≤ age (after slot generation)
@@ -199,7 +199,7 @@ given_once before after (Inserts v k ∷ calls) is key value other zero (suc j) 
 given_once before after (call ∷ calls) is key value other (suc i) (suc j) h a b =
     given_once is.0 after calls is.2 key value other i j (omega arith) a b
 
--- a key whose slot and generation are those of another one is that one
+-- two keys with the same slot and the same generation are the same key
 same_key : (k key : Key) → is_key k key.slot key.generation ≡ true → k ≡ key
 same_key k key own =
     let parts = and_parts (key.slot == k.slot) (key.generation == k.generation) own in
@@ -207,7 +207,7 @@ same_key k key own =
     let generation = eqb-true key.generation k.generation parts.1 in
     sym (λ p. record { slot = slot p; generation = generation p })
 
--- what finds nothing finds nothing once it is removed
+-- a key that finds nothing still finds nothing after a removal
 removed_none : {V : Type 0} (b : Bool) (stage : Stage V) → found stage ≡ None →
     found (cond b (spent stage) stage) ≡ None
 removed_none true stage none = spent_found stage
@@ -236,7 +236,7 @@ stays_none before after (Replaces k value) is key none apart =
     ]
 stays_none before after Refuses is key none apart = ap found (is key.slot key.generation) ∙ none
 
--- so do calls that do not
+-- calls that do not give a key leave it finding nothing
 pub not_given : {V : Type 0} (before after : Stages V) (calls : List (Call V)) →
     IsHistory before calls after → (key : Key) →
     found (before key.slot key.generation) ≡ None →

@@ -9,14 +9,14 @@ use Rattle.bit_slots.specs.Entries.{key_of, entries_from, IsEntry, HasEntry}
 use Rattle.bit_slots.specs.Keys.{Unused, Holds, Spent, found, stage_of, stage_at}
 use Rattle.bit_slots.proofs.SlotChanges.{live_holds}
 
--- the slots past the first stand one number further on
+-- if the slots begin at number `from`, those after the first begin at the next number
 later : {V : Type 0} (row : List (Slot V)) (slot : Slot V) (rest : List (Slot V)) (from : ℕ) →
     ((k : ℕ) → slice_get row (from + k) ≡ slice_get (slot ∷ rest) k) →
     (k : ℕ) → slice_get row (from + 1 + k) ≡ slice_get rest k
 later row slot rest from same k =
     let next : from + 1 + k ≡ from + suc k = omega arith in ap (slice_get row) next ∙ same (suc k)
 
--- so each entry of the slots from one on is an entry of the row
+-- so each entry of the slots from `from` on is an entry of the row
 pub entries_are : {V : Type 0} (row rest : List (Slot V)) (from : ℕ) →
     ((k : ℕ) → slice_get row (from + k) ≡ slice_get rest k) → (k : ℕ) (d : Key × V) →
     k < length (entries_from from rest) → IsEntry row (slice_index_or (entries_from from rest) k d)
@@ -35,7 +35,7 @@ entries_are row (Live generation value ∷ rest) from same (suc k) d h =
     entries_are row rest (from + 1) (later row (Live generation value) rest from same) k d
     (omega arith)
 
--- its slot is one of the row
+-- the slot of an entry is in the row
 pub entry_within : {V : Type 0} (row : List (Slot V)) (entry : Key × V) → IsEntry row entry →
     entry.0.slot < length row
 entry_within row entry is = elim (cases_lt entry.0.slot (length row)) [
@@ -45,7 +45,7 @@ entry_within row entry is = elim (cases_lt entry.0.slot (length row)) [
       (slice_get_past row entry.0.slot g) in absurd (cc)
 ]
 
--- there are no more of them than slots
+-- there are no more entries than slots
 pub entries_at_most : {V : Type 0} (rest : List (Slot V)) (from : ℕ) →
     length (entries_from from rest) ≤ length rest
 entries_at_most [] from = omega arith
@@ -61,7 +61,7 @@ none_found true is_current value e = cc
 none_found false true value e = cc
 none_found false false value e = cc
 
--- a slot of which a generation finds a value holds it in that generation
+-- if a generation of a slot finds a value, the slot holds the value in that generation
 holds_is : {V : Type 0} (slot : Slot V) (generation : ℕ) (value : V) →
     found (stage_of slot generation) ≡ Some value → slot ≡ Live generation value
 holds_is (Free current) generation value is =
@@ -83,7 +83,7 @@ holds_is (Live current held) generation value is = elim (cases_eq generation cur
         stage_of (Live current held) generation ≡ Holds held
     holds low here = rw (low, here) refl
 
--- an entry of a slot counted from the next one, and from this one
+-- an entry keeps its slot whether the slots are counted from this one or from the next one
 counted : {V : Type 0} (entries : List (Key × V)) (from i generation : ℕ) (value : V) →
     HasEntry entries (key_of (from + 1 + i) generation, value) →
     HasEntry entries (key_of (from + suc i) generation, value)
@@ -109,7 +109,7 @@ has_at (Live current held ∷ rest) from (suc i) generation value is =
     let later = counted _ from i generation value (has_at rest (from + 1) i generation value is) in
     (suc later.0, later.1)
 
--- so each key that finds a value has one
+-- so each key that finds a value has an entry
 pub entries_have : {V : Type 0} (row : List (Slot V)) (key : Key) (value : V) →
     IsEntry row (key, value) → HasEntry (entries_from 0 row) (key, value)
 entries_have {V = V} row key value is =
@@ -122,7 +122,7 @@ entries_have {V = V} row key value is =
     by None e = absurd (cc)
     by (Some slot) e = ap Some (holds_is slot key.generation value e)
 
--- the entries of the slots from a number on have their slots from there on
+-- the entries of the slots from `from` on have slots that are at least `from`
 from_there : {V : Type 0} (rest : List (Slot V)) (from i : ℕ) (entry : Key × V) →
     slice_get (entries_from from rest) i ≡ Some entry → from ≤ entry.0.slot
 from_there [] from i entry is = absurd (cc)
@@ -135,7 +135,7 @@ from_there (Live current held ∷ rest) from zero entry is =
 from_there (Live current held ∷ rest) from (suc i) entry is =
     omega (arith, from_there rest (from + 1) i entry is)
 
--- so each has a lesser slot than the next
+-- so each entry has a lesser slot than the next entry
 pub slots_rise : {V : Type 0} (rest : List (Slot V)) (from i : ℕ) (first second : Key × V) →
     slice_get (entries_from from rest) i ≡ Some first →
     slice_get (entries_from from rest) (suc i) ≡ Some second → first.0.slot < second.0.slot

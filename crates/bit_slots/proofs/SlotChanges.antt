@@ -1,4 +1,4 @@
--- What a change of one slot does to what the keys stand for.
+-- How a change of one slot changes what the keys stand for.
 use Rattle.std.proofs.Common.{◌≡◌, ℕ, ◌<◌, ◌≤◌, Bool, true, false, List, length, set, get_or, Some, inl, inr, None, refl, ap, ◌∙◌, arith}
 use Rattle.std.specs.Prelude.{◌==◌, slice_get, Result, Ok, Err}
 use Rattle.std.proofs.lemmas.Bool.{and_parts, cases_Bool, cases_eq, eq-eqb, eqb-true, le-ltb, ne_eqb}
@@ -9,14 +9,15 @@ use Rattle.bit_slots.specs.declared.slot.Slot.TheVariants.{Live}
 use Rattle.bit_slots.specs.declared.Key.{Key}
 use Rattle.bit_slots.specs.Keys.{Unused, Holds, found, is_key, stage_of, stage_at, stages, removed, AreSameKeys, IsExchanged, IsExchangedWith, IsFilled, IsKeyInserted, IsRemoved, IsReplaced, IsUpdated, IsUpdatedIn}
 
--- a slot with a value has it in its generation
+-- a slot that holds a value holds it in its generation
 pub live_holds : {V : Type 0} (generation : ℕ) (value : V) →
     stage_of (Live generation value) generation ≡ Holds value
 live_holds generation value =
     let below = le-ltb generation generation (omega arith) in
     let here = eq-eqb generation generation refl in rw (below, here) refl
 
--- and with another value the other one; its other generations stay
+-- after its value was changed, a slot holds the new value, and its other generations stay as they
+-- are
 pub value_changed : {V : Type 0} (generation : ℕ) (value back : V) →
     IsExchangedWith (Live generation back) generation value back (Live generation value)
 value_changed generation value back = record {
@@ -31,7 +32,7 @@ value_changed generation value back = record {
 }
 
 module _ {V : Type 0} (row : List (Slot V)) (i : ℕ) (d f : Slot V) (h : i < length row) where
-  -- the slot as it stood
+  -- the slot before the change
   pub stood : (slot : ℕ) → slot ≡ i → slice_get row slot ≡ Some (get_or row i d)
   stood slot same = ap (slice_get row) same ∙ slice_get-get_or row i d h
 
@@ -61,7 +62,7 @@ module _ {V : Type 0} (row : List (Slot V)) (i : ℕ) (d f : Slot V) (h : i < le
         ]);
   }
 
-  -- a slot that goes on as it was changes no key
+  -- a slot that stays as it was changes no key
   pub kept_in : f ≡ get_or row i d → AreSameKeys (stages row) (stages (set row i f))
   kept_in same slot generation =
       ap (λ o. stage_at o generation) (slice_get_set row i f h slot)
@@ -102,7 +103,7 @@ module _ {V : Type 0} (row : List (Slot V)) (i : ℕ) (d f : Slot V) (h : i < le
     kept_in is.1,
   )
 
--- a key past the row finds nothing, and a call that changes nothing serves it
+-- a key past the row finds nothing, and a call with it may change nothing
 module _ {V : Type 0} (row : List (Slot V)) (key : Key) (past : length row ≤ key.slot) where
   pub found_past : found (stages row key.slot key.generation) ≡ None
   found_past = ap (λ o. found (stage_at o key.generation)) (slice_get_past row key.slot past)

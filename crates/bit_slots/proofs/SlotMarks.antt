@@ -1,4 +1,4 @@
--- Which slots are of a kind after a change of one, and the sets of them.
+-- Which slots pass a test after a change of one slot, and the sets of these slots.
 use Rattle.std.proofs.Common.{◌≡◌, ◌≢◌, ◌+◌, nat_lt, ℕ, ◌<◌, ◌≤◌, Bool, true, false, not, cond, ◌&&◌, ◌||◌, ◌==◌, List, length, set, get_or, Some, inl, inr, refl, sym, ap, ◌∙◌, arith}
 use Rattle.std.specs.Prelude.{slice_get, MatchBool, Result, Ok, Err}
 use Rattle.std.proofs.lemmas.Bool.{cases_eq, cases_lt, eq-eqb, ne_eqb, lt-ltb, le-ltb, and_right}
@@ -22,7 +22,7 @@ module _ {V : Type 0} (test : Slot V → Bool) (row : List (Slot V)) where
         absurd (cc)
   ]
 
-  -- it passes as it stands in the row
+  -- the slot in the row passes the test
   pub slot_passes : (slot : ℕ) (d : Slot V) → is_slot test row slot ≡ true →
       test (get_or row slot d) ≡ true
   slot_passes slot d here =
@@ -38,7 +38,7 @@ module _ {V : Type 0} (test : Slot V → Bool) (row : List (Slot V)) where
         by true = is
         by false = refl
 
-    -- it does not
+    -- the slot does not pass afterwards
     pub leaves : test f ≡ false → Leaves test row i (set row i f)
     leaves is k = ap (passes test) (slice_get_set row i f h k) ∙ by (k == i)
       where
@@ -47,7 +47,7 @@ module _ {V : Type 0} (test : Slot V → Bool) (row : List (Slot V)) where
         by true = is
         by false = refl
 
-    -- it passes as it did before
+    -- the slot passes exactly if it passed before
     pub stays : test f ≡ test (get_or row i d) → Stays test row (set row i f)
     stays same k = ap (passes test) (slice_get_set row i f h k) ∙ elim (cases_eq k i) [
       | inl here ↦ ap (λ b. passes test (cond b (Some f) (slice_get row k))) (eq-eqb k i here)
@@ -55,14 +55,14 @@ module _ {V : Type 0} (test : Slot V → Bool) (row : List (Slot V)) where
       | inr apart ↦ ap (λ b. passes test (cond b (Some f) (slice_get row k))) (ne_eqb k i apart)
     ]
 
--- a slot that is emptied is free again, or as it was
+-- an emptied slot joins the free slots, or the free slots stay the same
 pub freed : {V : Type 0} (row : List (Slot V)) (i : ℕ) (d f : Slot V) → i < length row →
     (b : Bool) → b ≡ is_free f → is_free (get_or row i d) ≡ false →
     MatchBool b (Joins is_free row i (set row i f)) (Stays is_free row (set row i f))
 freed row i d f h true is was = joins is_free row i d f h (sym is)
 freed row i d f h false is was = stays is_free row i d f h (sym is ∙ sym was)
 
--- a slot whose value changed is free and holds a value as before
+-- after the value of a slot changed, the same slots are free, and the same slots hold a value
 module _ {V : Type 0} (row : List (Slot V)) (i : ℕ) (d f : Slot V) (h : i < length row)
     (generation : ℕ) where
   pub replaced_free : (value : V) (r : Result V V) →
@@ -88,7 +88,7 @@ module _ {V : Type 0} (row : List (Slot V)) (i : ℕ) (d f : Slot V) (h : i < le
 -- a set of the slots that pass a test
 module _ {V : Type 0} (test : Slot V → Bool) (s t : PlainSet) (row next : List (Slot V))
     (marks : HasSlots test s row) where
-  -- where it has no number up to an end past the row, no slot passes
+  -- if the set has no member below an end that is at or past the row's end, no slot passes
   pub none_passes : (to : ℕ) → length row ≤ to → NoneIn s 0 to → (slot : ℕ) →
       is_slot test row slot ≡ false
   none_passes to all none slot = elim (cases_lt slot (length row)) [
@@ -96,23 +96,23 @@ module _ {V : Type 0} (test : Slot V → Bool) (s t : PlainSet) (row next : List
     | inr g ↦ ap (passes test) (slice_get_past row slot g)
   ]
 
-  -- with the slot that came
+  -- the set with the slot that joins
   pub marks_with : (i : ℕ) → i < s.capacity → Joins test row i next → t ≡ with_index s i →
       HasSlots test t next
   marks_with i within joined is k = ap (λ u. u.has k) (is ∙ with_index_within s i within)
       ∙ ap (λ b. (k == i) || b) (marks k) ∙ sym (joined k)
 
-  -- without the slot that left
+  -- the set without the slot that leaves
   pub marks_without : (i : ℕ) → i < s.capacity → Leaves test row i next → t ≡ without_index s i →
       HasSlots test t next
   marks_without i within left is k = ap (λ u. u.has k) (is ∙ without_index_within s i within)
       ∙ ap (λ b. not (k == i) && b) (marks k) ∙ sym (left k)
 
-  -- as it was
+  -- the same set, if the same slots pass
   pub marks_same : Stays test row next → HasSlots test s next
   marks_same same k = marks k ∙ sym (same k)
 
--- so many slots pass a test as its set has members
+-- the set of the slots that pass a test has as many members as there are such slots
 pub size_where : {V : Type 0} (test : Slot V → Bool) (s : PlainSet) (row : List (Slot V)) (c : ℕ) →
     s.capacity ≡ c → HasSlots test s row → size s ≡ size (slots_where test c row)
 size_where test s row c whole marks =
@@ -121,7 +121,7 @@ size_where test s row c whole marks =
       has = λ k. marks k p;
     } in ap size same
 
--- another number is below the next one just if it is below this one
+-- a number other than i is below i + 1 exactly if it is below i
 next : (i k : ℕ) → k ≢ i → nat_lt k i ≡ nat_lt k (i + 1)
 next i k n = elim (cases_lt k i) [
   | inl l ↦ lt-ltb k i l ∙ sym (lt-ltb k (i + 1) (omega arith))
@@ -131,7 +131,7 @@ next i k n = elim (cases_lt k i) [
 -- a set of the slots below one number that pass a test
 module _ {V : Type 0} (test : Slot V → Bool) (s : PlainSet) (row : List (Slot V)) (i : ℕ)
     (marks : MarksBelow test s row i) where
-  -- with the next one
+  -- the set with slot i, if that slot passes
   pub marks_more : (t : PlainSet) → is_slot test row i ≡ true → i < s.capacity →
       t ≡ with_index s i → MarksBelow test t row (i + 1)
   marks_more t here within is k =
@@ -145,7 +145,7 @@ module _ {V : Type 0} (test : Slot V → Bool) (s : PlainSet) (row : List (Slot 
       further : (k : ℕ) → k ≢ i → s.has k ≡ (nat_lt k (i + 1) && is_slot test row k)
       further k n = marks k ∙ ap (λ b. b && is_slot test row k) (next i k n)
 
-  -- where the next one does not pass
+  -- the same set, if slot i does not pass
   pub marks_on : is_slot test row i ≡ false → MarksBelow test s row (i + 1)
   marks_on none k = elim (cases_eq k i) [
     | inl e ↦ marks k ∙ ap (λ b. b && is_slot test row k) (le-ltb k i (omega arith))
@@ -154,13 +154,13 @@ module _ {V : Type 0} (test : Slot V → Bool) (s : PlainSet) (row : List (Slot 
     | inr n ↦ marks k ∙ ap (λ b. b && is_slot test row k) (next i k n)
   ]
 
-  -- with the next one where it passes
+  -- the set after slot i was tested, in either case
   pub marks_step : (t : PlainSet) (b : Bool) → i < s.capacity → is_slot test row i ≡ b →
       t ≡ cond b (with_index s i) s → MarksBelow test t row (i + 1)
   marks_step t true within here is k = marks_more t here within is k
   marks_step t false within none is k = ap (λ u. u.has k) is ∙ marks_on none k
 
-  -- with all of the row
+  -- once each slot of the row was tested, the set has exactly the slots that pass
   pub marks_all : length row ≤ i → HasSlots test s row
   marks_all all k = marks k ∙ elim (cases_lt k i) [
     | inl l ↦ ap (λ b. b && is_slot test row k) (lt-ltb k i l)
@@ -168,13 +168,13 @@ module _ {V : Type 0} (test : Slot V → Bool) (s : PlainSet) (row : List (Slot 
         ∙ sym (ap (passes test) (slice_get_past row k (omega arith)))
   ]
 
--- no slot has a number below the first
+-- the empty set has exactly the slots below 0 that pass
 pub marks_none : {V : Type 0} (test : Slot V → Bool) (s : PlainSet) (row : List (Slot V)) (c : ℕ) →
     s ≡ empty_set c → MarksBelow test s row 0
 marks_none test s row c is k = ap (λ u. u.has k) is
     ∙ sym (ap (λ b. b && is_slot test row k) (le-ltb k 0 (omega arith)))
 
--- a slot of the row passes as it stands
+-- `is_slot` tests the slot that is in the row
 pub slot_is : {V : Type 0} (test : Slot V → Bool) (row : List (Slot V)) (i : ℕ) (d : Slot V) →
     i < length row → is_slot test row i ≡ test (get_or row i d)
 slot_is test row i d h = ap (passes test) (stood row i d d h i refl)

@@ -1,4 +1,4 @@
--- What holds of every history of calls.
+-- Laws of every history of calls.
 use Rattle.std.specs.Prelude.{◌≡◌, ℕ, ◌<◌, ◌≤◌, List, [], ◌∷◌, Some, None, slice_get}
 use Rattle.bit_slots.specs.declared.Key.{Key}
 use Rattle.bit_slots.specs.Keys.{Stage, Stages, Unused, Holds, Spent, found, AreSameKeys, IsKeyInserted, IsKeyReplaced, IsRemoved}
@@ -11,14 +11,14 @@ pub data Call (V : Type 0) : Type 0 where
   Replaces : Key → V → Call V
   Refuses : Call V
 
--- what a call made of the keys
+-- how a call changed the stages of keys
 abbrev pub IsCall : {V : Type 0} → Stages V → Call V → Stages V → Type 0
 IsCall before (Inserts value key) after = IsKeyInserted before value key after
 IsCall before (Removes key) after = IsRemoved before key after
 IsCall {V} before (Replaces key value) after = (old : V) × IsKeyReplaced before key value old after
 IsCall before Refuses after = AreSameKeys before after
 
--- what calls made of the keys, one after the other
+-- how calls, one after the other, changed the stages of keys
 unfoldable pub IsHistory : {V : Type 0} → Stages V → List (Call V) → Stages V → Type 0
 IsHistory before [] after = AreSameKeys before after
 IsHistory {V} before (call ∷ calls) after =

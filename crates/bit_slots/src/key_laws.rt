@@ -1,5 +1,6 @@
-//! What holds of every history of calls. Each function does nothing: its contract is the law. The
-//! clause `stages` of each call says what the call made of the keys, as `IsHistory` asks.
+//! Laws of every history of calls. Each function does nothing: its contract is the law. The clause
+//! `stages` of each call states how the call changed the stages of keys. `IsHistory` requires this
+//! of each call.
 
 ghost use Rattle.bit_slots.specs.KeyLaws.{KeysGoOn, RemovedKeysFindNothing, KeysAreGivenOnce};
 ghost use Rattle.bit_slots.specs.KeyLaws.{KeysNotGivenFindNothing};

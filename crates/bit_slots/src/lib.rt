@@ -3,8 +3,8 @@
 //!
 //! A key names a slot and a generation of it. When a value is taken out, its slot goes on to the
 //! next generation, so the next value in that slot has another key. A slot whose generations are
-//! used up is retired: no key ever means two things. The caller owns the row of slots, and no
-//! memory is allocated.
+//! used up is retired. So no key ever stands for two values. The caller owns the row of slots, and
+//! no memory is allocated.
 //!
 //! ```rust
 //! let mut row = [Slot::new(), Slot::new()];
@@ -171,7 +171,7 @@ impl<'a, V: Drop, B: BitsOwned> Slots<'a, V, B> {
 
     /// Returns an iterator over the keys that find a value, each with its value, in the order of
     /// their slots. It allocates no memory, and reads each slot once. If few slots hold a value,
-    /// the set [`live`](Slots::live) finds these slots by words.
+    /// iterate over the set [`live`](Slots::live) instead, which is read by words.
     pub fn iter(&self) -> Iter<'_, V>
         ensures entries { result ≡ entries self.now.row.slots.now }
         ensures found { All (λ entry. IsEntry self.now.row.slots.now entry) result }
@@ -190,7 +190,7 @@ impl<'a, V: Drop, B: BitsOwned> Slots<'a, V, B> {
     }
 
     /// Returns the value of a key, or `None` if the key finds no value. If it finds one, the key's
-    /// slot is an index of any table as long as the row.
+    /// slot is a valid index of any table that has the row's length.
     pub fn get(&self, key: Key) -> Option<&V>
         ensures value { option_copied result
             ≡ found (stages self.now.row.slots.now key.slot key.generation) }
@@ -208,14 +208,15 @@ impl<'a, V: Drop, B: BitsOwned> Slots<'a, V, B> {
         self.get(key).is_some()
     }
 
-    /// Returns how many slots there are, free ones among them.
+    /// Returns how many slots there are, including the free slots.
     pub fn capacity(&self) -> u32
         ensures { result ≡ length self.now.row.slots.now }
     {
         self.row.slots.len() as u32
     }
 
-    /// Returns how many slots hold a value. Each word of their set is counted at once.
+    /// Returns how many slots hold a value. It counts the set bits of each word of
+    /// [`live`](Slots::live).
     pub fn len(&self) -> u32
         ensures { result ≡ size (slots_where is_live B.type_capacity self.now.row.slots.now) }
     {

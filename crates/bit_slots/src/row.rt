@@ -78,7 +78,7 @@ impl<'a, V: Drop> Row<'a, V> {
         self.slots[key.slot as usize].replace(key.generation, value)
     }
 
-    // Calls a function on the value of a key, and returns whether the key finds one.
+    // Calls a function on the value of a key, and returns whether the key finds a value.
     pub(crate) fn update<F: FnOnce(&mut V)>(&mut self, key: Key, change: F) -> bool
         requires { (value : MutBor V)
             → found (stages self.old.slots.now key.slot key.generation) ≡ Some value.now
@@ -122,7 +122,7 @@ impl<'a, V: Drop> Row<'a, V> {
     }
 }
 
-// Returns the set of the slots that are free. There are no more slots than a `B` has numbers.
+// Returns the set of the slots that are free. There are no more slots than a `B` has bits.
 pub(crate) fn free_slots<V: Drop, B: BitsOwned>(row: &[Slot<V>]) -> B
     requires fits { Fits B.indexable B.type_capacity }
     requires covers { length row.now ≤ B.type_capacity }

@@ -93,7 +93,8 @@ impl<V: Drop> Slot<V> {
         }
     }
 
-    // Calls a function on the value of a generation, and returns whether the slot holds one.
+    // Calls a function on the value of a generation, and returns whether the slot holds such a
+    // value.
     pub(crate) fn update<F: FnOnce(&mut V)>(&mut self, generation: u32, change: F) -> bool
         requires { (value : MutBor V) → found (stage_of self.old generation) ≡ Some value.now
             → F.pre change value }

@@ -54,8 +54,8 @@ pub contains_turned : (s : PlainSet) (i : ℕ) → contains s (i + s.capacity) �
 unfolding contains
 contains_turned s i = ap (λ k. nat_lt 0 s.capacity && s.has k) (add-mod_right i s.capacity)
 
--- if two tests of the numbers below c differ at one number alone, the test that it passes counts
--- one more
+-- if two tests of the numbers below c differ at just one number, the test that this number passes
+-- counts one more
 count_one_more : (c i : ℕ) (s t : ℕ → Bool) → i < c → s i ≡ false → t i ≡ true →
     ((k : ℕ) → k ≢ i → t k ≡ s k) → count_below c t ≡ count_below c s + 1
 unfolding count_below
@@ -206,8 +206,8 @@ contains_outside_span s from to i out l =
     ∙ outside_span (λ _. true) s from to i out
     ∙ sym (contains_within s i l)
 
--- the members below the ends of a span, and how many a change leaves in the span, tell the size
--- after the change
+-- the size after a change of a span, from the members below each end of the span and the number of
+-- members that the change leaves in it
 size_changed : (change : Bool → Bool) (s : PlainSet) (from to : ℕ) → from ≤ to → to ≤ s.capacity →
     size (with_span_changed change s from to) + members_below s to
     ≡ size s + members_below s from + count_below (to - from) (λ k. change (s.has (from + k)))
@@ -256,19 +256,19 @@ size_without_span s from to h l =
     let counted = size_changed (λ _. false) s from to h l in
     omega (arith, counted, count-never (to - from), (below_between s from to h).0)
 
--- ---- the same of a set t that a clause says is the set s after a change. A search finds the clause
--- as a premise, so a caller states a fact of its own value
+-- ---- The same facts for a set t, where a clause states that t is the set s after a change. The
+-- prover's search finds that clause as a premise, so a caller can state a fact about its own value.
 
 -- the index that was set is a member
 pub contains_after_set : (s t : PlainSet) (i : ℕ) → t ≡ with_index s i → 0 < s.capacity →
     contains t i ≡ true
 contains_after_set s t i is some = ap (λ u. contains u i) is ∙ contains_with s i some
 
--- the index that was cleared is none
+-- the index that was cleared is no member
 pub contains_after_clear : (s t : PlainSet) (i : ℕ) → t ≡ without_index s i → contains t i ≡ false
 contains_after_clear s t i is = ap (λ u. contains u i) is ∙ contains_without s i
 
--- a member stays one after another index was set
+-- a member stays a member after another index was set
 pub still_set_after_set : (s t : PlainSet) (i j : ℕ) → t ≡ with_index s i → contains s j ≡ true →
     contains t j ≡ true
 unfolding contains has_with
@@ -280,7 +280,7 @@ still_set_after_set s t i j is has =
     by true = refl
     by false = refl
 
--- an index that is no member stays none after another one was cleared
+-- an index that is no member is still no member after another index was cleared
 pub still_unset_after_clear : (s t : PlainSet) (i j : ℕ) → t ≡ without_index s i →
     contains s j ≡ false → contains t j ≡ false
 unfolding contains has_without
@@ -301,7 +301,7 @@ pub contains_after_set_span : (s t : PlainSet) (from to i : ℕ) → t ≡ with_
 contains_after_set_span s t from to i is low up within =
     ap (λ u. contains u i) is ∙ contains_with_span s from to i low up within
 
--- an index of the range that was cleared is none
+-- an index of the range that was cleared is no member
 pub contains_after_clear_span : (s t : PlainSet) (from to i : ℕ) → t ≡ without_span s from to →
     from ≤ i → i < to → i < s.capacity → contains t i ≡ false
 contains_after_clear_span s t from to i is low up within =

@@ -20,13 +20,13 @@ module _ {S : Type 0} (rest : S → List ℕ) where
   TakesElement s r t = MatchOption r ((length (rest s) ≡ 0) × (t ≡ s))
       (λ x. rest s ≡ x.now ∷ rest t)
 
-  -- the items that a slice's iterator yielded are its first elements
+  -- the items that a slice's iterator yielded are the first elements of the slice
   given_first : (s t : S) (items : List (Bor ℕ)) → Yields TakesElement s items t →
       rest s ≡ map (λ x. x.now) items ++ rest t
   given_first s t [] y = ap rest y
   given_first s t (x ∷ items) y = y.1 ∙ ap (λ r. x.now ∷ r) (given_first y.0 t items y.2)
 
-  -- the item at a member of the mask is the element there
+  -- the answer for a member of the mask is the element at that index
   item_at : (s t : S) (ms : List ℕ) (items answers : List (Bor ℕ)) → Yields TakesElement s items t →
       IsJoin 0 ms items answers → (k : ℕ) → k < length answers →
       get_or (map (λ x. x.now) answers) k 0 ≡ get_or (rest s) (get_or ms k 0) 0
@@ -86,7 +86,7 @@ module _ {S : Type 0} (rest : S → List ℕ) where
   yields_more steps s t u [] x y e = (u, subst (λ v. steps v (Some x) u) (sym y) e, refl)
   yields_more steps s t u (z ∷ xs) x y e = (y.0, y.1, yields_more steps y.0 t u xs x y.2 e)
 
-  -- one more answer is the answer for one more member
+  -- if a join answers once more, it had fewer answers than its mask has members
   pub one_more : (s now next : Join S) (answers : List (Bor ℕ)) (x : Bor ℕ) →
       AnswersItemsAtMembers TakesElement s → Yields (join_steps TakesElement) s answers now →
       join_steps TakesElement now (Some x) next → length answers < length s.mask.remaining

@@ -59,7 +59,7 @@ full_without c s same =
     decided true member = refl
     decided false member = refl
 
--- an operation decides a number below both capacities
+-- below both capacities, a number is in the result as the operation decides
 pub combination_within : (decide : Bool → Bool → Bool) (s t : PlainSet) (i : ℕ) → i < s.capacity →
     i < t.capacity → (combination_of decide s t).has i ≡ decide (s.has i) (t.has i)
 unfolding combination_has

@@ -1,4 +1,4 @@
--- Facts that callers cite on a table of which one place is written.
+-- Facts that callers cite on a table after a write to one place.
 use Rattle.std.proofs.Common.{◌≡◌, ◌≢◌, ℕ, zero, suc, ◌<◌, cond, ◌==◌, Some, List, [], ◌∷◌, length, set, inl, inr, refl, ap, ◌∙◌, arith}
 use Rattle.std.specs.Prelude.{slice_get}
 use Rattle.std.proofs.lemmas.Bool.{cases_eq, eq-eqb, ne_eqb}
@@ -10,7 +10,7 @@ slice_get_set_same [] i x h = absurd (omega (arith, h))
 slice_get_set_same (y ∷ ys) zero x h = refl
 slice_get_set_same (y ∷ ys) (suc i) x h = slice_get_set_same ys i x (omega (arith, h))
 
--- another place has what it had
+-- each other place keeps its value
 pub slice_get_set_other : {X : Type 0} (xs : List X) (i j : ℕ) (x : X) → j ≢ i →
     slice_get (set xs i x) j ≡ slice_get xs j
 slice_get_set_other [] i j x n = refl

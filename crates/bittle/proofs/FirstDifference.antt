@@ -1,4 +1,5 @@
--- The first difference of two sets of words of one width, read in one order, and what it decides.
+-- The first difference of two sets whose words have the same width and are read in the same order,
+-- and what it decides.
 use mathlib.Core.Bool.{beq}
 use Rattle.std.proofs.Common.{◌≡◌, ℕ, ◌<◌, ◌≤◌, ◌⊎◌, ◌↔◌, Bool, true, false, not, IsTrue, inl, inr, Option, Some, None, is_none, is_some, MatchOption, MatchBool, min, refl, sym, ap, ◌∙◌, arith}
 use Rattle.std.proofs.lemmas.Bool.{cases_eq, cases_lt, not-true, false_from_ne_true, true≢false}
@@ -15,7 +16,7 @@ use Rattle.bittle.proofs.ListComparison.{EndsAtCapacity, list_cmp-precedes, equa
 alike : (a b : Bool) → just_one a b ≡ false → a ≡ b
 alike a b h = grind arith
 
--- ---- as far as both sets go
+-- ---- below both capacities
 
 -- the least number found in just one is the first difference, whatever lies past it
 pub some_among : (s t : PlainSet) (n : ℕ) (r : Option ℕ) → is_some r ≡ true →
@@ -31,7 +32,7 @@ pub none_among : (s t : PlainSet) (n : ℕ) (r : Option ℕ) → is_some r ≡ f
 none_among s t n None e h = h
 none_among s t n (Some d) e h = absurd (true≢false e)
 
--- ---- past the words of one side
+-- ---- past the capacity of one side
 
 -- the first set has no member from `from` on, and the second has none from `to` on
 past_first : (s t : PlainSet) (from to : ℕ) (r : Option ℕ) → NoneDecidedBelow just_one s t from →
@@ -72,26 +73,26 @@ pub record AreAlikeInCommon (s t : PlainSet) : Type 0 where
   pub same : NoneDecidedBelow just_one s t (min s.capacity t.capacity)
 
 module _ (s t : PlainSet) (both : AreAlikeInCommon s t) where
-  -- only the second goes on
+  -- the second set has the greater capacity
   pub first_ends : s.capacity < t.capacity → (r : Option ℕ) →
       IsFirstIn t s.capacity t.capacity r → IsDifference s t r
   first_ends h r found = past_first s t s.capacity t.capacity r
       (λ i l. both.same i (omega (arith, h))) both.first both.second found
 
-  -- only the first goes on
+  -- the first set has the greater capacity
   pub second_ends : t.capacity < s.capacity → (r : Option ℕ) →
       IsFirstIn s t.capacity s.capacity r → IsDifference s t r
   second_ends h r found = past_second s t t.capacity s.capacity r
       (λ i l. both.same i (omega (arith, h))) both.second both.first found
 
-  -- neither goes on
+  -- both sets have the same capacity
   pub both_end : s.capacity ≡ t.capacity → AreSame s t
   both_end e i = elim (cases_lt i s.capacity) [
     | inl l ↦ alike _ _ (both.same i (omega (arith, e)))
     | inr g ↦ both.first i g ∙ sym (both.second i (omega (arith, e)))
   ]
 
--- a search from a number on that is not a member
+-- a search that starts at a number which is not a member finds whether a member is greater
 pub past_found : (s : PlainSet) (d to : ℕ) (r : Option ℕ) → s.has d ≡ false →
     ((i : ℕ) → to ≤ i → s.has i ≡ false) → IsFirstIn s d to r →
     MatchBool (is_some r) (HasPast s d) (HasNonePast s d)
@@ -104,17 +105,17 @@ past_found s d to (Some m) lacks past h = elim (cases_lt d m) [
       absurd (true≢false (sym h.2 ∙ ap s.has same ∙ lacks))
 ]
 
--- ---- what it decides
+-- ---- what the first difference decides
 
 differ : (a b : Bool) → just_one a b ≡ true → a ≡ b → ⊥
 differ a b h e = grind arith
 
--- the first index in just one, by the side that has it
+-- the first index that is in just one set decides the order, with the side that has it
 module _ (s t : PlainSet) (d : ℕ) (at : IsFirstDifference s t d) where
   same : AreSameBelow s t d
   same i l = alike _ _ (at.0 i l)
 
-  -- the side that has it comes first exactly if the other goes on past it
+  -- s precedes t if s has d and t goes on past d, or if t has d and s does not go on past d
   pub before : (ours goes_on : Bool) → ours ≡ s.has d → GoesOn ours s t d goes_on →
       beq ours goes_on ≡ true → Precedes s t
   before true true a p e = (d, same, inl (sym a, not-true _ (rw (← a) at at.1), p))
@@ -122,7 +123,7 @@ module _ (s t : PlainSet) (d : ℕ) (at : IsFirstDifference s t d) where
   before true false a p e = absurd (true≢false (sym e))
   before false true a p e = absurd (true≢false (sym e))
 
-  -- the other side comes first exactly if it does not go on past it
+  -- t precedes s if s has d and t does not go on past d, or if t has d and s goes on past d
   pub after : (ours goes_on : Bool) → ours ≡ s.has d → GoesOn ours s t d goes_on →
       beq ours goes_on ≡ false → Precedes t s
   after true false a p e =
@@ -182,12 +183,12 @@ module _ (s t : PlainSet) (ends_s : EndsAtCapacity s) (ends_t : EndsAtCapacity t
   none_equal (Some d) h = sym (false_from_ne_true _ (λ e. differ _ _ h.1
       ((equal_iff_same s t _ (list_cmp-precedes s t ends_s ends_t)).0 e d)))
 
--- a test that fails exactly if there is an index holds exactly if there is none
+-- if a test is false exactly when there is an index, it is true exactly when there is none
 pub none_is : (r : Option ℕ) (b : Bool) → is_some r ≡ not b → b ≡ is_none r
 none_is r true e = sym (ap not e)
 none_is r false e = sym (ap not e)
 
--- there is no such index exactly if the two sets are the same
+-- no index is in just one set exactly if the two sets are the same
 pub none_decides : (s t : PlainSet) (r : Option ℕ) → IsDifference s t r →
     IsTrue (is_none r) ↔ AreSame s t
 none_decides s t None h = (λ x. h, λ y. refl)

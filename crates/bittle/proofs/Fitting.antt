@@ -1,4 +1,4 @@
--- All proofs that a shape fits are one.
+-- All proofs that a shape fits are equal.
 use Rattle.std.proofs.Common.{◌≡◌, ℕ, Bool, false, sym, ap, subst}
 use Rattle.std.proofs.Math.Bool.{Bool-set}
 use Rattle.std.specs.Coded.{le_prop}
@@ -10,7 +10,7 @@ use Rattle.bittle_bits.specs.Shapes.{Fits}
 pub fits_one : (indexable : Bool) (c : ℕ) → IsProp (Fits indexable c)
 fits_one indexable c = hlevel (Bool-set, le_prop)
 
--- a set fits if it fits as it is read in big-endian order
+-- a set fits if the same set, as read in big-endian order, fits
 pub still_fits : (indexable : Bool) (w : ℕ) (s t : PlainSet) → read_in false w s ≡ t →
     Fits indexable t.capacity → Fits indexable s.capacity
 still_fits indexable w s t e = subst (Fits indexable) (sym (ap (λ r. r.capacity) e))

@@ -1,4 +1,4 @@
--- The order of two increasing lists is decided by the least number that is in just one.
+-- The least number that is in just one of two increasing lists decides their order.
 use Rattle.std.proofs.Common.{◌≡◌, ℕ, zero, suc, ◌+◌, ◌-◌, ◌<◌, ◌≤◌, ◌⊎◌, Bool, true, false, List, ◌∷◌, refl, sym, ◌∙◌, ap, subst, inl, inr, arith, IsTrue, ◌↔◌}
 use Rattle.std.proofs.lemmas.Bool.{cases_eq, cases_Bool, cases_lt, lt-ltb, le-ltb, eq-eqb, ne_eqb, true≢false}
 use Rattle.std.specs.declared.cmp.Ordering.{Ordering}
@@ -12,7 +12,7 @@ use Rattle.bittle.specs.Comparison.{list_cmp, AreSame, Precedes}
 abbrev SameIn : (ℕ → Bool) → (ℕ → Bool) → ℕ → ℕ → Type 0
 SameIn A B from to = (i : ℕ) → from ≤ i → i < to → A i ≡ B i
 
--- `Precedes`, for the numbers of a range
+-- `Precedes`, restricted to the numbers of a range
 abbrev BeforeIn : (ℕ → Bool) → (ℕ → Bool) → ℕ → ℕ → Type 0
 BeforeIn A B from to =
     (d : ℕ) × (from ≤ d) × (d < to) × SameIn A B from d
@@ -54,7 +54,7 @@ verdict_more : (A B : ℕ → Bool) (from to : ℕ) (o : Ordering) → A from �
 verdict_more A B from to o e = match_map o (before_more A B from to e) (same_more A B from to e)
     (before_more B A from to (sym e))
 
--- if the first number is in one set alone, the other set's next member decides, if there is one
+-- if only A has the first number, the order depends on whether B has a later member
 one_ahead : (A B : ℕ → Bool) (from n : ℕ) → A from ≡ true → B from ≡ false →
     NonePasses B (suc from) (suc from + n)
     ⊎ ((v : ℕ) × IsLeastPassing B (suc from) (suc from + n) v) →
@@ -152,7 +152,7 @@ before_whole s t to past w = (w.0, (λ i p. w.3 i (omega arith) p), by w.4)
           [ inl l ↦ x.2 m (omega arith) l | inr g ↦ past m g ],
     )
 
--- what decides the order of two sets
+-- the order of two increasing lists is the one that `Precedes` and `AreSame` decide
 pub list_cmp-precedes : (s t : PlainSet) → EndsAtCapacity s → EndsAtCapacity t →
     MatchOrdering (list_cmp (ascending s) (ascending t)) (Precedes s t) (AreSame s t) (Precedes t s)
 list_cmp-precedes s t ends_s ends_t =
@@ -181,7 +181,7 @@ not_both s t w h =
       | inr x ↦ true≢false (sym x.1 ∙ sym (h w.0) ∙ x.0)
     ]
 
--- the order is `Equal` exactly if the two are the same
+-- the order is `Equal` exactly if the two sets are the same
 pub equal_iff_same : (s t : PlainSet) (o : Ordering) →
     MatchOrdering o (Precedes s t) (AreSame s t) (Precedes t s) → IsTrue (is_eq o) ↔ AreSame s t
 equal_iff_same s t Less h = (λ x. absurd (true≢false (sym x)), λ y. absurd (not_both s t h y))

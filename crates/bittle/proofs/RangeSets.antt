@@ -60,7 +60,7 @@ module _ (s : PlainSet) (from : ℕ) where
           let a = and_parts (nat_le from f.0) (k == f.0 % s.capacity) f.2 in
           omega (arith, leb-true from f.0 a.0, f.1))
 
-  -- a range with one more index
+  -- a range with one more index is the range, and then that index put in
   with_range-more : (end : ℕ) → from ≤ end →
       with_range s from (end + 1) ≡ with_index (with_range s from end) end
   unfolding has_with_range has_with some_below
@@ -120,7 +120,7 @@ module _ (s : PlainSet) (from : ℕ) where
       ∙ with_span-more s start (start + count) (from + count) some next (omega arith)
       ∙ ap (with_span s start) (omega arith)
 
-  -- a range with `count` indexes, if these are enough
+  -- if `count` indexes are enough, the range of that many indexes gives the set of the whole range
   range_whole : (count end : ℕ) (now : PlainSet) → IsEnough s from count end →
       now ≡ with_range s from (from + count) → now ≡ with_range s from end
   range_whole count end now r e =

@@ -9,7 +9,7 @@ use Rattle.bittle.specs.declared.replay.steps.Step.{Step}
 use Rattle.bittle_bits.specs.Walk.{Walk, IsScanBounded, count_after}
 use Rattle.bittle.specs.ListEnds.{answer_of, items_left_by, answers_of, items_given, AreScanBounded}
 
--- the first k steps of `steps` were taken, from the list `all`
+-- the first k steps of `steps` were taken, and they took their items from the list `all`
 pub record IsReplayed (k : ℕ) (steps : List Step) (all : List ℕ) (words : ℕ) (walk : Walk)
     (answers : List (Option ℕ)) (scans : List ℕ) : Type 0 where
   pub told : take k answers ++ answers_of (drop k steps) walk.remaining ≡ answers_of steps all
@@ -37,7 +37,7 @@ push_each P xs y old new j h =
     rw (e, get_or-append_seam xs y [] 0) new)
     (cases_lt j (length xs))
 
--- one more answer, and the scans up to it
+-- the list of scans stays bounded after one more answer, with the number of scans up to it
 pub bounded_push : (scans : List ℕ) (answers : List (Option ℕ)) (words scan : ℕ)
     (answer : Option ℕ) → AreScanBounded scans answers words →
     ((j : ℕ) → j < length scans → slice_index scans j ≤ scan) →
@@ -69,7 +69,7 @@ bounded_push scans answers words scan answer t below lo hi =
           scans scan (λ j b. rw (early j b) (t.at_most j b)) (rw late hi);
     }
 
--- one turn of the loop
+-- one iteration of the loop in `run`
 pub replayed_more : (k : ℕ) (steps : List Step) (all : List ℕ) (words : ℕ) (walk next : Walk)
     (answers : List (Option ℕ)) (scans : List ℕ) (d : Step) (answer : Option ℕ) →
     k < length steps → length answers ≡ length steps →

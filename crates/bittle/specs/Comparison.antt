@@ -28,7 +28,7 @@ AreSame s t = (i : ℕ) → s.has i ≡ t.has i
 abbrev pub AreSameBelow : PlainSet → PlainSet → ℕ → Type 0
 AreSameBelow s t n = (i : ℕ) → i < n → s.has i ≡ t.has i
 
--- two values that fit, whose words have one width, and their capacities
+-- two values that fit and whose words have the same width, and their capacities
 pub record AreCompared {V W X Y : Type 0} (a : shape.Ghosts V W) (b : shape.Ghosts X Y) (left : V)
     (right : X) (n m : ℕ) : Type 0 where
   pub width : a.width ≡ b.width

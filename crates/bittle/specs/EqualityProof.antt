@@ -8,8 +8,8 @@ use Rattle.bittle_bits.specs.Orders.{place, read_in}
 use Rattle.bittle_bits.specs.PlainSet.{PlainSet, ascending, ascending_from}
 use Rattle.bittle.specs.Comparison.{list_eq}
 
--- two sets of the same capacity, a whole number of words, are equal if the lists of their members
--- in an order are equal
+-- two sets are equal if their capacity is the same whole number of words, and the lists of their
+-- members in one order are equal
 pub equal_sets : (mirrored : Bool) (w c : ℕ) → 0 < w → (words : ℕ) × (c ≡ words * w) →
     (s t : PlainSet) → s.capacity ≡ c → t.capacity ≡ c →
     ((i : ℕ) → s.capacity ≤ i → s.has i ≡ false) → ((i : ℕ) → t.capacity ≤ i → t.has i ≡ false) →

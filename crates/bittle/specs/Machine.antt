@@ -1,5 +1,5 @@
--- The plain-set machine: its state is a plain set, and each call has a reply and a next state. No
--- word, order or element occurs in it.
+-- The plain-set machine: its state is a plain set, and each call has a reply and a next state. It
+-- mentions no word, no bit order and no array element.
 use Rattle.std.specs.Prelude.{◌-◌, ◌==◌, List}
 use Rattle.std.specs.List.{fold, scan}
 use Rattle.bittle_bits.specs.PlainSet.{PlainSet, contains, with_index, without_index, without_members, size}

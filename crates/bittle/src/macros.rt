@@ -15,11 +15,11 @@ use bittle_bits::endian::{BigEndian, Endian, LittleEndian};
 /// is `a..=b`, `a..b` or `a..`, and its bounds are literals; `a..` ends at the capacity. A range
 /// that ends before it starts sets nothing.
 ///
-/// The use of the macro has to determine the type, and the type has to fit. The empty set costs
-/// O(words), an index O(1), and a range one mask for each word of the range. An index past the
-/// capacity wraps. With capacity 0 the set is empty.
+/// The use of the macro has to determine the type, and the type has to fit. Making the empty set
+/// costs O(words). Each index then costs O(1), and each range costs one mask for each word of the
+/// range. An index past the capacity wraps. With capacity 0 the set is empty.
 ///
-/// The macro makes no constant. In place of a constant, write a function that returns the set.
+/// The macro cannot make a `const`. Write a function that returns the set instead.
 ///
 /// ```
 /// let mask: u8 = bittle::set![0, 2..=3, 6..];         // 0b1100_1101
@@ -178,8 +178,8 @@ pub fn put_through_in<B: BitsMut, E: Endian>(bits: &mut B, from: u32, to: u32)
 }
 
 // These functions make the set of a list with two indexes and each kind of range, one function for
-// each macro. The crate `bittle_uses`, of proved callers, has the other lists, in which each kind
-// of item stands before another.
+// each macro. The crate `bittle_uses`, of proved callers, has lists with such items in other
+// orders.
 fn listed<B: BitsOwned>(a: u32, b: u32) -> B
     requires { IsTrue B.indexable }
     ensures { set_in B.Shape B.Order.Endian result ≡ listed_set B.type_capacity a b }

@@ -28,8 +28,8 @@ mod operators;
 /// Iteration, comparison, hashing and debug text use the remembered order too.
 ///
 /// The wrapped value always fits: its capacity, and that of every array type inside, is below
-/// `u32::MAX`. So the only condition that a call puts on the set is `from <= to <= capacity`, for a
-/// range or a search. If a call takes another set of any shape, that set has to fit.
+/// `u32::MAX`. So a call on the set has just one condition: `from <= to <= capacity`, for a range
+/// or a search. If a call takes another set of any shape, that set has to fit.
 ///
 /// ```
 /// let set = Set::new_le(0b1101_0000u8);

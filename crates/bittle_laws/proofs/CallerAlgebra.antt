@@ -1,4 +1,4 @@
--- The laws of operations, said of what a call returns, for callers to name.
+-- The laws of operations, stated of what a call returns. Callers name these lemmas.
 use Rattle.std.proofs.Common.{◌≡◌, ℕ, Bool, false, ◌||◌, refl, ◌∙◌}
 use Rattle.std.proofs.Math.Bool.{or_comm}
 use Rattle.bittle.specs.BitPatterns.{bit_set}
@@ -12,7 +12,7 @@ use Rattle.bittle_laws.specs.AlgebraLaws.{IsBelow}
 below : (w x : ℕ) → IsBelow w (bit_set w x)
 below w x = record { has_capacity = refl; none_past = bit_has-past w x }
 
--- what two words have together is the union of the second and the first, too
+-- the union of two words is also the union of the second and the first
 pub union_either_way : (w x y z : ℕ) →
     ((mirrored : Bool) → read_in mirrored w (bit_set w z)
     ≡ union_of (read_in mirrored w (bit_set w x)) (read_in mirrored w (bit_set w y))) →

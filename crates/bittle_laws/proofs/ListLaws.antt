@@ -1,4 +1,4 @@
--- The increasing list of a set rises, and has its members.
+-- The list of a set's members is increasing, and contains exactly the members.
 use Rattle.std.proofs.Common.{ℕ, zero, suc, ◌<◌, ◌≤◌, Bool, true, false, cond, ◌∷◌, length, get_or, arith}
 use Rattle.bittle.specs.PlainSet.{ascending_from}
 use Rattle.bittle.proofs.CallerLists.{ascending_below, ascending_has}
@@ -39,7 +39,7 @@ items_rise p from (suc n) j k o h = by (p from) (item_from p (suc from) n)
     by true on up (suc j) (suc k) o l = up j k (omega arith) (omega arith)
     by false on up j k o l = up j k o l
 
--- the items of every set rise, and are its members
+-- the list of every set is increasing, and contains exactly its members
 pub increases : ListsIncrease
 increases s = record {
   rises = items_rise s.has 0 s.capacity;

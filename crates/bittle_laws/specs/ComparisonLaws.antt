@@ -1,4 +1,5 @@
--- What holds of the order, the equality and the feed of any sets, whatever their shapes and orders.
+-- Laws of how sets are ordered, tested for equality and hashed, whatever their shapes and bit
+-- orders.
 use Rattle.std.specs.Prelude.{◌≡◌, true}
 use Rattle.std.specs.Cmp.{IsTotalOrder}
 use Rattle.std.specs.Ordering.{on, is_eq, ordering_reverse}
@@ -9,22 +10,22 @@ use Rattle.bittle.specs.Comparison.{list_cmp, list_eq, feed}
 abbrev pub OrderIsTotal : Type 0
 OrderIsTotal = IsTotalOrder (on ascending list_cmp)
 
--- two sets are equal exactly where the order says so
+-- two sets are equal exactly if their order is `Equal`
 abbrev pub OrderAgreesWithEquality : Type 0
 OrderAgreesWithEquality = (s t : PlainSet) →
     list_eq (ascending s) (ascending t) ≡ is_eq (list_cmp (ascending s) (ascending t))
 
--- the order of two sets reverses with its sides
+-- the order of two sets is reversed if the two change places
 abbrev pub OrderReverses : Type 0
 OrderReverses = (s t : PlainSet) → list_cmp (ascending t) (ascending s)
     ≡ ordering_reverse (list_cmp (ascending s) (ascending t))
 
--- equality is the same from both sides
+-- equality is symmetric
 abbrev pub EqualityIsSymmetric : Type 0
 EqualityIsSymmetric = (s t : PlainSet) →
     list_eq (ascending t) (ascending s) ≡ list_eq (ascending s) (ascending t)
 
--- equal sets give one feed
+-- equal sets feed the same to a hasher
 abbrev pub EqualSetsFeedAlike : Type 0
 EqualSetsFeedAlike = (s t : PlainSet) → list_eq (ascending s) (ascending t) ≡ true →
     feed (ascending s) ≡ feed (ascending t)

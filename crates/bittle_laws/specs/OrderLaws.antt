@@ -24,11 +24,12 @@ MembersMirror one other w s = (i : ℕ) → (read_in one w s).has i
 abbrev pub MirroringTwiceIsNothing : Type 0
 MirroringTwiceIsNothing = (w i : ℕ) → 0 < w → mirror w (mirror w i) ≡ i
 
--- mirroring takes the indexes below a capacity of whole words to indexes below it
+-- mirroring takes an index below a capacity of whole words to an index below that capacity
 abbrev pub MirroringStaysBelow : Type 0
 MirroringStaysBelow = (w words i : ℕ) → 0 < w → i < words * w → mirror w i < words * w
 
--- each index below a capacity of whole words is the mirrored index of one below it
+-- each index below a capacity of whole words is the mirrored index of some index below that
+-- capacity
 abbrev pub MirroringReachesAll : Type 0
 MirroringReachesAll = (w words i : ℕ) → 0 < w → i < words * w →
     (j : ℕ) × (j < words * w) × (mirror w j ≡ i)

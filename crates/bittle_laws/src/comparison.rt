@@ -1,5 +1,5 @@
-//! Laws of the order, the equality and the feed of sets, of any two shapes: each function makes no
-//! calls, and its contract is the law.
+//! Laws of how two sets of any shapes are ordered, tested for equality and hashed. Each function
+//! makes no calls, and its contract is the law.
 
 ghost use Rattle.bittle_laws.specs.ComparisonLaws.{OrderIsTotal, OrderAgreesWithEquality, OrderReverses, EqualityIsSymmetric, EqualSetsFeedAlike};
 
@@ -8,22 +8,22 @@ pub fn order_is_total()
     ensures { OrderIsTotal }
 {}
 
-/// States that two sets are equal exactly where the order says so.
+/// States that two sets are equal exactly if their order is `Equal`.
 pub fn order_agrees_with_equality()
     ensures { OrderAgreesWithEquality }
 {}
 
-/// States that the order of two sets, of any two shapes, reverses with its sides.
+/// States that the order of two sets, of any two shapes, is reversed if the two change places.
 pub fn order_reverses()
     ensures { OrderReverses }
 {}
 
-/// States that whether two sets, of any two shapes, are equal is the same from both sides.
+/// States that the equality of two sets, of any two shapes, is symmetric.
 pub fn equality_is_symmetric()
     ensures { EqualityIsSymmetric }
 {}
 
-/// States that equal sets feed a hasher alike.
+/// States that equal sets feed the same numbers to a hasher.
 pub fn equal_sets_feed_alike()
     ensures { EqualSetsFeedAlike }
 {}

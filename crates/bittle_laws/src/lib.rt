@@ -1,8 +1,9 @@
-//! Laws of what the library's contracts speak of: each is the contract of a function that does
-//! nothing.
+//! Laws of the sets and orders in the library's contracts. Each law is the contract of a function
+//! that does nothing.
 //!
-//! The library needs none of them, and no call is here: the sets, their calls and the contracts
-//! stand in `bittle`, and the laws that the impls of its traits give stand beside those.
+//! The library needs none of these laws, and this crate adds no calls. The sets, their calls and
+//! the contracts are in `bittle` and `bittle_bits`. So are the laws of the traits, which each impl
+//! proves.
 #![tactic(auto)]
 
 pub mod algebra;

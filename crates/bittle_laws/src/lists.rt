@@ -2,7 +2,7 @@
 
 ghost use Rattle.bittle_laws.specs.ListLaws.{ListsIncrease};
 
-/// States that the list of the members rises, and has just the members.
+/// States that the list of the members is increasing, and contains exactly the members.
 pub fn lists_increase()
     ensures { ListsIncrease }
 {}

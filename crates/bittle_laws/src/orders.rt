@@ -1,5 +1,5 @@
-//! What holds of the two orders and of every set: each function makes no calls, and its contract is
-//! the law.
+//! Laws of the two orders, and of every set in the two orders. Each function makes no calls, and
+//! its contract is the law.
 
 ghost use Rattle.std.specs.Prelude.{◌≡◌, true, false};
 ghost use Rattle.bittle_laws.specs.OrderLaws.{PlacesAreInTheWord, PlacesAreDistinct, PlacesMirror, MembersMirror, MirroringTwiceIsNothing, MirroringStaysBelow, MirroringReachesAll, TestingWraps};
@@ -7,15 +7,16 @@ ghost use Rattle.bittle.specs.Values.{set_in};
 
 use bittle::{BigEndian, Bits, DefaultEndian, Endian, LittleEndian};
 
-/// States that the first index is the bit of greatest weight in little-endian order, and not in
-/// big-endian order, the default.
+/// States that index 0 is the bit of greatest weight in little-endian order, but not in big-endian
+/// order, which is the default.
 pub fn the_default_order_is_big_endian()
     ensures little { ⟦<LittleEndian as Endian>⟧.mirrored ≡ true }
     ensures big { ⟦<BigEndian as Endian>⟧.mirrored ≡ false }
     ensures default { ⟦<DefaultEndian as Endian>⟧.mirrored ≡ false }
 {}
 
-/// States that each index below the width has one place in its word, and each place one index.
+/// States that each index below the width has a place in its word, and that no two indexes have the
+/// same place.
 pub fn each_index_has_its_place<E: Endian>()
     ensures inside { PlacesAreInTheWord E.mirrored }
     ensures distinct { PlacesAreDistinct E.mirrored }
@@ -29,8 +30,8 @@ pub fn orders_mirror_each_other()
         ⟦<LittleEndian as Endian>⟧.mirrored }
 {}
 
-/// States that mirroring maps the indexes below a capacity of whole words onto themselves, and
-/// undoes itself.
+/// States that mirroring twice changes no index, and that mirroring maps the indexes below a
+/// capacity of whole words onto themselves.
 pub fn mirroring_undoes_itself()
     ensures twice { MirroringTwiceIsNothing }
     ensures below { MirroringStaysBelow }
@@ -44,7 +45,7 @@ pub fn sets_mirror_each_other<B: Bits>(bits: &B)
         B.width (B.big bits.now) }
 {}
 
-/// States that testing an index is testing it modulo the capacity.
+/// States that the test of an index is the test of that index modulo the capacity.
 pub fn testing_wraps<B: Bits, E: Endian>(bits: &B)
     ensures { TestingWraps (set_in B.Shape E.Endian bits.now) }
 {}

@@ -1,5 +1,5 @@
-//! The law that the ones and the zeros of a set are all numbers below its capacity, as the contract
-//! of a function that does nothing.
+//! The law that each number below the capacity of a set is a one (a set bit) or a zero (an unset
+//! bit). It is the contract of a function that does nothing.
 
 ghost use Rattle.bittle_laws.specs.CountLaws.{OnesAndZerosPartition};
 

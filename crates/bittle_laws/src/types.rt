@@ -1,5 +1,5 @@
-//! The order of each type, for calls that name none. Each function makes no calls, and its contract
-//! is the law.
+//! The order that each type has for calls that name no order. Each function makes no calls, and its
+//! contract is the law.
 
 ghost use Rattle.std.specs.Prelude.{◌≡◌, false};
 
@@ -26,14 +26,14 @@ pub fn arrays_are_big_endian<T: BitsOwned, const N: usize>()
     ensures { ⟦<<[T; N] as Bits>::Order as Endian>⟧.mirrored ≡ false }
 {}
 
-/// States that each slice, shared or lent, is read in big-endian order, whatever the order of its
-/// elements.
+/// States that each slice, shared or mutable, is read in big-endian order, whatever the order of
+/// its elements.
 pub fn slices_are_big_endian<'a, T: BitsOwned + 'a>()
     ensures shared { ⟦<<&'a [T] as Bits>::Order as Endian>⟧.mirrored ≡ false }
     ensures lent { ⟦<<&'a mut [T] as Bits>::Order as Endian>⟧.mirrored ≡ false }
 {}
 
-/// States that calls which name no order read a `Set` in the one that it remembers.
+/// States that calls which name no order read a `Set` in the order that it remembers.
 pub fn sets_remember_their_order<T: Bits, U: Endian>()
     ensures { ⟦<<Set<T, U> as Bits>::Order as Endian>⟧.mirrored ≡ U.mirrored }
 {}

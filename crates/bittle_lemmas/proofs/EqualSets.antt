@@ -1,4 +1,4 @@
--- When two sets are equal: where they have one capacity and the same members.
+-- Two sets are equal if they have the same capacity and the same members.
 use Rattle.std.proofs.Common.{◌≡◌, ℕ, ◌<◌, inl, inr, refl, sym, ◌∙◌}
 use Rattle.std.proofs.Math.Path.{fun_ext}
 use Rattle.std.proofs.lemmas.Bool.{cases_lt}
@@ -13,7 +13,8 @@ pub same_if_each : (s t : PlainSet) → s.capacity ≡ t.capacity →
     ((k : ℕ) → s.has k ≡ t.has k) → s ≡ t
 same_if_each s t same each = λ j. plain_set (same j) (fun_ext each j)
 
--- two words of one width stand for one set if each number below the width is in both or in neither
+-- two words of the same width stand for the same set if each number below the width is in both or
+-- in neither
 pub same_bits_if_each : (w a b : ℕ) →
     ((k : ℕ) → k < w → contains (bit_set w a) k ≡ contains (bit_set w b) k) →
     bit_set w a ≡ bit_set w b

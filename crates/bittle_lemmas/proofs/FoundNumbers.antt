@@ -1,4 +1,4 @@
--- What a search for an unset bit found, in a set or in a union of two.
+-- Facts about the index that a search for an unset bit found, in a set or in a union of two sets.
 use Rattle.std.proofs.Common.{◌≡◌, ℕ, ◌+◌, ◌<◌, ◌≤◌, Bool, true, false, not, ◌||◌, nat_lt, Option, Some, inl, inr, refl, sym, ap, ◌∙◌, subst, arith}
 use Rattle.std.proofs.lemmas.Bool.{and_parts, cases_lt, ltb-true, not-false, not-true, true≢false}
 use Rattle.bittle.specs.PlainSet.{PlainSet, complement, contains, is_in_span, lacks, size}
@@ -9,7 +9,7 @@ use Rattle.bittle_ext.specs.RangeMembers.{members_within}
 use Rattle.bittle_ext.specs.Runs.{IsFirstRun}
 use Rattle.bittle_ext.proofs.CallerMembers.{unset_where_found}
 
--- what is found is below the capacity and no member
+-- a number that was found unset is below the capacity, and is no member
 pub found_below : (s : PlainSet) (i : ℕ) → lacks s i ≡ true → i < s.capacity
 unfolding lacks
 found_below s i found =
@@ -20,7 +20,7 @@ unfolding lacks
 none_where_found s i found =
     not-true (s.has i) (and_parts (nat_lt i s.capacity) (not (s.has i)) found).1
 
--- each number of the range is a member where none was found unset
+-- if a search of a range found no unset number, each number of the range is a member
 pub set_if_none_unset : (s : PlainSet) (from to k : ℕ) → NoneIn (complement s) from to →
     to ≤ s.capacity → from ≤ k → k < to → contains s k ≡ true
 set_if_none_unset s from to k none within low high =
@@ -46,7 +46,7 @@ in_either_below_found s t from to i k first one other low below =
     ∙ sym (contains_within (either_of s t) k (omega (arith, ours)))
     ∙ set_below_found (either_of s t) from to i k first (omega (arith, one)) low below
 
--- what a search of a view finds is what a search finds of the set that the view is
+-- a search of a view finds the same as a search of the set that the view equals
 pub first_in_same : (s t : PlainSet) (from to : ℕ) (r : Option ℕ) → s ≡ t →
     IsFirstIn s from to r → IsFirstIn t from to r
 first_in_same s t from to r same is = subst (λ (u : PlainSet). IsFirstIn u from to r) same is
@@ -72,12 +72,12 @@ not_full_if_found s i found = elim (cases_lt (size s) s.capacity) [
       ∙ none_where_found s i found))
 ]
 
--- if it is not so that one of two is true, neither is
+-- if the disjunction of two values is false, both are false
 pub neither : (a b : Bool) → not (a || b) ≡ true → (a ≡ false) × (b ≡ false)
 neither true b e = absurd (true≢false (sym e))
 neither false b e = (refl, not-true b e)
 
--- what is found in a union is unset in each of the two sets
+-- an index that was found unset in a union is unset in each of the two sets
 pub unset_in_first : (s t : PlainSet) (i : ℕ) → lacks (either_of s t) i ≡ true →
     i < s.capacity → contains s i ≡ false
 unset_in_first s t i found below =

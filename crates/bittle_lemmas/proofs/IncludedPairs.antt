@@ -1,4 +1,4 @@
--- Sets that a set keeps, where they change too.
+-- A set that includes another one, after the same change of both.
 use Rattle.std.proofs.Common.{◌≡◌, ℕ, ◌==◌, ◌<◌, true, ◌||◌, inl, inr, sym, ap, ◌∙◌, arith}
 use Rattle.std.proofs.Math.Bool.{or-true}
 use Rattle.std.proofs.lemmas.Bool.{cases_Bool}
@@ -7,7 +7,7 @@ use Rattle.bittle_ext.specs.ReservedSpans.{includes}
 use Rattle.bittle_ext.proofs.CallerMembers.{has_with_index}
 use Rattle.bittle_ext.proofs.IncludedSets.{each_if_includes, includes_if_each}
 
--- a set stays included after an index was set in both
+-- the first set still includes the second after an index was set in both
 pub includes_after_both : (s t r q : PlainSet) (i : ℕ) → t ≡ with_index s i → q ≡ with_index r i →
     i < s.capacity → i < r.capacity → includes s r ≡ true → includes t q ≡ true
 includes_after_both s t r q i is also below within kept = includes_if_each t q (λ k up has.

@@ -1,4 +1,4 @@
--- Sets after each index of a list was set, member by member, and tests of the increasing list.
+-- The members of a set after each index of a list was set.
 use Rattle.std.proofs.Common.{◌≡◌, ℕ, ◌==◌, ◌<◌, Bool, true, false, ◌||◌, List, [], ◌∷◌, All, inl, inr, refl, sym, ap, ◌∙◌}
 use Rattle.std.specs.List.{fold, list_any}
 use Rattle.std.proofs.lemmas.Bool.{cases_eq, eq-eqb, ne_eqb}
@@ -7,7 +7,7 @@ use Rattle.bittle.specs.PlainSet.{PlainSet, contains, with_index}
 use Rattle.bittle.proofs.CallerSets.{contains_within}
 use Rattle.bittle_ext.proofs.CallerMembers.{has_with_index}
 
--- below the capacity an index is a member after it was set, or where it was one
+-- after an index was set, a number is a member if it is that index, or if it was a member before
 pub contains_with_index : (s : PlainSet) (i k : ℕ) → i < s.capacity → k < s.capacity →
     contains (with_index s i) k ≡ ((k == i) || contains s k)
 contains_with_index s i k low up =

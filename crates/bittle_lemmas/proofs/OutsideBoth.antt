@@ -1,4 +1,4 @@
--- What lies outside of a union, as the squares that are neither occupied nor attacked.
+-- What lies outside of a union, such as the squares that are neither occupied nor attacked.
 use Rattle.std.proofs.Common.{◌≡◌, ℕ, ◌<◌, true, false, not, ◌||◌, sym, ap, ◌∙◌, arith}
 use Rattle.bittle.specs.PlainSet.{PlainSet, complement, lacks}
 use Rattle.bittle.specs.SetOperations.{union_of}
@@ -22,7 +22,7 @@ pub disjoint_from_first : (r u s t : PlainSet) → r ≡ complement u → u ≡ 
     t.capacity ≡ s.capacity → AreDisjoint r s
 disjoint_from_first r u s t is both same i has = (outside r u s t i is both same has).0
 
--- nor with the second
+-- what lies outside of a union shares no number with the second set
 pub disjoint_from_second : (r u s t : PlainSet) → r ≡ complement u → u ≡ union_of s t →
     t.capacity ≡ s.capacity → AreDisjoint r t
 disjoint_from_second r u s t is both same i has = (outside r u s t i is both same has).1

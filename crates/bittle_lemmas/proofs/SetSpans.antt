@@ -1,4 +1,4 @@
--- Spans of a set, after a caller set one.
+-- Facts about a set and its spans, after a caller set a span or an index.
 use Rattle.std.proofs.Common.{◌≡◌, ℕ, ◌+◌, ◌-◌, ◌<◌, ◌≤◌, ◌⊎◌, Bool, true, false, cond, inl, inr, refl, sym, ap, ◌∙◌, arith}
 use Rattle.std.proofs.lemmas.Bool.{cases_lt}
 use Rattle.bittle.specs.PlainSet.{PlainSet, contains, has_changed, is_in_span, size, with_index, with_span}
@@ -12,7 +12,7 @@ use Rattle.bittle_ext.proofs.CallerSpans.{has_outside_set_span}
 use Rattle.bittle_ext.proofs.RankFacts.{below_stays}
 use Rattle.bittle_ext.proofs.UnsetSpans.{lacks_span_if_none, none_if_lacks_span}
 
--- a set has as many members more as a span that was set, if it had none there
+-- if a span had no members, setting it adds as many members as the span is long
 pub size_after_set_span_new : (s t : PlainSet) (from to : ℕ) → t ≡ with_span s from to →
     from ≤ to → to ≤ s.capacity → NoneIn s from to → size t ≡ size s + (to - from)
 size_after_set_span_new s t from to is ordered within none =
@@ -20,7 +20,7 @@ size_after_set_span_new s t from to is ordered within none =
     let change = ap size is ∙ size_with_span s from to ordered within in
     omega (arith, same, change)
 
--- a member stays one after a span was set
+-- a member stays a member after a span was set
 pub still_set_after_set_span : (s t : PlainSet) (from to i : ℕ) → t ≡ with_span s from to →
     i < s.capacity → contains s i ≡ true → contains t i ≡ true
 unfolding has_changed
@@ -33,7 +33,7 @@ still_set_after_set_span s t from to i is below has =
     either_way true = refl
     either_way false = refl
 
--- a member then lies in the span or was one before
+-- after a span was set, each member lies in the span or was a member before
 pub in_span_or_before : (s t : PlainSet) (from to i : ℕ) → t ≡ with_span s from to →
     t.has i ≡ true → ((from ≤ i) × (i < to)) ⊎ (s.has i ≡ true)
 in_span_or_before s t from to i is has = elim (cases_lt i from) [
@@ -44,7 +44,7 @@ in_span_or_before s t from to i is has = elim (cases_lt i from) [
   ]
 ]
 
--- a set of which all from a number on are unset has at most as many members as that number
+-- a set has at most `from` members if each number from `from` on is unset
 pub size_before_span : (s : PlainSet) (from to : ℕ) → lacks_span s from to ≡ true →
     from ≤ s.capacity → s.capacity ≤ to → size s ≤ from
 size_before_span s from to lacked within past = omega (

@@ -1,4 +1,4 @@
--- Tests of a range, as a caller states them of single bits.
+-- Tests of a range, for callers that state them of single bits.
 use Rattle.std.proofs.Common.{◌≡◌, ℕ, ◌<◌, ◌≤◌, Bool, true, IsTrue, MatchBool, ◌↔◌, sym, ◌∙◌, arith}
 use Rattle.bittle.specs.PlainSet.{PlainSet, contains}
 use Rattle.bittle.proofs.CallerSets.{contains_within}

@@ -20,7 +20,7 @@ pub IsGiven-failed : {W E : Type 0} (contents : W → Option (List ℕ)) (a b : 
 IsGiven-failed contents a b (Ok outcome) given failed h = absurd (true≢false (sym failed))
 IsGiven-failed contents a b (Err e) given failed h = (tt, h)
 
--- an output got the first of all the answers, and these are left
+-- an output got the first answers of `all`, and `left` has the rest
 pub record IsUnderWay {W : Type 0} (contents : W → Option (List ℕ)) (a b : Output W)
     (all left : Answers) : Type 0 where
   pub text : HasPut contents a b all.text left.text
@@ -62,7 +62,8 @@ IsGiven-failed_at contents a b r left rest reply failed is h = rw is
     (IsGiven-failed contents a b r (prepend reply rest) failed
     (puts-failed_before _ _ r a.waiting (reply ++ rest.text) reply rest.text b.waiting refl failed h))
 
--- a line that is a command is answered, and then the lines after it by the set it leaves
+-- a line that is a command is answered, and then the lines after it, from the set that the command
+-- leaves
 pub answers_step : (s t : PlainSet) (all lines : List (ℕ × List ℕ)) (number : ℕ) (line : List ℕ)
     (command : Command)
     → all ≡ (number, line) ∷ lines → (length line == 0) ≡ false → command_of line ≡ Some command →

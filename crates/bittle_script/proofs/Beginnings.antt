@@ -5,7 +5,7 @@ use Rattle.std.specs.Io.KnownBytes.{Appends}
 use Rattle.std.proofs.KnownBytes.{Appends-nil, Appends-trans}
 use Rattle.bittle_script.specs.Beginnings.{AppendsBeginning, HasBegun}
 
--- a beginning of the first part
+-- a beginning of the first part is a beginning of both parts
 pub begins-before : (a b : Option (List ℕ)) (xs ys : List ℕ) → AppendsBeginning a b xs →
     AppendsBeginning a b (xs ++ ys)
 begins-before a b xs ys h = record {
@@ -28,7 +28,8 @@ begun-then a b c all left rest h k = record {
   split = h.split ∙ ap (λ l. h.done ++ l) k.split ∙ sym (append_assoc h.done k.done rest);
 }
 
--- where the first of some bytes were written, bytes behind them are left
+-- if a beginning of `xs` was written and `left` is its rest, then of `xs ++ ys`, `left ++ ys` is
+-- left
 pub begun-before : (a b : Option (List ℕ)) (xs left ys : List ℕ) → HasBegun a b xs left →
     HasBegun a b (xs ++ ys) (left ++ ys)
 begun-before a b xs left ys h = record {
@@ -37,7 +38,7 @@ begun-before a b xs left ys h = record {
   split = ap (λ l. l ++ ys) h.split ∙ append_assoc h.done left ys;
 }
 
--- once a beginning of the bytes that are left is written, one of all of them is
+-- once a beginning of the bytes that are left is written, a beginning of all the bytes is written
 pub begun-failed : (a b c : Option (List ℕ)) (all left : List ℕ) → HasBegun a b all left →
     AppendsBeginning b c left → AppendsBeginning a c all
 begun-failed a b c all left h k = record {
@@ -47,7 +48,7 @@ begun-failed a b c all left h k = record {
   appends = Appends-trans a b c h.done k.front h.appends k.appends;
 }
 
--- once the bytes that are left are written whole, all of them are, and none is left
+-- once the bytes that are left are written whole, all the bytes are written, and no byte is left
 pub begun-all : (a b c : Option (List ℕ)) (all left : List ℕ) → HasBegun a b all left →
     Appends b c left → HasBegun a c all []
 begun-all a b c all left h k = begun-then a b c all left [] h

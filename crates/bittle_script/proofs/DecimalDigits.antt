@@ -1,4 +1,4 @@
--- What the parser of integers reads of digits.
+-- How the integer parser reads digits.
 use Rattle.std.proofs.Common.{◌≡◌, ℕ, ◌<◌, Bool, true, false, List, [], ◌∷◌, length, refl, arith, rules, Result, Ok, Err, Some, None}
 use Rattle.std.specs.Prelude.{nat_lt, ◌&&◌, if◌then◌else◌}
 use Rattle.std.specs.Char.{is_ascii_digit}
@@ -30,7 +30,7 @@ by_tests (Err e) n v l b h digits = by_refusal (nat_lt 0 n) (nat_lt v l) b v dig
       by_refusal true false true v digits no' = refl
       by_refusal true true true v digits no' = absurd (no' refl refl)
 
--- of digits the parser gives the number that they say, or an error where none fits
+-- the parser returns the number that digits say, or an error if the number does not fit
 pub number_parsed : {E : Type 0} (bs : List ℕ) (r : Result ℕ E) → ParsesUnsigned 32 10 bs r →
     list_all is_ascii_digit bs ≡ true → result_ok r ≡ number_of bs
 number_parsed bs r h digits = by_tests r (length bs) (digits_value 10 bs) 4294967296

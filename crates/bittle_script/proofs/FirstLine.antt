@@ -5,7 +5,7 @@ use Rattle.std.specs.Prelude.{◌==◌, not, position, if◌then◌else◌, nat_
 use Rattle.std.specs.List.{position_or_len}
 use Rattle.bittle_script.specs.Texts.{lines_of, onto_first, without_return, script_lines}
 
--- the place of the first byte 10, or the length where there is none
+-- the place of the first byte 10, or the length if there is none
 abbrev pub end_of_line : List ℕ → ℕ
 end_of_line text = position_or_len (λ b. b == 10) text
 

@@ -22,19 +22,19 @@ pub puts-failed_before : {T E : Type 0} (a b : Option (List ℕ)) (r : Result T 
 puts-failed_before a b r p bytes xs ys left is failed h = puts-failed a b r (p ++ bytes) left failed
     (subst (AppendsBeginning a b) (part p bytes xs ys is) (begins-before a b (p ++ xs) ys h))
 
--- all the bytes that were left were put, or failed
+-- the call put all the bytes that were left, or failed
 pub put-rest : {T E : Type 0} (a b c : Option (List ℕ)) (r : Result T E) (all left rest : List ℕ) →
     HasBegun a b all left → Begins b c r left rest → Begins a c r all rest
 put-rest a b c (Ok x) all left rest h k = begun-then a b c all left rest h k
 put-rest a b c (Err e) all left rest h k = begun-failed a b c all left h k
 
--- where the first part was put, the second is left
+-- once the first part was put, the second is left
 pub put-first : (a b : Option (List ℕ)) (p q bytes xs ys : List ℕ) → bytes ≡ xs ++ ys →
     HasBegun a b (p ++ xs) q → HasBegun a b (p ++ bytes) (q ++ ys)
 put-first a b p q bytes xs ys is h = subst (λ l. HasBegun a b l (q ++ ys)) (part p bytes xs ys is)
     (begun-before a b (p ++ xs) q ys h)
 
--- the first part was put, and then the second as far as it went
+-- after the first part was put, the second was put, or failed after a beginning
 pub puts-after : {T E : Type 0} (a b c : Option (List ℕ)) (r : Result T E)
     (p q s bytes xs ys : List ℕ) → bytes ≡ xs ++ ys → HasBegun a b (p ++ xs) q →
     Begins b c r (q ++ ys) s → Begins a c r (p ++ bytes) s
@@ -48,7 +48,7 @@ pub put-more : (a b c : Option (List ℕ)) (p q s all left next rest : List ℕ)
 put-more a b c p q s all left next rest h is k = begun-then a b c (p ++ all) (q ++ left) (s ++ rest)
     h (put-first b c q s left next rest is k)
 
--- of all the bytes the next part failed
+-- the call failed at the next part of all the bytes
 pub put-more_failed : (a b c : Option (List ℕ)) (p q all left next rest : List ℕ) →
     HasBegun a b (p ++ all) (q ++ left) → left ≡ next ++ rest → AppendsBeginning b c (q ++ next) →
     AppendsBeginning a c (p ++ all)

@@ -10,7 +10,7 @@ use Rattle.bittle_script.specs.ProgramRuns.{MayBeAnswered, refusal_answers, inpu
 too_long : (text : List ℕ) → 4096 < length text → refusal_answers TooLong ≡ input_answers text
 too_long text long = rw (lt-ltb 4096 (length text) long) refl
 
--- a refusal is allowed, and that of a text too long where the text is that long
+-- each refusal is allowed, but `TooLong` only if the text is that long
 pub refusal_allowed : (remaining : Option (List ℕ)) (refusal : Refusal) →
     (refusal ≡ TooLong → IfSome remaining (λ text. 4096 < length text)) →
     MayBeAnswered remaining (refusal_answers refusal)

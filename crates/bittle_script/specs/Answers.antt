@@ -40,7 +40,7 @@ after_command s (Test i) = s
 after_command s Count = s
 after_command s Ones = s
 
--- what is printed of a line that is not understood
+-- what is printed for a line that is not understood
 abbrev pub refusal_of : ℕ → List ℕ
 refusal_of number = codes "line " ++ decimal number ++ codes ": not understood\n"
 
@@ -57,14 +57,14 @@ refusal_at number = record { text = refusal_of number; outcome = Refused }
 abbrev pub prepend : List ℕ → Answers → Answers
 prepend text rest = record { text = text ++ rest.text; outcome = rest.outcome }
 
--- a line that is no command is refused; else what `rest` answers from the set after the command
--- follows
+-- if a line is no command, it is refused; else the answer to its command, and then what `rest`
+-- answers from the set after the command
 abbrev pub command_answers : PlainSet → ℕ → Option Command → (PlainSet → Answers) → Answers
 command_answers s number None rest = refusal_at number
 command_answers s number (Some command) rest = prepend (command_text s command)
     (rest (after_command s command))
 
--- the answers of a set to lines with their numbers, of which the empty ones are passed over
+-- the answers to numbered lines, from a set; empty lines are skipped
 abbrev pub line_answers : PlainSet → List (ℕ × List ℕ) → Answers
 line_answers s [] = record { text = []; outcome = Answered }
 line_answers s (line ∷ lines) = if length line.1 == 0 then line_answers s lines else command_answers
@@ -75,7 +75,7 @@ abbrev pub header_in : List (ℕ × List ℕ) → Option Header
 header_in [] = None
 header_in (line ∷ lines) = header_of line.1
 
--- the answers to the lines after the first, of a set that begins empty
+-- the answers to the lines after the first, from an empty set
 abbrev pub header_answers : Option Header → List (ℕ × List ℕ) → Answers
 header_answers None lines = refusal_at 1
 header_answers (Some header) lines = line_answers (empty_set (capacity_of header.shape)) lines

@@ -1,4 +1,5 @@
--- What writing leaves of the bytes that were to be written.
+-- Which of the bytes to write were written, and which are left. Known bytes are the contents of a
+-- writer, if they are known.
 use Rattle.std.specs.Prelude.{◌≡◌, List, ℕ, Option, Result, ◌++◌, MatchResult}
 use Rattle.std.specs.Io.KnownBytes.{Appends}
 
@@ -9,7 +10,7 @@ pub record AppendsBeginning (old new : Option (List ℕ)) (bytes : List ℕ) : T
   pub split : bytes ≡ front ++ rest
   pub appends : Appends old new front
 
--- known bytes grew by the first of all the bytes, and these are left
+-- known bytes grew by a beginning of `all`, and `left` is the rest of `all`
 pub record HasBegun (old new : Option (List ℕ)) (all left : List ℕ) : Type 0 where
   pub done : List ℕ
   pub appends : Appends old new done
@@ -21,8 +22,8 @@ abbrev pub Writes : {T E : Type 0} → Option (List ℕ) → Option (List ℕ) �
 Writes old new r bytes = MatchResult r (λ _. Appends old new bytes)
     (λ _. AppendsBeginning old new bytes)
 
--- known bytes grew by the first of all the bytes, and these are left, or at `Err` by a beginning of
--- them all
+-- known bytes grew by a beginning of all the bytes, and the rest is left; or at `Err`, they just
+-- grew by a beginning of all the bytes
 abbrev pub Begins : {T E : Type 0} → Option (List ℕ) → Option (List ℕ) → Result T E → List ℕ →
     List ℕ → Type 0
 Begins old new r all left = MatchResult r (λ _. HasBegun old new all left)

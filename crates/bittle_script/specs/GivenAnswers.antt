@@ -12,7 +12,7 @@ abbrev pub IsGiven : {W E : Type 0} → (W → Option (List ℕ)) → Output W �
 IsGiven contents old new r given = IfOk r (λ outcome. outcome ≡ given.outcome)
     × Puts contents old new r given.text
 
--- an output got what may be answered, or failed after a beginning of it
+-- an output got answers that are possible for the input, or failed after a beginning of them
 abbrev pub IsAnswered : {W E : Type 0} → Option (List ℕ) → (W → Option (List ℕ)) → Output W →
     Output W → Result Outcome E → Type 0
 IsAnswered remaining contents old new r = (given : Answers) × MayBeAnswered remaining given

@@ -1,4 +1,4 @@
--- What a run writes, of what it reads.
+-- What a run writes, depending on what it reads.
 use Rattle.std.specs.Prelude.{◌≡◌, ℕ, List, Option, ◌⊎◌, IfSome, nat_lt, length, if◌then◌else◌}
 use Rattle.std.specs.Io.KnownBytes.{Appends}
 use Rattle.bittle_script.specs.declared.answering.Outcome.{Outcome}
@@ -18,7 +18,7 @@ abbrev pub input_answers : List ℕ → Answers
 input_answers text = if nat_lt 4096 (length text) then refusal_answers TooLong else script_answers
     text
 
--- the answers to what the reader has left, or that it could not be read
+-- the answers to what the reader has left, or the refusal because a read failed
 abbrev pub MayBeAnswered : Option (List ℕ) → Answers → Type 0
 MayBeAnswered remaining given = ((text : List ℕ) × IfSome remaining (λ all. text ≡ all)
     × (given ≡ input_answers text)) ⊎ (given ≡ refusal_answers ReadFailed)
@@ -28,8 +28,8 @@ abbrev pub status_of : Outcome → ℕ
 status_of Answered = 0
 status_of Refused = 2
 
--- the answers were written whole, and the status says which they are; or a beginning of them was,
--- and it is 1
+-- either the answers were written whole and the status is that of their outcome, or a beginning of
+-- them was written and the status is 1
 pub record IsRun (remaining old new : Option (List ℕ)) (status : ℕ) : Type 0 where
   pub given : Answers
   pub allowed : MayBeAnswered remaining given

@@ -16,7 +16,7 @@ use crate::writing::{Output, WriteFailed};
 use bittle::{BigEndian, Bits, BitsMut, BitsOwned, Endian, LittleEndian, Set, set};
 use std::io::Write;
 
-/// How a run ended whose output did not fail.
+/// How a run ended, if its output did not fail.
 #[derive(Clone, Copy)]
 pub enum Outcome {
     Answered = 0,
@@ -49,7 +49,7 @@ pub fn answer<W: Write>(text: &[u8], output: &mut Output<'_, W>) -> Result<Outco
     }
 }
 
-/// Takes the first line, and returns what it says, or `None` where it is not understood.
+/// Takes the first line, and returns what it says, or `None` if it is not understood.
 fn take_header(lines: &mut Lines<'_>) -> Option<Header>
     ensures header { result ≡ header_in (lines_left lines.old) }
     ensures rest { OnSome result (lines_left lines.new ≡ drop 1 (lines_left lines.old)) }
@@ -73,7 +73,7 @@ fn answer_in_order<W: Write>(
     }
 }
 
-/// Answers the lines by a value of the shape.
+/// Answers the lines. The set is a value of the shape.
 fn answer_shape<E: Endian, W: Write>(
     shape: Shape,
     lines: Lines<'_>,
@@ -92,7 +92,8 @@ fn answer_shape<E: Endian, W: Write>(
     }
 }
 
-/// Answers the lines by a value of one type, which begins empty and is read in one order.
+/// Answers the lines. The set is a value of the type `B`, begins empty and is read in the order
+/// `E`.
 fn answer_lines<B: BitsOwned, E: Endian, W: Write>(
     lines: Lines<'_>,
     output: &mut Output<'_, W>,
@@ -123,7 +124,7 @@ fn empty_value<B: BitsOwned>() -> B
     set![]
 }
 
-/// Does what a command asks for, and prints what it answers.
+/// Carries out a command, and prints the answer of a command that has one.
 fn obey<B: BitsOwned, E: Endian, W: Write>(
     command: Command,
     bits: &mut B,
@@ -191,7 +192,7 @@ fn print_members<B: BitsOwned, E: Endian, W: Write>(
     output.put(b"\n")
 }
 
-/// Says that the line with this number is not understood.
+/// Prints that the line with this number is not understood.
 fn refuse<W: Write>(number: u32, output: &mut Output<'_, W>) -> Result<Outcome, WriteFailed>
     ensures same_writer { output.new.writer.ghost_name ≡ output.old.writer.ghost_name }
     ensures refused { IsGiven W.contents output.old output.new result

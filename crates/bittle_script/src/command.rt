@@ -24,7 +24,7 @@ pub enum Command {
 impl Command {
     ghost use Rattle.bittle_script.specs.Commands.{command_of, indexed_command_of};
 
-    /// Returns the command that a line says, or `None` where it says none.
+    /// Returns the command that a line says, or `None` if the line is no command.
     pub fn parse(line: &[u8]) -> Option<Command>
         ensures { result ≡ command_of line.now }
     {
@@ -35,7 +35,8 @@ impl Command {
         }
     }
 
-    /// Returns the command that a line says by a word and an index, or `None`.
+    /// Returns the command of a line that is a word, a space and an index, or `None` for another
+    /// line.
     fn parse_indexed(line: &[u8]) -> Option<Command>
         ensures { result ≡ indexed_command_of line.now }
     {
@@ -51,7 +52,8 @@ impl Command {
     }
 }
 
-/// Returns the number that one or more digits say, or `None` where it does not fit.
+/// Returns the number that one or more digits say. For other text, or if the number does not fit in
+/// a `u32`, it returns `None`.
 fn parse_number(digits: &[u8]) -> Option<u32>
     ensures { result ≡ number_of digits.now }
 {
@@ -64,7 +66,7 @@ fn parse_number(digits: &[u8]) -> Option<u32>
     text.parse().ok()
 }
 
-// The parser of integers takes a sign too.
+// Returns whether a text has only digits. The integer parser alone would accept a sign too.
 fn are_digits(text: &[u8]) -> bool
     ensures { result ≡ list_all is_ascii_digit text.now }
 {

@@ -1,12 +1,12 @@
 //! What the first line says of the set.
 ghost use Rattle.std.specs.Prelude.{◌≡◌};
 
-/// The order in which the digits of each word are read.
+/// The order in which the bits of each word are indexed.
 #[derive(Clone, Copy)]
 pub enum Order {
-    /// `be`: the first index is the digit of least weight.
+    /// `be`: index 0 is the bit of least weight.
     Big,
-    /// `le`: the first index is the digit of greatest weight.
+    /// `le`: index 0 is the bit of greatest weight.
     Little,
 }
 
@@ -28,7 +28,7 @@ pub enum Shape {
 impl Shape {
     ghost use Rattle.bittle_script.specs.Headers.{shape_of};
 
-    /// Returns the shape with this name, or `None` where none has it.
+    /// Returns the shape with this name, or `None` if no shape has it.
     fn parse(name: &[u8]) -> Option<Shape>
         ensures { result ≡ shape_of name.now }
     {
@@ -60,7 +60,7 @@ pub struct Header {
 impl Header {
     ghost use Rattle.bittle_script.specs.Headers.{header_of};
 
-    /// Returns the order and the shape that a first line names, or `None`.
+    /// Returns the order and the shape that a first line names, or `None` if it names none.
     pub fn parse(line: &[u8]) -> Option<Header>
         ensures { result ≡ header_of line.now }
     {

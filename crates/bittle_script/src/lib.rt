@@ -1,4 +1,4 @@
-//! Runs scripts: keeps a small set as the lines of an input say, and writes the answers.
+//! Runs scripts. The lines of a script change and test a small set, and the answers are written.
 #![tactic(auto)]
 
 mod answering;
@@ -24,7 +24,7 @@ use writing::{Output, WriteFailed};
 const OUTPUT_FAILED: u8 = 1;
 
 /// Reads a script, writes the answers to it, and returns the status that the program ends with: 0,
-/// or 2 where the input is refused, or 1 where the output failed.
+/// or 2 if the input is refused, or 1 if the output failed.
 pub fn run<R: Read, W: Write>(input: &mut R, output: &mut W) -> RunStatus
     ensures status { result ≤ 2 }
     ensures answered { IsRun (R.remaining input.old) (W.contents output.old)
@@ -37,8 +37,8 @@ pub fn run<R: Read, W: Write>(input: &mut R, output: &mut W) -> RunStatus
     })
 }
 
-/// The status that a program ends with. Only [`run`] makes one, so that a `main` which returns it
-/// ends as a run did.
+/// The status that a program ends with. Only [`run`] makes one. So a `main` that returns a
+/// `RunStatus` ends with the status of a run.
 #[derive(Drop)]
 pub struct RunStatus(u8);
 
@@ -67,7 +67,7 @@ impl Termination for RunStatus {
     }
 }
 
-/// Answers the input, and flushes.
+/// Answers the input, and flushes the output.
 fn answer_and_flush<R: Read, W: Write>(
     input: &mut R,
     output: &mut Output<'_, W>,

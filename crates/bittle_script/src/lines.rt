@@ -64,7 +64,7 @@ impl<'a> Iterator for Lines<'a> {
 }
 
 #[tactic(auto, using(crate::proofs::FirstLine::first_script_line, crate::proofs::FirstLine::only_script_line))]
-/// Returns the first line of a text that has one, without its end, and what comes after it.
+/// Returns the first line of a text that is not empty, without its line end, and the text after it.
 fn first_line(text: &[u8]) -> (&[u8], &[u8])
     requires { 0 < length text.now }
     ensures lines { script_lines text.now ≡ result.0.now ∷ script_lines result.1.now }
@@ -76,14 +76,14 @@ fn first_line(text: &[u8]) -> (&[u8], &[u8])
     }
 }
 
-// Where the first line ends at a byte 10.
+// Returns the index of the first line feed (byte 10), where the first line ends.
 fn end_of_line(text: &[u8]) -> Option<usize>
     ensures { result ≡ position (λ b. b == 10) text.now }
 {
     text.iter().position(|byte| *byte == b'\n')
 }
 
-// The line without one byte 13 at its end.
+// Returns the line without the carriage return (byte 13) at its end, if there is one.
 fn without_return(line: &[u8]) -> &[u8]
     ensures { result.now ≡ without_return line.now }
 {

@@ -8,7 +8,7 @@ use std::io::{Error, ErrorKind, Read};
 /// The most bytes that an input may have.
 pub const MOST_BYTES: usize = 4096;
 
-/// One more byte than an input may have, so that a longer one is noticed.
+/// One more byte than an input may have, so that a longer input is noticed.
 pub const ROOM: usize = 4097;
 
 /// The most calls of `read` in a run.
@@ -19,7 +19,7 @@ const MOST_READS: u32 = 8192;
 pub enum Refusal {
     /// It has more than 4,096 bytes.
     TooLong,
-    /// A read failed, or the end did not come in 8,192 calls.
+    /// A read failed, or 8,192 reads did not reach the end of the input.
     ReadFailed,
 }
 
@@ -37,7 +37,7 @@ impl Refusal {
     }
 }
 
-/// Reads all there is to the start of `bytes`, and returns how many bytes there are.
+/// Reads the whole input into the start of `bytes`, and returns how many bytes it has.
 pub fn read_all<R: Read>(input: &mut R, bytes: &mut [u8; ROOM]) -> Result<usize, Refusal>
     ensures fits { IfOk result (λ len. len ≤ MOST_BYTES) }
     ensures all { IfOk result

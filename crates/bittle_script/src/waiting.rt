@@ -24,7 +24,7 @@ impl Model for Waiting {
 }
 
 impl Waiting {
-    /// Returns no bytes.
+    /// Returns a buffer in which no bytes wait.
     pub fn new() -> Self
         ensures { result ≡ [] }
     {
@@ -34,14 +34,14 @@ impl Waiting {
         }
     }
 
-    /// Returns how many there are.
+    /// Returns how many bytes wait.
     pub fn len(&self) -> usize
         ensures { result ≡ length self.now }
     {
         self.len
     }
 
-    /// Returns whether no more may wait.
+    /// Returns whether the buffer is full.
     pub fn is_full(&self) -> bool
         ensures full { result ≡ true → length self.now ≡ 4096 }
         ensures room { result ≡ false → length self.now < 4096 }
@@ -58,14 +58,14 @@ impl Waiting {
         self.len += 1;
     }
 
-    /// Returns the bytes.
+    /// Returns the bytes that wait.
     pub fn as_slice(&self) -> &[u8]
         ensures { result.now ≡ self.now }
     {
         &self.bytes[..self.len]
     }
 
-    /// Forgets the bytes.
+    /// Removes the bytes.
     pub fn clear(&mut self)
         ensures { self.new ≡ [] }
     {

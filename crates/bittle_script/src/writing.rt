@@ -1,4 +1,4 @@
-//! Writes to the output, few times, and counts the writes that were interrupted.
+//! Writes to the output in few calls, and counts the calls that were interrupted.
 ghost use Rattle.std.specs.Prelude.{◌<◌, ◌≤◌, ◌≡◌, ◌↔◌, IsErr, OnOk, ◌+◌, ◌∷◌, ◌++◌, []};
 ghost use Rattle.std.specs.Fmt.{decimal};
 ghost use Rattle.std.specs.IoError.{error_kind};
@@ -9,14 +9,14 @@ use crate::reading::is_interrupted;
 use crate::waiting::Waiting;
 use std::io::{Error, ErrorKind, Write};
 
-/// At this many interrupted writes a run fails.
+/// A run fails once this many writes were interrupted.
 const MOST_INTERRUPTED: u32 = 8192;
 
-/// The output failed, and nothing more is written. Only this module can say so.
+/// The output failed, and nothing more is written. Only this module makes such a value.
 #[derive(Debug, Drop)]
 pub struct WriteFailed(());
 
-/// What a run writes to. The bytes wait until there are many of them, or until it is flushed.
+/// The output of a run. Bytes wait in a buffer until it is full, or until the output is flushed.
 #[derive(Drop)]
 pub struct Output<'a, W> {
     writer: &'a mut W,
@@ -28,8 +28,7 @@ pub struct Output<'a, W> {
 impl<'a, W: Write> Output<'a, W> {
     ghost use Rattle.bittle_script.specs.Outputs.{Puts};
 
-    /// Returns the output to a writer, of which no write was interrupted yet, and in which nothing
-    /// waits.
+    /// Returns an output to a writer. No write was interrupted yet, and no bytes wait.
     pub fn new(writer: &'a mut W) -> Self
         ensures same_writer { result.writer.ghost_name ≡ writer.entry.ghost_name }
         ensures contents { result.writer.now ≡ writer.old }
@@ -43,7 +42,8 @@ impl<'a, W: Write> Output<'a, W> {
         }
     }
 
-    /// Puts `bytes` behind what waits, or fails after a beginning of all that.
+    /// Adds `bytes` to the bytes that wait. If it fails, only a beginning of all these bytes was
+    /// written.
     pub fn put(&mut self, bytes: &[u8]) -> Result<(), WriteFailed>
         ensures same_writer { self.new.writer.ghost_name ≡ self.old.writer.ghost_name }
         ensures puts { Puts W.contents self.old self.new result bytes.now }
@@ -55,7 +55,7 @@ impl<'a, W: Write> Output<'a, W> {
         Ok(())
     }
 
-    /// Puts a number in digits.
+    /// Adds a number, in decimal digits.
     pub fn put_number(&mut self, number: u32) -> Result<(), WriteFailed>
         ensures same_writer { self.new.writer.ghost_name ≡ self.old.writer.ghost_name }
         ensures puts { Puts W.contents self.old self.new result (decimal number) }
@@ -67,7 +67,7 @@ impl<'a, W: Write> Output<'a, W> {
         self.put_byte(b'0' + (number % 10) as u8)
     }
 
-    /// Puts `before`, and then a number in digits.
+    /// Adds `before`, and then a number in decimal digits.
     pub fn put_after(&mut self, before: &[u8], number: u32) -> Result<(), WriteFailed>
         ensures same_writer { self.new.writer.ghost_name ≡ self.old.writer.ghost_name }
         ensures puts { Puts W.contents self.old self.new result (before.now ++ decimal number) }
@@ -77,7 +77,7 @@ impl<'a, W: Write> Output<'a, W> {
         self.put_number(number)
     }
 
-    /// Writes what waits, and flushes the writer.
+    /// Writes the bytes that wait, and flushes the writer.
     pub fn flush(&mut self) -> Result<(), WriteFailed>
         ensures same_writer { self.new.writer.ghost_name ≡ self.old.writer.ghost_name }
         ensures bytes { Writes (W.contents self.old.writer.now)
@@ -89,7 +89,7 @@ impl<'a, W: Write> Output<'a, W> {
         self.writer.flush().map_err(|_| WriteFailed(()))
     }
 
-    // Puts a byte behind what waits.
+    // Adds a byte to the bytes that wait. If the buffer is full, it first writes them.
     fn put_byte(&mut self, byte: u8) -> Result<(), WriteFailed>
         ensures same_writer { self.new.writer.ghost_name ≡ self.old.writer.ghost_name }
         ensures puts { Puts W.contents self.old self.new result (byte ∷ []) }
@@ -102,7 +102,7 @@ impl<'a, W: Write> Output<'a, W> {
         Ok(())
     }
 
-    // Writes what waits, after which nothing does.
+    // Writes the bytes that wait. After that no bytes wait.
     fn send(&mut self) -> Result<(), WriteFailed>
         ensures same_writer { self.new.writer.ghost_name ≡ self.old.writer.ghost_name }
         ensures bytes { Writes (W.contents self.old.writer.now)
@@ -122,7 +122,7 @@ impl<'a, W: Write> Output<'a, W> {
         Ok(())
     }
 
-    // Counts one more interrupted write, and fails at the last one, as at any other error.
+    // Counts an interrupted write. Fails if it is one too many, or at any other error.
     fn note_failure(&mut self, error: &Error) -> Result<(), WriteFailed>
         ensures same_writer { self.new.writer ≡ self.old.writer }
         ensures same_bytes { self.new.waiting ≡ self.old.waiting }

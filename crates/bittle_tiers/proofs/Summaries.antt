@@ -21,7 +21,8 @@ use Rattle.bittle_bits.proofs.Sizes.{size-complement}
 use Rattle.bittle_bits.proofs.Words.{word_has-at, word_ends}
 use Rattle.bittle_tiers.specs.Tiers.{even_summary, some_in_word, StopsAtBit, Summarizes, SummarizesBelow, SameWordsBut, TellsAround}
 
--- any two proofs that a map may be summarized are the same, and any two that a summary tells of it
+-- any two proofs that a map may have a summary are equal; so are any two proofs that the summary is
+-- right
 pub can_one : (can : Bool) → IsProp (IsTrue can)
 can_one can = hlevel props
 
@@ -36,12 +37,12 @@ not_some : (b : Bool) → not b ≡ false → b ≡ true
 not_some true h = refl
 not_some false h = absurd (true≢false h)
 
--- a word of a set has a number in a summary that reaches
+-- if a summary of d numbers reaches the capacity, the number of a word is at most d
 pub reaches : (w k c own d : ℕ) → 0 < w → k * w ≤ c → c ≡ own → own ≤ d * w → k ≤ d
 reaches w k c own d word within is reach =
     let h : k * w ≤ d * w = omega (arith, within, is, reach) in le_of_mul-le-mul_right h word
 
--- a number whose word begins below a capacity of whole words is that of one of them
+-- if word k begins below a capacity of whole words, k is below the number of words
 pub word_index : (w k c : ℕ) → 0 < w → (words : ℕ) × (c ≡ words * w) → k * w < c → k < c / w
 word_index w k c word whole within = elim (cases_lt k (c / w)) [
   | inl l ↦ l
@@ -55,18 +56,18 @@ word_index w k c word whole within = elim (cases_lt k (c / w)) [
       ))
 ]
 
--- a summary with as many numbers as there are words reaches
+-- a summary with at least as many numbers as there are words reaches the capacity
 pub whole_reaches : (w c d : ℕ) → 0 < w → (words : ℕ) × (c ≡ words * w) → c / w ≤ d → c ≤ d * w
 whole_reaches w c d word whole enough = elim (cases_lt (d * w) c) [
   | inl l ↦ absurd (omega (arith, word_index w d c word whole l, enough))
   | inr g ↦ g
 ]
 
--- the word of an index below a capacity begins below it
+-- the word of an index below a capacity begins below that capacity
 pub index_word : (w i c : ℕ) → i < c → i / w * w < c
 index_word w i c below = omega (arith, div-mul-le_self i w, below)
 
--- a number is not in a span where it is not both from its start on and before its end
+-- a number is not in a span unless it is both at or past its start and before its end
 outside_span : (from to p : ℕ) → (from ≤ p → p < to → ⊥) → is_in_span from to p ≡ false
 outside_span from to p out = elim (cases_lt p from) [
   | inl l ↦ ap (λ b. b && nat_lt p to) (lt-leb from p l)
@@ -80,7 +81,7 @@ outside_span from to p out = elim (cases_lt p from) [
     and_false true = refl
     and_false false = refl
 
--- the word of a number is not before that of a lesser one
+-- of two numbers, the greater one is in the same word or in a later word
 div_up : (w a b : ℕ) → 0 < w → a ≤ b → a / w ≤ b / w
 div_up w a b word h = elim (cases_lt (b / w) (a / w)) [
   | inl l ↦ let up : suc (b / w) * w ≤ a / w * w = mul-le-mul_right w l in
@@ -88,14 +89,14 @@ div_up w a b word h = elim (cases_lt (b / w) (a / w)) [
   | inr g ↦ g
 ]
 
--- a change of a span without a number is none
+-- a change of an empty span changes nothing
 pub span_empty : (change : Bool → Bool) (s : PlainSet) (from to : ℕ) → from ≡ to →
     s ≡ with_span_changed change s from to
 unfolding has_changed
 span_empty change s from to e = ap (plain_set s.capacity) (fun_ext λ p.
     rw (outside_span from to p (λ lo hi. absurd (omega (arith, e)))) refl)
 
--- how many words there are, as a capacity and a width tell
+-- a capacity of whole words is the number of its words times their width
 pub words_counted : (bits width w c : ℕ) → 0 < w → bits ≡ c → width ≡ w →
     (words : ℕ) × (c ≡ words * w) → c ≡ bits / width * w
 words_counted bits width w c word is wide whole = rw (is, wide) (whole_words c w word whole)
@@ -109,12 +110,12 @@ words_counted bits width w c word is wide whole = rw (is, wide) (whole_words c w
 before_last : (p to : ℕ) → p < to → p ≤ to - 1
 before_last p to h = omega (arith, h)
 
--- a test that none of some numbers passes is passed by none of them
+-- if the count of the numbers below c that pass a test is 0, none of them passes it
 none_passes : (p : ℕ → Bool) (c i : ℕ) → count_below c p ≡ 0 → i < c → p i ≡ false
 none_passes p c i none l =
     false_by (p i) (λ e. absurd (omega (arith, count-some c i p l e, none)))
 
--- a word of which it is told that it has no bit of the kind has none
+-- if `some_in_word` is false, no number of the word is a bit of the kind
 pub none_in_word : (ones : Bool) (w k : ℕ) (s : PlainSet) → k * w + w ≤ s.capacity →
     some_in_word ones w s k ≡ false → NoneIn (ones_or_zeros ones s) (k * w) (k * w + w)
 unfolding some_in_word
@@ -126,27 +127,27 @@ none_in_word ones w k s within told = λ n lo hi.
     rw back at (sym (word_has-at w (ones_or_zeros ones s) k (n - k * w) (omega arith))
     ∙ none_passes (word_has w (ones_or_zeros ones s) k) w (n - k * w) empty (omega arith))
 
--- a word that is the same has a bit of the kind where it had one
+-- of two equal words, both have a bit of the kind or neither has
 pub some_in_same : (ones : Bool) (w k : ℕ) (s t : PlainSet) → word_of w s k ≡ word_of w t k →
     some_in_word ones w s k ≡ some_in_word ones w t k
 unfolding some_in_word
 some_in_same ones w k s t same = ap (λ u. not (size (ones_or_zeros ones u) == 0)) same
 
--- a number past a set is no bit of a kind
+-- a number past the capacity is no bit of either kind
 none_past : (ones : Bool) (s : PlainSet) (i : ℕ) → s.capacity ≤ i → s.has i ≡ false →
     (ones_or_zeros ones s).has i ≡ false
 unfolding lacks
 none_past true s i far none = none
 none_past false s i far none = rw (le-ltb i s.capacity far) refl
 
--- groups of groups of 64
+-- a group of the next level has 64 times as many words
 group_up : (k above : ℕ) → k * 64 ^ suc above ≡ k * 64 ^ above * 64
 group_up k above = ap (λ p. k * p) (pow-suc 64 above) ∙ omega arith
 
--- what a search of a summary t of s tells
+-- what a summary t of the set s tells of the words of s
 module _ (ones : Bool) (w : ℕ) (s t : PlainSet) (word : 0 < w)
     (whole : (words : ℕ) × (s.capacity ≡ words * w)) (tells : Summarizes ones w s t) where
-  -- words that are no members of the summary have no bit of the kind
+  -- words whose numbers are not in the summary have no bit of the kind
   none_in_words : (low high : ℕ) → high * w ≤ s.capacity → NoneIn t low high →
       NoneIn (ones_or_zeros ones s) (low * w) (high * w)
   none_in_words low high within none = λ n lo hi.
@@ -165,7 +166,7 @@ module _ (ones : Bool) (w : ℕ) (s t : PlainSet) (word : 0 < w)
       (sym (tells k starts) ∙ none k from below) n
       (omega (arith, split)) (omega (arith, split, part))
 
-  -- so are words of which some are past the set
+  -- the same holds if some of the words are past the set
   none_in_any : ((i : ℕ) → s.capacity ≤ i → s.has i ≡ false) → (low high : ℕ) →
       NoneIn t low high → NoneIn (ones_or_zeros ones s) (low * w) (high * w)
   none_in_any past low high none = λ n lo hi. elim (cases_lt n s.capacity) [
@@ -198,7 +199,7 @@ module _ (ones : Bool) (w : ℕ) (s t : PlainSet) (word : 0 < w)
       none_in_any past ((64 * n + i) * 1) ((64 * n + i + 1) * 1) (λ k lo hi.
       let same : k ≡ n * 64 + i = omega (arith, lo, hi) in rw same here))
 
-  -- past the last word of the summary the set has nothing
+  -- groups past the last word of the summary have no bit of the kind
   pub tells_past : ((i : ℕ) → s.capacity ≤ i → s.has i ≡ false) → (level n c : ℕ) →
       level ≡ 0 → s.capacity ≤ c * w → (words : ℕ) × (c ≡ words * 64) → c / 64 ≤ n →
       (d : ℕ) → TellsGroups (64 ^ level) w (ones_or_zeros ones s) n d
@@ -208,7 +209,8 @@ module _ (ones : Bool) (w : ℕ) (s t : PlainSet) (word : 0 < w)
       let out : s.capacity ≤ k = omega (arith, reach, up, lo) in
       none_past ones s k out (past k out))
 
-  -- what a summary tells of groups of its own words it tells of groups of those of the set
+  -- what the summary tells of groups of its own words, it tells of groups of the set's words one
+  -- level up
   pub tells_by_summary : ((i : ℕ) → s.capacity ≤ i → s.has i ≡ false) → (v level above n d : ℕ) →
       v ≡ 64 → level ≡ suc above → TellsGroups (64 ^ above) v t n d →
       TellsGroups (64 ^ level) w (ones_or_zeros ones s) n d
@@ -218,14 +220,14 @@ module _ (ones : Bool) (w : ℕ) (s t : PlainSet) (word : 0 < w)
       none_in_any past ((64 * n + i) * 64 ^ suc above) ((64 * n + i + 1) * 64 ^ suc above)
       (rw (e, f) ((rw wide at told) i within unset)))
 
-  -- a member of it is the number of a word with a bit of the kind
+  -- a member of the summary is the number of a word with a bit of the kind
   some_told : (k high : ℕ) → high * w ≤ s.capacity → k < high → t.has k ≡ true →
       some_in_word ones w s k ≡ true
   some_told k high within below told =
       let up : suc k * w ≤ high * w = mul-le-mul_right w below in
       sym (tells k (omega (arith, up, within, word))) ∙ told
 
-  -- so those before the member at an end are passed over, or all where there is none
+  -- a search of the summary passes over the words before the member that it finds
   pub passes_some : (front : Bool) (low high k : ℕ) → high * w ≤ s.capacity →
       IsEndIn front t low high (Some k) →
       PassesOver front w (ones_or_zeros ones s) low high (cond front k (k + 1))
@@ -238,7 +240,7 @@ module _ (ones : Bool) (w : ℕ) (s t : PlainSet) (word : 0 < w)
   passes_some false low high k within found =
       (omega (arith, found.0), omega (arith, found.1), none_in_words (k + 1) high within found.3)
 
-  -- and that member is the number of a word with a bit of the kind
+  -- the search stops at a word with a bit of the kind
   pub stops_some : (front : Bool) (low high k : ℕ) → high * w ≤ s.capacity →
       IsEndIn front t low high (Some k) → StopsAtBit front ones w s low high (cond front k (k + 1))
   stops_some true low high k within found = λ _. some_told k high within found.1 found.2
@@ -258,7 +260,7 @@ module _ (ones : Bool) (w : ℕ) (s t : PlainSet) (word : 0 < w)
   stops_none true low high = λ h. absurd (omega (arith, h))
   stops_none false low high = λ h. absurd (omega (arith, h))
 
-  -- where the summary tells of no word, the set has no bit of the kind
+  -- if the summary has no member, the set has no bit of the kind
   pub none_at_all : (words : ℕ) → s.capacity ≡ words * w → NoneIn t 0 words →
       size (ones_or_zeros ones s) ≡ 0
   none_at_all words all none =
@@ -268,7 +270,7 @@ module _ (ones : Bool) (w : ℕ) (s t : PlainSet) (word : 0 < w)
       (λ k l. rest k (omega arith) (omega (arith, l, size_is, all)))
       ∙ count-never (ones_or_zeros ones s).capacity
 
-  -- where it tells of one, the set has one
+  -- if the summary has a member, the set has a bit of the kind
   pub some_at_all : (k : ℕ) → k * w < s.capacity → t.has k ≡ true →
       size (ones_or_zeros ones s) ≢ 0
   unfolding some_in_word
@@ -285,7 +287,7 @@ module _ (ones : Bool) (w : ℕ) (s t : PlainSet) (word : 0 < w)
       ap size (ones_or_zeros-word_of ones w k s ends) ∙ empty in
       true≢false (sym told ∙ tells k within ∙ ap not (eq-eqb _ 0 nothing))
 
--- a set lacks no number exactly where it has as many as its capacity
+-- a set lacks no number exactly if its size is its capacity
 pub full_where_none_lacks : (s : PlainSet) →
     (size (complement s) == 0) ≡ (size s == s.capacity)
 full_where_none_lacks s = elim (cases_eq (size (complement s)) 0) [
@@ -294,7 +296,7 @@ full_where_none_lacks s = elim (cases_eq (size (complement s)) 0) [
       (λ e. n (omega (arith, e, size-complement s))))
 ]
 
--- after a change of a span in an order, each word is the same but those that the span reaches
+-- after a change of a span in an order, each word is the same except those that the span reaches
 pub same_around : (change : Bool → Bool) (m : Bool) (w from to : ℕ) (s t : PlainSet) → 0 < w →
     from < to → read_in m w t ≡ with_span_changed change (read_in m w s) from to → (j : ℕ) →
     (from / w ≤ j → j ≤ (to - 1) / w → ⊥) → word_of w t j ≡ word_of w s j
@@ -322,7 +324,7 @@ same_around change m w from to s t word some changed = λ j outside.
         ap t.has (sym back) ∙ ap (λ u. u.has p) changed
         ∙ rw apart (ap s.has back)
 
--- the number of an index, and every other, after a bit is put at the index
+-- after a bit is put at an index: the test of that index, and of every other one
 bit_at : (v : Bool) (s : PlainSet) (i at : ℕ) → 0 < s.capacity → at ≡ i % s.capacity →
     (with_bit v s i).has at ≡ v
 bit_at true s i at some is = ap (λ p. p at) (has_with-in s s.capacity i refl some)
@@ -341,7 +343,7 @@ bit_elsewhere true s i j some other = ap (λ p. p j) (has_with-in s s.capacity i
 bit_elsewhere false s i j some other = ap (λ p. p j) (has_without-in s s.capacity i refl some)
     ∙ rw (ne_eqb j (i % s.capacity) other) refl
 
--- after a bit is put at an index in an order, each word is the same but that of the index
+-- after a bit is put at an index in an order, each word is the same except the word of the index
 pub same_words : (v m : Bool) (w i at : ℕ) (s t : PlainSet) → 0 < w → 0 < s.capacity →
     at ≡ i % s.capacity → read_in m w t ≡ with_bit v (read_in m w s) i →
     SameWordsBut w s t (at / w)
@@ -366,7 +368,7 @@ same_words v m w i at s t word some is put = λ j other within.
         ap t.has (sym back) ∙ ap (λ u. u.has p) put
         ∙ bit_elsewhere v (read_in m w s) i p some apart ∙ ap s.has back
 
--- after a bit is put at an index in an order, the word of the index has one of that kind
+-- after a bit is put at an index in an order, the word of the index has a bit of that kind
 pub some_put : (v m : Bool) (w i at : ℕ) (s t : PlainSet) → 0 < w →
     (words : ℕ) × (s.capacity ≡ words * w) → t.capacity ≡ s.capacity → at < s.capacity →
     at ≡ i % s.capacity → read_in m w t ≡ with_bit v (read_in m w s) i →
@@ -397,7 +399,7 @@ some_put v m w i at s t word whole size below is put = by_none _ (λ none.
     of_kind true t p within bit = bit
     of_kind false t p within bit = rw (lt-ltb p t.capacity within, bit) refl
 
--- a summary that is made to tell of the one word that changed tells of each
+-- if one word changes and the summary is updated for it, the summary is right for each word
 pub renewed : (ones : Bool) (w k : ℕ) (s t u v : PlainSet) → Summarizes ones w s u →
     SameWordsBut w s t k → t.capacity ≡ s.capacity → v.has k ≡ some_in_word ones w t k →
     ((j : ℕ) → j ≢ k → v.has j ≡ u.has j) → Summarizes ones w t v
@@ -407,7 +409,7 @@ renewed ones w k s t u v tells same size here others = λ j within. elim (cases_
       others j n ∙ tells j inside ∙ some_in_same ones w j s t (sym (same j n inside))
 ]
 
--- one that tells of each word before one, and is made to tell of that, tells of each before the next
+-- a summary that is right before word k, and is updated for word k, is right before word k + 1
 pub one_more : (ones : Bool) (w k : ℕ) (s u v : PlainSet) → SummarizesBelow ones w s u k →
     v.has k ≡ some_in_word ones w s k → ((j : ℕ) → j ≢ k → v.has j ≡ u.has j) →
     SummarizesBelow ones w s v (k + 1)
@@ -416,7 +418,8 @@ one_more ones w k s u v tells here others = λ j below within. elim (cases_eq j 
   | inr n ↦ others j n ∙ tells j (omega arith) within
 ]
 
--- one that tells of each word around some, and is made to tell of the next of those
+-- a summary that is right except for the words k..=last, and is updated for word k, is right except
+-- for the words k + 1..=last
 pub one_more_around : (ones : Bool) (w first last k : ℕ) (s u v : PlainSet) →
     TellsAround ones w s u first last k → v.has k ≡ some_in_word ones w s k →
     ((j : ℕ) → j ≢ k → v.has j ≡ u.has j) → TellsAround ones w s v first last (k + 1)
@@ -429,7 +432,7 @@ one_more_around ones w first last k s u v tells here others = λ j inside within
     below_next : (j k : ℕ) → j ≢ k → j < k + 1 → j < k
     below_next j k n h = omega arith
 
--- a summary of a set tells of the words around those that a change of a span reaches
+-- after a change of a span, the old summary is right except for the words that the span reaches
 pub tells_around : (ones : Bool) (change : Bool → Bool) (m : Bool) (w from to : ℕ)
     (s t u : PlainSet) → 0 < w → from < to →
     read_in m w t ≡ with_span_changed change (read_in m w s) from to → t.capacity ≡ s.capacity →
@@ -442,7 +445,7 @@ tells_around ones change m w from to s t u word some changed size tells = λ j i
     not_below : (j k : ℕ) → k ≤ j → j < k → ⊥
     not_below j k lo hi = absurd (omega arith)
 
--- how many bits of the kind each word has of a set without members, and of one with each number
+-- how many bits of a kind each word of an empty set has, and each word of a full set
 module _ (w c k : ℕ) (word : 0 < w) (whole : (words : ℕ) × (c ≡ words * w)) (within : k * w < c)
   where
     empty_word : size (word_of w (empty_set c) k) ≡ 0
@@ -477,7 +480,7 @@ even_has : (all : Bool) (d k : ℕ) → k < d → (even_summary all d).has k ≡
 even_has true d k h = lt-ltb k d h
 even_has false d k h = refl
 
--- those of an empty map and of a full one
+-- the even summaries of an empty map and of a full map are right
 pub empty_tells : (ones : Bool) (w c d : ℕ) (s u : PlainSet) → 0 < w →
     (words : ℕ) × (c ≡ words * w) → c ≤ d * w → s ≡ empty_set c →
     u ≡ even_summary (not ones) d → Summarizes ones w s u

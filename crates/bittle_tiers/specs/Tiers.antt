@@ -39,7 +39,7 @@ abbrev pub even_summary : Bool → ℕ → PlainSet
 even_summary true d = full_set d
 even_summary false d = empty_set d
 
--- whether a map may be summarized: map and summary may be indexed, and the summary has a number for
--- each word
+-- whether a summary may belong to a map: both may be indexed, and the summary has a number for each
+-- word of the map
 abbrev pub can_summarize : Bool → Bool → ℕ → ℕ → ℕ → Bool
 can_summarize map summary c d w = map && (summary && nat_le c (d * w))

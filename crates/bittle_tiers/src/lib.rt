@@ -1,6 +1,6 @@
 //! Sets with a summary of their words. The summary is a set itself: it shows which words have a bit
-//! of one kind, set or unset. A search or an iterator skips the other words, in place of reading
-//! each.
+//! of one kind, set or unset. A search or an iterator for this kind skips the other words instead
+//! of reading each one.
 //!
 //! ```rust
 //! use bittle::{Bits, BitsMut, BitsOwned};

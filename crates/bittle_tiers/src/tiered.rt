@@ -28,20 +28,21 @@ use std::marker::PhantomData;
 /// stands for the same set as its map, so each call means what it means on the map.
 ///
 /// With [`Ones`] it is for sparse sets: an iterator over the set bits, or a search for one, reads
-/// the words that have one. Before each of these it reads at most one word that has none. With
-/// [`Zeros`] it is for allocators: a search finds the least free page of a nearly full map. A
+/// the words that have a set bit. Before each of these it reads at most one word without a set bit.
+/// With [`Zeros`] it is for allocators: a search finds the least free page of a nearly full map. A
 /// change of one bit also writes one bit of the summary.
 ///
-/// The summary may have a summary itself, of [`Ones`], since a search goes over its set bits.
+/// The summary may have a summary itself. That one is of [`Ones`], since a search looks for the set
+/// bits of a summary.
 ///
-/// The summary needs a number for each word of the map. If it has too few, the shape does not fit:
-/// `bits()` and `bits_capacity()` return `u32::MAX`.
+/// The summary needs one bit for each word of the map. If it has too few bits, the shape does not
+/// fit: `bits()` and `bits_capacity()` return `u32::MAX`.
 ///
 /// ```
 /// let mut taken = Tiered::<[u64; 64], u64, Zeros>::ones();
 /// taken.clear_bit(4000);
 /// taken.iter_zeros().next();                          // Some(4000)
-/// Tiered::<[u64; 64], u32, Zeros>::bits();            // u32::MAX: 64 words, and 32 numbers
+/// Tiered::<[u64; 64], u32, Zeros>::bits();            // u32::MAX: 64 words, but only 32 bits
 /// ```
 #[derive(Drop)]
 pub struct Tiered<B: Shape, S: Shape, K: Kind> {
@@ -151,7 +152,7 @@ impl<B: Shape + Eq, S: Shape, K: Kind> Eq for Tiered<B, S, K> {
 }
 
 /// Prints the indexes of the set bits in increasing order between braces, as a `Set` of the map
-/// does. The flags of the format change nothing.
+/// does. Format flags have no effect.
 impl<B: BitsOwned, S: BitsOwned, K: Kind> fmt::Debug for Tiered<B, S, K> {
     ghost debug_output = { λ t. Some (set_text (set_in B.Shape B.Order.Endian t.map)) };
 

@@ -42,7 +42,7 @@ pub(crate) fn put_bit<B: BitsMut, E: Endian, V: Kind>(map: &mut B, index: u32)
     }
 }
 
-// Makes number `k` a member of a summary if `some` is `true`, else takes it out.
+// Makes number `k` a member of a summary if `some` is `true`, and else removes it.
 #[inline]
 fn put<S: BitsMut>(summary: &mut S, k: usize, some: bool)
     requires fits { ShapeFits S.Shape summary.old }
@@ -77,7 +77,7 @@ pub(crate) fn refresh<B: ReadWords, S: BitsMut, K: Kind>(
     put::<S>(summary, k, is_known || has_some::<B, K>(map, k));
 }
 
-/// Returns the summary that has the numbers of all words, or of none.
+/// Returns the full summary if `all` is `true`, and else the empty summary.
 #[inline]
 pub(crate) fn even<S: BitsOwned>(all: bool) -> S
     requires { IsTrue S.indexable }
@@ -99,7 +99,7 @@ pub(crate) fn rebuild<B: BitsOwned, S: BitsOwned, K: Kind>(map: &B, summary: &mu
     }
 }
 
-/// Returns whether the summary has the number of no word.
+/// Returns whether no word has a bit of the kind, as the summary shows.
 #[inline]
 pub(crate) fn has_none<B: BitsOwned, S: BitsOwned, K: Kind>(map: &B, summary: &S) -> bool
     requires map_fits { IsTrue B.indexable }
@@ -137,8 +137,8 @@ pub(crate) fn refresh_range<B: BitsOwned, S: BitsOwned, K: Kind>(
     }
 }
 
-/// Returns the end `N` of the words `low..high`, moved past all words at that end without a bit of
-/// the kind.
+/// Returns the end `N` (front or back) of the words `low..high`, after moving it past all words at
+/// that end without a bit of the kind.
 #[inline]
 pub(crate) fn pass_over<B: BitsOwned, S: BitsOwned, K: Kind, N: End>(
     map: &B,
@@ -161,9 +161,10 @@ pub(crate) fn pass_over<B: BitsOwned, S: BitsOwned, K: Kind, N: End>(
     }
 }
 
-/// Returns which of 64 groups of `64 ^ level` words, from group `64 * n` on, may have a bit of the
-/// kind, one bit for each group. The bits are a word of the summary, or what the summary tells of
-/// groups of its own words. If the words of the summary do not have 64 bits, every bit is set.
+/// Returns a word with one bit for each of 64 groups of `64 ^ level` words, from group `64 * n` on.
+/// A bit is set if its group may have a bit of the kind. At level 0 the result is a word of the
+/// summary. At higher levels it is what the summary returns for groups of its own words. If the
+/// words of the summary do not have 64 bits, every bit is set.
 #[inline(always)]
 pub(crate) fn groups_told<B: BitsOwned, S: BitsOwned, K: Kind>(
     map: &B,

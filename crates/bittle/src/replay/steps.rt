@@ -1,5 +1,5 @@
-//! The main theorem on iterators, which is the contract of [`replay_walk`]. An iterator that makes
-//! a list of steps yields an increasing list from its two ends, and scans few words.
+//! The main theorem on iterators, which is the contract of [`replay_walk`]. The steps of an
+//! iterator take the items of an increasing list from its two ends, and scan few words.
 
 ghost use Rattle.std.specs.Prelude.{◌≡◌, ℕ, ◌+◌, ◌≤◌, ◌∷◌, ◌++◌, [], List, length, slice_index};
 ghost use Rattle.bittle_bits.specs.PlainSet.{ascending};
@@ -30,8 +30,8 @@ enum CountList {
     And(Snapshot<CountList>, Snapshot<Count>),
 }
 
-/// The number of scans up to each step of an iterator. Only contracts see these numbers, and they
-/// take no bytes.
+/// How many scans of words an iterator made up to each step. Only contracts see these numbers, and
+/// they take no memory.
 #[derive(Drop)]
 pub struct Scans {
     trail: Snapshot<CountList>,
@@ -122,8 +122,8 @@ fn run_whole<W: Counted + Drop>(walk: W, steps: &[Step], answers: &mut [Option<u
 /// unset bits.
 ///
 /// The items are an increasing list. A step returns the first or the last item that remains, or
-/// `None` once no item remains. Contracts see in the result how many scans were made up to each
-/// step.
+/// `None` once no item remains. In contracts, the result is the list of how many scans of words
+/// were made up to each step.
 ///
 /// The shape has to fit (`bits_capacity() < u32::MAX`), and `answers` has to be as long as `steps`.
 /// Each word is fetched at most once.

@@ -45,8 +45,8 @@ fn difference_by_words<A: Bits, B: Bits, E: Endian>(
     }
 }
 
-// Does the same as `difference_by_words`, but it is never inlined. So only the test of the first
-// word is compiled into a caller.
+// Does the same as `difference_by_words`, but is never inlined. So a caller of `first_difference`
+// inlines only the comparison of the first words.
 #[inline(never)]
 fn difference_out_of_line<A: Bits, B: Bits, E: Endian>(
     left: &A,
@@ -99,7 +99,7 @@ fn has<B: Bits, E: Endian>(bits: &B, capacity: u32, index: u32) -> bool
 }
 
 // Returns whether a member lies past an index that is not a member. The search begins at the index
-// itself, which is always the index of a bit. The next index may be past the word.
+// itself, which is always in a word of the set. The index after it may be past the last word.
 #[inline]
 fn has_past<B: Bits, E: Endian>(bits: &B, capacity: u32, index: u32) -> bool
     requires fits { ShapeFits B.Shape bits.now }

@@ -12,8 +12,8 @@ use bittle_bits::endian::Endian;
 use bittle_bits::extension::Counted;
 use std::fmt;
 
-/// Prints the indexes of the set bits in increasing order between braces, as `{1, 14}`. The flags
-/// of the format change nothing.
+/// Prints the indexes of the set bits in increasing order between braces, as `{1, 14}`. Format
+/// flags have no effect.
 impl<T: Bits, E: Endian> fmt::Debug for Set<T, E> {
     ghost debug_output = { λ s. Some (set_text (set_in T.Shape E.Endian s.bits)) };
 

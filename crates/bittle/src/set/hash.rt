@@ -17,7 +17,7 @@ use bittle_bits::extension::Counted;
 use std::hash::{Hash, Hasher};
 
 /// Feeds the hasher the index of each set bit in increasing order, and then the number of set bits.
-/// Each of these numbers is a `u32`. So equal sets feed the same, even if they wrap slices of
+/// Each of these numbers is a `u32`. Equal sets feed the same numbers, even if they wrap slices of
 /// unequal length.
 impl<T: Bits, E: Endian> Hash for Set<T, E> {
     ghost hash_input = { λ s. feed (ascending (set_in T.Shape E.Endian s.bits)) };

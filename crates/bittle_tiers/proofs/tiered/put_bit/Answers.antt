@@ -7,7 +7,7 @@ use Rattle.bittle_tiers.specs.TierLaws.{map_indexable, summary_reaches}
 use Rattle.bittle_tiers.proofs.Summaries.{index_word, reaches, renewed, same_words, some_put}
 use Rattle.bittle_tiers.proofs.tiered.put_bit.Goals as goal
 
--- two kinds that compare as equal are one
+-- two kinds that compare as equal are the same
 one_kind : (a b : Bool) → beq a b ≡ true → a ≡ b
 one_kind true true e = refl
 one_kind true false e = absurd (true≢false (sym e))
