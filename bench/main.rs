@@ -1,6 +1,7 @@
-//! Times calls of calls.rs on our slices, and on a `FixedBitSet` or in a loop over words by hand,
-//! turn by turn, after it has compared what they return and what they leave. It prints a line a cell: the call, the order, the number of
-//! words, which bits are set, and the least time of each side in nanoseconds.
+//! Times calls of calls.rs: on our slices, and on a `FixedBitSet` or in a loop over words by hand.
+//! First it compares what both sides return and what they leave. Then it times them in turn. For
+//! each cell it prints a line: the call, the order, the number of words, which bits are set, and
+//! the least time of each side in nanoseconds.
 mod calls;
 
 use fixedbitset::FixedBitSet;
@@ -15,8 +16,8 @@ pub struct Call {
     theirs: fn(&mut Sides, &[u32], Range<usize>) -> u64,
 }
 
-/// The sets that the other side is given: as fixedbitset has them, and as words, in which index 0 is
-/// the rightmost bit of the first one.
+/// The sets of the other side, as fixedbitset has them and as words. Index 0 is the rightmost bit
+/// of the first word.
 pub struct Sides {
     f: FixedBitSet,
     g: FixedBitSet,
@@ -24,7 +25,8 @@ pub struct Sides {
     others: Vec<u64>,
 }
 
-/// Returns the least index from `from` on whose bit is set in the words, each xor `flip`.
+/// Returns the least index from `from` on whose bit is set after each word is combined with `flip`
+/// by exclusive or.
 fn next(words: &[u64], from: usize, flip: u64) -> Option<usize> {
     let mut at = from / 64;
     if at >= words.len() {
@@ -67,7 +69,7 @@ pub fn select(words: &[u64], mut rank: usize) -> Option<usize> {
 /// Returns where the first run of `length` unset bits begins, for a length from 1 to 64.
 pub fn zero_run(words: &[u64], length: u32) -> Option<usize> {
     for (at, word) in words.iter().enumerate() {
-        // Bit i of a pair says that the bits from i on, as many as are covered, are unset.
+        // Bit i of `pair` says that the `covered` bits from bit i on are unset.
         let after = words.get(at + 1).map_or(0, |word| !word);
         let mut pair = u128::from(!word) | u128::from(after) << 64;
         let mut covered = 1;
@@ -99,7 +101,7 @@ pub fn up(words: &mut [u64]) {
     }
 }
 
-/// Moves each set bit down by so many places, from index 0 on to the last one.
+/// Moves each set bit down by `by` places. Those that pass index 0 go on from the last index.
 pub fn turn(words: &mut [u64], by: usize) {
     let by = by % (words.len() * 64);
     words.rotate_left(by / 64);
@@ -114,7 +116,7 @@ pub fn turn(words: &mut [u64], by: usize) {
     }
 }
 
-/// Returns the bits at so many indexes, from one to 64.
+/// Returns the number in `count` bits from an index on. The count is from 1 to 64.
 pub fn load(words: &[u64], from: usize, count: usize) -> u64 {
     let (at, place) = (from / 64, from % 64);
     let low = words.get(at).map_or(0, |word| word >> place);
@@ -122,7 +124,8 @@ pub fn load(words: &[u64], from: usize, count: usize) -> u64 {
     (low | after.map_or(0, |word| word << (64 - place))) & (u64::MAX >> (64 - count))
 }
 
-/// Writes the lowest bits of a number, 64 at most.
+/// Writes the `count` lowest bits of a number at the indexes from `from` on. The count is at most
+/// 64.
 pub fn store(words: &mut [u64], from: usize, count: usize, value: u64) {
     if count == 0 {
         return;
@@ -174,7 +177,7 @@ pub fn sum_in(words: &[u64], range: Range<usize>) -> u64 {
     sum
 }
 
-/// Returns a number made of the ends of the runs of set bits.
+/// Returns a number that depends on where each run of set bits ends.
 pub fn run_ends(words: &[u64]) -> u64 {
     let (mut sum, mut from) = (0u64, 0);
     while let Some(start) = next(words, from, 0) {
@@ -215,7 +218,7 @@ fn random(state: &mut u64) -> u64 {
     z ^ (z >> 31)
 }
 
-/// Returns words of which one bit in 64, each other one, or each bit is set.
+/// Returns words in which each bit is set with a chance of 1 in 64 or 1 in 2, or always.
 fn words(state: &mut u64, n: usize, bits: &str) -> Vec<u64> {
     let turns = match bits {
         "sparse" => 6,
@@ -234,7 +237,7 @@ fn in_order(words: &[u64], is_little: bool) -> Vec<u64> {
     words.iter().map(|word| if is_little { word.reverse_bits() } else { *word }).collect()
 }
 
-/// Both sides of a cell: the sets, the indexes, and the ranges that a call is given.
+/// What the calls of both sides are given in one cell: the sets, the indexes and the ranges.
 struct Cell<'a> {
     call: &'a Call,
     left: Vec<u64>,
@@ -320,8 +323,8 @@ fn sample(turns: u32, mut run: impl FnMut() -> u64) -> f64 {
     start.elapsed().as_nanos() as f64 / f64::from(turns)
 }
 
-/// Returns the time of five cycles: a shift, an exclusive or and a product (three cycles), of which
-/// each waits for the one before.
+/// Returns the time of five cycles. A step is a shift, an exclusive or and a product (three
+/// cycles), each of which waits for the one before.
 fn five_cycles() -> f64 {
     let steps = 100_000;
     (0..50).fold(f64::MAX, |least, seed| {

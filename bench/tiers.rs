@@ -1,23 +1,24 @@
 //! Times sets with a summary beside a plain map, a hierarchical bitmap by hand and a list of the
-//! free pages, after it has compared what they return. It prints a line a cell: what is done, how
-//! many numbers there are, which are set, the form, and the least time in nanoseconds.
+//! free pages. First it compares what they return. For each cell it prints a line: what is done,
+//! how many numbers there are, which are set, the form, and the least time in nanoseconds.
 mod tiers_calls;
 
 use std::hint::black_box;
 use std::time::Instant;
 
-/// As many pages are given back, and then taken, at a time.
+/// The pages that are given back at a time. As many are taken then.
 pub type Batch = [u32; 16];
 
-/// Turns of an allocator whose taken pages are those of a map.
+/// A call that gives pages back and takes as many, in an allocator whose taken pages are those of a
+/// map.
 type Turns<const W: usize> = unsafe extern "C" fn(&[u64; W], *const Batch, usize, u32) -> u64;
 type Walk<const W: usize> = unsafe extern "C" fn(&[u64; W], u32) -> u64;
 type WalkBoth<const W: usize> = unsafe extern "C" fn(&[u64; W], &[u64; W], u32) -> u64;
 
-/// A call of each of our forms, by its name.
+/// The calls of our three forms, each with the name of its form.
 type Forms<C> = [(&'static str, C); 3];
 
-/// Our calls on so many words.
+/// Our calls on maps of `W` words.
 pub struct Calls<const W: usize> {
     turns: Forms<Turns<W>>,
     pages: Forms<Turns<W>>,
@@ -25,8 +26,9 @@ pub struct Calls<const W: usize> {
     walk_both: Forms<WalkBoth<W>>,
 }
 
-/// A bit for each number in `words`, in `middle` one for each word that is not 0, and in `top` one
-/// for each of these words where there are several.
+/// A bitmap of up to three levels. `words` has a bit for each number, `middle` has one for each
+/// word that is not 0, and `top` has one for each word of `middle` that is not 0, if there are
+/// several.
 #[derive(Clone)]
 struct ByHand<const W: usize, const M: usize> {
     words: [u64; W],
@@ -95,7 +97,7 @@ impl<const W: usize, const M: usize> ByHand<W, M> {
     }
 }
 
-/// An iterator over what is in both of two sets, which are one where it is over one.
+/// An iterator over what is in both of two sets. An iterator over one set has it twice.
 struct Both<'a, const W: usize, const M: usize> {
     left: &'a ByHand<W, M>,
     right: &'a ByHand<W, M>,
@@ -184,7 +186,8 @@ fn pages_by_hand<const W: usize, const M: usize>(map: &[u64; W], x: &[Batch], ro
     sum ^ u64::from(taken)
 }
 
-/// Gives pages back and takes as many again by a list of the free ones: the last one comes first.
+/// Gives pages back and takes as many again by a list of the free ones. The last of the list is
+/// taken first.
 fn turns_by_list<const W: usize>(map: &[u64; W], x: &[Batch], rounds: u32) -> u64 {
     let is_free = |page: &u32| map[*page as usize / 64] >> (page % 64) & 1 == 0;
     let mut free: Vec<u32> = (0..W as u32 * 64).rev().filter(is_free).collect();
@@ -225,7 +228,7 @@ fn random(state: &mut u64) -> u64 {
     z ^ (z >> 31)
 }
 
-/// Returns so many distinct numbers below an end.
+/// Returns `many` distinct numbers below `end`.
 fn draw(state: &mut u64, many: usize, end: usize) -> Vec<u32> {
     let mut drawn = Vec::new();
     while drawn.len() < many {
@@ -245,7 +248,7 @@ fn words_of<const W: usize>(numbers: impl IntoIterator<Item = u32>) -> [u64; W] 
     words
 }
 
-/// What a form does so many rounds of, and in how many turns a round.
+/// The name of a form, and a function that makes so many rounds of turns with it.
 type Run<'a> = (&'static str, Box<dyn Fn(u32) -> u64 + 'a>);
 
 fn sample(run: &dyn Fn(u32) -> u64, rounds: u32) -> f64 {
@@ -254,7 +257,7 @@ fn sample(run: &dyn Fn(u32) -> u64, rounds: u32) -> f64 {
     start.elapsed().as_nanos() as f64
 }
 
-/// Returns how many rounds take long beside what a form takes to make its sets.
+/// Returns how many rounds to measure, so that they take much longer than making the sets.
 fn rounds_of(run: &dyn Fn(u32) -> u64) -> u32 {
     let least = |rounds| (0..5).map(|_| sample(run, rounds)).fold(f64::MAX, f64::min);
     let made = least(0);
@@ -262,8 +265,8 @@ fn rounds_of(run: &dyn Fn(u32) -> u64) -> u32 {
     (made.max(100_000.0) * 4.0 / one).clamp(4.0, 100_000.0) as u32
 }
 
-/// Times one cell, turn by turn: what each form takes for a turn, without what it takes to make its
-/// sets. A round has so many turns.
+/// Times one cell, each form in turn. It prints what each form takes for one turn, without what it
+/// takes to make its sets. A round has `turns` turns.
 fn time(cell: &str, turns: usize, runs: &[Run]) {
     let answers: Vec<u64> = runs.iter().map(|(_, run)| run(3)).collect();
     for (at, answer) in answers.iter().enumerate() {
@@ -285,7 +288,7 @@ fn time(cell: &str, turns: usize, runs: &[Run]) {
     }
 }
 
-/// Times an allocator of which the first pages are taken, so many of a thousand.
+/// Times an allocator whose first pages are taken: `taken` of each thousand pages.
 fn time_pages<const W: usize, const M: usize>(calls: &Calls<W>, taken: usize) {
     let state = &mut 2026;
     let end = (W * 64 * taken).div_ceil(1000);
@@ -311,7 +314,8 @@ fn time_pages<const W: usize, const M: usize>(calls: &Calls<W>, taken: usize) {
     time(&cell("pages"), 16 * 64, &runs);
 }
 
-/// Times walks over a set of so many members, and over what two have in common, a tenth of each.
+/// Times walks over a set of `many` members, and over what two such sets have in common, which is a
+/// tenth of each.
 fn time_walks<const W: usize, const M: usize>(calls: &Calls<W>, many: usize, of: &str) {
     let state = &mut 2027;
     let drawn = draw(state, 2 * many, W * 64);

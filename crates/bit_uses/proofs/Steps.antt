@@ -1,4 +1,4 @@
--- A step that changes the entry of each member of a set once, in a table as long as the set.
+-- A step that changes the entry of each member of a set once, in a table that is long enough.
 use Rattle.std.proofs.Common.{◌≡◌, ◌≢◌, ℕ, suc, ◌<◌, ◌≤◌, true, false, Some, List, [], ◌∷◌, length, set, inl, inr, refl, sym, ap, ◌∙◌, subst, arith}
 use Rattle.std.specs.Prelude.{slice_get}
 use Rattle.std.proofs.lemmas.Bool.{cases_eq, cases_lt, true≢false}
@@ -9,8 +9,8 @@ use Rattle.bit_entities.specs.EntityLaws.{VisitsFrom}
 use Rattle.bittle.proofs.CallerTables.{slice_get_set_same, slice_get_set_other}
 
 module _ {X Y : Type 0} (s : PlainSet) (change : X → Y → X) (before : List X) (other : List Y) where
-  -- the members that are left are visited from a number on: the entries from there are as they
-  -- were, below it those of members are changed, and those of no member stay
+  -- the members that are left are those from the number `from` on. The entries from there on are as
+  -- they were. Below it those of members are changed, and all others are as they were.
   pub record IsStepped (left : List ℕ) (now : List X) : Type 0 where
     pub from : ℕ
     pub visits : VisitsFrom s from left
@@ -20,7 +20,7 @@ module _ {X Y : Type 0} (s : PlainSet) (change : X → Y → X) (before : List X
         slice_get before k ≡ Some x → slice_get other k ≡ Some y →
         slice_get now k ≡ Some (change x y)
 
-  -- before the first one nothing is changed
+  -- before the first member nothing is changed
   pub none_stepped : (left : List ℕ) → VisitsFrom s 0 left → IsStepped left before
   none_stepped left visits = record {
     from = 0;
@@ -30,7 +30,7 @@ module _ {X Y : Type 0} (s : PlainSet) (change : X → Y → X) (before : List X
     members = λ k x y h has was there. absurd (omega (arith, h));
   }
 
-  -- the next one is changed
+  -- the entry of the next member is changed
   one_stepped : (e : ℕ) (left : List ℕ) (now : List X) (a : X) (b : Y) →
       IsStepped (e ∷ left) now → e < length now → slice_get now e ≡ Some a →
       slice_get other e ≡ Some b → IsStepped left (set now e (change a b))
@@ -71,7 +71,7 @@ module _ {X Y : Type 0} (s : PlainSet) (change : X → Y → X) (before : List X
 
   module _ (all left : List ℕ) (e : ℕ) (now : List X) (is : IsStepped all now)
       (first : all ≡ e ∷ left) where
-    -- which is below the capacity
+    -- the next member is below the capacity
     pub next_below : e < s.capacity
     unfolding VisitsFrom
     next_below = below (subst (λ l. IsStepped l now) first is)
@@ -83,7 +83,7 @@ module _ {X Y : Type 0} (s : PlainSet) (change : X → Y → X) (before : List X
         slice_get other e ≡ Some b → IsStepped left (set now e (change a b))
     next_stepped a b = one_stepped e left now a b (subst (λ l. IsStepped l now) first is)
 
-  -- after the last one each is
+  -- after the last member the entry of each member is changed
   all_stepped : (now : List X) → EndsAtCapacity s → IsStepped [] now →
       (k : ℕ) (x : X) (y : Y) → s.has k ≡ true → slice_get before k ≡ Some x →
       slice_get other k ≡ Some y → slice_get now k ≡ Some (change x y)

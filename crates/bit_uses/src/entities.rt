@@ -1,4 +1,4 @@
-//! Entities with components in the hands of a caller.
+//! Callers of entities with components.
 
 ghost use Rattle.std.specs.Prelude.{◌≡◌, ◌≢◌, ◌<◌, ◌≤◌, ℕ, length, false, true, [], ◌∷◌, IfSome};
 ghost use Rattle.std.specs.Int.{int_wrapping_add, w32};
@@ -24,7 +24,7 @@ pub const PLACE: u32 = 0;
 pub const SPEED: u32 = 1;
 
 /// Moves each entity that has a place and a speed, once, and returns how many these are. The others
-/// stay. The check proves that an entity is an index of tables as long as there are entities.
+/// stay. The check proves that each entity is an index of both tables.
 pub fn step<B: BitsOwned, const N: usize>(
     world: &World<B, N>,
     places: &mut [i32],
@@ -75,8 +75,8 @@ pub fn step_one<B: BitsOwned, const N: usize>(
     }
 }
 
-/// Moves those of 4,096 entities, of which few move, and returns how many these are: each mask has
-/// a summary of its words.
+/// Moves as [`step`] does, where few of 4,096 entities move. Each mask has a summary of its words.
+/// Returns how many entities moved.
 pub fn step_few(
     world: &World<Tiered4K<Ones>, 2>,
     places: &mut [i32; 4096],
@@ -87,8 +87,8 @@ pub fn step_few(
     step::<Tiered4K<Ones>, 2>(world, places, speeds)
 }
 
-/// Moves those of 256 entities, of which each component has a mask of four words, and returns how
-/// many these are.
+/// Moves as [`step`] does, where each mask of 256 entities has four words. Returns how many
+/// entities moved.
 pub fn step_256(world: &World<[u64; 4], 3>, places: &mut [i32; 256], speeds: &[i32; 256]) -> u32
     ensures { result ≡ size (matching (world_of 3 (row_set 4 64 (bit_set 64)) world.now.alive
         world.now.components) (0 ∷ 1 ∷ [])) }
@@ -126,7 +126,8 @@ pub fn how_many_placed<B: BitsOwned, const N: usize>(world: &World<B, N>) -> u32
     world.matching(&[PLACE]).count_ones()
 }
 
-/// Spawns an entity with a place, and finds that it has it.
+/// Spawns an entity, gives it a place, and finds that it has one. Returns `true` also if no number
+/// is free.
 pub fn spawn_placed<B: BitsOwned>(world: &mut World<B, 2>) -> bool
     ensures { result ≡ true }
 {
@@ -145,7 +146,7 @@ pub fn spawn_two<B: BitsOwned, const N: usize>(world: &mut World<B, N>) -> Optio
     Some((first, second))
 }
 
-/// Removes an entity, and finds it without any component.
+/// Removes an entity, and finds it neither alive nor with a component.
 pub fn remove_and_ask<B: BitsOwned, const N: usize>(
     world: &mut World<B, N>,
     entity: u32,
@@ -157,8 +158,7 @@ pub fn remove_and_ask<B: BitsOwned, const N: usize>(
     world.is_alive(entity) || world.has(entity, component)
 }
 
-/// Returns the name of the first entity that has a speed, in a table of as many names as there are
-/// entities.
+/// Returns the name of the first entity that has a speed, from a table with a name for each entity.
 pub fn first_moving(world: &World<[u64; 4], 3>, names: &[u32; 256]) -> Option<u32>
     ensures { (found : Option ℕ)
         × IsFirstIn (matching (world_of 3 (row_set 4 64 (bit_set 64)) world.now.alive
@@ -178,7 +178,7 @@ pub fn serve(events: &[Event], answers: &mut [Answer])
     world.serve(events, answers);
 }
 
-/// Serves events in a world of any shape in which no entity is alive.
+/// Serves events in a world of any shape. No entity is alive at first.
 fn serve_first<B: BitsOwned, const N: usize>(
     world: &mut World<B, N>,
     events: &[Event],
@@ -192,8 +192,8 @@ fn serve_first<B: BitsOwned, const N: usize>(
     world.serve(events, answers);
 }
 
-/// Serves events in a world of 4,096 entity numbers, none alive at first. Each mask of the world
-/// has a summary of its words with an unset bit, so a spawn finds a number in a few steps.
+/// Serves events in a world of 4,096 entity numbers, none alive at first. Each mask has a summary
+/// of the words that have an unset bit, so a spawn finds a number in a few steps.
 pub fn serve_tiered(events: &[Event], answers: &mut [Answer])
     requires { length answers.old ≡ length events.now }
     ensures { answers.new ≡ event_answers (empty_world 4096 2) events.now }
@@ -202,7 +202,7 @@ pub fn serve_tiered(events: &[Event], answers: &mut [Answer])
     serve_first::<Tiered4K<Zeros>, 2>(&mut world, events, answers);
 }
 
-/// Serves events in a world of 64 entity numbers, of which those of a mask are alive at first.
+/// Serves events in a world of 64 entity numbers. Those that a mask has are alive at first.
 pub fn serve_beside(alive: u64, events: &[Event], answers: &mut [Answer])
     requires { length answers.old ≡ length events.now }
     ensures { answers.new ≡ event_answers (bare_world (bit_set 64 alive) 2) events.now }

@@ -1,5 +1,5 @@
-//! Callers of the ready queues, of roles, of entities and of slots: what an answer says is what the
-//! next call needs, from the contracts alone. Few have a proof file.
+//! Callers of ready queues, roles, entities and slots. What one call promises is what the next call
+//! requires, so the contracts alone prove the callers. Few have a proof file.
 #![tactic(auto)]
 
 pub mod entities;

@@ -1,4 +1,4 @@
-//! Ready queues in the hands of a caller.
+//! Callers of ready queues.
 
 ghost use Rattle.std.specs.Prelude.{◌≡◌, ◌≢◌, ◌<◌, length, IfSome, None, true};
 ghost use Rattle.bit_queue.specs.Queue.{event_answers, most_urgent};
@@ -19,7 +19,7 @@ pub fn run_two<B: BitsOwned>(queue: &mut PriorityQueue<B>) -> Option<(u32, u32)>
     Some((first, second))
 }
 
-/// Wakes a task, and finds it ready if it is one.
+/// Wakes a task, and finds it ready. Returns `true` also if there is no such task.
 pub fn wake_and_ask<B: BitsOwned>(queue: &mut PriorityQueue<B>, task: u32) -> bool
     ensures { result ≡ true }
 {
@@ -29,7 +29,7 @@ pub fn wake_and_ask<B: BitsOwned>(queue: &mut PriorityQueue<B>, task: u32) -> bo
     }
 }
 
-/// Lets a task run, and wakes it again, which is done.
+/// Lets a task run, and wakes it again. Returns `true`, since the queue accepts the task.
 pub fn run_and_wake<B: BitsOwned>(turns: &mut RoundRobin<B>) -> bool
     ensures { result ≡ true }
 {
@@ -48,7 +48,7 @@ pub fn run_two_in_turn<B: BitsOwned>(turns: &mut RoundRobin<B>) -> Option<(u32, 
     Some((first, second))
 }
 
-/// Lets a task run, whose work is noted in a table of as many places as there are tasks.
+/// Lets a task run, and takes one step off its work, in a table with an entry for each task.
 pub fn run_for(queue: &mut PriorityQueue<u8>, work: &mut [u32; 8]) -> Option<u32>
     ensures task { result ≡ most_urgent (bit_set 8 queue.old.ready) }
     ensures idle { result ≡ None → work.new ≡ work.old }
@@ -58,7 +58,7 @@ pub fn run_for(queue: &mut PriorityQueue<u8>, work: &mut [u32; 8]) -> Option<u32
     Some(task)
 }
 
-/// Serves events by urgency, of 64 tasks of which none is ready.
+/// Serves events for 64 tasks by urgency. No task is ready at first.
 pub fn serve(events: &[Event], answers: &mut [Answer])
     requires { length answers.old ≡ length events.now }
     ensures { answers.new ≡ event_answers (empty_set 64) events.now }
@@ -67,7 +67,7 @@ pub fn serve(events: &[Event], answers: &mut [Answer])
     queue.serve(events, answers);
 }
 
-/// Serves events by urgency, of 4,096 tasks, with a summary of the words that have a ready one.
+/// Serves events for 4,096 tasks by urgency, with a summary of the words that have a ready one.
 pub fn serve_tiered(events: &[Event], answers: &mut [Answer])
     requires { length answers.old ≡ length events.now }
     ensures { answers.new ≡ event_answers (empty_set 4096) events.now }
@@ -76,7 +76,7 @@ pub fn serve_tiered(events: &[Event], answers: &mut [Answer])
     queue.serve(events, answers);
 }
 
-/// Serves events in turns, of 256 tasks of which none is ready.
+/// Serves events for 256 tasks in turns. No task is ready at first.
 pub fn serve_in_turn(events: &[Event], answers: &mut [Answer])
     requires { length answers.old ≡ length events.now }
     ensures { answers.new ≡ answers_in_turn (round_at (empty_set 256) 0) events.now }

@@ -1,11 +1,11 @@
-//! Roles in the hands of a caller.
+//! Callers of roles.
 
 ghost use Rattle.std.specs.Prelude.{◌≡◌, ◌<◌, IfSome, true};
 
 use bit_roles::{Refused, Roles};
 use bittle::BitsOwned;
 
-/// Grants a role a permission, and finds it granted if both numbers are one.
+/// Grants a role a permission, and finds it granted. Returns `true` also if the grant is refused.
 pub fn grant_and_ask<B: BitsOwned, const N: usize>(
     roles: &mut Roles<B, N>,
     role: u32,
@@ -19,7 +19,7 @@ pub fn grant_and_ask<B: BitsOwned, const N: usize>(
     }
 }
 
-/// Gives a role a parent, and finds it.
+/// Gives a role a parent, and finds it as the parent. Returns `true` also if that is refused.
 pub fn inherit_and_ask<B: BitsOwned, const N: usize>(
     roles: &mut Roles<B, N>,
     role: u32,
@@ -33,15 +33,15 @@ pub fn inherit_and_ask<B: BitsOwned, const N: usize>(
     }
 }
 
-/// Lets a role inherit from itself, which is refused.
+/// Lets a role inherit from itself. Returns `true`, since that is refused.
 pub fn inherit_from_itself<B: BitsOwned, const N: usize>(roles: &mut Roles<B, N>, role: u32) -> bool
     ensures { result ≡ true }
 {
     roles.inherit(role, role).is_err()
 }
 
-/// Returns the name of the parent of a role, in a table of as many names as there are roles, or
-/// `None` if it has none. The check proves that a parent is an index of the table.
+/// Returns the name of a role's parent from a table with a name for each role, or `None` if it has
+/// none. The check proves that a parent is an index of the table.
 pub fn parent_in_table(roles: &Roles<u64, 8>, names: &[u32; 8], role: u32) -> Option<u32>
     ensures { IfSome result (λ _. role < 8) }
 {

@@ -1,4 +1,4 @@
-//! Slots with generations in the hands of a caller: walks over the values, and tables beside them.
+//! Callers of slots with generations: iterators over the values, and tables beside the slots.
 
 ghost use Rattle.std.specs.Prelude.{◌≡◌, ◌≢◌, ◌≤◌, ℕ, false, length, map, slice_get, sum, true};
 ghost use Rattle.std.specs.Prelude.{IfSome, Some};
@@ -40,7 +40,7 @@ pub fn total<B: BitsOwned>(slots: &Slots<u32, B>) -> u64
     total
 }
 
-/// Copies each value to the place of its slot, in a table as long as the row.
+/// Copies each value to the entry of its slot, in a table with an entry for each slot.
 pub fn copy_values<B: BitsOwned>(slots: &Slots<u64, B>, table: &mut [u64])
     requires { length slots.now.row.slots.now ≤ length table.old }
     ensures { length table.new ≡ length table.old }
@@ -50,7 +50,8 @@ pub fn copy_values<B: BitsOwned>(slots: &Slots<u64, B>, table: &mut [u64])
     }
 }
 
-/// Counts a use of a value in a table beside the slots, and returns whether the key finds one.
+/// Counts one use of the value under a key, in a table beside the slots, and returns whether the
+/// key finds a value.
 pub fn count_use<V: Drop, B: BitsOwned>(slots: &Slots<V, B>, uses: &mut [u64], key: Key) -> bool
     requires { length slots.now.row.slots.now ≤ length uses.old }
     ensures others { (other : ℕ) → other ≢ key.slot

@@ -1,4 +1,5 @@
--- What each answer to a shot says, by the squares with a ship and those that were fired at before.
+-- What each answer to a shot says of the squares with ships, and of those that were fired at
+-- before.
 use Rattle.std.specs.Prelude.{◌≡◌, ℕ, true, false}
 use Rattle.bittle.specs.PlainSet.{PlainSet, contains}
 use Rattle.bittle_ext_uses.specs.declared.shots.Shot.{Shot}

@@ -34,7 +34,7 @@ pub fn flip<B: BitsMut>(set: &mut B) -> u32
     set.count_ones()
 }
 
-/// Keeps the bits below a bound.
+/// Clears all bits but those below a bound.
 pub fn keep_below<B: BitsMut>(set: &mut B, bound: u32)
     requires { ShapeFits B.Shape set.old }
     ensures { set_in B.Shape B.Order.Endian set.new
@@ -43,8 +43,8 @@ pub fn keep_below<B: BitsMut>(set: &mut B, bound: u32)
     set.retain(|index| index < bound);
 }
 
-/// Keeps the bits for which a closure of the caller's returns `true`. It may be called at any
-/// index, so at those below the capacity.
+/// Clears all bits but those for which a closure of the caller's returns `true`. The closure may be
+/// called at any index, so also at those below the capacity.
 #[tactic(auto, using(bittle_ext::proofs::CallableBelow::always_below))]
 pub fn keep_those<B: BitsMut, E: Endian, F: FnMut(u32) -> bool>(set: &mut B, keep: F)
     requires fits { ShapeFits B.Shape set.old }
@@ -56,7 +56,7 @@ pub fn keep_those<B: BitsMut, E: Endian, F: FnMut(u32) -> bool>(set: &mut B, kee
     set.in_order_mut::<E>().retain(keep);
 }
 
-/// Takes the least free slot.
+/// Sets the least unset bit, and returns it, or changes nothing and returns `None`.
 pub fn take_slot<B: BitsMut>(slots: &mut B) -> Option<u32>
     requires { ShapeFits B.Shape slots.old }
     ensures least { let free = complement (set_in B.Shape B.Order.Endian slots.old) in
@@ -68,7 +68,7 @@ pub fn take_slot<B: BitsMut>(slots: &mut B) -> Option<u32>
     slots.take_first_zero()
 }
 
-/// Returns the bits that are unset.
+/// Returns the set of the bits that are unset.
 pub fn others<B: BitsOwned>(set: B) -> B
     requires { IsTrue B.indexable }
     ensures { set_in B.Shape B.Order.Endian result
@@ -77,7 +77,7 @@ pub fn others<B: BitsOwned>(set: B) -> B
     set.complement()
 }
 
-/// Sets each bit that is set in another set, of whatever shape.
+/// Sets each bit that is set in another set of any shape.
 pub fn unite<A: BitsMut, B: Bits>(set: &mut A, other: &B)
     requires indexable { IsTrue A.indexable }
     requires other_fits { ShapeFits B.Shape other.now }
@@ -88,7 +88,7 @@ pub fn unite<A: BitsMut, B: Bits>(set: &mut A, other: &B)
     set.extend(other.iter_ones());
 }
 
-/// Takes the least index, under the extension's own bound.
+/// Clears the least set bit, and returns it, or `None`. The type is bounded by the extension trait.
 pub fn take_least_of<B: BitsMutExt>(set: &mut B) -> Option<u32>
     requires { ShapeFits B.Shape set.old }
     ensures least { let before = set_in B.Shape B.Order.Endian set.old in
@@ -98,7 +98,7 @@ pub fn take_least_of<B: BitsMutExt>(set: &mut B) -> Option<u32>
     set.pop_first()
 }
 
-/// Moves an index from one set to the other, and returns whether it was in the first.
+/// Clears the bit at an index of `one`, gives `other` the value it had, and returns that value.
 pub fn hand_over<B: BitsMutExt>(one: &mut B, other: &mut B, index: u32) -> bool
     requires { IsTrue B.indexable }
     ensures was { result ≡ contains (set_in B.Shape B.Order.Endian one.old) index }

@@ -1,5 +1,5 @@
-//! A set that keeps another one, where both grow: the used blocks of a memory, and those among them
-//! that are bad.
+//! A set that always has the members of another one, where both grow: the used blocks of a memory
+//! have the bad ones among them.
 
 ghost use Rattle.std.specs.Prelude.{◌≡◌, ◌+◌, ◌<◌, ◌≤◌, true, IfSome};
 ghost use Rattle.bittle.specs.BitPatterns.{bit_set};
@@ -29,7 +29,7 @@ impl Blocks {
         Blocks { used: bad, bad }
     }
 
-    /// Marks a block as bad, and so as used. A number past the last block changes nothing.
+    /// Marks a block as bad and as used. A number past the last block changes nothing.
     #[tactic(auto, using(bittle_lemmas::proofs::IncludedPairs::includes_after_both))]
     pub fn mark_bad(&mut self, block: u32)
         ensures past { 1024 ≤ block → self.new.bad ≡ self.old.bad }
@@ -47,7 +47,8 @@ impl Blocks {
         }
     }
 
-    /// Uses the first run of so many free blocks, and returns where it begins.
+    /// Takes the first run of `length` free blocks, and returns where it begins. Returns `None` if
+    /// there is none.
     #[tactic(auto, using(bittle_ext::proofs::IncludedSets::includes_after_set_span))]
     pub fn take_run(&mut self, length: u32) -> Option<u32>
         ensures first { IsFirstRun (complement (row_set 16 64 (bit_set 64) self.old.used)) 0 length

@@ -1,8 +1,9 @@
-//! Calls in a chain: one call's answer is passed to the next, or indexes a table. No caller has a
-//! proof file.
+//! Calls in a chain: the answer of one call is passed to the next, or indexes a table. No caller
+//! has a proof file.
 //!
 //! The check proves that the second call is allowed, or that the index lies in the table, from the
-//! contract of the first call alone. A loop has no clause of its own: that would need an invariant.
+//! contract of the first call alone. A function with a loop has no clause of its own, which would
+//! need an invariant.
 
 ghost use Rattle.std.specs.Prelude.{◌≡◌, ◌+◌, ◌<◌, ◌≤◌, ℕ, IfSome, MatchOption, Option};
 ghost use Rattle.std.specs.Prelude.{option_map, slice_get, slice_index, unwrap_or};
@@ -40,7 +41,7 @@ pub fn entry_before_free(mask: u64, to: u32, table: &[u32; 64]) -> u32
     }
 }
 
-/// Returns the entry of a table at the set bit of a rank, or 0.
+/// Returns the entry of a table at the set bit of a rank, or 0. Rank 0 is the first set bit.
 pub fn entry_of_rank(mask: &[u32; 4], rank: u32, table: &[u8; 128]) -> u8
     ensures { let found = slice_get (ascending (row_set 4 32 (bit_set 32) mask.now)) rank in
         result ≡ unwrap_or (option_map (λ i. slice_index table.now i) found) 0 }
@@ -51,7 +52,7 @@ pub fn entry_of_rank(mask: &[u32; 4], rank: u32, table: &[u8; 128]) -> u8
     }
 }
 
-/// Marks the entries of a table from the start of a run of free bits on.
+/// Marks the four entries of a table at the first run of four unset bits, if there is one.
 pub fn mark_free_run(mask: u64, table: &mut [bool; 64]) {
     if let Some(start) = mask.first_zero_run(4) {
         for index in start..start + 4 {
@@ -81,7 +82,7 @@ pub fn clear_before_third<B: BitsMut>(set: &mut B)
     }
 }
 
-/// Sets the bits up to the last set bit below an index, and that one.
+/// Sets the bits from 0 up to and including the last set bit below an index.
 pub fn set_through<B: BitsMut>(set: &mut B, to: u32)
     requires { ShapeFits B.Shape set.old }
     ensures { let before = set_in B.Shape B.Order.Endian set.old in
@@ -106,7 +107,7 @@ pub fn toggle_before_free<B: BitsMut>(set: &mut B, to: u32)
     }
 }
 
-/// Sets a run of unset bits, where there is one.
+/// Sets the first run of `length` unset bits, if there is one.
 pub fn take_run<B: BitsMut>(set: &mut B, length: u32)
     requires { ShapeFits B.Shape set.old }
     ensures { let before = set_in B.Shape B.Order.Endian set.old in
@@ -119,7 +120,7 @@ pub fn take_run<B: BitsMut>(set: &mut B, length: u32)
     }
 }
 
-/// Adds up the indexes of unset bits from the last set bit below an index on.
+/// Adds up the indexes of the unset bits that follow the last set bit below an index.
 pub fn sum_of_gap(mask: u32, to: u32) -> u32 {
     let mut sum = 0u32;
     if let Some(last) = mask.prev_one(to) {
@@ -130,7 +131,7 @@ pub fn sum_of_gap(mask: u32, to: u32) -> u32 {
     sum
 }
 
-/// Takes the last set bit out, and returns the entry of a table at it, or 0.
+/// Clears the last set bit, and returns the entry of a table at it, or 0.
 pub fn pop_entry(mask: &mut u16, table: &[u32; 16]) -> u32
     ensures { (last : Option ℕ) × IsLastIn (bit_set 16 mask.old) 0 16 last
         × (result ≡ unwrap_or (option_map (λ i. slice_index table.now i) last) 0)
@@ -155,7 +156,7 @@ pub fn take_and_mark(slots: &mut [u8; 4], table: &mut [bool; 32])
     }
 }
 
-/// Takes a run of free slots, and gives all but the first back.
+/// Takes a run of three free slots, and gives all but the first back.
 pub fn take_run_of_three<B: BitsMut>(slots: &mut B)
     requires { ShapeFits B.Shape slots.old }
 {
@@ -164,14 +165,15 @@ pub fn take_run_of_three<B: BitsMut>(slots: &mut B)
     }
 }
 
-/// Returns the entry of a table of counts at how many set bits lie below an index.
+/// Returns the entry of a table for the number of set bits that lie below an index.
 pub fn entry_of_count(mask: u64, index: u32, table: &[u32; 65]) -> u32
     ensures { result ≡ slice_index table.now (members_below (bit_set 64 mask) index) }
 {
     table[mask.rank(index) as usize]
 }
 
-/// Returns where the run of set bits ends that begins at the next set bit, or `None`.
+/// Finds the next set bit from `from` on, and returns where the run of set bits there ends, or
+/// `None`.
 pub fn end_of_next_run<B: Bits>(set: &B, from: u32) -> Option<u32>
     requires { ShapeFits B.Shape set.now }
     ensures { IfSome result (λ end. (from < end) × (end < (B.big set.now).capacity)) }
@@ -180,7 +182,7 @@ pub fn end_of_next_run<B: Bits>(set: &B, from: u32) -> Option<u32>
     set.next_zero(start + 1)
 }
 
-/// Counts the unset bits between the last two set bits of any set: the one is before the other.
+/// Counts the unset bits between the last two set bits of any set.
 pub fn count_last_gap<B: Bits>(set: &B) -> u32
     requires { ShapeFits B.Shape set.now }
     ensures { result ≤ (B.big set.now).capacity }

@@ -1,5 +1,5 @@
-//! Indexes from outside, which may be at or past the capacity: nothing wraps. No caller has a proof
-//! file.
+//! Indexes from outside, which may be at the capacity or past it. They do not wrap. No caller has a
+//! proof file.
 
 ghost use Rattle.std.specs.Prelude.{◌≡◌, ◌*◌, ◌<◌, ◌↔◌, IsTrue, IsOk, IfSome, length, true, false};
 ghost use Rattle.bittle.specs.BitPatterns.{bit_set};
@@ -9,7 +9,7 @@ ghost use Rattle.bittle.specs.Values.{set_in, ShapeFits};
 use bittle::{Bits, BitsMut, LittleEndian};
 use bittle_ext::{BitsIndexExt, BitsIndexMutExt, BitsMutViewExt};
 
-/// An edge leads to a node that is none.
+/// The error for an edge that leads out of the graph.
 pub struct NoNode;
 
 /// Visits a node of a graph with 64 nodes, and returns whether it was new.
@@ -22,7 +22,8 @@ pub fn visit(seen: &mut u64, node: u32) -> Result<bool, NoNode>
     }
 }
 
-/// Visits the ends of edges from the left, and returns how many lead out of the graph.
+/// Visits the ends of edges, with bits counted from the left, and returns how many ends are no
+/// node.
 pub fn visit_ends(seen: &mut [u8; 5], ends: &[u32]) -> usize {
     let mut out = 0usize;
     for end in ends.iter() {
@@ -37,7 +38,7 @@ pub fn visit_ends(seen: &mut [u8; 5], ends: &[u32]) -> usize {
     out
 }
 
-/// Returns the weight of a node that was seen.
+/// Returns the weight of a node that was seen, or 0 for one that was not.
 pub fn weight_of(seen: u64, weights: &[u32; 64], node: u32) -> u32
     ensures { (bit_set 64 seen).has node ≡ false → result ≡ 0 }
 {
@@ -48,7 +49,7 @@ pub fn weight_of(seen: u64, weights: &[u32; 64], node: u32) -> u32
     }
 }
 
-/// Returns whether the bit at an index is set, in a set of any length.
+/// Returns whether the bit at an index is set, or `None` if the index is past the end.
 pub fn is_set<B: Bits>(bits: &B, index: u32) -> Option<bool>
     requires { ShapeFits B.Shape bits.now }
     ensures { IfSome result (λ bit. bit ≡ (set_in B.Shape B.Order.Endian bits.now).has index) }
@@ -56,7 +57,7 @@ pub fn is_set<B: Bits>(bits: &B, index: u32) -> Option<bool>
     bits.get_bit(index)
 }
 
-/// Sets a bit that there is, and finds it set.
+/// Sets a bit if the index is below the capacity. Returns `true`: the bit is set, or there is none.
 #[tactic(auto, using(bittle::proofs::CallerChanges::contains_with))]
 pub fn set_checked(mask: u64, index: u32) -> bool
     ensures { result ≡ true }
@@ -65,7 +66,7 @@ pub fn set_checked(mask: u64, index: u32) -> bool
     !mask.try_set_bit(index) || mask.test_bit(index)
 }
 
-/// Sets the bit at an index below the capacity, which is done.
+/// Sets the bit at an index below the capacity. Returns `true`, since there is such a bit.
 pub fn set_below(mask: &mut u64, index: u32) -> bool
     requires { index < 64 }
     ensures done { result ≡ true }
@@ -74,7 +75,8 @@ pub fn set_below(mask: &mut u64, index: u32) -> bool
     mask.try_set_bit(index)
 }
 
-/// Clears a bit in a slice of any length that fits, or none where the index is past its end.
+/// Clears a bit of a slice, and returns `true`. Returns `false` and changes nothing if the slice is
+/// too long or the index is past its end.
 pub fn clear_checked(mut words: &mut [u64], index: u32) -> bool
     ensures { IsTrue result → index < length words.old * 64 }
 {

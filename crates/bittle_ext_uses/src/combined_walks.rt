@@ -1,4 +1,4 @@
-//! Iterators over what an operation makes of two sets: over a view, or owning one.
+//! Iterators over the combination of two sets. Some borrow a view, and some own one.
 
 ghost use Rattle.std.specs.Iterator.{YieldsLast};
 ghost use Rattle.std.specs.Prelude.{◌≡◌, ◌<◌, ℕ, List, [], ◌∷◌, ◌++◌, Option, None, MatchOption};
@@ -16,14 +16,14 @@ ghost use Rattle.bittle_ext.specs.Views.{rounded_up};
 use bittle::{Bits, Endian, LittleEndian, Set};
 use bittle_ext::{BitsOwnedExt, BitsViewExt, View};
 
-/// Counts the indexes that are set in both of two words.
+/// Counts by an iterator the bits that are set in both of two words.
 pub fn count_common(one: u64, other: u64) -> usize
     ensures { result ≡ length (ascending (both_of (bit_set 64 one) (bit_set 64 other))) }
 {
     one.and(&other).iter_ones().count()
 }
 
-/// Counts what is set in either of two rows of unequal length, read from the left.
+/// Counts the bits that are set in either of two rows of unequal length, read from the left.
 pub fn count_either(one: &[u32; 2], other: &[u32; 4]) -> usize
     ensures { result ≡ length (ascending (either_of
         (read_in true 32 (row_set 2 32 (bit_set 32) one.now))
@@ -35,7 +35,7 @@ pub fn count_either(one: &[u32; 2], other: &[u32; 4]) -> usize
         .count()
 }
 
-/// Returns the set of what is set in one word alone.
+/// Returns the bits that are set in the first word and not in the second.
 pub fn alone(one: u16, other: u16) -> u16
     ensures { bit_set 16 result ≡ fold with_index (empty_set 16)
         (ascending (first_only_of (bit_set 16 one) (bit_set 16 other))) }
@@ -43,7 +43,7 @@ pub fn alone(one: u16, other: u16) -> u16
     u16::from_iter(one.minus(&other).iter_ones())
 }
 
-/// Counts where any two sets differ, both read in one order.
+/// Counts the bits in which any two sets differ, both read in one order.
 pub fn count_different<A: Bits, B: Bits, E: Endian>(one: &A, other: &B) -> usize
     requires one_fits { ShapeFits A.Shape one.now }
     requires other_fits { ShapeFits B.Shape other.now }
@@ -56,7 +56,8 @@ pub fn count_different<A: Bits, B: Bits, E: Endian>(one: &A, other: &B) -> usize
     view.xor_unlike(&other.in_order::<E>()).iter_ones().count()
 }
 
-/// Counts what is set in a byte and not in a row of wider words, which is read from the left.
+/// Counts the bits that are set in a byte and not in a row of wider words, which is read from the
+/// left.
 pub fn count_alone(byte: u8, row: &Set<[u32; 2], LittleEndian>) -> usize
     ensures { result ≡ length (ascending (first_only_of (bit_set 8 byte)
         (read_in true 32 (row_set 2 32 (bit_set 32) row.now.bits)))) }
@@ -77,8 +78,8 @@ pub fn last_entry(one: u64, other: u64, table: &[u32; 64]) -> u32
     }
 }
 
-/// Counts what is set in either of two words, and returns the word of it: a clone of an iterator
-/// leaves it as it was.
+/// Counts the bits that are set in either of two words, and returns the word of them. The count
+/// uses up a clone of the iterator, which stays as it was.
 pub fn counted(one: u16, other: u16) -> (usize, u16)
     ensures count { result.0 ≡ length (ascending (either_of (bit_set 16 one) (bit_set 16 other))) }
     ensures word { bit_set 16 result.1 ≡ fold with_index (empty_set 16)
@@ -92,7 +93,7 @@ pub fn counted(one: u16, other: u16) -> (usize, u16)
     (count, u16::from_iter(walk))
 }
 
-/// Returns the first index that is set in either of two words, and the last of the others: an
+/// Returns the first bit that is set in either of two words, and the last of the others. One
 /// iterator steps from both ends.
 pub fn ends(one: u8, other: u8) -> (Option<u32>, Option<u32>)
     ensures { let items = ascending (either_of (bit_set 8 one) (bit_set 8 other)) in
@@ -105,7 +106,7 @@ pub fn ends(one: u8, other: u8) -> (Option<u32>, Option<u32>)
     (first, walk.next_back())
 }
 
-/// Returns the entry of the greatest index that a byte has in common with a longer set, or 0.
+/// Returns the entry at the greatest bit that is set in both a byte and a longer set, or 0.
 pub fn last_common_entry(few: u8, many: u64, table: &[u32; 8]) -> u32 {
     let mut last = 0;
     for index in few.and(&many).iter_ones() {
@@ -114,7 +115,7 @@ pub fn last_common_entry(few: u8, many: u64, table: &[u32; 8]) -> u32 {
     last
 }
 
-/// Returns the entry of the greatest index that a byte has and a longer set lacks, or 0.
+/// Returns the entry at the greatest bit that is set in a byte and unset in a longer set, or 0.
 pub fn last_entry_alone(few: u8, many: u64, table: &[u32; 8]) -> u32 {
     let mut last = 0;
     for index in few.minus(&many).iter_ones() {

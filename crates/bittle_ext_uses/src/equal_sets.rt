@@ -1,11 +1,11 @@
-//! Sets that are equal since each number is a member of both or of neither.
+//! Two sets that are equal, since each number is in both or in neither.
 
 ghost use Rattle.std.specs.Prelude.{◌≡◌};
 ghost use Rattle.bittle.specs.BitPatterns.{bit_set};
 
 use bittle::{Bits, BitsMut, BitsOwned};
 
-/// Copies a set by a loop over its numbers, as a caller does who asks something else of each.
+/// Copies a set by a loop over all numbers, as a caller may who also does something else with each.
 pub fn copied(from: u64) -> u64
     ensures { bit_set 64 result ≡ bit_set 64 from }
 {

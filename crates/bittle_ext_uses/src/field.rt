@@ -1,5 +1,6 @@
-//! A set that is smaller than its words: a field of 200 cells in 256 bits. The type keeps by a ghost
-//! field that no bit past the last cell is set. Only `join` and `size` have a proof file.
+//! A set with fewer members than its words have bits: a field of 200 cells in 256 bits. A ghost
+//! field of the type promises that no bit past the last cell is set. Only `join` and `size` have a
+//! proof file.
 
 ghost use Rattle.std.specs.Prelude.{◌≡◌, ◌<◌, ◌≤◌, min, true, false, IfSome};
 ghost use Rattle.bittle.specs.BitPatterns.{bit_set};
@@ -30,7 +31,7 @@ impl Field {
         Field { cells }
     }
 
-    /// Fills a cell. One past the last cell changes nothing.
+    /// Fills a cell. A number past the last cell changes nothing.
     #[tactic(auto, using(bittle_ext::proofs::UnsetSpans::lacks_span_after_set))]
     pub fn fill(&mut self, cell: u32)
         ensures fills { cell < 200 → row_set 4 64 (bit_set 64) self.new.cells
@@ -42,7 +43,7 @@ impl Field {
         }
     }
 
-    /// Empties a cell.
+    /// Empties a cell. The number wraps at 256.
     #[tactic(auto, using(bittle_ext::proofs::UnsetSpans::lacks_span_after_clear))]
     pub fn empty(&mut self, cell: u32)
         ensures { row_set 4 64 (bit_set 64) self.new.cells
@@ -51,7 +52,7 @@ impl Field {
         self.cells.clear_bit(cell);
     }
 
-    /// Fills some cells of the lowest row.
+    /// Fills the first `cells` cells of the lowest row, or all ten.
     #[tactic(auto, using(bittle_ext::proofs::UnsetSpans::lacks_span_after_set_span))]
     pub fn fill_first(&mut self, cells: u32)
         ensures { row_set 4 64 (bit_set 64) self.new.cells
@@ -60,7 +61,7 @@ impl Field {
         self.cells.set_span(..cells.min(10));
     }
 
-    /// Empties the lowest row, and moves all other rows down to it.
+    /// Removes the lowest row: all other rows move down by one, and the highest row is empty then.
     #[tactic(auto, using(bittle_ext::proofs::UnsetSpans::lacks_span_after_copy, bittle_ext::proofs::UnsetSpans::lacks_span_after_clear_span))]
     pub fn remove_row(&mut self)
         ensures { let before = row_set 4 64 (bit_set 64) self.old.cells in
@@ -71,7 +72,7 @@ impl Field {
         self.cells.clear_span(190..200);
     }
 
-    /// Fills each cell that another field fills.
+    /// Fills each cell that is full in another field.
     pub fn join(&mut self, other: &Field)
         ensures { row_set 4 64 (bit_set 64) self.new.cells
             ≡ union_of (row_set 4 64 (bit_set 64) self.old.cells)
@@ -94,7 +95,7 @@ impl Field {
         self.cells.count_ones_in_range(0, 200)
     }
 
-    /// Returns the number of full cells, as a clause on the set says it.
+    /// Returns the number of full cells. A clause says that it is the size of the set.
     pub fn size(&self) -> u32
         ensures all { result ≡ size (row_set 4 64 (bit_set 64) self.now.cells) }
         ensures at_most { result ≤ 200 }
@@ -102,7 +103,7 @@ impl Field {
         self.cells.count_ones()
     }
 
-    /// Returns whether a cell is full. The 56 numbers past the last cell are none.
+    /// Returns whether a cell is full. It returns `false` for the 56 numbers past the last cell.
     #[tactic(auto, using(bittle_ext::proofs::UnsetSpans::unset_in_span))]
     pub fn is_full(&self, cell: u32) -> bool
         ensures full { result ≡ contains (row_set 4 64 (bit_set 64) self.now.cells) cell }

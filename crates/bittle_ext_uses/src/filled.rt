@@ -1,4 +1,4 @@
-//! A loop that fills a set, one member a turn: its measure is the room that is left.
+//! A loop that fills a set, one member a turn. Its measure is how many members are missing.
 
 ghost use Rattle.std.specs.Prelude.{◌≡◌, ◌+◌};
 ghost use Rattle.bittle.specs.BitPatterns.{bit_set};
@@ -8,7 +8,7 @@ ghost use Rattle.bittle.specs.Searches.{IsFirstIn, NoneIn};
 use bittle::{BitsMut, BitsOwned};
 use bittle_ext::prelude::*;
 
-/// Fills all free seats from the first on, and returns how many they were.
+/// Fills all free seats from the first on, and returns how many there were.
 pub fn fill(seats: &mut u64) -> u32
     ensures all { size (bit_set 64 seats.new) ≡ 64 }
     ensures count { size (bit_set 64 seats.new) ≡ size (bit_set 64 seats.old) + result }

@@ -1,5 +1,5 @@
-//! Forms that one writes first, and for two that the check refuses what is shortest in their place: a
-//! `return` from a `for` with an index of a row, and a closure over an iterator.
+//! Forms that one writes first. The check refuses two others: a `return` from a `for` with an index
+//! of a row, and a closure over an iterator. For these, the shortest form that it accepts is here.
 
 ghost use Rattle.std.specs.Prelude.{◌*◌, ◌<◌, false, length, slice_index_or};
 ghost use Rattle.bittle.specs.BitPatterns.{bit_set};
@@ -10,14 +10,14 @@ ghost use Rattle.bittle_ext.specs.Changes.{those_passing};
 use bittle::Bits;
 use bittle_ext::prelude::*;
 
-/// A set over words of a caller's.
+/// A set over words that a caller lends.
 #[derive(Drop)]
 pub struct Lent<'a> {
     words: &'a mut [u64],
 }
 
 impl<'a> Lent<'a> {
-    /// Takes the least member.
+    /// Clears the least set bit, and returns it, or `None`.
     pub fn take_least(&mut self) -> Option<u32>
         requires { length self.old.words.now * 64 < 4294967295 }
         ensures { IsFirstIn (row_set (length self.old.words.now) 64 (bit_set 64) self.old.words.now)
@@ -27,7 +27,7 @@ impl<'a> Lent<'a> {
     }
 }
 
-/// Returns the first member that a row marks, by a loop that goes on after it.
+/// Returns the first set bit that a row marks, by a loop that also visits the others.
 pub fn first_marked(mask: u64, row: &[bool; 64]) -> Option<u32> {
     let mut found = None;
     for index in mask.iter_ones() {
@@ -38,7 +38,7 @@ pub fn first_marked(mask: u64, row: &[bool; 64]) -> Option<u32> {
     found
 }
 
-/// Returns the first member that a row marks, of a copy that keeps those alone.
+/// Returns the first set bit that a row marks. It keeps only the marked bits, in a copy.
 #[tactic(auto, using(bittle_lemmas::proofs::FoundNumbers::first_in_same))]
 pub fn first_of_marked(mask: u64, row: &[bool; 64]) -> Option<u32>
     ensures { IsFirstIn (those_passing (λ i. slice_index_or row.now i false) (bit_set 64 mask)) 0 64
@@ -49,7 +49,7 @@ pub fn first_of_marked(mask: u64, row: &[bool; 64]) -> Option<u32>
     marked.first_one()
 }
 
-/// Adds up the entries of a row at the members, which are taken out one by one.
+/// Adds up the entries of a row at the set bits, which it takes out of a copy one by one.
 pub fn sum_by_pops(mask: u64, row: &[u32; 64]) -> u32 {
     let mut rest = mask;
     let mut sum = 0u32;

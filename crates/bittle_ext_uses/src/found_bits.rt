@@ -1,5 +1,5 @@
 //! What a search or a test of a range tells of single bits. Lemmas in the attribute prove
-//! `first_open_bay` and `first_missing`; the others have a short answer for each open goal.
+//! `first_open_bay` and `first_missing`. The others have a short answer for each open goal.
 
 ghost use Rattle.std.specs.Prelude.{◌≡◌, ◌↔◌, ◌+◌, ◌<◌, ◌≤◌, ◌||◌, ℕ, true, false, IfSome, IsTrue};
 ghost use Rattle.std.specs.Prelude.{MatchOption};
@@ -26,7 +26,8 @@ pub fn first_open_bay(taken: &[u64; 4], closed: &[u64; 4]) -> Option<u32>
     taken.or(closed).first_zero_in_range(0, 200)
 }
 
-/// Returns the first of 24 hours that is free for two people. Each hour before it is taken for one.
+/// Returns the first of 24 hours that is free for both people. In each hour before it, one of them
+/// is busy.
 #[tactic(auto, using(bittle_lemmas::proofs::FoundNumbers::first_unset_in_same))]
 pub fn free_for_both(one: u32, other: u32) -> Option<u32>
     ensures free { IsFirstIn (complement (either_of (bit_set 32 one) (bit_set 32 other))) 0 24
@@ -46,7 +47,7 @@ pub fn first_wide_bay(wide: &[u64; 4], taken: &[u64; 4]) -> Option<u32>
     wide.minus(taken).first_one_in_range(0, 200)
 }
 
-/// Returns the first member of a set that another one lacks.
+/// Returns the first bit that is set in `wanted` and unset in `owned`.
 #[tactic(auto, using(bittle::proofs::CallerSets::contains_within))]
 pub fn first_missing(wanted: u64, owned: u64) -> Option<u32>
     ensures first { IsFirstAlone (bit_set 64 wanted) (bit_set 64 owned) result }
@@ -57,7 +58,7 @@ pub fn first_missing(wanted: u64, owned: u64) -> Option<u32>
     Some(found)
 }
 
-/// Returns whether somebody was there on each day of a range of a month.
+/// Returns whether somebody was there on each day of a range of days of a month.
 pub fn was_there_all(days: u32, from: u32, to: u32) -> bool
     requires { to ≤ 31 }
     ensures { IsTrue result ↔ ((k : ℕ) → from ≤ k → k < to → contains (bit_set 32 days) k ≡ true) }
@@ -65,7 +66,7 @@ pub fn was_there_all(days: u32, from: u32, to: u32) -> bool
     days.all_in_range(from, to)
 }
 
-/// Returns the first day of absence from a day of a month on.
+/// Returns the first day from `from` on, of the 31 of a month, on which somebody was absent.
 #[tactic(auto, using(bittle_ext::proofs::CallerMembers::unset_where_found))]
 pub fn first_absence(days: u32, from: u32) -> Option<u32>
     ensures unset { IfSome result (λ day. contains (bit_set 32 days) day ≡ false) }
@@ -78,7 +79,7 @@ pub fn first_absence(days: u32, from: u32) -> Option<u32>
     Some(day)
 }
 
-/// Returns the first run of so many free numbers from 1 to 4,094.
+/// Returns where the first run of `length` free numbers from 1 to 4,094 begins.
 pub fn free_run(taken: &[u64; 64], length: u32) -> Option<u32>
     ensures run { IsFirstRun (members_within (complement (row_set 64 64 (bit_set 64) taken.now)) 1
         4095) 1 length result }

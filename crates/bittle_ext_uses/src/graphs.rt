@@ -1,5 +1,5 @@
-//! Graphs: a union over the rows of a table, and a search, whose loop takes nodes out of a queue and
-//! adds to it on its way.
+//! Graphs: a union over the rows of a table, and a search. The loop of the search takes nodes out
+//! of a queue and adds others to it.
 
 ghost use Rattle.std.specs.Prelude.{◌≡◌};
 ghost use Rattle.bittle.specs.BitPatterns.{bit_set};
@@ -10,8 +10,8 @@ ghost use Rattle.bittle_ext_uses.specs.Graphs.{targets_of, IsClosed};
 use bittle::{Bits, BitsMut, BitsOwned};
 use bittle_ext::{BitsMutExt, BitsOwnedExt, BitsRelationExt};
 
-/// Returns the nodes that an edge leads to from one of some nodes. Row `k` has the nodes that an
-/// edge leads to from node `k`.
+/// Returns the nodes that an edge leads to from any of `nodes`. Row `k` has the nodes that an edge
+/// leads to from node `k`.
 pub fn targets(rows: &[u64; 64], nodes: u64) -> u64
     ensures { bit_set 64 result ≡ targets_of rows.now (bit_set 64 nodes) }
 {
@@ -22,11 +22,11 @@ pub fn targets(rows: &[u64; 64], nodes: u64) -> u64
     all
 }
 
-/// Returns the nodes that edges lead to from a node, that node among them: the least set that has
-/// it and that no edge leaves. Row `k` has the nodes that an edge leads to from node `k`. A start
-/// past the last node leads nowhere.
+/// Returns the nodes that edges lead to from a start, with the start itself. It is the least set
+/// that has the start and that no edge leaves. Row `k` has the nodes that an edge leads to from
+/// node `k`. For a start past the last node it returns the empty set.
 ///
-/// Each turn takes one node out of those that are left, which is the measure of the loop.
+/// Each turn takes one node out of `left`. The size of that set is the measure of the loop.
 pub fn reachable(rows: &[u64; 64], start: u32) -> u64
     ensures closed { IsClosed rows.now start (bit_set 64 result) }
     ensures least { (nodes : PlainSet) → IsClosed rows.now start nodes

@@ -49,7 +49,7 @@ pub fn add(words: &mut [u64], index: u32) -> bool
     lent.0.insert(index)
 }
 
-/// Takes the least index.
+/// Clears the least set bit, and returns it, or changes nothing and returns `None`.
 pub fn take_least(words: &mut [u64]) -> Option<u32>
     requires { length words.old * 64 < 4294967295 }
     ensures least { IsFirstIn (row_set (length words.old) 64 (bit_set 64) words.old)
@@ -73,7 +73,7 @@ pub fn flip(words: &mut [u8])
     set.complement_assign();
 }
 
-/// Sets a bit of any set in an order, and returns whether it was unset.
+/// Sets a bit of any set, read in any order, and returns whether it was unset.
 pub fn add_in<B: BitsMut, E: Endian>(set: &mut B, index: u32) -> bool
     requires { IsTrue B.indexable }
     ensures was_unset { result ≡ not (contains (set_in B.Shape E.Endian set.old) index) }
@@ -84,8 +84,8 @@ pub fn add_in<B: BitsMut, E: Endian>(set: &mut B, index: u32) -> bool
     set.in_order_mut::<E>().insert(index)
 }
 
-/// Sets a bit of a slice of any length from the left, and returns whether it was unset: what a view
-/// changed is in the caller's slice.
+/// Sets a bit of a slice of any length, counted from the left, and returns whether it was unset.
+/// The change through a view is in the caller's slice.
 pub fn add_le(words: &mut [u64], index: u32) -> bool
     ensures was_unset { result ≡ not (contains (read_in true 64
         (row_set (length words.old) 64 (bit_set 64) words.old)) index) }
@@ -98,7 +98,7 @@ pub fn add_le(words: &mut [u64], index: u32) -> bool
     add_in::<_, LittleEndian>(&mut lent.0, index)
 }
 
-/// Clears the bits of a range in any order.
+/// Clears the bits of a range of a slice, read in any order.
 pub fn clear_in<E: Endian>(words: &mut [u64], from: u32, to: u32)
     requires fits { length words.old * 64 < 4294967295 }
     requires ordered { from ≤ to }

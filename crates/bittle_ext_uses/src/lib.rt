@@ -1,5 +1,6 @@
-//! Callers of the everyday calls, each proved from public contracts. Most have no proof file. Loops
-//! have a measure or an invariant, `one_line` and `found_bits` answers of one line.
+//! Callers of the everyday calls, each proved from public contracts. Most have no proof file. The
+//! others give a measure or an invariant of a loop, or short answers, as `one_line` and
+//! `found_bits` do.
 #![tactic(auto)]
 
 pub mod any_changes;

@@ -1,5 +1,5 @@
-//! Sets and lists of their members: what a caller knows of one number after each of a list was set,
-//! and the first members in a slice.
+//! Sets and lists of their members: what is known of each number of a list once its bits are set,
+//! and a slice that the least members are written into.
 
 ghost use Rattle.std.specs.List.{All};
 ghost use Rattle.std.specs.Prelude.{◌≡◌, ◌<◌, ℕ, min, length, get_or, true};
@@ -26,7 +26,7 @@ pub fn take(taken: &mut [u64; 4], seats: &[u32])
     taken.insert_all(seats);
 }
 
-/// Takes seats where one is taken already, which stays so.
+/// Takes seats. A seat that was taken before stays taken.
 #[tactic(auto, using(bittle_ext::proofs::ListedMembers::still_set_after_all))]
 pub fn take_beside(taken: &mut [u64; 4], seats: &[u32], seat: u32)
     requires { contains (row_set 4 64 (bit_set 64) taken.old) seat ≡ true }
@@ -35,7 +35,7 @@ pub fn take_beside(taken: &mut [u64; 4], seats: &[u32], seat: u32)
     taken.insert_all(seats);
 }
 
-/// Writes the least members into a slice, as many as there is room for, and returns how many.
+/// Writes the least members into a slice, as many as fit, and returns how many.
 pub fn write_first(members: &[u64; 4], room: &mut [u32]) -> usize
     ensures length { length room.new ≡ length room.old }
     ensures count { result ≡ min (size (row_set 4 64 (bit_set 64) members.now)) (length room.new) }

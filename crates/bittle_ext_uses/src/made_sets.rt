@@ -10,7 +10,7 @@ ghost use Rattle.bittle.specs.PlainSet.{with_span, without_span, with_span_toggl
 use bittle::{Bits, LittleEndian, Set};
 use bittle_ext::{BitsMutExt, BitsOwnedExt};
 
-/// Returns the bits that are unset.
+/// Returns the set of the bits that are unset.
 pub fn others(mask: u8) -> u8
     ensures { bit_set 8 result ≡ complement (bit_set 8 mask) }
 {
@@ -24,7 +24,7 @@ pub fn three(a: u32, b: u32, c: u32) -> u64
     u64::from_indexes(&[a, b, c])
 }
 
-/// Returns the set of a list, from the left.
+/// Returns the set of a list of indexes, which count from the left.
 pub fn all_of(indexes: &[u32]) -> u64
     ensures { read_in true 64 (bit_set 64 result)
         ≡ fold with_index (empty_set 64) indexes.now }
@@ -32,7 +32,7 @@ pub fn all_of(indexes: &[u32]) -> u64
     Set::<u64, LittleEndian>::from_indexes(indexes).into_bits()
 }
 
-/// Returns the set of what another set yields.
+/// Returns the set bits of a byte as a longer word, from the items of an iterator.
 pub fn widened(mask: u8) -> u32
     ensures { bit_set 32 result
         ≡ fold with_index (empty_set 32) (ascending (bit_set 8 mask)) }
@@ -40,7 +40,7 @@ pub fn widened(mask: u8) -> u32
     u32::from_iter(mask.iter_ones())
 }
 
-/// Returns the set of each fourth index that is set, by a chain of iterators.
+/// Returns the set of the set bits whose index is a multiple of 4, by a chain of iterators.
 pub fn each_fourth_of(mask: u64) -> u64
     ensures { bit_set 64 result ≡ fold with_index (empty_set 64)
         (filter (λ k. k % 4 == 0) (ascending (bit_set 64 mask))) }
@@ -48,7 +48,7 @@ pub fn each_fourth_of(mask: u64) -> u64
     u64::from_iter(mask.iter_ones().filter(|index| *index % 4 == 0))
 }
 
-/// Returns a mask of a range.
+/// Returns a mask in which the bits of a range are set.
 pub fn mask_of(from: u32, to: u32) -> u64
     requires ordered { from ≤ to }
     requires within { to ≤ 64 }
@@ -65,7 +65,7 @@ pub fn changed(mask: u32) -> u32
     mask.without_range(4, 9).with_range_toggled(20, 32)
 }
 
-/// Adds an array of indexes to a word.
+/// Sets the bits of a word at the indexes of an array.
 pub fn add_three(mask: &mut u64)
     ensures { bit_set 64 mask.new
         ≡ with_index (with_index (with_index (bit_set 64 mask.old) 3) 7) 9 }
@@ -73,21 +73,21 @@ pub fn add_three(mask: &mut u64)
     mask.extend([3u32, 7, 9]);
 }
 
-/// Returns the set of an array.
+/// Returns the set of the indexes in an array.
 pub fn of_array(indexes: [u32; 5]) -> u64
     ensures { bit_set 64 result ≡ fold with_index (empty_set 64) indexes }
 {
     u64::from_iter(indexes)
 }
 
-/// Returns the set of a `Vec` of the caller's.
+/// Returns the set of the indexes in a `Vec` of the caller's.
 pub fn of_vec(indexes: Vec<u32>) -> u64
     ensures { bit_set 64 result ≡ fold with_index (empty_set 64) indexes.items }
 {
     u64::from_iter(indexes)
 }
 
-/// Returns the word of a set that is borrowed, which is read from the left.
+/// Returns the word of a borrowed set, which is read from the left.
 pub fn of_set(set: &Set<u8, LittleEndian>) -> u64
     ensures { bit_set 64 result ≡ fold with_index (empty_set 64)
         (ascending (read_in true 8 (bit_set 8 set.now.bits))) }

@@ -1,5 +1,5 @@
 //! Two sets that never have a common member: the mines of a board, and the squares that are shown.
-//! The type keeps that by a ghost field. Only `new` and `sign` have a proof file.
+//! A ghost field of the type promises that. Only `new` and `sign` have a proof file.
 
 ghost use Rattle.std.specs.Prelude.{◌≡◌, ◌&&◌, nat_lt, not, true, false};
 ghost use Rattle.bittle.specs.BitPatterns.{bit_set};
@@ -18,7 +18,7 @@ pub struct Board {
 }
 
 impl Board {
-    /// Returns a board of which no square is shown.
+    /// Returns a board on which no square is shown.
     pub fn new(mines: u64) -> Board
         ensures mines { result.mines ≡ mines }
         ensures shown { bit_set 64 result.shown ≡ empty_set 64 }
@@ -27,7 +27,8 @@ impl Board {
         Board { mines, shown }
     }
 
-    /// Shows a square, and returns whether it is on the board and has no mine.
+    /// Shows a square, and returns `true`. Returns `false` and changes nothing if it is off the
+    /// board or has a mine.
     #[tactic(auto, using(bittle_lemmas::proofs::ExcludedSets::excludes_after_set))]
     pub fn show(&mut self, square: u32) -> bool
         ensures allowed { result
@@ -52,7 +53,8 @@ impl Board {
         self.shown.clear_bit(square);
     }
 
-    /// Lays a mine, and returns whether the square is on the board and is not shown.
+    /// Lays a mine, and returns `true`. Returns `false` and changes nothing if the square is off
+    /// the board or shown.
     #[tactic(auto, using(bittle_lemmas::proofs::ExcludedSets::excludes_after_other_set))]
     pub fn lay(&mut self, square: u32) -> bool
         ensures allowed { result
@@ -69,7 +71,7 @@ impl Board {
         true
     }
 
-    /// Takes a mine away, and returns whether there was one.
+    /// Removes the mine of a square, and returns whether there was one.
     #[tactic(auto, using(bittle_lemmas::proofs::ExcludedSets::excludes_after_other_clear))]
     pub fn disarm(&mut self, square: u32) -> bool
         ensures was { result ≡ contains (bit_set 64 self.old.mines) square }
@@ -79,7 +81,7 @@ impl Board {
         self.mines.remove(square)
     }
 
-    /// Hides a square, and takes its mine away.
+    /// Hides a square, and removes its mine.
     #[tactic(auto, using(bittle_lemmas::proofs::ExcludedSets::excludes_after_both_clear))]
     pub fn reset(&mut self, square: u32)
         ensures shown { bit_set 64 self.new.shown
@@ -91,7 +93,7 @@ impl Board {
         self.mines.clear_bit(square);
     }
 
-    /// Returns whether there is a mine at a square. A square that is shown has none.
+    /// Returns whether there is a mine at a square. A shown square has none.
     #[tactic(auto, using(bittle_lemmas::proofs::ExcludedSets::unset_if_excluding))]
     pub fn has_mine(&self, square: u32) -> bool
         ensures mine { result ≡ contains (bit_set 64 self.now.mines) square }
@@ -101,7 +103,7 @@ impl Board {
         self.mines.test_bit(square)
     }
 
-    /// Returns a sign for a square: 2 for a mine, 1 for a square that is shown, else 0.
+    /// Returns a sign for a square: 2 if it has a mine, 1 if it is shown, else 0.
     pub fn sign(&self, square: u32) -> u32
         ensures mine { contains (bit_set 64 self.now.mines) square ≡ true → result ≡ 2 }
         ensures shown { contains (bit_set 64 self.now.shown) square ≡ true → result ≡ 1 }
@@ -112,7 +114,7 @@ impl Board {
         if self.mines.test_bit(square) { 2 } else { 0 }
     }
 
-    /// Returns whether a square is shown. One with a mine is not.
+    /// Returns whether a square is shown. A square with a mine is not.
     #[tactic(auto, using(bittle_lemmas::proofs::ExcludedSets::unset_if_excluded))]
     pub fn is_shown(&self, square: u32) -> bool
         ensures shown { result ≡ contains (bit_set 64 self.now.shown) square }

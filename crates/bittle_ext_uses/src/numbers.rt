@@ -1,4 +1,4 @@
-//! Numbers packed into sets, and ranges of bits that are copied.
+//! Numbers in the bits of sets, and ranges of bits that are copied.
 
 ghost use Rattle.std.specs.Prelude.{◌≡◌, ◌+◌, ◌-◌, ◌*◌, ◌%◌, ◌<◌, ◌≤◌, ℕ, length, true};
 ghost use Rattle.bittle.specs.BitPatterns.{bit_set};
@@ -11,7 +11,7 @@ ghost use Rattle.bittle_ext.specs.Numbers.{number_in, with_copied};
 use bittle::{Bits, BitsMut, LittleEndian, Set};
 use bittle_ext::{BitsCopyExt, BitsNumberExt, BitsNumberMutExt, BitsViewExt};
 
-/// Returns the number in a field of five bits of any set.
+/// Returns the number in field `index` of any set, whose fields have five bits each.
 pub fn field<B: Bits>(fields: &B, index: u32) -> u64
     requires fits { ShapeFits B.Shape fields.now }
     requires within { index < 100000 }
@@ -21,7 +21,8 @@ pub fn field<B: Bits>(fields: &B, index: u32) -> u64
     fields.load(index * 5, 5)
 }
 
-/// Puts a number into a field of five bits of any set. No other field changes.
+/// Puts a number into field `index` of any set, whose fields have five bits each. No other field
+/// changes.
 pub fn set_field<B: BitsMut>(fields: &mut B, index: u32, value: u64)
     requires fits { ShapeFits B.Shape fields.old }
     requires within { index * 5 + 5 ≤ (B.big fields.old).capacity }
@@ -38,7 +39,7 @@ pub fn set_field<B: BitsMut>(fields: &mut B, index: u32, value: u64)
     fields.store(index * 5, 5, value);
 }
 
-/// Stores a number in any set, and returns it as it is loaded: cut to its 16 lowest bits.
+/// Stores the 16 lowest bits of a number in any set, loads them again, and returns them.
 pub fn kept<B: BitsMut>(set: &mut B, first: u32, value: u64) -> u64
     requires fits { ShapeFits B.Shape set.old }
     requires within { first + 16 ≤ (B.big set.old).capacity }
@@ -48,14 +49,14 @@ pub fn kept<B: BitsMut>(set: &mut B, first: u32, value: u64) -> u64
     set.load(first, 16)
 }
 
-/// Stores a whole number in a row.
+/// Stores a number of 64 bits in a row.
 pub fn keep_whole(row: &mut [u8; 12], value: u64)
     ensures { number_in (row_set 12 8 (bit_set 8) row.new) 20 64 ≡ value }
 {
     row.store(20, 64, value);
 }
 
-/// Returns the number of the leftmost bits of a word: the leftmost one has the weight 1.
+/// Returns the number in the six leftmost bits of a word. The leftmost one has the weight 1.
 pub fn leftmost(word: u32) -> u64
     ensures { result ≡ number_in (read_in true 32 (bit_set 32 word)) 0 6 }
 {
@@ -72,7 +73,7 @@ pub fn length_of(packet: &[u8; 8]) -> u16
     bits
 }
 
-/// Copies a range of a set into a lent slice.
+/// Copies 70 bits of a set into a lent slice, from index 30 on.
 pub fn paste<B: Bits>(words: &mut [u64], from: &B, start: u32)
     requires long { 2 ≤ length words.old }
     requires fits { length words.old * 64 < 4294967295 }
@@ -86,7 +87,7 @@ pub fn paste<B: Bits>(words: &mut [u64], from: &B, start: u32)
     set.copy_range(from, start, start + 70, 30);
 }
 
-/// Copies a range between any two sets, and returns whether a bit of it is set.
+/// Copies a range between any two sets, and returns whether bit `index` of it is set.
 pub fn is_pasted<A: BitsMut, B: Bits>(set: &mut A, from: &B, index: u32) -> bool
     requires fits { ShapeFits A.Shape set.old }
     requires from_fits { ShapeFits B.Shape from.now }
@@ -98,7 +99,8 @@ pub fn is_pasted<A: BitsMut, B: Bits>(set: &mut A, from: &B, index: u32) -> bool
     set.test_bit(4 + index)
 }
 
-/// Moves the bits from an index on up, to make place for more: those that pass the end are lost.
+/// Moves the bits from an index on up by `count`, to make room. Bits that would pass the end are
+/// lost.
 pub fn open_gap<B: BitsMut>(set: &mut B, at: u32, count: u32)
     requires fits { ShapeFits B.Shape set.old }
     requires within { at + count ≤ (B.big set.old).capacity }

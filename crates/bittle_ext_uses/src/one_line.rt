@@ -1,4 +1,4 @@
-//! Clauses that want one line of proof: a lemma that the prover does not find by itself.
+//! Clauses whose proof needs one line: a lemma that the prover does not find by itself.
 
 ghost use Rattle.std.specs.List.{All, list_any};
 ghost use Rattle.std.specs.Prelude.{◌≡◌, ◌≢◌, ◌==◌, ◌+◌, ◌-◌, ◌<◌, ◌≤◌, ◌||◌, ℕ, true, false, length};
@@ -22,7 +22,7 @@ pub fn unmark(row: &mut [u64; 4], index: u32) -> bool
     row.remove(index)
 }
 
-/// Sets a bit that is unset: one more is set.
+/// Sets a bit that is unset, so that one more bit is set.
 pub fn mark_new(row: &mut [u64; 4], index: u32)
     requires below { index < 256 }
     requires unset { contains (row_set 4 64 (bit_set 64) row.old) index ≡ false }
@@ -32,7 +32,7 @@ pub fn mark_new(row: &mut [u64; 4], index: u32)
     row.set_bit(index);
 }
 
-/// Sets the bits of a list: no more are new than the list has items.
+/// Sets the bits of a list. At most as many more are set as the list has items.
 pub fn mark_all(row: &mut [u64; 4], indexes: &[u32])
     ensures { size (row_set 4 64 (bit_set 64) row.new)
         ≤ size (row_set 4 64 (bit_set 64) row.old) + length indexes.now }
@@ -40,7 +40,7 @@ pub fn mark_all(row: &mut [u64; 4], indexes: &[u32])
     row.insert_all(indexes);
 }
 
-/// Sets the bits of a range in which none is set: as many more are set.
+/// Sets the bits of a range in which none is set. As many more are set as the range has.
 pub fn fill_free(row: &mut [u64; 4], from: u32, to: u32)
     requires ordered { from ≤ to }
     requires within { to ≤ 256 }
@@ -62,7 +62,7 @@ pub fn free_hour(taken: u32) -> Option<u32>
     Some(hour)
 }
 
-/// Returns the letters of a word, of which each is below 26.
+/// Returns the set of the letters of a word. Each letter is a number below 26.
 pub fn letters(word: &[u32]) -> u32
     requires { All (λ letter. letter < 26) word.now }
     ensures { (k : ℕ) → (bit_set 32 result).has k ≡ list_any (λ letter. letter == k) word.now }
@@ -70,7 +70,7 @@ pub fn letters(word: &[u32]) -> u32
     u32::from_indexes(word)
 }
 
-/// Moves all bits up.
+/// Moves each bit up by `by` places.
 pub fn move_up(row: &mut [u64; 4], by: u32)
     ensures { (k : ℕ) → by ≤ k → k < 256
         → contains (row_set 4 64 (bit_set 64) row.new) k
@@ -79,7 +79,7 @@ pub fn move_up(row: &mut [u64; 4], by: u32)
     row.shift_up(by);
 }
 
-/// Adds another set: each member stays.
+/// Sets each bit that is set in another set. Each bit that was set stays set.
 pub fn add(row: &mut [u64; 4], other: &[u64; 4])
     ensures { (k : ℕ) → contains (row_set 4 64 (bit_set 64) row.old) k ≡ true
         → contains (row_set 4 64 (bit_set 64) row.new) k ≡ true }
@@ -101,7 +101,7 @@ pub fn offered(one: u64, other: u64, reserved: u64) -> u64
     one.union(other).difference(reserved)
 }
 
-/// Returns how many seats from the first on are taken: up to the first free one, or all.
+/// Returns how many seats are taken before the first free one, or 64 if none is free.
 #[tactic(auto, using(bittle_ext::proofs::CallerMembers::unset_where_found))]
 pub fn taken_from_first(taken: u64) -> u32
     ensures taken { (k : ℕ) → k < result → contains (bit_set 64 taken) k ≡ true }

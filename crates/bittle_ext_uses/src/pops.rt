@@ -1,5 +1,5 @@
-//! Loops that take the members out one by one, as one writes them. Each has one line of proof, its
-//! measure: the size of the set, of which `pop_first` leaves one less.
+//! Loops that take the set bits out one by one, as one writes them. Each has one line of proof, its
+//! measure: the size of the set, which each turn makes one less.
 
 ghost use Rattle.std.specs.Prelude.{◌≡◌, length};
 ghost use Rattle.bittle.specs.BitPatterns.{bit_set};
@@ -9,7 +9,7 @@ ghost use Rattle.bittle.specs.Rows.{row_set};
 use bittle::Set;
 use bittle_ext::prelude::*;
 
-/// Adds up the entries of a row at the members of a word.
+/// Adds up the entries of a row at the set bits of a word.
 pub fn sum_of_entries(mask: u64, row: &[u32; 64]) -> u32 {
     let mut work = mask;
     let mut sum = 0u32;
@@ -19,7 +19,7 @@ pub fn sum_of_entries(mask: u64, row: &[u32; 64]) -> u32 {
     sum
 }
 
-/// Takes the members out of four words from the greatest on, and returns the last one.
+/// Takes the set bits out of four words from the greatest down, and returns the last one.
 pub fn last_taken_out(mut work: [u64; 4]) -> Option<u32> {
     let mut last = None;
     while let Some(index) = work.pop_last() {
@@ -28,14 +28,14 @@ pub fn last_taken_out(mut work: [u64; 4]) -> Option<u32> {
     last
 }
 
-/// Work to do, in words that a caller lends.
+/// Tasks that are still to be done: the set bits of words that a caller lends.
 #[derive(Drop)]
 pub struct Work<'a> {
     tasks: Set<&'a mut [u64]>,
 }
 
 impl<'a> Work<'a> {
-    /// Adds up what all tasks cost, and leaves none.
+    /// Adds up what all tasks cost, and leaves none. A task past the end of `cost` costs 0.
     pub fn finish(&mut self, cost: &[u32]) -> u64
         ensures { let after = self.new.tasks.bits.now in
             size (row_set (length after) 64 (bit_set 64) after) ≡ 0 }

@@ -14,7 +14,7 @@ use bittle::{Bits, Endian};
 use bittle_ext::range_iterators::IterZerosInRange;
 use bittle_ext::{BitsExt, BitsOwnedExt, BitsRangeExt, BitsViewExt};
 
-/// Counts the members of a range by a walk over them.
+/// Counts the set bits of a range by an iterator over them.
 pub fn count_walked(mask: u64, from: u32, to: u32) -> usize
     requires ordered { from ≤ to }
     requires within { to ≤ 64 }
@@ -24,7 +24,7 @@ pub fn count_walked(mask: u64, from: u32, to: u32) -> usize
     mask.iter_ones_in_range(from, to).count()
 }
 
-/// Counts the other numbers of a range in two ways, which agree in any set and any order.
+/// Counts the unset bits of a range in two ways. They agree in any set and any order.
 pub fn count_twice<B: Bits, E: Endian>(set: &B, from: u32, to: u32) -> (usize, u32)
     requires fits { ShapeFits B.Shape set.now }
     requires ordered { from ≤ to }
@@ -51,7 +51,8 @@ pub fn last_entry(mask: u64, from: u32, to: u32, table: &[u32; 64]) -> u32
     }
 }
 
-/// Returns the entry of a window at the last unset bit of a range, or 0: no item is before it.
+/// Returns the entry of a window at the last unset bit of a range, or 0. No item lies before the
+/// window.
 pub fn last_in_window(mask: u64, window: &[u32; 16]) -> u32
     ensures { (last : Option ℕ) × (rest : List ℕ)
         × YieldsLast (λ items. items)
@@ -64,7 +65,7 @@ pub fn last_in_window(mask: u64, window: &[u32; 16]) -> u32
     }
 }
 
-/// Marks each entry of a window at an unset bit of a range. It has no clause of its own: the check
+/// Marks each entry of a window at an unset bit of a range. It has no clause of its own. The check
 /// proves that no item lies before the window or past it.
 pub fn mark_free(mask: u64, window: &mut [bool; 16]) {
     for index in mask.iter_zeros_in_range(16, 32) {
@@ -72,8 +73,8 @@ pub fn mark_free(mask: u64, window: &mut [bool; 16]) {
     }
 }
 
-/// Counts the set bits of a range, and returns the word of them: a clone of an iterator leaves it
-/// as it was.
+/// Counts the set bits of a range, and returns the word of them. The count uses up a clone of the
+/// iterator, which stays as it was.
 pub fn counted(mask: u16, from: u32, to: u32) -> (usize, u16)
     requires ordered { from ≤ to }
     requires within { to ≤ 16 }
@@ -90,7 +91,7 @@ pub fn counted(mask: u16, from: u32, to: u32) -> (usize, u16)
     (count, u16::from_iter(walk))
 }
 
-/// Returns the set of the members of a range.
+/// Returns the set of the set bits of a range.
 pub fn within(mask: u16, from: u32, to: u32) -> u16
     requires ordered { from ≤ to }
     requires within { to ≤ 16 }
@@ -100,7 +101,7 @@ pub fn within(mask: u16, from: u32, to: u32) -> u16
     u16::from_iter(mask.iter_ones_in_range(from, to))
 }
 
-/// Returns the first number that is no member in a range of any set, and the last of the others.
+/// Returns the first unset bit in a range of any set, and the last of the others.
 pub fn free_ends<B: Bits, E: Endian>(set: &B, from: u32, to: u32) -> (Option<u32>, Option<u32>)
     requires fits { ShapeFits B.Shape set.now }
     requires ordered { from ≤ to }
@@ -116,7 +117,7 @@ pub fn free_ends<B: Bits, E: Endian>(set: &B, from: u32, to: u32) -> (Option<u32
     (walk.next(), walk.next_back())
 }
 
-/// Returns an iterator over what is no member in a range of any set: it borrows the set alone.
+/// Returns an iterator over the unset bits in a range of any set. It borrows the set alone.
 pub fn iter_free<'a, B: Bits>(set: &'a B, from: u32, to: u32) -> IterZerosInRange<'a, B, B::Order>
     requires fits { ShapeFits B.Shape set.now }
     requires ordered { from ≤ to }

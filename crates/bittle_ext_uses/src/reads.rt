@@ -16,14 +16,14 @@ ghost use Rattle.bittle_ext.specs.Runs.{IsFirstRun};
 use bittle::{Bits, Endian, LittleEndian, Set};
 use bittle_ext::{BitsExt, BitsRelationExt, BitsViewExt};
 
-/// Returns the least member.
+/// Returns the least set bit.
 pub fn least(mask: u64) -> Option<u32>
     ensures { IsFirstIn (bit_set 64 mask) 0 64 result }
 {
     mask.first_one()
 }
 
-/// Returns the entry of a row at the greatest member, or 0: the member is an index of the row.
+/// Returns the entry of a row at the greatest set bit, or 0. The bit is an index of the row.
 pub fn entry_at_greatest(mask: u16, row: &[u32; 16]) -> u32
     ensures { (found : Option ℕ) × IsLastIn (bit_set 16 mask) 0 16 found
         × MatchOption found (result ≡ 0) (λ index. slice_get row.now index ≡ Some result) }
@@ -34,21 +34,21 @@ pub fn entry_at_greatest(mask: u16, row: &[u32; 16]) -> u32
     }
 }
 
-/// Returns the least number that is no member.
+/// Returns the least unset bit.
 pub fn least_free(mask: u32) -> Option<u32>
     ensures { IsFirstIn (complement (bit_set 32 mask)) 0 32 result }
 {
     mask.first_zero()
 }
 
-/// Returns the greatest number that is no member, from the left.
+/// Returns the greatest unset bit, counted from the left.
 pub fn greatest_free_le(mask: u8) -> Option<u32>
     ensures { IsLastIn (complement (read_in true 8 (bit_set 8 mask))) 0 8 result }
 {
     mask.in_order::<LittleEndian>().prev_zero(8)
 }
 
-/// Returns the neighbours of an index among the members.
+/// Returns the last set bit before an index, and the first one after it.
 pub fn neighbours(mask: u64, index: u32) -> (Option<u32>, Option<u32>)
     requires { index < 64 }
     ensures before { IsLastIn (bit_set 64 mask) 0 index result.0 }
@@ -57,28 +57,28 @@ pub fn neighbours(mask: u64, index: u32) -> (Option<u32>, Option<u32>)
     (mask.prev_one(index), mask.next_one(index + 1))
 }
 
-/// Returns the next member of a set that is read from the left.
+/// Returns the first set bit from `from` on of a set that is read from the left.
 pub fn next_of(set: &Set<u16, LittleEndian>, from: u32) -> Option<u32>
     ensures { IsFirstIn (read_in true 16 (bit_set 16 set.now.bits)) from 16 result }
 {
     set.next_one(from)
 }
 
-/// Counts the members below an index.
+/// Counts the set bits below an index.
 pub fn rank(board: &[u64; 4], index: u32) -> u32
     ensures { result ≡ members_below (row_set 4 64 (bit_set 64) board.now) index }
 {
     board.rank(index)
 }
 
-/// Returns the member of a rank.
+/// Returns the set bit of a rank. Rank 0 is the least one.
 pub fn member(board: &[u64; 4], rank: u32) -> Option<u32>
     ensures { result ≡ slice_get (ascending (row_set 4 64 (bit_set 64) board.now)) rank }
 {
     board.select(rank)
 }
 
-/// Counts the members of a range.
+/// Counts the set bits of a range.
 pub fn count(mask: u128, from: u32, to: u32) -> u32
     requires ordered { from ≤ to }
     requires within { to ≤ 128 }
@@ -108,14 +108,14 @@ pub fn works_through(days: u32, from: u32, to: u32) -> bool
     days.all_in_range(from, to)
 }
 
-/// Returns where four neighbours are free.
+/// Returns where the first run of four free pages begins.
 pub fn four_free(pages: u64) -> Option<u32>
     ensures { IsFirstRun (complement (bit_set 64 pages)) 0 4 result }
 {
     pages.first_zero_run(4)
 }
 
-/// Returns where so many neighbours are free from a page on, in any shape.
+/// Returns where the first run of `length` free pages begins, from a page on, in any shape.
 pub fn free_from<B: Bits>(pages: &B, from: u32, length: u32) -> Option<u32>
     requires { ShapeFits B.Shape pages.now }
     ensures { IsFirstRun (complement (set_in B.Shape B.Order.Endian pages.now)) from length result }
@@ -123,7 +123,7 @@ pub fn free_from<B: Bits>(pages: &B, from: u32, length: u32) -> Option<u32>
     pages.next_zero_run(from, length)
 }
 
-/// Returns the median member, or `None` where there is none.
+/// Returns the median set bit, or `None` where no bit is set.
 pub fn middle<B: Bits, E: Endian>(set: &B) -> Option<u32>
     requires { ShapeFits B.Shape set.now }
     ensures { result ≡ slice_get (ascending (set_in B.Shape E.Endian set.now))
@@ -139,21 +139,21 @@ pub fn grants(role: u32, wanted: u32) -> bool
     role.is_superset(&wanted)
 }
 
-/// Returns whether a byte's members are all among those of a long word.
+/// Returns whether each set bit of a byte is set in a long word.
 pub fn is_within(small: u8, large: u128) -> bool
     ensures { IsTrue result ↔ IsSubset (bit_set 8 small) (bit_set 128 large) }
 {
     small.is_subset(&large)
 }
 
-/// Returns whether two words meet.
+/// Returns whether two words have a set bit in common.
 pub fn meet(one: u16, other: u16) -> bool
     ensures { IsTrue result ↔ Meet (bit_set 16 one) (bit_set 16 other) }
 {
     one.intersects(&other)
 }
 
-/// Returns whether two words have nothing in common, both read from the left.
+/// Returns whether two words have no set bit in common, both read from the left.
 pub fn are_disjoint_le(one: u16, other: u32) -> bool
     ensures { IsTrue result ↔ AreDisjoint (read_in true 16 (bit_set 16 one))
         (read_in true 32 (bit_set 32 other)) }
@@ -171,7 +171,7 @@ pub fn first_missing(wanted: u64, granted: &[u8; 8]) -> Option<u32>
     wanted.first_alone(granted)
 }
 
-/// Returns the first member of both of two sets of any shape.
+/// Returns the first bit that is set in both of two sets of any shape.
 pub fn first_of_both<A: Bits, B: Bits>(one: &A, other: &B) -> Option<u32>
     requires one_fits { ShapeFits A.Shape one.now }
     requires other_fits { ShapeFits B.Shape other.now }
@@ -182,7 +182,7 @@ pub fn first_of_both<A: Bits, B: Bits>(one: &A, other: &B) -> Option<u32>
     one.first_common(other)
 }
 
-/// Returns the least member, under the extension's own bound.
+/// Returns the least set bit. The type is bounded by the extension trait.
 pub fn least_of<B: BitsExt>(set: &B) -> Option<u32>
     requires { ShapeFits B.Shape set.now }
     ensures { let ours = set_in B.Shape B.Order.Endian set.now in
@@ -191,7 +191,7 @@ pub fn least_of<B: BitsExt>(set: &B) -> Option<u32>
     set.first_one()
 }
 
-/// Returns the least members of a word, an array and a slice.
+/// Returns the least set bits of a word, an array of words and an array of bytes.
 pub fn three_least(
     word: u64,
     row: &[u32; 4],

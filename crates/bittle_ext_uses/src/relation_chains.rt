@@ -1,4 +1,4 @@
-//! Calls on two sets in a chain: one call's answer is passed to the next, or indexes a table.
+//! Calls on two sets in a chain: the answer of one call is passed to the next, or indexes a table.
 //!
 //! The check proves that the second call is allowed, or that the index lies in the table, from the
 //! contract of the first call alone.
@@ -16,7 +16,7 @@ ghost use Rattle.bittle_ext.specs.SetRelations.{IsFirstAlone, IsFirstCommon};
 use bittle::{Bits, BitsMut, LittleEndian, Set};
 use bittle_ext::{BitsMutExt, BitsRelationExt, BitsViewExt};
 
-/// Returns the entry of a table at the first index of both masks, or 0.
+/// Returns the entry of a table at the first bit that is set in both masks, or 0.
 pub fn entry_of_both(one: u64, other: &[u8; 8], table: &[u32; 64]) -> u32
     ensures { let ours = bit_set 64 one in
         let theirs = row_set 8 8 (bit_set 8) other.now in
@@ -29,7 +29,7 @@ pub fn entry_of_both(one: u64, other: &[u8; 8], table: &[u32; 64]) -> u32
     }
 }
 
-/// Returns the entry of a table at the first index of one mask alone, or 0.
+/// Returns the entry of a table at the first bit that is set in `one` and not in `other`, or 0.
 pub fn entry_of_one(one: u64, other: u16, table: &[u32; 64]) -> u32
     ensures { let ours = bit_set 64 one in
         let theirs = bit_set 16 other in
@@ -42,7 +42,7 @@ pub fn entry_of_one(one: u64, other: u16, table: &[u32; 64]) -> u32
     }
 }
 
-/// Returns the first index of two words and of a row that is read from the left.
+/// Returns the first bit that is set in two words and in a row, which is read from the left.
 pub fn first_of_three(one: u64, other: u64, third: &Set<[u8; 8], LittleEndian>) -> Option<u32>
     ensures { IsFirstCommon (both_of (bit_set 64 one) (bit_set 64 other))
         (read_in true 8 (row_set 8 8 (bit_set 8) third.now.bits)) result }
@@ -50,7 +50,7 @@ pub fn first_of_three(one: u64, other: u64, third: &Set<[u8; 8], LittleEndian>) 
     one.and(&other).first_common(third)
 }
 
-/// Clears the bits of any set before the first one that another set has too.
+/// Clears the bits of any set before the first one that is also set in another set.
 pub fn clear_before_common<A: BitsMut, B: Bits>(set: &mut A, other: &B)
     requires fits { ShapeFits A.Shape set.old }
     requires other_fits { ShapeFits B.Shape other.now }
@@ -65,7 +65,7 @@ pub fn clear_before_common<A: BitsMut, B: Bits>(set: &mut A, other: &B)
     }
 }
 
-/// Counts the set bits of any set up to the first set bit that another one lacks.
+/// Counts the set bits of any set before the first one that another set lacks.
 pub fn count_before_alone<A: Bits, B: Bits>(set: &A, other: &B) -> u32
     requires fits { ShapeFits A.Shape set.now }
     requires other_fits { ShapeFits B.Shape other.now }
@@ -77,7 +77,8 @@ pub fn count_before_alone<A: Bits, B: Bits>(set: &A, other: &B) -> u32
     }
 }
 
-/// Counts in a byte what two masks have in common, what the first has alone, and where they differ.
+/// Returns three counts as bytes: the bits set in both masks, those set in the first alone, and
+/// those in which the masks differ.
 pub fn counts(one: u64, other: u64) -> (u8, u8, u8)
     ensures common { result.0 ≤ 64 }
     ensures alone { result.1 ≤ 64 }
@@ -98,7 +99,7 @@ pub fn right_numbers(ticket: u64, drawn: u64) -> u32
     ticket.count_common(&drawn)
 }
 
-/// Returns how many indexes of a row are not in another one.
+/// Counts the indexes of a row that are not set in both it and another set.
 pub fn others(row: &[u32; 2], other: &u8) -> u32
     ensures { result ≤ 64 }
 {

@@ -1,4 +1,5 @@
-//! Closures that are asked of each member: what they read of a table is below the capacity.
+//! Calls of `retain` with closures that index a table. The check proves that each index which a
+//! closure is given lies below the capacity.
 
 ghost use Rattle.std.specs.Prelude.{◌≡◌, ◌*◌, ◌≤◌, length, true, false, nat_lt};
 ghost use Rattle.std.specs.Prelude.{slice_index, slice_index_or};
@@ -12,7 +13,7 @@ ghost use Rattle.bittle_ext.specs.Calls.{IsCallableBelow};
 use bittle::{BitsMut, Set};
 use bittle_ext::prelude::*;
 
-/// Keeps the members that a table of as many entries marks.
+/// Keeps the bits that a table marks, which has an entry for each index, and clears all others.
 pub fn keep_marked(mask: &mut u64, table: &[bool; 64])
     ensures { bit_set 64 mask.new
         ≡ those_passing (λ i. slice_index_or table.now i false) (bit_set 64 mask.old) }
@@ -20,7 +21,7 @@ pub fn keep_marked(mask: &mut u64, table: &[bool; 64])
     mask.retain(|index| table[index as usize]);
 }
 
-/// Keeps the members whose priority in a table is above a bound.
+/// Keeps the bits whose priority in a table is above a bound.
 pub fn keep_urgent(ready: &mut [u32; 4], priority: &[u8; 128], bound: u8)
     ensures { row_set 4 32 (bit_set 32) ready.new
         ≡ those_passing (λ i. nat_lt bound (slice_index priority.now i))
@@ -29,7 +30,7 @@ pub fn keep_urgent(ready: &mut [u32; 4], priority: &[u8; 128], bound: u8)
     ready.retain(|index| priority[index as usize] > bound);
 }
 
-/// Keeps the members that a slice marks, which is long enough.
+/// Keeps the bits that a slice marks. The slice has an entry for each index.
 pub fn keep_marked_by_slice(mask: &mut u16, table: &[bool])
     requires { 16 ≤ length table.now }
     ensures { bit_set 16 mask.new
@@ -38,7 +39,7 @@ pub fn keep_marked_by_slice(mask: &mut u16, table: &[bool])
     mask.retain(|index| table[index as usize]);
 }
 
-/// Keeps the members that a table marks, and counts how many it was asked of.
+/// Keeps the bits that a table marks, and returns how many set bits the closure was called for.
 pub fn keep_and_count(mask: &mut u32, table: &[bool; 32]) -> u32 {
     let mut asked = 0u32;
     mask.retain(|index| {
@@ -48,7 +49,7 @@ pub fn keep_and_count(mask: &mut u32, table: &[bool; 32]) -> u32 {
     asked
 }
 
-/// Keeps the members that a table marks of a set that is read from the left.
+/// Keeps the bits that a table marks, of a set that is read from the left.
 pub fn keep_marked_le(mask: &mut u8, table: &[bool; 8])
     ensures { read_in true 8 (bit_set 8 mask.new) ≡ those_passing
         (λ i. slice_index_or table.now i false) (read_in true 8 (bit_set 8 mask.old)) }
@@ -57,8 +58,8 @@ pub fn keep_marked_le(mask: &mut u8, table: &[bool; 8])
         .retain(|index| table[index as usize]);
 }
 
-/// Keeps the members for which a closure of the caller's answers so: it asks of the closure what
-/// `retain` asks.
+/// Keeps the bits for which a closure of the caller's returns `true`. It requires of the closure
+/// what `retain` requires.
 pub fn keep_by<B: BitsMut, F: FnMut(u32) -> bool>(set: &mut B, keep: F)
     requires fits { ShapeFits B.Shape set.old }
     requires callable { IsCallableBelow (B.big set.old).capacity F.FnMut keep }

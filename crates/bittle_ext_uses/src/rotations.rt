@@ -1,4 +1,4 @@
-//! Sets turned and shifted.
+//! Sets whose bits are rotated and shifted.
 
 ghost use Rattle.std.specs.Prelude.{◌≡◌, ◌+◌, ◌<◌, ℕ, false, IsTrue};
 ghost use Rattle.bittle.specs.BitPatterns.{bit_set};
@@ -10,7 +10,7 @@ ghost use Rattle.bittle_ext.specs.Rotations.{rotated_up, shifted_down, shifted_u
 use bittle::{Bits, Endian, Set};
 use bittle_ext::{BitsOwnedExt, BitsShiftExt};
 
-/// Returns a chess board with each piece one rank up; those of the last rank leave the board.
+/// Returns a chess board with each piece one rank up. Those of the last rank leave the board.
 pub fn one_rank_up(board: u64) -> u64
     ensures first_rank { (i : ℕ) → i < 8 → contains (bit_set 64 result) i ≡ false }
     ensures others { (i : ℕ) → i + 8 < 64 →
@@ -19,14 +19,14 @@ pub fn one_rank_up(board: u64) -> u64
     board.shifted_up(8)
 }
 
-/// Returns a chess board with each piece one rank down, as the definition says.
+/// Returns a chess board with each piece one rank down. The clause is the call's own.
 pub fn one_rank_down(board: u64) -> u64
     ensures { bit_set 64 result ≡ shifted_down (bit_set 64 board) 8 }
 {
     board.shifted_down(8)
 }
 
-/// Returns a ring of slots that is turned by one.
+/// Returns a ring of slots that is rotated up by one.
 pub fn turned(slots: [u32; 4]) -> [u32; 4]
     ensures { (i : ℕ) → contains (row_set 4 32 (bit_set 32) result) (i + 1)
         ≡ contains (row_set 4 32 (bit_set 32) slots) i }
@@ -34,14 +34,14 @@ pub fn turned(slots: [u32; 4]) -> [u32; 4]
     slots.rotated_up(1)
 }
 
-/// Returns the slots of a ring, counted from another one.
+/// Returns the slots of a ring, counted from slot `first` on.
 pub fn counted_from(ring: u16, first: u32) -> u16
     ensures { (i : ℕ) → contains (bit_set 16 result) i ≡ contains (bit_set 16 ring) (i + first) }
 {
     ring.rotated_down(first)
 }
 
-/// Returns a set turned there and back, which has the same members.
+/// Returns a set that is rotated up and then down by as much, so it has the same bits.
 pub fn there_and_back<B: BitsOwnedExt>(ring: B, by: u32) -> B
     requires { IsTrue B.indexable }
     ensures { (i : ℕ) → contains (set_in B.Shape B.Order.Endian result) i
@@ -50,7 +50,7 @@ pub fn there_and_back<B: BitsOwnedExt>(ring: B, by: u32) -> B
     ring.rotated_up(by).rotated_down(by)
 }
 
-/// Returns a day's schedule by the hour, as it is read in a zone so many hours east.
+/// Returns a day's schedule by the hour, as it reads in a zone `east` hours further east.
 pub fn in_zone(hours: [u8; 3], east: u32) -> [u8; 3]
     ensures { (i : ℕ) → contains (row_set 3 8 (bit_set 8) result) (i + east)
         ≡ contains (row_set 3 8 (bit_set 8) hours) i }
@@ -58,14 +58,14 @@ pub fn in_zone(hours: [u8; 3], east: u32) -> [u8; 3]
     hours.rotated_up(east)
 }
 
-/// Returns whether the bit at an index is set once its set is turned.
+/// Returns whether the bit at an index is set after its set is rotated down.
 pub fn is_set_after(ring: u8, by: u32, index: u32) -> bool
     ensures { result ≡ contains (bit_set 8 ring) (index + by) }
 {
     ring.rotated_down(by).test_bit(index)
 }
 
-/// Turns a set of any shape, in any order.
+/// Returns a set of any shape, read in any order, rotated up.
 pub fn turn<B: BitsOwnedExt, E: Endian>(set: B, by: u32) -> B
     requires { IsTrue B.indexable }
     ensures set { set_in B.Shape E.Endian result ≡ rotated_up (set_in B.Shape E.Endian set) by }
@@ -75,7 +75,7 @@ pub fn turn<B: BitsOwnedExt, E: Endian>(set: B, by: u32) -> B
     Set::<B, E>::new_in(set).rotated_up(by).into_bits()
 }
 
-/// Turns a set of any shape in place, also a slice that a caller lends.
+/// Rotates a set of any shape up by `by` places, in place. It may be a slice that a caller lends.
 pub fn turn_in_place<B: BitsShiftExt>(ring: &mut B, by: u32)
     requires { ShapeFits B.Shape ring.old }
     ensures { (i : ℕ) → contains (set_in B.Shape B.Order.Endian ring.new) (i + by)
@@ -84,7 +84,7 @@ pub fn turn_in_place<B: BitsShiftExt>(ring: &mut B, by: u32)
     ring.rotate_up(by);
 }
 
-/// Turns a ring of slots in place, and counts them from another one.
+/// Rotates a ring of slots in place, so that they count from slot `first` on.
 pub fn count_from(slots: &mut [u32; 4], first: u32)
     ensures { (i : ℕ) → contains (row_set 4 32 (bit_set 32) slots.new) i
         ≡ contains (row_set 4 32 (bit_set 32) slots.old) (i + first) }
@@ -92,7 +92,7 @@ pub fn count_from(slots: &mut [u32; 4], first: u32)
     slots.rotate_down(first);
 }
 
-/// Delays the tasks of a timetable of any length; those past its end are dropped.
+/// Returns a timetable of any length with its tasks delayed. Tasks that pass its end are dropped.
 pub fn delayed<B: BitsOwnedExt>(tasks: B, hours: u32) -> B
     requires { IsTrue B.indexable }
     ensures { set_in B.Shape B.Order.Endian result

@@ -12,14 +12,14 @@ use bittle::{Bits, Endian};
 use bittle_ext::{BitsMutExt, BitsRangeExt, BitsViewExt};
 use std::ops::Range;
 
-/// Counts the runs of members.
+/// Counts the runs of set bits.
 pub fn count_runs(mask: u64) -> usize
     ensures { result ≡ length (runs (bit_set 64 mask)) }
 {
     mask.iter_one_runs().count()
 }
 
-/// Returns the first and the last run of what is no member of any set.
+/// Returns the first and the last run of unset bits of any set.
 pub fn free_runs<B: Bits, E: Endian>(set: &B) -> (Option<Range<u32>>, Option<Range<u32>>)
     requires { ShapeFits B.Shape set.now }
     ensures { (rest : List (Range ℕ)) × (left : List (Range ℕ))
@@ -32,7 +32,7 @@ pub fn free_runs<B: Bits, E: Endian>(set: &B) -> (Option<Range<u32>>, Option<Ran
     (walk.next(), walk.next_back())
 }
 
-/// Counts the runs of set bits twice: a clone of an iterator leaves it as it was.
+/// Counts the runs of set bits twice. The first count uses up a clone of the iterator.
 pub fn counted_twice(mask: u32) -> (usize, usize)
     ensures first { result.0 ≡ length (runs (bit_set 32 mask)) }
     ensures second { result.1 ≡ length (runs (bit_set 32 mask)) }
@@ -45,7 +45,8 @@ pub fn counted_twice(mask: u32) -> (usize, usize)
     (count, walk.count())
 }
 
-/// Returns how long the longest run of members is. The check proves that a run ends past its start.
+/// Returns how long the longest run of set bits is. The check proves that a run ends past its
+/// start.
 pub fn longest(mask: u64) -> u32
     ensures { result
         ≡ fold (λ most run. max most (run.end - run.start)) 0 (runs (bit_set 64 mask)) }
@@ -57,7 +58,7 @@ pub fn longest(mask: u64) -> u32
     longest
 }
 
-/// Sets each run of a mask in another row. The check proves that a run ends at most at the
+/// Sets each run of a mask's set bits in a row. The check proves that a run ends at most at the
 /// capacity.
 pub fn set_runs(mask: u16, row: &mut [u8; 2]) {
     for run in mask.iter_one_runs() {
@@ -65,8 +66,8 @@ pub fn set_runs(mask: u16, row: &mut [u8; 2]) {
     }
 }
 
-/// Returns the last entry of a table at the start of a run. The check proves that each start is an
-/// index of the table.
+/// Returns the entry of a table at the start of the last run, or 0. The check proves that each
+/// start is an index of the table.
 pub fn last_start(mask: u16, table: &[u32; 16]) -> u32 {
     let mut last = 0;
     for run in mask.iter_one_runs() {

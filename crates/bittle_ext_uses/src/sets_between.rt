@@ -1,4 +1,4 @@
-//! Sets changed by sets of other shapes, with what is told of the change.
+//! Sets that are changed by sets of other shapes, and what the calls tell of the change.
 
 ghost use Rattle.std.specs.Prelude.{◌≡◌, ◌↔◌, ◌<◌, ◌≤◌, ◌+◌, ◌*◌, ◌||◌, ◌&&◌, ℕ, false, length};
 ghost use Rattle.std.specs.Prelude.{slice_get, IfSome, IsTrue};
@@ -14,7 +14,8 @@ ghost use Rattle.bittle_ext.specs.Rotations.{shifted_down, shifted_up};
 use bittle::{Bits, BitsMut, BitsOwned, Endian, Set};
 use bittle_ext::{BitsCombineExt, BitsMutViewExt, BitsRankExt, BitsShiftExt, BitsViewExt};
 
-/// Adds what is live after a block to what is live before it, and returns whether that changed.
+/// Adds the variables that are live after a block to those before it, and returns whether the set
+/// changed.
 pub fn add_live(before: &mut [u64; 4], after: &[u64; 4]) -> bool
     ensures set { row_set 4 64 (bit_set 64) before.new
         ≡ members_to 256 (either_of (row_set 4 64 (bit_set 64) before.old)
@@ -27,14 +28,15 @@ pub fn add_live(before: &mut [u64; 4], after: &[u64; 4]) -> bool
     before.union_with(after)
 }
 
-/// Adds what is live after a block, without what it defines, to what is live before it.
+/// Adds the variables that are live after a block, without those that it defines, to those before
+/// it. Returns whether the set changed.
 pub fn flow(before: &mut u64, after: u64, defined: &[u8; 8]) -> bool
     ensures { IsTrue result ↔ Differ (bit_set 64 before.old) (bit_set 64 before.new) }
 {
     before.union_with(&after.minus(defined))
 }
 
-/// Returns whether a task is in a copy of a mask.
+/// Returns whether a task is in a copy of a mask with fewer bits.
 pub fn is_copied(more: u32, task: u32) -> bool
     requires { task < 64 }
     ensures { result ≡ (bit_set 32 more).has task }
@@ -44,7 +46,8 @@ pub fn is_copied(more: u32, task: u32) -> bool
     all.test_bit(task)
 }
 
-/// Takes the indexes of any set out of another one, in an order, and returns whether one was in it.
+/// Clears the bits of any set that are set in another one, both read in one order, and returns
+/// whether any was set.
 pub fn take_out<A: BitsMut, B: Bits, E: Endian>(set: &mut A, other: &B) -> bool
     requires fits { ShapeFits A.Shape set.old }
     requires other_fits { ShapeFits B.Shape other.now }
@@ -59,7 +62,8 @@ pub fn take_out<A: BitsMut, B: Bits, E: Endian>(set: &mut A, other: &B) -> bool
         .difference_with(&other.in_order::<E>())
 }
 
-/// Takes what is done out of what is left, and returns how many are left, which are no more.
+/// Removes the tasks that are done from those that are left, and returns how many are left then.
+/// These are no more than before.
 pub fn finish(left: &mut u64, done: &[u8; 8]) -> u32
     ensures count { result ≡ size (bit_set 64 left.new) }
     ensures at_most { result ≤ size (bit_set 64 left.old) }
@@ -68,7 +72,7 @@ pub fn finish(left: &mut u64, done: &[u8; 8]) -> u32
     Bits::count_ones(left)
 }
 
-/// Adds the roles of a word to those of a lent slice.
+/// Adds the roles of a word to those of a lent slice, and returns whether it changed.
 pub fn grant(roles: &mut [u64], word: u32) -> bool
     requires { length roles.old * 64 < 4294967295 }
     ensures { row_set (length roles.new) 64 (bit_set 64) roles.new
@@ -79,7 +83,8 @@ pub fn grant(roles: &mut [u64], word: u32) -> bool
     set.union_with(&word)
 }
 
-/// Makes a lent slice have what a set has, and nothing else.
+/// Gives a lent slice the bits of a set, and no others. Bits past the end of the slice are left
+/// out.
 pub fn restore<B: Bits>(words: &mut [u64], saved: &B)
     requires fits { length words.old * 64 < 4294967295 }
     requires saved_fits { ShapeFits B.Shape saved.now }
@@ -90,14 +95,14 @@ pub fn restore<B: Bits>(words: &mut [u64], saved: &B)
     set.copy_from(saved);
 }
 
-/// Returns the bits of a row in one word.
+/// Returns a row of four bytes as one word with the same bits.
 pub fn packed(row: &[u8; 4]) -> u32
     ensures { bit_set 32 result ≡ members_to 32 (row_set 4 8 (bit_set 8) row.now) }
 {
     u32::from_set(row)
 }
 
-/// Returns a set of any type with what another one has.
+/// Returns a set of any type with the bits of another one. Bits past its capacity are left out.
 pub fn converted<A: BitsOwned, B: Bits>(other: &B) -> A
     requires indexable { IsTrue A.indexable }
     requires other_fits { ShapeFits B.Shape other.now }
@@ -107,7 +112,7 @@ pub fn converted<A: BitsOwned, B: Bits>(other: &B) -> A
     A::from_set(other)
 }
 
-/// Sets each index of a lent slice.
+/// Sets each bit of a lent slice.
 pub fn fill_all(words: &mut [u8])
     requires { length words.old * 8 < 4294967295 }
     ensures { row_set (length words.new) 8 (bit_set 8) words.new
@@ -117,7 +122,7 @@ pub fn fill_all(words: &mut [u8])
     set.set_all();
 }
 
-/// Delays the tasks of a lent timetable by an hour; the last one's are dropped.
+/// Delays the tasks of a lent timetable by an hour. Those of the last hour are dropped.
 pub fn delay(tasks: &mut [u64])
     requires { length tasks.old * 64 < 4294967295 }
     ensures { row_set (length tasks.new) 64 (bit_set 64) tasks.new
@@ -127,7 +132,7 @@ pub fn delay(tasks: &mut [u64])
     set.shift_up(1);
 }
 
-/// Drops the first indexes of any set, and counts the others from there.
+/// Drops the first `count` indexes of any set, and moves the others down by as many.
 pub fn drop_first<B: BitsMut>(set: &mut B, count: u32)
     requires { ShapeFits B.Shape set.old }
     ensures set { set_in B.Shape B.Order.Endian set.new
@@ -137,7 +142,7 @@ pub fn drop_first<B: BitsMut>(set: &mut B, count: u32)
     set.shift_down(count);
 }
 
-/// Returns whether the task of the next hour is due once an hour has passed.
+/// Returns whether a task is due at an hour of a timetable that is moved down by one hour.
 pub fn is_due(tasks: u64, hour: u32) -> bool
     requires { hour < 63 }
     ensures { result ≡ contains (bit_set 64 tasks) (hour + 1) }
@@ -147,7 +152,7 @@ pub fn is_due(tasks: u64, hour: u32) -> bool
     later.test_bit(hour)
 }
 
-/// Returns the page of a map that is free after so many free ones, or none.
+/// Returns the free page that has `after` free pages before it, or `None`.
 pub fn free_page(taken: &[u64; 8], after: u32) -> Option<u32>
     ensures value { result ≡ slice_get
         (ascending (complement (row_set 8 64 (bit_set 64) taken.now))) after }
@@ -164,7 +169,7 @@ pub fn free_below(taken: &[u64; 8], page: u32) -> u32
 }
 
 /// Adds the lines that another run covered, and returns whether one of them is new. The clause on
-/// single lines has `contains` for this set, and `has` for the other one.
+/// single lines says `contains` of this set, and `has` of the other one.
 pub fn cover(lines: &mut [u64; 8], other: &[u64; 8]) -> bool
     ensures each { (k : ℕ) → k < 512 → contains (row_set 8 64 (bit_set 64) lines.new) k
         ≡ (contains (row_set 8 64 (bit_set 64) lines.old) k
@@ -175,7 +180,8 @@ pub fn cover(lines: &mut [u64; 8], other: &[u64; 8]) -> bool
     lines.union_with(other)
 }
 
-/// Adds the indexes of any set to another one, and returns whether it has an index then.
+/// Sets each bit of any set that is set in another one, and returns whether bit `index` is set
+/// then.
 fn has_with<A: BitsMut, B: Bits>(set: &mut A, other: &B, index: u32) -> bool
     requires fits { ShapeFits A.Shape set.old }
     requires other_fits { ShapeFits B.Shape other.now }
@@ -195,7 +201,8 @@ pub fn has_role_with(mask: &mut u64, word: u32, role: u32) -> bool
     has_with(mask, &word, role)
 }
 
-/// Keeps of any set the indexes of another one, and returns whether it has an index then.
+/// Clears each bit of any set that is unset in another one, and returns whether bit `index` is set
+/// then.
 fn has_within<A: BitsMut, B: Bits>(set: &mut A, other: &B, index: u32) -> bool
     requires fits { ShapeFits A.Shape set.old }
     requires other_fits { ShapeFits B.Shape other.now }
@@ -207,7 +214,7 @@ fn has_within<A: BitsMut, B: Bits>(set: &mut A, other: &B, index: u32) -> bool
     set.test_bit(index)
 }
 
-/// Takes the roles that a word lacks out of a mask, and returns whether the mask has a role then.
+/// Removes the roles that a word lacks from a mask, and returns whether the mask has a role then.
 pub fn has_role_within(mask: &mut [u64; 4], word: u32, role: u32) -> bool
     requires { role < 256 }
     ensures { result ≡ (contains (row_set 4 64 (bit_set 64) mask.old) role

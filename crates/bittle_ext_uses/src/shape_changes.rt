@@ -11,7 +11,7 @@ ghost use Rattle.bittle.specs.Searches.{IsFirstIn};
 use bittle::{LittleEndian, Set};
 use bittle_ext::{BitsMutExt, BitsOwnedExt};
 
-/// Takes the least priority that is ready.
+/// Takes the least priority that is ready, or changes nothing and returns `None`.
 pub fn take(mask: &mut [u64; 4]) -> Option<u32>
     ensures least { IsFirstIn (row_set 4 64 (bit_set 64) mask.old) 0 256 result }
     ensures mask { MatchOption result (mask.new ≡ mask.old)
@@ -21,7 +21,7 @@ pub fn take(mask: &mut [u64; 4]) -> Option<u32>
     mask.pop_first()
 }
 
-/// Takes the least free page.
+/// Takes the least free page, or changes nothing and returns `None`.
 pub fn take_page(pages: &mut [u32; 8]) -> Option<u32>
     ensures least { IsFirstIn (complement (row_set 8 32 (bit_set 32) pages.old)) 0 256 result }
     ensures taken { MatchOption result (pages.new ≡ pages.old)
@@ -41,7 +41,7 @@ pub fn free(pages: &mut [u32; 8], from: u32, to: u32)
     pages.clear_range(from, to);
 }
 
-/// Sets a bit of a set that is read from the left, and returns whether it was unset.
+/// Sets a bit of a set that is read from the left, and returns whether it was unset before.
 pub fn add(set: &mut Set<u16, LittleEndian>, index: u32) -> bool
     ensures was_unset { result ≡ not (contains (read_in true 16 (bit_set 16 set.old.bits)) index) }
     ensures set { read_in true 16 (bit_set 16 set.new.bits)

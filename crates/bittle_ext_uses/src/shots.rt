@@ -1,5 +1,5 @@
-//! Results of an enum of the caller's own. The clause is a definition by cases in `specs/Shots.antt`:
-//! what each variant says.
+//! A call that returns an enum of the caller's own. Its clause is a definition by cases in
+//! `specs/Shots.antt`: what each variant says.
 
 ghost use Rattle.std.specs.Prelude.{◌≡◌};
 ghost use Rattle.bittle.specs.BitPatterns.{bit_set};
@@ -9,7 +9,7 @@ ghost use Rattle.bittle_ext_uses.specs.Shots.{answers};
 use bittle::Bits;
 use bittle_ext::BitsMutExt;
 
-/// What a shot at a square met.
+/// The answer to a shot at a square.
 #[derive(Drop)]
 pub enum Shot {
     /// The square was fired at before.

@@ -1,4 +1,4 @@
-//! Ranges of a set, written as Rust ranges. A call that only reads puts no condition on their ends.
+//! Ranges of a set, written as Rust ranges. A call that only reads has no condition on their ends.
 
 ghost use Rattle.std.specs.Prelude.{◌≡◌, ◌+◌, ◌-◌, ◌<◌, ◌≤◌, true, IsTrue, MatchBool, ◌↔◌};
 ghost use Rattle.std.specs.Prelude.{option_map, slice_index, unwrap_or, ℕ, Option};
@@ -17,7 +17,7 @@ use bittle::{Bits, BitsMut, Endian, LittleEndian, Set};
 use bittle_ext::prelude::*;
 use std::ops::RangeBounds;
 
-/// Counts the members of a range whose ends the caller has not looked at.
+/// Counts the set bits of a range, whose ends may be any numbers.
 pub fn count_any(mask: u64, from: u32, to: u32) -> u32
     ensures count { result
         ≡ members_below (bit_set 64 mask) to - members_below (bit_set 64 mask) from }
@@ -26,7 +26,7 @@ pub fn count_any(mask: u64, from: u32, to: u32) -> u32
     mask.count_ones_in_range(from, to)
 }
 
-/// Counts the members from an index on.
+/// Counts the set bits from an index on.
 pub fn count_from(board: &[u64; 4], from: u32) -> u32
     ensures { let set = row_set 4 64 (bit_set 64) board.now in
         result ≡ members_below set 256 - members_below set from }
@@ -34,7 +34,7 @@ pub fn count_from(board: &[u64; 4], from: u32) -> u32
     board.count_ones_in_span(from..)
 }
 
-/// Counts the free indexes up to and including `last`.
+/// Counts the unset bits up to and including `last`.
 pub fn count_free_through(mask: u8, last: u32) -> u32
     ensures { let free = complement (bit_set 8 mask) in
         result ≡ members_below free (last + 1) - members_below free 0 }
@@ -42,7 +42,7 @@ pub fn count_free_through(mask: u8, last: u32) -> u32
     mask.count_zeros_in_span(..=last)
 }
 
-/// Returns the next member of a window of eight.
+/// Returns the first set bit in a window of eight indexes from `start` on.
 pub fn next_in_window(mask: u32, start: u32) -> Option<u32>
     requires { start < 1000 }
     ensures { IsFirstIn (bit_set 32 mask) start (start + 8) result }
@@ -50,14 +50,14 @@ pub fn next_in_window(mask: u32, start: u32) -> Option<u32>
     mask.first_one_in_span(start..start + 8)
 }
 
-/// Returns the last free index of the first half, from the left.
+/// Returns the last unset bit in the first half of a set that is read from the left.
 pub fn last_free_of_half(set: &Set<u16, LittleEndian>) -> Option<u32>
     ensures { IsLastIn (complement (read_in true 16 (bit_set 16 set.now.bits))) 0 8 result }
 {
     set.last_zero_in_span(..8)
 }
 
-/// Returns the entry of a table at the first free index of a range, or 0: the index is below the
+/// Returns the entry of a table at the first unset bit of a range, or 0. That bit lies below the
 /// capacity, whatever the range is.
 pub fn entry_at_first_free(mask: u64, from: u32, to: u32, table: &[u32; 64]) -> u32
     ensures { (found : Option ℕ) × IsFirstIn (complement (bit_set 64 mask)) from to found
@@ -69,7 +69,7 @@ pub fn entry_at_first_free(mask: u64, from: u32, to: u32, table: &[u32; 64]) -> 
     }
 }
 
-/// Returns whether each page from one on is taken, up to the last one.
+/// Returns whether each page from `from` on is taken.
 pub fn all_taken_from(pages: &[u32; 8], from: u32) -> bool
     ensures { let taken = row_set 8 32 (bit_set 32) pages.now in
         MatchBool result (HasAllIn taken from 256) (LacksSomeIn taken from 256) }
@@ -77,7 +77,7 @@ pub fn all_taken_from(pages: &[u32; 8], from: u32) -> bool
     pages.all_in_span(from..)
 }
 
-/// Returns whether a role has each of a range of permissions, of which some may not exist.
+/// Returns whether a role has each permission of a range. Some of these may not exist.
 pub fn grants_all(role: u32, from: u32, to: u32) -> bool
     ensures { MatchBool result (HasAllIn (bit_set 32 role) from to)
         (LacksSomeIn (bit_set 32 role) from to) }
@@ -85,7 +85,7 @@ pub fn grants_all(role: u32, from: u32, to: u32) -> bool
     role.all_in_range(from, to)
 }
 
-/// Returns whether any day of the year's first weeks is marked.
+/// Returns whether any of the first fourteen days is marked.
 pub fn any_of_first(days: &[u64; 6]) -> bool
     ensures { let set = row_set 6 64 (bit_set 64) days.now in
         MatchBool result (HasSomeIn set 0 14) (NoneIn set 0 14) }
@@ -93,14 +93,14 @@ pub fn any_of_first(days: &[u64; 6]) -> bool
     days.any_in_span(..14)
 }
 
-/// Marks the entries of a table at the members of a range, whatever the range is.
+/// Marks the entries of a table at the set bits of a range, whatever the range is.
 pub fn mark(mask: u16, from: u32, to: u32, table: &mut [bool; 16]) {
     for index in mask.iter_ones_in_range(from, to) {
         table[index as usize] = true;
     }
 }
 
-/// Adds up the free indexes from one on.
+/// Adds up the indexes of the unset bits from `from` on.
 pub fn sum_of_free_from(mask: u32, from: u32) -> u32 {
     let mut sum = 0u32;
     for index in mask.iter_zeros_in_span(from..) {
@@ -109,7 +109,7 @@ pub fn sum_of_free_from(mask: u32, from: u32) -> u32 {
     sum
 }
 
-/// Counts the common members of two words up to and including `last`.
+/// Counts the bits up to and including `last` that are set in both words.
 pub fn common_through(one: u64, other: u64, last: u32) -> u32
     ensures { result ≡ size (members_within (both_of (bit_set 64 one) (bit_set 64 other)) 0
         (last + 1)) }
@@ -117,7 +117,7 @@ pub fn common_through(one: u64, other: u64, last: u32) -> u32
     one.and(&other).within_span(..=last).count_ones()
 }
 
-/// Returns an iterator over the members of a set from an index on, in a function of any set.
+/// Counts the set bits of any set from an index on, by an iterator.
 pub fn items_from<B: Bits>(set: &B, from: u32) -> usize
     requires { ShapeFits B.Shape set.now }
     ensures { let ours = set_in B.Shape B.Order.Endian set.now in
@@ -126,7 +126,7 @@ pub fn items_from<B: Bits>(set: &B, from: u32) -> usize
     set.iter_ones_in_span(from..).count()
 }
 
-/// Counts the members of a range of the caller's, in a function of any set and any range.
+/// Counts the set bits of any set in any range that the caller gives.
 pub fn count_in<B: Bits, R: RangeBounds<u32>>(set: &B, range: R) -> u32
     requires fits { ShapeFits B.Shape set.now }
     requires known { R.has_bounds range }
@@ -147,7 +147,7 @@ pub fn rearrange(mask: &mut u64)
     mask.toggle_span(..32);
 }
 
-/// Clears a set from an index on, in any set and any order.
+/// Clears the bits of any set, read in any order, from an index on.
 pub fn cut<B: BitsMut, E: Endian>(set: &mut B, from: u32)
     requires fits { ShapeFits B.Shape set.old }
     requires within { from ≤ (B.big set.old).capacity }
@@ -157,7 +157,7 @@ pub fn cut<B: BitsMut, E: Endian>(set: &mut B, from: u32)
     set.in_order_mut::<E>().clear_span(from..);
 }
 
-/// Returns a mask of the bits below an index.
+/// Returns a mask in which the bits below an index are set.
 pub fn low_mask(to: u32) -> u64
     requires { to ≤ 64 }
     ensures { bit_set 64 result ≡ with_span (bit_set 64 0) 0 to }
@@ -173,14 +173,14 @@ pub fn without_high(word: u32, from: u32) -> u32
     word.without_span(from..)
 }
 
-/// Counts the members from an index on: no more are below it than there are.
+/// Counts the set bits from an index on. The check proves that the subtraction does not underflow.
 pub fn count_not_below(mask: u32, index: u32) -> u32
     ensures { result ≡ size (bit_set 32 mask) - members_below (bit_set 32 mask) index }
 {
     Bits::count_ones(&mask) - mask.rank(index)
 }
 
-/// Clears a range, and returns how many members are left, with no count after it.
+/// Clears a range, and returns how many bits are set then. It counts only before the change.
 pub fn clear_and_count(mask: &mut u64, from: u32, to: u32) -> u32
     requires ordered { from ≤ to }
     requires within { to ≤ 64 }
@@ -191,7 +191,7 @@ pub fn clear_and_count(mask: &mut u64, from: u32, to: u32) -> u32
     left
 }
 
-/// Sets a range, and returns how many members there are then, with no count after it.
+/// Sets a range, and returns how many bits are set then. It counts only before the change.
 pub fn fill_and_count(mask: &mut u64, from: u32, to: u32) -> u32
     requires ordered { from ≤ to }
     requires within { to ≤ 64 }

@@ -1,4 +1,4 @@
-//! Views of sets, as sets and as what iterators own.
+//! Views of sets: calls on a view as on a set, and iterators that own a view.
 
 ghost use Rattle.std.specs.Prelude.{◌≡◌, ◌↔◌, ◌==◌, ◌-◌, ◌≤◌, ◌<◌, ◌&&◌, max, length, IsTrue, true};
 ghost use Rattle.std.specs.Prelude.{false, IfSome};
@@ -20,21 +20,21 @@ use bittle::{Bits, Endian, LittleEndian, Set, Shape};
 use bittle_ext::views::of_both::AndView;
 use bittle_ext::{BitsExt, BitsViewExt, View};
 
-/// Counts what an iterator over either of two words yields.
+/// Counts by an iterator the bits that are set in either of two words.
 pub fn items_of_either(one: u64, other: u64) -> usize
     ensures { result ≡ length (ascending (either_of (bit_set 64 one) (bit_set 64 other))) }
 {
     one.or(&other).iter_ones().count()
 }
 
-/// Marks the entries of a table at the indexes of both words.
+/// Marks the entries of a table at the bits that are set in both words.
 pub fn mark_common(one: u64, other: u64, table: &mut [bool; 64]) {
     for index in one.and(&other).iter_ones() {
         table[index as usize] = true;
     }
 }
 
-/// Counts what an iterator over both of any two sets yields.
+/// Counts by an iterator the bits that are set in both of any two sets.
 pub fn items<A: Bits, B: Bits>(left: &A, right: &B) -> usize
     requires left_fits { ShapeFits A.Shape left.now }
     requires right_fits { ShapeFits B.Shape right.now }
@@ -44,7 +44,8 @@ pub fn items<A: Bits, B: Bits>(left: &A, right: &B) -> usize
     left.and(right).iter_ones().count()
 }
 
-/// Counts what an iterator over a byte and a row of longer words, read from the left, yields.
+/// Counts by an iterator the bits that are set in both a byte and a row of longer words, which is
+/// read from the left.
 pub fn items_of_unlike(byte: u8, row: &Set<[u32; 2], LittleEndian>) -> usize
     ensures { result ≡ length (ascending (both_of (bit_set 8 byte)
         (read_in true 32 (row_set 2 32 (bit_set 32) row.now.bits)))) }
@@ -52,7 +53,7 @@ pub fn items_of_unlike(byte: u8, row: &Set<[u32; 2], LittleEndian>) -> usize
     byte.and(row).iter_ones().count()
 }
 
-/// Counts what an iterator over two sets that are read from the left yields.
+/// Counts by an iterator the bits that are set in both of two sets, which are read from the left.
 pub fn items_of_sets(one: &Set<u64, LittleEndian>, other: &Set<u64, LittleEndian>) -> usize
     ensures { result ≡ length (ascending (both_of (read_in true 64 (bit_set 64 one.now.bits))
         (read_in true 64 (bit_set 64 other.now.bits)))) }
@@ -60,7 +61,7 @@ pub fn items_of_sets(one: &Set<u64, LittleEndian>, other: &Set<u64, LittleEndian
     one.and(other).iter_ones().count()
 }
 
-/// Counts the indexes that are set in the first alone.
+/// Counts the bits that are set in the first set and not in the second.
 pub fn count_first<A: Bits, B: Bits>(left: &A, right: &B) -> u32
     requires left_fits { ShapeFits A.Shape left.now }
     requires right_fits { ShapeFits B.Shape right.now }
@@ -70,7 +71,7 @@ pub fn count_first<A: Bits, B: Bits>(left: &A, right: &B) -> u32
     left.minus(right).count_ones()
 }
 
-/// Counts the indexes that are set in just one of two sets of like words.
+/// Counts the bits that are set in just one of two sets, whose words have one type.
 pub fn count_different<A: Bits, B: Bits + Shape<LeafWord = A::LeafWord>>(left: &A, right: &B) -> u32
     requires left_fits { ShapeFits A.Shape left.now }
     requires right_fits { ShapeFits B.Shape right.now }
@@ -80,8 +81,8 @@ pub fn count_different<A: Bits, B: Bits + Shape<LeafWord = A::LeafWord>>(left: &
     left.xor(right).count_ones()
 }
 
-/// Counts what an iterator over either of any two sets yields: the greater capacity, rounded up,
-/// has to fit.
+/// Counts by an iterator the bits that are set in either of any two sets. The greater capacity,
+/// rounded up to whole words, has to fit.
 pub fn items_of_any<A: Bits, B: Bits>(left: &A, right: &B) -> usize
     requires left_fits { ShapeFits A.Shape left.now }
     requires right_fits { ShapeFits B.Shape right.now }
@@ -93,7 +94,7 @@ pub fn items_of_any<A: Bits, B: Bits>(left: &A, right: &B) -> usize
     left.or_unlike(right).iter_ones().count()
 }
 
-/// Counts what an iterator over either of a byte and a row of longer words yields.
+/// Counts by an iterator the bits that are set in either a byte or a row of longer words.
 pub fn items_of_either_unlike(byte: u8, row: &[u32; 2]) -> usize
     ensures { result ≡ length (ascending (either_of (bit_set 8 byte)
         (row_set 2 32 (bit_set 32) row.now))) }
@@ -101,14 +102,15 @@ pub fn items_of_either_unlike(byte: u8, row: &[u32; 2]) -> usize
     byte.or_unlike(row).iter_ones().count()
 }
 
-/// Returns the first index of both words.
+/// Returns the first bit that is set in both words.
 pub fn first_in_both(one: u64, other: u64) -> Option<u32>
     ensures { IsFirstIn (both_of (bit_set 64 one) (bit_set 64 other)) 0 64 result }
 {
     one.and(&other).first_one()
 }
 
-/// Returns the next index of a row that a byte, read from the left, lacks.
+/// Returns the first bit from `from` on that is set in a row and unset in a byte, which is read
+/// from the left.
 pub fn next_alone(row: &[u32; 2], other: &Set<u8, LittleEndian>, from: u32) -> Option<u32>
     ensures { IsFirstIn (decided_of_first first_alone (row_set 2 32 (bit_set 32) row.now)
         (read_in true 8 (bit_set 8 other.now.bits))) from 64 result }
@@ -116,14 +118,14 @@ pub fn next_alone(row: &[u32; 2], other: &Set<u8, LittleEndian>, from: u32) -> O
     row.minus(other).next_one(from)
 }
 
-/// Returns how many indexes of both words lie below one.
+/// Counts the bits below `index` that are set in both words.
 pub fn rank_of_both(one: u64, other: u64, index: u32) -> u32
     ensures { result ≡ members_below (both_of (bit_set 64 one) (bit_set 64 other)) index }
 {
     one.and(&other).rank(index)
 }
 
-/// Returns where the first run of numbers begins that are free in two maps.
+/// Returns where the first run of `length` numbers begins that are free in both maps.
 #[tactic(auto, using(bittle_ext::proofs::RunFacts::first_run_of_same))]
 pub fn free_in_both(one: u64, other: u64, length: u32) -> Option<u32>
     ensures { IsFirstRun (complement (either_of (bit_set 64 one) (bit_set 64 other))) 0 length
@@ -132,7 +134,7 @@ pub fn free_in_both(one: u64, other: u64, length: u32) -> Option<u32>
     one.or(&other).first_zero_run(length)
 }
 
-/// Returns where the first run of lots begins that are free, of the 200 of a map.
+/// Returns where the first run of `lots` free lots begins, in a map of 200 lots.
 #[tactic(auto, using(bittle_ext::proofs::RunFacts::first_run_within_same))]
 pub fn free_lots(taken: [u64; 4], lots: u32) -> Option<u32>
     ensures { IsFirstRun (members_within (complement (row_set 4 64 (bit_set 64) taken)) 0 200) 0
@@ -142,7 +144,7 @@ pub fn free_lots(taken: [u64; 4], lots: u32) -> Option<u32>
     free.within(0, 200).first_one_run(lots)
 }
 
-/// Returns where the first run of numbers begins that are in two maps.
+/// Returns where the first run of `length` numbers begins that are in both maps.
 #[tactic(auto, using(bittle_ext::proofs::RunFacts::first_set_run_of_same))]
 pub fn run_in_both(one: u64, other: u64, length: u32) -> Option<u32>
     ensures { IsFirstRun (both_of (bit_set 64 one) (bit_set 64 other)) 0 length result }
@@ -150,7 +152,7 @@ pub fn run_in_both(one: u64, other: u64, length: u32) -> Option<u32>
     one.and(&other).first_one_run(length)
 }
 
-/// Counts the free numbers of a part of a map.
+/// Counts the free numbers below 200 of a map.
 pub fn free_in_part(taken: [u64; 4]) -> u32
     ensures { result ≡ size (members_within (complement (row_set 4 64 (bit_set 64) taken)) 0 200) }
 {
@@ -158,7 +160,7 @@ pub fn free_in_part(taken: [u64; 4]) -> u32
     free.within(0, 200).count_ones()
 }
 
-/// Returns where the first run of a length of unset bits begins.
+/// Returns where the first run of `length` unset bits begins.
 pub fn first_free_run(word: u64, length: u32) -> Option<u32>
     ensures { IsFirstRun (complement (bit_set 64 word)) 0 length result }
 {
@@ -173,7 +175,7 @@ pub fn is_in_both(one: &[u32; 4], other: &[u32; 4], index: u32) -> bool
     one.and(other).test_bit(index)
 }
 
-/// Counts what is in two rows and not in a third, shorter one.
+/// Counts the bits that are set in both of two rows and unset in a third, shorter one.
 pub fn count_chain(one: &[u32; 4], other: &[u32; 4], third: &[u32; 2]) -> u32
     ensures { result ≡ size (first_only_of (both_of (row_set 4 32 (bit_set 32) one.now)
         (row_set 4 32 (bit_set 32) other.now)) (row_set 2 32 (bit_set 32) third.now)) }
@@ -181,7 +183,7 @@ pub fn count_chain(one: &[u32; 4], other: &[u32; 4], third: &[u32; 2]) -> u32
     one.and(other).minus(third).count_ones()
 }
 
-/// Counts what a byte has and a row of longer words lacks.
+/// Counts the bits that are set in a byte and unset in a row of longer words.
 pub fn count_unlike(byte: u8, row: &[u32; 2]) -> u32
     ensures { result ≡ size (decided_of_first first_alone
         (bit_set 8 byte) (row_set 2 32 (bit_set 32) row.now)) }
@@ -189,14 +191,14 @@ pub fn count_unlike(byte: u8, row: &[u32; 2]) -> u32
     byte.minus(row).count_ones()
 }
 
-/// Counts the indexes below 9 of both words.
+/// Counts the bits below 9 that are set in both words.
 pub fn count_low(one: u64, other: u64) -> u32
     ensures { result ≡ size (members_within (both_of (bit_set 64 one) (bit_set 64 other)) 0 9) }
 {
     one.and(&other).within(0, 9).count_ones()
 }
 
-/// Returns whether a word lacks nothing below 9 that another one has.
+/// Returns whether each bit below 9 that is set in `one` is set in `other`.
 pub fn covers_low(one: u64, other: u64) -> bool
     ensures { result ≡ (size (first_only_of (members_within (bit_set 64 one) 0 9)
         (bit_set 64 other)) == 0) }
@@ -204,7 +206,7 @@ pub fn covers_low(one: u64, other: u64) -> bool
     one.within(0, 9).minus(&other).all_zeros()
 }
 
-/// Counts what an iterator over a range of any set yields.
+/// Counts by an iterator the set bits in a range of any set.
 pub fn items_in_range<B: Bits>(bits: &B, from: u32, to: u32) -> usize
     requires fits { ShapeFits B.Shape bits.now }
     requires ordered { from ≤ to }
@@ -215,21 +217,21 @@ pub fn items_in_range<B: Bits>(bits: &B, from: u32, to: u32) -> usize
     bits.within(from, to).iter_ones().count()
 }
 
-/// Counts what an iterator over the unset bits of a range yields.
+/// Counts by an iterator the unset bits of a range.
 pub fn zeros_in_range(word: u64) -> usize
     ensures { result ≡ length (ascending (members_within (complement (bit_set 64 word)) 3 50)) }
 {
     word.complement_view().within(3, 50).iter_ones().count()
 }
 
-/// Returns the next index that a word lacks.
+/// Returns the first unset bit of a word from `from` on.
 pub fn next_of_unset(word: u64, from: u32) -> Option<u32>
     ensures { IsFirstIn (complement (bit_set 64 word)) from 64 result }
 {
     word.complement_view().next_one(from)
 }
 
-/// Returns whether a word is what two others have in common.
+/// Returns whether the bits set in a word are those that two others have in common.
 pub fn is_conjunction(one: u64, other: u64, third: u64) -> bool
     ensures { IsTrue result ↔ AreSame (bit_set 64 one)
         (both_of (bit_set 64 other) (bit_set 64 third)) }
@@ -237,7 +239,7 @@ pub fn is_conjunction(one: u64, other: u64, third: u64) -> bool
     Set::new(one).eq_bits(&other.and(&third))
 }
 
-/// Adds up the entries of a table at the indexes of both words.
+/// Adds up the entries of a table at the bits that are set in both words.
 pub fn sum_joined(one: u64, other: u64, table: &[u32; 64]) -> u64 {
     let mut total = 0u64;
     for entry in one.and(&other).join_ones(table.iter()) {
@@ -246,7 +248,7 @@ pub fn sum_joined(one: u64, other: u64, table: &[u32; 64]) -> u64 {
     total
 }
 
-/// Adds up the indexes of both of two slices.
+/// Adds up the indexes that are set in both of two slices.
 pub fn sum_of_slices<'a>(left: &'a [u64], right: &'a [u64]) -> u64
     requires left_fits { ShapeFits ⟦<&'a [u64] as Shape>⟧ left }
     requires right_fits { ShapeFits ⟦<&'a [u64] as Shape>⟧ right }
@@ -258,7 +260,7 @@ pub fn sum_of_slices<'a>(left: &'a [u64], right: &'a [u64]) -> u64
     total
 }
 
-/// Returns an iterator over both of any two sets, which owns the view.
+/// Returns an iterator over the bits that are set in both of any two sets. It owns the view.
 pub fn iter_both<'a, A: Bits, B: Bits>(
     left: &'a A,
     right: &'a B,
@@ -271,8 +273,8 @@ pub fn iter_both<'a, A: Bits, B: Bits>(
     left.and(right).into_ones()
 }
 
-/// Counts what an iterator over both of two words yields, where a set that is read from the left
-/// wraps the view.
+/// Counts by an iterator the bits that are set in both of two words. The view is wrapped in a `Set`
+/// that is read from the left.
 pub fn items_from_left(one: u64, other: u64) -> usize
     ensures { result ≡ length (ascending (read_in true 64
         (both_of (bit_set 64 one) (bit_set 64 other)))) }
@@ -280,14 +282,15 @@ pub fn items_from_left(one: u64, other: u64) -> usize
     Set::new_le(one.and(&other)).iter_ones().count()
 }
 
-/// Returns the least number that neither of two sets has.
+/// Returns the least number that is in neither set.
 pub fn first_free(one: u64, other: u64) -> Option<u32>
     ensures { IsFirstIn (complement (either_of (bit_set 64 one) (bit_set 64 other))) 0 64 result }
 {
     one.or(&other).first_zero()
 }
 
-/// Returns it, as a clause on single bits says it.
+/// Returns the least number that is in neither set. A clause for each set says that its bit is
+/// unset.
 #[tactic(auto, using(bittle_lemmas::proofs::FoundNumbers::unset_in_first, bittle_lemmas::proofs::FoundNumbers::unset_in_second))]
 pub fn unset_in_both(one: u64, other: u64) -> Option<u32>
     ensures one { IfSome result (λ number. contains (bit_set 64 one) number ≡ false) }

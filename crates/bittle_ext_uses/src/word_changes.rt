@@ -51,7 +51,7 @@ pub fn mark(row: &mut [u64; 4], index: u32)
     row.set_bit(index);
 }
 
-/// Sets a bit in place of another one. Each other bit is as before.
+/// Clears one bit and sets another one. Each other bit is as before.
 #[tactic(auto, using(bittle_ext::proofs::CallerMembers::contains_other_after_clear, bittle_ext::proofs::CallerMembers::contains_other_after_set))]
 pub fn move_mark(row: &mut [u64; 4], from: u32, to: u32)
     requires from { from < 256 }
@@ -64,7 +64,7 @@ pub fn move_mark(row: &mut [u64; 4], from: u32, to: u32)
     row.set_bit(to);
 }
 
-/// Clears some bits of a row. Each other bit is as before.
+/// Clears the bits of a row below an index. Each other bit is as before.
 #[tactic(auto, using(bittle_ext::proofs::CallerSpans::contains_outside_clear_span))]
 pub fn clear_first(row: &mut [u64; 4], end: u32)
     requires { end ≤ 256 }
@@ -75,7 +75,7 @@ pub fn clear_first(row: &mut [u64; 4], end: u32)
     row.clear_span(..end);
 }
 
-/// Sets a bit by its value.
+/// Sets a bit by `assign`.
 pub fn set_by_value(mask: &mut u16, index: u32)
     ensures { bit_set 16 mask.new ≡ with_index (bit_set 16 mask.old) index }
 {
@@ -91,7 +91,7 @@ pub fn flip_twice(mask: &mut u8, index: u32)
     mask.toggle(index);
 }
 
-/// Sets the bits of a range but those of another one, and flips them all.
+/// Sets a range, clears a range inside it, and flips each bit of the word.
 pub fn ranges(mask: &mut u64)
     ensures { bit_set 64 mask.new
         ≡ with_span_toggled (without_span (with_span (bit_set 64 mask.old) 3 40) 10 20) 0 64 }
@@ -101,14 +101,14 @@ pub fn ranges(mask: &mut u64)
     mask.toggle_range(0, 64);
 }
 
-/// Keeps the even indexes.
+/// Clears each bit whose index is odd.
 pub fn keep_even(mask: &mut u64)
     ensures { bit_set 64 mask.new ≡ those_passing (λ i. i % 2 == 0) (bit_set 64 mask.old) }
 {
     mask.retain(|index| index % 2 == 0);
 }
 
-/// Takes the least index.
+/// Clears the least set bit, and returns it, or changes nothing and returns `None`.
 pub fn take_least(mask: &mut u128) -> Option<u32>
     ensures least { IsFirstIn (bit_set 128 mask.old) 0 128 result }
     ensures set { MatchOption result (mask.new ≡ mask.old)
@@ -117,14 +117,14 @@ pub fn take_least(mask: &mut u128) -> Option<u32>
     mask.pop_first()
 }
 
-/// Takes the greatest index from the left.
+/// Clears the greatest set bit, counted from the left, and returns it, or `None`.
 pub fn take_greatest_le(mask: &mut u8) -> Option<u32>
     ensures greatest { IsLastIn (read_in true 8 (bit_set 8 mask.old)) 0 8 result }
 {
     mask.in_order_mut::<LittleEndian>().pop_last()
 }
 
-/// Takes the least free slot.
+/// Takes the least free slot, or changes nothing and returns `None`.
 pub fn take_slot(slots: &mut u32) -> Option<u32>
     ensures least { IsFirstIn (complement (bit_set 32 slots.old)) 0 32 result }
     ensures taken { MatchOption result (slots.new ≡ slots.old)
@@ -133,7 +133,7 @@ pub fn take_slot(slots: &mut u32) -> Option<u32>
     slots.take_first_zero()
 }
 
-/// Returns what remains where both ends are taken out: neither call asks for anything.
+/// Returns the word without its least and its greatest set bit. Neither call has a condition.
 pub fn without_ends(mask: u64) -> u64
     ensures { (first : Option ℕ) × (last : Option ℕ) × (middle : ℕ)
         × IsFirstIn (bit_set 64 mask) 0 64 first
@@ -149,7 +149,7 @@ pub fn without_ends(mask: u64) -> u64
     rest
 }
 
-/// Sets a bit and counts the set bits, without a second count.
+/// Sets a bit, and returns how many bits are set then. It counts only before the change.
 pub fn insert_and_count(mask: &mut u64, index: u32) -> u32
     ensures { result ≡ size (bit_set 64 mask.new) }
 {

@@ -1,5 +1,6 @@
-//! Keeps a small set as the lines of the input say, and prints its answers. Two programs have this
-//! very text, one stored with a script that is answered, the other with one that is refused.
+//! Keeps a small set as the lines of the input say, and prints its answers. `bittle_run` and
+//! `bittle_run_refused` have this very text. The first is stored with a script that is answered,
+//! the second with one that is refused.
 #![tactic(auto)]
 
 use bittle_script::{RunStatus, run};

@@ -1,5 +1,5 @@
-//! What callers of `bittle_tiers` can say and prove of their own values: what is proved over any set
-//! holds of one with a summary as it stands, and no proof has to be written.
+//! Callers of `bittle_tiers`. What is proved of any set holds of a set with a summary as well. So
+//! no caller has to write a proof.
 #![tactic(auto)]
 
 pub mod pages;

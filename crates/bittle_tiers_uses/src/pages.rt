@@ -18,7 +18,7 @@ pub fn serve(requests: &[Request], answers: &mut [Answer])
     pages.serve(requests, answers);
 }
 
-/// Serves requests from one of 262,144 pages, with two tiers above them.
+/// Serves requests from an allocator of 262,144 pages, with two tiers above its words.
 pub fn serve_large(requests: &[Request], answers: &mut [Answer])
     requires { length answers.old ≡ length requests.now }
     ensures { answers.new ≡ request_answers (empty_set 262144) requests.now }
@@ -27,7 +27,8 @@ pub fn serve_large(requests: &[Request], answers: &mut [Answer])
     pages.serve(requests, answers);
 }
 
-/// Serves requests from a map with a summary for either kind: a map may have a summary itself.
+/// Serves requests from a map with a summary of its set bits and one of its unset bits. A summary
+/// may stand over a map that has one.
 pub fn serve_either(requests: &[Request], answers: &mut [Answer])
     requires { length answers.old ≡ length requests.now }
     ensures { answers.new ≡ request_answers (empty_set 4096) requests.now }
@@ -36,14 +37,14 @@ pub fn serve_either(requests: &[Request], answers: &mut [Answer])
     pages.serve(requests, answers);
 }
 
-/// Returns how many pages are taken, where the words of a map say which.
+/// Counts the taken pages of a map that is given as words.
 pub fn taken(words: [u64; 64]) -> u32
     ensures { result ≡ size (row_set 64 64 (bit_set 64) words) }
 {
     Tiered4K::<Zeros>::new(words).count_ones()
 }
 
-/// Returns the map of all pages but one, of which an allocator hands that one out.
+/// Returns a map in which each page but one is taken, so that an allocator hands that one out.
 pub fn all_but(page: u32) -> Tiered4K<Zeros>
     ensures { row_set 64 64 (bit_set 64) result.map ≡ without_index (full_set 4096) page }
 {

@@ -1,4 +1,4 @@
-//! Runs of calls: a set with a summary replies as a plain set does.
+//! Sequences of calls: a set with a summary replies as a plain set does.
 
 ghost use Rattle.std.specs.Prelude.{◌≡◌, length};
 ghost use Rattle.bittle.specs.Machine.{replies_of};
@@ -17,7 +17,7 @@ pub fn run(calls: &[Call], replies: &mut [Reply])
     replay::<Tiered4K<Ones>, BigEndian>(&mut set, calls, replies);
 }
 
-/// Makes it on a set that remembers the little-endian order.
+/// Makes a list of calls on a `Set` that remembers the little-endian order.
 pub fn run_wrapped(calls: &[Call], replies: &mut [Reply])
     requires { length replies.old ≡ length calls.now }
     ensures { replies.new ≡ replies_of (empty_set 4096) calls.now }
@@ -26,7 +26,7 @@ pub fn run_wrapped(calls: &[Call], replies: &mut [Reply])
     replay::<Set<Tiered4K<Ones>, LittleEndian>, LittleEndian>(&mut set, calls, replies);
 }
 
-/// Makes it on a set of 65,536 numbers with two tiers above them.
+/// Makes a list of calls on a set of 65,536 numbers, with two tiers above its words.
 pub fn run_large(calls: &[Call], replies: &mut [Reply])
     requires { length replies.old ≡ length calls.now }
     ensures { replies.new ≡ replies_of (empty_set 65536) calls.now }

@@ -1,4 +1,4 @@
-//! Sparse sets: what is asked of one, of two by a view, and what changes one.
+//! Sparse sets: calls that read one, a view of two, and calls that change one.
 
 ghost use Rattle.std.specs.Prelude.{◌≡◌, not, length};
 ghost use Rattle.bittle.specs.BitPatterns.{bit_set};
@@ -10,7 +10,7 @@ ghost use Rattle.bittle_ext.specs.Combined.{both_of};
 use bittle_ext::prelude::*;
 use bittle_tiers::prelude::*;
 
-/// Counts what an iterator over both of two sparse sets yields.
+/// Counts by an iterator the numbers that both of two sparse sets have.
 pub fn items_of_both(left: &Tiered4K<Ones>, right: &Tiered4K<Ones>) -> usize
     ensures { result ≡ length (ascending (both_of
         (row_set 64 64 (bit_set 64) left.now.map) (row_set 64 64 (bit_set 64) right.now.map))) }
@@ -18,14 +18,14 @@ pub fn items_of_both(left: &Tiered4K<Ones>, right: &Tiered4K<Ones>) -> usize
     left.and(right).iter_ones().count()
 }
 
-/// Marks the entries of a table at the numbers of both of two sparse sets.
+/// Marks the entries of a table at the numbers that both of two sparse sets have.
 pub fn mark_common(left: &Tiered4K<Ones>, right: &Tiered4K<Ones>, table: &mut [bool; 4096]) {
     for number in left.and(right).iter_ones() {
         table[number as usize] = true;
     }
 }
 
-/// Adds a number, and returns whether it is new.
+/// Adds a number, and returns whether the set lacked it before.
 pub fn note(set: &mut Tiered4K<Ones>, number: u32) -> bool
     ensures told { result ≡ not (contains (row_set 64 64 (bit_set 64) set.old.map) number) }
     ensures set { row_set 64 64 (bit_set 64) set.new.map
@@ -34,7 +34,7 @@ pub fn note(set: &mut Tiered4K<Ones>, number: u32) -> bool
     set.insert(number)
 }
 
-/// Returns the least number from one on.
+/// Returns the least number of the set from `from` on, or `None`.
 pub fn next(set: &Tiered256K<Ones>, from: u32) -> Option<u32>
     ensures { IsFirstIn (row_set 4096 64 (bit_set 64) set.now.map) from 262144 result }
 {

@@ -12,7 +12,7 @@ use Rattle.bittle.specs.PlainSet.{ascending, ascending_from}
 abbrev pub flip : ℕ → ℕ → ℕ
 flip w i = bit_xor w (2 ^ i)
 
--- a word's bits below k, and the one at k where it is set, are those below the next place
+-- the bits of m below k, with bit k flipped where m has it, are the bits of m below k + 1
 one_more : (m k : ℕ) → k < 64 →
     cond (bit_has 64 m k) (flip (m % 2 ^ k) k) (m % 2 ^ k) ≡ m % 2 ^ suc k
 unfolding bit_has
@@ -33,7 +33,7 @@ taken : (b : Bool) (w i : ℕ) (rest : List ℕ) →
 taken true w i rest = refl
 taken false w i rest = refl
 
--- the members from k on, joined to the bits below k
+-- the bits of m below k, with its members from k to k + n flipped, are its bits below k + n
 joined : (m k n : ℕ) → k + n ≤ 64 →
     fold flip (m % 2 ^ k) (ascending_from (bit_has 64 m) k n) ≡ m % 2 ^ (k + n)
 unfolding ascending_from
@@ -45,7 +45,7 @@ joined m k (suc n) h =
     ∙ ap (λ w. fold flip w rest) (one_more m k (omega arith))
     ∙ joined m (suc k) n (omega arith) ∙ ap (λ j. m % 2 ^ j) same
 
--- the members joined to no bit are the word
+-- 0 with all members flipped is the word
 pub members_joined : (m : ℕ) → m < 2 ^ 64 → fold flip 0 (ascending (bit_set 64 m)) ≡ m
 members_joined m h =
     let start : 0 ≡ m % 2 ^ 0 = omega arith in

@@ -1,13 +1,14 @@
--- What loops keep that hold on to the last item, or to its entry of a row.
+-- Invariants of loops that keep the last item, or its entry of a row.
 use Rattle.std.proofs.Common.{◌≡◌, ℕ, List, [], ◌∷◌, ◌++◌, map, Option, Some, refl}
 use Rattle.std.specs.List.{last_or}
 use Rattle.std.specs.Prelude.{slice_index}
 
--- the last of the items that are left, or else the one held, is the last of all, or else 0
+-- the last item left, or the held one if none is left, is the last of all items, or 0 if there is
+-- none
 abbrev pub KeepsLast : ℕ → List ℕ → List ℕ → Type 0
 KeepsLast held left all = last_or (Some held) left ≡ last_or (Some 0) all
 
--- the same of the entries of a row at the items
+-- the same for the entries of a row at the items
 abbrev pub KeepsLastEntry : List ℕ → ℕ → List ℕ → List ℕ → Type 0
 KeepsLastEntry row held left all =
     KeepsLast held (map (λ i. slice_index row i) left) (map (λ i. slice_index row i) all)

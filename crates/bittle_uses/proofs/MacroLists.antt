@@ -1,8 +1,8 @@
--- What the calls for a list of indexes leave, one after another.
+-- The set after each of the calls that a list of indexes expands to.
 use Rattle.std.proofs.Common.{◌≡◌, ℕ, refl}
 use Rattle.bittle.specs.PlainSet.{PlainSet, with_index}
 
--- one more index
+-- equal sets are equal with the same index added
 pub then_index : (s t next : PlainSet) (i j : ℕ) → next ≡ with_index s i → s ≡ t → i ≡ j →
     next ≡ with_index t j
 then_index s t next i j p q r = rw (p, q, r) refl

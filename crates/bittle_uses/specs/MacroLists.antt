@@ -1,10 +1,10 @@
--- Lists with each kind of item.
+-- The sets that the lists of `macro_lists` name.
 use Rattle.std.specs.Prelude.{◌≡◌, ℕ, ◌+◌, Bool, true, false}
 use Rattle.bittle.specs.PlainSet.{PlainSet, empty_set, with_index}
 use Rattle.bittle.specs.Ranges.{with_range}
 
--- what `set!`, `set_le!` and `set_be!` made of a list is one set, each read in its order: the order
--- of the type, mirrored or not, mirrored, and not mirrored
+-- what `set!`, `set_le!` and `set_be!` made is the set s, if the first is read in the type's own
+-- order, the second mirrored and the third not mirrored
 abbrev pub AreListed : {V : Type 0} → (Bool → V → PlainSet) → Bool → V × V × V → PlainSet → Type 0
 AreListed read own made s = (read own made.0 ≡ s) × (read true made.1 ≡ s)
     × (read false made.2 ≡ s)

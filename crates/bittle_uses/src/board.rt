@@ -9,14 +9,14 @@ ghost use Rattle.bittle_uses.specs.Board.{AreEnds};
 use bittle::{Bits, set};
 use std::alloc::{AllocError, Global};
 
-/// Returns the board at the start: the two first rows and the two last ones are taken.
+/// Returns the board at the start: the first two rows and the last two are taken.
 pub fn start() -> u64
     ensures { bit_set 64 result ≡ with_range (with_range (empty_set 64) 0 16) 48 64 }
 {
     set![0..16, 48..]
 }
 
-/// Returns the first free cell, and the last of the others.
+/// Returns the first free cell, and the last of the other free cells. Each may be `None`.
 pub fn outer_cells(board: u64) -> (Option<u32>, Option<u32>)
     ensures { AreEnds (ascending (complement (bit_set 64 board))) result.0 result.1 }
 {

@@ -19,7 +19,7 @@ pub fn set_and_test(mask: u64, index: u32) -> bool
     mask.test_bit(index)
 }
 
-/// Clears a bit of a row from the left, and finds it unset.
+/// Clears a bit of a row whose bits are counted from the left, and finds it unset.
 #[tactic(auto, using(bittle::proofs::CallerChanges::contains_without))]
 pub fn clear_and_test(row: [u32; 4], index: u32) -> bool
     ensures { result ≡ false }
@@ -42,7 +42,7 @@ pub fn set_and_test_other(mask: u64, index: u32, other: u32) -> bool
     mask.test_bit(other)
 }
 
-/// Grants a permission, which the result has.
+/// Returns the role with a permission granted.
 #[tactic(auto, using(bittle::proofs::CallerChanges::contains_after_set))]
 pub fn granted(role: u32, permission: u32) -> u32
     ensures { contains (bit_set 32 result) permission ≡ true }
@@ -50,7 +50,7 @@ pub fn granted(role: u32, permission: u32) -> u32
     role.with_bit(permission)
 }
 
-/// Grants a permission to a role that has another one, and still has it.
+/// Grants a permission to a role that has another one. The role keeps that one.
 #[tactic(auto, using(bittle::proofs::CallerChanges::contains_after_set, bittle::proofs::CallerChanges::still_set_after_set))]
 pub fn grant_another(role: &mut u32, first: u32, second: u32)
     requires has { contains (bit_set 32 role.old) first ≡ true }
@@ -60,7 +60,7 @@ pub fn grant_another(role: &mut u32, first: u32, second: u32)
     role.set_bit(second);
 }
 
-/// Takes a permission away, so the role lacks it and gets no other.
+/// Takes a permission away. The role lacks it then, and gets no other one.
 #[tactic(auto, using(bittle::proofs::CallerChanges::contains_after_clear, bittle::proofs::CallerChanges::still_unset_after_clear))]
 pub fn take_away(role: &mut u32, permission: u32, other: u32)
     requires lacks { contains (bit_set 32 role.old) other ≡ false }
@@ -70,7 +70,7 @@ pub fn take_away(role: &mut u32, permission: u32, other: u32)
     role.clear_bit(permission);
 }
 
-/// Takes a permission away from a role that has another one, and still has it.
+/// Takes a permission away from a role that has another one. The role keeps that one.
 #[tactic(auto, using(bittle_ext::proofs::CallerMembers::contains_other_after_clear))]
 pub fn take_one(role: &mut u32, permission: u32, other: u32)
     requires has { contains (bit_set 32 role.old) other ≡ true }
@@ -100,7 +100,7 @@ pub fn turn_off(lamps: &mut u32, lamp: u32)
     lamps.toggle(lamp);
 }
 
-/// Returns a role without a permission.
+/// Returns a role that has no permission.
 #[tactic(auto, using(bittle_ext::proofs::CallerMembers::contains_empty))]
 pub fn no_permission(permission: u32) -> u32
     ensures { contains (bit_set 32 result) permission ≡ false }
@@ -108,7 +108,7 @@ pub fn no_permission(permission: u32) -> u32
     u32::zeros()
 }
 
-/// Returns a map whose numbers from 100 on are taken, as a map of 100 pages is begun.
+/// Returns the map with all bits from 100 on set, as a map of only 100 pages needs it.
 #[tactic(auto, using(bittle::proofs::CallerChanges::contains_after_set_span))]
 pub fn reserved(map: [u64; 2], page: u32) -> [u64; 2]
     requires past { 100 ≤ page }
@@ -130,7 +130,7 @@ pub fn fill_and_test(mask: u64) -> bool
     mask.test_bit(9)
 }
 
-/// Clears the bits of a range of a row from the left, and finds one of them unset.
+/// Clears a range of a row whose bits are counted from the left, and finds one of its bits unset.
 #[tactic(auto, using(bittle::proofs::CallerChanges::contains_without_span))]
 pub fn drain_and_test(row: [u8; 8]) -> bool
     ensures { result ≡ false }
@@ -150,7 +150,7 @@ pub fn fill_and_test_other(mask: u64) -> bool
     mask.test_bit(17)
 }
 
-/// Tests a bit one turn of wrapping further.
+/// Tests the bit at `index + 64`, which wraps to `index`.
 #[tactic(auto, using(bittle::proofs::CallerChanges::contains_turned))]
 pub fn test_after_a_turn(mask: u64, index: u32) -> bool
     requires { index < 64 }

@@ -1,4 +1,4 @@
-//! Changes of one or two indexes that tell what was there before.
+//! Changes of the bits at one or two indexes. `insert` and `remove` tell what was there before.
 
 ghost use Rattle.std.specs.Prelude.{◌≡◌, not, IsTrue, if◌then◌else◌};
 ghost use Rattle.bittle.specs.PlainSet.{contains, with_index, without_index};
@@ -32,7 +32,7 @@ pub fn remove<B: BitsMut>(set: &mut B, index: u32) -> bool
 }
 
 /// Clears the bit at one index and sets that at another, or changes nothing where the first is
-/// unset. Both wrap.
+/// unset. Both indexes wrap.
 pub fn move_bit<B: BitsMut>(set: &mut B, from: u32, to: u32)
     requires { IsTrue B.indexable }
     ensures set { let before = set_in B.Shape B.Order.Endian set.old in

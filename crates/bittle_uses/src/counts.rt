@@ -1,4 +1,5 @@
-//! How many bits are set, counted, added and narrowed, and the positions of items of an iterator.
+//! Counts of set bits, which are added, subtracted and narrowed, and positions of an iterator's
+//! items.
 
 ghost use Rattle.std.specs.Prelude.{◌≡◌, ◌==◌, ◌+◌, ◌-◌, true, length, position, sum, Some, map, slice_index};
 ghost use Rattle.std.specs.List.{last_or, enumerate_from};
@@ -39,7 +40,7 @@ pub fn count_of_set(set: Set<u16, LittleEndian>) -> usize
     set.iter_ones().count()
 }
 
-/// Counts the set bits of a set by a loop over it.
+/// Counts the set bits of a set by its `into_iter`.
 pub fn count_of_iterated_set(set: Set<u64>) -> usize
     ensures { result ≡ length (ascending (bit_set 64 set.bits)) }
 {
@@ -61,14 +62,14 @@ pub fn count_of_joined(mask: u64, row: &[u32; 64]) -> usize
     mask.join_ones(row.iter()).count()
 }
 
-/// Returns how many set bits lie below one, or `None` where the bit is unset.
+/// Returns how many set bits lie below the bit `wanted`, or `None` where that bit is unset.
 pub fn place_of_member(mask: u64, wanted: u32) -> Option<usize>
     ensures { result ≡ position (λ i. i == wanted) (ascending (bit_set 64 mask)) }
 {
     mask.iter_ones().position(|index| index == wanted)
 }
 
-/// Returns how many set bits of any set lie below one, or `None` where the bit is unset.
+/// Returns how many set bits of any set lie below the bit `wanted`, or `None` where it is unset.
 pub fn place_of_member_of_any<B: BitsOwned>(set: B, wanted: u32) -> Option<usize>
     requires { ShapeFits B.Shape set }
     ensures { result
@@ -77,7 +78,8 @@ pub fn place_of_member_of_any<B: BitsOwned>(set: B, wanted: u32) -> Option<usize
     set.iter_ones().position(|index| index == wanted)
 }
 
-/// Returns how many unset bits of any set lie before one, counted from the left.
+/// Returns how many unset bits lie before the bit `wanted` of any set, read from the left. Returns
+/// `None` where that bit is set.
 pub fn place_of_free_of_any<B: BitsOwned>(set: B, wanted: u32) -> Option<usize>
     requires { ShapeFits B.Shape set }
     ensures { result ≡ position (λ i. i == wanted)
@@ -86,7 +88,8 @@ pub fn place_of_free_of_any<B: BitsOwned>(set: B, wanted: u32) -> Option<usize>
     set.into_iter_zeros_le().position(|index| index == wanted)
 }
 
-/// Combines the entries at the last set bit and at its position, or returns 0.
+/// Returns the exclusive or of two entries: at the last set bit, and at the place of that bit among
+/// the set bits. Returns 0 where no bit is set.
 pub fn entries_at_place_and_member(mask: u64, row: &[u32; 64]) -> u32
     ensures { Some result ≡ last_or (Some 0) (map
         (λ p. bit_xor (slice_index row.now p.0) (slice_index row.now p.1))
@@ -111,42 +114,42 @@ pub fn last_place_of_any<B: BitsOwned>(set: B) -> usize
     last
 }
 
-/// Adds the counts of two bytes.
+/// Returns the sum of how many bits are set in each of two bytes.
 pub fn count_of_both(one: u8, other: u8) -> u32
     ensures { result ≡ size (bit_set 8 one) + size (bit_set 8 other) }
 {
     Bits::count_ones(&one) + Bits::count_ones(&other)
 }
 
-/// Adds the counts of the unset bits of two bytes.
+/// Returns the sum of how many bits are unset in each of two bytes.
 pub fn free_of_both(one: u8, other: u8) -> u32
     ensures { result ≡ (8 - size (bit_set 8 one)) + (8 - size (bit_set 8 other)) }
 {
     Bits::count_zeros(&one) + Bits::count_zeros(&other)
 }
 
-/// Narrows the count of four words to 16 bits.
+/// Counts the set bits of four words, as a `u16`.
 pub fn narrow_count(board: &[u64; 4]) -> u16
     ensures { result ≡ size (row_set 4 64 (bit_set 64) board.now) }
 {
     board.count_ones() as u16
 }
 
-/// Narrows the count of a set to a byte.
+/// Counts the set bits of a set, as a byte.
 pub fn narrow_count_of_set(set: Set<u64>) -> u8
     ensures { result ≡ size (bit_set 64 set.bits) }
 {
     set.count_ones() as u8
 }
 
-/// Subtracts the count of a word from its capacity.
+/// Counts the unset bits of a word: 64 minus how many are set.
 pub fn free_of_word(board: u64) -> u32
     ensures { result ≡ 64 - size (bit_set 64 board) }
 {
     64 - Bits::count_ones(&board)
 }
 
-/// Adds the counts of any two sets of one type.
+/// Returns the sum of how many bits are set in each of two sets of any one type.
 pub fn count_of_any_both<B: BitsOwned>(one: B, other: B) -> u64
     requires one_fits { ShapeFits B.Shape one }
     requires other_fits { ShapeFits B.Shape other }
@@ -155,7 +158,7 @@ pub fn count_of_any_both<B: BitsOwned>(one: B, other: B) -> u64
     one.count_ones() as u64 + other.count_ones() as u64
 }
 
-/// Adds the indexes of the set bits from the greatest on, wrapping.
+/// Adds the indexes of the set bits from the greatest down, by `wrapping_add`.
 pub fn wrapping_sum(mask: u32) -> u64
     ensures { result ≡ sum (ascending (bit_set 32 mask)) }
 {

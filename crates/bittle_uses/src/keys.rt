@@ -1,4 +1,4 @@
-//! Slots with generations in the hands of a caller: what a key finds. None has a proof file.
+//! Callers of slots with generations: what a key finds. No function has a proof file.
 
 ghost use Rattle.std.specs.Prelude.{◌≡◌, None, IfSome, false, true, length};
 ghost use Rattle.bit_slots.specs.Entries.{entries};
@@ -6,7 +6,7 @@ ghost use Rattle.bit_slots.specs.Entries.{entries};
 use bit_slots::{Key, Slots};
 use bittle::BitsOwned;
 
-/// Puts a value in, and finds it under its key.
+/// Puts a value in, and finds it under its key. Returns `true` also if `insert` fails.
 pub fn insert_and_ask<V: Drop, B: BitsOwned>(slots: &mut Slots<V, B>, value: V) -> bool
     ensures { result ≡ true }
 {
@@ -24,7 +24,7 @@ pub fn remove_and_ask<V: Drop, B: BitsOwned>(slots: &mut Slots<V, B>, key: Key) 
     slots.contains(key)
 }
 
-/// Removes a key twice, of which the second time finds nothing.
+/// Removes a key twice, and returns what the second call returns, which is `None`.
 pub fn remove_twice<V: Drop, B: BitsOwned>(slots: &mut Slots<V, B>, key: Key) -> Option<V>
     ensures { result ≡ None }
 {
@@ -40,7 +40,8 @@ pub fn set_and_ask<B: BitsOwned>(slots: &mut Slots<u64, B>, key: Key, value: u64
     slots.get(key).copied()
 }
 
-/// Adds one to the count under a key, which finds a count just if it did before.
+/// Adds one to the count under a key. Returns whether `update` found the key exactly if `contains`
+/// did.
 pub fn count_and_ask<B: BitsOwned>(slots: &mut Slots<u64, B>, key: Key) -> bool
     ensures { result ≡ true }
 {
@@ -48,14 +49,14 @@ pub fn count_and_ask<B: BitsOwned>(slots: &mut Slots<u64, B>, key: Key) -> bool
     slots.update(key, |count| *count = count.saturating_add(1)) == is_there
 }
 
-/// Returns how many keys find a value, by a walk over them.
+/// Counts the keys that find a value, by an iterator.
 pub fn how_many<V: Drop, B: BitsOwned>(slots: &Slots<V, B>) -> usize
     ensures { result ≡ length (entries slots.now.row.slots.now) }
 {
     slots.iter().count()
 }
 
-/// Returns the slot of a key that finds a value, which is one of the row.
+/// Returns the slot of a key, or `None` if the key finds no value.
 pub fn slot_of<V: Drop, B: BitsOwned>(slots: &Slots<V, B>, key: Key) -> Option<u32>
     ensures { IfSome result (λ slot. slot ≡ key.slot) }
 {

@@ -1,7 +1,7 @@
 //! Contracts that say what a lent slice, or any set, holds after a change.
 //!
-//! The least free index is the first item of an iterator here; `take_first_zero` of `bittle_ext`
-//! takes it in one call.
+//! `take_least` finds the least unset bit as the first item of an iterator. `take_first_zero` of
+//! `bittle_ext` finds and sets it in one call.
 
 ghost use Rattle.std.specs.Prelude.{◌≡◌, ◌*◌, ◌<◌, length, MatchOption, slice_get};
 ghost use Rattle.bittle.specs.BitPatterns.{bit_set};
@@ -31,8 +31,8 @@ pub fn clear_in_slice(words: &mut [u64], index: u32)
     lent.0.clear_bit(index);
 }
 
-/// Takes the least index of a slice that is free, or changes nothing and returns `None` where none
-/// is.
+/// Sets the least unset bit of a slice, and returns its index. Where each bit is set, it changes
+/// nothing and returns `None`.
 pub fn take_least(words: &mut [u64]) -> Option<u32>
     requires { length words.old * 64 < 4294967295 }
     ensures least { result ≡ slice_get (ascending (complement

@@ -1,5 +1,5 @@
-//! What callers of `bittle` and `bittle_ext` can say and prove of their own values, from the
-//! contracts of the two alone.
+//! Callers of `bittle`, `bittle_ext`, `bit_pages` and `bit_slots`. Each states what its own values
+//! hold, and the check proves it from public contracts and lemmas.
 #![tactic(auto)]
 
 pub mod board;

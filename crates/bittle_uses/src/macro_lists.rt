@@ -1,7 +1,7 @@
-//! Uses of each macro, on any type: the check refuses a macro that lists otherwise.
+//! Uses of each macro, on any type. The check refuses a macro that makes another set of its list.
 //!
-//! Each kind of item stands before another, names and ranges beside one of their own, first and
-//! last, and ranges begin at 0, in the first word and past it.
+//! In these lists each kind of item comes before an item of another kind. Indexes and ranges come
+//! beside one of their own kind, first and last. Ranges begin at 0, in the first word and past it.
 
 ghost use Rattle.std.specs.Prelude.{◌≡◌, IsTrue};
 ghost use Rattle.bittle_uses.specs.MacroLists.{listed_set, listed_open_set, listed_whole_set, listed_ranges_set};
@@ -85,7 +85,7 @@ pub fn listed_whole_be<B: BitsOwned>() -> B
     bittle::set_be![0..]
 }
 
-/// Lists ranges of each kind beside one of their kind.
+/// Lists two ranges of each kind, one after the other.
 pub fn listed_ranges<B: BitsOwned>() -> B
     requires { IsTrue B.indexable }
     ensures { set_in B.Shape B.Order.Endian result ≡ listed_ranges_set B.type_capacity }

@@ -1,5 +1,5 @@
-//! Iterators over nested arrays: one that owns its set, in a generic function that serves every
-//! shape, and one that borrows.
+//! Iterators over nested arrays. One owns its set, in a generic function for every shape. The other
+//! borrows its set.
 
 ghost use Rattle.std.specs.List.{last_or};
 ghost use Rattle.std.specs.Prelude.{◌≡◌, Some};
@@ -10,7 +10,7 @@ ghost use Rattle.bittle.specs.Values.{set_in, ShapeFits};
 
 use bittle::{Bits, BitsOwned, Set};
 
-/// Returns the greatest set bit of any set, by an iterator that owns it, or 0.
+/// Returns the greatest set bit of any set, or 0 if none is set. The iterator owns the set.
 pub fn greatest_of_owned<B: BitsOwned>(set: B) -> u32
     requires { ShapeFits B.Shape set }
     ensures { Some result ≡ last_or (Some 0) (ascending (set_in B.Shape B.Order.Endian set)) }
@@ -30,7 +30,7 @@ pub fn greatest_of_table(table: [[u32; 4]; 4]) -> u32
     greatest_of_owned(table)
 }
 
-/// Returns the greatest set bit of a table of four rows as a set, or 0.
+/// Returns the greatest set bit of a `Set` over a table of four rows, or 0.
 pub fn greatest_of_table_as_set(table: Set<[[u32; 4]; 4]>) -> u32
     ensures { Some result ≡ last_or (Some 0)
         (ascending (row_set 4 128 (row_set 4 32 (bit_set 32)) table.bits)) }
@@ -38,7 +38,7 @@ pub fn greatest_of_table_as_set(table: Set<[[u32; 4]; 4]>) -> u32
     greatest_of_owned(table)
 }
 
-/// Returns the greatest set bit of a table of four rows, by an iterator that borrows it, or 0.
+/// Returns the greatest set bit of a table of four rows, or 0. The iterator borrows the table.
 pub fn greatest_of_lent_table(table: &[[u32; 4]; 4]) -> u32
     ensures { Some result ≡ last_or (Some 0)
         (ascending (row_set 4 128 (row_set 4 32 (bit_set 32)) table.now)) }

@@ -1,5 +1,5 @@
-//! An allocator of pages in the hands of a caller: what an answer says is what the next call needs.
-//! None has a proof file.
+//! Callers of an allocator of pages. What one call promises is what the next call requires. No
+//! caller has a proof file.
 
 ghost use Rattle.std.specs.Prelude.{◌≡◌, ◌≢◌, ◌+◌, ◌<◌, ◌≤◌, IfSome, IsTrue, true, length, map, [], ◌∷◌, List};
 ghost use Rattle.bit_pages.specs.CallHistories.{IsHistory};
@@ -11,7 +11,7 @@ ghost use Rattle.bittle.specs.PlainSet.{PlainSet, empty_set, size};
 use bit_pages::{Answer, Pages, Request, page_laws};
 use bittle::BitsOwned;
 
-/// Returns an allocator over any type that fits, in which no page is taken, or `None`.
+/// Returns an allocator in which no page is taken, or `None` if the type has too many bits.
 pub fn new_pool<B: BitsOwned>() -> Option<Pages<B>>
     ensures { IfSome result
         (λ pages. set_in B.Shape B.Order.Endian pages.map ≡ empty_set B.type_capacity) }
@@ -22,7 +22,7 @@ pub fn new_pool<B: BitsOwned>() -> Option<Pages<B>>
     Some(Pages::new())
 }
 
-/// Takes the first page of a new allocator. Its type fits, as that of the allocator has to.
+/// Takes the first page of a new allocator. The type has to fit, as `Pages::new` requires.
 pub fn first_page<B: BitsOwned>() -> Option<u32>
     requires { IsTrue B.indexable }
     ensures { IfSome result (λ page. page < B.type_capacity) }
@@ -40,7 +40,7 @@ pub fn take_two<B: BitsOwned>(pages: &mut Pages<B>) -> Option<(u32, u32)>
     Some((first, second))
 }
 
-/// Takes a page and gives it back, which is done.
+/// Takes a page and gives it back. Returns `true`, since the allocator accepts the page.
 pub fn borrow_page<B: BitsOwned>(pages: &mut Pages<B>) -> bool
     ensures { result ≡ true }
 {
@@ -60,21 +60,21 @@ pub fn take_and_ask<B: BitsOwned>(pages: &mut Pages<B>) -> bool
     }
 }
 
-/// Takes a page for an owner, who is noted in a table of as many places as there are pages.
+/// Takes a page, and notes its owner in a table with an entry for each page.
 pub fn take_for(pages: &mut Pages<u8>, owners: &mut [u32; 8], owner: u32) -> Option<u32> {
     let page = pages.take()?;
     owners[page as usize] = owner;
     Some(page)
 }
 
-/// Counts the free pages by hand.
+/// Counts the free pages as 8 minus the taken ones.
 pub fn count_free(pages: &Pages<u8>) -> u32
     ensures { result ≤ 8 }
 {
     8 - pages.taken()
 }
 
-/// Takes a page and counts those that are taken.
+/// Takes a page, and returns how many pages are taken then.
 pub fn take_and_count<B: BitsOwned>(pages: &mut Pages<B>) -> Option<u32>
     ensures { IfSome result (λ count.
         count ≡ size (set_in B.Shape B.Order.Endian pages.old.map) + 1) }
@@ -83,7 +83,7 @@ pub fn take_and_count<B: BitsOwned>(pages: &mut Pages<B>) -> Option<u32>
     Some(pages.taken())
 }
 
-/// Takes a run of pages and gives it back, which is done.
+/// Takes a run of pages and gives it back. Returns `true`, since the allocator accepts the run.
 pub fn borrow_run<B: BitsOwned>(pages: &mut Pages<B>, length: u32) -> bool
     ensures { result ≡ true }
 {
@@ -103,8 +103,8 @@ pub fn take_page_and_run<B: BitsOwned>(pages: &mut Pages<B>, length: u32) -> Opt
     Some(pages.taken())
 }
 
-/// Takes two pages, gives the first back, and takes one more, which differs from the second. Two
-/// pages more are taken then.
+/// Takes two pages, gives the first back, and takes a third one, which differs from the second. Two
+/// more pages are taken then than before.
 pub fn turn_over<B: BitsOwned>(pages: &mut Pages<B>) -> Option<(u32, u32)>
     ensures differ { IfSome result (λ both. both.0 ≢ both.1) }
     ensures count { IfSome result (λ both. size (set_in B.Shape B.Order.Endian pages.new.map)
@@ -117,8 +117,8 @@ pub fn turn_over<B: BitsOwned>(pages: &mut Pages<B>) -> Option<(u32, u32)>
     Some((second, third))
 }
 
-/// Serves requests, of pages and of runs of them. By a law on runs of requests the answers tell how
-/// many pages more are taken then.
+/// Serves requests for pages and for runs of pages. By a law on lists of requests, the answers tell
+/// how many more pages are taken then than before.
 pub fn serve_and_count<B: BitsOwned>(
     pages: &mut Pages<B>,
     requests: &[Request],
@@ -134,7 +134,7 @@ pub fn serve_and_count<B: BitsOwned>(
     pages.serve(requests, answers);
 }
 
-/// Takes a page and a run of pages, which is a history of two calls.
+/// Takes a page and a run of pages. The clause says that the two calls are a history.
 pub fn take_both<B: BitsOwned>(pages: &mut Pages<B>, length: u32) -> (Option<u32>, Option<u32>)
     ensures { IsHistory (set_in B.Shape B.Order.Endian pages.old.map)
         ((Request.Take, page_or_full result.0) ∷ (Request.TakeRun length, run_or_none result.1)
@@ -145,7 +145,7 @@ pub fn take_both<B: BitsOwned>(pages: &mut Pages<B>, length: u32) -> (Option<u32
     (page, first)
 }
 
-/// States that the answers of calls in any sequence tell how many pages more are taken after them.
+/// States that the answers of any sequence of calls tell how many more pages are taken after it.
 pub fn calls_are_counted()
     ensures { (before after : PlainSet) (calls : List (Request × Answer))
         → IsHistory before calls after

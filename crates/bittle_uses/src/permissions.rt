@@ -13,7 +13,7 @@ ghost use Rattle.bittle_ext.specs.SetRelations.{IsSubset};
 use bittle::{BitsOwned, Set};
 use bittle_ext::BitsRelationExt;
 
-/// Returns what two roles grant together, in whichever order they are read.
+/// Returns what two roles grant together. The clause holds for roles read in either order.
 pub fn together(one: Set<u32>, other: Set<u32>) -> Set<u32>
     ensures { (mirrored : Bool) → read_in mirrored 32 (bit_set 32 result.bits)
         ≡ union_of (read_in mirrored 32 (bit_set 32 one.bits))
@@ -22,7 +22,7 @@ pub fn together(one: Set<u32>, other: Set<u32>) -> Set<u32>
     one | other
 }
 
-/// Returns what two roles grant together. It is the union of the second role and the first, too.
+/// Returns what two roles grant together. The clause names the two roles in the other order.
 #[tactic(auto, using(bittle_laws::proofs::CallerAlgebra::union_either_way))]
 pub fn merged(one: u32, other: u32) -> u32
     ensures { bit_set 32 result ≡ union_of (bit_set 32 other) (bit_set 32 one) }
@@ -46,7 +46,7 @@ pub fn allows(role: Set<u32>, asked: Set<u32>) -> bool
     asked.is_subset(&role)
 }
 
-/// Brings a table of roles into order.
+/// Sorts a table of roles.
 pub fn sort(roles: &mut [Set<u32>])
     ensures same_roles { IsPermutation roles.old roles.new }
     ensures sorted { IsSorted ⟦<Set<u32> as Ord>⟧.cmp roles.new }
@@ -54,8 +54,8 @@ pub fn sort(roles: &mut [Set<u32>])
     roles.sort_unstable();
 }
 
-/// Returns the index in a sorted table of a role that grants just this, or `None` where no role
-/// does.
+/// Returns where a sorted table has a role that grants exactly what `wanted` grants, or `None`
+/// where no role does.
 pub fn find(roles: &[Set<u32>], wanted: Set<u32>) -> Option<usize>
     requires { IsSorted ⟦<Set<u32> as Ord>⟧.cmp roles.now }
     ensures { let asked = bit_set 32 wanted.bits in

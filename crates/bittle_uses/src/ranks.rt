@@ -1,7 +1,7 @@
-//! How many set bits lie below an index, or from it on.
+//! How many set bits lie below an index, or at it and above.
 //!
-//! It shows how a loop that counts is proved, and `position` of an iterator. `rank` and
-//! `count_ones_in_range` of `bittle_ext` count by words.
+//! The proofs here are of a loop that counts, and of `position` of an iterator. `rank` and
+//! `count_ones_in_range` of `bittle_ext` count word by word.
 
 ghost use Rattle.std.specs.Prelude.{◌≡◌, ◌==◌, nat_le, position, count_by};
 ghost use Rattle.bittle.specs.PlainSet.{ascending};
@@ -9,7 +9,7 @@ ghost use Rattle.bittle.specs.Values.{set_in, ShapeFits};
 
 use bittle::Bits;
 
-/// Returns how many set bits lie at a bound or above it, counted from the greatest on.
+/// Returns how many set bits lie at a bound or above it, counted from the greatest down.
 pub fn how_many_from<B: Bits>(set: &B, bound: u32) -> u32
     requires { ShapeFits B.Shape set.now }
     ensures { result
@@ -25,7 +25,7 @@ pub fn how_many_from<B: Bits>(set: &B, bound: u32) -> u32
     count
 }
 
-/// Returns how many set bits lie below one, or `None` where the bit is unset.
+/// Returns how many set bits lie below `index`, or `None` where its bit is unset.
 pub fn rank_of<B: Bits>(set: &B, index: u32) -> Option<usize>
     requires { ShapeFits B.Shape set.now }
     ensures { result

@@ -1,7 +1,8 @@
-//! Whether a set lies in another of its type, has a bit in common with it, or is the same.
+//! Whether a set is a subset of another one of its type, is disjoint from it, or has the same bits
+//! set.
 //!
-//! It shows what an operation tells whose result is empty. So no capacity is too great, where
-//! `is_subset` and `is_disjoint` of `bittle_ext` ask for a shape that fits.
+//! Each function combines the two sets, and tests whether the result is empty. So it accepts every
+//! capacity, while `is_subset` and `is_disjoint` of `bittle_ext` require a shape that fits.
 
 ghost use Rattle.std.specs.Prelude.{◌↔◌, IsTrue};
 ghost use Rattle.bittle.specs.Comparison.{AreSame};
@@ -23,7 +24,7 @@ pub fn is_disjoint<B: BitsOwned>(first: B, second: B) -> bool
     first.conjunction(second).all_zeros()
 }
 
-/// Returns whether the same bits are set in both. Values that are equal are not combined.
+/// Returns whether the same bits are set in both. It combines the sets only if `==` is false.
 pub fn have_same_members<B: BitsOwned>(first: B, second: B) -> bool
     ensures { IsTrue result ↔ AreSame (B.big first) (B.big second) }
 {

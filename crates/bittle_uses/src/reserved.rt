@@ -1,5 +1,5 @@
-//! A set of which some numbers are always members, as the reserved ones of an allocator. The type
-//! keeps them by ghost fields, and none of its functions has a proof file.
+//! A set in which some bits are always set, as the reserved addresses of an allocator. Ghost fields
+//! of the type promise that. None of its functions has a proof file.
 
 ghost use Rattle.std.specs.Prelude.{◌≡◌, ◌+◌, ◌<◌, ◌≤◌, true, false, IfSome};
 ghost use Rattle.bittle.specs.BitPatterns.{bit_set};
@@ -18,7 +18,7 @@ pub struct Leases {
 }
 
 impl Leases {
-    /// Returns leases of which only the reserved ones are taken.
+    /// Returns leases in which only the reserved addresses are taken.
     #[tactic(auto, using(bittle_ext::proofs::CallerSpans::has_span_after_set_span, bittle_ext::proofs::CallerSpans::has_span_after_other_span))]
     pub fn new() -> Leases {
         let mut leased = <[u64; 4]>::zeros();
@@ -27,7 +27,7 @@ impl Leases {
         Leases { leased }
     }
 
-    /// Leases the least free address.
+    /// Leases the least free address. Where none is free, it changes nothing and returns `None`.
     #[tactic(auto, using(bittle::proofs::CallerChanges::contains_after_set, bittle_ext::proofs::CallerSpans::has_span_after_set, bittle_ext::proofs::CallerMembers::unset_where_found))]
     pub fn lease(&mut self) -> Option<u32>
         ensures not_reserved { IfSome result (λ address. (10 ≤ address) × (address < 250)) }
@@ -41,13 +41,15 @@ impl Leases {
         Some(address)
     }
 
-    /// Releases an address that is not reserved, and returns whether it was leased.
+    /// Releases an address, and returns whether it was leased. Returns `false` and changes nothing
+    /// for a reserved address, and for one past the last.
     #[tactic(auto, using(bittle_ext::proofs::CallerSpans::has_span_after_clear, bittle_ext::proofs::CallerSpans::has_span_after_clear_past))]
     pub fn release(&mut self, address: u32) -> bool {
         10 <= address && address < 250 && self.leased.remove(address)
     }
 
-    /// Returns where the first run of free addresses begins. It has no reserved one.
+    /// Returns where the first run of `length` free addresses begins, or `None`. No address of the
+    /// run is reserved.
     pub fn first_run(&self, length: u32) -> Option<u32>
         ensures { IfSome result (λ address. address + length ≤ 250) }
     {

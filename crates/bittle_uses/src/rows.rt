@@ -1,4 +1,4 @@
-//! Iterators whose items index a row, and counts.
+//! Iterators whose items index a row, and counts of set bits.
 
 ghost use Rattle.std.specs.Prelude.{◌≡◌, ◌+◌, ◌*◌, ◌<◌, ◌≤◌, length, reverse, slice_get, None, Some, map, slice_index};
 ghost use Rattle.std.specs.List.{last_or};
@@ -39,7 +39,8 @@ pub fn how_many(mask: u64) -> usize
     mask.iter_ones().count()
 }
 
-/// Returns how many bits of two words are set, each counted for itself.
+/// Returns the sum of how many bits are set in each of two words. A bit that is set in both counts
+/// twice.
 pub fn how_many_in_both(one: u64, other: u64) -> u32
     ensures { result ≡ size (bit_set 64 one) + size (bit_set 64 other) }
 {

@@ -1,7 +1,7 @@
 //! Questions about all set bits of a set.
 //!
-//! It shows how what the methods of an iterator answer is proved. The searches of `bittle_ext`
-//! answer by words, as in `last`.
+//! The proofs here are of what the methods of an iterator return. The searches of `bittle_ext` read
+//! word by word, as `last` does.
 
 ghost use Rattle.std.specs.List.{list_any, list_all, reduce, zip};
 ghost use Rattle.std.specs.Prelude.{◌≡◌, ◌↔◌, ◌<◌, ℕ, true, IfOk, IsTrue, max, nat_lt, nat_le};
@@ -30,7 +30,7 @@ pub fn greatest<B: Bits>(set: &B) -> Option<u32>
     set.iter_ones().max()
 }
 
-/// Returns the greatest set bit, by a search from the last word back, or `None`.
+/// Returns the greatest set bit, or `None`, by a search from the last word back.
 pub fn last<B: Bits>(set: &B) -> Option<u32>
     requires { ShapeFits B.Shape set.now }
     ensures { let members = set_in B.Shape B.Order.Endian set.now in

@@ -1,5 +1,5 @@
-//! Iterators over slices of words: shared, lent to be changed, and of any element. A clause asks
-//! that the slice fits, or a test by `bits_capacity() < u32::MAX`.
+//! Iterators over slices: shared ones, ones that are lent to be changed, and ones of any element. A
+//! clause requires that the slice fits, or the body tests `bits_capacity()`.
 
 ghost use Rattle.std.specs.Prelude.{◌≡◌, ◌≤◌, ◌<◌, ◌*◌, length, slice_get, reverse, MatchOption};
 ghost use Rattle.std.specs.Prelude.{Some, None, true, [], map, slice_index, unwrap_or};
@@ -74,7 +74,7 @@ pub fn greatest_free_from_the_right(mask: &[u64]) -> u32
     last
 }
 
-/// Returns the least unset bit of triples of bytes, from the back, or 0.
+/// Returns the least unset bit of triples of bytes, or 0, by an iterator from the back.
 pub fn least_free_of_triples(mask: &[[u8; 3]]) -> u32
     requires { length mask.now * 24 < 4294967295 }
     ensures { result ≡ unwrap_or (slice_get (ascending (complement (read_in true 8
@@ -83,7 +83,7 @@ pub fn least_free_of_triples(mask: &[[u8; 3]]) -> u32
     least_free_of::<&[[u8; 3]], LittleEndian>(&mask)
 }
 
-// Returns the least unset bit of any set, from the back, or 0.
+// Returns the least unset bit of any set, or 0, by an iterator from the back.
 fn least_free_of<B: Bits, E: Endian>(set: &B) -> u32
     requires { ShapeFits B.Shape set.now }
     ensures { result ≡ unwrap_or
@@ -119,8 +119,8 @@ pub fn greatest_of_lent(mask: &mut [u64]) -> u32
     last
 }
 
-/// Returns the least and the greatest set bit of a slice in any order, or `None` where it does not
-/// fit.
+/// Returns the least and the greatest set bit of a slice, read in any order. Returns `None` where
+/// no bit is set, or the slice does not fit.
 pub fn ends_of_members<T: BitsOwned, E: Endian>(mask: &[T]) -> Option<(u32, u32)>
     ensures { Fits T.indexable (length mask.now * T.type_capacity) → MatchOption result
         (ascending (read_in E.mirrored T.width
@@ -151,7 +151,7 @@ fn ends_of<B: Bits, E: Endian>(set: &B) -> Option<(u32, u32)>
     }
 }
 
-/// Returns the greatest unset bit of a slice of any sets, in any order, or 0.
+/// Returns the greatest unset bit of a slice of any sets, read in any order, or 0.
 pub fn greatest_free_of_any<T: BitsOwned, E: Endian>(mask: &[T]) -> u32
     requires { Fits T.indexable (length mask.now * T.type_capacity) }
     ensures { Some result ≡ last_or (Some 0) (ascending
@@ -187,7 +187,7 @@ pub fn greatest_of_any<T: BitsOwned>(mask: &[T]) -> u32
     last
 }
 
-/// Returns the greatest set bit of a slice as a set in little-endian order, or 0.
+/// Returns the greatest set bit of a slice, wrapped in a `Set` in little-endian order, or 0.
 pub fn greatest_of_wrapped(mask: &[u64]) -> u32
     requires { length mask.now * 64 < 4294967295 }
     ensures { Some result ≡ last_or (Some 0) (ascending

@@ -1,4 +1,4 @@
-//! Runs on a slice of the caller, which holds all changes when the borrow ends.
+//! Sequences of calls on a slice of the caller, which has all changes when the borrow ends.
 
 ghost use Rattle.std.specs.Prelude.{◌≡◌, ◌*◌, ◌<◌, length, true, false};
 ghost use Rattle.bittle.specs.BitPatterns.{bit_set};
@@ -10,7 +10,7 @@ ghost use Rattle.bittle.specs.Shapes.{Fits};
 use bittle::replay::{Call, Reply, replay};
 use bittle::{BigEndian, BitsOwned, Endian, LittleEndian};
 
-/// Makes the calls on the caller's slice in the order `E`, and writes a reply to each.
+/// Makes the calls on the caller's slice, read in the order `E`, and writes a reply to each.
 pub fn replay_on_slice<T: BitsOwned, E: Endian>(
     elements: &mut [T],
     calls: &[Call],
@@ -30,7 +30,7 @@ pub fn replay_on_slice<T: BitsOwned, E: Endian>(
     replay::<&mut [T], E>(&mut lent.0, calls, replies);
 }
 
-/// Words of 16 bits, read with the bit of greatest weight first.
+/// Makes the calls on words of 16 bits, read with the bit of greatest weight first.
 pub fn replay_on_words(words: &mut [u16], calls: &[Call], replies: &mut [Reply])
     requires fits { length words.old * 16 < 4294967295 }
     requires room { length replies.old ≡ length calls.now }
@@ -41,7 +41,7 @@ pub fn replay_on_words(words: &mut [u16], calls: &[Call], replies: &mut [Reply])
     replay_on_slice::<u16, LittleEndian>(words, calls, replies);
 }
 
-/// Pairs of bytes, read with the bit of least weight first.
+/// Makes the calls on pairs of bytes, read with the bit of least weight first.
 pub fn replay_on_pairs(pairs: &mut [[u8; 2]], calls: &[Call], replies: &mut [Reply])
     requires fits { length pairs.old * 16 < 4294967295 }
     requires room { length replies.old ≡ length calls.now }

@@ -1,4 +1,4 @@
-//! A table of slots over words that a caller lends, whose set bits are the slots that are taken.
+//! A table of slots over words that a caller lends. A slot is taken where its bit is set.
 
 ghost use Rattle.std.specs.Prelude.{◌≡◌, ◌*◌, ◌<◌, length, MatchOption};
 ghost use Rattle.bittle.specs.BitPatterns.{bit_set};
@@ -9,7 +9,7 @@ ghost use Rattle.bittle.specs.Searches.{IsFirstIn};
 use bittle::{Bits, BitsMut};
 use bittle_ext::BitsExt;
 
-/// A table of slots. The words that were lent hold the changes.
+/// A table of slots. All changes are made in the lent words.
 #[derive(Drop)]
 pub struct Slots<'a> {
     words: &'a mut [u64],

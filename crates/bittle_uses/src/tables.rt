@@ -1,4 +1,5 @@
-//! A row with an entry for each index of a set, read at the set bits.
+//! A row with an entry for each index of a set, read at the set bits. A function that finds no
+//! entry returns 0.
 
 ghost use Rattle.std.specs.Prelude.{◌≡◌, ◌≤◌, Option, ℕ, length, option_map, slice_index, unwrap_or};
 ghost use Rattle.std.specs.List.{reduce, last_or, filter, fold, slice_index_or};
@@ -86,7 +87,7 @@ pub fn entry_at_greatest_of_lent_set(mask: &Set<[u64; 4]>, row: &[u32; 256]) -> 
     last
 }
 
-/// Returns the entry at the greatest set bit of a set whose iterator has a name, or 0.
+/// Returns the entry at the greatest set bit of a set, or 0, by its method `iter_ones`.
 pub fn entry_at_greatest_of_walked_set(mask: Set<u64>, row: &[u32; 64]) -> u32
     ensures { Some result ≡ last_or (Some 0) (map (λ i. slice_index row.now i)
         (ascending (bit_set 64 mask.bits))) }
@@ -98,7 +99,7 @@ pub fn entry_at_greatest_of_walked_set(mask: Set<u64>, row: &[u32; 64]) -> u32
     last
 }
 
-/// Returns the entry at the greatest set bit of any set, or 0. The row is as long as its capacity.
+/// Returns the entry at the greatest set bit of any set, or 0. The row has an entry for each index.
 pub fn entry_at_greatest_of_any<B: BitsOwned>(mask: B, row: &[u32]) -> u32
     requires fits { ShapeFits B.Shape mask }
     requires long { (B.big mask).capacity ≤ length row.now }
@@ -145,7 +146,8 @@ pub fn word_of_members(mask: u64) -> u64
     word
 }
 
-/// Combines the set cells of a board of eight rows and eight columns.
+/// Returns the exclusive or of the entries at the set bits of a board of eight rows and eight
+/// columns.
 pub fn combine_cells(board: u64, cells: &[[u8; 8]; 8]) -> u8
     ensures { result ≡ fold (λ all i. bit_xor all
         (slice_index (slice_index_or cells.now (i / 8) []) (i % 8))) 0
@@ -214,7 +216,7 @@ pub fn entry_at_maximum(mask: u64, row: &[u32; 64]) -> u32
     }
 }
 
-/// Returns the entry at the greatest set bit, or 0, by steps of the iterator.
+/// Returns the entry at the greatest set bit, or 0, by calls of `next`.
 pub fn entry_at_last_step(mask: u64, row: &[u32; 64]) -> u32
     ensures { Some result ≡ last_or (Some 0) (map (λ i. slice_index row.now i)
         (ascending (bit_set 64 mask))) }
@@ -227,7 +229,8 @@ pub fn entry_at_last_step(mask: u64, row: &[u32; 64]) -> u32
     last
 }
 
-/// Returns the entry at the last of at most three set bits, without 7 and the first, or 0.
+/// Skips bit 7 and the first of the other set bits, and returns the entry at the last of the next
+/// three, or 0.
 pub fn entry_at_chosen(mask: u64, row: &[u32; 64]) -> u32
     ensures { Some result ≡ last_or (Some 0) (map (λ i. slice_index row.now i)
         (take 3 (drop 1 (filter (λ i. not (i == 7)) (ascending (bit_set 64 mask)))))) }

@@ -1,4 +1,4 @@
-//! Loops over an iterator that add up: by a `for`, and written by hand.
+//! Loops that add up the items of an iterator: a `for`, and a `while let` over `next_back`.
 
 ghost use Rattle.std.specs.Prelude.{◌≡◌, sum};
 ghost use Rattle.bittle.specs.BitPatterns.{bit_set};
@@ -17,7 +17,7 @@ pub fn sum(mask: u64) -> u64
     total
 }
 
-/// Returns the sum of the indexes of the set bits of a word, from the greatest on.
+/// Returns the sum of the indexes of the set bits of a word, from the greatest down.
 pub fn sum_from_greatest(mask: u32) -> u64
     ensures { result ≡ sum (ascending (bit_set 32 mask)) }
 {

@@ -1,4 +1,4 @@
-//! Walks over one word, in chains and from the back.
+//! Iterators over one word, with adapters and from the back.
 
 ghost use Rattle.std.specs.Int.{w8, cast_unsigned};
 ghost use Rattle.std.specs.Prelude.{◌≡◌, ◌/◌, length, map, count_by, nat_lt, true, false, MatchOption, [], ◌∷◌, ◌++◌, ℕ, List};
@@ -16,7 +16,7 @@ pub fn how_many(word: u32) -> usize
     IterOnes::<u32, LittleEndian>::new(word).count()
 }
 
-/// Counts the zeros of a word of 64 bits below a bound.
+/// Counts the unset bits below a bound of a word of 64 bits.
 pub fn how_many_lacking(word: u64, bound: u32) -> usize
     ensures { result ≡ count_by (λ i. nat_lt i bound)
         (ascending (complement (read_in false 64 (bit_set 64 word)))) }
@@ -26,7 +26,7 @@ pub fn how_many_lacking(word: u64, bound: u32) -> usize
         .count()
 }
 
-/// Counts the set bits of a byte that have half of their index above a bound.
+/// Counts the set bits of a byte for which half of the index, rounded down, is above a bound.
 pub fn halves_above(word: i8, bound: u32) -> usize
     ensures { result ≡ count_by (λ i. nat_lt bound i)
         (map (λ i. i / 2) (ascending (read_in false 8 (bit_set 8 (cast_unsigned w8 word))))) }
@@ -37,7 +37,7 @@ pub fn halves_above(word: i8, bound: u32) -> usize
         .count()
 }
 
-/// Returns the greatest zero of a word of 16 bits, or `None` where it has none.
+/// Returns the greatest unset bit of a word of 16 bits, or `None` where it has none.
 pub fn greatest_lacking(word: u16) -> Option<u32>
     ensures { MatchOption result (ascending (complement (read_in true 16 (bit_set 16 word))) ≡ [])
         (λ i. (rest : List ℕ)

@@ -1,4 +1,4 @@
-//! What a slice holds after changes through the set that it was lent to.
+//! What a slice has after changes through a `Set` that it was lent to.
 
 ghost use Rattle.std.specs.Prelude.{◌≡◌, ◌*◌, ◌<◌, length, IsTrue};
 ghost use Rattle.bittle.specs.Orders.{read_in};
@@ -49,7 +49,7 @@ fn set_then_clear<T: BitsMut, E: Endian>(wrapped: &mut Set<T, E>, set: u32, clea
     wrapped.clear_bit(clear);
 }
 
-/// Makes the calls, in the order `E`, through a set in the default order.
+/// Makes the calls, with bits read in the order `E`, through a set in the default order.
 pub fn replay_through<U: BitsOwned, E: Endian>(
     slice: &mut [U],
     calls: &[Call],

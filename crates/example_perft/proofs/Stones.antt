@@ -11,7 +11,7 @@ and_turned true false e = refl
 and_turned false true e = refl
 and_turned false false e = refl
 
--- the side that moves and the other, and the one with its new stone
+-- s is the side that moves, t is the other side, and u is s with its new stone
 module _ (s t u : PlainSet) (square : ℕ) (some : 0 < s.capacity) (same : t.capacity ≡ s.capacity)
     (free : (contains s square || contains t square) ≡ false) (after : u ≡ with_index s square) where
   pub one_stone_more : stones t u ≡ stones s t + 1

@@ -81,7 +81,7 @@ impl Position {
     }
 }
 
-/// Counts the games that go on from a position for so many moves.
+/// Counts the games that go on from a position for `moves` more moves.
 fn count_games(position: Position, moves: u32) -> u64 {
     if moves == 0 {
         return 1;

@@ -1,6 +1,6 @@
-//! Asks what a role allows, where a role inherits from another.
+//! Asks what a role allows, if roles may inherit from one another.
 //!
-//! A permission is an index below 32; a role is a number, and its parent has a lesser one. What is
+//! A permission is an index below 32. A role is a number, and its parent has a smaller one. What is
 //! proved is what `bit_roles` promises: a role allows a permission exactly if a chain of parents
 //! leads to a role that was granted it, and a grant takes nothing away.
 #![tactic(auto)]
@@ -8,7 +8,7 @@
 use bit_roles::{Refused, Roles};
 use std::io;
 
-/// Read, write, publish and remove.
+/// The names of the permissions, each at its index.
 const NAMES: [&str; 4] = ["read", "write", "publish", "remove"];
 
 /// A guest reads, a writer is a guest that writes, an editor is a guest that publishes, an owner is
@@ -24,7 +24,7 @@ fn build() -> Result<Roles<u32, 4>, Refused> {
     Ok(roles)
 }
 
-/// Returns whether a role allows no permission that another does not.
+/// Returns whether `other` allows each permission that `role` allows.
 fn does_no_more(roles: &Roles<u32, 4>, role: u32, other: u32) -> bool {
     (0u32..4).all(|permission| !roles.allows(role, permission) || roles.allows(other, permission))
 }

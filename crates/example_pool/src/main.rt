@@ -1,8 +1,8 @@
 //! Hands out runs of neighbouring pages of a pool, and takes them back.
 //!
-//! What is proved: pages that are handed out were free before, all of them and no others are taken
-//! afterwards, and only pages that are taken are given back. So no page is handed out again before
-//! it was given back.
+//! What is proved: pages that are handed out were free before, and they and no others become taken.
+//! Only pages that are taken are given back. So no page is handed out again before it was given
+//! back.
 #![tactic(auto)]
 
 ghost use Rattle.std.specs.Prelude.{◌≡◌, ◌+◌, ◌≤◌, MatchBool, MatchOption};
@@ -16,7 +16,7 @@ use bittle::BitsMut;
 use bittle_ext::prelude::*;
 use std::io;
 
-/// The pages of a pool.
+/// How many pages a pool has.
 const PAGES: u32 = 128;
 
 /// A pool: a page is taken where its bit is set.
@@ -26,7 +26,7 @@ struct Pool {
 }
 
 impl Pool {
-    /// Takes the first run of so many free pages, and returns its first page. Where there is none,
+    /// Takes the first run of `pages` free pages, and returns its first page. Where there is none,
     /// nothing changes, and it returns `None`.
     fn allocate(&mut self, pages: u32) -> Option<u32>
         ensures free { IsFirstRun (complement (row_set 2 64 (bit_set 64) self.old.taken)) 0 pages result }
@@ -39,8 +39,8 @@ impl Pool {
         Some(first)
     }
 
-    /// Gives a run of pages back, and returns `true`. Where one of them is not taken, nothing
-    /// changes, and it returns `false`.
+    /// Gives `pages` pages back, from `first` on, and returns `true`. Where one of them is not
+    /// taken, nothing changes, and it returns `false`.
     fn release(&mut self, first: u32, pages: u32) -> bool
         ensures { let before = row_set 2 64 (bit_set 64) self.old.taken in
             MatchBool result

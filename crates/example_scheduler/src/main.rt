@@ -1,9 +1,9 @@
 //! Runs tasks by priority, from a queue of those that are ready.
 //!
 //! A task is named by its priority, from 0, the most urgent, to 63. What is proved is what
-//! `bit_queue` promises: the task that runs is the most urgent one that is ready, it was woken since
-//! it last ran, and it runs within as many steps as there are more urgent tasks ready and wakes of
-//! such, and one.
+//! `bit_queue` promises. The task that runs is the most urgent one that is ready, and it was woken
+//! since it last ran. A ready task runs within n + 1 steps, where n counts the more urgent tasks
+//! that are ready and the wakes of more urgent tasks.
 #![tactic(auto)]
 
 use bit_queue::{NoTask, PriorityQueue};
@@ -29,7 +29,7 @@ fn main(rt: HostRuntime) -> io::Result<()> {
                 if left > 0 {
                     let _ready = queue.wake(task);
                 }
-                // After its second step the task 7 wakes a more urgent one.
+                // After its second step, task 7 wakes a more urgent one.
                 if task == 7 && left == 1 {
                     steps[2] = 1;
                     let _ready = queue.wake(2);

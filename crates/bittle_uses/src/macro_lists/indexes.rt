@@ -1,4 +1,4 @@
-//! Uses of each macro with indexes alone, of which each form stands beside one of its own.
+//! Uses of each macro with indexes alone. An index of each form comes beside one of the same form.
 
 ghost use Rattle.std.specs.Prelude.{◌≡◌, ◌+◌, ◌<◌, IsTrue, slice_index};
 ghost use Rattle.bittle.specs.Values.{set_mirrored};
@@ -36,7 +36,7 @@ pub mod numbers {
     pub const SEVEN: u32 = 7;
 }
 
-// What a macro makes of its argument.
+// Expands to its argument.
 macro_rules! its {
     ($index:expr) => {
         $index
@@ -59,7 +59,7 @@ pub fn listed_names<B: BitsOwned>(a: u32, b: u32, c: u32) -> (B, B, B)
     by_each![a, b, same(c)]
 }
 
-/// Lists an index in brackets, a field and a cast.
+/// Lists an index in parentheses, a field and a cast.
 pub fn listed_shapes<B: BitsOwned>(d: u32, p: Place, e: u8) -> (B, B, B)
     requires { IsTrue B.indexable }
     ensures { AreListed (set_mirrored B.Shape) B.Order.Endian.mirrored result
@@ -77,7 +77,7 @@ pub fn listed_calls<B: BitsOwned>(a: u32, b: u32) -> (B, B, B)
     by_each![same(a), same(b)]
 }
 
-/// Lists two indexes in brackets beside one another.
+/// Lists two indexes in parentheses beside one another.
 pub fn listed_brackets<B: BitsOwned>(a: u32, b: u32) -> (B, B, B)
     requires { IsTrue B.indexable }
     ensures { AreListed (set_mirrored B.Shape) B.Order.Endian.mirrored result
@@ -104,7 +104,7 @@ pub fn listed_casts<B: BitsOwned>(a: u8, b: u8) -> (B, B, B)
     by_each![a as u32, b as u32]
 }
 
-/// Lists what a macro makes, a block and an element of an array.
+/// Lists a macro call, a block and an element of an array.
 pub fn listed_groups<B: BitsOwned>(a: u32, b: u32, c: [u32; 1]) -> (B, B, B)
     requires { IsTrue B.indexable }
     ensures { AreListed (set_mirrored B.Shape) B.Order.Endian.mirrored result
@@ -113,7 +113,7 @@ pub fn listed_groups<B: BitsOwned>(a: u32, b: u32, c: [u32; 1]) -> (B, B, B)
     by_each![its!(a), { b }, c[0]]
 }
 
-/// Lists what a reference leads to, a path and a sum.
+/// Lists a dereference, a path and a sum.
 pub fn listed_terms<B: BitsOwned>(a: &u32, b: u32) -> (B, B, B)
     requires indexable { IsTrue B.indexable }
     requires small { b < 4294967295 }
@@ -132,7 +132,7 @@ pub fn listed_methods<B: BitsOwned>(p: Place, q: Place) -> (B, B, B)
     by_each![p.number(), q.number()]
 }
 
-/// Lists what a macro makes, and a block, each beside one of its own.
+/// Lists two macro calls, and then two blocks.
 pub fn listed_groups_twice<B: BitsOwned>(a: u32, b: u32, c: u32) -> (B, B, B)
     requires { IsTrue B.indexable }
     ensures { AreListed (set_mirrored B.Shape) B.Order.Endian.mirrored result
@@ -141,7 +141,7 @@ pub fn listed_groups_twice<B: BitsOwned>(a: u32, b: u32, c: u32) -> (B, B, B)
     by_each![its!(a), its!(b), { c }, { a }]
 }
 
-/// Lists an element, and what a reference leads to, each beside one of its own.
+/// Lists two elements of an array, and then two dereferences.
 pub fn listed_places_twice<B: BitsOwned>(a: [u32; 2], b: &u32, c: &u32) -> (B, B, B)
     requires { IsTrue B.indexable }
     ensures { AreListed (set_mirrored B.Shape) B.Order.Endian.mirrored result
@@ -150,7 +150,7 @@ pub fn listed_places_twice<B: BitsOwned>(a: [u32; 2], b: &u32, c: &u32) -> (B, B
     by_each![a[0], a[1], *b, *c]
 }
 
-/// Lists a path, and a sum, each beside one of its own.
+/// Lists a path twice, and then two sums.
 pub fn listed_terms_twice<B: BitsOwned>(a: u32, b: u32) -> (B, B, B)
     requires indexable { IsTrue B.indexable }
     requires first_small { a < 4294967295 }

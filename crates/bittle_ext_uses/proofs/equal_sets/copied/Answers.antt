@@ -8,7 +8,7 @@ use Rattle.bittle_lemmas.proofs.EqualSets.{same_bits_if_each}
 use Rattle.bittle_ext_uses.proofs.equal_sets.copied.Goals as goal
 use Rattle.bittle_ext_uses.proofs.equal_sets.copied.Goals.{then-test_bit, else-test_bit}
 
--- what holds of the numbers up to one holds up to the next, if it holds of that one
+-- if two sets agree on the numbers below k and on k, they agree on those below k + 1
 up_to : (s t : PlainSet) (k : ℕ) → ((j : ℕ) → j < k → contains s j ≡ contains t j) →
     contains s k ≡ contains t k → (j : ℕ) → j < k + 1 → contains s j ≡ contains t j
 up_to s t k below at j up = elim (cases_lt j k) [
@@ -16,7 +16,7 @@ up_to s t k below at j up = elim (cases_lt j k) [
   | inr g ↦ let same : j ≡ k = omega (arith, up, g) in rw (same) at
 ]
 
--- a turn with the test of its number passed, and one with it failed
+-- a turn in which `from` has the number k, and one in which it has not
 module _ (from before : ℕ) (k : ℕ) (few : k < 64)
     (same : (j : ℕ) → j < k → contains (bit_set 64 before) j ≡ contains (bit_set 64 from) j)
     (none : (j : ℕ) → k ≤ j → j < 64 → contains (bit_set 64 before) j ≡ false) where

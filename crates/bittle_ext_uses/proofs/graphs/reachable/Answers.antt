@@ -15,7 +15,7 @@ member_below : (word i : ℕ) → (bit_set 64 word).has i ≡ true → i < 64
 unfolding bit_has
 member_below word i has = ltb-true i 64 (and_parts _ _ has).0
 
--- one turn of the loop
+-- one turn of the loop keeps the invariant
 turn : (rows : List ℕ) (first left queue after joined node : ℕ) →
     IsSearched rows first (bit_set 64 left) (bit_set 64 queue) → node < 64 →
     (bit_set 64 queue).has node ≡ true →

@@ -14,7 +14,7 @@ loop-index-init c = record {
   written = λ k below. absurd (omega (arith, below));
 }
 
--- one item more is written
+-- a turn writes one more item
 one_more : (items room left rest : List ℕ) (count item : ℕ) → HasWritten items room left count →
     left ≡ item ∷ rest → count < length room →
     HasWritten items (set room count item) rest (count + 1)

@@ -1,7 +1,7 @@
 use Rattle.std.proofs.Common.{◌≡◌, ◌<◌, ◌≤◌, ℕ, List, drop, get_or, length}
 use Rattle.bittle_ext_uses.proofs.listed.write_first.Given as goal
 
--- so many first items are written into the room, and the others are left
+-- the first `count` items are written into the room, and the others are left
 pub record HasWritten (items room left : List ℕ) (count : ℕ) : Type 0 where
   pub within_room : count ≤ length room
   pub within_items : count ≤ length items
