@@ -1,6 +1,6 @@
 //! One list of calls on shapes of every nesting, and on slices of the caller.
 
-ghost use Rattle.std.specs.Prelude.{◌*◌, IsTrue, length};
+ghost use Rattle.std.specs.Prelude.{◌*◌, length};
 ghost use Rattle.bittle.specs.Shapes.{Fits};
 ghost use Rattle.bittle.specs.Values.{ShapeFits};
 
@@ -17,19 +17,40 @@ fn put_each_way<B: BitsOwned + Debug>(
     little: u32,
     capacity: u32,
     expected: [B; 2],
-)
-    requires { IsTrue B.indexable }
-{
+) {
+    assert!(rt; B::bits() == capacity && capacity < u32::MAX);
     let mut sets = [B::zeros(); 2];
     put_and_ask::<B, BigEndian>(rt, &mut sets[0], big, capacity);
     put_and_ask::<B, LittleEndian>(rt, &mut sets[1], little, capacity);
     same!(rt; sets, expected);
 }
 
+// The same of pairs, a level of nesting a function: a type of several levels is proved in less time
+// so.
+fn put_in_pairs<T: BitsOwned + Debug>(
+    rt: &impl Abort,
+    big: u32,
+    little: u32,
+    capacity: u32,
+    expected: [[T; 2]; 2],
+) {
+    put_each_way::<[T; 2]>(rt, big, little, capacity, expected);
+}
+
+fn put_in_two_levels<T: BitsOwned + Debug>(
+    rt: &impl Abort,
+    big: u32,
+    little: u32,
+    capacity: u32,
+    expected: [[[T; 2]; 2]; 2],
+) {
+    put_in_pairs::<[T; 2]>(rt, big, little, capacity, expected);
+}
+
 #[test]
 fn nested_arrays(rt: HostRuntime) {
     let expected: [[[u8; 2]; 2]; 2] = [[[0, 0], [2, 0]], [[0, 0], [64, 0]]];
-    put_each_way(&rt, 49, 17, 32, expected);
+    put_in_two_levels::<u8>(&rt, 49, 17, 32, expected);
 
     // The same calls on another shape of the same capacity.
     let mut word = 0i32;
@@ -40,7 +61,7 @@ fn nested_arrays(rt: HostRuntime) {
         [[[0, 0, 0], [0, 0, 0]], [[16, 0, 0], [0, 0, 0]]],
         [[[0, 0, 0], [0, 0, 0]], [[2048, 0, 0], [0, 0, 0]]],
     ];
-    put_each_way(&rt, 100, 292, 192, expected);
+    put_in_two_levels::<[u16; 3]>(&rt, 100, 292, 192, expected);
 }
 
 // Puts an index into a slice without members.

@@ -4,13 +4,15 @@ ghost use Rattle.std.specs.Prelude.{◌*◌, IsTrue, length};
 ghost use Rattle.bittle.specs.Shapes.{Fits};
 ghost use Rattle.bittle.specs.Values.{ShapeFits};
 
-use crate::checks::{holds, same};
+use crate::checks::{holds, same, same_flags};
+use bittle::join::JoinOnes;
 use bittle::prelude::*;
 use bittle::walk::{IntoIterOnes, IntoIterZeros, IterOnes, IterZeros};
-use bittle::{BigEndian, Endian, LittleEndian, Set, set, set_be, set_le};
+use bittle::{BigEndian, Endian, LittleEndian, Set, Shape, set, set_be, set_le};
 use std::alloc::{AllocError, Global};
 use std::cmp::Ordering;
 use std::process::Abort;
+use std::slice::Iter;
 use std::test::Fail;
 
 const INDEXES: [u32; 6] = [0, 1, 7, 8, 127, u32::MAX];
@@ -18,16 +20,32 @@ const INDEXES: [u32; 6] = [0, 1, 7, 8, 127, u32::MAX];
 // What each call that reads answers.
 fn reads<B: Bits>(rt: &impl Abort, bits: &B) {
     assert!(rt; bits.bits_capacity() == 0);
-    same!(rt; (bits.count_ones(), bits.count_zeros()), (0, 0));
-    same!(rt; (bits.all_zeros(), bits.all_ones()), (true, true));
+    reads_nothing(rt, bits);
+}
+
+// What each call that reads answers, of a set that fits.
+fn reads_nothing<B: Bits>(rt: &impl Abort, bits: &B)
+    requires { ShapeFits B.Shape bits.now }
+{
+    same!(rt; bits.count_ones(), 0);
+    same!(rt; bits.count_zeros(), 0);
+    holds!(rt; bits.all_zeros());
+    holds!(rt; bits.all_ones());
+    tests_nothing(rt, bits);
+    same_flags!(rt; ones_are_over(bits), [true; 4]);
+    same_flags!(rt; zeros_are_over(bits), [true; 4]);
+    same_flags!(rt; joins_are_over(bits), [true; 3]);
+    same!(rt; bits.count_ones_in_range_in::<BigEndian>(0, 0), 0);
+    same!(rt; bits.count_ones_in_range_in::<LittleEndian>(0, 0), 0);
+}
+
+// No index is a member.
+fn tests_nothing<B: Bits>(rt: &impl Abort, bits: &B)
+    requires { IsTrue B.indexable }
+{
     for index in INDEXES {
         same!(rt; (index, tests_of(bits, index)), (index, [false; 5]));
     }
-    same!(rt; ones_are_over(bits), [true; 4]);
-    same!(rt; zeros_are_over(bits), [true; 4]);
-    same!(rt; joins_are_over(bits), [true; 3]);
-    same!(rt; bits.count_ones_in_range_in::<BigEndian>(0, 0), 0);
-    same!(rt; bits.count_ones_in_range_in::<LittleEndian>(0, 0), 0);
 }
 
 // What each call that tests a bit answers.
@@ -51,12 +69,20 @@ fn is_over<W: DoubleEndedIterator<Item = u32>>(mut walk: W) -> bool
     walk.next().is_none() && walk.next_back().is_none()
 }
 
+// The same of an iterator that is turned.
+fn is_over_turned<W: DoubleEndedIterator<Item = u32>>(walk: W) -> bool
+    requires front { (w : W) → W.can_next w }
+    requires back { (w : W) → W.can_next_back w }
+{
+    is_over(walk.rev())
+}
+
 fn no_ones<B: Bits, E: Endian>(walk: IterOnes<'_, B, E>) -> bool {
     is_over(walk)
 }
 
 fn no_ones_turned<B: Bits, E: Endian>(walk: IterOnes<'_, B, E>) -> bool {
-    is_over(walk.rev())
+    is_over_turned(walk)
 }
 
 fn no_zeros<B: Bits, E: Endian>(walk: IterZeros<'_, B, E>) -> bool {
@@ -64,7 +90,7 @@ fn no_zeros<B: Bits, E: Endian>(walk: IterZeros<'_, B, E>) -> bool {
 }
 
 fn no_zeros_turned<B: Bits, E: Endian>(walk: IterZeros<'_, B, E>) -> bool {
-    is_over(walk.rev())
+    is_over_turned(walk)
 }
 
 fn no_owned_ones<B: BitsOwned, E: Endian>(walk: IntoIterOnes<B, E>) -> bool {
@@ -72,7 +98,7 @@ fn no_owned_ones<B: BitsOwned, E: Endian>(walk: IntoIterOnes<B, E>) -> bool {
 }
 
 fn no_owned_ones_turned<B: BitsOwned, E: Endian>(walk: IntoIterOnes<B, E>) -> bool {
-    is_over(walk.rev())
+    is_over_turned(walk)
 }
 
 fn no_owned_zeros<B: BitsOwned, E: Endian>(walk: IntoIterZeros<B, E>) -> bool {
@@ -80,7 +106,7 @@ fn no_owned_zeros<B: BitsOwned, E: Endian>(walk: IntoIterZeros<B, E>) -> bool {
 }
 
 fn no_owned_zeros_turned<B: BitsOwned, E: Endian>(walk: IntoIterZeros<B, E>) -> bool {
-    is_over(walk.rev())
+    is_over_turned(walk)
 }
 
 // Whether each iterator over the ones yields nothing.
@@ -109,33 +135,19 @@ fn zeros_are_over<B: Bits>(bits: &B) -> [bool; 4]
 
 const LETTERS: [&str; 3] = ["a", "b", "c"];
 
+fn no_letters<B: Bits, E: Endian>(mut join: JoinOnes<'_, B, E, Iter<'_, &str>>) -> bool {
+    join.next().is_none()
+}
+
 // Whether each join yields nothing.
 fn joins_are_over<B: Bits>(bits: &B) -> [bool; 3]
     requires { ShapeFits B.Shape bits.now }
 {
     [
-        join_is_over(bits),
-        join_le_is_over(bits),
-        join_be_is_over(bits),
+        no_letters(bits.join_ones(LETTERS.iter())),
+        no_letters(bits.join_ones_le(LETTERS.iter())),
+        no_letters(bits.join_ones_be(LETTERS.iter())),
     ]
-}
-
-fn join_is_over<B: Bits>(bits: &B) -> bool
-    requires { ShapeFits B.Shape bits.now }
-{
-    bits.join_ones(LETTERS.iter()).next().is_none()
-}
-
-fn join_le_is_over<B: Bits>(bits: &B) -> bool
-    requires { ShapeFits B.Shape bits.now }
-{
-    bits.join_ones_le(LETTERS.iter()).next().is_none()
-}
-
-fn join_be_is_over<B: Bits>(bits: &B) -> bool
-    requires { ShapeFits B.Shape bits.now }
-{
-    bits.join_ones_be(LETTERS.iter()).next().is_none()
 }
 
 // After each call that writes, nothing is held.
@@ -203,10 +215,8 @@ fn owned<B: BitsOwned>(rt: &impl Abort) {
     reads(rt, &zeros.conjunction(ones));
     reads(rt, &zeros.difference(ones));
     reads(rt, &zeros.symmetric_difference(ones));
-    yields_no_owned_ones(rt, zeros);
-    yields_no_owned_zeros(rt, zeros);
-    yields_no_owned_ones(rt, ones);
-    yields_no_owned_zeros(rt, ones);
+    yields_nothing(rt, zeros);
+    yields_nothing(rt, ones);
 }
 
 fn makes_nothing_with<B: BitsOwned>(rt: &impl Abort, bits: B, index: u32)
@@ -229,43 +239,87 @@ fn makes_nothing_without<B: BitsOwned>(rt: &impl Abort, bits: B, index: u32)
     reads(rt, &bits.without_bit_be(index));
 }
 
-fn yields_no_owned_ones<B: BitsOwned>(rt: &impl Abort, bits: B)
-    requires { IsTrue B.indexable }
+// What each iterator that owns its set yields.
+fn yields_nothing<B: BitsOwned>(rt: &impl Abort, bits: B)
+    requires { ShapeFits B.Shape bits }
 {
-    holds!(rt; no_owned_ones(bits.into_iter_ones()));
-    holds!(rt; no_owned_ones(bits.into_iter_ones_le()));
-    holds!(rt; no_owned_ones(bits.into_iter_ones_be()));
-    holds!(rt; no_owned_ones_turned(bits.into_iter_ones()));
+    same_flags!(rt; owned_ones_are_over(bits), [true; 4]);
+    same_flags!(rt; owned_zeros_are_over(bits), [true; 4]);
 }
 
-fn yields_no_owned_zeros<B: BitsOwned>(rt: &impl Abort, bits: B)
+// Whether each iterator that owns its set yields nothing over the ones.
+fn owned_ones_are_over<B: BitsOwned>(bits: B) -> [bool; 4]
+    requires { ShapeFits B.Shape bits }
+{
+    [
+        no_owned_ones(bits.into_iter_ones()),
+        no_owned_ones(bits.into_iter_ones_le()),
+        no_owned_ones(bits.into_iter_ones_be()),
+        no_owned_ones_turned(bits.into_iter_ones()),
+    ]
+}
+
+// Whether each iterator that owns its set yields nothing over the zeros.
+fn owned_zeros_are_over<B: BitsOwned>(bits: B) -> [bool; 4]
+    requires { ShapeFits B.Shape bits }
+{
+    [
+        no_owned_zeros(bits.into_iter_zeros()),
+        no_owned_zeros(bits.into_iter_zeros_le()),
+        no_owned_zeros(bits.into_iter_zeros_be()),
+        no_owned_zeros_turned(bits.into_iter_zeros()),
+    ]
+}
+
+// A list of an index and a range of each kind, by each macro.
+fn listed_in_its_order<B: BitsOwned>() -> B
     requires { IsTrue B.indexable }
 {
-    holds!(rt; no_owned_zeros(bits.into_iter_zeros()));
-    holds!(rt; no_owned_zeros(bits.into_iter_zeros_le()));
-    holds!(rt; no_owned_zeros(bits.into_iter_zeros_be()));
-    holds!(rt; no_owned_zeros_turned(bits.into_iter_zeros()));
+    set![0, 7, 100, 0..10, 0..=10, 0..]
+}
+
+fn listed_le<B: BitsOwned>() -> B
+    requires { IsTrue B.indexable }
+{
+    set_le![0, 7, 100, 0..10, 0..=10, 0..]
+}
+
+fn listed_be<B: BitsOwned>() -> B
+    requires { IsTrue B.indexable }
+{
+    set_be![0, 7, 100, 0..10, 0..=10, 0..]
 }
 
 // What each macro makes of any list.
 fn listed<B: BitsOwned>(rt: &impl Abort)
     requires { IsTrue B.indexable }
 {
-    let in_its_order: B = set![0, 7, 100, 0..10, 0..=10, 0..];
-    reads(rt, &in_its_order);
-    let in_little_endian: B = set_le![0, 7, 100, 0..10, 0..=10, 0..];
-    reads(rt, &in_little_endian);
-    let in_big_endian: B = set_be![0, 7, 100, 0..10, 0..=10, 0..];
-    reads(rt, &in_big_endian);
+    reads(rt, &listed_in_its_order::<B>());
+    reads(rt, &listed_le::<B>());
+    reads(rt, &listed_be::<B>());
+}
+
+// The same of arrays, a level of arrays a function: a type of several levels is proved in less time
+// so. A value of the type shows that it fits into memory.
+fn owned_none<T: BitsOwned>(rt: &impl Abort) {
+    owned::<[T; 0]>(rt);
+}
+
+fn owned_fours<T: BitsOwned>(rt: &impl Abort, _four: [T; 4]) {
+    owned::<[T; 4]>(rt);
+}
+
+fn owned_fours_of_fours<T: BitsOwned>(rt: &impl Abort, fours: [[T; 4]; 4]) {
+    owned_fours::<[T; 4]>(rt, fours);
 }
 
 #[test]
 fn arrays(rt: HostRuntime) {
-    owned::<[u8; 0]>(&rt);
-    owned::<[u128; 0]>(&rt);
-    owned::<[[u8; 0]; 4]>(&rt);
-    owned::<[[u8; 0]; 0]>(&rt);
-    owned::<[[[u8; 0]; 4]; 4]>(&rt);
+    owned_none::<u8>(&rt);
+    owned_none::<u128>(&rt);
+    owned_fours::<[u8; 0]>(&rt, [[]; 4]);
+    owned_none::<[u8; 0]>(&rt);
+    owned_fours_of_fours::<[u8; 0]>(&rt, [[[]; 4]; 4]);
 }
 
 // What each call of a slice returns, shared and lent, and what remains after operations with
@@ -320,11 +374,16 @@ fn writes_wrapped<B: BitsMut, E: Endian>(rt: &impl Abort, set: &mut Set<B, E>) {
 }
 
 // What each call of a wrapped slice returns, shared and lent, in either order.
-fn wrapped_slice<T: BitsOwned>(rt: &impl Abort, slice: &mut [T])
-    requires { Fits T.indexable (length slice.old * T.type_capacity) }
+fn wrapped_shared<T: BitsOwned>(rt: &impl Abort, slice: &[T])
+    requires { Fits T.indexable (length slice.now * T.type_capacity) }
 {
     reads_wrapped(rt, &Set::from_ref(slice));
     reads_wrapped(rt, &Set::from_ref_le(slice));
+}
+
+fn wrapped_lent<T: BitsOwned>(rt: &impl Abort, slice: &mut [T])
+    requires { Fits T.indexable (length slice.old * T.type_capacity) }
+{
     writes_wrapped(rt, &mut Set::from_mut(slice));
     writes_wrapped(rt, &mut Set::from_mut_le(slice));
 }
@@ -335,32 +394,33 @@ fn wrapped(rt: HostRuntime) {
     wrapped_owned::<[[u8; 0]; 4]>(&rt);
 
     let (mut bytes, mut arrays) = ([0u8; 0], [[0u8; 0]; 4]);
-    wrapped_slice(&rt, &mut bytes);
-    wrapped_slice(&rt, &mut arrays);
+    wrapped_shared(&rt, &bytes);
+    wrapped_lent(&rt, &mut bytes);
+    wrapped_shared(&rt, &arrays);
+    wrapped_lent(&rt, &mut arrays);
 }
 
-// The debug text of a set.
-fn text_of<B: Bits>(alloc: Global, bits: B) -> Result<String, AllocError>
+// Asks for the debug text of a set.
+fn shows<B: Bits>(rt: &impl Abort, alloc: Global, bits: B, text: &str) -> Result<(), AllocError>
     requires { ShapeFits B.Shape bits }
 {
     let set = Set::new(bits);
-    format!(in alloc; "{set:?}")
+    same!(rt; format!(in alloc; "{set:?}")?.as_str(), text);
+    Ok(())
 }
 
-// The debug text of what the macro makes of a list.
-fn text_of_listed<B: BitsOwned>(alloc: Global) -> Result<String, AllocError>
+// What each macro makes of any list, and its debug text.
+fn lists_of<B: BitsOwned>(rt: &impl Abort, alloc: Global) -> Result<(), AllocError>
     requires { IsTrue B.indexable }
 {
-    let bits: B = set![0, 7, 100, 0..10, 0..=10, 0..];
-    text_of(alloc, bits)
+    listed::<B>(rt);
+    shows(rt, alloc, listed_in_its_order::<B>(), "{}")
 }
 
 #[test]
 fn lists(rt: HostRuntime) -> Result<(), Fail> {
-    listed::<[u8; 0]>(&rt);
-    listed::<[[u8; 0]; 4]>(&rt);
-    same!(rt; text_of_listed::<[u8; 0]>(rt.alloc())?.as_str(), "{}");
-    same!(rt; text_of_listed::<[[u8; 0]; 4]>(rt.alloc())?.as_str(), "{}");
+    lists_of::<[u8; 0]>(&rt, rt.alloc())?;
+    lists_of::<[[u8; 0]; 4]>(&rt, rt.alloc())?;
     Ok(())
 }
 
@@ -380,15 +440,43 @@ fn order_of<A: BitsOwned, B: Bits>(one: A, other: &B) -> Ordering
     Set::new(one).cmp_bits(other)
 }
 
+// Whether a set is equal to one in a `Set`.
+fn equals_wrapped<A: BitsOwned, B: Bits>(one: A, other: &Set<B>) -> bool
+    requires one_fits { ShapeFits A.Shape one }
+    requires other_fits { ShapeFits B.Shape other.now.bits }
+{
+    are_equal(one, other)
+}
+
+fn equals_slice<A: BitsOwned, T: BitsOwned>(one: A, other: &[T]) -> bool
+    requires one_fits { ShapeFits A.Shape one }
+    requires other_fits { Fits T.indexable (length other.now * T.type_capacity) }
+{
+    equals_wrapped(one, &Set::from_ref(other))
+}
+
+fn equals_fours<A: BitsOwned, T: BitsOwned>(one: A, other: [T; 4]) -> bool
+    requires one_fits { ShapeFits A.Shape one }
+    requires other_fits { IsTrue ⟦<[T; 4] as Shape>⟧.indexable }
+{
+    equals_wrapped(one, &Set::new(other))
+}
+
+// How a set compares with one that has a member, and its debug text.
+fn comes_first<B: BitsOwned>(rt: &impl Abort, alloc: Global, set: B) -> Result<(), AllocError>
+    requires { ShapeFits B.Shape set }
+{
+    same!(rt; order_of(set, &Set::new(1u8)), Ordering::Less);
+    shows(rt, alloc, set, "{}")
+}
+
 #[test]
 fn comparisons(rt: HostRuntime) -> Result<(), Fail> {
     let (narrow, nested) = ([0u8; 0], [[0u8; 0]; 4]);
-    holds!(rt; are_equal(narrow, &Set::new(nested)));
+    holds!(rt; equals_fours(narrow, nested));
     holds!(rt; are_equal(narrow, &[0u128; 0]));
-    holds!(rt; are_equal(narrow, &Set::from_ref(&narrow)));
-    same!(rt; order_of(narrow, &Set::new(1u8)), Ordering::Less);
-    same!(rt; order_of(nested, &Set::new(1u8)), Ordering::Less);
-    same!(rt; text_of(rt.alloc(), narrow)?.as_str(), "{}");
-    same!(rt; text_of(rt.alloc(), nested)?.as_str(), "{}");
+    holds!(rt; equals_slice(narrow, &narrow));
+    comes_first(&rt, rt.alloc(), narrow)?;
+    comes_first(&rt, rt.alloc(), nested)?;
     Ok(())
 }

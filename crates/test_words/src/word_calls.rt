@@ -1,5 +1,6 @@
 //! Words of all widths, at their borders.
 
+ghost use Rattle.std.specs.Iterator.{IsFinite};
 ghost use Rattle.std.specs.Prelude.{◌<◌};
 ghost use Rattle.bittle.specs.Values.{ShapeFits};
 
@@ -75,18 +76,23 @@ fn clones_go_on_from_their_source(rt: HostRuntime) {
     holds!(rt; source.clone().unwrap().eq([13, 14, 15]));
 }
 
+// Whether an iterator yields these from the last on.
+fn is_reversed<W: DoubleEndedIterator<Item = u32>>(walk: W, items: &[u32]) -> bool
+    requires front { (w : W) → W.can_next w }
+    requires back { (w : W) → W.can_next_back w }
+    requires ends { (w : W) → IsFinite (W.remaining w) }
+{
+    walk.rev().eq(items.iter().copied())
+}
+
 // Whether the ones of a word in little-endian order are these from the last on.
 fn are_ones_reversed<T: Word>(word: T, items: &[u32]) -> bool {
-    IterOnes::<T, LittleEndian>::new(word)
-        .rev()
-        .eq(items.iter().copied())
+    is_reversed(IterOnes::<T, LittleEndian>::new(word), items)
 }
 
 // Whether the zeros of a word in little-endian order are these from the last on.
 fn are_zeros_reversed<T: Word>(word: T, items: &[u32]) -> bool {
-    IterZeros::<T, LittleEndian>::new(word)
-        .rev()
-        .eq(items.iter().copied())
+    is_reversed(IterZeros::<T, LittleEndian>::new(word), items)
 }
 
 #[test]
