@@ -1,6 +1,21 @@
 //! Counts of what is asked of a set.
 
+use crate::checks::end_unless_equal;
 use std::cell::Cell;
+use std::process::Abort;
+
+/// Asks whether so many words were fetched, in all or since there were so many, and so many other
+/// calls made.
+macro_rules! counts {
+    ($rt:expr; $asked:ident, $fetched:expr, $other:expr) => {
+        $asked.compare(&$rt, stringify!($asked), (0, 0), ($fetched, $other))
+    };
+    ($rt:expr; $asked:ident since $before:expr, $fetched:expr, $other:expr) => {
+        $asked.compare(&$rt, stringify!($asked), ($before, 0), ($fetched, $other))
+    };
+}
+
+pub(crate) use counts;
 
 /// Which words were fetched and how often, and how often anything else was asked but the capacity.
 #[derive(Drop)]
@@ -19,6 +34,13 @@ impl Asked {
             fetches: Cell::new(0),
             other: Cell::new(0),
         }
+    }
+
+    /// Forgets what was asked so far.
+    pub(crate) fn restart(&self) {
+        self.words.set(0);
+        self.fetches.set(0);
+        self.other.set(0);
     }
 
     /// Counts a fetch of word `k`.
@@ -46,6 +68,19 @@ impl Asked {
     /// Returns how many other calls there were.
     pub(crate) fn other(&self) -> u32 {
         self.other.get()
+    }
+
+    /// Ends the test where the words that were fetched, and the other calls, are not as many more
+    /// than before as is wanted.
+    pub(crate) fn compare(
+        &self,
+        rt: &impl Abort,
+        text: &str,
+        before: (u32, u32),
+        wanted: (u32, u32),
+    ) {
+        let other = self.other().wrapping_sub(before.1);
+        end_unless_equal(rt, text, (self.fetched_since(before.0), other), wanted);
     }
 
     /// Returns whether at most so many words were fetched, and nothing else was asked.

@@ -1,88 +1,56 @@
-//! What a change by another set asks of both: each word of either once, where words are alike.
+//! What a change of a whole set asks of it, and of another one: each word of either once, where
+//! words are alike.
 
 ghost use Rattle.bittle.specs.Values.{ShapeFits};
 
-use crate::asked::Asked;
+use crate::asked::{Asked, counts};
 use crate::checks::same;
 use crate::probe::{ONES, Probe, ZEROS};
 use bittle::{Bits, BitsMut, LittleEndian};
 use bittle_ext::prelude::*;
+use std::process::Abort;
 
-// Changes a set by each operation with another one, and returns what each call tells.
-fn change<A: BitsMut, B: Bits>(set: &mut A, other: &B) -> [bool; 4]
+// What changes a set: an operation with another one, or a move of its bits.
+#[derive(Drop)]
+enum Change {
+    EachOperation,
+    Copy,
+    UnionFromLeft,
+    SetAll,
+    Shifts(u32, u32),
+}
+
+// Makes a change of a set, by another one where that is needed.
+fn make_change<A: BitsMut, B: Bits>(rt: &impl Abort, kind: Change, set: &mut A, other: &B)
     requires fits { ShapeFits A.Shape set.old }
     requires other_fits { ShapeFits B.Shape other.now }
 {
-    [
-        set.difference_with(other),
-        set.symmetric_difference_with(other),
-        set.intersect_with(other),
-        set.union_with(other),
-    ]
+    match kind {
+        Change::EachOperation => change_by_each_operation(rt, set, other),
+        Change::Copy => set.copy_from(other),
+        Change::UnionFromLeft => add_from_left(rt, set, other),
+        Change::SetAll => set.set_all(),
+        Change::Shifts(up, down) => shift(set, up, down),
+    }
 }
 
-#[test]
-fn a_change_fetches_each_word_of_both_once_and_writes_it(rt: HostRuntime) {
-    // The members are 0 and 31, and all others: none in common.
-    let (ours, theirs) = (Asked::new(), Asked::new());
-    let mut set = Probe::of(ONES, &ours);
-    let told = change(&mut set, &Probe::of(ZEROS, &theirs));
-    same!(rt; told, [false, true, true, false]);
-    same!(rt; set.bytes, ZEROS);
-    same!(rt; (ours.fetches(), ours.other()), (16, 16));
-    same!(rt; (theirs.fetches(), theirs.other()), (16, 0));
-}
-
-// Copies a set.
-fn copy<A: BitsMut, B: Bits>(set: &mut A, other: &B)
+// Changes a set by each operation with another one, and tests what each call tells.
+fn change_by_each_operation<A: BitsMut, B: Bits>(rt: &impl Abort, set: &mut A, other: &B)
     requires fits { ShapeFits A.Shape set.old }
     requires other_fits { ShapeFits B.Shape other.now }
 {
-    set.copy_from(other);
+    same!(rt; set.difference_with(other), false);
+    same!(rt; set.symmetric_difference_with(other), true);
+    same!(rt; set.intersect_with(other), true);
+    same!(rt; set.union_with(other), false);
 }
 
-#[test]
-fn a_copy_fetches_each_word_once_and_writes_it(rt: HostRuntime) {
-    let (ours, theirs) = (Asked::new(), Asked::new());
-    let mut set = Probe::of(ONES, &ours);
-    copy(&mut set, &Probe::of(ZEROS, &theirs));
-    same!(rt; set.bytes, ZEROS);
-    same!(rt; (ours.fetches(), ours.other()), (4, 4));
-    same!(rt; (theirs.fetches(), theirs.other()), (4, 0));
-}
-
-// Adds a set that is read from the left, and returns whether that changed anything.
-fn add_from_left<A: BitsMut, B: Bits>(set: &mut A, other: &B) -> bool
+// Adds a set that is read from the left, and tests whether that changed anything.
+fn add_from_left<A: BitsMut, B: Bits>(rt: &impl Abort, set: &mut A, other: &B)
     requires fits { ShapeFits A.Shape set.old }
     requires other_fits { ShapeFits B.Shape other.now }
 {
-    set.union_with(&other.in_order::<LittleEndian>())
-}
-
-#[test]
-fn a_word_in_the_other_order_is_fetched_once_too(rt: HostRuntime) {
-    // The members of the other set are 7 and 24 from the left.
-    let (ours, theirs) = (Asked::new(), Asked::new());
-    let mut set = Probe::of(ONES, &ours);
-    same!(rt; add_from_left(&mut set, &Probe::of(ONES, &theirs)), true);
-    same!(rt; set.bytes, [0x81, 0, 0, 0x81]);
-    same!(rt; (ours.fetches(), ours.other()), (4, 4));
-    same!(rt; (theirs.fetches(), theirs.other()), (4, 0));
-}
-
-// Sets every bit.
-fn fill<B: BitsMut>(set: &mut B)
-    requires { ShapeFits B.Shape set.old }
-{
-    set.set_all();
-}
-
-#[test]
-fn setting_every_bit_fetches_nothing(rt: HostRuntime) {
-    let asked = Asked::new();
-    let mut set = Probe::of(ONES, &asked);
-    fill(&mut set);
-    same!(rt; (set.bytes, asked.fetches(), asked.other()), ([0xFF; 4], 0, 1));
+    same!(rt; set.union_with(&other.in_order::<LittleEndian>()), true);
 }
 
 // Shifts a set up, and then down.
@@ -93,21 +61,65 @@ fn shift<B: BitsMut>(set: &mut B, up: u32, down: u32)
     set.shift_down(down);
 }
 
+// What was asked of a set: how many words, and how many other calls.
+type Counts = (u32, u32);
+
+// Changes the set of `ONES` so, by that of other bytes, and tests the bytes that it has then, and
+// what was asked of the two.
+fn change_ones(
+    rt: &impl Abort,
+    kind: Change,
+    other: [u8; 4],
+    changed: [u8; 4],
+    of_ours: Counts,
+    of_theirs: Counts,
+) {
+    let (ours, theirs) = (Asked::new(), Asked::new());
+    let mut set = Probe::of(ONES, &ours);
+    make_change(rt, kind, &mut set, &Probe::of(other, &theirs));
+    same!(rt; set.bytes, changed);
+    counts!(rt; ours, of_ours.0, of_ours.1);
+    counts!(rt; theirs, of_theirs.0, of_theirs.1);
+}
+
+#[test]
+fn a_change_fetches_each_word_of_both_once_and_writes_it(rt: HostRuntime) {
+    // The members are 0 and 31, and all others: none in common.
+    change_ones(&rt, Change::EachOperation, ZEROS, ZEROS, (16, 16), (16, 0));
+}
+
+#[test]
+fn a_copy_fetches_each_word_once_and_writes_it(rt: HostRuntime) {
+    change_ones(&rt, Change::Copy, ZEROS, ZEROS, (4, 4), (4, 0));
+}
+
+#[test]
+fn a_word_in_the_other_order_is_fetched_once_too(rt: HostRuntime) {
+    // The members of the other set are 7 and 24 from the left.
+    let changed = [0x81, 0, 0, 0x81];
+    change_ones(&rt, Change::UnionFromLeft, ONES, changed, (4, 4), (4, 0));
+}
+
+#[test]
+fn setting_every_bit_fetches_nothing(rt: HostRuntime) {
+    change_ones(&rt, Change::SetAll, ZEROS, [0xFF; 4], (0, 1), (0, 0));
+}
+
 #[test]
 fn a_shift_in_place_fetches_each_word_twice_at_most(rt: HostRuntime) {
     // Of the members 0 and 31 the first one is left. Up by two words, and down by one, five words
     // are fetched: two that come to a word from two of them, or one from its end.
-    let asked = Asked::new();
-    let mut set = Probe::of(ONES, &asked);
-    shift(&mut set, 9, 8);
-    same!(rt; set.bytes, [2, 0, 0, 0]);
-    same!(rt; (asked.fetches(), asked.other()), (10, 8));
+    change_ones(
+        &rt,
+        Change::Shifts(9, 8),
+        ZEROS,
+        [2, 0, 0, 0],
+        (10, 8),
+        (0, 0),
+    );
 }
 
 #[test]
 fn a_shift_in_place_past_all_fetches_nothing(rt: HostRuntime) {
-    let asked = Asked::new();
-    let mut set = Probe::of(ONES, &asked);
-    shift(&mut set, 40, 40);
-    same!(rt; (set.bytes, asked.fetches(), asked.other()), ([0; 4], 0, 2));
+    change_ones(&rt, Change::Shifts(40, 40), ZEROS, [0; 4], (0, 2), (0, 0));
 }

@@ -1,14 +1,11 @@
 //! What the everyday calls that change a set ask of it: one word for one bit, and the words up to
 //! the answer where they search.
-//!
-//! The calls are made on any owned set, so that each is proved once: the row of the tests has twelve
-//! words and two members, 451 and 508, or lacks these two alone.
 
-ghost use Rattle.std.specs.Prelude.{◌*◌, ◌≤◌, IsTrue};
+ghost use Rattle.std.specs.Prelude.{◌≤◌, IsTrue};
 
 use crate::asked::Asked;
-use crate::probe_rows::{TWO, costs, row_of};
-use bittle::{BitsOwned, Shape};
+use crate::probe_rows::{Measured, costs, measure_rows};
+use bittle::BitsOwned;
 use bittle_ext::{BitsIndexMutExt, BitsMutExt};
 use std::process::Abort;
 
@@ -24,46 +21,34 @@ enum Kind {
     Lists,
 }
 
-// Changes a set with the two members, or one that lacks these two alone.
-fn change<B: BitsOwned>(rt: &impl Abort, kind: Kind, few: B, most: B, asked: &Asked)
-    requires indexable { IsTrue B.indexable }
-    requires long { 200 ≤ B.type_capacity }
-{
-    match kind {
-        Kind::OneBitTold => change_one_bit(rt, few, asked),
-        Kind::OneBit => assign_one_bit(rt, few, asked),
-        Kind::Refused => change_past_the_capacity(rt, few, asked),
-        Kind::Ranges => change_ranges(rt, few, asked),
-        Kind::Taken => {
-            take_members(rt, few, asked);
-            take_others(rt, most, asked);
+impl Measured for Kind {
+    fn measure<B: BitsOwned>(
+        self,
+        rt: &impl Abort,
+        few: B,
+        most: B,
+        _one: B,
+        _none: B,
+        _low: B,
+        _lower: B,
+        asked: &Asked,
+    ) {
+        match self {
+            Kind::OneBitTold => change_one_bit(rt, few, asked),
+            Kind::OneBit => assign_one_bit(rt, few, asked),
+            Kind::Refused => change_past_the_capacity(rt, few, asked),
+            Kind::Ranges => change_ranges(rt, few, asked),
+            Kind::Taken => {
+                take_members(rt, few, asked);
+                take_others(rt, most, asked);
+            }
+            Kind::Retained => {
+                retain_some(rt, few, asked);
+                retain_none(rt, few, asked);
+            }
+            Kind::Lists => add_lists(rt, few, asked),
         }
-        Kind::Retained => {
-            retain_some(rt, few, asked);
-            retain_none(rt, few, asked);
-        }
-        Kind::Lists => add_lists(rt, few, asked),
     }
-}
-
-// Changes rows of any element, which is proved in less time than of the rows of the tests.
-fn change_any_rows<T: BitsOwned>(
-    rt: &impl Abort,
-    kind: Kind,
-    few: [T; 12],
-    most: [T; 12],
-    asked: &Asked,
-)
-    requires indexable { IsTrue ⟦<[T; 12] as Shape>⟧.indexable }
-    requires long { 200 ≤ 12 * T.type_capacity }
-{
-    change(rt, kind, few, most, asked);
-}
-
-fn change_rows(rt: &impl Abort, kind: Kind) {
-    let asked = Asked::new();
-    let (few, most) = (row_of(0, TWO, &asked), row_of(!0, !TWO, &asked));
-    change_any_rows(rt, kind, few, most, &asked);
 }
 
 fn change_one_bit<B: BitsOwned>(rt: &impl Abort, mut few: B, asked: &Asked)
@@ -80,7 +65,7 @@ fn change_one_bit<B: BitsOwned>(rt: &impl Abort, mut few: B, asked: &Asked)
 
 #[test]
 fn a_change_of_one_bit_that_reports_it_reads_one_word_and_writes_it(rt: HostRuntime) {
-    change_rows(&rt, Kind::OneBitTold);
+    measure_rows(&rt, Kind::OneBitTold);
 }
 
 fn assign_one_bit<B: BitsOwned>(rt: &impl Abort, mut few: B, asked: &Asked)
@@ -95,7 +80,7 @@ fn assign_one_bit<B: BitsOwned>(rt: &impl Abort, mut few: B, asked: &Asked)
 
 #[test]
 fn a_change_of_one_bit_that_reports_nothing_makes_one_call(rt: HostRuntime) {
-    change_rows(&rt, Kind::OneBit);
+    measure_rows(&rt, Kind::OneBit);
 }
 
 fn change_past_the_capacity<B: BitsOwned>(rt: &impl Abort, mut few: B, asked: &Asked)
@@ -109,7 +94,7 @@ fn change_past_the_capacity<B: BitsOwned>(rt: &impl Abort, mut few: B, asked: &A
 
 #[test]
 fn a_change_that_is_refused_asks_nothing(rt: HostRuntime) {
-    change_rows(&rt, Kind::Refused);
+    measure_rows(&rt, Kind::Refused);
 }
 
 // Indexes 100 to 199 lie in words 1, 2 and 3.
@@ -127,7 +112,7 @@ fn change_ranges<B: BitsOwned>(rt: &impl Abort, mut few: B, asked: &Asked)
 
 #[test]
 fn a_change_of_a_range_asks_each_element_of_it_once(rt: HostRuntime) {
-    change_rows(&rt, Kind::Ranges);
+    measure_rows(&rt, Kind::Ranges);
 }
 
 fn take_members<B: BitsOwned>(rt: &impl Abort, mut few: B, asked: &Asked)
@@ -150,7 +135,7 @@ fn take_others<B: BitsOwned>(rt: &impl Abort, mut most: B, asked: &Asked)
 
 #[test]
 fn what_is_taken_is_searched_for_once_and_changed_once(rt: HostRuntime) {
-    change_rows(&rt, Kind::Taken);
+    measure_rows(&rt, Kind::Taken);
 }
 
 // Each word is fetched once. Word 7 is written once if a bit of it goes, or both.
@@ -170,7 +155,7 @@ fn retain_none<B: BitsOwned>(rt: &impl Abort, mut few: B, asked: &Asked)
 
 #[test]
 fn retain_reads_each_word_once_and_writes_those_that_change(rt: HostRuntime) {
-    change_rows(&rt, Kind::Retained);
+    measure_rows(&rt, Kind::Retained);
 }
 
 fn add_lists<B: BitsOwned>(rt: &impl Abort, mut few: B, asked: &Asked)
@@ -182,5 +167,5 @@ fn add_lists<B: BitsOwned>(rt: &impl Abort, mut few: B, asked: &Asked)
 
 #[test]
 fn a_list_of_indexes_makes_one_call_for_each(rt: HostRuntime) {
-    change_rows(&rt, Kind::Lists);
+    measure_rows(&rt, Kind::Lists);
 }

@@ -1,16 +1,12 @@
 //! What the everyday calls on two sets ask of them. Like words are compared four at a time, and the
 //! four that decide are read again, up to the one that decides. Unlike words are searched from the
 //! set bits of one set to those of the other.
-//!
-//! The calls are made on any two sets, so that each is proved once: the rows of the tests have twelve
-//! words, and their members lie in word 7, at 451 and 508.
 
-ghost use Rattle.std.specs.Prelude.{IsTrue};
 ghost use Rattle.bittle.specs.Values.{ShapeFits};
 
 use crate::asked::Asked;
-use crate::probe_rows::{TWO, costs, row_of};
-use bittle::{Bits, BitsOwned, LittleEndian, Shape};
+use crate::probe_rows::{Measured, costs, measure_rows};
+use bittle::{Bits, BitsOwned, LittleEndian};
 use bittle_ext::{BitsRelationExt, BitsViewExt};
 use std::process::Abort;
 
@@ -24,60 +20,26 @@ enum Pair {
     TwoOrders,
 }
 
-// Relates a set with the two members to its like, to one that has index 451 alone, or to one of
-// nothing, and two that have the first bit of each word but one, or its first two bits.
-fn relate<B: BitsOwned>(
-    rt: &impl Abort,
-    pair: Pair,
-    left: B,
-    one: B,
-    none: B,
-    low: B,
-    lower: B,
-    asked: &Asked,
-)
-    requires { IsTrue B.indexable }
-{
-    let right = left;
-    match pair {
-        Pair::Meet => relate_those_that_meet(rt, &left, &right, &none, asked),
-        Pair::Agree => relate_those_that_agree(rt, &left, &right, &none, asked),
-        Pair::FirstWord => relate_by_the_first_word(rt, &low, &lower, asked),
-        Pair::Counted => count_two_sets(rt, &left, &one, asked),
-        Pair::TwoOrders => relate_in_two_orders(rt, &left, &right, asked),
+impl Measured for Pair {
+    fn measure<B: BitsOwned>(
+        self,
+        rt: &impl Abort,
+        few: B,
+        _most: B,
+        one: B,
+        none: B,
+        low: B,
+        lower: B,
+        asked: &Asked,
+    ) {
+        match self {
+            Pair::Meet => relate_those_that_meet(rt, &few, &few, &none, asked),
+            Pair::Agree => relate_those_that_agree(rt, &few, &few, &none, asked),
+            Pair::FirstWord => relate_by_the_first_word(rt, &low, &lower, asked),
+            Pair::Counted => count_two_sets(rt, &few, &one, asked),
+            Pair::TwoOrders => relate_in_two_orders(rt, &few, &few, asked),
+        }
     }
-}
-
-// Relates rows of any element, which is proved in less time than of the rows of the tests.
-fn relate_any_rows<T: BitsOwned>(
-    rt: &impl Abort,
-    pair: Pair,
-    left: [T; 12],
-    one: [T; 12],
-    none: [T; 12],
-    low: [T; 12],
-    lower: [T; 12],
-    asked: &Asked,
-)
-    requires { IsTrue ⟦<[T; 12] as Shape>⟧.indexable }
-{
-    relate(rt, pair, left, one, none, low, lower, asked);
-}
-
-fn relate_rows(rt: &impl Abort, pair: Pair) {
-    let asked = Asked::new();
-    let (one, none) = (row_of(0, 8, &asked), row_of(0, 0, &asked));
-    let (low, lower) = (row_of(1, TWO, &asked), row_of(3, TWO, &asked));
-    relate_any_rows(
-        rt,
-        pair,
-        row_of(0, TWO, &asked),
-        one,
-        none,
-        low,
-        lower,
-        &asked,
-    );
 }
 
 // Word 7 decides. Of each set that is eight words, and the last four of them again.
@@ -96,7 +58,7 @@ fn relate_those_that_meet<B: Bits>(rt: &impl Abort, left: &B, right: &B, none: &
 
 #[test]
 fn relations_of_like_words_fetch_both_up_to_the_four_words_that_decide(rt: HostRuntime) {
-    relate_rows(&rt, Pair::Meet);
+    measure_rows(&rt, Pair::Meet);
 }
 
 fn relate_those_that_agree<B: Bits>(rt: &impl Abort, left: &B, right: &B, none: &B, asked: &Asked)
@@ -114,7 +76,7 @@ fn relate_those_that_agree<B: Bits>(rt: &impl Abort, left: &B, right: &B, none: 
 
 #[test]
 fn relations_of_like_words_that_nothing_decides_fetch_both_once(rt: HostRuntime) {
-    relate_rows(&rt, Pair::Agree);
+    measure_rows(&rt, Pair::Agree);
 }
 
 fn relate_by_the_first_word<B: Bits>(rt: &impl Abort, left: &B, right: &B, asked: &Asked)
@@ -131,7 +93,7 @@ fn relate_by_the_first_word<B: Bits>(rt: &impl Abort, left: &B, right: &B, asked
 
 #[test]
 fn relations_that_the_first_word_decides_fetch_four_words_of_both_and_it_again(rt: HostRuntime) {
-    relate_rows(&rt, Pair::FirstWord);
+    measure_rows(&rt, Pair::FirstWord);
 }
 
 // What an operation makes of two words is counted, so no element is asked for its count.
@@ -146,7 +108,7 @@ fn count_two_sets<B: Bits>(rt: &impl Abort, left: &B, right: &B, asked: &Asked)
 
 #[test]
 fn counts_of_like_words_fetch_both_once(rt: HostRuntime) {
-    relate_rows(&rt, Pair::Counted);
+    measure_rows(&rt, Pair::Counted);
 }
 
 // From the left the indexes of word 7 are 451 and 508 too: 3 and 60 are mirror images. Of the two
@@ -162,5 +124,5 @@ fn relate_in_two_orders<B: Bits>(rt: &impl Abort, left: &B, right: &B, asked: &A
 
 #[test]
 fn relations_in_two_orders_search_from_item_to_item(rt: HostRuntime) {
-    relate_rows(&rt, Pair::TwoOrders);
+    measure_rows(&rt, Pair::TwoOrders);
 }

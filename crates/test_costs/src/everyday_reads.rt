@@ -1,15 +1,12 @@
 //! What the everyday calls that read one set ask of it: the words from where they begin to the one
 //! that decides, each once.
-//!
-//! The calls are made on any set, so that each is proved once: the row of the tests has twelve words
-//! and two members, 451 and 508, or lacks these two alone.
 
-ghost use Rattle.std.specs.Prelude.{IsTrue};
 ghost use Rattle.bittle.specs.Values.{ShapeFits};
 
 use crate::asked::Asked;
-use crate::probe_rows::{TWO, costs, row_of};
-use bittle::{Bits, BitsOwned, Shape};
+use crate::probe_rows::{Measured, costs, measure_rows};
+use crate::walked::count_owned;
+use bittle::{Bits, BitsOwned};
 use bittle_ext::{BitsExt, BitsIndexExt, BitsSpanExt};
 use std::process::Abort;
 
@@ -27,44 +24,33 @@ enum Question {
     OneBit,
 }
 
-// Asks a set with the two members, one that lacks these two alone, and one with many members.
-fn ask<B: BitsOwned>(rt: &impl Abort, question: Question, few: B, most: B, many: B, asked: &Asked)
-    requires { IsTrue B.indexable }
-{
-    match question {
-        Question::Ends => ask_for_ends(rt, &few, &most, asked),
-        Question::Neighbours => ask_for_neighbours(rt, &few, &most, asked),
-        Question::Ranges => count_ranges(rt, &few, asked),
-        Question::Spans => count_spans(rt, &few, asked),
-        Question::AnyAndAll => question_ranges(rt, &few, &most, asked),
-        Question::Select => select_two(rt, &few, &many, asked),
-        Question::Runs => {
-            search_for_runs_of_ones(rt, &few, asked);
-            search_for_runs_of_zeros(rt, &most, &few, asked);
+impl Measured for Question {
+    fn measure<B: BitsOwned>(
+        self,
+        rt: &impl Abort,
+        few: B,
+        most: B,
+        _one: B,
+        _none: B,
+        low: B,
+        _lower: B,
+        asked: &Asked,
+    ) {
+        match self {
+            Question::Ends => ask_for_ends(rt, &few, &most, asked),
+            Question::Neighbours => ask_for_neighbours(rt, &few, &most, asked),
+            Question::Ranges => count_ranges(rt, &few, asked),
+            Question::Spans => count_spans(rt, &few, asked),
+            Question::AnyAndAll => question_ranges(rt, &few, &most, asked),
+            Question::Select => select_two(rt, &few, &low, asked),
+            Question::Runs => {
+                search_for_runs_of_ones(rt, &few, asked);
+                search_for_runs_of_zeros(rt, &most, &few, asked);
+            }
+            Question::LongerRuns => search_for_longer_runs(rt, &few, asked),
+            Question::OneBit => ask_for_one_bit(rt, &few, asked),
         }
-        Question::LongerRuns => search_for_longer_runs(rt, &few, asked),
-        Question::OneBit => ask_for_one_bit(rt, &few, asked),
     }
-}
-
-// Asks rows of any element, which is proved in less time than of the rows of the tests.
-fn ask_any_rows<T: BitsOwned>(
-    rt: &impl Abort,
-    question: Question,
-    few: [T; 12],
-    most: [T; 12],
-    many: [T; 12],
-    asked: &Asked,
-)
-    requires { IsTrue ⟦<[T; 12] as Shape>⟧.indexable }
-{
-    ask(rt, question, few, most, many, asked);
-}
-
-fn ask_rows(rt: &impl Abort, question: Question) {
-    let asked = Asked::new();
-    let (few, most) = (row_of(0, TWO, &asked), row_of(!0, !TWO, &asked));
-    ask_any_rows(rt, question, few, most, row_of(1, TWO, &asked), &asked);
 }
 
 fn ask_for_ends<B: Bits>(rt: &impl Abort, few: &B, most: &B, asked: &Asked)
@@ -79,7 +65,7 @@ fn ask_for_ends<B: Bits>(rt: &impl Abort, few: &B, most: &B, asked: &Asked)
 
 #[test]
 fn ends_fetch_the_words_up_to_the_answer(rt: HostRuntime) {
-    ask_rows(&rt, Question::Ends);
+    measure_rows(&rt, Question::Ends);
 }
 
 fn ask_for_neighbours<B: Bits>(rt: &impl Abort, few: &B, most: &B, asked: &Asked)
@@ -96,7 +82,7 @@ fn ask_for_neighbours<B: Bits>(rt: &impl Abort, few: &B, most: &B, asked: &Asked
 
 #[test]
 fn neighbours_fetch_the_words_up_to_the_answer(rt: HostRuntime) {
-    ask_rows(&rt, Question::Neighbours);
+    measure_rows(&rt, Question::Neighbours);
 }
 
 fn count_ranges<B: Bits>(rt: &impl Abort, few: &B, asked: &Asked)
@@ -111,14 +97,14 @@ fn count_ranges<B: Bits>(rt: &impl Abort, few: &B, asked: &Asked)
 
 #[test]
 fn counts_of_a_range_fetch_its_words_once(rt: HostRuntime) {
-    ask_rows(&rt, Question::Ranges);
+    measure_rows(&rt, Question::Ranges);
 }
 
 fn count_spans<B: Bits>(rt: &impl Abort, few: &B, asked: &Asked)
     requires { ShapeFits B.Shape few.now }
 {
     costs!(rt; asked, few.count_ones_in_span(130..500), 1, 6, 0);
-    costs!(rt; asked, few.iter_ones_in_span(130..500).count(), 1, 6, 0);
+    costs!(rt; asked, count_owned(few.iter_ones_in_span(130..500)), 1, 6, 0);
     costs!(rt; asked, few.first_one_in_span(130..768), Some(451), 6, 0);
     costs!(rt; asked, few.last_one_in_range(0, 640), Some(508), 3, 0);
     costs!(rt; asked, few.any_in_span(130..768), true, 6, 0);
@@ -127,7 +113,7 @@ fn count_spans<B: Bits>(rt: &impl Abort, few: &B, asked: &Asked)
 
 #[test]
 fn a_range_as_rust_writes_it_costs_what_its_two_numbers_cost(rt: HostRuntime) {
-    ask_rows(&rt, Question::Spans);
+    measure_rows(&rt, Question::Spans);
 }
 
 fn question_ranges<B: Bits>(rt: &impl Abort, few: &B, most: &B, asked: &Asked)
@@ -142,7 +128,7 @@ fn question_ranges<B: Bits>(rt: &impl Abort, few: &B, most: &B, asked: &Asked)
 
 #[test]
 fn questions_about_a_range_fetch_up_to_the_answer(rt: HostRuntime) {
-    ask_rows(&rt, Question::AnyAndAll);
+    measure_rows(&rt, Question::AnyAndAll);
 }
 
 fn select_two<B: Bits>(rt: &impl Abort, few: &B, many: &B, asked: &Asked)
@@ -156,7 +142,7 @@ fn select_two<B: Bits>(rt: &impl Abort, few: &B, many: &B, asked: &Asked)
 
 #[test]
 fn select_fetches_up_to_its_word_and_then_that_word_again(rt: HostRuntime) {
-    ask_rows(&rt, Question::Select);
+    measure_rows(&rt, Question::Select);
 }
 
 // Each word once: eight to the first bit, and twelve to the end.
@@ -189,7 +175,7 @@ fn search_for_runs_of_zeros<B: Bits>(rt: &impl Abort, most: &B, few: &B, asked: 
 
 #[test]
 fn runs_of_up_to_four_words_fetch_each_word_once(rt: HostRuntime) {
-    ask_rows(&rt, Question::Runs);
+    measure_rows(&rt, Question::Runs);
 }
 
 // A search from the front finds where a run may begin, and one from the back whether it is broken.
@@ -208,7 +194,7 @@ fn search_for_longer_runs<B: Bits>(rt: &impl Abort, few: &B, asked: &Asked)
 
 #[test]
 fn longer_runs_fetch_twice_for_each_shorter_run(rt: HostRuntime) {
-    ask_rows(&rt, Question::LongerRuns);
+    measure_rows(&rt, Question::LongerRuns);
 }
 
 fn ask_for_one_bit<B: Bits>(rt: &impl Abort, few: &B, asked: &Asked)
@@ -222,5 +208,5 @@ fn ask_for_one_bit<B: Bits>(rt: &impl Abort, few: &B, asked: &Asked)
 
 #[test]
 fn an_index_that_does_not_wrap_asks_for_one_bit_or_nothing(rt: HostRuntime) {
-    ask_rows(&rt, Question::OneBit);
+    measure_rows(&rt, Question::OneBit);
 }

@@ -46,6 +46,8 @@ mod tiers;
 #[cfg(test)]
 mod views;
 #[cfg(test)]
+mod walked;
+#[cfg(test)]
 mod walks;
 #[cfg(test)]
 mod word_probe;

@@ -3,54 +3,127 @@
 ghost use Rattle.std.specs.Prelude.{◌*◌};
 ghost use Rattle.bittle.specs.Shapes.{Fits};
 
-use crate::asked::Asked;
+use crate::asked::{Asked, counts};
 use crate::checks::{holds, same};
 use crate::probe::{ONES, Probe, ZEROS};
 use crate::probe_rows::{TWO, costs, row_of};
-use bit_pages::{Answer, NotTaken, Pages, Request};
+use bit_pages::{Answer, Pages, Request};
 use bittle::{BitsOwned, Shape};
 use std::process::Abort;
+
+// What is done with an allocator of 32 pages.
+#[derive(Drop)]
+enum Use {
+    Take,
+    GiveBack,
+    Count,
+    Serve,
+    Compare,
+}
+
+// Uses an allocator with this map so, or compares it with one that has the other map.
+fn use_pages<B: BitsOwned>(rt: &impl Abort, kind: Use, map: B, other: B, asked: &Asked)
+    requires { Fits B.indexable B.type_capacity }
+{
+    let pages = Pages::with_taken(map);
+    match kind {
+        Use::Take => take_two(rt, pages, asked),
+        Use::GiveBack => give_one_back(rt, pages, asked),
+        Use::Count => count(rt, pages),
+        Use::Serve => serve_three(rt, pages),
+        Use::Compare => holds!(rt; pages.same_pages(&Pages::with_taken(other))),
+    }
+}
+
+// Uses an allocator with the map of these bytes so, and tests what was asked of it, and of the map
+// of `ONES`.
+fn use_bytes(
+    rt: &impl Abort,
+    kind: Use,
+    bytes: [u8; 4],
+    of_ours: (u32, u32),
+    of_theirs: (u32, u32),
+) {
+    let (ours, theirs) = (Asked::new(), Asked::new());
+    use_pages(
+        rt,
+        kind,
+        Probe::of(bytes, &ours),
+        Probe::of(ONES, &theirs),
+        &ours,
+    );
+    counts!(rt; ours, of_ours.0, of_ours.1);
+    counts!(rt; theirs, of_theirs.0, of_theirs.1);
+}
 
 // Takes the pages 0 and 31, and then none.
 fn take_two<B: BitsOwned>(rt: &impl Abort, mut pages: Pages<B>, asked: &Asked) {
     // The map was counted once.
-    same!(rt; (asked.fetches(), asked.other()), (0, 1));
+    counts!(rt; asked, 0, 1);
 
     // Page 0 is free, in the first word. A search begins with the first word.
     same!(rt; pages.take(), Some(0));
-    same!(rt; (asked.fetches(), asked.other()), (1, 2));
+    counts!(rt; asked, 1, 2);
 
     // Now page 31 is free alone, in the last word.
     same!(rt; pages.take(), Some(31));
-    same!(rt; (asked.fetches(), asked.other()), (5, 3));
+    counts!(rt; asked, 5, 3);
 
     // Now none is, which the count tells.
     same!(rt; pages.take(), None);
-    same!(rt; (asked.fetches(), asked.other()), (5, 3));
 }
 
 #[test]
 fn taking_a_page_is_a_search_and_a_call(rt: HostRuntime) {
-    let asked = Asked::new();
-    take_two(&rt, Pages::with_taken(Probe::of(ZEROS, &asked)), &asked);
+    use_bytes(&rt, Use::Take, ZEROS, (5, 3), (0, 0));
 }
 
 // Gives page 31 back, and two that are not taken.
 fn give_one_back<B: BitsOwned>(rt: &impl Abort, mut pages: Pages<B>, asked: &Asked) {
-    holds!(rt; pages.give_back(31) == Ok(()));
-    same!(rt; (asked.fetches(), asked.other()), (0, 3));
+    holds!(rt; pages.give_back(31).is_ok());
+    counts!(rt; asked, 0, 3);
 
     // Page 9 is not taken, and page 32 is none.
-    holds!(rt; pages.give_back(9) == Err(NotTaken));
-    same!(rt; (asked.fetches(), asked.other()), (0, 4));
-    holds!(rt; pages.give_back(32) == Err(NotTaken));
-    same!(rt; (asked.fetches(), asked.other()), (0, 4));
+    holds!(rt; pages.give_back(9).is_err());
+    counts!(rt; asked, 0, 4);
+    holds!(rt; pages.give_back(32).is_err());
 }
 
 #[test]
 fn giving_a_page_back_is_two_calls(rt: HostRuntime) {
-    let asked = Asked::new();
-    give_one_back(&rt, Pages::with_taken(Probe::of(ONES, &asked)), &asked);
+    use_bytes(&rt, Use::GiveBack, ONES, (0, 4), (0, 0));
+}
+
+// Asks how many pages there are, and how many of them are taken and free.
+fn count<B: BitsOwned>(rt: &impl Abort, pages: Pages<B>) {
+    same!(rt; pages.pages(), 32);
+    same!(rt; pages.taken(), 2);
+    same!(rt; pages.free(), 30);
+}
+
+#[test]
+fn a_map_is_counted_once(rt: HostRuntime) {
+    use_bytes(&rt, Use::Count, ONES, (0, 1), (0, 0));
+}
+
+// Gives a page back, takes one, and gives one back that is not taken.
+fn serve_three<B: BitsOwned>(rt: &impl Abort, mut pages: Pages<B>) {
+    let mut answers = [Answer::Full; 3];
+    pages.serve(
+        &[Request::GiveBack(0), Request::Take, Request::GiveBack(9)],
+        &mut answers,
+    );
+    holds!(rt; answers == [Answer::Given, Answer::Page(0), Answer::NotTaken]);
+}
+
+#[test]
+fn a_run_of_requests_asks_what_each_asks(rt: HostRuntime) {
+    use_bytes(&rt, Use::Serve, ONES, (1, 5), (0, 0));
+}
+
+#[test]
+fn two_allocators_are_compared_word_by_word(rt: HostRuntime) {
+    use_bytes(&rt, Use::Compare, ONES, (4, 1), (4, 1));
 }
 
 // Takes the pages 451 and 508 of 768, and gives back those of words 1, 2 and 3.
@@ -59,12 +132,13 @@ fn change_many<B: BitsOwned>(rt: &impl Abort, most: B, asked: &Asked)
 {
     costs!(rt; asked, { let _ = Pages::with_taken(most); }, (), 0, 12);
     let mut pages = Pages::with_taken(most);
+    asked.restart();
     costs!(rt; asked, pages.take(), Some(451), 8, 1);
     costs!(rt; asked, pages.take_run(1), Some(508), 8, 1);
     costs!(rt; asked, pages.take(), None, 0, 0);
     costs!(rt; asked, pages.is_run_taken(100, 100), true, 3, 0);
-    costs!(rt; asked, pages.give_back_run(100, 100) == Ok(()), true, 3, 3);
-    costs!(rt; asked, pages.give_back(451) == Ok(()), true, 0, 2);
+    costs!(rt; asked, pages.give_back_run(100, 100).is_ok(), true, 3, 3);
+    costs!(rt; asked, pages.give_back(451).is_ok(), true, 0, 2);
     costs!(rt; asked, pages.is_taken(451), false, 0, 1);
 }
 
@@ -79,55 +153,4 @@ fn change_many_of_any_row<T: BitsOwned>(rt: &impl Abort, most: [T; 12], asked: &
 fn a_run_of_pages_is_tested_and_changed_word_by_word(rt: HostRuntime) {
     let asked = Asked::new();
     change_many_of_any_row(&rt, row_of(!0, !TWO, &asked), &asked);
-}
-
-// Returns how many pages there are, and how many of them are taken and free.
-fn counts<B: BitsOwned>(map: B) -> (u32, u32, u32)
-    requires { Fits B.indexable B.type_capacity }
-{
-    let pages = Pages::with_taken(map);
-    (pages.pages(), pages.taken(), pages.free())
-}
-
-#[test]
-fn a_map_is_counted_once(rt: HostRuntime) {
-    let asked = Asked::new();
-    same!(rt; counts(Probe::of(ONES, &asked)), (32, 2, 30));
-    same!(rt; (asked.fetches(), asked.other()), (0, 1));
-}
-
-// Returns the answers to a page given back, one taken, and one given back that is not taken.
-fn serve_three<B: BitsOwned>(map: B) -> [Answer; 3]
-    requires { Fits B.indexable B.type_capacity }
-{
-    let mut pages = Pages::with_taken(map);
-    let mut answers = [Answer::Full; 3];
-    pages.serve(
-        &[Request::GiveBack(0), Request::Take, Request::GiveBack(9)],
-        &mut answers,
-    );
-    answers
-}
-
-#[test]
-fn a_run_of_requests_asks_what_each_asks(rt: HostRuntime) {
-    let asked = Asked::new();
-    let answers = serve_three(Probe::of(ONES, &asked));
-    holds!(rt; answers == [Answer::Given, Answer::Page(0), Answer::NotTaken]);
-    same!(rt; (asked.fetches(), asked.other()), (1, 5));
-}
-
-// Returns whether two allocators have the same pages.
-fn have_the_same<B: BitsOwned>(ours: B, theirs: B) -> bool
-    requires { Fits B.indexable B.type_capacity }
-{
-    Pages::with_taken(ours).same_pages(&Pages::with_taken(theirs))
-}
-
-#[test]
-fn two_allocators_are_compared_word_by_word(rt: HostRuntime) {
-    let (left, right) = (Asked::new(), Asked::new());
-    holds!(rt; have_the_same(Probe::of(ONES, &left), Probe::of(ONES, &right)));
-    same!(rt; (left.fetches(), left.other()), (4, 1));
-    same!(rt; (right.fetches(), right.other()), (4, 1));
 }

@@ -1,15 +1,12 @@
-//! What calls that change a whole set or a range of it ask of its words, and of those of another set.
-//!
-//! The calls are made on any owned set, so that each is proved once: the row of the tests has twelve
-//! words and two members, 451 and 508.
+//! What calls that change a whole set or a range of it ask of its words, and of those of another
+//! set.
 
-ghost use Rattle.std.specs.Prelude.{◌*◌, ◌≤◌, IsTrue};
+ghost use Rattle.std.specs.Prelude.{◌≤◌, IsTrue};
 
-use crate::asked::Asked;
-use crate::checks::same;
-use crate::probe_rows::{TWO, costs, row_of};
-use bittle::{BigEndian, BitsMut, BitsOwned, Shape};
-use bittle_ext::{BitsCombineExt, BitsOwnedExt, BitsShiftExt, BitsSpanMutExt};
+use crate::asked::{Asked, counts};
+use crate::probe_rows::{Measured, costs, measure_rows};
+use bittle::{BigEndian, BitsOwned};
+use bittle_ext::{BitsCombineExt, BitsCopyExt, BitsOwnedExt, BitsShiftExt, BitsSpanMutExt};
 use std::process::Abort;
 
 // What is changed in the rows.
@@ -20,48 +17,33 @@ enum Kind {
     Complement,
     ByAnother,
     Moves,
+    CopiedRange,
 }
 
-// Changes a set with the two members, by one that has index 451 alone where there are two.
-fn change<B: BitsOwned>(rt: &impl Abort, kind: Kind, few: B, one: B, asked: &Asked)
-    requires indexable { IsTrue B.indexable }
-    requires long { 200 ≤ B.type_capacity }
-{
-    match kind {
-        Kind::Ranges => change_ranges(rt, few, asked),
-        Kind::All => change_all(rt, few, asked),
-        Kind::Complement => complement(rt, few, asked),
-        Kind::ByAnother => change_by_another(rt, few, one, asked),
-        Kind::Moves => {
-            shift(rt, few, asked);
-            rotate(rt, few, asked);
+impl Measured for Kind {
+    fn measure<B: BitsOwned>(
+        self,
+        rt: &impl Abort,
+        few: B,
+        _most: B,
+        one: B,
+        _none: B,
+        _low: B,
+        _lower: B,
+        asked: &Asked,
+    ) {
+        match self {
+            Kind::Ranges => change_ranges(rt, few, asked),
+            Kind::All => change_all(rt, few, asked),
+            Kind::Complement => complement(rt, few, asked),
+            Kind::ByAnother => change_by_another(rt, few, one, asked),
+            Kind::Moves => {
+                shift(rt, few, asked);
+                rotate(rt, few, asked);
+            }
+            Kind::CopiedRange => copy_range(rt, few, asked),
         }
     }
-}
-
-// Changes rows of any element, which is proved in less time than of the rows of the tests.
-fn change_any_rows<T: BitsOwned>(
-    rt: &impl Abort,
-    kind: Kind,
-    few: [T; 12],
-    one: [T; 12],
-    asked: &Asked,
-)
-    requires indexable { IsTrue ⟦<[T; 12] as Shape>⟧.indexable }
-    requires long { 200 ≤ 12 * T.type_capacity }
-{
-    change(rt, kind, few, one, asked);
-}
-
-fn change_rows(rt: &impl Abort, kind: Kind) {
-    let asked = Asked::new();
-    change_any_rows(
-        rt,
-        kind,
-        row_of(0, TWO, &asked),
-        row_of(0, 8, &asked),
-        &asked,
-    );
 }
 
 // Indexes 100 to 199 lie in words 1, 2 and 3.
@@ -79,7 +61,7 @@ fn change_ranges<B: BitsOwned>(rt: &impl Abort, mut few: B, asked: &Asked)
 
 #[test]
 fn a_change_of_a_range_in_an_order_asks_each_element_of_it_once(rt: HostRuntime) {
-    change_rows(&rt, Kind::Ranges);
+    measure_rows(&rt, Kind::Ranges);
 }
 
 // An operation on two sets of one type is a call of each element, which reads the other's.
@@ -94,7 +76,7 @@ fn change_all<B: BitsOwned>(rt: &impl Abort, mut few: B, asked: &Asked)
 
 #[test]
 fn a_change_of_all_bits_asks_each_element_once(rt: HostRuntime) {
-    change_rows(&rt, Kind::All);
+    measure_rows(&rt, Kind::All);
 }
 
 // The unset bits are those of the set with each bit, which counts nothing, less the set: the set
@@ -103,20 +85,34 @@ fn complement<B: BitsOwned>(rt: &impl Abort, few: B, asked: &Asked)
     requires { IsTrue B.indexable }
 {
     let _ = few.complement();
-    same!(rt; (asked.fetches(), asked.other()), (0, 0));
+    counts!(rt; asked, 0, 0);
 }
 
 #[test]
 fn a_complement_asks_the_set_for_nothing_before_it_is_taken_away(rt: HostRuntime) {
-    change_rows(&rt, Kind::Complement);
+    measure_rows(&rt, Kind::Complement);
 }
 
 // Each word of both sets is read, and each of the first is written.
 fn change_by_another<B: BitsOwned>(rt: &impl Abort, mut few: B, other: B, asked: &Asked)
     requires { IsTrue B.indexable }
 {
+    unite_and_intersect(rt, &mut few, other, asked);
+    take_away_and_copy(rt, &mut few, other, asked);
+}
+
+// Changes a set by what either has, and by what both have.
+fn unite_and_intersect<B: BitsOwned>(rt: &impl Abort, few: &mut B, other: B, asked: &Asked)
+    requires { IsTrue B.indexable }
+{
     costs!(rt; asked, few.union_with(&other), false, 24, 12);
     costs!(rt; asked, few.intersect_with(&other), true, 24, 12);
+}
+
+// Changes a set by what one has alone, and by all that the other has.
+fn take_away_and_copy<B: BitsOwned>(rt: &impl Abort, few: &mut B, other: B, asked: &Asked)
+    requires { IsTrue B.indexable }
+{
     costs!(rt; asked, few.difference_with(&other), true, 24, 12);
     costs!(rt; asked, few.symmetric_difference_with(&other), true, 24, 12);
     costs!(rt; asked, few.copy_from(&other), (), 24, 12);
@@ -124,7 +120,7 @@ fn change_by_another<B: BitsOwned>(rt: &impl Abort, mut few: B, other: B, asked:
 
 #[test]
 fn a_change_by_another_set_reads_each_word_of_both_once(rt: HostRuntime) {
-    change_rows(&rt, Kind::ByAnother);
+    measure_rows(&rt, Kind::ByAnother);
 }
 
 // By 65 indexes ten words come from two each, one from the end of one, and one is empty.
@@ -137,10 +133,10 @@ fn shift<B: BitsOwned>(rt: &impl Abort, mut few: B, asked: &Asked)
     costs!(rt; asked, few.shift_down(65), (), 21, 12);
 }
 
-// Each word comes from two. In place, down by three words and 8 bits, 1 + 4 and then 6 pairs of words
-// are exchanged, each word comes from two, and the bits that pass the end from the first to the last
-// one. Up by a word and a bit all is moved at once, and the bits of the last two words go to the
-// first two.
+// Each word comes from two. In place, down by three words and 8 bits, 1 + 4 and then 6 pairs of
+// words are exchanged, each word comes from two, and the bits that pass the end from the first to
+// the last one. Up by a word and a bit all is moved at once, and the bits of the last two words go
+// to the first two.
 fn rotate<B: BitsOwned>(rt: &impl Abort, mut few: B, asked: &Asked)
     requires { IsTrue B.indexable }
 {
@@ -152,5 +148,19 @@ fn rotate<B: BitsOwned>(rt: &impl Abort, mut few: B, asked: &Asked)
 
 #[test]
 fn a_move_of_all_bits_reads_each_word_a_few_times(rt: HostRuntime) {
-    change_rows(&rt, Kind::Moves);
+    measure_rows(&rt, Kind::Moves);
+}
+
+// Indexes 130 to 257 lie in words 2, 3 and 4, which are read and written.
+fn copy_range<B: BitsOwned>(rt: &impl Abort, mut few: B, asked: &Asked)
+    requires indexable { IsTrue B.indexable }
+    requires long { 258 ≤ B.type_capacity }
+{
+    let plain = [0u64; 2];
+    costs!(rt; asked, few.copy_range(&plain, 0, 128, 130), (), 3, 3);
+}
+
+#[test]
+fn a_range_is_copied_to_each_of_its_words_once(rt: HostRuntime) {
+    measure_rows(&rt, Kind::CopiedRange);
 }

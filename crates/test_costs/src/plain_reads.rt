@@ -1,13 +1,11 @@
 //! What the library's own calls that read a set ask of it: counts and iterators each word once, and
 //! questions and searches the words up to the answer.
-//!
-//! The calls are made on any owned set, so that each is proved once: the row of the tests has twelve
-//! words and two members, 451 and 508, or lacks these two alone.
 
-ghost use Rattle.std.specs.Prelude.{◌*◌, ◌≤◌, IsTrue};
+ghost use Rattle.std.specs.Prelude.{◌≤◌, IsTrue};
 
 use crate::asked::Asked;
-use crate::probe_rows::{TWO, costs, row_of};
+use crate::probe_rows::{Measured, costs, measure_rows};
+use crate::walked::{count, count_owned, count_owned_back, next_joined};
 use crate::word_probe::WordProbe;
 use bittle::join::JoinOnes;
 use bittle::{BigEndian, Bits, BitsOwned, DefaultEndian, Set, Shape};
@@ -27,38 +25,29 @@ enum Question {
     Comparisons,
 }
 
-// Asks a set with the two members, one that lacks these two alone, and one with many members.
-fn ask<B: BitsOwned>(rt: &impl Abort, question: Question, few: B, most: B, low: B, asked: &Asked)
-    requires indexable { IsTrue B.indexable }
-    requires long { 768 ≤ B.type_capacity }
-{
-    match question {
-        Question::Counts => count_all(rt, few, asked),
-        Question::Searches => search(rt, few, most, asked),
-        Question::Iterators => iterate(rt, few, asked),
-        Question::Comparisons => compare(rt, few, few, low, asked),
+impl Measured for Question {
+    fn measure<B: BitsOwned>(
+        self,
+        rt: &impl Abort,
+        few: B,
+        most: B,
+        _one: B,
+        _none: B,
+        low: B,
+        _lower: B,
+        asked: &Asked,
+    ) {
+        match self {
+            Question::Counts => count_all(rt, few, asked),
+            Question::Searches => search(rt, few, most, asked),
+            Question::Iterators => {
+                iterate(rt, few, asked);
+                iterate_owned(rt, few, asked);
+                join(rt, few, asked);
+            }
+            Question::Comparisons => compare(rt, few, few, low, asked),
+        }
     }
-}
-
-// Asks rows of any element, which is proved in less time than of the rows of the tests.
-fn ask_any_rows<T: BitsOwned>(
-    rt: &impl Abort,
-    question: Question,
-    few: [T; 12],
-    most: [T; 12],
-    low: [T; 12],
-    asked: &Asked,
-)
-    requires indexable { IsTrue ⟦<[T; 12] as Shape>⟧.indexable }
-    requires long { 768 ≤ 12 * T.type_capacity }
-{
-    ask(rt, question, few, most, low, asked);
-}
-
-fn ask_rows(rt: &impl Abort, question: Question) {
-    let asked = Asked::new();
-    let (few, most) = (row_of(0, TWO, &asked), row_of(!0, !TWO, &asked));
-    ask_any_rows(rt, question, few, most, row_of(1, TWO, &asked), &asked);
 }
 
 fn count_all<B: BitsOwned>(rt: &impl Abort, few: B, asked: &Asked)
@@ -72,7 +61,7 @@ fn count_all<B: BitsOwned>(rt: &impl Abort, few: B, asked: &Asked)
 
 #[test]
 fn a_count_asks_each_word_once_and_a_test_one(rt: HostRuntime) {
-    ask_rows(&rt, Question::Counts);
+    measure_rows(&rt, Question::Counts);
 }
 
 // The first word is tested, and then eight and eight: word 9 decides.
@@ -122,24 +111,37 @@ fn search<B: BitsOwned>(rt: &impl Abort, few: B, most: B, asked: &Asked)
 
 #[test]
 fn searches_fetch_the_words_up_to_the_answer(rt: HostRuntime) {
-    ask_rows(&rt, Question::Searches);
+    measure_rows(&rt, Question::Searches);
 }
 
+// Goes over a borrowed set.
 fn iterate<B: BitsOwned>(rt: &impl Abort, few: B, asked: &Asked)
     requires { IsTrue B.indexable }
 {
-    costs!(rt; asked, few.iter_ones().count(), 2, 12, 0);
-    costs!(rt; asked, few.iter_zeros().count(), 766, 12, 0);
-    costs!(rt; asked, few.into_iter_ones().count(), 2, 12, 0);
-    costs!(rt; asked, few.into_iter_zeros().rev().count(), 766, 12, 0);
+    costs!(rt; asked, count(few.iter_ones()), 2, 12, 0);
+    costs!(rt; asked, count(few.iter_zeros()), 766, 12, 0);
+}
+
+// Goes over an owned set.
+fn iterate_owned<B: BitsOwned>(rt: &impl Abort, few: B, asked: &Asked)
+    requires { IsTrue B.indexable }
+{
+    costs!(rt; asked, count_owned(few.into_iter_ones()), 2, 12, 0);
+    costs!(rt; asked, count_owned_back(few.into_iter_zeros()), 766, 12, 0);
+}
+
+// Goes over numbers at the members of a set.
+fn join<B: BitsOwned>(rt: &impl Abort, few: B, asked: &Asked)
+    requires { IsTrue B.indexable }
+{
     costs!(rt; asked, third_of(few.join_ones(0u32..768)), None, 12, 0);
 }
 
 // Returns the third item of a join.
 fn third_of<B: Bits>(mut join: JoinOnes<'_, B, DefaultEndian, Range<u32>>) -> Option<u32> {
-    let _ = join.next();
-    let _ = join.next();
-    join.next()
+    let _ = next_joined(&mut join);
+    let _ = next_joined(&mut join);
+    next_joined(&mut join)
 }
 
 // Names the type of an iterator over runs by the crate that users name.
@@ -156,7 +158,7 @@ fn the_type_of_an_iterator_over_runs_has_a_path(_rt: HostRuntime) {
 
 #[test]
 fn an_iterator_fetches_each_word_once(rt: HostRuntime) {
-    ask_rows(&rt, Question::Iterators);
+    measure_rows(&rt, Question::Iterators);
 }
 
 // The first word decides: four of both are tested at once, and it is read again.
@@ -166,13 +168,13 @@ fn compare<B: BitsOwned>(rt: &impl Abort, left: B, right: B, low: B, asked: &Ask
     let set = Set::new(left);
     costs!(rt; asked, set.eq_bits(&right), true, 24, 0);
     costs!(rt; asked, set.eq_bits(&low), false, 10, 0);
-    // The least index that decides, 0, is in the right one alone. The left one is asked for its word,
-    // and for the eight words up to its first member.
+    // The least index that decides, 0, is in the right one alone. The left one is asked for its
+    // word, and for the eight words up to its first member.
     costs!(rt; asked, set.cmp_bits(&low), Ordering::Greater, 19, 0);
     costs!(rt; asked, set.hash(&mut DefaultHasher::new()), (), 12, 0);
 }
 
 #[test]
 fn a_comparison_fetches_both_up_to_the_words_that_decide(rt: HostRuntime) {
-    ask_rows(&rt, Question::Comparisons);
+    measure_rows(&rt, Question::Comparisons);
 }

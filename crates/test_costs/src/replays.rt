@@ -1,7 +1,7 @@
 //! What runs of calls ask of their sets: each call once.
 
-use crate::asked::Asked;
-use crate::checks::same;
+use crate::asked::{Asked, counts};
+use crate::checks::holds;
 use crate::probe::{ONES, Probe, ZEROS};
 use bittle::replay::{Call, Reply, Side, replay, replay_mixed, replay_pair};
 use bittle::{BigEndian, LittleEndian};
@@ -25,8 +25,8 @@ fn a_run_makes_each_call_once(rt: HostRuntime) {
     let mut probe = Probe::of(ONES, &asked);
     let mut replies = [Reply::Done; 9];
     replay::<Probe, BigEndian>(&mut probe, &CALLS, &mut replies);
-    same!(rt; (replies[0], replies[3]), (Reply::Bit(true), Reply::Number(2)));
-    same!(rt; (asked.fetches(), asked.other()), (0, 8));
+    holds!(rt; replies[0] == Reply::Bit(true) && replies[3] == Reply::Number(2));
+    counts!(rt; asked, 0, 8);
 }
 
 #[test]
@@ -42,8 +42,8 @@ fn a_run_of_two_sets_makes_each_call_once(rt: HostRuntime) {
         &mut ours,
         &mut theirs,
     );
-    same!(rt; (left.fetches(), left.other()), (0, 8));
-    same!(rt; (right.fetches(), right.other()), (0, 8));
+    counts!(rt; left, 0, 8);
+    counts!(rt; right, 0, 8);
 }
 
 #[test]
@@ -58,5 +58,5 @@ fn a_run_in_two_orders_makes_each_call_once(rt: HostRuntime) {
     ];
     let mut replies = [Reply::Done; 4];
     replay_mixed(&mut probe, &calls, &mut replies);
-    same!(rt; (asked.fetches(), asked.other()), (0, 4));
+    counts!(rt; asked, 0, 4);
 }

@@ -1,50 +1,46 @@
 //! What searches ask of their set: the words from one bound to the item, each once.
 
-ghost use Rattle.std.specs.Prelude.{◌≤◌};
+ghost use Rattle.std.specs.Prelude.{◌*◌, ◌≤◌, IsTrue};
 
-use crate::asked::Asked;
+use crate::asked::{Asked, counts};
 use crate::checks::{holds, same};
 use crate::probe::Probe;
-use bittle::{BigEndian, Bits, Endian, LittleEndian};
+use bittle::{BigEndian, Bits, BitsOwned, Endian, LittleEndian, Shape};
+use std::process::Abort;
 
-// What a search answers, and the words that it fetched, or `None` where it fetched one twice or
-// asked anything else.
-type Found = (Option<u32>, Option<u64>);
-
-fn first_one<E: Endian>(bytes: [u8; 4], from: u32, to: u32) -> Found
-    requires ordered { from ≤ to }
-    requires within { to ≤ 32 }
-{
-    let asked = Asked::new();
-    let found = Probe::of(bytes, &asked).first_one_in::<E>(from, to);
-    (found, asked.words_once())
+// What is searched for in a range.
+#[derive(Drop)]
+enum Search {
+    FirstOne,
+    LastOne,
+    FirstZero,
+    LastZero,
 }
 
-fn last_one<E: Endian>(bytes: [u8; 4], from: u32, to: u32) -> Found
+// Searches a range of a set of these bytes, and tests what is found, and which words are fetched,
+// each once: the bit of index `k` of `words` stands for word `k`.
+fn find<E: Endian>(
+    rt: &impl Abort,
+    kind: Search,
+    bytes: [u8; 4],
+    from: u32,
+    to: u32,
+    wanted: Option<u32>,
+    words: u64,
+)
     requires ordered { from ≤ to }
     requires within { to ≤ 32 }
 {
     let asked = Asked::new();
-    let found = Probe::of(bytes, &asked).last_one_in::<E>(from, to);
-    (found, asked.words_once())
-}
-
-fn first_zero<E: Endian>(bytes: [u8; 4], from: u32, to: u32) -> Found
-    requires ordered { from ≤ to }
-    requires within { to ≤ 32 }
-{
-    let asked = Asked::new();
-    let found = Probe::of(bytes, &asked).first_zero_in::<E>(from, to);
-    (found, asked.words_once())
-}
-
-fn last_zero<E: Endian>(bytes: [u8; 4], from: u32, to: u32) -> Found
-    requires ordered { from ≤ to }
-    requires within { to ≤ 32 }
-{
-    let asked = Asked::new();
-    let found = Probe::of(bytes, &asked).last_zero_in::<E>(from, to);
-    (found, asked.words_once())
+    let set = Probe::of(bytes, &asked);
+    let found = match kind {
+        Search::FirstOne => set.first_one_in::<E>(from, to),
+        Search::LastOne => set.last_one_in::<E>(from, to),
+        Search::FirstZero => set.first_zero_in::<E>(from, to),
+        Search::LastZero => set.last_zero_in::<E>(from, to),
+    };
+    same!(rt; found, wanted);
+    same!(rt; asked.words_once(), Some(words));
 }
 
 // The members are 4, 8 and 31, and in little-endian order 3, 15 and 24.
@@ -55,72 +51,91 @@ const MOST: [u8; 4] = [0xEF, 0xFE, 0xFF, 0x7F];
 
 #[test]
 fn searches_of_the_first_one_fetch_up_to_it(rt: HostRuntime) {
-    let found = first_one::<BigEndian>(FEW, 5, 32);
-    same!(rt; found, (Some(8), Some(0b0011)));
-    let found = first_one::<BigEndian>(FEW, 9, 24);
-    same!(rt; found, (None, Some(0b0110)));
-    let found = first_one::<LittleEndian>(FEW, 4, 32);
-    same!(rt; found, (Some(15), Some(0b0011)));
-    let found = first_one::<LittleEndian>(FEW, 4, 4);
-    same!(rt; found, (None, Some(0)));
+    find::<BigEndian>(&rt, Search::FirstOne, FEW, 5, 32, Some(8), 0b0011);
+    find::<BigEndian>(&rt, Search::FirstOne, FEW, 9, 24, None, 0b0110);
+    find::<LittleEndian>(&rt, Search::FirstOne, FEW, 4, 32, Some(15), 0b0011);
+    find::<LittleEndian>(&rt, Search::FirstOne, FEW, 4, 4, None, 0);
 }
 
 #[test]
 fn searches_of_the_last_one_fetch_down_to_it(rt: HostRuntime) {
-    let found = last_one::<BigEndian>(FEW, 0, 31);
-    same!(rt; found, (Some(8), Some(0b1110)));
-    let found = last_one::<BigEndian>(FEW, 9, 24);
-    same!(rt; found, (None, Some(0b0110)));
-    let found = last_one::<LittleEndian>(FEW, 0, 24);
-    same!(rt; found, (Some(15), Some(0b0110)));
-    let found = last_one::<LittleEndian>(FEW, 15, 15);
-    same!(rt; found, (None, Some(0)));
+    find::<BigEndian>(&rt, Search::LastOne, FEW, 0, 31, Some(8), 0b1110);
+    find::<BigEndian>(&rt, Search::LastOne, FEW, 9, 24, None, 0b0110);
+    find::<LittleEndian>(&rt, Search::LastOne, FEW, 0, 24, Some(15), 0b0110);
+    find::<LittleEndian>(&rt, Search::LastOne, FEW, 15, 15, None, 0);
 }
 
 #[test]
 fn searches_of_the_first_zero_fetch_up_to_it(rt: HostRuntime) {
-    let found = first_zero::<BigEndian>(MOST, 5, 32);
-    same!(rt; found, (Some(8), Some(0b0011)));
-    let found = first_zero::<BigEndian>(MOST, 9, 24);
-    same!(rt; found, (None, Some(0b0110)));
-    let found = first_zero::<LittleEndian>(MOST, 4, 32);
-    same!(rt; found, (Some(15), Some(0b0011)));
-    let found = first_zero::<LittleEndian>(MOST, 4, 4);
-    same!(rt; found, (None, Some(0)));
+    find::<BigEndian>(&rt, Search::FirstZero, MOST, 5, 32, Some(8), 0b0011);
+    find::<BigEndian>(&rt, Search::FirstZero, MOST, 9, 24, None, 0b0110);
+    find::<LittleEndian>(&rt, Search::FirstZero, MOST, 4, 32, Some(15), 0b0011);
+    find::<LittleEndian>(&rt, Search::FirstZero, MOST, 4, 4, None, 0);
 }
 
 #[test]
 fn searches_of_the_last_zero_fetch_down_to_it(rt: HostRuntime) {
-    let found = last_zero::<BigEndian>(MOST, 0, 31);
-    same!(rt; found, (Some(8), Some(0b1110)));
-    let found = last_zero::<BigEndian>(MOST, 9, 24);
-    same!(rt; found, (None, Some(0b0110)));
-    let found = last_zero::<LittleEndian>(MOST, 0, 24);
-    same!(rt; found, (Some(15), Some(0b0110)));
-    let found = last_zero::<LittleEndian>(MOST, 15, 15);
-    same!(rt; found, (None, Some(0)));
+    find::<BigEndian>(&rt, Search::LastZero, MOST, 0, 31, Some(8), 0b1110);
+    find::<BigEndian>(&rt, Search::LastZero, MOST, 9, 24, None, 0b0110);
+    find::<LittleEndian>(&rt, Search::LastZero, MOST, 0, 24, Some(15), 0b0110);
+    find::<LittleEndian>(&rt, Search::LastZero, MOST, 15, 15, None, 0);
+}
+
+// What is asked of a row of twelve words: a search from either end for a bit that it lacks, or a
+// count of a range of a full one.
+#[derive(Drop)]
+enum Question {
+    Last,
+    First,
+    Count,
+}
+
+// Asks a row of 96 bits.
+fn ask<B: BitsOwned>(rt: &impl Abort, question: Question, row: B, asked: &Asked)
+    requires indexable { IsTrue B.indexable }
+    requires long { 96 ≤ B.type_capacity }
+{
+    match question {
+        Question::Last => {
+            same!(rt; row.last_one_in::<BigEndian>(0, 96), None);
+            holds!(rt; asked.is_at_most(12));
+        }
+        Question::First => {
+            same!(rt; row.first_one_in::<BigEndian>(0, 96), None);
+            holds!(rt; asked.is_at_most(12));
+        }
+        Question::Count => {
+            same!(rt; row.count_ones_in_range_in::<LittleEndian>(9, 90), 81);
+            counts!(rt; asked, 11, 0);
+        }
+    }
+}
+
+// Asks a row of any element, which is proved in less time than of the row of the tests.
+fn ask_any_row<T: BitsOwned>(rt: &impl Abort, question: Question, row: [T; 3], asked: &Asked)
+    requires indexable { IsTrue ⟦<[T; 3] as Shape>⟧.indexable }
+    requires long { 96 ≤ 3 * T.type_capacity }
+{
+    ask(rt, question, row, asked);
+}
+
+// Asks a row of three sets of four such bytes.
+fn ask_bytes(rt: &impl Abort, question: Question, byte: u8) {
+    let asked = Asked::new();
+    ask_any_row(rt, question, [Probe::of([byte; 4], &asked); 3], &asked);
 }
 
 #[test]
 fn searches_from_the_back_of_twelve_words_fetch_each_once(rt: HostRuntime) {
-    let asked = Asked::new();
-    let row = [Probe::of([0; 4], &asked); 3];
-    same!(rt; row.last_one_in::<BigEndian>(0, 96), None);
-    holds!(rt; asked.is_at_most(12));
+    ask_bytes(&rt, Question::Last, 0);
 }
 
 #[test]
 fn searches_from_the_front_of_twelve_words_fetch_each_once(rt: HostRuntime) {
-    let asked = Asked::new();
-    let row = [Probe::of([0; 4], &asked); 3];
-    same!(rt; row.first_one_in::<BigEndian>(0, 96), None);
-    holds!(rt; asked.is_at_most(12));
+    ask_bytes(&rt, Question::First, 0);
 }
 
 #[test]
 fn counts_of_a_range_fetch_each_word_once(rt: HostRuntime) {
-    let asked = Asked::new();
-    let row = [Probe::of([255; 4], &asked); 3];
-    same!(rt; row.count_ones_in_range_in::<LittleEndian>(9, 90), 81);
-    same!(rt; (asked.fetches(), asked.other()), (11, 0));
+    ask_bytes(&rt, Question::Count, 255);
 }

@@ -2,7 +2,7 @@
 
 ghost use Rattle.std.specs.Prelude.{◌≤◌, IsTrue};
 
-use crate::asked::Asked;
+use crate::asked::{Asked, counts};
 use crate::checks::{holds, same};
 use crate::probe::{ONES, Probe, ZEROS};
 use bittle::{BigEndian, Bits, BitsMut, BitsOwned, Set};
@@ -11,13 +11,18 @@ use std::hash::{DefaultHasher, Hash};
 use std::process::Abort;
 use std::test::Fail;
 
-// Returns how many words were fetched of the left and of the right set, and how many other calls
-// there were of each.
-fn asked_of(left: &Asked, right: &Asked) -> ((u32, u32), (u32, u32)) {
-    (
-        (left.fetches(), left.other()),
-        (right.fetches(), right.other()),
-    )
+// What is done with a set that a `Set` wraps, or with two.
+#[derive(Drop)]
+enum Use {
+    Union,
+    Conjunction,
+    SymmetricDifference,
+    Difference,
+    Clone,
+    Hash,
+    Text,
+    Reads,
+    Changes,
 }
 
 // Each form of an operator makes one call, which reaches a copy of the left set alone.
@@ -28,145 +33,88 @@ macro_rules! operators {
         let _ = a $operator &b;
         let _ = &a $operator b;
         let _ = &a $operator &b;
-        same!($rt; asked_of($left, $right), ((0, 4), (0, 0)));
+        counts!($rt; $left, 0, 4);
+        counts!($rt; $right, 0, 0);
         a $assigning b;
         a $assigning &b;
-        same!($rt; asked_of($left, $right), ((0, 6), (0, 0)));
+        counts!($rt; $left, 0, 6);
+        counts!($rt; $right, 0, 0);
     }};
 }
 
+// Unites two sets.
 fn unite<B: BitsOwned>(rt: &impl Abort, one: B, left: &Asked, other: B, right: &Asked)
     requires { IsTrue B.indexable }
 {
     operators!(rt; left, one; right, other; |, |=);
 }
 
-#[test]
-fn unions_of_sets_make_one_call(rt: HostRuntime) {
-    let (left, right) = (Asked::new(), Asked::new());
-    unite(
-        &rt,
-        Probe::of(ONES, &left),
-        &left,
-        Probe::of(ZEROS, &right),
-        &right,
-    );
-}
-
+// Takes what two sets have in common.
 fn conjoin<B: BitsOwned>(rt: &impl Abort, one: B, left: &Asked, other: B, right: &Asked)
     requires { IsTrue B.indexable }
 {
     operators!(rt; left, one; right, other; &, &=);
 }
 
-#[test]
-fn conjunctions_of_sets_make_one_call(rt: HostRuntime) {
-    let (left, right) = (Asked::new(), Asked::new());
-    conjoin(
-        &rt,
-        Probe::of(ONES, &left),
-        &left,
-        Probe::of(ZEROS, &right),
-        &right,
-    );
-}
-
+// Takes what one of two sets has alone.
 fn toggle<B: BitsOwned>(rt: &impl Abort, one: B, left: &Asked, other: B, right: &Asked)
     requires { IsTrue B.indexable }
 {
     operators!(rt; left, one; right, other; ^, ^=);
 }
 
-#[test]
-fn symmetric_differences_of_sets_make_one_call(rt: HostRuntime) {
-    let (left, right) = (Asked::new(), Asked::new());
-    toggle(
-        &rt,
-        Probe::of(ONES, &left),
-        &left,
-        Probe::of(ZEROS, &right),
-        &right,
-    );
-}
-
+// Takes what the first set has alone.
 fn subtract<B: BitsOwned>(rt: &impl Abort, one: B, left: &Asked, other: B, right: &Asked)
     requires { IsTrue B.indexable }
 {
     operators!(rt; left, one; right, other; -, -=);
 }
 
-#[test]
-fn differences_of_sets_make_one_call(rt: HostRuntime) {
-    let (left, right) = (Asked::new(), Asked::new());
-    subtract(
-        &rt,
-        Probe::of(ONES, &left),
-        &left,
-        Probe::of(ZEROS, &right),
-        &right,
-    );
-}
-
-#[test]
-fn a_clone_of_a_set_asks_nothing(rt: HostRuntime) {
-    let asked = Asked::new();
-    let set = Set::new(Probe::of(ONES, &asked));
-    holds!(rt; set.clone().is_ok());
-    same!(rt; (asked.fetches(), asked.other()), (0, 0));
-}
-
-#[test]
-fn a_hash_of_a_set_fetches_each_word_once(rt: HostRuntime) {
-    let asked = Asked::new();
-    let set = Set::new(Probe::of(ZEROS, &asked));
-    set.hash(&mut DefaultHasher::new());
-    same!(rt; (asked.fetches(), asked.other()), (4, 0));
-}
-
-// Returns the text of a set.
-fn text_of<B: BitsOwned>(alloc: Global, bits: B) -> Result<String, AllocError>
+// Clones a set, which succeeds.
+fn clone_set<B: BitsOwned>(rt: &impl Abort, bits: B)
     requires { IsTrue B.indexable }
 {
     let set = Set::new(bits);
-    format!(in alloc; "{set:?}")
+    holds!(rt; set.clone().is_ok());
 }
 
-#[test]
-fn a_text_of_a_set_fetches_each_word_once(rt: HostRuntime) -> Result<(), Fail> {
-    let asked = Asked::new();
-    let text = text_of(rt.alloc(), Probe::of(ONES, &asked))?;
-    same!(rt; text.as_str(), "{0, 31}");
-    same!(rt; (asked.fetches(), asked.other()), (4, 0));
+// Hashes a set.
+fn hash_set<B: BitsOwned>(bits: B)
+    requires { IsTrue B.indexable }
+{
+    Set::new(bits).hash(&mut DefaultHasher::new());
+}
+
+// Prints a set with the members 0 and 31.
+fn print_set<B: BitsOwned>(rt: &impl Abort, alloc: Global, bits: B) -> Result<(), AllocError>
+    requires { IsTrue B.indexable }
+{
+    let set = Set::new(bits);
+    let text = format!(in alloc; "{set:?}")?;
+    holds!(rt; text.as_str() == "{0, 31}");
     Ok(())
 }
 
 // Asks a set with the members 0 and 31 of 32 each question once.
-fn read<B: BitsOwned>(rt: &impl Abort, set: B, asked: &Asked)
+fn read<B: BitsOwned>(rt: &impl Abort, set: &B, asked: &Asked)
     requires { IsTrue B.indexable }
 {
-    same!(rt; (set.count_ones(), asked.other()), (2, 1));
-    same!(rt; (set.count_zeros(), asked.other()), (30, 2));
-    same!(rt; (set.all_zeros(), asked.other()), (false, 3));
-    same!(rt; (set.all_ones(), asked.other()), (false, 4));
-    same!(rt; (set.test_bit(31), asked.other()), (true, 5));
-    same!(rt; (set.bits_capacity(), asked.other()), (32, 5));
-    same!(rt; asked.fetches(), 0);
-}
-
-fn read_set<B: BitsOwned>(rt: &impl Abort, bits: B, asked: &Asked)
-    requires { IsTrue B.indexable }
-{
-    read(rt, Set::new(bits), asked);
-}
-
-#[test]
-fn reading_a_set_makes_one_call(rt: HostRuntime) {
-    let asked = Asked::new();
-    read_set(&rt, Probe::of(ONES, &asked), &asked);
+    same!(rt; set.count_ones(), 2);
+    same!(rt; asked.other(), 1);
+    same!(rt; set.count_zeros(), 30);
+    same!(rt; asked.other(), 2);
+    same!(rt; set.all_zeros(), false);
+    same!(rt; asked.other(), 3);
+    same!(rt; set.all_ones(), false);
+    same!(rt; asked.other(), 4);
+    same!(rt; set.test_bit(31), true);
+    same!(rt; asked.other(), 5);
+    same!(rt; set.bits_capacity(), 32);
+    counts!(rt; asked, 0, 5);
 }
 
 // Changes a set by one call of each kind.
-fn change<B: BitsOwned>(mut set: B)
+fn change<B: BitsOwned>(set: &mut B)
     requires indexable { IsTrue B.indexable }
     requires within { 30 ≤ B.type_capacity }
 {
@@ -176,16 +124,103 @@ fn change<B: BitsOwned>(mut set: B)
     set.clear_bits();
 }
 
-fn change_set<B: BitsOwned>(bits: B)
+// Asks a `Set`, or changes it.
+fn ask_or_change<B: BitsOwned>(rt: &impl Abort, asks: bool, bits: B, asked: &Asked)
     requires indexable { IsTrue B.indexable }
     requires within { 30 ≤ B.type_capacity }
 {
-    change(Set::new(bits));
+    let mut set = Set::new(bits);
+    if asks {
+        read(rt, &set, asked)
+    } else {
+        change(&mut set)
+    }
+}
+
+// Uses sets so.
+fn use_sets<B: BitsOwned>(
+    rt: &impl Abort,
+    alloc: Global,
+    kind: Use,
+    one: B,
+    left: &Asked,
+    other: B,
+    right: &Asked,
+) -> Result<(), AllocError>
+    requires indexable { IsTrue B.indexable }
+    requires within { 30 ≤ B.type_capacity }
+{
+    match kind {
+        Use::Union => unite(rt, one, left, other, right),
+        Use::Conjunction => conjoin(rt, one, left, other, right),
+        Use::SymmetricDifference => toggle(rt, one, left, other, right),
+        Use::Difference => subtract(rt, one, left, other, right),
+        Use::Clone => clone_set(rt, one),
+        Use::Hash => hash_set(other),
+        Use::Text => print_set(rt, alloc, one)?,
+        Use::Reads => ask_or_change(rt, true, one, left),
+        Use::Changes => ask_or_change(rt, false, one, left),
+    }
+    Ok(())
+}
+
+// Uses the sets of `ONES` and of `ZEROS` so, and tests what was asked of the two.
+fn use_probes(
+    rt: &impl Abort,
+    alloc: Global,
+    kind: Use,
+    of_ones: (u32, u32),
+    of_zeros: (u32, u32),
+) -> Result<(), Fail> {
+    let (left, right) = (Asked::new(), Asked::new());
+    let (one, other) = (Probe::of(ONES, &left), Probe::of(ZEROS, &right));
+    use_sets(rt, alloc, kind, one, &left, other, &right)?;
+    counts!(rt; left, of_ones.0, of_ones.1);
+    counts!(rt; right, of_zeros.0, of_zeros.1);
+    Ok(())
 }
 
 #[test]
-fn changing_a_set_makes_one_call(rt: HostRuntime) {
-    let asked = Asked::new();
-    change_set(Probe::of(ONES, &asked));
-    same!(rt; (asked.fetches(), asked.other()), (0, 4));
+fn unions_of_sets_make_one_call(rt: HostRuntime) -> Result<(), Fail> {
+    use_probes(&rt, rt.alloc(), Use::Union, (0, 6), (0, 0))
+}
+
+#[test]
+fn conjunctions_of_sets_make_one_call(rt: HostRuntime) -> Result<(), Fail> {
+    use_probes(&rt, rt.alloc(), Use::Conjunction, (0, 6), (0, 0))
+}
+
+#[test]
+fn symmetric_differences_of_sets_make_one_call(rt: HostRuntime) -> Result<(), Fail> {
+    use_probes(&rt, rt.alloc(), Use::SymmetricDifference, (0, 6), (0, 0))
+}
+
+#[test]
+fn differences_of_sets_make_one_call(rt: HostRuntime) -> Result<(), Fail> {
+    use_probes(&rt, rt.alloc(), Use::Difference, (0, 6), (0, 0))
+}
+
+#[test]
+fn a_clone_of_a_set_asks_nothing(rt: HostRuntime) -> Result<(), Fail> {
+    use_probes(&rt, rt.alloc(), Use::Clone, (0, 0), (0, 0))
+}
+
+#[test]
+fn a_hash_of_a_set_fetches_each_word_once(rt: HostRuntime) -> Result<(), Fail> {
+    use_probes(&rt, rt.alloc(), Use::Hash, (0, 0), (4, 0))
+}
+
+#[test]
+fn a_text_of_a_set_fetches_each_word_once(rt: HostRuntime) -> Result<(), Fail> {
+    use_probes(&rt, rt.alloc(), Use::Text, (4, 0), (0, 0))
+}
+
+#[test]
+fn reading_a_set_makes_one_call(rt: HostRuntime) -> Result<(), Fail> {
+    use_probes(&rt, rt.alloc(), Use::Reads, (0, 5), (0, 0))
+}
+
+#[test]
+fn changing_a_set_makes_one_call(rt: HostRuntime) -> Result<(), Fail> {
+    use_probes(&rt, rt.alloc(), Use::Changes, (0, 4), (0, 0))
 }

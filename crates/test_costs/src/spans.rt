@@ -1,40 +1,68 @@
 //! What calls of a range ask of their set: the words of what lies below the capacity, each once.
 
-use crate::asked::Asked;
+ghost use Rattle.bittle.specs.Values.{ShapeFits};
+
+use crate::asked::{Asked, counts};
 use crate::checks::same;
 use crate::probe::{ONES, Probe};
+use crate::walked::count_owned;
+use bittle::Bits;
 use bittle_ext::prelude::*;
+use std::process::Abort;
 
-// The members of a probe of `ONES` are 0 and 31, of 32 bits in four words.
+// What is asked of a set.
+#[derive(Drop)]
+enum Question {
+    Counts,
+    Searches,
+    Tests,
+    Iterator,
+}
+
+// Asks a set with the members 0 and 31, of 32 bits in four words.
+fn ask<B: Bits>(rt: &impl Abort, question: Question, set: &B)
+    requires { ShapeFits B.Shape set.now }
+{
+    match question {
+        Question::Counts => {
+            same!(rt; set.count_ones_in_span(16..900), 1);
+            same!(rt; set.count_zeros_in_range(40, 900), 0);
+        }
+        Question::Searches => {
+            same!(rt; set.first_one_in_span(..), Some(0));
+            same!(rt; set.last_one_in_range(8, 99), Some(31));
+        }
+        Question::Tests => {
+            same!(rt; set.all_in_range(0, 33), false);
+            same!(rt; set.all_in_span(40..=39), true);
+        }
+        Question::Iterator => same!(rt; count_owned(set.iter_ones_in_span(16..)), 1),
+    }
+}
+
+// Asks the set of `ONES`, and tests how many words that fetches.
+fn ask_ones(rt: &impl Abort, question: Question, fetched: u32) {
+    let asked = Asked::new();
+    ask(rt, question, &Probe::of(ONES, &asked));
+    counts!(rt; asked, fetched, 0);
+}
 
 #[test]
 fn a_count_past_the_capacity_fetches_the_words_below_it_once(rt: HostRuntime) {
-    let asked = Asked::new();
-    let set = Probe::of(ONES, &asked);
-    same!(rt; (set.count_ones_in_span(16..900), set.count_zeros_in_range(40, 900)), (1, 0));
-    same!(rt; (asked.fetches(), asked.other()), (2, 0));
+    ask_ones(&rt, Question::Counts, 2);
 }
 
 #[test]
 fn a_search_of_a_range_fetches_up_to_its_answer(rt: HostRuntime) {
-    let asked = Asked::new();
-    let set = Probe::of(ONES, &asked);
-    same!(rt; (set.first_one_in_span(..), set.last_one_in_range(8, 99)), (Some(0), Some(31)));
-    same!(rt; (asked.fetches(), asked.other()), (2, 0));
+    ask_ones(&rt, Question::Searches, 2);
 }
 
 #[test]
 fn a_test_of_each_bit_of_a_range_past_the_capacity_fetches_nothing(rt: HostRuntime) {
-    let asked = Asked::new();
-    let set = Probe::of(ONES, &asked);
-    same!(rt; (set.all_in_range(0, 33), set.all_in_span(40..=39)), (false, true));
-    same!(rt; (asked.fetches(), asked.other()), (0, 0));
+    ask_ones(&rt, Question::Tests, 0);
 }
 
 #[test]
 fn an_iterator_over_a_range_with_no_end_fetches_its_words_once(rt: HostRuntime) {
-    let asked = Asked::new();
-    let set = Probe::of(ONES, &asked);
-    same!(rt; set.iter_ones_in_span(16..).count(), 1);
-    same!(rt; (asked.fetches(), asked.other()), (2, 0));
+    ask_ones(&rt, Question::Iterator, 2);
 }

@@ -7,8 +7,11 @@ ghost use Rattle.bittle.specs.Values.{ShapeFits};
 use crate::asked::Asked;
 use crate::checks::{holds, same};
 use crate::probe::{ONES, Probe, ZEROS};
+use crate::walked::{next, next_joined};
 use bittle::replay::{Step, replay_walk};
-use bittle::{BigEndian, Bits, BitsOwned, Shape};
+use bittle::{BigEndian, Bits, BitsOwned, Endian, Shape};
+use bittle_bits::extension::{Kind, ReadWords};
+use bittle_bits::walk::{IntoIter, Iter};
 use std::alloc::AllocError;
 use std::ops::Range;
 use std::process::Abort;
@@ -35,7 +38,7 @@ fn answers<W: DoubleEndedIterator<Item = u32>>(
 }
 
 // Whether a walk answers each step so.
-fn is_frugal<W: DoubleEndedIterator<Item = u32>>(
+fn answers_each<W: DoubleEndedIterator<Item = u32> + Drop>(
     mut walk: W,
     asked: &Asked,
     steps: [Stepped; 4],
@@ -48,6 +51,143 @@ fn is_frugal<W: DoubleEndedIterator<Item = u32>>(
         && answers(&mut walk, asked, second)
         && answers(&mut walk, asked, third)
         && answers(&mut walk, asked, fourth)
+}
+
+// Whether a walk over twelve words yields these items from an end, and fetches each word once.
+fn yields<W: DoubleEndedIterator<Item = u32> + Drop>(
+    mut walk: W,
+    asked: &Asked,
+    step: Step,
+    items: [u32; 6],
+) -> bool
+    requires front { (w : W) → W.can_next w }
+    requires back { (w : W) → W.can_next_back w }
+{
+    for item in items {
+        if !answers(&mut walk, asked, (step, Some(item), 12)) {
+            return false;
+        }
+    }
+    answers(&mut walk, asked, (step, None, 12))
+}
+
+// Whether a clone, taken after the first step, fetches nothing, and then no more than its source
+// has left.
+fn clones_frugally<W: DoubleEndedIterator<Item = u32> + Clone + Drop>(
+    mut walk: W,
+    asked: &Asked,
+) -> bool
+    requires front { (w : W) → W.can_next w }
+    requires back { (w : W) → W.can_next_back w }
+{
+    let mut good = answers(&mut walk, asked, (Step::Front, Some(0), 1));
+    let other: Result<W, AllocError> = walk.clone();
+    let Ok(mut other) = other else {
+        return false;
+    };
+    good &= asked.is_at_most(1);
+    good &= answers(&mut other, asked, (Step::Back, Some(31), 2));
+    good &= answers(&mut other, asked, (Step::Front, None, 4));
+    good &= answers(&mut other, asked, (Step::Back, None, 4));
+    good &= answers(&mut walk, asked, (Step::Front, Some(31), 7));
+    good &= answers(&mut walk, asked, (Step::Back, None, 7));
+    good && answers(&mut walk, asked, (Step::Front, None, 7))
+}
+
+// Whether a clone of an iterator that has nothing asked of its set since its start asks nothing
+// either, and yields the first item.
+fn clones_for_nothing<W: Iterator<Item = u32> + Clone + Drop>(walk: W, asked: &Asked) -> bool
+    requires front { (w : W) → W.can_next w }
+{
+    let cloned: Result<W, AllocError> = walk.clone();
+    let Ok(mut other) = cloned else {
+        return false;
+    };
+    asked.is_at_most(1) && other.next() == Some(0) && asked.is_at_most(1)
+}
+
+// What a walk is tested for: its answers to four steps, all that it yields, or a clone of it after
+// the first step or before.
+#[derive(Clone, Copy)]
+enum Test {
+    Steps([Stepped; 4]),
+    Items(Step, [u32; 6]),
+    LateClone,
+    Clone,
+}
+
+// Whether a walk passes a test.
+fn passes<W: DoubleEndedIterator<Item = u32> + Clone + Drop>(
+    walk: W,
+    asked: &Asked,
+    test: Test,
+) -> bool
+    requires front { (w : W) → W.can_next w }
+    requires back { (w : W) → W.can_next_back w }
+{
+    match test {
+        Test::Steps(steps) => answers_each(walk, asked, steps),
+        Test::Items(step, items) => yields(walk, asked, step, items),
+        Test::LateClone => clones_frugally(walk, asked),
+        Test::Clone => clones_for_nothing(walk, asked),
+    }
+}
+
+// Whether an iterator over a borrowed set passes a test.
+fn borrowed_passes<B: ReadWords, E: Endian, K: Kind>(
+    walk: Iter<'_, B, E, K>,
+    asked: &Asked,
+    test: Test,
+) -> bool {
+    passes(walk, asked, test)
+}
+
+// Whether an iterator over an owned set passes a test.
+fn owned_passes<B: ReadWords + Copy, E: Endian, K: Kind>(
+    walk: IntoIter<B, E, K>,
+    asked: &Asked,
+    test: Test,
+) -> bool {
+    passes(walk, asked, test)
+}
+
+// The walks over a set, by the names of the calls that begin them.
+#[derive(Clone, Copy)]
+enum Form {
+    IterOnes,
+    IterOnesBe,
+    IterOnesLe,
+    IterZerosBe,
+    IterZerosLe,
+    IntoIterOnes,
+    IntoIterOnesBe,
+    IntoIterOnesLe,
+    IntoIterZerosBe,
+    IntoIterZerosLe,
+}
+
+// Whether such a walk over a set passes a test.
+fn walk_passes<B: BitsOwned>(form: Form, set: B, asked: &Asked, test: Test) -> bool
+    requires { IsTrue B.indexable }
+{
+    match form {
+        Form::IterOnes => borrowed_passes(set.iter_ones(), asked, test),
+        Form::IterOnesBe => borrowed_passes(set.iter_ones_be(), asked, test),
+        Form::IterOnesLe => borrowed_passes(set.iter_ones_le(), asked, test),
+        Form::IterZerosBe => borrowed_passes(set.iter_zeros_be(), asked, test),
+        Form::IterZerosLe => borrowed_passes(set.iter_zeros_le(), asked, test),
+        Form::IntoIterOnes => owned_passes(set.into_iter_ones(), asked, test),
+        Form::IntoIterOnesBe => owned_passes(set.into_iter_ones_be(), asked, test),
+        Form::IntoIterOnesLe => owned_passes(set.into_iter_ones_le(), asked, test),
+        Form::IntoIterZerosBe => owned_passes(set.into_iter_zeros_be(), asked, test),
+        Form::IntoIterZerosLe => owned_passes(set.into_iter_zeros_le(), asked, test),
+    }
+}
+
+// Whether such a walk over these four bytes passes a test.
+fn walk_of_bytes_passes(form: Form, bytes: [u8; 4], test: Test) -> bool {
+    let asked = Asked::new();
+    walk_passes(form, Probe::of(bytes, &asked), &asked, test)
 }
 
 // The steps of a walk with one item in its first word and one in its last of four, to its end from
@@ -82,157 +222,74 @@ fn each_way(first: u32, last: u32) -> [[Stepped; 4]; 4] {
     ]
 }
 
-fn ones_be<B: BitsOwned>(set: B, asked: &Asked, steps: [Stepped; 4]) -> bool
-    requires { IsTrue B.indexable }
-{
-    is_frugal(set.iter_ones_be(), asked, steps)
-}
-
-fn ones_le<B: BitsOwned>(set: B, asked: &Asked, steps: [Stepped; 4]) -> bool
-    requires { IsTrue B.indexable }
-{
-    is_frugal(set.iter_ones_le(), asked, steps)
-}
-
-fn zeros_be<B: BitsOwned>(set: B, asked: &Asked, steps: [Stepped; 4]) -> bool
-    requires { IsTrue B.indexable }
-{
-    is_frugal(set.iter_zeros_be(), asked, steps)
-}
-
-fn zeros_le<B: BitsOwned>(set: B, asked: &Asked, steps: [Stepped; 4]) -> bool
-    requires { IsTrue B.indexable }
-{
-    is_frugal(set.iter_zeros_le(), asked, steps)
-}
-
-fn owned_ones_be<B: BitsOwned>(set: B, asked: &Asked, steps: [Stepped; 4]) -> bool
-    requires { IsTrue B.indexable }
-{
-    is_frugal(set.into_iter_ones_be(), asked, steps)
-}
-
-fn owned_ones_le<B: BitsOwned>(set: B, asked: &Asked, steps: [Stepped; 4]) -> bool
-    requires { IsTrue B.indexable }
-{
-    is_frugal(set.into_iter_ones_le(), asked, steps)
-}
-
-fn owned_zeros_be<B: BitsOwned>(set: B, asked: &Asked, steps: [Stepped; 4]) -> bool
-    requires { IsTrue B.indexable }
-{
-    is_frugal(set.into_iter_zeros_be(), asked, steps)
-}
-
-fn owned_zeros_le<B: BitsOwned>(set: B, asked: &Asked, steps: [Stepped; 4]) -> bool
-    requires { IsTrue B.indexable }
-{
-    is_frugal(set.into_iter_zeros_le(), asked, steps)
-}
-
-// Whether a walk of this form over these bytes is frugal.
-macro_rules! walks_frugally {
-    ($form:ident, $bytes:expr, $steps:expr) => {{
-        let asked = Asked::new();
-        let probe = Probe::of($bytes, &asked);
-        $form(probe, &asked, $steps)
-    }};
+// Steps such a walk over these bytes, with these two items, each way.
+fn step_each_way(rt: &impl Abort, form: Form, bytes: [u8; 4], first: u32, last: u32) {
+    for steps in each_way(first, last) {
+        holds!(rt; walk_of_bytes_passes(form, bytes, Test::Steps(steps)));
+    }
 }
 
 #[test]
 fn walks_of_ones_fetch_each_word_once(rt: HostRuntime) {
-    for steps in each_way(0, 31) {
-        holds!(rt; walks_frugally!(ones_be, ONES, steps));
-    }
-    for steps in each_way(7, 24) {
-        holds!(rt; walks_frugally!(ones_le, ONES, steps));
-    }
+    step_each_way(&rt, Form::IterOnesBe, ONES, 0, 31);
+    step_each_way(&rt, Form::IterOnesLe, ONES, 7, 24);
 }
 
 #[test]
 fn owned_walks_of_ones_fetch_each_word_once(rt: HostRuntime) {
-    for steps in each_way(0, 31) {
-        holds!(rt; walks_frugally!(owned_ones_be, ONES, steps));
-    }
-    for steps in each_way(7, 24) {
-        holds!(rt; walks_frugally!(owned_ones_le, ONES, steps));
-    }
+    step_each_way(&rt, Form::IntoIterOnesBe, ONES, 0, 31);
+    step_each_way(&rt, Form::IntoIterOnesLe, ONES, 7, 24);
 }
 
 #[test]
 fn walks_of_zeros_fetch_each_word_once(rt: HostRuntime) {
-    for steps in each_way(0, 31) {
-        holds!(rt; walks_frugally!(zeros_be, ZEROS, steps));
-    }
-    for steps in each_way(7, 24) {
-        holds!(rt; walks_frugally!(zeros_le, ZEROS, steps));
-    }
+    step_each_way(&rt, Form::IterZerosBe, ZEROS, 0, 31);
+    step_each_way(&rt, Form::IterZerosLe, ZEROS, 7, 24);
 }
 
 #[test]
 fn owned_walks_of_zeros_fetch_each_word_once(rt: HostRuntime) {
-    for steps in each_way(0, 31) {
-        holds!(rt; walks_frugally!(owned_zeros_be, ZEROS, steps));
-    }
-    for steps in each_way(7, 24) {
-        holds!(rt; walks_frugally!(owned_zeros_le, ZEROS, steps));
-    }
-}
-
-// Whether a clone, taken after the first step, fetches nothing, and then no more than its source
-// has left.
-fn clones_frugally<W: DoubleEndedIterator<Item = u32> + Clone>(mut walk: W, asked: &Asked) -> bool
-    requires front { (w : W) → W.can_next w }
-    requires back { (w : W) → W.can_next_back w }
-{
-    let mut good = answers(&mut walk, asked, (Step::Front, Some(0), 1));
-    let other: Result<W, AllocError> = walk.clone();
-    let Ok(mut other) = other else {
-        return false;
-    };
-    good &= asked.is_at_most(1);
-    good &= answers(&mut other, asked, (Step::Back, Some(31), 2));
-    good &= answers(&mut other, asked, (Step::Front, None, 4));
-    good &= answers(&mut other, asked, (Step::Back, None, 4));
-    good &= answers(&mut walk, asked, (Step::Front, Some(31), 7));
-    good &= answers(&mut walk, asked, (Step::Back, None, 7));
-    good && answers(&mut walk, asked, (Step::Front, None, 7))
-}
-
-fn clones_of_ones<B: BitsOwned>(set: B, asked: &Asked) -> bool
-    requires { IsTrue B.indexable }
-{
-    clones_frugally(set.iter_ones_be(), asked)
-}
-
-fn clones_of_zeros<B: BitsOwned>(set: B, asked: &Asked) -> bool
-    requires { IsTrue B.indexable }
-{
-    clones_frugally(set.iter_zeros_be(), asked)
-}
-
-fn clones_of_owned_ones<B: BitsOwned>(set: B, asked: &Asked) -> bool
-    requires { IsTrue B.indexable }
-{
-    clones_frugally(set.into_iter_ones_be(), asked)
-}
-
-fn clones_of_owned_zeros<B: BitsOwned>(set: B, asked: &Asked) -> bool
-    requires { IsTrue B.indexable }
-{
-    clones_frugally(set.into_iter_zeros_be(), asked)
+    step_each_way(&rt, Form::IntoIterZerosBe, ZEROS, 0, 31);
+    step_each_way(&rt, Form::IntoIterZerosLe, ZEROS, 7, 24);
 }
 
 #[test]
 fn clones_fetch_what_their_source_has_left(rt: HostRuntime) {
+    holds!(rt; walk_of_bytes_passes(Form::IterOnesBe, ONES, Test::LateClone));
+    holds!(rt; walk_of_bytes_passes(Form::IterZerosBe, ZEROS, Test::LateClone));
+    holds!(rt; walk_of_bytes_passes(Form::IntoIterOnesBe, ONES, Test::LateClone));
+    holds!(rt; walk_of_bytes_passes(Form::IntoIterZerosBe, ZEROS, Test::LateClone));
+}
+
+// Whether such a walk over a row of any element passes a test.
+fn walk_of_row_passes<T: BitsOwned>(form: Form, row: [T; 3], asked: &Asked, test: Test) -> bool
+    requires { IsTrue ⟦<[T; 3] as Shape>⟧.indexable }
+{
+    walk_passes(form, row, asked, test)
+}
+
+// Whether such a walk over twelve words, with the items 0 and 31 of each four, passes a test.
+fn walk_of_twelve_passes(form: Form, test: Test) -> bool {
     let asked = Asked::new();
-    holds!(rt; clones_of_ones(Probe::of(ONES, &asked), &asked));
-    let asked = Asked::new();
-    holds!(rt; clones_of_zeros(Probe::of(ZEROS, &asked), &asked));
-    let asked = Asked::new();
-    holds!(rt; clones_of_owned_ones(Probe::of(ONES, &asked), &asked));
-    let asked = Asked::new();
-    holds!(rt; clones_of_owned_zeros(Probe::of(ZEROS, &asked), &asked));
+    walk_of_row_passes(form, [Probe::of(ONES, &asked); 3], &asked, test)
+}
+
+#[test]
+fn walks_of_twelve_words_fetch_each_once(rt: HostRuntime) {
+    let test = Test::Items(Step::Front, [0, 31, 32, 63, 64, 95]);
+    holds!(rt; walk_of_twelve_passes(Form::IterOnes, test));
+}
+
+#[test]
+fn owned_walks_of_twelve_words_fetch_each_once(rt: HostRuntime) {
+    let test = Test::Items(Step::Back, [95, 64, 63, 32, 31, 0]);
+    holds!(rt; walk_of_twelve_passes(Form::IntoIterOnes, test));
+}
+
+#[test]
+fn a_clone_of_an_iterator_over_twelve_words_asks_nothing(rt: HostRuntime) {
+    holds!(rt; walk_of_twelve_passes(Form::IterOnes, Test::Clone));
+    holds!(rt; walk_of_twelve_passes(Form::IntoIterOnes, Test::Clone));
 }
 
 // Asks for each item of a join, with how many words were fetched at most after it.
@@ -247,73 +304,32 @@ fn join<B: BitsOwned>(
 {
     let mut join = mask.join_ones(numbers);
     for (item, words) in steps {
-        same!(rt; join.next(), item);
+        same!(rt; next_joined(&mut join), item);
         holds!(rt; asked.is_at_most(words));
     }
 }
 
+// Asks for each item of a join with a mask of these bytes.
+fn join_bytes(
+    rt: &impl Abort,
+    bytes: [u8; 4],
+    numbers: Range<u32>,
+    steps: [(Option<u32>, u32); 4],
+) {
+    let asked = Asked::new();
+    join(rt, Probe::of(bytes, &asked), numbers, &asked, steps);
+}
+
 #[test]
 fn joins_fetch_each_word_of_their_mask_once(rt: HostRuntime) {
-    let asked = Asked::new();
     let steps = [(Some(100), 1), (Some(131), 4), (None, 4), (None, 4)];
-    join(&rt, Probe::of(ONES, &asked), 100..140, &asked, steps);
+    join_bytes(&rt, ONES, 100..140, steps);
 }
 
 #[test]
 fn joins_fetch_nothing_after_the_end_of_their_iterator(rt: HostRuntime) {
-    let asked = Asked::new();
     let steps = [(Some(100), 1), (None, 1), (None, 1), (None, 1)];
-    join(
-        &rt,
-        Probe::of([3, 0, 0, 128], &asked),
-        100..101,
-        &asked,
-        steps,
-    );
-}
-
-fn walk_ones<B: BitsOwned>(rt: &impl Abort, set: B, asked: &Asked)
-    requires { IsTrue B.indexable }
-{
-    let mut walk = set.iter_ones();
-    for item in [0, 31, 32, 63, 64, 95] {
-        same!(rt; walk.next(), Some(item));
-    }
-    holds!(rt; walk.next().is_none() && asked.is_at_most(12));
-}
-
-fn walk_ones_of_row<T: BitsOwned>(rt: &impl Abort, row: [T; 3], asked: &Asked)
-    requires { IsTrue ⟦<[T; 3] as Shape>⟧.indexable }
-{
-    walk_ones(rt, row, asked);
-}
-
-#[test]
-fn walks_of_twelve_words_fetch_each_once(rt: HostRuntime) {
-    let asked = Asked::new();
-    walk_ones_of_row(&rt, [Probe::of(ONES, &asked); 3], &asked);
-}
-
-fn walk_owned_ones<B: BitsOwned>(rt: &impl Abort, set: B, asked: &Asked)
-    requires { IsTrue B.indexable }
-{
-    let mut walk = set.into_iter_ones();
-    for item in [95, 64, 63, 32, 31, 0] {
-        same!(rt; walk.next_back(), Some(item));
-    }
-    holds!(rt; walk.next_back().is_none() && asked.is_at_most(12));
-}
-
-fn walk_owned_ones_of_row<T: BitsOwned>(rt: &impl Abort, row: [T; 3], asked: &Asked)
-    requires { IsTrue ⟦<[T; 3] as Shape>⟧.indexable }
-{
-    walk_owned_ones(rt, row, asked);
-}
-
-#[test]
-fn owned_walks_of_twelve_words_fetch_each_once(rt: HostRuntime) {
-    let asked = Asked::new();
-    walk_owned_ones_of_row(&rt, [Probe::of(ONES, &asked); 3], &asked);
+    join_bytes(&rt, [3, 0, 0, 128], 100..101, steps);
 }
 
 #[test]
@@ -328,56 +344,12 @@ fn runs_of_steps_fetch_each_word_once(rt: HostRuntime) {
     }
 }
 
-// Whether a clone of an iterator that has nothing asked of its set since its start asks nothing
-// either, and yields the first item.
-fn clones_for_nothing<W: Iterator<Item = u32> + Clone>(walk: W, asked: &Asked) -> bool
-    requires front { (w : W) → W.can_next w }
-{
-    let cloned: Result<W, AllocError> = walk.clone();
-    let Ok(mut other) = cloned else {
-        return false;
-    };
-    asked.is_at_most(1) && other.next() == Some(0) && asked.is_at_most(1)
-}
-
-fn ones_clone_for_nothing<B: BitsOwned>(set: B, asked: &Asked) -> bool
-    requires { IsTrue B.indexable }
-{
-    clones_for_nothing(set.iter_ones(), asked)
-}
-
-fn owned_ones_clone_for_nothing<B: BitsOwned>(set: B, asked: &Asked) -> bool
-    requires { IsTrue B.indexable }
-{
-    clones_for_nothing(set.into_iter_ones(), asked)
-}
-
-fn ones_of_row_clone_for_nothing<T: BitsOwned>(row: [T; 3], asked: &Asked) -> bool
-    requires { IsTrue ⟦<[T; 3] as Shape>⟧.indexable }
-{
-    ones_clone_for_nothing(row, asked)
-}
-
-fn owned_ones_of_row_clone_for_nothing<T: BitsOwned>(row: [T; 3], asked: &Asked) -> bool
-    requires { IsTrue ⟦<[T; 3] as Shape>⟧.indexable }
-{
-    owned_ones_clone_for_nothing(row, asked)
-}
-
-#[test]
-fn a_clone_of_an_iterator_over_twelve_words_asks_nothing(rt: HostRuntime) {
-    let asked = Asked::new();
-    holds!(rt; ones_of_row_clone_for_nothing([Probe::of(ONES, &asked); 3], &asked));
-    let asked = Asked::new();
-    holds!(rt; owned_ones_of_row_clone_for_nothing([Probe::of(ONES, &asked); 3], &asked));
-}
-
 // Whether an iterator over a set fetches nothing at its start, and one word for its first item.
 fn starts_for_nothing<B: Bits>(set: &B, asked: &Asked) -> bool
     requires { ShapeFits B.Shape set.now }
 {
     let mut walk = set.iter_ones_be();
-    asked.is_at_most(0) && walk.next() == Some(0) && asked.is_at_most(1)
+    asked.is_at_most(0) && next(&mut walk) == Some(0) && asked.is_at_most(1)
 }
 
 fn slice_starts_for_nothing<T: BitsOwned>(row: &[T], asked: &Asked) -> bool

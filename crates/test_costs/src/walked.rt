@@ -1,0 +1,74 @@
+//! What iterators over sets yield. A function that takes an iterator by the type of its set is
+//! proved in less time than a call of the iterator in place, which states all that its type
+//! promises.
+
+ghost use Rattle.std.specs.Iterator.{IsFinite};
+ghost use Rattle.bittle.specs.Values.{ShapeFits};
+
+use bittle::join::JoinOnes;
+use bittle::{Bits, DefaultEndian, Endian};
+use bittle_bits::extension::{Kind, ReadWords};
+use bittle_bits::walk::{IntoIter, Iter};
+use std::ops::Range;
+
+// Returns how many items an iterator yields.
+fn count_items<W: Iterator<Item = u32> + Drop>(walk: W) -> usize
+    requires can { W.can_next walk }
+    requires ends { IsFinite (W.remaining walk) }
+{
+    let mut count = 0usize;
+    for _ in walk {
+        count = count.wrapping_add(1);
+    }
+    count
+}
+
+/// Returns how many items an iterator over a borrowed set yields.
+pub(crate) fn count<B: ReadWords, E: Endian, K: Kind>(walk: Iter<'_, B, E, K>) -> usize {
+    count_items(walk)
+}
+
+/// Returns how many items an iterator over a borrowed set yields from the back.
+pub(crate) fn count_back<B: ReadWords, E: Endian, K: Kind>(walk: Iter<'_, B, E, K>) -> usize {
+    count_items(walk.rev())
+}
+
+/// Returns how many items an iterator over an owned set, or over a range, yields.
+pub(crate) fn count_owned<B: ReadWords + Drop, E: Endian, K: Kind>(
+    walk: IntoIter<B, E, K>,
+) -> usize {
+    count_items(walk)
+}
+
+/// Returns how many items an iterator over an owned set, or over a range, yields from the back.
+pub(crate) fn count_owned_back<B: ReadWords + Drop, E: Endian, K: Kind>(
+    walk: IntoIter<B, E, K>,
+) -> usize {
+    count_items(walk.rev())
+}
+
+/// Returns the next item of an iterator over a borrowed set.
+pub(crate) fn next<B: ReadWords, E: Endian, K: Kind>(walk: &mut Iter<'_, B, E, K>) -> Option<u32> {
+    walk.next()
+}
+
+/// Returns the next item of a join with a range.
+pub(crate) fn next_joined<B: Bits>(
+    join: &mut JoinOnes<'_, B, DefaultEndian, Range<u32>>,
+) -> Option<u32> {
+    join.next()
+}
+
+/// Counts the set bits of a set by an iterator.
+pub(crate) fn count_ones<B: Bits>(set: &B) -> usize
+    requires { ShapeFits B.Shape set.now }
+{
+    set.iter_ones().count()
+}
+
+/// Counts the unset bits of a set by an iterator.
+pub(crate) fn count_zeros<B: Bits>(set: &B) -> usize
+    requires { ShapeFits B.Shape set.now }
+{
+    set.iter_zeros().count()
+}
