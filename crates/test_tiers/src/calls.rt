@@ -3,15 +3,10 @@
 ghost use Rattle.std.specs.Prelude.{IsTrue};
 ghost use Rattle.bittle.specs.Values.{ShapeFits};
 
+use bittle::walk::Iter;
 use bittle::{Bits, BitsMut, BitsOwned, Endian};
 use bittle_ext::BitsExt;
-use bittle_tiers::{Ones, Tiered, Zeros};
-
-/// Has 24 numbers, and a byte above them that tells which bytes are not empty.
-pub(crate) type Sparse = Tiered<[u8; 3], u8, Ones>;
-
-/// Has 24 numbers, and a byte above them that tells which bytes are not full.
-pub(crate) type Full = Tiered<[u8; 3], u8, Zeros>;
+use bittle_tiers::Kind;
 
 /// Returns how many numbers a type has.
 pub(crate) fn bits<B: BitsOwned>() -> u32 {
@@ -30,18 +25,28 @@ pub(crate) fn even<B: BitsOwned>(all: bool) -> B
     if all { B::ones() } else { B::zeros() }
 }
 
+/// Returns the first item of an iterator.
+pub(crate) fn first<B: Bits, E: Endian, K: Kind>(mut walk: Iter<'_, B, E, K>) -> Option<u32> {
+    walk.next()
+}
+
+/// Returns the last item of an iterator.
+pub(crate) fn last<B: Bits, E: Endian, K: Kind>(mut walk: Iter<'_, B, E, K>) -> Option<u32> {
+    walk.next_back()
+}
+
 /// Returns the first and the last member.
 pub(crate) fn ends_of_ones<B: Bits>(set: &B) -> [Option<u32>; 2]
     requires { ShapeFits B.Shape set.now }
 {
-    [set.iter_ones().next(), set.iter_ones().next_back()]
+    [first(set.iter_ones()), last(set.iter_ones())]
 }
 
 /// Returns the first and the last number that is no member.
 pub(crate) fn ends_of_zeros<B: Bits>(set: &B) -> [Option<u32>; 2]
     requires { ShapeFits B.Shape set.now }
 {
-    [set.iter_zeros().next(), set.iter_zeros().next_back()]
+    [first(set.iter_zeros()), last(set.iter_zeros())]
 }
 
 /// Returns how many members there are, whether there are none, and whether each number is one.

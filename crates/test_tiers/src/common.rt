@@ -5,9 +5,10 @@ ghost use Rattle.bittle.specs.Values.{ShapeFits};
 
 use crate::checks::compare;
 use crate::flags::draw;
+use bittle::walk::Iter;
 use bittle::{Bits, BitsMut, BitsOwned, Endian, Shape};
 use bittle_ext::BitsViewExt;
-use bittle_tiers::{Ones, Tiered};
+use bittle_tiers::{Kind, Ones, Tiered};
 use std::process::Abort;
 
 // The numbers that two sets have in common, in increasing order.
@@ -84,8 +85,41 @@ fn draw_both<A: BitsMut, B: BitsMut, E: Endian, F: Endian>(
     common
 }
 
-// Asks both ends of an iterator over what two sets have in common for each number of the list, and
-// steps it to its end, from either end as drawn.
+// Asks both ends of an iterator for each number of the list, and steps it to its end, from either
+// end as drawn.
+fn ask_steps<B: Bits, E: Endian, K: Kind>(
+    rt: &impl Abort,
+    state: &mut u32,
+    mut walk: Iter<'_, B, E, K>,
+    members: &Common,
+) {
+    let (mut low, mut high) = (0, members.many);
+    for _ in 0..42u32 {
+        if draw(state) % 2 == 0 {
+            let expected = if low < high { members.at(low) } else { None };
+            low = low.saturating_add(1).min(high);
+            compare(rt, "next", walk.next(), expected);
+        } else {
+            let expected = if low < high {
+                members.at(high.saturating_sub(1))
+            } else {
+                None
+            };
+            high = high.saturating_sub(1).max(low);
+            compare(rt, "next_back", walk.next_back(), expected);
+        }
+    }
+}
+
+// Asks a set for the numbers of the list.
+fn ask_members<B: Bits>(rt: &impl Abort, state: &mut u32, set: &B, members: &Common)
+    requires { ShapeFits B.Shape set.now }
+{
+    ask_steps(rt, state, set.iter_ones(), members);
+    compare(rt, "count", set.iter_ones().count(), members.many as usize);
+}
+
+// Asks what two sets have in common for the numbers of the list.
 fn ask_common<A: Bits, B: Bits>(
     rt: &impl Abort,
     state: &mut u32,
@@ -96,25 +130,7 @@ fn ask_common<A: Bits, B: Bits>(
     requires one { ShapeFits A.Shape one.now }
     requires other { ShapeFits B.Shape other.now }
 {
-    let both = one.and(other);
-    let mut walk = both.iter_ones();
-    let (mut low, mut high) = (0, common.many);
-    for _ in 0..42u32 {
-        if draw(state) % 2 == 0 {
-            let expected = if low < high { common.at(low) } else { None };
-            low = low.saturating_add(1).min(high);
-            compare(rt, "next", walk.next(), expected);
-        } else {
-            let expected = if low < high {
-                common.at(high.saturating_sub(1))
-            } else {
-                None
-            };
-            high = high.saturating_sub(1).max(low);
-            compare(rt, "next_back", walk.next_back(), expected);
-        }
-    }
-    compare(rt, "count", both.iter_ones().count(), common.many as usize);
+    ask_members(rt, state, &one.and(other), common);
 }
 
 // Draws pairs of sets from a seed on, and asks each pair for what it has in common.
@@ -133,47 +149,8 @@ fn agree_on_common<A: BitsOwned, B: BitsOwned>(rt: &impl Abort, seed: u32, pairs
     }
 }
 
-// The same of sets with a summary over any words, which is proved in less time than of a usual size.
-fn agree_on_tiers<A: BitsOwned, S: BitsOwned, B: BitsOwned, T: BitsOwned>(
-    rt: &impl Abort,
-    seed: u32,
-    pairs: u32,
-)
-    requires one { IsTrue ⟦<Tiered<A, S, Ones> as Shape>⟧.indexable }
-    requires other { IsTrue ⟦<Tiered<B, T, Ones> as Shape>⟧.indexable }
-{
-    agree_on_common::<Tiered<A, S, Ones>, Tiered<B, T, Ones>>(rt, seed, pairs);
-}
-
-// The same of sets with two levels of summaries.
-fn agree_on_two_tiers<
-    A: BitsOwned,
-    S: BitsOwned,
-    X: BitsOwned,
-    B: BitsOwned,
-    T: BitsOwned,
-    Y: BitsOwned,
->(rt: &impl Abort, seed: u32, pairs: u32)
-    requires one { IsTrue ⟦<Tiered<A, Tiered<S, X, Ones>, Ones> as Shape>⟧.indexable }
-    requires other { IsTrue ⟦<Tiered<B, Tiered<T, Y, Ones>, Ones> as Shape>⟧.indexable }
-{
-    agree_on_tiers::<A, Tiered<S, X, Ones>, B, Tiered<T, Y, Ones>>(rt, seed, pairs);
-}
-
-// The parts are those of `Tiered4K` and of `Tiered64K`.
-
-#[test]
-fn of_one_group_of_words(rt: HostRuntime) {
-    agree_on_tiers::<[u64; 64], u64, [u64; 64], u64>(&rt, 1, 20);
-}
-
-#[test]
-fn of_two_levels_of_groups(rt: HostRuntime) {
-    agree_on_two_tiers::<[u64; 1024], [u64; 16], u64, [u64; 1024], [u64; 16], u64>(&rt, 2, 20);
-}
-
-// The same of a set without a summary and of one with a summary.
-fn agree_on_tier_and_plain<A: BitsOwned, B: BitsOwned, T: BitsOwned>(
+// The same of any set and of one with a summary, which is proved in less time than of a usual size.
+fn agree_on_any_and_tier<A: BitsOwned, B: BitsOwned, T: BitsOwned>(
     rt: &impl Abort,
     seed: u32,
     pairs: u32,
@@ -184,20 +161,69 @@ fn agree_on_tier_and_plain<A: BitsOwned, B: BitsOwned, T: BitsOwned>(
     agree_on_common::<A, Tiered<B, T, Ones>>(rt, seed, pairs);
 }
 
+// The same of two sets with a summary.
+fn agree_on_tiers<A: BitsOwned, S: BitsOwned, B: BitsOwned, T: BitsOwned>(
+    rt: &impl Abort,
+    seed: u32,
+    pairs: u32,
+)
+    requires one { IsTrue ⟦<Tiered<A, S, Ones> as Shape>⟧.indexable }
+    requires other { IsTrue ⟦<Tiered<B, T, Ones> as Shape>⟧.indexable }
+{
+    agree_on_any_and_tier::<Tiered<A, S, Ones>, B, T>(rt, seed, pairs);
+}
+
+// The same of two sets with the same summary.
+fn agree_on_same_tiers<B: BitsOwned, S: BitsOwned>(rt: &impl Abort, seed: u32, pairs: u32)
+    requires { IsTrue ⟦<Tiered<B, S, Ones> as Shape>⟧.indexable }
+{
+    agree_on_tiers::<B, S, B, S>(rt, seed, pairs);
+}
+
+// The same of two sets with the same summary, which has a summary.
+fn agree_on_two_tiers<B: BitsOwned, S: BitsOwned, T: BitsOwned>(
+    rt: &impl Abort,
+    seed: u32,
+    pairs: u32,
+)
+    requires { IsTrue ⟦<Tiered<B, Tiered<S, T, Ones>, Ones> as Shape>⟧.indexable }
+{
+    agree_on_same_tiers::<B, Tiered<S, T, Ones>>(rt, seed, pairs);
+}
+
+// The parts are those of `Tiered4K` and of `Tiered64K`.
+
+#[test]
+fn of_one_group_of_words(rt: HostRuntime) {
+    agree_on_same_tiers::<[u64; 64], u64>(&rt, 1, 20);
+}
+
+#[test]
+fn of_two_levels_of_groups(rt: HostRuntime) {
+    agree_on_two_tiers::<[u64; 1024], [u64; 16], u64>(&rt, 2, 20);
+}
+
 // A summary of words that are not of 64 bits tells of no group, as a plain set does.
 #[test]
 fn of_sets_that_tell_of_no_group(rt: HostRuntime) {
     agree_on_tiers::<[u64; 64], [u32; 2], [u64; 64], u64>(&rt, 8, 10);
-    agree_on_tier_and_plain::<[u64; 64], [u64; 64], u64>(&rt, 9, 10);
+    agree_on_any_and_tier::<[u64; 64], [u64; 64], u64>(&rt, 9, 10);
 }
 
-// Counts what two sets have in common, by an iterator from each end.
+// Counts the members of a set, by an iterator from each end.
+fn count_from_both_ends<B: Bits>(set: &B) -> usize
+    requires { ShapeFits B.Shape set.now }
+{
+    let front = set.iter_ones().count();
+    front.max(set.iter_ones().rev().count())
+}
+
+// Counts what two sets have in common.
 fn count_common<B: Bits>(one: &B, other: &B) -> usize
     requires one { ShapeFits B.Shape one.now }
     requires other { ShapeFits B.Shape other.now }
 {
-    let front = one.and(other).iter_ones().count();
-    front.max(one.and(other).iter_ones().rev().count())
+    count_from_both_ends(&one.and(other))
 }
 
 // Counts what the full set has in common with itself and with another one.
@@ -208,9 +234,16 @@ fn count_with_full<B: BitsOwned>(part: B) -> [usize; 2]
     [count_common(&all, &all), count_common(&all, &part)]
 }
 
+// The same, where the other one is made of a map.
+fn count_map_with_full<B: BitsOwned, S: BitsOwned>(map: B) -> [usize; 2]
+    requires { IsTrue ⟦<Tiered<B, S, Ones> as Shape>⟧.indexable }
+{
+    count_with_full(Tiered::<B, S, Ones>::new(map))
+}
+
 // A full set tells of each word, and its summary has members past the last one.
 #[test]
 fn of_full_sets(rt: HostRuntime) {
-    let part = Tiered::<[u64; 5], u64, Ones>::new([0, 2, 0, 0, 1]);
-    compare(&rt, "count", count_with_full(part), [320, 2]);
+    let counts = count_map_with_full::<[u64; 5], u64>([0, 2, 0, 0, 1]);
+    compare(&rt, "count", counts, [320, 2]);
 }

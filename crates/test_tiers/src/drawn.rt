@@ -3,10 +3,10 @@
 ghost use Rattle.std.specs.Prelude.{IsTrue};
 ghost use Rattle.bittle.specs.Values.{ShapeFits};
 
-use crate::calls::{Full, Sparse};
+use crate::calls::even;
 use crate::flags::{ask, draw};
-use bittle::{BigEndian, Bits, BitsMut, BitsOwned, Endian, LittleEndian};
-use bittle_tiers::{Ones, Tiered, Zeros};
+use bittle::{BigEndian, Bits, BitsMut, BitsOwned, Endian, LittleEndian, Shape};
+use bittle_tiers::{Kind, Ones, Tiered, Zeros};
 use std::process::Abort;
 
 // Makes a drawn change of one bit of both.
@@ -110,11 +110,10 @@ fn change<B: BitsOwned, E: Endian>(state: &mut u32, set: &mut B, flags: &mut [bo
 
 // Changes a set and its flags from a seed on, and asks the set after each change what its flags
 // answer. Each number is a member at first, or none is.
-fn agree_with_plain_loops<B: BitsOwned, E: Endian>(rt: &impl Abort, seed: u32, all: bool)
+fn agree_from<B: BitsOwned, E: Endian>(rt: &impl Abort, seed: u32, mut set: B, all: bool)
     requires { IsTrue B.indexable }
 {
     let mut state = seed;
-    let mut set = if all { B::ones() } else { B::zeros() };
     let mut flags = [all; 24];
     for _ in 0..300 {
         change::<B, E>(&mut state, &mut set, &mut flags);
@@ -122,46 +121,69 @@ fn agree_with_plain_loops<B: BitsOwned, E: Endian>(rt: &impl Abort, seed: u32, a
     }
 }
 
+// The same of the set of a type that has each number, or none.
+fn agree_with_plain_loops<B: BitsOwned, E: Endian>(rt: &impl Abort, seed: u32, all: bool)
+    requires { IsTrue B.indexable }
+{
+    agree_from::<B, E>(rt, seed, even(all), all);
+}
+
+// The same of a set with a summary.
+fn agree_on_tier<B: BitsOwned, S: BitsOwned, K: Kind, E: Endian>(
+    rt: &impl Abort,
+    seed: u32,
+    all: bool,
+)
+    requires { IsTrue ⟦<Tiered<B, S, K> as Shape>⟧.indexable }
+{
+    agree_with_plain_loops::<Tiered<B, S, K>, E>(rt, seed, all);
+}
+
+// The same of 24 numbers in three bytes, with a byte above them.
+fn agree_on_bytes<K: Kind, E: Endian>(rt: &impl Abort, seed: u32, all: bool) {
+    agree_on_tier::<[u8; 3], u8, K, E>(rt, seed, all);
+}
+
 #[test]
 fn a_summary_of_the_ones_agrees_with_plain_loops(rt: HostRuntime) {
-    agree_with_plain_loops::<Sparse, BigEndian>(&rt, 1, false);
+    agree_on_bytes::<Ones, BigEndian>(&rt, 1, false);
 }
 
 #[test]
 fn a_summary_of_the_ones_agrees_in_little_endian_order(rt: HostRuntime) {
-    agree_with_plain_loops::<Sparse, LittleEndian>(&rt, 2, false);
+    agree_on_bytes::<Ones, LittleEndian>(&rt, 2, false);
 }
 
 #[test]
 fn a_summary_of_the_zeros_agrees_with_plain_loops(rt: HostRuntime) {
-    agree_with_plain_loops::<Full, BigEndian>(&rt, 3, true);
+    agree_on_bytes::<Zeros, BigEndian>(&rt, 3, true);
 }
 
 #[test]
 fn a_summary_of_the_zeros_agrees_in_little_endian_order(rt: HostRuntime) {
-    agree_with_plain_loops::<Full, LittleEndian>(&rt, 4, true);
+    agree_on_bytes::<Zeros, LittleEndian>(&rt, 4, true);
 }
 
 // Three tiers: 24 numbers, 8, and 8 above those, of which one is used.
-type Three = Tiered<[u8; 3], Tiered<u8, u8, Ones>, Zeros>;
-
 #[test]
 fn a_summary_of_a_summary_agrees_with_plain_loops(rt: HostRuntime) {
-    agree_with_plain_loops::<Three, BigEndian>(&rt, 5, true);
+    agree_on_tier::<[u8; 3], Tiered<u8, u8, Ones>, Zeros, BigEndian>(&rt, 5, true);
 }
 
 // A summary for either kind.
-type Both = Tiered<Tiered<[u8; 3], u8, Ones>, u8, Zeros>;
-
 #[test]
 fn a_summary_for_either_kind_agrees_with_plain_loops(rt: HostRuntime) {
-    agree_with_plain_loops::<Both, LittleEndian>(&rt, 6, false);
+    agree_on_tier::<Tiered<[u8; 3], u8, Ones>, u8, Zeros, LittleEndian>(&rt, 6, false);
 }
 
-// A row of sets with a summary.
-type Row = [Tiered<u8, u8, Ones>; 3];
+// The same of three sets in a row, which are without members at first.
+fn agree_on_row<T: BitsOwned, E: Endian>(rt: &impl Abort, seed: u32, row: [T; 3])
+    requires { IsTrue ⟦<[T; 3] as Shape>⟧.indexable }
+{
+    agree_from::<[T; 3], E>(rt, seed, row, false);
+}
 
 #[test]
 fn a_row_of_them_agrees_with_plain_loops(rt: HostRuntime) {
-    agree_with_plain_loops::<Row, BigEndian>(&rt, 7, false);
+    agree_on_row::<_, BigEndian>(&rt, 7, [Tiered::<u8, u8, Ones>::new(0); 3]);
 }

@@ -2,7 +2,8 @@
 
 ghost use Rattle.bittle.specs.Values.{ShapeFits};
 
-use crate::checks::{compare, holds, same};
+use crate::calls::searches;
+use crate::checks::compare;
 use bittle::walk::Iter;
 use bittle::{Bits, Endian};
 use bittle_tiers::Kind;
@@ -55,33 +56,15 @@ pub(crate) fn ask_searches<B: Bits, E: Endian>(
 )
     requires { ShapeFits B.Shape set.now }
 {
-    let capacity = set.bits_capacity();
     let (one, other) = (draw(state) % 25, draw(state) % 25);
-    let (from, to) = (one.min(other).min(capacity), one.max(other).min(capacity));
-    compare(
-        rt,
-        "first one",
-        set.first_one_in::<E>(from, to),
+    let (from, to) = (one.min(other), one.max(other));
+    let expected = [
         first_of(flags, from, to, true),
-    );
-    compare(
-        rt,
-        "last one",
-        set.last_one_in::<E>(from, to),
         last_of(flags, from, to, true),
-    );
-    compare(
-        rt,
-        "first zero",
-        set.first_zero_in::<E>(from, to),
         first_of(flags, from, to, false),
-    );
-    compare(
-        rt,
-        "last zero",
-        set.last_zero_in::<E>(from, to),
         last_of(flags, from, to, false),
-    );
+    ];
+    compare(rt, "searches", searches::<B, E>(set, from, to), expected);
 }
 
 // Asks what is asked of all of a set.

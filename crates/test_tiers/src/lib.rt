@@ -16,4 +16,4 @@ mod maps;
 #[cfg(test)]
 mod sizes;
 #[cfg(test)]
-mod values;
+mod small;

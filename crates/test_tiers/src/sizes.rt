@@ -1,56 +1,123 @@
-//! Capacities: the usual ones, a summary that is too small, none, and indexes that wrap.
+//! Capacities: the usual ones, a summary that is too small, and none.
 
 ghost use Rattle.std.specs.Prelude.{IsTrue};
 
 use crate::calls::{
-    Sparse, bits, capacity, ends_of_ones, ends_of_zeros, even, has, searches, whole, with,
-    with_range, without,
+    bits, capacity, ends_of_ones, ends_of_zeros, even, has, searches, whole, with, with_range,
+    without,
 };
 use crate::checks::same;
-use bittle::{BigEndian, BitsOwned, LittleEndian};
-use bittle_tiers::{Ones, Tiered, Tiered4K, Tiered64K, Tiered256K, Zeros};
+use bittle::{BigEndian, BitsOwned, LittleEndian, Shape};
+use bittle_tiers::{Kind, Ones, Tiered, Tiered4K, Tiered64K, Tiered256K, Zeros};
+use std::process::Abort;
+
+// What is asked of a set of a usual size.
+#[derive(Drop)]
+struct Answers {
+    bits: u32,
+    capacity: u32,
+    whole: (u32, bool, bool),
+    ones: [Option<u32>; 2],
+    zeros: [Option<u32>; 2],
+}
+
+// Returns how many numbers the type of a set has, how many the set has, what is asked of all bits,
+// and the ends of the set and of the unset bits.
+fn answers_of<B: BitsOwned>(set: &B) -> Answers
+    requires { IsTrue B.indexable }
+{
+    Answers {
+        bits: bits::<B>(),
+        capacity: capacity(set),
+        whole: whole(set),
+        ones: ends_of_ones(set),
+        zeros: ends_of_zeros(set),
+    }
+}
+
+// Asks a set with a summary.
+fn answers_of_tier<B: BitsOwned, S: BitsOwned, K: Kind>(set: &Tiered<B, S, K>) -> Answers
+    requires { IsTrue ⟦<Tiered<B, S, K> as Shape>⟧.indexable }
+{
+    answers_of(set)
+}
+
+// The same where the summary has a summary. That one is of the ones, whatever the kind: it is
+// searched for its set bits.
+fn answers_of_two_tiers<B: BitsOwned, S: BitsOwned, T: BitsOwned, K: Kind>(
+    set: &Tiered<B, Tiered<S, T, Ones>, K>,
+) -> Answers
+    requires { IsTrue ⟦<Tiered<B, Tiered<S, T, Ones>, K> as Shape>⟧.indexable }
+{
+    answers_of_tier(set)
+}
+
+// Asks a set with so many numbers, of which none is a member.
+fn ask_empty(rt: &impl Abort, answers: &Answers, numbers: u32) {
+    same!(rt; answers.bits, numbers);
+    same!(rt; answers.capacity, numbers);
+    same!(rt; answers.whole, (0, true, false));
+}
 
 #[test]
 fn the_usual_sizes(rt: HostRuntime) {
-    same!(rt; bits::<Tiered4K<Ones>>(), 4096);
-    same!(rt; bits::<Tiered64K<Zeros>>(), 65_536);
-    same!(rt; bits::<Tiered256K<Ones>>(), 262_144);
+    // By default they are without members.
+    ask_empty(&rt, &answers_of_tier(&Tiered4K::<Ones>::default()), 4096);
+    let answers = answers_of_two_tiers::<[u64; 1024], [u64; 16], u64, Zeros>(&Tiered64K::default());
+    ask_empty(&rt, &answers, 65_536);
+    let answers = answers_of_two_tiers::<[u64; 4096], [u64; 64], u64, Zeros>(
+        &Tiered256K::default(),
+    );
+    ask_empty(&rt, &answers, 262_144);
+    ask_empty(
+        &rt,
+        &answers_of_two_tiers(&Tiered256K::<Ones>::default()),
+        262_144,
+    );
+    // They are made of a map.
+    let mut words = [0u64; 64];
+    words[62] = 4;
+    let answers = answers_of_tier(&Tiered4K::<Ones>::from(words));
+    same!(rt; answers.ones, [Some(3970), Some(3970)]);
+    let answers = answers_of_two_tiers(&Tiered64K::<Zeros>::from([u64::MAX; 1024]));
+    same!(rt; answers.zeros, [None, None]);
+    let answers = answers_of_two_tiers(&Tiered256K::<Ones>::from([1; 4096]));
+    same!(rt; answers.ones, [Some(0), Some(262_080)]);
 }
 
-// The summary of a summary is of the ones, whatever the kind: it is searched for its set bits.
-fn middle_of_zeros() -> (u32, u32) {
-    let large: Tiered<[u64; 1024], Tiered<[u64; 16], u64, Ones>, Zeros> = Tiered64K::default();
-    let larger: Tiered<[u64; 4096], Tiered<[u64; 64], u64, Ones>, Zeros> = Tiered256K::default();
-    (capacity(&large), capacity(&larger))
+// Returns how many numbers a type has, and how many a row of none of its sets has.
+fn sizes<T: BitsOwned>() -> (u32, u32) {
+    let none: [T; 0] = [];
+    (bits::<T>(), capacity(&none))
 }
 
-#[test]
-fn a_summary_of_a_summary_is_of_the_ones(rt: HostRuntime) {
-    same!(rt; middle_of_zeros(), (65_536, 262_144));
+// The same of sets with a summary.
+fn tier_sizes<B: BitsOwned, S: BitsOwned, K: Kind>() -> (u32, u32) {
+    sizes::<Tiered<B, S, K>>()
 }
+
+// The same where the summary has a summary.
+fn two_tier_sizes<B: BitsOwned, S: BitsOwned, T: BitsOwned, K: Kind>() -> (u32, u32) {
+    tier_sizes::<B, Tiered<S, T, Ones>, K>()
+}
+
+// What a type that does not fit tells.
+const NO_FIT: (u32, u32) = (u32::MAX, u32::MAX);
 
 #[test]
 fn a_summary_that_is_too_small_is_told(rt: HostRuntime) {
     // Eight words have a number each in a byte; the ninth has none.
-    same!(rt; bits::<Tiered<[u64; 8], u8, Ones>>(), 512);
-    same!(rt; bits::<Tiered<[u64; 9], u8, Ones>>(), u32::MAX);
-    same!(rt; bits::<Tiered<[u64; 9], Tiered<u8, u8, Ones>, Zeros>>(), u32::MAX);
+    same!(rt; tier_sizes::<[u64; 8], u8, Ones>(), (512, 0));
+    same!(rt; tier_sizes::<[u64; 9], u8, Ones>(), NO_FIT);
+    same!(rt; two_tier_sizes::<[u64; 9], u8, u8, Zeros>(), NO_FIT);
     // Here it is the summary of the summary.
-    same!(rt; bits::<Tiered<[u64; 8], Tiered<[u8; 9], u8, Ones>, Zeros>>(), u32::MAX);
+    same!(rt; two_tier_sizes::<[u64; 8], [u8; 9], u8, Zeros>(), NO_FIT);
 }
 
 #[test]
 fn a_part_that_does_not_fit_is_told(rt: HostRuntime) {
-    same!(rt; bits::<Tiered<[u64; 67_108_864], [u64; 1_048_576], Ones>>(), u32::MAX);
-    same!(rt; bits::<Tiered<u8, [u64; 67_108_864], Ones>>(), u32::MAX);
-}
-
-#[test]
-fn rows_of_those_are_told_too(rt: HostRuntime) {
-    let none: [Tiered<[u64; 9], u8, Ones>; 0] = [];
-    same!(rt; capacity(&none), u32::MAX);
-    let none: [Tiered<[u64; 8], u8, Ones>; 0] = [];
-    same!(rt; capacity(&none), 0);
+    same!(rt; tier_sizes::<[u64; 67_108_864], [u64; 1_048_576], Ones>(), NO_FIT);
+    same!(rt; tier_sizes::<u8, [u64; 67_108_864], Ones>(), NO_FIT);
 }
 
 // Sets bit 5 of a set of capacity 0. Returns the capacity, whether that bit is set, what is asked of
@@ -84,32 +151,7 @@ fn changed_without_any<B: BitsOwned>() -> ((u32, bool, bool), [Option<u32>; 2], 
 #[test]
 fn neither_the_map_nor_the_summary_has_numbers(rt: HostRuntime) {
     let (all, ends, found) = changed_without_any::<Tiered<[u8; 0], [u8; 0], Zeros>>();
-    same!(rt; (all, ends, found), ((0, true, true), [None; 2], [None; 4]));
-}
-
-// Returns the set of an index past the capacity of 24, whether 9 is a member, and its ends.
-fn with_one_past<B: BitsOwned>() -> (B, bool, [Option<u32>; 2])
-    requires { IsTrue B.indexable }
-{
-    let set = with::<B, BigEndian>(even(false), &[24 + 9]);
-    let (has_nine, ends) = (has(&set, 9), ends_of_ones(&set));
-    (set, has_nine, ends)
-}
-
-// Asks a set without 9, by an index past the capacity of 24, and without 8.
-fn without_both<B: BitsOwned>(set: B) -> ((u32, bool, bool), [Option<u32>; 2])
-    requires { IsTrue B.indexable }
-{
-    let set = without(set, &[48 + 9, 8]);
-    (whole(&set), ends_of_ones(&set))
-}
-
-#[test]
-fn an_index_past_the_capacity_wraps(rt: HostRuntime) {
-    let (set, has_nine, ends) = with_one_past::<Sparse>();
-    same!(rt; (has_nine, ends), (true, [Some(9), Some(9)]));
-    // 4,294,967,295 is 15 modulo 24, whose place from the left is bit 8.
-    let set = with::<Sparse, LittleEndian>(set, &[u32::MAX]);
-    same!(rt; set.into_map(), [0, 3, 0]);
-    same!(rt; without_both(set), ((0, true, false), [None, None]));
+    same!(rt; all, (0, true, true));
+    same!(rt; ends, [None; 2]);
+    same!(rt; found, [None; 4]);
 }

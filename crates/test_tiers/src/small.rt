@@ -1,0 +1,257 @@
+//! Sets of 24 numbers with a summary: what is wrapped, compared, copied, changed and searched, and
+//! the text of one.
+
+ghost use Rattle.std.specs.Prelude.{IsTrue};
+ghost use Rattle.bittle.specs.Values.{ShapeFits};
+
+use crate::calls::{
+    ends_of_ones, ends_of_zeros, even, first_runs, has, searches, whole, with, with_range, without,
+};
+use crate::checks::same;
+use bittle::{BigEndian, Bits, BitsOwned, LittleEndian, Set, Shape};
+use bittle_tiers::{Kind, Ones, Tiered, Zeros};
+use std::alloc::{AllocError, Global};
+use std::fmt::Debug;
+use std::process::Abort;
+use std::test::Fail;
+
+// What is asked of the sets.
+#[derive(Drop)]
+enum Question {
+    Ends,
+    Equality,
+    Copy,
+    Ranges,
+    Runs,
+    Operations,
+    PastTheCapacity,
+}
+
+// Asks two sets, and returns the first one, or the one that a question makes in their place.
+fn ask_set<B: BitsOwned>(rt: &impl Abort, question: Question, set: B, other: B) -> B
+    requires { IsTrue B.indexable }
+{
+    match question {
+        Question::Ends => same!(rt; ends_of_ones(&set), [Some(8), Some(8)]),
+        Question::Equality => ask_equality(rt, set, other),
+        Question::Copy => ask_copy::<B>(rt),
+        Question::Ranges => return after_ranges(rt),
+        Question::Runs => {
+            ask_for_runs_of_ones(rt, &set);
+            ask_for_runs_of_zeros(rt, &other);
+        }
+        Question::Operations => ask_operations(rt, set, other),
+        Question::PastTheCapacity => return with_two_past(rt),
+    }
+    set
+}
+
+// Asks sets with a summary, made of maps, and returns the map of the set that results: first as the
+// set lends it, then as it is unwrapped.
+fn ask_tier<B: BitsOwned, S: BitsOwned, K: Kind>(
+    rt: &impl Abort,
+    question: Question,
+    map: B,
+    other: B,
+) -> (B, B)
+    requires { IsTrue ⟦<Tiered<B, S, K> as Shape>⟧.indexable }
+{
+    let (set, other) = (Tiered::<B, S, K>::new(map), Tiered::new(other));
+    let set = ask_set(rt, question, set, other);
+    (*set.map(), set.into_map())
+}
+
+// Asks those of three bytes, with a byte above them. The maps are of no meaning to a question that
+// makes its own sets.
+fn ask<K: Kind>(rt: &impl Abort, question: Question, maps: [[u8; 3]; 2]) -> ([u8; 3], [u8; 3]) {
+    ask_tier::<[u8; 3], u8, K>(rt, question, maps[0], maps[1])
+}
+
+#[test]
+fn a_map_is_wrapped_and_unwrapped(rt: HostRuntime) {
+    let (lent, unwrapped) = ask::<Ones>(&rt, Question::Ends, [[0, 1, 0]; 2]);
+    same!(rt; lent[1], 1);
+    same!(rt; unwrapped, [0, 1, 0]);
+}
+
+// Asks whether the set of 9 equals one and not the empty set, whether it equals that without 9, and
+// whether the full set equals one.
+fn ask_equality<B: BitsOwned>(rt: &impl Abort, nine: B, full: B)
+    requires { IsTrue B.indexable }
+{
+    let set = with::<B, BigEndian>(even(false), &[9]);
+    let answers = [
+        set == nine,
+        set != even(false),
+        without(set, &[9]) == even(false),
+        even::<B>(true) == full,
+    ];
+    same!(rt; answers, [true; 4]);
+}
+
+#[test]
+fn sets_are_equal_by_their_maps(rt: HostRuntime) {
+    // Each number of the summary of a full set is a member, also past the last word.
+    ask::<Ones>(&rt, Question::Equality, [[0, 2, 0], [255; 3]]);
+}
+
+// Takes 23 out of a copy of the full set, and asks for the ends of what the copy and the set have
+// not.
+fn ask_copy<B: BitsOwned>(rt: &impl Abort)
+    requires { IsTrue B.indexable }
+{
+    let set = even::<B>(true);
+    let copy = without(set, &[23]);
+    same!(rt; ends_of_zeros(&copy), [Some(23), Some(23)]);
+    same!(rt; ends_of_zeros(&set), [None, None]);
+}
+
+#[test]
+fn a_copy_goes_its_own_way(rt: HostRuntime) {
+    ask::<Zeros>(&rt, Question::Copy, [[0; 3]; 2]);
+}
+
+// Sets a range and searches the set, which it returns, clears most of it and asks for the ends, and
+// toggles what is left, from the left.
+fn after_ranges<B: BitsOwned>(rt: &impl Abort) -> B
+    requires { IsTrue B.indexable }
+{
+    let first = with_range::<B, BigEndian>(even(false), 0, 6, 18);
+    let found = searches::<B, BigEndian>(&first, 0, 24);
+    same!(rt; found, [Some(6), Some(17), Some(0), Some(23)]);
+    let second = with_range::<B, BigEndian>(first, 1, 6, 17);
+    same!(rt; ends_of_ones(&second), [Some(17), Some(17)]);
+    // Index 22 from the left of the last byte is its bit 1, which was set.
+    let third = with_range::<B, LittleEndian>(second, 2, 22, 23);
+    same!(rt; whole(&third), (0, true, false));
+    first
+}
+
+#[test]
+fn a_range_across_words(rt: HostRuntime) {
+    let (_lent, unwrapped) = ask::<Ones>(&rt, Question::Ranges, [[0; 3]; 2]);
+    same!(rt; unwrapped, [0xC0, 0xFF, 0x03]);
+}
+
+// Asks a set where the first runs begin, of which the members are 7, 16 and 17: the byte between
+// them is passed over, and no run goes through it.
+fn ask_for_runs_of_ones<B: Bits>(rt: &impl Abort, set: &B)
+    requires { ShapeFits B.Shape set.now }
+{
+    same!(rt; first_runs(set, 1), [Some(7), Some(0)]);
+    same!(rt; first_runs(set, 2), [Some(16), Some(0)]);
+    same!(rt; first_runs(set, 3), [None, Some(0)]);
+    same!(rt; first_runs(set, 8), [None, Some(8)]);
+}
+
+// Asks the set of the other numbers.
+fn ask_for_runs_of_zeros<B: Bits>(rt: &impl Abort, set: &B)
+    requires { ShapeFits B.Shape set.now }
+{
+    same!(rt; first_runs(set, 2), [Some(0), Some(16)]);
+    same!(rt; first_runs(set, 3), [Some(0), None]);
+    same!(rt; first_runs(set, 8), [Some(8), None]);
+}
+
+#[test]
+fn runs_about_a_word_that_is_passed_over(rt: HostRuntime) {
+    let maps = [[0x80, 0, 0x03], [0x7F, 0xFF, 0xFC]];
+    ask::<Ones>(&rt, Question::Runs, maps);
+    ask::<Zeros>(&rt, Question::Runs, maps);
+}
+
+// Asks for the ends of what each of the four operations makes of two sets.
+fn ask_operations<B: BitsOwned>(rt: &impl Abort, one: B, other: B)
+    requires { IsTrue B.indexable }
+{
+    same!(rt; ends_of_ones(&one.union(other)), [Some(0), Some(23)]);
+    same!(rt; ends_of_ones(&one.conjunction(other)), [Some(0), Some(0)]);
+    same!(rt; ends_of_ones(&one.difference(other)), [None, None]);
+    same!(rt; ends_of_ones(&one.symmetric_difference(other)), [Some(23), Some(23)]);
+}
+
+#[test]
+fn operations_on_two_sets(rt: HostRuntime) {
+    ask::<Ones>(&rt, Question::Operations, [[1, 0, 0], [1, 0, 128]]);
+}
+
+// Asks a set without 9, by an index past the capacity of 24, and without 8.
+fn ask_without_both<B: BitsOwned>(rt: &impl Abort, set: B)
+    requires { IsTrue B.indexable }
+{
+    let set = without(set, &[48 + 9, 8]);
+    same!(rt; whole(&set), (0, true, false));
+    same!(rt; ends_of_ones(&set), [None, None]);
+}
+
+// Returns the set of 9 and 8, by indexes past the capacity of 24.
+fn with_two_past<B: BitsOwned>(rt: &impl Abort) -> B
+    requires { IsTrue B.indexable }
+{
+    let set = with::<B, BigEndian>(even(false), &[24 + 9]);
+    same!(rt; has(&set, 9), true);
+    same!(rt; ends_of_ones(&set), [Some(9), Some(9)]);
+    // 4,294,967,295 is 15 modulo 24, whose place from the left is bit 8.
+    let set = with::<B, LittleEndian>(set, &[u32::MAX]);
+    ask_without_both(rt, set);
+    set
+}
+
+#[test]
+fn an_index_past_the_capacity_wraps(rt: HostRuntime) {
+    let (_lent, unwrapped) = ask::<Ones>(&rt, Question::PastTheCapacity, [[0; 3]; 2]);
+    same!(rt; unwrapped, [0, 3, 0]);
+}
+
+// Asks for the debug text of a value.
+fn reads<S: Debug>(
+    rt: &impl Abort,
+    alloc: Global,
+    value: &S,
+    text: &str,
+) -> Result<(), AllocError> {
+    same!(rt; format!(in alloc; "{value:?}")?.as_str(), text);
+    same!(rt; format!(in alloc; "{value:#?}")?.as_str(), text);
+    Ok(())
+}
+
+// Asks for the text of a set that is read from the left.
+fn reads_from_the_left<B: BitsOwned>(
+    rt: &impl Abort,
+    alloc: Global,
+    set: B,
+    text: &str,
+) -> Result<(), AllocError>
+    requires { IsTrue B.indexable }
+{
+    reads(rt, alloc, &Set::<B, LittleEndian>::new_in(set), text)
+}
+
+// Asks for the text of a set with a summary, and for that of the same set read from the left.
+fn tier_reads<B: BitsOwned, S: BitsOwned>(
+    rt: &impl Abort,
+    alloc: Global,
+    map: B,
+    text: &str,
+    from_the_left: &str,
+) -> Result<(), AllocError>
+    requires { IsTrue ⟦<Tiered<B, S, Ones> as Shape>⟧.indexable }
+{
+    let set = Tiered::<B, S, Ones>::new(map);
+    reads(rt, alloc, &set, text)?;
+    reads(
+        rt,
+        alloc,
+        &Set::<Tiered<B, S, Ones>, LittleEndian>::new_in(set),
+        from_the_left,
+    )
+}
+
+#[test]
+fn the_text_lists_the_indexes(rt: HostRuntime) -> Result<(), Fail> {
+    let map = [3, 0, 128];
+    tier_reads::<[u8; 3], u8>(&rt, rt.alloc(), map, "{0, 1, 23}", "{6, 7, 16}")?;
+    let map = Set::<[u8; 3], LittleEndian>::new_in(map);
+    tier_reads::<_, u8>(&rt, rt.alloc(), map, "{6, 7, 16}", "{6, 7, 16}")?;
+    Ok(())
+}
