@@ -6,6 +6,7 @@ ghost use Rattle.bittle.specs.Values.{ShapeFits};
 
 use crate::checks::same;
 use crate::random::{combined, draw, draw_row, flags_of};
+use crate::rotations::turned_in;
 use bittle::{Bits, BitsMut, BitsOwned, LittleEndian, Set};
 use bittle_ext::prelude::*;
 
@@ -57,25 +58,17 @@ fn changed_each_way<A: BitsOwned, B: Bits>(set: A, other: &B) -> [(A, bool); 4]
 fn a_byte_by_a_wider_word(rt: HostRuntime) {
     // Bits 0 and 1 are set, and bits 1, 2 and 8.
     let (byte, word) = (0b0011u8, 0x0106u16);
-    let expected = [
-        (0b0111, true),
-        (0b0010, true),
-        (0b0001, true),
-        (0b0101, true),
-    ];
-    same!(rt; changed_each_way(byte, &word), expected);
+    let [either, both, alone, unlike] = changed_each_way(byte, &word);
+    same!(rt; (either, both), ((0b0111, true), (0b0010, true)));
+    same!(rt; (alone, unlike), ((0b0001, true), (0b0101, true)));
 }
 
 #[test]
 fn a_word_by_a_byte(rt: HostRuntime) {
     let (byte, word) = (0b0011u8, 0x0106u16);
-    let expected = [
-        (0x0107, true),
-        (0x0002, true),
-        (0x0104, true),
-        (0x0105, true),
-    ];
-    same!(rt; changed_each_way(word, &byte), expected);
+    let [either, both, alone, unlike] = changed_each_way(word, &byte);
+    same!(rt; (either, both), ((0x0107, true), (0x0002, true)));
+    same!(rt; (alone, unlike), ((0x0104, true), (0x0105, true)));
 }
 
 #[test]
@@ -104,8 +97,10 @@ fn changed_by_each<A: BitsOwned, B: BitsOwned>(set: A, others: [B; 4]) -> [(A, b
 fn what_changes_nothing_is_told(rt: HostRuntime) {
     // From bit 8 on the other set has what the byte has not.
     let byte = 0b0111u8;
-    let now = changed_by_each(byte, [0xFF06u16, 0x000F, 0xFF08, 0xFF00]);
-    same!(rt; now, [(byte, false); 4]);
+    let others = [0xFF06u16, 0x000F, 0xFF08, 0xFF00];
+    let [either, both, alone, unlike] = changed_by_each(byte, others);
+    same!(rt; (either, both), ((byte, false), (byte, false)));
+    same!(rt; (alone, unlike), ((byte, false), (byte, false)));
 }
 
 // Returns the set after a union with a set, and after a conjunction with one.
@@ -120,16 +115,33 @@ fn either_and_both<A: BitsOwned, B: Bits, C: Bits>(set: A, one: &B, other: &C) -
 #[test]
 fn the_last_word_alone_changes(rt: HostRuntime) {
     let row = [0xFFFFu16, 1, 1];
-    let rows = either_and_both(row, &[0u16, 1, 3], &[0xFFFFu16, 1]);
-    same!(rt; rows, [([0xFFFF, 1, 3], true), ([0xFFFF, 1, 0], true)]);
+    let [either, both] = either_and_both(row, &[0u16, 1, 3], &[0xFFFFu16, 1]);
+    same!(rt; (either, both), (([0xFFFF, 1, 3], true), ([0xFFFF, 1, 0], true)));
+}
+
+// Returns the set after each of the four changes with one from the left.
+fn changed_each_way_by_left<A: BitsOwned, T: BitsOwned>(set: A, left: T) -> [(A, bool); 4]
+    requires indexable { IsTrue A.indexable }
+    requires other_indexable { IsTrue T.indexable }
+{
+    changed_each_way(set, &Set::new_le(left))
+}
+
+// Returns a set from the left after a change.
+fn left_changed<T: BitsOwned, B: Bits>(kind: u32, left: T, other: &B) -> (T, bool)
+    requires indexable { IsTrue T.indexable }
+    requires other_fits { ShapeFits B.Shape other.now }
+{
+    let (set, told) = changed(kind, Set::new_le(left), other);
+    (set.into_bits(), told)
 }
 
 #[test]
 fn two_rows_each_in_its_own_order(rt: HostRuntime) {
     // Bits 0, 15 and 33 are set, and from the left bits 0, 33 and 63.
     let row = [0x8001u16, 0, 2];
-    let set: Set<[u32; 2], LittleEndian> = Set::new_le([0x8000_0000, 0x4000_0001]);
-    let [either, both, alone, unlike] = changed_each_way(row, &set);
+    let left = [0x8000_0000u32, 0x4000_0001];
+    let [either, both, alone, unlike] = changed_each_way_by_left(row, left);
     same!(rt; (either, both), ((row, false), ([1, 0, 2], true)));
     same!(rt; (alone, unlike), (([0x8000, 0, 0], true), ([0x8000, 0, 0], true)));
 }
@@ -137,27 +149,25 @@ fn two_rows_each_in_its_own_order(rt: HostRuntime) {
 #[test]
 fn a_set_from_the_left_by_a_row(rt: HostRuntime) {
     let row = [0x8001u16, 0, 2];
-    let set: Set<[u32; 2], LittleEndian> = Set::new_le([0x8000_0000, 0x4000_0001]);
-    let [(either, more), (both, less)] = either_and_both(set, &row, &row);
-    same!(rt; (either.into_bits(), more), ([0x8001_0000, 0x4000_0001], true));
-    same!(rt; (both.into_bits(), less), ([0x8000_0000, 0x4000_0000], true));
+    let left = [0x8000_0000u32, 0x4000_0001];
+    same!(rt; left_changed(UNION, left, &row), ([0x8001_0000, 0x4000_0001], true));
+    same!(rt; left_changed(COMMON, left, &row), ([0x8000_0000, 0x4000_0000], true));
 }
 
-// Returns one set after a union with another, and the other after a difference with the one.
-fn each_by_the_other<A: BitsOwned, B: BitsOwned>(one: A, other: B) -> ((A, bool), (B, bool))
-    requires indexable { IsTrue A.indexable }
-    requires other_indexable { IsTrue B.indexable }
+// Returns a set from the left after a change with another one from the left.
+fn left_changed_by_left<T: BitsOwned, U: BitsOwned>(kind: u32, left: T, other: U) -> (T, bool)
+    requires indexable { IsTrue T.indexable }
+    requires other_indexable { IsTrue U.indexable }
 {
-    (changed(UNION, one, &other), changed(ALONE, other, &one))
+    left_changed(kind, left, &Set::new_le(other))
 }
 
 #[test]
 fn two_sets_from_the_left(rt: HostRuntime) {
     // From the left bits 0 and 7 are set, and bits 1, 7 and 8.
-    let (byte, row) = (Set::new_le(0x81u8), Set::new_le([0x41u8, 0x80]));
-    let ((either, more), (alone, less)) = each_by_the_other(byte, row);
-    same!(rt; (either.into_bits(), more), (0xC1, true));
-    same!(rt; (alone.into_bits(), less), ([0x40, 0x80], true));
+    let (byte, row) = (0x81u8, [0x41u8, 0x80]);
+    same!(rt; left_changed_by_left(UNION, byte, row), (0xC1, true));
+    same!(rt; left_changed_by_left(ALONE, row, byte), ([0x40, 0x80], true));
 }
 
 // Returns a set of capacity 0 after changes with one that has members and with itself, and two
@@ -182,10 +192,18 @@ fn changed_with_nothing<A: BitsOwned, B: BitsOwned>(
 #[test]
 fn capacity_0(rt: HostRuntime) {
     let none: [u64; 0] = [];
-    let (nothing, words) = changed_with_nothing(none, 0x0Fu8, 0);
-    same!(rt; nothing, [(none, false), (none, false)]);
-    same!(rt; words, [(0x0F, false), (0, true), (0, false)]);
+    let ([more, unlike], [either, both, empty]) = changed_with_nothing(none, 0x0Fu8, 0);
+    same!(rt; (more, unlike), ((none, false), (none, false)));
+    same!(rt; (either, both, empty), ((0x0F, false), (0, true), (0, false)));
     same!(rt; changed(UNION, none, &0xFFu8), (none, false));
+}
+
+// Adds a set to a set that is read from the left.
+fn add_from_left<A: BitsMut, B: Bits>(set: &mut A, other: &B) -> bool
+    requires fits { ShapeFits A.Shape set.old }
+    requires other_fits { ShapeFits B.Shape other.now }
+{
+    change(UNION, &mut set.in_order_mut::<LittleEndian>(), other)
 }
 
 // Adds what two sets have in common to a set that is read from the left.
@@ -194,11 +212,7 @@ fn add_common<A: BitsMut, B: Bits>(set: &mut A, one: &B, other: &B) -> bool
     requires one_fits { ShapeFits B.Shape one.now }
     requires other_fits { ShapeFits B.Shape other.now }
 {
-    change(
-        UNION,
-        &mut set.in_order_mut::<LittleEndian>(),
-        &one.and(other),
-    )
+    add_from_left(set, &one.and(other))
 }
 
 #[test]
@@ -258,6 +272,14 @@ fn drawn_changes_by_like_words_agree_with_plain_loops(rt: HostRuntime) {
     }
 }
 
+// Returns the set after a change with one from the left.
+fn changed_by_left<A: BitsOwned, T: BitsOwned>(kind: u32, set: A, left: T) -> (A, bool)
+    requires indexable { IsTrue A.indexable }
+    requires other_indexable { IsTrue T.indexable }
+{
+    changed(kind, set, &Set::new_le(left))
+}
+
 #[test]
 fn drawn_changes_by_unlike_words_agree_with_plain_loops(rt: HostRuntime) {
     let mut state = 23;
@@ -266,7 +288,7 @@ fn drawn_changes_by_unlike_words_agree_with_plain_loops(rt: HostRuntime) {
         let row = draw_row(&mut state);
         let one = (draw(&mut state) % 65536) as u16;
         let words = [one, (draw(&mut state) % 65536) as u16];
-        let (now, told) = changed(kind, row, &Set::new_le(words));
+        let (now, told) = changed_by_left(kind, row, words);
         let theirs = flags_from_left(&words);
         same!(rt; (flags_of(&now), told), expected(kind, &flags_of(&row), &theirs));
     }
@@ -282,13 +304,29 @@ fn copied<A: BitsOwned, B: Bits>(set: A, other: &B) -> A
     now
 }
 
+// Returns a set after it was made what one from the left has.
+fn copied_from_left<A: BitsOwned, T: BitsOwned>(set: A, left: T) -> A
+    requires indexable { IsTrue A.indexable }
+    requires other_indexable { IsTrue T.indexable }
+{
+    copied(set, &Set::new_le(left))
+}
+
+// Returns a set from the left after it was made what another one has.
+fn left_copied<T: BitsOwned, B: Bits>(left: T, other: &B) -> T
+    requires indexable { IsTrue T.indexable }
+    requires other_fits { ShapeFits B.Shape other.now }
+{
+    copied(Set::new_le(left), other).into_bits()
+}
+
 #[test]
 fn copies(rt: HostRuntime) {
     // From the left bits 1, 7 and 8 are set.
     same!(rt; copied([0xFFu8, 0xFF, 0xFF], &0x0107u16), [0x07, 0x01, 0]);
     same!(rt; copied(0xFFu8, &[0x0106u16, 3]), 0x06);
-    same!(rt; copied(0xFFFFu16, &Set::new_le([0x41u8, 0x80])), 0x0182);
-    same!(rt; copied(Set::new_le(0xFFu8), &0x0101u16).into_bits(), 0x80);
+    same!(rt; copied_from_left(0xFFFFu16, [0x41u8, 0x80]), 0x0182);
+    same!(rt; left_copied(0xFFu8, &0x0101u16), 0x80);
     let none: [u8; 0] = [];
     same!(rt; (copied(none, &7u8), copied(7u8, &none)), (none, 0));
 }
@@ -353,7 +391,7 @@ fn shifts_in_place(rt: HostRuntime) {
 
 #[test]
 fn shifts_in_place_beside_a_word(rt: HostRuntime) {
-    // The members 0, 7 and 23 of words of 8 bits, by all but one bit of a word, of two and of three.
+    // The members 0, 7 and 23 of words of 8 bits, by all but one bit of one word, two and three.
     let row = [0x81u8, 0, 0x80];
     same!(rt; (shifted(false, row, 15), shifted(false, row, 16)), ([0, 1, 0], [0x80, 0, 0]));
     same!(rt; (shifted(true, row, 7), shifted(true, row, 15)), ([0x80, 0x40, 0], [0, 0x80, 0x40]));
@@ -363,12 +401,19 @@ fn shifts_in_place_beside_a_word(rt: HostRuntime) {
     same!(rt; (shifted(false, wide, 127), shifted(true, wide, 127)), (1, 1 << 127));
 }
 
+// Returns a set from the left shifted up in place, or else down.
+fn left_shifted<T: BitsOwned>(up: bool, left: T, by: u32) -> T
+    requires { IsTrue T.indexable }
+{
+    shifted(up, Set::new_le(left), by).into_bits()
+}
+
 #[test]
 fn shifts_in_place_from_the_left(rt: HostRuntime) {
     // From the left the members 0, 7 and 16.
     let row = [0x81u8, 0, 0x80];
-    same!(rt; shifted(true, Set::new_le(row), 9).into_bits(), [0, 0x40, 0x80]);
-    same!(rt; shifted(false, Set::new_le(row), 7).into_bits(), [0x80, 0x40, 0]);
+    same!(rt; left_shifted(true, row, 9), [0, 0x40, 0x80]);
+    same!(rt; left_shifted(false, row, 7), [0x80, 0x40, 0]);
 }
 
 #[test]
@@ -435,8 +480,8 @@ fn rotations_in_place(rt: HostRuntime) {
 fn rotations_in_place_from_the_left(rt: HostRuntime) {
     // From the left the members 0, 7 and 16.
     let row = [0x81u8, 0, 0x80];
-    same!(rt; turned(true, Set::new_le(row), 9).into_bits(), [0x40, 0x40, 0x80]);
-    same!(rt; turned(false, Set::new_le(row), 7).into_bits(), [0x80, 0x40, 0x40]);
+    same!(rt; turned_in::<_, LittleEndian>(1, row, 9), [0x40, 0x40, 0x80]);
+    same!(rt; turned_in::<_, LittleEndian>(0, row, 7), [0x80, 0x40, 0x40]);
 }
 
 #[test]
@@ -493,14 +538,21 @@ fn zero_ranks<B: Bits, const N: usize>(set: &B, indexes: [u32; N]) -> [u32; N]
     answers
 }
 
+// Returns the unset bit of a rank of a set from the left, and the rank of an index.
+fn zeros_of_left<T: BitsOwned>(left: T, rank: u32, index: u32) -> ([Option<u32>; 1], [u32; 1])
+    requires { IsTrue T.indexable }
+{
+    let set = Set::new_le(left);
+    (selected_zeros(&set, [rank]), zero_ranks(&set, [index]))
+}
+
 #[test]
 fn unset_bits_by_rank(rt: HostRuntime) {
     // The bits 0, 2, 3, 4, 6 and 7 are unset, and from the left all but 2 and 6.
     let word = 0b0010_0010u8;
     same!(rt; selected_zeros(&word, [0, 1, 5, 6]), [Some(0), Some(2), Some(7), None]);
     same!(rt; zero_ranks(&word, [5, 100]), [4, 6]);
-    let left = Set::new_le([0xFFu8, 0b0010_0010]);
-    same!(rt; (selected_zeros(&left, [2]), zero_ranks(&left, [12])), ([Some(11)], [3]));
+    same!(rt; zeros_of_left([0xFFu8, 0b0010_0010], 2, 12), ([Some(11)], [3]));
     let none = [0u64; 0];
     same!(rt; (selected_zeros(&none, [0]), zero_ranks(&none, [3])), ([None], [0]));
 }

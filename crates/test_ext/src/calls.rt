@@ -1,7 +1,7 @@
 //! Calls on sets of any shape, which return what was answered. Such a function is proved once for
 //! each shape, while a call that a test makes itself is proved anew at the shape of the test.
 
-ghost use Rattle.std.specs.Prelude.{◌<◌, ◌≤◌, max, IsTrue};
+ghost use Rattle.std.specs.Prelude.{◌<◌, max, IsTrue};
 ghost use Rattle.bittle_ext.specs.Views.{rounded_up};
 ghost use Rattle.bittle.specs.Values.{ShapeFits};
 
@@ -68,9 +68,7 @@ pub(crate) fn ones_in_range<B: Bits, const N: usize>(
     to: u32,
     ends: [bool; N],
 ) -> [Option<u32>; N]
-    requires fits { ShapeFits B.Shape bits.now }
-    requires ordered { from ≤ to }
-    requires within { to ≤ (B.big bits.now).capacity }
+    requires { ShapeFits B.Shape bits.now }
 {
     taken(&mut bits.iter_ones_in_range(from, to), ends)
 }
@@ -82,11 +80,21 @@ pub(crate) fn ones_in_range_in<B: Bits, E: Endian, const N: usize>(
     to: u32,
     ends: [bool; N],
 ) -> [Option<u32>; N]
-    requires fits { ShapeFits B.Shape bits.now }
-    requires ordered { from ≤ to }
-    requires within { to ≤ (B.big bits.now).capacity }
+    requires { ShapeFits B.Shape bits.now }
 {
     ones_in_range(&bits.in_order::<E>(), from, to, ends)
+}
+
+/// Walks over the unset bits of a range, in the order `E`.
+pub(crate) fn zeros_in_range_in<B: Bits, E: Endian, const N: usize>(
+    bits: &B,
+    from: u32,
+    to: u32,
+    ends: [bool; N],
+) -> [Option<u32>; N]
+    requires { ShapeFits B.Shape bits.now }
+{
+    zeros_in_range(&bits.in_order::<E>(), from, to, ends)
 }
 
 /// Walks over the unset bits of a range.
@@ -96,9 +104,7 @@ pub(crate) fn zeros_in_range<B: Bits, const N: usize>(
     to: u32,
     ends: [bool; N],
 ) -> [Option<u32>; N]
-    requires fits { ShapeFits B.Shape bits.now }
-    requires ordered { from ≤ to }
-    requires within { to ≤ (B.big bits.now).capacity }
+    requires { ShapeFits B.Shape bits.now }
 {
     taken(&mut bits.iter_zeros_in_range(from, to), ends)
 }
@@ -123,11 +129,75 @@ pub(crate) fn zero_runs<B: Bits, const N: usize>(
     runs_taken(&mut bits.iter_zero_runs(), ends)
 }
 
-/// Walks over the set bits of a view.
-fn ones_of<V: View, const N: usize>(view: V, ends: [bool; N]) -> [Option<u32>; N]
-    requires { ShapeFits V.Shape view }
+/// A question to a view. A function that makes a view asks any question, so it is proved once and
+/// not for each question.
+pub(crate) trait Question {
+    type Answer;
+
+    /// Asks the view.
+    fn ask<V: View>(&self, view: &V) -> Self::Answer
+        requires fits { ShapeFits V.Shape view.now }
+        requires indexable { IsTrue V.indexable };
+}
+
+/// Asks for the set bits, by a walk that takes an item from each of these ends in turn.
+#[derive(Drop)]
+pub(crate) struct Ones<const N: usize>(pub(crate) [bool; N]);
+
+impl<const N: usize> Question for Ones<N> {
+    type Answer = [Option<u32>; N];
+
+    fn ask<V: View>(&self, view: &V) -> [Option<u32>; N] {
+        taken(&mut (*view).into_ones(), self.0)
+    }
+}
+
+/// Asks what either of two sets has.
+pub(crate) fn ask_either<A: Bits, B: Bits, Q: Question>(
+    question: &Q,
+    one: &A,
+    other: &B,
+) -> Q::Answer
+    requires one_fits { ShapeFits A.Shape one.now }
+    requires other_fits { ShapeFits B.Shape other.now }
+    requires rounded { rounded_up (max (A.big one.now).capacity (B.big other.now).capacity) A.width
+        < 4294967295 }
 {
-    taken(&mut view.into_ones(), ends)
+    question.ask(&one.or_unlike(other))
+}
+
+/// Asks what both of two sets have.
+pub(crate) fn ask_both<A: Bits, B: Bits, Q: Question>(question: &Q, one: &A, other: &B) -> Q::Answer
+    requires one_fits { ShapeFits A.Shape one.now }
+    requires other_fits { ShapeFits B.Shape other.now }
+{
+    question.ask(&one.and(other))
+}
+
+/// Asks what the first of two sets has alone.
+pub(crate) fn ask_alone<A: Bits, B: Bits, Q: Question>(
+    question: &Q,
+    one: &A,
+    other: &B,
+) -> Q::Answer
+    requires one_fits { ShapeFits A.Shape one.now }
+    requires other_fits { ShapeFits B.Shape other.now }
+{
+    question.ask(&one.minus(other))
+}
+
+/// Asks what just one of two sets has.
+pub(crate) fn ask_just_one<A: Bits, B: Bits, Q: Question>(
+    question: &Q,
+    one: &A,
+    other: &B,
+) -> Q::Answer
+    requires one_fits { ShapeFits A.Shape one.now }
+    requires other_fits { ShapeFits B.Shape other.now }
+    requires rounded { rounded_up (max (A.big one.now).capacity (B.big other.now).capacity) A.width
+        < 4294967295 }
+{
+    question.ask(&one.xor_unlike(other))
 }
 
 /// Walks over the indexes in either of two sets.
@@ -141,7 +211,7 @@ pub(crate) fn union<A: Bits, B: Bits, const N: usize>(
     requires rounded { rounded_up (max (A.big one.now).capacity (B.big other.now).capacity) A.width
         < 4294967295 }
 {
-    ones_of(one.or_unlike(other), ends)
+    ask_either(&Ones(ends), one, other)
 }
 
 /// Walks over the indexes in either of two sets, in the order `E`.
@@ -167,7 +237,7 @@ pub(crate) fn conjunction<A: Bits, B: Bits, const N: usize>(
     requires one_fits { ShapeFits A.Shape one.now }
     requires other_fits { ShapeFits B.Shape other.now }
 {
-    ones_of(one.and(other), ends)
+    ask_both(&Ones(ends), one, other)
 }
 
 /// Walks over the indexes in the first of two sets alone.
@@ -179,7 +249,7 @@ pub(crate) fn difference<A: Bits, B: Bits, const N: usize>(
     requires one_fits { ShapeFits A.Shape one.now }
     requires other_fits { ShapeFits B.Shape other.now }
 {
-    ones_of(one.minus(other), ends)
+    ask_alone(&Ones(ends), one, other)
 }
 
 /// Walks over the indexes in just one of two sets.
@@ -193,7 +263,7 @@ pub(crate) fn symmetric_difference<A: Bits, B: Bits, const N: usize>(
     requires rounded { rounded_up (max (A.big one.now).capacity (B.big other.now).capacity) A.width
         < 4294967295 }
 {
-    ones_of(one.xor_unlike(other), ends)
+    ask_just_one(&Ones(ends), one, other)
 }
 
 /// Walks over what one of the four operations makes of two sets.
@@ -283,6 +353,23 @@ pub(crate) fn selected<B: Bits, const N: usize>(bits: &B, ranks: [u32; N]) -> [O
     answers
 }
 
+/// Returns the ranks of these indexes, in the order `E`.
+pub(crate) fn ranks_in<B: Bits, E: Endian, const N: usize>(bits: &B, indexes: [u32; N]) -> [u32; N]
+    requires { ShapeFits B.Shape bits.now }
+{
+    ranks(&bits.in_order::<E>(), indexes)
+}
+
+/// Selects by these ranks, in the order `E`.
+pub(crate) fn selected_in<B: Bits, E: Endian, const N: usize>(
+    bits: &B,
+    ranks: [u32; N],
+) -> [Option<u32>; N]
+    requires { ShapeFits B.Shape bits.now }
+{
+    selected(&bits.in_order::<E>(), ranks)
+}
+
 /// Asks whether one set is a subset of another, a superset, disjoint, and whether it intersects.
 fn relations<A: Bits, B: Bits>(one: &A, other: &B) -> [bool; 4]
     requires one_fits { ShapeFits A.Shape one.now }
@@ -321,6 +408,41 @@ pub(crate) fn inserted<B: BitsMut, const N: usize>(set: &mut B, indexes: [u32; N
         answers[k] = set.insert(indexes[k]);
     }
     answers
+}
+
+/// Inserts the indexes that an iterator over a set yields.
+pub(crate) fn extend_by_set<B: BitsMut, C: Bits>(set: &mut B, other: &C)
+    requires indexable { IsTrue B.indexable }
+    requires fits { ShapeFits C.Shape other.now }
+{
+    set.extend(other.iter_ones());
+}
+
+/// Inserts the indexes that an iterator over a set yields from its back.
+pub(crate) fn extend_from_back<B: BitsMut, C: Bits>(set: &mut B, other: &C)
+    requires indexable { IsTrue B.indexable }
+    requires fits { ShapeFits C.Shape other.now }
+{
+    set.extend(other.iter_ones().rev());
+}
+
+/// A change of a set of any shape. A function that makes a view that can be changed makes any
+/// change, so it is proved once and not for each change.
+pub(crate) trait Change {
+    type Answer;
+
+    /// Changes the set, and returns what the calls answered.
+    fn change<B: BitsMut>(&self, set: &mut B) -> Self::Answer
+        requires fits { ShapeFits B.Shape set.old }
+        requires indexable { IsTrue B.indexable };
+}
+
+/// Changes a set by a view in the order `E`.
+pub(crate) fn change_in<B: BitsMut, E: Endian, C: Change>(change: &C, set: &mut B) -> C::Answer
+    requires fits { ShapeFits B.Shape set.old }
+    requires indexable { IsTrue B.indexable }
+{
+    change.change(&mut set.in_order_mut::<E>())
 }
 
 /// Flips each bit.

@@ -3,10 +3,10 @@
 ghost use Rattle.std.specs.Prelude.{◌≤◌, IsTrue};
 ghost use Rattle.bittle.specs.Values.{ShapeFits};
 
-use crate::calls::{flip, inserted};
+use crate::calls::{Change, change_in, extend_by_set, flip, inserted};
 use crate::checks::same;
 use bittle::prelude::*;
-use bittle::{Endian, LittleEndian, Set};
+use bittle::{Endian, LittleEndian, Set, Shape};
 use bittle_ext::prelude::*;
 
 /// Inserts the indexes 0 and 8 and removes 13 and 5, and returns what each call answered, with the
@@ -49,7 +49,8 @@ fn assigned_and_toggled<B: BitsOwned>(mut set: B) -> [B; 3]
 
 #[test]
 fn a_bit_by_its_value(rt: HostRuntime) {
-    same!(rt; replaced(0b0011u8), [(true, 0b0001), (false, 0b0011)]);
+    let [cleared, set] = replaced(0b0011u8);
+    same!(rt; (cleared, set), ((true, 0b0001), (false, 0b0011)));
     same!(rt; assigned_and_toggled(0b0011u8), [0b0010, 0b0010, 0b1000_0000]);
 }
 
@@ -64,30 +65,29 @@ const CLEAR: u32 = 3;
 const ASSIGN: u32 = 4;
 
 /// Inserts an index, removes it, flips its bit, replaces that by an unset one or assigns a set one,
-/// and returns what the call answers, or `true` of one that answers nothing.
-fn change<B: BitsMut>(kind: u32, set: &mut B, index: u32) -> bool
-    requires { IsTrue B.indexable }
-{
-    match kind {
-        INSERT => set.insert(index),
-        REMOVE => set.remove(index),
-        CLEAR => set.replace(index, false),
-        TOGGLE => {
-            set.toggle(index);
-            true
-        }
-        _ => {
-            set.assign(index, true);
-            true
+/// by the kind and the index. The answer is that of the call, or `true` where it answers nothing.
+#[derive(Drop)]
+struct OneBit(u32, u32);
+
+impl Change for OneBit {
+    type Answer = bool;
+
+    fn change<B: BitsMut>(&self, set: &mut B) -> bool {
+        let index = self.1;
+        match self.0 {
+            INSERT => set.insert(index),
+            REMOVE => set.remove(index),
+            CLEAR => set.replace(index, false),
+            TOGGLE => {
+                set.toggle(index);
+                true
+            }
+            _ => {
+                set.assign(index, true);
+                true
+            }
         }
     }
-}
-
-/// Does the same by a view in the order `E`.
-fn change_in<B: BitsMut, E: Endian>(kind: u32, set: &mut B, index: u32) -> bool
-    requires { IsTrue B.indexable }
-{
-    change(kind, &mut set.in_order_mut::<E>(), index)
 }
 
 /// Inserts the indexes 0 and 7 and removes 8, each by a view in the order `E`, and returns what
@@ -95,10 +95,10 @@ fn change_in<B: BitsMut, E: Endian>(kind: u32, set: &mut B, index: u32) -> bool
 fn inserted_and_removed_in<B: BitsOwned, E: Endian>(mut set: B) -> ([bool; 3], [B; 2])
     requires { IsTrue B.indexable }
 {
-    let first = change_in::<B, E>(INSERT, &mut set, 0);
-    let second = change_in::<B, E>(INSERT, &mut set, 7);
+    let first = change_in::<B, E, _>(&OneBit(INSERT, 0), &mut set);
+    let second = change_in::<B, E, _>(&OneBit(INSERT, 7), &mut set);
     let inserted = set;
-    let third = change_in::<B, E>(REMOVE, &mut set, 8);
+    let third = change_in::<B, E, _>(&OneBit(REMOVE, 8), &mut set);
     ([first, second, third], [inserted, set])
 }
 
@@ -107,10 +107,10 @@ fn inserted_and_removed_in<B: BitsOwned, E: Endian>(mut set: B) -> ([bool; 3], [
 fn flipped_and_replaced_in<B: BitsOwned, E: Endian>(mut set: B) -> (bool, [B; 2])
     requires { IsTrue B.indexable }
 {
-    change_in::<B, E>(TOGGLE, &mut set, 1);
+    change_in::<B, E, _>(&OneBit(TOGGLE, 1), &mut set);
     let flipped = set;
-    let answer = change_in::<B, E>(CLEAR, &mut set, 7);
-    change_in::<B, E>(ASSIGN, &mut set, 2);
+    let answer = change_in::<B, E, _>(&OneBit(CLEAR, 7), &mut set);
+    change_in::<B, E, _>(&OneBit(ASSIGN, 2), &mut set);
     (answer, [flipped, set])
 }
 
@@ -123,14 +123,27 @@ fn one_bit_from_the_left(rt: HostRuntime) {
     same!(rt; (answer, words), (true, [0b0100_0001, 0b0110_0000]));
 }
 
+/// Inserts an index of a pair of sets, and returns what the call answers, with the pair then. Of
+/// sets of any type that is proved in less time than of nested rows.
+fn pair_with<T: BitsOwned>(mut pair: [T; 2], index: u32) -> ([bool; 1], [T; 2])
+    requires { IsTrue ⟦<[T; 2] as Shape>⟧.indexable }
+{
+    (inserted(&mut pair, [index]), pair)
+}
+
+/// Inserts an index of a set from the left, and returns what the call answers, with the set then.
+fn left_with<T: BitsOwned>(left: T, index: u32) -> ([bool; 1], T)
+    requires { IsTrue T.indexable }
+{
+    let mut set = Set::new_le(left);
+    (inserted(&mut set, [index]), set.into_bits())
+}
+
 #[test]
 fn one_bit_of_longer_shapes(rt: HostRuntime) {
-    let mut nested = [[0u8; 2]; 2];
-    same!(rt; inserted(&mut nested, [17]), [true]);
-    same!(rt; nested, [[0, 0], [2, 0]]);
-    let mut set = Set::new_le(0i16);
-    same!(rt; inserted(&mut set, [0]), [true]);
-    same!(rt; set.into_bits(), i16::MIN);
+    let (answers, nested) = pair_with([[0u8; 2]; 2], 17);
+    same!(rt; (answers, nested[0], nested[1]), ([true], [0, 0], [2, 0]));
+    same!(rt; left_with(0i16, 0), ([true], i16::MIN));
     let mut words = [0u64; 2];
     let mut lent = words.as_mut_slice();
     same!(rt; inserted(&mut lent, [65, 193]), [true, false]);
@@ -212,33 +225,29 @@ fn after_empty_and_whole_ranges<B: BitsOwned>(mut word: B) -> [B; 3]
     [first, second, word]
 }
 
-/// Assigns the bits of a range.
-fn assign_range<B: BitsMut>(row: &mut B, from: u32, to: u32, value: bool)
-    requires fits { ShapeFits B.Shape row.old }
-    requires ordered { from ≤ to }
-    requires within { to ≤ (B.big row.old).capacity }
-{
-    row.assign_range(from, to, value);
-}
+/// Assigns a value to the bits from one index on and before another, of a set that has them.
+#[derive(Drop)]
+struct AssignRange(u32, u32, bool);
 
-/// Does the same by a view in the order `E`.
-fn assign_range_in<B: BitsMut, E: Endian>(row: &mut B, from: u32, to: u32, value: bool)
-    requires fits { ShapeFits B.Shape row.old }
-    requires ordered { from ≤ to }
-    requires within { to ≤ (B.big row.old).capacity }
-{
-    assign_range(&mut row.in_order_mut::<E>(), from, to, value);
+impl Change for AssignRange {
+    type Answer = ();
+
+    fn change<B: BitsMut>(&self, set: &mut B) {
+        let (from, to) = (self.0, self.1);
+        if from <= to && to <= set.bits_capacity() {
+            set.assign_range(from, to, self.2);
+        }
+    }
 }
 
 /// Returns the set after a range is set, and after its first sixteen bits are cleared, by views in
 /// the order `E`.
 fn after_ranges_in<B: BitsOwned, E: Endian>(mut row: B) -> [B; 2]
-    requires indexable { IsTrue B.indexable }
-    requires long { 16 ≤ B.type_capacity }
+    requires { IsTrue B.indexable }
 {
-    assign_range_in::<B, E>(&mut row, 6, 11, true);
+    change_in::<B, E, _>(&AssignRange(6, 11, true), &mut row);
     let first = row;
-    assign_range_in::<B, E>(&mut row, 0, 16, false);
+    change_in::<B, E, _>(&AssignRange(0, 16, false), &mut row);
     [first, row]
 }
 
@@ -246,8 +255,8 @@ fn after_ranges_in<B: BitsOwned, E: Endian>(mut row: B) -> [B; 2]
 fn empty_and_whole_ranges(rt: HostRuntime) {
     let words = after_empty_and_whole_ranges(0b0101u8);
     same!(rt; words, [0b0101, 0b1111_1010, 0xFF]);
-    let rows = after_ranges_in::<_, LittleEndian>([0u8; 2]);
-    same!(rt; rows, [[0x03, 0xE0], [0, 0]]);
+    let [first, second] = after_ranges_in::<_, LittleEndian>([0u8; 2]);
+    same!(rt; (first, second), ([0x03, 0xE0], [0, 0]));
 }
 
 #[test]
@@ -278,50 +287,60 @@ fn popped<B: BitsOwned>(mut row: B) -> ([(Option<u32>, B); 3], [Option<u32>; 2])
 }
 
 /// Takes out the first bit and then the last.
-fn ends_taken<B: BitsMut>(row: &mut B) -> [Option<u32>; 2]
-    requires { ShapeFits B.Shape row.old }
-{
-    [row.pop_first(), row.pop_last()]
+#[derive(Drop)]
+struct Ends;
+
+impl Change for Ends {
+    type Answer = [Option<u32>; 2];
+
+    fn change<B: BitsMut>(&self, set: &mut B) -> [Option<u32>; 2] {
+        [set.pop_first(), set.pop_last()]
+    }
 }
 
 /// Takes out the first bit and then the last, in the order `E`, with what is left.
 fn popped_in<B: BitsOwned, E: Endian>(mut row: B) -> ([Option<u32>; 2], B)
     requires { IsTrue B.indexable }
 {
-    let ends = ends_taken(&mut row.in_order_mut::<E>());
+    let ends = change_in::<B, E, _>(&Ends, &mut row);
     (ends, row)
 }
 
 #[test]
 fn ends_are_taken_out(rt: HostRuntime) {
     // Bits 0, 15 and 17 are set.
-    let (ends, none) = popped([0x8001u16, 2]);
-    same!(rt; ends, [(Some(0), [0x8000, 2]), (Some(17), [0x8000, 0]), (Some(15), [0, 0])]);
-    same!(rt; none, [None, None]);
+    let ([first, last, other], none) = popped([0x8001u16, 2]);
+    same!(rt; (first, last), ((Some(0), [0x8000, 2]), (Some(17), [0x8000, 0])));
+    same!(rt; (other, none), ((Some(15), [0, 0]), [None, None]));
     // From the left bits 3, 8 and 15 are set.
     let left = popped_in::<_, LittleEndian>([0x10u8, 0x81]);
     same!(rt; left, ([Some(3), Some(15)], [0, 0x80]));
 }
 
 /// Takes the first unset bit.
-fn take_slot<B: BitsMut>(row: &mut B) -> Option<u32>
-    requires { ShapeFits B.Shape row.old }
-{
-    row.take_first_zero()
+#[derive(Drop)]
+struct Slot;
+
+impl Change for Slot {
+    type Answer = Option<u32>;
+
+    fn change<B: BitsMut>(&self, set: &mut B) -> Option<u32> {
+        set.take_first_zero()
+    }
 }
 
 /// Takes the first unset bit, and returns its index with the set then.
 fn slot_taken<B: BitsOwned>(mut row: B) -> (Option<u32>, B)
     requires { IsTrue B.indexable }
 {
-    (take_slot(&mut row), row)
+    (Slot.change(&mut row), row)
 }
 
 /// Takes the first unset bit in the order `E`, and returns its index with the set then.
 fn slot_taken_in<B: BitsOwned, E: Endian>(mut row: B) -> (Option<u32>, B)
     requires { IsTrue B.indexable }
 {
-    let slot = take_slot(&mut row.in_order_mut::<E>());
+    let slot = change_in::<B, E, _>(&Slot, &mut row);
     (slot, row)
 }
 
@@ -334,28 +353,37 @@ fn free_slots_are_taken(rt: HostRuntime) {
 }
 
 /// Inserts a list of indexes.
-fn insert_list<B: BitsMut>(set: &mut B, indexes: &[u32])
-    requires { IsTrue B.indexable }
-{
-    set.insert_all(indexes);
+#[derive(Drop)]
+struct List<const N: usize>([u32; N]);
+
+impl<const N: usize> Change for List<N> {
+    type Answer = ();
+
+    fn change<B: BitsMut>(&self, set: &mut B) {
+        set.insert_all(&self.0);
+    }
 }
 
 /// Returns the set with a list of indexes, and then with one in the order `E`.
 fn with_lists<B: BitsOwned, E: Endian>(mut set: B) -> [B; 2]
     requires { IsTrue B.indexable }
 {
-    insert_list(&mut set, &[0, 7, 9, 7]);
+    List([0, 7, 9, 7]).change(&mut set);
     let first = set;
-    insert_list(&mut set.in_order_mut::<E>(), &[2]);
+    change_in::<B, E, _>(&List([2]), &mut set);
     [first, set]
 }
 
-/// Inserts the indexes that an iterator over a set yields.
-fn extend_by_set<B: BitsMut, C: Bits>(row: &mut B, other: &C)
-    requires indexable { IsTrue B.indexable }
-    requires fits { ShapeFits C.Shape other.now }
-{
-    row.extend(other.iter_ones());
+/// Inserts the indexes that an iterator over a byte yields.
+#[derive(Drop)]
+struct OnesOf(u8);
+
+impl Change for OnesOf {
+    type Answer = ();
+
+    fn change<B: BitsMut>(&self, set: &mut B) {
+        extend_by_set(set, &self.0);
+    }
 }
 
 /// Returns the set with the indexes of a range, and then with those that an iterator over a byte
@@ -365,7 +393,7 @@ fn extended<B: BitsOwned, E: Endian>(mut row: B) -> [B; 2]
 {
     row.extend(6..11);
     let first = row;
-    extend_by_set(&mut row.in_order_mut::<E>(), &0b0101u8);
+    change_in::<B, E, _>(&OnesOf(0b0101), &mut row);
     [first, row]
 }
 
@@ -373,8 +401,8 @@ fn extended<B: BitsOwned, E: Endian>(mut row: B) -> [B; 2]
 fn lists_and_iterators_are_set(rt: HostRuntime) {
     let words = with_lists::<_, LittleEndian>(0b0001_0000u8);
     same!(rt; words, [0b1001_0011, 0b1011_0011]);
-    let rows = extended::<_, LittleEndian>([0u8; 2]);
-    same!(rt; rows, [[0xC0, 0x07], [0xE0, 0x07]]);
+    let [first, second] = extended::<_, LittleEndian>([0u8; 2]);
+    same!(rt; (first, second), ([0xC0, 0x07], [0xE0, 0x07]));
 }
 
 #[test]
@@ -456,14 +484,22 @@ fn each_second_bit_of_several_words(rt: HostRuntime) {
     same!(rt; wide, [1, 1 << 63]);
 }
 
+/// Keeps each second set bit from the left, and returns the number of those that were asked and the
+/// bits.
+fn each_second_kept_in_left<T: BitsOwned>(left: T) -> (u32, T)
+    requires { IsTrue T.indexable }
+{
+    let mut set = Set::new_le(left);
+    let asked = keep_each_second(&mut set, 100);
+    (asked, set.into_bits())
+}
+
 #[test]
 fn each_second_bit_of_several_words_from_the_left(rt: HostRuntime) {
-    let mut row = Set::new_le([0b1000_0110u8, 0, 0x81, 0]);
-    same!(rt; keep_each_second(&mut row, 100), 5_06_16_23);
-    same!(rt; row.into_bits(), [0b1000_0010, 0, 0x01, 0]);
-    let mut signed = Set::new_le([-32767i16, 5]);
-    same!(rt; keep_each_second(&mut signed, 100), 15_29_31);
-    same!(rt; signed.into_bits(), [-32768, 4]);
+    let row = each_second_kept_in_left([0b1000_0110u8, 0, 0x81, 0]);
+    same!(rt; row, (5_06_16_23, [0b1000_0010, 0, 0x01, 0]));
+    let signed = each_second_kept_in_left([-32767i16, 5]);
+    same!(rt; signed, (15_29_31, [-32768, 4]));
 }
 
 #[test]

@@ -3,6 +3,7 @@
 ghost use Rattle.std.specs.Prelude.{IsTrue};
 ghost use Rattle.bittle.specs.Values.{ShapeFits};
 
+use crate::calls::{Change, change_in};
 use crate::checks::same;
 use bittle::prelude::*;
 use bittle::{LittleEndian, Set};
@@ -102,29 +103,39 @@ fn insertions_of_words(rt: HostRuntime) {
 }
 
 // Inserts the indexes 8 and 24 and sets the bit 23, and returns what each call answered.
-fn put<B: BitsMut>(row: &mut B) -> ([Option<bool>; 2], bool)
-    requires { ShapeFits B.Shape row.old }
-{
-    ([row.try_insert(8), row.try_insert(24)], row.try_set_bit(23))
+#[derive(Drop)]
+struct Put;
+
+impl Change for Put {
+    type Answer = ([Option<bool>; 2], bool);
+
+    fn change<B: BitsMut>(&self, row: &mut B) -> ([Option<bool>; 2], bool) {
+        ([row.try_insert(8), row.try_insert(24)], row.try_set_bit(23))
+    }
 }
 
 // Removes the index 8 and clears the bits 23 and 31, and returns what each call answered.
-fn take<B: BitsMut>(row: &mut B) -> (Option<bool>, [bool; 2])
-    requires { ShapeFits B.Shape row.old }
-{
-    (
-        row.try_remove(8),
-        [row.try_clear_bit(23), row.try_clear_bit(31)],
-    )
+#[derive(Drop)]
+struct Take;
+
+impl Change for Take {
+    type Answer = (Option<bool>, [bool; 2]);
+
+    fn change<B: BitsMut>(&self, row: &mut B) -> (Option<bool>, [bool; 2]) {
+        (
+            row.try_remove(8),
+            [row.try_clear_bit(23), row.try_clear_bit(31)],
+        )
+    }
 }
 
 #[test]
 fn changes_of_rows_from_the_left(rt: HostRuntime) {
     let mut row = [0u8; 3];
-    let answers = put(&mut row.in_order_mut::<LittleEndian>());
+    let answers = change_in::<_, LittleEndian, _>(&Put, &mut row);
     same!(rt; answers, ([Some(true), None], true));
     same!(rt; row, [0, 0x80, 1]);
-    let answers = take(&mut row.in_order_mut::<LittleEndian>());
+    let answers = change_in::<_, LittleEndian, _>(&Take, &mut row);
     same!(rt; answers, (Some(true), [true, false]));
     same!(rt; row, [0, 0, 0]);
 }

@@ -1,14 +1,11 @@
 //! Iterators over what an operation makes of two sets, with values worked out by hand.
 
-ghost use Rattle.std.specs.Prelude.{◌<◌, max};
-ghost use Rattle.bittle_ext.specs.Views.{rounded_up};
-ghost use Rattle.bittle.specs.Values.{ShapeFits};
-
 use crate::calls::{
-    BACK, FRONT, conjunction, difference, symmetric_difference, taken, union, union_in,
+    BACK, FRONT, Question, ask_either, conjunction, difference, symmetric_difference, taken, union,
+    union_in,
 };
 use crate::checks::same;
-use bittle::{Bits, LittleEndian};
+use bittle::LittleEndian;
 use bittle_ext::prelude::*;
 
 #[test]
@@ -43,31 +40,44 @@ fn two_shapes_from_the_left(rt: HostRuntime) {
     same!(rt; either, [Some(8), Some(2), Some(1), Some(0), None]);
 }
 
-/// Takes an item of a walk and clones it, and returns what both yield then.
-fn source_and_clone<A: Bits, B: Bits>(
-    one: &A,
-    other: &B,
-) -> (Option<u32>, [Option<u32>; 2], [Option<u32>; 4], Option<u32>)
-    requires one_fits { ShapeFits A.Shape one.now }
-    requires other_fits { ShapeFits B.Shape other.now }
-    requires rounded { rounded_up (max (A.big one.now).capacity (B.big other.now).capacity) A.width
-        < 4294967295 }
-{
-    let mut walk = one.or_unlike(other).into_ones();
-    let first = walk.next();
-    let mut clone = walk.clone().unwrap();
-    let source = taken(&mut walk, [BACK, FRONT]);
-    let items = taken(&mut clone, [FRONT, BACK, FRONT, FRONT]);
-    (first, source, items, walk.next())
+/// Takes an item of a walk and clones it, and asks for what the source yields then, and for what
+/// the clone yields before the source yields one more.
+#[derive(Drop)]
+struct SourceAndClone;
+
+impl Question for SourceAndClone {
+    type Answer = (
+        [Option<u32>; 1],
+        [Option<u32>; 2],
+        [Option<u32>; 4],
+        [Option<u32>; 1],
+    );
+
+    fn ask<V: View>(
+        &self,
+        view: &V,
+    ) -> (
+        [Option<u32>; 1],
+        [Option<u32>; 2],
+        [Option<u32>; 4],
+        [Option<u32>; 1],
+    ) {
+        let mut walk = (*view).into_ones();
+        let first = taken(&mut walk, [FRONT]);
+        let mut clone = walk.clone().unwrap();
+        let source = taken(&mut walk, [BACK, FRONT]);
+        let items = taken(&mut clone, [FRONT, BACK, FRONT, FRONT]);
+        (first, source, items, taken(&mut walk, [FRONT]))
+    }
 }
 
 #[test]
 fn a_clone_goes_on_from_its_source(rt: HostRuntime) {
     // Set in either are 0, 1, 2 and 8.
     let (word, row) = (0b0011u8, [0b0110u8, 1]);
-    let (first, source, clone, then) = source_and_clone(&word, &row);
-    same!(rt; (first, source), (Some(0), [Some(8), Some(1)]));
-    same!(rt; (clone, then), ([Some(1), Some(8), Some(2), None], Some(2)));
+    let (first, source, clone, then) = ask_either(&SourceAndClone, &word, &row);
+    same!(rt; (first, source), ([Some(0)], [Some(8), Some(1)]));
+    same!(rt; (clone, then), ([Some(1), Some(8), Some(2), None], [Some(2)]));
 }
 
 #[test]

@@ -7,7 +7,7 @@ ghost use Rattle.bittle.specs.Values.{ShapeFits};
 use crate::checks::same;
 use crate::random::{draw, draw_row, flags_of};
 use bittle::prelude::*;
-use bittle::{BigEndian, BitsOwned, Endian, LittleEndian, Set};
+use bittle::{BigEndian, BitsOwned, Endian, LittleEndian, Set, Shape};
 use bittle_ext::prelude::*;
 use std::process::Abort;
 
@@ -36,6 +36,36 @@ fn moved<A: BitsOwned>(set: A, from: u32, to: u32, at: u32) -> A
     now
 }
 
+// Returns the same of a set in the order `E`.
+fn pasted_in<A: BitsOwned, E: Endian, B: Bits>(set: A, other: &B, from: u32, to: u32, at: u32) -> A
+    requires indexable { IsTrue A.indexable }
+    requires other_fits { ShapeFits B.Shape other.now }
+{
+    pasted(Set::<A, E>::new_in(set), other, from, to, at).into_bits()
+}
+
+// Returns the same of a set in the order `E` and another one in the order `F`.
+fn pasted_in_both<A: BitsOwned, E: Endian, B: BitsOwned, F: Endian>(
+    set: A,
+    other: B,
+    from: u32,
+    to: u32,
+    at: u32,
+) -> A
+    requires indexable { IsTrue A.indexable }
+    requires other_indexable { IsTrue B.indexable }
+{
+    pasted_in::<A, E, _>(set, &Set::<B, F>::new_in(other), from, to, at)
+}
+
+// Returns the set in the order `E` with a range of it copied, or unchanged where that is not
+// allowed.
+fn moved_in<A: BitsOwned, E: Endian>(set: A, from: u32, to: u32, at: u32) -> A
+    requires { IsTrue A.indexable }
+{
+    moved(Set::<A, E>::new_in(set), from, to, at).into_bits()
+}
+
 #[test]
 fn words_of_other_widths(rt: HostRuntime) {
     // Of the word the bits 4 to 11 are 1010_0101.
@@ -53,13 +83,23 @@ fn past_the_end_of_the_other_set(rt: HostRuntime) {
     same!(rt; pasted(0xFFu8, &0xFFu8, u32::MAX - 4, u32::MAX, 1), 0b1110_0001);
 }
 
+// Returns the set with a range of another one from the left copied.
+fn pasted_of_left<A: BitsOwned, B: BitsOwned>(set: A, left: B, from: u32, to: u32, at: u32) -> A
+    requires indexable { IsTrue A.indexable }
+    requires other_indexable { IsTrue B.indexable }
+{
+    pasted(set, &Set::new_le(left), from, to, at)
+}
+
 #[test]
 fn other_orders(rt: HostRuntime) {
     // From the left the members 0 and 3.
-    let left = Set::new_le(0b1001_0000u8);
-    same!(rt; pasted(0u8, &left, 0, 8, 0), 0b0000_1001);
-    same!(rt; pasted(Set::new_le([0u16; 2]), &left, 0, 4, 14).into_bits(), [2, 0x4000]);
-    same!(rt; pasted(Set::new_le(0u8), &0b0000_0011u8, 1, 3, 4).into_bits(), 0b0000_1000);
+    let left = 0b1001_0000u8;
+    same!(rt; pasted_of_left(0u8, left, 0, 8, 0), 0b0000_1001);
+    let rows = pasted_in_both::<_, LittleEndian, _, LittleEndian>([0u16; 2], left, 0, 4, 14);
+    same!(rt; rows, [2, 0x4000]);
+    let word = pasted_in::<_, LittleEndian, _>(0u8, &0b0000_0011u8, 1, 3, 4);
+    same!(rt; word, 0b0000_1000);
 }
 
 #[test]
@@ -68,7 +108,7 @@ fn ranges_that_overlap(rt: HostRuntime) {
     same!(rt; moved([0x53u8, 0x04], 4, 12, 0), [0x45, 0x04]);
     same!(rt; moved([0x81u8, 0x7E, 0x18], 0, 16, 8), [0x81, 0x81, 0x7E]);
     same!(rt; moved([0x81u8, 0x7E, 0x18], 8, 24, 0), [0x7E, 0x18, 0x18]);
-    same!(rt; moved(Set::new_le([0x80u8, 0x01]), 0, 15, 1).into_bits(), [0xC0, 0]);
+    same!(rt; moved_in::<_, LittleEndian>([0x80u8, 0x01], 0, 15, 1), [0xC0, 0]);
 }
 
 // Returns the set with the bits of a range of another one, bit by bit.
@@ -108,11 +148,10 @@ fn agree_at<A: BitsOwned, B: BitsOwned, E: Endian, F: Endian>(
 {
     let all = A::bits();
     if from <= to && at <= all && to - from <= all - at {
-        let theirs = Set::<B, F>::new_in(other);
-        let made = pasted(Set::<A, E>::new_in(set), &theirs, from, to, at).into_bits();
+        let made = pasted_in_both::<A, E, B, F>(set, other, from, to, at);
         let looped = by_bits::<A, B, E, F>(&set, &other, from, to, at);
         crate::checks::ask(rt, "from another set", made == looped);
-        let within = moved(Set::<A, E>::new_in(set), from, to, at).into_bits();
+        let within = moved_in::<A, E>(set, from, to, at);
         let looped = by_bits::<A, A, E, E>(&set, &set, from, to, at);
         crate::checks::ask(rt, "within the set", within == looped);
     }
@@ -141,6 +180,23 @@ fn agree<A: BitsOwned, B: BitsOwned>(rt: &impl Abort, width: u32, set: A, other:
     }
 }
 
+// Compares the calls on a set and one from the left with the loop.
+fn agree_with_left<A: BitsOwned, T: BitsOwned>(rt: &impl Abort, width: u32, set: A, other: T)
+    requires indexable { IsTrue A.indexable }
+    requires other_indexable { IsTrue T.indexable }
+{
+    agree(rt, width, set, Set::new_le(other));
+}
+
+// Compares the calls on a pair of sets of any type and a set from the left with the loop. Of any
+// types that is proved in less time than of nested rows.
+fn agree_pair<T: BitsOwned, U: BitsOwned>(rt: &impl Abort, width: u32, pair: [T; 2], other: U)
+    requires indexable { IsTrue ⟦<[T; 2] as Shape>⟧.indexable }
+    requires other_indexable { IsTrue U.indexable }
+{
+    agree_with_left(rt, width, pair, other);
+}
+
 #[test]
 fn words_agree_with_a_loop(rt: HostRuntime) {
     agree(&rt, 8, 0b1001_0110u8, -0x5A93i16);
@@ -162,12 +218,8 @@ fn rows_agree_with_a_loop(rt: HostRuntime) {
         [0x8000_0000_0000_0003u64, 0xF0F0_1234_5678_9ABD],
         [0x53u8, 0xA6, 0x19],
     );
-    agree(
-        &rt,
-        16,
-        [[0x8003u16, 0x1234], [0xFEDC, 0x4001]],
-        Set::new_le([0xC5u8, 0x3A, 0x91]),
-    );
+    let pair = [[0x8003u16, 0x1234], [0xFEDC, 0x4001]];
+    agree_pair(&rt, 16, pair, [0xC5u8, 0x3A, 0x91]);
 }
 
 #[test]

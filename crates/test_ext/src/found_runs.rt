@@ -216,6 +216,21 @@ fn runs_as_plain<B: Bits>(rt: &impl Abort, set: &B, flags: &[bool; 64], from: u3
     }
 }
 
+/// Compares the runs from an index on and those in a range with those of the plain loop.
+fn all_runs_as_plain<B: Bits>(rt: &impl Abort, set: &B, flags: &[bool; 64], from: u32, to: u32)
+    requires { ShapeFits B.Shape set.now }
+{
+    runs_as_plain(rt, set, flags, from);
+    runs_within_as_plain(rt, set, flags, from, to);
+}
+
+/// Compares the same of a set from the left.
+fn left_runs_as_plain<B: Bits>(rt: &impl Abort, set: &B, flags: &[bool; 64], from: u32, to: u32)
+    requires { ShapeFits B.Shape set.now }
+{
+    all_runs_as_plain(rt, &set.in_order::<LittleEndian>(), flags, from, to);
+}
+
 #[test]
 fn drawn_rows_have_the_runs_of_plain_arrays(rt: HostRuntime) {
     let mut state = 1u32;
@@ -231,17 +246,9 @@ fn drawn_rows_have_the_runs_of_plain_arrays(rt: HostRuntime) {
         }
         let from = draw(&mut state) % 66;
         let row = word.to_le_bytes();
-        runs_as_plain(&rt, &row, &flags(&row, false), from);
-        runs_as_plain(
-            &rt,
-            &row.in_order::<LittleEndian>(),
-            &flags(&row, true),
-            from,
-        );
-        runs_as_plain(&rt, &word, &flags(&row, false), from);
         let to = draw(&mut state) % 80;
-        runs_within_as_plain(&rt, &row, &flags(&row, false), from, to);
-        let left = row.in_order::<LittleEndian>();
-        runs_within_as_plain(&rt, &left, &flags(&row, true), from, to);
+        all_runs_as_plain(&rt, &row, &flags(&row, false), from, to);
+        left_runs_as_plain(&rt, &row, &flags(&row, true), from, to);
+        runs_as_plain(&rt, &word, &flags(&row, false), from);
     }
 }

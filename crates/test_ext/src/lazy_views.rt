@@ -1,13 +1,15 @@
 //! Views, with values worked out by hand, and with drawn sets compared with tests of each bit in
 //! plain loops.
 
-ghost use Rattle.std.specs.Prelude.{◌<◌, max, IsTrue};
-ghost use Rattle.bittle_ext.specs.Views.{rounded_up};
+ghost use Rattle.std.specs.Prelude.{IsTrue};
 ghost use Rattle.bittle.specs.Values.{ShapeFits};
 
-use crate::checks::{holds, same};
+use crate::calls::{
+    BACK, FRONT, Ones, Question, ask_alone, ask_both, ask_either, ask_just_one, taken,
+};
+use crate::checks::same;
 use crate::random::draw;
-use bittle::{Bits, LittleEndian, Set, Shape};
+use bittle::{Bits, BitsOwned, LittleEndian, Set, Shape};
 use bittle_ext::prelude::*;
 
 // Draws a word.
@@ -46,57 +48,93 @@ fn first(bits: &[bool; 64]) -> Option<u32> {
     None
 }
 
-// Returns the capacity, how many bits are set, and the first and the last of them.
-fn read<B: Bits>(view: &B) -> (u32, u32, [Option<u32>; 2])
-    requires { ShapeFits B.Shape view.now }
-{
-    let ends = [view.first_one(), view.last_one()];
-    (view.bits_capacity(), view.count_ones(), ends)
+// What is read of a view: the capacity, how many bits are set, and the first and the last of them.
+type Read = (u32, u32, [Option<u32>; 2]);
+
+// Reads a view.
+#[derive(Drop)]
+struct Reading;
+
+impl Question for Reading {
+    type Answer = Read;
+
+    fn ask<V: View>(&self, view: &V) -> Read {
+        let ends = [view.first_one(), view.last_one()];
+        (view.bits_capacity(), view.count_ones(), ends)
+    }
 }
 
-// Returns whether all bits are unset, and whether all are set.
-fn whole<B: Bits>(view: &B) -> (bool, bool)
-    requires { ShapeFits B.Shape view.now }
-{
-    (view.all_zeros(), view.all_ones())
+// Asks for the first bit that is set, and for the first that is unset.
+#[derive(Drop)]
+struct Firsts;
+
+impl Question for Firsts {
+    type Answer = [Option<u32>; 2];
+
+    fn ask<V: View>(&self, view: &V) -> [Option<u32>; 2] {
+        [view.first_one(), view.first_zero()]
+    }
+}
+
+// Asks whether all bits are unset, and whether all are set.
+#[derive(Drop)]
+struct Whole;
+
+impl Question for Whole {
+    type Answer = (bool, bool);
+
+    fn ask<V: View>(&self, view: &V) -> (bool, bool) {
+        (view.all_zeros(), view.all_ones())
+    }
 }
 
 // Tests two bits.
-fn tested<B: Bits>(view: &B, indexes: [u32; 2]) -> [bool; 2]
-    requires { IsTrue B.indexable }
-{
-    [view.test_bit(indexes[0]), view.test_bit(indexes[1])]
+#[derive(Drop)]
+struct Tested([u32; 2]);
+
+impl Question for Tested {
+    type Answer = [bool; 2];
+
+    fn ask<V: View>(&self, view: &V) -> [bool; 2] {
+        [view.test_bit(self.0[0]), view.test_bit(self.0[1])]
+    }
 }
 
-// What is read of a view.
-type Read = (u32, u32, [Option<u32>; 2]);
+// Asks how many items an iterator over the set bits yields.
+#[derive(Drop)]
+struct Walked;
+
+impl Question for Walked {
+    type Answer = u32;
+
+    fn ask<V: View>(&self, view: &V) -> u32 {
+        (*view).into_ones().count() as u32
+    }
+}
+
+// Asks what a set lacks.
+fn ask_unset<B: Bits, Q: Question>(question: &Q, set: &B) -> Q::Answer
+    requires { ShapeFits B.Shape set.now }
+{
+    question.ask(&set.complement_view())
+}
+
+// Asks what a set has in a range.
+fn ask_within<B: Bits, Q: Question>(question: &Q, set: &B, from: u32, to: u32) -> Q::Answer
+    requires { ShapeFits B.Shape set.now }
+{
+    question.ask(&set.within(from, to))
+}
 
 // Reads what two sets have in common, and what the first has alone.
 fn read_both_and_alone<A: Bits, B: Bits>(one: &A, other: &B) -> [Read; 2]
     requires one_fits { ShapeFits A.Shape one.now }
     requires other_fits { ShapeFits B.Shape other.now }
 {
-    [read(&one.and(other)), read(&one.minus(other))]
-}
-
-// Reads what either of two sets has.
-fn read_either<A: Bits, B: Bits>(one: &A, other: &B) -> Read
-    requires one_fits { ShapeFits A.Shape one.now }
-    requires other_fits { ShapeFits B.Shape other.now }
-    requires rounded { rounded_up (max (A.big one.now).capacity (B.big other.now).capacity) A.width
-        < 4294967295 }
-{
-    read(&one.or_unlike(other))
-}
-
-// Reads what just one of two sets has.
-fn read_just_one<A: Bits, B: Bits>(one: &A, other: &B) -> Read
-    requires one_fits { ShapeFits A.Shape one.now }
-    requires other_fits { ShapeFits B.Shape other.now }
-    requires rounded { rounded_up (max (A.big one.now).capacity (B.big other.now).capacity) A.width
-        < 4294967295 }
-{
-    read(&one.xor_unlike(other))
+    [
+        ask_both(&Reading, one, other),
+        ask_alone(&Reading, one, other),
+    ]
 }
 
 #[test]
@@ -107,17 +145,17 @@ fn a_byte_and_a_wider_word(rt: HostRuntime) {
     same!(rt; (both, alone), ((8, 1, [Some(1), Some(1)]), (8, 1, [Some(0), Some(0)])));
     let [both, alone] = read_both_and_alone(&word, &byte);
     same!(rt; (both, alone), ((16, 1, [Some(1), Some(1)]), (16, 2, [Some(2), Some(8)])));
-    same!(rt; read_either(&byte, &word), (16, 4, [Some(0), Some(8)]));
-    same!(rt; read_just_one(&word, &byte), (16, 3, [Some(0), Some(8)]));
+    same!(rt; ask_either(&Reading, &byte, &word), (16, 4, [Some(0), Some(8)]));
+    same!(rt; ask_just_one(&Reading, &word, &byte), (16, 3, [Some(0), Some(8)]));
 }
 
 #[test]
 fn a_capacity_that_is_rounded_up(rt: HostRuntime) {
     // Bit 31 is set, and bits 24, 31 and 32 of a capacity of 40.
     let (word, bytes) = (0x8000_0000u32, [0u8, 0, 0, 0x81, 1]);
-    same!(rt; read_either(&word, &bytes), (64, 3, [Some(24), Some(32)]));
-    same!(rt; tested(&word.or_unlike(&bytes), [40, 96]), [false, true]);
-    same!(rt; read_just_one(&word, &bytes), (64, 2, [Some(24), Some(32)]));
+    same!(rt; ask_either(&Reading, &word, &bytes), (64, 3, [Some(24), Some(32)]));
+    same!(rt; ask_either(&Tested([40, 96]), &word, &bytes), [false, true]);
+    same!(rt; ask_just_one(&Reading, &word, &bytes), (64, 2, [Some(24), Some(32)]));
 }
 
 #[test]
@@ -129,7 +167,31 @@ fn two_rows_each_in_its_own_order(rt: HostRuntime) {
     same!(rt; (both, alone), ((48, 2, [Some(0), Some(33)]), (48, 1, [Some(15), Some(15)])));
     let [both, alone] = read_both_and_alone(&set, &row);
     same!(rt; (both, alone), ((64, 2, [Some(0), Some(33)]), (64, 1, [Some(63), Some(63)])));
-    same!(rt; tested(&set.minus(&row), [63, 0]), [true, false]);
+    same!(rt; ask_alone(&Tested([63, 0]), &set, &row), [true, false]);
+}
+
+// Asks what either of two sets of like words has.
+fn ask_either_like<A: Bits, B: Bits + Shape<LeafWord = A::LeafWord>, Q: Question>(
+    question: &Q,
+    one: &A,
+    other: &B,
+) -> Q::Answer
+    requires one_fits { ShapeFits A.Shape one.now }
+    requires other_fits { ShapeFits B.Shape other.now }
+{
+    question.ask(&one.or(other))
+}
+
+// Asks what just one of two sets of like words has.
+fn ask_just_one_like<A: Bits, B: Bits + Shape<LeafWord = A::LeafWord>, Q: Question>(
+    question: &Q,
+    one: &A,
+    other: &B,
+) -> Q::Answer
+    requires one_fits { ShapeFits A.Shape one.now }
+    requires other_fits { ShapeFits B.Shape other.now }
+{
+    question.ask(&one.xor(other))
 }
 
 // Reads what either of two sets of like words has, and what just one of them has.
@@ -137,7 +199,10 @@ fn read_like<A: Bits, B: Bits + Shape<LeafWord = A::LeafWord>>(one: &A, other: &
     requires one_fits { ShapeFits A.Shape one.now }
     requires other_fits { ShapeFits B.Shape other.now }
 {
-    [read(&one.or(other)), read(&one.xor(other))]
+    [
+        ask_either_like(&Reading, one, other),
+        ask_just_one_like(&Reading, one, other),
+    ]
 }
 
 #[test]
@@ -146,7 +211,14 @@ fn like_words_in_unlike_orders(rt: HostRuntime) {
     let (byte, set): (u8, Set<u8, LittleEndian>) = (0b0011, Set::new_le(0b0100_0001));
     let [either, one] = read_like(&byte, &set);
     same!(rt; (either, one), ((8, 3, [Some(0), Some(7)]), (8, 2, [Some(0), Some(7)])));
-    same!(rt; set.or(&byte).into_ones().next_back(), Some(7));
+    same!(rt; ask_either_like(&Ones([BACK]), &set, &byte), [Some(7)]);
+}
+
+// Asks what a set has in common with itself and not in itself.
+fn ask_common_alone<B: Bits, Q: Question>(question: &Q, row: &B) -> Q::Answer
+    requires { ShapeFits B.Shape row.now }
+{
+    ask_alone(question, &row.and(row), row)
 }
 
 #[test]
@@ -155,10 +227,11 @@ fn rows_of_unlike_lengths(rt: HostRuntime) {
     let (byte, row) = (0b0110u8, [0b0101u8, 1]);
     let [either, one] = read_like(&byte, &row);
     same!(rt; (either, one), ((16, 4, [Some(0), Some(8)]), (16, 3, [Some(0), Some(8)])));
-    let one = row.xor(&byte);
-    same!(rt; (read(&one), one.first_zero()), ((16, 3, [Some(0), Some(8)]), Some(2)));
-    same!(rt; whole(&row.minus(&byte)), (false, false));
-    same!(rt; whole(&row.and(&row).minus(&row)), (true, false));
+    let [_, one] = read_like(&row, &byte);
+    same!(rt; one, (16, 3, [Some(0), Some(8)]));
+    same!(rt; ask_just_one_like(&Firsts, &row, &byte), [Some(0), Some(2)]);
+    same!(rt; ask_alone(&Whole, &row, &byte), (false, false));
+    same!(rt; ask_common_alone(&Whole, &row), (true, false));
 }
 
 // Returns whether a set has nothing alone and what it has alone first, and whether it has all in
@@ -167,8 +240,8 @@ fn compared<B: Bits>(full: &B, row: &B) -> (bool, Option<u32>, bool, u32)
     requires full_fits { ShapeFits B.Shape full.now }
     requires row_fits { ShapeFits B.Shape row.now }
 {
-    let ((none, _), (_, all)) = (whole(&full.minus(row)), whole(&full.and(row)));
-    let ((_, _, ends), (_, count, _)) = (read(&full.minus(row)), read(&full.and(row)));
+    let ((none, _), (_, all)) = (ask_alone(&Whole, full, row), ask_both(&Whole, full, row));
+    let [(_, count, _), (_, _, ends)] = read_both_and_alone(full, row);
     (none, ends[0], all, count)
 }
 
@@ -184,22 +257,23 @@ fn many_words_at_once(rt: HostRuntime) {
     same!(rt; compared(&full, &full), (true, None, true, 88));
 }
 
-// Reads the complement of a set, and counts the bits of the complement of that.
-fn read_complement<B: Bits>(word: &B) -> (Read, u32)
-    requires { ShapeFits B.Shape word.now }
+// Counts the bits of the complement of the complement of a set.
+fn count_twice_unset<B: Bits>(set: &B) -> u32
+    requires { ShapeFits B.Shape set.now }
 {
-    let unset = word.complement_view();
-    (read(&unset), unset.complement_view().count_ones())
+    let (_, count, _) = ask_unset(&Reading, &set.complement_view());
+    count
 }
 
 #[test]
 fn a_complement(rt: HostRuntime) {
     // Bits 1 and 3 are unset.
     let word = 0b1111_0101u8;
-    same!(rt; read_complement(&word), ((8, 2, [Some(1), Some(3)]), 6));
-    same!(rt; tested(&word.complement_view(), [1, 2]), [true, false]);
-    same!(rt; whole(&0xFFu8.complement_view()), (true, false));
-    same!(rt; whole(&0u8.complement_view()), (false, true));
+    same!(rt; ask_unset(&Reading, &word), (8, 2, [Some(1), Some(3)]));
+    same!(rt; count_twice_unset(&word), 6);
+    same!(rt; ask_unset(&Tested([1, 2]), &word), [true, false]);
+    same!(rt; ask_unset(&Whole, &0xFFu8), (true, false));
+    same!(rt; ask_unset(&Whole, &0u8), (false, true));
 }
 
 // Reads a range, asks whether each bit of two others is unset, and counts the set bits of two more.
@@ -211,14 +285,17 @@ fn read_ranges<B: Bits>(row: &B) -> (Read, [bool; 2], [u32; 2])
         row.within(0, 16).count_ones(),
         row.within(3, 3).count_ones(),
     ];
-    (read(&row.within(5, 8)), unset, counts)
+    (ask_within(&Reading, row, 5, 8), unset, counts)
 }
 
-// Counts the bits of a range, and returns the first of another one.
-fn count_and_first<B: Bits>(set: &B) -> (u32, Option<u32>)
-    requires { ShapeFits B.Shape set.now }
+// Counts the bits of a range of a set from the left, and returns the first of another one.
+fn count_and_first_of_left<T: BitsOwned>(left: T) -> (u32, Option<u32>)
+    requires { IsTrue T.indexable }
 {
-    (set.within(0, 8).count_ones(), set.within(1, 9).first_one())
+    let set = Set::new_le(left);
+    let (_, count, _) = ask_within(&Reading, &set, 0, 8);
+    let (_, _, ends) = ask_within(&Reading, &set, 1, 9);
+    (count, ends[0])
 }
 
 #[test]
@@ -227,33 +304,87 @@ fn a_range(rt: HostRuntime) {
     let row = [0b0110_0010u8, 1];
     let inner = (16, 2, [Some(5), Some(6)]);
     same!(rt; read_ranges(&row), (inner, [true, false], [4, 0]));
-    same!(rt; tested(&row.within(5, 8), [6, 8]), [true, false]);
+    same!(rt; ask_within(&Tested([6, 8]), &row, 5, 8), [true, false]);
     // From the left bits 0 and 8 are set.
-    let set: Set<[u8; 2], LittleEndian> = Set::new_le([0x80, 0x80]);
-    same!(rt; count_and_first(&set), (1, Some(8)));
+    same!(rt; count_and_first_of_left([0x80u8, 0x80]), (1, Some(8)));
+}
+
+// Asks how many bits of a range of a view are set.
+#[derive(Drop)]
+struct CountBelowSix;
+
+impl Question for CountBelowSix {
+    type Answer = u32;
+
+    fn ask<V: View>(&self, view: &V) -> u32 {
+        view.within(0, 6).count_ones()
+    }
+}
+
+// Asks for the first run of four set bits of a view.
+#[derive(Drop)]
+struct FirstRunOfFour;
+
+impl Question for FirstRunOfFour {
+    type Answer = Option<u32>;
+
+    fn ask<V: View>(&self, view: &V) -> Option<u32> {
+        view.first_one_run(4)
+    }
+}
+
+// Asks an iterator over a view from the left for its first item.
+#[derive(Drop)]
+struct FirstFromLeft;
+
+impl Question for FirstFromLeft {
+    type Answer = [Option<u32>; 1];
+
+    fn ask<V: View>(&self, view: &V) -> [Option<u32>; 1] {
+        taken(&mut Set::new_le(*view).iter_ones(), [FRONT])
+    }
+}
+
+// Asks what a range of a set has and another set has not.
+fn ask_alone_within<A: Bits, B: Bits, Q: Question>(
+    question: &Q,
+    one: &A,
+    other: &B,
+    from: u32,
+    to: u32,
+) -> Q::Answer
+    requires one_fits { ShapeFits A.Shape one.now }
+    requires other_fits { ShapeFits B.Shape other.now }
+{
+    ask_alone(question, &one.within(from, to), other)
 }
 
 #[test]
 fn views_of_views(rt: HostRuntime) {
     // Bits 1, 5, 6 and 9 are set in the first, and bits 5, 6 and 7 in the second.
     let (one, other) = (0x0262u16, 0xE0u8);
-    same!(rt; one.and(&other).within(0, 6).count_ones(), 1);
-    same!(rt; one.within(0, 9).minus(&other).first_one(), Some(1));
-    same!(rt; one.within(5, 7).minus(&other).all_zeros(), true);
-    same!(rt; one.complement_view().first_one_run(4), Some(10));
-    same!(rt; Set::new_le(one.and(&other)).iter_ones().next(), Some(9));
+    same!(rt; ask_both(&CountBelowSix, &one, &other), 1);
+    let (_, _, ends) = ask_alone_within(&Reading, &one, &other, 0, 9);
+    same!(rt; ends[0], Some(1));
+    same!(rt; ask_alone_within(&Whole, &one, &other, 5, 7), (true, false));
+    same!(rt; ask_unset(&FirstRunOfFour, &one), Some(10));
+    same!(rt; ask_both(&FirstFromLeft, &one, &other), [Some(9)]);
 }
 
 #[test]
 fn capacity_0_and_a_slice(rt: HostRuntime) {
     let none: [u64; 0] = [];
-    same!(rt; (none.and(&0xFFu8).bits_capacity(), none.or(&none).count_ones()), (0, 0));
-    holds!(rt; none.complement_view().all_zeros() && none.within(0, 0).all_ones());
-    holds!(rt; !none.minus(&7u8).test_bit(3) && none.xor_unlike(&0x80u8).test_bit(7));
+    let empty = (true, true);
+    same!(rt; ask_both(&Reading, &none, &0xFFu8), (0, 0, [None, None]));
+    same!(rt; ask_either_like(&Reading, &none, &none), (0, 0, [None, None]));
+    same!(rt; (ask_unset(&Whole, &none), ask_within(&Whole, &none, 0, 0)), (empty, empty));
+    same!(rt; ask_alone(&Tested([3, 0]), &none, &7u8), [false, false]);
+    same!(rt; ask_just_one(&Tested([7, 0]), &none, &0x80u8), [true, false]);
     let words = [1u64, 0, 0, 0, 0, 1 << 63];
     let slice: &[u64] = &words[..5];
-    same!(rt; (slice.and(&words).count_ones(), words.minus(&slice).first_one()), (1, Some(383)));
-    same!(rt; slice.complement_view().count_ones(), 319);
+    same!(rt; ask_both(&Reading, &slice, &words), (320, 1, [Some(0), Some(0)]));
+    same!(rt; ask_alone(&Reading, &words, &slice), (384, 1, [Some(383), Some(383)]));
+    same!(rt; ask_unset(&Reading, &slice), (320, 319, [Some(1), Some(319)]));
 }
 
 // Counts what two words have in common, and returns the first index that a word has in common with
@@ -263,7 +394,9 @@ fn common<A: Bits, B: Bits>(one: &A, other: &A, halves: &B) -> (u32, Option<u32>
     requires other_fits { ShapeFits A.Shape other.now }
     requires halves_fit { ShapeFits B.Shape halves.now }
 {
-    (one.and(other).count_ones(), one.and(halves).first_one())
+    let (_, count, _) = ask_both(&Reading, one, other);
+    let (_, _, ends) = ask_both(&Reading, one, halves);
+    (count, ends[0])
 }
 
 // Counts what either of two words has, and what one has that the halves of the other have not.
@@ -272,18 +405,39 @@ fn either_and_alone<A: Bits, B: Bits>(one: &A, other: &A, halves: &B) -> [u32; 2
     requires other_fits { ShapeFits A.Shape other.now }
     requires halves_fit { ShapeFits B.Shape halves.now }
 {
-    [one.or(other).count_ones(), one.minus(halves).count_ones()]
+    let (_, either, _) = ask_either_like(&Reading, one, other);
+    let (_, alone, _) = ask_alone(&Reading, one, halves);
+    [either, alone]
 }
 
 // Returns the first bit that a word lacks, and the first of a range and how many that has.
 fn unset_and_within<B: Bits>(one: &B) -> ([Option<u32>; 2], u32)
     requires { ShapeFits B.Shape one.now }
 {
-    let firsts = [
-        one.complement_view().first_one(),
-        one.within(3, 50).first_one(),
-    ];
-    (firsts, one.within(3, 50).into_ones().count() as u32)
+    let (_, _, unset) = ask_unset(&Reading, one);
+    let (_, _, within) = ask_within(&Reading, one, 3, 50);
+    ([unset[0], within[0]], ask_within(&Walked, one, 3, 50))
+}
+
+// Returns the bits that both of two words have, that either has, and that the first has alone.
+fn of_two(ours: &[bool; 64], theirs: &[bool; 64]) -> ([bool; 64], [bool; 64], [bool; 64]) {
+    let (mut both, mut either, mut alone) = ([false; 64], [false; 64], [false; 64]);
+    for k in 0..64usize {
+        both[k] = ours[k] && theirs[k];
+        either[k] = ours[k] || theirs[k];
+        alone[k] = ours[k] && !theirs[k];
+    }
+    (both, either, alone)
+}
+
+// Returns the bits that a word lacks, and those that it has of the bits 3 to 49.
+fn of_one(ours: &[bool; 64]) -> ([bool; 64], [bool; 64]) {
+    let (mut unset, mut low) = ([false; 64], [false; 64]);
+    for k in 0..64usize {
+        unset[k] = !ours[k];
+        low[k] = ours[k] && 3 <= k && k < 50;
+    }
+    (unset, low)
 }
 
 #[test]
@@ -292,15 +446,8 @@ fn drawn_words(rt: HostRuntime) {
     for _ in 0..50u32 {
         let (one, other) = (draw_word(&mut state), draw_word(&mut state));
         let (ours, theirs) = (bits_of(one), bits_of(other));
-        let (mut both, mut either, mut alone) = ([false; 64], [false; 64], [false; 64]);
-        let (mut unset, mut low) = ([false; 64], [false; 64]);
-        for k in 0..64usize {
-            both[k] = ours[k] && theirs[k];
-            either[k] = ours[k] || theirs[k];
-            alone[k] = ours[k] && !theirs[k];
-            unset[k] = !ours[k];
-            low[k] = ours[k] && 3 <= k && k < 50;
-        }
+        let (both, either, alone) = of_two(&ours, &theirs);
+        let (unset, low) = of_one(&ours);
         let halves = [(other % (1 << 32)) as u32, (other >> 32) as u32];
         same!(rt; common(&one, &other, &halves), (held(&both), first(&both)));
         same!(rt; either_and_alone(&one, &other, &halves), [held(&either), held(&alone)]);

@@ -45,7 +45,8 @@ fn toggled_and_others<B: BitsOwned>(some: B, none: B, all: B) -> [B; 3]
 
 #[test]
 fn ranges(rt: HostRuntime) {
-    same!(rt; with_and_without([0u8; 2], [0xFF; 2]), [[0xC0, 0x07], [0x3F, 0xF8]]);
+    let [with, without] = with_and_without([0u8; 2], [0xFF; 2]);
+    same!(rt; (with, without), ([0xC0, 0x07], [0x3F, 0xF8]));
     same!(rt; toggled_and_others(0b0011_1100u8, 0, 0xFF), [0b0011_0011, 0, 0]);
 }
 
@@ -93,6 +94,7 @@ fn indexes(rt: HostRuntime) {
     let [three, none, four] = of_indexes::<Set<u8, LittleEndian>>();
     same!(rt; (three.into_bits(), none.into_bits()), (0b1100_0001, 0));
     same!(rt; four.into_bits(), 0b1000_0111);
-    same!(rt; of_indexes::<[u8; 2]>(), [[0x81, 0x02], [0, 0], [0xE0, 0x01]]);
+    let [three, none, four] = of_indexes::<[u8; 2]>();
+    same!(rt; (three, none, four), ([0x81, 0x02], [0, 0], [0xE0, 0x01]));
     same!(rt; of_steps::<u64>(), 0x0001_0001_0001_0001);
 }

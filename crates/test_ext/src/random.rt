@@ -4,7 +4,9 @@ ghost use Rattle.std.specs.Prelude.{◌<◌, ◌≤◌, max, IsTrue};
 ghost use Rattle.bittle_ext.specs.Views.{rounded_up};
 ghost use Rattle.bittle.specs.Values.{ShapeFits};
 
-use crate::calls::{BACK, FRONT, combination, one_runs, set_of, zero_runs, zeros_in_range};
+use crate::calls::{
+    BACK, FRONT, combination, extend_by_set, one_runs, set_of, zero_runs, zeros_in_range,
+};
 use crate::checks::same;
 use crate::rotations::moved;
 use bittle::{Bits, BitsMut, BitsOwned};
@@ -45,24 +47,21 @@ fn change_one<B: BitsMut>(
 {
     let at = (index % 24) as usize;
     let before = flags[at];
-    match kind {
-        0 => {
-            crate::checks::compare(rt, "insert", row.insert(index), !before);
-            flags[at] = true;
-        }
-        1 => {
-            crate::checks::compare(rt, "remove", row.remove(index), before);
-            flags[at] = false;
-        }
-        2 => {
-            crate::checks::compare(rt, "replace", row.replace(index, !before), before);
-            flags[at] = !before;
-        }
+    let (call, was_set) = match kind {
+        0 => ("insert", !row.insert(index)),
+        1 => ("remove", row.remove(index)),
+        2 => ("replace", row.replace(index, !before)),
         _ => {
             row.toggle(index);
-            flags[at] = !before;
+            ("toggle", before)
         }
-    }
+    };
+    crate::checks::compare(rt, call, was_set, before);
+    flags[at] = match kind {
+        0 => true,
+        1 => false,
+        _ => !before,
+    };
 }
 
 // Makes a drawn change of a range of both.
@@ -146,7 +145,7 @@ fn walked<A: BitsOwned, B: Bits>(kind: u32, row: &A, word: &B) -> A
 {
     if kind == 0 {
         let mut made = A::zeros();
-        made.extend(row.or_unlike(word).iter_ones());
+        extend_by_set(&mut made, &row.or_unlike(word));
         made
     } else {
         set_of(combination(kind, row, word, [FRONT; 25]))
@@ -169,11 +168,19 @@ fn drawn_combinations_agree_with_plain_loops(rt: HostRuntime) {
     }
 }
 
+// Makes the set of the set bits of a range of a row, by an iterator from its back.
+fn ones_from_back<A: BitsOwned, B: Bits>(row: &B, from: u32, to: u32) -> A
+    requires indexable { IsTrue A.indexable }
+    requires fits { ShapeFits B.Shape row.now }
+{
+    let mut made = A::zeros();
+    made.extend(row.iter_ones_in_range(from, to).rev());
+    made
+}
+
 // Makes the set of what a range of a row has of a kind, by a walk from both ends in turn.
 fn walked_range<B: BitsOwned>(zeros: bool, row: &B, from: u32, to: u32) -> B
-    requires indexable { IsTrue B.indexable }
-    requires ordered { from ≤ to }
-    requires within { to ≤ (B.big row.now).capacity }
+    requires { IsTrue B.indexable }
 {
     if zeros {
         let mut turns = [FRONT; 25];
@@ -182,9 +189,7 @@ fn walked_range<B: BitsOwned>(zeros: bool, row: &B, from: u32, to: u32) -> B
         }
         set_of(zeros_in_range(row, from, to, turns))
     } else {
-        let mut made = B::zeros();
-        made.extend(row.iter_ones_in_range(from, to).rev());
-        made
+        ones_from_back(row, from, to)
     }
 }
 

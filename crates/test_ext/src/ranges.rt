@@ -1,8 +1,13 @@
 //! Iterators over a range of a set, with values worked out by hand.
 
-use crate::calls::{BACK, FRONT, ones_in_range, ones_in_range_in, zeros_in_range};
+ghost use Rattle.std.specs.Prelude.{IsTrue};
+ghost use Rattle.bittle.specs.Values.{ShapeFits};
+
+use crate::calls::{
+    BACK, FRONT, ones_in_range, ones_in_range_in, taken, zeros_in_range, zeros_in_range_in,
+};
 use crate::checks::same;
-use bittle::{LittleEndian, Set};
+use bittle::{Bits, BitsOwned, LittleEndian, Set, Shape};
 use bittle_ext::prelude::*;
 
 #[test]
@@ -18,31 +23,50 @@ fn the_ones_of_a_range_of_a_word(rt: HostRuntime) {
 #[test]
 fn the_zeros_of_a_range_of_a_word(rt: HostRuntime) {
     // No members are 0, 2, 3, 4 and 7.
-    let mut inner = 0b0110_0010u8.iter_zeros_in_range(1, 4);
-    same!(rt; (inner.next_back(), inner.next()), (Some(3), Some(2)));
-    same!(rt; (inner.next(), inner.next_back()), (None, None));
+    let inner = zeros_in_range(&0b0110_0010u8, 1, 4, [BACK, FRONT, FRONT, BACK]);
+    same!(rt; inner, [Some(3), Some(2), None, None]);
 }
 
 #[test]
 fn a_range_of_a_word_from_the_left(rt: HostRuntime) {
     // The members 1, 2 and 6; no members are 0, 3, 4, 5 and 7.
     let word = 0b0110_0010u8;
-    let view = word.in_order::<LittleEndian>();
-    let mut ones = view.iter_ones_in_range(2, 8);
-    same!(rt; (ones.next(), ones.next(), ones.next()), (Some(2), Some(6), None));
-    let mut zeros = view.iter_zeros_in_range(1, 5);
-    same!(rt; (zeros.next(), zeros.next(), zeros.next()), (Some(3), Some(4), None));
+    let ones = ones_in_range_in::<_, LittleEndian, 3>(&word, 2, 8, [FRONT; 3]);
+    same!(rt; ones, [Some(2), Some(6), None]);
+    let zeros = zeros_in_range_in::<_, LittleEndian, 3>(&word, 1, 5, [FRONT; 3]);
+    same!(rt; zeros, [Some(3), Some(4), None]);
+}
+
+/// Walks over the set bits of a range of a pair of sets, and of one from the left. Of sets of any
+/// type that is proved in less time than of nested rows.
+fn ones_in_ranges_of_a_pair<T: BitsOwned>(pair: &[T; 2]) -> [[Option<u32>; 4]; 2]
+    requires { IsTrue ⟦<[T; 2] as Shape>⟧.indexable }
+{
+    let right = ones_in_range(pair, 1, 32, [FRONT, BACK, BACK, FRONT]);
+    let turns = [BACK, FRONT, FRONT, BACK];
+    [
+        right,
+        ones_in_range_in::<_, LittleEndian, 4>(pair, 7, 24, turns),
+    ]
 }
 
 #[test]
 fn both_ends_of_a_range_of_nested_rows(rt: HostRuntime) {
     // The members 0, 7, 16 and 31; from the left 0, 7, 23 and 24.
     let rows = [[0x81u8, 0], [0x01, 0x80]];
-    let turns = [FRONT, BACK, BACK, FRONT];
-    same!(rt; ones_in_range(&rows, 1, 32, turns), [Some(7), Some(31), Some(16), None]);
-    let turns = [BACK, FRONT, FRONT, BACK];
-    let left = ones_in_range_in::<_, LittleEndian, 4>(&rows, 7, 24, turns);
+    let [right, left] = ones_in_ranges_of_a_pair(&rows);
+    same!(rt; right, [Some(7), Some(31), Some(16), None]);
     same!(rt; left, [Some(23), Some(7), None, None]);
+}
+
+/// Returns the first set bit from index 8 on of a set from the left, and the last unset one from
+/// index 7 on, each below 24.
+fn ends_of_ranges_from_left<T: BitsOwned>(bits: T) -> ([Option<u32>; 1], [Option<u32>; 1])
+    requires { IsTrue T.indexable }
+{
+    let set = Set::new_le(bits);
+    let first = ones_in_range(&set, 8, 24, [FRONT]);
+    (first, zeros_in_range(&set, 7, 24, [BACK]))
 }
 
 #[test]
@@ -52,28 +76,35 @@ fn a_range_of_a_slice_and_of_a_set(rt: HostRuntime) {
     let row: &[u8] = &bytes[..];
     same!(rt; ones_in_range(&row, 1, 24, [FRONT; 3]), [Some(7), Some(8), None]);
     // From the left 0, 7 and 15.
-    let set = Set::new_le(bytes);
-    same!(rt; ones_in_range(&set, 8, 24, [FRONT]), [Some(15)]);
-    same!(rt; zeros_in_range(&set, 7, 24, [BACK]), [Some(23)]);
+    same!(rt; ends_of_ranges_from_left(bytes), ([Some(15)], [Some(23)]));
+}
+
+/// Takes an item of a walk over the set bits below 7 and clones it, and returns what both yield.
+fn source_and_clone<B: Bits>(bits: &B) -> ([Option<u32>; 1], [[Option<u32>; 3]; 2])
+    requires { ShapeFits B.Shape bits.now }
+{
+    let mut walk = bits.iter_ones_in_range(0, 7);
+    let first = taken(&mut walk, [FRONT]);
+    let mut clone = walk.clone().unwrap();
+    let source = taken(&mut walk, [BACK, FRONT, FRONT]);
+    (first, [source, taken(&mut clone, [FRONT, BACK, FRONT])])
 }
 
 #[test]
 fn a_clone_goes_on_from_its_source(rt: HostRuntime) {
     // Bits 1, 5 and 6 are set.
     let word = 0b0110_0010u8;
-    let mut walk = word.iter_ones_in_range(0, 7);
-    same!(rt; walk.next(), Some(1));
-    let mut clone = walk.clone().unwrap();
-    same!(rt; (walk.next_back(), walk.next(), walk.next()), (Some(6), Some(5), None));
-    same!(rt; (clone.next(), clone.next_back(), clone.next()), (Some(5), Some(6), None));
+    let (first, [source, clone]) = source_and_clone(&word);
+    same!(rt; (first, source), ([Some(1)], [Some(6), Some(5), None]));
+    same!(rt; clone, [Some(5), Some(6), None]);
 }
 
 #[test]
 fn ranges_with_no_items(rt: HostRuntime) {
     let none: [u8; 0] = [];
-    same!(rt; none.iter_ones_in_range(0, 0).next(), None);
-    same!(rt; none.iter_zeros_in_range(0, 0).next(), None);
-    same!(rt; 0xFFu8.iter_ones_in_range(3, 3).next(), None);
-    same!(rt; 0xFFu8.iter_ones_in_range(8, 8).next_back(), None);
-    same!(rt; 0xFFu8.iter_zeros_in_range(0, 8).next_back(), None);
+    same!(rt; ones_in_range(&none, 0, 0, [FRONT]), [None]);
+    same!(rt; zeros_in_range(&none, 0, 0, [FRONT]), [None]);
+    same!(rt; ones_in_range(&0xFFu8, 3, 3, [FRONT]), [None]);
+    same!(rt; ones_in_range(&0xFFu8, 8, 8, [BACK]), [None]);
+    same!(rt; zeros_in_range(&0xFFu8, 0, 8, [BACK]), [None]);
 }

@@ -2,7 +2,7 @@
 
 ghost use Rattle.bittle.specs.Values.{ShapeFits};
 
-use crate::calls::{counts, counts_in, ends, ranks, selected, stand};
+use crate::calls::{counts, counts_in, ends, ranks, ranks_in, selected, selected_in, stand};
 use crate::checks::same;
 use crate::found_runs::plain_run;
 use bittle::prelude::*;
@@ -100,11 +100,11 @@ fn ranks_and_selection(rt: HostRuntime) {
 fn ranks_from_the_left(rt: HostRuntime) {
     // From the left bits 0, 1, 7 and 15 are set.
     let row: [u8; 2] = [0b1100_0001, 0b0000_0001];
-    let view = row.in_order::<LittleEndian>();
-    same!(rt; ranks(&view, [7, 15]), [2, 3]);
-    same!(rt; selected(&view, [2, 3, 4]), [Some(7), Some(15), None]);
-    let least = i8::MIN.in_order::<LittleEndian>();
-    same!(rt; (selected(&least, [0]), selected(&i8::MIN, [0])), ([Some(0)], [Some(7)]));
+    same!(rt; ranks_in::<_, LittleEndian, 2>(&row, [7, 15]), [2, 3]);
+    let bits = selected_in::<_, LittleEndian, 3>(&row, [2, 3, 4]);
+    same!(rt; bits, [Some(7), Some(15), None]);
+    let least = selected_in::<_, LittleEndian, 1>(&i8::MIN, [0]);
+    same!(rt; (least, selected(&i8::MIN, [0])), ([Some(0)], [Some(7)]));
 }
 
 /// Counts the set bits and the unset bits of a range.

@@ -4,12 +4,12 @@
 ghost use Rattle.std.specs.Prelude.{◌≤◌, IsTrue};
 ghost use Rattle.bittle.specs.Values.{ShapeFits};
 
-use crate::calls::{BACK, FRONT, taken};
+use crate::calls::{BACK, Change, FRONT, change_in, ends, ones_in_range, taken};
 use crate::checks::same;
 use crate::random::draw;
 use bittle::{Bits, BitsMut, BitsOwned, Endian, LittleEndian, Set};
 use bittle_ext::prelude::*;
-use std::ops::Bound;
+use std::ops::{Bound, RangeBounds};
 
 // The members are 1, 5 and 6, and from the left 1, 2 and 6.
 const WORD: u8 = 0b0110_0010;
@@ -85,10 +85,11 @@ fn counted_backwards<B: Bits>(row: &B) -> [u32; 3]
 fn searched_backwards<B: Bits>(row: &B) -> [Option<u32>; 3]
     requires { ShapeFits B.Shape row.now }
 {
+    let [item] = ones_in_range(row, 7, 1, [FRONT]);
     [
         row.first_one_in_range(7, 1),
         row.last_zero_in_range(7, 1),
-        row.iter_ones_in_range(7, 1).next(),
+        item,
     ]
 }
 
@@ -151,7 +152,7 @@ fn searched<B: Bits>(row: &B) -> [Option<u32>; 5]
         row.last_one_in_span(..=5),
         row.first_zero_in_span(1..),
         row.last_zero_in_span(..6),
-        row.within_span(2..).last_one(),
+        ends(&row.within_span(2..))[1],
     ]
 }
 
@@ -173,37 +174,41 @@ fn searches_of_a_range_from_the_left(rt: HostRuntime) {
 fn ones_past<B: Bits>(row: &B) -> [Option<u32>; 3]
     requires { ShapeFits B.Shape row.now }
 {
-    taken(&mut row.iter_ones_in_range(2, 700), [FRONT, BACK, FRONT])
+    ones_in_range(row, 2, 700, [FRONT, BACK, FRONT])
 }
 
-// Walks over the unset bits from index 4 on.
-fn zeros_from_four<B: Bits>(row: &B) -> [Option<u32>; 3]
-    requires { ShapeFits B.Shape row.now }
+// Walks over the unset bits of a range.
+fn zeros_in_span<B: Bits, R: RangeBounds<u32>, const N: usize>(
+    row: &B,
+    range: R,
+    ends: [bool; N],
+) -> [Option<u32>; N]
+    requires fits { ShapeFits B.Shape row.now }
+    requires known { R.has_bounds range }
 {
-    taken(&mut row.iter_zeros_in_span(4..), [FRONT, BACK, BACK])
+    taken(&mut row.iter_zeros_in_span(range), ends)
 }
 
 #[test]
 fn iterators_over_a_range_past_the_capacity(rt: HostRuntime) {
     same!(rt; ones_past(&WORD), [Some(5), Some(6), None]);
     let view = WORD.in_order::<LittleEndian>();
-    same!(rt; zeros_from_four(&view), [Some(4), Some(7), Some(5)]);
+    let zeros = zeros_in_span(&view, 4.., [FRONT, BACK, BACK]);
+    same!(rt; zeros, [Some(4), Some(7), Some(5)]);
 }
 
-// Clears the first four bits.
-fn clear_four<B: BitsMut>(row: &mut B)
-    requires fits { ShapeFits B.Shape row.old }
-    requires long { 4 ≤ (B.big row.old).capacity }
-{
-    row.clear_span(..4);
-}
+// Clears the first four bits of a set that has them.
+#[derive(Drop)]
+struct ClearFour;
 
-// Clears the first four bits by a view in the order `E`.
-fn clear_four_in<B: BitsMut, E: Endian>(row: &mut B)
-    requires fits { ShapeFits B.Shape row.old }
-    requires long { 4 ≤ (B.big row.old).capacity }
-{
-    clear_four(&mut row.in_order_mut::<E>());
+impl Change for ClearFour {
+    type Answer = ();
+
+    fn change<B: BitsMut>(&self, set: &mut B) {
+        if 4 <= set.bits_capacity() {
+            set.clear_span(..4);
+        }
+    }
 }
 
 // Returns the set after each of five ranges is changed, the last of them in the order `E`.
@@ -219,7 +224,7 @@ fn after_each_range<B: BitsOwned, E: Endian>(mut row: B) -> [B; 5]
     let third = row;
     row.assign_span(..=8, true);
     let fourth = row;
-    clear_four_in::<B, E>(&mut row);
+    change_in::<B, E, _>(&ClearFour, &mut row);
     [first, second, third, fourth, row]
 }
 
@@ -248,7 +253,8 @@ fn toggled_and_with<B: BitsOwned>(some: B, none: B) -> [B; 2]
 
 #[test]
 fn sets_are_made_of_ranges(rt: HostRuntime) {
-    same!(rt; with_and_without([0u8; 2], [0xFF; 2]), [[0xC0, 0x07], [0x00, 0xF8]]);
+    let [with, without] = with_and_without([0u8; 2], [0xFF; 2]);
+    same!(rt; (with, without), ([0xC0, 0x07], [0x00, 0xF8]));
     same!(rt; toggled_and_with(0b0011_1100u8, 0), [0b1100_1100, 0b0000_0111]);
     let some = Set::new_le(0b0011_1100u8);
     let [toggled, with] = toggled_and_with(some, Set::new_le(0u8));
@@ -260,10 +266,11 @@ fn read_nothing<B: Bits>(none: &B) -> ([u32; 2], [Option<u32>; 3])
     requires { ShapeFits B.Shape none.now }
 {
     let counts = [none.count_ones_in_range(0, 9), none.count_zeros_in_span(..)];
+    let [item] = zeros_in_span(none, ..=5, [FRONT]);
     let items = [
         none.first_one_in_span(..),
         none.last_zero_in_span(3..),
-        none.iter_zeros_in_span(..=5).next(),
+        item,
     ];
     (counts, items)
 }

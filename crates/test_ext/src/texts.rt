@@ -1,5 +1,6 @@
 //! Sets as binary text, and writers that fail.
 
+ghost use Rattle.std.specs.Prelude.{IsTrue};
 ghost use Rattle.bittle.specs.Values.{ShapeFits};
 
 use crate::checks::{holds, same};
@@ -16,8 +17,21 @@ use std::test::Fail;
 fn reads<B: Bits>(rt: &impl Abort, alloc: Global, set: &B, text: &str) -> Result<(), AllocError>
     requires { ShapeFits B.Shape set.now }
 {
-    same!(rt; format!(in alloc; "{}", set.binary_text())?.as_str(), text);
+    let made = format!(in alloc; "{}", set.binary_text())?;
+    crate::checks::compare(rt, "the text of the set", made.as_str(), text);
     Ok(())
+}
+
+// Asks for the text of a set from the left.
+fn left_reads<T: BitsOwned>(
+    rt: &impl Abort,
+    alloc: Global,
+    left: T,
+    text: &str,
+) -> Result<(), AllocError>
+    requires { IsTrue T.indexable }
+{
+    reads(rt, alloc, &Set::new_le(left), text)
 }
 
 #[test]
@@ -30,13 +44,8 @@ fn a_word_is_printed_as_its_number(rt: HostRuntime) -> Result<(), Fail> {
 #[test]
 fn the_greatest_index_of_the_order_comes_first(rt: HostRuntime) -> Result<(), Fail> {
     // From the left the members are 2, 5 and 6, and of the row 0 and 14.
-    reads(&rt, rt.alloc(), &Set::new_le(0b0010_0110u8), "01100100")?;
-    reads(
-        &rt,
-        rt.alloc(),
-        &Set::new_le([0x80u8, 0x02]),
-        "0100000000000001",
-    )?;
+    left_reads(&rt, rt.alloc(), 0b0010_0110u8, "01100100")?;
+    left_reads(&rt, rt.alloc(), [0x80u8, 0x02], "0100000000000001")?;
     reads(
         &rt,
         rt.alloc(),

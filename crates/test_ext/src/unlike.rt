@@ -6,13 +6,14 @@ ghost use Rattle.bittle_ext.specs.Views.{rounded_up};
 ghost use Rattle.bittle.specs.Values.{ShapeFits};
 
 use crate::calls::{
-    BACK, FRONT, combination, conjunction, difference, set_of, symmetric_difference, union,
-    union_in,
+    BACK, FRONT, Question, ask_both, combination, conjunction, difference, extend_from_back,
+    set_of, symmetric_difference, union, union_in,
 };
 use crate::checks::same;
 use crate::random::{combined, draw};
 use bittle::{Bits, BitsMut, LittleEndian, Set};
 use bittle_ext::prelude::*;
+use std::process::Abort;
 
 #[test]
 fn a_byte_and_a_wider_word(rt: HostRuntime) {
@@ -79,6 +80,20 @@ fn capacity_0(rt: HostRuntime) {
     same!(rt; difference(&wide, &0xFFu8, [BACK]), [None]);
 }
 
+// Makes the set of what a view has, by an iterator from its back.
+#[derive(Drop)]
+struct FromBack;
+
+impl Question for FromBack {
+    type Answer = [u64; 2];
+
+    fn ask<V: View>(&self, view: &V) -> [u64; 2] {
+        let mut made = [0u64; 2];
+        extend_from_back(&mut made, view);
+        made
+    }
+}
+
 // Makes the set of what an operation makes of two sets, by a walk from both ends in turn or from
 // one of them.
 fn walked<A: Bits, B: Bits>(kind: u32, one: &A, other: &B) -> [u64; 2]
@@ -88,9 +103,7 @@ fn walked<A: Bits, B: Bits>(kind: u32, one: &A, other: &B) -> [u64; 2]
         < 4294967295 }
 {
     if kind == 1 {
-        let mut made = [0u64; 2];
-        made.extend(one.and(other).iter_ones().rev());
-        return made;
+        return ask_both(&FromBack, one, other);
     }
     let mut turns = [kind != 3; 129];
     if kind == 0 {
@@ -122,6 +135,19 @@ fn draw_word(state: &mut u32) -> u64 {
     u64::from(draw(state)) << 40 ^ u64::from(draw(state)) << 20 ^ u64::from(draw(state))
 }
 
+// Compares the walk with the tests of each bit, of two sets and of the same two in turn.
+fn agree<A: Bits, B: Bits>(rt: &impl Abort, kind: u32, one: &A, other: &B)
+    requires one_fits { ShapeFits A.Shape one.now }
+    requires other_fits { ShapeFits B.Shape other.now }
+    requires rounded { rounded_up (max (A.big one.now).capacity (B.big other.now).capacity) A.width
+        < 4294967295 }
+    requires turned { rounded_up (max (B.big other.now).capacity (A.big one.now).capacity) B.width
+        < 4294967295 }
+{
+    same!(*rt; walked(kind, one, other), tested(kind, one, other));
+    same!(*rt; walked(kind, other, one), tested(kind, other, one));
+}
+
 #[test]
 fn drawn_unlike_sets_agree_with_tests_of_each_bit(rt: HostRuntime) {
     let mut state = 17;
@@ -134,9 +160,7 @@ fn drawn_unlike_sets_agree_with_tests_of_each_bit(rt: HostRuntime) {
         for k in 0..3usize {
             words[k] = (draw(&mut state) % 65536) as u16;
         }
-        same!(rt; walked(kind, &byte, &row), tested(kind, &byte, &row));
-        same!(rt; walked(kind, &row, &byte), tested(kind, &row, &byte));
-        same!(rt; walked(kind, &words, &set), tested(kind, &words, &set));
-        same!(rt; walked(kind, &set, &words), tested(kind, &set, &words));
+        agree(&rt, kind, &byte, &row);
+        agree(&rt, kind, &words, &set);
     }
 }

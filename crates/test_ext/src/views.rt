@@ -3,6 +3,7 @@
 ghost use Rattle.std.specs.Prelude.{IsTrue};
 ghost use Rattle.bittle.specs.Values.{ShapeFits};
 
+use crate::calls::{BACK, Change, FRONT, change_in};
 use crate::checks::{holds, same};
 use bittle::prelude::*;
 use bittle::{BigEndian, Bits, BitsMut, Endian, LittleEndian, Set};
@@ -64,28 +65,41 @@ fn capacity_0_is_read(rt: HostRuntime) {
     holds!(rt; view.all_zeros() && view.all_ones());
 }
 
+/// Returns a number whose digits are the set bits as a loop yields them, and what a walk from the
+/// back and then twice from the front yields.
+fn iterated<B: Bits>(bits: &B) -> (u32, [Option<u32>; 3])
+    requires { ShapeFits B.Shape bits.now }
+{
+    let mut digits = 0u32;
+    for index in bits.iter_ones() {
+        digits = digits.wrapping_mul(10).wrapping_add(index);
+    }
+    let items = crate::calls::taken(&mut bits.iter_ones(), [BACK, FRONT, FRONT]);
+    (digits, items)
+}
+
 #[test]
 fn a_view_is_iterated_from_both_ends(rt: HostRuntime) {
     // From the left bits 1, 2 and 6 are set.
     let view = 0b0110_0010u8.in_order::<LittleEndian>();
-    let mut digits = 0u32;
-    for index in view.iter_ones() {
-        digits = digits.wrapping_mul(10).wrapping_add(index);
-    }
+    let (digits, items) = iterated(&view);
     same!(rt; digits, 126);
-    let mut walk = view.iter_ones();
-    same!(rt; (walk.next_back(), walk.next(), walk.next()), (Some(6), Some(1), Some(2)));
+    same!(rt; items, [Some(6), Some(1), Some(2)]);
 }
 
 /// Flips bit 1, sets bit 0 and clears bit 3, and returns what the calls answered and then how many
 /// bits are set.
-fn change<B: BitsMut>(bits: &mut B) -> ([bool; 2], u32)
-    requires fits { ShapeFits B.Shape bits.old }
-    requires indexable { IsTrue B.indexable }
-{
-    bits.toggle(1);
-    let answers = [bits.insert(0), bits.remove(3)];
-    (answers, bits.count_ones())
+#[derive(Drop)]
+struct ThreeBits;
+
+impl Change for ThreeBits {
+    type Answer = ([bool; 2], u32);
+
+    fn change<B: BitsMut>(&self, bits: &mut B) -> ([bool; 2], u32) {
+        bits.toggle(1);
+        let answers = [bits.insert(0), bits.remove(3)];
+        (answers, bits.count_ones())
+    }
 }
 
 /// Does the same by a view in the order `E`.
@@ -93,7 +107,7 @@ fn changed<B: BitsMut, E: Endian>(bits: &mut B) -> ([bool; 2], u32)
     requires fits { ShapeFits B.Shape bits.old }
     requires indexable { IsTrue B.indexable }
 {
-    change(&mut bits.in_order_mut::<E>())
+    change_in::<B, E, _>(&ThreeBits, bits)
 }
 
 #[test]
@@ -134,20 +148,26 @@ fn capacity_0_is_changed_by_nothing(rt: HostRuntime) {
 }
 
 /// Takes out the first bit and the last, sets a range and flips all, and returns the two bits.
-fn take<B: BitsMut>(bits: &mut B) -> [Option<u32>; 2]
-    requires { ShapeFits B.Shape bits.old }
-{
-    let ends = [bits.pop_first(), bits.pop_last()];
-    bits.extend([1u32, 2].iter().copied());
-    bits.complement_assign();
-    ends
+#[derive(Drop)]
+struct Whole;
+
+impl Change for Whole {
+    type Answer = [Option<u32>; 2];
+
+    fn change<B: BitsMut>(&self, bits: &mut B) -> [Option<u32>; 2] {
+        let ends = [bits.pop_first(), bits.pop_last()];
+        bits.extend([1u32, 2].iter().copied());
+        bits.complement_assign();
+        ends
+    }
 }
 
 /// Does the same by a view in the order `E`.
 fn taken<B: BitsMut, E: Endian>(bits: &mut B) -> [Option<u32>; 2]
-    requires { ShapeFits B.Shape bits.old }
+    requires fits { ShapeFits B.Shape bits.old }
+    requires indexable { IsTrue B.indexable }
 {
-    take(&mut bits.in_order_mut::<E>())
+    change_in::<B, E, _>(&Whole, bits)
 }
 
 #[test]

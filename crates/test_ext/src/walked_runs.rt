@@ -1,10 +1,11 @@
 //! Iterators over the maximal runs of a set, with values worked out by hand.
 
+ghost use Rattle.std.specs.Prelude.{IsTrue};
 ghost use Rattle.bittle.specs.Values.{ShapeFits};
 
 use crate::calls::{BACK, FRONT, one_runs, runs_taken, zero_runs};
 use crate::checks::same;
-use bittle::{Bits, LittleEndian, Set};
+use bittle::{Bits, BitsOwned, LittleEndian, Set};
 use bittle_ext::prelude::*;
 
 #[test]
@@ -37,15 +38,23 @@ fn runs_across_the_words_of_nested_rows(rt: HostRuntime) {
     same!(rt; zeros, [Some((0, 7)), Some((17, 31)), None]);
 }
 
+/// Returns the first runs of set bits of a set from the left, and the last run of unset ones.
+fn runs_of_left<T: BitsOwned>(left: T) -> ([Option<(u32, u32)>; 3], [Option<(u32, u32)>; 1])
+    requires { IsTrue T.indexable }
+{
+    let set = Set::new_le(left);
+    (one_runs(&set, [FRONT; 3]), zero_runs(&set, [BACK]))
+}
+
 #[test]
 fn runs_of_a_slice_and_of_a_set(rt: HostRuntime) {
     // The members 7 and 8; from the left 0 and 15.
     let bytes = [0x80u8, 0x01];
     let row: &[u8] = &bytes[..];
     same!(rt; one_runs(&row, [FRONT, BACK]), [Some((7, 9)), None]);
-    let set = Set::new_le(bytes);
-    same!(rt; one_runs(&set, [FRONT; 3]), [Some((0, 1)), Some((15, 16)), None]);
-    same!(rt; zero_runs(&set, [BACK]), [Some((1, 15))]);
+    let (ones, zeros) = runs_of_left(bytes);
+    same!(rt; ones, [Some((0, 1)), Some((15, 16)), None]);
+    same!(rt; zeros, [Some((1, 15))]);
 }
 
 #[test]
