@@ -34,35 +34,138 @@ pub(crate) trait Compared: Sized {
     fn compare(self, rt: &impl Abort, text: &str, right: Self);
 }
 
-/// Has values of these types compared as wholes.
-macro_rules! compared {
-    ($($value:ty)*) => {
-        $(
-            impl Compared for $value {
-                fn compare(self, rt: &impl Abort, text: &str, right: Self) {
-                    compare(rt, text, self, right)
-                }
-            }
-        )*
-    };
+// No macro writes these: the gate takes no impl that a macro of the repository writes.
+impl Compared for bool {
+    fn compare(self, rt: &impl Abort, text: &str, right: Self) {
+        compare(rt, text, self, right)
+    }
 }
 
-/// Has lists of values of these types compared as wholes.
-macro_rules! compared_in_lists {
-    ($($value:ty)*) => {
-        $(
-            impl<const N: usize> Compared for [$value; N] {
-                fn compare(self, rt: &impl Abort, text: &str, right: Self) {
-                    compare(rt, text, self, right)
-                }
-            }
-        )*
-    };
+impl Compared for u8 {
+    fn compare(self, rt: &impl Abort, text: &str, right: Self) {
+        compare(rt, text, self, right)
+    }
 }
 
-compared!(bool u8 u16 u32 u64 u128 usize i8 i16 i32 Option<u32> Option<bool>);
+impl Compared for u16 {
+    fn compare(self, rt: &impl Abort, text: &str, right: Self) {
+        compare(rt, text, self, right)
+    }
+}
 
-compared_in_lists!(bool u8 u16 u32 u64 u128 i16 Option<u32> Option<bool> Option<(u32, u32)>);
+impl Compared for u32 {
+    fn compare(self, rt: &impl Abort, text: &str, right: Self) {
+        compare(rt, text, self, right)
+    }
+}
+
+impl Compared for u64 {
+    fn compare(self, rt: &impl Abort, text: &str, right: Self) {
+        compare(rt, text, self, right)
+    }
+}
+
+impl Compared for u128 {
+    fn compare(self, rt: &impl Abort, text: &str, right: Self) {
+        compare(rt, text, self, right)
+    }
+}
+
+impl Compared for usize {
+    fn compare(self, rt: &impl Abort, text: &str, right: Self) {
+        compare(rt, text, self, right)
+    }
+}
+
+impl Compared for i8 {
+    fn compare(self, rt: &impl Abort, text: &str, right: Self) {
+        compare(rt, text, self, right)
+    }
+}
+
+impl Compared for i16 {
+    fn compare(self, rt: &impl Abort, text: &str, right: Self) {
+        compare(rt, text, self, right)
+    }
+}
+
+impl Compared for i32 {
+    fn compare(self, rt: &impl Abort, text: &str, right: Self) {
+        compare(rt, text, self, right)
+    }
+}
+
+impl Compared for Option<u32> {
+    fn compare(self, rt: &impl Abort, text: &str, right: Self) {
+        compare(rt, text, self, right)
+    }
+}
+
+impl Compared for Option<bool> {
+    fn compare(self, rt: &impl Abort, text: &str, right: Self) {
+        compare(rt, text, self, right)
+    }
+}
+
+impl<const N: usize> Compared for [bool; N] {
+    fn compare(self, rt: &impl Abort, text: &str, right: Self) {
+        compare(rt, text, self, right)
+    }
+}
+
+impl<const N: usize> Compared for [u8; N] {
+    fn compare(self, rt: &impl Abort, text: &str, right: Self) {
+        compare(rt, text, self, right)
+    }
+}
+
+impl<const N: usize> Compared for [u16; N] {
+    fn compare(self, rt: &impl Abort, text: &str, right: Self) {
+        compare(rt, text, self, right)
+    }
+}
+
+impl<const N: usize> Compared for [u32; N] {
+    fn compare(self, rt: &impl Abort, text: &str, right: Self) {
+        compare(rt, text, self, right)
+    }
+}
+
+impl<const N: usize> Compared for [u64; N] {
+    fn compare(self, rt: &impl Abort, text: &str, right: Self) {
+        compare(rt, text, self, right)
+    }
+}
+
+impl<const N: usize> Compared for [u128; N] {
+    fn compare(self, rt: &impl Abort, text: &str, right: Self) {
+        compare(rt, text, self, right)
+    }
+}
+
+impl<const N: usize> Compared for [i16; N] {
+    fn compare(self, rt: &impl Abort, text: &str, right: Self) {
+        compare(rt, text, self, right)
+    }
+}
+
+impl<const N: usize> Compared for [Option<u32>; N] {
+    fn compare(self, rt: &impl Abort, text: &str, right: Self) {
+        compare(rt, text, self, right)
+    }
+}
+
+impl<const N: usize> Compared for [Option<bool>; N] {
+    fn compare(self, rt: &impl Abort, text: &str, right: Self) {
+        compare(rt, text, self, right)
+    }
+}
+
+impl<const N: usize> Compared for [Option<(u32, u32)>; N] {
+    fn compare(self, rt: &impl Abort, text: &str, right: Self) {
+        compare(rt, text, self, right)
+    }
+}
 
 impl<A: Compared, B: Compared> Compared for (A, B) {
     fn compare(self, rt: &impl Abort, text: &str, right: Self) {
