@@ -215,18 +215,6 @@ fn reads<S: Debug>(
     Ok(())
 }
 
-// Asks for the text of a set that is read from the left.
-fn reads_from_the_left<B: BitsOwned>(
-    rt: &impl Abort,
-    alloc: Global,
-    set: B,
-    text: &str,
-) -> Result<(), AllocError>
-    requires { IsTrue B.indexable }
-{
-    reads(rt, alloc, &Set::<B, LittleEndian>::new_in(set), text)
-}
-
 // Asks for the text of a set with a summary, and for that of the same set read from the left.
 fn tier_reads<B: BitsOwned, S: BitsOwned>(
     rt: &impl Abort,
