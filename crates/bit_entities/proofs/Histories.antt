@@ -64,7 +64,7 @@ lives_on w (Detach other component) entity lives = inl (by (may_have w other com
     by true = lives
     by false = lives
 
--- so a living entity is spawned again only after its removal
+-- a living entity is spawned again only after its removal
 removed_first : (w : World) (events : List Event) (entity : ℕ) → w.alive.has entity ≡ true →
     (j : ℕ) → slice_get (event_answers w events) j ≡ Some (Spawned entity) →
     (k : ℕ) × (k < j) × (slice_get events k ≡ Some (Remove entity))
@@ -123,7 +123,7 @@ module _ (entity component : ℕ) where
         ]
       ]
 
-  -- after such an event the entity does not have the component
+  -- after an event that takes the component, the entity does not have it
   taken : (w : World) (event : Event) → IsWorld w → Takes event →
       (world_after w event).has entity component ≡ false
   taken w event is (inl e) =

@@ -11,7 +11,7 @@ use Rattle.bit_entities.specs.Entities.{World, IsWorld, EndsAtCapacity, is_in, w
 abbrev pub with_alive : World → PlainSet → World
 with_alive w alive = record { alive = alive; components = w.components; has = w.has }
 
--- after a change for the number i, the test of another number is the old one
+-- a change of the test at the number i keeps the test of every other number
 test_other : (k i : ℕ) (is r : Bool) → cond (k == i) is r ≡ true → (k ≡ i → ⊥) → r ≡ true
 test_other k i is r e apart = sym (ap (λ b. cond b is r) (ne_eqb k i apart)) ∙ e
 
@@ -45,7 +45,7 @@ nothing_in set_of none entity empty (suc count) zero = empty
 nothing_in set_of none entity empty (suc count) (suc component) =
     nothing_in set_of none entity empty count component
 
--- so the world of such a row is bare
+-- in the world of a row of empty masks no entity has a component
 pub bare_is : {X : Type 0} (count : ℕ) (set_of : X → PlainSet) (alive none : X) →
     ((k : ℕ) → (set_of none).has k ≡ false) →
     world_of count set_of alive (replicate count none) ≡ bare_world (set_of alive) count

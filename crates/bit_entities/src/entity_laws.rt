@@ -1,7 +1,7 @@
 //! The main theorems of entities: what holds of every list of events. Each function does nothing:
 //! its contract is the law. The laws speak of the machine in `specs/Entities.antt`. The contract of
-//! `serve` states that it runs this machine. They also speak of `matching`, the set that the call
-//! `matching` returns.
+//! `serve` states that it runs this machine. The laws also speak of `matching`, the set that the
+//! call `matching` returns.
 
 ghost use Rattle.bit_entities.specs.EntityLaws.{WorldsStayWorlds, DeadHaveNothing, SpawnedAreNew};
 ghost use Rattle.bit_entities.specs.EntityLaws.{FullExactlyIfAllAreAlive, RefusedChangesNothing};

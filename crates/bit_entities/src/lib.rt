@@ -1,4 +1,4 @@
-//! Entities with components, where each component has a mask of the entities that have it.
+//! Entities with components. Each component has a mask of the entities that have it.
 //!
 //! An entity is a number below the capacity of the masks, and a component is a number below `N`. An
 //! entity is alive from its spawn to its removal, and only a living one has components: a number
@@ -123,9 +123,9 @@ impl<B: BitsOwned, const N: usize> World<B, N> {
         }
     }
 
-    /// Makes the least number that is not alive an entity without components, and returns it. If
-    /// all are alive, it returns `None` and changes nothing. It reads the words up to the one that
-    /// has the number.
+    /// Spawns an entity without components, and returns it. Its number is the least one that is not
+    /// alive. If all numbers are alive, it returns `None` and changes nothing. It reads the words
+    /// up to the one that has the number.
     pub fn spawn(&mut self) -> Option<u32>
         ensures entity { result ≡ least_dead (world_of N (set_in B.Shape B.Order.Endian)
             self.old.alive self.old.components) }

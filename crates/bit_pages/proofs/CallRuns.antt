@@ -1,4 +1,4 @@
--- A history of calls is a run of their requests.
+-- Calls in a history answer as the page machine does on the list of their requests.
 use Rattle.std.proofs.Common.{◌≡◌, List, [], ◌∷◌, refl, ap, ◌∙◌}
 use Rattle.std.specs.Prelude.{map}
 use Rattle.bittle.specs.PlainSet.{PlainSet}

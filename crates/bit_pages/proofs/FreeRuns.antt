@@ -91,7 +91,7 @@ run_state s t n (Some first) is after =
     after ∙ ap (with_run s n) (first_run_is s n (Some first) is)
 
 module _ (s : PlainSet) (first n : ℕ) where
-  -- each page of a run is taken exactly if the machine finds so
+  -- `is_run_taken` is true exactly if each page of the run is taken
   pub run_taken : is_run_taken s first n ≡ true → IsRun s n first
   run_taken e =
       let parts = and_parts (nat_le (first + n) s.capacity)

@@ -85,13 +85,13 @@ filter_distinct test (p ∷ held) d =
         (filter_apart test p held (IsDistinct-head ◌==◌ p held d)) rest
     by false rest = rest
 
--- which pages a list with one more page has
+-- a list with one more page has that page and its old pages
 any_push : (q page : ℕ) (held : List ℕ) →
     list_any (◌==◌ q) (held ++ page ∷ []) ≡ (list_any (◌==◌ q) held || (q == page))
 any_push q page held = list_any-append (◌==◌ q) held (page ∷ [])
     ∙ ap (λ b. list_any (◌==◌ q) held || b) (or-false (q == page))
 
--- which pages a list with n more pages from `first` on has
+-- a list with n more pages, from `first` on, has these pages and its old ones
 any_with : (q : ℕ) (held : List ℕ) (first n : ℕ) → list_any (◌==◌ q) (held_with held first n)
     ≡ (is_in_span first (first + n) q || list_any (◌==◌ q) held)
 any_with q held first zero =
@@ -149,7 +149,7 @@ kept_twice false one more = refl
 kept_twice true true more = refl
 kept_twice true false more = refl
 
--- two forms of whether a page is taken, by whether it is handed out, given back, held or kept
+-- two ways to write that a page is still taken after a request agree
 still_taken : (out back held kept : Bool) →
     (out || (not back && (held || kept))) ≡ ((out || (not back && held)) || (kept && not back))
 still_taken true back held kept = refl

@@ -33,7 +33,8 @@ given_is_not_none : (b : Bool) → cond b answer.Given answer.NotTaken ≡ answe
 given_is_not_none true e = cc
 given_is_not_none false e = cc
 
--- a request for a page has no answer of a request for a run, and the reverse
+-- a request for a page is not answered by `Run` or `NoRun`, and a request for a run is not answered
+-- by `Page` or `Full`
 page_is_no_run : (o : Option ℕ) (first : ℕ) → page_or_full o ≡ answer.Run first → ⊥
 page_is_no_run None first e = cc
 page_is_no_run (Some p) first e = cc
@@ -50,7 +51,7 @@ run_is_not_full : (o : Option ℕ) → run_or_none o ≡ answer.Full → ⊥
 run_is_not_full None e = cc
 run_is_not_full (Some p) e = cc
 
--- an answered page is the least free one
+-- the page in an answer `Page` is the least free page
 pub page_is_least : (s : PlainSet) (request : Request) (page : ℕ) →
     answer_to s request ≡ answer.Page page → IsLeastFree s page
 page_is_least s Take page = by (least_free s) (least_free-is s)
@@ -64,7 +65,7 @@ page_is_least s (TakeRun n) page = λ e. absurd (run_is_no_page (first_free_run 
 page_is_least s (GiveBackRun f n) page =
     λ e. absurd (given_is_no_page (is_run_taken s f n) page e)
 
--- an answered run is the first run of free pages of the length that was asked for
+-- the run in an answer `Run` is the first run of free pages of the length that was asked for
 pub run_is_first : (s : PlainSet) (request : Request) (first : ℕ) →
     answer_to s request ≡ answer.Run first →
     (n : ℕ) × (request ≡ TakeRun n) × IsFirstRun (complement s) 0 n (Some first)
@@ -79,7 +80,7 @@ run_is_first s (TakeRun n) first = by (first_free_run s n) (first_free_run-is s 
 run_is_first s (GiveBackRun f n) first =
     λ e. absurd (given_is_no_run (is_run_taken s f n) first e)
 
--- an allocator is full exactly if a page is asked for and all are taken
+-- `Full` is answered exactly if a page is asked for and all pages are taken
 pub full_is_taken : (s : PlainSet) (request : Request) → (answer_to s request ≡ answer.Full)
     ↔ ((request ≡ Take) × (size s ≡ s.capacity))
 full_is_taken s Take = by (least_free s) (least_free-is s)
@@ -131,7 +132,7 @@ none_is_free s (GiveBackRun f n) = (
   λ e. let kind = e.1 in absurd (cc),
 )
 
--- what the first request of a run and its answer say
+-- what `IsGiven` says of the first request of a run
 gives_first : (s : PlainSet) (request : Request) (requests : List Request) (page : ℕ) →
     IsGiven s (request ∷ requests) zero page →
     gives request (answer_to s request) page ≡ true
@@ -145,7 +146,7 @@ gives_first s request requests page out =
     some_is : {X : Type 0} {x y : X} → Some x ≡ Some y → x ≡ y
     some_is e = cc
 
--- what a later request and its answer say
+-- what `IsGiven` says of a later request of a run
 gives_later : (s : PlainSet) (request : Request) (requests : List Request) (page j : ℕ) →
     IsGiven s (request ∷ requests) (suc j) page →
     IsGiven (state_after s request) requests j page

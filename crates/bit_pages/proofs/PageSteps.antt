@@ -15,7 +15,7 @@ use Rattle.bit_pages.proofs.LeastFree.{least_free-is, taken-within, taken-member
 use Rattle.bit_pages.proofs.RunCounts.{given_counts, run_counts, run_is_free}
 
 -- a step from s to t: pages that pass `out` were free and are handed out, and pages that pass
--- `back` come back; `given` and `less` are how many
+-- `back` come back; `given` and `less` count these pages
 pub record IsStep (s t : PlainSet) (out back : ℕ → Bool) (given less : ℕ) : Type 0 where
   pub capacity : t.capacity ≡ s.capacity
   pub has : (page : ℕ) → t.has page ≡ (out page || (not (back page) && s.has page))

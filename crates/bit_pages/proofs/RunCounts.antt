@@ -1,5 +1,4 @@
--- A run of pages that is taken or given back, seen in the map: which pages are taken then, and how
--- many.
+-- The map after a run of pages is taken or given back: which pages are taken then, and how many.
 use Rattle.std.proofs.Common.{◌≡◌, ℕ, ◌+◌, ◌-◌, ◌<◌, ◌≤◌, ◌⊎◌, Bool, true, false, not, inl, refl, inr, sym, ap, ◌∙◌, arith}
 use Rattle.std.specs.Prelude.{◌↔◌, IsTrue, MatchBool}
 use Rattle.std.proofs.lemmas.Bool.{not-true, true≢false}
@@ -11,8 +10,8 @@ use Rattle.bittle_bits.proofs.Spans.{inside_span, outside_span}
 use Rattle.bittle_ext.specs.RangeMembers.{HasAllIn, HasSomeIn}
 use Rattle.bittle_ext.specs.Runs.{IsRun}
 
--- if two tests of the numbers below c differ only at n neighbours, the test that each of these
--- passes counts n more
+-- if two tests of the numbers below c differ only at n neighbouring numbers, the count of the test
+-- that these numbers pass is n more than that of the other
 count_run_more : (c from n : ℕ) (s t : ℕ → Bool) → from + n ≤ c →
     ((k : ℕ) → from ≤ k → k < from + n → s k ≡ false) →
     ((k : ℕ) → from ≤ k → k < from + n → t k ≡ true) →

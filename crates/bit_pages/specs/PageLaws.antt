@@ -30,7 +30,7 @@ RunsAreFirst =
     → (length : ℕ) × (request ≡ TakeRun length)
     × IsFirstRun (complement s) 0 length (Some first)
 
--- Full is answered exactly if a page is asked for and as many pages are taken as there are
+-- Full is answered exactly if a page is asked for and all pages are taken
 abbrev pub FullExactlyIfAllAreTaken : Type 0
 FullExactlyIfAllAreTaken =
     (s : PlainSet) (request : Request)
@@ -104,14 +104,14 @@ gives request NotTaken page = false
 gives request (Run first) page = is_in_span first (first + length_of request) page
 gives request NoRun page = false
 
--- whether a request asks that a page be free again
+-- whether a request asks to free a page
 abbrev pub asks_back : Request → ℕ → Bool
 asks_back Take page = false
 asks_back (GiveBack p) page = page == p
 asks_back (TakeRun length) page = false
 asks_back (GiveBackRun first length) page = is_in_span first (first + length) page
 
--- answer i of a run of requests hands out a page, alone or among others
+-- answer i of a run of requests hands out a page, alone or in a run of pages
 pub record IsGiven (s : PlainSet) (requests : List Request) (i page : ℕ) : Type 0 where
   pub request : Request
   pub answer : Answer
@@ -119,8 +119,7 @@ pub record IsGiven (s : PlainSet) (requests : List Request) (i page : ℕ) : Typ
   pub answered : slice_get (request_answers s requests) i ≡ Some answer
   pub has : gives request answer page ≡ true
 
--- request k of a run asked that a page be free again, alone or among others, and the page was given
--- back
+-- request k of a run of requests gave a page back, alone or in a run of pages
 pub record IsGivenBack (s : PlainSet) (requests : List Request) (k page : ℕ) : Type 0 where
   pub request : Request
   pub asked : slice_get requests k ≡ Some request
@@ -195,7 +194,7 @@ pub record AreOutstanding (s : PlainSet) (requests : List Request) (held : List 
   pub taken : (page : ℕ) → (final_state s requests).has page
       ≡ (list_any (◌==◌ page) held || (s.has page && not (came_back s requests page)))
 
--- the pages outstanding after each run of requests are such a list
+-- for each run of requests, `AreOutstanding` holds of the pages outstanding after it
 abbrev pub PagesAreOutstanding : Type 0
 PagesAreOutstanding =
     (s : PlainSet) (requests : List Request)

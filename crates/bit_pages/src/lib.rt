@@ -163,10 +163,11 @@ impl<B: BitsOwned> Pages<B> {
 
     /// Takes the first `length` neighbouring free pages, and returns the least of them. If there is
     /// no such run, it changes nothing and returns `None`. With `length` 0 it takes nothing and
-    /// returns page 0, even if all pages are taken, and with capacity 0.
+    /// returns page 0, even if all pages are taken or the capacity is 0.
     ///
-    /// If `length` is at most four words, it reads each word once, up to the end of the run. If
-    /// `length` is greater, each free run that is too short costs two searches of words.
+    /// If `length` is at most the width of four words, it reads each word once, up to the end of
+    /// the run. If `length` is greater, each free run that is too short costs two searches of
+    /// words.
     pub fn take_run(&mut self, length: u32) -> Option<u32>
         ensures run { IsFirstRun (complement (set_in B.Shape B.Order.Endian self.old.map)) 0 length
             result }
@@ -234,7 +235,7 @@ impl<B: BitsOwned> Pages<B> {
     }
 
     /// Returns whether the number is a page, and taken. A number past the last page is no page.
-    // In the map such a number would wrap to another page.
+    // In the map, a number past the last page would wrap to a page.
     pub fn is_taken(&self, page: u32) -> bool
         ensures { result ≡ is_taken (set_in B.Shape B.Order.Endian self.now.map) page }
     {

@@ -22,7 +22,7 @@ counts_fewer (suc c) s t h =
     let last = bit_fewer (s c) (t c) (h c (omega arith)) in
     omega (arith, rest, last)
 
--- it counts fewer if some number passes only the other test
+-- the first test counts fewer if, besides, some number passes only the other test
 pub counts_less : (c i : ℕ) (s t : ℕ → Bool) → i < c → s i ≡ false → t i ≡ true →
     ((k : ℕ) → k < c → s k ≡ true → t k ≡ true) → count_below c s + 1 ≤ count_below c t
 unfolding count_below

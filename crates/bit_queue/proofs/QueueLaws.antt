@@ -118,7 +118,7 @@ pub woken_between : (s : PlainSet) (events : List Event) (task : ℕ) →
 unfolding event_answers
 woken_between = histories.woken_between answer_to state_after (λ s k. s.has k) runs_ready rests wakes
 
--- a ready task runs in time
+-- a ready task runs within the number of steps that `TasksRunInTime` states
 pub in_time : (s : PlainSet) (events : List Event) (task : ℕ) → task < s.capacity →
     s.has task ≡ true →
     members_below s task + count_by (wakes_more_urgent task) events + 1

@@ -232,7 +232,7 @@ in_their_turn r events task h ready enough =
       steps = omega (arith, most, enough);
     })
 
--- so a ready task runs within as many steps as there are tasks
+-- a ready task runs within as many steps as there are tasks
 pub within_a_round : (r : Round) (events : List Event) (task : ℕ) → task < r.ready.capacity →
     r.ready.has task ≡ true → r.ready.capacity ≤ count_by is_next events →
     RunsIn (answers_in_turn r events) task

@@ -88,7 +88,7 @@ comes_either turn one other apart never = elim (cases_lt other turn) [
   ]
 ]
 
--- a task at or past the turn that is not to come is not ready
+-- a task at or past the turn that is not in `to_come` is not ready
 not_to_come : (r : Round) (k : ℕ) → r.turn ≤ k → (to_come r).has k ≡ false → r.ready.has k ≡ false
 not_to_come r k from none =
     sym (ap (λ b. b && r.ready.has k) (le-leb r.turn k from)) ∙ none
@@ -126,7 +126,7 @@ next_in_turn-is r = by (most_urgent (to_come r)) (most_urgent-is (to_come r))
       ];
     }
 
--- if no task from the turn on is ready, no task is to come
+-- if no task from the turn on is ready, `to_come` is empty
 none_to_come : (s : PlainSet) (turn from end : ℕ) → NoneIn s turn end →
     NoneIn (to_come (round_at s turn)) from end
 none_to_come s turn from end none k p q = elim (cases_lt k turn) [

@@ -17,7 +17,7 @@ is_ready s task = nat_lt task s.capacity && s.has task
 abbrev pub most_urgent : PlainSet → Option ℕ
 most_urgent s = slice_get (ascending s) 0
 
--- the ready tasks with one more, and without one
+-- the ready tasks with one more task; then, without one task
 abbrev pub with_task : PlainSet → ℕ → PlainSet
 with_task s task = record { capacity = s.capacity; has = λ k. (k == task) || s.has k }
 

@@ -7,14 +7,14 @@ use Rattle.bit_roles.specs.RoleLaws.{grants}
 use Rattle.bit_roles.specs.declared.Request.{Request}
 use Rattle.bit_roles.specs.declared.Request.TheVariants.{Grant, Inherit}
 
--- a chain of parents from a role goes on as the chain from its parent
+-- the role that n + 1 parents lead to from a role is the one that n parents lead to from its parent
 ancestor_up : (r : Roles) (role parent n : ℕ) → r.parent role ≡ Some parent →
     ancestor r role (suc n) ≡ ancestor r parent n
 unfolding ancestor
 ancestor_up r role parent zero e = e
 ancestor_up r role parent (suc n) e = ap (parent_of r) (ancestor_up r role parent n e)
 
--- no chain goes on from a role without a parent
+-- a role without a parent has no ancestor but itself
 ancestor_none : (r : Roles) (role n : ℕ) → r.parent role ≡ None → ancestor r role (suc n) ≡ None
 unfolding ancestor
 ancestor_none r role zero e = e
@@ -65,7 +65,7 @@ chain_goes_down r role (suc n) other lesser e =
     by None below up = absurd (cc)
     by (Some k) below up = omega (arith, lesser k other up, below k refl)
 
--- so no chain of parents comes back to its first role
+-- no chain of parents comes back to its first role
 pub no_way_back : (r : Roles) (role n : ℕ) → HasLesserParents r →
     ancestor r role (suc n) ≡ Some role → ⊥
 no_way_back r role n lesser e = omega (arith, chain_goes_down r role (suc n) role lesser e)
@@ -105,7 +105,7 @@ stay_lesser r [] lesser = lesser
 stay_lesser r (request ∷ requests) lesser =
     stay_lesser (roles_after r request) requests (one_stays_lesser r request lesser)
 
--- a grant changes no chain
+-- a grant changes no chain of parents
 same_chain : (r : Roles) (role permission other n : ℕ) →
     ancestor (with_granted r role permission) other n ≡ ancestor r other n
 unfolding ancestor

@@ -104,7 +104,7 @@ no_parent zero role = refl
 no_parent (suc count) zero = refl
 no_parent (suc count) (suc role) = no_parent count role
 
--- so roles of such rows have no permission and no parent
+-- with a row of empty sets and a row of `None`, no role has a permission or a parent
 pub rows_are_bare : {X : Type 0} (count permissions : ℕ) (set_of : X → PlainSet) (none : X) →
     ((p : ℕ) → (set_of none).has p ≡ false) →
     roles_of count permissions set_of (replicate count none) (replicate {A = Option ℕ} count None)

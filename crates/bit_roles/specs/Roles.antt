@@ -16,7 +16,7 @@ pub record Roles : Type 0 where
   pub granted : ℕ → ℕ → Bool
   pub parent : ℕ → Option ℕ
 
--- the parent of the role that was found
+-- the parent of a role, or `None` if there is no such role or it has no parent
 abbrev pub parent_of : Roles → Option ℕ → Option ℕ
 parent_of r None = None
 parent_of r (Some role) = r.parent role
@@ -26,8 +26,7 @@ unfoldable pub ancestor : Roles → ℕ → ℕ → Option ℕ
 ancestor r role zero = Some role
 ancestor r role (suc n) = parent_of r (ancestor r role n)
 
--- a chain of parents leads to a role that was granted the permission; the role itself counts as
--- such a chain
+-- the role itself, or a role that a chain of its parents leads to, was granted the permission
 abbrev pub Allows : Roles → ℕ → ℕ → Type 0
 Allows r role permission =
     (n : ℕ) × (other : ℕ) × (ancestor r role n ≡ Some other) × (r.granted other permission ≡ true)

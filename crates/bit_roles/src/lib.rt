@@ -1,4 +1,4 @@
-//! Roles with permissions, where a role inherits from its parent.
+//! Roles with permissions. A role inherits the permissions of its parent.
 //!
 //! A role is a number below `N`, and a permission is a number below the capacity of the set. A role
 //! allows what it was granted and what its parent allows. A parent has a lesser number than its

@@ -1,6 +1,6 @@
 //! The main theorems of roles: what holds of every list of requests. Each function does nothing:
 //! its contract is the law. The laws speak of the machine in `specs/Roles.antt`. The contract of
-//! `serve` states that it runs this machine. They also speak of `Allows`, which the contract of
+//! `serve` states that it runs this machine. The laws also speak of `Allows`, which the contract of
 //! `allows` uses.
 
 ghost use Rattle.bit_roles.specs.RoleLaws.{GrantsAreThoseAskedFor, GrantingTakesNothingAway};

@@ -63,7 +63,7 @@ module _ {V : Type 0} (Makes : V → V → Type 0) (before after : Stages V) (ke
   update_makes false is value some =
       let none = ap found (is.1 key.slot key.generation) ∙ is.0 in absurd (cc)
 
--- a stage that may become spent does not go back
+-- a stage that becomes spent, or stays as it is, does not go back to an earlier stage
 spent_goes_on : {V : Type 0} (b : Bool) (stage : Stage V) →
     age stage ≤ age (cond b (spent stage) stage)
 spent_goes_on false stage = omega arith
@@ -83,7 +83,7 @@ found_none Unused old = absurd (omega arith)
 found_none (Holds value) old = absurd (omega arith)
 found_none Spent old = refl
 
--- no key goes back in a call
+-- no call takes a key back to an earlier stage
 call_goes_on : {V : Type 0} (before after : Stages V) (call : Call V) → IsCall before call after →
     (slot generation : ℕ) → age (before slot generation) ≤ age (after slot generation)
 call_goes_on before after (Inserts value key) is slot generation =
@@ -119,7 +119,7 @@ call_goes_on before after (Replaces key value) is slot generation =
     ]
 call_goes_on before after Refuses is slot generation = omega (arith, ap age (is slot generation))
 
--- no key goes back in a history
+-- no history of calls takes a key back to an earlier stage
 pub goes_on : {V : Type 0} (before after : Stages V) (calls : List (Call V)) →
     IsHistory before calls after → (slot generation : ℕ) →
     age (before slot generation) ≤ age (after slot generation)

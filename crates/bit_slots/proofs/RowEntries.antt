@@ -16,7 +16,7 @@ later : {V : Type 0} (row : List (Slot V)) (slot : Slot V) (rest : List (Slot V)
 later row slot rest from same k =
     let next : from + 1 + k ≡ from + suc k = omega arith in ap (slice_get row) next ∙ same (suc k)
 
--- so each entry of the slots from `from` on is an entry of the row
+-- each entry of the slots from `from` on is an entry of the row
 pub entries_are : {V : Type 0} (row rest : List (Slot V)) (from : ℕ) →
     ((k : ℕ) → slice_get row (from + k) ≡ slice_get rest k) → (k : ℕ) (d : Key × V) →
     k < length (entries_from from rest) → IsEntry row (slice_index_or (entries_from from rest) k d)
@@ -109,7 +109,7 @@ has_at (Live current held ∷ rest) from (suc i) generation value is =
     let later = counted _ from i generation value (has_at rest (from + 1) i generation value is) in
     (suc later.0, later.1)
 
--- so each key that finds a value has an entry
+-- each key that finds a value has an entry
 pub entries_have : {V : Type 0} (row : List (Slot V)) (key : Key) (value : V) →
     IsEntry row (key, value) → HasEntry (entries_from 0 row) (key, value)
 entries_have {V = V} row key value is =
@@ -135,7 +135,7 @@ from_there (Live current held ∷ rest) from zero entry is =
 from_there (Live current held ∷ rest) from (suc i) entry is =
     omega (arith, from_there rest (from + 1) i entry is)
 
--- so each entry has a lesser slot than the next entry
+-- each entry has a lesser slot than the next entry
 pub slots_rise : {V : Type 0} (rest : List (Slot V)) (from i : ℕ) (first second : Key × V) →
     slice_get (entries_from from rest) i ≡ Some first →
     slice_get (entries_from from rest) (suc i) ≡ Some second → first.0.slot < second.0.slot

@@ -29,7 +29,7 @@ module _ {V : Type 0} (test : Slot V → Bool) (row : List (Slot V)) where
       sym (ap (passes test) (stood row slot d d (slot_within slot here) slot refl)) ∙ here
 
   module _ (i : ℕ) (d f : Slot V) (h : i < length row) where
-    -- the slot passes afterwards
+    -- if the changed slot passes the test, slot i joins the slots that pass
     pub joins : test f ≡ true → Joins test row i (set row i f)
     joins is k = ap (passes test) (slice_get_set row i f h k) ∙ by (k == i)
       where
@@ -38,7 +38,7 @@ module _ {V : Type 0} (test : Slot V → Bool) (row : List (Slot V)) where
         by true = is
         by false = refl
 
-    -- the slot does not pass afterwards
+    -- if the changed slot fails the test, slot i leaves the slots that pass
     pub leaves : test f ≡ false → Leaves test row i (set row i f)
     leaves is k = ap (passes test) (slice_get_set row i f h k) ∙ by (k == i)
       where
@@ -47,7 +47,7 @@ module _ {V : Type 0} (test : Slot V → Bool) (row : List (Slot V)) where
         by true = is
         by false = refl
 
-    -- the slot passes exactly if it passed before
+    -- if slot i passes exactly if it passed before, the same slots pass
     pub stays : test f ≡ test (get_or row i d) → Stays test row (set row i f)
     stays same k = ap (passes test) (slice_get_set row i f h k) ∙ elim (cases_eq k i) [
       | inl here ↦ ap (λ b. passes test (cond b (Some f) (slice_get row k))) (eq-eqb k i here)
@@ -96,23 +96,23 @@ module _ {V : Type 0} (test : Slot V → Bool) (s t : PlainSet) (row next : List
     | inr g ↦ ap (passes test) (slice_get_past row slot g)
   ]
 
-  -- the set with the slot that joins
+  -- if slot i joins the slots that pass, the set with i put in has exactly these slots
   pub marks_with : (i : ℕ) → i < s.capacity → Joins test row i next → t ≡ with_index s i →
       HasSlots test t next
   marks_with i within joined is k = ap (λ u. u.has k) (is ∙ with_index_within s i within)
       ∙ ap (λ b. (k == i) || b) (marks k) ∙ sym (joined k)
 
-  -- the set without the slot that leaves
+  -- if slot i leaves the slots that pass, the set with i taken out has exactly these slots
   pub marks_without : (i : ℕ) → i < s.capacity → Leaves test row i next → t ≡ without_index s i →
       HasSlots test t next
   marks_without i within left is k = ap (λ u. u.has k) (is ∙ without_index_within s i within)
       ∙ ap (λ b. not (k == i) && b) (marks k) ∙ sym (left k)
 
-  -- the same set, if the same slots pass
+  -- if the same slots pass, the set still has exactly these slots
   pub marks_same : Stays test row next → HasSlots test s next
   marks_same same k = marks k ∙ sym (same k)
 
--- the set of the slots that pass a test has as many members as there are such slots
+-- the set of the slots that pass a test has as many members as there are slots that pass
 pub size_where : {V : Type 0} (test : Slot V → Bool) (s : PlainSet) (row : List (Slot V)) (c : ℕ) →
     s.capacity ≡ c → HasSlots test s row → size s ≡ size (slots_where test c row)
 size_where test s row c whole marks =
@@ -131,7 +131,7 @@ next i k n = elim (cases_lt k i) [
 -- a set of the slots below one number that pass a test
 module _ {V : Type 0} (test : Slot V → Bool) (s : PlainSet) (row : List (Slot V)) (i : ℕ)
     (marks : MarksBelow test s row i) where
-  -- the set with slot i, if that slot passes
+  -- if slot i passes, the set with i put in has exactly the slots below i + 1 that pass
   pub marks_more : (t : PlainSet) → is_slot test row i ≡ true → i < s.capacity →
       t ≡ with_index s i → MarksBelow test t row (i + 1)
   marks_more t here within is k =
@@ -145,7 +145,7 @@ module _ {V : Type 0} (test : Slot V → Bool) (s : PlainSet) (row : List (Slot 
       further : (k : ℕ) → k ≢ i → s.has k ≡ (nat_lt k (i + 1) && is_slot test row k)
       further k n = marks k ∙ ap (λ b. b && is_slot test row k) (next i k n)
 
-  -- the same set, if slot i does not pass
+  -- if slot i does not pass, the set has exactly the slots below i + 1 that pass
   pub marks_on : is_slot test row i ≡ false → MarksBelow test s row (i + 1)
   marks_on none k = elim (cases_eq k i) [
     | inl e ↦ marks k ∙ ap (λ b. b && is_slot test row k) (le-ltb k i (omega arith))
@@ -154,7 +154,8 @@ module _ {V : Type 0} (test : Slot V → Bool) (s : PlainSet) (row : List (Slot 
     | inr n ↦ marks k ∙ ap (λ b. b && is_slot test row k) (next i k n)
   ]
 
-  -- the set after slot i was tested, in either case
+  -- once slot i is tested, and put in if it passes, the set has exactly the slots below i + 1 that
+  -- pass
   pub marks_step : (t : PlainSet) (b : Bool) → i < s.capacity → is_slot test row i ≡ b →
       t ≡ cond b (with_index s i) s → MarksBelow test t row (i + 1)
   marks_step t true within here is k = marks_more t here within is k

@@ -37,7 +37,7 @@ HasSlots test s row = (slot : ℕ) → s.has slot ≡ is_slot test row slot
 abbrev pub MarksBelow : {V : Type 0} → (Slot V → Bool) → PlainSet → List (Slot V) → ℕ → Type 0
 MarksBelow test s row i = (slot : ℕ) → s.has slot ≡ (nat_lt slot i && is_slot test row slot)
 
--- one slot begins to pass a test (`Joins`), stops passing it (`Leaves`), or none changes (`Stays`)
+-- one slot begins to pass a test (`Joins`), stops passing it (`Leaves`), or no slot does (`Stays`)
 abbrev pub Joins : {V : Type 0} → (Slot V → Bool) → List (Slot V) → ℕ → List (Slot V) → Type 0
 Joins test before slot after = (k : ℕ) →
     is_slot test after k ≡ ((k == slot) || is_slot test before k)

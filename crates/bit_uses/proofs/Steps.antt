@@ -9,8 +9,8 @@ use Rattle.bit_entities.specs.EntityLaws.{VisitsFrom}
 use Rattle.bittle.proofs.CallerTables.{slice_get_set_same, slice_get_set_other}
 
 module _ {X Y : Type 0} (s : PlainSet) (change : X → Y → X) (before : List X) (other : List Y) where
-  -- the members that are left are those from the number `from` on. The entries from there on are as
-  -- they were. Below it those of members are changed, and all others are as they were.
+  -- The members that are left are those from the number `from` on. The entries from there on are as
+  -- they were. Below `from`, the entries of members are changed, and all others are as they were.
   pub record IsStepped (left : List ℕ) (now : List X) : Type 0 where
     pub from : ℕ
     pub visits : VisitsFrom s from left

@@ -23,8 +23,8 @@ pub const PLACE: u32 = 0;
 /// The component of an entity that has a speed.
 pub const SPEED: u32 = 1;
 
-/// Moves each entity that has a place and a speed, once, and returns how many these are. The others
-/// stay. The check proves that each entity is an index of both tables.
+/// Moves each entity that has a place and a speed, once, and returns how many entities it moved.
+/// All others stay. The check proves that each entity is an index of both tables.
 pub fn step<B: BitsOwned, const N: usize>(
     world: &World<B, N>,
     places: &mut [i32],
@@ -75,8 +75,8 @@ pub fn step_one<B: BitsOwned, const N: usize>(
     }
 }
 
-/// Moves as [`step`] does, where few of 4,096 entities move. Each mask has a summary of its words.
-/// Returns how many entities moved.
+/// Does what [`step`] does, in a world of 4,096 entities of which few move. Each mask has a summary
+/// of its words. Returns how many entities moved.
 pub fn step_few(
     world: &World<Tiered4K<Ones>, 2>,
     places: &mut [i32; 4096],
@@ -87,8 +87,8 @@ pub fn step_few(
     step::<Tiered4K<Ones>, 2>(world, places, speeds)
 }
 
-/// Moves as [`step`] does, where each mask of 256 entities has four words. Returns how many
-/// entities moved.
+/// Does what [`step`] does, in a world of 256 entities, whose masks have four words each. Returns
+/// how many entities moved.
 pub fn step_256(world: &World<[u64; 4], 3>, places: &mut [i32; 256], speeds: &[i32; 256]) -> u32
     ensures { result ≡ size (matching (world_of 3 (row_set 4 64 (bit_set 64)) world.now.alive
         world.now.components) (0 ∷ 1 ∷ [])) }
@@ -126,8 +126,8 @@ pub fn how_many_placed<B: BitsOwned, const N: usize>(world: &World<B, N>) -> u32
     world.matching(&[PLACE]).count_ones()
 }
 
-/// Spawns an entity, gives it a place, and finds that it has one. Returns `true` also if no number
-/// is free.
+/// Spawns an entity, gives it a place, and returns whether it has a place then. Returns `true` also
+/// if no number is free.
 pub fn spawn_placed<B: BitsOwned>(world: &mut World<B, 2>) -> bool
     ensures { result ≡ true }
 {
@@ -137,7 +137,7 @@ pub fn spawn_placed<B: BitsOwned>(world: &mut World<B, 2>) -> bool
     }
 }
 
-/// Spawns two entities, which differ.
+/// Spawns two entities, and returns them. They differ.
 pub fn spawn_two<B: BitsOwned, const N: usize>(world: &mut World<B, N>) -> Option<(u32, u32)>
     ensures { IfSome result (λ both. both.0 ≢ both.1) }
 {
@@ -146,7 +146,7 @@ pub fn spawn_two<B: BitsOwned, const N: usize>(world: &mut World<B, N>) -> Optio
     Some((first, second))
 }
 
-/// Removes an entity, and finds it neither alive nor with a component.
+/// Removes an entity, and returns whether it is still alive or has a component: `false`.
 pub fn remove_and_ask<B: BitsOwned, const N: usize>(
     world: &mut World<B, N>,
     entity: u32,

@@ -10,7 +10,7 @@ use bit_queue::{Answer, Event, NoTask, PriorityQueue, RoundRobin};
 use bittle::BitsOwned;
 use bittle_tiers::{Ones, Tiered4K};
 
-/// Lets two tasks run, which differ.
+/// Lets two tasks run, and returns them. They differ.
 pub fn run_two<B: BitsOwned>(queue: &mut PriorityQueue<B>) -> Option<(u32, u32)>
     ensures { IfSome result (λ both. both.0 ≢ both.1) }
 {
@@ -19,7 +19,7 @@ pub fn run_two<B: BitsOwned>(queue: &mut PriorityQueue<B>) -> Option<(u32, u32)>
     Some((first, second))
 }
 
-/// Wakes a task, and finds it ready. Returns `true` also if there is no such task.
+/// Wakes a task, and returns whether it is ready then. Returns `true` also if it is no task.
 pub fn wake_and_ask<B: BitsOwned>(queue: &mut PriorityQueue<B>, task: u32) -> bool
     ensures { result ≡ true }
 {
@@ -39,7 +39,7 @@ pub fn run_and_wake<B: BitsOwned>(turns: &mut RoundRobin<B>) -> bool
     }
 }
 
-/// Lets two tasks run in their turns, which differ.
+/// Lets two tasks run in turn, and returns them. They differ.
 pub fn run_two_in_turn<B: BitsOwned>(turns: &mut RoundRobin<B>) -> Option<(u32, u32)>
     ensures { IfSome result (λ both. both.0 ≢ both.1) }
 {
@@ -67,7 +67,7 @@ pub fn serve(events: &[Event], answers: &mut [Answer])
     queue.serve(events, answers);
 }
 
-/// Serves events for 4,096 tasks by urgency, with a summary of the words that have a ready one.
+/// Serves events for 4,096 tasks by urgency. A summary shows which words have a ready task.
 pub fn serve_tiered(events: &[Event], answers: &mut [Answer])
     requires { length answers.old ≡ length events.now }
     ensures { answers.new ≡ event_answers (empty_set 4096) events.now }

@@ -5,7 +5,8 @@ ghost use Rattle.std.specs.Prelude.{◌≡◌, ◌<◌, IfSome, true};
 use bit_roles::{Refused, Roles};
 use bittle::BitsOwned;
 
-/// Grants a role a permission, and finds it granted. Returns `true` also if the grant is refused.
+/// Grants a role a permission, and returns whether it is granted then. Returns `true` also if the
+/// grant is refused.
 pub fn grant_and_ask<B: BitsOwned, const N: usize>(
     roles: &mut Roles<B, N>,
     role: u32,
@@ -19,7 +20,8 @@ pub fn grant_and_ask<B: BitsOwned, const N: usize>(
     }
 }
 
-/// Gives a role a parent, and finds it as the parent. Returns `true` also if that is refused.
+/// Gives a role a parent, and returns whether the role has that parent then. Returns `true` also if
+/// the request is refused.
 pub fn inherit_and_ask<B: BitsOwned, const N: usize>(
     roles: &mut Roles<B, N>,
     role: u32,
@@ -40,8 +42,8 @@ pub fn inherit_from_itself<B: BitsOwned, const N: usize>(roles: &mut Roles<B, N>
     roles.inherit(role, role).is_err()
 }
 
-/// Returns the name of a role's parent from a table with a name for each role, or `None` if it has
-/// none. The check proves that a parent is an index of the table.
+/// Returns the name of a role's parent from a table with a name for each role. Returns `None` if
+/// the role has no parent. The check proves that a parent is an index of the table.
 pub fn parent_in_table(roles: &Roles<u64, 8>, names: &[u32; 8], role: u32) -> Option<u32>
     ensures { IfSome result (λ _. role < 8) }
 {

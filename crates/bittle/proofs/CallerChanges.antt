@@ -54,8 +54,8 @@ pub contains_turned : (s : PlainSet) (i : ℕ) → contains s (i + s.capacity) �
 unfolding contains
 contains_turned s i = ap (λ k. nat_lt 0 s.capacity && s.has k) (add-mod_right i s.capacity)
 
--- if two tests of the numbers below c differ at just one number, the test that this number passes
--- counts one more
+-- if two tests of the numbers below c differ at just one number, the count of the test that this
+-- number passes is one more than that of the other
 count_one_more : (c i : ℕ) (s t : ℕ → Bool) → i < c → s i ≡ false → t i ≡ true →
     ((k : ℕ) → k ≢ i → t k ≡ s k) → count_below c t ≡ count_below c s + 1
 unfolding count_below
@@ -100,7 +100,7 @@ pub size_without : (s : PlainSet) (i : ℕ) → i < s.capacity → s.has i ≡ t
 size_without s i h some =
     size_removed s i h some ∙ sym (ap (λ t. size t + 1) (without_index_within s i h))
 
--- the size after an index was put in, which may wrap: one more if it was not a member
+-- after an index, which may wrap, is put in, the size is one more if the index was no member
 pub size_inserted : (s : PlainSet) (i : ℕ) → 0 < s.capacity →
     size (with_index s i) ≡ size s + cond (not (contains s i)) 1 0
 unfolding contains has_with
@@ -135,7 +135,7 @@ size_inserted s i some = by (s.has j) refl
         ap size with_is ∙ size_added s j (mod_below i s.capacity some) e
         ∙ ap (λ b. size s + cond (not b) 1 0) (sym (inside ∙ e))
 
--- the size before an index was taken out, which may wrap: one more if it was a member
+-- before an index, which may wrap, is taken out, the size is one more if the index is a member
 pub size_taken_out : (s : PlainSet) (i : ℕ) → 0 < s.capacity →
     size s ≡ size (without_index s i) + cond (contains s i) 1 0
 unfolding contains has_without
@@ -206,8 +206,8 @@ contains_outside_span s from to i out l =
     ∙ outside_span (λ _. true) s from to i out
     ∙ sym (contains_within s i l)
 
--- the size after a change of a span, from the members below each end of the span and the number of
--- members that the change leaves in it
+-- the size after a change of a span: the members outside of the span, and those that the change
+-- leaves in it
 size_changed : (change : Bool → Bool) (s : PlainSet) (from to : ℕ) → from ≤ to → to ≤ s.capacity →
     size (with_span_changed change s from to) + members_below s to
     ≡ size s + members_below s from + count_below (to - from) (λ k. change (s.has (from + k)))

@@ -26,7 +26,7 @@ module _ {S : Type 0} (rest : S → List ℕ) where
   given_first s t [] y = ap rest y
   given_first s t (x ∷ items) y = y.1 ∙ ap (λ r. x.now ∷ r) (given_first y.0 t items y.2)
 
-  -- the answer for a member of the mask is the element at that index
+  -- the item that a join yields for a member of the mask is the element at that index
   item_at : (s t : S) (ms : List ℕ) (items answers : List (Bor ℕ)) → Yields TakesElement s items t →
       IsJoin 0 ms items answers → (k : ℕ) → k < length answers →
       get_or (map (λ x. x.now) answers) k 0 ≡ get_or (rest s) (get_or ms k 0) 0
@@ -56,7 +56,7 @@ module _ {S : Type 0} (rest : S → List ℕ) where
       ≡ length all + length (rest y.0) = simp (length-append, length-map) in
       omega (arith, g, l, y.2.0, e.2, none, h)
 
-  -- the answers of a whole run are the elements at the members
+  -- a join that is stepped to its end yields the elements at the members
   answers_at_members : (s t : Join S) (items answers : List (Bor ℕ)) → s.taken ≡ 0 →
       ((k : ℕ) → k < length s.mask.remaining → get_or s.mask.remaining k 0 < length (rest s.iter)) →
       IsJoin s.taken s.mask.remaining items answers →
@@ -86,7 +86,7 @@ module _ {S : Type 0} (rest : S → List ℕ) where
   yields_more steps s t u [] x y e = (u, subst (λ v. steps v (Some x) u) (sym y) e, refl)
   yields_more steps s t u (z ∷ xs) x y e = (y.0, y.1, yields_more steps y.0 t u xs x y.2 e)
 
-  -- if a join answers once more, it had fewer answers than its mask has members
+  -- if a join yields one more item, it yielded fewer items before than its mask has members
   pub one_more : (s now next : Join S) (answers : List (Bor ℕ)) (x : Bor ℕ) →
       AnswersItemsAtMembers TakesElement s → Yields (join_steps TakesElement) s answers now →
       join_steps TakesElement now (Some x) next → length answers < length s.mask.remaining
@@ -95,7 +95,7 @@ module _ {S : Type 0} (rest : S → List ℕ) where
       (yields_more (join_steps TakesElement) s now next answers x y e) in
       omega (arith, a.2.among, length-append answers (x ∷ []))
 
-  -- the answers of a run up to its end are the elements at the members
+  -- the items that a join yields until it returns `None` are the elements at the members
   pub all_answers_at_members : (s now next : Join S) (answers : List (Bor ℕ)) →
       EndsAfterMembers TakesElement s → s.taken ≡ 0 →
       ((k : ℕ) → k < length s.mask.remaining → get_or s.mask.remaining k 0 < length (rest s.iter)) →
@@ -105,13 +105,13 @@ module _ {S : Type 0} (rest : S → List ℕ) where
       let a = clause answers next (now, y, e) in
       answers_at_members s next a.0 answers none bound a.1 a.2
 
--- each member of a set is the index of an element, in a row at least as long as the capacity
+-- each member of a set is an index of a row that is at least as long as the capacity
 pub members_are_places : (s : PlainSet) (members row : List ℕ) → members ≡ ascending s →
     s.capacity ≤ length row → (k : ℕ) → k < length members → get_or members k 0 < length row
 members_are_places s members row is long k h = omega
     (arith, long, ascending_below s k (omega (arith, h, ap length is)), ap (λ xs. get_or xs k 0) is)
 
--- if a join answers once more, it had fewer answers than the capacity of its mask
+-- if a join yields one more item, it yielded fewer items before than the capacity of its mask
 pub answers_below : {S : Type 0} (rest : S → List ℕ) (s now next : Join S) (answers : List (Bor ℕ))
     (x : Bor ℕ) (set : PlainSet) (count : ℕ) → s.mask.remaining ≡ ascending set →
     count ≡ length answers → AnswersItemsAtMembers (TakesElement rest) s →

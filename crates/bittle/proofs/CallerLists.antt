@@ -102,7 +102,7 @@ ascending_has s i h =
       ]
     ]
 
--- two increasing lists compare as equal exactly if the sets have the same members
+-- the increasing lists of two sets compare as equal exactly if the sets have the same members
 pub equal_iff_same_members : (a b : PlainSet) → ((i : ℕ) → a.capacity ≤ i → a.has i ≡ false) →
     ((i : ℕ) → b.capacity ≤ i → b.has i ≡ false) →
     IsTrue (is_eq (list_cmp (ascending a) (ascending b))) ↔ AreSame a b

@@ -18,7 +18,7 @@ contains_within s i h =
     let same = mod-eq_of_lt h in
     rw (some, same) refl
 
--- a set with an index below the capacity has that number and its own members
+-- after an index below the capacity is put in, a set has that index and its old members
 pub with_index_within : (s : PlainSet) (i : ℕ) → i < s.capacity →
     with_index s i ≡ record { capacity = s.capacity; has = λ k. (k == i) || s.has k }
 unfolding has_with
@@ -28,7 +28,7 @@ with_index_within s i h =
     let each : (k : ℕ) → has_with s i k ≡ ((k == i) || s.has k) = λ k. rw (some, same) refl in
     λ j. record { capacity = s.capacity; has = λ k. each k j }
 
--- a set without an index below the capacity has its own members except that number
+-- after an index below the capacity is taken out, a set has its old members except that index
 pub without_index_within : (s : PlainSet) (i : ℕ) → i < s.capacity →
     without_index s i ≡ record { capacity = s.capacity; has = λ k. not (k == i) && s.has k }
 unfolding has_without
@@ -45,7 +45,7 @@ pub complement_within : (s : PlainSet) (i : ℕ) → i < s.capacity →
 unfolding lacks
 complement_within s i h = let inside = lt-ltb i s.capacity h in rw inside refl
 
--- the full set without the members of a set of its capacity is the complement
+-- the difference of the full set and a set of the same capacity is the complement of that set
 pub full_without : (c : ℕ) (s : PlainSet) → s.capacity ≡ c →
     combination_of first_alone (full_set c) s ≡ complement s
 unfolding combination_has lacks
@@ -59,7 +59,7 @@ full_without c s same =
     decided true member = refl
     decided false member = refl
 
--- below both capacities, a number is in the result as the operation decides
+-- below both capacities, the operation decides whether a number is in the result
 pub combination_within : (decide : Bool → Bool → Bool) (s t : PlainSet) (i : ℕ) → i < s.capacity →
     i < t.capacity → (combination_of decide s t).has i ≡ decide (s.has i) (t.has i)
 unfolding combination_has

@@ -3,7 +3,7 @@ use Rattle.std.proofs.Common.{◌≡◌, ◌≢◌, ℕ, zero, suc, ◌<◌, con
 use Rattle.std.specs.Prelude.{slice_get}
 use Rattle.std.proofs.lemmas.Bool.{cases_eq, eq-eqb, ne_eqb}
 
--- the place that is written has the value
+-- the place that is written has the new value
 pub slice_get_set_same : {X : Type 0} (xs : List X) (i : ℕ) (x : X) → i < length xs →
     slice_get (set xs i x) i ≡ Some x
 slice_get_set_same [] i x h = absurd (omega (arith, h))
@@ -20,7 +20,7 @@ slice_get_set_other (y ∷ ys) (suc i) zero x n = refl
 slice_get_set_other (y ∷ ys) (suc i) (suc j) x n =
     slice_get_set_other ys i j x (λ e. n (ap suc e))
 
--- any place after the write
+-- the value at any place after the write
 pub slice_get_set : {X : Type 0} (xs : List X) (i : ℕ) (x : X) → i < length xs → (j : ℕ) →
     slice_get (set xs i x) j ≡ cond (j == i) (Some x) (slice_get xs j)
 slice_get_set xs i x h j = elim (cases_eq j i) [

@@ -18,14 +18,14 @@ alike a b h = grind arith
 
 -- ---- below both capacities
 
--- the least number found in just one is the first difference, whatever lies past it
+-- if a search below n finds the least number that is in just one set, it is the first difference
 pub some_among : (s t : PlainSet) (n : ℕ) (r : Option ℕ) → is_some r ≡ true →
     MatchOption r (NoneDecidedBelow just_one s t n) (IsFirstDecided just_one s t) →
     IsDifference s t r
 some_among s t n None e h = absurd (true≢false (sym e))
 some_among s t n (Some d) e h = h
 
--- if a search finds none, no number that it covered is in just one
+-- if a search below n finds nothing, no number below n is in just one set
 pub none_among : (s t : PlainSet) (n : ℕ) (r : Option ℕ) → is_some r ≡ false →
     MatchOption r (NoneDecidedBelow just_one s t n) (IsFirstDecided just_one s t) →
     NoneDecidedBelow just_one s t n
@@ -34,7 +34,8 @@ none_among s t n (Some d) e h = absurd (true≢false e)
 
 -- ---- past the capacity of one side
 
--- the first set has no member from `from` on, and the second has none from `to` on
+-- if s has no member from `from` on, and t has none from `to` on, a search of t between the two
+-- finds the difference
 past_first : (s t : PlainSet) (from to : ℕ) (r : Option ℕ) → NoneDecidedBelow just_one s t from →
     ((i : ℕ) → from ≤ i → s.has i ≡ false) → ((i : ℕ) → to ≤ i → t.has i ≡ false) →
     IsFirstIn t from to r → IsDifference s t r
@@ -51,7 +52,8 @@ past_first s t from to (Some d) same none past h = (
 turned : (a b : Bool) → just_one a b ≡ just_one b a
 turned a b = grind arith
 
--- the second set has no member from `from` on, and the first has none from `to` on
+-- if t has no member from `from` on, and s has none from `to` on, a search of s between the two
+-- finds the difference
 past_second : (s t : PlainSet) (from to : ℕ) (r : Option ℕ) → NoneDecidedBelow just_one s t from →
     ((i : ℕ) → from ≤ i → t.has i ≡ false) → ((i : ℕ) → to ≤ i → s.has i ≡ false) →
     IsFirstIn s from to r → IsDifference s t r
@@ -73,19 +75,19 @@ pub record AreAlikeInCommon (s t : PlainSet) : Type 0 where
   pub same : NoneDecidedBelow just_one s t (min s.capacity t.capacity)
 
 module _ (s t : PlainSet) (both : AreAlikeInCommon s t) where
-  -- the second set has the greater capacity
+  -- if the second set is longer, its first member past the end of the first set is the difference
   pub first_ends : s.capacity < t.capacity → (r : Option ℕ) →
       IsFirstIn t s.capacity t.capacity r → IsDifference s t r
   first_ends h r found = past_first s t s.capacity t.capacity r
       (λ i l. both.same i (omega (arith, h))) both.first both.second found
 
-  -- the first set has the greater capacity
+  -- if the first set is longer, its first member past the end of the second set is the difference
   pub second_ends : t.capacity < s.capacity → (r : Option ℕ) →
       IsFirstIn s t.capacity s.capacity r → IsDifference s t r
   second_ends h r found = past_second s t t.capacity s.capacity r
       (λ i l. both.same i (omega (arith, h))) both.second both.first found
 
-  -- both sets have the same capacity
+  -- if both sets have the same capacity, they have the same members
   pub both_end : s.capacity ≡ t.capacity → AreSame s t
   both_end e i = elim (cases_lt i s.capacity) [
     | inl l ↦ alike _ _ (both.same i (omega (arith, e)))
@@ -110,7 +112,8 @@ past_found s d to (Some m) lacks past h = elim (cases_lt d m) [
 differ : (a b : Bool) → just_one a b ≡ true → a ≡ b → ⊥
 differ a b h e = grind arith
 
--- the first index that is in just one set decides the order, with the side that has it
+-- the order depends on which set has the first difference d, and on whether the other set has a
+-- member past d (`goes_on`)
 module _ (s t : PlainSet) (d : ℕ) (at : IsFirstDifference s t d) where
   same : AreSameBelow s t d
   same i l = alike _ _ (at.0 i l)
@@ -132,7 +135,8 @@ module _ (s t : PlainSet) (d : ℕ) (at : IsFirstDifference s t d) where
   after true true a p e = absurd (true≢false e)
   after false false a p e = absurd (true≢false e)
 
--- a number d decides that s precedes t; no two sets precede each other
+-- the last part of `Precedes`: what holds of d. The lemmas below show that no two sets precede each
+-- other.
 abbrev Decides : PlainSet → PlainSet → ℕ → Type 0
 Decides s t d = ((s.has d ≡ true) × (t.has d ≡ false) × HasPast t d)
     ⊎ ((s.has d ≡ false) × (t.has d ≡ true) × HasNonePast s d)
@@ -157,7 +161,7 @@ one_way s t p q = by (cases_eq p.0 q.0)
       | inr g ↦ unlike t s q.0 q.2 (sym (p.1 q.0 (omega arith)))
     ]
 
--- what decides the order of the sets decides the order of the lists
+-- the order of the lists of members is the order that `Precedes` and `AreSame` decide
 module _ (s t : PlainSet) (ends_s : EndsAtCapacity s) (ends_t : EndsAtCapacity t) where
   both : (a b : Ordering) → MatchOrdering a (Precedes s t) (AreSame s t) (Precedes t s) →
       MatchOrdering b (Precedes s t) (AreSame s t) (Precedes t s) → a ≡ b
@@ -171,7 +175,7 @@ module _ (s t : PlainSet) (ends_s : EndsAtCapacity s) (ends_t : EndsAtCapacity t
   both Greater Equal h k = absurd (not_both t s h (λ i. sym (k i)))
   both Greater Greater h k = refl
 
-  -- what decides the order of two sets decides that of their lists
+  -- if `Precedes` and `AreSame` decide the order o of the sets, o is the order of their lists
   pub cmp_decided : (o : Ordering) → MatchOrdering o (Precedes s t) (AreSame s t) (Precedes t s) →
       o ≡ list_cmp (ascending s) (ascending t)
   cmp_decided o h = both o _ h (list_cmp-precedes s t ends_s ends_t)

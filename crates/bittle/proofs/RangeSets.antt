@@ -29,7 +29,7 @@ some_below-from (suc n) p i h e =
           or_right (some_below n p) (p n) (subst (λ x. p x ≡ true) t e)
     ]
 
--- a test of one more number, in front of the others
+-- in the test of a range, the case of its last index may be written first
 spread : (z a b h : Bool) → ((z && (a || b)) || h) ≡ ((z && b) || ((z && a) || h))
 spread z a b h = grind arith
 
@@ -68,7 +68,7 @@ module _ (s : PlainSet) (from : ℕ) where
       (fun_ext λ k. rw (add-one, le-leb from end h)
       (spread (nat_lt 0 s.capacity) (some_below end (reaches k)) (k == end % s.capacity) (s.has k)))
 
-  -- as many consecutive indexes as the capacity reach every number below it
+  -- consecutive indexes, as many as the capacity, wrap to every number below the capacity
   with_range-all : (last end : ℕ) → from + s.capacity ≤ last → last ≤ end →
       with_range s from last ≡ with_range s from end
   unfolding has_with_range

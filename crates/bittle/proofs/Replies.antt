@@ -5,7 +5,7 @@ use Rattle.std.specs.List.{fold, scan}
 use Rattle.std.proofs.lemmas.List.{take_more, take_more_set}
 use Rattle.std.proofs.lemmas.List.Sums.{fold_more}
 
--- a run keeps what each request keeps of the state
+-- if no request changes a value that is computed from the state, neither does a run
 pub run_keeps : {S X K : Type 0} (next : S → X → S) (of : S → K) →
     ((s : S) (x : X) → of (next s x) ≡ of s) → (s : S) (xs : List X) → of (fold next s xs) ≡ of s
 run_keeps next of keeps s [] = refl

@@ -59,8 +59,8 @@ HasPast s d = (m : ℕ) × (d < m) × (s.has m ≡ true)
 abbrev pub HasNonePast : PlainSet → ℕ → Type 0
 HasNonePast s d = (m : ℕ) → d < m → s.has m ≡ false
 
--- whether the set that lacks the number d has a member greater than d; that set is t if d is in s,
--- and else s
+-- d is in just one of s and t; b tells whether the other set, t if `is_first` and else s, has a
+-- member greater than d
 abbrev pub GoesOn : Bool → PlainSet → PlainSet → ℕ → Bool → Type 0
 GoesOn is_first s t d b = MatchBool b
     (HasPast (cond is_first t s) d) (HasNonePast (cond is_first t s) d)

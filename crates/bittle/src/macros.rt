@@ -15,9 +15,9 @@ use bittle_bits::endian::{BigEndian, Endian, LittleEndian};
 /// is `a..=b`, `a..b` or `a..`, and its bounds are literals; `a..` ends at the capacity. A range
 /// that ends before it starts sets nothing.
 ///
-/// The use of the macro has to determine the type, and the type has to fit. Making the empty set
-/// costs O(words). Each index then costs O(1), and each range costs one mask for each word of the
-/// range. An index past the capacity wraps. With capacity 0 the set is empty.
+/// The type of the set has to follow from the context, and has to fit (`bits() < u32::MAX`). Making
+/// the empty set costs O(words). Each index then costs O(1), and each range costs one mask for each
+/// word of the range. An index past the capacity wraps. With capacity 0 the set is empty.
 ///
 /// The macro cannot make a `const`. Write a function that returns the set instead.
 ///
@@ -69,8 +69,8 @@ macro_rules! set_be {
     };
 }
 
-// Makes the set of a list. Before the list it takes three calls: for an index, for a range `a..b`
-// and for a range `a..=b`.
+// Makes the set of a list. The arguments before the list name the calls for an index, for a range
+// `a..b` and for a range `a..=b`.
 #[doc(hidden)]
 #[macro_export]
 macro_rules! set_of_listed {
@@ -177,9 +177,9 @@ pub fn put_through_in<B: BitsMut, E: Endian>(bits: &mut B, from: u32, to: u32)
     }
 }
 
-// These functions make the set of a list with two indexes and each kind of range, one function for
-// each macro. The crate `bittle_uses`, of proved callers, has lists with such items in other
-// orders.
+// Each of these functions uses one of the macros, on a list of two indexes and a range of each
+// kind. The proved callers in the crate `bittle_uses` have lists in which these items are in
+// another order.
 fn listed<B: BitsOwned>(a: u32, b: u32) -> B
     requires { IsTrue B.indexable }
     ensures { set_in B.Shape B.Order.Endian result ≡ listed_set B.type_capacity a b }

@@ -13,7 +13,7 @@ abbrev pub YieldsFrom : {S : Type 0} → Bool → (S → List ℕ) → S → Opt
 YieldsFrom front rest s r t = MatchOption r ((rest s ≡ []) × (rest t ≡ []))
     (λ x. rest s ≡ with_end front x (rest t))
 
--- the item at an end is taken, and r is its place; or no item was left, and nothing changed
+-- the item at an end was taken, and r is its place; or no item was left, and nothing changed
 abbrev pub YieldsPlace : {S : Type 0} → Bool → (ℕ → ℕ) → (S → List ℕ) → S → Option ℕ → S → Type 0
 YieldsPlace front index rest s r t = MatchOption r ((rest s ≡ []) × (t ≡ s))
     (λ at. rest s ≡ with_end front (index at) (rest t))

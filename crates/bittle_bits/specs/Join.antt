@@ -38,8 +38,9 @@ module _ {I A : Type 0} (steps : I → Option A → I → Type 0) where
   join_steps s r t = MatchOption r (t.ended ≡ true) (λ _. t.ended ≡ false)
       × (s.ended ≡ true → (r ≡ None) × (t ≡ s)) × (s.ended ≡ false → JoinsNext s.mask.remaining s r t)
 
--- The next item of the iterator was at position `from`. Then the items `taken` were taken from it,
--- up to the last member that has an answer. Answer k is the taken item whose position is member k.
+-- The next item of an iterator was at position `from`. Then the items `taken` were taken from it,
+-- up to the position of the last member that has an answer. Answer k is the taken item whose
+-- position is member k.
 pub record IsJoin {A : Type 0} (from : ℕ) (members : List ℕ) (taken answers : List A) : Type 0 where
   pub among : length answers ≤ length members
   pub given : (k : ℕ) → k < length answers →

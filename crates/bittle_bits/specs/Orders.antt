@@ -12,6 +12,7 @@ abbrev pub place : Bool → ℕ → ℕ → ℕ
 place false w i = i
 place true w i = mirror w i
 
--- a set in big-endian order, read in an order: mirrored within each word, or not
+-- a set that is given in big-endian order, read in an order: mirrored within each word, or
+-- unchanged
 abbrev pub read_in : Bool → ℕ → PlainSet → PlainSet
 read_in mirrored w s = record { capacity = s.capacity; has = λ i. s.has (place mirrored w i) }

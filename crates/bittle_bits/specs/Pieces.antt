@@ -1,4 +1,4 @@
--- Where a range of numbers lies among pieces of one length, such as words or elements.
+-- Where a range of numbers lies among pieces of equal length, such as words or elements.
 use Rattle.std.specs.Prelude.{◌≡◌, ℕ, ◌+◌, ◌*◌, ◌<◌, ◌≤◌}
 
 -- the first number of the range a..b is at place i of piece p, and the last at place j of piece q

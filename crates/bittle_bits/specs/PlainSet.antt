@@ -14,7 +14,7 @@ contains s i = nat_lt 0 s.capacity && s.has (i % s.capacity)
 unfoldable pub has_with : PlainSet → ℕ → ℕ → Bool
 has_with s i k = (nat_lt 0 s.capacity && (k == i % s.capacity)) || s.has k
 
--- the set with the index, which wraps at the capacity
+-- the set with the index added; the index wraps at the capacity
 abbrev pub with_index : PlainSet → ℕ → PlainSet
 with_index s i = record { capacity = s.capacity; has = has_with s i }
 
@@ -35,11 +35,11 @@ abbrev pub with_span_changed : (Bool → Bool) → PlainSet → ℕ → ℕ → 
 with_span_changed change s from end =
     record { capacity = s.capacity; has = has_changed change s from end }
 
--- the set with each index of from..end, which ends at or before the capacity
+-- the set with each index of from..end added; the span ends at or before the capacity
 abbrev pub with_span : PlainSet → ℕ → ℕ → PlainSet
 with_span s from end = with_span_changed (λ _. true) s from end
 
--- the set without the indexes of from..end
+-- the set with each index of from..end removed
 abbrev pub without_span : PlainSet → ℕ → ℕ → PlainSet
 without_span s from end = with_span_changed (λ _. false) s from end
 
@@ -51,7 +51,7 @@ with_span_toggled s from end = with_span_changed not s from end
 unfoldable pub has_without : PlainSet → ℕ → ℕ → Bool
 has_without s i k = not (nat_lt 0 s.capacity && (k == i % s.capacity)) && s.has k
 
--- the set without the index, which wraps at the capacity
+-- the set with the index removed; the index wraps at the capacity
 abbrev pub without_index : PlainSet → ℕ → PlainSet
 without_index s i = record { capacity = s.capacity; has = has_without s i }
 

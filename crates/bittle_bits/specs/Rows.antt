@@ -23,7 +23,7 @@ pub record GoesTo (n c i q r : ℕ) : Type 0 where
   pub within : r < c
   pub at : i % (n * c) ≡ q * c + r
 
--- the set with the index if the flag is true, and else without it; the index wraps
+-- the set with the index added if the flag is true, and else removed; the index wraps
 abbrev pub with_bit : Bool → PlainSet → ℕ → PlainSet
 with_bit true = with_index
 with_bit false = without_index

@@ -32,8 +32,8 @@ impl<T: Shape, const N: usize> Shape for [T; N] {
     fn seal(_: Sealed) {}
 }
 
-// Combines two arrays by an operation. A short `others` is copied first. The copy cannot overlap
-// `elements`, so the compiler can process several words at once.
+// Combines two arrays by an operation. If `others` has at most 128 bytes, it is copied first. The
+// copy cannot overlap `elements`, so the compiler can process several words at once.
 #[inline]
 fn combine<T: BitsOwned, O: Operation, const N: usize>(elements: &mut [T; N], others: &[T; N])
     ensures { (mirrored : Bool)

@@ -1,4 +1,4 @@
-//! Reading a set.
+//! The calls that read a set.
 
 ghost use Rattle.std.specs.Prelude.{◌≡◌, ◌==◌, ℕ, ◌*◌, ◌-◌, ◌<◌, ◌≤◌, Bool, false, IsTrue};
 ghost use Rattle.bittle_bits.specs.BitPatterns.{bit_set};
@@ -111,7 +111,8 @@ pub trait Bits: Drop + ReadWords {
     /// Returns `true` if the bit at `index` is set, in the order `E`. An index past the capacity
     /// wraps. With capacity 0 it returns `false`.
     ///
-    /// The type has to fit; for a slice, only its element type has to. It costs O(1).
+    /// The type has to fit (its capacity is below `u32::MAX`). For a slice, only its element type
+    /// has to fit. It costs O(1).
     ///
     /// ```
     /// 0b1000_0000u8.test_bit_in::<LittleEndian>(0);       // true
@@ -449,8 +450,8 @@ pub trait Bits: Drop + ReadWords {
         JoinOnes::new(self, iter.into_iter())
     }
 
-    /// Joins in [`DefaultEndian`] order, whatever the order of the type, as
-    /// [`join_ones_in`](Bits::join_ones_in) does.
+    /// Iterates over the items of `iter` at the set bits in [`DefaultEndian`] order, whatever the
+    /// order of the type, as [`join_ones_in`](Bits::join_ones_in) does.
     ///
     /// ```
     /// 0b0010_0101u8.join_ones([10, 20, 30]);              // yields 10, 30
@@ -476,7 +477,8 @@ pub trait Bits: Drop + ReadWords {
         self.join_ones_in::<I, DefaultEndian>(iter)
     }
 
-    /// Joins in [`LittleEndian`] order, as [`join_ones_in`](Bits::join_ones_in) does.
+    /// Iterates over the items of `iter` at the set bits in [`LittleEndian`] order, as
+    /// [`join_ones_in`](Bits::join_ones_in) does.
     ///
     /// ```
     /// 0b1010_0000u8.join_ones_le([10, 20, 30]);           // yields 10, 30
@@ -502,7 +504,8 @@ pub trait Bits: Drop + ReadWords {
         self.join_ones_in::<I, LittleEndian>(iter)
     }
 
-    /// Joins in [`BigEndian`] order, as [`join_ones_in`](Bits::join_ones_in) does.
+    /// Iterates over the items of `iter` at the set bits in [`BigEndian`] order, as
+    /// [`join_ones_in`](Bits::join_ones_in) does.
     ///
     /// ```
     /// 0b0000_0101u8.join_ones_be([10, 20, 30]);           // yields 10, 30

@@ -1,4 +1,4 @@
-//! Changing a set.
+//! The calls that change a set.
 
 ghost use Rattle.std.specs.Prelude.{◌≡◌, ◌*◌, ◌<◌, ◌≤◌, Bool, true, IsTrue};
 ghost use Rattle.bittle_bits.specs.BitPatterns.{bit_set};
@@ -17,8 +17,9 @@ use crate::operation::{
 pub trait BitsMut: Bits {
     /// Sets the bit at `index`, in the order `E`. No other bit changes.
     ///
-    /// The type has to fit; for a slice, only its element type has to. An index past the capacity
-    /// wraps. With capacity 0 nothing changes. It costs O(1).
+    /// The type has to fit (its capacity is below `u32::MAX`). For a slice, only its element type
+    /// has to fit. An index past the capacity wraps. With capacity 0 nothing changes. It costs
+    /// O(1).
     ///
     /// ```
     /// let mut word = 0u8;
@@ -32,8 +33,9 @@ pub trait BitsMut: Bits {
 
     /// Clears the bit at `index`, in the order `E`: it is unset afterwards. No other bit changes.
     ///
-    /// The type has to fit; for a slice, only its element type has to. An index past the capacity
-    /// wraps. With capacity 0 nothing changes. It costs O(1).
+    /// The type has to fit (its capacity is below `u32::MAX`). For a slice, only its element type
+    /// has to fit. An index past the capacity wraps. With capacity 0 nothing changes. It costs
+    /// O(1).
     ///
     /// ```
     /// let mut word = 0b1000_0001u8;
@@ -77,7 +79,8 @@ pub trait BitsMut: Bits {
             (set_mirrored Self.Shape mirrored other.now) }
         ensures stays { Self.loan self.old ≡ Self.loan self.new };
 
-    /// Replaces word `k` of the set. The bits of this word begin at index `k` times the width.
+    /// Replaces word `k` of the set. The first bit of this word has the index `k` times the word
+    /// width.
     #[doc(hidden)]
     fn set_nth_leaf_word(&mut self, k: usize, word: Self::LeafWord)
         requires fits { ShapeFits Self.Shape self.old }
@@ -167,7 +170,8 @@ pub trait BitsMut: Bits {
     }
 
     /// Clears each bit that is unset in `other`. All else is as with
-    /// [`union_assign`](BitsMut::union_assign), so a longer slice keeps its later elements.
+    /// [`union_assign`](BitsMut::union_assign): elements past the end of a shorter `other` do not
+    /// change.
     ///
     /// ```
     /// let mut word = 0b0011u8;

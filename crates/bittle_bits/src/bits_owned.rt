@@ -1,4 +1,4 @@
-//! Sets that own their bits.
+//! The calls on sets that own their bits.
 
 ghost use Rattle.std.specs.Prelude.{◌≡◌, ℕ, ◌*◌, ◌<◌, Bool, IsTrue};
 ghost use Rattle.bittle_bits.specs.PlainSet.{empty_set, full_set, with_index, without_index, ascending, complement};
@@ -28,7 +28,7 @@ pub trait BitsOwned: Copy + Eq + BitsMut {
 
     /// Returns the set in which no bit is set, in both orders.
     ///
-    /// The type has to fit. Each word is written once.
+    /// The type has to fit (`Self::bits() < u32::MAX`). Each word is written once.
     ///
     /// ```
     /// <[u8; 2]>::zeros();                                 // [0, 0]
@@ -41,7 +41,8 @@ pub trait BitsOwned: Copy + Eq + BitsMut {
 
     /// Returns the set in which each bit is set, in both orders.
     ///
-    /// The type has to fit. Each word is written once. With capacity 0 the set is empty.
+    /// The type has to fit (`Self::bits() < u32::MAX`). Each word is written once. With capacity 0
+    /// the set is empty.
     ///
     /// ```
     /// <[u8; 2]>::ones();                                  // [255, 255]
@@ -56,8 +57,8 @@ pub trait BitsOwned: Copy + Eq + BitsMut {
 
     /// Returns the set with the bit at index `bit` set, in the order `E`.
     ///
-    /// The type has to fit. The set is copied. An index past the capacity wraps. With capacity 0 it
-    /// returns the same set.
+    /// The type has to fit (`Self::bits() < u32::MAX`). The set is copied. An index past the
+    /// capacity wraps. With capacity 0 it returns the same set.
     ///
     /// ```
     /// 0u8.with_bit_in::<LittleEndian>(0);                 // 0b1000_0000
@@ -120,8 +121,8 @@ pub trait BitsOwned: Copy + Eq + BitsMut {
 
     /// Returns the set with the bit at index `bit` unset, in the order `E`.
     ///
-    /// The type has to fit. The set is copied. An index past the capacity wraps. With capacity 0 it
-    /// returns the same set.
+    /// The type has to fit (`Self::bits() < u32::MAX`). The set is copied. An index past the
+    /// capacity wraps. With capacity 0 it returns the same set.
     ///
     /// ```
     /// 255u8.without_bit_in::<LittleEndian>(0);            // 0b0111_1111
@@ -255,7 +256,8 @@ pub trait BitsOwned: Copy + Eq + BitsMut {
     /// Returns an iterator over the indexes of the set bits, increasing, in the order `E`. The
     /// iterator owns the set, and can be stepped from both ends.
     ///
-    /// The type has to fit. Each word is read at most once. With capacity 0 it yields nothing.
+    /// The type has to fit (`Self::bits() < u32::MAX`). Each word is read at most once. With
+    /// capacity 0 it yields nothing.
     ///
     /// ```
     /// 0b1101_0000u8.into_iter_ones_in::<LittleEndian>();  // yields 0, 1, 3
@@ -332,7 +334,8 @@ pub trait BitsOwned: Copy + Eq + BitsMut {
     /// Returns an iterator over the indexes of the unset bits below the capacity, increasing, in
     /// the order `E`. The iterator owns the set, and can be stepped from both ends.
     ///
-    /// The type has to fit. Each word is read at most once. With capacity 0 it yields nothing.
+    /// The type has to fit (`Self::bits() < u32::MAX`). Each word is read at most once. With
+    /// capacity 0 it yields nothing.
     ///
     /// ```
     /// 0b1101_0000u8.into_iter_zeros_in::<LittleEndian>(); // yields 2, 4, 5, 6, 7

@@ -145,13 +145,13 @@ impl Endian for BigEndian {
 
     #[inline]
     fn zeros<T: Word>(value: T) -> u32 {
-        // To the right of the least member all bits are unset.
+        // Index 0 is the rightmost bit. So the least set index is the number of bits to its right.
         value.trailing_zeros()
     }
 
     #[inline]
     fn zeros_rev<T: Word>(value: T) -> u32 {
-        // To the left of the greatest member all bits are unset.
+        // Index 0 is the rightmost bit. So the bits above the greatest set index lie to its left.
         value.leading_zeros()
     }
 }
@@ -184,12 +184,13 @@ impl Endian for LittleEndian {
 
     #[inline]
     fn zeros<T: Word>(value: T) -> u32 {
-        // To the left of the least member all bits are unset.
+        // Index 0 is the leftmost bit. So the least set index is the number of bits to its left.
         value.leading_zeros()
     }
 
     #[inline]
     fn zeros_rev<T: Word>(value: T) -> u32 {
+        // Index 0 is the leftmost bit. A member is the index of a set bit.
         // To the right of the greatest member all bits are unset.
         value.trailing_zeros()
     }

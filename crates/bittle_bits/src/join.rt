@@ -51,7 +51,7 @@ impl<'a, A: Bits, E: Endian, I: Iterator> JoinOnes<'a, A, E, I>
 where
     I::Item: Drop,
 {
-    /// Joins the members of a set with an iterator.
+    /// Begins a join of the items of `iter` at the members of a set.
     #[inline]
     pub(crate) fn new(set: &'a A, iter: I) -> Self
         requires { ShapeFits A.Shape set.now }
@@ -73,8 +73,9 @@ where
     }
 }
 
-/// Takes the next item. A loop that calls `next` would need an iterator that ends. A loop that
-/// calls this function needs only a number of its own that decreases in each turn.
+/// Takes the next item. The checker proves that each loop ends. For a loop that calls `next` it
+/// would require that the iterator ends. For a loop that calls this function it requires only a
+/// number that decreases in each turn.
 #[inline]
 fn take<I: Iterator>(iter: &mut I) -> Option<I::Item>
     requires { I.can_next iter.old }

@@ -1,4 +1,4 @@
-//! Iterators over one word, from both ends.
+//! Iterators over the set bits or the unset bits of one word, from both ends.
 
 ghost use Rattle.std.specs.Iterator.SizeHint.{IsWithinCount};
 ghost use Rattle.std.specs.Iterator.{UpTo, YieldsFirst, YieldsLast, item_count};

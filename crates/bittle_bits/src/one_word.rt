@@ -160,7 +160,7 @@ pub fn from_end<T: Word, E: Endian, N: End>(word: T) -> u32
 
 // Takes the member at the end `N` out of the word, and returns its place: its bit has the weight
 // `2 ^ place`. If this bit is the set bit of least weight, `word & (word - 1)` clears it. Then the
-// next step need not wait until the place is known.
+// processor can begin the next step before it knows the place.
 #[inline(always)]
 fn pop_at_once<T: Word, E: Endian, N: End>(word: &mut T) -> Option<u32>
     ensures found { YieldsPlace N.FRONT (place E.mirrored T.width) (λ w. ascending

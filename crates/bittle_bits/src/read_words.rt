@@ -22,7 +22,7 @@ pub trait ReadWords: Drop + Shape {
     /// Returns `true` if all values of the type have the same number of words.
     ///
     /// It affects speed only, so it has no contract. It decides how an iterator begins, and whether
-    /// a comparison tests the first word by itself.
+    /// a comparison of two sets begins with their first words alone.
     #[doc(hidden)]
     #[inline]
     fn is_fixed() -> bool {
@@ -31,8 +31,8 @@ pub trait ReadWords: Drop + Shape {
 
     /// Returns `true` if `pass_over` of a value of the type may skip words.
     ///
-    /// It affects speed only, so it has no contract. It decides whether a row calls `pass_over` on
-    /// its elements.
+    /// It affects speed only, so it has no contract. It decides whether an array or a slice calls
+    /// `pass_over` on its elements.
     #[doc(hidden)]
     #[inline(always)]
     fn may_pass_over() -> bool {
@@ -47,7 +47,8 @@ pub trait ReadWords: Drop + Shape {
         ensures value { ShapeFits Self.Shape self.now → result ≡ (Self.big self.now).capacity }
         ensures fits { result < 4294967295 → ShapeFits Self.Shape self.now };
 
-    /// Returns word `k` of the set. The bits of this word begin at index `k` times the width.
+    /// Returns word `k` of the set. The first bit of this word has the index `k` times the word
+    /// width.
     #[doc(hidden)]
     fn nth_leaf_word(&self, k: usize) -> Self::LeafWord
         requires fits { ShapeFits Self.Shape self.now }
@@ -55,13 +56,13 @@ pub trait ReadWords: Drop + Shape {
         ensures { bit_set Self.width (Self.LeafWord.pattern result)
             ≡ word_of Self.width (Self.big self.now) k };
 
-    /// Skips words without a bit of the kind `K` at the end `N` of the words `low..high`. From the
-    /// front it returns the number of the first word that it does not skip. From the back it
+    /// Skips words at the end `N` of the words `low..high` that have no bit of the kind `K`. From
+    /// the front it returns the number of the first word that it does not skip. From the back it
     /// returns one more than the number of the last word that it does not skip.
     ///
     /// It affects speed only. A set may skip words if it knows, without reading them, that they
-    /// have no such bit. Most shapes skip no word. A type whose values skip words returns `true`
-    /// from `may_pass_over`.
+    /// have no bit of this kind. Most shapes skip no word. A type whose values skip words returns
+    /// `true` from `may_pass_over`.
     #[doc(hidden)]
     #[inline(always)]
     fn pass_over<K: Kind, N: End>(&self, low: usize, high: usize) -> usize

@@ -1,4 +1,4 @@
-//! What a value stands for, stated by ghosts alone.
+//! The set that a value stands for, stated by ghost members, which only contracts see.
 //!
 //! A struct that is generic over sets has the bound `Shape`, since each type has only one impl of
 //! `Shape`. Two impls of [`Bits`](crate::bits::Bits) match an array: the impl for arrays, and the
@@ -11,7 +11,7 @@ ghost use Rattle.bittle_bits.specs.PlainSet.{PlainSet};
 use crate::internal::sealed::Sealed;
 use crate::word::Word;
 
-/// A type whose values stand for sets. Its members are ghosts, which only contracts see.
+/// A type whose values stand for sets. Ghost members state the set of a value.
 ///
 /// A struct that is generic over sets has this bound. Its functions have a bound with calls, such
 /// as [`Bits`](crate::bits::Bits). A crate that depends only on `bittle` cannot implement this

@@ -3,15 +3,15 @@ use Rattle.std.specs.Prelude.{◌≡◌, ℕ, Bool, cond, ◌&&◌, not}
 use Rattle.std.specs.List.Retain.{IsFiltered}
 use Rattle.bittle.specs.PlainSet.{PlainSet, ascending, contains, with_index, without_index, with_span_changed}
 
--- the set with the index if the value is true, else without it
+-- the set with the index added if the value is true, else removed
 abbrev pub with_index_assigned : PlainSet → ℕ → Bool → PlainSet
 with_index_assigned s i value = cond value (with_index s i) (without_index s i)
 
--- the set without the index if it is a member, else with it
+-- the set with the index removed if it is a member, else added
 abbrev pub with_index_toggled : PlainSet → ℕ → PlainSet
 with_index_toggled s i = with_index_assigned s i (not (contains s i))
 
--- the set with each index of a span if the value is true, else without each
+-- the set with each index of a span added if the value is true, else removed
 abbrev pub with_span_assigned : PlainSet → ℕ → ℕ → Bool → PlainSet
 with_span_assigned s from end value = with_span_changed (λ _. value) s from end
 

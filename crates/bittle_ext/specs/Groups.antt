@@ -9,7 +9,7 @@ abbrev pub MovesOver : Bool → ℕ → ℕ → PlainSet → ℕ → ℕ → Typ
 MovesOver true each w s at on = (at ≤ on) × NoneIn s (at * each * w) (on * each * w)
 MovesOver false each w s at on = (on ≤ at) × NoneIn s (on * each * w) (at * each * w)
 
--- whether `at`, as an end of the words low..high, lies before their other end
+-- whether an end of low..high (the front if true), moved to `at`, has not reached the other end
 abbrev pub is_inside : Bool → ℕ → ℕ → ℕ → Bool
 is_inside true low high at = nat_lt at high
 is_inside false low high at = nat_lt low at

@@ -12,10 +12,11 @@ number_in s first (suc n) = number_in s first n + cond (s.has (first + n)) (2 ^ 
 abbrev pub HasBitsOf : PlainSet → ℕ → ℕ → ℕ → Type 0
 HasBitsOf s first n d = (i : ℕ) → i < n → (bit_at d i == 1) ≡ s.has (first + i)
 
--- whether a number is a member after the n numbers of t from `from` on were copied to `at` on
+-- whether a number is a member after n numbers of t, from `from` on, were copied to the n numbers
+-- from `at` on
 unfoldable pub has_copied : PlainSet → ℕ → ℕ → PlainSet → ℕ → ℕ → Bool
 has_copied s at n t from k = cond (is_in_span at (at + n) k) (t.has (k - at + from)) (s.has k)
 
--- the set after the n numbers of t from `from` on were copied to `at` on
+-- the set after n numbers of t, from `from` on, were copied to the n numbers from `at` on
 abbrev pub with_copied : PlainSet → ℕ → ℕ → PlainSet → ℕ → PlainSet
 with_copied s at n t from = record { capacity = s.capacity; has = has_copied s at n t from }

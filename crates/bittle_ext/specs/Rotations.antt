@@ -19,7 +19,7 @@ rotated_up s by = rotated_down s (s.capacity - by % s.capacity)
 unfoldable pub has_shifted_down : PlainSet → ℕ → ℕ → Bool
 has_shifted_down s by k = nat_lt (k + by) s.capacity && s.has (k + by)
 
--- the set with each member moved down; those that would pass index 0 are left out
+-- the set with each member moved down; a member that would pass index 0 is dropped
 abbrev pub shifted_down : PlainSet → ℕ → PlainSet
 shifted_down s by = record { capacity = s.capacity; has = has_shifted_down s by }
 
@@ -27,7 +27,7 @@ shifted_down s by = record { capacity = s.capacity; has = has_shifted_down s by 
 unfoldable pub has_shifted_up : PlainSet → ℕ → ℕ → Bool
 has_shifted_up s by k = nat_le by k && nat_lt k s.capacity && s.has (k - by)
 
--- the set with each member moved up; those that would reach the capacity are left out
+-- the set with each member moved up; a member that would reach the capacity is dropped
 abbrev pub shifted_up : PlainSet → ℕ → PlainSet
 shifted_up s by = record { capacity = s.capacity; has = has_shifted_up s by }
 

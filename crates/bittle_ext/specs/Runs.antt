@@ -75,11 +75,11 @@ pub record HasMaximalRuns (s : PlainSet) : Type 0 where
 abbrev pub RunsAreMaximal : Type 0
 RunsAreMaximal = (s : PlainSet) → HasMaximalRuns s
 
--- steps from the front yield a list of runs from its first item on, and steps from the back yield
--- it in reverse
+-- steps from the front yield the runs of a list in order
 abbrev pub RunsInOrder : Type 0
 RunsInOrder = YieldsInOrder (YieldsFirst (λ (rs : List (Range ℕ)). rs)) (λ rs. rs)
 
+-- steps from the back yield the runs of a list in reverse
 abbrev pub RunsInReverse : Type 0
 RunsInReverse = YieldsInReverse (YieldsLast (λ (rs : List (Range ℕ)). rs)) (λ rs. rs)
 

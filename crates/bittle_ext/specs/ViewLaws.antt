@@ -21,7 +21,7 @@ unfolding is_placed
 none_past_back true w s word whole past = members-past true w s word whole past
 none_past_back false w s word whole past = past
 
--- past `end` the result of an operation on two sets has no member
+-- from `end` on the result of an operation on two sets has no member
 pub none_past_both : (f : Bool → Bool → Bool) (m : Bool) (w : ℕ) (s t : PlainSet) (end : ℕ) →
     0 < w → HoldsBoth f w s t end → (i : ℕ) → end ≤ i →
     (read_back m w (decided_until f end s t)).has i ≡ false
@@ -33,14 +33,14 @@ pub none_past_complement : (s : PlainSet) (i : ℕ) → s.capacity ≤ i → (co
 unfolding lacks
 none_past_complement s i past = rw (le-ltb i s.capacity past) refl
 
--- no number past the capacity has a bit of a kind (set or unset), in an order
+-- if a set is read in an order, no bit of a kind (set or unset) lies past the capacity
 none_past_kind : (ones m : Bool) (w : ℕ) (s : PlainSet) → 0 < w →
     (words : ℕ) × (s.capacity ≡ words * w) → ((i : ℕ) → s.capacity ≤ i → s.has i ≡ false) →
     (i : ℕ) → s.capacity ≤ i → (ones_or_zeros ones (read_in m w s)).has i ≡ false
 none_past_kind true m w s word whole past = members-past m w s word whole past
 none_past_kind false m w s word whole past = none_past_complement (read_in m w s)
 
--- no number past the capacity is in a range of the bits of a kind
+-- if a range of a set is read in an order, no bit of a kind in it lies past the capacity
 pub none_past_within : (ones m : Bool) (w : ℕ) (s : PlainSet) (from to : ℕ) → 0 < w →
     (words : ℕ) × (s.capacity ≡ words * w) → ((i : ℕ) → s.capacity ≤ i → s.has i ≡ false) →
     (i : ℕ) → s.capacity ≤ i →

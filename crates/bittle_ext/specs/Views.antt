@@ -24,13 +24,13 @@ abbrev pub has_placed : Bool → ℕ → PlainSet → ℕ → Bool
 has_placed true w s = is_placed w s
 has_placed false w s = s.has
 
--- the set that is s when it is read in an order
+-- the set that becomes s if it is read in an order, as `read_in` does
 abbrev pub read_back : Bool → ℕ → PlainSet → PlainSet
 read_back mirrored w s = record { capacity = s.capacity; has = has_placed mirrored w s }
 
--- `end` can be the capacity of the result of an operation on two sets: it is whole words and below
--- `u32::MAX`, and the result has no member from `end` on. If the result has only members of s,
--- `end` is at most the capacity of s
+-- `end` can be the capacity of the result of an operation on two sets: it is a whole number of
+-- words and below `u32::MAX`, and the result has no member from `end` on. If the result has only
+-- members of s, `end` is at most the capacity of s
 pub record HoldsBoth (decide : Bool → Bool → Bool) (w : ℕ) (s t : PlainSet) (end : ℕ) : Type 0 where
   pub fits : end < 4294967295
   pub whole : end % w ≡ 0

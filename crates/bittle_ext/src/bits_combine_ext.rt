@@ -1,4 +1,4 @@
-//! Changing a set by another one of any shape.
+//! Calls that change a set by another one of any type.
 
 ghost use Rattle.std.specs.Prelude.{◌≡◌, ◌<◌, ◌≤◌, ℕ, Bool, ◌||◌, ◌&&◌, IsTrue};
 ghost use Rattle.bittle_ext.specs.Between.{members_to, Combines};
@@ -10,13 +10,14 @@ use crate::combinations::{Replacement, combine_with};
 use bittle::{BigEndian, Bits, BitsMut, BitsOwned};
 use bittle_bits::extension::{Conjunction, Difference, SymmetricDifference, Union};
 
-/// Changes of a set by another one. The two shapes may differ, and both have to fit. A view is a
-/// set too.
+/// Changes of a set by another one, which may be of another type, such as a view. Both sets have to
+/// fit (`bits_capacity() < u32::MAX`).
 ///
 /// Each set is read in the order of its type; a view has the order that it names. The changed set
 /// keeps its capacity: an index of the other set at or past it does nothing. From its own capacity
-/// on, the other set has no bit set. If both sets have words of one width, read in one order, whole
-/// words are combined. Else each word of the other set is gathered from its set bits.
+/// on, the other set has no bit set. If the words of both sets have the same width and order, whole
+/// words are combined. Else the set bits of the other set are first gathered, one by one, into
+/// words of the changed set's width and order.
 ///
 /// `union_assign` and the other three `_assign` calls of [`BitsMut`](bittle::BitsMut) take a set of
 /// the same type, mean the same in both orders, and return nothing. They do not change the bits
@@ -136,10 +137,10 @@ pub trait BitsCombineExt: BitsMut {
         combine_with::<Self, B, Self::Order, B::Order, Replacement>(self, other);
     }
 
-    /// Returns the set of the indexes that another set has below the capacity of the type. With
+    /// Returns a set with each index of another set that is below the capacity of the type. With
     /// capacity 0 the set is empty.
     ///
-    /// The type has to fit.
+    /// The type has to fit (`Self::bits() < u32::MAX`), and so does the other set.
     ///
     /// ```
     /// <[u8; 2]>::from_set(&0x8005_0103u32);               // [0x03, 0x01]

@@ -1,4 +1,4 @@
-//! Copies of a range of bits to another place.
+//! Calls that copy a range of bits to another place.
 
 ghost use Rattle.std.specs.Prelude.{◌≡◌, ◌+◌, ◌-◌, ◌<◌, ◌≤◌, ℕ};
 ghost use Rattle.bittle.specs.PlainSet.{contains};
@@ -17,11 +17,11 @@ use bittle::{Bits, BitsMut};
 pub trait BitsCopyExt: BitsMut {
     /// Copies the bits `from..to` of another set to the indexes from `at` on. No other bit changes.
     ///
-    /// Both shapes have to fit, `from <= to`, and the written range has to end at or below the
-    /// capacity. With capacity 0 only an empty range is allowed, which changes nothing. Each word
-    /// of the written range is read and written once. For each, the words of the other set that
-    /// have its bits are read: at most two. If those words are narrower, they are at most one more
-    /// than it takes to fill the written word.
+    /// Both sets have to fit (`bits_capacity() < u32::MAX`), `from <= to`, and the written range
+    /// has to end at or below the capacity. With capacity 0 only an empty range is allowed, which
+    /// changes nothing. Each word of the written range is read and written once. For each, the
+    /// words of the other set that hold its new bits are read: at most two. If it takes `n`
+    /// narrower words to fill the written word, at most `n + 1` are read.
     ///
     /// ```
     /// let mut row = [0xFFu8; 2];
@@ -56,7 +56,7 @@ pub trait BitsCopyExt: BitsMut {
     /// The shape has to fit (`bits_capacity() < u32::MAX`), `from <= to`, and the written range has
     /// to end at or below the capacity. With capacity 0 only an empty range is allowed, which
     /// changes nothing. Each word of the written range is read and written once. For each, the
-    /// words that have the bits to copy are read too: at most two.
+    /// words that hold its new bits are read too: at most two.
     ///
     /// ```
     /// let mut row = [0x35u8, 0x00];

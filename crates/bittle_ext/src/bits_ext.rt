@@ -1,4 +1,4 @@
-//! Reading a set.
+//! Everyday calls that read a set.
 
 ghost use Rattle.std.specs.Prelude.{◌≡◌, ◌+◌, ◌-◌, ◌<◌, ◌≤◌, IfSome, MatchBool, slice_get};
 ghost use Rattle.bittle_ext.specs.RangeMembers.{HasSomeIn, HasAllIn, LacksSomeIn, members_within};
@@ -22,8 +22,8 @@ use bittle_bits::extension::{Ones, Word, Zeros};
 /// that of the type; for another order, use the view that
 /// [`in_order`](crate::BitsViewExt::in_order) returns.
 pub trait BitsExt: Bits + Sized {
-    /// Returns the least index of a set bit, in the order of the type, or `None` if there is
-    /// none. Words are read from the first word on, up to the answer.
+    /// Returns the least index of a set bit, in the order of the type, or `None` if there is none.
+    /// Words are read from the first one on, up to the answer.
     ///
     /// ```
     /// 0b0010_0010u8.first_one();                          // Some(1)
@@ -38,7 +38,7 @@ pub trait BitsExt: Bits + Sized {
     }
 
     /// Returns the least index of an unset bit, in the order of the type, or `None` if there is
-    /// none. Words are read from the first word on, up to the answer.
+    /// none. Words are read from the first one on, up to the answer.
     ///
     /// ```
     /// 0b0000_0111u8.first_zero();                         // Some(3)
@@ -53,7 +53,7 @@ pub trait BitsExt: Bits + Sized {
     }
 
     /// Returns the greatest index of a set bit, in the order of the type, or `None` if there is
-    /// none. Words are read from the last word back, up to the answer.
+    /// none. Words are read backward from the last one, down to the answer.
     ///
     /// ```
     /// 0b0010_0010u8.last_one();                           // Some(5)
@@ -68,7 +68,7 @@ pub trait BitsExt: Bits + Sized {
     }
 
     /// Returns the greatest index of an unset bit, in the order of the type, or `None` if there is
-    /// none. Words are read from the last word back, up to the answer.
+    /// none. Words are read backward from the last one, down to the answer.
     ///
     /// ```
     /// 0b1110_0000u8.last_zero();                          // Some(4)
@@ -83,8 +83,8 @@ pub trait BitsExt: Bits + Sized {
     }
 
     /// Returns the least index of a set bit from `from` on, in the order of the type, or `None` if
-    /// there is none. A `from` at or past the capacity finds none. Words are read from the one that
-    /// has index `from`, up to the answer.
+    /// there is none. If `from` is at or past the capacity, it returns `None`. Words are read from
+    /// the word of index `from` on, up to the answer.
     ///
     /// ```
     /// 0b0010_0010u8.next_one(2);                          // Some(5)
@@ -100,8 +100,8 @@ pub trait BitsExt: Bits + Sized {
     }
 
     /// Returns the least index of an unset bit from `from` on, in the order of the type, or `None`
-    /// if there is none. A `from` at or past the capacity finds none. Words are read from the one
-    /// that has index `from`, up to the answer.
+    /// if there is none. If `from` is at or past the capacity, it returns `None`. Words are read
+    /// from the word of index `from` on, up to the answer.
     ///
     /// ```
     /// 0b0001_1110u8.next_zero(1);                         // Some(5)
@@ -117,8 +117,8 @@ pub trait BitsExt: Bits + Sized {
     }
 
     /// Returns the greatest index of a set bit below `to`, in the order of the type, or `None` if
-    /// there is none. A `to` past the capacity means the capacity. Words are read from the one that
-    /// has index `to - 1` back, down to the answer.
+    /// there is none. A `to` past the capacity means the capacity. Words are read backward from the
+    /// word of index `to - 1`, down to the answer.
     ///
     /// ```
     /// 0b0010_0010u8.prev_one(5);                          // Some(1)
@@ -134,8 +134,8 @@ pub trait BitsExt: Bits + Sized {
     }
 
     /// Returns the greatest index of an unset bit below `to`, in the order of the type, or `None`
-    /// if there is none. A `to` past the capacity means the capacity. Words are read from the one
-    /// that has index `to - 1` back, down to the answer.
+    /// if there is none. A `to` past the capacity means the capacity. Words are read backward from
+    /// the word of index `to - 1`, down to the answer.
     ///
     /// ```
     /// 0b0001_1110u8.prev_zero(5);                         // Some(0)
@@ -229,7 +229,7 @@ pub trait BitsExt: Bits + Sized {
 
     /// Returns the greatest index of a set bit in `from..to`, in the order of the type, or `None`
     /// if there is none. A `to` past the capacity means the capacity, and a range that runs
-    /// backwards is empty. The words of the range are read from the last one back, down to the
+    /// backwards is empty. The words of the range are read backward from the last one, down to the
     /// answer.
     ///
     /// ```
@@ -264,7 +264,7 @@ pub trait BitsExt: Bits + Sized {
     /// Returns how many bits of `from..to` are set, in the order of the type.
     ///
     /// The shape has to fit (`bits_capacity() < u32::MAX`). Past the capacity no bit is set, and a
-    /// range that runs backwards is empty. Each word of the range is counted as a whole. With
+    /// range that runs backwards is empty. The call goes word by word, not bit by bit. With
     /// capacity 0 it returns 0.
     ///
     /// ```
@@ -285,7 +285,7 @@ pub trait BitsExt: Bits + Sized {
     /// Returns how many bits of `from..to` are unset, in the order of the type.
     ///
     /// The shape has to fit (`bits_capacity() < u32::MAX`). Past the capacity no bit is unset, and
-    /// a range that runs backwards is empty. Each word of the range is counted as a whole. With
+    /// a range that runs backwards is empty. The call goes word by word, not bit by bit. With
     /// capacity 0 it returns 0.
     ///
     /// ```
@@ -363,8 +363,8 @@ pub trait BitsExt: Bits + Sized {
     }
 
     /// Returns the least index where a run of `length` unset bits begins, in the order of the type,
-    /// or `None` if there is no such run, as [`next_zero_run`](BitsExt::next_zero_run) does from 0
-    /// on.
+    /// or `None` if there is no such run, as [`next_zero_run`](BitsExt::next_zero_run) does with
+    /// `from` 0.
     ///
     /// ```
     /// 0b0100_1101u8.first_zero_run(2);                     // Some(4)
@@ -398,8 +398,8 @@ pub trait BitsExt: Bits + Sized {
     }
 
     /// Returns the least index where a run of `length` set bits begins, in the order of the type,
-    /// or `None` if there is no such run, as [`next_one_run`](BitsExt::next_one_run) does from 0
-    /// on.
+    /// or `None` if there is no such run, as [`next_one_run`](BitsExt::next_one_run) does with
+    /// `from` 0.
     ///
     /// ```
     /// 0b0110_0001u8.first_one_run(2);                      // Some(5)
@@ -417,7 +417,7 @@ pub trait BitsExt: Bits + Sized {
     ///
     /// A `to` past the capacity means the capacity, and a range that runs backwards has no bit.
     /// With `length` 0 it returns `from`, or `None` if `from` is past the capacity. It costs what
-    /// [`next_one_run`](BitsExt::next_one_run) costs within the range.
+    /// [`next_one_run`](BitsExt::next_one_run) costs, and reads only words of the range.
     ///
     /// ```
     /// 0b0110_0111u8.first_one_run_in_range(1, 6, 2);       // Some(1)

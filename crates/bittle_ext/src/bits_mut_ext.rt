@@ -1,4 +1,4 @@
-//! Changing a set.
+//! Everyday calls that change a set.
 
 ghost use Rattle.std.specs.Prelude.{◌≡◌, ◌+◌, ◌-◌, ◌<◌, ◌≤◌, ℕ, Bool, List, cond, not, IsTrue};
 ghost use Rattle.std.specs.Prelude.{MatchOption};
@@ -30,7 +30,8 @@ pub trait BitsMutExt: BitsMut + Sized {
     /// Sets the bit at `index`, in the order of the type, and returns `true` if it was unset. An
     /// index past the capacity wraps. With capacity 0 nothing changes, and it returns `true`.
     ///
-    /// The type has to fit; for a slice, its element type.
+    /// The type has to fit (its capacity is below `u32::MAX`). For a slice, only its element type
+    /// has to fit.
     ///
     /// ```
     /// let mut row = [0u16, 1];
@@ -60,7 +61,8 @@ pub trait BitsMutExt: BitsMut + Sized {
     /// Clears the bit at `index`, in the order of the type, and returns `true` if it was set. An
     /// index past the capacity wraps. With capacity 0 nothing changes, and it returns `false`.
     ///
-    /// The type has to fit; for a slice, its element type.
+    /// The type has to fit (its capacity is below `u32::MAX`). For a slice, only its element type
+    /// has to fit.
     ///
     /// ```
     /// let mut row = [0u16, 1];
@@ -89,7 +91,8 @@ pub trait BitsMutExt: BitsMut + Sized {
     /// Sets the bit at `index` if `value` is `true`, else clears it, in the order of the type. An
     /// index past the capacity wraps. With capacity 0 nothing changes.
     ///
-    /// The type has to fit; for a slice, its element type.
+    /// The type has to fit (its capacity is below `u32::MAX`). For a slice, only its element type
+    /// has to fit.
     ///
     /// ```
     /// let mut word = 0b0001u8;
@@ -113,7 +116,8 @@ pub trait BitsMutExt: BitsMut + Sized {
     /// returns `true` if it was set before. An index past the capacity wraps. With capacity 0
     /// nothing changes, and it returns `false`.
     ///
-    /// The type has to fit; for a slice, its element type.
+    /// The type has to fit (its capacity is below `u32::MAX`). For a slice, only its element type
+    /// has to fit.
     ///
     /// ```
     /// let mut word = 0b0001u8;
@@ -135,7 +139,8 @@ pub trait BitsMutExt: BitsMut + Sized {
     /// Flips the bit at `index`, in the order of the type. An index past the capacity wraps. With
     /// capacity 0 nothing changes.
     ///
-    /// The type has to fit; for a slice, its element type.
+    /// The type has to fit (its capacity is below `u32::MAX`). For a slice, only its element type
+    /// has to fit.
     ///
     /// ```
     /// let mut row = [0u8; 2];
@@ -234,8 +239,8 @@ pub trait BitsMutExt: BitsMut + Sized {
     /// Clears the greatest set bit, in the order of the type, and returns its index. If no bit is
     /// set, as with capacity 0, nothing changes, and it returns `None`.
     ///
-    /// The shape has to fit (`bits_capacity() < u32::MAX`). The words are read from the last one
-    /// back to the answer.
+    /// The shape has to fit (`bits_capacity() < u32::MAX`). The words are read backward from the
+    /// last one, down to the answer.
     ///
     /// ```
     /// let mut row = [0x00u8, 0x81];
@@ -338,7 +343,8 @@ pub trait BitsMutExt: BitsMut + Sized {
     /// Sets the bit at each of the indexes, in the order of the type. An index past the capacity
     /// wraps. With capacity 0 nothing changes.
     ///
-    /// The type has to fit; for a slice, its element type.
+    /// The type has to fit (its capacity is below `u32::MAX`). For a slice, only its element type
+    /// has to fit.
     ///
     /// ```
     /// let mut row = [0u8; 2];
@@ -359,7 +365,8 @@ pub trait BitsMutExt: BitsMut + Sized {
     /// Sets the bit at each index of an array, a `Vec`, a range or an iterator, in the order of the
     /// type. An index past the capacity wraps. With capacity 0 nothing changes.
     ///
-    /// The type has to fit; for a slice, its element type. The iterator has to end.
+    /// The type has to fit (its capacity is below `u32::MAX`). For a slice, only its element type
+    /// has to fit. The iterator has to end.
     ///
     /// ```
     /// let mut row = [0u8; 2];

@@ -11,7 +11,7 @@ use bittle::{Bits, BitsMut};
 /// Reading up to 64 neighbouring bits as a number, a word at a time.
 ///
 /// Bit `i` of the number is the bit at index `first + i`, in the order of the type: index `first`
-/// has the weight 1, in both orders. For another order, call on the view that
+/// has the weight 1, in both orders. For another order, use the view that
 /// [`in_order`](crate::BitsViewExt::in_order) returns.
 pub trait BitsNumberExt: Bits {
     /// Returns the bits at the `count` indexes from `first` on as a number.
@@ -42,10 +42,10 @@ pub trait BitsNumberExt: Bits {
 
 impl<B: Bits> BitsNumberExt for B {}
 
-/// Writing up to 64 neighbouring bits as a number, a word at a time.
+/// Writing a number to up to 64 neighbouring bits, a word at a time.
 ///
 /// The bit at index `first + i` takes the value of bit `i` of the number, in the order of the type.
-/// For another order, call on the view that [`in_order_mut`](crate::BitsMutViewExt::in_order_mut)
+/// For another order, use the view that [`in_order_mut`](crate::BitsMutViewExt::in_order_mut)
 /// returns.
 pub trait BitsNumberMutExt: BitsMut {
     /// Writes the lowest `count` bits of a number to the `count` indexes from `first` on. The other

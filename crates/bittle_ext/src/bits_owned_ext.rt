@@ -1,4 +1,4 @@
-//! Making sets that are owned.
+//! Everyday calls that make owned sets.
 
 ghost use Rattle.std.specs.Prelude.{◌≡◌, ◌+◌, ◌<◌, ◌≤◌, ℕ, Bool, false, List, IsTrue};
 ghost use Rattle.std.specs.Iterator.{Drains, IsFinite};
@@ -215,11 +215,11 @@ pub trait BitsOwnedExt: BitsOwned {
         rotate_up::<Self, Self::Order>(&self, by)
     }
 
-    /// Returns the set with each bit moved down by `by` indexes, in the order of the type. The bits
-    /// that would pass index 0 are left out.
+    /// Returns the set with each bit moved down by `by` indexes, in the order of the type. A bit
+    /// that would pass index 0 is dropped.
     ///
-    /// If `by` is the capacity or more, as with capacity 0, the set is empty. Each word is read
-    /// twice at most and written once.
+    /// If `by` is the capacity or more, or the capacity is 0, the result is the empty set. Each
+    /// word is read twice at most and written once.
     ///
     /// ```
     /// [0x12u8, 0x01].shifted_down(2);                     // [0x44, 0]
@@ -240,11 +240,11 @@ pub trait BitsOwnedExt: BitsOwned {
         set
     }
 
-    /// Returns the set with each bit moved up by `by` indexes, in the order of the type. The bits
-    /// that would reach the capacity are left out.
+    /// Returns the set with each bit moved up by `by` indexes, in the order of the type. A bit that
+    /// would reach the capacity is dropped.
     ///
-    /// If `by` is the capacity or more, as with capacity 0, the set is empty. Each word is read
-    /// twice at most and written once.
+    /// If `by` is the capacity or more, or the capacity is 0, the result is the empty set. Each
+    /// word is read twice at most and written once.
     ///
     /// ```
     /// [0x48u8, 0x80].shifted_up(2);                       // [0x20, 0x01]
@@ -265,8 +265,8 @@ pub trait BitsOwnedExt: BitsOwned {
         set
     }
 
-    /// Returns the set of the indexes, in the order of the type. An index past the capacity wraps.
-    /// With capacity 0 the set is empty.
+    /// Returns the set that has the listed indexes, in the order of the type. An index past the
+    /// capacity wraps. With capacity 0 the set is empty.
     ///
     /// ```
     /// <[u8; 2]>::from_indexes(&[0, 7, 9]);                // [0x81, 0x02]
@@ -282,8 +282,8 @@ pub trait BitsOwnedExt: BitsOwned {
         set
     }
 
-    /// Returns the set of the indexes of an array, a `Vec`, a range or an iterator, in the order of
-    /// the type. An index past the capacity wraps. With capacity 0 the set is empty.
+    /// Returns the set that has the indexes of an array, a `Vec`, a range or an iterator, in the
+    /// order of the type. An index past the capacity wraps. With capacity 0 the set is empty.
     ///
     /// The iterator has to end.
     ///

@@ -12,12 +12,12 @@ use crate::range_iterators::{IterOnesInRange, IterZerosInRange};
 use crate::run_iterators::{IterOneRuns, IterRuns, IterZeroRuns};
 use bittle::Bits;
 
-/// Iterators over a range of a set, and over its maximal runs: ranges of set (or unset) bits, with
-/// no such bit right before or after the range.
+/// Iterators over a range of a set, and over its maximal runs. A run is a range of bits that are
+/// all set or all unset. A maximal run cannot be extended at either end.
 ///
 /// The shape has to fit (`bits_capacity() < u32::MAX`). A range that goes past the capacity ends
 /// there: no index wraps. The bit order (big- or little-endian) is that of the type; for another
-/// one, call on the view that [`in_order`](crate::BitsViewExt::in_order) returns.
+/// order, use the view that [`in_order`](crate::BitsViewExt::in_order) returns.
 pub trait BitsRangeExt: Bits + Sized {
     /// Returns a double-ended iterator over the indexes of the set bits in `from..to`, increasing,
     /// in the order of the type.

@@ -1,4 +1,4 @@
-//! The unset bits of a set by their ranks.
+//! Calls that count unset bits below an index, and that find an unset bit by its rank.
 
 ghost use Rattle.std.specs.Prelude.{◌≡◌, ◌<◌, ◌≤◌, IfSome, slice_get};
 ghost use Rattle.bittle.specs.PlainSet.{ascending, complement, members_below, size};
@@ -8,7 +8,7 @@ use crate::bits_ext::BitsExt;
 use crate::views::BitsViewExt;
 use bittle::Bits;
 
-/// Counts and searches of the unset bits of any set by their ranks, in the order of the type. The
+/// Counts of unset bits, and searches for an unset bit by its rank, in the order of the type. The
 /// rank of an unset bit is how many unset bits lie below it.
 pub trait BitsRankExt: Bits + Sized {
     /// Returns how many bits below `index` are unset. An `index` past the capacity means the

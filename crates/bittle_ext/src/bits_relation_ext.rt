@@ -14,12 +14,13 @@ use crate::views::of_both::OfBoth;
 use bittle::Bits;
 use bittle_bits::extension::{Difference, Ones, SymmetricDifference, Zeros, are_alike};
 
-/// Relations of two sets. The two shapes may differ, and both have to fit.
+/// Relations of two sets, which may be of different types. Both sets have to fit
+/// (`bits_capacity() < u32::MAX`).
 ///
-/// Each set is read in the order of its type; a view has the order that it names. If both sets have
-/// words of one width, read in one order, they are compared word by word. Else the two sets are
-/// searched in turn, each from where the search of the other stopped. Past its capacity a set has
-/// no bit set, so capacities may differ. With capacity 0 a set is empty.
+/// Each set is read in the order of its type; a view has the order that it names. If the words of
+/// both sets have the same width and order, the sets are compared word by word. Else the two sets
+/// are searched in turn, each from where the search of the other stopped. The capacities may
+/// differ: past its capacity a set has no bit set. With capacity 0 a set is empty.
 ///
 /// ```
 /// let view = 0x80u8.in_order::<LittleEndian>();
@@ -64,7 +65,7 @@ pub trait BitsRelationExt: Bits + Sized {
         if let Some(index) = found {
             return Some(index);
         }
-        // Past the second set's capacity nothing is set in it.
+        // Past its capacity, the second set has no bit set.
         self.first_one_in::<Self::Order>(common, end)
     }
 
@@ -136,9 +137,9 @@ pub trait BitsRelationExt: Bits + Sized {
         self.first_common(other).is_some()
     }
 
-    /// Returns how many indexes are set in both sets, each set in its own order. No set is made.
-    /// Each word of both is counted once if their words have one width and are read in one order.
-    /// Else each set bit of this set is tested in the other one.
+    /// Returns how many indexes are set in both sets, each set in its own order. No set is made. If
+    /// the words of both sets have the same width and order, each word is read at most once. Else
+    /// each set bit of this set is tested in the other one.
     ///
     /// ```
     /// 0b0110u8.count_common(&0x0107u16);                  // 2
@@ -158,9 +159,8 @@ pub trait BitsRelationExt: Bits + Sized {
     }
 
     /// Returns how many indexes are set in this set and not in the other one, each set in its own
-    /// order. Each word of both is counted once if their words have one width and are read in one
-    /// order. Else it costs a count of this set and
-    /// [`count_common`](BitsRelationExt::count_common).
+    /// order. If the words of both sets have the same width and order, each word is read at most
+    /// once. Else it costs a count of this set and [`count_common`](BitsRelationExt::count_common).
     ///
     /// ```
     /// 0b0110u8.count_alone(&0x0104u16);                   // 1: index 1
@@ -182,9 +182,9 @@ pub trait BitsRelationExt: Bits + Sized {
         self.count_ones() - count_common::<Self, B, Self::Order, B::Order>(self, other)
     }
 
-    /// Returns how many indexes are set in just one of the two sets, each set in its own order.
-    /// Each word of both is counted once if their words have one width and are read in one order.
-    /// Else it costs a count of each set and [`count_common`](BitsRelationExt::count_common).
+    /// Returns how many indexes are set in just one of the two sets, each set in its own order. If
+    /// the words of both sets have the same width and order, each word is read at most once. Else
+    /// it costs a count of each set and [`count_common`](BitsRelationExt::count_common).
     ///
     /// ```
     /// 0b0110u8.count_different(&0x0104u16);               // 2: indexes 1 and 8

@@ -1,4 +1,4 @@
-//! Moving all bits of a set in place.
+//! Calls that move all bits of a set in place.
 
 ghost use Rattle.std.specs.Prelude.{◌≡◌, ◌+◌, ◌<◌, ◌≤◌, ℕ, false};
 ghost use Rattle.bittle_ext.specs.Rotations.{rotated_down, rotated_up, shifted_down, shifted_up};
@@ -14,8 +14,8 @@ use bittle::BitsMut;
 /// An owned set also has [`shifted_up`](crate::BitsOwnedExt::shifted_up), `shifted_down`,
 /// `rotated_up` and `rotated_down`, which return another set.
 pub trait BitsShiftExt: BitsMut {
-    /// Moves each bit down by `by` indexes, in the order of the type. The bits that would pass
-    /// index 0 are left out.
+    /// Moves each bit down by `by` indexes, in the order of the type. A bit that would pass index 0
+    /// is dropped.
     ///
     /// The shape has to fit (`bits_capacity() < u32::MAX`). If `by` is the capacity or more, the
     /// set becomes empty; with capacity 0 nothing changes. Each word is read twice at most and
@@ -41,8 +41,8 @@ pub trait BitsShiftExt: BitsMut {
         shifts::shift_down::<Self, Self::Order>(self, by);
     }
 
-    /// Moves each bit up by `by` indexes, in the order of the type. The bits that would reach the
-    /// capacity are left out.
+    /// Moves each bit up by `by` indexes, in the order of the type. A bit that would reach the
+    /// capacity is dropped.
     ///
     /// The shape has to fit (`bits_capacity() < u32::MAX`). If `by` is the capacity or more, the
     /// set becomes empty; with capacity 0 nothing changes. Each word is read twice at most and

@@ -27,8 +27,8 @@ use std::ops::RangeBounds;
 /// bit order (big- or little-endian) is that of the type; for another order, use the view that
 /// [`in_order`](crate::BitsViewExt::in_order) returns.
 pub trait BitsSpanExt: Bits + Sized {
-    /// Returns how many bits of the range are set. Each word of the range is counted as a whole.
-    /// With capacity 0 it returns 0.
+    /// Returns how many bits of the range are set. The call goes word by word, not bit by bit. With
+    /// capacity 0 it returns 0.
     ///
     /// ```
     /// 0b0110_0010u8.count_ones_in_span(1..=5);            // 2: bits 1 and 5
@@ -51,7 +51,7 @@ pub trait BitsSpanExt: Bits + Sized {
         self.count_ones_in_range_in::<Self::Order>(start, end)
     }
 
-    /// Returns how many bits of the range are unset. Each word of the range is counted as a whole.
+    /// Returns how many bits of the range are unset. The call goes word by word, not bit by bit.
     /// With capacity 0 it returns 0.
     ///
     /// ```
@@ -116,7 +116,7 @@ pub trait BitsSpanExt: Bits + Sized {
     }
 
     /// Returns the greatest index of a set bit in the range, or `None` if there is none. The words
-    /// of the range are read from the last one back, down to the answer.
+    /// of the range are read backward from the last one, down to the answer.
     ///
     /// ```
     /// 0b0110_0010u8.last_one_in_span(..5);                // Some(1)
@@ -136,7 +136,7 @@ pub trait BitsSpanExt: Bits + Sized {
     }
 
     /// Returns the greatest index of an unset bit in the range, or `None` if there is none. The
-    /// words of the range are read from the last one back, down to the answer.
+    /// words of the range are read backward from the last one, down to the answer.
     ///
     /// ```
     /// 0b0110_0110u8.last_zero_in_span(..7);               // Some(4)

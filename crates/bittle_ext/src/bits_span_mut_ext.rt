@@ -20,8 +20,7 @@ use std::ops::RangeBounds;
 /// capacity. The range must not run backwards, and has to end at or below the capacity: no index
 /// wraps. Only the words of the range are written. An empty range changes nothing; with capacity 0
 /// only an empty range is allowed. The bit order (big- or little-endian) is that of the type; for
-/// another one, call on the view that [`in_order_mut`](crate::BitsMutViewExt::in_order_mut)
-/// returns.
+/// another order, use the view that [`in_order_mut`](crate::BitsMutViewExt::in_order_mut) returns.
 pub trait BitsSpanMutExt: BitsMut + Sized {
     /// Sets each bit of the range, with one mask per word.
     ///

@@ -7,8 +7,8 @@ ghost use Rattle.bittle.specs.Values.{set_in, ShapeFits};
 
 use bittle::{Bits, Endian};
 
-/// Returns the capacity of a set. The contract adds that no bit is set from the capacity on, in the
-/// order `E` too.
+/// Returns the capacity of a set. The contract adds two facts about the set in the order `E`: no
+/// bit is set from the capacity on, and as many bits are set as in big-endian order.
 #[inline]
 pub(crate) fn capacity_of<B: Bits, E: Endian>(set: &B) -> u32
     requires { ShapeFits B.Shape set.now }

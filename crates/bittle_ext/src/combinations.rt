@@ -1,4 +1,4 @@
-//! A set changed in place by another one, of any width and order, a word at a time.
+//! Changes a set in place by another one, of any word width and order, a word at a time.
 
 ghost use Rattle.std.specs.Prelude.{◌≡◌, ◌≤◌, true};
 ghost use Rattle.bittle_ext.specs.Between.{Combines};
@@ -9,7 +9,7 @@ use crate::other_words::{Part, Reach, Whole, other_word};
 use bittle::{Bits, BitsMut, Endian};
 use bittle_bits::extension::{Operation, Word, are_alike, word_width};
 
-/// The operation that gives the first set the indexes of the second one.
+/// The operation whose result has exactly the indexes of the second set.
 pub enum Replacement {}
 
 impl Operation for Replacement {
@@ -52,8 +52,9 @@ fn combine_words<A: BitsMut, B: Bits, E: Endian, F: Endian, O: Operation, R: Rea
 /// Combines a set with another one by an operation, below the capacity of the first, and returns
 /// whether the first set changed.
 ///
-/// If both sets have words of one width and order, and the other set is as long or longer, the loop
-/// makes no test for the end of the other set. The compiler then combines several words at a time.
+/// If the words of both sets have the same width and order, and the other set is at least as long,
+/// the loop makes no test for the end of the other set. The compiler then combines several words at
+/// a time.
 #[inline]
 pub fn combine_with<A: BitsMut, B: Bits, E: Endian, F: Endian, O: Operation>(
     set: &mut A,

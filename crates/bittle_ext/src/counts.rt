@@ -1,6 +1,6 @@
 //! Counts the indexes that are set in both of two sets, without making a set. If their words have
-//! one width and order, the set bits of the view of both are counted. Else each set bit of the
-//! first is tested in the second.
+//! the same width and order, the set bits of a view of these indexes are counted. Else each set bit
+//! of the first set is tested in the second.
 
 ghost use Rattle.bittle_ext.specs.Combined.{CountsBoth};
 ghost use Rattle.bittle.specs.PlainSet.{size};

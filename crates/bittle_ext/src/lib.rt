@@ -7,7 +7,7 @@
 //! contracts alone: those that users see, and those of `bittle_bits::extension`, which is for the
 //! crates of this project. The twelve integer types, the orders, searches, iterators, joins and the
 //! operations on two sets are in `bittle`. A call uses the order of the type. For another order,
-//! call on the view that [`in_order`](BitsViewExt::in_order) or
+//! make the call on the view that [`in_order`](BitsViewExt::in_order) or
 //! [`in_order_mut`](BitsMutViewExt::in_order_mut) returns, or wrap an owned set in a `Set`, which
 //! remembers its order.
 //!

@@ -10,8 +10,8 @@ use crate::rotations::all_bits;
 use bittle::Endian;
 use bittle_bits::extension::{Difference, Operation, Union, Word, range};
 
-/// Returns a number in which each bit `i` of the mask has moved up to `i + by`, and bit `i + by`
-/// down to `i`.
+/// Returns a number in which the bits `i` and `i + by` have changed places, for each `i` whose bit
+/// is set in the mask. No other bit of the result is set.
 #[inline]
 fn swapped(bits: u128, by: u32, mask: u128) -> u128
     requires { by < 128 }
@@ -61,7 +61,7 @@ fn ordered<W: Word, E: Endian>(bits: u128) -> u128
     }
 }
 
-/// Returns the number whose bit `i` is the bit at index `i` of a word.
+/// Returns the number in which the bit at index `i` of a word has the weight `2 ^ i`.
 #[inline]
 pub fn number_of<W: Word, E: Endian>(word: W) -> u128
     ensures fits { result < 2 ^ W.width }
@@ -71,7 +71,8 @@ pub fn number_of<W: Word, E: Endian>(word: W) -> u128
     ordered::<W, E>(word.to_bits())
 }
 
-/// Returns the word whose bit `i` is the bit at index `i` of the given word.
+/// Reverses a word if the order `E` is little-endian, and returns it unchanged otherwise. So the
+/// bit at index `i` gets the weight `2 ^ i`.
 #[inline]
 pub fn turned<W: Word, E: Endian>(word: W) -> W
     ensures { bit_set W.width (W.pattern result)
@@ -80,7 +81,8 @@ pub fn turned<W: Word, E: Endian>(word: W) -> W
     W::from_bits(number_of::<W, E>(word))
 }
 
-/// Returns the word whose bit at index `i` is bit `i` of the given word.
+/// Undoes `turned`: it reverses a word if the order `E` is little-endian. So the bit of weight
+/// `2 ^ i` gets the index `i`.
 #[inline]
 pub fn turned_back<W: Word, E: Endian>(word: W) -> W
     ensures { read_in E.mirrored W.width (bit_set W.width (W.pattern result))
@@ -89,7 +91,7 @@ pub fn turned_back<W: Word, E: Endian>(word: W) -> W
     word_of::<W, E>(word.to_bits())
 }
 
-/// Returns the word whose bit at index `i` is bit `i` of a number.
+/// Returns the word in which the bit of weight `2 ^ i` of a number has the index `i`.
 #[inline]
 fn word_of<W: Word, E: Endian>(number: u128) -> W
     requires { number < 2 ^ W.width }
@@ -109,8 +111,8 @@ pub fn low_bits(number: u128, count: u32) -> u128
     number & u128::MAX >> (128 - count)
 }
 
-/// Returns the lowest `count` bits of a number: at most as many as a word has. The remainder (`%`)
-/// changes no result; with it the compiler shifts words, and not 128 bits.
+/// Returns the lowest `count` bits of a number, where `count` is at most the width of a word. The
+/// remainder (`%`) changes no result; with it the compiler shifts words, and not 128 bits.
 #[inline]
 pub fn low_bits_of<W: Word>(number: u128, count: u32) -> u128
     requires some { 0 < count }
@@ -122,7 +124,7 @@ pub fn low_bits_of<W: Word>(number: u128, count: u32) -> u128
 }
 
 /// Returns a word in which the `count` bits from the index `from` on are replaced by those of a
-/// number. If these are all bits of the word, no mask is made.
+/// number. If `count` is the width of the word, no mask is made.
 #[inline]
 pub fn with_number<W: Word, E: Endian>(word: W, from: u32, count: u32, number: u128) -> W
     requires some { 0 < count }

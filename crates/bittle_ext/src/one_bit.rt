@@ -1,4 +1,4 @@
-//! One bit of a set, changed in its word by a mask, without a branch on the bit.
+//! Changes one bit of a set in its word by a mask, without a branch on the bit.
 
 ghost use Rattle.std.specs.Prelude.{◌≡◌, ◌<◌, true, IsTrue};
 ghost use Rattle.bittle_ext.specs.Changes.{with_index_assigned};
@@ -18,8 +18,9 @@ pub fn has_bits<B: Bits>(set: &B) -> bool
     0 < capacity && capacity < u32::MAX
 }
 
-/// Replaces the bit at an index below the capacity by the result of the operation `O` on that bit
-/// and a set bit. Returns whether the bit was set before.
+/// Changes the bit at an index below the capacity by the operation `O`: `Union` sets it,
+/// `Difference` clears it, and `SymmetricDifference` flips it. Returns whether the bit was set
+/// before.
 #[inline]
 fn combine_within<B: BitsMut, E: Endian, O: RangeOperation>(set: &mut B, index: u32) -> bool
     requires fits { ShapeFits B.Shape set.old }
@@ -37,8 +38,8 @@ fn combine_within<B: BitsMut, E: Endian, O: RangeOperation>(set: &mut B, index: 
     !word.and(mask).is_zero()
 }
 
-/// Replaces the bit at an index, which wraps, by the result of the operation `O` on that bit and a
-/// set bit. Returns whether the bit was set before.
+/// Changes the bit at an index, which wraps, by the operation `O`: `Union` sets it, `Difference`
+/// clears it, and `SymmetricDifference` flips it. Returns whether the bit was set before.
 #[inline]
 pub fn combine_bit<B: BitsMut, E: Endian, O: RangeOperation>(set: &mut B, index: u32) -> bool
     requires fits { ShapeFits B.Shape set.old }

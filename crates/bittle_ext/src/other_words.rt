@@ -18,10 +18,10 @@ pub trait Reach {
     const ALL: bool;
 }
 
-/// The set has each word that is read.
+/// Says that the set is known to have each word that is read.
 pub enum Whole {}
 
-/// The set may end before a word that is read.
+/// Says that the set may lack words that are read. A missing word is read as an empty one.
 pub enum Part {}
 
 impl Reach for Whole {

@@ -1,6 +1,6 @@
-//! The search behind the relations of two sets. If their words have one width and order, it goes
-//! word by word. Else the two sets are searched in turn, each from where the search of the other
-//! stopped.
+//! The search behind the relations of two sets. If their words have the same width and order, it
+//! goes word by word. Else the two sets are searched in turn, each from where the search of the
+//! other stopped.
 
 ghost use Rattle.std.specs.Prelude.{◌≡◌, min, MatchOption};
 ghost use Rattle.bittle_ext.specs.SetRelations.{first_and};

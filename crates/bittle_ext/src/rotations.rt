@@ -20,8 +20,8 @@ pub fn all_bits<W: Word>() -> u128
     W::zero().not().to_bits()
 }
 
-/// Returns a word of bits that begins at the weight `2 ^ by` of the lower of two neighbouring
-/// words, and goes on in the higher one.
+/// Returns a word of bits of two neighbouring words: the bits of the lower word from the weight
+/// `2 ^ by` on and, above them, the `by` lowest bits of the higher word.
 ///
 /// The higher word is shifted by 1 and then by the rest, so `by` 0 needs no branch. The remainder
 /// (`%`) changes no result; with it the compiler knows that `by` is below the width, and shifts
@@ -54,8 +54,8 @@ fn funnel_up<W: Word>(low: W, high: W, by: u32) -> W
     W::from_bits(high.to_bits() << by & ones | lower)
 }
 
-/// Returns a word of bits that begins at the index `from` of the first of two neighbouring words,
-/// and goes on in the second one.
+/// Returns a word of bits of two neighbouring words: the bits of the first one from the index
+/// `from` on, and after them the first `from` bits of the second one.
 #[inline]
 pub fn window<W: Word, E: Endian>(first: W, second: W, from: u32) -> W
     requires { from < W.width }
@@ -101,8 +101,8 @@ pub fn distance<B: Bits>(set: &B, by: u32) -> (usize, usize, u32)
     (words, (by / width) as usize, by % width)
 }
 
-/// Returns a word of bits of a set that begins at the index `from` of word `at`, and goes on in
-/// word `next`.
+/// Returns a word of bits of a set: the bits of word `at` from the index `from` on, and after them
+/// the first `from` bits of word `next`.
 #[inline]
 fn word_from<B: Bits, E: Endian>(set: &B, at: usize, next: usize, from: u32) -> B::LeafWord
     requires fits { ShapeFits B.Shape set.now }

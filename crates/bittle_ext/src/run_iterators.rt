@@ -27,7 +27,7 @@ pub type IterZeroRuns<'a, B, E> = IterRuns<'a, B, E, Zeros>;
 /// Iterates over the maximal runs of bits of the kind `K` (set or unset) in a borrowed set,
 /// increasing, in the order `E`, from both ends. Each step makes at most two searches by whole
 /// words: for a run, and for its other end. From the front, the second search begins past the word
-/// in which the run starts. After the last run, a step returns `None` at both ends.
+/// in which the run starts. Once no run remains, steps from both ends return `None`.
 #[derive(Drop)]
 pub struct IterRuns<'a, B: Shape, E: Endian, K: Kind> {
     bits: &'a B,

@@ -25,9 +25,8 @@ impl<K: Kind> Kind for Others<K> {
     fn seal(_: Sealed) {}
 }
 
-/// A run that is at most this many words long is searched for word by word. The search for a longer
-/// run makes two searches at each run that is too short. These cost more than reading this many
-/// words, so they pay only for a longer run.
+/// A run of at most this many words is searched for word by word. The search for a longer run makes
+/// two searches at each run that is too short. Two searches cost more than reading this many words.
 const FEW_WORDS: u32 = 4;
 
 /// Returns the least index from `from` on where a run of `length` bits of the kind begins, or
@@ -69,7 +68,7 @@ pub fn run_in_range<B: Bits, E: Endian, K: Kind>(
 ///
 /// A run of a few words is found word by word. For a longer run, one search finds where bits of the
 /// kind begin. A second one finds the last bit of the other kind among the `length` bits from there
-/// on. If there is one, both go on past it.
+/// on. If there is such a bit, both searches go on after it.
 fn next_run_before<B: Bits, E: Endian, K: Kind>(
     bits: &B,
     from: u32,

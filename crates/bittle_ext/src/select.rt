@@ -22,7 +22,7 @@ fn count_word<B: Bits, E: Endian>(bits: &B, k: u32) -> u32
 }
 
 /// Returns the number of the word that has the set bit of a rank, and how many bits of that word
-/// are set below that bit. Returns `None` if there is no such bit.
+/// are set below that bit. It returns `None` if no set bit has this rank.
 #[inline]
 pub fn word_of_rank<B: Bits, E: Endian>(bits: &B, rank: u32) -> Option<(u32, u32)>
     requires { ShapeFits B.Shape bits.now }

@@ -10,7 +10,7 @@ use crate::rotations::{distance, window, window_up_to};
 use bittle::{BitsMut, Endian};
 use bittle_bits::extension::Word;
 
-/// Moves each set bit down by `by`; those that would pass index 0 are left out.
+/// Moves each set bit down by `by`. A bit that would pass index 0 is dropped.
 #[inline]
 pub fn shift_down<B: BitsMut, E: Endian>(set: &mut B, by: u32)
     requires { ShapeFits B.Shape set.old }
@@ -37,7 +37,7 @@ pub fn shift_down<B: BitsMut, E: Endian>(set: &mut B, by: u32)
     }
 }
 
-/// Moves each set bit up by `by`; those that would reach the capacity are left out.
+/// Moves each set bit up by `by`. A bit that would reach the capacity is dropped.
 #[inline]
 pub fn shift_up<B: BitsMut, E: Endian>(set: &mut B, by: u32)
     requires { ShapeFits B.Shape set.old }

@@ -37,8 +37,8 @@ fn first_in_word<W: Word, E: Endian>(word: W, length: u32) -> Option<u32>
 /// Returns the least index from `from` on where a run of `length` bits of the kind `K` (set or
 /// unset) begins, or `None`. The run must lie in the first `words` words.
 ///
-/// Of the words before the current one, only `start` is kept: the index from which on all bits
-/// before the current word are of the kind. No run that can still be found begins before `start`.
+/// The loop remembers only `start` of the words that it has read. All bits from the index `start`
+/// up to the current word are of the kind. No run that can still be found begins before `start`.
 #[inline]
 pub fn next_short_run<B: Bits, E: Endian, K: Kind>(
     bits: &B,

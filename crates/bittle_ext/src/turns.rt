@@ -63,8 +63,8 @@ fn turn_words<B: BitsMut, E: Endian>(set: &mut B, by: usize, words: usize)
     reverse_words::<B, E>(set, 0, words);
 }
 
-/// Moves each bit of a set of one word down by `by`, which is less than a word. A bit that passes
-/// index 0 goes on at the last index.
+/// Moves each bit of a set of one word down by `by`, which is below the width of the word. A bit
+/// that passes index 0 goes on at the last index.
 #[inline(always)]
 fn turn_word<B: BitsMut, E: Endian>(set: &mut B, by: u32)
     requires fits { ShapeFits B.Shape set.old }

@@ -63,10 +63,10 @@ pub trait BitsViewExt: Bits {
     /// Returns a view of the indexes that are set in both sets. The view is a set with the capacity
     /// of the first set, in the order of the first set's type.
     ///
-    /// The shapes may differ, and both have to fit. Each word is computed when it is read. If the
-    /// words of the two sets differ in width or order, the second set's set bits in that word are
-    /// searched for one by one. Past its capacity the second set has no bit set. With capacity 0
-    /// nothing is set.
+    /// The sets may be of different types, and both have to fit (`bits_capacity() < u32::MAX`).
+    /// Each word is computed when it is read. If the words of the two sets differ in width or
+    /// order, the second set's set bits in that word are searched for one by one. Past its capacity
+    /// the second set has no bit set. With capacity 0 nothing is set.
     ///
     /// ```
     /// 0b0011u8.and(&0b0110u8).count_ones();               // 1
@@ -131,12 +131,13 @@ pub trait BitsViewExt: Bits {
         OfBoth::of_first(self, other)
     }
 
-    /// Returns a view of the indexes that are set in either of two sets whose words have one type.
-    /// The view is a set of the greater capacity, in the order of the first set's type.
+    /// Returns a view of the indexes that are set in either of two sets whose words have the same
+    /// type. The view is a set with the greater of the two capacities, in the order of the first
+    /// set's type.
     ///
-    /// Both shapes have to fit. Each word is computed when it is read. If the word types differ,
-    /// call [`or_unlike`](BitsViewExt::or_unlike). If both capacities are 0, the view is the empty
-    /// set.
+    /// Both sets have to fit (`bits_capacity() < u32::MAX`). Each word is computed when it is read.
+    /// If the word types differ, call [`or_unlike`](BitsViewExt::or_unlike). If both capacities are
+    /// 0, the view is the empty set.
     ///
     /// ```
     /// 0b0011u8.or(&[0b0110u8, 1]).iter_ones();            // yields 0, 1, 2, 8
@@ -169,7 +170,7 @@ pub trait BitsViewExt: Bits {
         OfBoth::of_alike(self, other)
     }
 
-    /// Returns a view of the indexes that are set in just one of two sets whose words have one
+    /// Returns a view of the indexes that are set in just one of two sets whose words have the same
     /// type. All else is as with [`or`](BitsViewExt::or).
     ///
     /// ```
@@ -208,11 +209,12 @@ pub trait BitsViewExt: Bits {
     /// type. The view is a set of words of the first set's type, in the order of the first set's
     /// type.
     ///
-    /// Both shapes have to fit. The capacity is the greater one, rounded up to whole words of the
-    /// first set. The rounded capacity has to be below `u32::MAX` too. The rounding adds bits only
-    /// if the words of the first set are wider. Each word is computed when it is read. If the words
-    /// differ in width or order, the second set's set bits in that word are searched for one by
-    /// one. If both capacities are 0, the view is the empty set.
+    /// Both sets have to fit (`bits_capacity() < u32::MAX`). The view's capacity is the greater of
+    /// the two, rounded up to whole words of the first set. The rounded capacity has to be below
+    /// `u32::MAX` too. The rounding adds bits only if the words of the first set are wider. Each
+    /// word is computed when it is read. If the words differ in width or order, the second set's
+    /// set bits in that word are searched for one by one. If both capacities are 0, the view is the
+    /// empty set.
     ///
     /// ```
     /// 0x8000_0000u32.or_unlike(&[0u8, 0, 0, 0, 1]).iter_ones(); // yields 31, 32

@@ -43,8 +43,8 @@ pub fn keep_below<B: BitsMut>(set: &mut B, bound: u32)
     set.retain(|index| index < bound);
 }
 
-/// Clears all bits but those for which a closure of the caller's returns `true`. The closure may be
-/// called at any index, so also at those below the capacity.
+/// Clears all bits but those for which a closure of the caller's returns `true`. The closure has to
+/// be callable with any index, which is more than `retain` requires.
 #[tactic(auto, using(bittle_ext::proofs::CallableBelow::always_below))]
 pub fn keep_those<B: BitsMut, E: Endian, F: FnMut(u32) -> bool>(set: &mut B, keep: F)
     requires fits { ShapeFits B.Shape set.old }
@@ -56,7 +56,8 @@ pub fn keep_those<B: BitsMut, E: Endian, F: FnMut(u32) -> bool>(set: &mut B, kee
     set.in_order_mut::<E>().retain(keep);
 }
 
-/// Sets the least unset bit, and returns it, or changes nothing and returns `None`.
+/// Sets the least unset bit, and returns its index. If each bit is set, it changes nothing and
+/// returns `None`.
 pub fn take_slot<B: BitsMut>(slots: &mut B) -> Option<u32>
     requires { ShapeFits B.Shape slots.old }
     ensures least { let free = complement (set_in B.Shape B.Order.Endian slots.old) in
@@ -88,7 +89,8 @@ pub fn unite<A: BitsMut, B: Bits>(set: &mut A, other: &B)
     set.extend(other.iter_ones());
 }
 
-/// Clears the least set bit, and returns it, or `None`. The type is bounded by the extension trait.
+/// Clears the least set bit, and returns its index, or `None` if no bit is set. The bound of the
+/// type is the extension trait.
 pub fn take_least_of<B: BitsMutExt>(set: &mut B) -> Option<u32>
     requires { ShapeFits B.Shape set.old }
     ensures least { let before = set_in B.Shape B.Order.Endian set.old in
@@ -98,7 +100,8 @@ pub fn take_least_of<B: BitsMutExt>(set: &mut B) -> Option<u32>
     set.pop_first()
 }
 
-/// Clears the bit at an index of `one`, gives `other` the value it had, and returns that value.
+/// Clears the bit at an index of `one`, and returns the value that it had. The bit of `other` at
+/// the index gets that value.
 pub fn hand_over<B: BitsMutExt>(one: &mut B, other: &mut B, index: u32) -> bool
     requires { IsTrue B.indexable }
     ensures was { result ≡ contains (set_in B.Shape B.Order.Endian one.old) index }

@@ -1,5 +1,5 @@
-//! A set that always has the members of another one, where both grow: the used blocks of a memory
-//! have the bad ones among them.
+//! A set that always includes another set, while both grow: all bad blocks of a memory are among
+//! its used blocks.
 
 ghost use Rattle.std.specs.Prelude.{◌≡◌, ◌+◌, ◌<◌, ◌≤◌, true, IfSome};
 ghost use Rattle.bittle.specs.BitPatterns.{bit_set};

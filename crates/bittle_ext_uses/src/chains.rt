@@ -2,8 +2,8 @@
 //! has a proof file.
 //!
 //! The check proves that the second call is allowed, or that the index lies in the table, from the
-//! contract of the first call alone. A function with a loop has no clause of its own, which would
-//! need an invariant.
+//! contract of the first call alone. A function with a loop has no clause of its own, since the
+//! proof of a clause would need an invariant.
 
 ghost use Rattle.std.specs.Prelude.{◌≡◌, ◌+◌, ◌<◌, ◌≤◌, ℕ, IfSome, MatchOption, Option};
 ghost use Rattle.std.specs.Prelude.{option_map, slice_get, slice_index, unwrap_or};
@@ -172,8 +172,8 @@ pub fn entry_of_count(mask: u64, index: u32, table: &[u32; 65]) -> u32
     table[mask.rank(index) as usize]
 }
 
-/// Finds the next set bit from `from` on, and returns where the run of set bits there ends, or
-/// `None`.
+/// Finds the next set bit from `from` on, and returns the next unset bit after it, where its run of
+/// set bits ends. Returns `None` if there is no such set bit, or no such unset bit.
 pub fn end_of_next_run<B: Bits>(set: &B, from: u32) -> Option<u32>
     requires { ShapeFits B.Shape set.now }
     ensures { IfSome result (λ end. (from < end) × (end < (B.big set.now).capacity)) }

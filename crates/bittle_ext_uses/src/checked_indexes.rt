@@ -57,7 +57,8 @@ pub fn is_set<B: Bits>(bits: &B, index: u32) -> Option<bool>
     bits.get_bit(index)
 }
 
-/// Sets a bit if the index is below the capacity. Returns `true`: the bit is set, or there is none.
+/// Sets a bit if the index is below the capacity. Returns `true`: either the bit is set then, or
+/// there is no such bit.
 #[tactic(auto, using(bittle::proofs::CallerChanges::contains_with))]
 pub fn set_checked(mask: u64, index: u32) -> bool
     ensures { result ≡ true }

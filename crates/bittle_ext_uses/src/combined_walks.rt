@@ -78,8 +78,8 @@ pub fn last_entry(one: u64, other: u64, table: &[u32; 64]) -> u32
     }
 }
 
-/// Counts the bits that are set in either of two words, and returns the word of them. The count
-/// uses up a clone of the iterator, which stays as it was.
+/// Returns how many bits are set in either of two words, and a word of these bits. The count uses
+/// up a clone of the iterator, so the iterator itself stays as it was.
 pub fn counted(one: u16, other: u16) -> (usize, u16)
     ensures count { result.0 ≡ length (ascending (either_of (bit_set 16 one) (bit_set 16 other))) }
     ensures word { bit_set 16 result.1 ≡ fold with_index (empty_set 16)

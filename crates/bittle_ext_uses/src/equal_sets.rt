@@ -5,7 +5,7 @@ ghost use Rattle.bittle.specs.BitPatterns.{bit_set};
 
 use bittle::{Bits, BitsMut, BitsOwned};
 
-/// Copies a set by a loop over all numbers, as a caller may who also does something else with each.
+/// Copies a set by a loop over all numbers. Such a loop is of use if it does more with each number.
 pub fn copied(from: u64) -> u64
     ensures { bit_set 64 result ≡ bit_set 64 from }
 {

@@ -1,6 +1,6 @@
-//! A set with fewer members than its words have bits: a field of 200 cells in 256 bits. A ghost
-//! field of the type promises that no bit past the last cell is set. Only `join` and `size` have a
-//! proof file.
+//! A set that uses only some bits of its words: a board of 200 cells in 256 bits. A ghost field of
+//! the type promises that no bit past the last cell is set. Only `join` and `size` have a proof
+//! file.
 
 ghost use Rattle.std.specs.Prelude.{◌≡◌, ◌<◌, ◌≤◌, min, true, false, IfSome};
 ghost use Rattle.bittle.specs.BitPatterns.{bit_set};
@@ -52,7 +52,7 @@ impl Field {
         self.cells.clear_bit(cell);
     }
 
-    /// Fills the first `cells` cells of the lowest row, or all ten.
+    /// Fills the first `cells` cells of the lowest row, or all ten if `cells` is greater than ten.
     #[tactic(auto, using(bittle_ext::proofs::UnsetSpans::lacks_span_after_set_span))]
     pub fn fill_first(&mut self, cells: u32)
         ensures { row_set 4 64 (bit_set 64) self.new.cells

@@ -1,5 +1,6 @@
-//! Forms that one writes first. The check refuses two others: a `return` from a `for` with an index
-//! of a row, and a closure over an iterator. For these, the shortest form that it accepts is here.
+//! Code in the form that a caller writes first. The check refuses two other forms: a `return` in a
+//! `for` loop that indexes a row, and a closure that indexes a row in a method of an iterator. For
+//! these two, the shortest form that the check accepts is here.
 
 ghost use Rattle.std.specs.Prelude.{◌*◌, ◌<◌, false, length, slice_index_or};
 ghost use Rattle.bittle.specs.BitPatterns.{bit_set};
@@ -17,7 +18,7 @@ pub struct Lent<'a> {
 }
 
 impl<'a> Lent<'a> {
-    /// Clears the least set bit, and returns it, or `None`.
+    /// Clears the least set bit, and returns its index, or `None` if no bit is set.
     pub fn take_least(&mut self) -> Option<u32>
         requires { length self.old.words.now * 64 < 4294967295 }
         ensures { IsFirstIn (row_set (length self.old.words.now) 64 (bit_set 64) self.old.words.now)
@@ -27,7 +28,7 @@ impl<'a> Lent<'a> {
     }
 }
 
-/// Returns the first set bit that a row marks, by a loop that also visits the others.
+/// Returns the first set bit that a row marks, by a loop that visits all set bits.
 pub fn first_marked(mask: u64, row: &[bool; 64]) -> Option<u32> {
     let mut found = None;
     for index in mask.iter_ones() {
@@ -49,7 +50,7 @@ pub fn first_of_marked(mask: u64, row: &[bool; 64]) -> Option<u32>
     marked.first_one()
 }
 
-/// Adds up the entries of a row at the set bits, which it takes out of a copy one by one.
+/// Adds up the entries of a row at the set bits. It clears these bits in a copy, one by one.
 pub fn sum_by_pops(mask: u64, row: &[u32; 64]) -> u32 {
     let mut rest = mask;
     let mut sum = 0u32;

@@ -1,5 +1,5 @@
-//! What a search or a test of a range tells of single bits. Lemmas in the attribute prove
-//! `first_open_bay` and `first_missing`. The others have a short answer for each open goal.
+//! What a search or a test of a range tells of single bits. The lemmas that an attribute names
+//! prove `first_open_bay` and `first_missing`. Each other function has a short proof file.
 
 ghost use Rattle.std.specs.Prelude.{◌≡◌, ◌↔◌, ◌+◌, ◌<◌, ◌≤◌, ◌||◌, ℕ, true, false, IfSome, IsTrue};
 ghost use Rattle.std.specs.Prelude.{MatchOption};

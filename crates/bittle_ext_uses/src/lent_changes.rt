@@ -49,7 +49,8 @@ pub fn add(words: &mut [u64], index: u32) -> bool
     lent.0.insert(index)
 }
 
-/// Clears the least set bit, and returns it, or changes nothing and returns `None`.
+/// Clears the least set bit, and returns its index. If no bit is set, it changes nothing and
+/// returns `None`.
 pub fn take_least(words: &mut [u64]) -> Option<u32>
     requires { length words.old * 64 < 4294967295 }
     ensures least { IsFirstIn (row_set (length words.old) 64 (bit_set 64) words.old)
@@ -85,7 +86,7 @@ pub fn add_in<B: BitsMut, E: Endian>(set: &mut B, index: u32) -> bool
 }
 
 /// Sets a bit of a slice of any length, counted from the left, and returns whether it was unset.
-/// The change through a view is in the caller's slice.
+/// The call changes the caller's slice through a view.
 pub fn add_le(words: &mut [u64], index: u32) -> bool
     ensures was_unset { result ≡ not (contains (read_in true 64
         (row_set (length words.old) 64 (bit_set 64) words.old)) index) }

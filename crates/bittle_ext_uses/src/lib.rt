@@ -1,6 +1,6 @@
 //! Callers of the everyday calls, each proved from public contracts. Most have no proof file. The
-//! others give a measure or an invariant of a loop, or short answers, as `one_line` and
-//! `found_bits` do.
+//! proof files of the others have the measure or the invariant of a loop, or a few lines for a
+//! clause, as for `one_line` and `found_bits`.
 #![tactic(auto)]
 
 pub mod any_changes;

@@ -1,5 +1,5 @@
-//! Sets and lists of their members: what is known of each number of a list once its bits are set,
-//! and a slice that the least members are written into.
+//! Sets and lists of their members. The contracts say what is known of each number of a list once
+//! the bits at these numbers are set. One function writes the least members into a slice.
 
 ghost use Rattle.std.specs.List.{All};
 ghost use Rattle.std.specs.Prelude.{◌≡◌, ◌<◌, ℕ, min, length, get_or, true};

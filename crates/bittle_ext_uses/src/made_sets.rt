@@ -87,7 +87,7 @@ pub fn of_vec(indexes: Vec<u32>) -> u64
     u64::from_iter(indexes)
 }
 
-/// Returns the word of a borrowed set, which is read from the left.
+/// Returns a longer word with the members of a borrowed set, which is read from the left.
 pub fn of_set(set: &Set<u8, LittleEndian>) -> u64
     ensures { bit_set 64 result ≡ fold with_index (empty_set 64)
         (ascending (read_in true 8 (bit_set 8 set.now.bits))) }

@@ -93,7 +93,7 @@ impl Board {
         self.mines.clear_bit(square);
     }
 
-    /// Returns whether there is a mine at a square. A shown square has none.
+    /// Returns whether there is a mine at a square. A square that is shown has no mine.
     #[tactic(auto, using(bittle_lemmas::proofs::ExcludedSets::unset_if_excluding))]
     pub fn has_mine(&self, square: u32) -> bool
         ensures mine { result ≡ contains (bit_set 64 self.now.mines) square }
@@ -114,7 +114,7 @@ impl Board {
         if self.mines.test_bit(square) { 2 } else { 0 }
     }
 
-    /// Returns whether a square is shown. A square with a mine is not.
+    /// Returns whether a square is shown. A square with a mine is not shown.
     #[tactic(auto, using(bittle_lemmas::proofs::ExcludedSets::unset_if_excluded))]
     pub fn is_shown(&self, square: u32) -> bool
         ensures shown { result ≡ contains (bit_set 64 self.now.shown) square }

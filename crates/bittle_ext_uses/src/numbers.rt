@@ -73,7 +73,7 @@ pub fn length_of(packet: &[u8; 8]) -> u16
     bits
 }
 
-/// Copies 70 bits of a set into a lent slice, from index 30 on.
+/// Copies the 70 bits of a set from `start` on into a lent slice, from index 30 of the slice on.
 pub fn paste<B: Bits>(words: &mut [u64], from: &B, start: u32)
     requires long { 2 ≤ length words.old }
     requires fits { length words.old * 64 < 4294967295 }
@@ -87,7 +87,8 @@ pub fn paste<B: Bits>(words: &mut [u64], from: &B, start: u32)
     set.copy_range(from, start, start + 70, 30);
 }
 
-/// Copies a range between any two sets, and returns whether bit `index` of it is set.
+/// Copies a range of 16 bits between any two sets, and returns whether bit `index` of the range is
+/// set.
 pub fn is_pasted<A: BitsMut, B: Bits>(set: &mut A, from: &B, index: u32) -> bool
     requires fits { ShapeFits A.Shape set.old }
     requires from_fits { ShapeFits B.Shape from.now }

@@ -32,7 +32,7 @@ pub fn mark_new(row: &mut [u64; 4], index: u32)
     row.set_bit(index);
 }
 
-/// Sets the bits of a list. At most as many more are set as the list has items.
+/// Sets the bits of a list. The number of set bits grows at most by the length of the list.
 pub fn mark_all(row: &mut [u64; 4], indexes: &[u32])
     ensures { size (row_set 4 64 (bit_set 64) row.new)
         ≤ size (row_set 4 64 (bit_set 64) row.old) + length indexes.now }
@@ -40,7 +40,8 @@ pub fn mark_all(row: &mut [u64; 4], indexes: &[u32])
     row.insert_all(indexes);
 }
 
-/// Sets the bits of a range in which none is set. As many more are set as the range has.
+/// Sets the bits of a range in which no bit is set. The number of set bits grows by the length of
+/// the range.
 pub fn fill_free(row: &mut [u64; 4], from: u32, to: u32)
     requires ordered { from ≤ to }
     requires within { to ≤ 256 }
@@ -51,7 +52,7 @@ pub fn fill_free(row: &mut [u64; 4], from: u32, to: u32)
     row.set_range(from, to);
 }
 
-/// Returns the first hour that is not taken. Each hour before it is.
+/// Returns the first hour that is not taken. Each hour before it is taken.
 #[tactic(auto, using(bittle_ext::proofs::CallerMembers::unset_where_found))]
 pub fn free_hour(taken: u32) -> Option<u32>
     ensures unset { IfSome result (λ hour. contains (bit_set 32 taken) hour ≡ false) }

@@ -1,5 +1,5 @@
-//! Loops that take the set bits out one by one, as one writes them. Each has one line of proof, its
-//! measure: the size of the set, which each turn makes one less.
+//! Loops that clear the set bits one by one. The proof of each loop is one line, its measure: the
+//! number of set bits, which each turn makes one less.
 
 ghost use Rattle.std.specs.Prelude.{◌≡◌, length};
 ghost use Rattle.bittle.specs.BitPatterns.{bit_set};

@@ -24,7 +24,8 @@ pub fn count_walked(mask: u64, from: u32, to: u32) -> usize
     mask.iter_ones_in_range(from, to).count()
 }
 
-/// Counts the unset bits of a range in two ways. They agree in any set and any order.
+/// Counts the unset bits of a range in two ways. The two counts are equal, for any set and any
+/// order.
 pub fn count_twice<B: Bits, E: Endian>(set: &B, from: u32, to: u32) -> (usize, u32)
     requires fits { ShapeFits B.Shape set.now }
     requires ordered { from ≤ to }
@@ -51,8 +52,8 @@ pub fn last_entry(mask: u64, from: u32, to: u32, table: &[u32; 64]) -> u32
     }
 }
 
-/// Returns the entry of a window at the last unset bit of a range, or 0. No item lies before the
-/// window.
+/// Returns the entry of a window at the last unset bit of a range, or 0. Entry 0 of the window is
+/// for the first index of the range, 16.
 pub fn last_in_window(mask: u64, window: &[u32; 16]) -> u32
     ensures { (last : Option ℕ) × (rest : List ℕ)
         × YieldsLast (λ items. items)
@@ -66,15 +67,15 @@ pub fn last_in_window(mask: u64, window: &[u32; 16]) -> u32
 }
 
 /// Marks each entry of a window at an unset bit of a range. It has no clause of its own. The check
-/// proves that no item lies before the window or past it.
+/// proves that each item of the iterator has an entry in the window.
 pub fn mark_free(mask: u64, window: &mut [bool; 16]) {
     for index in mask.iter_zeros_in_range(16, 32) {
         window[index as usize - 16] = true;
     }
 }
 
-/// Counts the set bits of a range, and returns the word of them. The count uses up a clone of the
-/// iterator, which stays as it was.
+/// Returns how many bits of a range are set, and a word of these bits. The count uses up a clone of
+/// the iterator, so the iterator itself stays as it was.
 pub fn counted(mask: u16, from: u32, to: u32) -> (usize, u16)
     requires ordered { from ≤ to }
     requires within { to ≤ 16 }
@@ -117,7 +118,7 @@ pub fn free_ends<B: Bits, E: Endian>(set: &B, from: u32, to: u32) -> (Option<u32
     (walk.next(), walk.next_back())
 }
 
-/// Returns an iterator over the unset bits in a range of any set. It borrows the set alone.
+/// Returns an iterator over the unset bits in a range of any set. It borrows nothing but the set.
 pub fn iter_free<'a, B: Bits>(set: &'a B, from: u32, to: u32) -> IterZerosInRange<'a, B, B::Order>
     requires fits { ShapeFits B.Shape set.now }
     requires ordered { from ≤ to }

@@ -1,4 +1,4 @@
-//! Reading calls, of words, of longer shapes and of any shape.
+//! Calls that read words, longer shapes and any shape.
 
 ghost use Rattle.std.specs.Prelude.{◌≡◌, ◌↔◌, ◌+◌, ◌-◌, ◌/◌, ◌<◌, ◌≤◌, ℕ, true, IsTrue};
 ghost use Rattle.std.specs.Prelude.{MatchBool, MatchOption, Option, Some, slice_get};
@@ -123,7 +123,7 @@ pub fn free_from<B: Bits>(pages: &B, from: u32, length: u32) -> Option<u32>
     pages.next_zero_run(from, length)
 }
 
-/// Returns the median set bit, or `None` where no bit is set.
+/// Returns the median set bit, or `None` if no bit is set.
 pub fn middle<B: Bits, E: Endian>(set: &B) -> Option<u32>
     requires { ShapeFits B.Shape set.now }
     ensures { result ≡ slice_get (ascending (set_in B.Shape E.Endian set.now))
@@ -182,7 +182,7 @@ pub fn first_of_both<A: Bits, B: Bits>(one: &A, other: &B) -> Option<u32>
     one.first_common(other)
 }
 
-/// Returns the least set bit. The type is bounded by the extension trait.
+/// Returns the least set bit. The bound of the type is the extension trait.
 pub fn least_of<B: BitsExt>(set: &B) -> Option<u32>
     requires { ShapeFits B.Shape set.now }
     ensures { let ours = set_in B.Shape B.Order.Endian set.now in

@@ -99,7 +99,7 @@ pub fn right_numbers(ticket: u64, drawn: u64) -> u32
     ticket.count_common(&drawn)
 }
 
-/// Counts the indexes of a row that are not set in both it and another set.
+/// Counts the bits of a row, except those that are set both in it and in another set.
 pub fn others(row: &[u32; 2], other: &u8) -> u32
     ensures { result ≤ 64 }
 {

@@ -13,7 +13,7 @@ ghost use Rattle.bittle_ext.specs.Calls.{IsCallableBelow};
 use bittle::{BitsMut, Set};
 use bittle_ext::prelude::*;
 
-/// Keeps the bits that a table marks, which has an entry for each index, and clears all others.
+/// Keeps the bits that a table marks, and clears all others. The table has an entry for each index.
 pub fn keep_marked(mask: &mut u64, table: &[bool; 64])
     ensures { bit_set 64 mask.new
         ≡ those_passing (λ i. slice_index_or table.now i false) (bit_set 64 mask.old) }

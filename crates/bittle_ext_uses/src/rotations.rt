@@ -10,7 +10,7 @@ ghost use Rattle.bittle_ext.specs.Rotations.{rotated_up, shifted_down, shifted_u
 use bittle::{Bits, Endian, Set};
 use bittle_ext::{BitsOwnedExt, BitsShiftExt};
 
-/// Returns a chess board with each piece one rank up. Those of the last rank leave the board.
+/// Returns a chess board with each piece one rank up. Pieces of the last rank leave the board.
 pub fn one_rank_up(board: u64) -> u64
     ensures first_rank { (i : ℕ) → i < 8 → contains (bit_set 64 result) i ≡ false }
     ensures others { (i : ℕ) → i + 8 < 64 →
@@ -19,7 +19,7 @@ pub fn one_rank_up(board: u64) -> u64
     board.shifted_up(8)
 }
 
-/// Returns a chess board with each piece one rank down. The clause is the call's own.
+/// Returns a chess board with each piece one rank down. The clause is that of `shifted_down`.
 pub fn one_rank_down(board: u64) -> u64
     ensures { bit_set 64 result ≡ shifted_down (bit_set 64 board) 8 }
 {
@@ -41,7 +41,7 @@ pub fn counted_from(ring: u16, first: u32) -> u16
     ring.rotated_down(first)
 }
 
-/// Returns a set that is rotated up and then down by as much, so it has the same bits.
+/// Rotates a set up, and then down by the same number of places. The result has the same bits set.
 pub fn there_and_back<B: BitsOwnedExt>(ring: B, by: u32) -> B
     requires { IsTrue B.indexable }
     ensures { (i : ℕ) → contains (set_in B.Shape B.Order.Endian result) i

@@ -58,8 +58,8 @@ pub fn longest(mask: u64) -> u32
     longest
 }
 
-/// Sets each run of a mask's set bits in a row. The check proves that a run ends at most at the
-/// capacity.
+/// Sets in a row all bits that are set in a mask, run by run. The check proves that no run ends
+/// past the capacity.
 pub fn set_runs(mask: u16, row: &mut [u8; 2]) {
     for run in mask.iter_one_runs() {
         row.set_range(run.start, run.end);

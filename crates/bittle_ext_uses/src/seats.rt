@@ -1,5 +1,5 @@
-//! A set that always has the members of another one, as the taken seats of a hall have the reserved
-//! ones. A ghost field of the type promises that. None of its functions has a proof file.
+//! A set that always includes another set: all reserved seats of a hall are among the taken seats.
+//! A ghost field of the type promises that. None of its functions has a proof file.
 
 ghost use Rattle.std.specs.Prelude.{◌≡◌, ◌&&◌, fold, not, true, false, IfSome};
 ghost use Rattle.bittle.specs.BitPatterns.{bit_set};
@@ -32,7 +32,7 @@ impl Seats {
         }
     }
 
-    /// Takes the first free seat, which is not reserved. Returns `None` if all are taken.
+    /// Takes the first free seat, which is never a reserved one. Returns `None` if all are taken.
     #[tactic(auto, using(bittle_ext::proofs::IncludedSets::includes_after_set, bittle_ext::proofs::IncludedSets::not_included_if_unset, bittle_ext::proofs::CallerMembers::unset_where_found))]
     pub fn take(&mut self) -> Option<u32>
         ensures first { IsFirstIn (complement (row_set 4 64 (bit_set 64) self.old.taken)) 0 256
@@ -70,7 +70,7 @@ impl Seats {
         !self.reserved.test_bit(seat) && self.taken.remove(seat)
     }
 
-    /// Returns whether a seat is taken. A reserved seat always is.
+    /// Returns whether a seat is taken. A reserved seat is always taken.
     #[tactic(auto, using(bittle_ext::proofs::IncludedSets::set_if_included))]
     pub fn is_taken(&self, seat: u32) -> bool
         ensures taken { result ≡ contains (row_set 4 64 (bit_set 64) self.now.taken) seat }

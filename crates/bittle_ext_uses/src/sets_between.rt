@@ -1,4 +1,4 @@
-//! Sets that are changed by sets of other shapes, and what the calls tell of the change.
+//! Changes of a set by a set of another shape, and what the calls return about the change.
 
 ghost use Rattle.std.specs.Prelude.{◌≡◌, ◌↔◌, ◌<◌, ◌≤◌, ◌+◌, ◌*◌, ◌||◌, ◌&&◌, ℕ, false, length};
 ghost use Rattle.std.specs.Prelude.{slice_get, IfSome, IsTrue};
@@ -36,7 +36,7 @@ pub fn flow(before: &mut u64, after: u64, defined: &[u8; 8]) -> bool
     before.union_with(&after.minus(defined))
 }
 
-/// Returns whether a task is in a copy of a mask with fewer bits.
+/// Copies a mask into a longer word, and returns whether a task is in the copy.
 pub fn is_copied(more: u32, task: u32) -> bool
     requires { task < 64 }
     ensures { result ≡ (bit_set 32 more).has task }
@@ -46,8 +46,8 @@ pub fn is_copied(more: u32, task: u32) -> bool
     all.test_bit(task)
 }
 
-/// Clears the bits of any set that are set in another one, both read in one order, and returns
-/// whether any was set.
+/// Clears in any set the bits that are set in another set, and returns whether the set changed.
+/// Both sets are read in one order.
 pub fn take_out<A: BitsMut, B: Bits, E: Endian>(set: &mut A, other: &B) -> bool
     requires fits { ShapeFits A.Shape set.old }
     requires other_fits { ShapeFits B.Shape other.now }
@@ -63,7 +63,7 @@ pub fn take_out<A: BitsMut, B: Bits, E: Endian>(set: &mut A, other: &B) -> bool
 }
 
 /// Removes the tasks that are done from those that are left, and returns how many are left then.
-/// These are no more than before.
+/// There are no more of them than before.
 pub fn finish(left: &mut u64, done: &[u8; 8]) -> u32
     ensures count { result ≡ size (bit_set 64 left.new) }
     ensures at_most { result ≤ size (bit_set 64 left.old) }
@@ -72,7 +72,7 @@ pub fn finish(left: &mut u64, done: &[u8; 8]) -> u32
     Bits::count_ones(left)
 }
 
-/// Adds the roles of a word to those of a lent slice, and returns whether it changed.
+/// Adds the roles of a word to those of a lent slice, and returns whether the slice changed.
 pub fn grant(roles: &mut [u64], word: u32) -> bool
     requires { length roles.old * 64 < 4294967295 }
     ensures { row_set (length roles.new) 64 (bit_set 64) roles.new
@@ -168,8 +168,8 @@ pub fn free_below(taken: &[u64; 8], page: u32) -> u32
     taken.rank_zero(page)
 }
 
-/// Adds the lines that another run covered, and returns whether one of them is new. The clause on
-/// single lines says `contains` of this set, and `has` of the other one.
+/// Adds the lines that another run covered, and returns whether one of them is new. The clause for
+/// each line uses `contains` for this set, and `has` for the other one.
 pub fn cover(lines: &mut [u64; 8], other: &[u64; 8]) -> bool
     ensures each { (k : ℕ) → k < 512 → contains (row_set 8 64 (bit_set 64) lines.new) k
         ≡ (contains (row_set 8 64 (bit_set 64) lines.old) k
@@ -193,7 +193,7 @@ fn has_with<A: BitsMut, B: Bits>(set: &mut A, other: &B, index: u32) -> bool
     set.test_bit(index)
 }
 
-/// Adds the roles of a word to a mask, and returns whether the mask has a role then.
+/// Adds the roles of a word to a mask, and returns whether the mask then has the role `role`.
 pub fn has_role_with(mask: &mut u64, word: u32, role: u32) -> bool
     requires { role < 64 }
     ensures { result ≡ (contains (bit_set 64 mask.old) role || (bit_set 32 word).has role) }
@@ -214,7 +214,7 @@ fn has_within<A: BitsMut, B: Bits>(set: &mut A, other: &B, index: u32) -> bool
     set.test_bit(index)
 }
 
-/// Removes the roles that a word lacks from a mask, and returns whether the mask has a role then.
+/// Removes from a mask the roles that a word lacks. Returns whether the mask then has `role`.
 pub fn has_role_within(mask: &mut [u64; 4], word: u32, role: u32) -> bool
     requires { role < 256 }
     ensures { result ≡ (contains (row_set 4 64 (bit_set 64) mask.old) role

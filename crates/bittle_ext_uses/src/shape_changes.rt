@@ -11,7 +11,7 @@ ghost use Rattle.bittle.specs.Searches.{IsFirstIn};
 use bittle::{LittleEndian, Set};
 use bittle_ext::{BitsMutExt, BitsOwnedExt};
 
-/// Takes the least priority that is ready, or changes nothing and returns `None`.
+/// Takes the least ready priority. If none is ready, it changes nothing and returns `None`.
 pub fn take(mask: &mut [u64; 4]) -> Option<u32>
     ensures least { IsFirstIn (row_set 4 64 (bit_set 64) mask.old) 0 256 result }
     ensures mask { MatchOption result (mask.new ≡ mask.old)
@@ -21,7 +21,7 @@ pub fn take(mask: &mut [u64; 4]) -> Option<u32>
     mask.pop_first()
 }
 
-/// Takes the least free page, or changes nothing and returns `None`.
+/// Takes the least free page. If none is free, it changes nothing and returns `None`.
 pub fn take_page(pages: &mut [u32; 8]) -> Option<u32>
     ensures least { IsFirstIn (complement (row_set 8 32 (bit_set 32) pages.old)) 0 256 result }
     ensures taken { MatchOption result (pages.new ≡ pages.old)

@@ -1,5 +1,5 @@
-//! A call that returns an enum of the caller's own. Its clause is a definition by cases in
-//! `specs/Shots.antt`: what each variant says.
+//! A function that returns an enum of the caller's own. Its clause uses a definition by cases in
+//! `specs/Shots.antt`, which says what each variant means.
 
 ghost use Rattle.std.specs.Prelude.{◌≡◌};
 ghost use Rattle.bittle.specs.BitPatterns.{bit_set};

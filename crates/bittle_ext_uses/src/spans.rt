@@ -1,4 +1,5 @@
-//! Ranges of a set, written as Rust ranges. A call that only reads has no condition on their ends.
+//! Ranges of a set, written as Rust ranges. A call that only reads has no condition on the ends of
+//! a range.
 
 ghost use Rattle.std.specs.Prelude.{◌≡◌, ◌+◌, ◌-◌, ◌<◌, ◌≤◌, true, IsTrue, MatchBool, ◌↔◌};
 ghost use Rattle.std.specs.Prelude.{option_map, slice_index, unwrap_or, ℕ, Option};
@@ -137,7 +138,7 @@ pub fn count_in<B: Bits, R: RangeBounds<u32>>(set: &B, range: R) -> u32
     set.count_ones_in_span(range)
 }
 
-/// Sets a range, clears what follows it, and flips the first half.
+/// Sets a range, clears all bits after it, and flips the first half of the word.
 pub fn rearrange(mask: &mut u64)
     ensures { bit_set 64 mask.new ≡ with_span_toggled
         (without_span (with_span (bit_set 64 mask.old) 3 41) 41 64) 0 32 }

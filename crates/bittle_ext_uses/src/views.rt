@@ -125,7 +125,7 @@ pub fn rank_of_both(one: u64, other: u64, index: u32) -> u32
     one.and(&other).rank(index)
 }
 
-/// Returns where the first run of `length` numbers begins that are free in both maps.
+/// Returns where the first run of `length` numbers that are free in both maps begins.
 #[tactic(auto, using(bittle_ext::proofs::RunFacts::first_run_of_same))]
 pub fn free_in_both(one: u64, other: u64, length: u32) -> Option<u32>
     ensures { IsFirstRun (complement (either_of (bit_set 64 one) (bit_set 64 other))) 0 length
@@ -144,7 +144,7 @@ pub fn free_lots(taken: [u64; 4], lots: u32) -> Option<u32>
     free.within(0, 200).first_one_run(lots)
 }
 
-/// Returns where the first run of `length` numbers begins that are in both maps.
+/// Returns where the first run of `length` numbers that are in both maps begins.
 #[tactic(auto, using(bittle_ext::proofs::RunFacts::first_set_run_of_same))]
 pub fn run_in_both(one: u64, other: u64, length: u32) -> Option<u32>
     ensures { IsFirstRun (both_of (bit_set 64 one) (bit_set 64 other)) 0 length result }
@@ -248,7 +248,7 @@ pub fn sum_joined(one: u64, other: u64, table: &[u32; 64]) -> u64 {
     total
 }
 
-/// Adds up the indexes that are set in both of two slices.
+/// Adds up the indexes of the bits that are set in both of two slices.
 pub fn sum_of_slices<'a>(left: &'a [u64], right: &'a [u64]) -> u64
     requires left_fits { ShapeFits ⟦<&'a [u64] as Shape>⟧ left }
     requires right_fits { ShapeFits ⟦<&'a [u64] as Shape>⟧ right }
@@ -289,8 +289,8 @@ pub fn first_free(one: u64, other: u64) -> Option<u32>
     one.or(&other).first_zero()
 }
 
-/// Returns the least number that is in neither set. A clause for each set says that its bit is
-/// unset.
+/// Returns the least number that is in neither set. Two clauses say that the number is not in the
+/// one set, and not in the other.
 #[tactic(auto, using(bittle_lemmas::proofs::FoundNumbers::unset_in_first, bittle_lemmas::proofs::FoundNumbers::unset_in_second))]
 pub fn unset_in_both(one: u64, other: u64) -> Option<u32>
     ensures one { IfSome result (λ number. contains (bit_set 64 one) number ≡ false) }

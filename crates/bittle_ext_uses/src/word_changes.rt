@@ -31,7 +31,7 @@ pub fn take_away(mask: &mut i64, index: u32) -> bool
     mask.remove(index)
 }
 
-/// Sets or clears a bit from the left, and returns whether it was set.
+/// Sets or clears a bit, which is counted from the left, and returns whether it was set.
 pub fn put(mask: &mut u8, index: u32, value: bool) -> bool
     ensures was { result ≡ contains (read_in true 8 (bit_set 8 mask.old)) index }
     ensures set { read_in true 8 (bit_set 8 mask.new)
@@ -108,7 +108,8 @@ pub fn keep_even(mask: &mut u64)
     mask.retain(|index| index % 2 == 0);
 }
 
-/// Clears the least set bit, and returns it, or changes nothing and returns `None`.
+/// Clears the least set bit, and returns its index. If no bit is set, it changes nothing and
+/// returns `None`.
 pub fn take_least(mask: &mut u128) -> Option<u32>
     ensures least { IsFirstIn (bit_set 128 mask.old) 0 128 result }
     ensures set { MatchOption result (mask.new ≡ mask.old)
@@ -117,14 +118,15 @@ pub fn take_least(mask: &mut u128) -> Option<u32>
     mask.pop_first()
 }
 
-/// Clears the greatest set bit, counted from the left, and returns it, or `None`.
+/// Clears the greatest set bit, counted from the left, and returns its index, or `None` if no bit
+/// is set.
 pub fn take_greatest_le(mask: &mut u8) -> Option<u32>
     ensures greatest { IsLastIn (read_in true 8 (bit_set 8 mask.old)) 0 8 result }
 {
     mask.in_order_mut::<LittleEndian>().pop_last()
 }
 
-/// Takes the least free slot, or changes nothing and returns `None`.
+/// Takes the least free slot. If no slot is free, it changes nothing and returns `None`.
 pub fn take_slot(slots: &mut u32) -> Option<u32>
     ensures least { IsFirstIn (complement (bit_set 32 slots.old)) 0 32 result }
     ensures taken { MatchOption result (slots.new ≡ slots.old)

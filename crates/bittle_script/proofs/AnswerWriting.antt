@@ -1,4 +1,4 @@
--- Answers that an output got.
+-- How many of the answers an output got: all, or a beginning of them.
 use Rattle.std.proofs.Common.{◌≡◌, ℕ, List, ◌∷◌, ◌++◌, length, sym, ap, ◌∙◌, false, refl, true≢false, Result, Ok, Err, Some, None}
 use Rattle.std.specs.Prelude.{Option, IsErr, ◌==◌, if◌then◌else◌}
 use Rattle.bittle.specs.PlainSet.{PlainSet}

@@ -28,7 +28,8 @@ by_first_byte false b [] h = refl
 by_first_byte false b (d ∷ ds) h = ap (onto_first b) (h (omega arith))
     ∙ shift (end_of_line (d ∷ ds)) b (d ∷ ds)
 
--- the lines of a text are the one up to the first byte 10, and those of what follows it
+-- the lines of a text are the bytes up to the first byte 10, and then the lines of the text after
+-- it
 pub lines_by_first : (text : List ℕ) → 0 < length text →
     lines_of text ≡ take (end_of_line text) text ∷ lines_of (drop (end_of_line text + 1) text)
 lines_by_first [] some = absurd (omega arith)

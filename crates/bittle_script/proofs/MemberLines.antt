@@ -13,7 +13,7 @@ abbrev pub spaced_numbers : List ℕ → List ℕ → List ℕ
 spaced_numbers before [] = []
 spaced_numbers before (n ∷ ns) = (before ++ decimal n) ++ flat_map spaced_number ns
 
--- numbers with one space between are the first one, and each other one after a space
+-- numbers with one space between two are the first number, then each other number after a space
 pub join_by-spaced_numbers : (ns : List ℕ) → join_by decimal (codes " ") ns ≡ spaced_numbers [] ns
 join_by-spaced_numbers [] = refl
 join_by-spaced_numbers (n ∷ ns) = refl

@@ -1,4 +1,4 @@
-//! What a line asks for.
+//! The commands of a script, and how a line is read as a command.
 ghost use Rattle.std.specs.Prelude.{◌≡◌};
 ghost use Rattle.std.specs.Char.{is_ascii_digit};
 ghost use Rattle.std.specs.List.{list_all};
@@ -6,7 +6,7 @@ ghost use Rattle.bittle_script.specs.Numbers.{number_of};
 
 use std::str::from_utf8;
 
-/// What a line asks for.
+/// A command of a script. Each command is one line.
 #[derive(Clone, Copy)]
 pub enum Command {
     /// Sets the bit at an index.

@@ -37,7 +37,7 @@ not_some : (b : Bool) → not b ≡ false → b ≡ true
 not_some true h = refl
 not_some false h = absurd (true≢false h)
 
--- if a summary of d numbers reaches the capacity, the number of a word is at most d
+-- if d words reach the capacity, and word k begins at or below it, k is at most d
 pub reaches : (w k c own d : ℕ) → 0 < w → k * w ≤ c → c ≡ own → own ≤ d * w → k ≤ d
 reaches w k c own d word within is reach =
     let h : k * w ≤ d * w = omega (arith, within, is, reach) in le_of_mul-le-mul_right h word
@@ -115,7 +115,7 @@ none_passes : (p : ℕ → Bool) (c i : ℕ) → count_below c p ≡ 0 → i < c
 none_passes p c i none l =
     false_by (p i) (λ e. absurd (omega (arith, count-some c i p l e, none)))
 
--- if `some_in_word` is false, no number of the word is a bit of the kind
+-- if `some_in_word` is false, no bit of the word is of the kind
 pub none_in_word : (ones : Bool) (w k : ℕ) (s : PlainSet) → k * w + w ≤ s.capacity →
     some_in_word ones w s k ≡ false → NoneIn (ones_or_zeros ones s) (k * w) (k * w + w)
 unfolding some_in_word
@@ -127,7 +127,7 @@ none_in_word ones w k s within told = λ n lo hi.
     rw back at (sym (word_has-at w (ones_or_zeros ones s) k (n - k * w) (omega arith))
     ∙ none_passes (word_has w (ones_or_zeros ones s) k) w (n - k * w) empty (omega arith))
 
--- of two equal words, both have a bit of the kind or neither has
+-- if two words are equal, both have a bit of the kind or neither has
 pub some_in_same : (ones : Bool) (w k : ℕ) (s t : PlainSet) → word_of w s k ≡ word_of w t k →
     some_in_word ones w s k ≡ some_in_word ones w t k
 unfolding some_in_word
@@ -166,7 +166,7 @@ module _ (ones : Bool) (w : ℕ) (s t : PlainSet) (word : 0 < w)
       (sym (tells k starts) ∙ none k from below) n
       (omega (arith, split)) (omega (arith, split, part))
 
-  -- the same holds if some of the words are past the set
+  -- `none_in_words` also if some of the words are past the set
   none_in_any : ((i : ℕ) → s.capacity ≤ i → s.has i ≡ false) → (low high : ℕ) →
       NoneIn t low high → NoneIn (ones_or_zeros ones s) (low * w) (high * w)
   none_in_any past low high none = λ n lo hi. elim (cases_lt n s.capacity) [
@@ -187,7 +187,8 @@ module _ (ones : Bool) (w : ℕ) (s t : PlainSet) (word : 0 < w)
     | inr g ↦ none_past ones s n g (past n g)
   ]
 
-  -- word n of a summary of words of 64 bits tells of 64 words of the set
+  -- if the summary's words have 64 bits, its word n tells which of 64 words of the set have a bit
+  -- of the kind
   pub tells_by_word : ((i : ℕ) → s.capacity ≤ i → s.has i ≡ false) → (level n d : ℕ) →
       level ≡ 0 → bit_set 64 d ≡ word_of 64 t n →
       TellsGroups (64 ^ level) w (ones_or_zeros ones s) n d
@@ -209,8 +210,8 @@ module _ (ones : Bool) (w : ℕ) (s t : PlainSet) (word : 0 < w)
       let out : s.capacity ≤ k = omega (arith, reach, up, lo) in
       none_past ones s k out (past k out))
 
-  -- what the summary tells of groups of its own words, it tells of groups of the set's words one
-  -- level up
+  -- if d tells of groups of the summary's words at one level, it tells of groups of the set's words
+  -- at the next level
   pub tells_by_summary : ((i : ℕ) → s.capacity ≤ i → s.has i ≡ false) → (v level above n d : ℕ) →
       v ≡ 64 → level ≡ suc above → TellsGroups (64 ^ above) v t n d →
       TellsGroups (64 ^ level) w (ones_or_zeros ones s) n d
@@ -296,7 +297,7 @@ full_where_none_lacks s = elim (cases_eq (size (complement s)) 0) [
       (λ e. n (omega (arith, e, size-complement s))))
 ]
 
--- after a change of a span in an order, each word is the same except those that the span reaches
+-- a change of a span, in one order, keeps each word except those that have a bit of the span
 pub same_around : (change : Bool → Bool) (m : Bool) (w from to : ℕ) (s t : PlainSet) → 0 < w →
     from < to → read_in m w t ≡ with_span_changed change (read_in m w s) from to → (j : ℕ) →
     (from / w ≤ j → j ≤ (to - 1) / w → ⊥) → word_of w t j ≡ word_of w s j
@@ -324,7 +325,8 @@ same_around change m w from to s t word some changed = λ j outside.
         ap t.has (sym back) ∙ ap (λ u. u.has p) changed
         ∙ rw apart (ap s.has back)
 
--- after a bit is put at an index: the test of that index, and of every other one
+-- after a bit is put at an index, the set has that bit there (`bit_at`, `bit_here`) and all other
+-- bits as before (`bit_elsewhere`)
 bit_at : (v : Bool) (s : PlainSet) (i at : ℕ) → 0 < s.capacity → at ≡ i % s.capacity →
     (with_bit v s i).has at ≡ v
 bit_at true s i at some is = ap (λ p. p at) (has_with-in s s.capacity i refl some)
@@ -343,7 +345,7 @@ bit_elsewhere true s i j some other = ap (λ p. p j) (has_with-in s s.capacity i
 bit_elsewhere false s i j some other = ap (λ p. p j) (has_without-in s s.capacity i refl some)
     ∙ rw (ne_eqb j (i % s.capacity) other) refl
 
--- after a bit is put at an index in an order, each word is the same except the word of the index
+-- a bit that is put at an index, in one order, changes no word but the word of that index
 pub same_words : (v m : Bool) (w i at : ℕ) (s t : PlainSet) → 0 < w → 0 < s.capacity →
     at ≡ i % s.capacity → read_in m w t ≡ with_bit v (read_in m w s) i →
     SameWordsBut w s t (at / w)
@@ -368,7 +370,7 @@ same_words v m w i at s t word some is put = λ j other within.
         ap t.has (sym back) ∙ ap (λ u. u.has p) put
         ∙ bit_elsewhere v (read_in m w s) i p some apart ∙ ap s.has back
 
--- after a bit is put at an index in an order, the word of the index has a bit of that kind
+-- after a bit is put at an index, in one order, the word of that index has a bit of the bit's kind
 pub some_put : (v m : Bool) (w i at : ℕ) (s t : PlainSet) → 0 < w →
     (words : ℕ) × (s.capacity ≡ words * w) → t.capacity ≡ s.capacity → at < s.capacity →
     at ≡ i % s.capacity → read_in m w t ≡ with_bit v (read_in m w s) i →
@@ -432,7 +434,8 @@ one_more_around ones w first last k s u v tells here others = λ j inside within
     below_next : (j k : ℕ) → j ≢ k → j < k + 1 → j < k
     below_next j k n h = omega arith
 
--- after a change of a span, the old summary is right except for the words that the span reaches
+-- after a change of a span, the old summary is right except for the words that have a bit of the
+-- span
 pub tells_around : (ones : Bool) (change : Bool → Bool) (m : Bool) (w from to : ℕ)
     (s t u : PlainSet) → 0 < w → from < to →
     read_in m w t ≡ with_span_changed change (read_in m w s) from to → t.capacity ≡ s.capacity →

@@ -1,5 +1,5 @@
--- The summary of a set: one number for each word, a member if the word has a bit of a kind (set or
--- unset).
+-- The summary of a set has one number for each word of the set. The number is a member if the word
+-- has a bit of the summary's kind (set or unset).
 use Rattle.std.specs.Prelude.{◌≡◌, ◌≢◌, ℕ, ◌*◌, ◌-◌, ◌<◌, ◌≤◌, Bool, true, false, not, ◌&&◌, ◌==◌, nat_le}
 use Rattle.bittle.specs.PlainSet.{PlainSet, empty_set, full_set, size}
 use Rattle.bittle.specs.Walk.{ones_or_zeros}

@@ -18,14 +18,14 @@ use bittle_bits::extension::{Kind, Ones};
 /// ```
 pub type Tiered4K<K> = Tiered<[u64; 64], u64, K>;
 
-/// Has 65,536 bits: 1,024 words, a summary of 16 words, and one word as the summary of these.
+/// Has 65,536 bits: 1,024 words, a summary of 16 words, and one word that summarizes the summary.
 ///
 /// ```
 /// Tiered64K::<Ones>::bits();                          // 65,536
 /// ```
 pub type Tiered64K<K> = Tiered<[u64; 1024], Tiered<[u64; 16], u64, Ones>, K>;
 
-/// Has 262,144 bits: 4,096 words, a summary of 64 words, and one word as the summary of these.
+/// Has 262,144 bits: 4,096 words, a summary of 64 words, and one word that summarizes the summary.
 ///
 /// ```
 /// Tiered256K::<Zeros>::bits();                        // 262,144

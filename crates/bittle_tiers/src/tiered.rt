@@ -25,15 +25,15 @@ use std::marker::PhantomData;
 
 /// A map, which is a set, with a summary of its words. The summary is a set itself: number `k` is a
 /// member exactly if word `k` of the map has a bit of the kind `K` (set or unset). A `Tiered`
-/// stands for the same set as its map, so each call means what it means on the map.
+/// stands for the same set as its map, so each call does and returns what it does on the map.
 ///
 /// With [`Ones`] it is for sparse sets: an iterator over the set bits, or a search for one, reads
 /// the words that have a set bit. Before each of these it reads at most one word without a set bit.
 /// With [`Zeros`] it is for allocators: a search finds the least free page of a nearly full map. A
 /// change of one bit also writes one bit of the summary.
 ///
-/// The summary may have a summary itself. That one is of [`Ones`], since a search looks for the set
-/// bits of a summary.
+/// The summary may have a summary itself. The kind of that second summary is [`Ones`], since a
+/// search looks for the set bits of the first summary.
 ///
 /// The summary needs one bit for each word of the map. If it has too few bits, the shape does not
 /// fit: `bits()` and `bits_capacity()` return `u32::MAX`.

@@ -161,9 +161,9 @@ pub(crate) fn pass_over<B: BitsOwned, S: BitsOwned, K: Kind, N: End>(
     }
 }
 
-/// Returns a word with one bit for each of 64 groups of `64 ^ level` words, from group `64 * n` on.
-/// A bit is set if its group may have a bit of the kind. At level 0 the result is a word of the
-/// summary. At higher levels it is what the summary returns for groups of its own words. If the
+/// Returns a word whose bit `i` stands for group `64 * n + i`, a group of `64 ^ level` words of the
+/// map. A bit is set if its group may have a bit of the kind. At level 0 the result is a word of
+/// the summary. At higher levels it is what the summary returns for groups of its own words. If the
 /// words of the summary do not have 64 bits, every bit is set.
 #[inline(always)]
 pub(crate) fn groups_told<B: BitsOwned, S: BitsOwned, K: Kind>(

@@ -9,7 +9,8 @@ ghost use Rattle.bittle.specs.Rows.{row_set};
 use bit_pages::{Answer, Pages, Request};
 use bittle_tiers::prelude::*;
 
-/// Serves requests from an allocator of 4,096 pages, with one word that tells which words are full.
+/// Serves requests from an allocator of 4,096 pages. One word shows which words of the map have a
+/// free page.
 pub fn serve(requests: &[Request], answers: &mut [Answer])
     requires { length answers.old ≡ length requests.now }
     ensures { answers.new ≡ request_answers (empty_set 4096) requests.now }
@@ -18,7 +19,8 @@ pub fn serve(requests: &[Request], answers: &mut [Answer])
     pages.serve(requests, answers);
 }
 
-/// Serves requests from an allocator of 262,144 pages, with two tiers above its words.
+/// Serves requests from an allocator of 262,144 pages. Its map has a summary, and the summary has a
+/// summary itself.
 pub fn serve_large(requests: &[Request], answers: &mut [Answer])
     requires { length answers.old ≡ length requests.now }
     ensures { answers.new ≡ request_answers (empty_set 262144) requests.now }
@@ -27,8 +29,8 @@ pub fn serve_large(requests: &[Request], answers: &mut [Answer])
     pages.serve(requests, answers);
 }
 
-/// Serves requests from a map with a summary of its set bits and one of its unset bits. A summary
-/// may stand over a map that has one.
+/// Serves requests from a map with a summary of its set bits and one of its unset bits. A map that
+/// has one summary may get a second one.
 pub fn serve_either(requests: &[Request], answers: &mut [Answer])
     requires { length answers.old ≡ length requests.now }
     ensures { answers.new ≡ request_answers (empty_set 4096) requests.now }

@@ -26,7 +26,8 @@ pub fn run_wrapped(calls: &[Call], replies: &mut [Reply])
     replay::<Set<Tiered4K<Ones>, LittleEndian>, LittleEndian>(&mut set, calls, replies);
 }
 
-/// Makes a list of calls on a set of 65,536 numbers, with two tiers above its words.
+/// Makes a list of calls on a set of 65,536 numbers. The set has a summary, and the summary has a
+/// summary itself.
 pub fn run_large(calls: &[Call], replies: &mut [Reply])
     requires { length replies.old ≡ length calls.now }
     ensures { replies.new ≡ replies_of (empty_set 65536) calls.now }

@@ -1,4 +1,4 @@
-//! Sparse sets: calls that read one, a view of two, and calls that change one.
+//! Calls on sparse sets: some read a set, some read a view of two sets, some change a set.
 
 ghost use Rattle.std.specs.Prelude.{◌≡◌, not, length};
 ghost use Rattle.bittle.specs.BitPatterns.{bit_set};

@@ -12,7 +12,7 @@ use Rattle.bittle.specs.PlainSet.{ascending, ascending_from}
 abbrev pub flip : ℕ → ℕ → ℕ
 flip w i = bit_xor w (2 ^ i)
 
--- the bits of m below k, with bit k flipped where m has it, are the bits of m below k + 1
+-- the bits of m below k, with bit k flipped if m has it, are the bits of m below k + 1
 one_more : (m k : ℕ) → k < 64 →
     cond (bit_has 64 m k) (flip (m % 2 ^ k) k) (m % 2 ^ k) ≡ m % 2 ^ suc k
 unfolding bit_has

@@ -3,12 +3,12 @@ use Rattle.std.proofs.Common.{◌≡◌, ℕ, List, [], ◌∷◌, ◌++◌, map
 use Rattle.std.specs.List.{last_or}
 use Rattle.std.specs.Prelude.{slice_index}
 
--- the last item left, or the held one if none is left, is the last of all items, or 0 if there is
--- none
+-- the last item that is left, or the held item if none is left, is the last of all items, or 0 if
+-- there are no items
 abbrev pub KeepsLast : ℕ → List ℕ → List ℕ → Type 0
 KeepsLast held left all = last_or (Some held) left ≡ last_or (Some 0) all
 
--- the same for the entries of a row at the items
+-- `KeepsLast` for the entries of a row at the items
 abbrev pub KeepsLastEntry : List ℕ → ℕ → List ℕ → List ℕ → Type 0
 KeepsLastEntry row held left all =
     KeepsLast held (map (λ i. slice_index row i) left) (map (λ i. slice_index row i) all)

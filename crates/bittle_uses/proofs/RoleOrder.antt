@@ -19,7 +19,7 @@ none_past : (role i : ℕ) → 32 ≤ i → bit_has 32 role i ≡ false
 unfolding bit_has
 none_past role i h = rw (le-ltb i 32 h)
 
--- two roles are equal in the order exactly where they grant the same
+-- the order finds two roles equal exactly if they grant the same permissions
 pub equal_iff_granted : (m n : ℕ) → IsTrue
     (is_eq (list_cmp (ascending (bit_set 32 m)) (ascending (bit_set 32 n))))
     ↔ AreSame (bit_set 32 m) (bit_set 32 n)
@@ -39,7 +39,7 @@ module _ {X : Type 0} (bits : X → ℕ) (wanted : ℕ) where
       let t : is_eq (order x) ≡ true = (equal_iff_granted (bits x) wanted).1 same in
       true≢false (sym t ∙ ap is_eq e ∙ f)
 
-  -- the search gives a place whose role grants just what is wanted, or None where no role does
+  -- the search returns a place whose role grants just what is wanted, or None if no role does
   pub search_found : (xs : List X) (r : Result ℕ ℕ) →
       IsSortedBy (λ a b. is_lt (list_cmp (ascending (bit_set 32 (bits a)))
       (ascending (bit_set 32 (bits b))))) xs → IsBinarySearchResult order xs r →

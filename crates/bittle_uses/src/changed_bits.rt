@@ -9,7 +9,7 @@ ghost use Rattle.bittle.specs.Rows.{row_set};
 use bittle::{BigEndian, Bits, BitsMut, BitsOwned, LittleEndian};
 use bittle_ext::BitsMutExt;
 
-/// Sets a bit, and finds it set.
+/// Sets a bit, tests it, and returns `true`.
 #[tactic(auto, using(bittle::proofs::CallerChanges::contains_with))]
 pub fn set_and_test(mask: u64, index: u32) -> bool
     ensures { result ≡ true }
@@ -19,7 +19,7 @@ pub fn set_and_test(mask: u64, index: u32) -> bool
     mask.test_bit(index)
 }
 
-/// Clears a bit of a row whose bits are counted from the left, and finds it unset.
+/// Clears a bit of a row whose bits are counted from the left, tests it, and returns `false`.
 #[tactic(auto, using(bittle::proofs::CallerChanges::contains_without))]
 pub fn clear_and_test(row: [u32; 4], index: u32) -> bool
     ensures { result ≡ false }
@@ -29,7 +29,7 @@ pub fn clear_and_test(row: [u32; 4], index: u32) -> bool
     row.test_bit_in::<LittleEndian>(index)
 }
 
-/// Sets a bit, and finds another one as it was.
+/// Sets a bit, and tests another bit, which has not changed.
 #[tactic(auto, using(bittle::proofs::CallerChanges::contains_with_other))]
 pub fn set_and_test_other(mask: u64, index: u32, other: u32) -> bool
     requires index { index < 64 }
@@ -50,7 +50,7 @@ pub fn granted(role: u32, permission: u32) -> u32
     role.with_bit(permission)
 }
 
-/// Grants a permission to a role that has another one. The role keeps that one.
+/// Grants a role the permission `second`. The role keeps the permission `first`, which it has.
 #[tactic(auto, using(bittle::proofs::CallerChanges::contains_after_set, bittle::proofs::CallerChanges::still_set_after_set))]
 pub fn grant_another(role: &mut u32, first: u32, second: u32)
     requires has { contains (bit_set 32 role.old) first ≡ true }
@@ -60,7 +60,7 @@ pub fn grant_another(role: &mut u32, first: u32, second: u32)
     role.set_bit(second);
 }
 
-/// Takes a permission away. The role lacks it then, and gets no other one.
+/// Takes a permission from a role. The role then lacks it, and still lacks the permission `other`.
 #[tactic(auto, using(bittle::proofs::CallerChanges::contains_after_clear, bittle::proofs::CallerChanges::still_unset_after_clear))]
 pub fn take_away(role: &mut u32, permission: u32, other: u32)
     requires lacks { contains (bit_set 32 role.old) other ≡ false }
@@ -70,7 +70,7 @@ pub fn take_away(role: &mut u32, permission: u32, other: u32)
     role.clear_bit(permission);
 }
 
-/// Takes a permission away from a role that has another one. The role keeps that one.
+/// Takes a permission from a role. The role keeps the permission `other`, which it has.
 #[tactic(auto, using(bittle_ext::proofs::CallerMembers::contains_other_after_clear))]
 pub fn take_one(role: &mut u32, permission: u32, other: u32)
     requires has { contains (bit_set 32 role.old) other ≡ true }
@@ -82,7 +82,7 @@ pub fn take_one(role: &mut u32, permission: u32, other: u32)
     role.clear_bit(permission);
 }
 
-/// Flips a lamp that is off, so it is on.
+/// Flips a lamp that is off. It is on afterwards.
 #[tactic(auto, using(bittle_ext::proofs::CallerMembers::set_after_toggle))]
 pub fn turn_on(lamps: &mut u32, lamp: u32)
     requires { contains (bit_set 32 lamps.old) lamp ≡ false }
@@ -91,7 +91,7 @@ pub fn turn_on(lamps: &mut u32, lamp: u32)
     lamps.toggle(lamp);
 }
 
-/// Flips a lamp that is on, so it is off.
+/// Flips a lamp that is on. It is off afterwards.
 #[tactic(auto, using(bittle_ext::proofs::CallerMembers::unset_after_toggle))]
 pub fn turn_off(lamps: &mut u32, lamp: u32)
     requires { contains (bit_set 32 lamps.old) lamp ≡ true }
@@ -108,7 +108,8 @@ pub fn no_permission(permission: u32) -> u32
     u32::zeros()
 }
 
-/// Returns the map with all bits from 100 on set, as a map of only 100 pages needs it.
+/// Returns the map with all bits from 100 on set. In a map of only 100 pages, these bits stand for
+/// no page.
 #[tactic(auto, using(bittle::proofs::CallerChanges::contains_after_set_span))]
 pub fn reserved(map: [u64; 2], page: u32) -> [u64; 2]
     requires past { 100 ≤ page }
@@ -120,7 +121,7 @@ pub fn reserved(map: [u64; 2], page: u32) -> [u64; 2]
     map
 }
 
-/// Sets the bits of a range, and finds one of them set.
+/// Sets the bits of a range, tests one of them, and returns `true`.
 #[tactic(auto, using(bittle::proofs::CallerChanges::contains_with_span))]
 pub fn fill_and_test(mask: u64) -> bool
     ensures { result ≡ true }
@@ -130,7 +131,8 @@ pub fn fill_and_test(mask: u64) -> bool
     mask.test_bit(9)
 }
 
-/// Clears a range of a row whose bits are counted from the left, and finds one of its bits unset.
+/// Clears a range of a row whose bits are counted from the left. Then it tests a bit of the range,
+/// and returns `false`.
 #[tactic(auto, using(bittle::proofs::CallerChanges::contains_without_span))]
 pub fn drain_and_test(row: [u8; 8]) -> bool
     ensures { result ≡ false }
@@ -140,7 +142,7 @@ pub fn drain_and_test(row: [u8; 8]) -> bool
     row.test_bit_in::<LittleEndian>(9)
 }
 
-/// Sets the bits of a range, and finds one past it as it was.
+/// Sets the bits of a range, and tests a bit past it, which has not changed.
 #[tactic(auto, using(bittle::proofs::CallerChanges::contains_outside_span))]
 pub fn fill_and_test_other(mask: u64) -> bool
     ensures { result ≡ contains (bit_set 64 mask) 17 }

@@ -31,8 +31,8 @@ pub fn remove<B: BitsMut>(set: &mut B, index: u32) -> bool
     set.remove(index)
 }
 
-/// Clears the bit at one index and sets that at another, or changes nothing where the first is
-/// unset. Both indexes wrap.
+/// Clears the bit at one index and sets the bit at another. If the first bit is unset, it changes
+/// nothing. Both indexes wrap.
 pub fn move_bit<B: BitsMut>(set: &mut B, from: u32, to: u32)
     requires { IsTrue B.indexable }
     ensures set { let before = set_in B.Shape B.Order.Endian set.old in

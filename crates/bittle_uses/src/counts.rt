@@ -1,5 +1,5 @@
-//! Counts of set bits, which are added, subtracted and narrowed, and positions of an iterator's
-//! items.
+//! Counts of set bits, as terms of sums and differences and cast to narrower types. Positions of
+//! items in an iterator.
 
 ghost use Rattle.std.specs.Prelude.{◌≡◌, ◌==◌, ◌+◌, ◌-◌, true, length, position, sum, Some, map, slice_index};
 ghost use Rattle.std.specs.List.{last_or, enumerate_from};
@@ -62,14 +62,14 @@ pub fn count_of_joined(mask: u64, row: &[u32; 64]) -> usize
     mask.join_ones(row.iter()).count()
 }
 
-/// Returns how many set bits lie below the bit `wanted`, or `None` where that bit is unset.
+/// Returns how many set bits lie below the bit `wanted`, or `None` if that bit is unset.
 pub fn place_of_member(mask: u64, wanted: u32) -> Option<usize>
     ensures { result ≡ position (λ i. i == wanted) (ascending (bit_set 64 mask)) }
 {
     mask.iter_ones().position(|index| index == wanted)
 }
 
-/// Returns how many set bits of any set lie below the bit `wanted`, or `None` where it is unset.
+/// Returns how many set bits of any set lie below the bit `wanted`, or `None` if that bit is unset.
 pub fn place_of_member_of_any<B: BitsOwned>(set: B, wanted: u32) -> Option<usize>
     requires { ShapeFits B.Shape set }
     ensures { result
@@ -78,8 +78,8 @@ pub fn place_of_member_of_any<B: BitsOwned>(set: B, wanted: u32) -> Option<usize
     set.iter_ones().position(|index| index == wanted)
 }
 
-/// Returns how many unset bits lie before the bit `wanted` of any set, read from the left. Returns
-/// `None` where that bit is set.
+/// Returns how many unset bits lie before the bit `wanted` of any set, which is read from the left.
+/// Returns `None` if that bit is set.
 pub fn place_of_free_of_any<B: BitsOwned>(set: B, wanted: u32) -> Option<usize>
     requires { ShapeFits B.Shape set }
     ensures { result ≡ position (λ i. i == wanted)
@@ -88,8 +88,8 @@ pub fn place_of_free_of_any<B: BitsOwned>(set: B, wanted: u32) -> Option<usize>
     set.into_iter_zeros_le().position(|index| index == wanted)
 }
 
-/// Returns the exclusive or of two entries: at the last set bit, and at the place of that bit among
-/// the set bits. Returns 0 where no bit is set.
+/// Returns the exclusive or of two entries of a row: one at the index of the last set bit, and one
+/// at the number of set bits below it. Returns 0 if no bit is set.
 pub fn entries_at_place_and_member(mask: u64, row: &[u32; 64]) -> u32
     ensures { Some result ≡ last_or (Some 0) (map
         (λ p. bit_xor (slice_index row.now p.0) (slice_index row.now p.1))
@@ -102,7 +102,7 @@ pub fn entries_at_place_and_member(mask: u64, row: &[u32; 64]) -> u32
     last
 }
 
-/// Returns how many set bits of any set lie below the last one, or 0.
+/// Returns how many set bits of any set lie below the last set bit, or 0 if no bit is set.
 pub fn last_place_of_any<B: BitsOwned>(set: B) -> usize
     requires { ShapeFits B.Shape set }
     ensures { result ≡ length (ascending (set_in B.Shape B.Order.Endian set)) - 1 }

@@ -6,7 +6,8 @@ ghost use Rattle.bit_slots.specs.Entries.{entries};
 use bit_slots::{Key, Slots};
 use bittle::BitsOwned;
 
-/// Puts a value in, and finds it under its key. Returns `true` also if `insert` fails.
+/// Inserts a value, and returns whether its key finds a value. Returns `true` also if `insert`
+/// fails.
 pub fn insert_and_ask<V: Drop, B: BitsOwned>(slots: &mut Slots<V, B>, value: V) -> bool
     ensures { result ≡ true }
 {
@@ -16,7 +17,7 @@ pub fn insert_and_ask<V: Drop, B: BitsOwned>(slots: &mut Slots<V, B>, value: V) 
     }
 }
 
-/// Removes a key, and finds nothing under it.
+/// Removes a key, and returns whether it still finds a value, which is `false`.
 pub fn remove_and_ask<V: Drop, B: BitsOwned>(slots: &mut Slots<V, B>, key: Key) -> bool
     ensures { result ≡ false }
 {
@@ -32,7 +33,7 @@ pub fn remove_twice<V: Drop, B: BitsOwned>(slots: &mut Slots<V, B>, key: Key) ->
     slots.remove(key)
 }
 
-/// Sets the value under a key, and returns what the key finds.
+/// Sets the value of a key by `update`, and returns the value that the key finds then.
 pub fn set_and_ask<B: BitsOwned>(slots: &mut Slots<u64, B>, key: Key, value: u64) -> Option<u64>
     ensures { IfSome result (λ held. held ≡ value) }
 {
@@ -40,8 +41,8 @@ pub fn set_and_ask<B: BitsOwned>(slots: &mut Slots<u64, B>, key: Key, value: u64
     slots.get(key).copied()
 }
 
-/// Adds one to the count under a key. Returns whether `update` found the key exactly if `contains`
-/// did.
+/// Adds one to the count of a key. Returns whether `update` and `contains` agree on whether the key
+/// finds a value.
 pub fn count_and_ask<B: BitsOwned>(slots: &mut Slots<u64, B>, key: Key) -> bool
     ensures { result ≡ true }
 {

@@ -31,7 +31,7 @@ pub fn clear_in_slice(words: &mut [u64], index: u32)
     lent.0.clear_bit(index);
 }
 
-/// Sets the least unset bit of a slice, and returns its index. Where each bit is set, it changes
+/// Sets the least unset bit of a slice, and returns its index. If each bit is set, it changes
 /// nothing and returns `None`.
 pub fn take_least(words: &mut [u64]) -> Option<u32>
     requires { length words.old * 64 < 4294967295 }

@@ -1,5 +1,5 @@
-//! Callers of `bittle`, `bittle_ext`, `bit_pages` and `bit_slots`. Each states what its own values
-//! hold, and the check proves it from public contracts and lemmas.
+//! Callers of `bittle`, `bittle_ext`, `bit_pages` and `bit_slots`. The contract of each caller says
+//! what its own values hold. The check proves that from public contracts and lemmas.
 #![tactic(auto)]
 
 pub mod board;

@@ -1,7 +1,8 @@
-//! Uses of each macro, on any type. The check refuses a macro that makes another set of its list.
+//! Uses of each macro, on any type. The check refuses a macro that makes a wrong set of a list.
 //!
-//! In these lists each kind of item comes before an item of another kind. Indexes and ranges come
-//! beside one of their own kind, first and last. Ranges begin at 0, in the first word and past it.
+//! In these lists an item of each kind stands before an item of another kind. Indexes stand beside
+//! indexes, and ranges beside ranges; both are first in some list, and last in some list. Ranges
+//! begin at 0, later in the first word, and past the first word.
 
 ghost use Rattle.std.specs.Prelude.{◌≡◌, IsTrue};
 ghost use Rattle.bittle_uses.specs.MacroLists.{listed_set, listed_open_set, listed_whole_set, listed_ranges_set};
@@ -11,7 +12,7 @@ use bittle::{BigEndian, BitsOwned, Endian, LittleEndian};
 
 pub mod indexes;
 
-/// Lists an index first, then ranges.
+/// Makes the set of a list that has an index first, then ranges.
 pub fn listed<B: BitsOwned>(index: u32) -> B
     requires { IsTrue B.indexable }
     ensures { set_in B.Shape B.Order.Endian result ≡ listed_set B.type_capacity index }
@@ -19,7 +20,7 @@ pub fn listed<B: BitsOwned>(index: u32) -> B
     bittle::set![index, 2..=3, 5..7, 9..4, 14..]
 }
 
-/// Lists as [`listed`] does, in little-endian order.
+/// Makes the set of the list of [`listed`], in little-endian order.
 pub fn listed_le<B: BitsOwned>(index: u32) -> B
     requires { IsTrue B.indexable }
     ensures { set_in B.Shape ⟦<LittleEndian as Endian>⟧ result ≡ listed_set B.type_capacity index }
@@ -27,7 +28,7 @@ pub fn listed_le<B: BitsOwned>(index: u32) -> B
     bittle::set_le![index, 2..=3, 5..7, 9..4, 14..]
 }
 
-/// Lists as [`listed`] does, in big-endian order.
+/// Makes the set of the list of [`listed`], in big-endian order.
 pub fn listed_be<B: BitsOwned>(index: u32) -> B
     requires { IsTrue B.indexable }
     ensures { set_in B.Shape ⟦<BigEndian as Endian>⟧ result ≡ listed_set B.type_capacity index }
@@ -35,7 +36,7 @@ pub fn listed_be<B: BitsOwned>(index: u32) -> B
     bittle::set_be![index, 2..=3, 5..7, 9..4, 14..]
 }
 
-/// Lists an open range first, and an index last.
+/// Makes the set of a list that has an open range first, and an index last.
 pub fn listed_open<B: BitsOwned>(index: u32) -> B
     requires { IsTrue B.indexable }
     ensures { set_in B.Shape B.Order.Endian result ≡ listed_open_set B.type_capacity index }
@@ -43,7 +44,7 @@ pub fn listed_open<B: BitsOwned>(index: u32) -> B
     bittle::set![100.., 2..=3, 70..75, 9, index]
 }
 
-/// Lists as [`listed_open`] does, in little-endian order.
+/// Makes the set of the list of [`listed_open`], in little-endian order.
 pub fn listed_open_le<B: BitsOwned>(index: u32) -> B
     requires { IsTrue B.indexable }
     ensures { set_in B.Shape ⟦<LittleEndian as Endian>⟧ result
@@ -52,7 +53,7 @@ pub fn listed_open_le<B: BitsOwned>(index: u32) -> B
     bittle::set_le![100.., 2..=3, 70..75, 9, index]
 }
 
-/// Lists as [`listed_open`] does, in big-endian order.
+/// Makes the set of the list of [`listed_open`], in big-endian order.
 pub fn listed_open_be<B: BitsOwned>(index: u32) -> B
     requires { IsTrue B.indexable }
     ensures { set_in B.Shape ⟦<BigEndian as Endian>⟧ result
@@ -61,7 +62,7 @@ pub fn listed_open_be<B: BitsOwned>(index: u32) -> B
     bittle::set_be![100.., 2..=3, 70..75, 9, index]
 }
 
-/// Lists every index by an open range.
+/// Makes the set of a list that has one open range, of all indexes.
 pub fn listed_whole<B: BitsOwned>() -> B
     requires { IsTrue B.indexable }
     ensures { set_in B.Shape B.Order.Endian result ≡ listed_whole_set B.type_capacity }
@@ -69,7 +70,7 @@ pub fn listed_whole<B: BitsOwned>() -> B
     bittle::set![0..]
 }
 
-/// Lists as [`listed_whole`] does, in little-endian order.
+/// Makes the set of the list of [`listed_whole`], in little-endian order.
 pub fn listed_whole_le<B: BitsOwned>() -> B
     requires { IsTrue B.indexable }
     ensures { set_in B.Shape ⟦<LittleEndian as Endian>⟧ result ≡ listed_whole_set B.type_capacity }
@@ -77,7 +78,7 @@ pub fn listed_whole_le<B: BitsOwned>() -> B
     bittle::set_le![0..]
 }
 
-/// Lists as [`listed_whole`] does, in big-endian order.
+/// Makes the set of the list of [`listed_whole`], in big-endian order.
 pub fn listed_whole_be<B: BitsOwned>() -> B
     requires { IsTrue B.indexable }
     ensures { set_in B.Shape ⟦<BigEndian as Endian>⟧ result ≡ listed_whole_set B.type_capacity }
@@ -85,7 +86,7 @@ pub fn listed_whole_be<B: BitsOwned>() -> B
     bittle::set_be![0..]
 }
 
-/// Lists two ranges of each kind, one after the other.
+/// Makes the set of a list that has two ranges `a..=b`, then two ranges `a..b`.
 pub fn listed_ranges<B: BitsOwned>() -> B
     requires { IsTrue B.indexable }
     ensures { set_in B.Shape B.Order.Endian result ≡ listed_ranges_set B.type_capacity }
@@ -93,7 +94,7 @@ pub fn listed_ranges<B: BitsOwned>() -> B
     bittle::set![1..=2, 4..=5, 7..9, 10..12]
 }
 
-/// Lists as [`listed_ranges`] does, in little-endian order.
+/// Makes the set of the list of [`listed_ranges`], in little-endian order.
 pub fn listed_ranges_le<B: BitsOwned>() -> B
     requires { IsTrue B.indexable }
     ensures { set_in B.Shape ⟦<LittleEndian as Endian>⟧ result ≡ listed_ranges_set B.type_capacity }
@@ -101,7 +102,7 @@ pub fn listed_ranges_le<B: BitsOwned>() -> B
     bittle::set_le![1..=2, 4..=5, 7..9, 10..12]
 }
 
-/// Lists as [`listed_ranges`] does, in big-endian order.
+/// Makes the set of the list of [`listed_ranges`], in big-endian order.
 pub fn listed_ranges_be<B: BitsOwned>() -> B
     requires { IsTrue B.indexable }
     ensures { set_in B.Shape ⟦<BigEndian as Endian>⟧ result ≡ listed_ranges_set B.type_capacity }

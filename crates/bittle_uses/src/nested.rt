@@ -22,7 +22,7 @@ pub fn greatest_of_owned<B: BitsOwned>(set: B) -> u32
     last
 }
 
-/// Returns the greatest set bit of a table of four rows, or 0.
+/// Returns the greatest set bit of a table of four rows, or 0 if none is set.
 pub fn greatest_of_table(table: [[u32; 4]; 4]) -> u32
     ensures { Some result ≡ last_or (Some 0)
         (ascending (row_set 4 128 (row_set 4 32 (bit_set 32)) table)) }

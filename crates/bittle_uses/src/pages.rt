@@ -31,7 +31,7 @@ pub fn first_page<B: BitsOwned>() -> Option<u32>
     pages.take()
 }
 
-/// Takes two pages, which differ.
+/// Takes two pages, and returns them. They differ.
 pub fn take_two<B: BitsOwned>(pages: &mut Pages<B>) -> Option<(u32, u32)>
     ensures { IfSome result (λ both. both.0 ≢ both.1) }
 {
@@ -50,7 +50,7 @@ pub fn borrow_page<B: BitsOwned>(pages: &mut Pages<B>) -> bool
     }
 }
 
-/// Takes a page, and finds it taken.
+/// Takes a page, and returns whether it is taken then. Returns `true` also if no page is free.
 pub fn take_and_ask<B: BitsOwned>(pages: &mut Pages<B>) -> bool
     ensures { result ≡ true }
 {
@@ -134,7 +134,8 @@ pub fn serve_and_count<B: BitsOwned>(
     pages.serve(requests, answers);
 }
 
-/// Takes a page and a run of pages. The clause says that the two calls are a history.
+/// Takes a page and a run of pages. The clause says that the two calls, with what they return, are
+/// a history of calls.
 pub fn take_both<B: BitsOwned>(pages: &mut Pages<B>, length: u32) -> (Option<u32>, Option<u32>)
     ensures { IsHistory (set_in B.Shape B.Order.Endian pages.old.map)
         ((Request.Take, page_or_full result.0) ∷ (Request.TakeRun length, run_or_none result.1)

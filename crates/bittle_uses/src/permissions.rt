@@ -54,8 +54,8 @@ pub fn sort(roles: &mut [Set<u32>])
     roles.sort_unstable();
 }
 
-/// Returns where a sorted table has a role that grants exactly what `wanted` grants, or `None`
-/// where no role does.
+/// Returns the index of a role in a sorted table that grants exactly what `wanted` grants, or
+/// `None` if no role does.
 pub fn find(roles: &[Set<u32>], wanted: Set<u32>) -> Option<usize>
     requires { IsSorted ⟦<Set<u32> as Ord>⟧.cmp roles.now }
     ensures { let asked = bit_set 32 wanted.bits in

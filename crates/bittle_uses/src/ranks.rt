@@ -1,7 +1,7 @@
 //! How many set bits lie below an index, or at it and above.
 //!
-//! The proofs here are of a loop that counts, and of `position` of an iterator. `rank` and
-//! `count_ones_in_range` of `bittle_ext` count word by word.
+//! One function counts in a loop, and one calls `position` of an iterator. `rank` and
+//! `count_ones_in_range` of `bittle_ext` return such counts faster, since they count word by word.
 
 ghost use Rattle.std.specs.Prelude.{◌≡◌, ◌==◌, nat_le, position, count_by};
 ghost use Rattle.bittle.specs.PlainSet.{ascending};
@@ -25,7 +25,7 @@ pub fn how_many_from<B: Bits>(set: &B, bound: u32) -> u32
     count
 }
 
-/// Returns how many set bits lie below `index`, or `None` where its bit is unset.
+/// Returns how many set bits lie below `index`, or `None` if the bit at `index` is unset.
 pub fn rank_of<B: Bits>(set: &B, index: u32) -> Option<usize>
     requires { ShapeFits B.Shape set.now }
     ensures { result

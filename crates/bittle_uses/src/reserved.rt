@@ -27,7 +27,7 @@ impl Leases {
         Leases { leased }
     }
 
-    /// Leases the least free address. Where none is free, it changes nothing and returns `None`.
+    /// Leases the least free address. If none is free, it changes nothing and returns `None`.
     #[tactic(auto, using(bittle::proofs::CallerChanges::contains_after_set, bittle_ext::proofs::CallerSpans::has_span_after_set, bittle_ext::proofs::CallerMembers::unset_where_found))]
     pub fn lease(&mut self) -> Option<u32>
         ensures not_reserved { IfSome result (λ address. (10 ≤ address) × (address < 250)) }

@@ -8,7 +8,7 @@ ghost use Rattle.bittle.specs.PlainSet.{ascending, size};
 
 use bittle::Bits;
 
-/// Returns the entry at the greatest set bit, or 0 where there is none.
+/// Returns the entry at the greatest set bit, or 0 if no bit is set.
 pub fn entry_at_greatest(mask: u64, row: &[u32; 64]) -> u32
     ensures { Some result ≡ last_or (Some 0) (map (λ i. slice_index row.now i)
         (ascending (bit_set 64 mask))) }
@@ -20,7 +20,8 @@ pub fn entry_at_greatest(mask: u64, row: &[u32; 64]) -> u32
     last
 }
 
-/// Returns the greatest set bit of a slice of words, or `None` where it has none or is too long.
+/// Returns the greatest set bit of a slice of words. Returns `None` if no bit is set, or the slice
+/// is too long.
 pub fn greatest_of_slice(words: &[u64]) -> Option<u32>
     ensures fits { length words.now * 64 < 4294967295 → result ≡ slice_get (reverse (ascending
         (row_set (length words.now) 64 (bit_set 64) words.now))) 0 }

@@ -1,7 +1,7 @@
-//! Questions about all set bits of a set.
+//! Tests and searches of all set bits of a set.
 //!
-//! The proofs here are of what the methods of an iterator return. The searches of `bittle_ext` read
-//! word by word, as `last` does.
+//! Most functions here call a method of an iterator. `last` calls a search of `bittle_ext`, which
+//! reads word by word.
 
 ghost use Rattle.std.specs.List.{list_any, list_all, reduce, zip};
 ghost use Rattle.std.specs.Prelude.{◌≡◌, ◌↔◌, ◌<◌, ℕ, true, IfOk, IsTrue, max, nat_lt, nat_le};
@@ -22,7 +22,7 @@ pub fn has_any_above<B: Bits>(set: &B, bound: u32) -> bool
     set.iter_ones().any(|member| bound < member)
 }
 
-/// Returns the greatest set bit, or `None` where there is none.
+/// Returns the greatest set bit, or `None` if no bit is set.
 pub fn greatest<B: Bits>(set: &B) -> Option<u32>
     requires { ShapeFits B.Shape set.now }
     ensures { result ≡ reduce max (ascending (set_in B.Shape B.Order.Endian set.now)) }

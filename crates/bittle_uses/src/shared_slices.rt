@@ -1,4 +1,4 @@
-//! Iterators over slices: shared ones, ones that are lent to be changed, and ones of any element. A
+//! Iterators over shared slices, mutably borrowed slices, and slices of any type of element. A
 //! clause requires that the slice fits, or the body tests `bits_capacity()`.
 
 ghost use Rattle.std.specs.Prelude.{◌≡◌, ◌≤◌, ◌<◌, ◌*◌, length, slice_get, reverse, MatchOption};
@@ -27,7 +27,7 @@ pub fn entry_at_greatest(mask: &[u64], row: &[u32]) -> u32
     last
 }
 
-/// Returns the least set bit of a slice, or `None` where there is none.
+/// Returns the least set bit of a slice, or `None` if no bit is set.
 pub fn least_member(mask: &[u64]) -> Option<u32>
     requires { length mask.now * 64 < 4294967295 }
     ensures { result ≡ slice_get (ascending
@@ -36,7 +36,7 @@ pub fn least_member(mask: &[u64]) -> Option<u32>
     mask.iter_ones().next()
 }
 
-/// Returns the least set bit of a slice, or `None` where there is none or the slice does not fit.
+/// Returns the least set bit of a slice, or `None` if no bit is set or the slice does not fit.
 pub fn least_member_if_it_fits(mask: &[u64]) -> Option<u32>
     ensures fits { length mask.now * 64 < 4294967295 → result ≡ slice_get (ascending
         (row_set (length mask.now) 64 (bit_set 64) mask.now)) 0 }
@@ -74,7 +74,8 @@ pub fn greatest_free_from_the_right(mask: &[u64]) -> u32
     last
 }
 
-/// Returns the least unset bit of triples of bytes, or 0, by an iterator from the back.
+/// Returns the least unset bit of a slice of triples of bytes, counted from the left, or 0. It
+/// steps an iterator from the back.
 pub fn least_free_of_triples(mask: &[[u8; 3]]) -> u32
     requires { length mask.now * 24 < 4294967295 }
     ensures { result ≡ unwrap_or (slice_get (ascending (complement (read_in true 8
@@ -83,7 +84,7 @@ pub fn least_free_of_triples(mask: &[[u8; 3]]) -> u32
     least_free_of::<&[[u8; 3]], LittleEndian>(&mask)
 }
 
-// Returns the least unset bit of any set, or 0, by an iterator from the back.
+// Returns the least unset bit of any set, or 0. It steps an iterator from the back.
 fn least_free_of<B: Bits, E: Endian>(set: &B) -> u32
     requires { ShapeFits B.Shape set.now }
     ensures { result ≡ unwrap_or
@@ -96,7 +97,7 @@ fn least_free_of<B: Bits, E: Endian>(set: &B) -> u32
     last
 }
 
-/// Counts the set bits of triples of bytes by their iterator.
+/// Counts the set bits of a slice of triples of bytes by its iterator.
 pub fn count_of_triples(mask: &[[u8; 3]]) -> usize
     requires { length mask.now * 24 < 4294967295 }
     ensures { result ≡ length (ascending
@@ -105,7 +106,7 @@ pub fn count_of_triples(mask: &[[u8; 3]]) -> usize
     mask.iter_ones_in::<BigEndian>().count()
 }
 
-/// Returns the greatest set bit of a slice that is lent to be changed, or 0.
+/// Returns the greatest set bit of a mutably borrowed slice, or 0.
 pub fn greatest_of_lent(mask: &mut [u64]) -> u32
     requires { length mask.old * 64 < 4294967295 }
     ensures greatest { Some result ≡ last_or (Some 0) (ascending
@@ -119,8 +120,8 @@ pub fn greatest_of_lent(mask: &mut [u64]) -> u32
     last
 }
 
-/// Returns the least and the greatest set bit of a slice, read in any order. Returns `None` where
-/// no bit is set, or the slice does not fit.
+/// Returns the least and the greatest set bit of a slice, read in any order. Returns `None` if no
+/// bit is set, or the slice does not fit.
 pub fn ends_of_members<T: BitsOwned, E: Endian>(mask: &[T]) -> Option<(u32, u32)>
     ensures { Fits T.indexable (length mask.now * T.type_capacity) → MatchOption result
         (ascending (read_in E.mirrored T.width
@@ -136,7 +137,7 @@ pub fn ends_of_members<T: BitsOwned, E: Endian>(mask: &[T]) -> Option<(u32, u32)
     ends_of::<&[T], E>(&mask)
 }
 
-// Returns the least and the greatest set bit of any set, or `None` where there is none.
+// Returns the least and the greatest set bit of any set, or `None` if no bit is set.
 fn ends_of<B: Bits, E: Endian>(set: &B) -> Option<(u32, u32)>
     requires { ShapeFits B.Shape set.now }
     ensures { let members = ascending (set_in B.Shape E.Endian set.now) in

@@ -1,4 +1,4 @@
-//! Sequences of calls on a slice of the caller, which has all changes when the borrow ends.
+//! Sequences of calls on the caller's slice. When the borrow ends, the slice has all changes.
 
 ghost use Rattle.std.specs.Prelude.{◌≡◌, ◌*◌, ◌<◌, length, true, false};
 ghost use Rattle.bittle.specs.BitPatterns.{bit_set};

@@ -1,4 +1,4 @@
-//! A table of slots over words that a caller lends. A slot is taken where its bit is set.
+//! A table of slots over words that a caller lends. A slot is taken if its bit is set.
 
 ghost use Rattle.std.specs.Prelude.{◌≡◌, ◌*◌, ◌<◌, length, MatchOption};
 ghost use Rattle.bittle.specs.BitPatterns.{bit_set};
@@ -33,8 +33,7 @@ impl<'a> Slots<'a> {
         self.words.test_bit(slot)
     }
 
-    /// Takes the least slot that is free, or changes nothing and returns `None` where all are
-    /// taken.
+    /// Takes the least free slot. If all slots are taken, it changes nothing and returns `None`.
     pub fn take(&mut self) -> Option<u32>
         requires { length self.old.words.now * 64 < 4294967295 }
         ensures least { let words = self.old.words.now in

@@ -15,7 +15,7 @@ ghost use Rattle.bittle.specs.Values.{set_in, ShapeFits};
 use bittle::number::IterOnes;
 use bittle::{BigEndian, Bits, BitsOwned, LittleEndian, Set};
 
-/// Returns the entry at the greatest set bit of four words, or 0 where there is none.
+/// Returns the entry at the greatest set bit of four words, or 0 if no bit is set.
 pub fn entry_at_greatest_of_words(mask: &[u64; 4], row: &[u32; 256]) -> u32
     ensures { Some result ≡ last_or (Some 0) (map (λ i. slice_index row.now i)
         (ascending (row_set 4 64 (bit_set 64) mask.now))) }
@@ -135,7 +135,7 @@ pub fn mark_members(mask: u64, row: &mut [bool; 64])
     }
 }
 
-/// Returns the word again, put together from its set bits.
+/// Makes a word of the set bits of `mask`, one by one. The result equals `mask`.
 pub fn word_of_members(mask: u64) -> u64
     ensures { result ≡ mask }
 {
@@ -160,7 +160,7 @@ pub fn combine_cells(board: u64, cells: &[[u8; 8]; 8]) -> u8
     all
 }
 
-/// Returns the greatest set bit of four words, which is a byte, or 0 where there is none.
+/// Returns the index of the greatest set bit of four words, cast to a byte, or 0 if no bit is set.
 pub fn greatest_as_byte(mask: &[u64; 4]) -> u8
     ensures { Some result ≡ last_or (Some 0)
         (ascending (row_set 4 64 (bit_set 64) mask.now)) }
@@ -183,7 +183,7 @@ pub fn entry_at_first(mask: u64, row: &[u32; 64]) -> u32
     }
 }
 
-/// Returns the entry at the least unset bit, or 0 where each is set.
+/// Returns the entry at the least unset bit, or 0 if each bit is set.
 pub fn entry_at_first_free(mask: u64, row: &[u32; 64]) -> u32
     ensures { result ≡ unwrap_or (option_map (λ i. slice_index row.now i)
         (slice_get (ascending (complement (bit_set 64 mask))) 0)) 0 }
@@ -194,7 +194,7 @@ pub fn entry_at_first_free(mask: u64, row: &[u32; 64]) -> u32
     }
 }
 
-/// Returns the entry at the least set bit that a bounded search finds, or 0.
+/// Returns the entry at the least set bit, or 0, by a search of the range `0..64`.
 pub fn entry_at_found(mask: u64, row: &[u32; 64]) -> u32
     ensures { (found : Option ℕ) × IsFirstIn (bit_set 64 mask) 0 64 found
         × (result ≡ unwrap_or (option_map (λ i. slice_index row.now i) found) 0) }

@@ -16,7 +16,7 @@ pub fn how_many(word: u32) -> usize
     IterOnes::<u32, LittleEndian>::new(word).count()
 }
 
-/// Counts the unset bits below a bound of a word of 64 bits.
+/// Counts the unset bits of a word of 64 bits that lie below a bound.
 pub fn how_many_lacking(word: u64, bound: u32) -> usize
     ensures { result ≡ count_by (λ i. nat_lt i bound)
         (ascending (complement (read_in false 64 (bit_set 64 word)))) }
@@ -37,7 +37,7 @@ pub fn halves_above(word: i8, bound: u32) -> usize
         .count()
 }
 
-/// Returns the greatest unset bit of a word of 16 bits, or `None` where it has none.
+/// Returns the greatest unset bit of a word of 16 bits, or `None` if each bit is set.
 pub fn greatest_lacking(word: u16) -> Option<u32>
     ensures { MatchOption result (ascending (complement (read_in true 16 (bit_set 16 word))) ≡ [])
         (λ i. (rest : List ℕ)

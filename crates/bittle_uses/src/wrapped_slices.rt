@@ -1,4 +1,4 @@
-//! What a slice has after changes through a `Set` that it was lent to.
+//! Changes of a slice through a `Set` that borrows it.
 
 ghost use Rattle.std.specs.Prelude.{◌≡◌, ◌*◌, ◌<◌, length, IsTrue};
 ghost use Rattle.bittle.specs.Orders.{read_in};
@@ -11,7 +11,7 @@ ghost use Rattle.bittle.specs.Values.{set_in};
 use bittle::replay::{Call, Reply, replay};
 use bittle::{BitsMut, BitsOwned, DefaultEndian, Endian, LittleEndian, Set};
 
-/// Sets the bit at one index and clears that at another, through a set in the default order.
+/// Sets the bit at one index and clears the bit at another, through a set in the default order.
 pub fn set_and_clear<U: BitsOwned>(slice: &mut [U], set: u32, clear: u32)
     requires { Fits U.indexable (length slice.old * U.type_capacity) }
     ensures { read_in ⟦<DefaultEndian as Endian>⟧.mirrored U.width
@@ -25,7 +25,7 @@ pub fn set_and_clear<U: BitsOwned>(slice: &mut [U], set: u32, clear: u32)
     set_then_clear(&mut wrapped, set, clear);
 }
 
-/// Sets the bit at one index and clears that at another, through a set in little-endian order.
+/// Sets the bit at one index and clears the bit at another, through a set in little-endian order.
 pub fn set_and_clear_le<U: BitsOwned>(slice: &mut [U], set: u32, clear: u32)
     requires { Fits U.indexable (length slice.old * U.type_capacity) }
     ensures { read_in ⟦<LittleEndian as Endian>⟧.mirrored U.width
@@ -39,7 +39,7 @@ pub fn set_and_clear_le<U: BitsOwned>(slice: &mut [U], set: u32, clear: u32)
     set_then_clear(&mut wrapped, set, clear);
 }
 
-// Sets the bit at one index and clears that at another, through a set of any shape.
+// Sets the bit at one index and clears the bit at another, through a set of any shape.
 fn set_then_clear<T: BitsMut, E: Endian>(wrapped: &mut Set<T, E>, set: u32, clear: u32)
     ensures set { set_in T.Shape E.Endian wrapped.new.bits
         ≡ without_index (with_index (set_in T.Shape E.Endian wrapped.old.bits) set) clear }
@@ -49,7 +49,7 @@ fn set_then_clear<T: BitsMut, E: Endian>(wrapped: &mut Set<T, E>, set: u32, clea
     wrapped.clear_bit(clear);
 }
 
-/// Makes the calls, with bits read in the order `E`, through a set in the default order.
+/// Makes calls that name the order `E` on a slice, through a set in the default order.
 pub fn replay_through<U: BitsOwned, E: Endian>(
     slice: &mut [U],
     calls: &[Call],

@@ -1,11 +1,10 @@
-//! Moves the entities of a world of 65,536, of which each component has a mask.
+//! Moves the entities of a world with room for 65,536 entities.
 //!
-//! An entity is an index below 65,536; a mask has the entities that have a component. Nearly all
-//! are alive, so each mask has a summary of its unset bits: a spawn finds a free number in a few
-//! steps. What is proved is what `bit_entities` promises: a new entity was not alive, and has no
-//! component of one before it; an entity that is removed has none; a number past the world is no
-//! entity; and a query yields each entity that has the components once, so an entity is moved once
-//! in a step.
+//! An entity is an index below 65,536. Each component has a mask of the entities that have it.
+//! Nearly all entities are alive, so each mask has a summary of its unset bits: a spawn finds a
+//! free number in a few steps. What is proved is what `bit_entities` promises. A new entity was not
+//! alive, and has no component. A removed entity has no component. A number past the world is no
+//! entity. A query yields each entity that has the components once, so a step moves it once.
 #![tactic(auto)]
 
 ghost use Rattle.std.specs.Prelude.{◌≡◌, ◌∷◌, [], ◌≤◌, length};
@@ -27,7 +26,7 @@ const SPEED: u32 = 1;
 /// The component of an entity that is awake.
 const AWAKE: u32 = 2;
 
-/// Which entities are alive, and which have a component.
+/// A mask of the entities that are alive, or that have a component.
 type Mask = Tiered64K<Zeros>;
 
 /// Makes an entity with a place, and with a speed unless it is 0. If all are alive, it changes
@@ -54,7 +53,8 @@ fn place<B: BitsOwned>(
     Some(entity)
 }
 
-/// Adds to the place of each entity that is to move its speed, and returns how many these are.
+/// Moves each entity that has a place and a speed and is awake: adds its speed to its place.
+/// Returns how many entities moved.
 fn step<B: BitsOwned>(world: &World<B, 3>, places: &mut [i32], speeds: &[i32]) -> u32
     requires places { B.type_capacity ≤ length places.old }
     requires speeds { B.type_capacity ≤ length speeds.now }
@@ -70,7 +70,7 @@ fn step<B: BitsOwned>(world: &World<B, 3>, places: &mut [i32], speeds: &[i32]) -
     movers.count_ones()
 }
 
-/// Prints the entities that have a place, each with it.
+/// Prints each entity that has a place, with its place.
 fn print_places<B: BitsOwned>(
     rt: &HostRuntime,
     world: &World<B, 3>,
@@ -83,7 +83,7 @@ fn print_places<B: BitsOwned>(
     Ok(())
 }
 
-/// Makes so many entities, and prints each.
+/// Makes `many` entities, and prints each.
 fn print_new<B: BitsOwned>(rt: &HostRuntime, world: &mut World<B, 3>, many: u32) -> io::Result<()> {
     for _ in 0..many {
         if let Some(entity) = world.spawn() {
@@ -93,7 +93,7 @@ fn print_new<B: BitsOwned>(rt: &HostRuntime, world: &mut World<B, 3>, many: u32)
     Ok(())
 }
 
-/// Prints the entities that would move, were they awake.
+/// Prints the entities that have a speed and are not awake.
 fn print_sleepers<B: BitsOwned>(rt: &HostRuntime, world: &World<B, 3>) -> io::Result<()> {
     let moving = world.matching(&[SPEED]);
     let awake = world.matching(&[AWAKE]);
@@ -135,7 +135,8 @@ fn move_twice<B: BitsOwned>(
     print_places(rt, world, places)
 }
 
-/// Removes two entities and makes three, and prints these, who sleeps, and what is refused.
+/// Removes two entities, makes three and prints them. Prints which entities are not awake, and that
+/// a number past the world is refused.
 fn turn_over<B: BitsOwned>(rt: &HostRuntime, world: &mut World<B, 3>) -> io::Result<()> {
     world.remove(60_001);
     world.remove(4_000);
@@ -145,7 +146,7 @@ fn turn_over<B: BitsOwned>(rt: &HostRuntime, world: &mut World<B, 3>) -> io::Res
     println!(rt; "entity 65536 is refused: {is_refused}")
 }
 
-/// Lets some entities of the world live.
+/// Moves some entities of the world, and then replaces some.
 fn live<B: BitsOwned>(
     rt: &HostRuntime,
     world: &mut World<B, 3>,

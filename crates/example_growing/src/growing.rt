@@ -1,4 +1,4 @@
-//! A set over a `Vec` of words: for the length of a call a slice of them is the set.
+//! A set over a `Vec` of words. During each call, a slice of these words is the set.
 
 use bittle::Bits;
 use bittle_ext::prelude::*;
@@ -18,8 +18,8 @@ impl Growing {
         }
     }
 
-    /// Adds a number, and returns whether it was no member. Where it lies past the words, words with
-    /// no bit set are added first. Where there is no memory for them, nothing changes.
+    /// Adds a number, and returns whether it was no member. If it lies past the words, words with
+    /// no bit set are added first. If there is no memory for them, nothing changes.
     pub(crate) fn insert(&mut self, number: u32) -> Result<bool, AllocError> {
         let wanted = number as usize / 64 + 1;
         if self.words.len() < wanted {
@@ -38,13 +38,15 @@ impl Growing {
         set.remove(number)
     }
 
-    /// Returns whether a number is a member: one past the words is none, and does not wrap.
+    /// Returns whether a number is a member. A number past the words is no member: it does not
+    /// wrap.
     pub(crate) fn contains(&self, number: u32) -> bool {
         let set = self.words.as_slice();
         (number as usize) / 64 < set.len() && set.test_bit(number)
     }
 
-    /// Returns the least number from one on that is no member: past the words each is none.
+    /// Returns the least number from `from` on that is no member. A number past the words is no
+    /// member. If the words have `u32::MAX` bits or more, it returns `from`.
     pub(crate) fn next_free(&self, from: u32) -> u32 {
         let set = self.words.as_slice();
         if set.bits_capacity() == u32::MAX {
@@ -56,7 +58,7 @@ impl Growing {
         }
     }
 
-    /// Returns how many members there are.
+    /// Returns how many members there are, or `u32::MAX` if the words have that many bits or more.
     pub(crate) fn count(&self) -> u32 {
         let set = self.words.as_slice();
         if set.bits_capacity() == u32::MAX {

@@ -1,8 +1,8 @@
-//! Hands out the pages of a gibibyte, of 4 KiB each, where nearly all are taken.
+//! Hands out pages of 4 KiB from a gibibyte, of which nearly all pages are taken.
 //!
-//! A page is taken where its bit is set, and a summary tells which words of the map have a free
-//! one. What is proved: which three pages are free at first. The contract of `Pages` says the rest:
-//! a page that is handed out was free, no lesser one was, and all are taken where it is full.
+//! A page is taken if its bit is set. A summary shows which words of the map have a free page. What
+//! is proved: which three pages are free at first. The contract of `Pages` says the rest: a page
+//! that is handed out was free, no lesser page was free, and all are taken if the answer is `Full`.
 #![tactic(auto)]
 
 ghost use Rattle.std.specs.Prelude.{◌≡◌};
@@ -15,7 +15,7 @@ use bittle::BigEndian;
 use bittle_tiers::prelude::*;
 use std::io;
 
-/// Which of the 262,144 pages are taken.
+/// A map of the taken pages, of 262,144 pages in all.
 type Map = Tiered256K<Zeros>;
 
 /// Returns the map of which three pages are free.
@@ -28,7 +28,7 @@ fn map_with_three_free() -> Map
     map
 }
 
-/// Serves requests, where the pages of a map are taken.
+/// Serves requests from an allocator in which the pages of a map are taken.
 fn serve(map: Map, requests: &[Request; 12]) -> [Answer; 12] {
     let mut answers = [Answer::Full; 12];
     Pages::with_taken(map).serve(requests, &mut answers);

@@ -2,7 +2,7 @@
 use Rattle.std.specs.Prelude.{◌≡◌, ℕ, ◌+◌, false, ◌&&◌}
 use Rattle.bittle.specs.PlainSet.{PlainSet, contains, size}
 
--- no square has a stone of both
+-- no square has a stone of both players
 abbrev pub AreApart : PlainSet → PlainSet → Type 0
 AreApart s t = (square : ℕ) → (contains s square && contains t square) ≡ false
 

@@ -1,9 +1,9 @@
 //! Counts the games of tic-tac-toe by their number of moves, as perft counts those of chess.
 //!
 //! The stones of a player are a set of squares, which are numbered row by row from 0 to 8. A game
-//! ends with three stones in a line, or with the last free square. What is proved: a move puts one
-//! stone on a square that has none, and changes nothing else; so no square ever has a stone of both
-//! players, and each move leaves one stone more.
+//! ends with three stones in a line, or when no square is free. What is proved: a move puts one
+//! stone on a square that has none, and changes nothing else. So no square ever has a stone of both
+//! players, and each move adds one stone.
 #![tactic(auto)]
 
 ghost use Rattle.std.specs.Prelude.{◌≡◌, ◌+◌, ◌||◌, true, false, IfSome, MatchOption};
@@ -50,8 +50,8 @@ impl Position {
         self.mine.test_bit(square) || self.theirs.test_bit(square)
     }
 
-    /// Puts a stone on a square, and the other player is to move. Returns `None` where the square
-    /// has a stone.
+    /// Returns the position after the player puts a stone on a square, or `None` if the square has
+    /// a stone. The other player is then to move.
     fn play(self, square: u32) -> Option<Position>
         ensures stone { let taken = contains (bit_set 16 self.mine) square
             || contains (bit_set 16 self.theirs) square in
@@ -81,7 +81,7 @@ impl Position {
     }
 }
 
-/// Counts the games that go on from a position for `moves` more moves.
+/// Counts the ways to go on from a position by just `moves` more moves.
 fn count_games(position: Position, moves: u32) -> u64 {
     if moves == 0 {
         return 1;

@@ -1,8 +1,8 @@
-//! Asks what a role allows, if roles may inherit from one another.
+//! Prints what each role allows, where a role may inherit from another role.
 //!
 //! A permission is an index below 32. A role is a number, and its parent has a smaller one. What is
 //! proved is what `bit_roles` promises: a role allows a permission exactly if a chain of parents
-//! leads to a role that was granted it, and a grant takes nothing away.
+//! leads to a role that was granted the permission, and a grant takes nothing away.
 #![tactic(auto)]
 
 use bit_roles::{Refused, Roles};
@@ -11,8 +11,8 @@ use std::io;
 /// The names of the permissions, each at its index.
 const NAMES: [&str; 4] = ["read", "write", "publish", "remove"];
 
-/// A guest reads, a writer is a guest that writes, an editor is a guest that publishes, an owner is
-/// a writer that publishes and removes.
+/// Returns four roles: a guest reads, a writer is a guest that writes, an editor is a guest that
+/// publishes, an owner is a writer that publishes and removes.
 fn build() -> Result<Roles<u32, 4>, Refused> {
     let mut roles = Roles::<u32, 4>::new();
     for (role, permission) in [(0, 0), (1, 1), (2, 2), (3, 2), (3, 3)] {

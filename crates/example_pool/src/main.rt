@@ -19,15 +19,15 @@ use std::io;
 /// How many pages a pool has.
 const PAGES: u32 = 128;
 
-/// A pool: a page is taken where its bit is set.
+/// A pool of pages. A page is taken if its bit is set.
 #[derive(Drop)]
 struct Pool {
     taken: [u64; 2],
 }
 
 impl Pool {
-    /// Takes the first run of `pages` free pages, and returns its first page. Where there is none,
-    /// nothing changes, and it returns `None`.
+    /// Takes the first run of `pages` free pages, and returns its first page. If there is no such
+    /// run, nothing changes, and it returns `None`.
     fn allocate(&mut self, pages: u32) -> Option<u32>
         ensures free { IsFirstRun (complement (row_set 2 64 (bit_set 64) self.old.taken)) 0 pages result }
         ensures taken { MatchOption result (self.new.taken ≡ self.old.taken) (λ first.
@@ -39,8 +39,8 @@ impl Pool {
         Some(first)
     }
 
-    /// Gives `pages` pages back, from `first` on, and returns `true`. Where one of them is not
-    /// taken, nothing changes, and it returns `false`.
+    /// Gives `pages` pages back, from `first` on, and returns `true`. If one of them is not taken,
+    /// nothing changes, and it returns `false`.
     fn release(&mut self, first: u32, pages: u32) -> bool
         ensures { let before = row_set 2 64 (bit_set 64) self.old.taken in
             MatchBool result

@@ -23,7 +23,7 @@ pub enum Step {
     Back,
 }
 
-// A list of numbers that holds only snapshots.
+// A list of counts. Each part is a snapshot, which only contracts can read.
 #[derive(Drop)]
 enum CountList {
     Empty,

@@ -111,8 +111,8 @@ fn has_past<B: Bits, E: Endian>(bits: &B, capacity: u32, index: u32) -> bool
     index < capacity && bits.first_one_in::<E>(index, capacity).is_some()
 }
 
-// Returns whether the side that lacks an index has a member past it. `is_left` is whether the left
-// side has the index.
+// Just one side has a certain index: the left one if `is_left` is `true`. Returns whether the other
+// side has a member past that index.
 #[inline]
 fn other_goes_on<A: Bits, B: Bits, E: Endian>(
     left: &A,
@@ -206,8 +206,9 @@ fn are_equal<A: Bits, B: Bits, E: Endian, F: Endian>(left: &A, right: &B) -> boo
 impl<T: Bits, E: Endian> Set<T, E> {
     /// Compares this set with another one of any shape, by their increasing lists of indexes.
     ///
-    /// The other shape has to fit. Each side is read in its own order: this set in `E`, the other
-    /// one in `U::Order`. It compares words, or items of iterators, up to the first difference.
+    /// The other shape has to fit (`bits_capacity() < u32::MAX`). Each side is read in its own
+    /// order: this set in `E`, the other one in `U::Order`. It compares words, or items of
+    /// iterators, up to the first difference.
     ///
     /// ```
     /// Set::new(1u8).cmp_bits(&3u16);                      // Less
@@ -228,8 +229,9 @@ impl<T: Bits, E: Endian> Set<T, E> {
 
     /// Returns `true` if this set and another one of any shape have the same members.
     ///
-    /// The other shape has to fit. Each side is read in its own order: this set in `E`, the other
-    /// one in `U::Order`. It compares words, or items of iterators, up to the first difference.
+    /// The other shape has to fit (`bits_capacity() < u32::MAX`). Each side is read in its own
+    /// order: this set in `E`, the other one in `U::Order`. It compares words, or items of
+    /// iterators, up to the first difference.
     ///
     /// ```
     /// Set::new_le(0x80u8).eq_bits(&1u16);                 // true: each has the one index 0

@@ -1,4 +1,4 @@
-//! Sets of one word, made of an integer.
+//! `From` and `Default` for sets that wrap one integer.
 
 ghost use Rattle.std.specs.Prelude.{◌≡◌, Bool};
 ghost use Rattle.bittle_bits.specs.PlainSet.{empty_set, size};

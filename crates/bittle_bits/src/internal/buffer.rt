@@ -109,7 +109,7 @@ fn bits_of<W: Word>(words: usize) -> u32
 }
 
 // Returns word `k` of a set as a buffered word for the end `N`. At the front its first index is
-// computed from `k + 1`, since the cursor holds `k + 1` by then.
+// computed from `k + 1`, since the cursor's `low` is `k + 1` by then.
 #[inline(always)]
 fn buffered<W: Word, E: Endian, N: End>(word: W, k: usize) -> BufferedWord<W>
     requires { k * W.width + W.width < 4294967296 }

@@ -1,5 +1,5 @@
-//! The first bit of a kind, set or unset, in whole words. A search skips the words at both ends
-//! that the set passes over, and reads the other words four at a time.
+//! The first bit of a kind, set or unset, in whole words. A search skips words at both ends that
+//! the set knows to have no such bit, and reads the other words four at a time.
 
 ghost use Rattle.std.specs.Prelude.{◌+◌, ◌*◌, ◌≤◌, ◌↔◌, IsTrue};
 ghost use Rattle.bittle_bits.specs.Searches.{IsFirstIn, NoneIn};

@@ -28,7 +28,7 @@ pub struct Cursor<B: Shape, E: Endian> {
     pub passed: Count,
 }
 
-/// Begins an iterator. It leaves out the words that the set passes over at its two ends.
+/// Begins an iterator. It leaves out words at both ends that the set knows to have no item.
 ///
 /// For a type of fixed length it loads the first word that is left into the head. For a slice it
 /// loads no word. So if an iterator over a slice is stepped from one end alone, the compiler drops

@@ -1,4 +1,4 @@
-//! A word of 128 bits by its halves. A processor holds each half in a register.
+//! Works on a word of 128 bits by its two halves. A processor holds each half in a register.
 
 ghost use Rattle.std.specs.Prelude.{◌≡◌, ◌+◌, ◌*◌, ◌^◌, ◌<◌};
 ghost use Rattle.bittle_bits.specs.SetOperations.{combination_of};
@@ -7,8 +7,8 @@ ghost use Rattle.bittle_bits.specs.WordSets.{bits_of};
 use crate::operation::Operation;
 use crate::word::Word;
 
-/// Returns the halves of a word of 128 bits: first that of the lesser weights, then that of the
-/// greater weights.
+/// Returns the halves of a word of 128 bits: first the half with the bits of lesser weight, then
+/// the half with the bits of greater weight.
 #[inline(always)]
 pub fn halves<T: Word>(word: T) -> (u64, u64)
     requires { T.width ≡ 128 }

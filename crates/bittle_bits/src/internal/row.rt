@@ -144,7 +144,8 @@ fn assign_in_element<T: BitsOwned, E: Endian, O: RangeOperation>(
 }
 
 // Returns five numbers: how many bits an element has, the element that the first index of
-// `from..to` lies in, the index within this element, and the same two of the last index.
+// `from..to` lies in, the index within this element, and then the element and the index within it
+// for the last index.
 #[inline]
 fn element_ends<T: BitsOwned>(len: usize, from: u32, to: u32) -> (u32, u32, u32, u32, u32)
     requires fits { IsTrue T.indexable }
@@ -161,7 +162,7 @@ fn element_ends<T: BitsOwned>(len: usize, from: u32, to: u32) -> (u32, u32, u32,
 
 /// Changes each bit of `from..to` by the operation `O`: `Union` sets these bits, `Difference`
 /// clears them, and `SymmetricDifference` flips them. Each element between the first and the last
-/// one is changed as a whole. If the elements are words, one mask serves all of these.
+/// one is changed as a whole. If the elements are words, all of these are changed by the same mask.
 pub fn assign_range<T: BitsOwned, E: Endian, O: RangeOperation>(
     elements: &mut [T],
     from: u32,

@@ -68,7 +68,7 @@ fn moved<A: ReadWords, B: ReadWords, E: Endian, F: Endian, N: End>(
     }
 }
 
-// Returns whether `at`, as the end `N` of the words `low..high`, lies before their other end.
+// Returns whether the end `N` of `low..high`, moved to `at`, has not reached the other end.
 #[inline(always)]
 fn is_inside<N: End>(low: usize, high: usize, at: usize) -> bool
     ensures { result ≡ is_inside N.FRONT low high at }

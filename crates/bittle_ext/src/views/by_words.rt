@@ -1,4 +1,4 @@
-//! Queries on all words of a set, or on one bit, for any set that is read word by word.
+//! Counts and tests of all bits, and tests of one bit, for any set that is read word by word.
 
 ghost use Rattle.std.specs.Prelude.{◌≡◌, ◌+◌, ◌*◌, ◌<◌, ◌≤◌, ◌==◌, Bool};
 ghost use Rattle.bittle.specs.Searches.{PassesOver};

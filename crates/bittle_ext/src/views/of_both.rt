@@ -58,8 +58,8 @@ pub trait ViewOperation: Operation {
     ghost keeps_empty: { Self.decide false false ≡ false };
 }
 
-/// An operation whose result has, of the indexes that are not in the first set, exactly those of
-/// the second set.
+/// An operation whose result has an index outside the first set exactly if the second set has that
+/// index.
 pub trait EitherOperation: ViewOperation {
     ghost takes_second: { (b : Bool) → Self.decide false b ≡ b };
 }
@@ -116,8 +116,8 @@ impl FirstOperation for Difference {
     ghost keeps_first = { λ _. refl };
 }
 
-// Returns `true` if each index of the result is in both sets, their words have one width, and both
-// sets can tell which groups of words may have a set bit.
+// Returns `true` if each index of the result is in both sets, their words have the same width, and
+// both sets can tell which groups of words may have a set bit.
 #[inline(always)]
 fn combines_groups<A: ReadWords, B: ReadWords, O: ViewOperation>() -> bool
     ensures width { IsTrue result → A.width ≡ B.width }
@@ -380,7 +380,7 @@ impl<'a, A: Bits, B: Bits, E: Endian, F: Endian, O: FirstOperation> OfBoth<'a, A
 }
 
 impl<'a, A: Bits, B: Bits, E: Endian, F: Endian, O: EitherOperation> OfBoth<'a, A, B, E, F, O> {
-    /// Returns a view of the result of an operation on two sets whose words have one width.
+    /// Returns a view of the result of an operation on two sets whose words have the same width.
     #[inline]
     pub(crate) fn of_alike(left: &'a A, right: &'a B) -> Self
         requires width { A.width ≡ B.width }
@@ -404,7 +404,7 @@ impl<'a, A: Bits, B: Bits, E: Endian, F: Endian, O: EitherOperation> OfBoth<'a, 
     }
 
     /// Returns a view of the result of an operation on two sets whose words may differ in width.
-    /// Its capacity is the greater one, rounded up to whole words of the first set.
+    /// Its capacity is the greater of the two, rounded up to whole words of the first set.
     #[inline]
     pub(crate) fn of_unlike(left: &'a A, right: &'a B) -> Self
         requires left_fits { ShapeFits A.Shape left.now }

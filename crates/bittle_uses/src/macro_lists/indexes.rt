@@ -1,4 +1,5 @@
-//! Uses of each macro with indexes alone. An index of each form comes beside one of the same form.
+//! Uses of each macro with indexes alone. Each function `listed_*` returns the sets that the three
+//! macros make of one list. In the lists, an index of each form is beside one of the same form.
 
 ghost use Rattle.std.specs.Prelude.{◌≡◌, ◌+◌, ◌<◌, IsTrue, slice_index};
 ghost use Rattle.bittle.specs.Values.{set_mirrored};
@@ -7,7 +8,7 @@ ghost use Rattle.bittle_uses.specs.MacroLists.{listed_four_set};
 
 use bittle::BitsOwned;
 
-// What `set!`, `set_le!` and `set_be!` make of one list.
+// Expands to the sets that `set!`, `set_le!` and `set_be!` make of one list.
 macro_rules! by_each {
     ($($list:tt)*) => {
         (bittle::set![$($list)*], bittle::set_le![$($list)*], bittle::set_be![$($list)*])

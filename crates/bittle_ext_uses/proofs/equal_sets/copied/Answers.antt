@@ -16,7 +16,7 @@ up_to s t k below at j up = elim (cases_lt j k) [
   | inr g ↦ let same : j ≡ k = omega (arith, up, g) in rw (same) at
 ]
 
--- a turn in which `from` has the number k, and one in which it has not
+-- a turn of the loop in which `from` has the number k, and a turn in which it lacks k
 module _ (from before : ℕ) (k : ℕ) (few : k < 64)
     (same : (j : ℕ) → j < k → contains (bit_set 64 before) j ≡ contains (bit_set 64 from) j)
     (none : (j : ℕ) → k ≤ j → j < 64 → contains (bit_set 64 before) j ≡ false) where

@@ -5,8 +5,9 @@ use Rattle.bittle_ext.specs.SetRelations.{IsSubset}
 use Rattle.bittle_ext_uses.specs.Graphs.{IsClosed}
 use Rattle.bittle_ext_uses.proofs.graphs.reachable.Given as goal
 
--- The queue has the start, if that is a node, and what edges lead to from each taken node. A node
--- is taken if it is not in `left`. Each closed set has all of the queue and all taken nodes.
+-- The queue has the start, if that is a node, and each node that an edge leads to from a taken
+-- node. A node is taken if it is not in `left`. Each closed set has all nodes of the queue, and all
+-- taken nodes.
 pub record IsSearched (rows : List ℕ) (first : ℕ) (left queue : PlainSet) : Type 0 where
   pub begun : first < 64 → queue.has first ≡ true
   pub followed : (k : ℕ) → k < 64 → left.has k ≡ false →

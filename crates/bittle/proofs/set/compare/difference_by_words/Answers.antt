@@ -12,7 +12,7 @@ returns-then-is_some g c =
     (set_in g.B.Shape g.E.Endian c.args.right.now) _ c.first_decided_below-difference.result
     (sym c.is_some.ensures ∙ c.if-is_some.true) c.first_decided_below-difference.ensures.first
 
--- if the search of the common words found none
+-- if a search of the words below both capacities finds no difference, the sets agree there
 alike : (g : Over) (c : Else-is_some g) → AreAlikeInCommon
     (set_in g.A.Shape g.E.Endian c.args.left.now) (set_in g.B.Shape g.E.Endian c.args.right.now)
 alike g c =

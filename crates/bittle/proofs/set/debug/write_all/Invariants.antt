@@ -10,12 +10,12 @@ use Rattle.bittle.proofs.set.debug.write_all.Given as goal
 abbrev pub others_text : List ℕ → List ℕ
 others_text = flat_map (λ i. codes ", " ++ decimal i)
 
--- the text of the indexes that are left; the first of them may be the first of all
+-- the text of the indexes that are left; a comma precedes them unless none is written yet
 abbrev pub rest_text : Bool → List ℕ → List ℕ
 rest_text first left = (if first then join_by decimal (codes ", ") left else others_text left)
     ++ codes "}"
 
--- whatever writes the rest writes the whole
+-- if what follows writes the text of the indexes that are left, the whole text is written
 abbrev pub invariant-loop-index : goal.invariant-loop-index
 invariant-loop-index g l = (r : Result (Unit {0}) Error) (f : Formatter g.row.W.Denot) →
     WritesOnOk g.W.Write.write_str_gives l.f r

@@ -3,7 +3,7 @@ use Rattle.std.specs.List.{flat_map, fold}
 use Rattle.std.specs.Hash as fed
 use Rattle.bittle.proofs.set.hash.feed_all.Given as goal
 
--- feeding the rest completes the feed of all
+-- once the items that are left are fed, the hasher got all items
 abbrev pub invariant-loop-index : goal.invariant-loop-index
 invariant-loop-index g l =
     let all = (g.I.Counted.walk l.fn.indexes).remaining in
