@@ -1,4 +1,4 @@
-//! The debug texts of requests, answers and errors of the allocator, and of an allocator's cut text.
+//! The debug texts of the allocator's requests, answers and error, and texts that are cut off.
 
 use crate::checks::{holds, same};
 use bit_pages::{Answer, NotTaken, Request};
@@ -8,7 +8,7 @@ use std::fmt::{Debug, Write};
 use std::process::Abort;
 use std::test::Fail;
 
-// Asks for the debug text of a value.
+// Checks the debug text of a value.
 fn reads<T: Debug>(
     rt: &impl Abort,
     alloc: Global,
@@ -42,7 +42,7 @@ fn the_error_of_a_page_that_is_not_taken_is_named(rt: HostRuntime) -> Result<(),
     Ok(())
 }
 
-// Takes some texts, and then fails.
+// A writer that takes `left` pieces of text, and then fails.
 #[derive(Drop)]
 struct Short {
     left: u32,

@@ -1,11 +1,11 @@
-//! The text of an error.
+//! The text of the allocator's error, `NotTaken`.
 
 use crate::checks::holds;
 use bit_pages::NotTaken;
 use std::fmt;
 use std::fmt::Write;
 
-// Takes some texts, and then fails.
+// A writer that takes `left` pieces of text, and then fails.
 #[derive(Drop)]
 struct Short {
     left: u32,

@@ -1,4 +1,4 @@
-//! Callers of the everyday calls, with values worked out by hand.
+//! Callers of the everyday calls (`bittle_ext`), compared with values worked out by hand.
 
 use crate::checks::same;
 use bittle::Bits;
@@ -43,7 +43,7 @@ fn first_members_in_a_slice(rt: HostRuntime) {
 
 #[test]
 fn right_numbers_of_a_ticket(rt: HostRuntime) {
-    // Of 1, 2, 3, 10, 20 and 49 the numbers 3, 10 and 49 were drawn.
+    // The ticket has 1, 2, 3, 10, 20 and 49. Of these, 3, 10 and 49 were drawn.
     let ticket = 1 << 49 | 1 << 20 | 1 << 10 | 0b1110u64;
     assert!(rt; Bits::count_ones(&ticket) == 6);
     same!(rt; right_numbers(ticket, 1 << 49 | 1 << 48 | 1 << 10 | 0b1000), 3);
@@ -56,7 +56,7 @@ fn a_field_of_cells(rt: HostRuntime) {
     field.fill(199);
     field.fill(200);
     same!(rt; (field.count(), field.first()), (4, Some(0)));
-    // The cells 0 to 2 go with their row, and cell 199 comes to the row below.
+    // The lowest row goes, and cells 0 to 2 with it. Cell 199 moves down one row, to 189.
     field.remove_row();
     same!(rt; (field.count(), field.first(), field.is_full(199)), (1, Some(189), false));
     field.empty(189);
@@ -74,7 +74,7 @@ fn two_fields_in_one(rt: HostRuntime) {
 
 #[test]
 fn seats_of_which_some_are_reserved(rt: HostRuntime) {
-    // The seats 0 and 1 are reserved.
+    // Seats 0 and 1 are reserved.
     let mut seats = Seats::new([0b11, 0, 0, 0]);
     same!(rt; (seats.take(), seats.give_back(1), seats.give_back(2)), (Some(2), false, true));
     seats.take_all(&[2, 255]);
@@ -100,7 +100,7 @@ fn squares_of_a_board_with_mines(rt: HostRuntime) {
 
 #[test]
 fn blocks_of_which_some_are_bad(rt: HostRuntime) {
-    // Block 0 is bad, and later block 4.
+    // Block 0 is bad from the start, and block 4 is marked later.
     let mut first = [0u64; 16];
     first[0] = 1;
     let mut blocks = Blocks::new(first);
@@ -122,7 +122,7 @@ fn clauses_of_one_line(rt: HostRuntime) {
 
 #[test]
 fn bays_that_are_open_or_wide(rt: HostRuntime) {
-    // Bays 0 to 63 are taken and bay 64 is closed. Bays 1, 65 and 201 are wide.
+    // Bays 0 to 63 are taken and bay 64 is closed. Bays 1 and 65 are wide. There is no bay 201.
     let (taken, closed) = ([u64::MAX, 0, 0, 0], [0, 1, 0, 0]);
     same!(rt; first_open_bay(&taken, &closed), Some(65));
     same!(rt; first_open_bay(&taken, &[0, u64::MAX, u64::MAX, 0xFF]), None);
@@ -169,7 +169,7 @@ fn a_set_copied_number_by_number(rt: HostRuntime) {
     same!(rt; copied(1 << 63 | 0b1010), 1 << 63 | 0b1010);
 }
 
-// The number of an answer: 0 for a square that was fired at before, 1 for water, 2 for a ship.
+// Returns a number for an answer: 0 for a repeated shot, 1 for water, 2 for a ship.
 fn number_of(answer: Shot) -> u32 {
     match answer {
         Shot::Repeated => 0,
@@ -180,7 +180,7 @@ fn number_of(answer: Shot) -> u32 {
 
 #[test]
 fn shots_at_ships(rt: HostRuntime) {
-    // Ships are at the squares 1 and 63.
+    // Ships are at squares 1 and 63.
     let (ships, mut fired) = (1 << 63 | 0b0010, 0u64);
     let mut answers = [9; 5];
     for (k, square) in [63, 2, 63, 1, 2].iter().enumerate() {

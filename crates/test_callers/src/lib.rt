@@ -1,7 +1,7 @@
-//! Tests of the proved callers and of the allocator: values worked out by hand.
+//! Tests of the proved callers (functions that call the library) and of the page allocator, against
+//! values worked out by hand.
 //!
-//! The callers are in `bittle_uses` and `bittle_ext_uses`, the allocator in `bit_pages`, each with its
-//! contracts.
+//! The callers are in `bittle_uses` and `bittle_ext_uses`, and the allocator is in `bit_pages`.
 #![tactic(auto)]
 
 #[cfg(test)]

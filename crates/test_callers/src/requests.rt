@@ -1,4 +1,4 @@
-//! Runs of requests, with the answer to each.
+//! Lists of requests to the page allocator, and the answer to each.
 
 ghost use Rattle.bittle.specs.Shapes.{Fits};
 
@@ -7,8 +7,8 @@ use bit_pages::{Answer, NotTaken, Pages, Request};
 use bittle::{BitsOwned, LittleEndian, Set};
 use std::test::Fail;
 
-// Serves requests of which some give back what is not taken, and returns the answers with the
-// number of pages that are taken then.
+// Serves requests, some of which give back a page that is not taken. Returns the answers, and how
+// many pages are taken at the end.
 fn serve_some<B: BitsOwned>() -> ([Answer; 7], u32)
     requires { Fits B.indexable B.type_capacity }
 {
@@ -27,7 +27,7 @@ fn serve_some<B: BitsOwned>() -> ([Answer; 7], u32)
     (answers, pages.taken())
 }
 
-// Returns what has to be answered, whatever the type, as long as it has three pages.
+// Returns what `serve_some` has to return for each type with at least three pages.
 fn answers_to_some() -> ([Answer; 7], u32) {
     let answers = [
         Answer::Page(0),
@@ -75,8 +75,9 @@ fn no_pages_at_all(rt: HostRuntime) {
     holds!(rt; !pages.is_taken(0));
 }
 
-// Takes two pages, gives the first back, and returns how many there are, how many are taken and
-// free, and which of the pages 0, 1 and of what is none are taken.
+// Takes two pages, and gives the first one back. Returns how many pages there are, how many of them
+// are taken and how many are free. Also returns whether page 0, page 1 and the number past the last
+// page count as taken.
 fn ask_of_two<B: BitsOwned>() -> ([u32; 3], [bool; 3])
     requires { Fits B.indexable B.type_capacity }
 {
@@ -108,7 +109,7 @@ fn a_map_given_and_taken_back(rt: HostRuntime) {
     same!(rt; pages.into_map(), 0b0001_1111);
 }
 
-// Takes one page more than eight, gives page 3 back and takes again.
+// Requests nine pages, gives page 3 back, and requests one more page.
 fn serve_past_the_last<B: BitsOwned>() -> ([Answer; 11], u32)
     requires { Fits B.indexable B.type_capacity }
 {
@@ -120,7 +121,7 @@ fn serve_past_the_last<B: BitsOwned>() -> ([Answer; 11], u32)
     (answers, pages.taken())
 }
 
-// Returns what has to be answered where there are eight pages.
+// Returns what `serve_past_the_last` has to return for a type with eight pages.
 fn answers_of_eight() -> ([Answer; 11], u32) {
     let answers = [
         Answer::Page(0),
@@ -169,7 +170,7 @@ fn numbers_past_the_last_page(rt: HostRuntime) {
     same!(rt; pages.taken(), 1);
 }
 
-// Returns an allocator of which two pages were taken and page 0 was given back.
+// Returns an allocator after two pages were taken and page 0 was given back.
 fn with_page_1<B: BitsOwned>() -> Pages<B>
     requires { Fits B.indexable B.type_capacity }
 {
@@ -180,8 +181,8 @@ fn with_page_1<B: BitsOwned>() -> Pages<B>
     pages
 }
 
-// Returns whether two allocators with page 1 have the same pages, and whether they have after one
-// more page is taken of the first.
+// Makes two allocators in which page 1 is taken. Returns whether the same pages are taken in both,
+// and whether this still holds after one more page of the first is taken.
 fn same_and_not<B: BitsOwned, C: BitsOwned>() -> (bool, bool)
     requires first { Fits B.indexable B.type_capacity }
     requires second { Fits C.indexable C.type_capacity }
@@ -219,7 +220,7 @@ fn what_is_not_taken(rt: HostRuntime) -> Result<(), Fail> {
     same!(rt; pages.give_back(0), Err(NotTaken));
     same!(rt; pages.take(), Some(0));
 
-    // Page 8 is none, and does not wrap to page 0.
+    // There is no page 8, and 8 does not wrap to page 0.
     same!(rt; pages.give_back(8), Err(NotTaken));
     same!(rt; pages.taken(), 1);
     same!(rt; pages.give_back(0), Ok(()));

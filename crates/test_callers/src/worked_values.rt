@@ -1,4 +1,4 @@
-//! Values worked out by hand.
+//! The callers in `bittle_uses`, compared with values worked out by hand.
 
 use crate::checks::{holds, same};
 use bittle::{Bits, Set};

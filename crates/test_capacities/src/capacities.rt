@@ -1,4 +1,4 @@
-//! Arrays and slices.
+//! Arrays and slices: which element an index reaches, how an index wraps, and large capacities.
 
 use crate::checks::same;
 use bittle::prelude::*;

@@ -1,4 +1,4 @@
-//! Tests of capacities: without any, at the bound, and shapes that do not fit.
+//! Tests of capacities: 0, the bound `u32::MAX`, and those of nested arrays and slices.
 #![tactic(auto)]
 
 #[cfg(test)]

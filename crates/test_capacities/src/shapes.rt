@@ -1,4 +1,4 @@
-//! One list of calls on shapes of every nesting, and on slices of the caller.
+//! The same list of calls on nested arrays, on an integer, and on slices that a caller lends.
 
 ghost use Rattle.std.specs.Prelude.{◌*◌, length};
 ghost use Rattle.bittle.specs.Shapes.{Fits};
@@ -10,7 +10,8 @@ use bittle::{BigEndian, BitsMut, BitsOwned, Endian, LittleEndian};
 use std::fmt::Debug;
 use std::process::Abort;
 
-// Puts an index into an empty set in big-endian order, and one in little-endian order.
+// Sets bit `big` of an empty set in big-endian order, and bit `little` of another empty set in
+// little-endian order. Then checks both sets.
 fn put_each_way<B: BitsOwned + Debug>(
     rt: &impl Abort,
     big: u32,
@@ -25,8 +26,8 @@ fn put_each_way<B: BitsOwned + Debug>(
     same!(rt; sets, expected);
 }
 
-// The same of pairs, a level of nesting a function: a type of several levels is proved in less time
-// so.
+// Does what `put_each_way` does, on arrays of two sets. Each function adds one level of nesting, so
+// that a type of several levels is proved in less time.
 fn put_in_pairs<T: BitsOwned + Debug>(
     rt: &impl Abort,
     big: u32,
@@ -52,7 +53,7 @@ fn nested_arrays(rt: HostRuntime) {
     let expected: [[[u8; 2]; 2]; 2] = [[[0, 0], [2, 0]], [[0, 0], [64, 0]]];
     put_in_two_levels::<u8>(&rt, 49, 17, 32, expected);
 
-    // The same calls on another shape of the same capacity.
+    // The same big-endian calls on an integer of the same capacity.
     let mut word = 0i32;
     put_and_ask::<i32, BigEndian>(&rt, &mut word, 49, 32);
     same!(rt; word, 131_072);
@@ -64,7 +65,7 @@ fn nested_arrays(rt: HostRuntime) {
     put_in_two_levels::<[u16; 3]>(&rt, 100, 292, 192, expected);
 }
 
-// Puts an index into a slice without members.
+// Sets one bit of a slice in which no bit is set.
 fn put_into<T: BitsOwned, E: Endian>(
     rt: &impl Abort,
     mut slice: &mut [T],
@@ -116,8 +117,8 @@ fn no_words<E: Endian>(rt: &impl Abort) {
     same!(rt; replies, expected);
 }
 
-// Puts an index into an empty set: it is tested, counted, and alone among as many numbers as the
-// capacity.
+// Sets one bit of an empty set. Then checks that this bit is set, that one bit in all is set, and
+// that the set has the given capacity.
 fn put_and_ask<B: BitsMut, E: Endian>(rt: &impl Abort, bits: &mut B, index: u32, capacity: u32)
     requires { ShapeFits B.Shape bits.old }
 {

@@ -1,4 +1,4 @@
-//! Shapes without capacity: each call answers, and nothing is held.
+//! Shapes of capacity 0: every call returns, and no bit is ever set.
 
 ghost use Rattle.std.specs.Prelude.{◌*◌, IsTrue, length};
 ghost use Rattle.bittle.specs.Shapes.{Fits};
@@ -17,13 +17,13 @@ use std::test::Fail;
 
 const INDEXES: [u32; 6] = [0, 1, 7, 8, 127, u32::MAX];
 
-// What each call that reads answers.
+// Checks that the capacity is 0, and then checks every call that reads.
 fn reads<B: Bits>(rt: &impl Abort, bits: &B) {
     assert!(rt; bits.bits_capacity() == 0);
     reads_nothing(rt, bits);
 }
 
-// What each call that reads answers, of a set that fits.
+// Checks what every call that reads returns where there is no bit, neither set nor unset.
 fn reads_nothing<B: Bits>(rt: &impl Abort, bits: &B)
     requires { ShapeFits B.Shape bits.now }
 {
@@ -39,7 +39,7 @@ fn reads_nothing<B: Bits>(rt: &impl Abort, bits: &B)
     same!(rt; bits.count_ones_in_range_in::<LittleEndian>(0, 0), 0);
 }
 
-// No index is a member.
+// Checks that no index tests as set.
 fn tests_nothing<B: Bits>(rt: &impl Abort, bits: &B)
     requires { IsTrue B.indexable }
 {
@@ -48,7 +48,7 @@ fn tests_nothing<B: Bits>(rt: &impl Abort, bits: &B)
     }
 }
 
-// What each call that tests a bit answers.
+// Tests one bit by each of the five calls.
 fn tests_of<B: Bits>(bits: &B, index: u32) -> [bool; 5]
     requires { IsTrue B.indexable }
 {
@@ -61,7 +61,7 @@ fn tests_of<B: Bits>(bits: &B, index: u32) -> [bool; 5]
     ]
 }
 
-// Whether an iterator yields nothing, from either end.
+// Returns whether an iterator yields nothing from either end.
 fn is_over<W: DoubleEndedIterator<Item = u32>>(mut walk: W) -> bool
     requires front { (w : W) → W.can_next w }
     requires back { (w : W) → W.can_next_back w }
@@ -69,7 +69,7 @@ fn is_over<W: DoubleEndedIterator<Item = u32>>(mut walk: W) -> bool
     walk.next().is_none() && walk.next_back().is_none()
 }
 
-// The same of an iterator that is turned.
+// Returns whether the reversed iterator yields nothing from either end.
 fn is_over_turned<W: DoubleEndedIterator<Item = u32>>(walk: W) -> bool
     requires front { (w : W) → W.can_next w }
     requires back { (w : W) → W.can_next_back w }
@@ -109,7 +109,7 @@ fn no_owned_zeros_turned<B: BitsOwned, E: Endian>(walk: IntoIterZeros<B, E>) -> 
     is_over_turned(walk)
 }
 
-// Whether each iterator over the ones yields nothing.
+// Returns, for each iterator over set bits, whether it yields nothing.
 fn ones_are_over<B: Bits>(bits: &B) -> [bool; 4]
     requires { ShapeFits B.Shape bits.now }
 {
@@ -121,7 +121,7 @@ fn ones_are_over<B: Bits>(bits: &B) -> [bool; 4]
     ]
 }
 
-// Whether each iterator over the zeros yields nothing.
+// Returns, for each iterator over unset bits, whether it yields nothing.
 fn zeros_are_over<B: Bits>(bits: &B) -> [bool; 4]
     requires { ShapeFits B.Shape bits.now }
 {
@@ -139,7 +139,7 @@ fn no_letters<B: Bits, E: Endian>(mut join: JoinOnes<'_, B, E, Iter<'_, &str>>) 
     join.next().is_none()
 }
 
-// Whether each join yields nothing.
+// Returns, for each join, whether it yields nothing.
 fn joins_are_over<B: Bits>(bits: &B) -> [bool; 3]
     requires { ShapeFits B.Shape bits.now }
 {
@@ -150,7 +150,7 @@ fn joins_are_over<B: Bits>(bits: &B) -> [bool; 3]
     ]
 }
 
-// After each call that writes, nothing is held.
+// Makes every call that writes, and checks after each one that no bit is set.
 fn writes<B: BitsMut>(rt: &impl Abort, bits: &mut B) {
     reads(rt, bits);
     for index in INDEXES {
@@ -200,7 +200,7 @@ fn assigns_nothing<B: BitsMut>(rt: &impl Abort, bits: &mut B, other: &B) {
     reads(rt, bits);
 }
 
-// What each call of an owned type answers.
+// Checks every call on a type that owns its bits.
 fn owned<B: BitsOwned>(rt: &impl Abort) {
     assert!(rt; B::bits() == 0);
     let (mut zeros, mut ones) = (B::zeros(), B::ones());
@@ -239,7 +239,7 @@ fn makes_nothing_without<B: BitsOwned>(rt: &impl Abort, bits: B, index: u32)
     reads(rt, &bits.without_bit_be(index));
 }
 
-// What each iterator that owns its set yields.
+// Checks that every iterator that owns its set yields nothing.
 fn yields_nothing<B: BitsOwned>(rt: &impl Abort, bits: B)
     requires { ShapeFits B.Shape bits }
 {
@@ -247,7 +247,7 @@ fn yields_nothing<B: BitsOwned>(rt: &impl Abort, bits: B)
     same_flags!(rt; owned_zeros_are_over(bits), [true; 4]);
 }
 
-// Whether each iterator that owns its set yields nothing over the ones.
+// Returns, for each owning iterator over set bits, whether it yields nothing.
 fn owned_ones_are_over<B: BitsOwned>(bits: B) -> [bool; 4]
     requires { ShapeFits B.Shape bits }
 {
@@ -259,7 +259,7 @@ fn owned_ones_are_over<B: BitsOwned>(bits: B) -> [bool; 4]
     ]
 }
 
-// Whether each iterator that owns its set yields nothing over the zeros.
+// Returns, for each owning iterator over unset bits, whether it yields nothing.
 fn owned_zeros_are_over<B: BitsOwned>(bits: B) -> [bool; 4]
     requires { ShapeFits B.Shape bits }
 {
@@ -271,7 +271,7 @@ fn owned_zeros_are_over<B: BitsOwned>(bits: B) -> [bool; 4]
     ]
 }
 
-// A list of an index and a range of each kind, by each macro.
+// The next three functions list indexes and ranges of each kind, each by another macro.
 fn listed_in_its_order<B: BitsOwned>() -> B
     requires { IsTrue B.indexable }
 {
@@ -290,7 +290,7 @@ fn listed_be<B: BitsOwned>() -> B
     set_be![0, 7, 100, 0..10, 0..=10, 0..]
 }
 
-// What each macro makes of any list.
+// Checks the sets that the three macros make.
 fn listed<B: BitsOwned>(rt: &impl Abort)
     requires { IsTrue B.indexable }
 {
@@ -299,8 +299,9 @@ fn listed<B: BitsOwned>(rt: &impl Abort)
     reads(rt, &listed_be::<B>());
 }
 
-// The same of arrays, a level of arrays a function: a type of several levels is proved in less time
-// so. A value of the type shows that it fits into memory.
+// The next three functions check every call on arrays of zero or four elements. Each adds one level
+// of arrays, so that a type of several levels is proved in less time. An argument of the type shows
+// that the type fits into memory.
 fn owned_none<T: BitsOwned>(rt: &impl Abort) {
     owned::<[T; 0]>(rt);
 }
@@ -322,8 +323,8 @@ fn arrays(rt: HostRuntime) {
     owned_fours_of_fours::<[u8; 0]>(&rt, [[[]; 4]; 4]);
 }
 
-// What each call of a slice returns, shared and lent, and what remains after operations with
-// another slice.
+// Checks the calls on a shared slice, the calls on a mutable one, and the operations with another
+// slice.
 fn slice<'a, T: BitsOwned>(rt: &impl Abort, mut slice: &'a mut [T], other: &'a mut [T]) {
     reads(rt, &&slice[..]);
     writes(rt, &mut slice);
@@ -338,7 +339,7 @@ fn slices(rt: HostRuntime) {
     slice::<[u8; 0]>(&rt, &mut [[]; 4], &mut [[]; 3]);
 }
 
-// A vector of four arrays without elements.
+// Returns a vector of four empty arrays.
 fn four_arrays(alloc: Global) -> Result<Vec<[u8; 0]>, AllocError> {
     let mut arrays: Vec<[u8; 0]> = Vec::new(alloc);
     for _ in 0..4 {
@@ -359,7 +360,7 @@ fn vectors(rt: HostRuntime) -> Result<(), Fail> {
     Ok(())
 }
 
-// What each call of a wrapped type answers, in either order.
+// Checks every call on a `Set` of an owned type, in each order.
 fn wrapped_owned<B: BitsOwned>(rt: &impl Abort) {
     owned::<Set<B>>(rt);
     owned::<Set<B, LittleEndian>>(rt);
@@ -373,7 +374,7 @@ fn writes_wrapped<B: BitsMut, E: Endian>(rt: &impl Abort, set: &mut Set<B, E>) {
     writes(rt, set);
 }
 
-// What each call of a wrapped slice returns, shared and lent, in either order.
+// Checks the calls that read on a `Set` over a shared slice, in each order.
 fn wrapped_shared<T: BitsOwned>(rt: &impl Abort, slice: &[T])
     requires { Fits T.indexable (length slice.now * T.type_capacity) }
 {
@@ -400,7 +401,7 @@ fn wrapped(rt: HostRuntime) {
     wrapped_lent(&rt, &mut arrays);
 }
 
-// Asks for the debug text of a set.
+// Puts a set into a `Set`, and checks the debug text.
 fn shows<B: Bits>(rt: &impl Abort, alloc: Global, bits: B, text: &str) -> Result<(), AllocError>
     requires { ShapeFits B.Shape bits }
 {
@@ -409,7 +410,7 @@ fn shows<B: Bits>(rt: &impl Abort, alloc: Global, bits: B, text: &str) -> Result
     Ok(())
 }
 
-// What each macro makes of any list, and its debug text.
+// Checks the sets that the three macros make, and the debug text of one of them.
 fn lists_of<B: BitsOwned>(rt: &impl Abort, alloc: Global) -> Result<(), AllocError>
     requires { IsTrue B.indexable }
 {
@@ -424,7 +425,7 @@ fn lists(rt: HostRuntime) -> Result<(), Fail> {
     Ok(())
 }
 
-// Whether two sets are equal.
+// Returns whether two sets are equal.
 fn are_equal<A: BitsOwned, B: Bits>(one: A, other: &B) -> bool
     requires one_fits { ShapeFits A.Shape one }
     requires other_fits { ShapeFits B.Shape other.now }
@@ -432,7 +433,7 @@ fn are_equal<A: BitsOwned, B: Bits>(one: A, other: &B) -> bool
     Set::new(one).eq_bits(other)
 }
 
-// How two sets compare.
+// Returns how two sets compare.
 fn order_of<A: BitsOwned, B: Bits>(one: A, other: &B) -> Ordering
     requires one_fits { ShapeFits A.Shape one }
     requires other_fits { ShapeFits B.Shape other.now }
@@ -440,7 +441,7 @@ fn order_of<A: BitsOwned, B: Bits>(one: A, other: &B) -> Ordering
     Set::new(one).cmp_bits(other)
 }
 
-// Whether a set is equal to one in a `Set`.
+// Returns whether a set is equal to a `Set`.
 fn equals_wrapped<A: BitsOwned, B: Bits>(one: A, other: &Set<B>) -> bool
     requires one_fits { ShapeFits A.Shape one }
     requires other_fits { ShapeFits B.Shape other.now.bits }
@@ -462,7 +463,7 @@ fn equals_fours<A: BitsOwned, T: BitsOwned>(one: A, other: [T; 4]) -> bool
     equals_wrapped(one, &Set::new(other))
 }
 
-// How a set compares with one that has a member, and its debug text.
+// Checks that a set is less than a set with a member, and that its debug text is `{}`.
 fn comes_first<B: BitsOwned>(rt: &impl Abort, alloc: Global, set: B) -> Result<(), AllocError>
     requires { ShapeFits B.Shape set }
 {

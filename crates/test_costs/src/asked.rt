@@ -1,11 +1,12 @@
-//! Counts of what is asked of a set.
+//! Counts of the calls that reach a set: fetches, which are reads of one word by `nth_leaf_word`,
+//! and other calls.
 
 use crate::checks::end_unless_equal;
 use std::cell::Cell;
 use std::process::Abort;
 
-/// Asks whether so many words were fetched, in all or since there were so many, and so many other
-/// calls made.
+/// Ends the test unless `$fetched` words were fetched and `$other` other calls were made. With
+/// `since $before`, the first `$before` fetches do not count.
 macro_rules! counts {
     ($rt:expr; $asked:ident, $fetched:expr, $other:expr) => {
         $asked.compare(&$rt, stringify!($asked), (0, 0), ($fetched, $other))
@@ -17,17 +18,18 @@ macro_rules! counts {
 
 pub(crate) use counts;
 
-/// Which words were fetched and how often, and how often anything else was asked but the capacity.
+/// Counts the fetches of words, and the other calls except those of `capacity`. It also notes which
+/// words were fetched.
 #[derive(Drop)]
 pub(crate) struct Asked {
-    // The bit of index `k` for word `k`.
+    // Bit `k % 64` is set if word `k` was fetched.
     words: Cell<u64>,
     fetches: Cell<u32>,
     other: Cell<u32>,
 }
 
 impl Asked {
-    /// Returns counts of nothing asked.
+    /// Returns counts that are all 0.
     pub(crate) fn new() -> Asked {
         Asked {
             words: Cell::new(0),
@@ -36,7 +38,7 @@ impl Asked {
         }
     }
 
-    /// Forgets what was asked so far.
+    /// Sets all counts to 0.
     pub(crate) fn restart(&self) {
         self.words.set(0);
         self.fetches.set(0);
@@ -50,17 +52,17 @@ impl Asked {
         self.fetches.set(self.fetches.get().wrapping_add(1));
     }
 
-    /// Counts any other call.
+    /// Counts a call that is not a fetch.
     pub(crate) fn note_other(&self) {
         self.other.set(self.other.get().wrapping_add(1));
     }
 
-    /// Returns how many words were fetched.
+    /// Returns how many fetches there were. A word that was fetched twice counts twice.
     pub(crate) fn fetches(&self) -> u32 {
         self.fetches.get()
     }
 
-    /// Returns how many words were fetched since there were so many.
+    /// Returns how many fetches there were after the first `before` ones.
     pub(crate) fn fetched_since(&self, before: u32) -> u32 {
         self.fetches.get().wrapping_sub(before)
     }
@@ -70,8 +72,8 @@ impl Asked {
         self.other.get()
     }
 
-    /// Ends the test where the words that were fetched, and the other calls, are not as many more
-    /// than before as is wanted.
+    /// Ends the test unless the counts have grown from `before` by `wanted`. Each pair is a number
+    /// of fetches, and a number of other calls.
     pub(crate) fn compare(
         &self,
         rt: &impl Abort,
@@ -83,13 +85,13 @@ impl Asked {
         end_unless_equal(rt, text, (self.fetched_since(before.0), other), wanted);
     }
 
-    /// Returns whether at most so many words were fetched, and nothing else was asked.
+    /// Returns whether there were at most `words` fetches, and no other calls.
     pub(crate) fn is_at_most(&self, words: u32) -> bool {
         self.fetches.get() <= words && self.other.get() == 0
     }
 
-    /// Returns the words that were fetched, or `None` where one was fetched twice or anything else
-    /// was asked.
+    /// Returns which words were fetched: bit `k` is set if word `k` was. Returns `None` if a word
+    /// was fetched twice, or if there was another call.
     pub(crate) fn words_once(&self) -> Option<u64> {
         let words = self.words.get();
         if self.is_at_most(words.count_ones()) {

@@ -1,5 +1,5 @@
-//! What a change of a whole set asks of it, and of another one: each word of either once, where
-//! words are alike.
+//! Tests what a change of a whole set costs. An operation with another set fetches each word of
+//! both sets once, if their words have the same width.
 
 ghost use Rattle.bittle.specs.Values.{ShapeFits};
 
@@ -10,7 +10,7 @@ use bittle::{Bits, BitsMut, LittleEndian};
 use bittle_ext::prelude::*;
 use std::process::Abort;
 
-// What changes a set: an operation with another one, or a move of its bits.
+// What changes a set: operations with another set, setting all bits, or shifts.
 #[derive(Drop)]
 enum Change {
     EachOperation,
@@ -20,7 +20,7 @@ enum Change {
     Shifts(u32, u32),
 }
 
-// Makes a change of a set, by another one where that is needed.
+// Changes a set. Some kinds of change use the other set.
 fn make_change<A: BitsMut, B: Bits>(rt: &impl Abort, kind: Change, set: &mut A, other: &B)
     requires fits { ShapeFits A.Shape set.old }
     requires other_fits { ShapeFits B.Shape other.now }
@@ -34,7 +34,8 @@ fn make_change<A: BitsMut, B: Bits>(rt: &impl Abort, kind: Change, set: &mut A, 
     }
 }
 
-// Changes a set by each operation with another one, and tests what each call tells.
+// Changes a set by each operation with another set. Tests the result of each call: whether the set
+// changed.
 fn change_by_each_operation<A: BitsMut, B: Bits>(rt: &impl Abort, set: &mut A, other: &B)
     requires fits { ShapeFits A.Shape set.old }
     requires other_fits { ShapeFits B.Shape other.now }
@@ -45,7 +46,8 @@ fn change_by_each_operation<A: BitsMut, B: Bits>(rt: &impl Abort, set: &mut A, o
     same!(rt; set.union_with(other), false);
 }
 
-// Adds a set that is read from the left, and tests whether that changed anything.
+// Adds the members that another set has in the order `LittleEndian`, and tests that this changes
+// the set.
 fn add_from_left<A: BitsMut, B: Bits>(rt: &impl Abort, set: &mut A, other: &B)
     requires fits { ShapeFits A.Shape set.old }
     requires other_fits { ShapeFits B.Shape other.now }
@@ -61,11 +63,11 @@ fn shift<B: BitsMut>(set: &mut B, up: u32, down: u32)
     set.shift_down(down);
 }
 
-// What was asked of a set: how many words, and how many other calls.
+// How many words of a set were fetched, and how many other calls were made to it.
 type Counts = (u32, u32);
 
-// Changes the set of `ONES` so, by that of other bytes, and tests the bytes that it has then, and
-// what was asked of the two.
+// Makes a change of the set of `ONES`. The other set has the bytes `other`. Tests the bytes that
+// result, and the counts of both sets.
 fn change_ones(
     rt: &impl Abort,
     kind: Change,
@@ -84,7 +86,7 @@ fn change_ones(
 
 #[test]
 fn a_change_fetches_each_word_of_both_once_and_writes_it(rt: HostRuntime) {
-    // The members are 0 and 31, and all others: none in common.
+    // The first set has the members 0 and 31, the other set all others. They have none in common.
     change_ones(&rt, Change::EachOperation, ZEROS, ZEROS, (16, 16), (16, 0));
 }
 
@@ -95,7 +97,7 @@ fn a_copy_fetches_each_word_once_and_writes_it(rt: HostRuntime) {
 
 #[test]
 fn a_word_in_the_other_order_is_fetched_once_too(rt: HostRuntime) {
-    // The members of the other set are 7 and 24 from the left.
+    // In the order `LittleEndian` the members of the other set are 7 and 24.
     let changed = [0x81, 0, 0, 0x81];
     change_ones(&rt, Change::UnionFromLeft, ONES, changed, (4, 4), (4, 0));
 }
@@ -107,8 +109,8 @@ fn setting_every_bit_fetches_nothing(rt: HostRuntime) {
 
 #[test]
 fn a_shift_in_place_fetches_each_word_twice_at_most(rt: HostRuntime) {
-    // Of the members 0 and 31 the first one is left. Up by two words, and down by one, five words
-    // are fetched: two that come to a word from two of them, or one from its end.
+    // The members are 0 and 31. The shift up by 9 drops 31, and the shift down by 8 then moves 9 to
+    // 1. Each shift makes two words from two words each, and one from one word: five fetches.
     change_ones(
         &rt,
         Change::Shifts(9, 8),

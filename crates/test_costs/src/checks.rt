@@ -1,14 +1,14 @@
-//! What the tests ask of a value. One that fails names its test, shows what it asks as the test
-//! writes it, and both values.
+//! The checks of the tests. If a check fails, the output names the test and shows the checked
+//! expression. For `same!` it also shows both values.
 //!
-//! Each type that is compared has an implementation of its own: a call of it is proved in less time
-//! than one of a function of any type, and in a tenth of the time of an `assert_eq!`.
+//! Each compared type implements `Compared` itself. A call of its `compare` is proved in less time
+//! than a call of a generic function, and in a tenth of the time of an `assert_eq!`.
 
 use std::cmp::Ordering;
 use std::fmt::Debug;
 use std::process::Abort;
 
-/// Asks whether two values are equal.
+/// Ends the test unless two values are equal.
 macro_rules! same {
     ($rt:expr; $left:expr, $right:expr) => {
         $crate::checks::Compared::compare(
@@ -20,7 +20,7 @@ macro_rules! same {
     };
 }
 
-/// Asks whether a condition holds.
+/// Ends the test unless a condition holds.
 macro_rules! holds {
     ($rt:expr; $condition:expr) => {
         $crate::checks::ask(&$rt, stringify!($condition), $condition)
@@ -30,9 +30,9 @@ macro_rules! holds {
 pub(crate) use holds;
 pub(crate) use same;
 
-/// A value that a test compares with the one that it wants.
+/// A value that a test compares with the value that it expects.
 pub(crate) trait Compared: Sized {
-    /// Ends the test where the two differ.
+    /// Ends the test if the value differs from `wanted`. The message is `text` and both values.
     fn compare(self, wanted: Self, rt: &impl Abort, text: &str);
 }
 
@@ -84,12 +84,12 @@ impl Compared for Ordering {
     }
 }
 
-// What a call returns that tells nothing.
+// A call that returns nothing returns `()`, so there is nothing to compare.
 impl Compared for () {
     fn compare(self, _wanted: (), _rt: &impl Abort, _text: &str) {}
 }
 
-// Each value of a pair or of three is compared by itself.
+// The values of a pair or of a triple are compared one by one.
 impl<A: Compared, B: Compared> Compared for (A, B) {
     fn compare(self, wanted: (A, B), rt: &impl Abort, text: &str) {
         let ((a, b), (first, second)) = (self, wanted);
@@ -107,7 +107,7 @@ impl<A: Compared, B: Compared, C: Compared> Compared for (A, B, C) {
     }
 }
 
-/// Ends the test where two values of any type differ.
+/// Ends the test if two values of any type differ. The message is `text` and both values.
 pub(crate) fn end_unless_equal<T: PartialEq + Debug + Drop>(
     rt: &impl Abort,
     text: &str,
@@ -119,7 +119,7 @@ pub(crate) fn end_unless_equal<T: PartialEq + Debug + Drop>(
     }
 }
 
-/// Ends the test where a condition does not hold.
+/// Ends the test if a condition does not hold. The message is `text`.
 pub(crate) fn ask(rt: &impl Abort, text: &str, condition: bool) {
     if !condition {
         rt.panic(text)

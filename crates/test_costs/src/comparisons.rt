@@ -1,5 +1,6 @@
-//! What comparisons ask of the two sets: each word once, but of slices the first one twice, and
-//! nothing past the first difference.
+//! Tests how many words comparisons fetch. If two sets are equal, each word is fetched once, and
+//! for slices the first word twice. If two sets differ, a test of equality fetches no word past the
+//! four words with the first difference.
 
 ghost use Rattle.std.specs.Prelude.{◌*◌, length, IsTrue};
 ghost use Rattle.bittle.specs.Shapes.{Fits};
@@ -20,7 +21,7 @@ enum Relation {
     Ordered(Ordering),
 }
 
-// Whether two sets compare so.
+// Returns whether two sets are in the given relation.
 fn are<A: Bits, B: Bits>(relation: Relation, one: A, other: &B) -> bool
     requires one { ShapeFits A.Shape one }
     requires other { ShapeFits B.Shape other.now }
@@ -33,7 +34,7 @@ fn are<A: Bits, B: Bits>(relation: Relation, one: A, other: &B) -> bool
     }
 }
 
-// What an element is compared with: another one, a set of it in either order, or three bytes.
+// What an element is compared with: another one, a `Set` of one in either order, or three bytes.
 #[derive(Drop)]
 enum Second {
     Element,
@@ -42,7 +43,7 @@ enum Second {
     ThreeBytes,
 }
 
-// Whether an element compares so with what is made of another one.
+// Returns whether an element is in the given relation to what `second` names.
 fn elements_are<T: BitsOwned>(relation: Relation, second: Second, one: T, other: T) -> bool
     requires { IsTrue T.indexable }
 {
@@ -54,7 +55,7 @@ fn elements_are<T: BitsOwned>(relation: Relation, second: Second, one: T, other:
     }
 }
 
-// Whether an element and a row compare so.
+// Returns whether an element is in the given relation to a row.
 fn element_and_row_are<T: BitsOwned>(relation: Relation, one: T, other: [T; 2]) -> bool
     requires element { IsTrue T.indexable }
     requires row { IsTrue ⟦<[T; 2] as Shape>⟧.indexable }
@@ -62,7 +63,7 @@ fn element_and_row_are<T: BitsOwned>(relation: Relation, one: T, other: [T; 2]) 
     are(relation, one, &other)
 }
 
-// Whether a row and an element compare so.
+// Returns whether a row is in the given relation to an element.
 fn row_and_element_are<T: BitsOwned>(relation: Relation, one: [T; 2], other: T) -> bool
     requires element { IsTrue T.indexable }
     requires row { IsTrue ⟦<[T; 2] as Shape>⟧.indexable }
@@ -70,14 +71,14 @@ fn row_and_element_are<T: BitsOwned>(relation: Relation, one: [T; 2], other: T) 
     are(relation, one, &other)
 }
 
-// Whether two rows compare so.
+// Returns whether two rows are in the given relation.
 fn rows_are<T: BitsOwned>(relation: Relation, one: [T; 2], other: [T; 2]) -> bool
     requires { IsTrue ⟦<[T; 2] as Shape>⟧.indexable }
 {
     are(relation, one, &other)
 }
 
-// Which sets of two rows are compared: their first elements, the rows, or one of each.
+// What is compared: the first elements of two rows, the two rows, or an element and a row.
 #[derive(Drop)]
 enum Sides {
     Elements(Second),
@@ -86,7 +87,7 @@ enum Sides {
     Rows,
 }
 
-// Whether these sets of two rows compare so.
+// Returns whether the sides that `sides` names are in the given relation.
 fn sides_are<T: BitsOwned>(relation: Relation, sides: Sides, one: [T; 2], other: [T; 2]) -> bool
     requires element { IsTrue T.indexable }
     requires row { IsTrue ⟦<[T; 2] as Shape>⟧.indexable }
@@ -100,12 +101,12 @@ fn sides_are<T: BitsOwned>(relation: Relation, sides: Sides, one: [T; 2], other:
     }
 }
 
-// Returns a set of these eight bytes, with these counts.
+// Returns a row of two probes of these bytes. Calls to them are counted in `asked`.
 fn pair<'a>(bytes: [[u8; 4]; 2], asked: &'a Asked) -> [Probe<'a>; 2] {
     [Probe::of(bytes[0], asked), Probe::of(bytes[1], asked)]
 }
 
-// Whether these sets of two pairs of four bytes compare so.
+// Does the same as `sides_are` for two rows of probes of these bytes.
 fn bytes_are<'a>(
     relation: Relation,
     sides: Sides,
@@ -124,7 +125,7 @@ fn equality_fetches_each_word_once(rt: HostRuntime) {
     holds!(rt; bytes_are(Relation::Equal, sides, [ONES; 2], &left, [ONES; 2], &right));
     holds!(rt; left.is_at_most(4) && right.is_at_most(4));
 
-    // Each side in an order of its own.
+    // The two sides are read in different orders.
     let (left, right) = (Asked::new(), Asked::new());
     let (sides, other) = (Sides::Elements(Second::SetFromLeft), [[128, 0, 0, 1]; 2]);
     holds!(rt; bytes_are(Relation::Equal, sides, [ONES; 2], &left, other, &right));
@@ -133,7 +134,8 @@ fn equality_fetches_each_word_once(rt: HostRuntime) {
 
 #[test]
 fn equality_ends_with_the_four_words_that_differ(rt: HostRuntime) {
-    // Eight words. The first four are fetched for one test, and two of them again for the index.
+    // The first four of eight words are fetched for one test. Two of them are fetched again to find
+    // the index of the difference.
     let (left, right) = (Asked::new(), Asked::new());
     let other = [[1, 2, 0, 128], ONES];
     holds!(rt; bytes_are(Relation::Unequal, Sides::Rows, [ONES; 2], &left, other, &right));
@@ -142,8 +144,8 @@ fn equality_ends_with_the_four_words_that_differ(rt: HostRuntime) {
 
 #[test]
 fn comparisons_end_with_the_four_words_that_differ(rt: HostRuntime) {
-    // The index 9 is in the right one alone: the left one is asked for its word, and for a member
-    // past it.
+    // Only the right set has index 9. So the word of index 9 is fetched once more from the left
+    // set, and then the words up to a member past 9.
     let (left, right) = (Asked::new(), Asked::new());
     let relation = Relation::Ordered(Ordering::Greater);
     let other = [[1, 2, 0, 128], ONES];
@@ -178,7 +180,7 @@ fn comparisons_with_a_longer_side_fetch_each_word_once(rt: HostRuntime) {
 
 #[test]
 fn comparisons_ask_the_other_side_for_a_member_past_the_index(rt: HostRuntime) {
-    // The index 9 is in the left one alone.
+    // Only the left set has index 9.
     let (left, right) = (Asked::new(), Asked::new());
     let (relation, one) = (Relation::Ordered(Ordering::Less), [[1, 2, 0, 128]; 2]);
     let sides = Sides::Elements(Second::Element);
@@ -188,7 +190,8 @@ fn comparisons_ask_the_other_side_for_a_member_past_the_index(rt: HostRuntime) {
 
 #[test]
 fn a_difference_in_the_first_word_ends_a_comparison(rt: HostRuntime) {
-    // Eight words. The first four are tested at once, and the first is searched again.
+    // The first four of eight words are fetched for one test. The first is fetched again to find
+    // the index of the difference.
     let (left, right) = (Asked::new(), Asked::new());
     let other = [[2, 0, 0, 128], ONES];
     holds!(rt; bytes_are(Relation::Unequal, Sides::Rows, [ONES; 2], &left, other, &right));
@@ -198,7 +201,7 @@ fn a_difference_in_the_first_word_ends_a_comparison(rt: HostRuntime) {
 
 #[test]
 fn wide_words_are_compared_by_words(rt: HostRuntime) {
-    // The first words differ: neither side is asked for its second one.
+    // The first words differ, so the second word of neither side is fetched.
     let (left, right) = (Asked::new(), Asked::new());
     let one = [WordProbe::of(1, &left); 2];
     let other = [WordProbe::of(2, &right), WordProbe::of(1, &right)];
@@ -209,8 +212,9 @@ fn wide_words_are_compared_by_words(rt: HostRuntime) {
 
 #[test]
 fn comparisons_ask_this_side_for_an_index_of_the_other(rt: HostRuntime) {
-    // The index 9 is in the right one alone: past the four words and the two that are searched, the
-    // left one is asked for its word, and for the three words past it.
+    // Only the right set has index 9. From each set four words are fetched for a test, and two to
+    // find the index. From the left set word 1, which has index 9, is then fetched again, and words
+    // 1 to 3 for a member past 9.
     let (left, right) = (Asked::new(), Asked::new());
     let (relation, other) = (Relation::Ordered(Ordering::Greater), [[1, 2, 0, 128]; 2]);
     let sides = Sides::Elements(Second::Element);

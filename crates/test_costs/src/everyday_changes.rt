@@ -1,5 +1,5 @@
-//! What the everyday calls that change a set ask of it: one word for one bit, and the words up to
-//! the answer where they search.
+//! Tests what the everyday calls that change a set cost. A change of one bit reaches one word. A
+//! call that searches first fetches the words up to the bit that it finds.
 
 ghost use Rattle.std.specs.Prelude.{◌≤◌, IsTrue};
 
@@ -9,7 +9,7 @@ use bittle::BitsOwned;
 use bittle_ext::{BitsIndexMutExt, BitsMutExt};
 use std::process::Abort;
 
-// What is changed in the rows.
+// Which calls change the rows.
 #[derive(Drop)]
 enum Kind {
     OneBitTold,
@@ -138,7 +138,7 @@ fn what_is_taken_is_searched_for_once_and_changed_once(rt: HostRuntime) {
     measure_rows(&rt, Kind::Taken);
 }
 
-// Each word is fetched once. Word 7 is written once if a bit of it goes, or both.
+// Each word is fetched once. Word 7 is written once if `retain` clears one or both of its bits.
 fn retain_some<B: BitsOwned>(rt: &impl Abort, mut few: B, asked: &Asked)
     requires { IsTrue B.indexable }
 {

@@ -1,4 +1,5 @@
-//! What iterators over a range and over runs, and the views that borrow a set, ask of it.
+//! Tests how many words of a set are fetched by iterators over ranges and over runs, and by views
+//! of the set.
 
 ghost use Rattle.bittle.specs.Values.{ShapeFits};
 
@@ -9,7 +10,7 @@ use bittle::{Bits, BitsOwned, LittleEndian, Shape};
 use bittle_ext::{BitsExt, BitsRangeExt, BitsViewExt};
 use std::process::Abort;
 
-// What goes over the rows.
+// Which iterators or views read the rows.
 #[derive(Drop)]
 enum Walk {
     Ranges,
@@ -52,7 +53,7 @@ impl Measured for Walk {
     }
 }
 
-// Over a row an iterator begins with a word loaded, which has no item of an empty range.
+// An iterator over an array loads one word at its start, even if its range is empty.
 fn iterate_over_ones_of_ranges<B: Bits>(rt: &impl Abort, few: &B, asked: &Asked)
     requires { ShapeFits B.Shape few.now }
 {
@@ -61,7 +62,7 @@ fn iterate_over_ones_of_ranges<B: Bits>(rt: &impl Abort, few: &B, asked: &Asked)
     costs!(rt; asked, count_owned(few.iter_ones_in_range(130, 130)), 0, 1, 0);
 }
 
-// The same of the unset bits.
+// Iterates over the unset bits of a range, from either end.
 fn iterate_over_zeros_of_ranges<B: Bits>(rt: &impl Abort, most: &B, asked: &Asked)
     requires { ShapeFits B.Shape most.now }
 {
@@ -74,8 +75,8 @@ fn an_iterator_over_a_range_fetches_each_word_of_it_once(rt: HostRuntime) {
     measure_rows(&rt, Walk::Ranges);
 }
 
-// Eight words to the first bit and one to its end, one to the second bit and one to its end, and
-// five to the end of the set.
+// The iterator fetches eight words up to the run at 451, and one for its end. It fetches one word
+// for the run at 508, and one for its end. Then it fetches five words up to the last one.
 fn iterate_over_runs<B: Bits>(rt: &impl Abort, few: &B, most: &B, asked: &Asked)
     requires few { ShapeFits B.Shape few.now }
     requires most { ShapeFits B.Shape most.now }
@@ -89,7 +90,7 @@ fn an_iterator_over_runs_searches_twice_for_each(rt: HostRuntime) {
     measure_rows(&rt, Walk::Runs);
 }
 
-// Reads a set in the other order.
+// Reads a view of a set in the order `LittleEndian`.
 fn view_in_order<B: Bits>(rt: &impl Abort, few: &B, asked: &Asked)
     requires { ShapeFits B.Shape few.now }
 {
@@ -97,7 +98,7 @@ fn view_in_order<B: Bits>(rt: &impl Abort, few: &B, asked: &Asked)
     costs!(rt; asked, few.in_order::<LittleEndian>().count_ones(), 2, 0, 12);
 }
 
-// Reads what a set lacks.
+// Reads a view of the complement of a set.
 fn view_complement<B: Bits>(rt: &impl Abort, few: &B, asked: &Asked)
     requires { ShapeFits B.Shape few.now }
 {
@@ -111,7 +112,7 @@ fn a_view_asks_what_a_call_on_its_set_asks(rt: HostRuntime) {
     measure_rows(&rt, Walk::OneSet);
 }
 
-// A search fetches its first word before it learns which words to pass over.
+// A search fetches word 0 before it skips to the words of the range.
 fn view_ranges<B: Bits>(rt: &impl Abort, few: &B, asked: &Asked)
     requires { ShapeFits B.Shape few.now }
 {
@@ -128,7 +129,7 @@ fn a_view_of_a_range_fetches_the_words_of_the_range(rt: HostRuntime) {
     measure_rows(&rt, Walk::RangeViews);
 }
 
-// Reads what two sets have in common.
+// Reads a view of the intersection of two sets.
 fn view_conjunction<A: Bits, B: Bits>(rt: &impl Abort, left: &A, right: &B, asked: &Asked)
     requires left { ShapeFits A.Shape left.now }
     requires right { ShapeFits B.Shape right.now }
@@ -136,7 +137,7 @@ fn view_conjunction<A: Bits, B: Bits>(rt: &impl Abort, left: &A, right: &B, aske
     costs!(rt; asked, left.and(right).count_ones(), 1, 24, 0);
 }
 
-// Reads what the first set has alone.
+// Reads a view of the members that only the first of two sets has.
 fn view_difference<A: Bits, B: Bits>(rt: &impl Abort, left: &A, right: &B, asked: &Asked)
     requires left { ShapeFits A.Shape left.now }
     requires right { ShapeFits B.Shape right.now }
@@ -144,7 +145,7 @@ fn view_difference<A: Bits, B: Bits>(rt: &impl Abort, left: &A, right: &B, asked
     costs!(rt; asked, count(left.minus(right).iter_ones()), 1, 24, 0);
 }
 
-// Reads what either set has.
+// Reads a view of the union of two sets.
 fn view_union<A: Bits, B: Bits + Shape<LeafWord = A::LeafWord>>(
     rt: &impl Abort,
     left: &A,
@@ -157,7 +158,7 @@ fn view_union<A: Bits, B: Bits + Shape<LeafWord = A::LeafWord>>(
     costs!(rt; asked, count_back(left.or(right).iter_ones()), 2, 24, 0);
 }
 
-// Reads what one of two sets has alone.
+// Reads a view of the members that just one of two sets has.
 fn view_symmetric_difference<A: Bits, B: Bits + Shape<LeafWord = A::LeafWord>>(
     rt: &impl Abort,
     left: &A,

@@ -1,6 +1,6 @@
-//! What the everyday calls on two sets ask of them. Like words are compared four at a time, and the
-//! four that decide are read again, up to the one that decides. Unlike words are searched from the
-//! set bits of one set to those of the other.
+//! Tests what the everyday calls on two sets cost. If the words of both have one width and order,
+//! four words are compared at a time. If one of the four decides, they are fetched again up to it.
+//! Other sets are searched in turn, each from the bit that was found in the other set.
 
 ghost use Rattle.bittle.specs.Values.{ShapeFits};
 
@@ -10,7 +10,7 @@ use bittle::{Bits, BitsOwned, LittleEndian};
 use bittle_ext::{BitsRelationExt, BitsViewExt};
 use std::process::Abort;
 
-// Which sets are related, or counted.
+// Which pair of sets is read, and by which calls.
 #[derive(Drop)]
 enum Pair {
     Meet,
@@ -42,7 +42,7 @@ impl Measured for Pair {
     }
 }
 
-// Word 7 decides. Of each set that is eight words, and the last four of them again.
+// Word 7 decides. From each set eight words are fetched, and the last four of them again.
 fn relate_those_that_meet<B: Bits>(rt: &impl Abort, left: &B, right: &B, none: &B, asked: &Asked)
     requires left { ShapeFits B.Shape left.now }
     requires right { ShapeFits B.Shape right.now }
@@ -96,7 +96,8 @@ fn relations_that_the_first_word_decides_fetch_four_words_of_both_and_it_again(r
     measure_rows(&rt, Pair::FirstWord);
 }
 
-// What an operation makes of two words is counted, so no element is asked for its count.
+// The bits are counted in each word that an operation makes of two words. So `count_ones` of an
+// element is not called.
 fn count_two_sets<B: Bits>(rt: &impl Abort, left: &B, right: &B, asked: &Asked)
     requires left { ShapeFits B.Shape left.now }
     requires right { ShapeFits B.Shape right.now }
@@ -111,8 +112,8 @@ fn counts_of_like_words_fetch_both_once(rt: HostRuntime) {
     measure_rows(&rt, Pair::Counted);
 }
 
-// From the left the indexes of word 7 are 451 and 508 too: 3 and 60 are mirror images. Of the two
-// searches the first reads eight words, and the second, which begins at its answer, one.
+// In the order `LittleEndian` the members are 451 and 508 too, since the order swaps bits 3 and 60
+// of a word. The first search fetches eight words. The second search begins at 451 and fetches one.
 fn relate_in_two_orders<B: Bits>(rt: &impl Abort, left: &B, right: &B, asked: &Asked)
     requires left { ShapeFits B.Shape left.now }
     requires right { ShapeFits B.Shape right.now }

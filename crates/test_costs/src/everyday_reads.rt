@@ -1,5 +1,5 @@
-//! What the everyday calls that read one set ask of it: the words from where they begin to the one
-//! that decides, each once.
+//! Tests what the everyday calls that read one set cost. Most fetch each word once, from the word
+//! where they begin up to the word that decides.
 
 ghost use Rattle.bittle.specs.Values.{ShapeFits};
 
@@ -10,7 +10,7 @@ use bittle::{Bits, BitsOwned};
 use bittle_ext::{BitsExt, BitsIndexExt, BitsSpanExt};
 use std::process::Abort;
 
-// What is asked of the rows.
+// Which calls read the rows.
 #[derive(Drop)]
 enum Question {
     Ends,
@@ -145,7 +145,7 @@ fn select_fetches_up_to_its_word_and_then_that_word_again(rt: HostRuntime) {
     measure_rows(&rt, Question::Select);
 }
 
-// Each word once: eight to the first bit, and twelve to the end.
+// Each word is fetched once: eight words up to bit 451, or all twelve if there is no run.
 fn search_for_runs_of_ones<B: Bits>(rt: &impl Abort, few: &B, asked: &Asked)
     requires { ShapeFits B.Shape few.now }
 {
@@ -153,12 +153,13 @@ fn search_for_runs_of_ones<B: Bits>(rt: &impl Abort, few: &B, asked: &Asked)
     costs!(rt; asked, few.first_one_run(2), None, 12, 0);
     costs!(rt; asked, few.next_one_run(452, 1), Some(508), 1, 0);
     costs!(rt; asked, few.next_one_run(769, 1), None, 0, 0);
-    // Words 1 to 7 have the bits 100 to 451.
+    // The bits 100 to 451 lie in words 1 to 7.
     costs!(rt; asked, few.first_one_run_in_range(100, 700, 1), Some(451), 7, 0);
     costs!(rt; asked, few.first_one_run_in_range(452, 508, 1), None, 1, 0);
 }
 
-// The runs that begin at 509 have three bits of word 7, and the last ones are in words 8 and 11.
+// The run of unset bits from 509 on begins with the last three bits of word 7. Its first 57 bits
+// end in word 8, and its first 256 bits end in word 11.
 fn search_for_runs_of_zeros<B: Bits>(rt: &impl Abort, most: &B, few: &B, asked: &Asked)
     requires most { ShapeFits B.Shape most.now }
     requires few { ShapeFits B.Shape few.now }
@@ -178,17 +179,21 @@ fn runs_of_up_to_four_words_fetch_each_word_once(rt: HostRuntime) {
     measure_rows(&rt, Question::Runs);
 }
 
-// A search from the front finds where a run may begin, and one from the back whether it is broken.
+// A search from the front finds where a run may begin. Then a search from the back finds whether a
+// bit of the other kind breaks the run.
 fn search_for_longer_runs<B: Bits>(rt: &impl Abort, few: &B, asked: &Asked)
     requires { ShapeFits B.Shape few.now }
 {
-    // Eight words to the first bit, and the last word for each of the two searches after it.
+    // Eight words are fetched up to bit 451. A search from the back and one from the front then
+    // fetch word 11 each.
     costs!(rt; asked, few.first_one_run(257), None, 10, 0);
-    // The first word, and five from the back.
+    // Word 0 is fetched from the front, and words 4 to 0 from the back.
     costs!(rt; asked, few.first_zero_run(257), Some(0), 6, 0);
-    // The same from 452 on, where bit 508 breaks the run, and from 509 on.
+    // From 452 on, word 7 is fetched from the front, and words 11 to 7 from the back. Bit 508
+    // breaks the run. From 509 on, the same words are fetched again.
     costs!(rt; asked, few.next_zero_run(452, 257), Some(509), 12, 0);
-    // Word 4, words 8 and 7 from the back, and word 7, after which the range is too short.
+    // Word 4 is fetched from the front, words 8 and 7 from the back, and word 7 from the front. The
+    // rest of the range is then too short.
     costs!(rt; asked, few.first_zero_run_in_range(300, 600, 257), None, 4, 0);
 }
 

@@ -1,4 +1,5 @@
-//! Tests of what calls cost: how often each asks the set that it goes over, by a set that counts.
+//! Tests of what calls cost. Sets of this crate count how many words a call fetches from them, and
+//! how many other calls it makes to them.
 #![tactic(auto)]
 
 #[cfg(test)]

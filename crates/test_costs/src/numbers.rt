@@ -1,4 +1,5 @@
-//! What ranges that are numbers or copies ask of a set: the words of the range.
+//! Tests that only the words of a range are fetched if the range is loaded or stored as a number,
+//! or copied. Tests also that a set is printed with one fetch of each word.
 
 ghost use Rattle.std.specs.Prelude.{◌≤◌};
 ghost use Rattle.bittle.specs.Values.{ShapeFits};
@@ -12,7 +13,7 @@ use std::alloc::{AllocError, Global};
 use std::process::Abort;
 use std::test::Fail;
 
-// What is made of a set that is read: a number, a text that is printed nowhere, or one that is.
+// What is made of a set: a number, a text that is not printed, or a text that is printed.
 #[derive(Drop)]
 enum Reading {
     Number,
@@ -20,7 +21,7 @@ enum Reading {
     PrintedText,
 }
 
-// Makes the number of the bits 4 to 19, or the text of the members 0 and 31.
+// Loads the bits 4 to 19 as a number, or makes the text of a set with the members 0 and 31.
 fn read<B: Bits>(
     rt: &impl Abort,
     alloc: Global,
@@ -42,7 +43,7 @@ fn read<B: Bits>(
     Ok(())
 }
 
-// Reads a set of these bytes, and tests how many words that fetches.
+// Reads the set of these bytes, and tests that this fetches `fetched` words.
 fn read_bytes(
     rt: &impl Abort,
     alloc: Global,
@@ -74,8 +75,8 @@ fn a_text_that_is_printed_fetches_each_word_once(rt: HostRuntime) -> Result<(), 
     Ok(())
 }
 
-// What is written to a set: a number in the bits 4 to 19, or the first 16 bits of another set or of
-// the set itself to the indexes from 4 on.
+// What is written to the bits 4 to 19 of a set: a number, the first 16 bits of another set, or the
+// first 16 bits of the set itself.
 #[derive(Drop)]
 enum Writing {
     Number,
@@ -83,7 +84,7 @@ enum Writing {
     Move,
 }
 
-// Writes that to a set.
+// Writes to the bits 4 to 19 of a set.
 fn write<A: BitsMut, B: Bits>(writing: Writing, set: &mut A, other: &B)
     requires fits { ShapeFits A.Shape set.old }
     requires other_fits { ShapeFits B.Shape other.now }
@@ -96,8 +97,8 @@ fn write<A: BitsMut, B: Bits>(writing: Writing, set: &mut A, other: &B)
     }
 }
 
-// Writes to the set of these bytes, and tests the bytes that it has then, how many words were
-// fetched of it and of the set of `ONES`, and that three were written.
+// Writes to the set of `bytes`. Tests the bytes that result, how many words are fetched from it and
+// from the set of `ONES`, and that three words are written.
 fn write_bytes(
     rt: &impl Abort,
     writing: Writing,
@@ -121,12 +122,14 @@ fn a_number_is_stored_in_the_words_of_its_range(rt: HostRuntime) {
 
 #[test]
 fn a_range_is_copied_from_two_words_to_each_at_most(rt: HostRuntime) {
-    // Of the other set are read the words 0, 0 and 1, and 1.
+    // Three words are written. The first is made from word 0 of the other set, the second from
+    // words 0 and 1, and the third from word 1.
     write_bytes(&rt, Writing::Copy, ZEROS, [0x1E, 0, 0xF0, 0x7F], 3, 4);
 }
 
 #[test]
 fn a_range_is_copied_within_a_set_from_its_words(rt: HostRuntime) {
-    // For the three words that are written, four are read, and each of the three.
+    // The bits that are copied take four fetches. Each of the three words that are written is
+    // fetched too.
     write_bytes(&rt, Writing::Move, ONES, [0x11, 0, 0, 0x80], 7, 0);
 }

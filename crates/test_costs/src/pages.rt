@@ -1,4 +1,5 @@
-//! What an allocator asks of its map: a page is found by a search, and changed by one call.
+//! Tests the calls that an allocator makes to its map. A search finds a free page, and one call
+//! takes it or frees it.
 
 ghost use Rattle.std.specs.Prelude.{◌*◌};
 ghost use Rattle.bittle.specs.Shapes.{Fits};
@@ -21,7 +22,7 @@ enum Use {
     Compare,
 }
 
-// Uses an allocator with this map so, or compares it with one that has the other map.
+// Makes the calls of `kind` on an allocator with the map `map`. Only a comparison uses `other`.
 fn use_pages<B: BitsOwned>(rt: &impl Abort, kind: Use, map: B, other: B, asked: &Asked)
     requires { Fits B.indexable B.type_capacity }
 {
@@ -35,8 +36,8 @@ fn use_pages<B: BitsOwned>(rt: &impl Abort, kind: Use, map: B, other: B, asked: 
     }
 }
 
-// Uses an allocator with the map of these bytes so, and tests what was asked of it, and of the map
-// of `ONES`.
+// Does the same as `use_pages` with the maps of `bytes` and of `ONES`. Tests for each map how many
+// words are fetched, and how many other calls are made.
 fn use_bytes(
     rt: &impl Abort,
     kind: Use,
@@ -56,20 +57,20 @@ fn use_bytes(
     counts!(rt; theirs, of_theirs.0, of_theirs.1);
 }
 
-// Takes the pages 0 and 31, and then none.
+// Takes page 0 and page 31. Then no page is free.
 fn take_two<B: BitsOwned>(rt: &impl Abort, mut pages: Pages<B>, asked: &Asked) {
-    // The map was counted once.
+    // One call has counted the members of the map.
     counts!(rt; asked, 0, 1);
 
-    // Page 0 is free, in the first word. A search begins with the first word.
+    // Page 0 is free. The search for it fetches only the first word.
     same!(rt; pages.take(), Some(0));
     counts!(rt; asked, 1, 2);
 
-    // Now page 31 is free alone, in the last word.
+    // Now only page 31 is free. The search for it fetches all four words.
     same!(rt; pages.take(), Some(31));
     counts!(rt; asked, 5, 3);
 
-    // Now none is, which the count tells.
+    // Now no page is free. The allocator knows this from its count of taken pages.
     same!(rt; pages.take(), None);
 }
 
@@ -78,12 +79,12 @@ fn taking_a_page_is_a_search_and_a_call(rt: HostRuntime) {
     use_bytes(&rt, Use::Take, ZEROS, (5, 3), (0, 0));
 }
 
-// Gives page 31 back, and two that are not taken.
+// Gives page 31 back, and then two numbers that are not taken pages.
 fn give_one_back<B: BitsOwned>(rt: &impl Abort, mut pages: Pages<B>, asked: &Asked) {
     holds!(rt; pages.give_back(31).is_ok());
     counts!(rt; asked, 0, 3);
 
-    // Page 9 is not taken, and page 32 is none.
+    // Page 9 is not taken, and there is no page 32.
     holds!(rt; pages.give_back(9).is_err());
     counts!(rt; asked, 0, 4);
     holds!(rt; pages.give_back(32).is_err());
@@ -94,7 +95,7 @@ fn giving_a_page_back_is_two_calls(rt: HostRuntime) {
     use_bytes(&rt, Use::GiveBack, ONES, (0, 4), (0, 0));
 }
 
-// Asks how many pages there are, and how many of them are taken and free.
+// Tests how many pages there are, how many of them are taken, and how many are free.
 fn count<B: BitsOwned>(rt: &impl Abort, pages: Pages<B>) {
     same!(rt; pages.pages(), 32);
     same!(rt; pages.taken(), 2);
@@ -106,7 +107,7 @@ fn a_map_is_counted_once(rt: HostRuntime) {
     use_bytes(&rt, Use::Count, ONES, (0, 1), (0, 0));
 }
 
-// Gives a page back, takes one, and gives one back that is not taken.
+// Serves three requests: give page 0 back, take a page, and give back page 9, which is not taken.
 fn serve_three<B: BitsOwned>(rt: &impl Abort, mut pages: Pages<B>) {
     let mut answers = [Answer::Full; 3];
     pages.serve(
@@ -126,7 +127,7 @@ fn two_allocators_are_compared_word_by_word(rt: HostRuntime) {
     use_bytes(&rt, Use::Compare, ONES, (4, 1), (4, 1));
 }
 
-// Takes the pages 451 and 508 of 768, and gives back those of words 1, 2 and 3.
+// Takes the pages 451 and 508 of 768. Gives back pages 100 to 199, in words 1 to 3, and page 451.
 fn change_many<B: BitsOwned>(rt: &impl Abort, most: B, asked: &Asked)
     requires { Fits B.indexable B.type_capacity }
 {
@@ -142,7 +143,8 @@ fn change_many<B: BitsOwned>(rt: &impl Abort, most: B, asked: &Asked)
     costs!(rt; asked, pages.is_taken(451), false, 0, 1);
 }
 
-// The same of a row of any element, which is proved in less time than of the row of the test.
+// Does the same as `change_many` for a row of any element type. For `[T; 12]` the calls are proved
+// in less time than for `[WordProbe; 12]`.
 fn change_many_of_any_row<T: BitsOwned>(rt: &impl Abort, most: [T; 12], asked: &Asked)
     requires { Fits ⟦<[T; 12] as Shape>⟧.indexable (12 * T.type_capacity) }
 {

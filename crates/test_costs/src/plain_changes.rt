@@ -1,5 +1,5 @@
-//! What calls that change a whole set or a range of it ask of its words, and of those of another
-//! set.
+//! Tests what calls that change a whole set, or a range of it, cost: how many words they fetch, and
+//! how many other calls they make to the words.
 
 ghost use Rattle.std.specs.Prelude.{◌≤◌, IsTrue};
 
@@ -9,7 +9,7 @@ use bittle::{BigEndian, BitsOwned};
 use bittle_ext::{BitsCombineExt, BitsCopyExt, BitsOwnedExt, BitsShiftExt, BitsSpanMutExt};
 use std::process::Abort;
 
-// What is changed in the rows.
+// Which calls change the rows.
 #[derive(Drop)]
 enum Kind {
     Ranges,
@@ -64,7 +64,7 @@ fn a_change_of_a_range_in_an_order_asks_each_element_of_it_once(rt: HostRuntime)
     measure_rows(&rt, Kind::Ranges);
 }
 
-// An operation on two sets of one type is a call of each element, which reads the other's.
+// An operation on two sets of one type makes one call to each element of the first set.
 fn change_all<B: BitsOwned>(rt: &impl Abort, mut few: B, asked: &Asked)
     requires { IsTrue B.indexable }
 {
@@ -79,8 +79,8 @@ fn a_change_of_all_bits_asks_each_element_once(rt: HostRuntime) {
     measure_rows(&rt, Kind::All);
 }
 
-// The unset bits are those of the set with each bit, which counts nothing, less the set: the set
-// itself is asked for no count or search.
+// `complement` takes the set away from the full set. The words of the full set count nothing, and
+// they read those of the set without a counted call.
 fn complement<B: BitsOwned>(rt: &impl Abort, few: B, asked: &Asked)
     requires { IsTrue B.indexable }
 {
@@ -93,7 +93,7 @@ fn a_complement_asks_the_set_for_nothing_before_it_is_taken_away(rt: HostRuntime
     measure_rows(&rt, Kind::Complement);
 }
 
-// Each word of both sets is read, and each of the first is written.
+// Each call fetches each word of both sets, and writes each word of the first set.
 fn change_by_another<B: BitsOwned>(rt: &impl Abort, mut few: B, other: B, asked: &Asked)
     requires { IsTrue B.indexable }
 {
@@ -101,7 +101,7 @@ fn change_by_another<B: BitsOwned>(rt: &impl Abort, mut few: B, other: B, asked:
     take_away_and_copy(rt, &mut few, other, asked);
 }
 
-// Changes a set by what either has, and by what both have.
+// Changes `few` to its union with another set, and then to its intersection with that set.
 fn unite_and_intersect<B: BitsOwned>(rt: &impl Abort, few: &mut B, other: B, asked: &Asked)
     requires { IsTrue B.indexable }
 {
@@ -109,7 +109,8 @@ fn unite_and_intersect<B: BitsOwned>(rt: &impl Abort, few: &mut B, other: B, ask
     costs!(rt; asked, few.intersect_with(&other), true, 24, 12);
 }
 
-// Changes a set by what one has alone, and by all that the other has.
+// Changes `few` to its difference and to its symmetric difference with another set. Then copies
+// that set to `few`.
 fn take_away_and_copy<B: BitsOwned>(rt: &impl Abort, few: &mut B, other: B, asked: &Asked)
     requires { IsTrue B.indexable }
 {
@@ -123,7 +124,7 @@ fn a_change_by_another_set_reads_each_word_of_both_once(rt: HostRuntime) {
     measure_rows(&rt, Kind::ByAnother);
 }
 
-// By 65 indexes ten words come from two each, one from the end of one, and one is empty.
+// A shift by 65 makes ten words from two words each, and one from one word. One word becomes empty.
 fn shift<B: BitsOwned>(rt: &impl Abort, mut few: B, asked: &Asked)
     requires { IsTrue B.indexable }
 {
@@ -133,10 +134,10 @@ fn shift<B: BitsOwned>(rt: &impl Abort, mut few: B, asked: &Asked)
     costs!(rt; asked, few.shift_down(65), (), 21, 12);
 }
 
-// Each word comes from two. In place, down by three words and 8 bits, 1 + 4 and then 6 pairs of
-// words are exchanged, each word comes from two, and the bits that pass the end from the first to
-// the last one. Up by a word and a bit all is moved at once, and the bits of the last two words go
-// to the first two.
+// `rotated_up` and `rotated_down` make each word from two words. `rotate_down` by 200 exchanges 11
+// pairs of words, which rotates the words by three. Then it shifts all bits by 8, and copies the 8
+// bits that pass index 0 to the last word. `rotate_up` by 65 shifts all bits once, and copies the
+// 65 bits of the last two words that pass the end to the first two words.
 fn rotate<B: BitsOwned>(rt: &impl Abort, mut few: B, asked: &Asked)
     requires { IsTrue B.indexable }
 {
@@ -151,7 +152,7 @@ fn a_move_of_all_bits_reads_each_word_a_few_times(rt: HostRuntime) {
     measure_rows(&rt, Kind::Moves);
 }
 
-// Indexes 130 to 257 lie in words 2, 3 and 4, which are read and written.
+// Indexes 130 to 257 lie in words 2, 3 and 4. Each of these is fetched once and written once.
 fn copy_range<B: BitsOwned>(rt: &impl Abort, mut few: B, asked: &Asked)
     requires indexable { IsTrue B.indexable }
     requires long { 258 ≤ B.type_capacity }

@@ -1,5 +1,5 @@
-//! What the library's own calls that read a set ask of it: counts and iterators each word once, and
-//! questions and searches the words up to the answer.
+//! Tests what basic calls that read a set cost. Counts and iterators read each word once. Searches
+//! and tests of all bits read the words up to those that decide.
 
 ghost use Rattle.std.specs.Prelude.{◌≤◌, IsTrue};
 
@@ -16,7 +16,7 @@ use std::hash::{DefaultHasher, Hash};
 use std::ops::Range;
 use std::process::Abort;
 
-// What is asked of the rows.
+// Which calls read the rows.
 #[derive(Drop)]
 enum Question {
     Counts,
@@ -64,7 +64,7 @@ fn a_count_asks_each_word_once_and_a_test_one(rt: HostRuntime) {
     measure_rows(&rt, Question::Counts);
 }
 
-// The first word is tested, and then eight and eight: word 9 decides.
+// Word 9 decides. The first word is tested by itself, and then words 0 to 7 and words 8 to 15.
 fn question_all<B: BitsOwned>(rt: &impl Abort, long: B, long_most: B, asked: &Asked)
     requires { IsTrue B.indexable }
 {
@@ -72,14 +72,15 @@ fn question_all<B: BitsOwned>(rt: &impl Abort, long: B, long_most: B, asked: &As
     costs!(rt; asked, long_most.all_ones(), false, 0, 17);
 }
 
-// Returns 24 words, of which word 9 is another one.
+// Returns a row of 24 words. Word 9 is `word`, and each other word is `rest`.
 fn long_row_of(rest: u64, word: u64, asked: &Asked) -> [WordProbe<'_>; 24] {
     let mut row = [WordProbe::of(rest, asked); 24];
     row[9] = WordProbe::of(word, asked);
     row
 }
 
-// Asks rows of any element.
+// Does the same as `question_all` for rows of any element type. For `[T; 24]` the calls are proved
+// in less time than for `[WordProbe; 24]`.
 fn question_any_rows<T: BitsOwned>(
     rt: &impl Abort,
     long: [T; 24],
@@ -114,7 +115,7 @@ fn searches_fetch_the_words_up_to_the_answer(rt: HostRuntime) {
     measure_rows(&rt, Question::Searches);
 }
 
-// Goes over a borrowed set.
+// Counts the items of iterators over a borrowed set.
 fn iterate<B: BitsOwned>(rt: &impl Abort, few: B, asked: &Asked)
     requires { IsTrue B.indexable }
 {
@@ -122,7 +123,7 @@ fn iterate<B: BitsOwned>(rt: &impl Abort, few: B, asked: &Asked)
     costs!(rt; asked, count(few.iter_zeros()), 766, 12, 0);
 }
 
-// Goes over an owned set.
+// Counts the items of iterators over an owned set.
 fn iterate_owned<B: BitsOwned>(rt: &impl Abort, few: B, asked: &Asked)
     requires { IsTrue B.indexable }
 {
@@ -130,7 +131,7 @@ fn iterate_owned<B: BitsOwned>(rt: &impl Abort, few: B, asked: &Asked)
     costs!(rt; asked, count_owned_back(few.into_iter_zeros()), 766, 12, 0);
 }
 
-// Goes over numbers at the members of a set.
+// Joins the members of a set with the numbers 0 to 767, and steps the join to its end.
 fn join<B: BitsOwned>(rt: &impl Abort, few: B, asked: &Asked)
     requires { IsTrue B.indexable }
 {
@@ -144,7 +145,7 @@ fn third_of<B: Bits>(mut join: JoinOnes<'_, B, DefaultEndian, Range<u32>>) -> Op
     next_joined(&mut join)
 }
 
-// Names the type of an iterator over runs by the crate that users name.
+// Names the type of an iterator over runs by its public path in the crate `bittle_ext`.
 fn name_type<B: BitsOwned>(few: &B)
     requires { IsTrue B.indexable }
 {
@@ -161,15 +162,16 @@ fn an_iterator_fetches_each_word_once(rt: HostRuntime) {
     measure_rows(&rt, Question::Iterators);
 }
 
-// The first word decides: four of both are tested at once, and it is read again.
+// The set `low` differs from the other two in the first word. Four words of both sides are fetched
+// for one test, and the first word of both again to find the index.
 fn compare<B: BitsOwned>(rt: &impl Abort, left: B, right: B, low: B, asked: &Asked)
     requires { IsTrue B.indexable }
 {
     let set = Set::new(left);
     costs!(rt; asked, set.eq_bits(&right), true, 24, 0);
     costs!(rt; asked, set.eq_bits(&low), false, 10, 0);
-    // The least index that decides, 0, is in the right one alone. The left one is asked for its
-    // word, and for the eight words up to its first member.
+    // Index 0 decides, since only `low` has it. From the left set the word of index 0 is fetched
+    // again, and then the eight words up to the first member.
     costs!(rt; asked, set.cmp_bits(&low), Ordering::Greater, 19, 0);
     costs!(rt; asked, set.hash(&mut DefaultHasher::new()), (), 12, 0);
 }

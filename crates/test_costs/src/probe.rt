@@ -1,4 +1,4 @@
-//! A set that counts what it is asked.
+//! A set that counts the fetches of its words, and the other calls made to it.
 
 ghost use Rattle.std.specs.Prelude.{◌≡◌, ◌*◌, ◌<◌, true, refl};
 ghost use Rattle.std.proofs.Common.{lit<};
@@ -13,14 +13,13 @@ use bittle::{Bits, BitsMut, BitsOwned, DefaultEndian, Endian};
 use bittle_bits::extension::{Operation, RangeOperation, ReadWords, Sealed};
 use bittle_bits::shape::Shape;
 
-/// Of these bytes the members are 0 and 31, and in little-endian order 7 and 24.
+/// Has the members 0 and 31, and in the order `LittleEndian` 7 and 24.
 pub(crate) const ONES: [u8; 4] = [1, 0, 0, 128];
 
-/// Of these bytes 0 and 31 are no members, nor are 7 and 24 in little-endian order, and all others
-/// are.
+/// Has all members but 0 and 31, and in the order `LittleEndian` all but 7 and 24.
 pub(crate) const ZEROS: [u8; 4] = [254, 255, 255, 127];
 
-/// Four bytes that are a set, and the counts of the calls that reach it.
+/// A set of four bytes. It counts the calls made to it, unless `asked` is `None`.
 #[derive(Clone, Copy)]
 #[derive_where(PartialEq, Eq)]
 pub(crate) struct Probe<'a> {
@@ -30,7 +29,7 @@ pub(crate) struct Probe<'a> {
 }
 
 impl<'a> Probe<'a> {
-    /// Returns the set of these bytes, with these counts.
+    /// Returns the set of these bytes. Calls to it are counted in `asked`.
     pub(crate) fn of(bytes: [u8; 4], asked: &'a Asked) -> Probe<'a> {
         Probe {
             bytes,

@@ -1,7 +1,7 @@
-//! Rows of twelve words that count what they are asked, and what a call adds to the counts.
+//! Rows of twelve words that count the calls made to them, and checks of what one call adds.
 //!
-//! The calls are made on any owned set, so that each is proved once: the rows of the tests have
-//! twelve words, and their members lie in word 7, at 451 and 508, but where it says otherwise.
+//! The measured calls are written for any owned set, so each is proved once. The tests make them on
+//! the rows of `measure_rows`. Most tests use `few`: its members 451 and 508 lie in word 7.
 
 ghost use Rattle.std.specs.Prelude.{◌*◌, ◌≤◌, IsTrue};
 
@@ -13,10 +13,10 @@ use std::process::Abort;
 
 /// Calls whose costs are measured.
 pub(crate) trait Measured: Sized {
-    /// Makes the calls on sets: on `few` with the two members, on `most` that lacks these two
-    /// alone, on `one` that has index 451 alone, on `none` of nothing, and on `low` and `lower`,
-    /// which have the first bit of each word but word 7, or its first two bits, beside the two
-    /// members.
+    /// Makes the calls. The set `few` has the members 451 and 508, `most` has all others, `one` has
+    /// only 451, and `none` is empty. The set `low` has the members of `few`, and the first bit of
+    /// each word but word 7. The set `lower` has the members of `few`, and the first two bits of
+    /// each word but word 7.
     fn measure<B: BitsOwned>(
         self,
         rt: &impl Abort,
@@ -32,8 +32,8 @@ pub(crate) trait Measured: Sized {
         requires long { 768 ≤ B.type_capacity };
 }
 
-// Measures calls on rows of any element, which is proved in less time than on the rows of the
-// tests.
+// Measures calls on rows of any element type. For `[T; 12]` the calls are proved in less time than
+// for `[WordProbe; 12]`.
 fn measure_any_rows<M: Measured, T: BitsOwned>(
     rt: &impl Abort,
     calls: M,
@@ -51,7 +51,7 @@ fn measure_any_rows<M: Measured, T: BitsOwned>(
     calls.measure(rt, few, most, one, none, low, lower, asked);
 }
 
-/// Measures calls on rows.
+/// Measures calls on the six rows that [`measure`](Measured::measure) describes.
 pub(crate) fn measure_rows<M: Measured>(rt: &impl Abort, calls: M) {
     let asked = Asked::new();
     measure_any_rows(
@@ -67,10 +67,10 @@ pub(crate) fn measure_rows<M: Measured>(rt: &impl Abort, calls: M) {
     );
 }
 
-/// Twelve words of 64 bits: 768 indexes.
+/// Has twelve words of 64 bits each, so its capacity is 768.
 pub(crate) type Row<'a> = [WordProbe<'a>; 12];
 
-/// Indexes 3 and 60 of a word. In the row they are those of word 7: 451 and 508.
+/// Has the bits 3 and 60 set. In word 7 of a row these bits have the indexes 451 and 508.
 pub(crate) const TWO: u64 = 0x1000_0000_0000_0008;
 
 /// Returns a row in which word 7 is `word` and each other word is `rest`.
@@ -80,8 +80,8 @@ pub(crate) fn row_of(rest: u64, word: u64, asked: &Asked) -> Row<'_> {
     row
 }
 
-/// Tests what a call returns, how many words it fetches, and how often it asks anything else but
-/// the capacity. The counts begin anew after each.
+/// Checks what a call returns, how many words it fetches, and how many other calls it makes to the
+/// words. Calls of `capacity` do not count. Then it sets the counts to 0.
 macro_rules! costs {
     ($rt:expr; $asked:expr, $call:expr, $returned:expr, $fetched:expr, $other:expr) => {
         $crate::probe_rows::compare_costs(
@@ -98,8 +98,9 @@ macro_rules! costs {
 
 pub(crate) use costs;
 
-/// Ends the test where a call returned, fetched or asked something else than is wanted. It is a
-/// function, since each call of it is proved in half the time of its statements.
+/// Ends the test unless a call returned `wanted`, fetched `fetched` words and made `other` other
+/// calls. Then it sets the counts to 0. It is a function because a call of it is proved in half the
+/// time that its statements take.
 pub(crate) fn compare_costs<T: Compared>(
     rt: &impl Abort,
     text: &str,

@@ -1,4 +1,4 @@
-//! What runs of calls ask of their sets: each call once.
+//! Tests that a replay of a list of calls makes each call once.
 
 use crate::asked::{Asked, counts};
 use crate::checks::holds;
@@ -6,7 +6,7 @@ use crate::probe::{ONES, Probe, ZEROS};
 use bittle::replay::{Call, Reply, Side, replay, replay_mixed, replay_pair};
 use bittle::{BigEndian, LittleEndian};
 
-// Each kind of call. All but the capacity ask something that is counted.
+// Each kind of call. All but `Capacity` are counted.
 const CALLS: [Call; 9] = [
     Call::Test(31),
     Call::Put(5),

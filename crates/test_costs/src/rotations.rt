@@ -1,4 +1,4 @@
-//! What a move of all bits asks of its set: each word twice at most, and each is written once.
+//! Tests that a rotation or a shift fetches each word at most twice, and writes each word once.
 
 ghost use Rattle.std.specs.Prelude.{IsTrue};
 
@@ -9,7 +9,7 @@ use bittle::{BitsOwned, Set};
 use bittle_ext::BitsOwnedExt;
 use std::process::Abort;
 
-// How all bits are moved: by a rotation, by a shift, or by a shift past all.
+// How all bits are moved: by a rotation, by a shift, or by a shift that drops them all.
 #[derive(Drop)]
 enum Move {
     Rotation,
@@ -17,7 +17,7 @@ enum Move {
     ShiftPastAll,
 }
 
-// Moves the bits of a set up, and down, and tests what each call asks.
+// Returns a set moved up, and the same set moved down. Tests the counts after each call.
 fn move_bits<B: BitsOwned>(rt: &impl Abort, kind: Move, set: B, asked: &Asked) -> [B; 2]
     requires { IsTrue B.indexable }
 {
@@ -40,22 +40,22 @@ fn move_bits<B: BitsOwned>(rt: &impl Abort, kind: Move, set: B, asked: &Asked) -
     }
 }
 
-// Returns a set rotated down by 8 from the left.
+// Returns a set rotated down by 8 in the order `LittleEndian`.
 fn rotated_down_from_left<B: BitsOwned>(set: B) -> B
     requires { IsTrue B.indexable }
 {
     Set::new_le(set).rotated_down(8).into_bits()
 }
 
-// Returns a set shifted down by 8 from the left.
+// Returns a set shifted down by 8 in the order `LittleEndian`.
 fn shifted_down_from_left<B: BitsOwned>(set: B) -> B
     requires { IsTrue B.indexable }
 {
     Set::new_le(set).shifted_down(8).into_bits()
 }
 
-// Moves the members 0 and 31, and tests which bytes they are then, and what was asked in all. From
-// the left the members are 7 and 24.
+// Moves the set of `ONES` up, and also down. Tests the bytes that result, and the final counts. The
+// members of `ONES` are 0 and 31, and in the order `LittleEndian` 7 and 24.
 fn move_ones(
     rt: &impl Abort,
     kind: Move,
@@ -78,12 +78,12 @@ fn a_rotation_fetches_each_word_twice(rt: HostRuntime) {
 
 #[test]
 fn a_shift_fetches_each_word_twice_at_most(rt: HostRuntime) {
-    // Two words come from two each, and one from the end of one.
+    // Each shift makes two words from two words each, and one from one word: five fetches.
     move_ones(&rt, Move::Shift, [0, 2, 0, 0], [0, 0, 128, 0], 10, 8);
 }
 
 #[test]
 fn a_shift_of_all_bits_fetches_nothing(rt: HostRuntime) {
-    // Up by the capacity of 32, and down by one more.
+    // The set is shifted up by its capacity, 32, and down by 33.
     move_ones(&rt, Move::ShiftPastAll, [0; 4], [0; 4], 0, 2);
 }

@@ -1,4 +1,5 @@
-//! What calls on a row ask of its elements: each once, and one alone where the index is in it.
+//! Tests how many calls a call on a row makes to its elements. A call for one index makes one call
+//! to the element with this index. Other calls make one call to each element that they need.
 
 ghost use Rattle.std.specs.Prelude.{IsTrue};
 ghost use Rattle.bittle.specs.Values.{ShapeFits};
@@ -18,7 +19,7 @@ enum Use {
     Range,
 }
 
-// Uses a row of nine elements, with the members 0 and 31 of each.
+// Makes the calls of `kind` on a row of nine elements. Each element has the members 0 and 31.
 fn use_row<B: BitsOwned>(rt: &impl Abort, kind: Use, row: B, asked: &Asked)
     requires { IsTrue B.indexable }
 {
@@ -31,21 +32,23 @@ fn use_row<B: BitsOwned>(rt: &impl Abort, kind: Use, row: B, asked: &Asked)
     }
 }
 
-// Uses a row of any element, which is proved in less time than one of the elements of the tests.
+// Does the same as `use_row` for any element type. For `[T; 9]` the calls are proved in less time
+// than for `[Probe; 9]`.
 fn use_any_row<T: BitsOwned>(rt: &impl Abort, kind: Use, row: [T; 9], asked: &Asked)
     requires { IsTrue ⟦<[T; 9] as Shape>⟧.indexable }
 {
     use_row(rt, kind, row, asked);
 }
 
-// Uses a row of nine probes, and tests how often they were asked.
+// Makes the calls of `kind` on a row of nine probes. Tests that they make `other` calls to the
+// probes and fetch no word.
 fn use_probes(rt: &impl Abort, kind: Use, other: u32) {
     let asked = Asked::new();
     use_any_row(rt, kind, [Probe::of(ONES, &asked); 9], &asked);
     counts!(rt; asked, 0, other);
 }
 
-// Asks a row, and tests what it answers.
+// Reads a row. Tests what each call returns, and how many calls its elements have received.
 fn read<B: Bits>(rt: &impl Abort, row: &B, asked: &Asked)
     requires { ShapeFits B.Shape row.now }
 {
@@ -61,7 +64,7 @@ fn reading_a_row_asks_each_element_once(rt: HostRuntime) {
     use_probes(&rt, Use::Reads, 19);
 }
 
-// Changes a row, and tests how often its elements were asked.
+// Changes a row, and tests how many calls its elements have received.
 fn change<B: BitsOwned>(rt: &impl Abort, mut row: B, asked: &Asked)
     requires { IsTrue B.indexable }
 {
@@ -81,7 +84,7 @@ fn changing_a_row_asks_each_element_once(rt: HostRuntime) {
     use_probes(&rt, Use::Changes, 29);
 }
 
-// Returns a set with these indexes put into it.
+// Returns the set after the bits at the indexes `from..to` are set.
 fn with_until<B: BitsOwned>(mut set: B, from: u32, to: u32) -> B
     requires { IsTrue B.indexable }
 {
@@ -89,7 +92,7 @@ fn with_until<B: BitsOwned>(mut set: B, from: u32, to: u32) -> B
     set
 }
 
-// Returns a set with these indexes put into it, and the last.
+// Returns the set after the bits at the indexes `from..=to` are set.
 fn with_through<B: BitsOwned>(mut set: B, from: u32, to: u32) -> B
     requires { IsTrue B.indexable }
 {
@@ -113,21 +116,22 @@ fn a_range_is_one_call_or_two(rt: HostRuntime) {
     holds!(rt; asked.fetches() == 0 && asked.other() == 3);
 }
 
-// Returns a row of words, whose one bit is in word 9, or is unset there alone.
+// Returns a row of 24 words. Each word is `most`, but bit 0 of word 9 is flipped.
 fn words_but_one(most: u64, asked: &Asked) -> [WordProbe<'_>; 24] {
     let mut row = [WordProbe::of(most, asked); 24];
     row[9] = WordProbe::of(most ^ 1, asked);
     row
 }
 
-// What a row of words is asked: whether it has no bit, or each bit.
+// What is read of a row of words: whether no bit is set, or whether every bit is set.
 #[derive(Drop)]
 enum Question {
     HasNone,
     HasAll,
 }
 
-// Asks a row, and tests the answer and how many words were asked, each once.
+// Calls `all_zeros` or `all_ones` on a row. Tests the result, and that `other` calls to the words
+// are made, and no fetch.
 fn ask_words<T: BitsOwned, const N: usize>(
     rt: &impl Abort,
     question: Question,
@@ -150,14 +154,15 @@ fn slice_has_none<T: BitsOwned>(words: &[T]) -> bool {
 
 #[test]
 fn words_are_tested_eight_at_a_time(rt: HostRuntime) {
-    // The first word decides nothing, and twice eight are tested.
+    // Word 9 decides. The first word is tested by itself, and then words 0 to 7 and 8 to 15: 17
+    // calls.
     let asked = Asked::new();
     let row = words_but_one(0, &asked);
     ask_words(&rt, Question::HasNone, row, false, &asked, 17);
     let asked = Asked::new();
     let row = words_but_one(u64::MAX, &asked);
     ask_words(&rt, Question::HasAll, row, false, &asked, 17);
-    // Of words without a bit the first one is tested by itself before.
+    // No bit is set. The first word is tested by itself, and then all 20 words: 21 calls.
     let asked = Asked::new();
     let row = [WordProbe::of(0, &asked); 20];
     ask_words(&rt, Question::HasNone, row, true, &asked, 21);

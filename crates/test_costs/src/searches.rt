@@ -1,4 +1,4 @@
-//! What searches ask of their set: the words from one bound to the item, each once.
+//! Tests that a search in a range fetches the words from one bound up to the found bit, each once.
 
 ghost use Rattle.std.specs.Prelude.{◌*◌, ◌≤◌, IsTrue};
 
@@ -17,8 +17,8 @@ enum Search {
     LastZero,
 }
 
-// Searches a range of a set of these bytes, and tests what is found, and which words are fetched,
-// each once: the bit of index `k` of `words` stands for word `k`.
+// Searches a range of the set of these bytes. Tests what is found, and which words are fetched,
+// each once. Bit `k` of `words` is set if word `k` should be fetched.
 fn find<E: Endian>(
     rt: &impl Abort,
     kind: Search,
@@ -43,10 +43,10 @@ fn find<E: Endian>(
     same!(rt; asked.words_once(), Some(words));
 }
 
-// The members are 4, 8 and 31, and in little-endian order 3, 15 and 24.
+// Has the members 4, 8 and 31, and in the order `LittleEndian` 3, 15 and 24.
 const FEW: [u8; 4] = [0x10, 0x01, 0, 0x80];
 
-// These are no members, and all others are.
+// Has all members but those of `FEW`, in both orders.
 const MOST: [u8; 4] = [0xEF, 0xFE, 0xFF, 0x7F];
 
 #[test]
@@ -81,8 +81,8 @@ fn searches_of_the_last_zero_fetch_down_to_it(rt: HostRuntime) {
     find::<LittleEndian>(&rt, Search::LastZero, MOST, 15, 15, None, 0);
 }
 
-// What is asked of a row of twelve words: a search from either end for a bit that it lacks, or a
-// count of a range of a full one.
+// What is read of a row of twelve words: the last or the first set bit of an empty row, or the
+// count of the set bits in a range of a full row.
 #[derive(Drop)]
 enum Question {
     Last,
@@ -90,7 +90,7 @@ enum Question {
     Count,
 }
 
-// Asks a row of 96 bits.
+// Reads a row of 96 bits. Tests what the call returns, and how many words it fetches.
 fn ask<B: BitsOwned>(rt: &impl Abort, question: Question, row: B, asked: &Asked)
     requires indexable { IsTrue B.indexable }
     requires long { 96 ≤ B.type_capacity }
@@ -111,7 +111,8 @@ fn ask<B: BitsOwned>(rt: &impl Abort, question: Question, row: B, asked: &Asked)
     }
 }
 
-// Asks a row of any element, which is proved in less time than of the row of the tests.
+// Does the same as `ask` for a row of any element type. For `[T; 3]` the calls are proved in less
+// time than for `[Probe; 3]`.
 fn ask_any_row<T: BitsOwned>(rt: &impl Abort, question: Question, row: [T; 3], asked: &Asked)
     requires indexable { IsTrue ⟦<[T; 3] as Shape>⟧.indexable }
     requires long { 96 ≤ 3 * T.type_capacity }
@@ -119,7 +120,7 @@ fn ask_any_row<T: BitsOwned>(rt: &impl Abort, question: Question, row: [T; 3], a
     ask(rt, question, row, asked);
 }
 
-// Asks a row of three sets of four such bytes.
+// Does the same as `ask` for a row of three sets. Each set has four bytes that equal `byte`.
 fn ask_bytes(rt: &impl Abort, question: Question, byte: u8) {
     let asked = Asked::new();
     ask_any_row(rt, question, [Probe::of([byte; 4], &asked); 3], &asked);

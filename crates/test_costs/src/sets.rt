@@ -1,4 +1,4 @@
-//! What calls on a `Set` ask of the set that it wraps: each passes one call on.
+//! Tests what calls on a `Set` cost. Most of them make one call to the set that it wraps.
 
 ghost use Rattle.std.specs.Prelude.{◌≤◌, IsTrue};
 
@@ -11,7 +11,7 @@ use std::hash::{DefaultHasher, Hash};
 use std::process::Abort;
 use std::test::Fail;
 
-// What is done with a set that a `Set` wraps, or with two.
+// What is done with one or two sets that are wrapped by a `Set`.
 #[derive(Drop)]
 enum Use {
     Union,
@@ -25,7 +25,8 @@ enum Use {
     Changes,
 }
 
-// Each form of an operator makes one call, which reaches a copy of the left set alone.
+// Tests the six forms of an operator. Each makes one call, to the left set or to a copy of it, and
+// none to the right set.
 macro_rules! operators {
     ($rt:expr; $left:ident, $one:expr; $right:ident, $other:expr; $operator:tt, $assigning:tt) => {{
         let (mut a, b) = (Set::new($one), Set::new($other));
@@ -49,28 +50,28 @@ fn unite<B: BitsOwned>(rt: &impl Abort, one: B, left: &Asked, other: B, right: &
     operators!(rt; left, one; right, other; |, |=);
 }
 
-// Takes what two sets have in common.
+// Intersects two sets.
 fn conjoin<B: BitsOwned>(rt: &impl Abort, one: B, left: &Asked, other: B, right: &Asked)
     requires { IsTrue B.indexable }
 {
     operators!(rt; left, one; right, other; &, &=);
 }
 
-// Takes what one of two sets has alone.
+// Takes the symmetric difference of two sets.
 fn toggle<B: BitsOwned>(rt: &impl Abort, one: B, left: &Asked, other: B, right: &Asked)
     requires { IsTrue B.indexable }
 {
     operators!(rt; left, one; right, other; ^, ^=);
 }
 
-// Takes what the first set has alone.
+// Subtracts the second set from the first.
 fn subtract<B: BitsOwned>(rt: &impl Abort, one: B, left: &Asked, other: B, right: &Asked)
     requires { IsTrue B.indexable }
 {
     operators!(rt; left, one; right, other; -, -=);
 }
 
-// Clones a set, which succeeds.
+// Tests that a clone of a set succeeds.
 fn clone_set<B: BitsOwned>(rt: &impl Abort, bits: B)
     requires { IsTrue B.indexable }
 {
@@ -95,7 +96,7 @@ fn print_set<B: BitsOwned>(rt: &impl Abort, alloc: Global, bits: B) -> Result<()
     Ok(())
 }
 
-// Asks a set with the members 0 and 31 of 32 each question once.
+// Reads a set of 32 bits with the members 0 and 31, by one call of each kind.
 fn read<B: BitsOwned>(rt: &impl Abort, set: &B, asked: &Asked)
     requires { IsTrue B.indexable }
 {
@@ -124,7 +125,7 @@ fn change<B: BitsOwned>(set: &mut B)
     set.clear_bits();
 }
 
-// Asks a `Set`, or changes it.
+// Wraps `bits` in a `Set`, and reads it if `asks` is `true`. Else changes it.
 fn ask_or_change<B: BitsOwned>(rt: &impl Abort, asks: bool, bits: B, asked: &Asked)
     requires indexable { IsTrue B.indexable }
     requires within { 30 ≤ B.type_capacity }
@@ -137,7 +138,7 @@ fn ask_or_change<B: BitsOwned>(rt: &impl Abort, asks: bool, bits: B, asked: &Ask
     }
 }
 
-// Uses sets so.
+// Makes the calls of `kind` on one set or on both.
 fn use_sets<B: BitsOwned>(
     rt: &impl Abort,
     alloc: Global,
@@ -164,7 +165,8 @@ fn use_sets<B: BitsOwned>(
     Ok(())
 }
 
-// Uses the sets of `ONES` and of `ZEROS` so, and tests what was asked of the two.
+// Makes the calls of `kind` on the sets of `ONES` and of `ZEROS`. Tests for each set how many words
+// are fetched, and how many other calls are made.
 fn use_probes(
     rt: &impl Abort,
     alloc: Global,

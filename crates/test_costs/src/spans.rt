@@ -1,4 +1,4 @@
-//! What calls of a range ask of their set: the words of what lies below the capacity, each once.
+//! Tests that a call on a range fetches each word of the range below the capacity at most once.
 
 ghost use Rattle.bittle.specs.Values.{ShapeFits};
 
@@ -10,7 +10,7 @@ use bittle::Bits;
 use bittle_ext::prelude::*;
 use std::process::Abort;
 
-// What is asked of a set.
+// Which calls on ranges read a set.
 #[derive(Drop)]
 enum Question {
     Counts,
@@ -19,7 +19,7 @@ enum Question {
     Iterator,
 }
 
-// Asks a set with the members 0 and 31, of 32 bits in four words.
+// Reads a set of 32 bits in four words, with the members 0 and 31. Tests what the calls return.
 fn ask<B: Bits>(rt: &impl Abort, question: Question, set: &B)
     requires { ShapeFits B.Shape set.now }
 {
@@ -40,7 +40,7 @@ fn ask<B: Bits>(rt: &impl Abort, question: Question, set: &B)
     }
 }
 
-// Asks the set of `ONES`, and tests how many words that fetches.
+// Makes the calls of a question on the set of `ONES`, and tests that they fetch `fetched` words.
 fn ask_ones(rt: &impl Abort, question: Question, fetched: u32) {
     let asked = Asked::new();
     ask(rt, question, &Probe::of(ONES, &asked));

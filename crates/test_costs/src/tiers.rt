@@ -1,4 +1,5 @@
-//! What a set with a summary asks of its map: no word of which the summary tells that it has none.
+//! Tests how many words a set with a summary fetches from its map. The summary shows which words
+//! have a bit of one kind, set or unset. The set skips most of the other words.
 
 ghost use Rattle.std.specs.Prelude.{IsTrue};
 ghost use Rattle.bittle.specs.Values.{ShapeFits};
@@ -13,30 +14,31 @@ use bittle_ext::{BitsExt, BitsViewExt};
 use bittle_tiers::{Ones, Tiered, Zeros};
 use std::process::Abort;
 
-// Takes the pages 0 and 31, and then none. The map is counted before, by one call.
+// Takes page 0 and page 31, until no page is free. Before this, one call counted the taken pages.
 fn take_two<B: BitsOwned>(rt: &impl Abort, mut pages: Pages<B>, asked: &Asked) {
     let made = asked.fetches();
 
-    // Page 0 is free, in the first word, which is read again for the summary.
+    // Page 0 is free. The search fetches the first word, and the update of the summary fetches it
+    // again.
     same!(rt; pages.take(), Some(0));
     counts!(rt; asked since made, 2, 2);
 
-    // Page 31 is free alone, in the last word. The search reads the first word, and the two between
-    // are passed over; the last word is read again for the summary.
+    // Now only page 31 is free. The search fetches the first and the last word, and skips the two
+    // between. The update of the summary fetches the last word again.
     same!(rt; pages.take(), Some(31));
     counts!(rt; asked since made, 5, 3);
 
-    // No page is free, which the count tells.
+    // Now no page is free. The allocator knows this from its count of taken pages.
     same!(rt; pages.take(), None);
     counts!(rt; asked since made, 5, 3);
 }
 
-// Takes pages of a map of four words, with a summary of the full ones.
+// Takes pages of a map of four words. Its summary shows which words have an unset bit.
 fn take_two_of_map<B: BitsOwned>(rt: &impl Abort, map: B, asked: &Asked)
     requires { IsTrue ⟦<Tiered<B, u8, Zeros> as Shape>⟧.indexable }
 {
     let map = Tiered::<B, u8, Zeros>::new(map);
-    // The summary is made of the four words.
+    // Each of the four words was fetched once to make the summary.
     counts!(rt; asked, 4, 0);
     take_two(rt, Pages::with_taken(map), asked);
 }
@@ -47,7 +49,7 @@ fn full_words_are_passed_over(rt: HostRuntime) {
     take_two_of_map(&rt, Probe::of(ZEROS, &asked), &asked);
 }
 
-// What is asked of a set with a summary, or of two.
+// Which calls are made on one or two sets with a summary.
 #[derive(Drop)]
 enum Question {
     Iterators,
@@ -59,7 +61,7 @@ enum Question {
     Runs,
 }
 
-// Asks a set with the members 0 and 31, and tests what it answers.
+// Makes the calls of a question, and tests what they return. The members of `one` are 0 and 31.
 fn ask<B: BitsOwned>(rt: &impl Abort, question: Question, one: B, other: B, asked: &Asked)
     requires { IsTrue B.indexable }
 {
@@ -74,8 +76,8 @@ fn ask<B: BitsOwned>(rt: &impl Abort, question: Question, one: B, other: B, aske
     }
 }
 
-// Asks sets of any elements with a summary, once it is made, and tests how many words of either
-// that fetches, and how many other calls of the first are made.
+// Makes two sets with summaries, and then the calls of a question on them. Tests how many words
+// these calls fetch from either map, and how many other calls they make to the first map.
 fn ask_tiers<B: BitsOwned, S: BitsOwned>(
     rt: &impl Abort,
     question: Question,
@@ -95,21 +97,21 @@ fn ask_tiers<B: BitsOwned, S: BitsOwned>(
     counts!(rt; theirs since of_theirs, wanted.1, 0);
 }
 
-// Asks the set of `ONES` with a summary, and that of other bytes.
+// Does the same as `ask_tiers` for the maps of `ONES` and of `bytes`.
 fn ask_ones(rt: &impl Abort, question: Question, bytes: [u8; 4], wanted: (u32, u32, u32)) {
     let (ours, theirs) = (Asked::new(), Asked::new());
     let (one, other) = (Probe::of(ONES, &ours), Probe::of(bytes, &theirs));
     ask_tiers::<Probe, u8>(rt, question, one, &ours, other, &theirs, wanted);
 }
 
-// Counts what iterators over the set bits yield, one from each end.
+// Counts the set bits with two iterators: one stepped from the front, and one from the back.
 fn count_from_both_ends<B: Bits>(set: &B) -> (usize, usize)
     requires { ShapeFits B.Shape set.now }
 {
     (set.iter_ones().count(), set.iter_ones().rev().count())
 }
 
-// The same of a `Set`.
+// Does the same as `count_from_both_ends` for a `Set`.
 fn count_of_set<B: BitsOwned>(bits: B) -> (usize, usize)
     requires { IsTrue B.indexable }
 {
@@ -118,13 +120,13 @@ fn count_of_set<B: BitsOwned>(bits: B) -> (usize, usize)
 
 #[test]
 fn an_iterator_passes_over_words_without_a_bit(rt: HostRuntime) {
-    // Of four words the first and the last have a bit. The one after the first is read, and the
-    // next is passed over; from the back likewise.
+    // Only the first and the last of four words have a set bit. The iterator from the front skips
+    // word 2, and the iterator from the back skips word 1.
     ask_ones(&rt, Question::Iterators, [0; 4], (6, 0, 0));
 }
 
-// Searches from index 1 on, and up to index 30, and asks whether there is a bit, for which no word
-// is read.
+// Searches for the first set bit from index 1 on, and for the last one below index 30. Then tests
+// whether a bit is set, which fetches no word.
 fn search_both_ends<B: Bits>(rt: &impl Abort, set: &B, asked: &Asked)
     requires { ShapeFits B.Shape set.now }
 {
@@ -147,7 +149,7 @@ fn change_bit<B: BitsOwned>(rt: &impl Abort, mut set: B, asked: &Asked)
 {
     let made = asked.fetches();
 
-    // The word of a bit that is set has one, so it is not read.
+    // After a bit is set, its word has a set bit. So the summary is updated without a fetch.
     set.set_bit(9);
     counts!(rt; asked since made, 0, 1);
     set.clear_bit(9);
@@ -158,14 +160,15 @@ fn a_change_of_a_bit_is_a_call_and_at_most_a_word(rt: HostRuntime) {
     ask_ones(&rt, Question::ChangeOfBit, [0; 4], (1, 0, 2));
 }
 
-// The same of a row of any two sets, which is proved in less time than of those of the test.
+// Does the same as `count_from_both_ends` for a row of any two sets. For `[B; 2]` the calls are
+// proved in less time than for the row of the test.
 fn count_of_row<B: BitsOwned>(row: [B; 2]) -> (usize, usize)
     requires { IsTrue ⟦<[B; 2] as Shape>⟧.indexable }
 {
     count_from_both_ends(&row)
 }
 
-// The same of a row of two sets with summaries.
+// Does the same as `count_of_row` for two sets with summaries.
 fn count_of_tiers<B: BitsOwned>(row: [Tiered<B, u8, Ones>; 2]) -> (usize, usize)
     requires { IsTrue ⟦<[Tiered<B, u8, Ones>; 2] as Shape>⟧.indexable }
 {
@@ -181,12 +184,12 @@ fn a_row_asks_its_elements(rt: HostRuntime) {
     ];
     let made = asked.fetches();
 
-    // The four words of the first are passed over, and of the second one.
+    // Each iterator skips the four words of the first element, and one word of the second.
     same!(rt; count_of_tiers(row), (2, 2));
     counts!(rt; asked since made, 6, 0);
 }
 
-// Counts what iterators over both sets, and over the first alone, yield.
+// Counts the common members of two sets, and the members that only the first has, with iterators.
 fn count_both_and_alone<A: Bits, B: Bits>(left: &A, right: &B) -> (usize, usize)
     requires left { ShapeFits A.Shape left.now }
     requires right { ShapeFits B.Shape right.now }
@@ -196,13 +199,14 @@ fn count_both_and_alone<A: Bits, B: Bits>(left: &A, right: &B) -> (usize, usize)
 
 #[test]
 fn a_view_of_two_sets_passes_over_what_either_tells(rt: HostRuntime) {
-    // Of both sets word 2 alone is read, before which and after which one of them has nothing. Of
-    // the first alone its two words are, and one between.
+    // The second set has a bit in word 2 only. So for the common members only word 2 of both sets
+    // is fetched. For the members that only the first has, words 0 and 3 of both are fetched, and
+    // one between.
     ask_ones(&rt, Question::TwoSets, [0, 0, 4, 0], (4, 4, 0));
 }
 
-// Tests how many numbers the sets of `ONES` and of these bytes have in common, with summaries of 64
-// bits, and how many words an iterator over them reads of either set.
+// Counts the common members of the sets of `ONES` and of `bytes`, with an iterator. The summaries
+// of both have 64 bits. Tests the count, and how many words are fetched from either map.
 fn ask_common(rt: &impl Abort, bytes: [u8; 4], common: usize, fetched: u32) {
     let (ours, theirs) = (Asked::new(), Asked::new());
     let (one, other) = (Probe::of(ONES, &ours), Probe::of(bytes, &theirs));
@@ -212,18 +216,18 @@ fn ask_common(rt: &impl Abort, bytes: [u8; 4], common: usize, fetched: u32) {
 
 #[test]
 fn a_conjunction_reads_words_that_both_summaries_have(rt: HostRuntime) {
-    // Both have a bit in the last word alone, which alone is read.
+    // Only the last word has bits of both sets. Only this word is fetched.
     ask_common(&rt, [0, 4, 0, 128], 1, 1);
-    // Both have one in the first word too. After it the next word is read, and then the last one.
+    // The first word has bits of both sets too. After it the next and the last word are fetched.
     ask_common(&rt, [1, 4, 0, 128], 2, 3);
-    // In no word both have one.
+    // No word has bits of both sets.
     ask_common(&rt, [0, 4, 1, 0], 0, 0);
-    // In the first word each has one, and both have none in common there.
+    // The first word has bits of both sets, but no common member.
     ask_common(&rt, [2, 0, 4, 0], 0, 1);
 }
 
-// Counts what iterators over views of a set yield: from index 8 on, of the complement's unset bits,
-// and from the left.
+// Counts the items of iterators over three views of a set: the set bits from index 8 on, the unset
+// bits of the complement, and the set bits in the order `LittleEndian`.
 fn count_in_views<B: Bits>(rt: &impl Abort, set: &B)
     requires { ShapeFits B.Shape set.now }
 {
@@ -235,12 +239,12 @@ fn count_in_views<B: Bits>(rt: &impl Abort, set: &B)
 
 #[test]
 fn views_of_one_set_pass_over_what_it_tells(rt: HostRuntime) {
-    // From index 8 on the last word alone is read; of the others the first, the one after it, and
-    // the last.
+    // For the view from index 8 on, only the last word is fetched. For each other view the first
+    // word, the one after it, and the last word are fetched.
     ask_ones(&rt, Question::Views, [0; 4], (7, 0, 0));
 }
 
-// Looks for two set bits side by side, and for one from index 1 on.
+// Searches for a run of two set bits, and for a run of one set bit from index 1 on.
 fn look_for_runs<B: Bits>(rt: &impl Abort, set: &B)
     requires { ShapeFits B.Shape set.now }
 {
@@ -250,6 +254,6 @@ fn look_for_runs<B: Bits>(rt: &impl Abort, set: &B)
 
 #[test]
 fn a_run_is_looked_for_past_words_without_a_bit(rt: HostRuntime) {
-    // Of the four words each call reads the first and the last.
+    // Each call fetches the first and the last of the four words.
     ask_ones(&rt, Question::Runs, [0; 4], (4, 0, 0));
 }

@@ -1,4 +1,4 @@
-//! What a view asks of its sets: the words that it is asked for, each once.
+//! Tests that a view fetches only the words of its sets that a call on it needs, each once.
 
 ghost use Rattle.std.specs.Prelude.{◌≤◌};
 ghost use Rattle.bittle.specs.Values.{ShapeFits};
@@ -10,7 +10,7 @@ use crate::walked::count_ones;
 use bittle::Bits;
 use bittle_ext::BitsViewExt;
 
-// Counts the members of a range of a set by an iterator.
+// Counts the members in `from..to` of a set, with an iterator over a view of that range.
 fn count_walked<B: Bits>(set: &B, from: u32, to: u32) -> usize
     requires fits { ShapeFits B.Shape set.now }
     requires ordered { from ≤ to }
@@ -37,7 +37,7 @@ fn are_apart<A: Bits, B: Bits>(left: &A, right: &B) -> bool
 
 #[test]
 fn a_view_of_two_sets_fetches_each_word_of_both_once(rt: HostRuntime) {
-    // No member of the first set, which are 0 and 31, is one of the second.
+    // The first set has the members 0 and 31, the second set all others. They have none in common.
     let (ours, theirs) = (Asked::new(), Asked::new());
     same!(rt; are_apart(&Probe::of(ONES, &ours), &Probe::of(ZEROS, &theirs)), true);
     counts!(rt; ours, 4, 0);

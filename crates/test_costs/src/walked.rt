@@ -1,6 +1,6 @@
-//! What iterators over sets yield. A function that takes an iterator by the type of its set is
-//! proved in less time than a call of the iterator in place, which states all that its type
-//! promises.
+//! Functions that step iterators over sets. They are generic in the type of the set. So a call of a
+//! function of this file is proved in less time than a call of the iterator itself. For the latter
+//! the prover states the whole contract of the iterator's type.
 
 ghost use Rattle.std.specs.Iterator.{IsFinite};
 ghost use Rattle.bittle.specs.Values.{ShapeFits};
@@ -52,21 +52,21 @@ pub(crate) fn next<B: ReadWords, E: Endian, K: Kind>(walk: &mut Iter<'_, B, E, K
     walk.next()
 }
 
-/// Returns the next item of a join with a range.
+/// Returns the next item of a join (`join_ones`) with a range of numbers.
 pub(crate) fn next_joined<B: Bits>(
     join: &mut JoinOnes<'_, B, DefaultEndian, Range<u32>>,
 ) -> Option<u32> {
     join.next()
 }
 
-/// Counts the set bits of a set by an iterator.
+/// Counts the set bits of a set with an iterator.
 pub(crate) fn count_ones<B: Bits>(set: &B) -> usize
     requires { ShapeFits B.Shape set.now }
 {
     set.iter_ones().count()
 }
 
-/// Counts the unset bits of a set by an iterator.
+/// Counts the unset bits of a set with an iterator.
 pub(crate) fn count_zeros<B: Bits>(set: &B) -> usize
     requires { ShapeFits B.Shape set.now }
 {

@@ -1,4 +1,4 @@
-//! What iterators and joins ask of their set: each word once.
+//! Tests that iterators and joins fetch each word of their set at most once.
 
 ghost use Rattle.std.specs.Prelude.{◌*◌, length, IsTrue};
 ghost use Rattle.bittle.specs.Shapes.{Fits};
@@ -16,11 +16,11 @@ use std::alloc::AllocError;
 use std::ops::Range;
 use std::process::Abort;
 
-// A step, what it answers, and how many words were fetched at most after it.
+// A step, the item that it should return, and how many words may have been fetched after it.
 type Stepped = (Step, Option<u32>, u32);
 
-// Whether a walk answers a step as wanted, has fetched no more words than that, and asked nothing
-// else.
+// Returns whether a step of a walk returns the expected item. It returns `false` if more words than
+// allowed have been fetched, or if another call was made.
 fn answers<W: DoubleEndedIterator<Item = u32>>(
     walk: &mut W,
     asked: &Asked,
@@ -37,7 +37,7 @@ fn answers<W: DoubleEndedIterator<Item = u32>>(
     found == item && asked.is_at_most(words)
 }
 
-// Whether a walk answers each step so.
+// Returns whether each of four steps of a walk passes `answers`.
 fn answers_each<W: DoubleEndedIterator<Item = u32> + Drop>(
     mut walk: W,
     asked: &Asked,
@@ -53,7 +53,8 @@ fn answers_each<W: DoubleEndedIterator<Item = u32> + Drop>(
         && answers(&mut walk, asked, fourth)
 }
 
-// Whether a walk over twelve words yields these items from an end, and fetches each word once.
+// Returns whether a walk over twelve words yields these items and then ends, with at most twelve
+// fetches. All steps are from one end.
 fn yields<W: DoubleEndedIterator<Item = u32> + Drop>(
     mut walk: W,
     asked: &Asked,
@@ -71,8 +72,8 @@ fn yields<W: DoubleEndedIterator<Item = u32> + Drop>(
     answers(&mut walk, asked, (step, None, 12))
 }
 
-// Whether a clone, taken after the first step, fetches nothing, and then no more than its source
-// has left.
+// Returns whether a clone that is made after the first step of a walk fetches no word, and whether
+// the clone and the walk then fetch just the three words that are left, each once.
 fn clones_frugally<W: DoubleEndedIterator<Item = u32> + Clone + Drop>(
     mut walk: W,
     asked: &Asked,
@@ -94,8 +95,8 @@ fn clones_frugally<W: DoubleEndedIterator<Item = u32> + Clone + Drop>(
     good && answers(&mut walk, asked, (Step::Front, None, 7))
 }
 
-// Whether a clone of an iterator that has nothing asked of its set since its start asks nothing
-// either, and yields the first item.
+// Returns whether a clone of an iterator that was not stepped yet yields item 0, with at most one
+// word fetched in all. An iterator over an array fetches this word at its start.
 fn clones_for_nothing<W: Iterator<Item = u32> + Clone + Drop>(walk: W, asked: &Asked) -> bool
     requires front { (w : W) → W.can_next w }
 {
@@ -106,8 +107,8 @@ fn clones_for_nothing<W: Iterator<Item = u32> + Clone + Drop>(walk: W, asked: &A
     asked.is_at_most(1) && other.next() == Some(0) && asked.is_at_most(1)
 }
 
-// What a walk is tested for: its answers to four steps, all that it yields, or a clone of it after
-// the first step or before.
+// What is tested of a walk: four steps, all items from one end, a clone after the first step, or a
+// clone before it.
 #[derive(Clone, Copy)]
 enum Test {
     Steps([Stepped; 4]),
@@ -116,7 +117,7 @@ enum Test {
     Clone,
 }
 
-// Whether a walk passes a test.
+// Returns whether a walk passes a test.
 fn passes<W: DoubleEndedIterator<Item = u32> + Clone + Drop>(
     walk: W,
     asked: &Asked,
@@ -133,7 +134,7 @@ fn passes<W: DoubleEndedIterator<Item = u32> + Clone + Drop>(
     }
 }
 
-// Whether an iterator over a borrowed set passes a test.
+// Returns whether an iterator over a borrowed set passes a test.
 fn borrowed_passes<B: ReadWords, E: Endian, K: Kind>(
     walk: Iter<'_, B, E, K>,
     asked: &Asked,
@@ -142,7 +143,7 @@ fn borrowed_passes<B: ReadWords, E: Endian, K: Kind>(
     passes(walk, asked, test)
 }
 
-// Whether an iterator over an owned set passes a test.
+// Returns whether an iterator over an owned set passes a test.
 fn owned_passes<B: ReadWords + Copy, E: Endian, K: Kind>(
     walk: IntoIter<B, E, K>,
     asked: &Asked,
@@ -151,7 +152,7 @@ fn owned_passes<B: ReadWords + Copy, E: Endian, K: Kind>(
     passes(walk, asked, test)
 }
 
-// The walks over a set, by the names of the calls that begin them.
+// The walks over a set. Each has the name of the call that returns it.
 #[derive(Clone, Copy)]
 enum Form {
     IterOnes,
@@ -166,7 +167,7 @@ enum Form {
     IntoIterZerosLe,
 }
 
-// Whether such a walk over a set passes a test.
+// Returns whether the walk that `form` names passes a test on a set.
 fn walk_passes<B: BitsOwned>(form: Form, set: B, asked: &Asked, test: Test) -> bool
     requires { IsTrue B.indexable }
 {
@@ -184,14 +185,14 @@ fn walk_passes<B: BitsOwned>(form: Form, set: B, asked: &Asked, test: Test) -> b
     }
 }
 
-// Whether such a walk over these four bytes passes a test.
+// Returns whether the walk that `form` names passes a test on these four bytes.
 fn walk_of_bytes_passes(form: Form, bytes: [u8; 4], test: Test) -> bool {
     let asked = Asked::new();
     walk_passes(form, Probe::of(bytes, &asked), &asked, test)
 }
 
-// The steps of a walk with one item in its first word and one in its last of four, to its end from
-// either end.
+// Returns four lists of steps of a walk over four words. The walk has one item in the first word
+// and one in the last. The lists differ in the end, front or back, from which each step is made.
 fn each_way(first: u32, last: u32) -> [[Stepped; 4]; 4] {
     let (first, last) = (Some(first), Some(last));
     [
@@ -222,7 +223,8 @@ fn each_way(first: u32, last: u32) -> [[Stepped; 4]; 4] {
     ]
 }
 
-// Steps such a walk over these bytes, with these two items, each way.
+// Tests all four lists of steps on the walk that `form` names, over these bytes. The items of the
+// walk are `first` and `last`.
 fn step_each_way(rt: &impl Abort, form: Form, bytes: [u8; 4], first: u32, last: u32) {
     for steps in each_way(first, last) {
         holds!(rt; walk_of_bytes_passes(form, bytes, Test::Steps(steps)));
@@ -261,14 +263,15 @@ fn clones_fetch_what_their_source_has_left(rt: HostRuntime) {
     holds!(rt; walk_of_bytes_passes(Form::IntoIterZerosBe, ZEROS, Test::LateClone));
 }
 
-// Whether such a walk over a row of any element passes a test.
+// Returns whether the walk that `form` names passes a test on a row of any element type.
 fn walk_of_row_passes<T: BitsOwned>(form: Form, row: [T; 3], asked: &Asked, test: Test) -> bool
     requires { IsTrue ⟦<[T; 3] as Shape>⟧.indexable }
 {
     walk_passes(form, row, asked, test)
 }
 
-// Whether such a walk over twelve words, with the items 0 and 31 of each four, passes a test.
+// Returns whether the walk that `form` names passes a test on twelve words. They are a row of three
+// elements, each with the members 0 and 31.
 fn walk_of_twelve_passes(form: Form, test: Test) -> bool {
     let asked = Asked::new();
     walk_of_row_passes(form, [Probe::of(ONES, &asked); 3], &asked, test)
@@ -292,7 +295,7 @@ fn a_clone_of_an_iterator_over_twelve_words_asks_nothing(rt: HostRuntime) {
     holds!(rt; walk_of_twelve_passes(Form::IntoIterOnes, Test::Clone));
 }
 
-// Asks for each item of a join, with how many words were fetched at most after it.
+// Tests each step of a join: its item, and that no more words than allowed are fetched by then.
 fn join<B: BitsOwned>(
     rt: &impl Abort,
     mask: B,
@@ -309,7 +312,7 @@ fn join<B: BitsOwned>(
     }
 }
 
-// Asks for each item of a join with a mask of these bytes.
+// Does the same as `join` with the set of these bytes as the mask.
 fn join_bytes(
     rt: &impl Abort,
     bytes: [u8; 4],
@@ -344,7 +347,8 @@ fn runs_of_steps_fetch_each_word_once(rt: HostRuntime) {
     }
 }
 
-// Whether an iterator over a set fetches nothing at its start, and one word for its first item.
+// Returns whether an iterator over a set fetches no word at its start, and one word for its first
+// item, 0.
 fn starts_for_nothing<B: Bits>(set: &B, asked: &Asked) -> bool
     requires { ShapeFits B.Shape set.now }
 {

@@ -1,4 +1,4 @@
-//! A set of one word that counts what it is asked.
+//! A set of one word. It counts the fetches of this word, and the other calls made to it.
 
 ghost use Rattle.std.specs.Prelude.{◌≡◌, ◌<◌, true, refl};
 ghost use Rattle.std.proofs.Common.{lit<};
@@ -10,7 +10,7 @@ use bittle::{Bits, BitsMut, BitsOwned, DefaultEndian, Endian};
 use bittle_bits::extension::{Operation, RangeOperation, ReadWords, Sealed};
 use bittle_bits::shape::Shape;
 
-/// A word that is a set, and the counts of the calls that reach it.
+/// A set of one word. It counts the calls made to it, unless `asked` is `None`.
 #[derive(Clone, Copy)]
 #[derive_where(PartialEq, Eq)]
 pub(crate) struct WordProbe<'a> {
@@ -20,7 +20,7 @@ pub(crate) struct WordProbe<'a> {
 }
 
 impl<'a> WordProbe<'a> {
-    /// Returns the set of this word, with these counts.
+    /// Returns the set of this word. Calls to it are counted in `asked`.
     pub(crate) fn of(word: u64, asked: &'a Asked) -> WordProbe<'a> {
         WordProbe {
             word,

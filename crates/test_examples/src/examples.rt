@@ -1,4 +1,4 @@
-//! The examples in the documentation of the public calls.
+//! The examples in the comments above the public calls.
 
 use crate::checks::{holds, same};
 use bittle::replay::{Call, Reply, Side, Step, replay, replay_mixed, replay_pair, replay_walk};

@@ -1,4 +1,4 @@
-//! The examples of the README's guide. Each line of its listings stands here or in the program of
+//! The examples of README's guide. Each line of the guide's listings is here or in the program of
 //! `bittle_guide`.
 
 use crate::checks::{holds, same};
@@ -82,7 +82,7 @@ fn mixed_members(row: &[u32; 4]) -> u32 {
     mixed
 }
 
-// A step from the front, one from the back, and one from the back of what is left.
+// Takes the first item, the last item, and then the last of those that remain.
 fn three_steps(row: &[u32; 4]) -> [Option<u32>; 3] {
     let mut walk = row.iter_ones();
     let (first, last) = (walk.next(), walk.next_back());

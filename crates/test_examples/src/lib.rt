@@ -1,4 +1,4 @@
-//! Tests: the examples of the Rust crate and of its documentation, and those of the README.
+//! Tests of the examples in README's guide and in the comments above the public calls.
 #![tactic(auto)]
 
 #[cfg(test)]

@@ -1,5 +1,6 @@
-//! Sets changed by sets of other shapes, with values worked out by hand, and with drawn ones
-//! compared with plain loops over 24 flags.
+//! Tests of calls that combine a set with a set of another shape, that fill, shift or rotate a set
+//! in place, or that rank its unset bits. The expected values are worked out by hand, or, for
+//! random sets, by plain loops over 24 flags.
 
 ghost use Rattle.std.specs.Prelude.{IsTrue};
 ghost use Rattle.bittle.specs.Values.{ShapeFits};
@@ -18,7 +19,8 @@ const ALONE: u32 = 2;
 
 const UNLIKE: u32 = 3;
 
-// Changes a set by an operation with another one, and returns whether that is said to change it.
+// Changes a set by one of four operations with another set. Returns what the call returns: whether
+// the set changed.
 fn change<A: BitsMut, B: Bits>(kind: u32, set: &mut A, other: &B) -> bool
     requires fits { ShapeFits A.Shape set.old }
     requires other_fits { ShapeFits B.Shape other.now }
@@ -31,7 +33,7 @@ fn change<A: BitsMut, B: Bits>(kind: u32, set: &mut A, other: &B) -> bool
     }
 }
 
-// Returns the set after a change, and what it is said to be.
+// Returns the set after an operation, and whether the call reports a change.
 fn changed<A: BitsOwned, B: Bits>(kind: u32, set: A, other: &B) -> (A, bool)
     requires indexable { IsTrue A.indexable }
     requires other_fits { ShapeFits B.Shape other.now }
@@ -41,8 +43,8 @@ fn changed<A: BitsOwned, B: Bits>(kind: u32, set: A, other: &B) -> (A, bool)
     (now, told)
 }
 
-// Returns the set after a union, after a conjunction, after a difference, and after a symmetric
-// difference with another one, and what each is said to be.
+// Returns the union, intersection, difference and symmetric difference of a set with another set,
+// each with whether the call reports a change.
 fn changed_each_way<A: BitsOwned, B: Bits>(set: A, other: &B) -> [(A, bool); 4]
     requires indexable { IsTrue A.indexable }
     requires other_fits { ShapeFits B.Shape other.now }
@@ -56,7 +58,7 @@ fn changed_each_way<A: BitsOwned, B: Bits>(set: A, other: &B) -> [(A, bool); 4]
 
 #[test]
 fn a_byte_by_a_wider_word(rt: HostRuntime) {
-    // Bits 0 and 1 are set, and bits 1, 2 and 8.
+    // `byte` has the members 0 and 1, and `word` has 1, 2 and 8.
     let (byte, word) = (0b0011u8, 0x0106u16);
     let [either, both, alone, unlike] = changed_each_way(byte, &word);
     same!(rt; (either, both), ((0b0111, true), (0b0010, true)));
@@ -79,7 +81,7 @@ fn a_longer_row_by_a_byte(rt: HostRuntime) {
     same!(rt; (alone, unlike), (([0b0100, 1, 0x80], true), ([0b0101, 1, 0x80], true)));
 }
 
-// Returns the set after each of the four changes, each with a set of its own.
+// Returns the set after each of the four operations, each with another one of `others`.
 fn changed_by_each<A: BitsOwned, B: BitsOwned>(set: A, others: [B; 4]) -> [(A, bool); 4]
     requires indexable { IsTrue A.indexable }
     requires other_indexable { IsTrue B.indexable }
@@ -95,7 +97,7 @@ fn changed_by_each<A: BitsOwned, B: BitsOwned>(set: A, others: [B; 4]) -> [(A, b
 
 #[test]
 fn what_changes_nothing_is_told(rt: HostRuntime) {
-    // From bit 8 on the other set has what the byte has not.
+    // Bits 8 to 15 of the other sets are past the byte's capacity, so they change nothing.
     let byte = 0b0111u8;
     let others = [0xFF06u16, 0x000F, 0xFF08, 0xFF00];
     let [either, both, alone, unlike] = changed_by_each(byte, others);
@@ -103,7 +105,7 @@ fn what_changes_nothing_is_told(rt: HostRuntime) {
     same!(rt; (alone, unlike), ((byte, false), (byte, false)));
 }
 
-// Returns the set after a union with a set, and after a conjunction with one.
+// Returns the set after a union with `one`, and after an intersection with `other`.
 fn either_and_both<A: BitsOwned, B: Bits, C: Bits>(set: A, one: &B, other: &C) -> [(A, bool); 2]
     requires indexable { IsTrue A.indexable }
     requires one_fits { ShapeFits B.Shape one.now }
@@ -119,7 +121,7 @@ fn the_last_word_alone_changes(rt: HostRuntime) {
     same!(rt; (either, both), (([0xFFFF, 1, 3], true), ([0xFFFF, 1, 0], true)));
 }
 
-// Returns the set after each of the four changes with one from the left.
+// Returns the set after each of the four operations with a little-endian set.
 fn changed_each_way_by_left<A: BitsOwned, T: BitsOwned>(set: A, left: T) -> [(A, bool); 4]
     requires indexable { IsTrue A.indexable }
     requires other_indexable { IsTrue T.indexable }
@@ -127,7 +129,7 @@ fn changed_each_way_by_left<A: BitsOwned, T: BitsOwned>(set: A, left: T) -> [(A,
     changed_each_way(set, &Set::new_le(left))
 }
 
-// Returns a set from the left after a change.
+// Returns a little-endian set after an operation, and whether the call reports a change.
 fn left_changed<T: BitsOwned, B: Bits>(kind: u32, left: T, other: &B) -> (T, bool)
     requires indexable { IsTrue T.indexable }
     requires other_fits { ShapeFits B.Shape other.now }
@@ -138,7 +140,7 @@ fn left_changed<T: BitsOwned, B: Bits>(kind: u32, left: T, other: &B) -> (T, boo
 
 #[test]
 fn two_rows_each_in_its_own_order(rt: HostRuntime) {
-    // Bits 0, 15 and 33 are set, and from the left bits 0, 33 and 63.
+    // `row` has the members 0, 15 and 33. In little-endian order, `left` has 0, 33 and 63.
     let row = [0x8001u16, 0, 2];
     let left = [0x8000_0000u32, 0x4000_0001];
     let [either, both, alone, unlike] = changed_each_way_by_left(row, left);
@@ -154,7 +156,7 @@ fn a_set_from_the_left_by_a_row(rt: HostRuntime) {
     same!(rt; left_changed(COMMON, left, &row), ([0x8000_0000, 0x4000_0000], true));
 }
 
-// Returns a set from the left after a change with another one from the left.
+// Returns a little-endian set after an operation with another little-endian set.
 fn left_changed_by_left<T: BitsOwned, U: BitsOwned>(kind: u32, left: T, other: U) -> (T, bool)
     requires indexable { IsTrue T.indexable }
     requires other_indexable { IsTrue U.indexable }
@@ -164,14 +166,14 @@ fn left_changed_by_left<T: BitsOwned, U: BitsOwned>(kind: u32, left: T, other: U
 
 #[test]
 fn two_sets_from_the_left(rt: HostRuntime) {
-    // From the left bits 0 and 7 are set, and bits 1, 7 and 8.
+    // In little-endian order, `byte` has the members 0 and 7, and `row` has 1, 7 and 8.
     let (byte, row) = (0x81u8, [0x41u8, 0x80]);
     same!(rt; left_changed_by_left(UNION, byte, row), (0xC1, true));
     same!(rt; left_changed_by_left(ALONE, row, byte), ([0x40, 0x80], true));
 }
 
-// Returns a set of capacity 0 after changes with one that has members and with itself, and two
-// others after changes with it.
+// Returns a set of capacity 0 after operations with `some` and with itself. Then returns `some` and
+// `empty` after operations with the set of capacity 0.
 fn changed_with_nothing<A: BitsOwned, B: BitsOwned>(
     none: A,
     some: B,
@@ -198,7 +200,7 @@ fn capacity_0(rt: HostRuntime) {
     same!(rt; changed(UNION, none, &0xFFu8), (none, false));
 }
 
-// Adds a set to a set that is read from the left.
+// Adds `other` to a set that is read in little-endian order.
 fn add_from_left<A: BitsMut, B: Bits>(set: &mut A, other: &B) -> bool
     requires fits { ShapeFits A.Shape set.old }
     requires other_fits { ShapeFits B.Shape other.now }
@@ -206,7 +208,7 @@ fn add_from_left<A: BitsMut, B: Bits>(set: &mut A, other: &B) -> bool
     change(UNION, &mut set.in_order_mut::<LittleEndian>(), other)
 }
 
-// Adds what two sets have in common to a set that is read from the left.
+// Adds the intersection of `one` and `other` to a set that is read in little-endian order.
 fn add_common<A: BitsMut, B: Bits>(set: &mut A, one: &B, other: &B) -> bool
     requires fits { ShapeFits A.Shape set.old }
     requires one_fits { ShapeFits B.Shape one.now }
@@ -217,13 +219,14 @@ fn add_common<A: BitsMut, B: Bits>(set: &mut A, one: &B, other: &B) -> bool
 
 #[test]
 fn a_view_is_changed_by_a_view(rt: HostRuntime) {
-    // What they have in common are bits 1 and 2, which from the left are bits 6 and 5.
+    // The intersection has the members 1 and 2. In little-endian order, these are the bits 0x40 and
+    // 0x20 of the byte.
     let mut byte = 0x01u8;
     same!(rt; add_common(&mut byte, &0x0106u16, &0x00FEu16), true);
     same!(rt; byte, 0x61);
 }
 
-// Adds one set to a set, and takes another one out.
+// Adds the members of `one` to a set, and takes out the members of `other`.
 fn add_and_take_out<A: BitsMut, B: Bits, C: Bits>(set: &mut A, one: &B, other: &C) -> [bool; 2]
     requires fits { ShapeFits A.Shape set.old }
     requires one_fits { ShapeFits B.Shape one.now }
@@ -241,7 +244,7 @@ fn a_lent_slice(rt: HostRuntime) {
     same!(rt; row, [0, 1, 0x8000_0000]);
 }
 
-// Returns the flags of two words from the left, below 24.
+// Returns the first 24 bits of two words as flags, in little-endian order.
 fn flags_from_left(words: &[u16; 2]) -> [bool; 24] {
     let mut flags = [false; 24];
     for i in 0..24usize {
@@ -250,8 +253,8 @@ fn flags_from_left(words: &[u16; 2]) -> [bool; 24] {
     flags
 }
 
-// Returns the flags that an operation makes of two sets' flags, and whether one of the first
-// changed.
+// Returns the flags that an operation makes of the flags of two sets, and whether the flags of the
+// first set changed.
 fn expected(kind: u32, ours: &[bool; 24], theirs: &[bool; 24]) -> ([bool; 24], bool) {
     let mut flags = [false; 24];
     for i in 0..24usize {
@@ -272,7 +275,7 @@ fn drawn_changes_by_like_words_agree_with_plain_loops(rt: HostRuntime) {
     }
 }
 
-// Returns the set after a change with one from the left.
+// Returns the set after an operation with a little-endian set.
 fn changed_by_left<A: BitsOwned, T: BitsOwned>(kind: u32, set: A, left: T) -> (A, bool)
     requires indexable { IsTrue A.indexable }
     requires other_indexable { IsTrue T.indexable }
@@ -294,7 +297,7 @@ fn drawn_changes_by_unlike_words_agree_with_plain_loops(rt: HostRuntime) {
     }
 }
 
-// Returns a set after it was made what another one has.
+// Returns the set after `copy_from` copied another set to it.
 fn copied<A: BitsOwned, B: Bits>(set: A, other: &B) -> A
     requires indexable { IsTrue A.indexable }
     requires other_fits { ShapeFits B.Shape other.now }
@@ -304,7 +307,7 @@ fn copied<A: BitsOwned, B: Bits>(set: A, other: &B) -> A
     now
 }
 
-// Returns a set after it was made what one from the left has.
+// Returns the set after `copy_from` copied a little-endian set to it.
 fn copied_from_left<A: BitsOwned, T: BitsOwned>(set: A, left: T) -> A
     requires indexable { IsTrue A.indexable }
     requires other_indexable { IsTrue T.indexable }
@@ -312,7 +315,7 @@ fn copied_from_left<A: BitsOwned, T: BitsOwned>(set: A, left: T) -> A
     copied(set, &Set::new_le(left))
 }
 
-// Returns a set from the left after it was made what another one has.
+// Returns a little-endian set after `copy_from` copied another set to it.
 fn left_copied<T: BitsOwned, B: Bits>(left: T, other: &B) -> T
     requires indexable { IsTrue T.indexable }
     requires other_fits { ShapeFits B.Shape other.now }
@@ -322,7 +325,7 @@ fn left_copied<T: BitsOwned, B: Bits>(left: T, other: &B) -> T
 
 #[test]
 fn copies(rt: HostRuntime) {
-    // From the left bits 1, 7 and 8 are set.
+    // In little-endian order, `[0x41, 0x80]` has the members 1, 7 and 8.
     same!(rt; copied([0xFFu8, 0xFF, 0xFF], &0x0107u16), [0x07, 0x01, 0]);
     same!(rt; copied(0xFFu8, &[0x0106u16, 3]), 0x06);
     same!(rt; copied_from_left(0xFFFFu16, [0x41u8, 0x80]), 0x0182);
@@ -331,7 +334,7 @@ fn copies(rt: HostRuntime) {
     same!(rt; (copied(none, &7u8), copied(7u8, &none)), (none, 0));
 }
 
-// Returns the set of a type with the members of another one.
+// Makes a set of the type `A` that has the members of another set below its capacity.
 fn made_of<A: BitsOwned, B: Bits>(other: &B) -> A
     requires indexable { IsTrue A.indexable }
     requires other_fits { ShapeFits B.Shape other.now }
@@ -365,7 +368,7 @@ fn every_bit_is_set(rt: HostRuntime) {
     same!(rt; filled([0u8; 0]), []);
 }
 
-// Returns a set shifted up in place, or else down.
+// Returns a set that was shifted in place: up if `up` is `true`, else down.
 fn shifted<B: BitsMut>(up: bool, set: B, by: u32) -> B
     requires { ShapeFits B.Shape set }
 {
@@ -380,7 +383,7 @@ fn shifted<B: BitsMut>(up: bool, set: B, by: u32) -> B
 
 #[test]
 fn shifts_in_place(rt: HostRuntime) {
-    // The members 0, 7 and 23.
+    // Bits 0, 7 and 23 are set.
     let row = [0x81u8, 0, 0x80];
     same!(rt; shifted(false, row, 8), [0, 0x80, 0]);
     same!(rt; shifted(false, row, 7), [0x01, 0, 0x01]);
@@ -391,7 +394,8 @@ fn shifts_in_place(rt: HostRuntime) {
 
 #[test]
 fn shifts_in_place_beside_a_word(rt: HostRuntime) {
-    // The members 0, 7 and 23 of words of 8 bits, by all but one bit of one word, two and three.
+    // Bits 0, 7 and 23 of the row are set. It is shifted by two words of 8 bits, and by one bit
+    // less than one, two and three words.
     let row = [0x81u8, 0, 0x80];
     same!(rt; (shifted(false, row, 15), shifted(false, row, 16)), ([0, 1, 0], [0x80, 0, 0]));
     same!(rt; (shifted(true, row, 7), shifted(true, row, 15)), ([0x80, 0x40, 0], [0, 0x80, 0x40]));
@@ -401,7 +405,7 @@ fn shifts_in_place_beside_a_word(rt: HostRuntime) {
     same!(rt; (shifted(false, wide, 127), shifted(true, wide, 127)), (1, 1 << 127));
 }
 
-// Returns a set from the left shifted up in place, or else down.
+// Returns a little-endian set that was shifted in place: up if `up` is `true`, else down.
 fn left_shifted<T: BitsOwned>(up: bool, left: T, by: u32) -> T
     requires { IsTrue T.indexable }
 {
@@ -410,7 +414,7 @@ fn left_shifted<T: BitsOwned>(up: bool, left: T, by: u32) -> T
 
 #[test]
 fn shifts_in_place_from_the_left(rt: HostRuntime) {
-    // From the left the members 0, 7 and 16.
+    // In little-endian order, bits 0, 7 and 16 are set.
     let row = [0x81u8, 0, 0x80];
     same!(rt; left_shifted(true, row, 9), [0, 0x40, 0x80]);
     same!(rt; left_shifted(false, row, 7), [0x80, 0x40, 0]);
@@ -452,7 +456,7 @@ fn drawn_shifts_in_place_agree_with_plain_loops(rt: HostRuntime) {
     }
 }
 
-// Returns a set rotated up in place, or else down.
+// Returns a set that was rotated in place: up if `up` is `true`, else down.
 pub(crate) fn turned<B: BitsMut>(up: bool, set: B, by: u32) -> B
     requires { ShapeFits B.Shape set }
 {
@@ -467,18 +471,18 @@ pub(crate) fn turned<B: BitsMut>(up: bool, set: B, by: u32) -> B
 
 #[test]
 fn rotations_in_place(rt: HostRuntime) {
-    // The members 0, 7 and 23.
+    // Bits 0, 7 and 23 are set.
     let row = [0x81u8, 0, 0x80];
     same!(rt; (turned(false, row, 8), turned(false, row, 7)), ([0, 0x80, 0x81], [0x01, 0, 0x03]));
     same!(rt; (turned(true, row, 9), turned(true, row, 16)), ([0, 0x03, 0x01], [0, 0x80, 0x81]));
     same!(rt; (turned(true, row, 0), turned(false, row, 24)), (row, row));
-    // 33 wraps to 9, and the greatest distance to 15.
+    // The capacity is 24, so a distance of 33 wraps to 9, and `u32::MAX` wraps to 15.
     same!(rt; (turned(true, row, 33), turned(true, row, u32::MAX)), ([0, 3, 1], [0, 0xC0, 0x40]));
 }
 
 #[test]
 fn rotations_in_place_from_the_left(rt: HostRuntime) {
-    // From the left the members 0, 7 and 16.
+    // In little-endian order, bits 0, 7 and 16 are set.
     let row = [0x81u8, 0, 0x80];
     same!(rt; turned_in::<_, LittleEndian>(1, row, 9), [0x40, 0x40, 0x80]);
     same!(rt; turned_in::<_, LittleEndian>(0, row, 7), [0x80, 0x40, 0x40]);
@@ -493,7 +497,7 @@ fn rotations_in_place_of_one_word_and_of_none(rt: HostRuntime) {
 
 #[test]
 fn a_lent_slice_is_rotated(rt: HostRuntime) {
-    // Of 96 bits the members 0, 31, 65 and 66; the last two go on at 2.
+    // Bits 0, 31, 65 and 66 of 96 are set. A rotation by 33 moves bits 65 and 66 to 2 and 3.
     let mut row = [0x8000_0001u32, 0, 6];
     let mut held = (row.as_mut_slice(),);
     let lent = &mut held;
@@ -516,7 +520,7 @@ fn drawn_rotations_in_place_agree_with_plain_loops(rt: HostRuntime) {
     }
 }
 
-// Returns the unset bits of these ranks.
+// Returns for each rank the unset bit that has this many unset bits below it.
 fn selected_zeros<B: Bits, const N: usize>(set: &B, ranks: [u32; N]) -> [Option<u32>; N]
     requires { ShapeFits B.Shape set.now }
 {
@@ -527,7 +531,7 @@ fn selected_zeros<B: Bits, const N: usize>(set: &B, ranks: [u32; N]) -> [Option<
     answers
 }
 
-// Returns how many bits before each of these indexes are unset.
+// Returns for each index how many bits below it are unset.
 fn zero_ranks<B: Bits, const N: usize>(set: &B, indexes: [u32; N]) -> [u32; N]
     requires { ShapeFits B.Shape set.now }
 {
@@ -538,7 +542,8 @@ fn zero_ranks<B: Bits, const N: usize>(set: &B, indexes: [u32; N]) -> [u32; N]
     answers
 }
 
-// Returns the unset bit of a rank of a set from the left, and the rank of an index.
+// Makes a little-endian set. Returns its unset bit of a rank, and how many bits below an index are
+// unset.
 fn zeros_of_left<T: BitsOwned>(left: T, rank: u32, index: u32) -> ([Option<u32>; 1], [u32; 1])
     requires { IsTrue T.indexable }
 {
@@ -548,7 +553,7 @@ fn zeros_of_left<T: BitsOwned>(left: T, rank: u32, index: u32) -> ([Option<u32>;
 
 #[test]
 fn unset_bits_by_rank(rt: HostRuntime) {
-    // The bits 0, 2, 3, 4, 6 and 7 are unset, and from the left all but 2 and 6.
+    // All bits but 1 and 5 are unset. In little-endian order, all bits but 2 and 6 are unset.
     let word = 0b0010_0010u8;
     same!(rt; selected_zeros(&word, [0, 1, 5, 6]), [Some(0), Some(2), Some(7), None]);
     same!(rt; zero_ranks(&word, [5, 100]), [4, 6]);

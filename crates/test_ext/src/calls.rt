@@ -1,5 +1,6 @@
-//! Calls on sets of any shape, which return what was answered. Such a function is proved once for
-//! each shape, while a call that a test makes itself is proved anew at the shape of the test.
+//! Generic functions that make calls on a set of any shape, and return what the calls return. Each
+//! of these functions is proved once for all shapes. A call that a test makes itself is proved
+//! again for the shape that the test uses.
 
 ghost use Rattle.std.specs.Prelude.{◌<◌, max, IsTrue};
 ghost use Rattle.bittle_ext.specs.Views.{rounded_up};
@@ -16,7 +17,7 @@ pub(crate) const FRONT: bool = true;
 /// Says that an item is taken from the back.
 pub(crate) const BACK: bool = false;
 
-/// Takes an item from an end.
+/// Takes an item from the front or from the back of an iterator.
 fn item<W: DoubleEndedIterator>(walk: &mut W, at_front: bool) -> Option<W::Item>
     requires front { (w : W) → W.can_next w }
     requires back { (w : W) → W.can_next_back w }
@@ -28,7 +29,7 @@ fn item<W: DoubleEndedIterator>(walk: &mut W, at_front: bool) -> Option<W::Item>
     }
 }
 
-/// Takes an item from each of these ends in turn.
+/// Takes items from an iterator, one from each of these ends in turn.
 pub(crate) fn taken<W: DoubleEndedIterator<Item = u32>, const N: usize>(
     walk: &mut W,
     ends: [bool; N],
@@ -43,7 +44,8 @@ pub(crate) fn taken<W: DoubleEndedIterator<Item = u32>, const N: usize>(
     items
 }
 
-/// Takes a run from each of these ends in turn, as where it begins and where it ends.
+/// Takes runs from an iterator, one from each of these ends in turn. Returns where each run begins
+/// and where it ends.
 pub(crate) fn runs_taken<W: DoubleEndedIterator<Item = Range<u32>>, const N: usize>(
     walk: &mut W,
     ends: [bool; N],
@@ -61,7 +63,7 @@ pub(crate) fn runs_taken<W: DoubleEndedIterator<Item = Range<u32>>, const N: usi
     runs
 }
 
-/// Walks over the set bits of a range.
+/// Takes items from an iterator over the set bits of a range.
 pub(crate) fn ones_in_range<B: Bits, const N: usize>(
     bits: &B,
     from: u32,
@@ -73,7 +75,7 @@ pub(crate) fn ones_in_range<B: Bits, const N: usize>(
     taken(&mut bits.iter_ones_in_range(from, to), ends)
 }
 
-/// Walks over the set bits of a range, in the order `E`.
+/// Takes items from an iterator over the set bits of a range, in the order `E`.
 pub(crate) fn ones_in_range_in<B: Bits, E: Endian, const N: usize>(
     bits: &B,
     from: u32,
@@ -85,7 +87,7 @@ pub(crate) fn ones_in_range_in<B: Bits, E: Endian, const N: usize>(
     ones_in_range(&bits.in_order::<E>(), from, to, ends)
 }
 
-/// Walks over the unset bits of a range, in the order `E`.
+/// Takes items from an iterator over the unset bits of a range, in the order `E`.
 pub(crate) fn zeros_in_range_in<B: Bits, E: Endian, const N: usize>(
     bits: &B,
     from: u32,
@@ -97,7 +99,7 @@ pub(crate) fn zeros_in_range_in<B: Bits, E: Endian, const N: usize>(
     zeros_in_range(&bits.in_order::<E>(), from, to, ends)
 }
 
-/// Walks over the unset bits of a range.
+/// Takes items from an iterator over the unset bits of a range.
 pub(crate) fn zeros_in_range<B: Bits, const N: usize>(
     bits: &B,
     from: u32,
@@ -109,7 +111,7 @@ pub(crate) fn zeros_in_range<B: Bits, const N: usize>(
     taken(&mut bits.iter_zeros_in_range(from, to), ends)
 }
 
-/// Walks over the runs of set bits.
+/// Takes runs from an iterator over the runs of set bits.
 pub(crate) fn one_runs<B: Bits, const N: usize>(
     bits: &B,
     ends: [bool; N],
@@ -119,7 +121,7 @@ pub(crate) fn one_runs<B: Bits, const N: usize>(
     runs_taken(&mut bits.iter_one_runs(), ends)
 }
 
-/// Walks over the runs of unset bits.
+/// Takes runs from an iterator over the runs of unset bits.
 pub(crate) fn zero_runs<B: Bits, const N: usize>(
     bits: &B,
     ends: [bool; N],
@@ -129,18 +131,18 @@ pub(crate) fn zero_runs<B: Bits, const N: usize>(
     runs_taken(&mut bits.iter_zero_runs(), ends)
 }
 
-/// A question to a view. A function that makes a view asks any question, so it is proved once and
-/// not for each question.
+/// A question about a view. A function that makes a view takes the question as a parameter, so it
+/// is proved once and not again for each question.
 pub(crate) trait Question {
     type Answer;
 
-    /// Asks the view.
+    /// Returns the answer for a view.
     fn ask<V: View>(&self, view: &V) -> Self::Answer
         requires fits { ShapeFits V.Shape view.now }
         requires indexable { IsTrue V.indexable };
 }
 
-/// Asks for the set bits, by a walk that takes an item from each of these ends in turn.
+/// Takes items from an iterator over the set bits of a view, one from each of these ends in turn.
 #[derive(Drop)]
 pub(crate) struct Ones<const N: usize>(pub(crate) [bool; N]);
 
@@ -152,7 +154,7 @@ impl<const N: usize> Question for Ones<N> {
     }
 }
 
-/// Asks what either of two sets has.
+/// Asks a question of the union of two sets.
 pub(crate) fn ask_either<A: Bits, B: Bits, Q: Question>(
     question: &Q,
     one: &A,
@@ -166,7 +168,7 @@ pub(crate) fn ask_either<A: Bits, B: Bits, Q: Question>(
     question.ask(&one.or_unlike(other))
 }
 
-/// Asks what both of two sets have.
+/// Asks a question of the intersection of two sets.
 pub(crate) fn ask_both<A: Bits, B: Bits, Q: Question>(question: &Q, one: &A, other: &B) -> Q::Answer
     requires one_fits { ShapeFits A.Shape one.now }
     requires other_fits { ShapeFits B.Shape other.now }
@@ -174,7 +176,7 @@ pub(crate) fn ask_both<A: Bits, B: Bits, Q: Question>(question: &Q, one: &A, oth
     question.ask(&one.and(other))
 }
 
-/// Asks what the first of two sets has alone.
+/// Asks a question of the difference of two sets: the members that only the first one has.
 pub(crate) fn ask_alone<A: Bits, B: Bits, Q: Question>(
     question: &Q,
     one: &A,
@@ -186,7 +188,7 @@ pub(crate) fn ask_alone<A: Bits, B: Bits, Q: Question>(
     question.ask(&one.minus(other))
 }
 
-/// Asks what just one of two sets has.
+/// Asks a question of the symmetric difference of two sets.
 pub(crate) fn ask_just_one<A: Bits, B: Bits, Q: Question>(
     question: &Q,
     one: &A,
@@ -200,7 +202,7 @@ pub(crate) fn ask_just_one<A: Bits, B: Bits, Q: Question>(
     question.ask(&one.xor_unlike(other))
 }
 
-/// Walks over the indexes in either of two sets.
+/// Takes items from an iterator over the union of two sets.
 pub(crate) fn union<A: Bits, B: Bits, const N: usize>(
     one: &A,
     other: &B,
@@ -214,7 +216,7 @@ pub(crate) fn union<A: Bits, B: Bits, const N: usize>(
     ask_either(&Ones(ends), one, other)
 }
 
-/// Walks over the indexes in either of two sets, in the order `E`.
+/// Takes items from an iterator over the union of two sets, in the order `E`.
 pub(crate) fn union_in<A: Bits, B: Bits, E: Endian, const N: usize>(
     one: &A,
     other: &B,
@@ -228,7 +230,7 @@ pub(crate) fn union_in<A: Bits, B: Bits, E: Endian, const N: usize>(
     union(&one.in_order::<E>(), &other.in_order::<E>(), ends)
 }
 
-/// Walks over the indexes in both of two sets.
+/// Takes items from an iterator over the intersection of two sets.
 pub(crate) fn conjunction<A: Bits, B: Bits, const N: usize>(
     one: &A,
     other: &B,
@@ -240,7 +242,7 @@ pub(crate) fn conjunction<A: Bits, B: Bits, const N: usize>(
     ask_both(&Ones(ends), one, other)
 }
 
-/// Walks over the indexes in the first of two sets alone.
+/// Takes items from an iterator over the difference of two sets.
 pub(crate) fn difference<A: Bits, B: Bits, const N: usize>(
     one: &A,
     other: &B,
@@ -252,7 +254,7 @@ pub(crate) fn difference<A: Bits, B: Bits, const N: usize>(
     ask_alone(&Ones(ends), one, other)
 }
 
-/// Walks over the indexes in just one of two sets.
+/// Takes items from an iterator over the symmetric difference of two sets.
 pub(crate) fn symmetric_difference<A: Bits, B: Bits, const N: usize>(
     one: &A,
     other: &B,
@@ -266,7 +268,7 @@ pub(crate) fn symmetric_difference<A: Bits, B: Bits, const N: usize>(
     ask_just_one(&Ones(ends), one, other)
 }
 
-/// Walks over what one of the four operations makes of two sets.
+/// Takes items from an iterator over two sets that are combined by one of the four operations.
 pub(crate) fn combination<A: Bits, B: Bits, const N: usize>(
     kind: u32,
     one: &A,
@@ -286,7 +288,7 @@ pub(crate) fn combination<A: Bits, B: Bits, const N: usize>(
     }
 }
 
-/// Makes the set of these items, which are below its capacity.
+/// Makes the set of these indexes, which are below the capacity. A `None` is left out.
 pub(crate) fn set_of<B: BitsOwned, const N: usize>(items: [Option<u32>; N]) -> B
     requires { IsTrue B.indexable }
 {
@@ -299,7 +301,7 @@ pub(crate) fn set_of<B: BitsOwned, const N: usize>(items: [Option<u32>; N]) -> B
     made
 }
 
-/// Returns the first and the last set bit, and the first and the last unset one.
+/// Returns the first and the last set bit, and the first and the last unset bit.
 pub(crate) fn ends<B: Bits>(bits: &B) -> [Option<u32>; 4]
     requires { ShapeFits B.Shape bits.now }
 {
@@ -311,7 +313,7 @@ pub(crate) fn ends<B: Bits>(bits: &B) -> [Option<u32>; 4]
     ]
 }
 
-/// Counts what two sets have in common, what the first has alone, and in what they differ.
+/// Counts the indexes that are in both of two sets, in the first alone, and in just one of them.
 pub(crate) fn counts<A: Bits, B: Bits>(one: &A, other: &B) -> [u32; 3]
     requires one_fits { ShapeFits A.Shape one.now }
     requires other_fits { ShapeFits B.Shape other.now }
@@ -323,7 +325,7 @@ pub(crate) fn counts<A: Bits, B: Bits>(one: &A, other: &B) -> [u32; 3]
     ]
 }
 
-/// Counts the same, in the order `E`.
+/// Calls `counts` on two sets in the order `E`.
 pub(crate) fn counts_in<A: Bits, B: Bits, E: Endian>(one: &A, other: &B) -> [u32; 3]
     requires one_fits { ShapeFits A.Shape one.now }
     requires other_fits { ShapeFits B.Shape other.now }
@@ -331,7 +333,7 @@ pub(crate) fn counts_in<A: Bits, B: Bits, E: Endian>(one: &A, other: &B) -> [u32
     counts(&one.in_order::<E>(), &other.in_order::<E>())
 }
 
-/// Returns the ranks of these indexes.
+/// Returns for each index its rank: how many set bits lie below it.
 pub(crate) fn ranks<B: Bits, const N: usize>(bits: &B, indexes: [u32; N]) -> [u32; N]
     requires { ShapeFits B.Shape bits.now }
 {
@@ -342,7 +344,7 @@ pub(crate) fn ranks<B: Bits, const N: usize>(bits: &B, indexes: [u32; N]) -> [u3
     answers
 }
 
-/// Selects by these ranks.
+/// Returns the set bits that have these ranks.
 pub(crate) fn selected<B: Bits, const N: usize>(bits: &B, ranks: [u32; N]) -> [Option<u32>; N]
     requires { ShapeFits B.Shape bits.now }
 {
@@ -360,7 +362,7 @@ pub(crate) fn ranks_in<B: Bits, E: Endian, const N: usize>(bits: &B, indexes: [u
     ranks(&bits.in_order::<E>(), indexes)
 }
 
-/// Selects by these ranks, in the order `E`.
+/// Returns the set bits that have these ranks, in the order `E`.
 pub(crate) fn selected_in<B: Bits, E: Endian, const N: usize>(
     bits: &B,
     ranks: [u32; N],
@@ -370,7 +372,8 @@ pub(crate) fn selected_in<B: Bits, E: Endian, const N: usize>(
     selected(&bits.in_order::<E>(), ranks)
 }
 
-/// Asks whether one set is a subset of another, a superset, disjoint, and whether it intersects.
+/// Returns whether one set is a subset of another set, a superset of it, disjoint from it, and
+/// whether the two intersect.
 fn relations<A: Bits, B: Bits>(one: &A, other: &B) -> [bool; 4]
     requires one_fits { ShapeFits A.Shape one.now }
     requires other_fits { ShapeFits B.Shape other.now }
@@ -383,7 +386,7 @@ fn relations<A: Bits, B: Bits>(one: &A, other: &B) -> [bool; 4]
     ]
 }
 
-/// Returns how one set stands to another: the four relations, and then the two first indexes.
+/// Returns the four relations of one set to another, and then the two indexes of `firsts`.
 pub(crate) fn stand<A: Bits, B: Bits>(one: &A, other: &B) -> ([bool; 4], [Option<u32>; 2])
     requires one_fits { ShapeFits A.Shape one.now }
     requires other_fits { ShapeFits B.Shape other.now }
@@ -391,7 +394,7 @@ pub(crate) fn stand<A: Bits, B: Bits>(one: &A, other: &B) -> ([bool; 4], [Option
     (relations(one, other), firsts(one, other))
 }
 
-/// Returns the first index of two sets in common, and the first of the first set alone.
+/// Returns the first index in both sets, and the first index in the first set alone.
 fn firsts<A: Bits, B: Bits>(one: &A, other: &B) -> [Option<u32>; 2]
     requires one_fits { ShapeFits A.Shape one.now }
     requires other_fits { ShapeFits B.Shape other.now }
@@ -399,7 +402,7 @@ fn firsts<A: Bits, B: Bits>(one: &A, other: &B) -> [Option<u32>; 2]
     [one.first_common(other), one.first_alone(other)]
 }
 
-/// Inserts each of these indexes, and returns what each call answered.
+/// Inserts each of these indexes, and returns what each call returns.
 pub(crate) fn inserted<B: BitsMut, const N: usize>(set: &mut B, indexes: [u32; N]) -> [bool; N]
     requires { IsTrue B.indexable }
 {
@@ -410,7 +413,7 @@ pub(crate) fn inserted<B: BitsMut, const N: usize>(set: &mut B, indexes: [u32; N
     answers
 }
 
-/// Inserts the indexes that an iterator over a set yields.
+/// Inserts the indexes that an iterator over another set yields.
 pub(crate) fn extend_by_set<B: BitsMut, C: Bits>(set: &mut B, other: &C)
     requires indexable { IsTrue B.indexable }
     requires fits { ShapeFits C.Shape other.now }
@@ -418,7 +421,7 @@ pub(crate) fn extend_by_set<B: BitsMut, C: Bits>(set: &mut B, other: &C)
     set.extend(other.iter_ones());
 }
 
-/// Inserts the indexes that an iterator over a set yields from its back.
+/// Inserts the indexes that an iterator over another set yields from its back.
 pub(crate) fn extend_from_back<B: BitsMut, C: Bits>(set: &mut B, other: &C)
     requires indexable { IsTrue B.indexable }
     requires fits { ShapeFits C.Shape other.now }
@@ -426,18 +429,18 @@ pub(crate) fn extend_from_back<B: BitsMut, C: Bits>(set: &mut B, other: &C)
     set.extend(other.iter_ones().rev());
 }
 
-/// A change of a set of any shape. A function that makes a view that can be changed makes any
-/// change, so it is proved once and not for each change.
+/// A change of a set of any shape. A function that makes a mutable view takes the change as a
+/// parameter, so it is proved once and not again for each change.
 pub(crate) trait Change {
     type Answer;
 
-    /// Changes the set, and returns what the calls answered.
+    /// Changes the set, and returns what the calls return.
     fn change<B: BitsMut>(&self, set: &mut B) -> Self::Answer
         requires fits { ShapeFits B.Shape set.old }
         requires indexable { IsTrue B.indexable };
 }
 
-/// Changes a set by a view in the order `E`.
+/// Changes a set through a view in the order `E`.
 pub(crate) fn change_in<B: BitsMut, E: Endian, C: Change>(change: &C, set: &mut B) -> C::Answer
     requires fits { ShapeFits B.Shape set.old }
     requires indexable { IsTrue B.indexable }

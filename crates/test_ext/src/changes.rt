@@ -1,4 +1,4 @@
-//! Changes, with values worked out by hand.
+//! Tests of calls that change a set, with expected values worked out by hand.
 
 ghost use Rattle.std.specs.Prelude.{◌≤◌, IsTrue};
 ghost use Rattle.bittle.specs.Values.{ShapeFits};
@@ -9,8 +9,8 @@ use bittle::prelude::*;
 use bittle::{Endian, LittleEndian, Set, Shape};
 use bittle_ext::prelude::*;
 
-/// Inserts the indexes 0 and 8 and removes 13 and 5, and returns what each call answered, with the
-/// set after every second one.
+/// Inserts indexes 0 and 8, and then removes 13 and 5. Returns what the two calls of each pair
+/// return, with the set after the pair.
 fn inserted_and_removed<B: BitsOwned>(mut set: B) -> [([bool; 2], B); 2]
     requires { IsTrue B.indexable }
 {
@@ -25,7 +25,7 @@ fn one_bit_of_a_word(rt: HostRuntime) {
     same!(rt; removed, ([true, false], 0b0000_0011));
 }
 
-/// Replaces two bits, and returns what each call answered, with the set then.
+/// Replaces two bits. Returns what each call returns, with the set after the call.
 fn replaced<B: BitsOwned>(mut set: B) -> [(bool, B); 2]
     requires { IsTrue B.indexable }
 {
@@ -33,7 +33,7 @@ fn replaced<B: BitsOwned>(mut set: B) -> [(bool, B); 2]
     [first, (set.replace(9, true), set)]
 }
 
-/// Returns the set after a bit is cleared by its value, after one is set so, and after two more are
+/// Returns the set after `assign` clears a bit, after `assign` sets a bit, and after two bits are
 /// flipped.
 fn assigned_and_toggled<B: BitsOwned>(mut set: B) -> [B; 3]
     requires { IsTrue B.indexable }
@@ -64,8 +64,8 @@ const CLEAR: u32 = 3;
 
 const ASSIGN: u32 = 4;
 
-/// Inserts an index, removes it, flips its bit, replaces that by an unset one or assigns a set one,
-/// by the kind and the index. The answer is that of the call, or `true` where it answers nothing.
+/// Changes one bit. The first number is the kind of change, such as `INSERT`, and the second is the
+/// index. The answer is what the call returns, or `true` if the call returns nothing.
 #[derive(Drop)]
 struct OneBit(u32, u32);
 
@@ -90,8 +90,8 @@ impl Change for OneBit {
     }
 }
 
-/// Inserts the indexes 0 and 7 and removes 8, each by a view in the order `E`, and returns what
-/// each call answered, with the set after the second and the third.
+/// Inserts indexes 0 and 7 and then removes 8, each through a view in the order `E`. Returns what
+/// each call returns, with the set after the second and after the third call.
 fn inserted_and_removed_in<B: BitsOwned, E: Endian>(mut set: B) -> ([bool; 3], [B; 2])
     requires { IsTrue B.indexable }
 {
@@ -102,8 +102,8 @@ fn inserted_and_removed_in<B: BitsOwned, E: Endian>(mut set: B) -> ([bool; 3], [
     ([first, second, third], [inserted, set])
 }
 
-/// Flips the bit 1, clears the bit 7 and sets the bit 2, each by a view in the order `E`, and
-/// returns whether the bit 7 was set, with the set after the first and the last.
+/// Flips bit 1, clears bit 7 and sets bit 2, each through a view in the order `E`. Returns whether
+/// bit 7 was set, with the set after the first and after the last change.
 fn flipped_and_replaced_in<B: BitsOwned, E: Endian>(mut set: B) -> (bool, [B; 2])
     requires { IsTrue B.indexable }
 {
@@ -123,15 +123,15 @@ fn one_bit_from_the_left(rt: HostRuntime) {
     same!(rt; (answer, words), (true, [0b0100_0001, 0b0110_0000]));
 }
 
-/// Inserts an index of a pair of sets, and returns what the call answers, with the pair then. Of
-/// sets of any type that is proved in less time than of nested rows.
+/// Inserts an index into a pair of sets. Returns what the call returns, with the changed pair. The
+/// prover needs less time for a generic `[T; 2]` than for `[[u8; 2]; 2]`.
 fn pair_with<T: BitsOwned>(mut pair: [T; 2], index: u32) -> ([bool; 1], [T; 2])
     requires { IsTrue ⟦<[T; 2] as Shape>⟧.indexable }
 {
     (inserted(&mut pair, [index]), pair)
 }
 
-/// Inserts an index of a set from the left, and returns what the call answers, with the set then.
+/// Inserts an index into a little-endian set. Returns what the call returns, with the changed set.
 fn left_with<T: BitsOwned>(left: T, index: u32) -> ([bool; 1], T)
     requires { IsTrue T.indexable }
 {
@@ -150,15 +150,15 @@ fn one_bit_of_longer_shapes(rt: HostRuntime) {
     same!(rt; words, [0, 2]);
 }
 
-/// Inserts an index of a set of capacity 0, removes it and replaces its bit, and returns what each
-/// call answered.
+/// Inserts an index into a set of capacity 0, removes the index, and replaces its bit. Returns what
+/// each call returns.
 fn asked_of_no_bit<B: BitsMut>(none: &mut B) -> [bool; 3]
     requires { IsTrue B.indexable }
 {
     [none.insert(3), none.remove(3), none.replace(3, true)]
 }
 
-/// Flips a bit of a set of capacity 0, and inserts a list.
+/// Flips a bit of a set of capacity 0, and inserts a list of indexes.
 fn change_no_bit<B: BitsMut>(none: &mut B)
     requires { IsTrue B.indexable }
 {
@@ -166,7 +166,8 @@ fn change_no_bit<B: BitsMut>(none: &mut B)
     none.insert_all(&[1, 2]);
 }
 
-/// Changes a set of capacity 0 as a whole, and takes nothing out.
+/// Sets an empty range of a set of capacity 0, and flips all bits. Returns what `pop_first`,
+/// `pop_last` and `take_first_zero` return.
 fn nothing_is_taken<B: BitsOwned>(mut none: B) -> [Option<u32>; 3]
     requires { IsTrue B.indexable }
 {
@@ -183,8 +184,8 @@ fn capacity_0_is_never_changed(rt: HostRuntime) {
     same!(rt; nothing_is_taken(none), [None; 3]);
 }
 
-/// Returns the set after each of five ranges is changed: set, cleared, toggled, and made of set
-/// bits and of unset ones.
+/// Sets a range of a set, clears one, flips one, and assigns `true` and then `false` to two more.
+/// Returns the set after each of the five changes.
 fn after_each_range<B: BitsOwned>(mut row: B) -> [B; 5]
     requires indexable { IsTrue B.indexable }
     requires long { 24 ≤ B.type_capacity }
@@ -209,8 +210,8 @@ fn ranges_of_a_row(rt: HostRuntime) {
     same!(rt; fifth, [0x01, 0, 0]);
 }
 
-/// Returns the set after three empty ranges are changed, and after its first eight bits are toggled
-/// and set.
+/// Returns the set after three empty ranges are changed, after its first eight bits are flipped,
+/// and after they are set.
 fn after_empty_and_whole_ranges<B: BitsOwned>(mut word: B) -> [B; 3]
     requires indexable { IsTrue B.indexable }
     requires long { 8 ≤ B.type_capacity }
@@ -225,7 +226,8 @@ fn after_empty_and_whole_ranges<B: BitsOwned>(mut word: B) -> [B; 3]
     [first, second, word]
 }
 
-/// Assigns a value to the bits from one index on and before another, of a set that has them.
+/// Assigns a value to a range of bits, from the first number on and below the second. If the set
+/// does not have the range, nothing changes.
 #[derive(Drop)]
 struct AssignRange(u32, u32, bool);
 
@@ -240,8 +242,8 @@ impl Change for AssignRange {
     }
 }
 
-/// Returns the set after a range is set, and after its first sixteen bits are cleared, by views in
-/// the order `E`.
+/// Sets the range `6..11` and then clears the range `0..16`, each through a view in the order `E`.
+/// Returns the set after each change.
 fn after_ranges_in<B: BitsOwned, E: Endian>(mut row: B) -> [B; 2]
     requires { IsTrue B.indexable }
 {
@@ -276,7 +278,8 @@ fn every_bit_is_flipped(rt: HostRuntime) {
     same!(rt; words, [u64::MAX, u64::MAX - 1]);
 }
 
-/// Takes out the first bit, the last and the first, each with what is left, and then none.
+/// Takes out the first set bit, the last, and again the first. Returns each with the set that is
+/// left, and then what two more calls return.
 fn popped<B: BitsOwned>(mut row: B) -> ([(Option<u32>, B); 3], [Option<u32>; 2])
     requires { IsTrue B.indexable }
 {
@@ -286,7 +289,7 @@ fn popped<B: BitsOwned>(mut row: B) -> ([(Option<u32>, B); 3], [Option<u32>; 2])
     ([first, second, third], [row.pop_first(), row.pop_last()])
 }
 
-/// Takes out the first bit and then the last.
+/// Takes out the first set bit and then the last.
 #[derive(Drop)]
 struct Ends;
 
@@ -298,7 +301,8 @@ impl Change for Ends {
     }
 }
 
-/// Takes out the first bit and then the last, in the order `E`, with what is left.
+/// Takes out the first set bit and then the last, in the order `E`. Returns both, with the set that
+/// is left.
 fn popped_in<B: BitsOwned, E: Endian>(mut row: B) -> ([Option<u32>; 2], B)
     requires { IsTrue B.indexable }
 {
@@ -312,12 +316,12 @@ fn ends_are_taken_out(rt: HostRuntime) {
     let ([first, last, other], none) = popped([0x8001u16, 2]);
     same!(rt; (first, last), ((Some(0), [0x8000, 2]), (Some(17), [0x8000, 0])));
     same!(rt; (other, none), ((Some(15), [0, 0]), [None, None]));
-    // From the left bits 3, 8 and 15 are set.
+    // In little-endian order, bits 3, 8 and 15 are set.
     let left = popped_in::<_, LittleEndian>([0x10u8, 0x81]);
     same!(rt; left, ([Some(3), Some(15)], [0, 0x80]));
 }
 
-/// Takes the first unset bit.
+/// Sets the first unset bit. The answer is its index.
 #[derive(Drop)]
 struct Slot;
 
@@ -329,14 +333,14 @@ impl Change for Slot {
     }
 }
 
-/// Takes the first unset bit, and returns its index with the set then.
+/// Sets the first unset bit, and returns its index with the changed set.
 fn slot_taken<B: BitsOwned>(mut row: B) -> (Option<u32>, B)
     requires { IsTrue B.indexable }
 {
     (Slot.change(&mut row), row)
 }
 
-/// Takes the first unset bit in the order `E`, and returns its index with the set then.
+/// Sets the first unset bit in the order `E`, and returns its index with the changed set.
 fn slot_taken_in<B: BitsOwned, E: Endian>(mut row: B) -> (Option<u32>, B)
     requires { IsTrue B.indexable }
 {
@@ -364,7 +368,7 @@ impl<const N: usize> Change for List<N> {
     }
 }
 
-/// Returns the set with a list of indexes, and then with one in the order `E`.
+/// Inserts a list of indexes, and then another list in the order `E`. Returns the set after each.
 fn with_lists<B: BitsOwned, E: Endian>(mut set: B) -> [B; 2]
     requires { IsTrue B.indexable }
 {
@@ -374,7 +378,7 @@ fn with_lists<B: BitsOwned, E: Endian>(mut set: B) -> [B; 2]
     [first, set]
 }
 
-/// Inserts the indexes that an iterator over a byte yields.
+/// Inserts the indexes that an iterator over the set bits of a byte yields.
 #[derive(Drop)]
 struct OnesOf(u8);
 
@@ -386,8 +390,8 @@ impl Change for OnesOf {
     }
 }
 
-/// Returns the set with the indexes of a range, and then with those that an iterator over a byte
-/// yields, in the order `E`.
+/// Inserts the indexes of a range, and then, in the order `E`, the indexes of the set bits of a
+/// byte. Returns the set after each.
 fn extended<B: BitsOwned, E: Endian>(mut row: B) -> [B; 2]
     requires { IsTrue B.indexable }
 {
@@ -432,7 +436,7 @@ fn each_bit_is_asked_once_from_the_least(rt: HostRuntime) {
     same!(rt; (asked, word), (1247, 0b1001_0010));
 }
 
-/// Keeps the bits of the indexes 63 to 126.
+/// Keeps the set bits at the indexes 63 to 126, and clears all others.
 fn keep_some<B: BitsMut>(set: &mut B)
     requires { ShapeFits B.Shape set.old }
 {
@@ -459,8 +463,8 @@ fn bits_that_a_table_keeps(rt: HostRuntime) {
     same!(rt; left, 0b0010_0110);
 }
 
-/// Keeps each second set bit, from the first on, and returns a number whose digits in a base are
-/// the indexes that were asked.
+/// Keeps every second set bit, beginning with the first. Returns a number whose digits, in the
+/// given base, are the indexes that `retain` passes to the closure.
 fn keep_each_second<B: BitsMut>(set: &mut B, base: u32) -> u32
     requires { ShapeFits B.Shape set.old }
 {
@@ -484,8 +488,8 @@ fn each_second_bit_of_several_words(rt: HostRuntime) {
     same!(rt; wide, [1, 1 << 63]);
 }
 
-/// Keeps each second set bit from the left, and returns the number of those that were asked and the
-/// bits.
+/// Calls `keep_each_second` with base 100 on a little-endian set. Returns the number, and the bits
+/// of the set afterwards.
 fn each_second_kept_in_left<T: BitsOwned>(left: T) -> (u32, T)
     requires { IsTrue T.indexable }
 {

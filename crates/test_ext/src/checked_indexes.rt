@@ -1,4 +1,5 @@
-//! Indexes that do not wrap: below the capacity, at it, and past it. Values are worked out by hand.
+//! Tests of calls whose index does not wrap, with indexes below, at and past the capacity. The
+//! expected values are worked out by hand.
 
 ghost use Rattle.std.specs.Prelude.{IsTrue};
 ghost use Rattle.bittle.specs.Values.{ShapeFits};
@@ -9,7 +10,7 @@ use bittle::prelude::*;
 use bittle::{LittleEndian, Set};
 use bittle_ext::prelude::*;
 
-// Asks for three bits in both ways.
+// Returns what `contains_index` and `get_bit` return for three indexes.
 fn asked<B: Bits>(bits: &B, indexes: [u32; 3]) -> ([bool; 3], [Option<bool>; 3])
     requires { ShapeFits B.Shape bits.now }
 {
@@ -29,7 +30,7 @@ fn asked<B: Bits>(bits: &B, indexes: [u32; 3]) -> ([bool; 3], [Option<bool>; 3])
     )
 }
 
-// What is answered of a set bit, an unset one, and one that is none.
+// Returns what `asked` returns for a set bit, an unset bit, and an index at or past the capacity.
 fn answers() -> ([bool; 3], [Option<bool>; 3]) {
     ([true, false, false], [Some(true), Some(false), None])
 }
@@ -63,8 +64,8 @@ fn questions_of_an_empty_row(rt: HostRuntime) {
     same!(rt; asked(&[0u8; 0], [0, 1, u32::MAX]), none);
 }
 
-// Sets the bits 7 and 9 and clears the bits 7 and 8, and returns what each call answered, with the
-// set after every second one.
+// Tries to set bits 7 and 9, and then to clear bits 7 and 8. Returns what the two calls of each
+// pair return, with the set after the pair.
 fn set_and_cleared<B: BitsOwned>(mut word: B) -> [([bool; 2], B); 2]
     requires { IsTrue B.indexable }
 {
@@ -79,8 +80,8 @@ fn changes_of_words(rt: HostRuntime) {
     same!(rt; cleared, ([true, false], 0b0000_0001));
 }
 
-// Inserts an index twice and one past a capacity of 8, and returns what each call answered, with
-// the set then.
+// Inserts index 3 twice, and then an index past a capacity of 8. Returns what each call returns,
+// with the changed set.
 fn inserted<B: BitsOwned>(mut word: B) -> ([Option<bool>; 3], B)
     requires { IsTrue B.indexable }
 {
@@ -88,7 +89,8 @@ fn inserted<B: BitsOwned>(mut word: B) -> ([Option<bool>; 3], B)
     (answers, word)
 }
 
-// Removes an index twice and one past a capacity of 8, and returns the same.
+// Removes index 0 twice, and then an index past a capacity of 8. Returns what each call returns,
+// with the changed set.
 fn removed<B: BitsOwned>(mut word: B) -> ([Option<bool>; 3], B)
     requires { IsTrue B.indexable }
 {
@@ -102,7 +104,7 @@ fn insertions_of_words(rt: HostRuntime) {
     same!(rt; removed(0b1001u8), ([Some(true), Some(false), None], 0b1000));
 }
 
-// Inserts the indexes 8 and 24 and sets the bit 23, and returns what each call answered.
+// Tries to insert indexes 8 and 24 and to set bit 23. The answer is what each call returns.
 #[derive(Drop)]
 struct Put;
 
@@ -114,7 +116,7 @@ impl Change for Put {
     }
 }
 
-// Removes the index 8 and clears the bits 23 and 31, and returns what each call answered.
+// Tries to remove index 8 and to clear bits 23 and 31. The answer is what each call returns.
 #[derive(Drop)]
 struct Take;
 
@@ -140,7 +142,7 @@ fn changes_of_rows_from_the_left(rt: HostRuntime) {
     same!(rt; row, [0, 0, 0]);
 }
 
-// Changes a bit of a set of capacity 0 in each way, and returns what each call answered.
+// Tries each of the four changes on a set of capacity 0, and returns what each call returns.
 fn refused<B: BitsMut>(row: &mut B) -> ([bool; 2], [Option<bool>; 2])
     requires { ShapeFits B.Shape row.old }
 {

@@ -1,11 +1,12 @@
-//! What the tests ask of a value. In a function that asks several times, each call of these is
-//! proved in a tenth of the time of an `assert_eq!`. One that fails names its test, shows what it
-//! asks as the test writes it, and both values, or the parts of two tuples that differ.
+//! Checks that the tests use. In a function with several checks, each of these is proved in a tenth
+//! of the time of an `assert_eq!`. A check that fails ends the test. The message names the test,
+//! and shows the checked expression and both values; of two tuples, it shows the first parts that
+//! differ.
 
 use std::fmt::Debug;
 use std::process::Abort;
 
-/// Asks whether two values are equal.
+/// Checks that two values are equal.
 macro_rules! same {
     ($rt:expr; $left:expr, $right:expr) => {
         $crate::checks::Compared::compare(
@@ -17,7 +18,7 @@ macro_rules! same {
     };
 }
 
-/// Asks whether a condition holds.
+/// Checks that a condition holds.
 macro_rules! holds {
     ($rt:expr; $condition:expr) => {
         $crate::checks::ask(&$rt, stringify!($condition), $condition)
@@ -27,10 +28,10 @@ macro_rules! holds {
 pub(crate) use holds;
 pub(crate) use same;
 
-/// A value that tests compare. That it can be compared and shown is proved in its `impl`, and not
-/// in each test anew.
+/// A value that tests compare. Its `impl` proves once that the value can be compared and printed,
+/// so that no test proves this again.
 pub(crate) trait Compared: Sized {
-    /// Ends the test where two values differ.
+    /// Ends the test if two values differ.
     fn compare(self, rt: &impl Abort, text: &str, right: Self);
 }
 
@@ -194,14 +195,14 @@ impl<A: Compared, B: Compared, C: Compared, D: Compared> Compared for (A, B, C, 
     }
 }
 
-/// Ends the test where two values differ.
+/// Ends the test if two values differ.
 pub(crate) fn compare<T: PartialEq + Debug + Drop>(rt: &impl Abort, text: &str, left: T, right: T) {
     if left != right {
         Err::<(), (T, T)>((left, right)).expect(rt, text)
     }
 }
 
-/// Ends the test where a condition does not hold.
+/// Ends the test if a condition does not hold.
 pub(crate) fn ask(rt: &impl Abort, text: &str, condition: bool) {
     if !condition {
         rt.panic(text)

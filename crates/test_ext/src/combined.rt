@@ -1,4 +1,5 @@
-//! Iterators over what an operation makes of two sets, with values worked out by hand.
+//! Tests of iterators over the union, intersection, difference and symmetric difference of two
+//! sets, with expected values worked out by hand.
 
 use crate::calls::{
     BACK, FRONT, Question, ask_either, conjunction, difference, symmetric_difference, taken, union,
@@ -10,7 +11,7 @@ use bittle_ext::prelude::*;
 
 #[test]
 fn either_of_two_shapes(rt: HostRuntime) {
-    // The members 0 and 1, and the members 1, 2 and 8.
+    // `word` has the members 0 and 1, and `row` has 1, 2 and 8.
     let (word, row) = (0b0011u8, [0b0110u8, 1]);
     let turns = [FRONT, FRONT, FRONT, FRONT, FRONT, BACK];
     let either = union(&word, &row, turns);
@@ -34,14 +35,14 @@ fn just_one_from_both_ends(rt: HostRuntime) {
 
 #[test]
 fn two_shapes_from_the_left(rt: HostRuntime) {
-    // From the left the members 0 and 1, and the members 1, 2 and 8.
+    // In little-endian order, `word` has the members 0 and 1, and `row` has 1, 2 and 8.
     let (word, row) = (0b1100_0000u8, [0b0110_0000u8, 0x80]);
     let either = union_in::<_, _, LittleEndian, 5>(&row, &word, [BACK; 5]);
     same!(rt; either, [Some(8), Some(2), Some(1), Some(0), None]);
 }
 
-/// Takes an item of a walk and clones it, and asks for what the source yields then, and for what
-/// the clone yields before the source yields one more.
+/// Takes an item from an iterator, and clones the iterator. Then takes two items from the source,
+/// four from the clone, and one more from the source.
 #[derive(Drop)]
 struct SourceAndClone;
 
@@ -73,7 +74,7 @@ impl Question for SourceAndClone {
 
 #[test]
 fn a_clone_goes_on_from_its_source(rt: HostRuntime) {
-    // Set in either are 0, 1, 2 and 8.
+    // The union has the members 0, 1, 2 and 8.
     let (word, row) = (0b0011u8, [0b0110u8, 1]);
     let (first, source, clone, then) = ask_either(&SourceAndClone, &word, &row);
     same!(rt; (first, source), ([Some(0)], [Some(8), Some(1)]));

@@ -1,5 +1,5 @@
-//! Ranges of bits that are copied, with values worked out by hand, beside a loop over the indexes,
-//! and drawn ones beside a loop over 24 flags.
+//! Tests of ranges of bits that are copied. The expected values are worked out by hand, by a loop
+//! over the indexes, or, for random rows, by a loop over 24 flags.
 
 ghost use Rattle.std.specs.Prelude.{IsTrue};
 ghost use Rattle.bittle.specs.Values.{ShapeFits};
@@ -11,7 +11,8 @@ use bittle::{BigEndian, BitsOwned, Endian, LittleEndian, Set, Shape};
 use bittle_ext::prelude::*;
 use std::process::Abort;
 
-// Returns the set with a range of another one copied, or unchanged where that is not allowed.
+// Returns the set after the range `from..to` of another set is copied to index `at`, or unchanged
+// if `copy_range` does not allow that.
 fn pasted<A: BitsOwned, B: Bits>(set: A, other: &B, from: u32, to: u32, at: u32) -> A
     requires indexable { IsTrue A.indexable }
     requires other_fits { ShapeFits B.Shape other.now }
@@ -24,7 +25,8 @@ fn pasted<A: BitsOwned, B: Bits>(set: A, other: &B, from: u32, to: u32, at: u32)
     now
 }
 
-// Returns the set with a range of it copied, or unchanged where that is not allowed.
+// Returns the set after its range `from..to` is copied to index `at`, or unchanged if `copy_within`
+// does not allow that.
 fn moved<A: BitsOwned>(set: A, from: u32, to: u32, at: u32) -> A
     requires { IsTrue A.indexable }
 {
@@ -36,7 +38,7 @@ fn moved<A: BitsOwned>(set: A, from: u32, to: u32, at: u32) -> A
     now
 }
 
-// Returns the same of a set in the order `E`.
+// Calls `pasted` on a set in the order `E`.
 fn pasted_in<A: BitsOwned, E: Endian, B: Bits>(set: A, other: &B, from: u32, to: u32, at: u32) -> A
     requires indexable { IsTrue A.indexable }
     requires other_fits { ShapeFits B.Shape other.now }
@@ -44,7 +46,7 @@ fn pasted_in<A: BitsOwned, E: Endian, B: Bits>(set: A, other: &B, from: u32, to:
     pasted(Set::<A, E>::new_in(set), other, from, to, at).into_bits()
 }
 
-// Returns the same of a set in the order `E` and another one in the order `F`.
+// Calls `pasted` on a set in the order `E`, with another set in the order `F`.
 fn pasted_in_both<A: BitsOwned, E: Endian, B: BitsOwned, F: Endian>(
     set: A,
     other: B,
@@ -58,8 +60,7 @@ fn pasted_in_both<A: BitsOwned, E: Endian, B: BitsOwned, F: Endian>(
     pasted_in::<A, E, _>(set, &Set::<B, F>::new_in(other), from, to, at)
 }
 
-// Returns the set in the order `E` with a range of it copied, or unchanged where that is not
-// allowed.
+// Calls `moved` on a set in the order `E`.
 fn moved_in<A: BitsOwned, E: Endian>(set: A, from: u32, to: u32, at: u32) -> A
     requires { IsTrue A.indexable }
 {
@@ -68,7 +69,7 @@ fn moved_in<A: BitsOwned, E: Endian>(set: A, from: u32, to: u32, at: u32) -> A
 
 #[test]
 fn words_of_other_widths(rt: HostRuntime) {
-    // Of the word the bits 4 to 11 are 1010_0101.
+    // Bits 4 to 11 of the word are 1010_0101.
     let word = 0x0A50u16;
     same!(rt; pasted([0xFFu8; 2], &word, 4, 12, 6), [0x7F, 0xE9]);
     same!(rt; pasted(0u64, &[0x12u8, 0x34, 0x56], 4, 20, 1), 0x6341 << 1);
@@ -78,12 +79,12 @@ fn words_of_other_widths(rt: HostRuntime) {
 
 #[test]
 fn past_the_end_of_the_other_set(rt: HostRuntime) {
-    // Its bits 6 and 7 are set, and it has no others.
+    // Bits 6 and 7 of the other set are set. Its capacity is 8, so it has no bits from 8 on.
     same!(rt; pasted([0xFFu8; 2], &0xFFu8, 6, 12, 2), [0x0F, 0xFF]);
     same!(rt; pasted(0xFFu8, &0xFFu8, u32::MAX - 4, u32::MAX, 1), 0b1110_0001);
 }
 
-// Returns the set with a range of another one from the left copied.
+// Calls `pasted` with another set in little-endian order.
 fn pasted_of_left<A: BitsOwned, B: BitsOwned>(set: A, left: B, from: u32, to: u32, at: u32) -> A
     requires indexable { IsTrue A.indexable }
     requires other_indexable { IsTrue B.indexable }
@@ -93,7 +94,7 @@ fn pasted_of_left<A: BitsOwned, B: BitsOwned>(set: A, left: B, from: u32, to: u3
 
 #[test]
 fn other_orders(rt: HostRuntime) {
-    // From the left the members 0 and 3.
+    // In little-endian order, bits 0 and 3 are set.
     let left = 0b1001_0000u8;
     same!(rt; pasted_of_left(0u8, left, 0, 8, 0), 0b0000_1001);
     let rows = pasted_in_both::<_, LittleEndian, _, LittleEndian>([0u16; 2], left, 0, 4, 14);
@@ -111,7 +112,7 @@ fn ranges_that_overlap(rt: HostRuntime) {
     same!(rt; moved_in::<_, LittleEndian>([0x80u8, 0x01], 0, 15, 1), [0xC0, 0]);
 }
 
-// Returns the set with the bits of a range of another one, bit by bit.
+// Returns the set after the range `from..to` of another set is copied to index `at`, bit by bit.
 fn by_bits<A: BitsOwned, B: Bits, E: Endian, F: Endian>(
     set: &A,
     other: &B,
@@ -134,7 +135,7 @@ fn by_bits<A: BitsOwned, B: Bits, E: Endian, F: Endian>(
     made
 }
 
-// Compares the calls with the loop, at one range.
+// Compares `copy_range` and `copy_within` with the loop above, for one range.
 fn agree_at<A: BitsOwned, B: BitsOwned, E: Endian, F: Endian>(
     rt: &impl Abort,
     set: A,
@@ -157,8 +158,8 @@ fn agree_at<A: BitsOwned, B: BitsOwned, E: Endian, F: Endian>(
     }
 }
 
-// Compares the calls with the loop, at ranges beside the ends of words and of the set, in each pair
-// of orders.
+// Compares the calls with the loop, for ranges near the ends of words and of the set, in each pair
+// of bit orders.
 fn agree<A: BitsOwned, B: BitsOwned>(rt: &impl Abort, width: u32, set: A, other: B)
     requires indexable { IsTrue A.indexable }
     requires other_indexable { IsTrue B.indexable }
@@ -180,7 +181,7 @@ fn agree<A: BitsOwned, B: BitsOwned>(rt: &impl Abort, width: u32, set: A, other:
     }
 }
 
-// Compares the calls on a set and one from the left with the loop.
+// Compares the calls with the loop, for a set and a little-endian set.
 fn agree_with_left<A: BitsOwned, T: BitsOwned>(rt: &impl Abort, width: u32, set: A, other: T)
     requires indexable { IsTrue A.indexable }
     requires other_indexable { IsTrue T.indexable }
@@ -188,8 +189,8 @@ fn agree_with_left<A: BitsOwned, T: BitsOwned>(rt: &impl Abort, width: u32, set:
     agree(rt, width, set, Set::new_le(other));
 }
 
-// Compares the calls on a pair of sets of any type and a set from the left with the loop. Of any
-// types that is proved in less time than of nested rows.
+// Compares the calls with the loop, for a pair of sets and a little-endian set. The prover needs
+// less time for a generic `[T; 2]` than for `[[u16; 2]; 2]`.
 fn agree_pair<T: BitsOwned, U: BitsOwned>(rt: &impl Abort, width: u32, pair: [T; 2], other: U)
     requires indexable { IsTrue ⟦<[T; 2] as Shape>⟧.indexable }
     requires other_indexable { IsTrue U.indexable }

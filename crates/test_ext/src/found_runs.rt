@@ -1,4 +1,5 @@
-//! Runs of a given length that are looked for, by hand and beside a plain loop.
+//! Tests of searches for runs of a given length. The expected values are worked out by hand, or by
+//! a plain loop.
 
 ghost use Rattle.std.specs.Prelude.{IsTrue};
 ghost use Rattle.bittle.specs.Values.{ShapeFits};
@@ -10,7 +11,7 @@ use bittle::{BitsOwned, LittleEndian};
 use bittle_ext::prelude::*;
 use std::process::Abort;
 
-/// Returns where the first runs of unset bits of some lengths begin, from an index on.
+/// Returns for each length where the first run of that many unset bits begins, from an index on.
 fn zero_runs<B: Bits, const N: usize>(set: &B, from: u32, lengths: [u32; N]) -> [Option<u32>; N]
     requires { ShapeFits B.Shape set.now }
 {
@@ -21,7 +22,7 @@ fn zero_runs<B: Bits, const N: usize>(set: &B, from: u32, lengths: [u32; N]) -> 
     found
 }
 
-/// Returns where the first runs of set bits of some lengths begin, from an index on.
+/// Returns for each length where the first run of that many set bits begins, from an index on.
 fn one_runs<B: Bits, const N: usize>(set: &B, from: u32, lengths: [u32; N]) -> [Option<u32>; N]
     requires { ShapeFits B.Shape set.now }
 {
@@ -34,7 +35,7 @@ fn one_runs<B: Bits, const N: usize>(set: &B, from: u32, lengths: [u32; N]) -> [
 
 #[test]
 fn runs_about_as_long_as_a_word(rt: HostRuntime) {
-    // Bits 7 to 16 are unset; from the left bits 0, 8 to 15, and 23 are.
+    // Bits 7 to 16 are unset. In little-endian order, these are bits 0, 8 to 15, and 23.
     let row: [u8; 3] = [0b0111_1111, 0, 0b1111_1110];
     let lengths = [0, 1, 7, 8, 9, 10, 11];
     let seven = Some(7);
@@ -74,7 +75,8 @@ fn runs_of_four_words_and_of_more(rt: HostRuntime) {
     same!(rt; one_runs(&row, 0, [8, 9, 15, 16]), [Some(0), Some(49), Some(49), None]);
 }
 
-/// Returns where the first run of set bits begins in a range, and the first of unset bits.
+/// Returns where the first run of `length` set bits in a range begins, and where the first run of
+/// `length` unset bits begins.
 fn runs_within<B: Bits>(set: &B, from: u32, to: u32, length: u32) -> [Option<u32>; 2]
     requires { ShapeFits B.Shape set.now }
 {
@@ -86,7 +88,7 @@ fn runs_within<B: Bits>(set: &B, from: u32, to: u32, length: u32) -> [Option<u32
 
 #[test]
 fn runs_within_a_range(rt: HostRuntime) {
-    // Bits 7 to 16 are unset; from the left bits 0, 8 to 15, and 23 are.
+    // Bits 7 to 16 are unset. In little-endian order, these are bits 0, 8 to 15, and 23.
     let row: [u8; 3] = [0b0111_1111, 0, 0b1111_1110];
     same!(rt; runs_within(&row, 3, 12, 4), [Some(3), Some(7)]);
     same!(rt; runs_within(&row, 3, 10, 4), [Some(3), None]);
@@ -128,7 +130,7 @@ fn runs_within_a_range_past_the_capacity_or_backwards(rt: HostRuntime) {
     same!(rt; runs_within(&none, 0, 9, 1), [None, None]);
 }
 
-/// Sets the first run of unset bits of a length, and returns its begin and the set.
+/// Sets the first run of `length` unset bits. Returns where the run begins, and the changed set.
 fn taken<B: BitsOwned>(mut set: B, length: u32) -> (Option<u32>, B)
     requires { IsTrue B.indexable }
 {
@@ -143,7 +145,8 @@ fn a_run_across_words_is_taken(rt: HostRuntime) {
     same!(rt; taken(row, 11), (None, row));
 }
 
-/// Bits of eight bytes, from the right of each byte or from the left, as a plain loop sees them.
+/// Returns the bits of eight bytes as flags, by a loop over the bits. The order is little-endian if
+/// `from_left` is `true`, else big-endian.
 fn flags(row: &[u8; 8], from_left: bool) -> [bool; 64] {
     let mut flags = [false; 64];
     for k in 0..64usize {
@@ -153,7 +156,8 @@ fn flags(row: &[u8; 8], from_left: bool) -> [bool; 64] {
     flags
 }
 
-/// Returns where the first run of bits of a value begins, one by one.
+/// Returns where the first run of `length` bits of a value begins, from an index on, by a loop over
+/// the bits.
 pub(crate) fn plain_run(flags: &[bool; 64], value: bool, from: u32, length: u32) -> Option<u32> {
     if length == 0 {
         return if from <= 64 { Some(from) } else { None };
@@ -174,10 +178,11 @@ pub(crate) fn plain_run(flags: &[bool; 64], value: bool, from: u32, length: u32)
     None
 }
 
-/// How long runs are that are looked for in rows of bytes.
+/// The lengths of the runs that the tests of random rows search for.
 const LENGTHS: [u32; 11] = [0, 1, 2, 3, 5, 7, 8, 9, 16, 32, 33];
 
-/// Returns the bits of a range, and outside of it another value than is looked for.
+/// Returns the bits of a range. The bits outside of it get the other value, so that no run of
+/// `value` is found there.
 fn part_of(flags: &[bool; 64], value: bool, from: u32, to: u32) -> [bool; 64] {
     let mut part = *flags;
     for k in 0..64usize {
@@ -204,7 +209,7 @@ fn runs_within_as_plain<B: Bits>(rt: &impl Abort, set: &B, flags: &[bool; 64], f
     }
 }
 
-/// Compares the runs that a set of 64 bits has with those of the plain loop.
+/// Compares the runs of a set of 64 bits, from an index on, with those of the plain loop.
 fn runs_as_plain<B: Bits>(rt: &impl Abort, set: &B, flags: &[bool; 64], from: u32)
     requires { ShapeFits B.Shape set.now }
 {
@@ -216,7 +221,7 @@ fn runs_as_plain<B: Bits>(rt: &impl Abort, set: &B, flags: &[bool; 64], from: u3
     }
 }
 
-/// Compares the runs from an index on and those in a range with those of the plain loop.
+/// Compares the runs from an index on, and the runs in a range, with those of the plain loop.
 fn all_runs_as_plain<B: Bits>(rt: &impl Abort, set: &B, flags: &[bool; 64], from: u32, to: u32)
     requires { ShapeFits B.Shape set.now }
 {
@@ -224,7 +229,7 @@ fn all_runs_as_plain<B: Bits>(rt: &impl Abort, set: &B, flags: &[bool; 64], from
     runs_within_as_plain(rt, set, flags, from, to);
 }
 
-/// Compares the same of a set from the left.
+/// Calls `all_runs_as_plain` on a set in little-endian order.
 fn left_runs_as_plain<B: Bits>(rt: &impl Abort, set: &B, flags: &[bool; 64], from: u32, to: u32)
     requires { ShapeFits B.Shape set.now }
 {
@@ -235,7 +240,8 @@ fn left_runs_as_plain<B: Bits>(rt: &impl Abort, set: &B, flags: &[bool; 64], fro
 fn drawn_rows_have_the_runs_of_plain_arrays(rt: HostRuntime) {
     let mut state = 1u32;
     for round in 0..300u32 {
-        // Bits that turn at three places, and in each other round two more that are flipped.
+        // The bits change their value at three random places. In every second round, two single
+        // bits are flipped too.
         let mut word = 0u64;
         for _ in 0..3u32 {
             word ^= u64::MAX << (draw(&mut state) % 64);

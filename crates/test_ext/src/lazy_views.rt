@@ -1,5 +1,5 @@
-//! Views, with values worked out by hand, and with drawn sets compared with tests of each bit in
-//! plain loops.
+//! Tests of views, such as the intersection that `one.and(other)` returns. The expected values are
+//! worked out by hand, or, for random sets, by loops that test each bit.
 
 ghost use Rattle.std.specs.Prelude.{IsTrue};
 ghost use Rattle.bittle.specs.Values.{ShapeFits};
@@ -12,13 +12,13 @@ use crate::random::draw;
 use bittle::{Bits, BitsOwned, LittleEndian, Set, Shape};
 use bittle_ext::prelude::*;
 
-// Draws a word.
+// Draws a random word.
 fn draw_word(state: &mut u32) -> u64 {
     let high = (draw(state) as u64) << 40;
     high ^ (draw(state) as u64) << 20 ^ draw(state) as u64
 }
 
-// Returns the bits that a word has set, each by its index.
+// Returns a flag for each bit of a word.
 fn bits_of(word: u64) -> [bool; 64] {
     let mut bits = [false; 64];
     for index in 0..64u32 {
@@ -27,7 +27,7 @@ fn bits_of(word: u64) -> [bool; 64] {
     bits
 }
 
-// Counts the bits that hold.
+// Counts the flags that are `true`.
 fn held(bits: &[bool; 64]) -> u32 {
     let mut count = 0u32;
     for bit in bits {
@@ -38,7 +38,7 @@ fn held(bits: &[bool; 64]) -> u32 {
     count
 }
 
-// Returns the least index that holds.
+// Returns the index of the first flag that is `true`.
 fn first(bits: &[bool; 64]) -> Option<u32> {
     for index in 0..64u32 {
         if bits[index as usize] {
@@ -48,10 +48,10 @@ fn first(bits: &[bool; 64]) -> Option<u32> {
     None
 }
 
-// What is read of a view: the capacity, how many bits are set, and the first and the last of them.
+// What `Reading` returns: the capacity, how many bits are set, and the first and the last set bit.
 type Read = (u32, u32, [Option<u32>; 2]);
 
-// Reads a view.
+// Reads the capacity and the set bits of a view, as a `Read`.
 #[derive(Drop)]
 struct Reading;
 
@@ -64,7 +64,7 @@ impl Question for Reading {
     }
 }
 
-// Asks for the first bit that is set, and for the first that is unset.
+// Returns the first set bit and the first unset bit of a view.
 #[derive(Drop)]
 struct Firsts;
 
@@ -76,7 +76,7 @@ impl Question for Firsts {
     }
 }
 
-// Asks whether all bits are unset, and whether all are set.
+// Returns whether all bits of a view are unset, and whether all are set.
 #[derive(Drop)]
 struct Whole;
 
@@ -88,7 +88,7 @@ impl Question for Whole {
     }
 }
 
-// Tests two bits.
+// Tests two bits of a view.
 #[derive(Drop)]
 struct Tested([u32; 2]);
 
@@ -100,7 +100,7 @@ impl Question for Tested {
     }
 }
 
-// Asks how many items an iterator over the set bits yields.
+// Counts the items that an iterator over the set bits of a view yields.
 #[derive(Drop)]
 struct Walked;
 
@@ -112,21 +112,21 @@ impl Question for Walked {
     }
 }
 
-// Asks what a set lacks.
+// Asks a question of the complement of a set.
 fn ask_unset<B: Bits, Q: Question>(question: &Q, set: &B) -> Q::Answer
     requires { ShapeFits B.Shape set.now }
 {
     question.ask(&set.complement_view())
 }
 
-// Asks what a set has in a range.
+// Asks a question of the view of a range of a set.
 fn ask_within<B: Bits, Q: Question>(question: &Q, set: &B, from: u32, to: u32) -> Q::Answer
     requires { ShapeFits B.Shape set.now }
 {
     question.ask(&set.within(from, to))
 }
 
-// Reads what two sets have in common, and what the first has alone.
+// Reads the intersection of two sets, and the members that only the first one has.
 fn read_both_and_alone<A: Bits, B: Bits>(one: &A, other: &B) -> [Read; 2]
     requires one_fits { ShapeFits A.Shape one.now }
     requires other_fits { ShapeFits B.Shape other.now }
@@ -139,7 +139,7 @@ fn read_both_and_alone<A: Bits, B: Bits>(one: &A, other: &B) -> [Read; 2]
 
 #[test]
 fn a_byte_and_a_wider_word(rt: HostRuntime) {
-    // Bits 0 and 1 are set, and bits 1, 2 and 8.
+    // `byte` has the members 0 and 1, and `word` has 1, 2 and 8.
     let (byte, word) = (0b0011u8, 0x0106u16);
     let [both, alone] = read_both_and_alone(&byte, &word);
     same!(rt; (both, alone), ((8, 1, [Some(1), Some(1)]), (8, 1, [Some(0), Some(0)])));
@@ -151,7 +151,7 @@ fn a_byte_and_a_wider_word(rt: HostRuntime) {
 
 #[test]
 fn a_capacity_that_is_rounded_up(rt: HostRuntime) {
-    // Bit 31 is set, and bits 24, 31 and 32 of a capacity of 40.
+    // `word` has the member 31, and `bytes`, whose capacity is 40, has 24, 31 and 32.
     let (word, bytes) = (0x8000_0000u32, [0u8, 0, 0, 0x81, 1]);
     same!(rt; ask_either(&Reading, &word, &bytes), (64, 3, [Some(24), Some(32)]));
     same!(rt; ask_either(&Tested([40, 96]), &word, &bytes), [false, true]);
@@ -160,7 +160,7 @@ fn a_capacity_that_is_rounded_up(rt: HostRuntime) {
 
 #[test]
 fn two_rows_each_in_its_own_order(rt: HostRuntime) {
-    // Bits 0, 15 and 33 are set, and from the left bits 0, 33 and 63.
+    // `row` has the members 0, 15 and 33, and the little-endian `set` has 0, 33 and 63.
     let row = [0x8001u16, 0, 2];
     let set: Set<[u32; 2], LittleEndian> = Set::new_le([0x8000_0000, 0x4000_0001]);
     let [both, alone] = read_both_and_alone(&row, &set);
@@ -170,7 +170,7 @@ fn two_rows_each_in_its_own_order(rt: HostRuntime) {
     same!(rt; ask_alone(&Tested([63, 0]), &set, &row), [true, false]);
 }
 
-// Asks what either of two sets of like words has.
+// Asks a question of the union of two sets that have the same word type.
 fn ask_either_like<A: Bits, B: Bits + Shape<LeafWord = A::LeafWord>, Q: Question>(
     question: &Q,
     one: &A,
@@ -182,7 +182,7 @@ fn ask_either_like<A: Bits, B: Bits + Shape<LeafWord = A::LeafWord>, Q: Question
     question.ask(&one.or(other))
 }
 
-// Asks what just one of two sets of like words has.
+// Asks a question of the symmetric difference of two sets that have the same word type.
 fn ask_just_one_like<A: Bits, B: Bits + Shape<LeafWord = A::LeafWord>, Q: Question>(
     question: &Q,
     one: &A,
@@ -194,7 +194,7 @@ fn ask_just_one_like<A: Bits, B: Bits + Shape<LeafWord = A::LeafWord>, Q: Questi
     question.ask(&one.xor(other))
 }
 
-// Reads what either of two sets of like words has, and what just one of them has.
+// Reads the union and the symmetric difference of two sets that have the same word type.
 fn read_like<A: Bits, B: Bits + Shape<LeafWord = A::LeafWord>>(one: &A, other: &B) -> [Read; 2]
     requires one_fits { ShapeFits A.Shape one.now }
     requires other_fits { ShapeFits B.Shape other.now }
@@ -207,14 +207,14 @@ fn read_like<A: Bits, B: Bits + Shape<LeafWord = A::LeafWord>>(one: &A, other: &
 
 #[test]
 fn like_words_in_unlike_orders(rt: HostRuntime) {
-    // Bits 0 and 1 are set, and from the left bits 1 and 7.
+    // `byte` has the members 0 and 1, and the little-endian `set` has 1 and 7.
     let (byte, set): (u8, Set<u8, LittleEndian>) = (0b0011, Set::new_le(0b0100_0001));
     let [either, one] = read_like(&byte, &set);
     same!(rt; (either, one), ((8, 3, [Some(0), Some(7)]), (8, 2, [Some(0), Some(7)])));
     same!(rt; ask_either_like(&Ones([BACK]), &set, &byte), [Some(7)]);
 }
 
-// Asks what a set has in common with itself and not in itself.
+// Asks a question of an empty view: the intersection of a set with itself, minus the set.
 fn ask_common_alone<B: Bits, Q: Question>(question: &Q, row: &B) -> Q::Answer
     requires { ShapeFits B.Shape row.now }
 {
@@ -223,7 +223,7 @@ fn ask_common_alone<B: Bits, Q: Question>(question: &Q, row: &B) -> Q::Answer
 
 #[test]
 fn rows_of_unlike_lengths(rt: HostRuntime) {
-    // Bits 1 and 2 are set, and bits 0, 2 and 8.
+    // `byte` has the members 1 and 2, and `row` has 0, 2 and 8.
     let (byte, row) = (0b0110u8, [0b0101u8, 1]);
     let [either, one] = read_like(&byte, &row);
     same!(rt; (either, one), ((16, 4, [Some(0), Some(8)]), (16, 3, [Some(0), Some(8)])));
@@ -234,8 +234,8 @@ fn rows_of_unlike_lengths(rt: HostRuntime) {
     same!(rt; ask_common_alone(&Whole, &row), (true, false));
 }
 
-// Returns whether a set has nothing alone and what it has alone first, and whether it has all in
-// common with another one and how many.
+// Returns whether the difference of `full` and `row` is empty, and its first member. Then returns
+// whether all bits of their intersection are set, and how many.
 fn compared<B: Bits>(full: &B, row: &B) -> (bool, Option<u32>, bool, u32)
     requires full_fits { ShapeFits B.Shape full.now }
     requires row_fits { ShapeFits B.Shape row.now }
@@ -247,7 +247,8 @@ fn compared<B: Bits>(full: &B, row: &B) -> (bool, Option<u32>, bool, u32)
 
 #[test]
 fn many_words_at_once(rt: HostRuntime) {
-    // Eleven bytes, where just one word differs: among the first four, the next four and the rest.
+    // `row` differs from `full` in just one byte. It is each of the eleven in turn: among the first
+    // four, the next four and the last three.
     let full = [255u8; 11];
     for place in 0..11u32 {
         let mut row = [255u8; 11];
@@ -257,7 +258,7 @@ fn many_words_at_once(rt: HostRuntime) {
     same!(rt; compared(&full, &full), (true, None, true, 88));
 }
 
-// Counts the bits of the complement of the complement of a set.
+// Counts the set bits of the complement of the complement of a set.
 fn count_twice_unset<B: Bits>(set: &B) -> u32
     requires { ShapeFits B.Shape set.now }
 {
@@ -276,7 +277,8 @@ fn a_complement(rt: HostRuntime) {
     same!(rt; ask_unset(&Whole, &0u8), (false, true));
 }
 
-// Reads a range, asks whether each bit of two others is unset, and counts the set bits of two more.
+// Reads a range, returns for two other ranges whether all bits are unset, and counts the set bits
+// of two more.
 fn read_ranges<B: Bits>(row: &B) -> (Read, [bool; 2], [u32; 2])
     requires { ShapeFits B.Shape row.now }
 {
@@ -288,7 +290,8 @@ fn read_ranges<B: Bits>(row: &B) -> (Read, [bool; 2], [u32; 2])
     (ask_within(&Reading, row, 5, 8), unset, counts)
 }
 
-// Counts the bits of a range of a set from the left, and returns the first of another one.
+// Makes a little-endian set. Counts the set bits of a range, and returns the first set bit of
+// another range.
 fn count_and_first_of_left<T: BitsOwned>(left: T) -> (u32, Option<u32>)
     requires { IsTrue T.indexable }
 {
@@ -305,11 +308,11 @@ fn a_range(rt: HostRuntime) {
     let inner = (16, 2, [Some(5), Some(6)]);
     same!(rt; read_ranges(&row), (inner, [true, false], [4, 0]));
     same!(rt; ask_within(&Tested([6, 8]), &row, 5, 8), [true, false]);
-    // From the left bits 0 and 8 are set.
+    // In little-endian order, bits 0 and 8 are set.
     same!(rt; count_and_first_of_left([0x80u8, 0x80]), (1, Some(8)));
 }
 
-// Asks how many bits of a range of a view are set.
+// Counts the set bits of a view below index 6.
 #[derive(Drop)]
 struct CountBelowSix;
 
@@ -321,7 +324,7 @@ impl Question for CountBelowSix {
     }
 }
 
-// Asks for the first run of four set bits of a view.
+// Returns where the first run of four set bits of a view begins.
 #[derive(Drop)]
 struct FirstRunOfFour;
 
@@ -333,7 +336,7 @@ impl Question for FirstRunOfFour {
     }
 }
 
-// Asks an iterator over a view from the left for its first item.
+// Returns the first set bit that an iterator over a view yields in little-endian order.
 #[derive(Drop)]
 struct FirstFromLeft;
 
@@ -345,7 +348,7 @@ impl Question for FirstFromLeft {
     }
 }
 
-// Asks what a range of a set has and another set has not.
+// Asks a question of a difference: the members of `one` in a range, minus those of `other`.
 fn ask_alone_within<A: Bits, B: Bits, Q: Question>(
     question: &Q,
     one: &A,
@@ -361,7 +364,7 @@ fn ask_alone_within<A: Bits, B: Bits, Q: Question>(
 
 #[test]
 fn views_of_views(rt: HostRuntime) {
-    // Bits 1, 5, 6 and 9 are set in the first, and bits 5, 6 and 7 in the second.
+    // `one` has the members 1, 5, 6 and 9, and `other` has 5, 6 and 7.
     let (one, other) = (0x0262u16, 0xE0u8);
     same!(rt; ask_both(&CountBelowSix, &one, &other), 1);
     let (_, _, ends) = ask_alone_within(&Reading, &one, &other, 0, 9);
@@ -387,8 +390,8 @@ fn capacity_0_and_a_slice(rt: HostRuntime) {
     same!(rt; ask_unset(&Reading, &slice), (320, 319, [Some(1), Some(319)]));
 }
 
-// Counts what two words have in common, and returns the first index that a word has in common with
-// its halves.
+// Counts the members of the intersection of two words. Returns also the first member that `one` has
+// in common with the halves of `other`.
 fn common<A: Bits, B: Bits>(one: &A, other: &A, halves: &B) -> (u32, Option<u32>)
     requires one_fits { ShapeFits A.Shape one.now }
     requires other_fits { ShapeFits A.Shape other.now }
@@ -399,7 +402,8 @@ fn common<A: Bits, B: Bits>(one: &A, other: &A, halves: &B) -> (u32, Option<u32>
     (count, ends[0])
 }
 
-// Counts what either of two words has, and what one has that the halves of the other have not.
+// Counts the members of the union of two words, and the members of `one` that the halves of `other`
+// do not have.
 fn either_and_alone<A: Bits, B: Bits>(one: &A, other: &A, halves: &B) -> [u32; 2]
     requires one_fits { ShapeFits A.Shape one.now }
     requires other_fits { ShapeFits A.Shape other.now }
@@ -410,7 +414,8 @@ fn either_and_alone<A: Bits, B: Bits>(one: &A, other: &A, halves: &B) -> [u32; 2
     [either, alone]
 }
 
-// Returns the first bit that a word lacks, and the first of a range and how many that has.
+// Returns the first unset bit of a word, the first set bit in `3..50`, and how many bits of that
+// range are set.
 fn unset_and_within<B: Bits>(one: &B) -> ([Option<u32>; 2], u32)
     requires { ShapeFits B.Shape one.now }
 {
@@ -419,7 +424,7 @@ fn unset_and_within<B: Bits>(one: &B) -> ([Option<u32>; 2], u32)
     ([unset[0], within[0]], ask_within(&Walked, one, 3, 50))
 }
 
-// Returns the bits that both of two words have, that either has, and that the first has alone.
+// Returns the intersection of two words, their union, and the bits that only the first word has.
 fn of_two(ours: &[bool; 64], theirs: &[bool; 64]) -> ([bool; 64], [bool; 64], [bool; 64]) {
     let (mut both, mut either, mut alone) = ([false; 64], [false; 64], [false; 64]);
     for k in 0..64usize {
@@ -430,7 +435,7 @@ fn of_two(ours: &[bool; 64], theirs: &[bool; 64]) -> ([bool; 64], [bool; 64], [b
     (both, either, alone)
 }
 
-// Returns the bits that a word lacks, and those that it has of the bits 3 to 49.
+// Returns the complement of a word, and the set bits of the word among bits 3 to 49.
 fn of_one(ours: &[bool; 64]) -> ([bool; 64], [bool; 64]) {
     let (mut unset, mut low) = ([false; 64], [false; 64]);
     for k in 0..64usize {

@@ -1,4 +1,4 @@
-//! Tests of the everyday calls, each from outside the library.
+//! Tests of the everyday calls (`bittle_ext`). They call the library from outside, as a user does.
 #![tactic(auto)]
 
 #[cfg(test)]

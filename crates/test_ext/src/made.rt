@@ -1,4 +1,5 @@
-//! Sets made of a set, of a list and of an iterator, with values worked out by hand.
+//! Tests of calls that make a set from another set, a list or an iterator, with expected values
+//! worked out by hand.
 
 ghost use Rattle.std.specs.Prelude.{◌≤◌, IsTrue};
 
@@ -23,7 +24,7 @@ fn complements(rt: HostRuntime) {
     same!(rt; complement_of(none), none);
 }
 
-/// Returns a set with a range, and another one without it.
+/// Returns `none` with the range `6..11` set, and `all` with that range cleared.
 fn with_and_without<B: BitsOwned>(none: B, all: B) -> [B; 2]
     requires indexable { IsTrue B.indexable }
     requires long { 11 ≤ B.type_capacity }
@@ -31,7 +32,8 @@ fn with_and_without<B: BitsOwned>(none: B, all: B) -> [B; 2]
     [none.with_range(6, 11), all.without_range(6, 11)]
 }
 
-/// Returns a set with its first four bits toggled, one with no bit set, and one with eight cleared.
+/// Returns `some` with its first four bits flipped, `none` with an empty range set, and `all` with
+/// its first eight bits cleared.
 fn toggled_and_others<B: BitsOwned>(some: B, none: B, all: B) -> [B; 3]
     requires indexable { IsTrue B.indexable }
     requires long { 8 ≤ B.type_capacity }
@@ -50,7 +52,8 @@ fn ranges(rt: HostRuntime) {
     same!(rt; toggled_and_others(0b0011_1100u8, 0, 0xFF), [0b0011_0011, 0, 0]);
 }
 
-/// Returns a set with a range, one without it, and one with another toggled.
+/// Returns `none` with the range `0..3` set, `all` with that range cleared, and `some` with the
+/// range `1..4` flipped.
 fn each_with_its_range<B: BitsOwned>(none: B, all: B, some: B) -> [B; 3]
     requires indexable { IsTrue B.indexable }
     requires long { 4 ≤ B.type_capacity }
@@ -70,7 +73,7 @@ fn ranges_from_the_left(rt: HostRuntime) {
     same!(rt; toggled.into_bits(), 0b1011_0000);
 }
 
-/// Returns the sets of three indexes and of none, and of a range.
+/// Returns the set of three indexes, the set of an empty list, and the set of a range.
 fn of_indexes<B: BitsOwned>() -> [B; 3]
     requires { IsTrue B.indexable }
 {

@@ -1,5 +1,5 @@
-//! Ranges of bits that are read and written as numbers, with values worked out by hand, beside a
-//! loop over the indexes, and drawn ones beside a loop over 24 flags.
+//! Tests of ranges of bits that are read and written as numbers. The expected values are worked out
+//! by hand, by a loop over the indexes, or, for random rows, by a loop over 24 flags.
 
 ghost use Rattle.std.specs.Prelude.{IsTrue};
 ghost use Rattle.bittle.specs.Values.{ShapeFits};
@@ -11,14 +11,15 @@ use bittle::{BigEndian, BitsOwned, Endian, LittleEndian, Set, Shape};
 use bittle_ext::prelude::*;
 use std::process::Abort;
 
-// Returns the number of a range, of which no more than 64 bits are asked.
+// Reads a range as a number. Of a range of more than 64 bits, it reads the first 64.
 fn loaded<B: Bits>(set: &B, first: u32, count: u32) -> u64
     requires { ShapeFits B.Shape set.now }
 {
     set.load(first, count.min(64))
 }
 
-// Returns the set with a number stored in a range, or unchanged where the range is not allowed.
+// Returns the set with a number stored in a range, or unchanged if `store` does not allow the
+// range.
 fn stored<B: BitsOwned>(set: B, first: u32, count: u32, value: u64) -> B
     requires { IsTrue B.indexable }
 {
@@ -30,14 +31,14 @@ fn stored<B: BitsOwned>(set: B, first: u32, count: u32, value: u64) -> B
     now
 }
 
-// Returns the number of a range of a set in the order `E`.
+// Reads a range of a set as a number, in the order `E`.
 fn loaded_in<B: BitsOwned, E: Endian>(bits: B, first: u32, count: u32) -> u64
     requires { IsTrue B.indexable }
 {
     loaded(&Set::<B, E>::new_in(bits), first, count)
 }
 
-// Returns a set in the order `E` with a number stored in a range.
+// Returns the set with a number stored in a range, in the order `E`.
 fn stored_in<B: BitsOwned, E: Endian>(bits: B, first: u32, count: u32, value: u64) -> B
     requires { IsTrue B.indexable }
 {
@@ -46,7 +47,7 @@ fn stored_in<B: BitsOwned, E: Endian>(bits: B, first: u32, count: u32, value: u6
 
 #[test]
 fn a_row(rt: HostRuntime) {
-    // The bits of 0x1234, the lowest ones first.
+    // The row has the bits of 0x1234, the lowest byte first.
     let row = [0x34u8, 0x12];
     same!(rt; (row.load(0, 16), row.load(0, 8), row.load(4, 8)), (0x1234, 0x34, 0x23));
     same!(rt; (row.load(2, 3), row.load(5, 0), row.load(12, 64)), (0b101, 0, 1));
@@ -63,7 +64,7 @@ fn a_row_that_is_written(rt: HostRuntime) {
 
 #[test]
 fn a_row_from_the_left(rt: HostRuntime) {
-    // From the left the members 1, 2 and 11.
+    // In little-endian order, bits 1, 2 and 11 are set.
     let row = [0b0110_0000u8, 0b0001_0000];
     same!(rt; loaded_in::<_, LittleEndian>(row, 0, 4), 0b0110);
     same!(rt; loaded_in::<_, LittleEndian>(row, 1, 16), 0b100_0000_0011);
@@ -79,7 +80,7 @@ fn words(rt: HostRuntime) {
     same!(rt; stored(-1i32, 28, 4, 0), 0x0FFF_FFFF);
 }
 
-// Returns the number of a range, bit by bit.
+// Reads a range as a number, bit by bit.
 fn by_bits<B: Bits, E: Endian>(set: &B, first: u32, count: u32) -> u64
     requires { ShapeFits B.Shape set.now }
 {
@@ -96,7 +97,7 @@ fn by_bits<B: Bits, E: Endian>(set: &B, first: u32, count: u32) -> u64
     number
 }
 
-// Returns the set with the bits of a number in a range, bit by bit.
+// Returns the set with a number stored in a range, bit by bit.
 fn put_by_bits<B: BitsOwned, E: Endian>(set: &B, first: u32, count: u32, value: u64) -> B
     requires { IsTrue B.indexable }
 {
@@ -112,7 +113,7 @@ fn put_by_bits<B: BitsOwned, E: Endian>(set: &B, first: u32, count: u32, value: 
     made
 }
 
-// Compares the calls with the loops, in one order.
+// Compares `load` and `store` with the loops above, for one range and one order.
 fn agree_at<B: BitsOwned, E: Endian>(rt: &impl Abort, set: B, first: u32, count: u32)
     requires { IsTrue B.indexable }
 {
@@ -132,7 +133,7 @@ fn agree_at<B: BitsOwned, E: Endian>(rt: &impl Abort, set: B, first: u32, count:
     }
 }
 
-// Compares the calls with the loops, at the ends of words and of the set.
+// Compares the calls with the loops, for ranges near the ends of words and of the set.
 fn agree<B: BitsOwned>(rt: &impl Abort, width: u32, set: B)
     requires { IsTrue B.indexable }
 {
@@ -153,15 +154,15 @@ fn agree<B: BitsOwned>(rt: &impl Abort, width: u32, set: B)
     }
 }
 
-// Compares the calls on a pair of sets of any type with the loops, which is proved in less time
-// than of nested rows.
+// Compares the calls on a pair of sets with the loops. The prover needs less time for a generic
+// `[T; 2]` than for `[[u16; 2]; 2]`.
 fn agree_pair<T: BitsOwned>(rt: &impl Abort, width: u32, pair: [T; 2])
     requires { IsTrue ⟦<[T; 2] as Shape>⟧.indexable }
 {
     agree(rt, width, pair);
 }
 
-// Compares the calls on a set from the left with the loops.
+// Compares the calls on a little-endian set with the loops.
 fn agree_from_left<T: BitsOwned>(rt: &impl Abort, width: u32, bits: T)
     requires { IsTrue T.indexable }
 {
@@ -188,7 +189,8 @@ fn rows_agree_with_a_loop(rt: HostRuntime) {
     agree_from_left(&rt, 16, [0xC001u16, 0x1234, 0xF08D]);
 }
 
-// Writes a number through a view from the left, and returns that of the whole set.
+// Writes a number to bits 4 to 11 of a set, in little-endian order. Then reads the first 64 bits as
+// a number, in the same order.
 fn through_a_view<B: BitsMut>(set: &mut B, value: u64) -> u64
     requires { ShapeFits B.Shape set.old }
 {

@@ -1,4 +1,5 @@
-//! Thousands of drawn calls on a row of three bytes, compared with plain loops over 24 flags.
+//! Tests that make thousands of random calls on a row of three bytes, and compare them with plain
+//! loops over 24 flags.
 
 ghost use Rattle.std.specs.Prelude.{◌<◌, ◌≤◌, max, IsTrue};
 ghost use Rattle.bittle_ext.specs.Views.{rounded_up};
@@ -13,20 +14,20 @@ use bittle::{Bits, BitsMut, BitsOwned};
 use bittle_ext::prelude::*;
 use std::process::Abort;
 
-// Draws a number.
+// Draws a pseudo-random number of 24 bits.
 pub(crate) fn draw(state: &mut u32) -> u32 {
     *state = state.wrapping_mul(1_664_525).wrapping_add(1_013_904_223);
     *state >> 8
 }
 
-// Draws a row.
+// Draws a random row.
 pub(crate) fn draw_row(state: &mut u32) -> [u8; 3] {
     let one = (draw(state) % 256) as u8;
     let two = (draw(state) % 256) as u8;
     [one, two, (draw(state) % 256) as u8]
 }
 
-// Returns the flags of a row, bit by bit.
+// Returns a flag for each bit of a row.
 pub(crate) fn flags_of(row: &[u8; 3]) -> [bool; 24] {
     let mut flags = [false; 24];
     for i in 0..24usize {
@@ -35,7 +36,8 @@ pub(crate) fn flags_of(row: &[u8; 3]) -> [bool; 24] {
     flags
 }
 
-// Makes a drawn change of one bit of both.
+// Changes one bit of the row and its flag, by the call that `kind` picks. Checks what the call
+// returns.
 fn change_one<B: BitsMut>(
     rt: &impl Abort,
     kind: u32,
@@ -64,7 +66,7 @@ fn change_one<B: BitsMut>(
     };
 }
 
-// Makes a drawn change of a range of both.
+// Changes a range of the row and of the flags, by the call that `kind` picks.
 fn change_range<B: BitsMut>(kind: u32, from: u32, to: u32, row: &mut B, flags: &mut [bool; 24])
     requires fits { ShapeFits B.Shape row.old }
     requires ordered { from ≤ to }
@@ -85,7 +87,7 @@ fn change_range<B: BitsMut>(kind: u32, from: u32, to: u32, row: &mut B, flags: &
     }
 }
 
-// Takes an end out of flags, or takes a free slot.
+// Clears the first or the last set flag, or sets the first unset flag. Returns its index.
 fn take_flag(kind: u32, flags: &mut [bool; 24]) -> Option<u32> {
     let mut found = None;
     for i in 0..24usize {
@@ -98,7 +100,7 @@ fn take_flag(kind: u32, flags: &mut [bool; 24]) -> Option<u32> {
     found
 }
 
-// Takes an end out of both, or takes a free slot.
+// Does what `take_flag` does to the flags and to the row, and checks that the two indexes agree.
 fn take_one<B: BitsMut>(rt: &impl Abort, kind: u32, row: &mut B, flags: &mut [bool; 24])
     requires { ShapeFits B.Shape row.old }
 {
@@ -126,7 +128,7 @@ fn drawn_changes_agree_with_plain_loops(rt: HostRuntime) {
     }
 }
 
-// Returns the flags that an operation makes of two.
+// Returns the flag that one of the four operations makes of two flags.
 pub(crate) fn combined(kind: u32, one: bool, other: bool) -> bool {
     match kind {
         0 => one || other,
@@ -136,7 +138,8 @@ pub(crate) fn combined(kind: u32, one: bool, other: bool) -> bool {
     }
 }
 
-// Makes the set of the indexes that an iterator yields, which are below the capacity.
+// Makes the set of the indexes that an iterator over a combination of `row` and `word` yields. The
+// indexes are below the capacity of `A`.
 fn walked<A: BitsOwned, B: Bits>(kind: u32, row: &A, word: &B) -> A
     requires indexable { IsTrue A.indexable }
     requires fits { ShapeFits B.Shape word.now }
@@ -168,7 +171,7 @@ fn drawn_combinations_agree_with_plain_loops(rt: HostRuntime) {
     }
 }
 
-// Makes the set of the set bits of a range of a row, by an iterator from its back.
+// Makes the set of the set bits of a range of a row, which an iterator yields from its back.
 fn ones_from_back<A: BitsOwned, B: Bits>(row: &B, from: u32, to: u32) -> A
     requires indexable { IsTrue A.indexable }
     requires fits { ShapeFits B.Shape row.now }
@@ -178,7 +181,8 @@ fn ones_from_back<A: BitsOwned, B: Bits>(row: &B, from: u32, to: u32) -> A
     made
 }
 
-// Makes the set of what a range of a row has of a kind, by a walk from both ends in turn.
+// Makes the set of the unset bits of a range, taken from both ends of an iterator in turn, or else
+// of the set bits, taken from the back.
 fn walked_range<B: BitsOwned>(zeros: bool, row: &B, from: u32, to: u32) -> B
     requires { IsTrue B.indexable }
 {
@@ -208,7 +212,7 @@ fn drawn_ranges_agree_with_plain_loops(rt: HostRuntime) {
     }
 }
 
-// Sets the flag of an index, which is below 24.
+// Sets the flag of an index. Ends the test if the index is not below 24.
 fn mark(rt: &impl Abort, flags: &mut [bool; 24], index: u32) {
     if index < 24 {
         flags[index as usize] = true;
@@ -217,7 +221,8 @@ fn mark(rt: &impl Abort, flags: &mut [bool; 24], index: u32) {
     }
 }
 
-// Returns where the runs of a kind of a row begin, and where their last bits are.
+// Returns which bits are the first of a run, and which are the last. The runs are of unset bits if
+// `zeros` is `true`, else of set bits.
 fn walked_runs<B: Bits>(rt: &impl Abort, zeros: bool, row: &B) -> ([bool; 24], [bool; 24])
     requires { ShapeFits B.Shape row.now }
 {
@@ -252,7 +257,7 @@ fn drawn_runs_agree_with_plain_loops(rt: HostRuntime) {
     }
 }
 
-// Returns the flag that comes to an index in one of four ways of moving.
+// Returns the flag that is at index `at` after all flags are moved by `by` in one of four ways.
 fn flag_after(kind: u32, flags: &[bool; 24], at: usize, by: usize) -> bool
     requires index { at < 24 }
     requires distance { by < 50 }

@@ -1,4 +1,4 @@
-//! Iterators over a range of a set, with values worked out by hand.
+//! Tests of iterators over a range of a set, with expected values worked out by hand.
 
 ghost use Rattle.std.specs.Prelude.{IsTrue};
 ghost use Rattle.bittle.specs.Values.{ShapeFits};
@@ -12,7 +12,7 @@ use bittle_ext::prelude::*;
 
 #[test]
 fn the_ones_of_a_range_of_a_word(rt: HostRuntime) {
-    // The members 1, 5 and 6.
+    // Bits 1, 5 and 6 are set.
     let word = 0b0110_0010u8;
     let inner = ones_in_range(&word, 1, 6, [FRONT, FRONT, FRONT, BACK]);
     same!(rt; inner, [Some(1), Some(5), None, None]);
@@ -22,14 +22,14 @@ fn the_ones_of_a_range_of_a_word(rt: HostRuntime) {
 
 #[test]
 fn the_zeros_of_a_range_of_a_word(rt: HostRuntime) {
-    // No members are 0, 2, 3, 4 and 7.
+    // Bits 0, 2, 3, 4 and 7 are unset.
     let inner = zeros_in_range(&0b0110_0010u8, 1, 4, [BACK, FRONT, FRONT, BACK]);
     same!(rt; inner, [Some(3), Some(2), None, None]);
 }
 
 #[test]
 fn a_range_of_a_word_from_the_left(rt: HostRuntime) {
-    // The members 1, 2 and 6; no members are 0, 3, 4, 5 and 7.
+    // In little-endian order, bits 1, 2 and 6 are set, and bits 0, 3, 4, 5 and 7 are unset.
     let word = 0b0110_0010u8;
     let ones = ones_in_range_in::<_, LittleEndian, 3>(&word, 2, 8, [FRONT; 3]);
     same!(rt; ones, [Some(2), Some(6), None]);
@@ -37,8 +37,8 @@ fn a_range_of_a_word_from_the_left(rt: HostRuntime) {
     same!(rt; zeros, [Some(3), Some(4), None]);
 }
 
-/// Walks over the set bits of a range of a pair of sets, and of one from the left. Of sets of any
-/// type that is proved in less time than of nested rows.
+/// Returns set bits of a range of a pair of sets, in the order of the type and in little-endian
+/// order. The prover needs less time for a generic `[T; 2]` than for `[[u8; 2]; 2]`.
 fn ones_in_ranges_of_a_pair<T: BitsOwned>(pair: &[T; 2]) -> [[Option<u32>; 4]; 2]
     requires { IsTrue ⟦<[T; 2] as Shape>⟧.indexable }
 {
@@ -52,15 +52,15 @@ fn ones_in_ranges_of_a_pair<T: BitsOwned>(pair: &[T; 2]) -> [[Option<u32>; 4]; 2
 
 #[test]
 fn both_ends_of_a_range_of_nested_rows(rt: HostRuntime) {
-    // The members 0, 7, 16 and 31; from the left 0, 7, 23 and 24.
+    // Bits 0, 7, 16 and 31 are set. In little-endian order, these are bits 0, 7, 23 and 24.
     let rows = [[0x81u8, 0], [0x01, 0x80]];
     let [right, left] = ones_in_ranges_of_a_pair(&rows);
     same!(rt; right, [Some(7), Some(31), Some(16), None]);
     same!(rt; left, [Some(23), Some(7), None, None]);
 }
 
-/// Returns the first set bit from index 8 on of a set from the left, and the last unset one from
-/// index 7 on, each below 24.
+/// Makes a little-endian set. Returns its first set bit in `8..24` and its last unset bit in
+/// `7..24`.
 fn ends_of_ranges_from_left<T: BitsOwned>(bits: T) -> ([Option<u32>; 1], [Option<u32>; 1])
     requires { IsTrue T.indexable }
 {
@@ -71,15 +71,16 @@ fn ends_of_ranges_from_left<T: BitsOwned>(bits: T) -> ([Option<u32>; 1], [Option
 
 #[test]
 fn a_range_of_a_slice_and_of_a_set(rt: HostRuntime) {
-    // The members 0, 7 and 8.
+    // Bits 0, 7 and 8 are set.
     let bytes = [0x81u8, 0x01, 0];
     let row: &[u8] = &bytes[..];
     same!(rt; ones_in_range(&row, 1, 24, [FRONT; 3]), [Some(7), Some(8), None]);
-    // From the left 0, 7 and 15.
+    // In little-endian order, bits 0, 7 and 15 are set.
     same!(rt; ends_of_ranges_from_left(bytes), ([Some(15)], [Some(23)]));
 }
 
-/// Takes an item of a walk over the set bits below 7 and clones it, and returns what both yield.
+/// Takes an item from an iterator over the set bits below 7, and clones the iterator. Returns that
+/// item, and then what the iterator and its clone yield.
 fn source_and_clone<B: Bits>(bits: &B) -> ([Option<u32>; 1], [[Option<u32>; 3]; 2])
     requires { ShapeFits B.Shape bits.now }
 {

@@ -1,4 +1,5 @@
-//! Reading calls, with values worked out by hand.
+//! Tests of calls that read a set. The expected values are worked out by hand, or, for random sets,
+//! by plain loops.
 
 ghost use Rattle.bittle.specs.Values.{ShapeFits};
 
@@ -31,7 +32,8 @@ fn ends_of_longer_shapes(rt: HostRuntime) {
     same!(rt; ends(&none), [None; 4]);
 }
 
-/// Returns the first set bit from an index on, the last one before it, and the same of unset bits.
+/// Returns the first set bit from an index on and the last set bit before the index. Then returns
+/// the first unset bit from the index on and the last unset bit before it.
 fn neighbours<B: Bits>(set: &B, index: u32) -> [Option<u32>; 4]
     requires { ShapeFits B.Shape set.now }
 {
@@ -61,7 +63,7 @@ fn neighbours_in_a_full_word(rt: HostRuntime) {
 
 #[test]
 fn neighbours_from_the_left(rt: HostRuntime) {
-    // From the left bits 2 and 6 are set.
+    // In little-endian order, bits 2 and 6 are set.
     let view = 0b0010_0010u8.in_order::<LittleEndian>();
     same!(rt; neighbours(&view, 3), [Some(6), Some(2), Some(3), Some(1)]);
     same!(rt; neighbours(&view, 6), [Some(6), Some(2), Some(7), Some(5)]);
@@ -98,7 +100,7 @@ fn ranks_and_selection(rt: HostRuntime) {
 
 #[test]
 fn ranks_from_the_left(rt: HostRuntime) {
-    // From the left bits 0, 1, 7 and 15 are set.
+    // In little-endian order, bits 0, 1, 7 and 15 are set.
     let row: [u8; 2] = [0b1100_0001, 0b0000_0001];
     same!(rt; ranks_in::<_, LittleEndian, 2>(&row, [7, 15]), [2, 3]);
     let bits = selected_in::<_, LittleEndian, 3>(&row, [2, 3, 4]);
@@ -129,7 +131,7 @@ fn counts_of_ranges(rt: HostRuntime) {
     same!(rt; counted(&row.in_order::<LittleEndian>(), 0, 4), (4, 0));
 }
 
-/// Asks whether any bit of a range is set, and whether all are.
+/// Returns whether any bit of a range is set, and whether all are set.
 fn any_and_all<B: Bits>(set: &B, from: u32, to: u32) -> (bool, bool)
     requires { ShapeFits B.Shape set.now }
 {
@@ -150,21 +152,23 @@ fn any_and_all_of_ranges(rt: HostRuntime) {
 
 #[test]
 fn any_and_all_of_ranges_from_the_left(rt: HostRuntime) {
-    // From the left bits 0 to 3 and 28 to 31 are set.
+    // In little-endian order, bits 0 to 3 and 28 to 31 are set.
     let row: [u16; 2] = [0xF000, 0x000F];
     let view = row.in_order::<LittleEndian>();
     same!(rt; any_and_all(&view, 0, 4), (true, true));
     same!(rt; any_and_all(&view, 4, 28), (false, false));
 }
 
-/// Returns where the first run of so many set bits begins, and of so many unset ones.
+/// Returns where the first run of `length` set bits begins, and where the first run of `length`
+/// unset bits begins.
 fn first_runs<B: Bits>(set: &B, length: u32) -> [Option<u32>; 2]
     requires { ShapeFits B.Shape set.now }
 {
     [set.first_one_run(length), set.first_zero_run(length)]
 }
 
-/// Returns the same of the runs from an index on.
+/// Returns where the first run of `length` set bits from index `from` on begins, and where the
+/// first run of `length` unset bits from there on begins.
 fn next_runs<B: Bits>(set: &B, from: u32, length: u32) -> [Option<u32>; 2]
     requires { ShapeFits B.Shape set.now }
 {
@@ -196,7 +200,7 @@ fn runs_of_a_word_from_an_index_on(rt: HostRuntime) {
 
 #[test]
 fn runs_over_words(rt: HostRuntime) {
-    // Bits 7 and 9 to 21 are unset, and then bits 6 to 16 are set.
+    // Bits 7 and 9 to 21 of `row` are unset. Bits 6 to 16 of `ones` are set.
     let row: [u8; 3] = [0b0111_1111, 0b0000_0001, 0b1100_0000];
     same!(rt; (first_runs(&row, 2), first_runs(&row, 13)), ([Some(0), Some(9)], [None, Some(9)]));
     same!(rt; (first_runs(&row, 14), next_runs(&row, 10, 13)), ([None; 2], [None; 2]));
@@ -206,7 +210,7 @@ fn runs_over_words(rt: HostRuntime) {
 
 #[test]
 fn runs_over_words_from_the_left(rt: HostRuntime) {
-    // From the left bits 0, 1, 8 to 15 and 23 are set.
+    // In little-endian order, bits 0, 1, 8 to 15 and 23 are set.
     let ones: [u8; 3] = [0b1100_0000, 0xFF, 0b0000_0001];
     let view = ones.in_order::<LittleEndian>();
     same!(rt; first_runs(&view, 6), [Some(8), Some(2)]);
@@ -220,7 +224,8 @@ fn runs_over_no_word(rt: HostRuntime) {
     same!(rt; first_runs(&none, 1), [None, None]);
 }
 
-/// Bits of `N` words, as a plain loop sees them.
+/// Returns the bits of `N` bytes as flags, by a loop over the bits. The flags past the bytes are
+/// `false`.
 fn plain<const N: usize>(words: &[u8; N]) -> [bool; 64] {
     let mut bits = [false; 64];
     for k in 0..64usize {
@@ -231,14 +236,14 @@ fn plain<const N: usize>(words: &[u8; N]) -> [bool; 64] {
     bits
 }
 
-/// The next number of a row that looks random.
+/// Returns the next pseudo-random number.
 fn step(state: u64) -> u64 {
     state
         .wrapping_mul(6364136223846793005)
         .wrapping_add(1442695040888963407)
 }
 
-/// Returns how many bits below `end` are set, one by one.
+/// Counts the set bits below `end` one by one.
 fn plain_rank(bits: &[bool; 64], end: u32) -> u32 {
     let mut count = 0u32;
     for k in 0..64usize {
@@ -249,7 +254,7 @@ fn plain_rank(bits: &[bool; 64], end: u32) -> u32 {
     count
 }
 
-/// Returns the first bit from `from` on below 64 with this value, one by one.
+/// Tests the bits from `from` on one by one, and returns the first that has this value.
 fn plain_next(bits: &[bool; 64], from: u32, value: bool) -> Option<u32> {
     for k in 0..64usize {
         if from <= k as u32 && bits[k] == value {
@@ -259,7 +264,7 @@ fn plain_next(bits: &[bool; 64], from: u32, value: bool) -> Option<u32> {
     None
 }
 
-/// Returns the last bit below `to` with this value, one by one.
+/// Tests the bits below `to` one by one, and returns the last that has this value.
 fn plain_prev(bits: &[bool; 64], to: u32, value: bool) -> Option<u32> {
     let mut found = None;
     for k in 0..64usize {
@@ -270,7 +275,7 @@ fn plain_prev(bits: &[bool; 64], to: u32, value: bool) -> Option<u32> {
     found
 }
 
-/// Compares what a set of 64 bits answers with the plain functions.
+/// Checks that the calls on a set of 64 bits return what the plain functions return.
 fn read_as_plain<B: Bits>(rt: &impl Abort, set: &B, bits: &[bool; 64], from: u32, length: u32)
     requires { ShapeFits B.Shape set.now }
 {
@@ -310,8 +315,9 @@ fn random_rows_are_read_as_plain_arrays(rt: HostRuntime) {
 #[test]
 fn relations_of_two_shapes(rt: HostRuntime) {
     let row: [u8; 8] = [0b0110, 0, 0, 0, 0, 0, 0, 1];
-    // The members 1, 2 and 56. Each line asks for a subset, a superset, disjoint, intersecting,
-    // and for the first index of both and of the first alone.
+    // The members of `row` are 1, 2 and 56. Each line says whether the first set is a subset, is a
+    // superset, is disjoint, and intersects. Then come the first index in both sets, and the first
+    // index in the first set alone.
     same!(rt; stand(&0b0110u64, &row), ([true, false, false, true], [Some(1), None]));
     same!(rt; stand(&0b0111u64, &row), ([false, false, false, true], [Some(1), Some(0)]));
     same!(rt; stand(&0b1001u64, &row), ([false, false, true, false], [None, Some(0)]));
@@ -325,8 +331,8 @@ fn relations_of_two_shapes(rt: HostRuntime) {
 fn relations_of_like_words(rt: HostRuntime) {
     let long: [u32; 3] = [1, 0, 1];
     let short: [u32; 2] = [1, 0];
-    // Each line asks for a subset, a superset, disjoint, intersecting, and for the first index of
-    // both and of the first alone.
+    // Each line says whether the first set is a subset, is a superset, is disjoint, and intersects.
+    // Then come the first index in both sets, and the first index in the first set alone.
     same!(rt; stand(&short, &long), ([true, false, false, true], [Some(0), None]));
     same!(rt; stand(&long, &short), ([false, true, false, true], [Some(0), Some(64)]));
     let other: [u32; 1] = [2];
@@ -335,7 +341,7 @@ fn relations_of_like_words(rt: HostRuntime) {
 
 #[test]
 fn relations_in_each_order(rt: HostRuntime) {
-    // From the left each of the first two has the one index 0.
+    // In little-endian order, `byte` and `word` each have one set bit, at index 0.
     let (byte, word) = (0x80u8, 0x8000u16);
     let (left, right) = (
         byte.in_order::<LittleEndian>(),
@@ -347,7 +353,7 @@ fn relations_in_each_order(rt: HostRuntime) {
 
 #[test]
 fn relations_in_two_orders(rt: HostRuntime) {
-    // From the left the sets have the index 0, and 1 and 7.
+    // In little-endian order, `first` has the member 0, and `second` has the members 1 and 7.
     let (first, second) = (Set::new_le(0x80u8), Set::new_le(0x41u8));
     same!(rt; stand(&first, &1u16), ([true, true, false, true], [Some(0), None]));
     same!(rt; stand(&1u16, &first), ([true, true, false, true], [Some(0), None]));
@@ -365,7 +371,8 @@ fn relations_of_no_capacity(rt: HostRuntime) {
     same!(rt; stand(&none, &none), ([true, true, true, false], [None, None]));
 }
 
-/// Returns the first index of two sets in common, and the first of the first alone, one by one.
+/// Returns the first index in both sets, and the first index in the first set alone, by a loop over
+/// all indexes.
 fn plain_firsts(ours: &[bool; 64], theirs: &[bool; 64]) -> [Option<u32>; 2] {
     let mut common = None;
     let mut alone = None;
@@ -380,7 +387,7 @@ fn plain_firsts(ours: &[bool; 64], theirs: &[bool; 64]) -> [Option<u32>; 2] {
     [common, alone]
 }
 
-/// Compares how a set stands to another with the plain function.
+/// Checks that `stand` returns for two sets what follows from the indexes of `plain_firsts`.
 fn stand_as_plain<A: Bits, B: Bits>(rt: &impl Abort, one: &A, other: &B, expected: [Option<u32>; 2])
     requires one_fits { ShapeFits A.Shape one.now }
     requires other_fits { ShapeFits B.Shape other.now }
@@ -427,7 +434,7 @@ fn counts_of_two_sets(rt: HostRuntime) {
 
 #[test]
 fn counts_in_each_order(rt: HostRuntime) {
-    // From the left the members 0 and 7, and the member 0, then 0 and 15.
+    // In little-endian order, 0x81 has the members 0 and 7, 0x8000 has 0, and 0x8001 has 0 and 15.
     same!(rt; counts_in::<u8, u16, LittleEndian>(&0x81, &0x8000), [1, 1, 1]);
     same!(rt; counts_in::<u8, u16, LittleEndian>(&0x81, &0x8001), [1, 1, 2]);
     same!(rt; counts(&Set::new_le(0xC0u8), &3u8), [2, 0, 0]);

@@ -1,4 +1,5 @@
-//! Sets whose bits are moved, with values worked out by hand and by a loop over their indexes.
+//! Tests of sets that are rotated and shifted. The expected values are worked out by hand, or by a
+//! loop over the indexes.
 
 ghost use Rattle.std.specs.Prelude.{◌<◌, IsTrue};
 
@@ -9,7 +10,7 @@ use bittle::{BigEndian, BitsOwned, Endian, LittleEndian, Set, Shape};
 use bittle_ext::prelude::*;
 use std::process::Abort;
 
-// Returns the set rotated down, rotated up, shifted down and shifted up, each by its distance.
+// Returns the set rotated down, rotated up, shifted down and shifted up, each by its own distance.
 fn moved_each_way<B: BitsOwned>(set: B, by: [u32; 4]) -> [B; 4]
     requires { IsTrue B.indexable }
 {
@@ -21,7 +22,7 @@ fn moved_each_way<B: BitsOwned>(set: B, by: [u32; 4]) -> [B; 4]
     ]
 }
 
-// Returns the same of the set in the order `E`.
+// Calls `moved_each_way` on the set in the order `E`.
 fn moved_each_way_in<B: BitsOwned, E: Endian>(set: B, by: [u32; 4]) -> [B; 4]
     requires { IsTrue B.indexable }
 {
@@ -35,7 +36,7 @@ fn moved_each_way_in<B: BitsOwned, E: Endian>(set: B, by: [u32; 4]) -> [B; 4]
 
 #[test]
 fn a_word(rt: HostRuntime) {
-    // The members 1 and 4.
+    // Bits 1 and 4 are set.
     let word = 0b0001_0010u8;
     let words = moved_each_way(word, [2, 4, 2, 4]);
     same!(rt; words, [0b1000_0100, 0b0010_0001, 0b0000_0100, 0b0010_0000]);
@@ -44,14 +45,14 @@ fn a_word(rt: HostRuntime) {
 
 #[test]
 fn a_word_from_the_left(rt: HostRuntime) {
-    // From the left the members 1 and 4.
+    // In little-endian order, bits 1 and 4 are set.
     let words = moved_each_way_in::<_, LittleEndian>(0b0100_1000u8, [2, 4, 2, 4]);
     same!(rt; words, [0b0010_0001, 0b1000_0100, 0b0010_0000, 0b0000_0100]);
 }
 
 #[test]
 fn distances_past_the_capacity(rt: HostRuntime) {
-    // The members 1 and 4; the greatest distance is one of 7.
+    // Bits 1 and 4 are set. A rotation by `u32::MAX` is a rotation by 7.
     let word = 0b0001_0010u8;
     same!(rt; moved_each_way(word, [8; 4]), [word, word, 0, 0]);
     let words = moved_each_way(word, [10, u32::MAX, u32::MAX, u32::MAX]);
@@ -69,7 +70,7 @@ fn words_of_other_types(rt: HostRuntime) {
 
 #[test]
 fn a_row(rt: HostRuntime) {
-    // The members 0, 7 and 23.
+    // Bits 0, 7 and 23 are set.
     let row = [0x81u8, 0, 0x80];
     let rows = moved_each_way(row, [7, 1, 8, 9]);
     same!(rt; (rows[0], rows[1]), ([0x01, 0, 0x03], [0x03, 0x01, 0]));
@@ -79,13 +80,14 @@ fn a_row(rt: HostRuntime) {
 
 #[test]
 fn a_row_from_the_left(rt: HostRuntime) {
-    // From the left the members 0, 7 and 16.
+    // In little-endian order, bits 0, 7 and 16 are set.
     let rows = moved_each_way_in::<_, LittleEndian>([0x81u8, 0, 0x80], [1, 9, 7, 9]);
     same!(rt; (rows[0], rows[1]), ([0x02, 0x01, 0x01], [0x40, 0x40, 0x80]));
     same!(rt; (rows[2], rows[3]), ([0x80, 0x40, 0], [0, 0x40, 0x80]));
 }
 
-// Returns the same of a pair of sets of any type, which is proved in less time than of nested rows.
+// Calls `moved_each_way` on a pair of sets. The prover needs less time for a generic `[T; 2]` than
+// for `[[u16; 2]; 2]`.
 fn pairs_moved_each_way<T: BitsOwned>(pair: [T; 2], by: [u32; 4]) -> [[T; 2]; 4]
     requires { IsTrue ⟦<[T; 2] as Shape>⟧.indexable }
 {
@@ -94,7 +96,7 @@ fn pairs_moved_each_way<T: BitsOwned>(pair: [T; 2], by: [u32; 4]) -> [[T; 2]; 4]
 
 #[test]
 fn nested_rows(rt: HostRuntime) {
-    // The members 0 and 63.
+    // Bits 0 and 63 are set.
     let rows = pairs_moved_each_way([[1u16, 0], [0, 0x8000]], [33, 17, 48, 1]);
     same!(rt; (rows[0][0], rows[0][1]), ([0, 0xC000], [0, 0]));
     same!(rt; (rows[1][0], rows[1][1]), ([0, 3], [0, 0]));
@@ -104,7 +106,7 @@ fn nested_rows(rt: HostRuntime) {
 
 #[test]
 fn sets(rt: HostRuntime) {
-    // The members 0 and 47.
+    // Bits 0 and 47 are set: of `left` in little-endian order, and of `right` in big-endian order.
     let left = [0x8000u16, 0, 1];
     same!(rt; moved_in::<_, LittleEndian>(1, left, 1), [0xC000, 0, 0]);
     same!(rt; moved_in::<_, LittleEndian>(2, left, 16), [0, 1, 0]);
@@ -113,7 +115,7 @@ fn sets(rt: HostRuntime) {
     same!(rt; moved_in::<_, BigEndian>(3, right, 33), [0, 0, 2]);
 }
 
-// Returns where a bit is moved in one of four ways, unless it is left out.
+// Returns the index to which a bit is moved in one of four ways, or `None` if the bit is left out.
 fn target(way: u32, index: u32, by: u32, capacity: u32) -> Option<u32>
     requires { index < capacity }
 {
@@ -134,7 +136,7 @@ fn target(way: u32, index: u32, by: u32, capacity: u32) -> Option<u32>
     }
 }
 
-// Returns the set with its bits moved in one of four ways, index by index.
+// Returns the set with its bits moved in one of four ways, by a loop over the indexes.
 fn looped<B: BitsOwned, E: Endian>(way: u32, set: &B, by: u32) -> B
     requires { IsTrue B.indexable }
 {
@@ -150,14 +152,14 @@ fn looped<B: BitsOwned, E: Endian>(way: u32, set: &B, by: u32) -> B
     made
 }
 
-// Returns the set with its bits moved in one of four ways, by one call.
+// Returns the set with its bits moved in one of four ways, in the order `E`, by one call.
 fn moved_in<B: BitsOwned, E: Endian>(way: u32, set: B, by: u32) -> B
     requires { IsTrue B.indexable }
 {
     moved(way, Set::<B, E>::new_in(set), by).into_bits()
 }
 
-// Returns the set with its bits moved in the order of the type.
+// Returns the set with its bits moved in one of four ways, in the order of the type, by one call.
 pub(crate) fn moved<B: BitsOwned>(way: u32, set: B, by: u32) -> B
     requires { IsTrue B.indexable }
 {
@@ -169,14 +171,14 @@ pub(crate) fn moved<B: BitsOwned>(way: u32, set: B, by: u32) -> B
     }
 }
 
-// Returns the set with its bits rotated in place, down in the first way and else up.
+// Returns the set with its bits rotated in place: down if `way` is 0, else up.
 pub(crate) fn turned_in<B: BitsOwned, E: Endian>(way: u32, set: B, by: u32) -> B
     requires { IsTrue B.indexable }
 {
     turned(way != 0, Set::<B, E>::new_in(set), by).into_bits()
 }
 
-// Compares rotations in place with the loop, at one distance.
+// Compares rotations in place with the loop, for one distance.
 fn agree_in_place<B: BitsOwned>(rt: &impl Abort, set: B, by: u32)
     requires { IsTrue B.indexable }
 {
@@ -188,7 +190,7 @@ fn agree_in_place<B: BitsOwned>(rt: &impl Abort, set: B, by: u32)
     }
 }
 
-// Compares the calls with the loop, at one distance.
+// Compares the calls with the loop, for one distance.
 fn agree_at<B: BitsOwned>(rt: &impl Abort, set: B, by: u32)
     requires { IsTrue B.indexable }
 {
@@ -202,14 +204,14 @@ fn agree_at<B: BitsOwned>(rt: &impl Abort, set: B, by: u32)
     }
 }
 
-// Asks whether a set is as before where it is rotated up and then down.
+// Returns whether a set that is rotated up and then down is the same as before.
 fn comes_back<B: BitsOwned, E: Endian>(set: B, by: u32) -> bool
     requires { IsTrue B.indexable }
 {
     moved_in::<B, E>(0, moved_in::<B, E>(1, set, by), by) == set
 }
 
-// Compares the calls with the loop, at distances beside those of a word and of the set.
+// Compares the calls with the loop, for distances near the width of a word and near the capacity.
 fn agree<B: BitsOwned>(rt: &impl Abort, width: u32, set: B)
     requires { IsTrue B.indexable }
 {
@@ -232,7 +234,7 @@ fn agree<B: BitsOwned>(rt: &impl Abort, width: u32, set: B)
     }
 }
 
-// Compares the calls on a pair of sets of any type with the loop.
+// Compares the calls on a pair of sets with the loop.
 fn agree_pair<T: BitsOwned>(rt: &impl Abort, width: u32, pair: [T; 2])
     requires { IsTrue ⟦<[T; 2] as Shape>⟧.indexable }
 {
@@ -256,7 +258,7 @@ fn rows_agree_with_a_loop(rt: HostRuntime) {
 
 #[test]
 fn rows_of_other_words_agree_with_a_loop(rt: HostRuntime) {
-    // Words of 8 bits, by two words too.
+    // The words have 8 bits. The argument 16 adds distances near two words.
     agree(&rt, 16, [0xC5u8, 0x3A, 0x91, 0x07, 0xE8]);
     agree(&rt, 64, [0x8F00_0000_0000_0005u64]);
     agree(

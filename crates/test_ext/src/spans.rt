@@ -1,5 +1,5 @@
-//! Ranges as Rust writes them, and ranges that reach past the capacity, with values worked out by
-//! hand and with drawn ones beside plain loops over 24 flags.
+//! Tests of Rust ranges such as `2..=6`, and of ranges that reach past the capacity. The expected
+//! values are worked out by hand, or, for random sets, by plain loops over 24 flags.
 
 ghost use Rattle.std.specs.Prelude.{◌≤◌, IsTrue};
 ghost use Rattle.bittle.specs.Values.{ShapeFits};
@@ -11,10 +11,11 @@ use bittle::{Bits, BitsMut, BitsOwned, Endian, LittleEndian, Set};
 use bittle_ext::prelude::*;
 use std::ops::{Bound, RangeBounds};
 
-// The members are 1, 5 and 6, and from the left 1, 2 and 6.
+// Bits 1, 5 and 6 are set. In little-endian order, these are bits 6, 2 and 1.
 const WORD: u8 = 0b0110_0010;
 
-// Counts the set bits of a range in each form, and the unset bits of two.
+// Counts the set bits of a range of each form, such as `1..6` and `..=5`, and the unset bits of two
+// ranges.
 fn counted_in_each_form<B: Bits>(row: &B) -> ([u32; 7], [u32; 2])
     requires { ShapeFits B.Shape row.now }
 {
@@ -37,7 +38,7 @@ fn each_form_of_a_range_is_counted(rt: HostRuntime) {
     same!(rt; counted_in_each_form(&WORD), ([2, 3, 1, 2, 2, 3, 2], [2, 2]));
 }
 
-// Counts the bits of ranges that reach past a capacity of 8.
+// Counts the set or the unset bits of ranges that reach past a capacity of 8.
 fn counted_past<B: Bits>(row: &B) -> [u32; 4]
     requires { ShapeFits B.Shape row.now }
 {
@@ -49,7 +50,8 @@ fn counted_past<B: Bits>(row: &B) -> [u32; 4]
     ]
 }
 
-// Searches ranges that reach past a capacity of 8, and asks whether any bit of two is set.
+// Searches five ranges that reach past a capacity of 8, and returns whether two more have a set
+// bit.
 fn searched_past<B: Bits>(row: &B) -> ([Option<u32>; 5], [bool; 2])
     requires { ShapeFits B.Shape row.now }
 {
@@ -70,7 +72,7 @@ fn a_range_that_reaches_past_the_capacity_ends_there(rt: HostRuntime) {
     same!(rt; searched_past(&WORD), (ends, [false, true]));
 }
 
-// Counts the bits of a range that runs backwards in three ways.
+// Counts the bits of a backward range, in three ways.
 fn counted_backwards<B: Bits>(row: &B) -> [u32; 3]
     requires { ShapeFits B.Shape row.now }
 {
@@ -81,7 +83,7 @@ fn counted_backwards<B: Bits>(row: &B) -> [u32; 3]
     ]
 }
 
-// Searches a range that runs backwards in three ways.
+// Searches a backward range, in three ways.
 fn searched_backwards<B: Bits>(row: &B) -> [Option<u32>; 3]
     requires { ShapeFits B.Shape row.now }
 {
@@ -93,7 +95,8 @@ fn searched_backwards<B: Bits>(row: &B) -> [Option<u32>; 3]
     ]
 }
 
-// Asks whether any bit of a range that runs backwards is set, and each, and each of another one.
+// Returns whether a backward range has a set bit, whether all its bits are set, and whether all
+// bits of another backward range are set.
 fn questioned_backwards<B: Bits>(row: &B) -> [bool; 3]
     requires { ShapeFits B.Shape row.now }
 {
@@ -111,8 +114,9 @@ fn a_range_that_runs_backwards_is_empty(rt: HostRuntime) {
     same!(rt; questioned_backwards(&WORD), [false, true, true]);
 }
 
-// Asks whether each bit of these ranges is set: one that ends below the capacity of 8, one at it,
-// and one past it, in both forms, and then all bits, none past it and one past it.
+// Returns for nine ranges whether all bits are set. The capacity is 8. The first three ranges end
+// below, at and past the capacity; the next three end twice at it and then past it. The last three
+// are the whole set, an empty range at 9, and the index 8 alone.
 fn all_of_each<B: Bits>(row: &B) -> ([bool; 3], [bool; 3], [bool; 3])
     requires { ShapeFits B.Shape row.now }
 {
@@ -143,7 +147,7 @@ fn all_of_a_range_is_false_where_an_index_is_past_the_capacity(rt: HostRuntime) 
     same!(rt; all_of_each(&0xFFu8), (to_eight, to_eight, all));
 }
 
-// Searches four ranges, and a view of one of them.
+// Searches four ranges, and returns the last set bit of a view of the range `2..`.
 fn searched<B: Bits>(row: &B) -> [Option<u32>; 5]
     requires { ShapeFits B.Shape row.now }
 {
@@ -156,7 +160,7 @@ fn searched<B: Bits>(row: &B) -> [Option<u32>; 5]
     ]
 }
 
-// Counts the set bits of a range, and asks whether any of another one is set.
+// Counts the set bits of a range, and returns whether another range has a set bit.
 fn counted_and_questioned<B: Bits>(row: &B) -> (u32, bool)
     requires { ShapeFits B.Shape row.now }
 {
@@ -170,14 +174,14 @@ fn searches_of_a_range_from_the_left(rt: HostRuntime) {
     same!(rt; counted_and_questioned(&set), (1, false));
 }
 
-// Walks over the set bits from index 2 on, of a range that reaches past the capacity.
+// Returns the set bits that an iterator yields over `2..700`, which reaches past the capacity.
 fn ones_past<B: Bits>(row: &B) -> [Option<u32>; 3]
     requires { ShapeFits B.Shape row.now }
 {
     ones_in_range(row, 2, 700, [FRONT, BACK, FRONT])
 }
 
-// Walks over the unset bits of a range.
+// Takes items from an iterator over the unset bits of a range, one from each of `ends` in turn.
 fn zeros_in_span<B: Bits, R: RangeBounds<u32>, const N: usize>(
     row: &B,
     range: R,
@@ -197,7 +201,7 @@ fn iterators_over_a_range_past_the_capacity(rt: HostRuntime) {
     same!(rt; zeros, [Some(4), Some(7), Some(5)]);
 }
 
-// Clears the first four bits of a set that has them.
+// Clears the first four bits of a set, if its capacity is at least 4.
 #[derive(Drop)]
 struct ClearFour;
 
@@ -211,7 +215,7 @@ impl Change for ClearFour {
     }
 }
 
-// Returns the set after each of five ranges is changed, the last of them in the order `E`.
+// Changes five ranges of a set, the last one in the order `E`. Returns the set after each change.
 fn after_each_range<B: BitsOwned, E: Endian>(mut row: B) -> [B; 5]
     requires indexable { IsTrue B.indexable }
     requires long { 16 ≤ B.type_capacity }
@@ -235,7 +239,7 @@ fn ranges_are_changed(rt: HostRuntime) {
     same!(rt; (fourth, fifth), ([0xFF, 0xF9], [0x0F, 0xF9]));
 }
 
-// Returns a set with a range, and another one without one.
+// Returns `none` with the range `6..=10` set, and `all` with the range `..11` cleared.
 fn with_and_without<B: BitsOwned>(none: B, all: B) -> [B; 2]
     requires indexable { IsTrue B.indexable }
     requires long { 16 ≤ B.type_capacity }
@@ -243,7 +247,7 @@ fn with_and_without<B: BitsOwned>(none: B, all: B) -> [B; 2]
     [none.with_span(6..=10), all.without_span(..11)]
 }
 
-// Returns a set with a range toggled, and another one with its first three bits set.
+// Returns `some` with the range `4..` flipped, and `none` with the range `..3` set.
 fn toggled_and_with<B: BitsOwned>(some: B, none: B) -> [B; 2]
     requires indexable { IsTrue B.indexable }
     requires long { 8 ≤ B.type_capacity }
@@ -261,7 +265,7 @@ fn sets_are_made_of_ranges(rt: HostRuntime) {
     same!(rt; (toggled.into_bits(), with.into_bits()), (0b0011_0011, 0b1110_0000));
 }
 
-// Counts the bits of two ranges of a set of capacity 0, searches two, and walks over one.
+// Counts bits in two ranges of a set of capacity 0, searches two ranges, and iterates over one.
 fn read_nothing<B: Bits>(none: &B) -> ([u32; 2], [Option<u32>; 3])
     requires { ShapeFits B.Shape none.now }
 {
@@ -275,7 +279,8 @@ fn read_nothing<B: Bits>(none: &B) -> ([u32; 2], [Option<u32>; 3])
     (counts, items)
 }
 
-// Asks whether each bit of a set of capacity 0 is set, and any, and each of a range past it.
+// Returns whether all bits of a set of capacity 0 are set, whether any bit is set, and whether all
+// bits of a range past the capacity are set.
 fn question_nothing<B: Bits>(none: &B) -> [bool; 3]
     requires { ShapeFits B.Shape none.now }
 {
@@ -286,7 +291,7 @@ fn question_nothing<B: Bits>(none: &B) -> [bool; 3]
     ]
 }
 
-// Sets all bits of a set of capacity 0, toggles none, and sets all again in a set that is returned.
+// Calls `set_span`, `toggle_span` and `with_span` on a set of capacity 0, and returns the result.
 fn change_nothing<B: BitsOwned>(mut none: B) -> B
     requires { IsTrue B.indexable }
 {
@@ -303,11 +308,11 @@ fn ranges_of_no_bits(rt: HostRuntime) {
     same!(rt; change_nothing(none), []);
 }
 
-// What the calls answer of a range: how many bits are set and unset, the four ends, and whether any
-// bit is set, and each.
+// What the calls return for a range: how many bits are set, and how many unset; the first and the
+// last set bit, and the first and the last unset bit; whether any bit is set, and whether all are.
 type Answers = ((u32, u32), [Option<u32>; 4], (bool, bool));
 
-// Asks each call of a range of a set.
+// Makes each of the eight calls on a range of a set.
 fn answers<B: Bits>(row: &B, range: (Bound<u32>, Bound<u32>)) -> Answers
     requires { ShapeFits B.Shape row.now }
 {
@@ -325,7 +330,7 @@ fn answers<B: Bits>(row: &B, range: (Bound<u32>, Bound<u32>)) -> Answers
     )
 }
 
-// Works the same out of flags, for the numbers from one on and before another.
+// Works out the same answers by a loop over the flags, for the range `from..to`.
 fn expected(flags: &[bool; 24], from: u32, to: u32) -> Answers {
     let mut counts = (0u32, 0u32);
     let mut ends = [None; 4];
@@ -347,7 +352,8 @@ fn expected(flags: &[bool; 24], from: u32, to: u32) -> Answers {
     (counts, ends, (counts.0 > 0, all))
 }
 
-// Draws a row of three bytes, of which many are full, and its flags in an order.
+// Draws three random bytes, about half of them 255. Returns them and their bits as flags, in
+// little-endian order if `left`, else in big-endian order.
 fn draw_row(state: &mut u32, left: bool) -> ([u8; 3], [bool; 24]) {
     let mut row = [0u8; 3];
     let mut flags = [false; 24];

@@ -1,4 +1,4 @@
-//! Sets as binary text, and writers that fail.
+//! Tests of the binary text of a set, written to a string and to a writer that fails.
 
 ghost use Rattle.std.specs.Prelude.{IsTrue};
 ghost use Rattle.bittle.specs.Values.{ShapeFits};
@@ -13,7 +13,7 @@ use std::fmt::Write;
 use std::process::Abort;
 use std::test::Fail;
 
-// Asks for the text of a set.
+// Checks the binary text of a set.
 fn reads<B: Bits>(rt: &impl Abort, alloc: Global, set: &B, text: &str) -> Result<(), AllocError>
     requires { ShapeFits B.Shape set.now }
 {
@@ -22,7 +22,7 @@ fn reads<B: Bits>(rt: &impl Abort, alloc: Global, set: &B, text: &str) -> Result
     Ok(())
 }
 
-// Asks for the text of a set from the left.
+// Checks the binary text of a little-endian set.
 fn left_reads<T: BitsOwned>(
     rt: &impl Abort,
     alloc: Global,
@@ -43,7 +43,7 @@ fn a_word_is_printed_as_its_number(rt: HostRuntime) -> Result<(), Fail> {
 
 #[test]
 fn the_greatest_index_of_the_order_comes_first(rt: HostRuntime) -> Result<(), Fail> {
-    // From the left the members are 2, 5 and 6, and of the row 0 and 14.
+    // In little-endian order, the byte has the members 2, 5 and 6, and the row has 0 and 14.
     left_reads(&rt, rt.alloc(), 0b0010_0110u8, "01100100")?;
     left_reads(&rt, rt.alloc(), [0x80u8, 0x02], "0100000000000001")?;
     reads(
@@ -70,7 +70,7 @@ fn capacity_0_is_the_empty_text(rt: HostRuntime) -> Result<(), Fail> {
     Ok(())
 }
 
-// Takes some texts, and then fails.
+// A writer that accepts `left` texts, and then fails.
 #[derive(Drop)]
 struct Short {
     left: u32,
@@ -86,7 +86,8 @@ impl Write for Short {
     }
 }
 
-// Asks that a text of some digits is an error before each of them, and none after the last.
+// Checks that a set of `digits` bits is written without an error if the writer accepts `digits`
+// texts, and with an error if it accepts fewer.
 fn is_cut_off<B: Bits>(rt: &impl Abort, set: &B, digits: u32)
     requires { ShapeFits B.Shape set.now }
 {

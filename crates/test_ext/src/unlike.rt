@@ -1,5 +1,6 @@
-//! Iterators over what an operation makes of two sets whose words differ in width or in order, with
-//! values worked out by hand, and with drawn ones compared with tests of each bit.
+//! Tests of iterators over the union, intersection, difference and symmetric difference of two sets
+//! whose words differ in width or in bit order. The expected values are worked out by hand, or, for
+//! random sets, by a test of each bit.
 
 ghost use Rattle.std.specs.Prelude.{◌<◌, max};
 ghost use Rattle.bittle_ext.specs.Views.{rounded_up};
@@ -17,7 +18,7 @@ use std::process::Abort;
 
 #[test]
 fn a_byte_and_a_wider_word(rt: HostRuntime) {
-    // Bits 0 and 1 are set, and bits 1, 2 and 8.
+    // `byte` has the members 0 and 1, and `word` has 1, 2 and 8.
     let (byte, word) = (0b0011u8, 0x0106u16);
     let either = union(&byte, &word, [FRONT; 5]);
     same!(rt; either, [Some(0), Some(1), Some(2), Some(8), None]);
@@ -29,7 +30,7 @@ fn a_byte_and_a_wider_word(rt: HostRuntime) {
 
 #[test]
 fn a_byte_and_a_row_of_long_words_from_both_ends(rt: HostRuntime) {
-    // Bits 0 and 7 are set, and bits 1, 7, 8 and 64.
+    // `byte` has the members 0 and 7, and `row` has 1, 7, 8 and 64.
     let (byte, row) = (0x81u8, [0x0182u64, 1]);
     let turns = [FRONT, BACK, BACK, FRONT, FRONT, FRONT, BACK];
     let either = union(&byte, &row, turns);
@@ -40,7 +41,7 @@ fn a_byte_and_a_row_of_long_words_from_both_ends(rt: HostRuntime) {
 
 #[test]
 fn two_rows_each_in_its_own_order(rt: HostRuntime) {
-    // Bits 0, 15 and 33 are set, and from the left bits 0, 33 and 63.
+    // `row` has the members 0, 15 and 33, and the little-endian `set` has 0, 33 and 63.
     let row = [0x8001u16, 0, 2];
     let set: Set<[u32; 2], LittleEndian> = Set::new_le([0x8000_0000, 0x4000_0001]);
     let either = union(&row, &set, [BACK, FRONT, BACK, FRONT, FRONT]);
@@ -52,7 +53,7 @@ fn two_rows_each_in_its_own_order(rt: HostRuntime) {
 
 #[test]
 fn two_widths_from_the_left(rt: HostRuntime) {
-    // From the left bits 0 and 1 are set, and bits 1, 2 and 64.
+    // In little-endian order, `byte` has the members 0 and 1, and `row` has 1, 2 and 64.
     let (byte, row) = (
         0b1100_0000u8,
         [0x6000_0000_0000_0000u64, 0x8000_0000_0000_0000],
@@ -64,7 +65,7 @@ fn two_widths_from_the_left(rt: HostRuntime) {
 
 #[test]
 fn a_capacity_of_no_whole_words_of_the_other(rt: HostRuntime) {
-    // Bit 63 is set, and bits 8 and 71 of a capacity of 72.
+    // `word` has the member 63, and `bytes`, whose capacity is 72, has 8 and 71.
     let (word, bytes) = (0x8000_0000_0000_0000u64, [0u8, 1, 0, 0, 0, 0, 0, 0, 0x80]);
     let either = union(&word, &bytes, [BACK, BACK, BACK, FRONT]);
     same!(rt; either, [Some(71), Some(63), Some(8), None]);
@@ -80,7 +81,7 @@ fn capacity_0(rt: HostRuntime) {
     same!(rt; difference(&wide, &0xFFu8, [BACK]), [None]);
 }
 
-// Makes the set of what a view has, by an iterator from its back.
+// Makes the set of the indexes that an iterator over a view yields from its back.
 #[derive(Drop)]
 struct FromBack;
 
@@ -94,8 +95,8 @@ impl Question for FromBack {
     }
 }
 
-// Makes the set of what an operation makes of two sets, by a walk from both ends in turn or from
-// one of them.
+// Makes the set of the indexes that an iterator over a combination of two sets yields. The items of
+// a union are taken from both ends in turn, and those of another combination from one end.
 fn walked<A: Bits, B: Bits>(kind: u32, one: &A, other: &B) -> [u64; 2]
     requires one_fits { ShapeFits A.Shape one.now }
     requires other_fits { ShapeFits B.Shape other.now }
@@ -114,7 +115,7 @@ fn walked<A: Bits, B: Bits>(kind: u32, one: &A, other: &B) -> [u64; 2]
     set_of(combination(kind, one, other, turns))
 }
 
-// Makes the same by a test of each bit of both.
+// Makes the same set by a test of each bit of both sets.
 fn tested<A: Bits, B: Bits>(kind: u32, one: &A, other: &B) -> [u64; 2]
     requires one_fits { ShapeFits A.Shape one.now }
     requires other_fits { ShapeFits B.Shape other.now }
@@ -130,12 +131,13 @@ fn tested<A: Bits, B: Bits>(kind: u32, one: &A, other: &B) -> [u64; 2]
     made
 }
 
-// Draws a word.
+// Draws a random word.
 fn draw_word(state: &mut u32) -> u64 {
     u64::from(draw(state)) << 40 ^ u64::from(draw(state)) << 20 ^ u64::from(draw(state))
 }
 
-// Compares the walk with the tests of each bit, of two sets and of the same two in turn.
+// Checks that `walked` and `tested` make the same set of `one` and `other`, and of `other` and
+// `one`.
 fn agree<A: Bits, B: Bits>(rt: &impl Abort, kind: u32, one: &A, other: &B)
     requires one_fits { ShapeFits A.Shape one.now }
     requires other_fits { ShapeFits B.Shape other.now }

@@ -1,4 +1,5 @@
-//! Views of sets in a named order, with values worked out by hand.
+//! Tests of views that read or change a set in a named bit order, with expected values worked out
+//! by hand.
 
 ghost use Rattle.std.specs.Prelude.{IsTrue};
 ghost use Rattle.bittle.specs.Values.{ShapeFits};
@@ -9,8 +10,8 @@ use bittle::prelude::*;
 use bittle::{BigEndian, Bits, BitsMut, Endian, LittleEndian, Set};
 use bittle_ext::prelude::*;
 
-/// Returns the capacity, the count of set bits, whether the bit at index 0 is set, and the first
-/// and the last set bit of a set, as a view in the order `E` has them.
+/// Reads a set through a view in the order `E`. Returns the capacity, how many bits are set,
+/// whether bit 0 is set, and the first and the last set bit.
 fn read<B: Bits, E: Endian>(bits: &B) -> (u32, u32, bool, [Option<u32>; 2])
     requires fits { ShapeFits B.Shape bits.now }
     requires indexable { IsTrue B.indexable }
@@ -27,7 +28,7 @@ fn read<B: Bits, E: Endian>(bits: &B) -> (u32, u32, bool, [Option<u32>; 2])
 
 #[test]
 fn a_word_is_read_in_each_order(rt: HostRuntime) {
-    // Bits 0, 1 and 5 are set, and from the left bits 2, 6 and 7.
+    // Bits 0, 1 and 5 are set. In little-endian order, these are bits 7, 6 and 2.
     let word = 0b0010_0011u8;
     same!(rt; read::<_, BigEndian>(&word), (8, 3, true, [Some(0), Some(5)]));
     same!(rt; read::<_, LittleEndian>(&word), (8, 3, false, [Some(2), Some(7)]));
@@ -35,7 +36,7 @@ fn a_word_is_read_in_each_order(rt: HostRuntime) {
 
 #[test]
 fn a_row_and_its_slice_are_read_in_each_order(rt: HostRuntime) {
-    // Bits 0, 7 and 9 are set, and from the left bits 0, 7 and 14.
+    // In big-endian order, bits 0, 7 and 9 are set; in little-endian order, bits 0, 7 and 14.
     let row = [0x81u8, 0x02];
     same!(rt; read::<_, BigEndian>(&row), (16, 3, true, [Some(0), Some(9)]));
     same!(rt; read::<_, LittleEndian>(&row), (16, 3, true, [Some(0), Some(14)]));
@@ -65,8 +66,8 @@ fn capacity_0_is_read(rt: HostRuntime) {
     holds!(rt; view.all_zeros() && view.all_ones());
 }
 
-/// Returns a number whose digits are the set bits as a loop yields them, and what a walk from the
-/// back and then twice from the front yields.
+/// Returns a number whose decimal digits are the indexes that a `for` loop over the set bits
+/// yields. Then returns what another iterator yields once from its back and twice from its front.
 fn iterated<B: Bits>(bits: &B) -> (u32, [Option<u32>; 3])
     requires { ShapeFits B.Shape bits.now }
 {
@@ -80,15 +81,15 @@ fn iterated<B: Bits>(bits: &B) -> (u32, [Option<u32>; 3])
 
 #[test]
 fn a_view_is_iterated_from_both_ends(rt: HostRuntime) {
-    // From the left bits 1, 2 and 6 are set.
+    // In little-endian order, bits 1, 2 and 6 are set.
     let view = 0b0110_0010u8.in_order::<LittleEndian>();
     let (digits, items) = iterated(&view);
     same!(rt; digits, 126);
     same!(rt; items, [Some(6), Some(1), Some(2)]);
 }
 
-/// Flips bit 1, sets bit 0 and clears bit 3, and returns what the calls answered and then how many
-/// bits are set.
+/// Flips bit 1, sets bit 0 and clears bit 3. The answer is what `insert` and `remove` return, and
+/// how many bits are set afterwards.
 #[derive(Drop)]
 struct ThreeBits;
 
@@ -102,7 +103,7 @@ impl Change for ThreeBits {
     }
 }
 
-/// Does the same by a view in the order `E`.
+/// Makes the changes of `ThreeBits` through a view in the order `E`.
 fn changed<B: BitsMut, E: Endian>(bits: &mut B) -> ([bool; 2], u32)
     requires fits { ShapeFits B.Shape bits.old }
     requires indexable { IsTrue B.indexable }
@@ -112,7 +113,7 @@ fn changed<B: BitsMut, E: Endian>(bits: &mut B) -> ([bool; 2], u32)
 
 #[test]
 fn a_word_is_changed_in_each_order(rt: HostRuntime) {
-    // Bit 4 is set, and from the left bit 3.
+    // Bit 4 is set. In little-endian order, it is bit 3.
     let mut right = 0b0001_0000u8;
     same!(rt; (changed::<_, BigEndian>(&mut right), right), (([true, false], 3), 0b0001_0011));
     let mut left = 0b0001_0000u8;
@@ -147,7 +148,8 @@ fn capacity_0_is_changed_by_nothing(rt: HostRuntime) {
     same!(rt; changed::<_, LittleEndian>(&mut none), ([true, false], 0));
 }
 
-/// Takes out the first bit and the last, sets a range and flips all, and returns the two bits.
+/// Takes out the first and the last set bit, sets bits 1 and 2, and flips every bit. The answer is
+/// the two bits that were taken out.
 #[derive(Drop)]
 struct Whole;
 
@@ -162,7 +164,7 @@ impl Change for Whole {
     }
 }
 
-/// Does the same by a view in the order `E`.
+/// Makes the changes of `Whole` through a view in the order `E`.
 fn taken<B: BitsMut, E: Endian>(bits: &mut B) -> [Option<u32>; 2]
     requires fits { ShapeFits B.Shape bits.old }
     requires indexable { IsTrue B.indexable }
@@ -172,7 +174,7 @@ fn taken<B: BitsMut, E: Endian>(bits: &mut B) -> [Option<u32>; 2]
 
 #[test]
 fn a_view_is_changed_as_a_whole(rt: HostRuntime) {
-    // From the left bits 3, 8 and 15 are set.
+    // In little-endian order, bits 3, 8 and 15 are set.
     let mut row = [0x10u8, 0x81];
     same!(rt; taken::<_, LittleEndian>(&mut row), [Some(3), Some(15)]);
     same!(rt; row, [0x9F, 0x7F]);

@@ -1,4 +1,4 @@
-//! Iterators over the maximal runs of a set, with values worked out by hand.
+//! Tests of iterators over the maximal runs of a set, with expected values worked out by hand.
 
 ghost use Rattle.std.specs.Prelude.{IsTrue};
 ghost use Rattle.bittle.specs.Values.{ShapeFits};
@@ -10,7 +10,7 @@ use bittle_ext::prelude::*;
 
 #[test]
 fn the_one_runs_of_a_word(rt: HostRuntime) {
-    // The members 1, 5 and 6; from the left 1, 2 and 6.
+    // Bits 1, 5 and 6 are set. In little-endian order, these are bits 6, 2 and 1.
     let word = 0b0110_0010u8;
     let ones = one_runs(&word, [FRONT, FRONT, FRONT, FRONT, BACK]);
     same!(rt; ones, [Some((1, 2)), Some((5, 7)), None, None, None]);
@@ -20,7 +20,7 @@ fn the_one_runs_of_a_word(rt: HostRuntime) {
 
 #[test]
 fn the_zero_runs_of_a_word(rt: HostRuntime) {
-    // No members are 0, 2, 3, 4 and 7; from the left 0, 3, 4, 5 and 7.
+    // Bits 0, 2, 3, 4 and 7 are unset. In little-endian order, these are bits 7, 5, 4, 3 and 0.
     let word = 0b0110_0010u8;
     let zeros = zero_runs(&word, [FRONT, BACK, FRONT, BACK, FRONT]);
     same!(rt; zeros, [Some((0, 1)), Some((7, 8)), Some((2, 5)), None, None]);
@@ -30,7 +30,7 @@ fn the_zero_runs_of_a_word(rt: HostRuntime) {
 
 #[test]
 fn runs_across_the_words_of_nested_rows(rt: HostRuntime) {
-    // The members 7 to 16 and 31.
+    // Bits 7 to 16 and 31 are set.
     let rows = [[0x80u8, 0xFF], [0x01, 0x80]];
     let ones = one_runs(&rows, [BACK, BACK, BACK, FRONT]);
     same!(rt; ones, [Some((31, 32)), Some((7, 17)), None, None]);
@@ -38,7 +38,8 @@ fn runs_across_the_words_of_nested_rows(rt: HostRuntime) {
     same!(rt; zeros, [Some((0, 7)), Some((17, 31)), None]);
 }
 
-/// Returns the first runs of set bits of a set from the left, and the last run of unset ones.
+/// Makes a little-endian set. Returns its first three runs of set bits, and its last run of unset
+/// bits.
 fn runs_of_left<T: BitsOwned>(left: T) -> ([Option<(u32, u32)>; 3], [Option<(u32, u32)>; 1])
     requires { IsTrue T.indexable }
 {
@@ -48,7 +49,7 @@ fn runs_of_left<T: BitsOwned>(left: T) -> ([Option<(u32, u32)>; 3], [Option<(u32
 
 #[test]
 fn runs_of_a_slice_and_of_a_set(rt: HostRuntime) {
-    // The members 7 and 8; from the left 0 and 15.
+    // Bits 7 and 8 are set. In little-endian order, these are bits 0 and 15.
     let bytes = [0x80u8, 0x01];
     let row: &[u8] = &bytes[..];
     same!(rt; one_runs(&row, [FRONT, BACK]), [Some((7, 9)), None]);
@@ -66,8 +67,8 @@ fn one_run_or_none(rt: HostRuntime) {
     same!(rt; (one_runs(&0u16, [FRONT]), zero_runs(&0u16, [BACK])), ([None], all));
 }
 
-// Walks over the runs of set bits from the front, and by a clone of the iterator from the back and
-// then from the front.
+// Returns the runs of set bits that an iterator yields from its front. Then returns those that its
+// clone yields once from the back and twice from the front.
 fn one_runs_and_of_a_clone<B: Bits>(bits: &B) -> [[Option<(u32, u32)>; 3]; 2]
     requires { ShapeFits B.Shape bits.now }
 {

@@ -1,4 +1,4 @@
-//! How the program meets readers and writers that fail, by each kind of error and at each time.
+//! What the program does if a read, a write or a flush fails, with each kind of error.
 
 use crate::checks::same;
 use crate::streams::{Sink, Source, ran, status_into, status_of};
@@ -6,12 +6,12 @@ use std::cmp::min;
 use std::io::ErrorKind;
 use std::process::Abort;
 
-/// A script, and what it prints.
+/// A script that prints `PRINTED`.
 const SCRIPT: &[u8] = b"be u8\nset 0\ntest 8\nclear 8\ntest 0\n";
 
 const PRINTED: &[u8] = b"true\nfalse\n";
 
-/// Each kind of error but that of an interruption.
+/// Each kind of error except `Interrupted`.
 const KINDS: [ErrorKind; 41] = [
     ErrorKind::NotFound,
     ErrorKind::PermissionDenied,
@@ -105,7 +105,7 @@ fn a_flush_that_is_interrupted_after_a_write_was_fails(rt: HostRuntime) {
 
 #[test]
 fn reads_that_are_interrupted_after_some_bytes_are_made_again(rt: HostRuntime) {
-    // The script has 34 bytes; the last read sees the end.
+    // The script has 34 bytes. Three reads are interrupted, and the last read finds the end.
     for (most, sound, calls) in [
         (100, 34, 5),
         (4, 4, 13),
@@ -126,7 +126,7 @@ fn reads_that_are_interrupted_after_some_bytes_are_made_again(rt: HostRuntime) {
 
 #[test]
 fn writes_that_are_each_interrupted_are_made_again(rt: HostRuntime) {
-    // Each piece of the eleven bytes is written at the second call.
+    // Eleven bytes are written. The first write of each piece is interrupted, the second succeeds.
     for (most, writes) in [(100, 2), (11, 2), (10, 4), (3, 8), (1, 22)] {
         let mut output = Sink::new();
         output.most = most;
@@ -137,7 +137,7 @@ fn writes_that_are_each_interrupted_are_made_again(rt: HostRuntime) {
     }
 }
 
-/// Runs a script that is refused, into outputs that are interrupted once and at each write.
+/// Runs a refused script. Interrupts the first write, the first five, or the first of each piece.
 fn refuses_when_interrupted(rt: &impl Abort, input: &[u8], printed: &[u8]) {
     for (interruptions, stutters) in [(1, false), (5, false), (0, true)] {
         for most in [100, 7, 1] {
@@ -170,7 +170,7 @@ fn a_failed_read_is_told_after_interruptions(rt: HostRuntime) {
     }
 }
 
-/// Runs a command with empty lines after it, of so many bytes in all.
+/// Runs a script of `len` bytes, at least 12: a header, a `test`, and empty lines.
 fn reads_length(rt: &impl Abort, len: usize) {
     let mut text = [b'\n'; 4096];
     text[..13].copy_from_slice(b"be u8\ntest 0\n");

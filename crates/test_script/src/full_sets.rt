@@ -1,4 +1,5 @@
-//! Sets that are filled one by one, in each shape and both orders: their counts and their indexes.
+//! Sets whose bits are set one after another, in each shape and in both orders: what `count` and
+//! `ones` print.
 
 use crate::checks::same;
 use crate::streams::{Source, Tally, ran};
@@ -7,13 +8,13 @@ use std::alloc::Global;
 use std::process::Abort;
 use std::test::Fail;
 
-/// Sets the 32 first bits.
+/// Sets bits 0 to 31.
 const SETS: &[u8] = b"set 0\nset 1\nset 2\nset 3\nset 4\nset 5\nset 6\nset 7\n\
     set 8\nset 9\nset 10\nset 11\nset 12\nset 13\nset 14\nset 15\n\
     set 16\nset 17\nset 18\nset 19\nset 20\nset 21\nset 22\nset 23\n\
     set 24\nset 25\nset 26\nset 27\nset 28\nset 29\nset 30\nset 31\n";
 
-/// Sets the 32 first bits, and counts after each.
+/// Sets bits 0 to 31, and counts after each one.
 const FILLS: &[u8] = b"set 0\ncount\nset 1\ncount\nset 2\ncount\nset 3\ncount\n\
     set 4\ncount\nset 5\ncount\nset 6\ncount\nset 7\ncount\n\
     set 8\ncount\nset 9\ncount\nset 10\ncount\nset 11\ncount\n\
@@ -23,15 +24,15 @@ const FILLS: &[u8] = b"set 0\ncount\nset 1\ncount\nset 2\ncount\nset 3\ncount\n\
     set 24\ncount\nset 25\ncount\nset 26\ncount\nset 27\ncount\n\
     set 28\ncount\nset 29\ncount\nset 30\ncount\nset 31\ncount\n";
 
-/// The indexes of a full set of 32.
+/// What `ones` prints for a full set of 32 bits.
 const MEMBERS: &[u8] = b"0 1 2 3 4 5 6 7 8 9 10 11 12 13 14 15 16 17 18 19 20 21 22 23 \
     24 25 26 27 28 29 30 31\n";
 
-/// What is printed at the counts of a set of 32.
+/// What the counts of `FILLS` print for a set of 32 bits.
 const COUNTS: &[u8] = b"1\n2\n3\n4\n5\n6\n7\n8\n9\n10\n11\n12\n13\n14\n15\n16\n\
     17\n18\n19\n20\n21\n22\n23\n24\n25\n26\n27\n28\n29\n30\n31\n32\n";
 
-/// Runs the script of a header, lines that fill the set, and a line that lists it.
+/// Runs a script of a header, the lines of `FILLS` and a line `ones`, and checks what it prints.
 fn fills(
     rt: &impl Abort,
     alloc: Global,
@@ -69,7 +70,7 @@ fn sets_of_32_are_filled(rt: HostRuntime) -> Result<(), Fail> {
 
 #[test]
 fn sets_of_8_are_filled(rt: HostRuntime) -> Result<(), Fail> {
-    // From the ninth on each index wraps to one that is set.
+    // From 8 on, each index wraps to a bit that is set already.
     let counts = b"1\n2\n3\n4\n5\n6\n7\n8\n\
         8\n8\n8\n8\n8\n8\n8\n8\n8\n8\n8\n8\n8\n8\n8\n8\n8\n8\n8\n8\n8\n8\n8\n8\n";
     for header in [b"be u8\n", b"le u8\n"] {
@@ -80,7 +81,7 @@ fn sets_of_8_are_filled(rt: HostRuntime) -> Result<(), Fail> {
 
 #[test]
 fn writes_long_answers_in_17_pieces(rt: HostRuntime) -> Result<(), Fail> {
-    // The script has 10 + 214 + 774 * 5 = 4,094 bytes, and lists 86 bytes 774 times.
+    // The script has 10 + 214 + 774 * 5 = 4,094 bytes. Each of the 774 `ones` prints 86 bytes.
     let mut script = Vec::from_slice(rt.alloc(), b"be u8x2x2\n")?;
     script.extend_from_slice(SETS)?;
     for _ in 0..774 {

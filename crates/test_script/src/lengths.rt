@@ -1,4 +1,5 @@
-//! Scripts of lengths drawn from all that are read, and answers of lengths drawn up to two pieces.
+//! Scripts of many lengths up to the limit of 4,096 bytes, and outputs of many lengths up to 8,192
+//! bytes, which are written in two pieces.
 
 use crate::checks::same;
 use crate::streams::{Sink, Source, Tally, status_of};
@@ -6,10 +7,10 @@ use bittle_script::run;
 use std::cmp::min;
 use std::process::Abort;
 
-/// More bytes than a script may have.
+/// The most bytes that a `Script` holds: a few more than the program accepts, 4,096.
 const ROOM: usize = 4100;
 
-/// A script that is put together.
+/// Collects the bytes of a script.
 #[derive(Drop)]
 struct Script {
     bytes: [u8; ROOM],
@@ -37,8 +38,8 @@ impl Script {
     }
 }
 
-/// Returns a script of so many bytes, from 12 on, that prints a zero: its first line, empty lines,
-/// and one count.
+/// Returns a script of `length` bytes, at least 12: its first line, empty lines, and one `count`,
+/// which prints 0.
 fn script_of(length: usize) -> Script {
     let mut script = Script::new();
     script.put(b"be u8\n");
@@ -49,9 +50,9 @@ fn script_of(length: usize) -> Script {
     script
 }
 
-/// Runs scripts of lengths from 12 to 4,096: the shortest ones, the longest ones, and between them
-/// every 89th from `first` on. Each is read in pieces of at most `most` bytes, after so many calls
-/// that are interrupted.
+/// Runs scripts of 12 to 4,096 bytes: the shortest and the longest ones, and between them those of
+/// every 89th length from `first` on. The first `interruptions` reads are interrupted. Each other
+/// read returns at most `most` bytes.
 fn read_lengths(rt: &impl Abort, first: usize, most: usize, interruptions: u32) {
     for length in 12..=4096 {
         if length < 40 || length > 4084 || length % 89 == first {
@@ -86,7 +87,7 @@ fn scripts_of_many_lengths_are_read_in_small_pieces_after_interruptions(rt: Host
     read_lengths(&rt, 71, 7, 2);
 }
 
-/// Returns a text of 4,096 bytes that is refused at its first line.
+/// Returns a text of 4,096 bytes whose first line the program refuses.
 fn refused_text() -> Script {
     let mut text = Script::new();
     text.put(b"?");
@@ -96,7 +97,8 @@ fn refused_text() -> Script {
     text
 }
 
-/// Reads the beginning of the text that is refused, of so many bytes, in pieces of at most `most`.
+/// Runs the first `length` bytes of a text, read in pieces of at most `most` bytes, and checks that
+/// the program refuses the first line.
 fn reads_and_refuses(rt: &impl Abort, text: &[u8], length: usize, most: usize) {
     let mut input = Source::new(&text[..min(length, text.len())]);
     input.most = most;
@@ -115,7 +117,7 @@ fn a_text_of_each_length_is_read_at_once(rt: HostRuntime) {
 
 #[test]
 fn a_text_is_read_in_pieces_of_each_length(rt: HostRuntime) {
-    // Pieces of 2,048 bytes and more are two: that many, and what is left.
+    // If `most` is 2,048 or more, two reads are enough: one of `most` bytes, and one of the rest.
     let text = refused_text();
     for most in 1..=4096 {
         reads_and_refuses(&rt, text.text(), 4096, most);
@@ -138,7 +140,7 @@ fn a_script_that_is_longer_is_refused_in_each_way(rt: HostRuntime) {
 
 #[test]
 fn each_beginning_of_a_script_is_answered(rt: HostRuntime) {
-    // A first line is whole from its fifth byte on; `count` is from the eleventh.
+    // The first line, `be u8`, is complete from 5 bytes on, and the line `count` from 11 bytes on.
     let script = script_of(12);
     for length in 0..=12 {
         let text = script.text();
@@ -157,8 +159,8 @@ fn each_beginning_of_a_script_is_answered(rt: HostRuntime) {
     }
 }
 
-/// Returns a script that prints so many bytes, from 18 on: a full byte's eight members, 16 bytes,
-/// and for what is left over counts of 2 bytes and tests of 5.
+/// Returns a script that prints `length` bytes, at least 18. Each `ones` prints the members of a
+/// full byte, which are 16 bytes. Each `count` prints 2. If `length` is odd, one `test` prints 5.
 fn script_that_prints(length: usize) -> Script {
     let mut script = Script::new();
     script.put(b"be u8\nset 0\nset 1\nset 2\nset 3\nset 4\nset 5\nset 6\nset 7\n");
@@ -176,8 +178,9 @@ fn script_that_prints(length: usize) -> Script {
     script
 }
 
-/// Prints answers of lengths up to two pieces of 4,096 bytes: short ones, those where a piece is
-/// full, and between them every 101st from `first` on. Each write is interrupted once or never.
+/// Checks outputs of 18 to 8,192 bytes: the shortest ones, those that about fill one or two pieces
+/// of 4,096 bytes, and between them every 101st length from `first` on. If `stutters` is set, the
+/// first write of each piece is interrupted.
 fn print_lengths(rt: &impl Abort, first: usize, stutters: bool) {
     for length in 18..=8192 {
         let is_near = length < 60 || length > 4085 && length < 4105 || length > 8180;

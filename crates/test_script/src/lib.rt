@@ -1,4 +1,5 @@
-//! Tests of the program: what scripts print, and how it meets readers and writers that fail.
+//! Tests of `bittle_script`: what scripts print, and what the program does if a read, a write or a
+//! flush fails.
 #![tactic(auto)]
 
 #[cfg(test)]

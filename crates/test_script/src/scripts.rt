@@ -1,4 +1,4 @@
-//! What scripts print, and how the program meets bad readers and writers.
+//! What scripts print, and what the program does if reads or writes fail.
 
 use crate::checks::{holds, same};
 use crate::streams::{Sink, Source, ran, status_into, status_of};
@@ -6,7 +6,7 @@ use std::alloc::{AllocError, Global};
 use std::io::ErrorKind;
 use std::test::Fail;
 
-/// A script, and what it prints.
+/// A script that prints `PRINTED`.
 const SCRIPT: &[u8] = b"be u8\nset 0\ntest 8\nclear 8\ntest 0\n";
 
 const PRINTED: &[u8] = b"true\nfalse\n";
@@ -91,7 +91,7 @@ fn knows_each_shape_in_both_orders(rt: HostRuntime) -> Result<(), Fail> {
     Ok(())
 }
 
-/// Returns a script of a header, so many empty lines and a last line.
+/// Returns a script: the header `be u8`, `empty_lines` empty lines, and a last line.
 fn spaced(alloc: Global, empty_lines: u32, last: &str) -> Result<Vec<u8>, AllocError> {
     let mut text = Vec::from_slice(alloc, b"be u8\n")?;
     for _ in 0..empty_lines {
@@ -132,7 +132,7 @@ fn reads_texts_of_every_length(rt: HostRuntime) -> Result<(), Fail> {
 
 #[test]
 fn makes_at_most_8192_reads(rt: HostRuntime) -> Result<(), Fail> {
-    // The end is seen by the last read; by no read; the byte too much comes with the last read.
+    // In these rows read 8,192 returns: no byte (the end), byte 4,096, byte 4,097, byte 4,096.
     for (empty_lines, interruptions, status, printed) in [
         (4090, 4095, 0, ""),
         (4090, 4096, 2, "read failed\n"),
@@ -158,7 +158,7 @@ fn gives_up_on_bad_readers(rt: HostRuntime) {
     let mut output = Sink::new();
     same!(rt; status_of(&mut torn, &mut output), 2);
     same!(rt; output.text(), b"read failed\n".as_slice());
-    // The read that fails comes after the first bytes, and is not made again.
+    // The second read fails, and is not repeated.
     same!(rt; torn.calls, 2);
 
     let mut interrupted = Source::new(b"be u8\n");
@@ -189,7 +189,7 @@ fn writes_all_to_slow_writers(rt: HostRuntime) {
 
 #[test]
 fn writes_4096_bytes_at_once(rt: HostRuntime) -> Result<(), Fail> {
-    // Each line of answers has 16 bytes.
+    // Each `ones` prints a line of 16 bytes.
     for (lines, writes, len) in [(0, 0, 0), (256, 1, 4096), (257, 2, 4112)] {
         let script = b"be u8\nset 0\nset 1\nset 2\nset 3\nset 4\nset 5\nset 6\nset 7\n";
         let mut text = Vec::from_slice(rt.alloc(), script)?;
@@ -228,7 +228,7 @@ fn gives_up_on_bad_writers(rt: HostRuntime) {
 
 #[test]
 fn gives_up_on_a_write_that_fails_midway(rt: HostRuntime) {
-    // It takes two bytes, or the first line, and fails at the next call.
+    // The first write takes two bytes, or five (the first line). The second write fails.
     for (most, sound, printed) in [(2, 2, b"tr".as_slice()), (5, 5, b"true\n".as_slice())] {
         let mut output = Sink::new();
         output.most = most;
@@ -242,7 +242,7 @@ fn gives_up_on_a_write_that_fails_midway(rt: HostRuntime) {
 
 #[test]
 fn counts_interrupted_writes_of_the_whole_run(rt: HostRuntime) {
-    // The first six bytes are interrupted 4,096 times, and the others as often or once less.
+    // 4,096 writes are interrupted before the first six bytes, 4,095 or 4,096 before the others.
     for (later, status, printed) in [(4095, 0, PRINTED), (4096, 1, b"true\nf".as_slice())] {
         let mut output = Sink::new();
         output.most = 6;

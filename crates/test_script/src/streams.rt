@@ -1,4 +1,4 @@
-//! Readers and writers that fail in the ways that a test asks for.
+//! Readers and writers that are interrupted or fail as a test says.
 ghost use Rattle.std.specs.Prelude.{◌≤◌, length};
 
 use bittle_script::run;
@@ -6,23 +6,23 @@ use std::cmp::min;
 use std::io;
 use std::io::{Error, ErrorKind, Read, Write};
 
-/// Is interrupted some times, returns some bytes, is interrupted again, returns the others, and
-/// then ends or fails.
+/// Reads from given bytes. The first reads are interrupted, and so are some reads after `sound`
+/// bytes. At the end of the bytes a read returns 0 bytes, or fails.
 #[derive(Drop)]
 pub struct Source<'a> {
     bytes: &'a [u8],
     given: usize,
-    /// How often it is interrupted before it returns a byte.
+    /// How many reads are interrupted before the first byte.
     pub interruptions: u32,
-    /// How many bytes it returns before it is interrupted again.
+    /// How many bytes are returned before reads are interrupted again.
     pub sound: usize,
-    /// How often it is interrupted then.
+    /// How many reads are interrupted after `sound` bytes.
     pub later_interruptions: u32,
-    /// The most bytes that it returns at once.
+    /// The most bytes that one read returns.
     pub most: usize,
-    /// The error that it ends with, or none.
+    /// The error of each read at the end of the bytes. With `None`, a read there returns 0 bytes.
     pub end: Option<ErrorKind>,
-    /// How often it was called.
+    /// How many reads were made.
     pub calls: u32,
 }
 
@@ -67,28 +67,29 @@ impl Read for Source<'_> {
 /// How many bytes a `Sink` holds.
 const ROOM: usize = 5000;
 
-/// Is interrupted some times, takes some bytes, is interrupted again, and then takes more or fails.
+/// Keeps the bytes that are written. The first writes are interrupted, and so are some writes after
+/// `sound` bytes. Then writes succeed or fail.
 #[derive(Drop)]
 pub struct Sink {
     bytes: [u8; ROOM],
     taken: usize,
-    /// How often it is interrupted before it takes a byte.
+    /// How many writes are interrupted before the first byte.
     pub interruptions: u32,
-    /// How many bytes it takes before it is interrupted again.
+    /// How many bytes are taken before writes are interrupted again.
     pub sound: usize,
-    /// How often it is interrupted then.
+    /// How many writes are interrupted after `sound` bytes.
     pub later_interruptions: u32,
-    /// Whether each write is interrupted once before it takes a byte.
+    /// Whether every second write is interrupted, the first one included.
     pub stutters: bool,
-    /// The most bytes that it takes at once.
+    /// The most bytes that one write takes.
     pub most: usize,
-    /// The error of each write from then on, or none.
+    /// The error of each write after `sound` bytes and the later interruptions, or `None`.
     pub write_fault: Option<ErrorKind>,
-    /// The error of each flush, or none.
+    /// The error of each flush, or `None`.
     pub flush_fault: Option<ErrorKind>,
-    /// How often it was written to.
+    /// How many writes were made.
     pub writes: u32,
-    /// How often it was flushed.
+    /// How many flushes were made.
     pub flushes: u32,
     /// Whether the last call was a flush.
     pub is_flushed: bool,
@@ -112,7 +113,7 @@ impl Sink {
         }
     }
 
-    /// What was written.
+    /// Returns the bytes that were taken.
     pub fn text(&self) -> &[u8] {
         &self.bytes[..min(self.taken, ROOM)]
     }
@@ -162,14 +163,14 @@ impl Write for Sink {
     }
 }
 
-/// Takes all, and counts the calls and the bytes.
+/// Takes all bytes, and counts them and the writes.
 #[derive(Drop)]
 pub struct Tally {
-    /// How often it was written to.
+    /// How many writes were made.
     pub writes: u32,
-    /// How many bytes it took.
+    /// How many bytes were taken.
     pub bytes: usize,
-    /// Whether each write is interrupted once before it takes a byte.
+    /// Whether every second write is interrupted, the first one included.
     pub stutters: bool,
 }
 
@@ -208,7 +209,7 @@ pub fn status_into(script: &[u8], output: &mut Sink) -> u8 {
     run(&mut Source::new(script), output).code()
 }
 
-/// Runs a script, and returns the status and what got the answers.
+/// Runs a script, and returns the status and the `Sink` that took the output.
 pub fn ran(script: &[u8]) -> (u8, Sink) {
     let mut output = Sink::new();
     let status = run(&mut Source::new(script), &mut output);

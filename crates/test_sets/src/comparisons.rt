@@ -1,4 +1,4 @@
-//! Equality, order and hash of sets, with values worked out by hand.
+//! Equality, order and hash of sets, compared with values worked out by hand.
 
 use crate::checks::{holds, same};
 use bittle::prelude::*;
@@ -31,22 +31,22 @@ fn a_word_compares_with_a_slice(rt: HostRuntime) {
 
 #[test]
 fn each_side_is_compared_in_its_own_order(rt: HostRuntime) {
-    // The indexes 0 and 15.
+    // One set is {0}, the other is {15}.
     holds!(rt; !Set::new_le(0x80u8).eq_bits(&Set::new(0x8000u16)));
     holds!(rt; !Set::new(0x8000u16).eq_bits(&Set::new_le(0x80u8)));
-    // The indexes 0 and 7.
+    // One set is {0}, the other is {7}.
     holds!(rt; !Set::new_le(0x80u8).eq_bits(&0x80u8));
     same!(rt; Set::new_le(0x80u8).cmp_bits(&0x80u8), Ordering::Less);
     same!(rt;
         Set::new(0x80u8).cmp_bits(&Set::new_le(0x80u8)),
         Ordering::Greater
     );
-    // The index 0 on both sides.
+    // Both sets are {0}.
     holds!(rt; Set::new_le(0x80u8).eq_bits(&Set::new(1u16)));
     holds!(rt; Set::new(1u16).eq_bits(&Set::new_le(0x80u8)));
 }
 
-// Sets in the order of their increasing indexes: none, 0, 0 1, 0 2, 1, 1 2 3, 1 3, 7.
+// Sets from the least to the greatest: {}, {0}, {0, 1}, {0, 2}, {1}, {1, 2, 3}, {1, 3}, {7}.
 const INCREASING: [u8; 8] = [0, 1, 0b11, 0b101, 0b10, 0b1110, 0b1010, 0x80];
 
 #[test]
@@ -67,7 +67,7 @@ fn sets_are_compared_in_their_order(rt: HostRuntime) {
     holds!(rt; Set::from_ref(&[1u8]) == Set::from_ref(&[1u8, 0]));
 }
 
-// A hasher that keeps the numbers that it is fed.
+// A hasher that keeps the first four numbers that are written to it.
 #[derive(Drop)]
 struct Fed {
     numbers: [u32; 4],
@@ -103,7 +103,7 @@ impl Hasher for Fed {
     }
 }
 
-// Asks for the numbers that a hasher is fed, and for their count.
+// Checks which numbers `hash` writes to a hasher for a value, and how many they are.
 fn feeds<T: Hash>(rt: &impl Abort, value: &T, want: [u32; 4], count: usize) {
     let mut hasher = Fed {
         numbers: [0; 4],

@@ -1,4 +1,4 @@
-//! Tests of `Set`: its calls, its comparisons and its text, each from outside the library.
+//! Tests of `Set`: its calls, comparisons and debug text. Also the debug texts of `replay`'s types.
 #![tactic(auto)]
 
 #[cfg(test)]

@@ -1,4 +1,4 @@
-//! The debug texts of the calls, replies, orders and steps of a run.
+//! The debug texts of the types of `replay`: calls, replies, orders and steps.
 
 use crate::checks::same;
 use bittle::replay::{Call, Reply, Side, Step};
@@ -7,7 +7,7 @@ use std::fmt::Debug;
 use std::process::Abort;
 use std::test::Fail;
 
-// Asks for the debug text of a value.
+// Checks the debug text of a value.
 fn reads<T: Debug>(
     rt: &impl Abort,
     alloc: Global,

@@ -1,4 +1,4 @@
-//! Sets and what they answer, with values worked out by hand.
+//! Calls and operators of `Set`, compared with values worked out by hand.
 
 ghost use Rattle.std.specs.Iterator.{IsFinite};
 ghost use Rattle.std.specs.Prelude.{IsTrue};
@@ -43,7 +43,7 @@ fn a_set_of_an_array(rt: HostRuntime) {
     );
 }
 
-// Asks for members in the order of the type, and sets another index.
+// Checks that all `members` are set and that `index` is not. Then sets `index`.
 fn gains<B: BitsMut>(rt: &impl Abort, bits: &mut B, members: &[u32], index: u32)
     requires { IsTrue B.indexable }
 {
@@ -62,7 +62,7 @@ fn an_array_of_sets_is_read_in_the_default_order(rt: HostRuntime) {
     same!(rt; <[Set<u8, LittleEndian>; 2]>::bits(), 16);
 }
 
-// Whether an iterator yields just these items.
+// Returns whether an iterator yields exactly these items.
 fn yields<W: Iterator<Item = u32>>(walk: W, items: &[u32]) -> bool
     requires can { W.can_next walk }
     requires finite { IsFinite (W.remaining walk) }
@@ -70,28 +70,29 @@ fn yields<W: Iterator<Item = u32>>(walk: W, items: &[u32]) -> bool
     walk.eq(items.iter().copied())
 }
 
-// Whether an iterator in the order of the type yields just these items.
+// Returns whether an iterator in the order of the type yields exactly these items.
 fn walks<B: Bits>(bits: &B, items: &[u32]) -> bool
     requires { ShapeFits B.Shape bits.now }
 {
     yields(bits.iter_ones(), items)
 }
 
-// Whether an iterator in little-endian order yields just these items.
+// Returns whether an iterator in little-endian order yields exactly these items.
 fn walks_le<B: Bits>(bits: &B, items: &[u32]) -> bool
     requires { ShapeFits B.Shape bits.now }
 {
     yields(bits.iter_ones_le(), items)
 }
 
-// Whether iterators in the order of the type and in little-endian order yield just these items.
+// Returns whether an iterator in the order of the type yields exactly `items`, and one in
+// little-endian order exactly `little`.
 fn walks_each_way<B: Bits>(bits: &B, items: &[u32], little: &[u32]) -> bool
     requires { ShapeFits B.Shape bits.now }
 {
     walks(bits, items) && walks_le(bits, little)
 }
 
-// Whether a loop by value and one by reference take just these items.
+// Returns whether `into_iter` of the set and of a reference to it yield exactly these items.
 fn iterates<T: BitsOwned, E: Endian>(set: Set<T, E>, items: &[u32]) -> bool {
     yields((&set).into_iter(), items) && yields(set.into_iter(), items)
 }
@@ -104,7 +105,7 @@ fn sets_are_walked_in_their_order(rt: HostRuntime) {
     holds!(rt; iterates(Set::new([8u8, 0]), &[3]));
     holds!(rt; iterates(Set::new_le([8u8, 0]), &[4]));
 
-    // Inside an array a set is read in the default order.
+    // Inside an array, a set is read in the default (big-endian) order.
     let sets = [Set::new_le(0x80u8), Set::new_le(0x01)];
     holds!(rt; walks_each_way(&sets, &[7, 8], &[0, 15]));
 }
@@ -132,7 +133,7 @@ fn an_operator_changes_the_slice_that_was_lent(rt: HostRuntime) {
     same!(rt; right, [4]);
 }
 
-// The indexes 1 and 65, and the indexes 65 and 110.
+// The sets {1, 65} and {65, 110}.
 fn two_sets() -> (Set<[u32; 4]>, Set<[u32; 4]>) {
     (set![1, 65], set![65, 110])
 }
@@ -231,7 +232,7 @@ fn next<W: Iterator>(walk: &mut W) -> Option<W::Item>
     walk.next()
 }
 
-// Asks for the steps of an iterator over references.
+// Checks what an iterator over references yields, step by step.
 fn steps<'a, W: Iterator<Item = &'a u8>>(rt: &impl Abort, mut walk: W, expected: &[Option<u8>])
     requires { (w : W) → W.can_next w }
 {
@@ -240,14 +241,14 @@ fn steps<'a, W: Iterator<Item = &'a u8>>(rt: &impl Abort, mut walk: W, expected:
     }
 }
 
-// Asks for the steps of a join in the default order.
+// Checks what a join in the default order yields, step by step.
 fn joins<B: Bits>(rt: &impl Abort, mask: &B, items: &[u8], expected: &[Option<u8>])
     requires { ShapeFits B.Shape mask.now }
 {
     steps(rt, mask.join_ones(items.iter()), expected);
 }
 
-// Asks for the steps of a join in little-endian order.
+// Checks what a join in little-endian order yields, step by step.
 fn joins_le<B: Bits>(rt: &impl Abort, mask: &B, items: &[u8], expected: &[Option<u8>])
     requires { ShapeFits B.Shape mask.now }
 {

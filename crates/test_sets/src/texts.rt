@@ -8,7 +8,7 @@ use std::fmt::{Debug, Write};
 use std::process::Abort;
 use std::test::Fail;
 
-// Asks for the debug text of a value.
+// Checks the debug text of a value.
 fn reads<S: Debug>(
     rt: &impl Abort,
     alloc: Global,
@@ -69,7 +69,7 @@ fn the_text_of_a_full_set(rt: HostRuntime) -> Result<(), Fail> {
     Ok(())
 }
 
-// Takes some texts, and then fails.
+// A writer that takes `left` pieces of text, and then fails.
 #[derive(Drop)]
 struct Short {
     left: u32,
@@ -85,7 +85,8 @@ impl Write for Short {
     }
 }
 
-// Asks that a text of some pieces is an error before each of them, and none after the last.
+// Checks that the debug text of a value has `pieces` pieces: writing it fails if the writer takes
+// fewer, and succeeds if the writer takes that many.
 fn is_cut_off<S: Debug>(rt: &impl Abort, value: &S, pieces: u32) {
     for left in 0..pieces {
         let mut short = Short { left };
@@ -98,18 +99,18 @@ fn is_cut_off<S: Debug>(rt: &impl Abort, value: &S, pieces: u32) {
 
 #[test]
 fn a_text_that_was_cut_off_is_an_error(rt: HostRuntime) {
-    // The two braces, the two indexes and what is between them.
+    // Five pieces: two braces, two indexes, and the comma between them.
     let set: Set<u16> = set![1, 14];
     is_cut_off(&rt, &set, 5);
 
-    // The two braces.
+    // Two pieces: the braces.
     let set: Set<u16> = set![];
     is_cut_off(&rt, &set, 2);
 }
 
 #[test]
 fn a_long_text_that_was_cut_off_is_an_error(rt: HostRuntime) {
-    // The two braces, the four indexes and what is between them.
+    // Nine pieces: two braces, four indexes, and three commas between them.
     let set: Set<[u64; 160]> = set![42, 201, 1_000, 10_000];
     is_cut_off(&rt, &set, 9);
 }

@@ -1,11 +1,11 @@
-//! Entities with components.
+//! Entities that get and lose components.
 
 use crate::checks::{holds, same};
 use crate::drawn::draw;
 use bit_entities::{Answer, Event, World};
 use bittle::{Bits, BitsOwned, LittleEndian, Set};
 
-// Events of which some name a dead entity or no component. On a byte 9 would wrap to 1.
+// Events. Some name a dead entity or a missing component. In a `u8`, entity 9 would wrap to 1.
 const EVENTS: [Event; 13] = [
     Event::Spawn,
     Event::Spawn,
@@ -22,7 +22,7 @@ const EVENTS: [Event; 13] = [
     Event::Detach(9, 1),
 ];
 
-// Returns what has to be answered.
+// Returns the expected answers to the events.
 fn expected() -> [Answer; 13] {
     let mut answers = [Answer::Refused; 13];
     answers[0] = Answer::Spawned(0);
@@ -42,8 +42,9 @@ fn serve<B: BitsOwned>(world: &mut World<B, 2>) -> [Answer; 13] {
     answers
 }
 
-// Returns how many entities are alive, have component 0, have component 1, and have a third one;
-// and the first of each.
+// Returns how many entities are alive, how many have component 0, how many have component 1, and
+// how many have components 1 and 2 (there is no component 2). Also returns the first entity of each
+// of these four kinds.
 fn asked<B: BitsOwned>(world: &World<B, 2>) -> ([u32; 4], [Option<u32>; 4]) {
     let (alive, zero, one, two) = (
         world.matching(&[]),
@@ -90,7 +91,7 @@ fn entities_in_the_other_order(rt: HostRuntime) {
     same!(rt; world.first_with(&[1], 1), None);
 }
 
-// The example of the crate's first page.
+// The example at the top of the crate `bit_entities`.
 #[test]
 fn the_example(rt: HostRuntime) {
     let mut world = World::<u64, 2>::new();
@@ -101,7 +102,7 @@ fn the_example(rt: HostRuntime) {
     holds!(rt; !world.has(1, 0) && !world.has(1, 1));
 }
 
-// Spawns as often as asked, and returns the last answer.
+// Spawns `often` times, and returns what the last spawn returns.
 fn spawn_often<B: BitsOwned, const N: usize>(world: &mut World<B, N>, often: u32) -> Option<u32> {
     let mut last = None;
     for _ in 0..often {
@@ -134,7 +135,8 @@ fn no_entities_and_no_components(rt: HostRuntime) {
     same!(rt; (bare.matching(&[]), bare.matching(&[0])), (1, 0));
 }
 
-// Gives a component of plain tables of 32 entities, or takes it.
+// Gives a component to an entity in plain tables of 32 entities, or takes it away. Returns the
+// expected answer.
 fn change_tables(
     alive: &[bool; 32],
     has: &mut [[bool; 3]; 32],
@@ -150,7 +152,7 @@ fn change_tables(
     }
 }
 
-// Answers a drawn event from plain tables.
+// Applies an event to the plain tables, and returns the expected answer.
 fn ask_tables(event: Event, alive: &mut [bool; 32], has: &mut [[bool; 3]; 32]) -> Answer {
     match event {
         Event::Spawn => {
@@ -176,7 +178,7 @@ fn ask_tables(event: Event, alive: &mut [bool; 32], has: &mut [[bool; 3]; 32]) -
     }
 }
 
-// Returns which entities of the tables have both components.
+// Returns which entities of the tables are alive and have both components.
 fn matches_of(alive: &[bool; 32], has: &[[bool; 3]; 32], one: u32, other: u32) -> [bool; 32] {
     let mut matches = [false; 32];
     for entity in 0..32usize {
@@ -188,8 +190,8 @@ fn matches_of(alive: &[bool; 32], has: &[[bool; 3]; 32], one: u32, other: u32) -
     matches
 }
 
-// Returns which entities a query visits that goes from each one found to the next, and whether it
-// visits them in increasing order, as often as the mask has them.
+// Finds the entities that have the required components, by calls of `first_with` one after another.
+// Returns which ones were found, and whether they are exactly those of `matching`, each found once.
 fn visited<B: BitsOwned>(world: &World<B, 3>, required: &[u32]) -> ([bool; 32], bool) {
     let mut seen = [false; 32];
     let mut from = 0;
@@ -209,7 +211,7 @@ fn visited<B: BitsOwned>(world: &World<B, 3>, required: &[u32]) -> ([bool; 32], 
     (seen, is_same)
 }
 
-// Draws an event, which may name a dead entity or no component. A third are spawns.
+// Draws an event. A third are spawns. Some events name a dead entity or a missing component.
 fn draw_event(state: &mut u32) -> Event {
     let (kind, entity, component) = (draw(state) % 6, draw(state) % 34, draw(state) % 4);
     match kind {
@@ -220,7 +222,8 @@ fn draw_event(state: &mut u32) -> Event {
     }
 }
 
-// Returns whether a world answers drawn events as plain tables do, and what is visited after each.
+// Returns whether a world answers drawn events as plain tables do, and whether queries find the
+// same entities after each event.
 fn are_as_tables<B: BitsOwned>(world: &mut World<B, 3>, seed: u32, many: u32) -> bool {
     let mut state = seed;
     let (mut alive, mut has) = ([false; 32], [[false; 3]; 32]);
@@ -249,7 +252,7 @@ fn drawn_events_in_the_other_order(rt: HostRuntime) {
     holds!(rt; are_as_tables::<Set<u32, LittleEndian>>(&mut world, 11, 300));
 }
 
-// On a byte 9 would wrap to 1; the other order has bit 0 at the other end.
+// In a `u8`, entity 9 would wrap to 1. In little-endian order entity 0 is the leftmost bit.
 #[test]
 fn a_world_of_those_of_a_mask(rt: HostRuntime) {
     let mut world = World::<u8, 2>::with_alive(0b1000_1011);

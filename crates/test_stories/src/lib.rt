@@ -1,5 +1,6 @@
-//! Tests of the ready queues, of roles, of entities, of slots with generations and of runs of pages:
-//! values worked out by hand, and drawn histories beside a plain model.
+//! Tests of ready queues, of roles, of entities, of slots with generations and of runs of pages.
+//! Results are compared with values worked out by hand. The results of drawn (pseudo-random) calls
+//! are compared with those of a plain model.
 #![tactic(auto)]
 
 #[cfg(test)]

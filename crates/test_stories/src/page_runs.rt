@@ -1,4 +1,5 @@
-//! Runs of pages: values worked out by hand, and drawn calls beside a row of `bool`s.
+//! Runs of pages, compared with values worked out by hand. Drawn (pseudo-random) calls are compared
+//! with an array of flags, one for each page.
 
 ghost use Rattle.std.specs.Prelude.{◌≡◌};
 ghost use Rattle.bittle.specs.Shapes.{Fits};
@@ -72,7 +73,7 @@ fn runs_past_the_last_page(rt: HostRuntime) {
     same!(rt; pages.taken(), 8);
 }
 
-// Returns whether the pages `first..first + length` of sixteen all have the value.
+// Returns whether the pages `first..first + length` all exist and have the flag `value`.
 fn all_are(taken: &[bool; 16], first: u32, length: u32, value: bool) -> bool {
     for page in first..first.saturating_add(length) {
         match taken.get(page as usize) {
@@ -83,7 +84,7 @@ fn all_are(taken: &[bool; 16], first: u32, length: u32, value: bool) -> bool {
     true
 }
 
-// Returns the first page of sixteen from which so many are free.
+// Returns the first of sixteen pages where a run of `length` free pages begins.
 fn first_free(taken: &[bool; 16], length: u32) -> Option<u32> {
     for first in 0..16 {
         if all_are(taken, first, length, false) {
@@ -93,7 +94,7 @@ fn first_free(taken: &[bool; 16], length: u32) -> Option<u32> {
     None
 }
 
-// Writes a value to each of the pages that there are.
+// Writes a flag to each of the pages `first..first + length` that exist.
 fn assign(taken: &mut [bool; 16], first: u32, length: u32, value: bool) {
     for page in first..first.saturating_add(length) {
         if page < 16 {
@@ -102,7 +103,7 @@ fn assign(taken: &mut [bool; 16], first: u32, length: u32, value: bool) {
     }
 }
 
-// Returns whether each page is taken as the row says, and they are counted.
+// Returns whether the taken pages of the allocator, and their number, are those of the flags.
 fn agrees<B: BitsOwned>(pages: &Pages<B>, taken: &[bool; 16]) -> bool {
     let mut count = 0u32;
     for page in 0..16u32 {
@@ -116,7 +117,7 @@ fn agrees<B: BitsOwned>(pages: &Pages<B>, taken: &[bool; 16]) -> bool {
     pages.taken() == count
 }
 
-// Returns whether 40 drawn calls on sixteen pages answer as the row says.
+// Returns whether 40 drawn calls on sixteen pages return what the flags say.
 fn drawn<B: BitsOwned>(seed: u64) -> bool
     requires fits { Fits B.indexable B.type_capacity }
     requires sixteen { B.type_capacity ≡ 16 }
@@ -155,7 +156,7 @@ fn drawn_runs(rt: HostRuntime) {
     holds!(rt; drawn::<[u8; 2]>(3) && drawn::<Set<[u8; 2], LittleEndian>>(4));
 }
 
-// Answers a request by the row.
+// Applies a request to the flags, and returns the expected answer.
 fn answer(taken: &mut [bool; 16], request: Request) -> Answer {
     match request {
         Request::Take => match first_free(taken, 1) {
@@ -177,7 +178,7 @@ fn answer(taken: &mut [bool; 16], request: Request) -> Answer {
     }
 }
 
-// Gives so many pages back, if there are such and all are taken.
+// Frees the pages `first..first + length` in the flags if all of them exist and are taken.
 fn give_back(taken: &mut [bool; 16], first: u32, length: u32) -> Answer {
     if 16 < first.saturating_add(length) || !all_are(taken, first, length, true) {
         return Answer::NotTaken;
@@ -186,7 +187,7 @@ fn give_back(taken: &mut [bool; 16], first: u32, length: u32) -> Answer {
     Answer::Given
 }
 
-// Returns whether 40 drawn requests on sixteen pages are answered as the row says.
+// Returns whether 40 drawn requests on sixteen pages are answered as the flags say.
 fn drawn_requests<B: BitsOwned>(seed: u64) -> bool
     requires fits { Fits B.indexable B.type_capacity }
     requires sixteen { B.type_capacity ≡ 16 }

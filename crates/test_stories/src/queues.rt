@@ -1,4 +1,4 @@
-//! Queues by urgency and by turns.
+//! Ready queues: by urgency (`PriorityQueue`) and in turns (`RoundRobin`).
 
 ghost use Rattle.bittle.specs.Shapes.{Fits};
 
@@ -8,7 +8,7 @@ use bit_queue::{Answer, Event, NoTask, PriorityQueue, RoundRobin};
 use bittle::{BitsOwned, LittleEndian, Set};
 use std::test::Fail;
 
-// Events of which some wake what is ready already, or what is no task where there are eight.
+// Events. Some wake a task that is ready already, or task 300, which does not exist.
 const EVENTS: [Event; 9] = [
     Event::Wake(5),
     Event::Wake(2),
@@ -21,7 +21,7 @@ const EVENTS: [Event; 9] = [
     Event::Next,
 ];
 
-// Serves them by urgency.
+// Serves the events by urgency.
 fn serve_by_urgency<B: BitsOwned>() -> [Answer; 9]
     requires { Fits B.indexable B.type_capacity }
 {
@@ -31,7 +31,7 @@ fn serve_by_urgency<B: BitsOwned>() -> [Answer; 9]
     answers
 }
 
-// Serves them in turns.
+// Serves the events in turns.
 fn serve_in_turn<B: BitsOwned>() -> [Answer; 9]
     requires { Fits B.indexable B.type_capacity }
 {
@@ -41,7 +41,7 @@ fn serve_in_turn<B: BitsOwned>() -> [Answer; 9]
     answers
 }
 
-// Returns the answers, whose second and third runs differ.
+// Returns the expected answers. The queues differ in which tasks run as the second and the third.
 fn answers_of(second: u32, third: u32) -> [Answer; 9] {
     [
         Answer::Woken,
@@ -124,7 +124,8 @@ fn a_task_that_is_woken_at_each_step_lets_the_others_run(rt: HostRuntime) {
     }
 }
 
-// Answers an event by flags, where the search goes from a task on and round.
+// Applies an event to an array of flags, and returns the expected answer. The search for a task
+// starts at `from` and wraps around.
 fn answer_by_flags(event: Event, from: usize, ready: &mut [bool; 24]) -> Answer {
     match event {
         Event::Wake(task) => match ready.get_mut(task as usize) {
@@ -148,7 +149,7 @@ fn answer_by_flags(event: Event, from: usize, ready: &mut [bool; 24]) -> Answer 
     }
 }
 
-// Gives an event to a queue by urgency.
+// Gives an event to a queue by urgency, and returns the answer.
 fn give_urgent<B: BitsOwned>(event: Event, queue: &mut PriorityQueue<B>) -> Answer {
     match event {
         Event::Wake(task) => match queue.wake(task) {
@@ -162,7 +163,7 @@ fn give_urgent<B: BitsOwned>(event: Event, queue: &mut PriorityQueue<B>) -> Answ
     }
 }
 
-// Gives an event to a queue by turns.
+// Gives an event to a queue in turns, and returns the answer.
 fn give_in_turn<B: BitsOwned>(event: Event, queue: &mut RoundRobin<B>) -> Answer {
     match event {
         Event::Wake(task) => match queue.wake(task) {
@@ -176,7 +177,7 @@ fn give_in_turn<B: BitsOwned>(event: Event, queue: &mut RoundRobin<B>) -> Answer
     }
 }
 
-// Returns whether a queue by urgency answers drawn events as flags do.
+// Returns whether a queue by urgency answers drawn events as an array of flags does.
 fn is_urgent_as_flags<B: BitsOwned>() -> bool
     requires { Fits B.indexable B.type_capacity }
 {
@@ -197,7 +198,7 @@ fn drawn_events_by_urgency(rt: HostRuntime) {
     holds!(rt; is_urgent_as_flags::<Set<[u8; 3], LittleEndian>>());
 }
 
-// Returns whether a queue by turns answers drawn events as flags do.
+// Returns whether a queue in turns answers drawn events as an array of flags does.
 fn is_in_turn_as_flags<B: BitsOwned>() -> bool
     requires { Fits B.indexable B.type_capacity }
 {

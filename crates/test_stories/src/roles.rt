@@ -1,4 +1,4 @@
-//! Roles that inherit.
+//! Roles that inherit permissions from a parent.
 
 use crate::checks::{holds, same};
 use crate::drawn::draw;
@@ -6,7 +6,8 @@ use bit_roles::{Answer, Refused, Request, Roles};
 use bittle::{BitsOwned, LittleEndian, Set};
 use std::test::Fail;
 
-// Requests of which some name no role, no permission or no lesser parent.
+// Requests. Some name a role or a permission that does not exist, or a parent that is not less than
+// the role.
 const REQUESTS: [Request; 8] = [
     Request::Grant(0, 7),
     Request::Inherit(2, 0),
@@ -18,7 +19,8 @@ const REQUESTS: [Request; 8] = [
     Request::Inherit(4, 0),
 ];
 
-// Serves them with four roles, and returns the answers with what roles 0 to 3 allow of 7 and 1.
+// Serves the requests with four roles. Returns the answers, and whether each of the roles allows
+// permissions 7 and 1.
 fn serve<B: BitsOwned>(roles: &mut Roles<B, 4>) -> ([Answer; 8], [(bool, bool); 4]) {
     let mut answers = [Answer::Done; 8];
     roles.serve(&REQUESTS, &mut answers);
@@ -29,7 +31,7 @@ fn serve<B: BitsOwned>(roles: &mut Roles<B, 4>) -> ([Answer; 8], [(bool, bool); 
     (answers, allowed)
 }
 
-// Returns what has to be answered where there are from 8 to 200 permissions.
+// Returns what `serve` has to return where there are 8 to 200 permissions.
 fn expected() -> ([Answer; 8], [(bool, bool); 4]) {
     let mut answers = [Answer::Refused; 8];
     answers[0] = Answer::Done;
@@ -81,14 +83,14 @@ fn a_parent_in_place_of_another(rt: HostRuntime) -> Result<(), Fail> {
     holds!(rt; roles.allows(2, 3) && !roles.is_granted(2, 3));
     same!(rt; roles.inherit(2, 1), Ok(()));
     holds!(rt; !roles.allows(2, 3) && roles.allows(0, 3));
-    // Number 11 is no permission, and does not wrap to 3.
+    // There is no permission 11, and 11 does not wrap to 3.
     holds!(rt; !roles.allows(0, 11) && !roles.is_granted(0, 11));
     let text = format!(in rt.alloc(); "{Refused}")?;
     same!(rt; text.as_str(), "no such role, permission or parent");
     Ok(())
 }
 
-// Makes a drawn request of plain tables of six roles and 32 permissions.
+// Applies a request to plain tables of six roles and 32 permissions. Returns the expected answer.
 fn ask_tables(
     request: Request,
     granted: &mut [[bool; 32]; 6],
@@ -114,7 +116,7 @@ fn ask_tables(
     }
 }
 
-// Returns what the tables allow each role: what it was granted, and what its parent allows.
+// Returns what each role of the tables allows: what it was granted, and what its parent allows.
 fn allowed_of(granted: &[[bool; 32]; 6], parents: &[Option<u32>; 6]) -> [[bool; 32]; 6] {
     let mut allowed = *granted;
     for role in 0..6usize {
@@ -129,7 +131,7 @@ fn allowed_of(granted: &[[bool; 32]; 6], parents: &[Option<u32>; 6]) -> [[bool; 
     allowed
 }
 
-// Returns what roles allow.
+// Returns which of 32 permissions each of six roles allows.
 fn allowed_by<B: BitsOwned>(roles: &Roles<B, 6>) -> [[bool; 32]; 6] {
     let mut allowed = [[false; 32]; 6];
     for role in 0..6u32 {
@@ -140,7 +142,8 @@ fn allowed_by<B: BitsOwned>(roles: &Roles<B, 6>) -> [[bool; 32]; 6] {
     allowed
 }
 
-// Draws a request, which may name no role, no permission or no lesser parent.
+// Draws a request. Some name a role or a permission that does not exist, or a parent that is not
+// less than the role.
 fn draw_request(state: &mut u32) -> Request {
     let (role, number) = (draw(state) % 7, draw(state));
     if number % 2 == 0 {
@@ -150,7 +153,8 @@ fn draw_request(state: &mut u32) -> Request {
     }
 }
 
-// Returns whether roles answer drawn requests as plain tables do, and allow the same after each.
+// Returns whether roles answer drawn requests as plain tables do, and allow the same permissions
+// after each request.
 fn are_as_tables<B: BitsOwned>(roles: &mut Roles<B, 6>) -> bool {
     let mut state = 5;
     let (mut granted, mut parents) = ([[false; 32]; 6], [None; 6]);

@@ -1,5 +1,5 @@
-//! Drawn histories beside a list of every key that was ever given, with its value and whether it
-//! was removed.
+//! Drawn (pseudo-random) calls on slots, compared with a list. The list has every key that `insert`
+//! returned, its value, and whether it was removed.
 
 ghost use Rattle.std.specs.Prelude.{◌≤◌};
 ghost use Rattle.bittle.specs.Shapes.{Fits};
@@ -8,7 +8,7 @@ use crate::checks::holds;
 use bit_slots::{Key, Slot, Slots};
 use bittle::{BitsOwned, LittleEndian, Set};
 
-// The keys that were given, one a step, with their values and whether each is still there.
+// The list: the key that `insert` returned at each step, its value, and whether it is still in use.
 #[derive(Drop)]
 struct Given {
     keys: [Option<Key>; 48],
@@ -16,7 +16,7 @@ struct Given {
     there: [bool; 48],
 }
 
-// Returns how many of the keys are still there.
+// Returns how many of the keys are still in use.
 fn count(given: &Given) -> u32 {
     let mut count = 0u32;
     for step in 0..48 {
@@ -27,12 +27,12 @@ fn count(given: &Given) -> u32 {
     count
 }
 
-// Returns what a key finds, if it was given.
+// Returns the value that a key finds. Without a key, returns `None`.
 fn found<B: BitsOwned>(slots: &Slots<u64, B>, key: Option<Key>) -> Option<u64> {
     slots.get(key?).copied()
 }
 
-// Returns whether each key that was ever given finds just what the list says.
+// Returns whether each key finds what the list says, and whether `len` and `iter` agree with it.
 fn agrees<B: BitsOwned>(slots: &Slots<u64, B>, given: &Given) -> bool {
     for step in 0..48 {
         let expected = if given.there[step] {
@@ -47,8 +47,8 @@ fn agrees<B: BitsOwned>(slots: &Slots<u64, B>, given: &Given) -> bool {
     slots.len() == count(given) && walks(slots, given)
 }
 
-// Returns whether an iterator yields just the keys that are still there, each with its value, in
-// the order of their slots.
+// Returns whether an iterator yields exactly the keys that are still in use, each with its value,
+// in the order of their slots.
 fn walks<B: BitsOwned>(slots: &Slots<u64, B>, given: &Given) -> bool {
     let mut next = 0u32;
     let mut yielded = 0u32;
@@ -68,7 +68,8 @@ fn walks<B: BitsOwned>(slots: &Slots<u64, B>, given: &Given) -> bool {
     yielded == count(given)
 }
 
-// Puts a value in, and returns whether the answer is as the list says of five slots.
+// Inserts a value. Returns whether the key is a new one. If there is no key, returns whether the
+// value came back and all five slots are in use.
 fn put<B: BitsOwned>(
     slots: &mut Slots<u64, B>,
     given: &mut Given,
@@ -89,7 +90,7 @@ fn put<B: BitsOwned>(
     }
 }
 
-// Removes the key of a step, and returns whether the answer is as the list says.
+// Removes the key of step `step`, if there is one. Returns whether the list predicts the result.
 fn cut<B: BitsOwned>(slots: &mut Slots<u64, B>, given: &mut Given, step: usize) -> bool {
     if 48 <= step {
         return true;
@@ -106,7 +107,8 @@ fn cut<B: BitsOwned>(slots: &mut Slots<u64, B>, given: &mut Given, step: usize) 
     }
 }
 
-// Changes the value of the key of a step, and returns whether the answer is as the list says.
+// Adds 7 to the value at the key of step `step`, if there is one. Returns whether the list predicts
+// the result.
 fn change<B: BitsOwned>(slots: &mut Slots<u64, B>, given: &mut Given, step: usize) -> bool {
     if 48 <= step {
         return true;
@@ -122,7 +124,7 @@ fn change<B: BitsOwned>(slots: &mut Slots<u64, B>, given: &mut Given, step: usiz
     }
 }
 
-// Returns whether 48 drawn calls on five slots answer as the list says.
+// Returns whether 48 drawn calls on five slots return what the list predicts.
 fn drawn<B: BitsOwned>(seed: u64) -> bool
     requires fits { Fits B.indexable B.type_capacity }
     requires enough { 5 ≤ B.type_capacity }

@@ -1,4 +1,4 @@
-//! Keys of values that come and go.
+//! Keys of slots: which keys find a value after values were inserted, changed and removed.
 
 use crate::checks::{holds, same};
 use bit_slots::{Key, Slot, Slots};

@@ -1,10 +1,10 @@
-//! Rows that a caller lends.
+//! Rows of slots that a caller lends.
 
 use crate::checks::{holds, same};
 use bit_slots::{Slot, Slots};
 use bittle::{LittleEndian, Set};
 
-// A value that is moved, and not copied.
+// A value that can be moved, but not copied.
 #[derive(Drop, Debug, PartialEq)]
 struct Name {
     number: u64,

@@ -1,4 +1,4 @@
-//! Calls at any set: a test names the type, and a function here makes the calls.
+//! Generic functions that make calls on sets of any type. A test chooses the type.
 
 ghost use Rattle.std.specs.Prelude.{IsTrue};
 ghost use Rattle.bittle.specs.Values.{ShapeFits};
@@ -8,17 +8,17 @@ use bittle::{Bits, BitsMut, BitsOwned, Endian};
 use bittle_ext::BitsExt;
 use bittle_tiers::Kind;
 
-/// Returns how many numbers a type has.
+/// Returns the capacity of the sets of a type, or `u32::MAX` if its shape does not fit.
 pub(crate) fn bits<B: BitsOwned>() -> u32 {
     B::bits()
 }
 
-/// Returns how many numbers a set has.
+/// Returns the capacity of a set, or `u32::MAX` if its shape does not fit.
 pub(crate) fn capacity<B: Bits>(set: &B) -> u32 {
     set.bits_capacity()
 }
 
-/// Returns the set of a type with none of its numbers, or with each.
+/// Returns the full set of a type if `all` is `true`, and else the empty set.
 pub(crate) fn even<B: BitsOwned>(all: bool) -> B
     requires { IsTrue B.indexable }
 {
@@ -42,28 +42,28 @@ pub(crate) fn ends_of_ones<B: Bits>(set: &B) -> [Option<u32>; 2]
     [first(set.iter_ones()), last(set.iter_ones())]
 }
 
-/// Returns the first and the last number that is no member.
+/// Returns the indexes of the first and the last unset bit.
 pub(crate) fn ends_of_zeros<B: Bits>(set: &B) -> [Option<u32>; 2]
     requires { ShapeFits B.Shape set.now }
 {
     [first(set.iter_zeros()), last(set.iter_zeros())]
 }
 
-/// Returns how many members there are, whether there are none, and whether each number is one.
+/// Returns how many members a set has, whether it is empty, and whether it is full.
 pub(crate) fn whole<B: Bits>(set: &B) -> (u32, bool, bool)
     requires { ShapeFits B.Shape set.now }
 {
     (set.count_ones(), set.all_zeros(), set.all_ones())
 }
 
-/// Returns whether a number is a member.
+/// Returns whether the bit at an index is set. The index wraps at the capacity.
 pub(crate) fn has<B: Bits>(set: &B, index: u32) -> bool
     requires { IsTrue B.indexable }
 {
     set.test_bit(index)
 }
 
-/// Returns the set with some indexes in an order.
+/// Returns the set after the bits at some indexes are set, in the order `E`. The indexes wrap.
 pub(crate) fn with<B: BitsOwned, E: Endian>(set: B, indexes: &[u32]) -> B
     requires { IsTrue B.indexable }
 {
@@ -74,7 +74,7 @@ pub(crate) fn with<B: BitsOwned, E: Endian>(set: B, indexes: &[u32]) -> B
     set
 }
 
-/// Returns the set without some indexes.
+/// Returns the set after the bits at some indexes are cleared. The indexes wrap.
 pub(crate) fn without<B: BitsOwned>(set: B, indexes: &[u32]) -> B
     requires { IsTrue B.indexable }
 {
@@ -85,7 +85,8 @@ pub(crate) fn without<B: BitsOwned>(set: B, indexes: &[u32]) -> B
     set
 }
 
-/// Returns the set after a range is set, cleared or toggled.
+/// Returns the set after a range is set (if `kind` is 0), cleared (if it is 1), or else toggled.
+/// Indexes past the capacity are left out.
 pub(crate) fn with_range<B: BitsMut, E: Endian>(set: B, kind: u32, from: u32, to: u32) -> B
     requires { ShapeFits B.Shape set }
 {
@@ -100,7 +101,8 @@ pub(crate) fn with_range<B: BitsMut, E: Endian>(set: B, kind: u32, from: u32, to
     set
 }
 
-/// Searches for the first and the last bit of each kind in a range.
+/// Returns the first and the last set bit in a range, and the first and the last unset bit. Indexes
+/// past the capacity are left out.
 pub(crate) fn searches<B: Bits, E: Endian>(set: &B, from: u32, to: u32) -> [Option<u32>; 4]
     requires { ShapeFits B.Shape set.now }
 {
@@ -114,7 +116,8 @@ pub(crate) fn searches<B: Bits, E: Endian>(set: &B, from: u32, to: u32) -> [Opti
     ]
 }
 
-/// Returns where the first run of so many members begins, and of so many numbers that are none.
+/// Returns the index where the first run of `length` set bits begins, and the index where the first
+/// run of `length` unset bits begins.
 pub(crate) fn first_runs<B: Bits>(set: &B, length: u32) -> [Option<u32>; 2]
     requires { ShapeFits B.Shape set.now }
 {

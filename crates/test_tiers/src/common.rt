@@ -1,4 +1,4 @@
-//! What two drawn sets have in common, compared with lists that a plain loop makes.
+//! Tests the common members of two random sets against a list that a plain loop makes.
 
 ghost use Rattle.std.specs.Prelude.{IsTrue};
 ghost use Rattle.bittle.specs.Values.{ShapeFits};
@@ -11,7 +11,7 @@ use bittle_ext::BitsViewExt;
 use bittle_tiers::{Kind, Ones, Tiered};
 use std::process::Abort;
 
-// The numbers that two sets have in common, in increasing order.
+// The common members of two sets, in increasing order. Their number is `many`.
 #[derive(Drop)]
 struct Common {
     items: [u32; 40],
@@ -19,7 +19,7 @@ struct Common {
 }
 
 impl Common {
-    // Adds a number that is greater than each before.
+    // Appends a number, which should be greater than those in the list. A full list stays as it is.
     fn add(&mut self, item: u32) {
         if let Some(place) = self.items.get_mut(self.many as usize) {
             *place = item;
@@ -27,7 +27,7 @@ impl Common {
         }
     }
 
-    // Returns the number at a place of the list.
+    // Returns the number at a place of the list, or `None` past its end.
     fn at(&self, place: u32) -> Option<u32> {
         if place < self.many {
             self.items.get(place as usize).copied()
@@ -37,8 +37,8 @@ impl Common {
     }
 }
 
-// Draws how far the next number lies: in the same word, in the next one, in the same 64 words, or
-// any way off up to a bound.
+// Returns a random distance to the next number: 1 to 7, just 64 (one word), 1 to 4,096 (64 words),
+// or 1 to `most`.
 fn draw_gap(state: &mut u32, most: u32) -> u32 {
     let kind = draw(state) % 4;
     let any = draw(state);
@@ -50,8 +50,8 @@ fn draw_gap(state: &mut u32, most: u32) -> u32 {
     }
 }
 
-// Draws two sets of no members, and returns what they have in common: of each number that is drawn,
-// one of them has it or both have.
+// Adds random numbers to two empty sets, and returns the common members. It adds each number to one
+// of the sets, or to both.
 fn draw_both<A: BitsMut, B: BitsMut, E: Endian, F: Endian>(
     state: &mut u32,
     one: &mut A,
@@ -85,8 +85,8 @@ fn draw_both<A: BitsMut, B: BitsMut, E: Endian, F: Endian>(
     common
 }
 
-// Asks both ends of an iterator for each number of the list, and steps it to its end, from either
-// end as drawn.
+// Steps an iterator to its end, each time from a random end. Tests that it yields the numbers of
+// the list.
 fn ask_steps<B: Bits, E: Endian, K: Kind>(
     rt: &impl Abort,
     state: &mut u32,
@@ -111,7 +111,7 @@ fn ask_steps<B: Bits, E: Endian, K: Kind>(
     }
 }
 
-// Asks a set for the numbers of the list.
+// Tests that the members of a set are the numbers of the list.
 fn ask_members<B: Bits>(rt: &impl Abort, state: &mut u32, set: &B, members: &Common)
     requires { ShapeFits B.Shape set.now }
 {
@@ -119,7 +119,7 @@ fn ask_members<B: Bits>(rt: &impl Abort, state: &mut u32, set: &B, members: &Com
     compare(rt, "count", set.iter_ones().count(), members.many as usize);
 }
 
-// Asks what two sets have in common for the numbers of the list.
+// Tests that the common members of two sets are the numbers of the list.
 fn ask_common<A: Bits, B: Bits>(
     rt: &impl Abort,
     state: &mut u32,
@@ -133,7 +133,7 @@ fn ask_common<A: Bits, B: Bits>(
     ask_members(rt, state, &one.and(other), common);
 }
 
-// Draws pairs of sets from a seed on, and asks each pair for what it has in common.
+// Makes random pairs of sets, beginning with a seed. Tests the common members of each pair.
 fn agree_on_common<A: BitsOwned, B: BitsOwned>(rt: &impl Abort, seed: u32, pairs: u32)
     requires one { IsTrue A.indexable }
     requires other { IsTrue B.indexable }
@@ -149,7 +149,8 @@ fn agree_on_common<A: BitsOwned, B: BitsOwned>(rt: &impl Abort, seed: u32, pairs
     }
 }
 
-// The same of any set and of one with a summary, which is proved in less time than of a usual size.
+// Does the same as `agree_on_common` for any set and a set with a summary. The calls are proved in
+// less time than for a set of a usual size.
 fn agree_on_any_and_tier<A: BitsOwned, B: BitsOwned, T: BitsOwned>(
     rt: &impl Abort,
     seed: u32,
@@ -161,7 +162,7 @@ fn agree_on_any_and_tier<A: BitsOwned, B: BitsOwned, T: BitsOwned>(
     agree_on_common::<A, Tiered<B, T, Ones>>(rt, seed, pairs);
 }
 
-// The same of two sets with a summary.
+// Does the same as `agree_on_common` for two sets with summaries.
 fn agree_on_tiers<A: BitsOwned, S: BitsOwned, B: BitsOwned, T: BitsOwned>(
     rt: &impl Abort,
     seed: u32,
@@ -173,14 +174,14 @@ fn agree_on_tiers<A: BitsOwned, S: BitsOwned, B: BitsOwned, T: BitsOwned>(
     agree_on_any_and_tier::<Tiered<A, S, Ones>, B, T>(rt, seed, pairs);
 }
 
-// The same of two sets with the same summary.
+// Does the same as `agree_on_tiers` for two sets of the same type.
 fn agree_on_same_tiers<B: BitsOwned, S: BitsOwned>(rt: &impl Abort, seed: u32, pairs: u32)
     requires { IsTrue ⟦<Tiered<B, S, Ones> as Shape>⟧.indexable }
 {
     agree_on_tiers::<B, S, B, S>(rt, seed, pairs);
 }
 
-// The same of two sets with the same summary, which has a summary.
+// Does the same as `agree_on_same_tiers` for summaries that have summaries themselves.
 fn agree_on_two_tiers<B: BitsOwned, S: BitsOwned, T: BitsOwned>(
     rt: &impl Abort,
     seed: u32,
@@ -191,7 +192,7 @@ fn agree_on_two_tiers<B: BitsOwned, S: BitsOwned, T: BitsOwned>(
     agree_on_same_tiers::<B, Tiered<S, T, Ones>>(rt, seed, pairs);
 }
 
-// The parts are those of `Tiered4K` and of `Tiered64K`.
+// The two tests that follow name the parts of `Tiered4K` and of `Tiered64K`.
 
 #[test]
 fn of_one_group_of_words(rt: HostRuntime) {
@@ -203,14 +204,15 @@ fn of_two_levels_of_groups(rt: HostRuntime) {
     agree_on_two_tiers::<[u64; 1024], [u64; 16], u64>(&rt, 2, 20);
 }
 
-// A summary of words that are not of 64 bits tells of no group, as a plain set does.
+// A set knows which groups of its words are empty only if it has a summary with words of 64 bits.
+// Here the first set does not know it: its summary has words of 32 bits, or it has no summary.
 #[test]
 fn of_sets_that_tell_of_no_group(rt: HostRuntime) {
     agree_on_tiers::<[u64; 64], [u32; 2], [u64; 64], u64>(&rt, 8, 10);
     agree_on_any_and_tier::<[u64; 64], [u64; 64], u64>(&rt, 9, 10);
 }
 
-// Counts the members of a set, by an iterator from each end.
+// Counts the members of a set from the front and from the back. Returns the greater count.
 fn count_from_both_ends<B: Bits>(set: &B) -> usize
     requires { ShapeFits B.Shape set.now }
 {
@@ -218,7 +220,7 @@ fn count_from_both_ends<B: Bits>(set: &B) -> usize
     front.max(set.iter_ones().rev().count())
 }
 
-// Counts what two sets have in common.
+// Counts the common members of two sets.
 fn count_common<B: Bits>(one: &B, other: &B) -> usize
     requires one { ShapeFits B.Shape one.now }
     requires other { ShapeFits B.Shape other.now }
@@ -226,7 +228,7 @@ fn count_common<B: Bits>(one: &B, other: &B) -> usize
     count_from_both_ends(&one.and(other))
 }
 
-// Counts what the full set has in common with itself and with another one.
+// Counts the common members of the full set and itself, and those of the full set and `part`.
 fn count_with_full<B: BitsOwned>(part: B) -> [usize; 2]
     requires { IsTrue B.indexable }
 {
@@ -234,14 +236,14 @@ fn count_with_full<B: BitsOwned>(part: B) -> [usize; 2]
     [count_common(&all, &all), count_common(&all, &part)]
 }
 
-// The same, where the other one is made of a map.
+// Does the same as `count_with_full` for a set with a summary, made of a map.
 fn count_map_with_full<B: BitsOwned, S: BitsOwned>(map: B) -> [usize; 2]
     requires { IsTrue ⟦<Tiered<B, S, Ones> as Shape>⟧.indexable }
 {
     count_with_full(Tiered::<B, S, Ones>::new(map))
 }
 
-// A full set tells of each word, and its summary has members past the last one.
+// The summary of the full set that `ones` returns has set bits also past the last word of the map.
 #[test]
 fn of_full_sets(rt: HostRuntime) {
     let counts = count_map_with_full::<[u64; 5], u64>([0, 2, 0, 0, 1]);

@@ -1,4 +1,4 @@
-//! Runs of drawn changes at small shapes, compared with plain loops over 24 flags.
+//! Tests random changes of sets of 24 bits against plain loops over 24 flags.
 
 ghost use Rattle.std.specs.Prelude.{IsTrue};
 ghost use Rattle.bittle.specs.Values.{ShapeFits};
@@ -9,7 +9,7 @@ use bittle::{BigEndian, Bits, BitsMut, BitsOwned, Endian, LittleEndian, Shape};
 use bittle_tiers::{Kind, Ones, Tiered, Zeros};
 use std::process::Abort;
 
-// Makes a drawn change of one bit of both.
+// Sets or clears a random bit of a set, and its flag. The index may wrap.
 fn change_one<B: BitsMut, E: Endian>(state: &mut u32, set: &mut B, flags: &mut [bool; 24])
     requires { IsTrue B.indexable }
 {
@@ -24,7 +24,7 @@ fn change_one<B: BitsMut, E: Endian>(state: &mut u32, set: &mut B, flags: &mut [
     }
 }
 
-// Makes a drawn change of a range of both.
+// Sets, clears or toggles a random range of a set, and of its flags.
 fn change_range<B: BitsMut, E: Endian>(state: &mut u32, set: &mut B, flags: &mut [bool; 24])
     requires { ShapeFits B.Shape set.old }
 {
@@ -46,7 +46,7 @@ fn change_range<B: BitsMut, E: Endian>(state: &mut u32, set: &mut B, flags: &mut
     }
 }
 
-// Draws a set, and its flags.
+// Returns a random set, and its flags.
 fn draw_set<B: BitsOwned, E: Endian>(state: &mut u32) -> (B, [bool; 24])
     requires { IsTrue B.indexable }
 {
@@ -60,7 +60,7 @@ fn draw_set<B: BitsOwned, E: Endian>(state: &mut u32) -> (B, [bool; 24])
     (set, flags)
 }
 
-// Combines both with a drawn set by a drawn operation.
+// Combines a set with a random set by a random operation. Does the same with their flags.
 fn combine<B: BitsOwned, E: Endian>(state: &mut u32, set: &mut B, flags: &mut [bool; 24])
     requires { IsTrue B.indexable }
 {
@@ -82,7 +82,7 @@ fn combine<B: BitsOwned, E: Endian>(state: &mut u32, set: &mut B, flags: &mut [b
     }
 }
 
-// Makes a drawn change of all of both: none of 24 is a member then, or each.
+// Clears all bits of a set and of its flags, or sets them all, at random.
 fn change_all<B: BitsOwned>(state: &mut u32, set: &mut B, flags: &mut [bool; 24])
     requires { IsTrue B.indexable }
 {
@@ -95,7 +95,7 @@ fn change_all<B: BitsOwned>(state: &mut u32, set: &mut B, flags: &mut [bool; 24]
     }
 }
 
-// Makes a drawn change of both.
+// Makes a random change of a set, and of its flags.
 fn change<B: BitsOwned, E: Endian>(state: &mut u32, set: &mut B, flags: &mut [bool; 24])
     requires indexable { IsTrue B.indexable }
     requires fits { ShapeFits B.Shape set.old }
@@ -108,8 +108,8 @@ fn change<B: BitsOwned, E: Endian>(state: &mut u32, set: &mut B, flags: &mut [bo
     }
 }
 
-// Changes a set and its flags from a seed on, and asks the set after each change what its flags
-// answer. Each number is a member at first, or none is.
+// Makes 300 random changes of a set and of its flags, from a seed. After each change, tests that
+// the set agrees with the flags. At first the set must be full if `all` is `true`, and else empty.
 fn agree_from<B: BitsOwned, E: Endian>(rt: &impl Abort, seed: u32, mut set: B, all: bool)
     requires { IsTrue B.indexable }
 {
@@ -121,14 +121,14 @@ fn agree_from<B: BitsOwned, E: Endian>(rt: &impl Abort, seed: u32, mut set: B, a
     }
 }
 
-// The same of the set of a type that has each number, or none.
+// Does the same as `agree_from`, and begins with the full or the empty set of a type.
 fn agree_with_plain_loops<B: BitsOwned, E: Endian>(rt: &impl Abort, seed: u32, all: bool)
     requires { IsTrue B.indexable }
 {
     agree_from::<B, E>(rt, seed, even(all), all);
 }
 
-// The same of a set with a summary.
+// Does the same as `agree_with_plain_loops` for a set with a summary.
 fn agree_on_tier<B: BitsOwned, S: BitsOwned, K: Kind, E: Endian>(
     rt: &impl Abort,
     seed: u32,
@@ -139,7 +139,7 @@ fn agree_on_tier<B: BitsOwned, S: BitsOwned, K: Kind, E: Endian>(
     agree_with_plain_loops::<Tiered<B, S, K>, E>(rt, seed, all);
 }
 
-// The same of 24 numbers in three bytes, with a byte above them.
+// Does the same as `agree_on_tier` for a map of three bytes with a summary of one byte.
 fn agree_on_bytes<K: Kind, E: Endian>(rt: &impl Abort, seed: u32, all: bool) {
     agree_on_tier::<[u8; 3], u8, K, E>(rt, seed, all);
 }
@@ -164,19 +164,21 @@ fn a_summary_of_the_zeros_agrees_in_little_endian_order(rt: HostRuntime) {
     agree_on_bytes::<Zeros, LittleEndian>(&rt, 4, true);
 }
 
-// Three tiers: 24 numbers, 8, and 8 above those, of which one is used.
+// There are three tiers: a map of 24 bits, its summary of 8 bits, and the summary of this summary.
+// The last one has 8 bits and uses one.
 #[test]
 fn a_summary_of_a_summary_agrees_with_plain_loops(rt: HostRuntime) {
     agree_on_tier::<[u8; 3], Tiered<u8, u8, Ones>, Zeros, BigEndian>(&rt, 5, true);
 }
 
-// A summary for either kind.
+// The set has two summaries. The inner one shows which words have set bits, the outer one which
+// words have unset bits.
 #[test]
 fn a_summary_for_either_kind_agrees_with_plain_loops(rt: HostRuntime) {
     agree_on_tier::<Tiered<[u8; 3], u8, Ones>, u8, Zeros, LittleEndian>(&rt, 6, false);
 }
 
-// The same of three sets in a row, which are without members at first.
+// Does the same as `agree_from` for a row of three sets, which must be empty.
 fn agree_on_row<T: BitsOwned, E: Endian>(rt: &impl Abort, seed: u32, row: [T; 3])
     requires { IsTrue ⟦<[T; 3] as Shape>⟧.indexable }
 {

@@ -1,4 +1,5 @@
-//! A set of 24 numbers as flags, by plain loops, and what is asked of a set beside them.
+//! Keeps a set of 24 bits as an array of flags, which plain loops read. Tests that a set agrees
+//! with its flags.
 
 ghost use Rattle.bittle.specs.Values.{ShapeFits};
 
@@ -9,13 +10,13 @@ use bittle::{Bits, Endian};
 use bittle_tiers::Kind;
 use std::process::Abort;
 
-// Draws a number.
+// Returns the next pseudo-random number, below 2^24, and changes the state of the generator.
 pub(crate) fn draw(state: &mut u32) -> u32 {
     *state = state.wrapping_mul(1_664_525).wrapping_add(1_013_904_223);
     *state >> 8
 }
 
-// Returns the first flag of `from..to` that is as wanted.
+// Returns the index of the first flag in `from..to` that equals `wanted`, or `None`.
 pub(crate) fn first_of(flags: &[bool; 24], from: u32, to: u32, wanted: bool) -> Option<u32> {
     for i in from as usize..(to as usize).min(24) {
         if flags[i] == wanted {
@@ -25,7 +26,7 @@ pub(crate) fn first_of(flags: &[bool; 24], from: u32, to: u32, wanted: bool) -> 
     None
 }
 
-// Returns the last flag of `from..to` that is as wanted.
+// Returns the index of the last flag in `from..to` that equals `wanted`, or `None`.
 pub(crate) fn last_of(flags: &[bool; 24], from: u32, to: u32, wanted: bool) -> Option<u32> {
     let mut found = None;
     for i in from as usize..(to as usize).min(24) {
@@ -47,7 +48,7 @@ pub(crate) fn count(flags: &[bool; 24]) -> u32 {
     count
 }
 
-// Asks the four searches of a drawn range.
+// Tests the four searches in a random range.
 pub(crate) fn ask_searches<B: Bits, E: Endian>(
     rt: &impl Abort,
     state: &mut u32,
@@ -67,7 +68,7 @@ pub(crate) fn ask_searches<B: Bits, E: Endian>(
     compare(rt, "searches", searches::<B, E>(set, from, to), expected);
 }
 
-// Asks what is asked of all of a set.
+// Tests the calls on all bits of a set, and `test_bit_in` at a random index, which may wrap.
 pub(crate) fn ask_whole<B: Bits, E: Endian>(
     rt: &impl Abort,
     state: &mut u32,
@@ -88,7 +89,7 @@ pub(crate) fn ask_whole<B: Bits, E: Endian>(
     );
 }
 
-// Steps an iterator to its end, from either end as drawn.
+// Steps an iterator to its end, each time from a random end. Tests each item.
 pub(crate) fn ask_steps<B: Bits, E: Endian, K: Kind>(
     rt: &impl Abort,
     state: &mut u32,
@@ -109,7 +110,7 @@ pub(crate) fn ask_steps<B: Bits, E: Endian, K: Kind>(
     }
 }
 
-// Asks a set whatever it is asked here, in one order.
+// Makes all tests of this file on a set, in the order `E`.
 pub(crate) fn ask<B: Bits, E: Endian>(rt: &impl Abort, state: &mut u32, set: &B, flags: &[bool; 24])
     requires { ShapeFits B.Shape set.now }
 {

@@ -1,4 +1,4 @@
-//! Tests of sets with a summary, each from outside the library.
+//! Tests of the sets with a summary in the crate `bittle_tiers`, by its public calls.
 #![tactic(auto)]
 
 #[cfg(test)]

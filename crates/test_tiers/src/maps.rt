@@ -1,4 +1,4 @@
-//! Maps of allocators, and sparse sets of the usual sizes.
+//! Tests sets with a summary, of the usual sizes, as maps of allocators and as sparse sets.
 
 ghost use Rattle.std.specs.Prelude.{IsTrue};
 ghost use Rattle.bittle.specs.Shapes.{Fits};
@@ -12,7 +12,8 @@ use bittle::{BigEndian, Bits, BitsOwned, Endian, LittleEndian, Set, Shape};
 use bittle_ext::BitsViewExt;
 use bittle_tiers::{Kind, Ones, Tiered, Tiered4K, Zeros};
 
-// Takes two pages and a third, gives one back and takes it again.
+// Takes three pages, gives `page` and `past` back, and takes one more page. Returns the four
+// results of `take`, and whether each of the two was given back.
 fn take_some<B: BitsOwned>(map: B, page: u32, past: u32) -> ([Option<u32>; 4], [bool; 2])
     requires { Fits B.indexable B.type_capacity }
 {
@@ -22,7 +23,7 @@ fn take_some<B: BitsOwned>(map: B, page: u32, past: u32) -> ([Option<u32>; 4], [
     ([taken[0], taken[1], taken[2], pages.take()], given)
 }
 
-// Takes pages of a map in which two are free.
+// Does the same as `take_some` for a map in which only the pages 17 and 4000 are free.
 fn take_of_two_free<B: BitsOwned>() -> ([Option<u32>; 4], [bool; 2])
     requires indexable { IsTrue B.indexable }
     requires fits { Fits B.indexable B.type_capacity }
@@ -38,8 +39,9 @@ fn pages_are_found_by_the_summary(rt: HostRuntime) {
     same!(rt; given, [true, false]);
 }
 
-// Frees two pages of a full map. Returns the first and the last free page, what searches between
-// them find, and the ends again after the first is taken, and after a range is freed.
+// Frees two pages of a full map. Returns the first and the last free page, and what searches
+// between them find. Then takes the first of the two, and then frees a range. After each of these
+// changes it returns the first and the last free page again.
 fn find_last_pages<B: BitsOwned>() -> ([Option<u32>; 2], [Option<u32>; 4], [[Option<u32>; 2]; 2])
     requires { IsTrue B.indexable }
 {
@@ -52,7 +54,8 @@ fn find_last_pages<B: BitsOwned>() -> ([Option<u32>; 2], [Option<u32>; 4], [[Opt
     (free, between, [last, ends_of_zeros(&map)])
 }
 
-// Does so in a map with a summary, which is proved in less time than in one of a usual size.
+// Does the same as `find_last_pages` for a map with a summary. The calls are proved in less time
+// than for a map of a usual size.
 fn find_last_pages_of_tier<B: BitsOwned, S: BitsOwned>() -> (
     [Option<u32>; 2],
     [Option<u32>; 4],
@@ -65,14 +68,14 @@ fn find_last_pages_of_tier<B: BitsOwned, S: BitsOwned>() -> (
 
 #[test]
 fn two_tiers_find_the_last_page(rt: HostRuntime) {
-    // The parts of `Tiered256K`.
+    // The types are the parts of `Tiered256K`.
     let (free, between, ends) = find_last_pages_of_tier::<[u64; 4096], Tiered4K<Ones>>();
     same!(rt; free, [Some(100_000), Some(262_143)]);
     same!(rt; between, [Some(100_001), Some(262_142), None, None]);
     same!(rt; ends, [[Some(262_143), Some(262_143)], [Some(5), Some(262_143)]]);
 }
 
-// Steps an iterator over three items from both ends.
+// Steps an iterator over three items from both ends, five times in all.
 fn steps<B: Bits, E: Endian, K: Kind>(mut walk: Iter<'_, B, E, K>) -> [Option<u32>; 5] {
     [
         walk.next_back(),
@@ -83,14 +86,15 @@ fn steps<B: Bits, E: Endian, K: Kind>(mut walk: Iter<'_, B, E, K>) -> [Option<u3
     ]
 }
 
-// Steps an iterator over three members.
+// Does the same as `steps` for an iterator over the set bits of a set with three members.
 fn steps_of_members<B: Bits>(set: &B) -> [Option<u32>; 5]
     requires { ShapeFits B.Shape set.now }
 {
     steps(set.iter_ones())
 }
 
-// Steps an iterator over a set that is read from the left, and asks for bit 63 of what it wraps.
+// Does the same as `steps` for the set of 0, 2000 and 4095 in the order `LittleEndian`. Also
+// returns whether bit 63 of the wrapped set is set.
 fn steps_from_the_left<T: BitsOwned>() -> ([Option<u32>; 5], bool)
     requires { IsTrue T.indexable }
 {
@@ -106,7 +110,7 @@ fn a_sparse_set_is_walked_from_both_ends(rt: HostRuntime) {
     same!(rt; has_last, true);
 }
 
-// Returns the first and the last common member.
+// Returns the first and the last common member of two sets.
 fn ends_of_common<B: Bits>(one: &B, other: &B) -> [Option<u32>; 2]
     requires one { ShapeFits B.Shape one.now }
     requires other { ShapeFits B.Shape other.now }
@@ -114,7 +118,7 @@ fn ends_of_common<B: Bits>(one: &B, other: &B) -> [Option<u32>; 2]
     ends_of_ones(&one.and(other))
 }
 
-// Returns the ends of what two sets of these numbers have in common.
+// Does the same as `ends_of_common` for the sets of these numbers.
 fn ends_of_common_numbers<B: BitsOwned>(ours: [u32; 4], theirs: [u32; 4]) -> [Option<u32>; 2]
     requires { IsTrue B.indexable }
 {
@@ -123,7 +127,7 @@ fn ends_of_common_numbers<B: BitsOwned>(ours: [u32; 4], theirs: [u32; 4]) -> [Op
     ends_of_common(&one, &other)
 }
 
-// The same of two sets with a summary.
+// Does the same as `ends_of_common_numbers` for two sets with summaries.
 fn ends_of_common_tiers<B: BitsOwned, S: BitsOwned>(
     ours: [u32; 4],
     theirs: [u32; 4],
@@ -136,7 +140,7 @@ fn ends_of_common_tiers<B: BitsOwned, S: BitsOwned>(
 #[test]
 fn two_sparse_sets_have_numbers_in_common(rt: HostRuntime) {
     let (ours, theirs) = ([3, 700, 40_000, 65_535], [4, 700, 40_001, 65_535]);
-    // The parts of `Tiered64K`.
+    // The types are the parts of `Tiered64K`.
     let ends = ends_of_common_tiers::<[u64; 1024], Tiered<[u64; 16], u64, Ones>>(ours, theirs);
     same!(rt; ends, [Some(700), Some(65_535)]);
 }

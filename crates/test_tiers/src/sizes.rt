@@ -1,4 +1,5 @@
-//! Capacities: the usual ones, a summary that is too small, and none.
+//! Tests the capacities of sets with a summary: of the usual sizes, of shapes that do not fit, and
+//! capacity 0.
 
 ghost use Rattle.std.specs.Prelude.{IsTrue};
 
@@ -11,7 +12,7 @@ use bittle::{BigEndian, BitsOwned, LittleEndian, Shape};
 use bittle_tiers::{Kind, Ones, Tiered, Tiered4K, Tiered64K, Tiered256K, Zeros};
 use std::process::Abort;
 
-// What is asked of a set of a usual size.
+// What calls on a set of a usual size return.
 #[derive(Drop)]
 struct Answers {
     bits: u32,
@@ -21,8 +22,8 @@ struct Answers {
     zeros: [Option<u32>; 2],
 }
 
-// Returns how many numbers the type of a set has, how many the set has, what is asked of all bits,
-// and the ends of the set and of the unset bits.
+// Returns the capacity of a set by its type and by its value, what calls on all bits return, and
+// the first and the last set bit and unset bit.
 fn answers_of<B: BitsOwned>(set: &B) -> Answers
     requires { IsTrue B.indexable }
 {
@@ -35,15 +36,15 @@ fn answers_of<B: BitsOwned>(set: &B) -> Answers
     }
 }
 
-// Asks a set with a summary.
+// Does the same as `answers_of` for a set with a summary.
 fn answers_of_tier<B: BitsOwned, S: BitsOwned, K: Kind>(set: &Tiered<B, S, K>) -> Answers
     requires { IsTrue ⟦<Tiered<B, S, K> as Shape>⟧.indexable }
 {
     answers_of(set)
 }
 
-// The same where the summary has a summary. That one is of the ones, whatever the kind: it is
-// searched for its set bits.
+// Does the same as `answers_of` for a set whose summary has a summary. This last one is of the kind
+// `Ones`, whatever `K` is, since a search looks for the set bits of a summary.
 fn answers_of_two_tiers<B: BitsOwned, S: BitsOwned, T: BitsOwned, K: Kind>(
     set: &Tiered<B, Tiered<S, T, Ones>, K>,
 ) -> Answers
@@ -52,7 +53,7 @@ fn answers_of_two_tiers<B: BitsOwned, S: BitsOwned, T: BitsOwned, K: Kind>(
     answers_of_tier(set)
 }
 
-// Asks a set with so many numbers, of which none is a member.
+// Tests that the answers are those of an empty set of capacity `numbers`.
 fn ask_empty(rt: &impl Abort, answers: &Answers, numbers: u32) {
     same!(rt; answers.bits, numbers);
     same!(rt; answers.capacity, numbers);
@@ -61,7 +62,7 @@ fn ask_empty(rt: &impl Abort, answers: &Answers, numbers: u32) {
 
 #[test]
 fn the_usual_sizes(rt: HostRuntime) {
-    // By default they are without members.
+    // The default value of each type is the empty set.
     ask_empty(&rt, &answers_of_tier(&Tiered4K::<Ones>::default()), 4096);
     let answers = answers_of_two_tiers::<[u64; 1024], [u64; 16], u64, Zeros>(&Tiered64K::default());
     ask_empty(&rt, &answers, 65_536);
@@ -74,7 +75,7 @@ fn the_usual_sizes(rt: HostRuntime) {
         &answers_of_two_tiers(&Tiered256K::<Ones>::default()),
         262_144,
     );
-    // They are made of a map.
+    // A set of each type can be made of a map.
     let mut words = [0u64; 64];
     words[62] = 4;
     let answers = answers_of_tier(&Tiered4K::<Ones>::from(words));
@@ -85,32 +86,32 @@ fn the_usual_sizes(rt: HostRuntime) {
     same!(rt; answers.ones, [Some(0), Some(262_080)]);
 }
 
-// Returns how many numbers a type has, and how many a row of none of its sets has.
+// Returns the capacity of the sets of a type, and that of an empty array of such sets.
 fn sizes<T: BitsOwned>() -> (u32, u32) {
     let none: [T; 0] = [];
     (bits::<T>(), capacity(&none))
 }
 
-// The same of sets with a summary.
+// Does the same as `sizes` for sets with a summary.
 fn tier_sizes<B: BitsOwned, S: BitsOwned, K: Kind>() -> (u32, u32) {
     sizes::<Tiered<B, S, K>>()
 }
 
-// The same where the summary has a summary.
+// Does the same as `tier_sizes` for summaries that have a summary themselves.
 fn two_tier_sizes<B: BitsOwned, S: BitsOwned, T: BitsOwned, K: Kind>() -> (u32, u32) {
     tier_sizes::<B, Tiered<S, T, Ones>, K>()
 }
 
-// What a type that does not fit tells.
+// What `sizes` returns for a type whose shape does not fit.
 const NO_FIT: (u32, u32) = (u32::MAX, u32::MAX);
 
 #[test]
 fn a_summary_that_is_too_small_is_told(rt: HostRuntime) {
-    // Eight words have a number each in a byte; the ninth has none.
+    // A summary of one byte has a bit for each of eight words, but none for a ninth word.
     same!(rt; tier_sizes::<[u64; 8], u8, Ones>(), (512, 0));
     same!(rt; tier_sizes::<[u64; 9], u8, Ones>(), NO_FIT);
     same!(rt; two_tier_sizes::<[u64; 9], u8, u8, Zeros>(), NO_FIT);
-    // Here it is the summary of the summary.
+    // Here the summary of the summary is too small.
     same!(rt; two_tier_sizes::<[u64; 8], [u8; 9], u8, Zeros>(), NO_FIT);
 }
 
@@ -120,8 +121,8 @@ fn a_part_that_does_not_fit_is_told(rt: HostRuntime) {
     same!(rt; tier_sizes::<u8, [u64; 67_108_864], Ones>(), NO_FIT);
 }
 
-// Sets bit 5 of a set of capacity 0. Returns the capacity, whether that bit is set, what is asked of
-// all bits, and the ends of the set and of the unset ones.
+// Sets bit 5 of a set of capacity 0. Returns the capacity, whether bit 5 is set, what calls on all
+// bits return, and the first and the last set bit and unset bit.
 fn asked_of_none<B: BitsOwned>() -> (u32, bool, (u32, bool, bool), [[Option<u32>; 2]; 2])
     requires { IsTrue B.indexable }
 {
@@ -137,8 +138,8 @@ fn a_set_without_numbers(rt: HostRuntime) {
     same!(rt; ends, [[None; 2]; 2]);
 }
 
-// Clears bit 1 of a set of capacity 0 and toggles an empty range. Returns what is asked of all bits,
-// the ends of the unset ones, and what searches find.
+// Clears bit 1 of a set of capacity 0, and toggles an empty range. Returns what calls on all bits
+// return, the first and the last unset bit, and what searches find.
 fn changed_without_any<B: BitsOwned>() -> ((u32, bool, bool), [Option<u32>; 2], [Option<u32>; 4])
     requires { IsTrue B.indexable }
 {

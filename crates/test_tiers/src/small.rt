@@ -1,5 +1,5 @@
-//! Sets of 24 numbers with a summary: what is wrapped, compared, copied, changed and searched, and
-//! the text of one.
+//! Tests sets of 24 bits with a summary: they are wrapped, compared, copied, changed, searched and
+//! printed.
 
 ghost use Rattle.std.specs.Prelude.{IsTrue};
 ghost use Rattle.bittle.specs.Values.{ShapeFits};
@@ -15,7 +15,7 @@ use std::fmt::Debug;
 use std::process::Abort;
 use std::test::Fail;
 
-// What is asked of the sets.
+// What is tested of the sets.
 #[derive(Drop)]
 enum Question {
     Ends,
@@ -27,7 +27,7 @@ enum Question {
     PastTheCapacity,
 }
 
-// Asks two sets, and returns the first one, or the one that a question makes in their place.
+// Makes the tests of a question on two sets. Returns the first set, or the set that the tests make.
 fn ask_set<B: BitsOwned>(rt: &impl Abort, question: Question, set: B, other: B) -> B
     requires { IsTrue B.indexable }
 {
@@ -46,8 +46,8 @@ fn ask_set<B: BitsOwned>(rt: &impl Abort, question: Question, set: B, other: B) 
     set
 }
 
-// Asks sets with a summary, made of maps, and returns the map of the set that results: first as the
-// set lends it, then as it is unwrapped.
+// Does the same as `ask_set` for sets with a summary, made of two maps. Returns the map of the set
+// that results: as `map` lends it, and as `into_map` returns it.
 fn ask_tier<B: BitsOwned, S: BitsOwned, K: Kind>(
     rt: &impl Abort,
     question: Question,
@@ -61,8 +61,8 @@ fn ask_tier<B: BitsOwned, S: BitsOwned, K: Kind>(
     (*set.map(), set.into_map())
 }
 
-// Asks those of three bytes, with a byte above them. The maps are of no meaning to a question that
-// makes its own sets.
+// Does the same as `ask_tier` for maps of three bytes with summaries of one byte. A question that
+// makes its own sets does not use the maps.
 fn ask<K: Kind>(rt: &impl Abort, question: Question, maps: [[u8; 3]; 2]) -> ([u8; 3], [u8; 3]) {
     ask_tier::<[u8; 3], u8, K>(rt, question, maps[0], maps[1])
 }
@@ -74,8 +74,8 @@ fn a_map_is_wrapped_and_unwrapped(rt: HostRuntime) {
     same!(rt; unwrapped, [0, 1, 0]);
 }
 
-// Asks whether the set of 9 equals one and not the empty set, whether it equals that without 9, and
-// whether the full set equals one.
+// Tests that the set of 9 equals `nine`, and does not equal the empty set. Tests that it equals the
+// empty set after 9 is removed, and that the full set equals `full`.
 fn ask_equality<B: BitsOwned>(rt: &impl Abort, nine: B, full: B)
     requires { IsTrue B.indexable }
 {
@@ -91,12 +91,13 @@ fn ask_equality<B: BitsOwned>(rt: &impl Abort, nine: B, full: B)
 
 #[test]
 fn sets_are_equal_by_their_maps(rt: HostRuntime) {
-    // Each number of the summary of a full set is a member, also past the last word.
+    // The summary of the full set that `ones` returns has set bits past the last word. The summary
+    // that `new` makes of a full map has none there.
     ask::<Ones>(&rt, Question::Equality, [[0, 2, 0], [255; 3]]);
 }
 
-// Takes 23 out of a copy of the full set, and asks for the ends of what the copy and the set have
-// not.
+// Clears bit 23 of a copy of the full set. Tests that only bit 23 of the copy is unset, and that
+// the set stays full.
 fn ask_copy<B: BitsOwned>(rt: &impl Abort)
     requires { IsTrue B.indexable }
 {
@@ -111,8 +112,8 @@ fn a_copy_goes_its_own_way(rt: HostRuntime) {
     ask::<Zeros>(&rt, Question::Copy, [[0; 3]; 2]);
 }
 
-// Sets a range and searches the set, which it returns, clears most of it and asks for the ends, and
-// toggles what is left, from the left.
+// Sets a range, and searches this set, which it returns at the end. Clears the range except its
+// last bit, and tests that this bit is left. Toggles this bit in the order `LittleEndian`.
 fn after_ranges<B: BitsOwned>(rt: &impl Abort) -> B
     requires { IsTrue B.indexable }
 {
@@ -121,7 +122,7 @@ fn after_ranges<B: BitsOwned>(rt: &impl Abort) -> B
     same!(rt; found, [Some(6), Some(17), Some(0), Some(23)]);
     let second = with_range::<B, BigEndian>(first, 1, 6, 17);
     same!(rt; ends_of_ones(&second), [Some(17), Some(17)]);
-    // Index 22 from the left of the last byte is its bit 1, which was set.
+    // In the order `LittleEndian` index 22 is bit 1 of the last byte, the bit that is left.
     let third = with_range::<B, LittleEndian>(second, 2, 22, 23);
     same!(rt; whole(&third), (0, true, false));
     first
@@ -133,8 +134,8 @@ fn a_range_across_words(rt: HostRuntime) {
     same!(rt; unwrapped, [0xC0, 0xFF, 0x03]);
 }
 
-// Asks a set where the first runs begin, of which the members are 7, 16 and 17: the byte between
-// them is passed over, and no run goes through it.
+// Tests where the first runs begin in the set of 7, 16 and 17. The byte between 7 and 16 is
+// skipped, and no run of set bits goes on past it.
 fn ask_for_runs_of_ones<B: Bits>(rt: &impl Abort, set: &B)
     requires { ShapeFits B.Shape set.now }
 {
@@ -144,7 +145,7 @@ fn ask_for_runs_of_ones<B: Bits>(rt: &impl Abort, set: &B)
     same!(rt; first_runs(set, 8), [None, Some(8)]);
 }
 
-// Asks the set of the other numbers.
+// Tests where the first runs begin in the set of all numbers but 7, 16 and 17.
 fn ask_for_runs_of_zeros<B: Bits>(rt: &impl Abort, set: &B)
     requires { ShapeFits B.Shape set.now }
 {
@@ -160,7 +161,7 @@ fn runs_about_a_word_that_is_passed_over(rt: HostRuntime) {
     ask::<Zeros>(&rt, Question::Runs, maps);
 }
 
-// Asks for the ends of what each of the four operations makes of two sets.
+// Tests the first and the last member of what each of four operations makes of two sets.
 fn ask_operations<B: BitsOwned>(rt: &impl Abort, one: B, other: B)
     requires { IsTrue B.indexable }
 {
@@ -175,7 +176,8 @@ fn operations_on_two_sets(rt: HostRuntime) {
     ask::<Ones>(&rt, Question::Operations, [[1, 0, 0], [1, 0, 128]]);
 }
 
-// Asks a set without 9, by an index past the capacity of 24, and without 8.
+// Clears bit 9 by index 57, which wraps at the capacity of 24, and clears bit 8. Tests that the set
+// of these two bits is then empty.
 fn ask_without_both<B: BitsOwned>(rt: &impl Abort, set: B)
     requires { IsTrue B.indexable }
 {
@@ -184,14 +186,15 @@ fn ask_without_both<B: BitsOwned>(rt: &impl Abort, set: B)
     same!(rt; ends_of_ones(&set), [None, None]);
 }
 
-// Returns the set of 9 and 8, by indexes past the capacity of 24.
+// Returns the set of 9 and 8. It sets both bits by indexes that wrap at the capacity of 24.
 fn with_two_past<B: BitsOwned>(rt: &impl Abort) -> B
     requires { IsTrue B.indexable }
 {
     let set = with::<B, BigEndian>(even(false), &[24 + 9]);
     same!(rt; has(&set, 9), true);
     same!(rt; ends_of_ones(&set), [Some(9), Some(9)]);
-    // 4,294,967,295 is 15 modulo 24, whose place from the left is bit 8.
+    // 4,294,967,295 wraps to 15. In the order `LittleEndian` this is the bit that has index 8 in
+    // the order `BigEndian`.
     let set = with::<B, LittleEndian>(set, &[u32::MAX]);
     ask_without_both(rt, set);
     set
@@ -203,7 +206,7 @@ fn an_index_past_the_capacity_wraps(rt: HostRuntime) {
     same!(rt; unwrapped, [0, 3, 0]);
 }
 
-// Asks for the debug text of a value.
+// Tests the debug text of a value, without and with the flag `#`.
 fn reads<S: Debug>(
     rt: &impl Abort,
     alloc: Global,
@@ -215,7 +218,8 @@ fn reads<S: Debug>(
     Ok(())
 }
 
-// Asks for the text of a set with a summary, and for that of the same set read from the left.
+// Tests the debug text of a set with a summary, in the order of its map, and in the order
+// `LittleEndian`.
 fn tier_reads<B: BitsOwned, S: BitsOwned>(
     rt: &impl Abort,
     alloc: Global,

@@ -1,4 +1,4 @@
-//! Joins, with values worked out by hand.
+//! Joins, compared with values worked out by hand.
 
 ghost use Rattle.std.specs.Prelude.{◌-◌};
 ghost use Rattle.std.specs.Iterator.{at_most};
@@ -10,7 +10,7 @@ use bittle::{set, set_le};
 use std::fmt::Debug;
 use std::process::Abort;
 
-/// Gives how often it was asked, but `None` where it is asked for the second time.
+/// Yields how many calls were made, up to 9. The second call returns `None` instead.
 #[derive(Drop)]
 struct Stutter {
     asked: u32,
@@ -41,7 +41,7 @@ fn next<W: Iterator>(walk: &mut W) -> Option<W::Item>
     walk.next()
 }
 
-// Asks for the steps of an iterator over values.
+// Checks what an iterator over values yields, step by step.
 fn steps<T: Copy + Debug + PartialEq, W: Iterator<Item = T>>(
     rt: &impl Abort,
     mut walk: W,
@@ -54,7 +54,7 @@ fn steps<T: Copy + Debug + PartialEq, W: Iterator<Item = T>>(
     }
 }
 
-// Asks for the steps of an iterator over references.
+// Checks what an iterator over references yields, step by step.
 fn steps_to<'a, T: Copy + Debug + PartialEq + 'a, W: Iterator<Item = &'a T>>(
     rt: &impl Abort,
     mut walk: W,
@@ -67,7 +67,7 @@ fn steps_to<'a, T: Copy + Debug + PartialEq + 'a, W: Iterator<Item = &'a T>>(
     }
 }
 
-// Asks for the steps of a join with values, in the order of a call that names none.
+// Checks what `join_ones` yields from an iterator over values.
 fn joins<T: Copy + Debug + PartialEq, B: Bits, I: IntoIterator<Item = T>>(
     rt: &impl Abort,
     mask: &B,
@@ -80,7 +80,7 @@ fn joins<T: Copy + Debug + PartialEq, B: Bits, I: IntoIterator<Item = T>>(
     steps(rt, mask.join_ones(iter), expected);
 }
 
-// Asks for the steps of a join with references, in the order of a call that names none.
+// Checks what `join_ones` yields from an iterator over references.
 fn joins_to<'a, T: Copy + Debug + PartialEq + 'a, B: Bits, I: IntoIterator<Item = &'a T>>(
     rt: &impl Abort,
     mask: &B,
@@ -104,7 +104,7 @@ fn gives_the_items_at_the_members(rt: HostRuntime) {
     );
 }
 
-// Asks for the steps of joins in little-endian and in big-endian order.
+// Checks what a join in little-endian order and a join in big-endian order yield.
 fn joins_each_way<T: Copy + Debug + PartialEq, B: Bits>(
     rt: &impl Abort,
     mask: &B,
@@ -177,7 +177,7 @@ fn takes_an_item_for_each_index_of_a_full_mask(rt: HostRuntime) {
 
 #[test]
 fn joins_an_iterator_whose_count_of_items_grows(rt: HostRuntime) {
-    // Flattened arrays tell of the items of one array at a time.
+    // The `size_hint` of flattened arrays counts the items of one array at a time.
     let pairs = [[1u32, 2, 3, 4], [5, 6, 7, 8]];
     let mask: u16 = set![0, 3, 6, 7, 10, 11];
     joins(

@@ -1,4 +1,4 @@
-//! Tests of iterators, of joins and of slices of a `Vec`, each from outside the library.
+//! Tests of iterators, of searches in a range and of joins.
 #![tactic(auto)]
 
 #[cfg(test)]

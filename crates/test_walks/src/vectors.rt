@@ -1,4 +1,4 @@
-//! Sets from lists, with the items of their iterators, each worked out by hand.
+//! Iterators over words and arrays, compared with items worked out by hand.
 
 ghost use Rattle.std.specs.Iterator.{IsFinite};
 
@@ -6,7 +6,7 @@ use crate::checks::holds;
 use bittle::prelude::*;
 use bittle::{LittleEndian, set};
 
-// Whether an iterator yields just these items, from the last on.
+// Returns whether the reversed iterator yields exactly these items.
 fn backwards<W: DoubleEndedIterator<Item = u32>>(walk: W, items: &[u32]) -> bool
     requires can { W.can_next_back walk }
     requires finite { IsFinite (W.remaining walk) }
@@ -14,7 +14,7 @@ fn backwards<W: DoubleEndedIterator<Item = u32>>(walk: W, items: &[u32]) -> bool
     walk.rev().eq(items.iter().copied())
 }
 
-// Two sets with one other member.
+// Two sets that differ in one member: 67 or 63.
 fn two_rows() -> ([u32; 4], [u32; 4]) {
     (set![4, 67, 71, 127], set![4, 63, 71, 127])
 }
@@ -26,7 +26,7 @@ fn walks_from_the_back(rt: HostRuntime) {
     holds!(rt; backwards(other.into_iter_ones(), &[127, 71, 63, 4]));
 }
 
-// Two sets with few zeros and with many.
+// Two sets: five bits are set in the first, three in the second.
 fn two_pairs() -> ([u8; 2], [u8; 2]) {
     (set![3, 7, 13, 14, 15], set![4, 7, 10])
 }

@@ -1,4 +1,4 @@
-//! Walks through lists of steps.
+//! Lists of steps that `replay_walk` takes on an iterator.
 
 use crate::checks::same;
 use bittle::replay::{Step, replay_walk};

@@ -1,4 +1,5 @@
-//! Iterators of each form, and the bounded searches, against values worked out by hand.
+//! Each call that returns an iterator, and searches in a range, compared with values worked out by
+//! hand.
 
 ghost use Rattle.bittle.specs.Values.{ShapeFits};
 
@@ -9,7 +10,7 @@ use std::alloc::AllocError;
 use std::process::Abort;
 use std::test::Fail;
 
-// Whether a step of an iterator from the front, or else from the back, returns this.
+// Returns whether the next step of an iterator, from the front or from the back, returns `item`.
 fn answers<W: DoubleEndedIterator<Item = u32>>(
     walk: &mut W,
     at_front: bool,
@@ -25,8 +26,9 @@ fn answers<W: DoubleEndedIterator<Item = u32>>(
     }
 }
 
-// Whether an iterator yields these items from the front, from the back and from both ends in turn,
-// and then `None` from both ends for good.
+// Returns whether an iterator yields these items from the front, a clone of it yields them from the
+// back, and another clone from both ends in turn. After that each has to return `None`, from both
+// ends, twice.
 fn gives<W: DoubleEndedIterator<Item = u32> + Clone>(mut walk: W, items: &[u32]) -> bool
     requires front { (w : W) → W.can_next w }
     requires back { (w : W) → W.can_next_back w }
@@ -52,7 +54,7 @@ fn gives<W: DoubleEndedIterator<Item = u32> + Clone>(mut walk: W, items: &[u32])
     good
 }
 
-// The set bits in big-endian and in little-endian order, and the unset ones.
+// The expected indexes of the set bits and of the unset bits, in each order.
 #[derive(Drop)]
 struct Expected<'a> {
     ones_be: &'a [u32],
@@ -61,7 +63,7 @@ struct Expected<'a> {
     zeros_le: &'a [u32],
 }
 
-// Whether each of two iterators yields these items.
+// Returns whether each of two iterators yields these items.
 fn both_give<W: DoubleEndedIterator<Item = u32> + Clone>(one: W, other: W, items: &[u32]) -> bool
     requires front { (w : W) → W.can_next w }
     requires back { (w : W) → W.can_next_back w }
@@ -69,7 +71,7 @@ fn both_give<W: DoubleEndedIterator<Item = u32> + Clone>(one: W, other: W, items
     gives(one, items) & gives(other, items)
 }
 
-// Whether each of three iterators yields these items.
+// Returns whether each of three iterators yields these items.
 fn all_give<W: DoubleEndedIterator<Item = u32> + Clone>(
     one: W,
     other: W,
@@ -82,7 +84,7 @@ fn all_give<W: DoubleEndedIterator<Item = u32> + Clone>(
     gives(one, items) & gives(other, items) & gives(third, items)
 }
 
-// Each borrowing form once.
+// Returns whether every iterator that borrows the set yields the expected indexes.
 fn borrowed<B: Bits<Order = BigEndian>>(bits: &B, expected: &Expected<'_>) -> bool
     requires { ShapeFits B.Shape bits.now }
 {
@@ -107,7 +109,7 @@ fn borrowed<B: Bits<Order = BigEndian>>(bits: &B, expected: &Expected<'_>) -> bo
     )
 }
 
-// Each owning form once.
+// Returns whether every iterator that owns the set yields the expected indexes.
 fn owned<B: BitsOwned<Order = BigEndian>>(bits: B, expected: &Expected<'_>) -> bool
     requires { ShapeFits B.Shape bits }
 {
@@ -191,7 +193,7 @@ fn each_form_at_a_nested_array(rt: HostRuntime) {
     holds!(rt; owned([[0u8, 1], [0, 128]], &expected));
 }
 
-// Whether an iterator tells nothing of how many items remain, before its first step and after it.
+// Returns whether `size_hint` is `(0, None)` both before and after an iterator's first step.
 fn tells_nothing<W: DoubleEndedIterator<Item = u32>>(mut walk: W) -> bool
     requires front { (w : W) → W.can_next w }
 {
@@ -214,14 +216,14 @@ fn owned_walks_tell_not_how_many_items_are_left(rt: HostRuntime) {
     holds!(rt; tells_nothing((-2i8).into_iter_zeros()));
 }
 
-// The end of an iterator that a step is taken at.
+// The end of an iterator from which a step takes its item.
 #[derive(Clone, Copy)]
 enum End {
     Front,
     Back,
 }
 
-// Asks for a step of an iterator.
+// Takes a step of an iterator, and checks the item.
 fn take<W: DoubleEndedIterator<Item = u32>>(
     rt: &impl Abort,
     walk: &mut W,
@@ -237,14 +239,14 @@ fn take<W: DoubleEndedIterator<Item = u32>>(
     }
 }
 
-// An iterator, or the clone that was taken of it.
+// Which iterator takes a step: the first one, or its clone.
 #[derive(Clone, Copy)]
 enum Taker {
     Source,
     Clone,
 }
 
-// Asks for the first steps of an iterator, and then for steps of it and of its clone in turn.
+// Checks the first steps of an iterator. Then clones it, and checks further steps of both.
 fn go_on_apart<W: DoubleEndedIterator<Item = u32> + Clone>(
     rt: &impl Abort,
     mut walk: W,

@@ -1,4 +1,4 @@
-//! What callers prove of iterators with no proof but a loop's invariant.
+//! Callers of iterators, proved without any proof file except for the invariants of loops.
 
 ghost use Rattle.std.specs.Prelude.{◌≡◌, ◌+◌, ◌*◌, ◌/◌, ◌<◌, ◌^◌, IfOk, length, map, reverse, true, false};
 ghost use Rattle.std.specs.Int.{w16, cast_unsigned};
@@ -12,7 +12,7 @@ use bittle::{Bits, BitsOwned, Endian, LittleEndian, number};
 use bittle_bits::extension::Word;
 use std::alloc::{AllocError, Global};
 
-/// Counts the set bits of any set by a `for`.
+/// Counts the set bits of any set with a `for` loop.
 fn each_member<B: Bits, E: Endian>(bits: &B) -> u64
     requires fits { ShapeFits B.Shape bits.now }
     requires few { length (ascending (set_in B.Shape E.Endian bits.now)) < 100 }
@@ -25,7 +25,7 @@ fn each_member<B: Bits, E: Endian>(bits: &B) -> u64
     total
 }
 
-/// Counts the unset bits of an array by a `for`.
+/// Counts the unset bits of an array with a `for` loop.
 fn each_other(bits: &[[u8; 2]; 2]) -> u32
     requires { length
         (ascending (complement
@@ -42,7 +42,7 @@ fn each_other(bits: &[[u8; 2]; 2]) -> u32
     total
 }
 
-/// Counts the set bits of an owned set by a `for`.
+/// Counts the set bits of an owned set with a `for` loop.
 fn each_owned_member<B: BitsOwned, E: Endian>(bits: B) -> u64
     requires fits { ShapeFits B.Shape bits }
     requires few { length (ascending (set_in B.Shape E.Endian bits)) < 100 }
@@ -55,7 +55,7 @@ fn each_owned_member<B: BitsOwned, E: Endian>(bits: B) -> u64
     total
 }
 
-/// Counts the unset bits of an owned set by a `for`.
+/// Counts the unset bits of an owned set with a `for` loop.
 fn each_owned_other<B: BitsOwned, E: Endian>(bits: B) -> u64
     requires fits { ShapeFits B.Shape bits }
     requires few { length (ascending (complement (set_in B.Shape E.Endian bits))) < 100 }
@@ -68,7 +68,7 @@ fn each_owned_other<B: BitsOwned, E: Endian>(bits: B) -> u64
     total
 }
 
-/// Counts the set bits of an owned set by its iterator.
+/// Counts the set bits of an owned set with the `count` of its iterator.
 fn counted<B: BitsOwned, E: Endian>(bits: B) -> usize
     requires fits { ShapeFits B.Shape bits }
     requires few { length (ascending (set_in B.Shape E.Endian bits)) < 2 ^ 64 }
@@ -77,7 +77,7 @@ fn counted<B: BitsOwned, E: Endian>(bits: B) -> usize
     bits.into_iter_ones_in::<E>().count()
 }
 
-/// Lists the set bits of a set in an order, from the last on.
+/// Lists the indexes of the set bits of a set in the order `E`, the greatest first.
 fn reversed<B: Bits, E: Endian>(alloc: Global, bits: &B) -> Result<Vec<u32>, AllocError>
     requires { ShapeFits B.Shape bits.now }
     ensures { IfOk result (λ v. v.items ≡ reverse (ascending (set_in B.Shape E.Endian bits.now))) }
@@ -85,7 +85,7 @@ fn reversed<B: Bits, E: Endian>(alloc: Global, bits: &B) -> Result<Vec<u32>, All
     bits.iter_ones_in::<E>().rev().collect(alloc)
 }
 
-/// Lists the set bits of a word, from the last on.
+/// Lists the indexes of the set bits of a word, the greatest first.
 fn word_reversed(alloc: Global, word: i16) -> Result<Vec<u32>, AllocError>
     ensures { IfOk result (λ v. v.items
         ≡ reverse (ascending (read_in false 16 (bit_set 16 (cast_unsigned w16 word))))) }
@@ -93,7 +93,7 @@ fn word_reversed(alloc: Global, word: i16) -> Result<Vec<u32>, AllocError>
     word.into_iter_ones_be().rev().collect(alloc)
 }
 
-/// Lists half of each zero of a word.
+/// Lists half the index of each unset bit of a word, in little-endian order.
 fn halves(alloc: Global, word: u8) -> Result<Vec<u32>, AllocError>
     ensures { IfOk result (λ v. v.items
         ≡ map (λ i. i / 2) (ascending (complement (read_in true 8 (bit_set 8 word))))) }
@@ -103,7 +103,7 @@ fn halves(alloc: Global, word: u8) -> Result<Vec<u32>, AllocError>
         .collect(alloc)
 }
 
-/// Counts the set bits of one word of any type by a `for`.
+/// Counts the set bits of one word of any type with a `for` loop.
 fn each_digit<T: Word, E: Endian>(word: T) -> u64
     requires { T.width < 1000 }
     ensures { result
@@ -116,7 +116,7 @@ fn each_digit<T: Word, E: Endian>(word: T) -> u64
     total
 }
 
-/// Lists the zeros of one word, from the last on.
+/// Lists the indexes of the unset bits of one word in little-endian order, the greatest first.
 fn lacking_reversed(alloc: Global, word: u32) -> Result<Vec<u32>, AllocError>
     ensures { IfOk result (λ v. v.items
         ≡ reverse (ascending (complement (read_in true 32 (bit_set 32 word))))) }

@@ -1,6 +1,4 @@
-//! Tests of what `bittle` answers, each from outside the library.
-//!
-//! Tests of functions that no user can name stand beside these, in the crate that has them.
+//! Tests of what the calls of `bittle` return on words, arrays and slices.
 #![tactic(auto)]
 
 #[cfg(test)]

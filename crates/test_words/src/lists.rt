@@ -1,4 +1,4 @@
-//! Lists, and the sets that they make.
+//! The sets that the macros `set!`, `set_le!` and `set_be!` make of lists.
 
 ghost use Rattle.std.specs.Prelude.{IsTrue};
 
@@ -7,14 +7,14 @@ use bittle::prelude::*;
 use bittle::{LittleEndian, Set, set, set_be, set_le};
 use std::process::Abort;
 
-// Asks for the words of lists, each by its name.
+// Checks the words that lists make. Each row has a name of the list, its word and the wanted word.
 fn each_is(rt: &impl Abort, lists: &[(&str, u8, u8)]) {
     for (list, word, want) in lists {
         same!(rt; (*list, *word), (*list, *want));
     }
 }
 
-// One list in the order of the type, in little-endian and in big-endian order.
+// One list of indexes in the order of the type, in little-endian and in big-endian order.
 fn three_indexes() -> [u8; 3] {
     [set![0, 1, 3], set_le![0, 1, 3], set_be![0, 1, 3]]
 }
@@ -33,7 +33,7 @@ fn words_of_lists(rt: HostRuntime) {
     each_is(&rt, &lists);
 }
 
-/// A field that holds an index.
+/// Holds an index in a field.
 #[derive(Drop)]
 struct Place {
     x: u32,
@@ -61,12 +61,12 @@ fn words_of_indexes_beside_others_of_their_form(rt: HostRuntime) {
     );
 }
 
-// A closed and an open range in the order of the type, in little-endian and in big-endian order.
+// The list `0..=4, 6..` in the order of the type, in little-endian and in big-endian order.
 fn two_ranges() -> [u8; 3] {
     [set![0..=4, 6..], set_le![0..=4, 6..], set_be![0..=4, 6..]]
 }
 
-// Ranges that end before they start.
+// Empty ranges: two end before they start, and one ends where it starts.
 fn reversed_ranges() -> u8 {
     set_le![5..=4, 255..=0, 3..3]
 }
@@ -89,7 +89,7 @@ fn words_of_ranges(rt: HostRuntime) {
     each_is(&rt, &lists);
 }
 
-// Ranges that end at the greatest index, or before it.
+// Ranges that end at the greatest `u32`, or one before it.
 fn far_ranges() -> [u8; 3] {
     [
         set![0..=4294967295],
@@ -116,7 +116,7 @@ fn words_of_ranges_past_the_capacity(rt: HostRuntime) {
     each_is(&rt, &lists);
 }
 
-// The set of 1 and 12, by a list, which is asked to be the one by calls.
+// Returns the set of 1 and 12 from a list, and checks that calls of `with_bit` make the same set.
 fn listed_as_called<B: BitsOwned>(rt: &impl Abort) -> B
     requires { IsTrue B.indexable }
 {
@@ -125,12 +125,12 @@ fn listed_as_called<B: BitsOwned>(rt: &impl Abort) -> B
     listed
 }
 
-// Two arrays of a list.
+// Two arrays, each made of a list.
 fn listed_arrays() -> ([u16; 2], [u8; 2]) {
     (set![31, 7], set_le![7, 11])
 }
 
-// How many indexes of an array of a list are set, and how many are not.
+// Makes an array of a list, and returns how many of its bits are set and how many are unset.
 fn counts_of_three() -> (u32, u32) {
     let bytes: [u8; 2] = set![4, 11, 14];
     (bytes.count_ones(), bytes.count_zeros())
@@ -146,17 +146,17 @@ fn other_types(rt: HostRuntime) {
     same!(rt; counts_of_three(), (3, 13));
 }
 
-// Indexes and ranges of which each kind stands before each other, in the order of the type.
+// A list that mixes indexes with ranges of each kind, in the order of the type.
 fn mixed(index: u32, slot: u32) -> [u32; 4] {
     set![120.., index, 34..=36, 66..68, slot]
 }
 
-// The same in big-endian order.
+// The same list in big-endian order.
 fn mixed_be(index: u32, slot: u32) -> [u32; 4] {
     set_be![120.., index, 34..=36, 66..68, slot]
 }
 
-// The same in little-endian order.
+// The same list in little-endian order.
 fn mixed_le(index: u32, slot: u32) -> [u32; 4] {
     set_le![120.., index, 34..=36, 66..68, slot]
 }
@@ -181,12 +181,12 @@ fn each_item_at_the_end(rt: HostRuntime) {
     same!(rt; word, 0b1010_1101);
 }
 
-// Open ranges from 0 in the order of the type, in little-endian and in big-endian order.
+// The list `0..` in the order of the type, in little-endian and in big-endian order.
 fn full() -> [[u32; 4]; 3] {
     [set![0..], set_le![0..], set_be![0..]]
 }
 
-// Open ranges from another index, in the same orders.
+// Ranges without an end that start past 0, in the same three orders.
 fn open() -> [[u32; 4]; 3] {
     [set![100..], set_le![100..], set_be![100.., 33..]]
 }

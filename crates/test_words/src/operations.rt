@@ -1,4 +1,4 @@
-//! Operations on two sets, and changes of owned sets, with values worked out by hand.
+//! Operations on two sets, and sets with one bit changed, compared with values worked out by hand.
 
 ghost use Rattle.std.specs.Prelude.{IsTrue};
 
@@ -8,7 +8,7 @@ use bittle::{LittleEndian, set, set_le};
 use std::fmt::Debug;
 use std::process::Abort;
 
-// Names the operations that change a set by another one.
+// The operations that change a set, with another set as argument.
 #[derive(Clone, Copy)]
 enum Change {
     Union,
@@ -17,7 +17,7 @@ enum Change {
     SymmetricDifference,
 }
 
-// Changes a set by another one.
+// Applies an operation to a set, with `other` as argument.
 fn alter<B: BitsMut>(set: &mut B, by: Change, other: &B) {
     match by {
         Change::Union => set.union_assign(other),
@@ -27,7 +27,7 @@ fn alter<B: BitsMut>(set: &mut B, by: Change, other: &B) {
     }
 }
 
-// Changes a slice by another one.
+// Applies an operation to a slice, with another slice as argument.
 fn change_slice<'a>(mut set: &'a mut [u8], by: Change, other: &'a mut [u8]) {
     alter(&mut set, by, &other);
 }
@@ -59,8 +59,8 @@ fn unions_change_the_common_beginning_alone(rt: HostRuntime) {
     same!(rt; short, [0x0F, 0x00]);
 }
 
-// Asks for what the operations make of two sets: the union, the conjunction, what is in the first
-// alone and in the second alone, and what is in just one.
+// Checks what the operations make of two sets: the union, the conjunction, the difference in both
+// directions, and the symmetric difference.
 fn operations_of<B: BitsOwned + Debug>(rt: &impl Abort, one: B, other: B, expected: [B; 5]) {
     let made = [
         one.union(other),
@@ -121,14 +121,14 @@ fn words_with_and_without_an_index(rt: HostRuntime) {
     same!(rt; 0i128.with_bit_le(u32::MAX), 1);
 }
 
-// Asks for the set with one index in big-endian order and with another in little-endian order.
+// Checks a set after bit `big` is set in big-endian order, and bit `little` in little-endian order.
 fn with_each_way<B: BitsOwned + Debug>(rt: &impl Abort, bits: B, big: u32, little: u32, want: B)
     requires { IsTrue B.indexable }
 {
     same!(rt; bits.with_bit_be(big).with_bit_le(little), want);
 }
 
-// Asks for the set with an index, in the order of the type and in little-endian order.
+// Checks the set with bit `index` set: in the order of the type, and in little-endian order.
 fn with_one<B: BitsOwned + Debug>(rt: &impl Abort, bits: B, index: u32, want: B, little: B)
     requires { IsTrue B.indexable }
 {
@@ -136,7 +136,7 @@ fn with_one<B: BitsOwned + Debug>(rt: &impl Abort, bits: B, index: u32, want: B,
     same!(rt; bits.with_bit_le(index), little);
 }
 
-// Whether the set with an index and without another is empty.
+// Returns whether a set is empty after one bit is set and another is cleared.
 fn is_empty_with_and_without<B: BitsOwned>(bits: B, with: u32, without: u32) -> bool
     requires { IsTrue B.indexable }
 {

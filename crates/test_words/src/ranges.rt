@@ -1,4 +1,4 @@
-//! Ranges that macros list, those that are set, cleared and flipped, and counts of a range.
+//! Ranges in the lists of macros, and calls that set, clear, flip or count the bits of a range.
 
 ghost use Rattle.std.specs.Prelude.{◌≤◌, IsTrue};
 ghost use Rattle.bittle.specs.Values.{ShapeFits};
@@ -43,12 +43,12 @@ fn ranges_in_signed_words(rt: HostRuntime) {
     same!(rt; wide, 0xFFFF_FFFF_FFFF_FFFF_0000_0000_0000_0000);
 }
 
-// Ranges in the first word, over a border and of whole words.
+// A range inside the first word, one over the borders of words, and two of a whole word.
 fn in_three_words() -> [[u8; 3]; 4] {
     [set![3..6], set![5..18], set![0..8], set![8..16]]
 }
 
-// Ranges over one border, in the last word and of no index.
+// A range over one border of words, two in the last word, and an empty one.
 fn at_borders() -> [[u8; 3]; 4] {
     [set![7..9], set![16..24], set![23..=23], set![8..8]]
 }
@@ -61,12 +61,12 @@ fn ranges_in_three_words(rt: HostRuntime) {
     same!(rt; at_borders(), expected);
 }
 
-// Ranges in little-endian order in the first word, over a border and of a whole word.
+// Little-endian ranges: inside the first word, over the borders of words, and of a whole word.
 fn mirrored_in_three_words() -> [[u8; 3]; 3] {
     [set_le![3..6], set_le![5..18], set_le![8..16]]
 }
 
-// Ranges in little-endian order over one border and in the last word, and one in big-endian order.
+// Little-endian ranges over a border of words and in the last word, and a big-endian range.
 fn mirrored_at_borders() -> [[u8; 3]; 3] {
     [set_le![7..9], set_le![23..=23], set_be![5..18]]
 }
@@ -84,12 +84,12 @@ fn past_the_capacity() -> [[u8; 2]; 3] {
     [set![12..20], set![28..36], set_le![12..20]]
 }
 
-// A range of the last index and the first, and one of the greatest indexes.
+// A range of the last index and the next one, which wraps to 0. A range of the greatest indexes.
 fn past_the_last() -> [[u8; 2]; 2] {
     [set![15..=16], set![4294967290..=4294967295]]
 }
 
-// The same with a capacity that is no power of two.
+// Two ranges past the capacity 24, which is no power of two.
 fn past_three_words() -> [[u8; 3]; 2] {
     [set![20..28], set![4294967290..=4294967295]]
 }
@@ -101,12 +101,12 @@ fn ranges_that_wrap(rt: HostRuntime) {
     same!(rt; past_three_words(), [[0x0F, 0, 0xF0], [0, 0xFC, 0]]);
 }
 
-// Ranges of as many indexes as the capacity, or more.
+// Ranges of at least as many indexes as the capacity.
 fn all_indexes() -> [[u8; 2]; 4] {
     [set![5..50], set![5..21], set![0..16], set![0..=4294967295]]
 }
 
-// Ranges of one index less than the capacity.
+// Ranges of 15 indexes, one fewer than the capacity.
 fn all_but_one() -> [[u8; 2]; 3] {
     [set![5..20], set_le![5..20], set![1..16]]
 }
@@ -129,7 +129,7 @@ fn ranges_in_long_rows(rt: HostRuntime) {
     same!(rt; words, [0x8000_0000_0000_0000, 1]);
 }
 
-// Asks for ranges over borders of inner and outer elements.
+// Checks ranges in nested arrays, over the borders of inner and of outer elements.
 fn in_nested_rows<B: BitsOwned + Debug>(rt: &impl Abort, expected: [B; 5])
     requires { IsTrue B.indexable }
 {
@@ -155,7 +155,7 @@ fn ranges_in_nested_rows(rt: HostRuntime) {
     in_nested_rows(&rt, expected);
 }
 
-// Lists ranges beside other items, and one alone.
+// Two lists of ranges and indexes, and a list of one range.
 fn beside_members<B: BitsOwned>() -> [B; 3]
     requires { IsTrue B.indexable }
 {
@@ -170,7 +170,7 @@ fn ranges_beside_members(rt: HostRuntime) {
     same!(rt; remembered.into_bits(), [0x0F, 0xF0]);
 }
 
-// Asks that ranges have no index in a set without capacity.
+// Checks that ranges set no bit in a set of capacity 0.
 fn without_capacity<B: BitsOwned + Debug>(rt: &impl Abort, expected: [B; 3])
     requires { IsTrue B.indexable }
 {
@@ -200,7 +200,7 @@ fn ranges_in_slices(rt: HostRuntime) {
     same!(rt; bytes, [0xF0, 0, 0x0F, 0]);
 }
 
-// Asks for the set after `from..to` is set, cleared and flipped.
+// Checks what setting, clearing and flipping the bits `from..to` each make of a set.
 fn changes<B: BitsOwned + Debug, E: Endian>(
     rt: &impl Abort,
     bits: B,
@@ -284,7 +284,7 @@ fn ranges_of_sets_and_slices_change(rt: HostRuntime) {
     same!(rt; bytes, [0xFE, 0xE0, 0x00, 0xFC]);
 }
 
-// How many bits of each range are set, in the order that the call names.
+// Returns whether each range has the wanted number of set bits, in the order `E`.
 fn counts<B: Bits, E: Endian>(bits: &B, ranges: &[(u32, u32)], wanted: &[u32]) -> bool
     requires { ShapeFits B.Shape bits.now }
 {
@@ -313,7 +313,7 @@ fn ranges_of_a_word_are_counted(rt: HostRuntime) {
         (4, 4),
         (8, 8),
     ];
-    // Bits 1, 2 and 7, which are 6, 5 and 0 from the left.
+    // Set bits: 1, 2 and 7 in big-endian order; 0, 5 and 6 in little-endian order.
     let word = 0b1000_0110u8;
     holds!(rt; counts::<u8, BigEndian>(&word, &ranges, &[3, 0, 2, 1, 1, 1, 0, 0]));
     holds!(rt; counts::<u8, LittleEndian>(&word, &ranges, &[3, 1, 0, 0, 2, 0, 0, 0]));
@@ -338,7 +338,7 @@ fn ranges_of_rows_are_counted(rt: HostRuntime) {
         (23, 24),
         (8, 8),
     ];
-    // Bits 4 to 19, which are 0 to 3, 8 to 15 and 20 to 23 from the left of each byte.
+    // Set bits: 4 to 19 in big-endian order; 0 to 3, 8 to 15 and 20 to 23 in little-endian order.
     let row = [0xF0u8, 0xFF, 0x0F];
     holds!(rt; counts::<[u8; 3], BigEndian>(&row, &ranges, &[16, 15, 4, 8, 2, 6, 16, 0, 0]));
     holds!(rt; counts::<[u8; 3], LittleEndian>(&row, &ranges, &[16, 10, 4, 8, 1, 6, 8, 1, 0]));

@@ -1,4 +1,4 @@
-//! Each call over every value of the words of 8 digits, against plain arithmetic.
+//! Calls on every value of `u8` and `i8`, compared with plain arithmetic.
 
 ghost use Rattle.std.specs.Prelude.{◌<◌, IsTrue};
 ghost use Rattle.bittle.specs.Values.{ShapeFits};
@@ -10,7 +10,7 @@ use bittle::{BigEndian, Endian, LittleEndian};
 use bittle_bits::extension::Word;
 use std::process::Abort;
 
-// How many ones the numbers from 0 to 15 have.
+// The number of set bits in each of the numbers 0 to 15.
 const ONES_OF_HALF: [u8; 16] = [0, 1, 1, 2, 1, 2, 2, 3, 1, 2, 2, 3, 2, 3, 3, 4];
 
 #[test]
@@ -28,7 +28,7 @@ fn every_byte(rt: HostRuntime) {
     }
 }
 
-// Asks for the counts of a byte and of the signed one of the same digits.
+// Checks the counts of a byte, and of the `i8` with the same bits.
 fn counts(rt: &impl Abort, byte: u8, signed: i8) {
     let high = ONES_OF_HALF[(byte / 16) as usize];
     let low = ONES_OF_HALF[(byte % 16) as usize];
@@ -38,7 +38,7 @@ fn counts(rt: &impl Abort, byte: u8, signed: i8) {
     same!(rt; counts_of(&signed), expected);
 }
 
-// Returns how many bits are set and unset, and whether all are unset and set.
+// Returns how many bits are set, how many are unset, whether all are unset, whether all are set.
 fn counts_of<B: Bits>(bits: &B) -> (u32, u32, bool, bool)
     requires { ShapeFits B.Shape bits.now }
 {
@@ -50,7 +50,7 @@ fn counts_of<B: Bits>(bits: &B) -> (u32, u32, bool, bool)
     )
 }
 
-// Makes the calls on one digit of a byte and of the signed one of the same digits, in both orders.
+// Checks the calls on one bit of a byte, and of the `i8` with the same bits, in both orders.
 fn at_digit(rt: &impl Abort, byte: u8, signed: i8, index: u32)
     requires { index < 8 }
 {
@@ -73,7 +73,7 @@ fn at_digit(rt: &impl Abort, byte: u8, signed: i8, index: u32)
     at_index::<i8, LittleEndian>(rt, signed, 7 - index, digit, signed_two);
 }
 
-// The calls on one index, and on one that wraps to it.
+// Checks the calls on one index, and on greater indexes that wrap to it.
 fn at_index<T: BitsOwned, E: Endian>(
     rt: &impl Abort,
     word: T,
@@ -92,7 +92,8 @@ fn at_index<T: BitsOwned, E: Endian>(
     same!(rt; [with == changed.0, without == changed.1], [true; 2]);
 }
 
-// The searches and the iterators of a word whose set bits in the order are those of the byte.
+// Checks the searches and the iterators of a word. In the order `E` the word has the same set bits
+// as the byte `members` has from the right.
 fn walks<T: Word, E: Endian>(rt: &impl Abort, word: T, members: u8) {
     searches::<T, E>(rt, word, members);
     walks_from_the_front(rt, IterOnes::<T, E>::new(word), members);
@@ -114,31 +115,31 @@ fn searches_of_ones<T: Word, E: Endian>(word: T) -> (u32, u32) {
     (E::ones(word), E::ones_rev(word))
 }
 
-// How many digits below the least set one, and above the greatest.
+// Returns how many bits are below the least set bit, and how many above the greatest.
 fn zeros_at_the_ends(members: u8) -> (u32, u32) {
     (members.trailing_zeros(), members.leading_zeros())
 }
 
-// How many digits below the least unset one, and above the greatest.
+// Returns how many bits are below the least unset bit, and how many above the greatest.
 fn ones_at_the_ends(members: u8) -> (u32, u32) {
     (members.trailing_ones(), members.leading_ones())
 }
 
-// Takes what an iterator yields from the front.
+// Takes the next item from the front of an iterator.
 fn front<W: Iterator<Item = u32>>(walk: &mut W) -> Option<u32>
     requires { (w : W) → W.can_next w }
 {
     walk.next()
 }
 
-// Takes what an iterator yields from the back.
+// Takes the next item from the back of an iterator.
 fn back<W: DoubleEndedIterator<Item = u32>>(walk: &mut W) -> Option<u32>
     requires { (w : W) → W.can_next_back w }
 {
     walk.next_back()
 }
 
-// Asks an iterator for the digits of a byte that are one, from the least on.
+// Checks that an iterator yields the indexes of a byte's set bits in increasing order.
 fn walks_from_the_front<W: Iterator<Item = u32>>(rt: &impl Abort, mut walk: W, members: u8)
     requires { (w : W) → W.can_next w }
 {
@@ -150,7 +151,7 @@ fn walks_from_the_front<W: Iterator<Item = u32>>(rt: &impl Abort, mut walk: W, m
     same!(rt; front(&mut walk), None);
 }
 
-// Asks an iterator for the digits of a byte that are one, from the greatest on.
+// Checks that an iterator yields from the back the indexes of a byte's set bits, greatest first.
 fn walks_from_the_back<W: DoubleEndedIterator<Item = u32>>(
     rt: &impl Abort,
     mut walk: W,

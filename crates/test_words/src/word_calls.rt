@@ -1,4 +1,4 @@
-//! Words of all widths, at their borders.
+//! Calls on words: single calls, iterators, and words of every width with extreme values.
 
 ghost use Rattle.std.specs.Iterator.{IsFinite};
 ghost use Rattle.std.specs.Prelude.{◌<◌};
@@ -76,7 +76,7 @@ fn clones_go_on_from_their_source(rt: HostRuntime) {
     holds!(rt; source.clone().unwrap().eq([13, 14, 15]));
 }
 
-// Whether an iterator yields these from the last on.
+// Returns whether the reversed iterator yields these items.
 fn is_reversed<W: DoubleEndedIterator<Item = u32>>(walk: W, items: &[u32]) -> bool
     requires front { (w : W) → W.can_next w }
     requires back { (w : W) → W.can_next_back w }
@@ -85,12 +85,12 @@ fn is_reversed<W: DoubleEndedIterator<Item = u32>>(walk: W, items: &[u32]) -> bo
     walk.rev().eq(items.iter().copied())
 }
 
-// Whether the ones of a word in little-endian order are these from the last on.
+// Returns whether `items` are the set bits of a word in little-endian order, the greatest first.
 fn are_ones_reversed<T: Word>(word: T, items: &[u32]) -> bool {
     is_reversed(IterOnes::<T, LittleEndian>::new(word), items)
 }
 
-// Whether the zeros of a word in little-endian order are these from the last on.
+// Returns whether `items` are the unset bits of a word in little-endian order, the greatest first.
 fn are_zeros_reversed<T: Word>(word: T, items: &[u32]) -> bool {
     is_reversed(IterZeros::<T, LittleEndian>::new(word), items)
 }
@@ -128,8 +128,8 @@ fn every_type_at_its_borders(rt: HostRuntime) {
     at_borders(&rt, 64, 0isize, -1, isize::MIN, 1);
 }
 
-// The word without a digit, with all, with its greatest alone, which is the least signed value, and
-// with its least alone.
+// Checks four words: `none` has no set bit, `all` has every bit set, `top` has only the leftmost
+// bit set (in a signed type this is the least value), and `least` has only the rightmost bit set.
 fn at_borders<T: Word + Bits>(rt: &impl Abort, width: u32, none: T, all: T, top: T, least: T)
     requires positive { 0 < width }
     requires none_fits { ShapeFits T.Shape none }
@@ -145,7 +145,7 @@ fn at_borders<T: Word + Bits>(rt: &impl Abort, width: u32, none: T, all: T, top:
     walks_alone::<T, LittleEndian>(rt, least, width - 1, width);
 }
 
-// Asks for the counts of the word without a digit and with all.
+// Checks the counts of a word without set bits, and of a word with all bits set.
 fn counts<T: Bits>(rt: &impl Abort, width: u32, none: T, all: T)
     requires none_fits { ShapeFits T.Shape none }
     requires all_fits { ShapeFits T.Shape all }
@@ -154,8 +154,8 @@ fn counts<T: Bits>(rt: &impl Abort, width: u32, none: T, all: T)
     holds!(rt; none.all_zeros() && !none.all_ones() && all.all_ones() && !all.all_zeros());
 }
 
-// The set bits are those from one index on and below another: from the front, and from the back of
-// what the other word lacks.
+// Checks that the set bits of a word are `from..to`. An iterator over set bits yields them from the
+// front. An iterator over the unset bits of the complement yields them from the back.
 fn walks_alone<T: Word, E: Endian>(rt: &impl Abort, word: T, from: u32, to: u32) {
     ones_alone::<T, E>(rt, word, from, to);
     zeros_alone::<T, E>(rt, word.not(), from, to);
