@@ -1,5 +1,5 @@
--- The entity machine: its state is which entities are alive and which components each has, and
--- each event has an answer and a next state. An entity and a component are numbers.
+-- The entity machine: its state tells which entities are alive and which components each entity
+-- has, and each event has an answer and a next state. Entities and components are numbers.
 use Rattle.std.specs.List.{fold, scan, list_all}
 use Rattle.std.specs.Prelude.{◌≡◌, ℕ, ◌<◌, ◌≤◌, Bool, true, false, ◌&&◌, ◌==◌, nat_lt, if◌then◌else◌}
 use Rattle.std.specs.Prelude.{Option, Some, None, List, slice_get}
@@ -9,7 +9,7 @@ use Rattle.bit_entities.specs.declared.Event.TheVariants.{Spawn, Remove, Attach,
 use Rattle.bit_entities.specs.declared.Answer.{Answer}
 use Rattle.bit_entities.specs.declared.Answer.TheVariants.{Spawned, Full, Done, Refused}
 
--- the entities that are alive, how many components there are, and whether an entity has one
+-- the entities that are alive, how many components there are, and whether an entity has a component
 pub record World : Type 0 where
   pub alive : PlainSet
   pub components : ℕ
@@ -32,11 +32,11 @@ least_dead w = slice_get (ascending (complement w.alive)) 0
 abbrev pub may_have : World → ℕ → ℕ → Bool
 may_have w entity component = nat_lt component w.components && w.alive.has entity
 
--- the set with a number, or without it
+-- the set s with the number i if `is` is true, and else without this number
 abbrev pub with_number : PlainSet → ℕ → Bool → PlainSet
 with_number s i is = record { capacity = s.capacity; has = λ k. if k == i then is else s.has k }
 
--- the world with one more living entity, which has no component
+-- the world in which the entity `entity` is alive too; no component changes
 abbrev pub with_living : World → ℕ → World
 with_living w entity = record {
   alive = with_number w.alive entity true;
@@ -44,7 +44,7 @@ with_living w entity = record {
   has = w.has;
 }
 
--- the world in which an entity has lost each of its components below a number
+-- the world in which an entity has lost each of its components below `many`
 abbrev pub without_first : World → ℕ → ℕ → World
 without_first w entity many = record {
   alive = w.alive;
@@ -60,7 +60,7 @@ without_entity w entity = record {
   has = λ k c. if k == entity then false else w.has k c;
 }
 
--- the world in which an entity has a component, or has it no longer
+-- the world in which an entity has a component if `is` is true, and else lacks this component
 abbrev pub with_component : World → ℕ → ℕ → Bool → World
 with_component w entity component is = record {
   alive = w.alive;
@@ -68,12 +68,12 @@ with_component w entity component is = record {
   has = λ k c. if (k == entity) && (c == component) then is else w.has k c;
 }
 
--- the answer to a spawn: the entity that was found, or Full if none was; then the world after the
--- spawn
+-- the answer to a spawn: the entity that was found, or Full if none was found
 abbrev pub spawned_or_full : Option ℕ → Answer
 spawned_or_full None = Full
 spawned_or_full (Some entity) = Spawned entity
 
+-- the world after a spawn: the entity that was found, if any, is alive too
 abbrev pub with_spawned : World → Option ℕ → World
 with_spawned w None = w
 with_spawned w (Some entity) = with_living w entity
@@ -111,12 +111,13 @@ matching w required = record {
   has = λ entity. w.alive.has entity && list_all (w.has entity) required;
 }
 
--- a mask includes each living entity that has the required components, and has only living ones
+-- each living entity that has the required components is in the mask, and each entity in the mask
+-- is alive
 pub record LeadsTo (w : World) (required : List ℕ) (mask : PlainSet) : Type 0 where
   pub has_all : (entity : ℕ) → (matching w required).has entity ≡ true → mask.has entity ≡ true
   pub are_alive : (entity : ℕ) → mask.has entity ≡ true → w.alive.has entity ≡ true
 
--- no number from the capacity on is a member
+-- no number at or past the capacity is a member
 abbrev pub EndsAtCapacity : PlainSet → Type 0
 EndsAtCapacity s = (k : ℕ) → s.capacity ≤ k → s.has k ≡ false
 
@@ -127,11 +128,12 @@ having w mask component = record {
   has = λ entity. mask.has entity && w.has entity component;
 }
 
--- the world given by a mask of the living and a row of masks, one for each component
+-- whether a mask exists and has the entity as a member
 abbrev pub is_in : {X : Type 0} → (X → PlainSet) → Option X → ℕ → Bool
 is_in set None entity = false
 is_in set (Some mask) entity = (set mask).has entity
 
+-- the world given by a mask of the living entities and a row of masks, one for each component
 abbrev pub world_of : {X : Type 0} → ℕ → (X → PlainSet) → X → List X → World
 world_of count set alive components = record {
   alive = set alive;

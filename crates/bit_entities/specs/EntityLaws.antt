@@ -19,7 +19,8 @@ DeadHaveNothing =
     (capacity count : ℕ) (events : List Event)
     → IsWorld (final_world (empty_world capacity count) events)
 
--- an entity is new: the least number that was not alive, and it has no component
+-- an entity is new: it is the least number that was not alive before, and now it is alive and has
+-- no component
 pub record IsNew (before after : World) (entity : ℕ) : Type 0 where
   pub below : entity < before.alive.capacity
   pub was_dead : before.alive.has entity ≡ false
@@ -48,7 +49,7 @@ RefusedChangesNothing =
     → (answer_to w event ≡ Refused) ⊎ (answer_to w event ≡ Full)
     → world_after w event ≡ w
 
--- an answer of a list is the answer to its event in the world that the events before it leave
+-- `reply` is the answer to event i of a list, in the world that the events before it leave
 pub record IsAnsweredAt (w : World) (events : List Event) (i : ℕ) (reply : Answer) : Type 0 where
   pub event : Event
   pub asked : slice_get events i ≡ Some event
@@ -69,15 +70,16 @@ SpawnedAreRemovedBetween =
     → slice_get (event_answers w events) j ≡ Some (Spawned entity)
     → (k : ℕ) × (i < k) × (k < j) × (slice_get events k ≡ Some (Remove entity))
 
--- an entity was given a component at a place of the list, and kept it from there on
+-- event k of a list gave the entity the component, and no later event removed the entity or took
+-- the component away
 pub record IsKeptFrom (w : World) (events : List Event) (entity component k : ℕ) : Type 0 where
   pub asked : slice_get events k ≡ Some (Attach entity component)
   pub done : slice_get (event_answers w events) k ≡ Some Done
   pub not_removed : (j : ℕ) → k < j → slice_get events j ≢ Some (Remove entity)
   pub not_detached : (j : ℕ) → k < j → slice_get events j ≢ Some (Detach entity component)
 
--- an entity without a component has it after a list of events exactly if the list gives it, and
--- since then neither removes the entity nor takes the component away
+-- an entity that lacks a component has the component after a list of events exactly if an event
+-- gives it, and no later event removes the entity or takes the component away
 abbrev pub ComponentsAreThoseKept : Type 0
 ComponentsAreThoseKept =
     (w : World) (events : List Event) (entity component : ℕ)
@@ -86,14 +88,14 @@ ComponentsAreThoseKept =
     → ((final_world w events).has entity component ≡ true)
     ↔ ((k : ℕ) × IsKeptFrom w events entity component k)
 
--- a list visits the members from a number on: first the least one, and then the members past that
--- one
+-- the list visits the members that are at least `from`: first the least of them, and then the
+-- members past it
 unfoldable pub VisitsFrom : PlainSet → ℕ → List ℕ → Type 0
 VisitsFrom s from [] = NoneIn s from s.capacity
 VisitsFrom s from (entity ∷ rest) =
     IsFirstIn s from s.capacity (Some entity) × VisitsFrom s (suc entity) rest
 
--- a query visits each living entity that has the components once, in increasing order
+-- a query visits just the living entities that have the components, each once, in increasing order
 abbrev pub QueriesVisitEachOnce : Type 0
 QueriesVisitEachOnce =
     (w : World) (required : List ℕ)

@@ -1,7 +1,7 @@
 //! The main theorems of entities: what holds of every list of events. Each function does nothing:
 //! its contract is the law. The laws speak of the machine in `specs/Entities.antt`. The contract of
-//! `serve` states that it runs this machine. The laws also speak of `matching`, the set that the
-//! call `matching` returns.
+//! `serve` states that `serve` answers as this machine does. The laws also speak of `matching`, the
+//! set that the call `matching` returns.
 
 ghost use Rattle.bit_entities.specs.EntityLaws.{WorldsStayWorlds, DeadHaveNothing, SpawnedAreNew};
 ghost use Rattle.bit_entities.specs.EntityLaws.{FullExactlyIfAllAreAlive, RefusedChangesNothing};
@@ -24,7 +24,7 @@ pub fn spawned_are_new()
     ensures { SpawnedAreNew }
 {}
 
-/// States that a spawn finds no number exactly if each number is alive.
+/// States that a spawn is answered by `Full` exactly if each number is alive.
 pub fn full_exactly_if_all_are_alive()
     ensures { FullExactlyIfAllAreAlive }
 {}
@@ -34,8 +34,8 @@ pub fn refused_changes_nothing()
     ensures { RefusedChangesNothing }
 {}
 
-/// States that each answer of a list is the answer to its event in the world that the events before
-/// it leave. So what holds of one answer and its world holds at each place of the list.
+/// States that answer `i` of a list is the answer to event `i` in the world that the events before
+/// it leave. So what holds of one answer in any world holds of each answer of the list.
 pub fn answers_are_of_their_worlds()
     ensures { AnswersAreOfTheirWorlds }
 {}
@@ -45,14 +45,14 @@ pub fn spawned_are_removed_between()
     ensures { SpawnedAreRemovedBetween }
 {}
 
-/// States that an entity has a component exactly if it was given the component, and since then
-/// neither was removed nor lost the component.
+/// States that an entity that lacks a component has the component after a list of events exactly if
+/// the list gives it, and afterwards neither removes the entity nor takes the component away.
 pub fn components_are_those_kept()
     ensures { ComponentsAreThoseKept }
 {}
 
-/// States that a query visits each living entity that has the components once, in increasing
-/// order.
+/// States that a query visits just the living entities that have the components, each once and in
+/// increasing order.
 pub fn queries_visit_each_once()
     ensures { QueriesVisitEachOnce }
 {}

@@ -1,4 +1,5 @@
-//! Entities with components. Each component has a mask of the entities that have it.
+//! Entities with components. Each component has a mask: the set of the entities that have the
+//! component.
 //!
 //! An entity is a number below the capacity of the masks, and a component is a number below `N`. An
 //! entity is alive from its spawn to its removal, and only a living one has components: a number
@@ -38,23 +39,23 @@ mod queries;
 
 use bittle::BitsOwned;
 
-/// What happens to a world.
+/// An event that a world serves.
 #[derive(Clone, Copy, Debug, PartialEq, Eq)]
 pub enum Event {
     /// Asks for a new entity: answered by [`Answer::Spawned`] or [`Answer::Full`].
     Spawn,
     /// Removes an entity with its components.
     Remove(u32),
-    /// Gives an entity a component: the entity, and the component.
+    /// Gives a component to an entity. The first number is the entity, the second the component.
     Attach(u32, u32),
-    /// Takes a component from an entity: the entity, and the component.
+    /// Takes a component from an entity. The first number is the entity, the second the component.
     Detach(u32, u32),
 }
 
 /// The answer to an event.
 #[derive(Clone, Copy, Debug, PartialEq, Eq)]
 pub enum Answer {
-    /// The entity is alive, and has no component.
+    /// The new entity. It is alive, and has no component.
     Spawned(u32),
     /// Nothing changed: each number is alive.
     Full,
@@ -64,7 +65,7 @@ pub enum Answer {
     Refused,
 }
 
-/// The entities that are alive, and for each of `N` components those that have it.
+/// The entities that are alive, and for each of `N` components the entities that have it.
 ///
 /// The type guarantees that its masks fit, and that no dead entity has a component.
 #[derive(Drop)]
@@ -87,9 +88,10 @@ impl<B: BitsOwned, const N: usize> World<B, N> {
         World::with_alive(B::zeros())
     }
 
-    /// Returns a world in which the set bits of a mask are alive, in the order of the type. They
-    /// have no components. The type has to fit, as for [`new`](World::new). It writes the mask and
-    /// the words of the `N` components once. With capacity 0 there is no entity.
+    /// Returns a world in which an entity is alive if its bit is set in the mask `alive`, and no
+    /// entity has a component. The indexes follow the bit order of `B`. The type has to fit, as for
+    /// [`new`](World::new). The call writes this mask and the masks of the `N` components once.
+    /// With capacity 0 there is no entity.
     ///
     /// `World::<u64, 2>::with_alive(0b1011)` has the entities 0, 1 and 3.
     pub fn with_alive(alive: B) -> World<B, N>
@@ -123,9 +125,9 @@ impl<B: BitsOwned, const N: usize> World<B, N> {
         }
     }
 
-    /// Spawns an entity without components, and returns it. Its number is the least one that is not
-    /// alive. If all numbers are alive, it returns `None` and changes nothing. It reads the words
-    /// up to the one that has the number.
+    /// Spawns an entity without components, and returns its number: the least that is not alive. If
+    /// all numbers are alive, the call changes nothing and returns `None`. The call reads the words
+    /// of one mask up to the one with the bit of this number.
     pub fn spawn(&mut self) -> Option<u32>
         ensures entity { result ≡ least_dead (world_of N (set_in B.Shape B.Order.Endian)
             self.old.alive self.old.components) }
@@ -148,8 +150,8 @@ impl<B: BitsOwned, const N: usize> World<B, N> {
         Some(entity)
     }
 
-    /// Removes an entity with its components, and returns `true`. If it is not alive, it returns
-    /// `false` and changes nothing. It clears one bit of each mask.
+    /// Removes an entity and its components, and returns `true`. If the entity is not alive, the
+    /// call changes nothing and returns `false`. The call clears one bit of each mask.
     pub fn remove(&mut self, entity: u32) -> bool
         ensures done { let before = world_of N (set_in B.Shape B.Order.Endian) self.old.alive
             self.old.components in result ≡ before.alive.has entity }
@@ -177,9 +179,9 @@ impl<B: BitsOwned, const N: usize> World<B, N> {
         (component as usize) < N && self.is_alive(entity)
     }
 
-    /// Gives an entity a component, and returns `true`, also if the entity had the component
-    /// before. If the entity is not alive, or there is no such component, it returns `false` and
-    /// changes nothing.
+    /// Gives an entity a component, and returns `true`, even if the entity had the component
+    /// before. If the entity is not alive, or there is no such component, the call changes nothing
+    /// and returns `false`.
     pub fn attach(&mut self, entity: u32, component: u32) -> bool
         ensures done { result ≡ may_have (world_of N (set_in B.Shape B.Order.Endian)
             self.old.alive self.old.components) entity component }
@@ -196,9 +198,9 @@ impl<B: BitsOwned, const N: usize> World<B, N> {
         true
     }
 
-    /// Takes a component from an entity, and returns `true`, also if the entity lacked the
-    /// component. If the entity is not alive, or there is no such component, it returns `false` and
-    /// changes nothing.
+    /// Takes a component from an entity, and returns `true`, even if the entity lacked the
+    /// component. If the entity is not alive, or there is no such component, the call changes
+    /// nothing and returns `false`.
     pub fn detach(&mut self, entity: u32, component: u32) -> bool
         ensures done { result ≡ may_have (world_of N (set_in B.Shape B.Order.Endian)
             self.old.alive self.old.components) entity component }

@@ -11,9 +11,10 @@ use crate::World;
 use bittle::BitsOwned;
 
 impl<B: BitsOwned, const N: usize> World<B, N> {
-    /// Returns the mask of the living entities that have each of the components. If no component is
-    /// named, the mask has all living entities. If a number is no component, the mask is empty. The
-    /// mask is a copy, so the world may change. Each word is read once for each component.
+    /// Returns the mask of the living entities that have each of the `required` components. If none
+    /// is required, the mask has all living entities. If a required number is no component, the
+    /// mask is empty. The mask is a copy, so you may change the world while you use the mask. Each
+    /// word is read once for each component.
     pub fn matching(&self, required: &[u32]) -> B
         ensures mask { set_in B.Shape B.Order.Endian result ≡ matching
             (world_of N (set_in B.Shape B.Order.Endian) self.now.alive self.now.components)
@@ -28,7 +29,8 @@ impl<B: BitsOwned, const N: usize> World<B, N> {
         mask
     }
 
-    // Returns the entities of a mask that have a component.
+    // Returns the mask of those entities of `mask` that have the component. The result is empty if
+    // there is no such component.
     fn having(&self, mask: B, component: u32) -> B
         ensures { EndsAtCapacity (set_in B.Shape B.Order.Endian mask) →
             set_in B.Shape B.Order.Endian result ≡ having
@@ -41,10 +43,11 @@ impl<B: BitsOwned, const N: usize> World<B, N> {
         }
     }
 
-    /// Returns the least living entity, from the number `from` on, that has each of the components,
-    /// or `None`. From the capacity on there is no entity. It reads the words of the first
-    /// component's mask up to the answer. For each entity there it tests one bit of each mask, up
-    /// to a mask that lacks the entity.
+    /// Returns the least living entity that is at least `from` and has each of the `required`
+    /// components, or `None` if there is none. A number past the capacity is no entity. The call
+    /// reads the mask of the first required component, from `from` up to the answer. For each
+    /// entity found there it tests one bit of each required mask, up to the first mask that lacks
+    /// the entity.
     pub fn first_with(&self, required: &[u32], from: u32) -> Option<u32>
         ensures first { IsFirstIn (matching
             (world_of N (set_in B.Shape B.Order.Endian) self.now.alive self.now.components)
@@ -63,8 +66,8 @@ impl<B: BitsOwned, const N: usize> World<B, N> {
         None
     }
 
-    // Returns the mask of the first required component, or the mask of the living if none is
-    // required. If there is no such component, it returns `None`.
+    // Returns the mask of the first required component, or the mask of the living entities if no
+    // component is required. If the first required component does not exist, returns `None`.
     fn lead(&self, required: &[u32]) -> Option<&B>
         ensures { let world = world_of N (set_in B.Shape B.Order.Endian) self.now.alive
             self.now.components in MatchOption result
@@ -78,7 +81,7 @@ impl<B: BitsOwned, const N: usize> World<B, N> {
         Some(mask)
     }
 
-    // Returns whether an entity has each of the components.
+    // Returns whether an entity has each of the required components.
     fn has_all(&self, entity: u32, required: &[u32]) -> bool
         ensures { let world = world_of N (set_in B.Shape B.Order.Endian) self.now.alive
             self.now.components in result ≡ list_all (world.has entity) required.now }

@@ -6,19 +6,20 @@ use Rattle.bit_pages.specs.Pages.{answer_to, state_after, request_answers, final
 use Rattle.bit_pages.specs.declared.Request.{Request}
 use Rattle.bit_pages.specs.declared.Answer.{Answer}
 
--- a call answers as the machine does, and leaves the same pages taken
+-- a call gives the machine's answer to the request, and leaves the machine's next state
 pub record IsCall (before : PlainSet) (request : Request) (answer : Answer)
     (after : PlainSet) : Type 0 where
   pub answered : answer ≡ answer_to before request
   pub left : after ≡ state_after before request
 
--- calls that are made one after the other
+-- calls that are made one after the other, from the state `before` to the state `after`
 abbrev pub IsHistory : PlainSet → List (Request × Answer) → PlainSet → Type 0
 IsHistory before [] after = after ≡ before
 IsHistory before (call ∷ calls) after =
     (between : PlainSet) × IsCall before call.0 call.1 between × IsHistory between calls after
 
--- calls answer as the machine does on the list of their requests, and leave the same pages taken
+-- the calls of a history give the machine's answers to the list of their requests, and leave the
+-- machine's last state
 abbrev pub HistoriesAreRuns : Type 0
 HistoriesAreRuns =
     (before after : PlainSet) (calls : List (Request × Answer)) → IsHistory before calls after

@@ -1,4 +1,4 @@
--- Laws of the page machine, for all requests. A run of requests is a list that the machine serves.
+-- Laws of the page machine, for all requests and all lists of requests.
 use Rattle.std.specs.List.{filter, list_any, IsDistinct}
 use Rattle.std.specs.Prelude.{◌≡◌, ℕ, zero, suc, ◌+◌, ◌<◌, ◌↔◌, Bool, true, false, not, ◌&&◌, ◌||◌, ◌==◌, Some, List, [], ◌∷◌, ◌++◌, slice_get, take}
 use Rattle.bittle.specs.PlainSet.{PlainSet, complement, is_in_span, size}
@@ -43,7 +43,7 @@ NoRunExactlyIfNoneIsFree =
     → (answer_to s request ≡ NoRun) ↔ ((length : ℕ) × (request ≡ TakeRun length)
     × ((first : ℕ) → IsRun (complement s) length first → ⊥))
 
--- an answer of a run is the answer to its request in the state that the requests before it leave
+-- `answer` is the answer to request i of a list, in the state that the requests before it leave
 pub record IsAnsweredAt (s : PlainSet) (requests : List Request) (i : ℕ) (answer : Answer) : Type 0 where
   pub request : Request
   pub asked : slice_get requests i ≡ Some request
@@ -62,7 +62,7 @@ length_of (GiveBack page) = 1
 length_of (TakeRun length) = length
 length_of (GiveBackRun first length) = length
 
--- how many pages an answer to a request gives
+-- how many pages an answer to a request hands out
 abbrev pub pages_given : Request → Answer → ℕ
 pages_given request (Page page) = 1
 pages_given request Full = 0
@@ -71,7 +71,7 @@ pages_given request NotTaken = 0
 pages_given request (Run first) = length_of request
 pages_given request NoRun = 0
 
--- how many pages an answer to a request takes back
+-- how many pages a request with this answer gave back
 abbrev pub pages_back : Request → Answer → ℕ
 pages_back request (Page page) = 0
 pages_back request Full = 0
@@ -80,22 +80,22 @@ pages_back request NotTaken = 0
 pages_back request (Run first) = 0
 pages_back request NoRun = 0
 
--- the sum of a count over requests and their answers
+-- the sum of `count` over all requests of a list, each with its answer
 unfoldable pub total : (Request → Answer → ℕ) → List Request → List Answer → ℕ
 total count [] answers = 0
 total count (request ∷ requests) [] = 0
 total count (request ∷ requests) (answer ∷ answers) =
     count request answer + total count requests answers
 
--- the number of pages taken after a run of requests is the number before it, plus the pages handed
--- out in it, minus the pages given back in it
+-- the number of pages taken after a list of requests, plus the number that the list gave back, is
+-- the number taken before the list, plus the number that the list handed out
 abbrev pub PagesAreCounted : Type 0
 PagesAreCounted =
     (s : PlainSet) (requests : List Request)
     → size (final_state s requests) + total pages_back requests (request_answers s requests)
     ≡ size s + total pages_given requests (request_answers s requests)
 
--- whether an answer to a request hands out a page
+-- whether an answer to a request hands out the page `page`
 abbrev pub gives : Request → Answer → ℕ → Bool
 gives request (Page p) page = page == p
 gives request Full page = false
@@ -104,14 +104,14 @@ gives request NotTaken page = false
 gives request (Run first) page = is_in_span first (first + length_of request) page
 gives request NoRun page = false
 
--- whether a request asks to free a page
+-- whether a request asks to free the page `page`
 abbrev pub asks_back : Request → ℕ → Bool
 asks_back Take page = false
 asks_back (GiveBack p) page = page == p
 asks_back (TakeRun length) page = false
 asks_back (GiveBackRun first length) page = is_in_span first (first + length) page
 
--- answer i of a run of requests hands out a page, alone or in a run of pages
+-- answer i to a list of requests hands out the page, alone or in a run of pages
 pub record IsGiven (s : PlainSet) (requests : List Request) (i page : ℕ) : Type 0 where
   pub request : Request
   pub answer : Answer
@@ -119,15 +119,15 @@ pub record IsGiven (s : PlainSet) (requests : List Request) (i page : ℕ) : Typ
   pub answered : slice_get (request_answers s requests) i ≡ Some answer
   pub has : gives request answer page ≡ true
 
--- request k of a run of requests gave a page back, alone or in a run of pages
+-- request k of a list gave the page back, alone or in a run of pages
 pub record IsGivenBack (s : PlainSet) (requests : List Request) (k page : ℕ) : Type 0 where
   pub request : Request
   pub asked : slice_get requests k ≡ Some request
   pub answered : slice_get (request_answers s requests) k ≡ Some Given
   pub has : asks_back request page ≡ true
 
--- a page that was taken before a run of requests is handed out in it only after the page was given
--- back
+-- a list of requests hands out a page that was taken before the list only after the list gave that
+-- page back
 abbrev pub TakenPagesAreGivenFirst : Type 0
 TakenPagesAreGivenFirst =
     (s : PlainSet) (requests : List Request) (page j : ℕ)
@@ -144,7 +144,7 @@ PagesAreGivenBetween =
     → IsGiven s requests j page
     → (k : ℕ) × (i < k) × (k < j) × IsGivenBack s requests k page
 
--- the pages that are held, and n more from page `first` on
+-- the list of the held pages, and after them the n pages from page `first` on
 abbrev pub held_with : List ℕ → ℕ → ℕ → List ℕ
 held_with held first zero = held
 held_with held first (suc n) = held_with (held ++ first ∷ []) (suc first) n
@@ -159,18 +159,18 @@ held_after held request NotTaken = held
 held_after held request (Run first) = held_with held first (length_of request)
 held_after held request NoRun = held
 
--- the pages that are held after a run of requests, if `held` were held before it
+-- the pages that are held after a list of requests, if `held` were held before it
 unfoldable pub held_after_run : List ℕ → PlainSet → List Request → List ℕ
 held_after_run held s [] = held
 held_after_run held s (request ∷ requests) =
     held_after_run (held_after held request (answer_to s request)) (state_after s request) requests
 
--- the pages outstanding: those that a run of requests handed out, and that were not given back in
+-- the pages outstanding: those that a list of requests handed out, and that were not given back in
 -- it since
 abbrev pub outstanding : PlainSet → List Request → List ℕ
 outstanding = held_after_run []
 
--- whether a request gives back a page that is taken
+-- whether a request in the state s frees the page `page`, which was taken
 abbrev pub gives_back : PlainSet → Request → ℕ → Bool
 gives_back s Take page = false
 gives_back s (GiveBack p) page = (page == p) && is_taken s p
@@ -178,15 +178,15 @@ gives_back s (TakeRun length) page = false
 gives_back s (GiveBackRun first length) page =
     is_in_span first (first + length) page && is_run_taken s first length
 
--- whether a page was given back in a run of requests
+-- whether some request of a list, served from the state s on, frees the page `page`
 unfoldable pub came_back : PlainSet → List Request → ℕ → Bool
 came_back s [] page = false
 came_back s (request ∷ requests) page = gives_back s request page
     || came_back (state_after s request) requests page
 
--- the pages of a list are distinct. None was taken before the run of requests, unless it came back
--- in the run. With the pages that were taken before and did not come back, they are the pages taken
--- after the run
+-- The pages in `held` are distinct. None of them was taken before the requests, unless one of the
+-- requests gave it back. Together with the pages that were taken before and not given back, they
+-- are the pages taken after the requests.
 pub record AreOutstanding (s : PlainSet) (requests : List Request) (held : List ℕ) : Type 0 where
   pub distinct : IsDistinct ◌==◌ held
   pub apart : (page : ℕ) → list_any (◌==◌ page) held ≡ true →
@@ -194,7 +194,7 @@ pub record AreOutstanding (s : PlainSet) (requests : List Request) (held : List 
   pub taken : (page : ℕ) → (final_state s requests).has page
       ≡ (list_any (◌==◌ page) held || (s.has page && not (came_back s requests page)))
 
--- for each run of requests, `AreOutstanding` holds of the pages outstanding after it
+-- for each list of requests, `AreOutstanding` holds of the pages outstanding after the list
 abbrev pub PagesAreOutstanding : Type 0
 PagesAreOutstanding =
     (s : PlainSet) (requests : List Request)

@@ -53,7 +53,7 @@ pub enum Answer {
     NoRun,
 }
 
-/// The page that was given back was not taken.
+/// The error of a call that gives back a page that is not taken, alone or in a run of pages.
 #[derive(Clone, Copy, Debug, PartialEq, Eq)]
 pub struct NotTaken;
 
@@ -71,11 +71,11 @@ impl Error for NotTaken {}
 
 /// An allocator of pages. The pages are the numbers below the capacity of `B`.
 ///
-/// The type guarantees that `B` fits: `B::bits()` is below `u32::MAX`. It also keeps the count of
-/// the pages that are taken.
+/// The type guarantees that `B` fits: `B::bits()` is below `u32::MAX`. It also keeps a count of the
+/// pages that are taken, and guarantees that this count is right.
 #[derive(Drop)]
 pub struct Pages<B: BitsOwned> {
-    // The members of the map, in the order of the type, are the pages that are taken.
+    // A page is taken if its bit is set. The indexes follow the bit order of `B`.
     map: B,
     count: u32,
     pub ghost fits: { Fits B.indexable B.type_capacity },
@@ -92,8 +92,9 @@ impl<B: BitsOwned> Pages<B> {
         Pages::with_taken(B::zeros())
     }
 
-    /// Returns an allocator in which the set bits of the map are taken, in the order of the type.
-    /// The type has to fit, as for [`new`](Pages::new). It counts the bits, O(words).
+    /// Returns an allocator in which a page is taken if its bit is set in `map`. The indexes follow
+    /// the bit order of `B`. The type has to fit, as for [`new`](Pages::new). The call counts the
+    /// set bits, which costs O(words).
     pub fn with_taken(map: B) -> Pages<B>
         requires { IsTrue B.indexable }
         ensures { set_in B.Shape B.Order.Endian result.map ≡ set_in B.Shape B.Order.Endian map }
@@ -111,9 +112,9 @@ impl<B: BitsOwned> Pages<B> {
         self.map
     }
 
-    /// Takes the least page that is free and returns it. If all pages are taken, as with capacity
-    /// 0, it changes nothing and returns `None`. It reads the map up to the page; if all pages are
-    /// taken it reads nothing.
+    /// Takes the least page that is free and returns it. If all pages are taken, the call changes
+    /// nothing and returns `None`; with capacity 0 this is always so. The call reads the map up to
+    /// the page, or nothing if all pages are taken.
     pub fn take(&mut self) -> Option<u32>
         ensures page { result ≡ least_free (set_in B.Shape B.Order.Endian self.old.map) }
         ensures below { IfSome result (λ page. page < B.type_capacity) }
@@ -139,8 +140,8 @@ impl<B: BitsOwned> Pages<B> {
         Some(page)
     }
 
-    /// Makes a page free again, or changes nothing and returns `Err` if the page is not taken. A
-    /// number past the last page is no page, and does not wrap.
+    /// Makes a page free again. If the page is not taken, the call changes nothing and returns
+    /// `Err`. A number past the last page is no page, and does not wrap.
     pub fn give_back(&mut self, page: u32) -> Result<(), NotTaken>
         ensures taken { IsOk result
             ↔ IsTrue (is_taken (set_in B.Shape B.Order.Endian self.old.map) page) }
@@ -161,12 +162,12 @@ impl<B: BitsOwned> Pages<B> {
         Ok(())
     }
 
-    /// Takes the first `length` neighbouring free pages, and returns the least of them. If there is
-    /// no such run, it changes nothing and returns `None`. With `length` 0 it takes nothing and
-    /// returns page 0, even if all pages are taken or the capacity is 0.
+    /// Takes the first run of `length` neighbouring free pages, and returns the least of them. If
+    /// there is no such run, the call changes nothing and returns `None`. With `length` 0 it takes
+    /// nothing and returns page 0, even if all pages are taken or the capacity is 0.
     ///
-    /// If `length` is at most the width of four words, it reads each word once, up to the end of
-    /// the run. If `length` is greater, each free run that is too short costs two searches of
+    /// If `length` is at most the width of four words, the call reads each word once, up to the end
+    /// of the run. If `length` is greater, each free run that is too short costs two searches of
     /// words.
     pub fn take_run(&mut self, length: u32) -> Option<u32>
         ensures run { IsFirstRun (complement (set_in B.Shape B.Order.Endian self.old.map)) 0 length
@@ -193,9 +194,10 @@ impl<B: BitsOwned> Pages<B> {
         Some(first)
     }
 
-    /// Frees the `length` pages from `first` on, or changes nothing and returns `Err` if one of
-    /// them is not taken. A number past the last page is no page, and does not wrap. With `length`
-    /// 0 nothing is freed, and `first` may be any page, or the number after the last page.
+    /// Frees the `length` pages from `first` on. If one of these numbers is not a taken page, the
+    /// call changes nothing and returns `Err`. A number past the last page is no page, and does not
+    /// wrap. With `length` 0 nothing is freed, and the call returns `Err` exactly if `first` is
+    /// greater than the number of pages.
     ///
     /// The words of the run are read up to the first page that is free.
     pub fn give_back_run(&mut self, first: u32, length: u32) -> Result<(), NotTaken>
@@ -222,8 +224,8 @@ impl<B: BitsOwned> Pages<B> {
         Ok(())
     }
 
-    /// Returns whether the `length` numbers from `first` on are pages, and each is taken. With
-    /// `length` 0 it returns `true` if `first` is a page or the number after the last page.
+    /// Returns whether each of the `length` numbers from `first` on is a page that is taken. With
+    /// `length` 0 it returns `true` exactly if `first` is at most the number of pages.
     pub fn is_run_taken(&self, first: u32, length: u32) -> bool
         ensures { IsTrue result
             ↔ IsRun (set_in B.Shape B.Order.Endian self.now.map) length first }

@@ -1,6 +1,6 @@
 //! The main theorems of the allocator: what holds of every list of requests. Each function does
 //! nothing: its contract is the law. The laws speak of the machine in `specs/Pages.antt`. The
-//! contract of `serve` states that it runs this machine.
+//! contract of `serve` states that `serve` answers as this machine does.
 
 ghost use Rattle.bit_pages.specs.PageLaws.{PagesAreLeastFree, FullExactlyIfAllAreTaken};
 ghost use Rattle.bit_pages.specs.PageLaws.{RunsAreFirst, NoRunExactlyIfNoneIsFree};
@@ -30,34 +30,34 @@ pub fn no_run_exactly_if_none_is_free()
     ensures { NoRunExactlyIfNoneIsFree }
 {}
 
-/// States that each answer of a list is the answer to its request in the state that the requests
-/// before it leave. So what holds of one answer and its state holds at each place of the list.
+/// States that answer `i` of a list is the answer to request `i` in the state that the requests
+/// before it leave. So what holds of one answer in any state holds of each answer of the list.
 pub fn answers_are_of_their_states()
     ensures { AnswersAreOfTheirStates }
 {}
 
-/// States that the number of pages taken after a list of requests is the number before it, plus the
-/// pages handed out in it, minus the pages given back in it.
+/// States that the number of pages taken after a list of requests is the number before the list,
+/// plus the number that the list hands out, minus the number that it gives back.
 pub fn pages_are_counted()
     ensures { PagesAreCounted }
 {}
 
-/// States that between two answers that give one page, alone or in a run of pages, that page was
-/// given back, alone or in a run of pages.
+/// States that if two answers hand out the same page, that page was given back between them. Each
+/// time, the page may be alone or in a run of pages.
 pub fn pages_are_given_between()
     ensures { PagesAreGivenBetween }
 {}
 
-/// States that a page which was taken before a list of requests is handed out in it only after the
-/// page was given back.
+/// States that a list of requests hands out a page that was taken before the list only after the
+/// list gave that page back.
 pub fn taken_pages_are_given_first()
     ensures { TakenPagesAreGivenFirst }
 {}
 
-/// States what the pages outstanding after a list of requests are: those that the list hands out
-/// and that are not given back in it. They are distinct. None of them was taken before the list,
-/// unless it was given back. Together with the pages taken before and not given back, they are the
-/// pages taken after the list.
+/// States what holds of the pages that a list of requests hands out and that are not given back in
+/// it afterwards. These pages are distinct. None of them was taken before the list, unless the list
+/// gave it back. Together with the pages taken before the list and not given back in it, they are
+/// the pages taken after the list.
 pub fn pages_are_outstanding()
     ensures { PagesAreOutstanding }
 {}

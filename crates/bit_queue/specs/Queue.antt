@@ -17,17 +17,19 @@ is_ready s task = nat_lt task s.capacity && s.has task
 abbrev pub most_urgent : PlainSet → Option ℕ
 most_urgent s = slice_get (ascending s) 0
 
--- the ready tasks with one more task; then, without one task
+-- the ready tasks, and the task `task` too
 abbrev pub with_task : PlainSet → ℕ → PlainSet
 with_task s task = record { capacity = s.capacity; has = λ k. (k == task) || s.has k }
 
+-- the ready tasks without the task `task`
 abbrev pub without_task : PlainSet → ℕ → PlainSet
 without_task s task = record { capacity = s.capacity; has = λ k. not (k == task) && s.has k }
 
--- the answer to a wake, and the ready tasks after it: a number past the last task is refused
+-- the answer to a request to wake a task; a number past the last task is refused
 abbrev pub woken_or_none : PlainSet → ℕ → Answer
 woken_or_none s task = if nat_lt task s.capacity then Woken else NoTask
 
+-- the ready tasks after a request to wake a task; a number past the last task changes nothing
 abbrev pub with_woken : PlainSet → ℕ → PlainSet
 with_woken s task = if nat_lt task s.capacity then with_task s task else s
 

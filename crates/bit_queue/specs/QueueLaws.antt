@@ -28,7 +28,7 @@ IdleExactlyIfNoneIsReady =
     (s : PlainSet) (event : Event)
     → (answer_to s event ≡ Idle) ↔ ((event ≡ Next) × NoneIn s 0 s.capacity)
 
--- an answer of a list is the answer to its event in the state that the events before it leave
+-- `reply` is the answer to event i of a list, in the state that the events before it leave
 pub record IsAnsweredAt {S : Type 0} (answer : S → Event → Answer) (after : S → Event → S) (s : S)
     (events : List Event) (i : ℕ) (reply : Answer) : Type 0 where
   pub event : Event
@@ -84,8 +84,8 @@ wakes_more_urgent task Next = false
 abbrev pub RunsIn : List Answer → ℕ → Type 0
 RunsIn answers task = (j : ℕ) × (slice_get answers j ≡ Some (Runs task))
 
--- a ready task runs within m + w + 1 steps, if m more urgent tasks are ready, and more urgent tasks
--- are woken w times
+-- a ready task runs within m + w + 1 steps: m is how many of the other ready tasks are more urgent
+-- than this task, and w is how often tasks more urgent than it are woken
 abbrev pub TasksRunInTime : Type 0
 TasksRunInTime =
     (s : PlainSet) (events : List Event) (task : ℕ)

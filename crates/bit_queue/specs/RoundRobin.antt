@@ -1,5 +1,5 @@
--- The round-robin machine: its state is the set of the ready tasks, and the turn. The turn is the
--- number past the task that ran last.
+-- The round-robin machine: its state is the set of the ready tasks, and the turn. The turn is one
+-- more than the number of the task that ran last.
 use Rattle.std.specs.List.{fold, scan}
 use Rattle.std.specs.Prelude.{ℕ, ◌+◌, ◌&&◌, nat_le}
 use Rattle.std.specs.Prelude.{Option, Some, None, List}
@@ -34,7 +34,7 @@ found_or (Some task) other = Some task
 abbrev pub next_in_turn : Round → Option ℕ
 next_in_turn r = found_or (most_urgent (to_come r)) (most_urgent r.ready)
 
--- the round after a step: the task that was picked is taken out, and the turn is past it
+-- the round after a step: the task that was picked is taken out, and the turn is one more than it
 abbrev pub past_picked : Round → Option ℕ → Round
 past_picked r None = r
 past_picked r (Some task) = round_at (without_task r.ready task) (task + 1)

@@ -10,7 +10,8 @@ use Rattle.bit_queue.specs.declared.Event.TheVariants.{Wake, Next}
 use Rattle.bit_queue.specs.declared.Answer.{Answer}
 use Rattle.bit_queue.specs.declared.Answer.TheVariants.{Runs, Idle}
 
--- whether one task comes before another, counted up from the turn and then from 0
+-- whether the task `one` comes before the task `other` in turn: the tasks from the turn on come
+-- first, in increasing order, and then those before the turn
 abbrev pub comes_before : ℕ → ℕ → ℕ → Bool
 comes_before turn one other = if nat_le turn other
     then (nat_le turn one && nat_lt one other)
@@ -36,7 +37,7 @@ RoundIsIdleExactlyIfNoneIsReady =
     (r : Round) (event : Event)
     → (answer_in_turn r event ≡ Idle) ↔ ((event ≡ Next) × NoneIn r.ready 0 r.ready.capacity)
 
--- an answer of a list is the answer to its event in the round that the events before it leave
+-- answer i of a list is the answer to event i in the round that the events before it leave
 abbrev pub AnswersAreOfTheirRounds : Type 0
 AnswersAreOfTheirRounds =
     (r : Round) (events : List Event) (i : ℕ) (reply : Answer)
@@ -56,12 +57,12 @@ TasksAreWokenBetweenTurns =
     (r : Round) (events : List Event) (task : ℕ)
     → IsWokenBetween events (answers_in_turn r events) task
 
--- whether an event wakes this task
+-- whether an event wakes the task `task`
 abbrev pub wakes : ℕ → Event → Bool
 wakes task (Wake other) = task == other
 wakes task Next = false
 
--- the tasks that are ready at first or woken in the events, each once
+-- the set of the tasks that are ready at first or woken by one of the events
 abbrev pub ever_ready : PlainSet → List Event → PlainSet
 ever_ready s events = record {
   capacity = s.capacity;

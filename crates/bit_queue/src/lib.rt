@@ -1,4 +1,4 @@
-//! Ready queues over any owned set: which task runs next.
+//! Queues of ready tasks, kept in any owned set. A queue tells which task runs next.
 //!
 //! A task is a number below the capacity of the set. In a [`PriorityQueue`] a lesser number is more
 //! urgent, and the most urgent ready task runs. In a [`RoundRobin`] the ready tasks take turns, and
@@ -36,7 +36,7 @@ pub use round_robin::RoundRobin;
 use std::error::Error;
 use std::fmt;
 
-/// What happens to a queue.
+/// An event that a queue serves.
 #[derive(Clone, Copy, Debug, PartialEq, Eq)]
 pub enum Event {
     /// A task becomes ready: answered by [`Answer::Woken`] or [`Answer::NoTask`].
@@ -58,7 +58,7 @@ pub enum Answer {
     Idle,
 }
 
-/// The number is no task: it is at or past the capacity.
+/// The error for a number that is no task, because it is at or past the capacity.
 #[derive(Clone, Copy, Debug, PartialEq, Eq)]
 pub struct NoTask;
 

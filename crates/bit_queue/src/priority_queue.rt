@@ -19,7 +19,7 @@ use bittle::BitsOwned;
 /// The type guarantees that `B` fits: `B::bits()` is below `u32::MAX`.
 #[derive(Drop)]
 pub struct PriorityQueue<B: BitsOwned> {
-    // The members of `ready`, in the order of the type, are the tasks that are ready.
+    // A task is ready if its bit is set. The indexes follow the bit order of `B`.
     ready: B,
     pub ghost fits: { Fits B.indexable B.type_capacity },
 }
@@ -64,9 +64,9 @@ impl<B: BitsOwned> PriorityQueue<B> {
         Ok(())
     }
 
-    /// Takes out the most urgent ready task, which is to run, and returns it. If none is ready, as
-    /// with capacity 0, it changes nothing and returns `None`. It reads the words up to the one
-    /// that has the task.
+    /// Takes the most urgent ready task out of the queue, and returns it to be run. If no task is
+    /// ready, the call changes nothing and returns `None`; with capacity 0 this is always so. The
+    /// call reads the words up to the one with the bit of the task.
     pub fn next(&mut self) -> Option<u32>
         ensures task { result ≡ most_urgent (set_in B.Shape B.Order.Endian self.old.ready) }
         ensures urgent { let before = set_in B.Shape B.Order.Endian self.old.ready in

@@ -1,6 +1,6 @@
 //! The main theorems of `PriorityQueue`: what holds of every list of events. Each function does
 //! nothing: its contract is the law. The laws speak of the machine in `specs/Queue.antt`. The
-//! contract of `serve` states that it runs this machine.
+//! contract of `serve` states that `serve` answers as this machine does.
 
 ghost use Rattle.bit_queue.specs.QueueLaws.{MostUrgentRuns, IdleExactlyIfNoneIsReady};
 ghost use Rattle.bit_queue.specs.QueueLaws.{AnswersAreOfTheirStates, RestingTasksAreWokenFirst};
@@ -16,9 +16,9 @@ pub fn idle_exactly_if_none_is_ready()
     ensures { IdleExactlyIfNoneIsReady }
 {}
 
-/// States that each answer is the answer to its event in the state (the set of the ready tasks)
-/// that the events before it leave. So what holds of one answer and its state holds at each place
-/// of a list.
+/// States that answer `i` of a list is the answer to event `i` in the state (the set of the ready
+/// tasks) that the events before it leave. So what holds of one answer in any state holds of each
+/// answer of the list.
 pub fn answers_are_of_their_states()
     ensures { AnswersAreOfTheirStates }
 {}
@@ -28,13 +28,13 @@ pub fn resting_tasks_are_woken_first()
     ensures { RestingTasksAreWokenFirst }
 {}
 
-/// States that a task which runs was woken since it last ran.
+/// States that a task which runs again was woken since it last ran.
 pub fn tasks_are_woken_between()
     ensures { TasksAreWokenBetween }
 {}
 
-/// States that a ready task runs within `m + w + 1` steps, if `m` more urgent tasks are ready, and
-/// more urgent tasks are woken `w` times.
+/// States that a ready task runs within `m + w + 1` steps. Here `m` is how many of the other ready
+/// tasks are more urgent than this task, and `w` is how often tasks more urgent than it are woken.
 pub fn tasks_run_in_time()
     ensures { TasksRunInTime }
 {}

@@ -14,16 +14,16 @@ ghost use Rattle.bit_queue.specs.RoundRobinLaws.{IsNextInTurn};
 use crate::{Answer, Event, NoTask};
 use bittle::BitsOwned;
 
-/// A queue of ready tasks that take turns. The task that runs next is the first ready one past the
-/// task that ran last, or else the first ready one of all. The tasks are the numbers below the
-/// capacity of `B`.
+/// A queue of ready tasks that take turns. The task that runs next is the least ready task past the
+/// task that ran last. If there is none, it is the least ready task of all. The tasks are the
+/// numbers below the capacity of `B`.
 ///
 /// The type guarantees that `B` fits: `B::bits()` is below `u32::MAX`.
 #[derive(Drop)]
 pub struct RoundRobin<B: BitsOwned> {
-    // The members of `ready`, in the order of the type, are the tasks that are ready.
+    // A task is ready if its bit is set. The indexes follow the bit order of `B`.
     ready: B,
-    // The number past the task that ran last, at first 0.
+    // One more than the number of the task that ran last, or 0 if none ran yet.
     turn: u32,
     pub ghost fits: { Fits B.indexable B.type_capacity },
     pub ghost within: { turn ≤ B.type_capacity },
@@ -85,9 +85,10 @@ impl<B: BitsOwned> RoundRobin<B> {
         }
     }
 
-    /// Takes out the next ready task, which is to run, and returns it. If none is ready, as with
-    /// capacity 0, it changes nothing and returns `None`. It reads the words from the turn up to
-    /// the one that has the task. If no task is ready there, it reads those before the turn.
+    /// Takes the ready task that is next in turn out of the queue, and returns it to be run. If no
+    /// task is ready, the call changes nothing and returns `None`; with capacity 0 this is always
+    /// so. The call reads the words from the turn up to the one with the bit of the task. If no
+    /// task is ready there, it reads the words before the turn.
     pub fn next(&mut self) -> Option<u32>
         ensures task { result ≡ next_in_turn
             (round_at (set_in B.Shape B.Order.Endian self.old.ready) self.old.turn) }

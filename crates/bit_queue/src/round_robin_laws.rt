@@ -1,6 +1,6 @@
 //! The main theorems of `RoundRobin`: what holds of every list of events. Each function does
 //! nothing: its contract is the law. The laws speak of the machine in `specs/RoundRobin.antt`. The
-//! contract of `serve` states that it runs this machine.
+//! contract of `serve` states that `serve` answers as this machine does.
 
 ghost use Rattle.bit_queue.specs.RoundRobinLaws.{NextInTurnRuns, RoundIsIdleExactlyIfNoneIsReady};
 ghost use Rattle.bit_queue.specs.RoundRobinLaws.{AnswersAreOfTheirRounds};
@@ -18,9 +18,9 @@ pub fn idle_exactly_if_none_is_ready()
     ensures { RoundIsIdleExactlyIfNoneIsReady }
 {}
 
-/// States that each answer is the answer to its event in the round (the ready tasks and the turn)
-/// that the events before it leave. So what holds of one answer and its round holds at each place
-/// of a list.
+/// States that answer `i` of a list is the answer to event `i` in the round (the ready tasks and
+/// the turn) that the events before it leave. So what holds of one answer in any round holds of
+/// each answer of the list.
 pub fn answers_are_of_their_rounds()
     ensures { AnswersAreOfTheirRounds }
 {}
@@ -30,7 +30,7 @@ pub fn resting_tasks_are_woken_first()
     ensures { RestingTasksAreWokenFirstInTurn }
 {}
 
-/// States that a task which runs was woken since it last ran.
+/// States that a task which runs again was woken since it last ran.
 pub fn tasks_are_woken_between()
     ensures { TasksAreWokenBetweenTurns }
 {}

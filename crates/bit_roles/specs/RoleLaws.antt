@@ -10,8 +10,8 @@ abbrev pub grants : ℕ → ℕ → Request → Bool
 grants role permission (Grant other more) = (role == other) && (permission == more)
 grants role permission (Inherit other parent) = false
 
--- after a list of requests a role has just the permissions that it had before it and those that the
--- list grants it
+-- after a list of requests a role has just the permissions that it was granted before the list and
+-- those that the list grants it
 abbrev pub GrantsAreThoseAskedFor : Type 0
 GrantsAreThoseAskedFor =
     (r : Roles) (requests : List Request) (role permission : ℕ)
@@ -20,7 +20,7 @@ GrantsAreThoseAskedFor =
     → (final_roles r requests).granted role permission
     ≡ (r.granted role permission || list_any (grants role permission) requests)
 
--- what is allowed before a grant is allowed after it
+-- a role that allows a permission still allows it after any grant
 abbrev pub GrantingTakesNothingAway : Type 0
 GrantingTakesNothingAway =
     (r : Roles) (role permission other allowed : ℕ)

@@ -1,5 +1,5 @@
--- The role machine: its state is what each role was granted and which parent it has, and each
--- request has an answer and a next state. A role and a permission are numbers.
+-- The role machine: its state tells which permissions each role was granted and which parent the
+-- role has, and each request has an answer and a next state. Roles and permissions are numbers.
 use Rattle.std.specs.List.{fold, scan}
 use Rattle.std.specs.Prelude.{◌≡◌, ℕ, zero, suc, ◌<◌, Bool, true, false, ◌&&◌, ◌||◌, ◌==◌, nat_lt, if◌then◌else◌}
 use Rattle.std.specs.Prelude.{Option, Some, None, List, slice_get}
@@ -9,7 +9,8 @@ use Rattle.bit_roles.specs.declared.Request.TheVariants.{Grant, Inherit}
 use Rattle.bit_roles.specs.declared.Answer.{Answer}
 use Rattle.bit_roles.specs.declared.Answer.TheVariants.{Done, Refused}
 
--- how many roles and permissions there are, whether a role was granted a permission, and its parent
+-- how many roles and how many permissions there are, whether a role was granted a permission, and
+-- the parent of each role
 pub record Roles : Type 0 where
   pub count : ℕ
   pub permissions : ℕ
@@ -21,7 +22,7 @@ abbrev pub parent_of : Roles → Option ℕ → Option ℕ
 parent_of r None = None
 parent_of r (Some role) = r.parent role
 
--- the role that a chain of n parents leads to
+-- the role that a chain of n parents leads to from `role`, or None if the chain is shorter
 unfoldable pub ancestor : Roles → ℕ → ℕ → Option ℕ
 ancestor r role zero = Some role
 ancestor r role (suc n) = parent_of r (ancestor r role n)
@@ -35,11 +36,11 @@ Allows r role permission =
 abbrev pub HasLesserParents : Roles → Type 0
 HasLesserParents r = (role parent : ℕ) → r.parent role ≡ Some parent → parent < role
 
--- whether two numbers are a role and a permission; then, whether two numbers are a role and a
--- parent for it
+-- whether there are such a role and such a permission
 abbrev pub may_grant : Roles → ℕ → ℕ → Bool
 may_grant r role permission = nat_lt role r.count && nat_lt permission r.permissions
 
+-- whether there is such a role, and the parent is less than the role
 abbrev pub may_inherit : Roles → ℕ → ℕ → Bool
 may_inherit r role parent = nat_lt role r.count && nat_lt parent role
 
@@ -83,16 +84,18 @@ request_answers r requests = scan roles_after answer_to r requests
 unfoldable pub final_roles : Roles → List Request → Roles
 final_roles r requests = fold roles_after r requests
 
--- the roles given by two rows: one row has a set of permissions for each role, the other a parent
--- or none
+-- whether a set of permissions exists and has the permission as a member
 abbrev pub has_permission : {X : Type 0} → (X → PlainSet) → Option X → ℕ → Bool
 has_permission set None permission = false
 has_permission set (Some x) permission = nat_lt permission (set x).capacity && (set x).has permission
 
+-- the parent in an entry of a row, or None if there is no such entry
 abbrev pub parent_in : Option (Option ℕ) → Option ℕ
 parent_in None = None
 parent_in (Some parent) = parent
 
+-- the roles given by two rows: for each role, `granted` has a set of permissions, and `parents` has
+-- a parent or None
 abbrev pub roles_of : {X : Type 0} → ℕ → ℕ → (X → PlainSet) → List X → List (Option ℕ) → Roles
 roles_of count permissions set granted parents = record {
   count = count;

@@ -1,8 +1,8 @@
 //! Roles with permissions. A role inherits the permissions of its parent.
 //!
 //! A role is a number below `N`, and a permission is a number below the capacity of the set. A role
-//! allows what it was granted and what its parent allows. A parent has a lesser number than its
-//! role, so no chain of parents comes back to its first role.
+//! allows the permissions that it was granted and those that its parent allows. A parent has a
+//! lesser number than its role, so no chain of parents leads back to the role at which it began.
 //!
 //! ```rust
 //! use bit_roles::Roles;
@@ -32,9 +32,9 @@ use std::fmt;
 /// A request to roles.
 #[derive(Clone, Copy, Debug, PartialEq, Eq)]
 pub enum Request {
-    /// Grants a role a permission: the role, and the permission.
+    /// Grants a permission to a role. The first number is the role, the second the permission.
     Grant(u32, u32),
-    /// Gives a role a parent: the role, and the parent.
+    /// Gives a parent to a role. The first number is the role, the second the parent.
     Inherit(u32, u32),
 }
 
@@ -43,11 +43,13 @@ pub enum Request {
 pub enum Answer {
     /// The request took effect.
     Done,
-    /// Nothing changed: a number is no role, no permission or no parent for the role.
+    /// Nothing changed: there is no such role or permission, or the parent is not less than the
+    /// role.
     Refused,
 }
 
-/// A number is no role, no permission or no parent for the role.
+/// The error of a call that names no existing role or permission, or a parent that is not less than
+/// its role.
 #[derive(Clone, Copy, Debug, PartialEq, Eq)]
 pub struct Refused;
 
@@ -63,9 +65,9 @@ impl fmt::Display for Refused {
 
 impl Error for Refused {}
 
-/// `N` roles, each with a set of permissions that it was granted, and with a parent or none.
+/// `N` roles. Each has a set of the permissions that it was granted, and a parent or none.
 ///
-/// The type guarantees that the set fits, and that each parent has a lesser number than its role.
+/// The type guarantees that `B` fits, and that each parent has a lesser number than its role.
 #[derive(Drop)]
 pub struct Roles<B: BitsOwned, const N: usize> {
     granted: [B; N],
@@ -89,8 +91,8 @@ impl<B: BitsOwned, const N: usize> Roles<B, N> {
         }
     }
 
-    /// Grants a role a permission; a permission that the role has stays granted. If there is no
-    /// such role or permission, nothing changes.
+    /// Grants a permission to a role. A permission that was granted before stays granted. If there
+    /// is no such role or permission, the call changes nothing and returns `Err`.
     pub fn grant(&mut self, role: u32, permission: u32) -> Result<(), Refused>
         ensures done { IsOk result ↔ ((role < N) × (permission < B.type_capacity)) }
         ensures granted { let after = roles_of N B.type_capacity (set_in B.Shape B.Order.Endian)
@@ -108,8 +110,8 @@ impl<B: BitsOwned, const N: usize> Roles<B, N> {
         Ok(())
     }
 
-    /// Gives a role a parent, in place of the one that it has. If there is no such role, or the
-    /// number of the parent is not less than the role's, nothing changes.
+    /// Gives a role a parent, in place of any parent that it had. If there is no such role, or
+    /// `parent` is not less than `role`, the call changes nothing and returns `Err`.
     pub fn inherit(&mut self, role: u32, parent: u32) -> Result<(), Refused>
         ensures done { IsOk result ↔ ((role < N) × (parent < role)) }
         ensures parent { let after = roles_of N B.type_capacity (set_in B.Shape B.Order.Endian)
@@ -150,9 +152,9 @@ impl<B: BitsOwned, const N: usize> Roles<B, N> {
         }
     }
 
-    /// Returns whether a role allows a permission: whether its chain of parents, from the role
-    /// itself on, leads to a role that was granted the permission. It tests one bit for each role
-    /// of the chain.
+    /// Returns whether a role allows a permission: whether the permission was granted to the role
+    /// itself, or to a role that its chain of parents leads to. The call tests one bit for each
+    /// role of the chain, up to the first that was granted the permission.
     pub fn allows(&self, role: u32, permission: u32) -> bool
         ensures { IsTrue result ↔ Allows (roles_of N B.type_capacity
             (set_in B.Shape B.Order.Endian) self.now.granted self.now.parents) role permission }

@@ -1,18 +1,18 @@
 //! The main theorems of roles: what holds of every list of requests. Each function does nothing:
 //! its contract is the law. The laws speak of the machine in `specs/Roles.antt`. The contract of
-//! `serve` states that it runs this machine. The laws also speak of `Allows`, which the contract of
-//! `allows` uses.
+//! `serve` states that `serve` answers as this machine does. The laws also speak of `Allows`, which
+//! the contract of `allows` uses.
 
 ghost use Rattle.bit_roles.specs.RoleLaws.{GrantsAreThoseAskedFor, GrantingTakesNothingAway};
 ghost use Rattle.bit_roles.specs.RoleLaws.{ParentsStayLesser, NoChainComesBack};
 
-/// States that after a list of requests a role has just the permissions that it had before it and
-/// those that the list grants it.
+/// States that after a list of requests a role has just the permissions that it was granted before
+/// the list and those that the list grants it.
 pub fn grants_are_those_asked_for()
     ensures { GrantsAreThoseAskedFor }
 {}
 
-/// States that what is allowed before a grant is allowed after it.
+/// States that a role which allows a permission still allows it after any grant.
 pub fn granting_takes_nothing_away()
     ensures { GrantingTakesNothingAway }
 {}

@@ -9,7 +9,7 @@ use Rattle.bit_slots.specs.Keys.{stages, found}
 abbrev pub key_of : ℕ → ℕ → Key
 key_of slot generation = record { slot = slot; generation = generation }
 
--- the values of a list of slots, each with its key; the first slot of the list has this number
+-- the values of a list of slots, each with its key; the first slot in the list has number `slot`
 abbrev pub entries_from : {V : Type 0} → ℕ → List (Slot V) → List (Key × V)
 entries_from slot [] = []
 entries_from slot (Free generation ∷ rest) = entries_from (slot + 1) rest
@@ -21,7 +21,7 @@ entries_from slot (Retired ∷ rest) = entries_from (slot + 1) rest
 abbrev pub entries : {V : Type 0} → List (Slot V) → List (Key × V)
 entries row = entries_from 0 row
 
--- the key of an entry finds its value
+-- the key of the entry finds the value of the entry
 abbrev pub IsEntry : {V : Type 0} → List (Slot V) → Key × V → Type 0
 IsEntry row entry = found (stages row entry.0.slot entry.0.generation) ≡ Some entry.1
 

@@ -18,7 +18,7 @@ IsCall before (Removes key) after = IsRemoved before key after
 IsCall {V} before (Replaces key value) after = (old : V) × IsKeyReplaced before key value old after
 IsCall before Refuses after = AreSameKeys before after
 
--- how calls, one after the other, changed the stages of keys
+-- how calls that were made one after the other changed the stages of keys
 unfoldable pub IsHistory : {V : Type 0} → Stages V → List (Call V) → Stages V → Type 0
 IsHistory before [] after = AreSameKeys before after
 IsHistory {V} before (call ∷ calls) after =
@@ -36,7 +36,8 @@ KeysGoOn V =
     (before after : Stages V) (calls : List (Call V)) → IsHistory before calls after
     → (slot generation : ℕ) → age (before slot generation) ≤ age (after slot generation)
 
--- a key that was given, and then removed, finds nothing after any calls
+-- a key that was given before a history, and that a call of the history removes, finds nothing
+-- after the history
 abbrev pub RemovedKeysFindNothing : Type 0 → Type 0
 RemovedKeysFindNothing V =
     (before after : Stages V) (calls : List (Call V)) → IsHistory before calls after
@@ -52,7 +53,8 @@ KeysAreGivenOnce V =
     → slice_get calls i ≡ Some (Inserts value key)
     → slice_get calls j ≡ Some (Inserts other key) → ⊥
 
--- a key that finds nothing, and that no call gives, finds nothing after any calls
+-- a key that finds nothing before a history, and that no call of the history gives, finds nothing
+-- after the history
 abbrev pub KeysNotGivenFindNothing : Type 0 → Type 0
 KeysNotGivenFindNothing V =
     (before after : Stages V) (calls : List (Call V)) → IsHistory before calls after

@@ -31,7 +31,7 @@ held Retired = Unused
 abbrev pub stage_of : {V : Type 0} → Slot V → ℕ → Stage V
 stage_of slot k = cond (nat_lt k (current slot)) Spent (cond (k == current slot) (held slot) Unused)
 
--- what a generation of a slot stands for: nothing yet, if there is no such slot
+-- what generation k of a slot stands for; if the slot does not exist, this is nothing yet
 abbrev pub stage_at : {V : Type 0} → Option (Slot V) → ℕ → Stage V
 stage_at None k = Unused
 stage_at (Some slot) k = stage_of slot k
@@ -40,17 +40,17 @@ stage_at (Some slot) k = stage_of slot k
 abbrev pub stages : {V : Type 0} → List (Slot V) → Stages V
 stages row slot generation = stage_at (slice_get row slot) generation
 
--- the value that a key finds
+-- the value that a key of a stage finds, or None
 abbrev pub found : {V : Type 0} → Stage V → Option V
 found Unused = None
 found (Holds value) = Some value
 found Spent = None
 
--- the key is of the slot, and finds a value
+-- the key names the slot `slot`, and finds a value in the row
 abbrev pub HasKey : {V : Type 0} → List (Slot V) → ℕ → Key → Type 0
 HasKey row slot key = (key.slot ≡ slot) × (is_some (found (stages row slot key.generation)) ≡ true)
 
--- the stage of a key after it was removed: a value is spent
+-- the stage of a key after its removal: a key that had a value is spent, any other stage stays
 abbrev pub spent : {V : Type 0} → Stage V → Stage V
 spent Unused = Unused
 spent (Holds value) = Spent
@@ -76,7 +76,7 @@ abbrev pub IsInserted : {V : Type 0} → Stages V → V → Result Key V → Sta
 IsInserted before value (Ok key) after = IsKeyInserted before value key after
 IsInserted before value (Err back) after = (back ≡ value) × AreSameKeys before after
 
--- the key finds nothing any more; no other key changes
+-- if the key had a value, it finds nothing any more; no other key changes
 abbrev pub IsRemoved : {V : Type 0} → Stages V → Key → Stages V → Type 0
 IsRemoved before key after = (slot generation : ℕ) → after slot generation
     ≡ cond (is_key key slot generation) (spent (before slot generation)) (before slot generation)
@@ -94,24 +94,25 @@ IsReplaced before key value (Ok old) after = IsKeyReplaced before key value old 
 IsReplaced before key value (Err back) after = (back ≡ value)
     × (found (before key.slot key.generation) ≡ None) × AreSameKeys before after
 
--- a call changed the value of a key, or nothing changed since the key finds none
+-- a call changed the value of a key as `Makes` allows (`true`), or nothing changed because the key
+-- finds no value (`false`)
 abbrev pub IsUpdated : {V : Type 0} → (V → V → Type 0) → Stages V → Key → Bool → Stages V → Type 0
 IsUpdated {V} Makes before key true after = (old : V) × (value : V) × Makes old value
     × IsKeyReplaced before key value old after
 IsUpdated Makes before key false after = (found (before key.slot key.generation) ≡ None)
     × AreSameKeys before after
 
--- in one slot: a generation stood for nothing yet, and now has the value; then, what a generation
--- stands for after it was emptied
+-- in one slot: a generation stood for nothing yet, and now has the value; no other one changes
 pub record IsFilled {V : Type 0} (old : Slot V) (value : V) (generation : ℕ)
     (new : Slot V) : Type 0 where
   pub unused : stage_of old generation ≡ Unused
   pub stages : (k : ℕ) → stage_of new k ≡ cond (k == generation) (Holds value) (stage_of old k)
 
+-- in one slot: what generation k stands for after `generation` was emptied, if it stood for `stage`
 abbrev pub removed : {V : Type 0} → ℕ → ℕ → Stage V → Stage V
 removed generation k stage = cond (k == generation) (spent stage) stage
 
--- in one slot: a value replaced the value of a generation
+-- in one slot: `value` replaced `back`, the value of the generation
 pub record IsExchangedWith {V : Type 0} (old : Slot V) (generation : ℕ) (value back : V)
     (new : Slot V) : Type 0 where
   pub was : stage_of old generation ≡ Holds back
@@ -119,12 +120,15 @@ pub record IsExchangedWith {V : Type 0} (old : Slot V) (generation : ℕ) (value
   pub free : is_free new ≡ is_free old
   pub live : is_live new ≡ is_live old
 
+-- in one slot: a value replaced the value of a generation, or was returned because the generation
+-- has no value
 abbrev pub IsExchanged : {V : Type 0} → Slot V → ℕ → V → Result V V → Slot V → Type 0
 IsExchanged old generation value (Ok back) new = IsExchangedWith old generation value back new
 IsExchanged old generation value (Err back) new = (back ≡ value)
     × (found (stage_of old generation) ≡ None) × (new ≡ old)
 
--- in one slot: a call changed the value of a generation, or nothing changed
+-- in one slot: a call changed the value of a generation as `Makes` allows (`true`), or nothing
+-- changed because the generation has no value (`false`)
 abbrev pub IsUpdatedIn : {V : Type 0} → (V → V → Type 0) → Slot V → ℕ → Bool → Slot V → Type 0
 IsUpdatedIn {V} Makes old generation true new = (back : V) × (value : V) × Makes back value
     × IsExchangedWith old generation value back new

@@ -29,22 +29,25 @@ is_slot test row slot = passes test (slice_get row slot)
 abbrev pub slots_where : {V : Type 0} → (Slot V → Bool) → ℕ → List (Slot V) → PlainSet
 slots_where test c row = record { capacity = c; has = is_slot test row }
 
--- a set has exactly the slots of a row that pass the test
+-- the members of s are exactly the slots of a row that pass the test
 abbrev pub HasSlots : {V : Type 0} → (Slot V → Bool) → PlainSet → List (Slot V) → Type 0
 HasSlots test s row = (slot : ℕ) → s.has slot ≡ is_slot test row slot
 
--- a set has exactly the slots below a number that pass the test
+-- the members of s are exactly the slots below i that pass the test
 abbrev pub MarksBelow : {V : Type 0} → (Slot V → Bool) → PlainSet → List (Slot V) → ℕ → Type 0
 MarksBelow test s row i = (slot : ℕ) → s.has slot ≡ (nat_lt slot i && is_slot test row slot)
 
--- one slot begins to pass a test (`Joins`), stops passing it (`Leaves`), or no slot does (`Stays`)
+-- the slot `slot` passes the test now, and each other slot passes it exactly if it did before
 abbrev pub Joins : {V : Type 0} → (Slot V → Bool) → List (Slot V) → ℕ → List (Slot V) → Type 0
 Joins test before slot after = (k : ℕ) →
     is_slot test after k ≡ ((k == slot) || is_slot test before k)
 
+-- the slot `slot` does not pass the test now, and each other slot passes it exactly if it did
+-- before
 abbrev pub Leaves : {V : Type 0} → (Slot V → Bool) → List (Slot V) → ℕ → List (Slot V) → Type 0
 Leaves test before slot after = (k : ℕ) →
     is_slot test after k ≡ (not (k == slot) && is_slot test before k)
 
+-- each slot passes the test now exactly if it did before
 abbrev pub Stays : {V : Type 0} → (Slot V → Bool) → List (Slot V) → List (Slot V) → Type 0
 Stays test before after = (k : ℕ) → is_slot test after k ≡ is_slot test before k

@@ -6,12 +6,12 @@ use crate::Key;
 use crate::slot::Slot;
 use std::marker::Model;
 
-/// An iterator over the keys of a row that find a value, each with its value, in the order of their
-/// slots. A contract sees it as the list of the pairs that are left.
+/// An iterator that yields each key that finds a value in a row, together with that value, from the
+/// first slot to the last. In a contract, the iterator is the list of the pairs that are left.
 #[derive(Drop)]
 pub struct Iter<'a, V> {
     pub(crate) slots: &'a [Slot<V>],
-    // The number of the first of `slots` in the row.
+    // The number that the first slot of `slots` has in the row.
     pub(crate) slot: u32,
 }
 

@@ -55,7 +55,8 @@ impl Key {
         self.slot
     }
 
-    /// Returns how many values the slot had before.
+    /// Returns the generation of the slot. It is 0 for the first value of a slot that began as
+    /// [`Slot::new`], and each removal of a value adds 1.
     pub fn generation(self) -> u32
         ensures { result ≡ self.generation }
     {
@@ -63,8 +64,9 @@ impl Key {
     }
 }
 
-/// A row of slots that a caller lends, with the set of the free slots and the set of those that
-/// hold a value. Each set is in the order of its type. Changes are made in the lent row.
+/// A table of values over a row of slots that the caller lends. Changes are made in the lent row.
+/// The table also has two sets: of the free slots, and of the slots that hold a value. Both sets
+/// are read in the bit order of `B`.
 #[derive(Drop)]
 pub struct Slots<'a, V: Drop, B: BitsOwned> {
     row: Row<'a, V>,
@@ -77,9 +79,9 @@ pub struct Slots<'a, V: Drop, B: BitsOwned> {
 }
 
 impl<'a, V: Drop, B: BitsOwned> Slots<'a, V, B> {
-    /// Returns the table over a row of slots, which may hold values already. There are at most
-    /// `B::bits()` slots, and `B` has to fit: `B::bits() < u32::MAX` checks this. It reads each
-    /// slot twice. A row of no slots has no key.
+    /// Returns the table over the slots of `row`, which may hold values already. The row has to
+    /// have at most `B::bits()` slots, and `B` has to fit: `B::bits() < u32::MAX` checks this. The
+    /// call reads each slot twice. A table over a row of no slots gives no key.
     pub fn over(row: &'a mut [Slot<V>]) -> Slots<'a, V, B>
         requires fits { IsTrue B.indexable }
         requires covers { length row.old ≤ B.type_capacity }
@@ -95,9 +97,9 @@ impl<'a, V: Drop, B: BitsOwned> Slots<'a, V, B> {
         }
     }
 
-    /// Puts a value into the least free slot, and returns the value's key. If no slot is free, it
-    /// changes nothing and returns the value in `Err`. It reads the set of the free slots up to the
-    /// slot.
+    /// Puts a value into the free slot with the least number, and returns the value's key. If no
+    /// slot is free, the call changes nothing and returns the value in `Err`. The call searches the
+    /// set of the free slots up to that slot.
     pub fn insert(&mut self, value: V) -> Result<Key, V>
         ensures stages { IsInserted (stages self.old.row.slots.now) value result
             (stages self.new.row.slots.now) }
@@ -136,8 +138,8 @@ impl<'a, V: Drop, B: BitsOwned> Slots<'a, V, B> {
         Some(value)
     }
 
-    /// Replaces the value of a key, and returns the old one. If the key finds no value, it changes
-    /// nothing and returns the new value in `Err`. The key stays valid.
+    /// Replaces the value of a key, and returns the old value. The key stays valid. If the key
+    /// finds no value, the call changes nothing and returns the new value in `Err`.
     pub fn replace(&mut self, key: Key, value: V) -> Result<V, V>
         ensures stages { IsReplaced (stages self.old.row.slots.now) key value result
             (stages self.new.row.slots.now) }
@@ -146,9 +148,9 @@ impl<'a, V: Drop, B: BitsOwned> Slots<'a, V, B> {
         self.row.replace(key, value)
     }
 
-    /// Calls the function on the value of a key, which the function may change, and returns `true`.
-    /// The key stays valid. If the key finds no value, it calls nothing, changes nothing and
-    /// returns `false`. `slots.update(key, |count| *count = 0)` sets a count to 0.
+    /// Calls `change` on the value of a key, and returns `true`. The function may change the value,
+    /// and the key stays valid. If the key finds no value, nothing is called or changed, and the
+    /// result is `false`. `slots.update(key, |count| *count = 0)` sets a count to 0.
     pub fn update<F: FnOnce(&mut V)>(&mut self, key: Key, change: F) -> bool
         requires { (value : MutBor V)
             → found (stages self.old.row.slots.now key.slot key.generation) ≡ Some value.now
@@ -169,9 +171,9 @@ impl<'a, V: Drop, B: BitsOwned> Slots<'a, V, B> {
         self.row.update(key, change)
     }
 
-    /// Returns an iterator over the keys that find a value, each with its value, in the order of
-    /// their slots. It allocates no memory, and reads each slot once. If few slots hold a value,
-    /// iterate over the set [`live`](Slots::live) instead, which is read by words.
+    /// Returns an iterator that yields each key that finds a value, together with that value, from
+    /// the first slot to the last. It allocates no memory, and reads each slot once. If few slots
+    /// hold a value, iterate over the set [`live`](Slots::live) instead, which is read by words.
     pub fn iter(&self) -> Iter<'_, V>
         ensures entries { result ≡ entries self.now.row.slots.now }
         ensures found { All (λ entry. IsEntry self.now.row.slots.now entry) result }
@@ -189,8 +191,8 @@ impl<'a, V: Drop, B: BitsOwned> Slots<'a, V, B> {
         }
     }
 
-    /// Returns the value of a key, or `None` if the key finds no value. If it finds one, the key's
-    /// slot is a valid index of any table that has the row's length.
+    /// Returns the value of a key, or `None` if the key finds no value. If the key finds a value,
+    /// the number of its slot is a valid index of any array that is as long as the row.
     pub fn get(&self, key: Key) -> Option<&V>
         ensures value { option_copied result
             ≡ found (stages self.now.row.slots.now key.slot key.generation) }

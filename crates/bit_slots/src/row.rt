@@ -16,14 +16,14 @@ use crate::Key;
 use crate::slot::Slot;
 use bittle::{BitsOwned, Shape};
 
-/// The slots, behind the reference that was lent.
+/// A reference to the slots that a caller lends.
 #[derive(Drop)]
 pub struct Row<'a, V: Drop> {
     pub(crate) slots: &'a mut [Slot<V>],
 }
 
 impl<'a, V: Drop> Row<'a, V> {
-    // Puts a value into a free slot, and returns its key.
+    // Puts a value into a free slot, and returns the value's key.
     pub(crate) fn fill(&mut self, slot: u32, value: V) -> Key
         requires within { slot < length self.old.slots.now }
         requires free { is_slot is_free self.old.slots.now slot ≡ true }
@@ -39,8 +39,8 @@ impl<'a, V: Drop> Row<'a, V> {
         Key { slot, generation }
     }
 
-    // Takes out the value of a key, and returns it with whether its slot is free again. If the key
-    // finds no value, changes nothing and returns `None`.
+    // Takes out the value of a key. Returns the value, and whether its slot is free again: if not,
+    // the slot is retired. If the key finds no value, changes nothing and returns `None`.
     pub(crate) fn empty(&mut self, key: Key) -> Option<(V, bool)>
         ensures found { MatchOption result
             (found (stages self.old.slots.now key.slot key.generation) ≡ None)
@@ -148,7 +148,7 @@ pub(crate) fn live_slots<V: Drop, B: BitsOwned>(row: &[Slot<V>]) -> B
     set
 }
 
-// Returns the set with the number if `is_member` is `true`, else the set as it was.
+// Returns `set` with `number` as a member if `is_member` is `true`, and else `set` as it is.
 fn assigned<B: BitsOwned>(set: B, number: u32, is_member: bool) -> B
     requires { IsTrue B.indexable }
     ensures { set_in B.Shape B.Order.Endian result

@@ -17,14 +17,15 @@ use bittle::walk::IntoIterOnes;
 use bittle::{Bits, BitsOwned};
 use bittle_tiers::{Ones, Tiered4K, Zeros};
 
-/// The component of an entity that has a place.
+/// The number that names the component `place`. An entity has this component if it has a place.
 pub const PLACE: u32 = 0;
 
-/// The component of an entity that has a speed.
+/// The number that names the component `speed`. An entity has this component if it has a speed.
 pub const SPEED: u32 = 1;
 
-/// Moves each entity that has a place and a speed, once, and returns how many entities it moved.
-/// All others stay. The check proves that each entity is an index of both tables.
+/// Moves each entity that has a place and a speed once: adds its speed to its place. Returns how
+/// many entities moved. All other entities stay. The check proves that each entity that moves is an
+/// index of both tables.
 pub fn step<B: BitsOwned, const N: usize>(
     world: &World<B, N>,
     places: &mut [i32],
@@ -101,8 +102,8 @@ pub fn step_256(world: &World<[u64; 4], 3>, places: &mut [i32; 256], speeds: &[i
     how_many_move::<[u64; 4], 3>(world)
 }
 
-/// Returns an iterator over the entities that have a place and a speed. It owns their mask, so the
-/// world may change meanwhile.
+/// Returns an iterator over the entities that have a place and a speed. The iterator owns the mask
+/// of these entities, so the world may change while the iterator is in use.
 pub fn movers<B: BitsOwned, const N: usize>(world: &World<B, N>) -> IntoIterOnes<B, B::Order>
     ensures { result.remaining ≡ ascending (matching (world_of N (set_in B.Shape B.Order.Endian)
         world.now.alive world.now.components) (0 ∷ 1 ∷ [])) }
@@ -126,8 +127,8 @@ pub fn how_many_placed<B: BitsOwned, const N: usize>(world: &World<B, N>) -> u32
     world.matching(&[PLACE]).count_ones()
 }
 
-/// Spawns an entity, gives it a place, and returns whether it has a place then. Returns `true` also
-/// if no number is free.
+/// Spawns an entity, gives it a place, and returns whether it has a place afterwards. The result is
+/// always `true`, also if no number is free.
 pub fn spawn_placed<B: BitsOwned>(world: &mut World<B, 2>) -> bool
     ensures { result ≡ true }
 {
@@ -146,7 +147,8 @@ pub fn spawn_two<B: BitsOwned, const N: usize>(world: &mut World<B, N>) -> Optio
     Some((first, second))
 }
 
-/// Removes an entity, and returns whether it is still alive or has a component: `false`.
+/// Removes `entity`, and returns whether it is still alive or still has `component`. The result is
+/// always `false`.
 pub fn remove_and_ask<B: BitsOwned, const N: usize>(
     world: &mut World<B, N>,
     entity: u32,
@@ -158,7 +160,8 @@ pub fn remove_and_ask<B: BitsOwned, const N: usize>(
     world.is_alive(entity) || world.has(entity, component)
 }
 
-/// Returns the name of the first entity that has a speed, from a table with a name for each entity.
+/// Returns the name of the first entity that has a speed, or `None` if no entity has one. The table
+/// `names` has a name for each entity.
 pub fn first_moving(world: &World<[u64; 4], 3>, names: &[u32; 256]) -> Option<u32>
     ensures { (found : Option ℕ)
         × IsFirstIn (matching (world_of 3 (row_set 4 64 (bit_set 64)) world.now.alive
@@ -169,7 +172,7 @@ pub fn first_moving(world: &World<[u64; 4], 3>, names: &[u32; 256]) -> Option<u3
     Some(names[entity as usize])
 }
 
-/// Serves events in a world of 64 entity numbers, none alive at first.
+/// Serves events in a world of 64 entity numbers. No entity is alive at first.
 pub fn serve(events: &[Event], answers: &mut [Answer])
     requires { length answers.old ≡ length events.now }
     ensures { answers.new ≡ event_answers (empty_world 64 2) events.now }
@@ -192,8 +195,8 @@ fn serve_first<B: BitsOwned, const N: usize>(
     world.serve(events, answers);
 }
 
-/// Serves events in a world of 4,096 entity numbers, none alive at first. Each mask has a summary
-/// of the words that have an unset bit, so a spawn finds a number in a few steps.
+/// Serves events in a world of 4,096 entity numbers. No entity is alive at first. Each mask has a
+/// summary of the words that have an unset bit, so a spawn finds a free number in a few steps.
 pub fn serve_tiered(events: &[Event], answers: &mut [Answer])
     requires { length answers.old ≡ length events.now }
     ensures { answers.new ≡ event_answers (empty_world 4096 2) events.now }
@@ -202,7 +205,8 @@ pub fn serve_tiered(events: &[Event], answers: &mut [Answer])
     serve_first::<Tiered4K<Zeros>, 2>(&mut world, events, answers);
 }
 
-/// Serves events in a world of 64 entity numbers. Those that a mask has are alive at first.
+/// Serves events in a world of 64 entity numbers. The set bits of `alive` are the entities that are
+/// alive at first.
 pub fn serve_beside(alive: u64, events: &[Event], answers: &mut [Answer])
     requires { length answers.old ≡ length events.now }
     ensures { answers.new ≡ event_answers (bare_world (bit_set 64 alive) 2) events.now }

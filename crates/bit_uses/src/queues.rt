@@ -19,7 +19,8 @@ pub fn run_two<B: BitsOwned>(queue: &mut PriorityQueue<B>) -> Option<(u32, u32)>
     Some((first, second))
 }
 
-/// Wakes a task, and returns whether it is ready then. Returns `true` also if it is no task.
+/// Wakes `task`, and returns whether it is ready afterwards. The result is always `true`, also if
+/// the queue has no such task.
 pub fn wake_and_ask<B: BitsOwned>(queue: &mut PriorityQueue<B>, task: u32) -> bool
     ensures { result ≡ true }
 {
@@ -29,7 +30,8 @@ pub fn wake_and_ask<B: BitsOwned>(queue: &mut PriorityQueue<B>, task: u32) -> bo
     }
 }
 
-/// Lets a task run, and wakes it again. Returns `true`, since the queue accepts the task.
+/// Lets a task run, wakes it again, and returns whether the queue accepts it. The result is always
+/// `true`, also if no task is ready.
 pub fn run_and_wake<B: BitsOwned>(turns: &mut RoundRobin<B>) -> bool
     ensures { result ≡ true }
 {
@@ -48,7 +50,8 @@ pub fn run_two_in_turn<B: BitsOwned>(turns: &mut RoundRobin<B>) -> Option<(u32, 
     Some((first, second))
 }
 
-/// Lets a task run, and takes one step off its work, in a table with an entry for each task.
+/// Lets the most urgent ready task run, and takes one step off its entry in `work`. Returns the
+/// task, or `None` if no task is ready.
 pub fn run_for(queue: &mut PriorityQueue<u8>, work: &mut [u32; 8]) -> Option<u32>
     ensures task { result ≡ most_urgent (bit_set 8 queue.old.ready) }
     ensures idle { result ≡ None → work.new ≡ work.old }

@@ -5,8 +5,8 @@ ghost use Rattle.std.specs.Prelude.{◌≡◌, ◌<◌, IfSome, true};
 use bit_roles::{Refused, Roles};
 use bittle::BitsOwned;
 
-/// Grants a role a permission, and returns whether it is granted then. Returns `true` also if the
-/// grant is refused.
+/// Grants `permission` to `role`, and returns whether it is granted afterwards. The result is
+/// always `true`, also if the grant is refused.
 pub fn grant_and_ask<B: BitsOwned, const N: usize>(
     roles: &mut Roles<B, N>,
     role: u32,
@@ -20,8 +20,8 @@ pub fn grant_and_ask<B: BitsOwned, const N: usize>(
     }
 }
 
-/// Gives a role a parent, and returns whether the role has that parent then. Returns `true` also if
-/// the request is refused.
+/// Gives a role a parent, and returns whether the role has that parent afterwards. The result is
+/// always `true`, also if the request is refused.
 pub fn inherit_and_ask<B: BitsOwned, const N: usize>(
     roles: &mut Roles<B, N>,
     role: u32,
@@ -35,7 +35,7 @@ pub fn inherit_and_ask<B: BitsOwned, const N: usize>(
     }
 }
 
-/// Lets a role inherit from itself. Returns `true`, since that is refused.
+/// Asks that a role inherit from itself. Returns `true`, since the request is refused.
 pub fn inherit_from_itself<B: BitsOwned, const N: usize>(roles: &mut Roles<B, N>, role: u32) -> bool
     ensures { result ≡ true }
 {

@@ -8,7 +8,7 @@ ghost use Rattle.bit_slots.specs.Keys.{found, stages};
 use bit_slots::{Key, Slots};
 use bittle::BitsOwned;
 
-/// Returns a key that finds the value, or `None` if no key does.
+/// Returns a key that finds the value `wanted`, or `None` if no key finds it.
 pub fn key_of<B: BitsOwned>(slots: &Slots<u64, B>, wanted: u64) -> Option<Key>
     ensures { IfSome result (λ key.
         found (stages slots.now.row.slots.now key.slot key.generation) ≡ Some wanted) }
@@ -21,7 +21,8 @@ pub fn key_of<B: BitsOwned>(slots: &Slots<u64, B>, wanted: u64) -> Option<Key>
     None
 }
 
-/// Finds a key by its value, and then the value by the key.
+/// Searches for a key of the value `wanted`, and returns the value that this key finds, which is
+/// `wanted`. Returns `None` if no key finds that value.
 pub fn find_and_get<B: BitsOwned>(slots: &Slots<u64, B>, wanted: u64) -> Option<u64>
     ensures { IfSome result (λ value. value ≡ wanted) }
 {
@@ -40,7 +41,8 @@ pub fn total<B: BitsOwned>(slots: &Slots<u32, B>) -> u64
     total
 }
 
-/// Copies each value to the entry of its slot, in a table with an entry for each slot.
+/// Copies each value to the entry of `table` at the index of its slot. The table has an entry for
+/// each slot.
 pub fn copy_values<B: BitsOwned>(slots: &Slots<u64, B>, table: &mut [u64])
     requires { length slots.now.row.slots.now ≤ length table.old }
     ensures { length table.new ≡ length table.old }
@@ -50,8 +52,8 @@ pub fn copy_values<B: BitsOwned>(slots: &Slots<u64, B>, table: &mut [u64])
     }
 }
 
-/// Counts one use of the value under a key, in a table beside the slots, and returns whether the
-/// key finds a value.
+/// Returns whether `key` finds a value. If it does, the call counts one more use in the entry of
+/// `uses` at the index of the key's slot.
 pub fn count_use<V: Drop, B: BitsOwned>(slots: &Slots<V, B>, uses: &mut [u64], key: Key) -> bool
     requires { length slots.now.row.slots.now ≤ length uses.old }
     ensures others { (other : ℕ) → other ≢ key.slot

@@ -1,4 +1,5 @@
--- How two sets compare, and what a set feeds to a hasher, by the increasing list of members.
+-- How two sets are compared, and what a set feeds to a hasher. Both use the increasing list of the
+-- members.
 use Rattle.std.specs.Prelude.{◌≡◌, ℕ, ◌<◌, ◌⊎◌, Bool, true, false, cond, MatchBool, MatchOption, nat_eq, Option, List, ◌++◌, length}
 use Rattle.std.specs.Cmp.Lexicographic.{slice_cmp, pointwise}
 use Rattle.std.specs.Hash as fed
@@ -12,11 +13,12 @@ use Rattle.bittle_bits.specs.Values.{set_in, ShapeFits}
 use Rattle.bittle_bits.specs.declared.endian.Endian as endian
 use Rattle.bittle_bits.specs.declared.shape.Shape as shape
 
--- the order of two increasing lists, by their first items that differ
+-- the comparison of two lists by their first items that differ; a list that is the start of a
+-- longer one comes first
 abbrev pub list_cmp : List ℕ → List ℕ → Ordering
 list_cmp = slice_cmp nat_cmp
 
--- whether two lists have the same items
+-- whether two lists have the same items in the same order
 abbrev pub list_eq : List ℕ → List ℕ → Bool
 list_eq = pointwise nat_eq
 
@@ -28,7 +30,7 @@ AreSame s t = (i : ℕ) → s.has i ≡ t.has i
 abbrev pub AreSameBelow : PlainSet → PlainSet → ℕ → Type 0
 AreSameBelow s t n = (i : ℕ) → i < n → s.has i ≡ t.has i
 
--- two values that fit and whose words have the same width, and their capacities
+-- left and right fit and have words of the same width; n and m are their capacities
 pub record AreCompared {V W X Y : Type 0} (a : shape.Ghosts V W) (b : shape.Ghosts X Y) (left : V)
     (right : X) (n m : ℕ) : Type 0 where
   pub width : a.width ≡ b.width
@@ -46,7 +48,7 @@ IsFirstDifference = IsFirstDecided just_one
 abbrev pub IsDifference : PlainSet → PlainSet → Option ℕ → Type 0
 IsDifference s t r = MatchOption r (AreSame s t) (IsFirstDifference s t)
 
--- `IsDifference` for the sets of two values, both read in the same order
+-- `IsDifference` for the sets of two values, both read in the same bit order
 abbrev pub IsDifferenceOf : {V W X Y E : Type 0} → shape.Ghosts V W → shape.Ghosts X Y →
     endian.Ghosts E → V → X → Option ℕ → Type 0
 IsDifferenceOf a b e left right r = IsDifference (set_in a e left) (set_in b e right) r
@@ -59,14 +61,14 @@ HasPast s d = (m : ℕ) × (d < m) × (s.has m ≡ true)
 abbrev pub HasNonePast : PlainSet → ℕ → Type 0
 HasNonePast s d = (m : ℕ) → d < m → s.has m ≡ false
 
--- d is in just one of s and t; b tells whether the other set, t if `is_first` and else s, has a
--- member greater than d
+-- d is a member of s if `is_first` is true and else of t, but not of both; b tells whether the set
+-- without d has a member greater than d
 abbrev pub GoesOn : Bool → PlainSet → PlainSet → ℕ → Bool → Type 0
 GoesOn is_first s t d b = MatchBool b
     (HasPast (cond is_first t s) d) (HasNonePast (cond is_first t s) d)
 
--- Let d be the least number that is in just one of the two. Either d is in s and t has a member
--- greater than d, or d is in t and s has no member greater than d.
+-- s comes before t: d is the least number that is in just one of the two sets. Either d is in s,
+-- and t has a member greater than d; or d is in t, and s has no member greater than d.
 abbrev pub Precedes : PlainSet → PlainSet → Type 0
 Precedes s t =
     (d : ℕ) × AreSameBelow s t d

@@ -38,14 +38,14 @@ abbrev pub item_in : Option ℕ → List ℕ
 item_in None = []
 item_in (Some x) = x ∷ []
 
--- the items that the steps from the front yield, in turn
+-- the items that the steps from the front yield, in the order of these steps
 abbrev pub items_from_front : List Step → List ℕ → List ℕ
 items_from_front [] xs = []
 items_from_front (Front ∷ steps) xs = item_in (first_of xs)
     ++ items_from_front steps (items_left_by Front xs)
 items_from_front (Back ∷ steps) xs = items_from_front steps (items_left_by Back xs)
 
--- the items that the steps from the back yield, in turn
+-- the items that the steps from the back yield, in the order of these steps
 abbrev pub items_from_back : List Step → List ℕ → List ℕ
 items_from_back [] xs = []
 items_from_back (Front ∷ steps) xs = items_from_back steps (items_left_by Front xs)
@@ -61,8 +61,8 @@ KeepsAll steps xs = items_from_front steps xs
 abbrev pub items_given : List (Option ℕ) → ℕ
 items_given answers = count_by is_some answers
 
--- The scans, one number for each answer, never fall. Each is at least the number of items yielded
--- so far, and at most that number plus the number of words.
+-- `scans` has one number for each answer, and these numbers never fall. Each is at least the number
+-- of items yielded so far, and at most that number plus the number of words.
 pub record AreScanBounded (scans : List ℕ) (answers : List (Option ℕ)) (words : ℕ) : Type 0 where
   pub each : length scans ≡ length answers
   pub rise : (k : ℕ) → k + 1 < length scans → slice_index scans k ≤ slice_index scans (k + 1)

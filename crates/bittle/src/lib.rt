@@ -1,7 +1,7 @@
-//! Sets of small numbers over integers, arrays and slices, proved correct.
+//! Sets of small numbers in the bits of integers, arrays and slices, proved correct.
 //!
-//! A set has `u32` indexes, one for each bit. An integer is a set, and so is an array of integers,
-//! nested to any depth, and a slice. Each function is proved to do what its contract says.
+//! A set has `u32` indexes, one for each bit. An integer is a set. So is an array of integers,
+//! nested to any depth, and so is a slice. Each function is proved to do what its contract says.
 //!
 //! ```text
 //!      0b0010_0010u8                    0b0010_0010u8
@@ -45,9 +45,9 @@
 //! Bits::count_zeros(&u8::ones());   // 0: an integer has a method of the name too
 //! ```
 //!
-//! A slice reference is a set too. A `&[T]` can be read; a `&mut [T]` changes the caller's words. A
-//! `Vec` is a set through its slice. To use a part of a slice as a set, borrow the part, as in
-//! `(&mut words[1..3])`.
+//! A slice reference is a set too. A `&[T]` can be read; a `&mut [T]` changes the caller's words.
+//! To use a `Vec` as a set, borrow its slice. To use a part of a slice as a set, borrow the part,
+//! as in `(&mut words[1..3])`.
 //!
 //! An iterator borrows the slice reference. If you keep the iterator in a variable, keep the
 //! reference in one too.
@@ -69,8 +69,8 @@
 //!
 //! # Macros
 //!
-//! [`set!`] makes the set of a list, in the order of the set's type. [`set_le!`] and [`set_be!`]
-//! make the set in the order that they name.
+//! [`set!`] makes the set of the indexes in a list. The indexes follow the bit order of the set's
+//! type. [`set_le!`] and [`set_be!`] use the order that they name.
 //!
 //! ```rust
 //! let mask: u8 = bittle::set![0, 2..=3, 6..];       // 0b1100_1101
@@ -97,7 +97,7 @@
 //! row.first_one_in::<BigEndian>(5, 128);            // Some(67)
 //! ```
 //!
-//! A join uses a set as a mask over the items of an iterator.
+//! A join uses a set as a mask over the items of an iterator. It yields item `k` if bit `k` is set.
 //!
 //! ```rust
 //! let mask: u8 = bittle::set![0, 2, 5];
@@ -118,10 +118,10 @@
 //!
 //! # Names
 //!
-//! A call that ends in `_in` names its order, as `test_bit_in::<LittleEndian>(3)`. Calls that end
-//! in `_le` and `_be` are short forms for the two orders. A call without an ending takes the order
-//! of the type: [`BigEndian`], or the order that a [`Set`] remembers. `join_ones` always takes
-//! [`BigEndian`].
+//! A call whose name ends in `_in` takes the order as a type argument, as in
+//! `test_bit_in::<LittleEndian>(3)`. Calls that end in `_le` and `_be` are short forms for the two
+//! orders. A call without an ending uses the order of the type: [`BigEndian`], or the order that a
+//! [`Set`] remembers. `join_ones` always uses [`BigEndian`].
 //!
 //! No call is named `is_empty` or `len`, since slices have methods of these names. Call
 //! `all_zeros`, `all_ones`, `count_ones` and `bits_capacity` instead.

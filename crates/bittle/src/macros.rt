@@ -1,4 +1,5 @@
-//! The macros that make the set of a list, and the calls for ranges that they expand to.
+//! The macros that make the set of the indexes in a list, and the functions that add a range of
+//! indexes.
 
 ghost use Rattle.std.specs.Prelude.{◌≡◌, ◌+◌, IsTrue};
 ghost use Rattle.bittle_bits.specs.Values.{set_in, ShapeFits};
@@ -9,15 +10,15 @@ use bittle_bits::bits_mut::BitsMut;
 use bittle_bits::bits_owned::BitsOwned;
 use bittle_bits::endian::{BigEndian, Endian, LittleEndian};
 
-/// Makes the set of a list, in the order of the set's type.
+/// Makes the set of the indexes in a list. They follow the bit order of the set's type.
 ///
 /// The items of a list are indexes and ranges. An index is an expression of the type `u32`. A range
 /// is `a..=b`, `a..b` or `a..`, and its bounds are literals; `a..` ends at the capacity. A range
-/// that ends before it starts sets nothing.
+/// that ends before it starts sets no bit.
 ///
 /// The type of the set has to follow from the context, and has to fit (`bits() < u32::MAX`). Making
-/// the empty set costs O(words). Each index then costs O(1), and each range costs one mask for each
-/// word of the range. An index past the capacity wraps. With capacity 0 the set is empty.
+/// the empty set costs O(words). Each index then costs O(1), and each range costs one masked write
+/// for each of its words. An index past the capacity wraps. With capacity 0 the set is empty.
 ///
 /// The macro cannot make a `const`. Write a function that returns the set instead.
 ///
@@ -35,7 +36,7 @@ macro_rules! set {
     };
 }
 
-/// Makes the set of a list in [`LittleEndian`](crate::LittleEndian) order, as [`set!`] does.
+/// Makes the set of a list as [`set!`] does, but in [`LittleEndian`](crate::LittleEndian) order.
 ///
 /// ```
 /// let mask: u8 = bittle::set_le![0, 2..=3, 6..];      // 0b1011_0011
@@ -52,7 +53,7 @@ macro_rules! set_le {
     };
 }
 
-/// Makes the set of a list in [`BigEndian`](crate::BigEndian) order, as [`set!`] does.
+/// Makes the set of a list as [`set!`] does, but in [`BigEndian`](crate::BigEndian) order.
 ///
 /// ```
 /// let mask: u8 = bittle::set_be![0, 2..=3, 6..];      // 0b1100_1101
@@ -110,7 +111,8 @@ macro_rules! put_listed {
     };
 }
 
-/// Sets the bits at the indexes `from..to`, in the order of the type. Each index wraps.
+/// Sets the bits at the indexes `from..to`. The indexes follow the bit order of the type. An index
+/// past the capacity wraps.
 ///
 /// The shape has to fit (`bits_capacity() < u32::MAX`). A range that ends before it starts changes
 /// nothing. With capacity 0 nothing changes.
@@ -124,7 +126,7 @@ pub fn put_until<B: BitsMut>(bits: &mut B, from: u32, to: u32)
     put_until_in::<B, B::Order>(bits, from, to);
 }
 
-/// Sets the bits as [`put_until`] does, in the order `E`.
+/// Sets the bits as [`put_until`] does, but in the order `E`.
 #[inline]
 pub fn put_until_in<B: BitsMut, E: Endian>(bits: &mut B, from: u32, to: u32)
     requires { ShapeFits B.Shape bits.old }
@@ -137,7 +139,8 @@ pub fn put_until_in<B: BitsMut, E: Endian>(bits: &mut B, from: u32, to: u32)
     }
 }
 
-/// Sets the bits at the indexes `from..=to`, in the order of the type. Each index wraps.
+/// Sets the bits at the indexes `from..=to`. The indexes follow the bit order of the type. An index
+/// past the capacity wraps.
 ///
 /// The shape has to fit (`bits_capacity() < u32::MAX`). A range that ends before it starts changes
 /// nothing. With capacity 0 nothing changes.
@@ -151,7 +154,7 @@ pub fn put_through<B: BitsMut>(bits: &mut B, from: u32, to: u32)
     put_through_in::<B, B::Order>(bits, from, to);
 }
 
-/// Sets the bits as [`put_through`] does, in the order `E`.
+/// Sets the bits as [`put_through`] does, but in the order `E`.
 pub fn put_through_in<B: BitsMut, E: Endian>(bits: &mut B, from: u32, to: u32)
     requires { ShapeFits B.Shape bits.old }
     ensures set { set_in B.Shape E.Endian bits.new

@@ -24,12 +24,12 @@ mod operators;
 
 /// A set that remembers the order in which its bits are indexed.
 ///
-/// Calls that name no order use the remembered order. Only `join_ones` uses [`DefaultEndian`].
-/// Iteration, comparison, hashing and debug text use the remembered order too.
+/// Calls that name no order use the remembered order, except `join_ones`, which always uses
+/// [`DefaultEndian`]. Iteration, comparison, hashing and debug text use the remembered order too.
 ///
 /// The wrapped value always fits: its capacity, and that of every array type inside, is below
-/// `u32::MAX`. So a call on the set has just one condition: `from <= to <= capacity`, for a range
-/// or a search. If a call takes another set of any shape, that set has to fit.
+/// `u32::MAX`. So a call on the set has at most one condition: if it changes or searches a range,
+/// `from <= to <= capacity`. If a call takes another set of any shape, that set has to fit too.
 ///
 /// ```
 /// let set = Set::new_le(0b1101_0000u8);
@@ -37,9 +37,10 @@ mod operators;
 /// set.iter_ones();                                    // yields 0, 1, 3
 /// ```
 ///
-/// The operators `|`, `&`, `^` and `-`, and their assigning forms such as `|=`, are the operations
-/// on sets. `!` returns the indexes below the capacity that are not members. For each integer type,
-/// `from` makes the set of an integer and `default` makes the empty set.
+/// The operators on two sets are `|` (union), `&` (conjunction), `^` (symmetric difference) and `-`
+/// (difference). Their assigning forms, such as `|=`, change the left set. `!` returns the set of
+/// the indexes below the capacity that are not members. For each integer type, `from` wraps an
+/// integer in a set, and `default` makes the empty set.
 ///
 /// ```
 /// let one: Set<u8> = Set::from(0b0011);
@@ -65,9 +66,10 @@ pub fn default_order_is_big_endian()
 {}
 
 impl<T: Bits> Set<T> {
-    /// Makes a set of `bits`, read in [`DefaultEndian`] order.
+    /// Wraps `bits` in a set that indexes the bits in [`DefaultEndian`] order.
     ///
-    /// The shape has to fit (`bits_capacity() < u32::MAX`). It costs O(1), and the move of `bits`.
+    /// The shape has to fit (`bits_capacity() < u32::MAX`). The call costs O(1), plus the time to
+    /// move `bits`.
     ///
     /// ```
     /// Set::new(0b1101_0000u8).iter_ones();                // yields 4, 6, 7
@@ -82,9 +84,10 @@ impl<T: Bits> Set<T> {
 }
 
 impl<T: Bits> Set<T, LittleEndian> {
-    /// Makes a set of `bits`, read in [`LittleEndian`] order.
+    /// Wraps `bits` in a set that indexes the bits in [`LittleEndian`] order.
     ///
-    /// The shape has to fit (`bits_capacity() < u32::MAX`). It costs O(1), and the move of `bits`.
+    /// The shape has to fit (`bits_capacity() < u32::MAX`). The call costs O(1), plus the time to
+    /// move `bits`.
     ///
     /// ```
     /// Set::new_le(0b1101_0000u8).iter_ones();             // yields 0, 1, 3
@@ -99,9 +102,10 @@ impl<T: Bits> Set<T, LittleEndian> {
 }
 
 impl<T: Bits, E: Endian> Set<T, E> {
-    /// Makes a set of `bits`, read in the order `E`.
+    /// Wraps `bits` in a set that indexes the bits in the order `E`.
     ///
-    /// The shape has to fit (`bits_capacity() < u32::MAX`). It costs O(1), and the move of `bits`.
+    /// The shape has to fit (`bits_capacity() < u32::MAX`). The call costs O(1), plus the time to
+    /// move `bits`.
     ///
     /// ```
     /// Set::<u8, LittleEndian>::new_in(0x80).iter_ones();  // yields 0
@@ -119,7 +123,7 @@ impl<T: Bits, E: Endian> Set<T, E> {
 
     /// Returns the wrapped value.
     ///
-    /// Always callable. It costs O(1), and the move of the value.
+    /// Always callable. The call costs O(1), plus the time to move the value.
     ///
     /// ```
     /// Set::new_le(0x80u8).into_bits();                    // 0x80
@@ -134,9 +138,9 @@ impl<T: Bits, E: Endian> Set<T, E> {
 }
 
 impl<'a, U: BitsOwned> Set<&'a [U]> {
-    /// Makes a set of a slice, read in [`DefaultEndian`] order.
+    /// Wraps a slice in a set that indexes the bits in [`DefaultEndian`] order.
     ///
-    /// The shape has to fit (`bits_capacity() < u32::MAX`). It costs O(1).
+    /// The shape has to fit (`bits_capacity() < u32::MAX`). The call costs O(1).
     ///
     /// ```
     /// Set::from_ref(&[1u8, 16]).iter_ones();              // yields 0, 12
@@ -154,9 +158,9 @@ impl<'a, U: BitsOwned> Set<&'a [U]> {
 }
 
 impl<'a, U: BitsOwned> Set<&'a [U], LittleEndian> {
-    /// Makes a set of a slice, read in [`LittleEndian`] order.
+    /// Wraps a slice in a set that indexes the bits in [`LittleEndian`] order.
     ///
-    /// The shape has to fit (`bits_capacity() < u32::MAX`). It costs O(1).
+    /// The shape has to fit (`bits_capacity() < u32::MAX`). The call costs O(1).
     ///
     /// ```
     /// Set::from_ref_le(&[1u8, 16]).iter_ones();           // yields 7, 11
@@ -174,10 +178,10 @@ impl<'a, U: BitsOwned> Set<&'a [U], LittleEndian> {
 }
 
 impl<'a, U: BitsOwned> Set<&'a mut [U]> {
-    /// Makes a set of a mutably borrowed slice, read in [`DefaultEndian`] order. The caller's slice
-    /// holds the changes.
+    /// Wraps a mutable slice in a set that indexes the bits in [`DefaultEndian`] order. Each change
+    /// of the set changes the caller's slice.
     ///
-    /// The shape has to fit (`bits_capacity() < u32::MAX`). It costs O(1).
+    /// The shape has to fit (`bits_capacity() < u32::MAX`). The call costs O(1).
     ///
     /// ```
     /// let mut words = [0u8; 2];
@@ -197,10 +201,10 @@ impl<'a, U: BitsOwned> Set<&'a mut [U]> {
 }
 
 impl<'a, U: BitsOwned> Set<&'a mut [U], LittleEndian> {
-    /// Makes a set of a mutably borrowed slice, read in [`LittleEndian`] order. The caller's slice
-    /// holds the changes.
+    /// Wraps a mutable slice in a set that indexes the bits in [`LittleEndian`] order. Each change
+    /// of the set changes the caller's slice.
     ///
-    /// The shape has to fit (`bits_capacity() < u32::MAX`). It costs O(1).
+    /// The shape has to fit (`bits_capacity() < u32::MAX`). The call costs O(1).
     ///
     /// ```
     /// let mut words = [0u8; 2];

@@ -11,22 +11,24 @@ use Rattle.bittle_bits.specs.declared.kind.Kind as kind
 use Rattle.bittle_bits.specs.declared.shape.Shape as shape
 use Rattle.bittle_bits.specs.declared.word.Word as word
 
--- the members of a set in the range from..to, in increasing order
+-- the list of those members of a set that are in from..to, in increasing order
 unfoldable pub members_between : PlainSet → ℕ → ℕ → List ℕ
 members_between s from to = ascending_from s.has from (to - from)
 
--- The members of a word of w bits, each plus base. If the first bit of the word has the index base
--- in the set that the word was fetched from, these are the members' indexes in that set.
+-- The indexes of the set bits of a word of w bits, read in an order, each plus base. If the word
+-- was fetched from a set in which its first bit has the index base, these are the indexes of its
+-- set bits in that set.
 abbrev pub items_of : Bool → ℕ → ℕ → ℕ → List ℕ
 items_of mirrored w pattern base = map (λ i. base + i)
     (ascending (read_in mirrored w (bit_set w pattern)))
 
--- how far the first index of a word lies below the index of its bit of least weight
+-- by how much the index of a word's bit of least weight exceeds the index of the word's first bit:
+-- 0 in big-endian order, w - 1 in little-endian order
 abbrev pub edge_from_first : Bool → ℕ → ℕ
 edge_from_first false w = 0
 edge_from_first true w = w - 1
 
--- the items of a buffered word, if one is loaded
+-- the items of a buffered word, or None if no word is loaded
 unfoldable pub buffered_items : {W : Type 0} → Bool → ℕ → (W → ℕ) → BufferedWord W → Option (List ℕ)
 buffered_items mirrored w pattern c = cond c.is_loaded
     (Some (items_of mirrored w (pattern c.word) (c.edge - edge_from_first mirrored w)))
@@ -38,16 +40,16 @@ IsSound mirrored w pattern c = (c.is_loaded ≡ true →
     (first : ℕ) × (c.edge ≡ first + edge_from_first mirrored w) × (first + w < 4294967296))
     × (c.is_loaded ≡ false → ascending (read_in mirrored w (bit_set w (pattern c.word))) ≡ [])
 
--- the items of a word that is word k of a set
+-- the items of a word if it is word k of a set
 abbrev pub word_items : {W E : Type 0} → word.Ghosts W → endian.Ghosts E → W → ℕ → List ℕ
 word_items t e v k = items_of e.mirrored t.width (t.pattern v) (k * t.width)
 
--- the indexes of the bits of a kind (set or unset) in word k of a value, read in an order
+-- the indexes of the bits of a kind (set or unset) in word n of a value, read in an order
 abbrev pub members_in_word : {V W E K : Type 0} → shape.Ghosts V W → endian.Ghosts E →
     kind.Ghosts K → V → ℕ → List ℕ
 members_in_word b e k v n = members_between (kind_in b e k v) (n * b.width) (n * b.width + b.width)
 
--- the items of a buffered word, if one is loaded
+-- the items of a buffered word, or None if no word is loaded
 abbrev pub items_held : {W E : Type 0} → word.Ghosts W → endian.Ghosts E → BufferedWord W →
     Option (List ℕ)
 items_held t e c = buffered_items e.mirrored t.width t.pattern c
@@ -78,18 +80,20 @@ abbrev pub buffer_of : Bool → BufferPair → Option (List ℕ)
 buffer_of true b = b.head
 buffer_of false b = b.tail
 
--- a scan takes the item at one end of a word, or finds that no word with an item is loaded
+-- a scan takes the item at one end of a buffered word; or it finds that no word with an item is
+-- loaded, and no word is loaded afterwards
 abbrev pub ScansFrom : Bool → Option (List ℕ) → Option ℕ → Option (List ℕ) → Type 0
 ScansFrom front before r after = MatchOption r ((items_in before ≡ []) × (after ≡ None))
     (λ item. (xs : List ℕ) × (before ≡ Some (with_end front item xs)) × (after ≡ Some xs))
 
--- the buffered word at an end is dropped if it has no item, and stays if it has one
+-- r tells whether a buffer has no item; a word without an item is dropped, and a word with an item
+-- stays
 abbrev pub TellsExhausted : Bool → Option (List ℕ) → Option (List ℕ) → Type 0
 TellsExhausted r before after = MatchBool r ((items_in before ≡ []) × (after ≡ None))
     ((items_in before ≢ []) × (after ≡ before))
 
--- a word that is fetched for an end is loaded there if it has an item; else the test for an item
--- counts as its scan
+-- r tells whether a fetched word has an item; if it has one, the word is loaded at an end; if it
+-- has none, the test for an item counts as its scan
 abbrev pub Refills : Bool → List ℕ → Bool → BufferPair → BufferPair → Type 0
 Refills front xs r b c = MatchBool r
     ((xs ≢ []) × (c ≡ record {

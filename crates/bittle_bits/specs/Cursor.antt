@@ -11,8 +11,9 @@ use Rattle.bittle_bits.specs.declared.shape.Shape as shape
 
 -- B is the type of the set, E the order, and W the type of the words
 module _ {B E W : Type 0} where
-  -- What remains: the head's items, the members of the words between, and the tail's items. If it
-  -- were an `abbrev`, a caller's proof search would expand the buffers of each iterator.
+  -- The items that remain: the head's items, the members of the words between, and the tail's
+  -- items. If this definition were an `abbrev`, a caller's proof search would expand the buffers of
+  -- each iterator.
   unfoldable pub items_left_in : PlainSet → ℕ → Cursor B E W → List ℕ
   items_left_in s w at = items_in at.buffers.head
       ++ (members_between s (at.low * w) (at.high * w) ++ items_in at.buffers.tail)
@@ -39,8 +40,8 @@ pub record IsCounted {B E W : Type 0} (words : ℕ) (at : Cursor B E W) : Type 0
       at.buffers.tail ≤ at.items + words
   pub once : at.buffers.fetches + (at.high - at.low) + at.passed ≡ words
 
--- the start of an iterator: all items remain, no scan and no item is counted, and at most one word
--- was fetched
+-- the start of an iterator: all items remain, the counts of scans and of yielded items are 0, and
+-- at most one word was fetched
 pub record IsWalkStart {B E W : Type 0} (s : PlainSet) (words w : ℕ) (t : Cursor B E W) :
     Type 0 where
   pub remaining : items_left_in s w t ≡ ascending s

@@ -8,13 +8,13 @@ abbrev pub IsAscendingFrom : ℕ → List ℕ → Type 0
 IsAscendingFrom from [] = ⊤
 IsAscendingFrom from (m ∷ ms) = (from ≤ m) × IsAscendingFrom (m + 1) ms
 
--- a join
+-- a join, as contracts see it
 pub record Join (I : Type 0) : Type 0 where
   -- the iterator over the members of the mask
   pub mask : Walk
   -- the iterator whose items are joined
   pub iter : I
-  -- the position of the iterator's next item among all of its items
+  -- the position of the next item of `iter`, counted from 0 at the start of the join
   pub taken : ℕ
   -- whether the join has returned `None`
   pub ended : Bool
@@ -25,9 +25,9 @@ position_after from [] = from
 position_after from (m ∷ ms) = position_after (m + 1) ms
 
 module _ {I A : Type 0} (steps : I → Option A → I → Type 0) where
-  -- A call with these members left takes the first of them, m. It returns item m of the iterator,
-  -- counted from its first item, or `None` if there is no such item. With no member left it takes
-  -- nothing.
+  -- If the mask has members left, a call takes the first of them, m, from the mask. It returns the
+  -- item at position m of the iterator, counted from the iterator's first item, or `None` if there
+  -- is no such item. If no member is left, the call takes nothing and returns `None`.
   abbrev pub JoinsNext : List ℕ → Join I → Option A → Join I → Type 0
   JoinsNext [] s r t = (r ≡ None) × (t.mask.remaining ≡ []) × (t.iter ≡ s.iter) × (t.taken ≡ s.taken)
   JoinsNext (m ∷ ms) s r t = (t.mask.remaining ≡ ms) × (t.taken ≡ m + 1) × SkipsThenYields steps s.iter
@@ -38,9 +38,9 @@ module _ {I A : Type 0} (steps : I → Option A → I → Type 0) where
   join_steps s r t = MatchOption r (t.ended ≡ true) (λ _. t.ended ≡ false)
       × (s.ended ≡ true → (r ≡ None) × (t ≡ s)) × (s.ended ≡ false → JoinsNext s.mask.remaining s r t)
 
--- The next item of an iterator was at position `from`. Then the items `taken` were taken from it,
--- up to the position of the last member that has an answer. Answer k is the taken item whose
--- position is member k.
+-- The items `taken` were taken from an iterator whose next item was at position `from`. They go up
+-- to the position of the last member that has an answer. Answer k is the taken item whose position
+-- is member k.
 pub record IsJoin {A : Type 0} (from : ℕ) (members : List ℕ) (taken answers : List A) : Type 0 where
   pub among : length answers ≤ length members
   pub given : (k : ℕ) → k < length answers →
@@ -48,8 +48,9 @@ pub record IsJoin {A : Type 0} (from : ℕ) (members : List ℕ) (taken answers 
   pub long : from + length taken ≡ position_after from (take (length answers) members)
 
 module _ {I A : Type 0} (steps : I → Option A → I → Type 0) (s : Join I) where
-  -- As long as a join returns items, they are the iterator's items at the mask's members, in turn.
-  -- The join takes no item past the last of these members.
+  -- The items that a join returns before `None` are the iterator's items whose positions are the
+  -- members of the mask, in increasing order. The join takes no item past the last of these
+  -- positions.
   abbrev pub AnswersItemsAtMembers : Type 0
   AnswersItemsAtMembers = (answers : List A) (t : Join I) → Yields (join_steps steps) s answers t
       → (taken : List A) × Yields steps s.iter taken t.iter
@@ -57,15 +58,15 @@ module _ {I A : Type 0} (steps : I → Option A → I → Type 0) (s : Join I) w
       × (t.mask.remaining ≡ drop (length answers) s.mask.remaining) × (t.taken ≡ s.taken + length taken)
       × (t.ended ≡ false)
 
-  -- If no member was left, nothing further was taken. Else the iterator came to its end at or
-  -- before the next member.
+  -- If no member was left, no further item was taken. Else the iterator ended, and it has no item
+  -- at the position of the next member.
   abbrev pub EndsAt : List A → List ℕ → Join I → Type 0
   EndsAt taken [] t = Yields steps s.iter taken t.iter
   EndsAt taken (m ∷ ms) t = (last : List A) × YieldsThen steps s.iter (taken ++ last) None t.iter
       × (s.taken + length (taken ++ last) ≤ m)
 
-  -- A join ends after the last member, and takes nothing further. Or it ends at the first member
-  -- for which the iterator has no item, and has reached the iterator's end.
+  -- A join ends in one of two ways. It ends after the last member, and takes no further item. Or it
+  -- ends at the first member for which the iterator has no item, and the iterator has ended too.
   abbrev pub EndsAfterMembers : Type 0
   EndsAfterMembers = (answers : List A) (t : Join I) →
       YieldsThen (join_steps steps) s answers None t

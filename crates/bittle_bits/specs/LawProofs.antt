@@ -9,16 +9,16 @@ use Rattle.bittle_bits.specs.Decided.{has_decided}
 use Rattle.bittle_bits.specs.PlainSet.{PlainSet}
 use Rattle.bittle_bits.specs.Shapes.{Fits}
 
--- no bit lies past the word
+-- a word of w bits has no set bit whose weight is 2 ^ w or more
 pub bit_has-past : (w d i : ℕ) → w ≤ i → bit_has w d i ≡ false
 unfolding bit_has
 bit_has-past w d i h = rw (le-ltb i w h)
 
--- a word is a whole number of words: one
+-- the width of a word is a whole number of words: one
 pub one_word : (w : ℕ) → (words : ℕ) × (w ≡ words * w)
 one_word w = (1, omega arith)
 
--- the set of a word's bits has no member past the word
+-- the set of a word's bits has no member from the capacity on
 pub none_past_word : (w d : ℕ) (s : PlainSet) → s ≡ bit_set w d → (i : ℕ) → s.capacity ≤ i →
     s.has i ≡ false
 none_past_word w d s is i h = rw (is) (bit_has-past w d i (rw (is) at h))
@@ -35,17 +35,18 @@ one_word_whole w own c same whole = rw (whole, same) (one_word own)
 pub positive_width : (w own : ℕ) → w ≡ own → 0 < own → 0 < w
 positive_width w own same h = omega (arith, same, h)
 
--- words that are equal are the same set
+-- equal words stand for the same set
 pub equal_words : (w u v : ℕ) → IsTrue (nat_eq u v) → bit_set w u ≡ bit_set w v
 equal_words w u v h = ap (bit_set w) (eqb-true u v h)
 
--- signed words that are equal are the same set, whatever function gives their patterns
+-- equal signed words stand for the same set, whatever function gives their patterns
 pub equal_signed_words : (w : ℕ) (pattern : ℤ → ℕ) (u v : ℤ) → IsTrue (int_eq u v) →
     bit_set w (pattern u) ≡ bit_set w (pattern v)
 equal_signed_words w pattern u v h = ap (λ x. bit_set w (pattern x)) ((signed_Decides u v).0 h)
 
--- An integer type is a word that is the set of its bits. Its shape has the width and the capacity
--- of the word, and fits. All values hold the same borrows, and equal values are the same set.
+-- The values of an integer type are words, and each stands for the set of its bits. The shape has
+-- the width and the capacity of the word, and fits. All values hold the same borrows, and equal
+-- values stand for the same set.
 pub record IsWord {V : Type 0} (eq : V → V → Bool) (indexable : Bool) (capacity width own : ℕ)
     (big : V → PlainSet) (pattern : V → ℕ) (loan : V → List ℕ) : Type 0 where
   pub same_width : width ≡ own
@@ -55,7 +56,8 @@ pub record IsWord {V : Type 0} (eq : V → V → Bool) (indexable : Bool) (capac
   pub big_is_pattern : (v : V) → big v ≡ bit_set own (pattern v)
   pub same_pattern : (u v : V) → IsTrue (eq u v) → big u ≡ big v
 
--- an unsigned integer type, in which the pattern of a value is its number
+-- `IsWord` holds for the unsigned integer type of w bits, where the pattern of a value is the value
+-- itself
 pub unsigned_word : (w : ℕ) → w < 4294967295 →
     IsWord nat_eq true w w w (λ x. bit_set w x) (λ x. x) (λ _. [])
 unsigned_word w few = record {
@@ -67,7 +69,7 @@ unsigned_word w few = record {
   same_pattern = equal_words w;
 }
 
--- a signed integer type
+-- `IsWord` holds for the signed integer type of w bits
 pub signed_word : (w : ℕ) (pattern : ℤ → ℕ) → w < 4294967295 →
     IsWord int_eq true w w w (λ x. bit_set w (pattern x)) pattern (λ _. [])
 signed_word w pattern few = record {
@@ -83,14 +85,13 @@ signed_word w pattern few = record {
 pub positive_bytes : (w : ℕ) → (log : ℕ) × (w ≡ 2 ^ (3 + log)) → 0 < w
 positive_bytes w bytes = rw bytes.1 (pow_pos (3 + bytes.0))
 
--- the result of an operation on two sets, taken below n, has no member from n on
+-- the result of an operation on two sets, limited to the numbers below n, has no member from n on
 pub none_past_decided : (f : Bool → Bool → Bool) (n : ℕ) (s t : PlainSet) (i : ℕ) → n ≤ i →
     has_decided f n s t i ≡ false
 unfolding has_decided
 none_past_decided f n s t i past = ap (λ b. b && f (s.has i) (t.has i)) (le-ltb i n past)
 
--- if two capacities are whole numbers of words of the same width, then the lesser of them is one
--- too
+-- if two capacities are whole numbers of words of the same width, then so is the lesser of them
 pub whole_lesser : (a b w v c : ℕ) → w ≡ v → c ≡ min a b → (words : ℕ) × (a ≡ words * w) →
     (words : ℕ) × (b ≡ words * v) → (words : ℕ) × (c ≡ words * w)
 whole_lesser a b w v c same is ours theirs =

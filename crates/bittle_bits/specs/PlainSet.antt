@@ -6,11 +6,13 @@ pub record PlainSet : Type 0 where
   pub capacity : ℕ
   pub has : ℕ → Bool
 
--- whether the index, which wraps at the capacity, is a member; with capacity 0 nothing is a member
+-- whether an index is a member; the index wraps at the capacity, and with capacity 0 nothing is a
+-- member
 unfoldable pub contains : PlainSet → ℕ → Bool
 contains s i = nat_lt 0 s.capacity && s.has (i % s.capacity)
 
--- whether a number is a member, or is the index, which wraps at the capacity
+-- whether the number k is a member after the index i is added; i wraps at the capacity, and with
+-- capacity 0 nothing is added
 unfoldable pub has_with : PlainSet → ℕ → ℕ → Bool
 has_with s i k = (nat_lt 0 s.capacity && (k == i % s.capacity)) || s.has k
 
@@ -22,15 +24,17 @@ with_index s i = record { capacity = s.capacity; has = has_with s i }
 abbrev pub is_in_span : ℕ → ℕ → ℕ → Bool
 is_in_span from end k = nat_le from k && nat_lt k end
 
--- the set of a capacity with each number of a span that ends at or before the capacity
+-- the set of capacity c whose members are the numbers of from..end; this span ends at or before c
 abbrev pub span_set : ℕ → ℕ → ℕ → PlainSet
 span_set c from end = record { capacity = c; has = is_in_span from end }
 
--- whether a number is a member after a change of each number of a span; other numbers stay
+-- whether the number k is a member after `change` was applied to the membership of each number of a
+-- span; other numbers keep theirs
 unfoldable pub has_changed : (Bool → Bool) → PlainSet → ℕ → ℕ → ℕ → Bool
 has_changed change s from end k = cond (is_in_span from end k) (change (s.has k)) (s.has k)
 
--- the set after a change of each index of a span that ends at or before the capacity
+-- the set after `change` was applied to the membership of each number of a span; the span ends at
+-- or before the capacity
 abbrev pub with_span_changed : (Bool → Bool) → PlainSet → ℕ → ℕ → PlainSet
 with_span_changed change s from end =
     record { capacity = s.capacity; has = has_changed change s from end }
@@ -43,11 +47,12 @@ with_span s from end = with_span_changed (λ _. true) s from end
 abbrev pub without_span : PlainSet → ℕ → ℕ → PlainSet
 without_span s from end = with_span_changed (λ _. false) s from end
 
--- the set with each index of from..end flipped: it is a member exactly if it was not one
+-- the set with each index of from..end flipped: an index of the span is a member exactly if it was
+-- not one
 abbrev pub with_span_toggled : PlainSet → ℕ → ℕ → PlainSet
 with_span_toggled s from end = with_span_changed not s from end
 
--- whether a number is a member, and is not the index, which wraps at the capacity
+-- whether the number k is a member after the index i is removed; i wraps at the capacity
 unfoldable pub has_without : PlainSet → ℕ → ℕ → Bool
 has_without s i k = not (nat_lt 0 s.capacity && (k == i % s.capacity)) && s.has k
 
@@ -55,19 +60,19 @@ has_without s i k = not (nat_lt 0 s.capacity && (k == i % s.capacity)) && s.has 
 abbrev pub without_index : PlainSet → ℕ → PlainSet
 without_index s i = record { capacity = s.capacity; has = has_without s i }
 
--- the set of a capacity with no members
+-- the set of capacity c that has no members
 abbrev pub empty_set : ℕ → PlainSet
 empty_set c = record { capacity = c; has = λ _. false }
 
--- the set of a capacity with each number below it
+-- the set of capacity c that has each number below c as a member
 abbrev pub full_set : ℕ → PlainSet
 full_set c = record { capacity = c; has = λ k. nat_lt k c }
 
--- the set of a capacity with each number below it, from i on
+-- the set of capacity c that has each number of i..c as a member
 abbrev pub full_set_from : ℕ → ℕ → PlainSet
 full_set_from c i = record { capacity = c; has = λ k. nat_lt k c && not (nat_lt k i) }
 
--- the set of the same capacity with no members
+-- the set that has the capacity of s and no members
 abbrev pub without_members : PlainSet → PlainSet
 without_members s = empty_set s.capacity
 
@@ -108,7 +113,8 @@ pub record IsLeastMember (s : PlainSet) (r : ℕ) : Type 0 where
   pub none_below : (k : ℕ) → k < r → s.has k ≡ false
   pub is_member : r < s.capacity → s.has r ≡ true
 
--- r is how far the greatest member lies below the last number, or the capacity if there is none
+-- r is how far the greatest member lies below the last number, capacity - 1; if there is no member,
+-- r is the capacity
 pub record IsGreatestMember (s : PlainSet) (r : ℕ) : Type 0 where
   pub within : r ≤ s.capacity
   pub none_above : (k : ℕ) → k < r → s.has (s.capacity - 1 - k) ≡ false

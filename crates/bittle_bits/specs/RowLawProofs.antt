@@ -6,13 +6,13 @@ use Rattle.std.specs.Cmp.Lexicographic.{pointwise}
 use Rattle.bittle_bits.specs.PlainSet.{PlainSet}
 use Rattle.bittle_bits.specs.Rows.{at_element, row_has, row_set}
 
--- no member lies past the row
+-- a row of n elements of capacity c has no member from its capacity n * c on
 pub row_has-past : {X : Type 0} (n c : ℕ) (f : X → ℕ → Bool) (xs : List X) (i : ℕ) →
     n * c ≤ i → row_has n c f xs i ≡ false
 unfolding row_has
 row_has-past n c f xs i h = rw (le-ltb i (n * c) h)
 
--- a row is a whole number of words if each element is
+-- the capacity of a row is a whole number of words if the capacity of each element is one
 pub words_of : (n c w : ℕ) → (words : ℕ) × (c ≡ words * w) → (words : ℕ) × (n * c ≡ words * w)
 words_of n c w h = (n * h.0, ap (λ t. n * t) h.1 ∙ sym (mul_assoc n h.0 w))
 
@@ -38,7 +38,7 @@ module _ {X : Type 0} {eq : X → X → Bool} (c : ℕ) (big : X → PlainSet) (
   unfolding row_has
   same_test n xs ys h i = ap (λ b. nat_lt i (n * c) && b) (equal_elements xs ys (i / c) (i % c) h)
 
--- two rows that are equal element by element are the same set
+-- two rows that are equal element by element stand for the same set
 pub equal_rows : {X : Type 0} {eq : X → X → Bool} (n c : ℕ) (big : X → PlainSet) →
     ((x y : X) → IsTrue (eq x y) → big x ≡ big y) →
     (xs ys : List X) → IsTrue (pointwise eq xs ys) →

@@ -3,13 +3,14 @@ use Rattle.std.specs.Prelude.{◌≡◌, ℕ, zero, suc, ◌+◌, ◌<◌, ◌�
 use Rattle.bittle_bits.specs.PlainSet.{PlainSet, with_index, without_index}
 use Rattle.bittle_bits.specs.SetOperations.{combination_of}
 
--- whether the element at a place of the row passes the test
+-- whether the element at place n of the row passes the test; false if there is no such element
 unfoldable pub at_element : {X : Type 0} → (X → Bool) → List X → ℕ → Bool
 at_element p [] n = false
 at_element p (x ∷ xs) zero = p x
 at_element p (x ∷ xs) (suc n) = at_element p xs n
 
--- whether a number is a member of a row of n elements of capacity c: its element has it
+-- whether the number i is a member of a row of n elements of capacity c: its element, i / c, has
+-- the member i % c
 unfoldable pub row_has : {X : Type 0} → ℕ → ℕ → (X → ℕ → Bool) → List X → ℕ → Bool
 row_has n c has xs i = nat_lt i (n * c) && at_element (λ x. has x (i % c)) xs (i / c)
 
@@ -17,7 +18,8 @@ row_has n c has xs i = nat_lt i (n * c) && at_element (λ x. has x (i % c)) xs (
 abbrev pub row_set : {X : Type 0} → ℕ → ℕ → (X → PlainSet) → List X → PlainSet
 row_set n c big xs = record { capacity = n * c; has = row_has n c (λ x. (big x).has) xs }
 
--- in a row of n elements of capacity c, index i, which wraps, is index r of element q
+-- index i of a row of n elements of capacity c is index r of element q; i wraps at the capacity of
+-- the row
 pub record GoesTo (n c i q r : ℕ) : Type 0 where
   pub is_element : q < n
   pub within : r < c

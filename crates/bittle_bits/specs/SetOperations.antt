@@ -8,24 +8,26 @@ unfoldable pub combination_has : (Bool → Bool → Bool) → PlainSet → Plain
 combination_has decide s t k = cond (nat_lt k s.capacity && nat_lt k t.capacity)
     (decide (s.has k) (t.has k)) (s.has k)
 
--- the first set after an operation with the second one
+-- what an operation with the second set makes of the first set
 abbrev pub combination_of : (Bool → Bool → Bool) → PlainSet → PlainSet → PlainSet
 combination_of decide s t = record { capacity = s.capacity; has = combination_has decide s t }
 
--- in the first and not in the second
+-- whether a number is in the first set and not in the second; a and b tell in which sets it is
 abbrev pub first_alone : Bool → Bool → Bool
 first_alone a b = a && not b
 
--- in just one of the two
+-- whether a number is in just one of the two sets
 abbrev pub just_one : Bool → Bool → Bool
 just_one true b = not b
 just_one false b = b
 
--- the members of either set
+-- the numbers below both capacities that are members of at least one of the sets; from the lesser
+-- capacity on, the members of the first set
 abbrev pub union_of : PlainSet → PlainSet → PlainSet
 union_of s t = combination_of ◌||◌ s t
 
--- the members of both sets
+-- the numbers below both capacities that are members of both the first set and the second; from the
+-- lesser capacity on, the members of the first set
 abbrev pub conjunction_of : PlainSet → PlainSet → PlainSet
 conjunction_of s t = combination_of ◌&&◌ s t
 
@@ -33,6 +35,7 @@ conjunction_of s t = combination_of ◌&&◌ s t
 abbrev pub difference_of : PlainSet → PlainSet → PlainSet
 difference_of s t = combination_of first_alone s t
 
--- the members of just one of the sets
+-- the numbers below both capacities that are members of just one of the sets; from the lesser
+-- capacity on, the members of the first set
 abbrev pub symmetric_difference_of : PlainSet → PlainSet → PlainSet
 symmetric_difference_of s t = combination_of just_one s t

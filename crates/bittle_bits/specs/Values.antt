@@ -1,4 +1,4 @@
--- What a value stands for.
+-- The set that a value stands for.
 use Rattle.std.specs.Prelude.{ℕ, ◌/◌, Bool, List, length}
 use Rattle.bittle_bits.specs.Orders.{read_in}
 use Rattle.bittle_bits.specs.PlainSet.{PlainSet}
@@ -15,11 +15,12 @@ use Rattle.bittle_bits.specs.declared.word.Word as word
 abbrev pub set_in : {V W E : Type 0} → shape.Ghosts V W → endian.Ghosts E → V → PlainSet
 set_in b e v = read_in e.mirrored b.width (b.big v)
 
--- the set of a value, mirrored within each word or not
+-- the set of a value, mirrored within each word if `mirrored` is true
 abbrev pub set_mirrored : {V W : Type 0} → shape.Ghosts V W → Bool → V → PlainSet
 set_mirrored b mirrored v = read_in mirrored b.width (b.big v)
 
--- the bits of a kind of a value, read in an order: its set, or the complement
+-- the bits of a kind of a value, read in an order: the set of the value for ones, its complement
+-- for zeros
 abbrev pub kind_in : {V W E K : Type 0} → shape.Ghosts V W → endian.Ghosts E → kind.Ghosts K → V →
     PlainSet
 kind_in b e k v = ones_or_zeros k.ONES (set_in b e v)
@@ -40,7 +41,7 @@ word_in t e v = word_mirrored t e.mirrored v
 abbrev pub row_of : {V W : Type 0} → shape.Ghosts V W → List V → PlainSet
 row_of b xs = row_set (length xs) b.type_capacity b.big xs
 
--- the set of a row of elements, mirrored within each word or not
+-- the set of a row of elements, mirrored within each word if `mirrored` is true
 abbrev pub row_mirrored : {V W : Type 0} → shape.Ghosts V W → Bool → List V → PlainSet
 row_mirrored b mirrored xs = read_in mirrored b.width (row_of b xs)
 

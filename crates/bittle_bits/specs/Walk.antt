@@ -1,4 +1,4 @@
--- What contracts see of an iterator. It is called a walk here.
+-- What contracts see of an iterator: a record that is called a walk here.
 use Rattle.std.specs.Prelude.{◌≡◌, ℕ, ◌+◌, ◌<◌, ◌≤◌, Bool, true, false, List, length, slice_index, Option, Some, None}
 use Rattle.std.specs.Iterator.{YieldsFirst, YieldsLast}
 use Rattle.std.specs.Iterator.Runs.{YieldsInOrder, YieldsInReverse}
@@ -13,7 +13,7 @@ ones_or_zeros false s = complement s
 abbrev pub AreBelow : ℕ → List ℕ → Type 0
 AreBelow c xs = (length xs ≤ c) × ((k : ℕ) → k < length xs → slice_index xs k < c)
 
--- a walk
+-- a walk: what contracts see of an iterator
 pub record Walk : Type 0 where
   -- the items that remain, in increasing order
   pub remaining : List ℕ
@@ -55,7 +55,8 @@ pub record Steps (gives : Walk → Option ℕ → Walk → Type 0) (before : Wal
   pub words : after.words ≡ before.words
   pub bounded : IsScanBounded after
 
--- what a walk keeps while a step has yielded nothing yet
+-- a part of a step in which no item was yielded: the same items remain, and each word that was
+-- fetched or passed over was unread before
 pub record Seeks (before after : Walk) : Type 0 where
   pub remaining : after.remaining ≡ before.remaining
   pub items : after.items ≡ before.items
@@ -86,7 +87,8 @@ pub record IsFresh (words : ℕ) (w : Walk) : Type 0 where
   pub in_reverse : YieldsInReverse StepsBack (λ s. s.remaining)
 
 -- A clone has the remaining items and the unread words of its source. The words that its source had
--- fetched or passed over count as passed over. The clone has counted nothing else.
+-- fetched or passed over count as passed over. The clone's other counts (scans, items, fetches) are
+-- 0.
 pub record ResumesAs (source clone : Walk) : Type 0 where
   pub remaining : clone.remaining ≡ source.remaining
   pub unread : clone.unread ≡ source.unread

@@ -2,16 +2,17 @@
 use Rattle.std.specs.Prelude.{◌≡◌, ◌≢◌, ℕ, ◌+◌, ◌*◌, ◌<◌, Bool, ◌&&◌, nat_lt}
 use Rattle.bittle_bits.specs.PlainSet.{PlainSet}
 
--- whether a place below the width w holds a member in word k of a set
+-- whether the number i is a member of word k of a set: i is below the width w, and k * w + i is a
+-- member of the set
 unfoldable pub word_has : ℕ → PlainSet → ℕ → ℕ → Bool
 word_has w s k i = nat_lt i w && s.has (k * w + i)
 
--- word k of a set whose words have w bits; its members are those of the set from k * w on, counted
--- from there
+-- word k of a set whose words have w bits; its members are the members of the set in word k, each
+-- less k * w
 abbrev pub word_of : ℕ → PlainSet → ℕ → PlainSet
 word_of w s k = record { capacity = w; has = word_has w s k }
 
--- t is s with word k replaced by another: every other word of s stays
+-- t is the set s with word k replaced by `word`; every other word of s stays
 pub record ReplacesWord (w : ℕ) (s : PlainSet) (k : ℕ) (word t : PlainSet) : Type 0 where
   pub capacity : t.capacity ≡ s.capacity
   pub replaced : word_of w t k ≡ word

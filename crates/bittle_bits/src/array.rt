@@ -32,8 +32,9 @@ impl<T: Shape, const N: usize> Shape for [T; N] {
     fn seal(_: Sealed) {}
 }
 
-// Combines two arrays by an operation. If `others` has at most 128 bytes, it is copied first. The
-// copy cannot overlap `elements`, so the compiler can process several words at once.
+// Changes the array `elements` to the result of the operation `O` on `elements` and `others`. If
+// `others` has at most 128 bytes, it is copied first. The copy cannot overlap `elements`, so the
+// compiled code can process several words at once.
 #[inline]
 fn combine<T: BitsOwned, O: Operation, const N: usize>(elements: &mut [T; N], others: &[T; N])
     ensures { (mirrored : Bool)

@@ -20,18 +20,17 @@ use crate::walk::{Iter, IterOnes, IterZeros};
 
 /// A set of bits, each named by a `u32` index below the capacity.
 ///
-/// The twelve integers are sets. Arrays of sets, nested to any depth, and slices of sets are sets
-/// too. An index at or past the capacity wraps: it means the index modulo the capacity. With
+/// The twelve integer types are sets. Arrays of sets, nested to any depth, and slices of sets are
+/// sets too. An index at or past the capacity wraps: it means the index modulo the capacity. With
 /// capacity 0 no bit is set, and no call changes anything.
 ///
 /// A shape (an integer, an array, or a slice of some length) *fits* if its capacity is below
-/// `u32::MAX`, and the capacity of each array type in it is too. `bits_capacity() < u32::MAX`
-/// checks this. Calls that count, iterate, join or search require that the shape fits. A call on
-/// one index requires less of a slice: only its element type has to fit, so the call works at any
-/// length.
+/// `u32::MAX`, and so is the capacity of each array type in it. `bits_capacity() < u32::MAX` checks
+/// this. Calls that count, iterate, join or search require that the shape fits. A call on one index
+/// requires less of a slice: only its element type has to fit, so the call works at any length.
 pub trait Bits: Drop + ReadWords {
-    /// The order of calls that name no order. It is [`DefaultEndian`]; for a `Set` it is the order
-    /// that the set remembers.
+    /// The bit order of calls that name no order. For an integer, an array or a slice it is
+    /// [`DefaultEndian`]. For a `Set` it is the order that the set remembers.
     type Order: Endian;
 
     /// Returns how many bits the set has, or `u32::MAX` if its shape does not fit.
@@ -84,8 +83,8 @@ pub trait Bits: Drop + ReadWords {
 
     /// Returns `true` if no bit is set. With capacity 0 it returns `true`.
     ///
-    /// Always callable. It reads words until one decides the result, at most eight at a time. If it
-    /// reads a word of an array of at most 128 bytes, it reads every word of this array.
+    /// Always callable. It reads words, at most eight at a time, until one of them decides the
+    /// result. But an array of at most 128 bytes is read as a whole or not at all.
     ///
     /// ```
     /// [0u8; 4].all_zeros();                               // true
@@ -97,8 +96,8 @@ pub trait Bits: Drop + ReadWords {
 
     /// Returns `true` if each bit is set. With capacity 0 it returns `true`.
     ///
-    /// Always callable. It reads words until one decides the result, at most eight at a time. If it
-    /// reads a word of an array of at most 128 bytes, it reads every word of this array.
+    /// Always callable. It reads words, at most eight at a time, until one of them decides the
+    /// result. But an array of at most 128 bytes is read as a whole or not at all.
     ///
     /// ```
     /// [255u8; 4].all_ones();                              // true
@@ -108,11 +107,11 @@ pub trait Bits: Drop + ReadWords {
         ensures in_each_order { (mirrored : Bool) → result
             ≡ (size (set_mirrored Self.Shape mirrored self.now) == (Self.big self.now).capacity) };
 
-    /// Returns `true` if the bit at `index` is set, in the order `E`. An index past the capacity
-    /// wraps. With capacity 0 it returns `false`.
+    /// Returns `true` if the bit at `index` is set. Indexes follow the bit order `E`. An index past
+    /// the capacity wraps. With capacity 0 the call returns `false`.
     ///
     /// The type has to fit (its capacity is below `u32::MAX`). For a slice, only its element type
-    /// has to fit. It costs O(1).
+    /// has to fit. The call costs O(1).
     ///
     /// ```
     /// 0b1000_0000u8.test_bit_in::<LittleEndian>(0);       // true
@@ -121,7 +120,8 @@ pub trait Bits: Drop + ReadWords {
         requires { IsTrue Self.indexable }
         ensures { result ≡ contains (set_in Self.Shape E.Endian self.now) index };
 
-    /// Tests a bit in the order of the type, as [`test_bit_in`](Bits::test_bit_in) does.
+    /// Tests a bit in the bit order of the type (`Self::Order`), as
+    /// [`test_bit_in`](Bits::test_bit_in) does.
     ///
     /// ```
     /// 0b0010u8.test_bit(1);                               // true
@@ -161,12 +161,12 @@ pub trait Bits: Drop + ReadWords {
         self.test_bit_in::<BigEndian>(index)
     }
 
-    /// Returns the least index of a set bit in `from..to`, in the order `E`, or `None` if no bit of
-    /// the range is set.
+    /// Returns the least index in `from..to` whose bit is set, or `None` if no bit of the range is
+    /// set. Indexes follow the bit order `E`.
     ///
     /// The shape has to fit (`bits_capacity() < u32::MAX`), and `from <= to <= capacity`: no index
-    /// wraps. It reads only words of the range, and stops when it has found a bit. With capacity 0
-    /// it returns `None`.
+    /// wraps. The call reads only words of the range, and stops when it has found a bit. With
+    /// capacity 0 it returns `None`.
     ///
     /// ```
     /// [0x10u8, 0x01].first_one_in::<BigEndian>(5, 16);    // Some(8)
@@ -183,8 +183,9 @@ pub trait Bits: Drop + ReadWords {
         search::end_in::<Self, E, Ones, Front>(self, from, to)
     }
 
-    /// Returns the least index of an unset bit in `from..to`, in the order `E`, or `None` if each
-    /// bit of the range is set. All else is as with [`first_one_in`](Bits::first_one_in).
+    /// Returns the least index in `from..to` whose bit is unset, or `None` if each bit of the range
+    /// is set. Indexes follow the bit order `E`. All else is as with
+    /// [`first_one_in`](Bits::first_one_in).
     ///
     /// ```
     /// [0x10u8, 0x01].first_zero_in::<BigEndian>(4, 16);   // Some(5)
@@ -201,9 +202,9 @@ pub trait Bits: Drop + ReadWords {
         search::end_in::<Self, E, Zeros, Front>(self, from, to)
     }
 
-    /// Returns the greatest index of a set bit in `from..to`, in the order `E`, or `None` if no bit
-    /// of the range is set. It reads the words of the range backward, from the last one. All else
-    /// is as with [`first_one_in`](Bits::first_one_in).
+    /// Returns the greatest index in `from..to` whose bit is set, or `None` if no bit of the range
+    /// is set. Indexes follow the bit order `E`. The call reads the words of the range backward,
+    /// from the last one. All else is as with [`first_one_in`](Bits::first_one_in).
     ///
     /// ```
     /// [0x10u8, 0x01].last_one_in::<BigEndian>(0, 8);      // Some(4)
@@ -220,8 +221,9 @@ pub trait Bits: Drop + ReadWords {
         search::end_in::<Self, E, Ones, Back>(self, from, to)
     }
 
-    /// Returns the greatest index of an unset bit in `from..to`, in the order `E`, or `None` if
-    /// each bit of the range is set. All else is as with [`last_one_in`](Bits::last_one_in).
+    /// Returns the greatest index in `from..to` whose bit is unset, or `None` if each bit of the
+    /// range is set. Indexes follow the bit order `E`. All else is as with
+    /// [`last_one_in`](Bits::last_one_in).
     ///
     /// ```
     /// [0x10u8, 0x01].last_zero_in::<BigEndian>(0, 9);     // Some(7)
@@ -238,7 +240,7 @@ pub trait Bits: Drop + ReadWords {
         search::end_in::<Self, E, Zeros, Back>(self, from, to)
     }
 
-    /// Returns how many bits of `from..to` are set, in the order `E`.
+    /// Returns how many bits with an index in `from..to` are set. Indexes follow the bit order `E`.
     ///
     /// The shape has to fit (`bits_capacity() < u32::MAX`), and `from <= to <= capacity`: no index
     /// wraps. The call goes word by word, not bit by bit. With capacity 0 it returns 0.
@@ -260,11 +262,11 @@ pub trait Bits: Drop + ReadWords {
         range_count::count_ones::<Self, E>(self, from, to)
     }
 
-    /// Returns an iterator over the indexes of the set bits, increasing, in the order `E`. It can
-    /// be stepped from both ends.
+    /// Returns an iterator over the indexes of the set bits, from the least to the greatest.
+    /// Indexes follow the bit order `E`. The iterator can be stepped from both ends.
     ///
     /// The shape has to fit (`bits_capacity() < u32::MAX`). Each word is read at most once. With
-    /// capacity 0 it yields nothing.
+    /// capacity 0 the iterator yields nothing.
     ///
     /// The iterator borrows the set. For a slice it borrows the slice reference: if you keep the
     /// iterator in a variable, keep the reference in one too.
@@ -284,8 +286,9 @@ pub trait Bits: Drop + ReadWords {
         Iter::new(Source::new(self))
     }
 
-    /// Returns an iterator over the indexes of the unset bits below the capacity, increasing, in
-    /// the order `E`. All else is as with [`iter_ones_in`](Bits::iter_ones_in).
+    /// Returns an iterator over the indexes of the unset bits below the capacity, from the least to
+    /// the greatest. Indexes follow the bit order `E`. All else is as with
+    /// [`iter_ones_in`](Bits::iter_ones_in).
     ///
     /// ```
     /// 0b1101_0000u8.iter_zeros_in::<LittleEndian>();      // yields 2, 4, 5, 6, 7
@@ -303,8 +306,8 @@ pub trait Bits: Drop + ReadWords {
         Iter::new(Source::new(self))
     }
 
-    /// Iterates over the set bits in the order of the type, as [`iter_ones_in`](Bits::iter_ones_in)
-    /// does.
+    /// Iterates over the set bits in the bit order of the type (`Self::Order`), as
+    /// [`iter_ones_in`](Bits::iter_ones_in) does.
     ///
     /// ```
     /// [0u32, 1, 2, 3].iter_ones();                        // yields 32, 65, 96, 97
@@ -361,7 +364,7 @@ pub trait Bits: Drop + ReadWords {
         self.iter_ones_in::<BigEndian>()
     }
 
-    /// Iterates over the unset bits in the order of the type, as
+    /// Iterates over the unset bits in the bit order of the type (`Self::Order`), as
     /// [`iter_zeros_in`](Bits::iter_zeros_in) does.
     ///
     /// ```
@@ -418,14 +421,16 @@ pub trait Bits: Drop + ReadWords {
         self.iter_zeros_in::<BigEndian>()
     }
 
-    /// Returns an iterator over the items of `iter` at the set bits. It goes over the indexes of
-    /// the set bits, increasing, in the order `E`. For each index it yields the item of `iter` at
-    /// that position, counted from 0.
+    /// Returns an iterator that yields an item of `iter` for each set bit: the item whose position,
+    /// counted from 0, is the index of the bit. The least index comes first. Indexes follow the bit
+    /// order `E`.
     ///
     /// The shape has to fit (`bits_capacity() < u32::MAX`). Each word is read at most once. No item
-    /// of `iter` past the last set bit is taken. With capacity 0 it yields nothing.
+    /// of `iter` past the last of these positions is taken. With capacity 0 the iterator yields
+    /// nothing.
     ///
-    /// [`JoinOnes`] says which items the join takes from `iter`, and where the join ends.
+    /// The comment on [`JoinOnes`] says which items the iterator takes from `iter`, and where it
+    /// ends.
     ///
     /// ```
     /// 0b1010_0000u8.join_ones_in::<_, LittleEndian>([10, 20, 30]);    // yields 10, 30
@@ -450,8 +455,9 @@ pub trait Bits: Drop + ReadWords {
         JoinOnes::new(self, iter.into_iter())
     }
 
-    /// Iterates over the items of `iter` at the set bits in [`DefaultEndian`] order, whatever the
-    /// order of the type, as [`join_ones_in`](Bits::join_ones_in) does.
+    /// Iterates over the items of `iter` at the set bits, as [`join_ones_in`](Bits::join_ones_in)
+    /// does. The indexes always follow the bit order [`DefaultEndian`], even if the order of the
+    /// type is another.
     ///
     /// ```
     /// 0b0010_0101u8.join_ones([10, 20, 30]);              // yields 10, 30

@@ -15,11 +15,11 @@ use crate::operation::{
 
 /// A set that can be changed. No change alters the capacity.
 pub trait BitsMut: Bits {
-    /// Sets the bit at `index`, in the order `E`. No other bit changes.
+    /// Sets the bit at `index`. Indexes follow the bit order `E`. No other bit changes.
     ///
     /// The type has to fit (its capacity is below `u32::MAX`). For a slice, only its element type
-    /// has to fit. An index past the capacity wraps. With capacity 0 nothing changes. It costs
-    /// O(1).
+    /// has to fit. An index past the capacity wraps. With capacity 0 nothing changes. The call
+    /// costs O(1).
     ///
     /// ```
     /// let mut word = 0u8;
@@ -31,11 +31,12 @@ pub trait BitsMut: Bits {
             ≡ with_index (set_in Self.Shape E.Endian self.old) index }
         ensures stays { Self.loan self.old ≡ Self.loan self.new };
 
-    /// Clears the bit at `index`, in the order `E`: it is unset afterwards. No other bit changes.
+    /// Clears the bit at `index`, so that it is unset. Indexes follow the bit order `E`. No other
+    /// bit changes.
     ///
     /// The type has to fit (its capacity is below `u32::MAX`). For a slice, only its element type
-    /// has to fit. An index past the capacity wraps. With capacity 0 nothing changes. It costs
-    /// O(1).
+    /// has to fit. An index past the capacity wraps. With capacity 0 nothing changes. The call
+    /// costs O(1).
     ///
     /// ```
     /// let mut word = 0b1000_0001u8;
@@ -59,8 +60,9 @@ pub trait BitsMut: Bits {
         ensures set { Self.big self.new ≡ without_members (Self.big self.old) }
         ensures stays { Self.loan self.old ≡ Self.loan self.new };
 
-    /// Changes each bit of `from..to` by the operation `O`, in the order `E`. `Union` sets these
-    /// bits, `Difference` clears them, and `SymmetricDifference` flips them. No other bit changes.
+    /// Changes each bit with an index in `from..to` by the operation `O`: `Union` sets these bits,
+    /// `Difference` clears them, and `SymmetricDifference` flips them. Indexes follow the bit order
+    /// `E`. No other bit changes.
     #[doc(hidden)]
     fn assign_range_by_operation<E: Endian, O: RangeOperation>(&mut self, from: u32, to: u32)
         requires fits { ShapeFits Self.Shape self.old }
@@ -70,8 +72,8 @@ pub trait BitsMut: Bits {
             ≡ with_span_changed (λ b. O.decide b true) (set_in Self.Shape E.Endian self.old) from to }
         ensures stays { Self.loan self.old ≡ Self.loan self.new };
 
-    /// Changes the set to the result of the operation `O` on it and `other`. With `Union` it does
-    /// what [`union_assign`](BitsMut::union_assign) does.
+    /// Changes the set to the result of the operation `O` on the set and `other`. With `Union` the
+    /// call does what [`union_assign`](BitsMut::union_assign) does.
     #[doc(hidden)]
     fn assign_by_operation<O: Operation>(&mut self, other: &Self)
         ensures set { (mirrored : Bool) → set_mirrored Self.Shape mirrored self.new
@@ -79,8 +81,8 @@ pub trait BitsMut: Bits {
             (set_mirrored Self.Shape mirrored other.now) }
         ensures stays { Self.loan self.old ≡ Self.loan self.new };
 
-    /// Replaces word `k` of the set. The first bit of this word has the index `k` times the word
-    /// width.
+    /// Replaces word `k` of the set by `word`. The first bit of word `k` has the index `k` times
+    /// the word width.
     #[doc(hidden)]
     fn set_nth_leaf_word(&mut self, k: usize, word: Self::LeafWord)
         requires fits { ShapeFits Self.Shape self.old }
@@ -89,10 +91,11 @@ pub trait BitsMut: Bits {
             (bit_set Self.width (Self.LeafWord.pattern word)) (Self.big self.new) }
         ensures stays { Self.loan self.old ≡ Self.loan self.new };
 
-    /// Sets each bit at the indexes `from..to`, in the order `E`. No other bit changes.
+    /// Sets each bit with an index in `from..to`. Indexes follow the bit order `E`. No other bit
+    /// changes.
     ///
     /// The shape has to fit (`bits_capacity() < u32::MAX`), and `from <= to <= capacity`: no index
-    /// wraps. Only the words of the range are written, by one mask each. An empty range changes
+    /// wraps. Only the words of the range are written, each by one mask. An empty range changes
     /// nothing. With capacity 0 only an empty range is allowed.
     ///
     /// ```
@@ -111,8 +114,8 @@ pub trait BitsMut: Bits {
         self.assign_range_by_operation::<E, Union>(from, to);
     }
 
-    /// Clears each bit at the indexes `from..to`, in the order `E`. All else is as with
-    /// [`set_range_in`](BitsMut::set_range_in).
+    /// Clears each bit with an index in `from..to`. Indexes follow the bit order `E`. All else is
+    /// as with [`set_range_in`](BitsMut::set_range_in).
     ///
     /// ```
     /// let mut row = [0xFFu8; 2];
@@ -130,8 +133,8 @@ pub trait BitsMut: Bits {
         self.assign_range_by_operation::<E, Difference>(from, to);
     }
 
-    /// Flips each bit at the indexes `from..to`, in the order `E`. All else is as with
-    /// [`set_range_in`](BitsMut::set_range_in).
+    /// Flips each bit with an index in `from..to`. Indexes follow the bit order `E`. All else is as
+    /// with [`set_range_in`](BitsMut::set_range_in).
     ///
     /// ```
     /// let mut word = 0b0011_1100u8;
@@ -221,7 +224,8 @@ pub trait BitsMut: Bits {
         self.assign_by_operation::<SymmetricDifference>(other);
     }
 
-    /// Sets a bit in the order of the type, as [`set_bit_in`](BitsMut::set_bit_in) does.
+    /// Sets a bit in the bit order of the type (`Self::Order`), as
+    /// [`set_bit_in`](BitsMut::set_bit_in) does.
     ///
     /// ```
     /// let mut row = [0u16; 2];
@@ -269,7 +273,8 @@ pub trait BitsMut: Bits {
         self.set_bit_in::<BigEndian>(index);
     }
 
-    /// Clears a bit in the order of the type, as [`clear_bit_in`](BitsMut::clear_bit_in) does.
+    /// Clears a bit in the bit order of the type (`Self::Order`), as
+    /// [`clear_bit_in`](BitsMut::clear_bit_in) does.
     ///
     /// ```
     /// let mut row = [0xFFFFu16; 2];

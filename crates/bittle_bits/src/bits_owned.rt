@@ -26,7 +26,7 @@ pub trait BitsOwned: Copy + Eq + BitsMut {
         ensures value { Fits Self.indexable Self.type_capacity → result ≡ Self.type_capacity }
         ensures fits { result < 4294967295 → Fits Self.indexable Self.type_capacity };
 
-    /// Returns the set in which no bit is set, in both orders.
+    /// Returns the set in which no bit is set. It is the same value in both orders.
     ///
     /// The type has to fit (`Self::bits() < u32::MAX`). Each word is written once.
     ///
@@ -39,7 +39,7 @@ pub trait BitsOwned: Copy + Eq + BitsMut {
         ensures in_each_order { (mirrored : Bool) →
             set_mirrored Self.Shape mirrored result ≡ empty_set Self.type_capacity };
 
-    /// Returns the set in which each bit is set, in both orders.
+    /// Returns the set in which each bit is set. It is the same value in both orders.
     ///
     /// The type has to fit (`Self::bits() < u32::MAX`). Each word is written once. With capacity 0
     /// the set is empty.
@@ -55,10 +55,11 @@ pub trait BitsOwned: Copy + Eq + BitsMut {
         ensures in_each_order { (mirrored : Bool) →
             set_mirrored Self.Shape mirrored result ≡ full_set Self.type_capacity };
 
-    /// Returns the set with the bit at index `bit` set, in the order `E`.
+    /// Returns a copy of the set in which the bit at index `bit` is set. Indexes follow the bit
+    /// order `E`.
     ///
-    /// The type has to fit (`Self::bits() < u32::MAX`). The set is copied. An index past the
-    /// capacity wraps. With capacity 0 it returns the same set.
+    /// The type has to fit (`Self::bits() < u32::MAX`). An index past the capacity wraps. With
+    /// capacity 0 the call returns the same set.
     ///
     /// ```
     /// 0u8.with_bit_in::<LittleEndian>(0);                 // 0b1000_0000
@@ -74,8 +75,8 @@ pub trait BitsOwned: Copy + Eq + BitsMut {
         set
     }
 
-    /// Returns the set with a bit set in the order of the type, as
-    /// [`with_bit_in`](BitsOwned::with_bit_in) does.
+    /// Returns a copy of the set in which one bit is set, as
+    /// [`with_bit_in`](BitsOwned::with_bit_in) does, in the bit order of the type (`Self::Order`).
     ///
     /// ```
     /// 0u8.with_bit(9);                                    // 2: 9 wraps to 1
@@ -89,8 +90,8 @@ pub trait BitsOwned: Copy + Eq + BitsMut {
         self.with_bit_in::<Self::Order>(bit)
     }
 
-    /// Returns the set with a bit set in [`LittleEndian`] order, as
-    /// [`with_bit_in`](BitsOwned::with_bit_in) does.
+    /// Returns a copy of the set in which one bit is set, as
+    /// [`with_bit_in`](BitsOwned::with_bit_in) does, in [`LittleEndian`] order.
     ///
     /// ```
     /// 0u8.with_bit_le(1);                                 // 0b0100_0000
@@ -104,8 +105,8 @@ pub trait BitsOwned: Copy + Eq + BitsMut {
         self.with_bit_in::<LittleEndian>(bit)
     }
 
-    /// Returns the set with a bit set in [`BigEndian`] order, as
-    /// [`with_bit_in`](BitsOwned::with_bit_in) does.
+    /// Returns a copy of the set in which one bit is set, as
+    /// [`with_bit_in`](BitsOwned::with_bit_in) does, in [`BigEndian`] order.
     ///
     /// ```
     /// 0u8.with_bit_be(1);                                 // 0b0000_0010
@@ -119,10 +120,11 @@ pub trait BitsOwned: Copy + Eq + BitsMut {
         self.with_bit_in::<BigEndian>(bit)
     }
 
-    /// Returns the set with the bit at index `bit` unset, in the order `E`.
+    /// Returns a copy of the set in which the bit at index `bit` is unset. Indexes follow the bit
+    /// order `E`.
     ///
-    /// The type has to fit (`Self::bits() < u32::MAX`). The set is copied. An index past the
-    /// capacity wraps. With capacity 0 it returns the same set.
+    /// The type has to fit (`Self::bits() < u32::MAX`). An index past the capacity wraps. With
+    /// capacity 0 the call returns the same set.
     ///
     /// ```
     /// 255u8.without_bit_in::<LittleEndian>(0);            // 0b0111_1111
@@ -138,8 +140,9 @@ pub trait BitsOwned: Copy + Eq + BitsMut {
         set
     }
 
-    /// Returns the set with a bit unset in the order of the type, as
-    /// [`without_bit_in`](BitsOwned::without_bit_in) does.
+    /// Returns a copy of the set in which one bit is unset, as
+    /// [`without_bit_in`](BitsOwned::without_bit_in) does, in the bit order of the type
+    /// (`Self::Order`).
     ///
     /// ```
     /// 255u8.without_bit(2);                               // 0b1111_1011
@@ -153,8 +156,8 @@ pub trait BitsOwned: Copy + Eq + BitsMut {
         self.without_bit_in::<Self::Order>(bit)
     }
 
-    /// Returns the set with a bit unset in [`LittleEndian`] order, as
-    /// [`without_bit_in`](BitsOwned::without_bit_in) does.
+    /// Returns a copy of the set in which one bit is unset, as
+    /// [`without_bit_in`](BitsOwned::without_bit_in) does, in [`LittleEndian`] order.
     ///
     /// ```
     /// 255u8.without_bit_le(2);                            // 0b1101_1111
@@ -168,8 +171,8 @@ pub trait BitsOwned: Copy + Eq + BitsMut {
         self.without_bit_in::<LittleEndian>(bit)
     }
 
-    /// Returns the set with a bit unset in [`BigEndian`] order, as
-    /// [`without_bit_in`](BitsOwned::without_bit_in) does.
+    /// Returns a copy of the set in which one bit is unset, as
+    /// [`without_bit_in`](BitsOwned::without_bit_in) does, in [`BigEndian`] order.
     ///
     /// ```
     /// 255u8.without_bit_be(2);                            // 0b1111_1011
@@ -183,7 +186,7 @@ pub trait BitsOwned: Copy + Eq + BitsMut {
         self.without_bit_in::<BigEndian>(bit)
     }
 
-    /// Returns the bits that are set in either set.
+    /// Returns the union of this set and `other`: the bits that are set in at least one of the two.
     ///
     /// Always callable. It does the same in both orders. Each word is read and written once. With
     /// capacity 0 it returns the same set.
@@ -202,8 +205,8 @@ pub trait BitsOwned: Copy + Eq + BitsMut {
         set
     }
 
-    /// Returns the bits that are set in both sets. All else is as with
-    /// [`union`](BitsOwned::union).
+    /// Returns the conjunction of this set and `other`: the bits that are set in both. All else is
+    /// as with [`union`](BitsOwned::union).
     ///
     /// ```
     /// 0b0011u8.conjunction(0b0101);                       // 0b0001
@@ -219,8 +222,8 @@ pub trait BitsOwned: Copy + Eq + BitsMut {
         set
     }
 
-    /// Returns the bits that are set in this set and unset in `other`. All else is as with
-    /// [`union`](BitsOwned::union).
+    /// Returns the difference of this set and `other`: the bits that are set in this set and unset
+    /// in `other`. All else is as with [`union`](BitsOwned::union).
     ///
     /// ```
     /// 0b0011u8.difference(0b0101);                        // 0b0010
@@ -236,8 +239,8 @@ pub trait BitsOwned: Copy + Eq + BitsMut {
         set
     }
 
-    /// Returns the bits that are set in just one of the sets. All else is as with
-    /// [`union`](BitsOwned::union).
+    /// Returns the symmetric difference of this set and `other`: the bits that are set in just one
+    /// of the two. All else is as with [`union`](BitsOwned::union).
     ///
     /// ```
     /// 0b0011u8.symmetric_difference(0b0101);              // 0b0110
@@ -253,11 +256,12 @@ pub trait BitsOwned: Copy + Eq + BitsMut {
         set
     }
 
-    /// Returns an iterator over the indexes of the set bits, increasing, in the order `E`. The
-    /// iterator owns the set, and can be stepped from both ends.
+    /// Returns an iterator over the indexes of the set bits, from the least to the greatest.
+    /// Indexes follow the bit order `E`. The iterator owns the set, and can be stepped from both
+    /// ends.
     ///
     /// The type has to fit (`Self::bits() < u32::MAX`). Each word is read at most once. With
-    /// capacity 0 it yields nothing.
+    /// capacity 0 the iterator yields nothing.
     ///
     /// ```
     /// 0b1101_0000u8.into_iter_ones_in::<LittleEndian>();  // yields 0, 1, 3
@@ -274,7 +278,7 @@ pub trait BitsOwned: Copy + Eq + BitsMut {
         IntoIter::new(OwnedSource::new(self))
     }
 
-    /// Iterates over the set bits of an owned set in the order of the type, as
+    /// Iterates over the set bits of an owned set in the bit order of the type (`Self::Order`), as
     /// [`into_iter_ones_in`](BitsOwned::into_iter_ones_in) does.
     ///
     /// ```
@@ -331,8 +335,9 @@ pub trait BitsOwned: Copy + Eq + BitsMut {
         self.into_iter_ones_in::<BigEndian>()
     }
 
-    /// Returns an iterator over the indexes of the unset bits below the capacity, increasing, in
-    /// the order `E`. The iterator owns the set, and can be stepped from both ends.
+    /// Returns an iterator over the indexes of the unset bits below the capacity, from the least to
+    /// the greatest. Indexes follow the bit order `E`. The iterator owns the set, and can be
+    /// stepped from both ends.
     ///
     /// The type has to fit (`Self::bits() < u32::MAX`). Each word is read at most once. With
     /// capacity 0 it yields nothing.
@@ -353,8 +358,8 @@ pub trait BitsOwned: Copy + Eq + BitsMut {
         IntoIter::new(OwnedSource::new(self))
     }
 
-    /// Iterates over the unset bits of an owned set in the order of the type, as
-    /// [`into_iter_zeros_in`](BitsOwned::into_iter_zeros_in) does.
+    /// Iterates over the unset bits of an owned set in the bit order of the type (`Self::Order`),
+    /// as [`into_iter_zeros_in`](BitsOwned::into_iter_zeros_in) does.
     ///
     /// ```
     /// 0xF9u8.into_iter_zeros();                           // yields 1, 2
@@ -417,6 +422,6 @@ pub trait BitsOwned: Copy + Eq + BitsMut {
     // If the type may be indexed, its capacity is below `u32::MAX`.
     ghost type_fits: { IsTrue Self.indexable → Self.type_capacity < 4294967295 };
 
-    // Values that are equal by `==` are the same set.
+    // Values that are equal by `==` stand for the same set.
     ghost eq_is_same: { (u v : Self) → IsTrue (Self.eq u v) → Self.big u ≡ Self.big v };
 }

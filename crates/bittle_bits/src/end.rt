@@ -1,4 +1,5 @@
-//! The two ends of a set. A function with an end as its type parameter has one body for both ends.
+//! The two ends of a set, its front and its back. A function that has an end as a type parameter
+//! serves both ends with one body.
 
 ghost use Rattle.std.specs.Prelude.{◌≡◌, Bool, true, false, cond};
 
@@ -9,10 +10,10 @@ pub trait End {
     const FRONT: bool;
 }
 
-/// Names the front, where the least member is.
+/// The front of a set, where the least member is.
 pub enum Front {}
 
-/// Names the back, where the greatest member is.
+/// The back of a set, where the greatest member is.
 pub enum Back {}
 
 impl End for Front {

@@ -12,7 +12,7 @@ use crate::word::Word;
 ///
 /// Only the indexes within a word depend on the order. Word 0 comes first in both orders.
 pub trait Endian: Drop {
-    // Whether index 0 is the bit of greatest weight.
+    // Whether index 0 names the bit of greatest weight, as in little-endian order.
     ghost mirrored: { Bool };
 
     /// Seals the trait. A crate that depends only on `bittle` cannot name the parameter's type, so
@@ -20,13 +20,13 @@ pub trait Endian: Drop {
     #[doc(hidden)]
     fn seal(_: Sealed);
 
-    /// Returns `true` if index 0 is the bit of greatest weight.
+    /// Returns `true` if index 0 names the bit of greatest weight, as in little-endian order.
     #[doc(hidden)]
     fn is_mirrored() -> bool
         ensures { result ≡ mirrored };
 
-    /// Returns the place of the bit at `index`: this bit has the weight `2 ^ place`. The index
-    /// wraps at the width.
+    /// Returns the place of the bit at `index`: this bit has the weight `2 ^ place`. An index past
+    /// the width of the word wraps.
     ///
     /// ```
     /// LittleEndian::place::<u8>(9);                       // 6
@@ -36,7 +36,8 @@ pub trait Endian: Drop {
         ensures place { result ≡ orders.place mirrored T.width (index % T.width) }
         ensures within { result < T.width };
 
-    /// Returns the word in which only the bit at `index` is set. The index wraps at the width.
+    /// Returns the word in which only the bit at `index` is set. An index past the width of the
+    /// word wraps.
     ///
     /// ```
     /// LittleEndian::mask::<u8>(9);                        // 0b0100_0000
@@ -45,7 +46,7 @@ pub trait Endian: Drop {
     fn mask<T: Word>(index: u32) -> T
         ensures { word_mirrored T.Word mirrored result ≡ with_index (empty_set T.width) index };
 
-    /// Returns the word in which each bit from `index` on is set.
+    /// Returns the word in which just the bits at `index` and at every greater index are set.
     #[doc(hidden)]
     fn from_index<T: Word>(index: u32) -> T
         requires { index < T.width }
@@ -98,8 +99,8 @@ pub trait Endian: Drop {
     }
 }
 
-/// Counts indexes from the bit of least weight, the rightmost bit of a written number. This is the
-/// default order.
+/// The bit order in which index 0 names the bit of least weight, the rightmost bit of a written
+/// number. It is the default order.
 ///
 /// ```
 /// 0b0010_0010u8.iter_ones_in::<BigEndian>();          // yields 1, 5
@@ -107,7 +108,8 @@ pub trait Endian: Drop {
 #[derive(Drop)]
 pub enum BigEndian {}
 
-/// Counts indexes from the bit of greatest weight, the leftmost bit of a written number.
+/// The bit order in which index 0 names the bit of greatest weight, the leftmost bit of a written
+/// number. This library uses the name in this sense.
 ///
 /// ```
 /// 0b0010_0010u8.iter_ones_in::<LittleEndian>();       // yields 2, 6
@@ -115,7 +117,8 @@ pub enum BigEndian {}
 #[derive(Drop)]
 pub enum LittleEndian {}
 
-/// The order of calls that name no order: [`BigEndian`].
+/// The default bit order, [`BigEndian`]. On an integer, an array or a slice, it is the order of
+/// calls that name no order.
 pub type DefaultEndian = BigEndian;
 
 impl Endian for BigEndian {
@@ -145,13 +148,15 @@ impl Endian for BigEndian {
 
     #[inline]
     fn zeros<T: Word>(value: T) -> u32 {
-        // Index 0 is the rightmost bit. So the least set index is the number of bits to its right.
+        // Index 0 is the rightmost bit. So the least index of a set bit is the number of unset bits
+        // to the right of that bit.
         value.trailing_zeros()
     }
 
     #[inline]
     fn zeros_rev<T: Word>(value: T) -> u32 {
-        // Index 0 is the rightmost bit. So the bits above the greatest set index lie to its left.
+        // Index 0 is the rightmost bit. So the unset bits of greater index than every set bit lie
+        // to the left of all set bits.
         value.leading_zeros()
     }
 }
@@ -184,7 +189,8 @@ impl Endian for LittleEndian {
 
     #[inline]
     fn zeros<T: Word>(value: T) -> u32 {
-        // Index 0 is the leftmost bit. So the least set index is the number of bits to its left.
+        // Index 0 is the leftmost bit. So the least index of a set bit is the number of unset bits
+        // to the left of that bit.
         value.leading_zeros()
     }
 

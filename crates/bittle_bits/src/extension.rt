@@ -1,6 +1,6 @@
-//! Items for the project's own crates, and for no other crate. Their users are `Set` in `bittle`,
-//! the everyday calls in `bittle_ext`, the sets with a summary in `bittle_tiers`, and the tests
-//! that count how many words a call reads.
+//! Items for the project's own crates, and for no other crate. They are used by `Set` in `bittle`,
+//! by the everyday calls in `bittle_ext`, by the sets with a summary in `bittle_tiers`, and by the
+//! tests that count how many words a call reads.
 
 pub use crate::end::{Back, End, Front};
 pub use crate::integer::Integer;

@@ -1,4 +1,5 @@
-//! A word as a set: the calls of the traits, written once for all widths.
+//! Words as sets: the impls of `ReadWords`, `Bits`, `BitsMut` and `BitsOwned`, written once for all
+//! widths.
 
 ghost use Rattle.std.specs.Prelude.{refl};
 ghost use Rattle.std.proofs.Common.{sym};
@@ -17,7 +18,7 @@ use crate::read_words::ReadWords;
 use crate::shape::Shape;
 use crate::word::Word;
 
-/// A word that is the set of its bits.
+/// A type whose values are words, each of which stands for the set of its bits.
 pub trait Integer: Word + Eq + Shape<LeafWord = Self> {
     // A value of the type is a word, and stands for the set of its bits.
     ghost is_word: { IsWord Self.eq Self.indexable Self.type_capacity

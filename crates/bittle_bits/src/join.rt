@@ -1,4 +1,5 @@
-//! Joins: they yield the items of an iterator at the members of a set.
+//! Joins. A join of an iterator with a set yields those items of the iterator whose positions are
+//! members of the set.
 
 ghost use Rattle.std.specs.Prelude.{◌≡◌, false, length, OnSome};
 ghost use Rattle.std.specs.Iterator.{at_most, SkipsThenYields};
@@ -13,14 +14,15 @@ use crate::shape::Shape;
 use crate::walk::IterOnes;
 use std::marker::Model;
 
-/// Yields the items of an iterator at the set bits of a mask.
+/// A join: an iterator that yields the items of another iterator, `iter`, at the set bits of a
+/// mask.
 ///
-/// For each set bit in turn, the join steps its iterator to the item at that position, and yields
-/// the item. Positions are counted from the iterator's first item, which has position 0. The join
-/// takes no item past the greatest set bit.
+/// For each set bit in turn, from the least index to the greatest, the join steps `iter` to the
+/// item whose position is that index, and yields this item. Positions are counted from the first
+/// item of `iter`, which has position 0. The join takes no item past the greatest set bit.
 ///
-/// The join returns `None` after the last set bit, or at the first set bit for which its iterator
-/// has no item left. After that the join steps neither its mask nor its iterator.
+/// The join returns `None` after the last set bit, or at the first set bit for which `iter` has no
+/// item left. From then on the join steps neither its mask nor `iter`.
 ///
 /// ```
 /// let mask = 0b0101u8;
@@ -51,7 +53,7 @@ impl<'a, A: Bits, E: Endian, I: Iterator> JoinOnes<'a, A, E, I>
 where
     I::Item: Drop,
 {
-    /// Begins a join of the items of `iter` at the members of a set.
+    /// Begins a join: it yields the items of `iter` whose positions are members of `set`.
     #[inline]
     pub(crate) fn new(set: &'a A, iter: I) -> Self
         requires { ShapeFits A.Shape set.now }
@@ -73,9 +75,10 @@ where
     }
 }
 
-/// Takes the next item. The checker proves that each loop ends. For a loop that calls `next` it
-/// would require that the iterator ends. For a loop that calls this function it requires only a
-/// number that decreases in each turn.
+/// Takes the next item, as `next` does. A loop calls this function instead of `next`, because the
+/// checker proves that each loop ends. For a loop that calls `next`, the checker would require that
+/// the iterator ends. For a loop that calls this function, it requires only a number that decreases
+/// in each turn.
 #[inline]
 fn take<I: Iterator>(iter: &mut I) -> Option<I::Item>
     requires { I.can_next iter.old }
@@ -87,9 +90,10 @@ fn take<I: Iterator>(iter: &mut I) -> Option<I::Item>
 
 /// Skips `count` items and takes the next one.
 ///
-/// If `size_hint` says that more items are left than needed, a loop here counts `count` down. If
-/// the iterator is over a slice, the compiler sees the length. Then it drops the loop's test for
-/// the end of the items, and turns the loop into one addition.
+/// If `size_hint` says that more than `count + 1` items are left, a loop takes the items one by
+/// one, and counts `left` down from `count`. If the iterator is over a slice, the compiler knows
+/// how many items are left. So it drops the loop's test for the end of the items, and turns the
+/// loop into one addition.
 #[inline]
 fn skip_to<I: Iterator>(iter: &mut I, count: usize) -> Option<I::Item>
 where
@@ -99,7 +103,7 @@ where
     ensures keeps { OnSome result (I.can_next iter.new) }
 {
     let (least, _) = iter.size_hint();
-    // The test is not `least <= count`. From the test of `least - 1` the compiler sees that the
+    // The test compares `least - 1`, not `least`, since from this form the compiler sees that the
     // loop below ends before the items do.
     if least == 0 || least - 1 <= count {
         return iter.nth(count);

@@ -1,5 +1,5 @@
-//! The two kinds of bits of a set: the ones and the zeros. An iterator or a search is over one
-//! kind.
+//! The two kinds of bits of a set: the set bits (`Ones`) and the unset bits (`Zeros`). Each
+//! iterator and each search looks for bits of one kind.
 
 ghost use Rattle.std.specs.Prelude.{◌≡◌, Bool, true, false};
 ghost use Rattle.bittle_bits.specs.BitPatterns.{bit_set};
@@ -8,7 +8,7 @@ ghost use Rattle.bittle_bits.specs.Walk.{ones_or_zeros};
 use crate::internal::sealed::Sealed;
 use crate::word::Word;
 
-/// A kind of bits: the [`Ones`] or the [`Zeros`] of a set.
+/// A kind of bits of a set: [`Ones`] or [`Zeros`].
 pub trait Kind: Drop {
     ghost ONES: { Bool };
 
@@ -20,11 +20,11 @@ pub trait Kind: Drop {
     fn seal(_: Sealed);
 }
 
-/// Names the set bits.
+/// The kind of the set bits.
 #[derive(Drop)]
 pub enum Ones {}
 
-/// Names the unset bits below the capacity.
+/// The kind of the unset bits below the capacity.
 #[derive(Drop)]
 pub enum Zeros {}
 
@@ -44,8 +44,8 @@ impl Kind for Zeros {
     fn seal(_: Sealed) {}
 }
 
-/// Returns the word whose set bits are the bits of the kind `K` in `word`. For `Zeros` each bit is
-/// flipped.
+/// Returns a word whose set bits are the bits of the kind `K` in `word`. For `Ones` it is `word`
+/// itself, for `Zeros` it is `word` with each bit flipped.
 #[doc(hidden)]
 #[inline]
 pub fn bits_of_kind<T: Word, K: Kind>(word: T) -> T

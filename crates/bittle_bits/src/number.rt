@@ -16,7 +16,8 @@ use crate::word::Word;
 use std::alloc::AllocError;
 use std::marker::{Model, PhantomData};
 
-/// Yields the indexes of the set bits of one word, increasing, in the order `E`.
+/// An iterator over the indexes of the set bits of one word, from the least to the greatest.
+/// Indexes follow the bit order `E`.
 ///
 /// ```
 /// let mut ones = number::IterOnes::<u8, BigEndian>::new(0b1101);
@@ -24,18 +25,19 @@ use std::marker::{Model, PhantomData};
 /// ```
 pub type IterOnes<T, E> = Iter<T, E, Ones>;
 
-/// Yields the indexes of the unset bits of one word, increasing, in the order `E`.
+/// An iterator over the indexes of the unset bits of one word, from the least to the greatest.
+/// Indexes follow the bit order `E`.
 ///
 /// ```
 /// number::IterZeros::<u8, BigEndian>::new(0xF9);      // yields 1, 2
 /// ```
 pub type IterZeros<T, E> = Iter<T, E, Zeros>;
 
-/// Iterates over the bits of the kind `K` of one word: its set bits or its unset bits. Once no item
-/// remains, steps from both ends return `None`.
+/// An iterator over the indexes of the bits of the kind `K` of one word: its set bits or its unset
+/// bits. Once no item remains, steps from both ends return `None`.
 #[derive(Drop)]
 pub struct Iter<T: Word, E: Endian, K: Kind> {
-    // The set bits of this word are the items that remain.
+    // A word whose set bits are at the indexes that remain to be yielded.
     remaining: T,
     order: PhantomData<E>,
     kind: PhantomData<K>,

@@ -17,7 +17,7 @@ use crate::internal::halves::{halves, joined, on_halves};
 use crate::operation::{Operation, RangeOperation};
 use crate::word::Word;
 
-/// Tests the bit at an index, which wraps.
+/// Returns whether the bit at `index` is set. An index past the width of the word wraps.
 #[inline]
 pub fn test_bit<T: Word, E: Endian>(word: T, index: u32) -> bool
     ensures { result ≡ contains (word_in T.Word E.Endian word) index }
@@ -25,7 +25,7 @@ pub fn test_bit<T: Word, E: Endian>(word: T, index: u32) -> bool
     !word.and(T::one_at(E::place::<T>(index))).is_zero()
 }
 
-/// Sets the bit at an index, which wraps.
+/// Sets the bit at `index`. An index past the width of the word wraps.
 #[inline]
 pub fn set_bit<T: Word, E: Endian>(word: &mut T, index: u32)
     ensures { word_in T.Word E.Endian word.new ≡ with_index
@@ -34,7 +34,7 @@ pub fn set_bit<T: Word, E: Endian>(word: &mut T, index: u32)
     *word = word.or(E::mask::<T>(index));
 }
 
-/// Clears the bit at an index, which wraps.
+/// Clears the bit at `index`. An index past the width of the word wraps.
 #[inline]
 pub fn clear_bit<T: Word, E: Endian>(word: &mut T, index: u32)
     ensures { word_in T.Word E.Endian word.new ≡ without_index
@@ -43,8 +43,8 @@ pub fn clear_bit<T: Word, E: Endian>(word: &mut T, index: u32)
     *word = word.and(E::mask::<T>(index).not());
 }
 
-/// Returns the word in which the bits at `from..to` are set: the bits from `from` on, without the
-/// bits from `to` on.
+/// Returns the word in which just the bits with an index in `from..to` are set. These are the bits
+/// from `from` on, without the bits from `to` on.
 #[inline]
 pub fn range<T: Word, E: Endian>(from: u32, to: u32) -> T
     requires ordered { from ≤ to }
@@ -61,8 +61,8 @@ pub fn range<T: Word, E: Endian>(from: u32, to: u32) -> T
     since.and(E::from_index::<T>(to).not())
 }
 
-/// Changes each bit of `from..to` by the operation `O`: `Union` sets these bits, `Difference`
-/// clears them, and `SymmetricDifference` flips them.
+/// Changes each bit with an index in `from..to` by the operation `O`: `Union` sets these bits,
+/// `Difference` clears them, and `SymmetricDifference` flips them.
 #[inline]
 pub fn assign_range<T: Word, E: Endian, O: RangeOperation>(word: &mut T, from: u32, to: u32)
     requires ordered { from ≤ to }
@@ -81,8 +81,8 @@ pub fn clear_bits<T: Word>(word: &mut T)
     *word = T::zero();
 }
 
-/// Combines `word` with `other` by the operation `O`, bit by bit. It combines words of 128 bits
-/// half by half.
+/// Changes each bit of `word` to the result of the operation `O` on this bit and the same bit of
+/// `other`. Words of 128 bits are combined half by half.
 #[inline(always)]
 pub fn combine<T: Word, O: Operation>(word: &mut T, other: T)
     ensures { (mirrored : Bool) → word_mirrored T.Word mirrored word.new ≡ combination_of O.decide
@@ -158,9 +158,10 @@ pub fn from_end<T: Word, E: Endian, N: End>(word: T) -> u32
     }
 }
 
-// Takes the member at the end `N` out of the word, and returns its place: its bit has the weight
-// `2 ^ place`. If this bit is the set bit of least weight, `word & (word - 1)` clears it. Then the
-// processor can begin the next step before it knows the place.
+// Clears the bit of the member at the end `N`, and returns the place of this bit, which has the
+// weight `2 ^ place`. It returns `None` if no bit is set. If the bit is the set bit of least
+// weight, `word & (word - 1)` clears it. Then the processor can begin the next step before it knows
+// the place.
 #[inline(always)]
 fn pop_at_once<T: Word, E: Endian, N: End>(word: &mut T) -> Option<u32>
     ensures found { YieldsPlace N.FRONT (place E.mirrored T.width) (λ w. ascending
@@ -181,9 +182,9 @@ fn pop_at_once<T: Word, E: Endian, N: End>(word: &mut T) -> Option<u32>
     }
 }
 
-// Takes the member at the end `N` out of a word of 128 bits, and returns its place. It works on the
-// half that the member lies in. A half takes one instruction to search and one to change; the whole
-// word takes about ten.
+// Does what `pop_at_once` does, on a word of 128 bits. It works on the half that the member lies
+// in. One instruction searches a half, and one changes it; for the whole word, about ten are
+// needed.
 #[inline(always)]
 fn pop_from_half<T: Word, E: Endian, N: End>(word: &mut T) -> Option<u32>
     requires { T.width ≡ 128 }
@@ -210,8 +211,8 @@ fn pop_from_half<T: Word, E: Endian, N: End>(word: &mut T) -> Option<u32>
     }
 }
 
-/// Takes the member at the end `N` out of the word, and returns its place: its bit has the weight
-/// `2 ^ place`. It returns `None` if no bit is set.
+/// Clears the bit of the member at the end `N`, and returns the place of this bit, which has the
+/// weight `2 ^ place`. It returns `None` if no bit is set.
 #[inline(always)]
 pub fn pop_place<T: Word, E: Endian, N: End>(word: &mut T) -> Option<u32>
     ensures found { YieldsPlace N.FRONT (place E.mirrored T.width) (λ w. ascending
@@ -225,8 +226,8 @@ pub fn pop_place<T: Word, E: Endian, N: End>(word: &mut T) -> Option<u32>
     }
 }
 
-/// Takes the member at the end `N` out of the word, and returns its index, or `None` if no bit is
-/// set.
+/// Clears the bit of the member at the end `N`, and returns the index of this bit. It returns
+/// `None` if no bit is set.
 #[inline(always)]
 pub fn pop<T: Word, E: Endian, N: End>(word: &mut T) -> Option<u32>
     ensures found { YieldsFrom N.FRONT (λ w. ascending
@@ -251,7 +252,7 @@ pub fn leaf_word<T: Word>(word: T, k: usize) -> T
     word
 }
 
-/// Replaces word `k` of a set that is one word: `k` is 0, and the whole word is replaced.
+/// Replaces word `k` of a set that is one word: `k` is 0, and `by` replaces the whole word.
 #[inline]
 pub fn set_leaf_word<T: Word>(word: &mut T, k: usize, by: T)
     requires { k * T.width < T.width }

@@ -8,8 +8,8 @@ use crate::word::Word;
 
 /// An operation on two sets.
 pub trait Operation {
-    // Whether a number is a member after the operation. The first argument is whether it is a
-    // member of the first set, the second whether it is a member of the second set.
+    // Whether a number is a member of the result. The first argument tells whether the number is a
+    // member of the first set, and the second argument whether it is a member of the second set.
     ghost decide: { Bool → Bool → Bool };
 
     /// Combines the bits of two words by the operation.
@@ -18,10 +18,10 @@ pub trait Operation {
             (bits_of T.Word other) };
 }
 
-/// An operation that changes only bits that are set in the other set. So if the other set is a
-/// range of indexes, the operation changes only bits of the range.
+/// An operation that changes, in the first set, only bits that are set in the second set. So if the
+/// second set is a range of indexes, the operation changes only bits of this range.
 pub trait RangeOperation: Operation {
-    // A number that the other set lacks stays as it was.
+    // A number that is not a member of the second set stays in the first set, or stays out of it.
     ghost keeps_others: { (b : Bool) → Self.decide b false ≡ b };
 }
 

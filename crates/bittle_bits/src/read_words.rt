@@ -56,9 +56,10 @@ pub trait ReadWords: Drop + Shape {
         ensures { bit_set Self.width (Self.LeafWord.pattern result)
             ≡ word_of Self.width (Self.big self.now) k };
 
-    /// Skips words at the end `N` of the words `low..high` that have no bit of the kind `K`. From
-    /// the front it returns the number of the first word that it does not skip. From the back it
-    /// returns one more than the number of the last word that it does not skip.
+    /// Skips words without a bit of the kind `K`, at the end `N` of the words `low..high`. If `N`
+    /// is the front, the call returns the number of the first word that it does not skip, or `high`
+    /// if it skips all. If `N` is the back, it returns one more than the number of the last word
+    /// that it does not skip, or `low` if it skips all.
     ///
     /// It affects speed only. A set may skip words if it knows, without reading them, that they
     /// have no bit of this kind. Most shapes skip no word. A type whose values skip words returns
@@ -85,9 +86,9 @@ pub trait ReadWords: Drop + Shape {
         false
     }
 
-    /// Returns one bit for each of 64 groups of `64 ^ level` words, from group `64 * n` on. Bit `i`
-    /// is unset only if group `64 * n + i` has no bit of the kind `K`. A group past the last word
-    /// has no bit.
+    /// Returns one bit for each of 64 groups, from group `64 * n` on. A group is `64 ^ level`
+    /// words. Bit `i` of the result is unset only if group `64 * n + i` has no bit of the kind `K`.
+    /// A group past the last word has no bit.
     ///
     /// It affects speed only. Most shapes set all 64 bits. A type whose values may leave a bit
     /// unset returns `true` from `tells_groups`.
@@ -125,7 +126,8 @@ pub fn word_width<B: ReadWords>() -> u32
     <B::LeafWord as Word>::width()
 }
 
-/// Returns whether two sets have words of the same width and are read in the same order.
+/// Returns whether the words of `A` and of `B` have the same width, and the orders `E` and `F` are
+/// the same.
 #[doc(hidden)]
 #[inline]
 pub fn are_alike<A: ReadWords, B: ReadWords, E: Endian, F: Endian>() -> bool

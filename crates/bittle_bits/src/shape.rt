@@ -13,9 +13,9 @@ use crate::word::Word;
 
 /// A type whose values stand for sets. Ghost members state the set of a value.
 ///
-/// A struct that is generic over sets has this bound. Its functions have a bound with calls, such
-/// as [`Bits`](crate::bits::Bits). A crate that depends only on `bittle` cannot implement this
-/// trait.
+/// A struct that is generic over sets has this bound. The functions of such a struct need a bound
+/// that has calls, such as [`Bits`](crate::bits::Bits). A crate that depends only on `bittle`
+/// cannot implement this trait.
 pub trait Shape: Drop {
     /// The integer type of the words of the set.
     #[doc(hidden)]
@@ -24,18 +24,20 @@ pub trait Shape: Drop {
     // How many bits each word has.
     ghost width: { ℕ };
 
-    // Whether calls on one index are allowed: whether the type fits or, for a slice, whether its
-    // element type fits.
+    // Whether calls on one index are allowed. They are allowed if the type fits or, for a slice, if
+    // its element type fits. The comment on `Bits` says when a type fits.
     ghost indexable: { Bool };
 
-    // The set in big-endian order.
+    // The set that a value stands for, indexed in big-endian order.
     ghost big: { Self → PlainSet };
 
-    // The capacity of each value of a type that owns its bits. For a slice it means nothing.
+    // The capacity of each value, if the type owns its bits. For a slice type this number means
+    // nothing.
     ghost type_capacity: { ℕ } = { 0 };
 
-    // The mutable borrows that a value holds, the outer one first. A `&mut [T]` is such a borrow
-    // itself. A change of the set leaves the borrows as they are. An owned value has none.
+    // The list of the mutable borrows that a value holds, from the outermost to the innermost. A
+    // `&mut [T]` is itself such a borrow. A change of the set leaves this list as it is. For an
+    // owned value the list is empty.
     ghost loan: { Self → List ℕ } = { λ _. [] };
 
     /// Seals the trait. A crate that depends only on `bittle` cannot name the parameter's type, so

@@ -1,7 +1,7 @@
 //! Iterators over the set bits of a set, and over its unset bits, from both ends.
 //!
-//! An iterator fetches each word at most once. It scans a word once for each item, and once more to
-//! find that no item is left in it.
+//! An iterator fetches each word at most once. It scans (searches) a word once for each item in the
+//! word, and once more to find that no item is left in it.
 
 ghost use Rattle.std.specs.Prelude.{◌≡◌, ⊤, Option, ℕ, None, IfSome};
 ghost use Rattle.std.specs.Iterator.{item_count, UpTo};
@@ -21,7 +21,8 @@ use crate::shape::Shape;
 use std::alloc::AllocError;
 use std::marker::{Model, PhantomData};
 
-/// Yields the indexes of the set bits of a borrowed set, increasing, in the order `E`.
+/// An iterator over the indexes of the set bits of a borrowed set, from the least to the greatest.
+/// Indexes follow the bit order `E`.
 ///
 /// ```
 /// [8u8, 3].iter_ones();                               // yields 3, 8, 9
@@ -29,23 +30,24 @@ use std::marker::{Model, PhantomData};
 /// ```
 pub type IterOnes<'a, B, E> = Iter<'a, B, E, Ones>;
 
-/// Yields the indexes of the unset bits of a borrowed set below its capacity, increasing, in the
-/// order `E`.
+/// An iterator over the indexes of the unset bits of a borrowed set below its capacity, from the
+/// least to the greatest. Indexes follow the bit order `E`.
 ///
 /// ```
 /// 0xF9u8.iter_zeros();                                // yields 1, 2
 /// ```
 pub type IterZeros<'a, B, E> = Iter<'a, B, E, Zeros>;
 
-/// Yields the indexes of the set bits of an owned set, increasing, in the order `E`.
+/// An iterator over the indexes of the set bits of an owned set, from the least to the greatest.
+/// Indexes follow the bit order `E`.
 ///
 /// ```
 /// [8u8, 3].into_iter_ones();                          // yields 3, 8, 9
 /// ```
 pub type IntoIterOnes<B, E> = IntoIter<B, E, Ones>;
 
-/// Yields the indexes of the unset bits of an owned set below its capacity, increasing, in the
-/// order `E`.
+/// An iterator over the indexes of the unset bits of an owned set below its capacity, from the
+/// least to the greatest. Indexes follow the bit order `E`.
 ///
 /// ```
 /// 0xF9u8.into_iter_zeros().rev();                     // yields 2, 1
@@ -71,10 +73,11 @@ pub trait Counted: DoubleEndedIterator<Item = u32> {
         → Self.next_back_gives before r after → StepsBack (walk before) r (walk after) };
 }
 
-/// Iterates over the bits of the kind `K` of a borrowed set: its set bits or its unset bits.
+/// An iterator over the indexes of the bits of the kind `K` of a borrowed set: its set bits or its
+/// unset bits.
 ///
 /// Each step yields the first or the last item that remains. Once no item remains, steps from both
-/// ends return `None`. A clone yields the items that remain in its source.
+/// ends return `None`. A clone yields the items that remained in the original when it was cloned.
 #[derive(Drop)]
 pub struct Iter<'a, B: Shape, E: Endian, K: Kind> {
     source: Source<'a, B>,
@@ -176,7 +179,8 @@ impl<'a, B: ReadWords, E: Endian, K: Kind> Counted for Iter<'a, B, E, K> {
     }
 }
 
-/// Iterates over the bits of the kind `K` of an owned set: its set bits or its unset bits.
+/// An iterator over the indexes of the bits of the kind `K` of an owned set: its set bits or its
+/// unset bits.
 ///
 /// Each step yields the first or the last item that remains. Once no item remains, steps from both
 /// ends return `None`. A clone yields the items that remain in its source.

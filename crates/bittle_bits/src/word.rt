@@ -1,11 +1,12 @@
-//! A word: one of the twelve integers, with the operations of a processor. Users name the integers;
-//! the project's own crates name the trait, by [`extension`](crate::extension).
+//! Words: the twelve integer types, with the operations of a processor. Users name the integer
+//! types. The project's own crates name the trait `Word`, which they import from
+//! [`extension`](crate::extension).
 
 ghost use Rattle.std.specs.Prelude.{◌≡◌, ℕ, ◌+◌, ◌-◌, ◌<◌, ◌^◌, ◌==◌, bit_and, bit_or, bit_xor, count_ones};
 ghost use Rattle.std.specs.Int.Count.{count_leading_zeros, count_trailing_zeros};
 ghost use Rattle.bittle_bits.specs.LawProofs.{positive_bytes};
 
-/// A word: one of the twelve integers, with the operations of a processor.
+/// A type of words: one of the twelve integer types, with the operations of a processor.
 pub trait Word: Copy {
     // How many bits a word has.
     ghost width: { ℕ };
@@ -14,18 +15,18 @@ pub trait Word: Copy {
     // complement.
     ghost pattern: { Self → ℕ };
 
-    /// Returns the number of bits.
+    /// Returns how many bits a word has.
     fn width() -> u32
         ensures { result ≡ width };
 
-    /// Returns the word whose one set bit has the weight `2 ^ index`.
+    /// Returns the word whose only set bit has the weight `2 ^ index`.
     fn one_at(index: u32) -> Self
         requires { index < width }
         ensures { pattern result ≡ 2 ^ index };
 
-    /// Returns the word whose one set bit lies `below` bits below the bit of greatest weight. It
-    /// shifts the word in which only the bit of greatest weight is set. That takes one instruction
-    /// fewer than `one_at(width - 1 - below)`.
+    /// Returns the word whose only set bit lies `below` places under the bit of greatest weight.
+    /// The call shifts the word in which only the bit of greatest weight is set. That takes one
+    /// instruction fewer than `one_at(width - 1 - below)`.
     #[inline]
     final fn one_below_top(below: u32) -> Self
         requires { below < width }
@@ -34,7 +35,7 @@ pub trait Word: Copy {
         Self::from_bits(Self::one_at(Self::width() - 1).to_bits() >> below)
     }
 
-    /// Returns the word in which the bits of weight below `2 ^ index` are set.
+    /// Returns the word in which just the bits of weight below `2 ^ index` are set.
     #[inline]
     final fn low(index: u32) -> Self
         requires { index < width }

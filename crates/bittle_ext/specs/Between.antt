@@ -3,7 +3,7 @@ use Rattle.std.specs.Prelude.{◌≡◌, ℕ, ◌<◌, Bool, false, not, ◌&&�
 use Rattle.bittle.specs.PlainSet.{PlainSet, contains}
 use Rattle.bittle_ext.specs.Combined.{decided_set}
 
--- whether a number below a capacity is a member
+-- whether a number is below the capacity c and a member of t
 unfoldable pub has_below : ℕ → PlainSet → ℕ → Bool
 has_below c t k = nat_lt k c && t.has k
 

@@ -23,16 +23,16 @@ has_passing test s k = s.has k && test k
 abbrev pub those_passing : (ℕ → Bool) → PlainSet → PlainSet
 those_passing test s = record { capacity = s.capacity; has = has_passing test s }
 
--- a call of the closure returns what the test says, and leaves the closure as it was
+-- each call of the closure `keep` returns what the test says, and leaves the closure as it was
 abbrev pub AnswersBy : {F : Type 0} → (F → ℕ → Bool → F → Type 0) → F → (ℕ → Bool) → Type 0
 AnswersBy {F} step keep test =
     (i : ℕ) (b : Bool) (next : F) → step keep i b next → (b ≡ test i) × (next ≡ keep)
 
--- a closure was called for each member of a set, in increasing order; the members for which it
--- returned true are the members afterwards
+-- a closure was called once for each member of `before`, in increasing order; `after` has the
+-- members for which it returned true
 pub record Retains {F : Type 0} (step : F → ℕ → Bool → F → Type 0) (keep : F)
     (before after : PlainSet) : Type 0 where
   pub capacity : after.capacity ≡ before.capacity
   pub asked : IsFiltered step keep (ascending before) (ascending after)
-  -- the set afterwards, if the closure is a test
+  -- if the closure answers by a test, `after` has the members that pass the test
   pub by_test : (test : ℕ → Bool) → AnswersBy step keep test → after ≡ those_passing test before

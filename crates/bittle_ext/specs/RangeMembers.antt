@@ -28,8 +28,8 @@ HasAllIn s from to = (k : ℕ) → from ≤ k → k < to → s.has k ≡ true
 abbrev pub LacksSomeIn : PlainSet → ℕ → ℕ → Type 0
 LacksSomeIn s from to = (k : ℕ) × (from ≤ k) × (k < to) × (s.has k ≡ false)
 
--- a step took the first item of a list (if true) or the last one (if false), or found the list
--- empty
+-- a step took an item from a list, or found the list empty. It took the first item if the flag is
+-- true, else the last one
 abbrev pub TakesEnd : {A : Type 0} → Bool → List A → Option A → List A → Type 0
 TakesEnd true = YieldsFirst (λ xs. xs)
 TakesEnd false = YieldsLast (λ xs. xs)
@@ -39,7 +39,8 @@ abbrev pub members_within : PlainSet → ℕ → ℕ → PlainSet
 members_within s from to =
     record { capacity = s.capacity; has = λ k. is_in_span from to k && s.has k }
 
--- the set of the numbers in from..to that are members of s (if true), or of its complement
+-- the set of the numbers in from..to that are members of s (if the flag is true) or of the
+-- complement of s (if it is false)
 abbrev pub kind_within : Bool → PlainSet → ℕ → ℕ → PlainSet
 kind_within ones s from to = record {
   capacity = s.capacity;

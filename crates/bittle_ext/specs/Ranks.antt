@@ -6,8 +6,8 @@ use Rattle.bittle.specs.PlainSet.{PlainSet, ascending, members_below, size}
 abbrev pub HasNoRank : PlainSet → ℕ → Type 0
 HasNoRank s rank = size s ≤ rank
 
--- the member of this rank is in word k, where a word has w bits, and `rest` members of that word
--- are below the member
+-- the member with the rank `rank` is in word k, where a word has w bits, and `rest` members of that
+-- word are below the member
 abbrev pub IsInWord : PlainSet → ℕ → ℕ → ℕ → ℕ → Type 0
 IsInWord s w rank k rest = (k * w < s.capacity) × (members_below s (k * w) + rest ≡ rank)
     × (rank < members_below s ((k + 1) * w))

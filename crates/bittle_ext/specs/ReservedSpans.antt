@@ -2,7 +2,7 @@
 use Rattle.std.specs.Prelude.{ℕ, zero, suc, ◌-◌, Bool, true, not, ◌&&◌, ◌||◌}
 use Rattle.bittle.specs.PlainSet.{PlainSet, complement}
 
--- whether each of the n numbers from a first one on passes the test
+-- whether each of the n numbers from `from` on passes the test p
 unfoldable pub each_from : (ℕ → Bool) → ℕ → ℕ → Bool
 each_from p from zero = true
 each_from p from (suc n) = p from && each_from p (suc from) n
@@ -15,6 +15,6 @@ has_span s from to = each_from s.has from (to - from)
 unfoldable pub lacks_span : PlainSet → ℕ → ℕ → Bool
 lacks_span s from to = has_span (complement s) from to
 
--- whether each member of the second set is one of the first
+-- whether each member of the second set is a member of the first
 unfoldable pub includes : PlainSet → PlainSet → Bool
 includes s r = each_from (λ k. not (r.has k) || s.has k) 0 r.capacity

@@ -2,36 +2,37 @@
 use Rattle.std.specs.Prelude.{◌≡◌, ℕ, ◌+◌, ◌-◌, ◌*◌, ◌%◌, ◌<◌, ◌≤◌, ◌⊎◌, Bool, cond, ◌==◌, ◌&&◌, nat_lt, nat_le}
 use Rattle.bittle.specs.PlainSet.{PlainSet, contains, is_in_span}
 
--- whether a number is below the capacity, and the number that lies `by` above it, which wraps, is a
--- member
+-- whether k is below the capacity, and k + by, which wraps at the capacity, is a member
 unfoldable pub has_rotated : PlainSet → ℕ → ℕ → Bool
 has_rotated s by k = nat_lt k s.capacity && contains s (k + by)
 
--- the set with each member moved down; a member that passes index 0 goes on at the last index
+-- the set with each member moved down by `by`; a member that would pass index 0 goes on at the last
+-- index
 abbrev pub rotated_down : PlainSet → ℕ → PlainSet
 rotated_down s by = record { capacity = s.capacity; has = has_rotated s by }
 
--- the set with each member moved up; a member that passes the last index goes on at 0
+-- the set with each member moved up by `by`; a member that would pass the last index goes on at 0
 abbrev pub rotated_up : PlainSet → ℕ → PlainSet
 rotated_up s by = rotated_down s (s.capacity - by % s.capacity)
 
--- whether the number that lies `by` above a number is below the capacity, and a member
+-- whether k + by is below the capacity, and a member
 unfoldable pub has_shifted_down : PlainSet → ℕ → ℕ → Bool
 has_shifted_down s by k = nat_lt (k + by) s.capacity && s.has (k + by)
 
--- the set with each member moved down; a member that would pass index 0 is dropped
+-- the set with each member moved down by `by`; a member that would pass index 0 is dropped
 abbrev pub shifted_down : PlainSet → ℕ → PlainSet
 shifted_down s by = record { capacity = s.capacity; has = has_shifted_down s by }
 
--- whether a number is below the capacity, and the number that lies `by` below it is a member
+-- whether k is `by` or greater and below the capacity, and k - by is a member
 unfoldable pub has_shifted_up : PlainSet → ℕ → ℕ → Bool
 has_shifted_up s by k = nat_le by k && nat_lt k s.capacity && s.has (k - by)
 
--- the set with each member moved up; a member that would reach the capacity is dropped
+-- the set with each member moved up by `by`; a member that would reach the capacity is dropped
 abbrev pub shifted_up : PlainSet → ℕ → PlainSet
 shifted_up s by = record { capacity = s.capacity; has = has_shifted_up s by }
 
--- u has the members of two words of w bits, s followed by t, from index `from` of s on
+-- s and t are two words of w bits, one after the other; u is the word of w bits that begins at
+-- index `from` of the two
 pub record IsWindow (w from : ℕ) (s t u : PlainSet) : Type 0 where
   pub first : (i : ℕ) → i + from < w → u.has i ≡ s.has (i + from)
   pub second : (i : ℕ) → i < w → w ≤ i + from → u.has i ≡ t.has (i + from - w)
@@ -50,11 +51,12 @@ pub record IsDistance (w capacity by words skipped rest : ℕ) : Type 0 where
   pub within : rest < w
   pub parts : skipped * w + rest ≡ by
 
--- the members of one word of w bits are those of a set from an index on; the index wraps
+-- u is a word of w bits of the set s: its index 0 is index `from` of s, and an index of s past the
+-- capacity wraps
 abbrev pub IsWordFrom : ℕ → PlainSet → ℕ → PlainSet → Type 0
 IsWordFrom w s from u = (i : ℕ) → i < w → u.has i ≡ contains s (from + i)
 
--- word k of t, of w bits, has the members of word f k of s
+-- for each k, word k of t has the members of word f k of s, where a word has w bits
 pub record HasWordsOf (w : ℕ) (f : ℕ → ℕ) (s t : PlainSet) : Type 0 where
   pub capacity : t.capacity ≡ s.capacity
   pub words : (k i : ℕ) → k * w < s.capacity → i < w → t.has (k * w + i) ≡ s.has (f k * w + i)

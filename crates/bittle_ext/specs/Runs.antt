@@ -15,7 +15,8 @@ IsRun s length from =
 abbrev pub NoRunBegins : PlainSet → ℕ → ℕ → ℕ → Type 0
 NoRunBegins s length from to = (k : ℕ) → from ≤ k → k < to → IsRun s length k → ⊥
 
--- where the first run of `length` members begins, from `from` on, or None if there is none
+-- the option is the least number, `from` or greater, at which a run of `length` members begins, or
+-- None if there is no such run
 abbrev pub IsFirstRun : PlainSet → ℕ → ℕ → Option ℕ → Type 0
 IsFirstRun s from length None = (k : ℕ) → from ≤ k → IsRun s length k → ⊥
 IsFirstRun s from length (Some i) =
@@ -35,13 +36,14 @@ unfoldable pub joined : ℕ → List (Range ℕ) → List (Range ℕ)
 joined k [] = run k (suc k) ∷ []
 joined k (r ∷ rs) = cond (r.start == suc k) (run k r.end ∷ rs) (run k (suc k) ∷ r ∷ rs)
 
--- the maximal runs of numbers that pass the test, among the n numbers from `from` on, increasing
+-- the maximal runs of numbers that pass the test p, in increasing order; only the n numbers from
+-- `from` on are looked at
 unfoldable pub runs_from : (ℕ → Bool) → ℕ → ℕ → List (Range ℕ)
 runs_from p from zero = []
 runs_from p from (suc n) = cond (p from) (joined from (runs_from p (suc from) n))
     (runs_from p (suc from) n)
 
--- the maximal runs of members in from..to
+-- the maximal runs of members in from..to, in increasing order
 unfoldable pub runs_between : PlainSet → ℕ → ℕ → List (Range ℕ)
 runs_between s from to = runs_from s.has from (to - from)
 
@@ -55,7 +57,7 @@ AreRunsBelow c rs = (length rs ≤ c) × ((k : ℕ) (d : Range ℕ) → k < leng
     ((slice_index_or rs k d).start < (slice_index_or rs k d).end)
     × ((slice_index_or rs k d).end ≤ c))
 
--- a run of members, where the numbers right before and after the run are no members
+-- r is a run of at least one member, and the numbers right before and right after r are no members
 abbrev pub IsMaximalRun : PlainSet → Range ℕ → Type 0
 IsMaximalRun s r = (r.start < r.end) × (r.end ≤ s.capacity) × HasAllIn s r.start r.end
     × (0 < r.start → s.has (r.start - 1) ≡ false) × (r.end < s.capacity → s.has r.end ≡ false)

@@ -2,15 +2,17 @@
 use Rattle.std.specs.Prelude.{ℕ, zero, suc, Bool, List, [], ◌++◌, codes, if◌then◌else◌}
 use Rattle.bittle.specs.PlainSet.{PlainSet}
 
--- a bit as a digit
+-- the digit of a bit: 1 if the bit is true, else 0
 abbrev pub digit : Bool → List ℕ
 digit bit = if bit then codes "1" else codes "0"
 
--- a digit for each number below a given one, the greatest first
+-- one digit for each number below a given one, from the greatest number down to 0; the digit is 1
+-- if the number passes the test p
 unfoldable pub digits_below : (ℕ → Bool) → ℕ → List ℕ
 digits_below p zero = []
 digits_below p (suc n) = digit (p n) ++ digits_below p n
 
--- a digit for each number below the capacity, the greatest first
+-- one digit for each number below the capacity, from the greatest number down to 0; the digit of a
+-- member is 1
 abbrev pub binary_text : PlainSet → List ℕ
 binary_text s = digits_below s.has s.capacity

@@ -13,7 +13,8 @@ use Rattle.bittle_ext.specs.Views.{decided_until, is_placed, read_back, HoldsBot
 pub whole_words_of : (w c : ℕ) → c % w ≡ 0 → (words : ℕ) × (c ≡ words * w)
 whole_words_of w c whole = (c / w, omega (arith, div-add-mod' c w, whole))
 
--- no number past the capacity is in a set that is read back
+-- if s has no member from its capacity on, the set that `read_back` makes of s has none there
+-- either
 none_past_back : (m : Bool) (w : ℕ) (s : PlainSet) → 0 < w →
     (words : ℕ) × (s.capacity ≡ words * w) → ((i : ℕ) → s.capacity ≤ i → s.has i ≡ false) →
     (i : ℕ) → s.capacity ≤ i → (read_back m w s).has i ≡ false
@@ -21,7 +22,7 @@ unfolding is_placed
 none_past_back true w s word whole past = members-past true w s word whole past
 none_past_back false w s word whole past = past
 
--- from `end` on the result of an operation on two sets has no member
+-- the result of an operation on two sets, read back, has no member from `end` on
 pub none_past_both : (f : Bool → Bool → Bool) (m : Bool) (w : ℕ) (s t : PlainSet) (end : ℕ) →
     0 < w → HoldsBoth f w s t end → (i : ℕ) → end ≤ i →
     (read_back m w (decided_until f end s t)).has i ≡ false
@@ -33,14 +34,16 @@ pub none_past_complement : (s : PlainSet) (i : ℕ) → s.capacity ≤ i → (co
 unfolding lacks
 none_past_complement s i past = rw (le-ltb i s.capacity past) refl
 
--- if a set is read in an order, no bit of a kind (set or unset) lies past the capacity
+-- if s has no member from its capacity on, s as read in an order has no bit of either kind (set or
+-- unset) there
 none_past_kind : (ones m : Bool) (w : ℕ) (s : PlainSet) → 0 < w →
     (words : ℕ) × (s.capacity ≡ words * w) → ((i : ℕ) → s.capacity ≤ i → s.has i ≡ false) →
     (i : ℕ) → s.capacity ≤ i → (ones_or_zeros ones (read_in m w s)).has i ≡ false
 none_past_kind true m w s word whole past = members-past m w s word whole past
 none_past_kind false m w s word whole past = none_past_complement (read_in m w s)
 
--- if a range of a set is read in an order, no bit of a kind in it lies past the capacity
+-- if s has no member from its capacity on, the set of the bits of one kind (set or unset) in a
+-- range of s, read back, has none there either
 pub none_past_within : (ones m : Bool) (w : ℕ) (s : PlainSet) (from to : ℕ) → 0 < w →
     (words : ℕ) × (s.capacity ≡ words * w) → ((i : ℕ) → s.capacity ≤ i → s.has i ≡ false) →
     (i : ℕ) → s.capacity ≤ i →

@@ -3,8 +3,8 @@ use Rattle.std.specs.Prelude.{◌≡◌, ℕ, ◌+◌, ◌-◌, ◌%◌, ◌<◌
 use Rattle.bittle.specs.Orders.{place}
 use Rattle.bittle.specs.PlainSet.{PlainSet}
 
--- the numbers for which `decide` returns true, given whether the number is in the first set and
--- whether it is in the second, as a set of capacity `end`
+-- the set of the numbers for which `decide` returns true, with the capacity `end`. `decide` is
+-- given whether the number is in the first set, and whether it is in the second
 abbrev pub decided_until : (Bool → Bool → Bool) → ℕ → PlainSet → PlainSet → PlainSet
 decided_until decide end s t =
     record { capacity = end; has = λ k. decide (s.has k) (t.has k) }
@@ -13,18 +13,18 @@ decided_until decide end s t =
 abbrev pub decided_of_first : (Bool → Bool → Bool) → PlainSet → PlainSet → PlainSet
 decided_of_first decide s t = decided_until decide s.capacity s t
 
--- whether the place that the mirrored order gives a number is a member of a set. It is no
--- abbreviation, so that a proof search in a caller does not unfold the sets behind each view
+-- whether the place that the mirrored order gives to a number is a member of s. This definition is
+-- no abbreviation, so that a proof search in a caller does not unfold the sets behind each view
 unfoldable pub is_placed : ℕ → PlainSet → ℕ → Bool
 is_placed w s k = s.has (place true w k)
 
--- whether the place that an order gives a number is a member: the mirrored order (if true) or the
--- other
+-- whether the place of a number is a member of s. If the flag is true, the place is the one in the
+-- mirrored order, else it is the number itself
 abbrev pub has_placed : Bool → ℕ → PlainSet → ℕ → Bool
 has_placed true w s = is_placed w s
 has_placed false w s = s.has
 
--- the set that becomes s if it is read in an order, as `read_in` does
+-- the set that `read_in`, with the same `mirrored` and w, turns into s
 abbrev pub read_back : Bool → ℕ → PlainSet → PlainSet
 read_back mirrored w s = record { capacity = s.capacity; has = has_placed mirrored w s }
 

@@ -13,8 +13,8 @@ use bittle::{Bits, Endian};
 use bittle_bits::extension::Word;
 use std::fmt;
 
-/// A borrowed set that is printed as a binary number: a digit for each bit, the greatest index
-/// first. So index 0 is the last digit in both orders. The flags of the format change nothing.
+/// A borrowed set that is printed as a binary number. The text has one digit for each bit, from the
+/// greatest index down to index 0, in both orders. The flags of the format change nothing.
 #[derive(Drop)]
 pub struct BinaryText<'a, B: Bits> {
     set: &'a B,
@@ -29,7 +29,8 @@ impl<'a, B: Bits> fmt::Display for BinaryText<'a, B> {
     }
 }
 
-/// Writes a digit for each bit, the greatest index first: word by word, from the last word back.
+/// Writes one digit for each bit, from the greatest index down to index 0. So the last word is
+/// written first.
 fn write_bits<B: Bits, E: Endian, W: fmt::Write>(set: &B, f: &mut fmt::Formatter<W>) -> fmt::Result
     requires { ShapeFits B.Shape set.now }
     ensures { WritesOnOk W.write_str_gives f.old result
@@ -43,7 +44,7 @@ fn write_bits<B: Bits, E: Endian, W: fmt::Write>(set: &B, f: &mut fmt::Formatter
     Ok(())
 }
 
-/// Writes a digit for each bit of a word, the greatest index first.
+/// Writes one digit for each bit of a word, from the greatest index down to index 0.
 fn write_word<T: Word, E: Endian, W: fmt::Write>(word: T, f: &mut fmt::Formatter<W>) -> fmt::Result
     ensures { WritesOnOk W.write_str_gives f.old result
         (binary_text (read_in E.mirrored T.width (bit_set T.width (T.pattern word)))) f.new }
@@ -71,12 +72,12 @@ fn write_bit<W: fmt::Write>(f: &mut fmt::Formatter<W>, bit: bool) -> fmt::Result
 
 /// Text of any set.
 pub trait BitsTextExt: Bits {
-    /// Returns the set as a binary number, which `{}` prints: a digit for each bit, in the order of
-    /// the type, the greatest index first.
+    /// Returns the set as a binary number, which `{}` prints. The text has one digit for each bit,
+    /// from the greatest index down to index 0. Indexes follow the bit order of the type.
     ///
-    /// The shape has to fit (`bits_capacity() < u32::MAX`). With capacity 0 the text is empty.
-    /// Nothing is read or written before the result is printed. Then each word is read once, and
-    /// each digit is one write.
+    /// The shape has to fit (`bits_capacity() < u32::MAX`). With capacity 0 the text is empty. The
+    /// call itself reads and writes nothing. Printing the result reads each word once, and makes
+    /// one write for each digit.
     ///
     /// ```
     /// let row = [0x05u8, 0x80];

@@ -1,4 +1,4 @@
-//! Calls that change a set by another one of any type.
+//! Calls that change a set by another set, which may be of any type.
 
 ghost use Rattle.std.specs.Prelude.{◌≡◌, ◌<◌, ◌≤◌, ℕ, Bool, ◌||◌, ◌&&◌, IsTrue};
 ghost use Rattle.bittle_ext.specs.Between.{members_to, Combines};
@@ -10,18 +10,18 @@ use crate::combinations::{Replacement, combine_with};
 use bittle::{BigEndian, Bits, BitsMut, BitsOwned};
 use bittle_bits::extension::{Conjunction, Difference, SymmetricDifference, Union};
 
-/// Changes of a set by another one, which may be of another type, such as a view. Both sets have to
+/// Changes of a set by another set, which may be of another type, such as a view. Both sets have to
 /// fit (`bits_capacity() < u32::MAX`).
 ///
-/// Each set is read in the order of its type; a view has the order that it names. The changed set
-/// keeps its capacity: an index of the other set at or past it does nothing. From its own capacity
-/// on, the other set has no bit set. If the words of both sets have the same width and order, whole
-/// words are combined. Else the set bits of the other set are first gathered, one by one, into
-/// words of the changed set's width and order.
+/// Each set is read in the bit order of its type; a view made by `in_order` has the order that it
+/// names. The capacity of the changed set stays the same. Bits of the other set at or past that
+/// capacity are ignored. If the other set is shorter, its missing bits count as unset. If the words
+/// of both sets have the same width and order, whole words are combined. Else the set bits of the
+/// other set are first gathered, one by one, into words of the changed set's width and order.
 ///
 /// `union_assign` and the other three `_assign` calls of [`BitsMut`](bittle::BitsMut) take a set of
-/// the same type, mean the same in both orders, and return nothing. They do not change the bits
-/// past the end of a shorter slice.
+/// the same type, mean the same in both orders, and return nothing. If two slices differ in length,
+/// these calls do not change the bits past the end of the shorter slice.
 ///
 /// ```
 /// let mut row = [0b0110u8, 0];
@@ -29,8 +29,8 @@ use bittle_bits::extension::{Conjunction, Difference, SymmetricDifference, Union
 /// row.union_with(&0x0104u16);                             // false
 /// ```
 pub trait BitsCombineExt: BitsMut {
-    /// Sets each bit that is set in the other set, and returns `true` if one of them was unset
-    /// before. With capacity 0 nothing changes, and it returns `false`.
+    /// Sets every bit that is set in `other`, and returns `true` if this changed a bit. With
+    /// capacity 0 nothing changes, and the call returns `false`.
     ///
     /// ```
     /// let mut word = 0b0011u8;
@@ -50,9 +50,9 @@ pub trait BitsCombineExt: BitsMut {
         combine_with::<Self, B, Self::Order, B::Order, Union>(self, other)
     }
 
-    /// Clears each bit that is not set in the other set, and returns `true` if one of them was set
-    /// before. From the other set's capacity on it clears each bit. With capacity 0 nothing
-    /// changes, and it returns `false`.
+    /// Clears every bit that is unset in `other`, and every bit from the capacity of `other` on.
+    /// Returns `true` if this changed a bit. With capacity 0 nothing changes, and the call returns
+    /// `false`.
     ///
     /// ```
     /// let mut row = [0b0011u8, 1];
@@ -74,8 +74,8 @@ pub trait BitsCombineExt: BitsMut {
         combine_with::<Self, B, Self::Order, B::Order, Conjunction>(self, other)
     }
 
-    /// Clears each bit that is set in the other set, and returns `true` if one of them was set
-    /// before. With capacity 0 nothing changes, and it returns `false`.
+    /// Clears every bit that is set in `other`, and returns `true` if this changed a bit. With
+    /// capacity 0 nothing changes, and the call returns `false`.
     ///
     /// ```
     /// let mut word = 0b0011u8;
@@ -97,8 +97,8 @@ pub trait BitsCombineExt: BitsMut {
         combine_with::<Self, B, Self::Order, B::Order, Difference>(self, other)
     }
 
-    /// Flips each bit that is set in the other set, and returns `true` if there was such a bit.
-    /// With capacity 0 nothing changes, and it returns `false`.
+    /// Flips every bit that is set in `other`, and returns `true` if this changed a bit. With
+    /// capacity 0 nothing changes, and the call returns `false`.
     ///
     /// ```
     /// let mut word = 0b0011u8;
@@ -116,8 +116,8 @@ pub trait BitsCombineExt: BitsMut {
         combine_with::<Self, B, Self::Order, B::Order, SymmetricDifference>(self, other)
     }
 
-    /// Sets each bit that is set in the other set, and clears all others. From the other set's
-    /// capacity on every bit is cleared. With capacity 0 nothing changes.
+    /// Sets every bit that is set in `other`, and clears all other bits, also those from the
+    /// capacity of `other` on. With capacity 0 nothing changes.
     ///
     /// ```
     /// let mut row = [0b0011u8, 1];
@@ -137,8 +137,8 @@ pub trait BitsCombineExt: BitsMut {
         combine_with::<Self, B, Self::Order, B::Order, Replacement>(self, other);
     }
 
-    /// Returns a set with each index of another set that is below the capacity of the type. With
-    /// capacity 0 the set is empty.
+    /// Copies the set bits of `other` into a new set, and returns it. Bits of `other` at or past
+    /// the capacity of the type are left out. With capacity 0 the new set is empty.
     ///
     /// The type has to fit (`Self::bits() < u32::MAX`), and so does the other set.
     ///
@@ -159,7 +159,7 @@ pub trait BitsCombineExt: BitsMut {
         set
     }
 
-    /// Sets every bit, with one mask per word: the set is full, in both orders.
+    /// Sets every bit, with one mask per word. The set becomes the full set in both orders.
     ///
     /// The shape has to fit (`bits_capacity() < u32::MAX`). With capacity 0 nothing changes.
     ///

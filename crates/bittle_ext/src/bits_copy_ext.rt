@@ -8,20 +8,23 @@ ghost use Rattle.bittle_ext.specs.Numbers.{with_copied};
 use crate::copies;
 use bittle::{Bits, BitsMut};
 
-/// Copies of a range of bits, a word at a time: from another set, of any shape and order, or within
-/// one set.
+/// Copies of a range of bits, a word at a time. The range lies in another set, of any type and
+/// order, or in the same set.
 ///
-/// `from..to` are the indexes that are read and `at` is the first one that is written. Each set is
-/// read in the order of its type; a view has the order that it names. From its capacity on, a set
-/// that is read has no bit set. Each written bit lies below the capacity of its set.
+/// `from..to` are the indexes that are read, and `at` is the first index that is written. Each set
+/// is read in the bit order of its type; a view made by `in_order` has the order that it names. A
+/// bit that is read at or past the capacity counts as unset. Each written bit lies below the
+/// capacity of its set.
 pub trait BitsCopyExt: BitsMut {
-    /// Copies the bits `from..to` of another set to the indexes from `at` on. No other bit changes.
+    /// Copies the bits `from..to` of `other` to the indexes of this set from `at` on. No other bit
+    /// changes.
     ///
-    /// Both sets have to fit (`bits_capacity() < u32::MAX`), `from <= to`, and the written range
-    /// has to end at or below the capacity. With capacity 0 only an empty range is allowed, which
-    /// changes nothing. Each word of the written range is read and written once. For each, the
-    /// words of the other set that hold its new bits are read: at most two. If it takes `n`
-    /// narrower words to fill the written word, at most `n + 1` are read.
+    /// Both sets have to fit (`bits_capacity() < u32::MAX`), `from <= to` has to hold, and the
+    /// written range has to end at or below the capacity. With capacity 0 only an empty range is
+    /// allowed, which changes nothing. Each word of the written range is read and written once. For
+    /// each of these words, the call reads only those words of `other` that hold the new bits. They
+    /// are at most two, or at most `n + 1` if the words of `other` are narrower and `n` of them
+    /// fill one written word.
     ///
     /// ```
     /// let mut row = [0xFFu8; 2];
@@ -50,13 +53,14 @@ pub trait BitsCopyExt: BitsMut {
         copies::copy_range::<Self, B, Self::Order, B::Order>(self, at, other, from, to - from);
     }
 
-    /// Copies the bits `from..to` of the set to the indexes from `at` on. No other bit changes. The
-    /// two ranges may overlap: each bit is read before it is written.
+    /// Copies the bits `from..to` of this set to its indexes from `at` on. No other bit changes.
+    /// The two ranges may overlap: each bit is read before it is overwritten.
     ///
-    /// The shape has to fit (`bits_capacity() < u32::MAX`), `from <= to`, and the written range has
-    /// to end at or below the capacity. With capacity 0 only an empty range is allowed, which
-    /// changes nothing. Each word of the written range is read and written once. For each, the
-    /// words that hold its new bits are read too: at most two.
+    /// The shape has to fit (`bits_capacity() < u32::MAX`), `from <= to` has to hold, and the
+    /// written range has to end at or below the capacity. With capacity 0 only an empty range is
+    /// allowed, which changes nothing. Each word of the written range is read and written once. For
+    /// each of these words, the call also reads the words that hold its new bits, which are at most
+    /// two.
     ///
     /// ```
     /// let mut row = [0x35u8, 0x00];

@@ -18,12 +18,12 @@ use bittle_bits::extension::{Ones, Word, Zeros};
 ///
 /// The shape has to fit: its capacity, and that of each array type within it, is below `u32::MAX`.
 /// `bits_capacity() < u32::MAX` checks this. No index wraps here: past the capacity no bit is set
-/// and none is unset. With capacity 0 nothing is found. The bit order (big- or little-endian) is
+/// and none is unset. With capacity 0 no bit is found. The bit order (big- or little-endian) is
 /// that of the type; for another order, use the view that
 /// [`in_order`](crate::BitsViewExt::in_order) returns.
 pub trait BitsExt: Bits + Sized {
-    /// Returns the least index of a set bit, in the order of the type, or `None` if there is none.
-    /// Words are read from the first one on, up to the answer.
+    /// Returns the least index of a set bit, or `None` if no bit is set. Indexes follow the bit
+    /// order of the type. Words are read from the first one on, up to the answer.
     ///
     /// ```
     /// 0b0010_0010u8.first_one();                          // Some(1)
@@ -37,8 +37,8 @@ pub trait BitsExt: Bits + Sized {
         self.first_one_in::<Self::Order>(0, self.bits_capacity())
     }
 
-    /// Returns the least index of an unset bit, in the order of the type, or `None` if there is
-    /// none. Words are read from the first one on, up to the answer.
+    /// Returns the least index of an unset bit, or `None` if no bit is unset. Indexes follow the
+    /// bit order of the type. Words are read from the first one on, up to the answer.
     ///
     /// ```
     /// 0b0000_0111u8.first_zero();                         // Some(3)
@@ -52,8 +52,8 @@ pub trait BitsExt: Bits + Sized {
         self.first_zero_in::<Self::Order>(0, self.bits_capacity())
     }
 
-    /// Returns the greatest index of a set bit, in the order of the type, or `None` if there is
-    /// none. Words are read backward from the last one, down to the answer.
+    /// Returns the greatest index of a set bit, or `None` if no bit is set. Indexes follow the bit
+    /// order of the type. Words are read backward from the last one, down to the answer.
     ///
     /// ```
     /// 0b0010_0010u8.last_one();                           // Some(5)
@@ -67,8 +67,8 @@ pub trait BitsExt: Bits + Sized {
         self.last_one_in::<Self::Order>(0, self.bits_capacity())
     }
 
-    /// Returns the greatest index of an unset bit, in the order of the type, or `None` if there is
-    /// none. Words are read backward from the last one, down to the answer.
+    /// Returns the greatest index of an unset bit, or `None` if no bit is unset. Indexes follow the
+    /// bit order of the type. Words are read backward from the last one, down to the answer.
     ///
     /// ```
     /// 0b1110_0000u8.last_zero();                          // Some(4)
@@ -82,9 +82,9 @@ pub trait BitsExt: Bits + Sized {
         self.last_zero_in::<Self::Order>(0, self.bits_capacity())
     }
 
-    /// Returns the least index of a set bit from `from` on, in the order of the type, or `None` if
-    /// there is none. If `from` is at or past the capacity, it returns `None`. Words are read from
-    /// the word of index `from` on, up to the answer.
+    /// Returns the least index at or above `from` whose bit is set, or `None` if there is none. If
+    /// `from` is at or past the capacity, it returns `None`. Indexes follow the bit order of the
+    /// type. Words are read from the word of index `from` on, up to the answer.
     ///
     /// ```
     /// 0b0010_0010u8.next_one(2);                          // Some(5)
@@ -99,9 +99,9 @@ pub trait BitsExt: Bits + Sized {
         self.first_one_in::<Self::Order>(from.min(capacity), capacity)
     }
 
-    /// Returns the least index of an unset bit from `from` on, in the order of the type, or `None`
-    /// if there is none. If `from` is at or past the capacity, it returns `None`. Words are read
-    /// from the word of index `from` on, up to the answer.
+    /// Returns the least index at or above `from` whose bit is unset, or `None` if there is none.
+    /// If `from` is at or past the capacity, it returns `None`. Indexes follow the bit order of the
+    /// type. Words are read from the word of index `from` on, up to the answer.
     ///
     /// ```
     /// 0b0001_1110u8.next_zero(1);                         // Some(5)
@@ -116,9 +116,9 @@ pub trait BitsExt: Bits + Sized {
         self.first_zero_in::<Self::Order>(from.min(capacity), capacity)
     }
 
-    /// Returns the greatest index of a set bit below `to`, in the order of the type, or `None` if
-    /// there is none. A `to` past the capacity means the capacity. Words are read backward from the
-    /// word of index `to - 1`, down to the answer.
+    /// Returns the greatest index below `to` whose bit is set, or `None` if there is none. A `to`
+    /// past the capacity means the capacity. Indexes follow the bit order of the type. Words are
+    /// read backward from the word of index `to - 1`, down to the answer.
     ///
     /// ```
     /// 0b0010_0010u8.prev_one(5);                          // Some(1)
@@ -133,9 +133,9 @@ pub trait BitsExt: Bits + Sized {
         self.last_one_in::<Self::Order>(0, to.min(capacity_of::<Self, Self::Order>(self)))
     }
 
-    /// Returns the greatest index of an unset bit below `to`, in the order of the type, or `None`
-    /// if there is none. A `to` past the capacity means the capacity. Words are read backward from
-    /// the word of index `to - 1`, down to the answer.
+    /// Returns the greatest index below `to` whose bit is unset, or `None` if there is none. A `to`
+    /// past the capacity means the capacity. Indexes follow the bit order of the type. Words are
+    /// read backward from the word of index `to - 1`, down to the answer.
     ///
     /// ```
     /// 0b0001_1110u8.prev_zero(5);                         // Some(0)
@@ -150,9 +150,9 @@ pub trait BitsExt: Bits + Sized {
         self.last_zero_in::<Self::Order>(0, to.min(capacity_of::<Self, Self::Order>(self)))
     }
 
-    /// Returns how many set bits lie below `index`, in the order of the type. An `index` past the
-    /// capacity means the capacity. Each word is counted as a whole; a mask cuts the last one off
-    /// at `index`.
+    /// Returns how many bits with an index below `index` are set. Indexes follow the bit order of
+    /// the type. An `index` past the capacity means the capacity. Each word below `index` is
+    /// counted as a whole; a mask cuts the last one off at `index`.
     ///
     /// ```
     /// 0b0010_0010u8.rank(5);                              // 1
@@ -171,8 +171,8 @@ pub trait BitsExt: Bits + Sized {
         )
     }
 
-    /// Returns the index of the set bit that has exactly `rank` set bits below it, in the order of
-    /// the type. It returns `None` if no more than `rank` bits are set.
+    /// Returns the index of the set bit that has exactly `rank` set bits below it, or `None` if at
+    /// most `rank` bits are set. Indexes follow the bit order of the type.
     ///
     /// Each word up to the one that has the answer is counted as a whole. In that word the bit is
     /// found by halving, in six steps for a `u64`.
@@ -194,9 +194,10 @@ pub trait BitsExt: Bits + Sized {
         }
     }
 
-    /// Returns the least index of a set bit in `from..to`, in the order of the type, or `None` if
-    /// there is none. A `to` past the capacity means the capacity, and a range that runs backwards
-    /// is empty. The words of the range are read from the first one on, up to the answer.
+    /// Returns the least index in `from..to` whose bit is set, or `None` if there is none. Indexes
+    /// follow the bit order of the type. A `to` past the capacity means the capacity, and a range
+    /// that runs backwards is empty. The words of the range are read from the first one on, up to
+    /// the answer.
     ///
     /// ```
     /// 0b0110_0010u8.first_one_in_range(2, 6);             // Some(5)
@@ -210,8 +211,8 @@ pub trait BitsExt: Bits + Sized {
         self.first_one_in_span(from..to)
     }
 
-    /// Returns the least index of an unset bit in `from..to`, in the order of the type, or `None`
-    /// if there is none. Past the capacity no bit is unset. All else is as with
+    /// Returns the least index in `from..to` whose bit is unset, or `None` if there is none. Past
+    /// the capacity no bit is unset. All else is as with
     /// [`first_one_in_range`](BitsExt::first_one_in_range).
     ///
     /// ```
@@ -227,10 +228,10 @@ pub trait BitsExt: Bits + Sized {
         self.first_zero_in_span(from..to)
     }
 
-    /// Returns the greatest index of a set bit in `from..to`, in the order of the type, or `None`
-    /// if there is none. A `to` past the capacity means the capacity, and a range that runs
-    /// backwards is empty. The words of the range are read backward from the last one, down to the
-    /// answer.
+    /// Returns the greatest index in `from..to` whose bit is set, or `None` if there is none.
+    /// Indexes follow the bit order of the type. A `to` past the capacity means the capacity, and a
+    /// range that runs backwards is empty. The words of the range are read backward from the last
+    /// one, down to the answer.
     ///
     /// ```
     /// 0b0110_0010u8.last_one_in_range(0, 6);              // Some(5)
@@ -244,8 +245,8 @@ pub trait BitsExt: Bits + Sized {
         self.last_one_in_span(from..to)
     }
 
-    /// Returns the greatest index of an unset bit in `from..to`, in the order of the type, or
-    /// `None` if there is none. Past the capacity no bit is unset. All else is as with
+    /// Returns the greatest index in `from..to` whose bit is unset, or `None` if there is none.
+    /// Past the capacity no bit is unset. All else is as with
     /// [`last_one_in_range`](BitsExt::last_one_in_range).
     ///
     /// ```
@@ -261,7 +262,8 @@ pub trait BitsExt: Bits + Sized {
         self.last_zero_in_span(from..to)
     }
 
-    /// Returns how many bits of `from..to` are set, in the order of the type.
+    /// Returns how many bits with an index in `from..to` are set. Indexes follow the bit order of
+    /// the type.
     ///
     /// The shape has to fit (`bits_capacity() < u32::MAX`). Past the capacity no bit is set, and a
     /// range that runs backwards is empty. The call goes word by word, not bit by bit. With
@@ -282,7 +284,8 @@ pub trait BitsExt: Bits + Sized {
         self.count_ones_in_span(from..to)
     }
 
-    /// Returns how many bits of `from..to` are unset, in the order of the type.
+    /// Returns how many bits with an index in `from..to` are unset. Indexes follow the bit order of
+    /// the type.
     ///
     /// The shape has to fit (`bits_capacity() < u32::MAX`). Past the capacity no bit is unset, and
     /// a range that runs backwards is empty. The call goes word by word, not bit by bit. With
@@ -302,7 +305,8 @@ pub trait BitsExt: Bits + Sized {
         self.count_zeros_in_span(from..to)
     }
 
-    /// Returns `true` if a bit of `from..to` is set, in the order of the type.
+    /// Returns `true` if some bit with an index in `from..to` is set. Indexes follow the bit order
+    /// of the type.
     ///
     /// The shape has to fit (`bits_capacity() < u32::MAX`). Past the capacity no bit is set. For an
     /// empty range, or one that runs backwards, it returns `false`. Words are read up to the first
@@ -320,11 +324,12 @@ pub trait BitsExt: Bits + Sized {
         self.any_in_span(from..to)
     }
 
-    /// Returns `true` if each bit of `from..to` is set, in the order of the type.
+    /// Returns `true` if every bit with an index in `from..to` is set. Indexes follow the bit order
+    /// of the type.
     ///
     /// The shape has to fit (`bits_capacity() < u32::MAX`). If the range has an index past the
-    /// capacity, where no bit is set, it returns `false`. For an empty range, or one that runs
-    /// backwards, it returns `true`. Words are read up to the first unset bit.
+    /// capacity, where no bit is set, the call returns `false`. For an empty range, or one that
+    /// runs backwards, it returns `true`. Words are read up to the first unset bit.
     ///
     /// ```
     /// 0b0110_0000u8.all_in_range(5, 8);                   // false: bit 7 is unset
@@ -342,13 +347,14 @@ pub trait BitsExt: Bits + Sized {
         self.all_in_span(from..to)
     }
 
-    /// Returns the least index from `from` on where a run of `length` unset bits begins, in the
-    /// order of the type, or `None` if there is no such run.
+    /// Returns the least index at or above `from` where a run of `length` unset bits begins, or
+    /// `None` if there is no such run. Indexes follow the bit order of the type.
     ///
-    /// No run goes past the capacity. An empty run begins at each index up to the capacity: with
-    /// `length` 0 it returns `from`, or `None` if `from` is past the capacity. If `length` is at
-    /// most the width of four words, each word is read once, up to the end of the run. For a
-    /// greater `length`, each run that is too short costs two searches by whole words.
+    /// No run goes past the capacity. An empty run begins at each index up to and including the
+    /// capacity: with `length` 0 it returns `from`, or `None` if `from` is greater than the
+    /// capacity. If `length` is at most the width of four words, each word is read once, up to the
+    /// end of the run. For a greater `length`, each run that is too short costs two searches by
+    /// whole words.
     ///
     /// ```
     /// 0b0010_0001u8.next_zero_run(2, 2);                   // Some(2)
@@ -362,9 +368,8 @@ pub trait BitsExt: Bits + Sized {
         runs::next_run::<Self, Self::Order, Zeros>(self, from, length)
     }
 
-    /// Returns the least index where a run of `length` unset bits begins, in the order of the type,
-    /// or `None` if there is no such run, as [`next_zero_run`](BitsExt::next_zero_run) does with
-    /// `from` 0.
+    /// Returns the least index at which a run of `length` unset bits begins, or `None` if there is
+    /// no such run. The call is [`next_zero_run`](BitsExt::next_zero_run) with `from` 0.
     ///
     /// ```
     /// 0b0100_1101u8.first_zero_run(2);                     // Some(4)
@@ -378,13 +383,14 @@ pub trait BitsExt: Bits + Sized {
         self.next_zero_run(0, length)
     }
 
-    /// Returns the least index from `from` on where a run of `length` set bits begins, in the order
-    /// of the type, or `None` if there is no such run.
+    /// Returns the least index at or above `from` where a run of `length` set bits begins, or
+    /// `None` if there is no such run. Indexes follow the bit order of the type.
     ///
-    /// No run goes past the capacity. An empty run begins at each index up to the capacity: with
-    /// `length` 0 it returns `from`, or `None` if `from` is past the capacity. If `length` is at
-    /// most the width of four words, each word is read once, up to the end of the run. For a
-    /// greater `length`, each run that is too short costs two searches by whole words.
+    /// No run goes past the capacity. An empty run begins at each index up to and including the
+    /// capacity: with `length` 0 it returns `from`, or `None` if `from` is greater than the
+    /// capacity. If `length` is at most the width of four words, each word is read once, up to the
+    /// end of the run. For a greater `length`, each run that is too short costs two searches by
+    /// whole words.
     ///
     /// ```
     /// 0b0110_0011u8.next_one_run(1, 2);                    // Some(5)
@@ -397,9 +403,8 @@ pub trait BitsExt: Bits + Sized {
         runs::next_run::<Self, Self::Order, Ones>(self, from, length)
     }
 
-    /// Returns the least index where a run of `length` set bits begins, in the order of the type,
-    /// or `None` if there is no such run, as [`next_one_run`](BitsExt::next_one_run) does with
-    /// `from` 0.
+    /// Returns the least index at which a run of `length` set bits begins, or `None` if there is no
+    /// such run. The call is [`next_one_run`](BitsExt::next_one_run) with `from` 0.
     ///
     /// ```
     /// 0b0110_0001u8.first_one_run(2);                      // Some(5)
@@ -412,12 +417,14 @@ pub trait BitsExt: Bits + Sized {
         self.next_one_run(0, length)
     }
 
-    /// Returns the least index where a run of `length` set bits within `from..to` begins, in the
-    /// order of the type, or `None` if there is no such run.
+    /// Returns the least index at which a run of `length` set bits begins. The whole run has to lie
+    /// within `from..to`. It returns `None` if there is no such run. Indexes follow the bit order
+    /// of the type.
     ///
     /// A `to` past the capacity means the capacity, and a range that runs backwards has no bit.
-    /// With `length` 0 it returns `from`, or `None` if `from` is past the capacity. It costs what
-    /// [`next_one_run`](BitsExt::next_one_run) costs, and reads only words of the range.
+    /// With `length` 0 it returns `from`, or `None` if `from` is greater than the capacity. The
+    /// call costs what [`next_one_run`](BitsExt::next_one_run) costs, and reads only words of the
+    /// range.
     ///
     /// ```
     /// 0b0110_0111u8.first_one_run_in_range(1, 6, 2);       // Some(1)
@@ -433,9 +440,9 @@ pub trait BitsExt: Bits + Sized {
         runs::run_in_range::<Self, Self::Order, Ones>(self, from, to, length)
     }
 
-    /// Returns the least index where a run of `length` unset bits within `from..to` begins, in the
-    /// order of the type, or `None` if there is no such run. Past the capacity no bit is unset. All
-    /// else is as with [`first_one_run_in_range`](BitsExt::first_one_run_in_range).
+    /// Returns the least index at which a run of `length` unset bits begins. The whole run has to
+    /// lie within `from..to`. It returns `None` if there is no such run. Past the capacity no bit
+    /// is unset. All else is as with [`first_one_run_in_range`](BitsExt::first_one_run_in_range).
     ///
     /// ```
     /// 0b0110_0011u8.first_zero_run_in_range(1, 6, 3);      // Some(2)

@@ -27,8 +27,9 @@ use bittle_bits::extension::{Difference, SymmetricDifference, Union};
 /// (big- or little-endian) is that of the type; for another order, use the view that
 /// [`in_order_mut`](crate::BitsMutViewExt::in_order_mut) returns.
 pub trait BitsMutExt: BitsMut + Sized {
-    /// Sets the bit at `index`, in the order of the type, and returns `true` if it was unset. An
-    /// index past the capacity wraps. With capacity 0 nothing changes, and it returns `true`.
+    /// Sets the bit at `index`, and returns `true` if the bit was unset before. Indexes follow the
+    /// bit order of the type, and an index past the capacity wraps. With capacity 0 nothing
+    /// changes, and the call returns `true`.
     ///
     /// The type has to fit (its capacity is below `u32::MAX`). For a slice, only its element type
     /// has to fit.
@@ -58,8 +59,9 @@ pub trait BitsMutExt: BitsMut + Sized {
         was_unset
     }
 
-    /// Clears the bit at `index`, in the order of the type, and returns `true` if it was set. An
-    /// index past the capacity wraps. With capacity 0 nothing changes, and it returns `false`.
+    /// Clears the bit at `index`, and returns `true` if the bit was set before. Indexes follow the
+    /// bit order of the type, and an index past the capacity wraps. With capacity 0 nothing
+    /// changes, and the call returns `false`.
     ///
     /// The type has to fit (its capacity is below `u32::MAX`). For a slice, only its element type
     /// has to fit.
@@ -88,8 +90,8 @@ pub trait BitsMutExt: BitsMut + Sized {
         was_set
     }
 
-    /// Sets the bit at `index` if `value` is `true`, else clears it, in the order of the type. An
-    /// index past the capacity wraps. With capacity 0 nothing changes.
+    /// Sets the bit at `index` if `value` is `true`, else clears it. Indexes follow the bit order
+    /// of the type, and an index past the capacity wraps. With capacity 0 nothing changes.
     ///
     /// The type has to fit (its capacity is below `u32::MAX`). For a slice, only its element type
     /// has to fit.
@@ -112,9 +114,9 @@ pub trait BitsMutExt: BitsMut + Sized {
         }
     }
 
-    /// Sets the bit at `index` if `value` is `true`, else clears it, in the order of the type, and
-    /// returns `true` if it was set before. An index past the capacity wraps. With capacity 0
-    /// nothing changes, and it returns `false`.
+    /// Sets the bit at `index` if `value` is `true`, else clears it. Returns `true` if the bit was
+    /// set before. Indexes follow the bit order of the type, and an index past the capacity wraps.
+    /// With capacity 0 nothing changes, and the call returns `false`.
     ///
     /// The type has to fit (its capacity is below `u32::MAX`). For a slice, only its element type
     /// has to fit.
@@ -136,8 +138,8 @@ pub trait BitsMutExt: BitsMut + Sized {
         before
     }
 
-    /// Flips the bit at `index`, in the order of the type. An index past the capacity wraps. With
-    /// capacity 0 nothing changes.
+    /// Flips the bit at `index`. Indexes follow the bit order of the type, and an index past the
+    /// capacity wraps. With capacity 0 nothing changes.
     ///
     /// The type has to fit (its capacity is below `u32::MAX`). For a slice, only its element type
     /// has to fit.
@@ -161,8 +163,8 @@ pub trait BitsMutExt: BitsMut + Sized {
         }
     }
 
-    /// Sets each bit at the indexes `from..to` if `value` is `true`, else clears each, in the order
-    /// of the type, with one mask per word.
+    /// Sets every bit with an index in `from..to` if `value` is `true`, else clears every such bit,
+    /// with one mask per word. Indexes follow the bit order of the type.
     ///
     /// The shape has to fit (`bits_capacity() < u32::MAX`), and `from <= to <= capacity`: no index
     /// wraps. Only the words of the range are written. An empty range changes nothing; with
@@ -188,7 +190,7 @@ pub trait BitsMutExt: BitsMut + Sized {
         }
     }
 
-    /// Flips every bit, with one mask per word: the set becomes its complement, in both orders.
+    /// Flips every bit, with one mask per word. The set becomes its complement in both orders.
     ///
     /// The shape has to fit (`bits_capacity() < u32::MAX`). With capacity 0 nothing changes.
     ///
@@ -208,8 +210,9 @@ pub trait BitsMutExt: BitsMut + Sized {
         self.toggle_range_in::<BigEndian>(0, capacity);
     }
 
-    /// Clears the least set bit, in the order of the type, and returns its index. If no bit is set,
-    /// as with capacity 0, nothing changes, and it returns `None`.
+    /// Clears the set bit with the least index, and returns this index. Indexes follow the bit
+    /// order of the type. If no bit is set, as with capacity 0, nothing changes, and the call
+    /// returns `None`.
     ///
     /// The shape has to fit (`bits_capacity() < u32::MAX`). The words up to the answer are read.
     ///
@@ -236,8 +239,9 @@ pub trait BitsMutExt: BitsMut + Sized {
         Some(first)
     }
 
-    /// Clears the greatest set bit, in the order of the type, and returns its index. If no bit is
-    /// set, as with capacity 0, nothing changes, and it returns `None`.
+    /// Clears the set bit with the greatest index, and returns this index. Indexes follow the bit
+    /// order of the type. If no bit is set, as with capacity 0, nothing changes, and the call
+    /// returns `None`.
     ///
     /// The shape has to fit (`bits_capacity() < u32::MAX`). The words are read backward from the
     /// last one, down to the answer.
@@ -265,9 +269,9 @@ pub trait BitsMutExt: BitsMut + Sized {
         Some(last)
     }
 
-    /// Sets the least unset bit, in the order of the type, and returns its index, as an allocator
-    /// of slots does. If each bit is set, as with capacity 0, nothing changes, and it returns
-    /// `None`.
+    /// Sets the unset bit with the least index, and returns this index, as an allocator of slots
+    /// does. Indexes follow the bit order of the type. If no bit is unset, as with capacity 0,
+    /// nothing changes, and the call returns `None`.
     ///
     /// The shape has to fit (`bits_capacity() < u32::MAX`). The words up to the answer are read.
     ///
@@ -290,9 +294,10 @@ pub trait BitsMutExt: BitsMut + Sized {
         Some(free)
     }
 
-    /// Sets the bits of the first run of `length` unset bits, in the order of the type, and returns
-    /// the run's least index, as an allocator of runs does. If there is no such run, nothing
-    /// changes, and it returns `None`. With `length` 0 nothing changes, and it returns 0.
+    /// Sets the bits of the first run of `length` unset bits, and returns the least index of the
+    /// run, as an allocator of runs does. Indexes follow the bit order of the type. If there is no
+    /// such run, nothing changes, and the call returns `None`. With `length` 0 nothing changes, and
+    /// it returns `Some(0)`.
     ///
     /// The shape has to fit (`bits_capacity() < u32::MAX`). The search costs what
     /// [`next_zero_run`](crate::BitsExt::next_zero_run) costs.
@@ -316,14 +321,14 @@ pub trait BitsMutExt: BitsMut + Sized {
         Some(from)
     }
 
-    /// Calls `keep` with the index of each set bit once, from the least one on, in the order of the
-    /// type. It clears each bit for which `keep` returns `false`. With capacity 0 it makes no call,
-    /// and nothing changes.
+    /// Calls `keep` once with the index of each set bit, from the least index to the greatest.
+    /// Clears each bit for which `keep` returns `false`. Indexes follow the bit order of the type.
+    /// With capacity 0 it makes no call, and nothing changes.
     ///
     /// The shape has to fit (`bits_capacity() < u32::MAX`), and `keep` has to be callable with each
-    /// index below the capacity, and again after each such call. Each word is read once, and is
-    /// written once if one of its bits is cleared. Each set bit costs a call. Words that the set
-    /// knows to have no set bit are skipped.
+    /// index below the capacity, and again after each such call. Words that the set knows to have
+    /// no set bit, without reading them, are skipped. Each other word is read once, and is written
+    /// once if one of its bits is cleared. Each set bit costs a call of `keep`.
     ///
     /// ```
     /// let mut row = [0x07u8, 0x81];
@@ -340,8 +345,8 @@ pub trait BitsMutExt: BitsMut + Sized {
         retain::<Self, Self::Order, F>(self, keep);
     }
 
-    /// Sets the bit at each of the indexes, in the order of the type. An index past the capacity
-    /// wraps. With capacity 0 nothing changes.
+    /// Sets the bit at each index of the slice `indexes`. Indexes follow the bit order of the type,
+    /// and an index past the capacity wraps. With capacity 0 nothing changes.
     ///
     /// The type has to fit (its capacity is below `u32::MAX`). For a slice, only its element type
     /// has to fit.
@@ -362,8 +367,9 @@ pub trait BitsMutExt: BitsMut + Sized {
         }
     }
 
-    /// Sets the bit at each index of an array, a `Vec`, a range or an iterator, in the order of the
-    /// type. An index past the capacity wraps. With capacity 0 nothing changes.
+    /// Sets the bit at each index of `indexes`, which is an array, a `Vec`, a range or an iterator.
+    /// Indexes follow the bit order of the type, and an index past the capacity wraps. With
+    /// capacity 0 nothing changes.
     ///
     /// The type has to fit (its capacity is below `u32::MAX`). For a slice, only its element type
     /// has to fit. The iterator has to end.
@@ -393,8 +399,8 @@ pub trait BitsMutExt: BitsMut + Sized {
         insert_each::<Self, Self::Order, I::IntoIter>(self, indexes.into_iter());
     }
 
-    /// Sets the bits `from..to`, in the order of the type, as
-    /// [`set_range_in`](bittle::BitsMut::set_range_in) does.
+    /// Sets the bits `from..to`. Indexes follow the bit order of the type. All else is as with
+    /// [`set_range_in`](bittle::BitsMut::set_range_in).
     ///
     /// ```
     /// let mut row = [0u8; 2];
@@ -415,8 +421,8 @@ pub trait BitsMutExt: BitsMut + Sized {
         self.set_range_in::<Self::Order>(from, to);
     }
 
-    /// Clears the bits `from..to`, in the order of the type, as
-    /// [`clear_range_in`](bittle::BitsMut::clear_range_in) does.
+    /// Clears the bits `from..to`. Indexes follow the bit order of the type. All else is as with
+    /// [`clear_range_in`](bittle::BitsMut::clear_range_in).
     ///
     /// ```
     /// let mut row = [0xFFu8; 2];
@@ -437,8 +443,8 @@ pub trait BitsMutExt: BitsMut + Sized {
         self.clear_range_in::<Self::Order>(from, to);
     }
 
-    /// Flips the bits `from..to`, in the order of the type, as
-    /// [`toggle_range_in`](bittle::BitsMut::toggle_range_in) does.
+    /// Flips the bits `from..to`. Indexes follow the bit order of the type. All else is as with
+    /// [`toggle_range_in`](bittle::BitsMut::toggle_range_in).
     ///
     /// ```
     /// let mut word = 0b0011_1100u8;

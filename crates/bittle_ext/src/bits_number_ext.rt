@@ -10,11 +10,11 @@ use bittle::{Bits, BitsMut};
 
 /// Reading up to 64 neighbouring bits as a number, a word at a time.
 ///
-/// Bit `i` of the number is the bit at index `first + i`, in the order of the type: index `first`
-/// has the weight 1, in both orders. For another order, use the view that
-/// [`in_order`](crate::BitsViewExt::in_order) returns.
+/// Bit `i` of the number is the bit at index `first + i`. Indexes follow the bit order of the type.
+/// So the bit at index `first` has the weight 1, in both orders. For another order, use the view
+/// that [`in_order`](crate::BitsViewExt::in_order) returns.
 pub trait BitsNumberExt: Bits {
-    /// Returns the bits at the `count` indexes from `first` on as a number.
+    /// Returns, as a number, the bits at the `count` indexes from `first` on.
     ///
     /// The shape has to fit (`bits_capacity() < u32::MAX`), and `count` is at most 64. From the
     /// capacity on no bit is set, so with capacity 0 the number is 0. Only the words of the range
@@ -44,9 +44,9 @@ impl<B: Bits> BitsNumberExt for B {}
 
 /// Writing a number to up to 64 neighbouring bits, a word at a time.
 ///
-/// The bit at index `first + i` takes the value of bit `i` of the number, in the order of the type.
-/// For another order, use the view that [`in_order_mut`](crate::BitsMutViewExt::in_order_mut)
-/// returns.
+/// The bit at index `first + i` takes the value of bit `i` of the number. Indexes follow the bit
+/// order of the type. For another order, use the view that
+/// [`in_order_mut`](crate::BitsMutViewExt::in_order_mut) returns.
 pub trait BitsNumberMutExt: BitsMut {
     /// Writes the lowest `count` bits of a number to the `count` indexes from `first` on. The other
     /// bits of the number are ignored.

@@ -21,8 +21,8 @@ use std::ops::RangeBounds;
 /// (`Self::bits() < u32::MAX`). The bit order is that of the type; a `Set` can remember another
 /// order, as in `Set::new_le(word).rotated_up(1)`.
 pub trait BitsOwnedExt: BitsOwned {
-    /// Returns the set of the bits that are unset, the same in both orders. With capacity 0 it
-    /// returns the same set. Each word is read once.
+    /// Returns this set with every bit flipped. The result is the same in both orders. With
+    /// capacity 0 it is this set unchanged. Each word is read once.
     ///
     /// ```
     /// [0xFFu8, 0x0F].complement();                        // [0x00, 0xF0]
@@ -37,8 +37,8 @@ pub trait BitsOwnedExt: BitsOwned {
         Self::ones().difference(self)
     }
 
-    /// Returns the set with each bit at the indexes `from..to` set, in the order of the type, with
-    /// one mask per word.
+    /// Returns a copy of this set in which every bit with an index in `from..to` is set. Indexes
+    /// follow the bit order of the type. The call makes one mask per word of the range.
     ///
     /// It requires `from <= to <= capacity`: no index wraps. An empty range changes nothing; with
     /// capacity 0 only an empty range is allowed.
@@ -59,8 +59,8 @@ pub trait BitsOwnedExt: BitsOwned {
         set
     }
 
-    /// Returns the set with each bit at the indexes `from..to` unset, in the order of the type,
-    /// with one mask per word.
+    /// Returns a copy of this set in which every bit with an index in `from..to` is unset. Indexes
+    /// follow the bit order of the type. The call makes one mask per word of the range.
     ///
     /// It requires `from <= to <= capacity`: no index wraps. An empty range changes nothing; with
     /// capacity 0 only an empty range is allowed.
@@ -81,8 +81,8 @@ pub trait BitsOwnedExt: BitsOwned {
         set
     }
 
-    /// Returns the set with each bit at the indexes `from..to` flipped, in the order of the type,
-    /// with one mask per word.
+    /// Returns a copy of this set in which every bit with an index in `from..to` is flipped.
+    /// Indexes follow the bit order of the type. The call makes one mask per word of the range.
     ///
     /// It requires `from <= to <= capacity`: no index wraps. An empty range changes nothing; with
     /// capacity 0 only an empty range is allowed.
@@ -103,9 +103,9 @@ pub trait BitsOwnedExt: BitsOwned {
         set
     }
 
-    /// Returns the set with each bit of the range set, with one mask per word. A range that names
-    /// no end goes up to the capacity. The range must not run backwards, and has to end at or below
-    /// the capacity: no index wraps.
+    /// Returns a copy of this set in which every bit of the range is set. The call makes one mask
+    /// per word of the range. A range that names no end goes up to the capacity. The range must not
+    /// run backwards, and has to end at or below the capacity: no index wraps.
     ///
     /// ```
     /// [0u8; 2].with_span(6..=10);                         // [0xC0, 0x07]
@@ -127,9 +127,9 @@ pub trait BitsOwnedExt: BitsOwned {
         set
     }
 
-    /// Returns the set with each bit of the range unset, with one mask per word. A range that names
-    /// no end goes up to the capacity. The range must not run backwards, and has to end at or below
-    /// the capacity: no index wraps.
+    /// Returns a copy of this set in which every bit of the range is unset. The call makes one mask
+    /// per word of the range. A range that names no end goes up to the capacity. The range must not
+    /// run backwards, and has to end at or below the capacity: no index wraps.
     ///
     /// ```
     /// [0xFFu8; 2].without_span(..11);                     // [0x00, 0xF8]
@@ -151,9 +151,9 @@ pub trait BitsOwnedExt: BitsOwned {
         set
     }
 
-    /// Returns the set with each bit of the range flipped, with one mask per word. A range that
-    /// names no end goes up to the capacity. The range must not run backwards, and has to end at or
-    /// below the capacity: no index wraps.
+    /// Returns a copy of this set in which every bit of the range is flipped. The call makes one
+    /// mask per word of the range. A range that names no end goes up to the capacity. The range
+    /// must not run backwards, and has to end at or below the capacity: no index wraps.
     ///
     /// ```
     /// 0b0011_1100u8.with_span_toggled(4..);               // 0b1100_1100
@@ -175,11 +175,11 @@ pub trait BitsOwnedExt: BitsOwned {
         set
     }
 
-    /// Returns the set with each bit moved down by `by` indexes, in the order of the type. A bit
-    /// that would pass index 0 goes on at the last index.
+    /// Returns a copy of this set in which each bit is moved down by `by` indexes. A bit that would
+    /// pass index 0 goes on at the last index. Indexes follow the bit order of the type.
     ///
-    /// A `by` past the capacity wraps. With capacity 0 it returns the same set. Each word is read
-    /// twice and written once.
+    /// A `by` of the capacity or more wraps. With capacity 0 it returns the same set. Each word is
+    /// read twice and written once.
     ///
     /// ```
     /// [0x12u8, 0].rotated_down(2);                        // [0x04, 0x80]
@@ -195,11 +195,11 @@ pub trait BitsOwnedExt: BitsOwned {
         rotate_down::<Self, Self::Order>(&self, by)
     }
 
-    /// Returns the set with each bit moved up by `by` indexes, in the order of the type. A bit that
-    /// would pass the last index goes on at index 0.
+    /// Returns a copy of this set in which each bit is moved up by `by` indexes. A bit that would
+    /// pass the last index goes on at index 0. Indexes follow the bit order of the type.
     ///
-    /// A `by` past the capacity wraps. With capacity 0 it returns the same set. Each word is read
-    /// twice and written once.
+    /// A `by` of the capacity or more wraps. With capacity 0 it returns the same set. Each word is
+    /// read twice and written once.
     ///
     /// ```
     /// [0u8, 0x48].rotated_up(2);                          // [0x01, 0x20]
@@ -215,8 +215,8 @@ pub trait BitsOwnedExt: BitsOwned {
         rotate_up::<Self, Self::Order>(&self, by)
     }
 
-    /// Returns the set with each bit moved down by `by` indexes, in the order of the type. A bit
-    /// that would pass index 0 is dropped.
+    /// Returns a copy of this set in which each bit is moved down by `by` indexes. A bit that would
+    /// pass index 0 is dropped. Indexes follow the bit order of the type.
     ///
     /// If `by` is the capacity or more, or the capacity is 0, the result is the empty set. Each
     /// word is read twice at most and written once.
@@ -240,8 +240,8 @@ pub trait BitsOwnedExt: BitsOwned {
         set
     }
 
-    /// Returns the set with each bit moved up by `by` indexes, in the order of the type. A bit that
-    /// would reach the capacity is dropped.
+    /// Returns a copy of this set in which each bit is moved up by `by` indexes. A bit that would
+    /// reach the capacity is dropped. Indexes follow the bit order of the type.
     ///
     /// If `by` is the capacity or more, or the capacity is 0, the result is the empty set. Each
     /// word is read twice at most and written once.
@@ -265,8 +265,9 @@ pub trait BitsOwnedExt: BitsOwned {
         set
     }
 
-    /// Returns the set that has the listed indexes, in the order of the type. An index past the
-    /// capacity wraps. With capacity 0 the set is empty.
+    /// Returns the set in which exactly the bits at the listed indexes are set. Indexes follow the
+    /// bit order of the type, and an index past the capacity wraps. With capacity 0 the set is
+    /// empty.
     ///
     /// ```
     /// <[u8; 2]>::from_indexes(&[0, 7, 9]);                // [0x81, 0x02]
@@ -282,8 +283,9 @@ pub trait BitsOwnedExt: BitsOwned {
         set
     }
 
-    /// Returns the set that has the indexes of an array, a `Vec`, a range or an iterator, in the
-    /// order of the type. An index past the capacity wraps. With capacity 0 the set is empty.
+    /// Returns the set in which exactly the bits at the indexes of `indexes` are set. `indexes` is
+    /// an array, a `Vec`, a range or an iterator. Indexes follow the bit order of the type, and an
+    /// index past the capacity wraps. With capacity 0 the set is empty.
     ///
     /// The iterator has to end.
     ///

@@ -19,8 +19,8 @@ use bittle::Bits;
 /// there: no index wraps. The bit order (big- or little-endian) is that of the type; for another
 /// order, use the view that [`in_order`](crate::BitsViewExt::in_order) returns.
 pub trait BitsRangeExt: Bits + Sized {
-    /// Returns a double-ended iterator over the indexes of the set bits in `from..to`, increasing,
-    /// in the order of the type.
+    /// Returns a double-ended iterator over the indexes in `from..to` whose bits are set, in
+    /// increasing order. Indexes follow the bit order of the type.
     ///
     /// The shape has to fit (`bits_capacity() < u32::MAX`). Past the capacity no bit is set, and a
     /// range that runs backwards is empty. Only the words of the range are read, each once. With
@@ -62,8 +62,8 @@ pub trait BitsRangeExt: Bits + Sized {
         self.iter_zeros_in_span(from..to)
     }
 
-    /// Returns a double-ended iterator over the maximal runs of set bits, increasing, in the order
-    /// of the type. Each run is a range of indexes.
+    /// Returns a double-ended iterator over the maximal runs of set bits, in increasing order. Each
+    /// run is a range of indexes, which follow the bit order of the type.
     ///
     /// The shape has to fit (`bits_capacity() < u32::MAX`). Each step makes at most two searches by
     /// whole words. With capacity 0 it yields nothing.

@@ -8,8 +8,8 @@ use crate::bits_ext::BitsExt;
 use crate::views::BitsViewExt;
 use bittle::Bits;
 
-/// Counts of unset bits, and searches for an unset bit by its rank, in the order of the type. The
-/// rank of an unset bit is how many unset bits lie below it.
+/// Counts of unset bits, and searches for an unset bit by its rank. The rank of an unset bit is how
+/// many unset bits have a lower index. Indexes follow the bit order of the type.
 pub trait BitsRankExt: Bits + Sized {
     /// Returns how many bits below `index` are unset. An `index` past the capacity means the
     /// capacity.

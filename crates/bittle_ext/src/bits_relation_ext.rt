@@ -17,18 +17,19 @@ use bittle_bits::extension::{Difference, Ones, SymmetricDifference, Zeros, are_a
 /// Relations of two sets, which may be of different types. Both sets have to fit
 /// (`bits_capacity() < u32::MAX`).
 ///
-/// Each set is read in the order of its type; a view has the order that it names. If the words of
-/// both sets have the same width and order, the sets are compared word by word. Else the two sets
-/// are searched in turn, each from where the search of the other stopped. The capacities may
-/// differ: past its capacity a set has no bit set. With capacity 0 a set is empty.
+/// Each set is read in the bit order of its type; a view made by `in_order` has the order that it
+/// names. If the words of both sets have the same width and order, the sets are compared word by
+/// word. Else the two sets are searched in turn, each from where the search of the other stopped.
+/// The capacities may differ: bits at or past the capacity of a set count as unset. With capacity 0
+/// a set is empty.
 ///
 /// ```
 /// let view = 0x80u8.in_order::<LittleEndian>();
 /// view.is_subset(&0x8000u16.in_order::<LittleEndian>()); // true: each has index 0
 /// ```
 pub trait BitsRelationExt: Bits + Sized {
-    /// Returns the least index that is set in both sets, each set in its own order, or `None` if
-    /// there is none. It stops at the answer.
+    /// Returns the least index whose bit is set in both sets, or `None` if there is none. Each set
+    /// is read in its own bit order. The search stops at the answer.
     ///
     /// ```
     /// 0b0110u8.first_common(&0x0104u16);                  // Some(2)
@@ -45,8 +46,8 @@ pub trait BitsRelationExt: Bits + Sized {
         first_below::<Self, B, Self::Order, B::Order, Ones>(self, other, end)
     }
 
-    /// Returns the least index that is set in this set and not in the other one, each set in its
-    /// own order, or `None` if there is none. It stops at the answer.
+    /// Returns the least index whose bit is set in this set and not in `other`, or `None` if there
+    /// is none. Each set is read in its own bit order. The search stops at the answer.
     ///
     /// ```
     /// 0b0110u8.first_alone(&0x0102u16);                   // Some(2)
@@ -65,12 +66,12 @@ pub trait BitsRelationExt: Bits + Sized {
         if let Some(index) = found {
             return Some(index);
         }
-        // Past its capacity, the second set has no bit set.
+        // `other` has no bit set at or past its capacity.
         self.first_one_in::<Self::Order>(common, end)
     }
 
-    /// Returns `true` if each bit that is set in this set is set in the other one too, each set in
-    /// its own order. It stops at the first bit that is not set in the other one.
+    /// Returns `true` if each set bit of this set is also set in `other`. Each set is read in its
+    /// own bit order. The search stops at the first set bit of this set that is not set in `other`.
     ///
     /// ```
     /// 0b0110u8.is_subset(&0x010Fu16);                     // true
@@ -86,8 +87,8 @@ pub trait BitsRelationExt: Bits + Sized {
         self.first_alone(other).is_none()
     }
 
-    /// Returns `true` if each bit that is set in the other set is set in this one too, each set in
-    /// its own order. It stops at the first bit that is not set in this one.
+    /// Returns `true` if each set bit of `other` is also set in this set. Each set is read in its
+    /// own bit order. The search stops at the first set bit of `other` that is not set in this set.
     ///
     /// ```
     /// 0b0110u8.is_superset(&0x0106u16);                   // false: index 8 is not in it
@@ -103,8 +104,8 @@ pub trait BitsRelationExt: Bits + Sized {
         other.first_alone(self).is_none()
     }
 
-    /// Returns `true` if no index is set in both sets, each set in its own order. It stops at the
-    /// first index that is set in both.
+    /// Returns `true` if there is no index whose bit is set in both sets. Each set is read in its
+    /// own bit order. The search stops at the first such index.
     ///
     /// ```
     /// 0b0110u8.is_disjoint(&0b1001u64);                   // true
@@ -120,8 +121,8 @@ pub trait BitsRelationExt: Bits + Sized {
         self.first_common(other).is_none()
     }
 
-    /// Returns `true` if an index is set in both sets, each set in its own order. It stops at the
-    /// first such index.
+    /// Returns `true` if there is an index whose bit is set in both sets. Each set is read in its
+    /// own bit order. The search stops at the first such index.
     ///
     /// ```
     /// 0b0110u8.intersects(&0b1100u64);                    // true: index 2
@@ -137,9 +138,9 @@ pub trait BitsRelationExt: Bits + Sized {
         self.first_common(other).is_some()
     }
 
-    /// Returns how many indexes are set in both sets, each set in its own order. No set is made. If
-    /// the words of both sets have the same width and order, each word is read at most once. Else
-    /// each set bit of this set is tested in the other one.
+    /// Counts the indexes whose bits are set in both sets. Each set is read in its own bit order.
+    /// No third set is made. If the words of both sets have the same width and order, each word is
+    /// read at most once. Else each set bit of this set is tested in `other`.
     ///
     /// ```
     /// 0b0110u8.count_common(&0x0107u16);                  // 2
@@ -158,9 +159,10 @@ pub trait BitsRelationExt: Bits + Sized {
         count_common::<Self, B, Self::Order, B::Order>(self, other)
     }
 
-    /// Returns how many indexes are set in this set and not in the other one, each set in its own
-    /// order. If the words of both sets have the same width and order, each word is read at most
-    /// once. Else it costs a count of this set and [`count_common`](BitsRelationExt::count_common).
+    /// Counts the indexes whose bits are set in this set and not in `other`. Each set is read in
+    /// its own bit order. If the words of both sets have the same width and order, each word is
+    /// read at most once. Else the call costs a count of this set and a
+    /// [`count_common`](BitsRelationExt::count_common).
     ///
     /// ```
     /// 0b0110u8.count_alone(&0x0104u16);                   // 1: index 1
@@ -182,9 +184,10 @@ pub trait BitsRelationExt: Bits + Sized {
         self.count_ones() - count_common::<Self, B, Self::Order, B::Order>(self, other)
     }
 
-    /// Returns how many indexes are set in just one of the two sets, each set in its own order. If
-    /// the words of both sets have the same width and order, each word is read at most once. Else
-    /// it costs a count of each set and [`count_common`](BitsRelationExt::count_common).
+    /// Counts the indexes whose bits are set in exactly one of the two sets. Each set is read in
+    /// its own bit order. If the words of both sets have the same width and order, each word is
+    /// read at most once. Else the call costs a count of each set and a
+    /// [`count_common`](BitsRelationExt::count_common).
     ///
     /// ```
     /// 0b0110u8.count_different(&0x0104u16);               // 2: indexes 1 and 8

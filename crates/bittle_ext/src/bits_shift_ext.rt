@@ -9,13 +9,13 @@ use crate::{shifts, turns};
 use bittle::BitsMut;
 
 /// Moves of all bits of any set that can be changed, such as a mutably borrowed slice. No copy is
-/// made. The order is that of the type.
+/// made. Indexes follow the bit order of the type.
 ///
 /// An owned set also has [`shifted_up`](crate::BitsOwnedExt::shifted_up), `shifted_down`,
-/// `rotated_up` and `rotated_down`, which return another set.
+/// `rotated_up` and `rotated_down`, which return a new set.
 pub trait BitsShiftExt: BitsMut {
-    /// Moves each bit down by `by` indexes, in the order of the type. A bit that would pass index 0
-    /// is dropped.
+    /// Moves each bit down by `by` indexes. A bit that would pass index 0 is dropped. Indexes
+    /// follow the bit order of the type.
     ///
     /// The shape has to fit (`bits_capacity() < u32::MAX`). If `by` is the capacity or more, the
     /// set becomes empty; with capacity 0 nothing changes. Each word is read twice at most and
@@ -41,8 +41,8 @@ pub trait BitsShiftExt: BitsMut {
         shifts::shift_down::<Self, Self::Order>(self, by);
     }
 
-    /// Moves each bit up by `by` indexes, in the order of the type. A bit that would reach the
-    /// capacity is dropped.
+    /// Moves each bit up by `by` indexes. A bit that would reach the capacity is dropped. Indexes
+    /// follow the bit order of the type.
     ///
     /// The shape has to fit (`bits_capacity() < u32::MAX`). If `by` is the capacity or more, the
     /// set becomes empty; with capacity 0 nothing changes. Each word is read twice at most and
@@ -67,12 +67,12 @@ pub trait BitsShiftExt: BitsMut {
         shifts::shift_up::<Self, Self::Order>(self, by);
     }
 
-    /// Moves each bit down by `by` indexes, in the order of the type. A bit that would pass index 0
-    /// goes on at the last index.
+    /// Moves each bit down by `by` indexes. A bit that would pass index 0 goes on at the last
+    /// index. Indexes follow the bit order of the type.
     ///
     /// The shape has to fit (`bits_capacity() < u32::MAX`). A `by` of the capacity or more wraps;
-    /// with capacity 0 nothing changes. Each word is read four times at most and written three
-    /// times, and the last word once more.
+    /// with capacity 0 nothing changes. Each word is read at most four times and written at most
+    /// three times. The last word may be read and written once more.
     ///
     /// ```
     /// let mut row = [0x12u8, 0x01];
@@ -90,12 +90,12 @@ pub trait BitsShiftExt: BitsMut {
         turns::turn_down::<Self, Self::Order>(self, by);
     }
 
-    /// Moves each bit up by `by` indexes, in the order of the type. A bit that would pass the last
-    /// index goes on at index 0.
+    /// Moves each bit up by `by` indexes. A bit that would pass the last index goes on at index 0.
+    /// Indexes follow the bit order of the type.
     ///
     /// The shape has to fit (`bits_capacity() < u32::MAX`). A `by` of the capacity or more wraps;
-    /// with capacity 0 nothing changes. Each word is read four times at most and written three
-    /// times, and the last word once more.
+    /// with capacity 0 nothing changes. Each word is read at most four times and written at most
+    /// three times. The last word may be read and written once more.
     ///
     /// ```
     /// let mut row = [0x48u8, 0x80];

@@ -175,8 +175,8 @@ pub trait BitsSpanExt: Bits + Sized {
     }
 
     /// Returns `true` if each bit of the range is set. If the range has an index past the capacity,
-    /// where no bit is set, it returns `false`. For an empty range it returns `true`. Words are
-    /// read up to the first unset bit.
+    /// where no bit is set, the call returns `false`. For an empty range it returns `true`. Words
+    /// are read up to the first unset bit.
     ///
     /// ```
     /// 0b1110_0000u8.all_in_span(5..);                     // true
@@ -208,9 +208,9 @@ pub trait BitsSpanExt: Bits + Sized {
             .is_none()
     }
 
-    /// Returns a double-ended iterator over the indexes of the set bits in the range, increasing,
-    /// in the bit order of the type, as
-    /// [`iter_ones_in_range`](crate::BitsRangeExt::iter_ones_in_range) does.
+    /// Returns a double-ended iterator over the indexes of the set bits in the range, in increasing
+    /// order, as [`iter_ones_in_range`](crate::BitsRangeExt::iter_ones_in_range) does. Indexes
+    /// follow the bit order of the type.
     ///
     /// ```
     /// 0b0110_0010u8.iter_ones_in_span(2..);               // yields 5, 6
@@ -257,8 +257,8 @@ pub trait BitsSpanExt: Bits + Sized {
         iter_within::<Self, Self::Order, Zeros>(self, start, end)
     }
 
-    /// Returns a view of the set bits of the range, as [`within`](crate::BitsViewExt::within) does:
-    /// a set of the same capacity, in the order of the type.
+    /// Returns a view of the set bits of the range, as [`within`](crate::BitsViewExt::within) does.
+    /// The view is a set with the capacity and the bit order of this set.
     ///
     /// ```
     /// 0b0110_0010u8.within_span(2..).count_ones();        // 2: bits 5 and 6

@@ -104,7 +104,8 @@ pub trait BitsSpanMutExt: BitsMut + Sized {
         self.toggle_range(from, to);
     }
 
-    /// Sets each bit of the range if `value` is `true`, else clears each, with one mask per word.
+    /// Sets each bit of the range if `value` is `true`, else clears each bit of it, with one mask
+    /// per word.
     ///
     /// ```
     /// let mut word = 0b1111_1111u8;

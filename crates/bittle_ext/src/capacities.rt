@@ -7,8 +7,9 @@ ghost use Rattle.bittle.specs.Values.{set_in, ShapeFits};
 
 use bittle::{Bits, Endian};
 
-/// Returns the capacity of a set. The contract adds two facts about the set in the order `E`: no
-/// bit is set from the capacity on, and as many bits are set as in big-endian order.
+/// Returns the capacity of a set. The contract adds two facts about the set that is read in the
+/// order `E`: no bit at or past the capacity is set, and the number of set bits is the same as in
+/// big-endian order.
 #[inline]
 pub(crate) fn capacity_of<B: Bits, E: Endian>(set: &B) -> u32
     requires { ShapeFits B.Shape set.now }

@@ -1,4 +1,5 @@
-//! Changes a set in place by another one, of any word width and order, a word at a time.
+//! Changes a set in place by another set, a word at a time. The other set may have words of any
+//! width and order.
 
 ghost use Rattle.std.specs.Prelude.{◌≡◌, ◌≤◌, true};
 ghost use Rattle.bittle_ext.specs.Between.{Combines};
@@ -9,7 +10,7 @@ use crate::other_words::{Part, Reach, Whole, other_word};
 use bittle::{Bits, BitsMut, Endian};
 use bittle_bits::extension::{Operation, Word, are_alike, word_width};
 
-/// The operation whose result has exactly the indexes of the second set.
+/// The operation whose result has exactly the set bits of the second set.
 pub enum Replacement {}
 
 impl Operation for Replacement {
@@ -21,9 +22,8 @@ impl Operation for Replacement {
     }
 }
 
-// Combines a set with another one by an operation, below the capacity of the first, and returns
-// whether the first set changed. `R` says whether the other set is known to have at least as many
-// words as the first.
+// Combines `set` with `other` by the operation `O`, below the capacity of `set`, and returns
+// whether `set` changed. `R` says whether `other` is known to have at least as many words as `set`.
 #[inline(always)]
 fn combine_words<A: BitsMut, B: Bits, E: Endian, F: Endian, O: Operation, R: Reach>(
     set: &mut A,
@@ -49,12 +49,12 @@ fn combine_words<A: BitsMut, B: Bits, E: Endian, F: Endian, O: Operation, R: Rea
     changed
 }
 
-/// Combines a set with another one by an operation, below the capacity of the first, and returns
-/// whether the first set changed.
+/// Combines `set` with `other` by the operation `O`, below the capacity of `set`, and returns
+/// whether `set` changed.
 ///
-/// If the words of both sets have the same width and order, and the other set is at least as long,
-/// the loop makes no test for the end of the other set. The compiler then combines several words at
-/// a time.
+/// If the words of both sets have the same width and order, and `other` is at least as long as
+/// `set`, the loop makes no test for the end of `other`. The compiler then combines several words
+/// at a time.
 #[inline]
 pub fn combine_with<A: BitsMut, B: Bits, E: Endian, F: Endian, O: Operation>(
     set: &mut A,

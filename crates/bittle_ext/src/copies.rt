@@ -21,8 +21,8 @@ pub fn width_of_words<B: Bits>() -> u32
     width_of::<B::LeafWord>()
 }
 
-/// Returns a word that begins with the bits at `count` indexes from `first` on, which lie in one
-/// word or in two. The other bits of the result may be set or unset.
+/// Returns a word whose first `count` bits are the bits of the set at `count` indexes from `first`
+/// on, which lie in one word or in two. The other bits of the result may be set or unset.
 #[inline]
 fn word_near<B: Bits, E: Endian>(set: &B, first: u32, count: u32) -> B::LeafWord
     requires fits { ShapeFits B.Shape set.now }
@@ -43,8 +43,8 @@ fn word_near<B: Bits, E: Endian>(set: &B, first: u32, count: u32) -> B::LeafWord
     window::<B::LeafWord, E>(word, set.nth_leaf_word(k + 1), from)
 }
 
-/// Returns the bits at `count` indexes from `first` on, which lie in one word or in two, as a
-/// number.
+/// Returns, as a number, the bits at `count` indexes from `first` on. They lie in one word or in
+/// two.
 #[inline]
 fn number_near<B: Bits, E: Endian>(set: &B, first: u32, count: u32) -> u128
     requires fits { ShapeFits B.Shape set.now }
@@ -107,7 +107,7 @@ fn put_number<A: BitsMut, E: Endian>(set: &mut A, first: u32, count: u32, number
     );
 }
 
-/// Returns `count` bits of a number from bit `first` on.
+/// Returns, as a number, the `count` bits of `value` from bit `first` on.
 #[inline]
 fn part_of(value: u64, first: u32, count: u32) -> u128
     requires some { 0 < count }
@@ -138,8 +138,8 @@ pub fn put_value<A: BitsMut, E: Endian>(set: &mut A, first: u32, count: u32, val
     }
 }
 
-/// Copies `count` bits of another set, from index `from` on, to the indexes from `at` on. From its
-/// own capacity on the other set has no bit set.
+/// Copies `count` bits of `other`, from index `from` on, to the indexes of `set` from `at` on. Bits
+/// of `other` at or past its capacity count as unset.
 #[inline]
 pub fn copy_range<A: BitsMut, B: Bits, E: Endian, F: Endian>(
     set: &mut A,
@@ -210,7 +210,7 @@ fn copy_up<A: BitsMut, E: Endian>(set: &mut A, at: u32, from: u32, count: u32)
 }
 
 /// Copies `count` bits, from index `from` on, to the indexes from `at` on, as if all were read
-/// before any is written. A bit that is read from the capacity on counts as unset.
+/// before any is written. A bit that is read at or past the capacity counts as unset.
 #[inline]
 pub fn copy_within<A: BitsMut, E: Endian>(set: &mut A, at: u32, from: u32, count: u32)
     requires fits { ShapeFits A.Shape set.old }

@@ -1,6 +1,6 @@
-//! Counts the indexes that are set in both of two sets, without making a set. If their words have
-//! the same width and order, the set bits of a view of these indexes are counted. Else each set bit
-//! of the first set is tested in the second.
+//! Counts the indexes whose bits are set in both of two sets, without making a third set. If the
+//! words of both sets have the same width and order, the set bits of a view of these indexes are
+//! counted. Else each set bit of the first set is tested in the second.
 
 ghost use Rattle.bittle_ext.specs.Combined.{CountsBoth};
 ghost use Rattle.bittle.specs.PlainSet.{size};
@@ -11,7 +11,7 @@ use crate::views::of_both::OfBoth;
 use bittle::{Bits, Endian};
 use bittle_bits::extension::{Conjunction, are_alike};
 
-/// Counts the indexes that are set in both sets.
+/// Counts the indexes whose bits are set in both sets.
 #[inline]
 pub fn count_common<A: Bits, B: Bits, E: Endian, F: Endian>(left: &A, right: &B) -> u32
     requires left_fits { ShapeFits A.Shape left.now }

@@ -20,8 +20,8 @@ fn swapped(bits: u128, by: u32, mask: u128) -> u128
     (bits & mask) << by | bits >> by & mask
 }
 
-/// Returns a number with its 128 bits reversed: single bits change places, then pairs, and so on up
-/// to the halves.
+/// Returns `bits` with its 128 bits in reverse order. First neighbouring bits change places, then
+/// neighbouring pairs of bits, and so on up to the two halves.
 #[inline]
 fn reversed(bits: u128) -> u128
     ensures { (i : ℕ) → i < 128 → bit_at result i ≡ bit_at bits (127 - i) }
@@ -46,8 +46,8 @@ pub fn width_of<W: Word>() -> u32
     W::width()
 }
 
-/// Returns the bits of a word in the order `E`, as a number of the width of a word: unchanged in
-/// big-endian order, and reversed in little-endian order.
+/// Returns the bits of a word in the order `E`, as a number of the width of a word. In big-endian
+/// order they are unchanged, and in little-endian order they are reversed.
 #[inline]
 fn ordered<W: Word, E: Endian>(bits: u128) -> u128
     requires { bits < 2 ^ W.width }
@@ -61,7 +61,8 @@ fn ordered<W: Word, E: Endian>(bits: u128) -> u128
     }
 }
 
-/// Returns the number in which the bit at index `i` of a word has the weight `2 ^ i`.
+/// Converts a word to a number. For each `i`, the number's bit of weight `2 ^ i` is the bit of the
+/// word at index `i`, in the order `E`.
 #[inline]
 pub fn number_of<W: Word, E: Endian>(word: W) -> u128
     ensures fits { result < 2 ^ W.width }
@@ -71,8 +72,8 @@ pub fn number_of<W: Word, E: Endian>(word: W) -> u128
     ordered::<W, E>(word.to_bits())
 }
 
-/// Reverses a word if the order `E` is little-endian, and returns it unchanged otherwise. So the
-/// bit at index `i` gets the weight `2 ^ i`.
+/// Returns a word reversed if the order `E` is little-endian, and unchanged if it is big-endian. So
+/// the bit at index `i` gets the weight `2 ^ i`.
 #[inline]
 pub fn turned<W: Word, E: Endian>(word: W) -> W
     ensures { bit_set W.width (W.pattern result)
@@ -81,7 +82,7 @@ pub fn turned<W: Word, E: Endian>(word: W) -> W
     W::from_bits(number_of::<W, E>(word))
 }
 
-/// Undoes `turned`: it reverses a word if the order `E` is little-endian. So the bit of weight
+/// Undoes `turned`: the word is reversed if the order `E` is little-endian. So the bit of weight
 /// `2 ^ i` gets the index `i`.
 #[inline]
 pub fn turned_back<W: Word, E: Endian>(word: W) -> W
@@ -91,7 +92,8 @@ pub fn turned_back<W: Word, E: Endian>(word: W) -> W
     word_of::<W, E>(word.to_bits())
 }
 
-/// Returns the word in which the bit of weight `2 ^ i` of a number has the index `i`.
+/// Converts a number to a word. For each `i`, the bit of the word at index `i`, in the order `E`,
+/// is the number's bit of weight `2 ^ i`.
 #[inline]
 fn word_of<W: Word, E: Endian>(number: u128) -> W
     requires { number < 2 ^ W.width }
@@ -112,7 +114,7 @@ pub fn low_bits(number: u128, count: u32) -> u128
 }
 
 /// Returns the lowest `count` bits of a number, where `count` is at most the width of a word. The
-/// remainder (`%`) changes no result; with it the compiler shifts words, and not 128 bits.
+/// remainder (`%`) changes no result. It lets the compiler shift a word instead of 128 bits.
 #[inline]
 pub fn low_bits_of<W: Word>(number: u128, count: u32) -> u128
     requires some { 0 < count }
@@ -123,8 +125,8 @@ pub fn low_bits_of<W: Word>(number: u128, count: u32) -> u128
     number & all_bits::<W>() >> ((width - count) % width)
 }
 
-/// Returns a word in which the `count` bits from the index `from` on are replaced by those of a
-/// number. If `count` is the width of the word, no mask is made.
+/// Returns `word` with its `count` bits from the index `from` on replaced by the lowest `count`
+/// bits of `number`, in the order `E`. If `count` is the width of the word, no mask is made.
 #[inline]
 pub fn with_number<W: Word, E: Endian>(word: W, from: u32, count: u32, number: u128) -> W
     requires some { 0 < count }

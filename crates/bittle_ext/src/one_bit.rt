@@ -38,8 +38,9 @@ fn combine_within<B: BitsMut, E: Endian, O: RangeOperation>(set: &mut B, index: 
     !word.and(mask).is_zero()
 }
 
-/// Changes the bit at an index, which wraps, by the operation `O`: `Union` sets it, `Difference`
-/// clears it, and `SymmetricDifference` flips it. Returns whether the bit was set before.
+/// Changes the bit at `index` by the operation `O`: `Union` sets it, `Difference` clears it, and
+/// `SymmetricDifference` flips it. An index past the capacity wraps. Returns whether the bit was
+/// set before.
 #[inline]
 pub fn combine_bit<B: BitsMut, E: Endian, O: RangeOperation>(set: &mut B, index: u32) -> bool
     requires fits { ShapeFits B.Shape set.old }

@@ -10,18 +10,19 @@ use crate::range_iterators::iter_within;
 use bittle::{Bits, Endian};
 use bittle_bits::extension::{Ones, Word, are_alike, set_bit};
 
-/// Says whether a set is known to have each word that is read from it. If it is, a loop over its
-/// words makes no test for the end of the set.
+/// A marker that says whether every word that is read from a set is known to exist. If so, a loop
+/// over the words makes no test for the end of the set.
 pub trait Reach {
     ghost ALL: { Bool };
 
     const ALL: bool;
 }
 
-/// Says that the set is known to have each word that is read.
+/// The marker for sets in which every word that is read is known to exist.
 pub enum Whole {}
 
-/// Says that the set may lack words that are read. A missing word is read as an empty one.
+/// The marker for sets in which words that are read may be missing. A missing word is read as an
+/// empty one.
 pub enum Part {}
 
 impl Reach for Whole {
@@ -53,8 +54,8 @@ pub fn word_or_empty<S: Bits, R: Reach>(set: &S, k: usize) -> S::LeafWord
     }
 }
 
-/// Gathers word `k` of a set that is read in the order `F`, as a word of the type `W` in the order
-/// `E`: one set bit after another. Here `k` counts words of the type `W`.
+/// Gathers word `k` of a set, one set bit after another. The set is read in the order `F`. The
+/// result is a word of the type `W` in the order `E`, and `k` counts words of the type `W`.
 fn gathered_word<W: Word, B: Bits, E: Endian, F: Endian>(set: &B, k: u32) -> W
     requires fits { ShapeFits B.Shape set.now }
     requires within { k * W.width < 4294967296 }
@@ -70,9 +71,9 @@ fn gathered_word<W: Word, B: Bits, E: Endian, F: Endian>(set: &B, k: u32) -> W
     word
 }
 
-/// Returns word `k` of a set that is read in the order `F`, as a word of the width of `A`'s words,
-/// in the order `E`. Here `k` counts words of that width. The bits of the word from the set's
-/// capacity on are unset.
+/// Returns word `k` of a set that is read in the order `F`. The result is a word of the type of
+/// `A`'s words, in the order `E`, and `k` counts words of that width. Bits of the result at or past
+/// the capacity of the set are unset.
 #[inline(always)]
 pub fn other_word<A: Bits, B: Bits, E: Endian, F: Endian, R: Reach>(
     set: &B,

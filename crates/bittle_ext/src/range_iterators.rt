@@ -10,14 +10,14 @@ use bittle::{Bits, Endian};
 use bittle_bits::extension::{Kind, Ones, OwnedSource, Zeros};
 use bittle_bits::walk::{IntoIter, IntoIterOnes};
 
-/// Yields the indexes of the set bits of a range.
+/// An iterator over the indexes of the set bits of a range.
 pub type IterOnesInRange<'a, B, E> = IntoIterOnes<KindWithin<'a, B, E, Ones>, E>;
 
-/// Yields the indexes of the unset bits of a range.
+/// An iterator over the indexes of the unset bits of a range.
 pub type IterZerosInRange<'a, B, E> = IntoIterOnes<KindWithin<'a, B, E, Zeros>, E>;
 
-/// Returns an iterator over the bits of the kind `K` (set or unset) in a range. It iterates over
-/// the set bits of a view of these bits.
+/// Returns an iterator over the indexes in `from..to` whose bits are of the kind `K` (set or
+/// unset). It iterates over the set bits of a view in which exactly these bits are set.
 #[inline]
 pub(crate) fn iter_within<'a, B: Bits, E: Endian, K: Kind>(
     bits: &'a B,

@@ -2,8 +2,8 @@
 
 ghost use Rattle.bittle_ext.specs.Ranks.{RanksUndoSelection};
 
-/// States that `select` of the rank of a set bit returns the index of that bit, and that the rank
-/// of the index which `select(r)` returns is `r`.
+/// States that `rank` and `select` undo each other. If the bit at index `i` is set,
+/// `select(rank(i))` returns `Some(i)`. If `select(r)` returns `Some(i)`, `rank(i)` returns `r`.
 pub fn rank_and_select_undo_one_another()
     ensures { RanksUndoSelection }
 {}

@@ -12,8 +12,9 @@ use bittle_bits::extension::{
     Conjunction, Difference, Front, Kind, are_alike, end_in, first_decided_below,
 };
 
-/// Returns the least index below both capacities that is set in the first set, and whose bit in the
-/// second is of the kind `K` (set or unset), or `None`.
+/// Returns the least index below both capacities whose bit is set in `left`, and whose bit in
+/// `right` is of the kind `K` (set or unset). Returns `None` if there is none. `end` is the lesser
+/// capacity.
 #[inline]
 pub fn first_below<A: Bits, B: Bits, E: Endian, F: Endian, K: Kind>(
     left: &A,

@@ -13,7 +13,8 @@ use bittle_bits::extension::{
     Front, Ones, Operation, ReadWords, SymmetricDifference, Union, Word, pop, word_width,
 };
 
-/// Replaces word `k` of a set, which is `word`, by `by`. If both are the same, writes nothing.
+/// Replaces word `k` of a set by `by`. The old word is `word`. If both words are the same, nothing
+/// is written.
 #[inline]
 fn change_word<B: BitsMut>(bits: &mut B, k: usize, word: B::LeafWord, by: B::LeafWord)
     requires fits { ShapeFits B.Shape bits.old }
@@ -29,14 +30,15 @@ fn change_word<B: BitsMut>(bits: &mut B, k: usize, word: B::LeafWord, by: B::Lea
     }
 }
 
-/// Calls `keep` once for each set bit, from the least index on, and clears each bit for which it
-/// returns `false`. Each word is read once, and is written once if one of its bits is cleared.
-/// Words that the set knows to have no set bit are skipped.
+/// Calls `keep` once with the index of each set bit, from the least index to the greatest, and
+/// clears each bit for which `keep` returns `false`. Words that the set knows to have no set bit,
+/// without reading them, are skipped. Each other word is read once, and is written once if one of
+/// its bits is cleared.
 ///
 /// A little-endian word is reversed before its bits are taken out, and the bits that stay are
 /// reversed back. So in both orders the next bit is the one of least weight, and one subtraction
-/// takes it out. That bit is the difference of the word before and after, so no mask is made from
-/// its index.
+/// takes it out. The difference between the word before and after is that bit, so no mask is made
+/// from its index.
 #[inline]
 pub fn retain<B: BitsMut, E: Endian, F: FnMut(u32) -> bool>(bits: &mut B, mut keep: F)
     requires fits { ShapeFits B.Shape bits.old }

@@ -20,12 +20,12 @@ pub fn all_bits<W: Word>() -> u128
     W::zero().not().to_bits()
 }
 
-/// Returns a word of bits of two neighbouring words: the bits of the lower word from the weight
-/// `2 ^ by` on and, above them, the `by` lowest bits of the higher word.
+/// Returns a word that is cut from two neighbouring words. Its lowest bits are the bits of `low`
+/// from the weight `2 ^ by` on. Above them are the `by` lowest bits of `high`.
 ///
-/// The higher word is shifted by 1 and then by the rest, so `by` 0 needs no branch. The remainder
-/// (`%`) changes no result; with it the compiler knows that `by` is below the width, and shifts
-/// words, not 128 bits.
+/// `high` is shifted by 1 and then by the rest, so `by` 0 needs no branch. The remainder (`%`)
+/// changes no result. It tells the compiler that `by` is below the width, so that words are shifted
+/// instead of 128 bits.
 #[inline]
 fn funnel_down<W: Word>(low: W, high: W, by: u32) -> W
     requires { by < W.width }
@@ -39,8 +39,8 @@ fn funnel_down<W: Word>(low: W, high: W, by: u32) -> W
     W::from_bits(upper | low.to_bits() >> by)
 }
 
-/// Returns a word of bits of two neighbouring words. Its lowest bits are the `by` bits of greatest
-/// weight of the lower word. Above them are the `width - by` lowest bits of the higher word.
+/// Returns a word that is cut from two neighbouring words. Its lowest bits are the `by` bits of
+/// greatest weight of `low`. Above them are the `width - by` lowest bits of `high`.
 #[inline]
 fn funnel_up<W: Word>(low: W, high: W, by: u32) -> W
     requires { by < W.width }
@@ -54,8 +54,8 @@ fn funnel_up<W: Word>(low: W, high: W, by: u32) -> W
     W::from_bits(high.to_bits() << by & ones | lower)
 }
 
-/// Returns a word of bits of two neighbouring words: the bits of the first one from the index
-/// `from` on, and after them the first `from` bits of the second one.
+/// Returns a word that is cut from two neighbouring words, which are read in the order `E`. It has
+/// the bits of `first` from the index `from` on, and after them the first `from` bits of `second`.
 #[inline]
 pub fn window<W: Word, E: Endian>(first: W, second: W, from: u32) -> W
     requires { from < W.width }
@@ -71,8 +71,8 @@ pub fn window<W: Word, E: Endian>(first: W, second: W, from: u32) -> W
     }
 }
 
-/// Returns a word of bits of two neighbouring words: the last `to` bits of the first one, and after
-/// them the bits of the second one below the index `width - to`.
+/// Returns a word that is cut from two neighbouring words, which are read in the order `E`. It has
+/// the last `to` bits of `first`, and after them the bits of `second` below the index `width - to`.
 #[inline]
 pub fn window_up_to<W: Word, E: Endian>(first: W, second: W, to: u32) -> W
     requires { to < W.width }
@@ -89,7 +89,7 @@ pub fn window_up_to<W: Word, E: Endian>(first: W, second: W, to: u32) -> W
 }
 
 /// Returns how many words a set has, how many whole words a move by `by` bits skips, and how many
-/// bits are left of `by`.
+/// bits of `by` remain after these words.
 #[inline]
 pub fn distance<B: Bits>(set: &B, by: u32) -> (usize, usize, u32)
     requires fits { ShapeFits B.Shape set.now }
@@ -101,8 +101,8 @@ pub fn distance<B: Bits>(set: &B, by: u32) -> (usize, usize, u32)
     (words, (by / width) as usize, by % width)
 }
 
-/// Returns a word of bits of a set: the bits of word `at` from the index `from` on, and after them
-/// the first `from` bits of word `next`.
+/// Returns a word that is cut from two words of a set, which is read in the order `E`. It has the
+/// bits of word `at` from the index `from` on, and after them the first `from` bits of word `next`.
 #[inline]
 fn word_from<B: Bits, E: Endian>(set: &B, at: usize, next: usize, from: u32) -> B::LeafWord
     requires fits { ShapeFits B.Shape set.now }
@@ -117,8 +117,8 @@ fn word_from<B: Bits, E: Endian>(set: &B, at: usize, next: usize, from: u32) -> 
 /// Returns the set with each set bit moved down by `by`. A bit that passes index 0 goes on at the
 /// last index.
 ///
-/// One loop reads the words of `set` up to the last one, and another those from the first one on.
-/// So neither loop tests whether an index wraps.
+/// One loop reads the words of `set` up to the last one, and a second loop reads those from the
+/// first one on. So neither loop tests whether an index wraps.
 #[inline]
 pub fn rotate_down<B: BitsOwned, E: Endian>(set: &B, by: u32) -> B
     requires { IsTrue B.indexable }

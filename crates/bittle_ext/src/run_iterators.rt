@@ -18,16 +18,17 @@ use std::alloc::AllocError;
 use std::marker::{Model, PhantomData};
 use std::ops::Range;
 
-/// Yields the maximal runs of set bits.
+/// An iterator over the maximal runs of set bits.
 pub type IterOneRuns<'a, B, E> = IterRuns<'a, B, E, Ones>;
 
-/// Yields the maximal runs of unset bits.
+/// An iterator over the maximal runs of unset bits.
 pub type IterZeroRuns<'a, B, E> = IterRuns<'a, B, E, Zeros>;
 
-/// Iterates over the maximal runs of bits of the kind `K` (set or unset) in a borrowed set,
-/// increasing, in the order `E`, from both ends. Each step makes at most two searches by whole
-/// words: for a run, and for its other end. From the front, the second search begins past the word
-/// in which the run starts. Once no run remains, steps from both ends return `None`.
+/// An iterator over the maximal runs of bits of the kind `K` (set or unset) in a borrowed set,
+/// which is read in the order `E`. The runs are increasing, and steps are possible from both ends.
+/// Each step makes at most two searches by whole words: one for the next run, and one for the other
+/// end of that run. From the front, the second search begins past the word in which the run starts.
+/// Once no run remains, steps from both ends return `None`.
 #[derive(Drop)]
 pub struct IterRuns<'a, B: Shape, E: Endian, K: Kind> {
     bits: &'a B,
@@ -114,8 +115,9 @@ impl<'a, B: Bits, E: Endian, K: Kind> Clone for IterRuns<'a, B, E, K> {
     }
 }
 
-/// Returns the first index after `start`, in the word of `start`, whose bit is not of the kind `K`,
-/// and `true`. If there is none, it returns the end of the word, and `false`.
+/// Searches the word of `start` for the first index after `start` whose bit is not of the kind `K`.
+/// Returns this index and `true`. If there is none, returns the index after the last one of the
+/// word, and `false`.
 #[inline]
 fn end_in_word<B: Bits, E: Endian, K: Kind>(bits: &B, start: u32) -> (u32, bool)
     requires fits { ShapeFits B.Shape bits.now }
@@ -137,8 +139,9 @@ fn end_in_word<B: Bits, E: Endian, K: Kind>(bits: &B, start: u32) -> (u32, bool)
     (end, lead != width)
 }
 
-/// Returns where the run that begins at `start` ends, in `start..to`. A search begins only after
-/// the word of `start`, and only if the run reaches the end of that word.
+/// Returns the end of the run that begins at `start`: the index after the last one of the run. The
+/// run is cut off at `to`. A search begins only after the word of `start`, and only if the run
+/// reaches the end of that word.
 #[inline]
 fn end_of_run<B: Bits, E: Endian, K: Kind>(bits: &B, start: u32, to: u32) -> u32
     requires fits { ShapeFits B.Shape bits.now }
@@ -160,7 +163,8 @@ fn end_of_run<B: Bits, E: Endian, K: Kind>(bits: &B, start: u32, to: u32) -> u32
     }
 }
 
-/// Returns where the run that ends with `last` begins, in `from..=last`.
+/// Returns the first index of the run that ends with `last`. The run is cut off at `from`: its
+/// indexes below `from` do not count.
 #[inline]
 fn start_of_run<B: Bits, E: Endian, K: Kind>(bits: &B, from: u32, last: u32) -> u32
     requires fits { ShapeFits B.Shape bits.now }
@@ -175,8 +179,8 @@ fn start_of_run<B: Bits, E: Endian, K: Kind>(bits: &B, from: u32, last: u32) -> 
     }
 }
 
-/// Takes out the first of the remaining runs if the end `N` is the front, else the last one, and
-/// returns it.
+/// Removes the first of the remaining runs if the end `N` is the front, else the last one, and
+/// returns it. Returns `None` if no run remains.
 #[inline]
 fn step<B: Bits, E: Endian, K: Kind, N: End>(
     bits: &B,

@@ -11,7 +11,7 @@ use bittle::{Bits, Endian};
 use bittle_bits::extension::{Back, Front, Kind, Sealed, end_in, word_width};
 use std::marker::PhantomData;
 
-/// Names the kind of bits that `K` is not: the unset bits if `K` is `Ones`.
+/// The kind of bits that is not `K`: unset bits if `K` is `Ones`, else set bits.
 #[derive(Drop)]
 pub(crate) struct Others<K: Kind> {
     kind: PhantomData<K>,
@@ -25,12 +25,13 @@ impl<K: Kind> Kind for Others<K> {
     fn seal(_: Sealed) {}
 }
 
-/// A run of at most this many words is searched for word by word. The search for a longer run makes
-/// two searches at each run that is too short. Two searches cost more than reading this many words.
+/// The greatest length, in words, of a run that is searched for word by word. The search for a
+/// longer run makes two searches at each run that is too short. Two searches cost more than reading
+/// this many words.
 const FEW_WORDS: u32 = 4;
 
-/// Returns the least index from `from` on where a run of `length` bits of the kind begins, or
-/// `None`.
+/// Returns the least index at or above `from` where a run of `length` bits of the kind `K` begins,
+/// or `None` if there is no such run.
 #[inline]
 pub fn next_run<B: Bits, E: Endian, K: Kind>(bits: &B, from: u32, length: u32) -> Option<u32>
     requires { ShapeFits B.Shape bits.now }
@@ -40,8 +41,9 @@ pub fn next_run<B: Bits, E: Endian, K: Kind>(bits: &B, from: u32, length: u32) -
     next_run_before::<B, E, K>(bits, from, bits.bits_capacity(), length)
 }
 
-/// Returns the least index where a run of `length` bits of the kind within `from..to` begins, or
-/// `None`. An empty run begins at each index up to the capacity.
+/// Returns the least index at which a run of `length` bits of the kind `K` begins. The whole run
+/// has to lie within `from..to`. It returns `None` if there is no such run. If `length` is 0, `to`
+/// is ignored: an empty run begins at each index up to and including the capacity.
 #[inline]
 pub fn run_in_range<B: Bits, E: Endian, K: Kind>(
     bits: &B,
@@ -63,12 +65,13 @@ pub fn run_in_range<B: Bits, E: Endian, K: Kind>(
     next_run_before::<B, E, K>(bits, from, end, length)
 }
 
-/// Returns the least index from `from` on where a run of `length` bits of the kind begins, or
-/// `None`. The run must end at or before `end`. No word that begins at or past `end` is read.
+/// Returns the least index at or above `from` where a run of `length` bits of the kind `K` begins,
+/// or `None` if there is no such run. The run must end at or before `end`. No word that begins at
+/// or past `end` is read.
 ///
-/// A run of a few words is found word by word. For a longer run, one search finds where bits of the
-/// kind begin. A second one finds the last bit of the other kind among the `length` bits from there
-/// on. If there is such a bit, both searches go on after it.
+/// A run of at most `FEW_WORDS` words is found word by word. For a longer run, a first search finds
+/// the next bit of the kind `K`. A second search finds the last bit of the other kind among the
+/// `length` bits from there on. If it finds one, the first search goes on after that bit.
 fn next_run_before<B: Bits, E: Endian, K: Kind>(
     bits: &B,
     from: u32,

@@ -1,5 +1,5 @@
-//! Finds the set bit of a given rank, which is the number of set bits below it. Counts of whole
-//! words find its word, and halving finds its place in the word.
+//! Finds a set bit by its rank, which is the number of set bits below it. Counts of whole words
+//! find the word of the bit, and halving finds its place in that word.
 
 ghost use Rattle.std.specs.Prelude.{◌≡◌, ◌+◌, ◌*◌, ◌/◌, ◌^◌, ◌<◌, true, MatchOption};
 ghost use Rattle.bittle_ext.specs.Ranks.{HasNoRank, IsInWord};
@@ -21,8 +21,8 @@ fn count_word<B: Bits, E: Endian>(bits: &B, k: u32) -> u32
     bits.nth_leaf_word(k as usize).count_ones()
 }
 
-/// Returns the number of the word that has the set bit of a rank, and how many bits of that word
-/// are set below that bit. It returns `None` if no set bit has this rank.
+/// Finds the set bit with the rank `rank`. Returns the number of its word, and how many bits of
+/// that word are set below this bit. Returns `None` if no set bit has this rank.
 #[inline]
 pub fn word_of_rank<B: Bits, E: Endian>(bits: &B, rank: u32) -> Option<(u32, u32)>
     requires { ShapeFits B.Shape bits.now }
@@ -41,8 +41,8 @@ pub fn word_of_rank<B: Bits, E: Endian>(bits: &B, rank: u32) -> Option<(u32, u32
     None
 }
 
-/// Returns a word with its bits moved down. The remainder (`%`) changes no result; with it the
-/// compiler shifts a word, and not 128 bits.
+/// Returns a word with its bits moved down by `by`. The remainder (`%`) changes no result. It lets
+/// the compiler shift a word instead of 128 bits.
 #[inline]
 fn shifted<W: Word>(word: W, by: u32) -> W
     requires { by < W.width }
@@ -51,10 +51,11 @@ fn shifted<W: Word>(word: W, by: u32) -> W
     W::from_bits(word.to_bits() >> (by % width_of::<W>()))
 }
 
-/// Returns the place in word `k` of the set bit below which `rest` bits of the word are set.
+/// Returns the index, within word `k`, of the set bit that has exactly `rest` set bits of that word
+/// below it.
 ///
 /// The word is shifted down past each half that does not have the bit. So every half begins at
-/// place 0, and its mask is a constant.
+/// index 0, and its mask is a constant.
 #[inline]
 pub fn place_of_rank<B: Bits, E: Endian>(bits: &B, k: u32, rest: u32) -> u32
     requires fits { ShapeFits B.Shape bits.now }

@@ -8,7 +8,8 @@ use crate::rotations::window;
 use bittle::{Bits, Endian};
 use bittle_bits::extension::{Front, Kind, Word, word_of_kind, word_width};
 
-/// Returns the least index of a word where a run of `length` set bits begins, or `None`.
+/// Returns the least index of a word where a run of `length` set bits begins, or `None` if there is
+/// no such run.
 ///
 /// If runs of `known` set bits begin at `i` and at `i + more`, where `more <= known`, a run of
 /// `known + more` begins at `i`. So `known` doubles with each step, except the last one.
@@ -34,11 +35,12 @@ fn first_in_word<W: Word, E: Endian>(word: W, length: u32) -> Option<u32>
     Some(index)
 }
 
-/// Returns the least index from `from` on where a run of `length` bits of the kind `K` (set or
-/// unset) begins, or `None`. The run must lie in the first `words` words.
+/// Returns the least index at or above `from` where a run of `length` bits of the kind `K` (set or
+/// unset) begins, or `None` if there is no such run. The run must lie in the first `words` words.
 ///
-/// The loop remembers only `start` of the words that it has read. All bits from the index `start`
-/// up to the current word are of the kind. No run that can still be found begins before `start`.
+/// Of the words that it has read, the loop remembers only the index `start`. All bits from `start`
+/// up to the current word are of the kind `K`. No run that can still be found begins before
+/// `start`.
 #[inline]
 pub fn next_short_run<B: Bits, E: Endian, K: Kind>(
     bits: &B,

@@ -1,6 +1,6 @@
-//! Rotates all bits of a set in place. If a move down or up takes at most 128 bits past an end, a
-//! number keeps these bits while the others move. Else whole words are rotated first, by three
-//! reversals.
+//! Rotates all bits of a set in place. If a move down or up takes at most 128 bits past an end,
+//! these bits are saved in a `u128` while the other bits move. Else whole words are rotated first,
+//! by three reversals.
 
 ghost use Rattle.std.specs.Prelude.{◌≡◌, ◌+◌, ◌*◌, ◌<◌, ◌≤◌};
 ghost use Rattle.bittle_ext.specs.Rotations.{exchanged, HasWordsOf, mirrored_within};
@@ -29,7 +29,7 @@ fn swap_words<B: BitsMut, E: Endian>(set: &mut B, i: usize, j: usize)
     set.set_nth_leaf_word(j, first);
 }
 
-/// Reverses the words `from..to`.
+/// Reverses the order of the words `from..to`. The bits in each word keep their places.
 #[inline(always)]
 fn reverse_words<B: BitsMut, E: Endian>(set: &mut B, from: usize, to: usize)
     requires fits { ShapeFits B.Shape set.old }
@@ -44,8 +44,8 @@ fn reverse_words<B: BitsMut, E: Endian>(set: &mut B, from: usize, to: usize)
     }
 }
 
-/// Moves each of the `words` words down by `by` words. A word that passes the first place goes on
-/// at the last.
+/// Moves each of the `words` words of a set down by `by` words. A word that would pass the first
+/// place goes on at the last place.
 #[inline(always)]
 fn turn_words<B: BitsMut, E: Endian>(set: &mut B, by: usize, words: usize)
     requires fits { ShapeFits B.Shape set.old }
@@ -78,7 +78,8 @@ fn turn_word<B: BitsMut, E: Endian>(set: &mut B, by: u32)
     set.set_nth_leaf_word(0, window::<B::LeafWord, E>(word, word, by));
 }
 
-/// Moves each bit down by `by`, at most 128. A bit that passes index 0 goes on at the last index.
+/// Moves each bit down by `by`, which is at most 128. A bit that passes index 0 goes on at the last
+/// index.
 #[inline(always)]
 fn turn_bits<B: BitsMut, E: Endian>(set: &mut B, by: u32)
     requires fits { ShapeFits B.Shape set.old }
@@ -97,8 +98,8 @@ fn turn_bits<B: BitsMut, E: Endian>(set: &mut B, by: u32)
     copy_range::<B, u128, E, BigEndian>(set, end - by, &first, 0, by);
 }
 
-/// Rotates the bits down by `by`, by moving each up by `capacity - by`, which is at most 128. A bit
-/// that passes the last index goes on at 0.
+/// Rotates the bits down by `by`. For this each bit moves up by `capacity - by`, which is at most
+/// 128. A bit that passes the last index goes on at 0.
 #[inline(always)]
 fn turn_bits_up<B: BitsMut, E: Endian>(set: &mut B, by: u32)
     requires fits { ShapeFits B.Shape set.old }

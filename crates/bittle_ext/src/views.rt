@@ -39,14 +39,15 @@ pub mod of_both;
 pub mod within;
 
 /// Views of any set. A view borrows the set and is a set itself, so each call that reads a set can
-/// be made on it. Each view, except one in a named order, requires that each set's shape fits
-/// (`bits_capacity() < u32::MAX`), and reads each set in the order of its type.
+/// be made on it. The view of `in_order` can be made of any set. Each other view requires that the
+/// shapes of its sets fit (`bits_capacity() < u32::MAX`), and reads each set in the order of its
+/// type.
 pub trait BitsViewExt: Bits {
-    /// Borrows the set, to be read in the order `E`.
+    /// Returns a view that borrows the set, and reads it in the order `E`.
     ///
-    /// Always callable. The view has the capacity of the set, and a call on the view costs what it
-    /// costs on the set. An iterator borrows the view: to keep the iterator in a variable, keep the
-    /// view in one too.
+    /// The call can be made on any set. The view has the capacity of the set, and a call on the
+    /// view costs what it costs on the set. An iterator borrows the view: to keep the iterator in a
+    /// variable, keep the view in one too.
     ///
     /// ```
     /// 0b0001_0010u8.in_order::<LittleEndian>().next_one(4); // Some(6)
@@ -60,13 +61,13 @@ pub trait BitsViewExt: Bits {
         InOrder::of(self)
     }
 
-    /// Returns a view of the indexes that are set in both sets. The view is a set with the capacity
-    /// of the first set, in the order of the first set's type.
+    /// Returns a view of the indexes whose bits are set in both sets. The view is a set with the
+    /// capacity and the bit order of this set.
     ///
     /// The sets may be of different types, and both have to fit (`bits_capacity() < u32::MAX`).
     /// Each word is computed when it is read. If the words of the two sets differ in width or
-    /// order, the second set's set bits in that word are searched for one by one. Past its capacity
-    /// the second set has no bit set. With capacity 0 nothing is set.
+    /// order, the set bits of `other` in that word are searched for one by one. Bits of `other` at
+    /// or past its capacity count as unset. With capacity 0 the view is the empty set.
     ///
     /// ```
     /// 0b0011u8.and(&0b0110u8).count_ones();               // 1
@@ -97,8 +98,8 @@ pub trait BitsViewExt: Bits {
         OfBoth::of_first(self, other)
     }
 
-    /// Returns a view of the indexes that are set in the first set and not in the second. All else
-    /// is as with [`and`](BitsViewExt::and).
+    /// Returns a view of the indexes whose bits are set in this set and not in `other`. All else is
+    /// as with [`and`](BitsViewExt::and).
     ///
     /// ```
     /// 0b0011u8.minus(&0b0110u8).iter_ones();              // yields 0
@@ -131,9 +132,9 @@ pub trait BitsViewExt: Bits {
         OfBoth::of_first(self, other)
     }
 
-    /// Returns a view of the indexes that are set in either of two sets whose words have the same
-    /// type. The view is a set with the greater of the two capacities, in the order of the first
-    /// set's type.
+    /// Returns a view of the indexes whose bits are set in at least one of two sets. The words of
+    /// both sets have the same type. The view is a set with the greater of the two capacities, and
+    /// with the bit order of this set.
     ///
     /// Both sets have to fit (`bits_capacity() < u32::MAX`). Each word is computed when it is read.
     /// If the word types differ, call [`or_unlike`](BitsViewExt::or_unlike). If both capacities are
@@ -170,8 +171,8 @@ pub trait BitsViewExt: Bits {
         OfBoth::of_alike(self, other)
     }
 
-    /// Returns a view of the indexes that are set in just one of two sets whose words have the same
-    /// type. All else is as with [`or`](BitsViewExt::or).
+    /// Returns a view of the indexes whose bits are set in exactly one of two sets. The words of
+    /// both sets have the same type. All else is as with [`or`](BitsViewExt::or).
     ///
     /// ```
     /// 0b0011u8.xor(&[0b0110u8, 1]).iter_ones();           // yields 0, 2, 8
@@ -205,16 +206,15 @@ pub trait BitsViewExt: Bits {
         OfBoth::of_alike(self, other)
     }
 
-    /// Returns a view of the indexes that are set in either of two sets, whose words may differ in
-    /// type. The view is a set of words of the first set's type, in the order of the first set's
-    /// type.
+    /// Returns a view of the indexes whose bits are set in at least one of two sets. The words of
+    /// the two sets may differ in type. The view is a set with the word type and the bit order of
+    /// this set.
     ///
     /// Both sets have to fit (`bits_capacity() < u32::MAX`). The view's capacity is the greater of
-    /// the two, rounded up to whole words of the first set. The rounded capacity has to be below
-    /// `u32::MAX` too. The rounding adds bits only if the words of the first set are wider. Each
-    /// word is computed when it is read. If the words differ in width or order, the second set's
-    /// set bits in that word are searched for one by one. If both capacities are 0, the view is the
-    /// empty set.
+    /// the two, rounded up to whole words of this set. The rounded capacity has to be below
+    /// `u32::MAX` too. The rounding adds bits only if the words of this set are wider. Each word is
+    /// computed when it is read. If the words differ in width or order, the set bits of `other` in
+    /// that word are searched for one by one. If both capacities are 0, the view is the empty set.
     ///
     /// ```
     /// 0x8000_0000u32.or_unlike(&[0u8, 0, 0, 0, 1]).iter_ones(); // yields 31, 32
@@ -251,8 +251,8 @@ pub trait BitsViewExt: Bits {
         OfBoth::of_unlike(self, other)
     }
 
-    /// Returns a view of the indexes that are set in just one of two sets, whose words may differ
-    /// in type. All else is as with [`or_unlike`](BitsViewExt::or_unlike).
+    /// Returns a view of the indexes whose bits are set in exactly one of two sets. The words of
+    /// the two sets may differ in type. All else is as with [`or_unlike`](BitsViewExt::or_unlike).
     ///
     /// ```
     /// 0x8000_0000u32.xor_unlike(&[0u8, 0, 0, 0x80, 1]).iter_ones(); // yields 24, 31, 32
@@ -290,8 +290,8 @@ pub trait BitsViewExt: Bits {
         OfBoth::of_unlike(self, other)
     }
 
-    /// Returns a view of the unset bits below the capacity. The view is a set of the same capacity,
-    /// in the order of the type.
+    /// Returns a view in which each bit is set exactly if it is unset in this set. The view is a
+    /// set with the capacity and the bit order of this set.
     ///
     /// The shape has to fit (`bits_capacity() < u32::MAX`). Each word is flipped when it is read.
     /// With capacity 0 the view is the empty set.
@@ -314,8 +314,8 @@ pub trait BitsViewExt: Bits {
         Complement::of(self)
     }
 
-    /// Returns a view of the set bits of `from..to`. The view is a set of the same capacity, in the
-    /// order of the type, in which every other bit is unset.
+    /// Returns a view of the set bits of `from..to`. The view is a set with the capacity and the
+    /// bit order of this set. Every bit outside the range is unset in the view.
     ///
     /// The shape has to fit (`bits_capacity() < u32::MAX`). Past the capacity no bit is set, and a
     /// range that runs backwards is empty. A count, or a test whether any bit is set, reads only
@@ -345,10 +345,10 @@ impl<A: Bits> BitsViewExt for A {}
 
 /// A view that an iterator may own.
 pub trait View: Bits + Copy {
-    /// Returns a double-ended iterator over the indexes of the set bits, increasing, in the order
-    /// of the type. The iterator owns the view and borrows what the view borrows, so a function
-    /// that makes a view may return the iterator. The view has to fit, as each `View` that this
-    /// crate makes does. With capacity 0 it yields nothing.
+    /// Returns a double-ended iterator over the indexes of the set bits, in increasing order.
+    /// Indexes follow the bit order of the type. The iterator owns the view and borrows what the
+    /// view borrows, so a function that makes a view may return the iterator. The view has to fit,
+    /// as each `View` that this crate makes does. With capacity 0 the iterator yields nothing.
     ///
     /// ```
     /// 0b0011u8.and(&0b0110u8).into_ones();                // yields 1
@@ -393,7 +393,7 @@ impl<'a, B: Bits> View for Complement<'a, B> {}
 
 impl<'a, B: Bits, E: Endian> View for Within<'a, B, E> {}
 
-/// States that the order of a view is the one that it names.
+/// States that a view of `in_order` or `in_order_mut` has the order that it names.
 #[doc(hidden)]
 pub fn order_is_the_named_one<'a, B: BitsMut + 'a, E: Endian>()
     ensures read { ⟦<<InOrder<'a, B, E> as Bits>::Order as Endian>⟧.mirrored ≡ E.mirrored }

@@ -24,7 +24,7 @@ pub fn clear<B: BitsMut, E: Endian>(set: &mut B, from: u32, to: u32)
     set.in_order_mut::<E>().assign_range(from, to, false);
 }
 
-/// Flips each bit, and returns how many are set then.
+/// Flips each bit, and returns how many bits are set after that.
 pub fn flip<B: BitsMut>(set: &mut B) -> u32
     requires { ShapeFits B.Shape set.old }
     ensures { (mirrored : Bool) → set_mirrored B.Shape mirrored set.new
@@ -78,7 +78,8 @@ pub fn others<B: BitsOwned>(set: B) -> B
     set.complement()
 }
 
-/// Sets each bit that is set in another set of any shape.
+/// Sets in `set` each bit that is set in `other`. The two sets may have different shapes. An index
+/// past the capacity of `set` wraps.
 pub fn unite<A: BitsMut, B: Bits>(set: &mut A, other: &B)
     requires indexable { IsTrue A.indexable }
     requires other_fits { ShapeFits B.Shape other.now }
@@ -89,8 +90,8 @@ pub fn unite<A: BitsMut, B: Bits>(set: &mut A, other: &B)
     set.extend(other.iter_ones());
 }
 
-/// Clears the least set bit, and returns its index, or `None` if no bit is set. The bound of the
-/// type is the extension trait.
+/// Clears the least set bit, and returns its index, or `None` if no bit is set. The only bound of
+/// the type is the extension trait `BitsMutExt`.
 pub fn take_least_of<B: BitsMutExt>(set: &mut B) -> Option<u32>
     requires { ShapeFits B.Shape set.old }
     ensures least { let before = set_in B.Shape B.Order.Endian set.old in
@@ -100,8 +101,8 @@ pub fn take_least_of<B: BitsMutExt>(set: &mut B) -> Option<u32>
     set.pop_first()
 }
 
-/// Clears the bit at an index of `one`, and returns the value that it had. The bit of `other` at
-/// the index gets that value.
+/// Clears bit `index` of `one`, and returns whether the bit was set. Gives bit `index` of `other`
+/// the value that is returned.
 pub fn hand_over<B: BitsMutExt>(one: &mut B, other: &mut B, index: u32) -> bool
     requires { IsTrue B.indexable }
     ensures was { result ≡ contains (set_in B.Shape B.Order.Endian one.old) index }

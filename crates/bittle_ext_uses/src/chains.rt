@@ -19,7 +19,7 @@ ghost use Rattle.bittle_ext.specs.Runs.{IsFirstRun};
 use bittle::{Bits, BitsMut};
 use bittle_ext::{BitsExt, BitsMutExt, BitsRangeExt};
 
-/// Returns the entry of a table at the last set bit below an index, or 0.
+/// Returns the entry of a table at the last set bit below index `to`, or 0 if there is none.
 pub fn entry_before(mask: u64, to: u32, table: &[u32; 64]) -> u32
     ensures { (found : Option ℕ) × IsLastIn (bit_set 64 mask) 0 to found
         × (result ≡ unwrap_or (option_map (λ i. slice_index table.now i) found) 0) }
@@ -30,7 +30,7 @@ pub fn entry_before(mask: u64, to: u32, table: &[u32; 64]) -> u32
     }
 }
 
-/// Returns the entry of a table at the last unset bit below an index, or 0.
+/// Returns the entry of a table at the last unset bit below index `to`, or 0 if there is none.
 pub fn entry_before_free(mask: u64, to: u32, table: &[u32; 64]) -> u32
     ensures { (found : Option ℕ) × IsLastIn (complement (bit_set 64 mask)) 0 to found
         × (result ≡ unwrap_or (option_map (λ i. slice_index table.now i) found) 0) }
@@ -41,7 +41,8 @@ pub fn entry_before_free(mask: u64, to: u32, table: &[u32; 64]) -> u32
     }
 }
 
-/// Returns the entry of a table at the set bit of a rank, or 0. Rank 0 is the first set bit.
+/// Returns the entry of a table at the set bit with rank `rank`, or 0 if there is none. The first
+/// set bit has rank 0.
 pub fn entry_of_rank(mask: &[u32; 4], rank: u32, table: &[u8; 128]) -> u8
     ensures { let found = slice_get (ascending (row_set 4 32 (bit_set 32) mask.now)) rank in
         result ≡ unwrap_or (option_map (λ i. slice_index table.now i) found) 0 }
@@ -120,7 +121,7 @@ pub fn take_run<B: BitsMut>(set: &mut B, length: u32)
     }
 }
 
-/// Adds up the indexes of the unset bits that follow the last set bit below an index.
+/// Finds the last set bit below index `to`, and adds up the indexes of all unset bits after it.
 pub fn sum_of_gap(mask: u32, to: u32) -> u32 {
     let mut sum = 0u32;
     if let Some(last) = mask.prev_one(to) {
@@ -131,7 +132,7 @@ pub fn sum_of_gap(mask: u32, to: u32) -> u32 {
     sum
 }
 
-/// Clears the last set bit, and returns the entry of a table at it, or 0.
+/// Clears the last set bit, and returns the entry of a table at its index, or 0 if no bit is set.
 pub fn pop_entry(mask: &mut u16, table: &[u32; 16]) -> u32
     ensures { (last : Option ℕ) × IsLastIn (bit_set 16 mask.old) 0 16 last
         × (result ≡ unwrap_or (option_map (λ i. slice_index table.now i) last) 0)
@@ -156,7 +157,7 @@ pub fn take_and_mark(slots: &mut [u8; 4], table: &mut [bool; 32])
     }
 }
 
-/// Takes a run of three free slots, and gives all but the first back.
+/// Takes the first run of three free slots, and gives back all of its slots but the first.
 pub fn take_run_of_three<B: BitsMut>(slots: &mut B)
     requires { ShapeFits B.Shape slots.old }
 {
@@ -165,15 +166,15 @@ pub fn take_run_of_three<B: BitsMut>(slots: &mut B)
     }
 }
 
-/// Returns the entry of a table for the number of set bits that lie below an index.
+/// Counts the set bits below an index, and returns the entry of a table whose index is that count.
 pub fn entry_of_count(mask: u64, index: u32, table: &[u32; 65]) -> u32
     ensures { result ≡ slice_index table.now (members_below (bit_set 64 mask) index) }
 {
     table[mask.rank(index) as usize]
 }
 
-/// Finds the next set bit from `from` on, and returns the next unset bit after it, where its run of
-/// set bits ends. Returns `None` if there is no such set bit, or no such unset bit.
+/// Finds the next set bit from index `from` on, and returns the next unset bit after it. The run of
+/// set bits ends there. Returns `None` if there is no such set bit, or no such unset bit.
 pub fn end_of_next_run<B: Bits>(set: &B, from: u32) -> Option<u32>
     requires { ShapeFits B.Shape set.now }
     ensures { IfSome result (λ end. (from < end) × (end < (B.big set.now).capacity)) }

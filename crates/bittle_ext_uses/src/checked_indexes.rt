@@ -22,8 +22,8 @@ pub fn visit(seen: &mut u64, node: u32) -> Result<bool, NoNode>
     }
 }
 
-/// Visits the ends of edges, with bits counted from the left, and returns how many ends are no
-/// node.
+/// Visits the ends of edges, and returns how many of them are no node. The bits of `seen` are in
+/// little-endian order.
 pub fn visit_ends(seen: &mut [u8; 5], ends: &[u32]) -> usize {
     let mut out = 0usize;
     for end in ends.iter() {
@@ -57,8 +57,8 @@ pub fn is_set<B: Bits>(bits: &B, index: u32) -> Option<bool>
     bits.get_bit(index)
 }
 
-/// Sets a bit if the index is below the capacity. Returns `true`: either the bit is set then, or
-/// there is no such bit.
+/// Sets a bit if the index is below the capacity. Returns `true`, since after that the bit is set
+/// or there is no such bit.
 #[tactic(auto, using(bittle::proofs::CallerChanges::contains_with))]
 pub fn set_checked(mask: u64, index: u32) -> bool
     ensures { result ≡ true }

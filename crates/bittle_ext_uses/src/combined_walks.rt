@@ -16,14 +16,15 @@ ghost use Rattle.bittle_ext.specs.Views.{rounded_up};
 use bittle::{Bits, Endian, LittleEndian, Set};
 use bittle_ext::{BitsOwnedExt, BitsViewExt, View};
 
-/// Counts by an iterator the bits that are set in both of two words.
+/// Counts the items of an iterator over the bits that are set in both of two words.
 pub fn count_common(one: u64, other: u64) -> usize
     ensures { result ≡ length (ascending (both_of (bit_set 64 one) (bit_set 64 other))) }
 {
     one.and(&other).iter_ones().count()
 }
 
-/// Counts the bits that are set in either of two rows of unequal length, read from the left.
+/// Counts the bits that are set in at least one of two rows of unequal length. The rows are read in
+/// little-endian order.
 pub fn count_either(one: &[u32; 2], other: &[u32; 4]) -> usize
     ensures { result ≡ length (ascending (either_of
         (read_in true 32 (row_set 2 32 (bit_set 32) one.now))
@@ -43,7 +44,7 @@ pub fn alone(one: u16, other: u16) -> u16
     u16::from_iter(one.minus(&other).iter_ones())
 }
 
-/// Counts the bits in which any two sets differ, both read in one order.
+/// Counts the bits in which any two sets differ. Both sets are read in the order `E`.
 pub fn count_different<A: Bits, B: Bits, E: Endian>(one: &A, other: &B) -> usize
     requires one_fits { ShapeFits A.Shape one.now }
     requires other_fits { ShapeFits B.Shape other.now }
@@ -56,8 +57,8 @@ pub fn count_different<A: Bits, B: Bits, E: Endian>(one: &A, other: &B) -> usize
     view.xor_unlike(&other.in_order::<E>()).iter_ones().count()
 }
 
-/// Counts the bits that are set in a byte and not in a row of wider words, which is read from the
-/// left.
+/// Counts the bits that are set in a byte and not in a row of wider words. The row is read in
+/// little-endian order.
 pub fn count_alone(byte: u8, row: &Set<[u32; 2], LittleEndian>) -> usize
     ensures { result ≡ length (ascending (first_only_of (bit_set 8 byte)
         (read_in true 32 (row_set 2 32 (bit_set 32) row.now.bits)))) }
@@ -65,7 +66,8 @@ pub fn count_alone(byte: u8, row: &Set<[u32; 2], LittleEndian>) -> usize
     byte.minus(row).iter_ones().count()
 }
 
-/// Returns the entry of a table at the last index that is set in both of two masks, or 0.
+/// Returns the entry of a table at the last bit that is set in both of two masks, or 0 if there is
+/// none.
 pub fn last_entry(one: u64, other: u64, table: &[u32; 64]) -> u32
     ensures { (last : Option ℕ) × (rest : List ℕ)
         × YieldsLast (λ items. items)
@@ -78,8 +80,8 @@ pub fn last_entry(one: u64, other: u64, table: &[u32; 64]) -> u32
     }
 }
 
-/// Returns how many bits are set in either of two words, and a word of these bits. The count uses
-/// up a clone of the iterator, so the iterator itself stays as it was.
+/// Returns how many bits are set in at least one of two words, and a word with just these bits set.
+/// The count uses up a clone of the iterator, so the iterator itself stays as it was.
 pub fn counted(one: u16, other: u16) -> (usize, u16)
     ensures count { result.0 ≡ length (ascending (either_of (bit_set 16 one) (bit_set 16 other))) }
     ensures word { bit_set 16 result.1 ≡ fold with_index (empty_set 16)
@@ -93,8 +95,8 @@ pub fn counted(one: u16, other: u16) -> (usize, u16)
     (count, u16::from_iter(walk))
 }
 
-/// Returns the first bit that is set in either of two words, and the last of the others. One
-/// iterator steps from both ends.
+/// Returns the first and the last bit that is set in at least one of two words. If there is just
+/// one such bit, the second result is `None`. One iterator steps from both ends.
 pub fn ends(one: u8, other: u8) -> (Option<u32>, Option<u32>)
     ensures { let items = ascending (either_of (bit_set 8 one) (bit_set 8 other)) in
         MatchOption result.0 ((items ≡ []) × (result.1 ≡ None))
@@ -106,7 +108,8 @@ pub fn ends(one: u8, other: u8) -> (Option<u32>, Option<u32>)
     (first, walk.next_back())
 }
 
-/// Returns the entry at the greatest bit that is set in both a byte and a longer set, or 0.
+/// Returns the entry of `table` at the greatest bit that is set in both a byte and a longer word,
+/// or 0 if there is none.
 pub fn last_common_entry(few: u8, many: u64, table: &[u32; 8]) -> u32 {
     let mut last = 0;
     for index in few.and(&many).iter_ones() {
@@ -115,7 +118,8 @@ pub fn last_common_entry(few: u8, many: u64, table: &[u32; 8]) -> u32 {
     last
 }
 
-/// Returns the entry at the greatest bit that is set in a byte and unset in a longer set, or 0.
+/// Returns the entry of `table` at the greatest bit that is set in a byte and unset in a longer
+/// word, or 0 if there is none.
 pub fn last_entry_alone(few: u8, many: u64, table: &[u32; 8]) -> u32 {
     let mut last = 0;
     for index in few.minus(&many).iter_ones() {

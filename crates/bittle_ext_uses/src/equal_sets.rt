@@ -5,7 +5,7 @@ ghost use Rattle.bittle.specs.BitPatterns.{bit_set};
 
 use bittle::{Bits, BitsMut, BitsOwned};
 
-/// Copies a set by a loop over all numbers. Such a loop is of use if it does more with each number.
+/// Copies a set by a loop over all numbers. Such a loop is useful if it does more with each number.
 pub fn copied(from: u64) -> u64
     ensures { bit_set 64 result ≡ bit_set 64 from }
 {

@@ -61,7 +61,7 @@ impl Field {
         self.cells.set_span(..cells.min(10));
     }
 
-    /// Removes the lowest row: all other rows move down by one, and the highest row is empty then.
+    /// Removes the lowest row. All other rows move down by one, and the highest row becomes empty.
     #[tactic(auto, using(bittle_ext::proofs::UnsetSpans::lacks_span_after_copy, bittle_ext::proofs::UnsetSpans::lacks_span_after_clear_span))]
     pub fn remove_row(&mut self)
         ensures { let before = row_set 4 64 (bit_set 64) self.old.cells in

@@ -8,7 +8,7 @@ ghost use Rattle.bittle.specs.Searches.{IsFirstIn, NoneIn};
 use bittle::{BitsMut, BitsOwned};
 use bittle_ext::prelude::*;
 
-/// Fills all free seats from the first on, and returns how many there were.
+/// Fills all free seats one by one, the first one first, and returns how many seats were free.
 pub fn fill(seats: &mut u64) -> u32
     ensures all { size (bit_set 64 seats.new) ≡ 64 }
     ensures count { size (bit_set 64 seats.new) ≡ size (bit_set 64 seats.old) + result }

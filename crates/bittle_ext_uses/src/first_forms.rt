@@ -1,6 +1,6 @@
-//! Code in the form that a caller writes first. The check refuses two other forms: a `return` in a
-//! `for` loop that indexes a row, and a closure that indexes a row in a method of an iterator. For
-//! these two, the shortest form that the check accepts is here.
+//! Code in the form that a caller would write at first. The check refuses two such forms: a
+//! `return` in a `for` loop that indexes a row, and a closure that indexes a row in a method of an
+//! iterator. In place of these two, the shortest form that the check accepts is here.
 
 ghost use Rattle.std.specs.Prelude.{◌*◌, ◌<◌, false, length, slice_index_or};
 ghost use Rattle.bittle.specs.BitPatterns.{bit_set};

@@ -1,5 +1,6 @@
-//! What a search or a test of a range tells of single bits. The lemmas that an attribute names
-//! prove `first_open_bay` and `first_missing`. Each other function has a short proof file.
+//! What a search, or a test of a range, says about single bits. The functions `first_open_bay` and
+//! `first_missing` are proved by the lemma that their attribute names. Each other function has a
+//! short proof file.
 
 ghost use Rattle.std.specs.Prelude.{◌≡◌, ◌↔◌, ◌+◌, ◌<◌, ◌≤◌, ◌||◌, ℕ, true, false, IfSome, IsTrue};
 ghost use Rattle.std.specs.Prelude.{MatchOption};
@@ -58,7 +59,7 @@ pub fn first_missing(wanted: u64, owned: u64) -> Option<u32>
     Some(found)
 }
 
-/// Returns whether somebody was there on each day of a range of days of a month.
+/// Returns whether a person was there on each day of the range `from..to`, in a month of 31 days.
 pub fn was_there_all(days: u32, from: u32, to: u32) -> bool
     requires { to ≤ 31 }
     ensures { IsTrue result ↔ ((k : ℕ) → from ≤ k → k < to → contains (bit_set 32 days) k ≡ true) }
@@ -66,7 +67,7 @@ pub fn was_there_all(days: u32, from: u32, to: u32) -> bool
     days.all_in_range(from, to)
 }
 
-/// Returns the first day from `from` on, of the 31 of a month, on which somebody was absent.
+/// Returns the first day from day `from` on that a person was absent, in a month of 31 days.
 #[tactic(auto, using(bittle_ext::proofs::CallerMembers::unset_where_found))]
 pub fn first_absence(days: u32, from: u32) -> Option<u32>
     ensures unset { IfSome result (λ day. contains (bit_set 32 days) day ≡ false) }
@@ -79,7 +80,7 @@ pub fn first_absence(days: u32, from: u32) -> Option<u32>
     Some(day)
 }
 
-/// Returns where the first run of `length` free numbers from 1 to 4,094 begins.
+/// Returns the start of the first run of `length` free numbers, among the numbers 1 to 4,094.
 pub fn free_run(taken: &[u64; 64], length: u32) -> Option<u32>
     ensures run { IsFirstRun (members_within (complement (row_set 64 64 (bit_set 64) taken.now)) 1
         4095) 1 length result }

@@ -1,5 +1,5 @@
-//! Graphs: a union over the rows of a table, and a search. The loop of the search takes nodes out
-//! of a queue and adds others to it.
+//! Graphs: a union over the rows of a table, and a search. The loop of the search adds nodes to a
+//! queue, and takes each node that it visits out of the set of those that are left.
 
 ghost use Rattle.std.specs.Prelude.{◌≡◌};
 ghost use Rattle.bittle.specs.BitPatterns.{bit_set};
@@ -22,8 +22,8 @@ pub fn targets(rows: &[u64; 64], nodes: u64) -> u64
     all
 }
 
-/// Returns the nodes that edges lead to from a start, with the start itself. It is the least set
-/// that has the start and that no edge leaves. Row `k` has the nodes that an edge leads to from
+/// Returns `start` and all nodes that can be reached from it along edges. The result is the least
+/// set that has `start` and that no edge leaves. Row `k` has the nodes that an edge leads to from
 /// node `k`. For a start past the last node it returns the empty set.
 ///
 /// Each turn takes one node out of `left`. The size of that set is the measure of the loop.

@@ -74,7 +74,7 @@ pub fn flip(words: &mut [u8])
     set.complement_assign();
 }
 
-/// Sets a bit of any set, read in any order, and returns whether it was unset.
+/// Sets bit `index` of any set, and returns whether it was unset. The index follows the order `E`.
 pub fn add_in<B: BitsMut, E: Endian>(set: &mut B, index: u32) -> bool
     requires { IsTrue B.indexable }
     ensures was_unset { result ≡ not (contains (set_in B.Shape E.Endian set.old) index) }
@@ -85,8 +85,8 @@ pub fn add_in<B: BitsMut, E: Endian>(set: &mut B, index: u32) -> bool
     set.in_order_mut::<E>().insert(index)
 }
 
-/// Sets a bit of a slice of any length, counted from the left, and returns whether it was unset.
-/// The call changes the caller's slice through a view.
+/// Sets bit `index` of a slice of any length, and returns whether it was unset. The index follows
+/// the little-endian order. The call changes the caller's slice through a view.
 pub fn add_le(words: &mut [u64], index: u32) -> bool
     ensures was_unset { result ≡ not (contains (read_in true 64
         (row_set (length words.old) 64 (bit_set 64) words.old)) index) }
@@ -99,7 +99,7 @@ pub fn add_le(words: &mut [u64], index: u32) -> bool
     add_in::<_, LittleEndian>(&mut lent.0, index)
 }
 
-/// Clears the bits of a range of a slice, read in any order.
+/// Clears the bits of a range of a slice. The indexes of the range follow the order `E`.
 pub fn clear_in<E: Endian>(words: &mut [u64], from: u32, to: u32)
     requires fits { length words.old * 64 < 4294967295 }
     requires ordered { from ≤ to }

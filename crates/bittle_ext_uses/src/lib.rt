@@ -1,6 +1,6 @@
-//! Callers of the everyday calls, each proved from public contracts. Most have no proof file. The
-//! proof files of the others have the measure or the invariant of a loop, or a few lines for a
-//! clause, as for `one_line` and `found_bits`.
+//! Functions that use the everyday calls of the library. Each is proved from the public contracts
+//! of these calls. Most have no proof file. The proof files of the others have the measure or the
+//! invariant of a loop, or a few lines for a clause, as for `one_line` and `found_bits`.
 #![tactic(auto)]
 
 pub mod any_changes;

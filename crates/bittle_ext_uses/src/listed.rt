@@ -18,7 +18,7 @@ pub fn never_given(numbers: &[u32]) -> u64
     u64::from_indexes(numbers)
 }
 
-/// Takes seats, which may be taken already.
+/// Takes all seats of a list. Some of them may be taken already.
 #[tactic(auto, using(bittle_ext::proofs::ListedMembers::contains_after_all))]
 pub fn take(taken: &mut [u64; 4], seats: &[u32])
     ensures { All (λ i. contains (row_set 4 64 (bit_set 64) taken.new) i ≡ true) seats.now }
@@ -26,7 +26,7 @@ pub fn take(taken: &mut [u64; 4], seats: &[u32])
     taken.insert_all(seats);
 }
 
-/// Takes seats. A seat that was taken before stays taken.
+/// Takes all seats of a list. The seat `seat`, which was taken before, stays taken.
 #[tactic(auto, using(bittle_ext::proofs::ListedMembers::still_set_after_all))]
 pub fn take_beside(taken: &mut [u64; 4], seats: &[u32], seat: u32)
     requires { contains (row_set 4 64 (bit_set 64) taken.old) seat ≡ true }
@@ -35,7 +35,7 @@ pub fn take_beside(taken: &mut [u64; 4], seats: &[u32], seat: u32)
     taken.insert_all(seats);
 }
 
-/// Writes the least members into a slice, as many as fit, and returns how many.
+/// Writes the least members of a set into a slice, as many as fit, and returns how many it wrote.
 pub fn write_first(members: &[u64; 4], room: &mut [u32]) -> usize
     ensures length { length room.new ≡ length room.old }
     ensures count { result ≡ min (size (row_set 4 64 (bit_set 64) members.now)) (length room.new) }

@@ -24,7 +24,7 @@ pub fn three(a: u32, b: u32, c: u32) -> u64
     u64::from_indexes(&[a, b, c])
 }
 
-/// Returns the set of a list of indexes, which count from the left.
+/// Returns a word with the bits at the listed indexes set. Indexes follow the little-endian order.
 pub fn all_of(indexes: &[u32]) -> u64
     ensures { read_in true 64 (bit_set 64 result)
         ≡ fold with_index (empty_set 64) indexes.now }
@@ -32,7 +32,7 @@ pub fn all_of(indexes: &[u32]) -> u64
     Set::<u64, LittleEndian>::from_indexes(indexes).into_bits()
 }
 
-/// Returns the set bits of a byte as a longer word, from the items of an iterator.
+/// Returns a longer word with the set bits of a byte. It is made from the items of an iterator.
 pub fn widened(mask: u8) -> u32
     ensures { bit_set 32 result
         ≡ fold with_index (empty_set 32) (ascending (bit_set 8 mask)) }
@@ -40,7 +40,8 @@ pub fn widened(mask: u8) -> u32
     u32::from_iter(mask.iter_ones())
 }
 
-/// Returns the set of the set bits whose index is a multiple of 4, by a chain of iterators.
+/// Returns a word with just those set bits of `mask` whose index is a multiple of 4. It is made
+/// from a chain of iterators.
 pub fn each_fourth_of(mask: u64) -> u64
     ensures { bit_set 64 result ≡ fold with_index (empty_set 64)
         (filter (λ k. k % 4 == 0) (ascending (bit_set 64 mask))) }
@@ -87,7 +88,8 @@ pub fn of_vec(indexes: Vec<u32>) -> u64
     u64::from_iter(indexes)
 }
 
-/// Returns a longer word with the members of a borrowed set, which is read from the left.
+/// Returns a longer word with the members of a borrowed set. The set is read in little-endian
+/// order.
 pub fn of_set(set: &Set<u8, LittleEndian>) -> u64
     ensures { bit_set 64 result ≡ fold with_index (empty_set 64)
         (ascending (read_in true 8 (bit_set 8 set.now.bits))) }

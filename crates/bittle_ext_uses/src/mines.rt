@@ -27,8 +27,8 @@ impl Board {
         Board { mines, shown }
     }
 
-    /// Shows a square, and returns `true`. Returns `false` and changes nothing if it is off the
-    /// board or has a mine.
+    /// Shows a square, and returns `true`. Returns `false` and changes nothing if the square has a
+    /// mine or its number is past the board.
     #[tactic(auto, using(bittle_lemmas::proofs::ExcludedSets::excludes_after_set))]
     pub fn show(&mut self, square: u32) -> bool
         ensures allowed { result
@@ -53,8 +53,8 @@ impl Board {
         self.shown.clear_bit(square);
     }
 
-    /// Lays a mine, and returns `true`. Returns `false` and changes nothing if the square is off
-    /// the board or shown.
+    /// Lays a mine, and returns `true`. Returns `false` and changes nothing if the square is shown
+    /// or its number is past the board.
     #[tactic(auto, using(bittle_lemmas::proofs::ExcludedSets::excludes_after_other_set))]
     pub fn lay(&mut self, square: u32) -> bool
         ensures allowed { result

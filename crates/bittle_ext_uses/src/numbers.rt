@@ -1,4 +1,4 @@
-//! Numbers in the bits of sets, and ranges of bits that are copied.
+//! Numbers that are stored in the bits of sets, and copies of ranges of bits.
 
 ghost use Rattle.std.specs.Prelude.{◌≡◌, ◌+◌, ◌-◌, ◌*◌, ◌%◌, ◌<◌, ◌≤◌, ℕ, length, true};
 ghost use Rattle.bittle.specs.BitPatterns.{bit_set};
@@ -11,7 +11,7 @@ ghost use Rattle.bittle_ext.specs.Numbers.{number_in, with_copied};
 use bittle::{Bits, BitsMut, LittleEndian, Set};
 use bittle_ext::{BitsCopyExt, BitsNumberExt, BitsNumberMutExt, BitsViewExt};
 
-/// Returns the number in field `index` of any set, whose fields have five bits each.
+/// Returns the number in field `index` of any set. Each field of the set has five bits.
 pub fn field<B: Bits>(fields: &B, index: u32) -> u64
     requires fits { ShapeFits B.Shape fields.now }
     requires within { index < 100000 }
@@ -21,7 +21,7 @@ pub fn field<B: Bits>(fields: &B, index: u32) -> u64
     fields.load(index * 5, 5)
 }
 
-/// Puts a number into field `index` of any set, whose fields have five bits each. No other field
+/// Puts a number into field `index` of any set. Each field of the set has five bits. No other field
 /// changes.
 pub fn set_field<B: BitsMut>(fields: &mut B, index: u32, value: u64)
     requires fits { ShapeFits B.Shape fields.old }
@@ -56,7 +56,7 @@ pub fn keep_whole(row: &mut [u8; 12], value: u64)
     row.store(20, 64, value);
 }
 
-/// Returns the number in the six leftmost bits of a word. The leftmost one has the weight 1.
+/// Returns the number in the six leftmost bits of a word. The leftmost bit has the weight 1.
 pub fn leftmost(word: u32) -> u64
     ensures { result ≡ number_in (read_in true 32 (bit_set 32 word)) 0 6 }
 {
@@ -73,7 +73,8 @@ pub fn length_of(packet: &[u8; 8]) -> u16
     bits
 }
 
-/// Copies the 70 bits of a set from `start` on into a lent slice, from index 30 of the slice on.
+/// Copies the 70 bits of `from` that begin at index `start` into a lent slice, to the indexes of
+/// the slice that begin at 30.
 pub fn paste<B: Bits>(words: &mut [u64], from: &B, start: u32)
     requires long { 2 ≤ length words.old }
     requires fits { length words.old * 64 < 4294967295 }
@@ -87,8 +88,8 @@ pub fn paste<B: Bits>(words: &mut [u64], from: &B, start: u32)
     set.copy_range(from, start, start + 70, 30);
 }
 
-/// Copies a range of 16 bits between any two sets, and returns whether bit `index` of the range is
-/// set.
+/// Copies a range of 16 bits from one set to another of any shape, and returns whether bit `index`
+/// of the copy is set.
 pub fn is_pasted<A: BitsMut, B: Bits>(set: &mut A, from: &B, index: u32) -> bool
     requires fits { ShapeFits A.Shape set.old }
     requires from_fits { ShapeFits B.Shape from.now }
@@ -100,8 +101,8 @@ pub fn is_pasted<A: BitsMut, B: Bits>(set: &mut A, from: &B, index: u32) -> bool
     set.test_bit(4 + index)
 }
 
-/// Moves the bits from an index on up by `count`, to make room. Bits that would pass the end are
-/// lost.
+/// Moves the bits from index `at` on up by `count` places, to make room. Bits that would pass the
+/// end are lost.
 pub fn open_gap<B: BitsMut>(set: &mut B, at: u32, count: u32)
     requires fits { ShapeFits B.Shape set.old }
     requires within { at + count ≤ (B.big set.old).capacity }

@@ -63,7 +63,7 @@ pub fn free_hour(taken: u32) -> Option<u32>
     Some(hour)
 }
 
-/// Returns the set of the letters of a word. Each letter is a number below 26.
+/// Returns the set of the letters of a word of text. Each letter is a number below 26.
 pub fn letters(word: &[u32]) -> u32
     requires { All (λ letter. letter < 26) word.now }
     ensures { (k : ℕ) → (bit_set 32 result).has k ≡ list_any (λ letter. letter == k) word.now }
@@ -80,7 +80,7 @@ pub fn move_up(row: &mut [u64; 4], by: u32)
     row.shift_up(by);
 }
 
-/// Sets each bit that is set in another set. Each bit that was set stays set.
+/// Sets in `row` each bit that is set in `other`. Each bit of `row` that was set stays set.
 pub fn add(row: &mut [u64; 4], other: &[u64; 4])
     ensures { (k : ℕ) → contains (row_set 4 64 (bit_set 64) row.old) k ≡ true
         → contains (row_set 4 64 (bit_set 64) row.new) k ≡ true }

@@ -1,5 +1,5 @@
-//! Loops that clear the set bits one by one. The proof of each loop is one line, its measure: the
-//! number of set bits, which each turn makes one less.
+//! Loops that clear the set bits one by one. The proof of each loop is one line, which gives its
+//! measure: the number of set bits. Each turn of the loop lowers that number by one.
 
 ghost use Rattle.std.specs.Prelude.{◌≡◌, length};
 ghost use Rattle.bittle.specs.BitPatterns.{bit_set};
@@ -19,7 +19,8 @@ pub fn sum_of_entries(mask: u64, row: &[u32; 64]) -> u32 {
     sum
 }
 
-/// Takes the set bits out of four words from the greatest down, and returns the last one.
+/// Takes the set bits out of four words, from the greatest down to the least, and returns the one
+/// that it took out last.
 pub fn last_taken_out(mut work: [u64; 4]) -> Option<u32> {
     let mut last = None;
     while let Some(index) = work.pop_last() {
@@ -35,7 +36,8 @@ pub struct Work<'a> {
 }
 
 impl<'a> Work<'a> {
-    /// Adds up what all tasks cost, and leaves none. A task past the end of `cost` costs 0.
+    /// Adds up the costs of all tasks, and takes all of them out. A task past the end of `cost`
+    /// costs 0.
     pub fn finish(&mut self, cost: &[u32]) -> u64
         ensures { let after = self.new.tasks.bits.now in
             size (row_set (length after) 64 (bit_set 64) after) ≡ 0 }

@@ -37,7 +37,7 @@ pub fn count_twice<B: Bits, E: Endian>(set: &B, from: u32, to: u32) -> (usize, u
     (walked, view.count_zeros_in_range(from, to))
 }
 
-/// Returns the entry of a table at the last set bit of a range, or 0.
+/// Returns the entry of a table at the last set bit of a range, or 0 if there is none.
 pub fn last_entry(mask: u64, from: u32, to: u32, table: &[u32; 64]) -> u32
     requires ordered { from ≤ to }
     requires within { to ≤ 64 }
@@ -52,8 +52,8 @@ pub fn last_entry(mask: u64, from: u32, to: u32, table: &[u32; 64]) -> u32
     }
 }
 
-/// Returns the entry of a window at the last unset bit of a range, or 0. Entry 0 of the window is
-/// for the first index of the range, 16.
+/// Returns the entry of `window` for the last unset bit of the range `16..32`, or 0 if there is
+/// none. Entry 0 of the window is for index 16.
 pub fn last_in_window(mask: u64, window: &[u32; 16]) -> u32
     ensures { (last : Option ℕ) × (rest : List ℕ)
         × YieldsLast (λ items. items)
@@ -66,16 +66,16 @@ pub fn last_in_window(mask: u64, window: &[u32; 16]) -> u32
     }
 }
 
-/// Marks each entry of a window at an unset bit of a range. It has no clause of its own. The check
-/// proves that each item of the iterator has an entry in the window.
+/// For each unset bit of the range `16..32`, sets its entry of `window` to `true`. The function has
+/// no clause of its own. The check proves that each item of the iterator has an entry in `window`.
 pub fn mark_free(mask: u64, window: &mut [bool; 16]) {
     for index in mask.iter_zeros_in_range(16, 32) {
         window[index as usize - 16] = true;
     }
 }
 
-/// Returns how many bits of a range are set, and a word of these bits. The count uses up a clone of
-/// the iterator, so the iterator itself stays as it was.
+/// Returns how many bits of a range are set, and a word with just these bits set. The count uses up
+/// a clone of the iterator, so the iterator itself stays as it was.
 pub fn counted(mask: u16, from: u32, to: u32) -> (usize, u16)
     requires ordered { from ≤ to }
     requires within { to ≤ 16 }
@@ -92,7 +92,7 @@ pub fn counted(mask: u16, from: u32, to: u32) -> (usize, u16)
     (count, u16::from_iter(walk))
 }
 
-/// Returns the set of the set bits of a range.
+/// Returns a word with just those bits set that are set in `mask` and lie in a range.
 pub fn within(mask: u16, from: u32, to: u32) -> u16
     requires ordered { from ≤ to }
     requires within { to ≤ 16 }
@@ -102,7 +102,8 @@ pub fn within(mask: u16, from: u32, to: u32) -> u16
     u16::from_iter(mask.iter_ones_in_range(from, to))
 }
 
-/// Returns the first unset bit in a range of any set, and the last of the others.
+/// Returns the first and the last unset bit in a range of any set. If there is just one such bit,
+/// the second result is `None`.
 pub fn free_ends<B: Bits, E: Endian>(set: &B, from: u32, to: u32) -> (Option<u32>, Option<u32>)
     requires fits { ShapeFits B.Shape set.now }
     requires ordered { from ≤ to }
@@ -118,7 +119,8 @@ pub fn free_ends<B: Bits, E: Endian>(set: &B, from: u32, to: u32) -> (Option<u32
     (walk.next(), walk.next_back())
 }
 
-/// Returns an iterator over the unset bits in a range of any set. It borrows nothing but the set.
+/// Returns an iterator over the unset bits in a range of any set. The iterator borrows nothing but
+/// the set.
 pub fn iter_free<'a, B: Bits>(set: &'a B, from: u32, to: u32) -> IterZerosInRange<'a, B, B::Order>
     requires fits { ShapeFits B.Shape set.now }
     requires ordered { from ≤ to }

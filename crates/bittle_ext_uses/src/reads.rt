@@ -1,4 +1,4 @@
-//! Calls that read words, longer shapes and any shape.
+//! Calls that read sets: single words, arrays of words, and sets of any shape.
 
 ghost use Rattle.std.specs.Prelude.{◌≡◌, ◌↔◌, ◌+◌, ◌-◌, ◌/◌, ◌<◌, ◌≤◌, ℕ, true, IsTrue};
 ghost use Rattle.std.specs.Prelude.{MatchBool, MatchOption, Option, Some, slice_get};
@@ -23,7 +23,8 @@ pub fn least(mask: u64) -> Option<u32>
     mask.first_one()
 }
 
-/// Returns the entry of a row at the greatest set bit, or 0. The bit is an index of the row.
+/// Returns the entry of `row` at the greatest set bit, or 0 if no bit is set. Each index of a bit
+/// is an index of `row`.
 pub fn entry_at_greatest(mask: u16, row: &[u32; 16]) -> u32
     ensures { (found : Option ℕ) × IsLastIn (bit_set 16 mask) 0 16 found
         × MatchOption found (result ≡ 0) (λ index. slice_get row.now index ≡ Some result) }
@@ -41,14 +42,14 @@ pub fn least_free(mask: u32) -> Option<u32>
     mask.first_zero()
 }
 
-/// Returns the greatest unset bit, counted from the left.
+/// Returns the greatest index of an unset bit, in little-endian order.
 pub fn greatest_free_le(mask: u8) -> Option<u32>
     ensures { IsLastIn (complement (read_in true 8 (bit_set 8 mask))) 0 8 result }
 {
     mask.in_order::<LittleEndian>().prev_zero(8)
 }
 
-/// Returns the last set bit before an index, and the first one after it.
+/// Returns the last set bit before `index`, and the first set bit after `index`.
 pub fn neighbours(mask: u64, index: u32) -> (Option<u32>, Option<u32>)
     requires { index < 64 }
     ensures before { IsLastIn (bit_set 64 mask) 0 index result.0 }
@@ -57,7 +58,7 @@ pub fn neighbours(mask: u64, index: u32) -> (Option<u32>, Option<u32>)
     (mask.prev_one(index), mask.next_one(index + 1))
 }
 
-/// Returns the first set bit from `from` on of a set that is read from the left.
+/// Returns the first set bit from index `from` on. The set is read in little-endian order.
 pub fn next_of(set: &Set<u16, LittleEndian>, from: u32) -> Option<u32>
     ensures { IsFirstIn (read_in true 16 (bit_set 16 set.now.bits)) from 16 result }
 {
@@ -71,7 +72,7 @@ pub fn rank(board: &[u64; 4], index: u32) -> u32
     board.rank(index)
 }
 
-/// Returns the set bit of a rank. Rank 0 is the least one.
+/// Returns the set bit with rank `rank`. The least set bit has rank 0.
 pub fn member(board: &[u64; 4], rank: u32) -> Option<u32>
     ensures { result ≡ slice_get (ascending (row_set 4 64 (bit_set 64) board.now)) rank }
 {
@@ -115,7 +116,8 @@ pub fn four_free(pages: u64) -> Option<u32>
     pages.first_zero_run(4)
 }
 
-/// Returns where the first run of `length` free pages begins, from a page on, in any shape.
+/// Searches from page `from` on for the first run of `length` free pages, and returns where it
+/// begins. The set may have any shape.
 pub fn free_from<B: Bits>(pages: &B, from: u32, length: u32) -> Option<u32>
     requires { ShapeFits B.Shape pages.now }
     ensures { IsFirstRun (complement (set_in B.Shape B.Order.Endian pages.now)) from length result }
@@ -153,7 +155,7 @@ pub fn meet(one: u16, other: u16) -> bool
     one.intersects(&other)
 }
 
-/// Returns whether two words have no set bit in common, both read from the left.
+/// Returns whether two words have no set bit in common. Both are read in little-endian order.
 pub fn are_disjoint_le(one: u16, other: u32) -> bool
     ensures { IsTrue result ↔ AreDisjoint (read_in true 16 (bit_set 16 one))
         (read_in true 32 (bit_set 32 other)) }
@@ -182,7 +184,7 @@ pub fn first_of_both<A: Bits, B: Bits>(one: &A, other: &B) -> Option<u32>
     one.first_common(other)
 }
 
-/// Returns the least set bit. The bound of the type is the extension trait.
+/// Returns the least set bit. The only bound of the type is the extension trait `BitsExt`.
 pub fn least_of<B: BitsExt>(set: &B) -> Option<u32>
     requires { ShapeFits B.Shape set.now }
     ensures { let ours = set_in B.Shape B.Order.Endian set.now in
@@ -191,7 +193,7 @@ pub fn least_of<B: BitsExt>(set: &B) -> Option<u32>
     set.first_one()
 }
 
-/// Returns the least set bits of a word, an array of words and an array of bytes.
+/// Returns the least set bit of a word, that of an array of words, and that of an array of bytes.
 pub fn three_least(
     word: u64,
     row: &[u32; 4],

@@ -16,7 +16,7 @@ ghost use Rattle.bittle_ext.specs.SetRelations.{IsFirstAlone, IsFirstCommon};
 use bittle::{Bits, BitsMut, LittleEndian, Set};
 use bittle_ext::{BitsMutExt, BitsRelationExt, BitsViewExt};
 
-/// Returns the entry of a table at the first bit that is set in both masks, or 0.
+/// Returns the entry of a table at the first bit that is set in both masks, or 0 if there is none.
 pub fn entry_of_both(one: u64, other: &[u8; 8], table: &[u32; 64]) -> u32
     ensures { let ours = bit_set 64 one in
         let theirs = row_set 8 8 (bit_set 8) other.now in
@@ -29,7 +29,8 @@ pub fn entry_of_both(one: u64, other: &[u8; 8], table: &[u32; 64]) -> u32
     }
 }
 
-/// Returns the entry of a table at the first bit that is set in `one` and not in `other`, or 0.
+/// Returns the entry of a table at the first bit that is set in `one` and not in `other`, or 0 if
+/// there is no such bit.
 pub fn entry_of_one(one: u64, other: u16, table: &[u32; 64]) -> u32
     ensures { let ours = bit_set 64 one in
         let theirs = bit_set 16 other in
@@ -42,7 +43,8 @@ pub fn entry_of_one(one: u64, other: u16, table: &[u32; 64]) -> u32
     }
 }
 
-/// Returns the first bit that is set in two words and in a row, which is read from the left.
+/// Returns the first bit that is set in two words and in a row. The row is read in little-endian
+/// order.
 pub fn first_of_three(one: u64, other: u64, third: &Set<[u8; 8], LittleEndian>) -> Option<u32>
     ensures { IsFirstCommon (both_of (bit_set 64 one) (bit_set 64 other))
         (read_in true 8 (row_set 8 8 (bit_set 8) third.now.bits)) result }
@@ -50,7 +52,8 @@ pub fn first_of_three(one: u64, other: u64, third: &Set<[u8; 8], LittleEndian>) 
     one.and(&other).first_common(third)
 }
 
-/// Clears the bits of any set before the first one that is also set in another set.
+/// Clears the bits of `set` before the first bit that is set in both sets. If there is no such bit,
+/// it changes nothing.
 pub fn clear_before_common<A: BitsMut, B: Bits>(set: &mut A, other: &B)
     requires fits { ShapeFits A.Shape set.old }
     requires other_fits { ShapeFits B.Shape other.now }
@@ -65,7 +68,8 @@ pub fn clear_before_common<A: BitsMut, B: Bits>(set: &mut A, other: &B)
     }
 }
 
-/// Counts the set bits of any set before the first one that another set lacks.
+/// Counts the set bits of `set` before the first one that is not set in `other`. If there is no
+/// such bit, it counts all of them.
 pub fn count_before_alone<A: Bits, B: Bits>(set: &A, other: &B) -> u32
     requires fits { ShapeFits A.Shape set.now }
     requires other_fits { ShapeFits B.Shape other.now }
@@ -99,7 +103,7 @@ pub fn right_numbers(ticket: u64, drawn: u64) -> u32
     ticket.count_common(&drawn)
 }
 
-/// Counts the bits of a row, except those that are set both in it and in another set.
+/// Counts all bits of a row, set or unset, except those that are set in both the row and `other`.
 pub fn others(row: &[u32; 2], other: &u8) -> u32
     ensures { result ≤ 64 }
 {

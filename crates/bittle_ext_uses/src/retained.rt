@@ -1,5 +1,5 @@
-//! Calls of `retain` with closures that index a table. The check proves that each index which a
-//! closure is given lies below the capacity.
+//! Calls of `retain` with closures that index a table. The check proves that `retain` calls a
+//! closure only with indexes below the capacity.
 
 ghost use Rattle.std.specs.Prelude.{◌≡◌, ◌*◌, ◌≤◌, length, true, false, nat_lt};
 ghost use Rattle.std.specs.Prelude.{slice_index, slice_index_or};
@@ -49,7 +49,8 @@ pub fn keep_and_count(mask: &mut u32, table: &[bool; 32]) -> u32 {
     asked
 }
 
-/// Keeps the bits that a table marks, of a set that is read from the left.
+/// Keeps the bits that a table marks, and clears all others. The set is read in little-endian
+/// order.
 pub fn keep_marked_le(mask: &mut u8, table: &[bool; 8])
     ensures { read_in true 8 (bit_set 8 mask.new) ≡ those_passing
         (λ i. slice_index_or table.now i false) (read_in true 8 (bit_set 8 mask.old)) }
@@ -58,8 +59,8 @@ pub fn keep_marked_le(mask: &mut u8, table: &[bool; 8])
         .retain(|index| table[index as usize]);
 }
 
-/// Keeps the bits for which a closure of the caller's returns `true`. It requires of the closure
-/// what `retain` requires.
+/// Keeps the bits for which a closure of the caller's returns `true`. This function requires of the
+/// closure what `retain` requires of it.
 pub fn keep_by<B: BitsMut, F: FnMut(u32) -> bool>(set: &mut B, keep: F)
     requires fits { ShapeFits B.Shape set.old }
     requires callable { IsCallableBelow (B.big set.old).capacity F.FnMut keep }

@@ -34,7 +34,7 @@ pub fn turned(slots: [u32; 4]) -> [u32; 4]
     slots.rotated_up(1)
 }
 
-/// Returns the slots of a ring, counted from slot `first` on.
+/// Returns a ring of slots that is rotated down, so that slot `first` becomes slot 0.
 pub fn counted_from(ring: u16, first: u32) -> u16
     ensures { (i : ℕ) → contains (bit_set 16 result) i ≡ contains (bit_set 16 ring) (i + first) }
 {
@@ -58,14 +58,14 @@ pub fn in_zone(hours: [u8; 3], east: u32) -> [u8; 3]
     hours.rotated_up(east)
 }
 
-/// Returns whether the bit at an index is set after its set is rotated down.
+/// Rotates a set down by `by` places, and returns whether bit `index` is set after that.
 pub fn is_set_after(ring: u8, by: u32, index: u32) -> bool
     ensures { result ≡ contains (bit_set 8 ring) (index + by) }
 {
     ring.rotated_down(by).test_bit(index)
 }
 
-/// Returns a set of any shape, read in any order, rotated up.
+/// Returns a set of any shape that is rotated up by `by` places. The places follow the order `E`.
 pub fn turn<B: BitsOwnedExt, E: Endian>(set: B, by: u32) -> B
     requires { IsTrue B.indexable }
     ensures set { set_in B.Shape E.Endian result ≡ rotated_up (set_in B.Shape E.Endian set) by }
@@ -75,7 +75,8 @@ pub fn turn<B: BitsOwnedExt, E: Endian>(set: B, by: u32) -> B
     Set::<B, E>::new_in(set).rotated_up(by).into_bits()
 }
 
-/// Rotates a set of any shape up by `by` places, in place. It may be a slice that a caller lends.
+/// Rotates a set of any shape up by `by` places, and changes the set itself. The set may be a slice
+/// that a caller lends.
 pub fn turn_in_place<B: BitsShiftExt>(ring: &mut B, by: u32)
     requires { ShapeFits B.Shape ring.old }
     ensures { (i : ℕ) → contains (set_in B.Shape B.Order.Endian ring.new) (i + by)
@@ -84,7 +85,7 @@ pub fn turn_in_place<B: BitsShiftExt>(ring: &mut B, by: u32)
     ring.rotate_up(by);
 }
 
-/// Rotates a ring of slots in place, so that they count from slot `first` on.
+/// Rotates a ring of slots in place, so that slot `first` becomes slot 0.
 pub fn count_from(slots: &mut [u32; 4], first: u32)
     ensures { (i : ℕ) → contains (row_set 4 32 (bit_set 32) slots.new) i
         ≡ contains (row_set 4 32 (bit_set 32) slots.old) (i + first) }

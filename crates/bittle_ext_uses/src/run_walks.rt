@@ -19,7 +19,8 @@ pub fn count_runs(mask: u64) -> usize
     mask.iter_one_runs().count()
 }
 
-/// Returns the first and the last run of unset bits of any set.
+/// Returns the first and the last run of unset bits of any set. If there is just one run, the
+/// second result is `None`.
 pub fn free_runs<B: Bits, E: Endian>(set: &B) -> (Option<Range<u32>>, Option<Range<u32>>)
     requires { ShapeFits B.Shape set.now }
     ensures { (rest : List (Range ℕ)) × (left : List (Range ℕ))
@@ -58,16 +59,16 @@ pub fn longest(mask: u64) -> u32
     longest
 }
 
-/// Sets in a row all bits that are set in a mask, run by run. The check proves that no run ends
-/// past the capacity.
+/// Sets in `row` all bits that are set in `mask`, one run after another. The check proves that no
+/// run ends past the capacity.
 pub fn set_runs(mask: u16, row: &mut [u8; 2]) {
     for run in mask.iter_one_runs() {
         row.set_range(run.start, run.end);
     }
 }
 
-/// Returns the entry of a table at the start of the last run, or 0. The check proves that each
-/// start is an index of the table.
+/// Returns the entry of a table at the start of the last run, or 0 if there is no run. The check
+/// proves that each start is an index of the table.
 pub fn last_start(mask: u16, table: &[u32; 16]) -> u32 {
     let mut last = 0;
     for run in mask.iter_one_runs() {

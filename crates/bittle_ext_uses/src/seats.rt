@@ -1,5 +1,5 @@
 //! A set that always includes another set: all reserved seats of a hall are among the taken seats.
-//! A ghost field of the type promises that. None of its functions has a proof file.
+//! A ghost field of the type promises that. No function of the type has a proof file.
 
 ghost use Rattle.std.specs.Prelude.{◌≡◌, ◌&&◌, fold, not, true, false, IfSome};
 ghost use Rattle.bittle.specs.BitPatterns.{bit_set};
@@ -48,7 +48,7 @@ impl Seats {
         Some(seat)
     }
 
-    /// Takes seats, which may be taken already.
+    /// Takes all seats of a list. Some of them may be taken already.
     #[tactic(auto, using(bittle_ext::proofs::IncludedSets::includes_after_all))]
     pub fn take_all(&mut self, seats: &[u32])
         ensures { row_set 4 64 (bit_set 64) self.new.taken

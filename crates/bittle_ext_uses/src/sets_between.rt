@@ -14,8 +14,8 @@ ghost use Rattle.bittle_ext.specs.Rotations.{shifted_down, shifted_up};
 use bittle::{Bits, BitsMut, BitsOwned, Endian, Set};
 use bittle_ext::{BitsCombineExt, BitsMutViewExt, BitsRankExt, BitsShiftExt, BitsViewExt};
 
-/// Adds the variables that are live after a block to those before it, and returns whether the set
-/// changed.
+/// Adds the variables that are live after a block to those that are live before it. Returns whether
+/// the set `before` changed.
 pub fn add_live(before: &mut [u64; 4], after: &[u64; 4]) -> bool
     ensures set { row_set 4 64 (bit_set 64) before.new
         ≡ members_to 256 (either_of (row_set 4 64 (bit_set 64) before.old)
@@ -28,8 +28,8 @@ pub fn add_live(before: &mut [u64; 4], after: &[u64; 4]) -> bool
     before.union_with(after)
 }
 
-/// Adds the variables that are live after a block, without those that it defines, to those before
-/// it. Returns whether the set changed.
+/// Adds to `before` each variable that is live after a block and that the block does not define.
+/// Returns whether the set `before` changed.
 pub fn flow(before: &mut u64, after: u64, defined: &[u8; 8]) -> bool
     ensures { IsTrue result ↔ Differ (bit_set 64 before.old) (bit_set 64 before.new) }
 {
@@ -46,8 +46,8 @@ pub fn is_copied(more: u32, task: u32) -> bool
     all.test_bit(task)
 }
 
-/// Clears in any set the bits that are set in another set, and returns whether the set changed.
-/// Both sets are read in one order.
+/// Clears in `set` the bits that are set in `other`, and returns whether `set` changed. Both sets
+/// are read in the order `E`.
 pub fn take_out<A: BitsMut, B: Bits, E: Endian>(set: &mut A, other: &B) -> bool
     requires fits { ShapeFits A.Shape set.old }
     requires other_fits { ShapeFits B.Shape other.now }
@@ -62,8 +62,8 @@ pub fn take_out<A: BitsMut, B: Bits, E: Endian>(set: &mut A, other: &B) -> bool
         .difference_with(&other.in_order::<E>())
 }
 
-/// Removes the tasks that are done from those that are left, and returns how many are left then.
-/// There are no more of them than before.
+/// Removes the tasks of `done` from `left`, and returns how many tasks are left after that. They
+/// are not more than before.
 pub fn finish(left: &mut u64, done: &[u8; 8]) -> u32
     ensures count { result ≡ size (bit_set 64 left.new) }
     ensures at_most { result ≤ size (bit_set 64 left.old) }
@@ -83,8 +83,8 @@ pub fn grant(roles: &mut [u64], word: u32) -> bool
     set.union_with(&word)
 }
 
-/// Gives a lent slice the bits of a set, and no others. Bits past the end of the slice are left
-/// out.
+/// Sets in a lent slice just the bits that are set in `saved`, and clears all others. Bits past the
+/// end of the slice are left out.
 pub fn restore<B: Bits>(words: &mut [u64], saved: &B)
     requires fits { length words.old * 64 < 4294967295 }
     requires saved_fits { ShapeFits B.Shape saved.now }
@@ -102,7 +102,8 @@ pub fn packed(row: &[u8; 4]) -> u32
     u32::from_set(row)
 }
 
-/// Returns a set of any type with the bits of another one. Bits past its capacity are left out.
+/// Copies the set bits of `other` into a new set of type `A`, and returns it. Bits at or past the
+/// capacity of the new set are left out.
 pub fn converted<A: BitsOwned, B: Bits>(other: &B) -> A
     requires indexable { IsTrue A.indexable }
     requires other_fits { ShapeFits B.Shape other.now }
@@ -132,7 +133,8 @@ pub fn delay(tasks: &mut [u64])
     set.shift_up(1);
 }
 
-/// Drops the first `count` indexes of any set, and moves the others down by as many.
+/// Drops the bits at the first `count` indexes of any set, and moves all other bits down by `count`
+/// places.
 pub fn drop_first<B: BitsMut>(set: &mut B, count: u32)
     requires { ShapeFits B.Shape set.old }
     ensures set { set_in B.Shape B.Order.Endian set.new
@@ -142,7 +144,7 @@ pub fn drop_first<B: BitsMut>(set: &mut B, count: u32)
     set.shift_down(count);
 }
 
-/// Returns whether a task is due at an hour of a timetable that is moved down by one hour.
+/// Moves a timetable down by one hour, and returns whether a task is due at `hour` after that.
 pub fn is_due(tasks: u64, hour: u32) -> bool
     requires { hour < 63 }
     ensures { result ≡ contains (bit_set 64 tasks) (hour + 1) }
@@ -152,7 +154,7 @@ pub fn is_due(tasks: u64, hour: u32) -> bool
     later.test_bit(hour)
 }
 
-/// Returns the free page that has `after` free pages before it, or `None`.
+/// Returns the free page that has just `after` free pages before it, or `None` if there is none.
 pub fn free_page(taken: &[u64; 8], after: u32) -> Option<u32>
     ensures value { result ≡ slice_get
         (ascending (complement (row_set 8 64 (bit_set 64) taken.now))) after }
@@ -168,8 +170,8 @@ pub fn free_below(taken: &[u64; 8], page: u32) -> u32
     taken.rank_zero(page)
 }
 
-/// Adds the lines that another run covered, and returns whether one of them is new. The clause for
-/// each line uses `contains` for this set, and `has` for the other one.
+/// Adds to `lines` the lines that another run covered, and returns whether one of them is new. The
+/// clause for each line uses `contains` for `lines`, and `has` for `other`.
 pub fn cover(lines: &mut [u64; 8], other: &[u64; 8]) -> bool
     ensures each { (k : ℕ) → k < 512 → contains (row_set 8 64 (bit_set 64) lines.new) k
         ≡ (contains (row_set 8 64 (bit_set 64) lines.old) k
@@ -180,8 +182,8 @@ pub fn cover(lines: &mut [u64; 8], other: &[u64; 8]) -> bool
     lines.union_with(other)
 }
 
-/// Sets each bit of any set that is set in another one, and returns whether bit `index` is set
-/// then.
+/// Sets in `set` each bit that is set in `other`. Returns whether bit `index` of `set` is set after
+/// that.
 fn has_with<A: BitsMut, B: Bits>(set: &mut A, other: &B, index: u32) -> bool
     requires fits { ShapeFits A.Shape set.old }
     requires other_fits { ShapeFits B.Shape other.now }
@@ -201,8 +203,8 @@ pub fn has_role_with(mask: &mut u64, word: u32, role: u32) -> bool
     has_with(mask, &word, role)
 }
 
-/// Clears each bit of any set that is unset in another one, and returns whether bit `index` is set
-/// then.
+/// Clears in `set` each bit that is not set in `other`. Returns whether bit `index` of `set` is set
+/// after that.
 fn has_within<A: BitsMut, B: Bits>(set: &mut A, other: &B, index: u32) -> bool
     requires fits { ShapeFits A.Shape set.old }
     requires other_fits { ShapeFits B.Shape other.now }

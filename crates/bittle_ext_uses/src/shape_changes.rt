@@ -41,7 +41,7 @@ pub fn free(pages: &mut [u32; 8], from: u32, to: u32)
     pages.clear_range(from, to);
 }
 
-/// Sets a bit of a set that is read from the left, and returns whether it was unset before.
+/// Sets a bit of a set, and returns whether it was unset. The set is read in little-endian order.
 pub fn add(set: &mut Set<u16, LittleEndian>, index: u32) -> bool
     ensures was_unset { result ≡ not (contains (read_in true 16 (bit_set 16 set.old.bits)) index) }
     ensures set { read_in true 16 (bit_set 16 set.new.bits)

@@ -51,15 +51,15 @@ pub fn next_in_window(mask: u32, start: u32) -> Option<u32>
     mask.first_one_in_span(start..start + 8)
 }
 
-/// Returns the last unset bit in the first half of a set that is read from the left.
+/// Returns the last unset bit in the first half of a set. The set is read in little-endian order.
 pub fn last_free_of_half(set: &Set<u16, LittleEndian>) -> Option<u32>
     ensures { IsLastIn (complement (read_in true 16 (bit_set 16 set.now.bits))) 0 8 result }
 {
     set.last_zero_in_span(..8)
 }
 
-/// Returns the entry of a table at the first unset bit of a range, or 0. That bit lies below the
-/// capacity, whatever the range is.
+/// Returns the entry of a table at the first unset bit of a range, or 0 if there is none. The bit
+/// lies below the capacity, whatever the range is.
 pub fn entry_at_first_free(mask: u64, from: u32, to: u32, table: &[u32; 64]) -> u32
     ensures { (found : Option ℕ) × IsFirstIn (complement (bit_set 64 mask)) from to found
         × (result ≡ unwrap_or (option_map (λ i. slice_index table.now i) found) 0) }
@@ -78,7 +78,8 @@ pub fn all_taken_from(pages: &[u32; 8], from: u32) -> bool
     pages.all_in_span(from..)
 }
 
-/// Returns whether a role has each permission of a range. Some of these may not exist.
+/// Returns whether a role has each permission of a range. The range may go past the last permission
+/// that exists.
 pub fn grants_all(role: u32, from: u32, to: u32) -> bool
     ensures { MatchBool result (HasAllIn (bit_set 32 role) from to)
         (LacksSomeIn (bit_set 32 role) from to) }
@@ -118,7 +119,7 @@ pub fn common_through(one: u64, other: u64, last: u32) -> u32
     one.and(&other).within_span(..=last).count_ones()
 }
 
-/// Counts the set bits of any set from an index on, by an iterator.
+/// Counts the items of an iterator over the set bits of any set, from index `from` on.
 pub fn items_from<B: Bits>(set: &B, from: u32) -> usize
     requires { ShapeFits B.Shape set.now }
     ensures { let ours = set_in B.Shape B.Order.Endian set.now in
@@ -148,7 +149,7 @@ pub fn rearrange(mask: &mut u64)
     mask.toggle_span(..32);
 }
 
-/// Clears the bits of any set, read in any order, from an index on.
+/// Clears all bits of any set from index `from` on. The indexes follow the order `E`.
 pub fn cut<B: BitsMut, E: Endian>(set: &mut B, from: u32)
     requires fits { ShapeFits B.Shape set.old }
     requires within { from ≤ (B.big set.old).capacity }
@@ -166,7 +167,7 @@ pub fn low_mask(to: u32) -> u64
     0u64.with_span(..to)
 }
 
-/// Returns the word with all bits from an index on unset.
+/// Returns `word` with all bits from index `from` on cleared.
 pub fn without_high(word: u32, from: u32) -> u32
     requires { from ≤ 32 }
     ensures { bit_set 32 result ≡ without_span (bit_set 32 word) from 32 }
@@ -181,7 +182,8 @@ pub fn count_not_below(mask: u32, index: u32) -> u32
     Bits::count_ones(&mask) - mask.rank(index)
 }
 
-/// Clears a range, and returns how many bits are set then. It counts only before the change.
+/// Clears a range, and returns how many bits are set after that. It counts bits only before the
+/// change.
 pub fn clear_and_count(mask: &mut u64, from: u32, to: u32) -> u32
     requires ordered { from ≤ to }
     requires within { to ≤ 64 }
@@ -192,7 +194,8 @@ pub fn clear_and_count(mask: &mut u64, from: u32, to: u32) -> u32
     left
 }
 
-/// Sets a range, and returns how many bits are set then. It counts only before the change.
+/// Sets a range, and returns how many bits are set after that. It counts bits only before the
+/// change.
 pub fn fill_and_count(mask: &mut u64, from: u32, to: u32) -> u32
     requires ordered { from ≤ to }
     requires within { to ≤ 64 }

@@ -20,21 +20,21 @@ use bittle::{Bits, Endian, LittleEndian, Set, Shape};
 use bittle_ext::views::of_both::AndView;
 use bittle_ext::{BitsExt, BitsViewExt, View};
 
-/// Counts by an iterator the bits that are set in either of two words.
+/// Counts the items of an iterator over the bits that are set in at least one of two words.
 pub fn items_of_either(one: u64, other: u64) -> usize
     ensures { result ≡ length (ascending (either_of (bit_set 64 one) (bit_set 64 other))) }
 {
     one.or(&other).iter_ones().count()
 }
 
-/// Marks the entries of a table at the bits that are set in both words.
+/// For each bit that is set in both words, sets the entry of `table` at its index to `true`.
 pub fn mark_common(one: u64, other: u64, table: &mut [bool; 64]) {
     for index in one.and(&other).iter_ones() {
         table[index as usize] = true;
     }
 }
 
-/// Counts by an iterator the bits that are set in both of any two sets.
+/// Counts the items of an iterator over the bits that are set in both of any two sets.
 pub fn items<A: Bits, B: Bits>(left: &A, right: &B) -> usize
     requires left_fits { ShapeFits A.Shape left.now }
     requires right_fits { ShapeFits B.Shape right.now }
@@ -44,8 +44,8 @@ pub fn items<A: Bits, B: Bits>(left: &A, right: &B) -> usize
     left.and(right).iter_ones().count()
 }
 
-/// Counts by an iterator the bits that are set in both a byte and a row of longer words, which is
-/// read from the left.
+/// Counts the items of an iterator over the bits that are set in both a byte and a row of longer
+/// words. The row is read in little-endian order.
 pub fn items_of_unlike(byte: u8, row: &Set<[u32; 2], LittleEndian>) -> usize
     ensures { result ≡ length (ascending (both_of (bit_set 8 byte)
         (read_in true 32 (row_set 2 32 (bit_set 32) row.now.bits)))) }
@@ -53,7 +53,8 @@ pub fn items_of_unlike(byte: u8, row: &Set<[u32; 2], LittleEndian>) -> usize
     byte.and(row).iter_ones().count()
 }
 
-/// Counts by an iterator the bits that are set in both of two sets, which are read from the left.
+/// Counts the items of an iterator over the bits that are set in both of two sets. Both sets are
+/// read in little-endian order.
 pub fn items_of_sets(one: &Set<u64, LittleEndian>, other: &Set<u64, LittleEndian>) -> usize
     ensures { result ≡ length (ascending (both_of (read_in true 64 (bit_set 64 one.now.bits))
         (read_in true 64 (bit_set 64 other.now.bits)))) }
@@ -71,7 +72,7 @@ pub fn count_first<A: Bits, B: Bits>(left: &A, right: &B) -> u32
     left.minus(right).count_ones()
 }
 
-/// Counts the bits that are set in just one of two sets, whose words have one type.
+/// Counts the bits that are set in just one of two sets. The leaf words of both have the same type.
 pub fn count_different<A: Bits, B: Bits + Shape<LeafWord = A::LeafWord>>(left: &A, right: &B) -> u32
     requires left_fits { ShapeFits A.Shape left.now }
     requires right_fits { ShapeFits B.Shape right.now }
@@ -81,8 +82,8 @@ pub fn count_different<A: Bits, B: Bits + Shape<LeafWord = A::LeafWord>>(left: &
     left.xor(right).count_ones()
 }
 
-/// Counts by an iterator the bits that are set in either of any two sets. The greater capacity,
-/// rounded up to whole words, has to fit.
+/// Counts the items of an iterator over the bits that are set in at least one of any two sets. The
+/// greater capacity, rounded up to whole words of the first set, has to be below `u32::MAX`.
 pub fn items_of_any<A: Bits, B: Bits>(left: &A, right: &B) -> usize
     requires left_fits { ShapeFits A.Shape left.now }
     requires right_fits { ShapeFits B.Shape right.now }
@@ -94,7 +95,8 @@ pub fn items_of_any<A: Bits, B: Bits>(left: &A, right: &B) -> usize
     left.or_unlike(right).iter_ones().count()
 }
 
-/// Counts by an iterator the bits that are set in either a byte or a row of longer words.
+/// Counts the items of an iterator over the bits that are set in a byte, in a row of longer words,
+/// or in both.
 pub fn items_of_either_unlike(byte: u8, row: &[u32; 2]) -> usize
     ensures { result ≡ length (ascending (either_of (bit_set 8 byte)
         (row_set 2 32 (bit_set 32) row.now))) }
@@ -109,8 +111,8 @@ pub fn first_in_both(one: u64, other: u64) -> Option<u32>
     one.and(&other).first_one()
 }
 
-/// Returns the first bit from `from` on that is set in a row and unset in a byte, which is read
-/// from the left.
+/// Returns the first bit from index `from` on that is set in `row` and unset in `other`. The byte
+/// `other` is read in little-endian order.
 pub fn next_alone(row: &[u32; 2], other: &Set<u8, LittleEndian>, from: u32) -> Option<u32>
     ensures { IsFirstIn (decided_of_first first_alone (row_set 2 32 (bit_set 32) row.now)
         (read_in true 8 (bit_set 8 other.now.bits))) from 64 result }
@@ -125,7 +127,7 @@ pub fn rank_of_both(one: u64, other: u64, index: u32) -> u32
     one.and(&other).rank(index)
 }
 
-/// Returns where the first run of `length` numbers that are free in both maps begins.
+/// Returns the start of the first run of `length` numbers that are free in both maps.
 #[tactic(auto, using(bittle_ext::proofs::RunFacts::first_run_of_same))]
 pub fn free_in_both(one: u64, other: u64, length: u32) -> Option<u32>
     ensures { IsFirstRun (complement (either_of (bit_set 64 one) (bit_set 64 other))) 0 length
@@ -134,7 +136,7 @@ pub fn free_in_both(one: u64, other: u64, length: u32) -> Option<u32>
     one.or(&other).first_zero_run(length)
 }
 
-/// Returns where the first run of `lots` free lots begins, in a map of 200 lots.
+/// Returns the start of the first run of `lots` free lots, in a map whose first 200 bits are lots.
 #[tactic(auto, using(bittle_ext::proofs::RunFacts::first_run_within_same))]
 pub fn free_lots(taken: [u64; 4], lots: u32) -> Option<u32>
     ensures { IsFirstRun (members_within (complement (row_set 4 64 (bit_set 64) taken)) 0 200) 0
@@ -144,7 +146,7 @@ pub fn free_lots(taken: [u64; 4], lots: u32) -> Option<u32>
     free.within(0, 200).first_one_run(lots)
 }
 
-/// Returns where the first run of `length` numbers that are in both maps begins.
+/// Returns the start of the first run of `length` numbers that are in both maps.
 #[tactic(auto, using(bittle_ext::proofs::RunFacts::first_set_run_of_same))]
 pub fn run_in_both(one: u64, other: u64, length: u32) -> Option<u32>
     ensures { IsFirstRun (both_of (bit_set 64 one) (bit_set 64 other)) 0 length result }
@@ -152,7 +154,7 @@ pub fn run_in_both(one: u64, other: u64, length: u32) -> Option<u32>
     one.and(&other).first_one_run(length)
 }
 
-/// Counts the free numbers below 200 of a map.
+/// Counts the numbers below 200 that are free in a map.
 pub fn free_in_part(taken: [u64; 4]) -> u32
     ensures { result ≡ size (members_within (complement (row_set 4 64 (bit_set 64) taken)) 0 200) }
 {
@@ -167,7 +169,7 @@ pub fn first_free_run(word: u64, length: u32) -> Option<u32>
     word.complement_view().first_one_run(length)
 }
 
-/// Returns whether a bit is set in both of two rows. The index wraps.
+/// Returns whether bit `index` is set in both of two rows. An index past the capacity wraps.
 pub fn is_in_both(one: &[u32; 4], other: &[u32; 4], index: u32) -> bool
     ensures { result ≡ contains (both_of (row_set 4 32 (bit_set 32) one.now)
         (row_set 4 32 (bit_set 32) other.now)) index }
@@ -206,7 +208,7 @@ pub fn covers_low(one: u64, other: u64) -> bool
     one.within(0, 9).minus(&other).all_zeros()
 }
 
-/// Counts by an iterator the set bits in a range of any set.
+/// Counts the items of an iterator over the set bits in a range of any set.
 pub fn items_in_range<B: Bits>(bits: &B, from: u32, to: u32) -> usize
     requires fits { ShapeFits B.Shape bits.now }
     requires ordered { from ≤ to }
@@ -217,21 +219,21 @@ pub fn items_in_range<B: Bits>(bits: &B, from: u32, to: u32) -> usize
     bits.within(from, to).iter_ones().count()
 }
 
-/// Counts by an iterator the unset bits of a range.
+/// Counts the items of an iterator over the unset bits in the range `3..50`.
 pub fn zeros_in_range(word: u64) -> usize
     ensures { result ≡ length (ascending (members_within (complement (bit_set 64 word)) 3 50)) }
 {
     word.complement_view().within(3, 50).iter_ones().count()
 }
 
-/// Returns the first unset bit of a word from `from` on.
+/// Returns the first unset bit of a word whose index is at least `from`.
 pub fn next_of_unset(word: u64, from: u32) -> Option<u32>
     ensures { IsFirstIn (complement (bit_set 64 word)) from 64 result }
 {
     word.complement_view().next_one(from)
 }
 
-/// Returns whether the bits set in a word are those that two others have in common.
+/// Returns whether the bits set in `one` are just those that are set in both `other` and `third`.
 pub fn is_conjunction(one: u64, other: u64, third: u64) -> bool
     ensures { IsTrue result ↔ AreSame (bit_set 64 one)
         (both_of (bit_set 64 other) (bit_set 64 third)) }
@@ -239,7 +241,7 @@ pub fn is_conjunction(one: u64, other: u64, third: u64) -> bool
     Set::new(one).eq_bits(&other.and(&third))
 }
 
-/// Adds up the entries of a table at the bits that are set in both words.
+/// Adds up the entries of `table` at the indexes of the bits that are set in both words.
 pub fn sum_joined(one: u64, other: u64, table: &[u32; 64]) -> u64 {
     let mut total = 0u64;
     for entry in one.and(&other).join_ones(table.iter()) {
@@ -260,7 +262,8 @@ pub fn sum_of_slices<'a>(left: &'a [u64], right: &'a [u64]) -> u64
     total
 }
 
-/// Returns an iterator over the bits that are set in both of any two sets. It owns the view.
+/// Returns an iterator over the bits that are set in both of any two sets. The iterator owns the
+/// view of the two sets.
 pub fn iter_both<'a, A: Bits, B: Bits>(
     left: &'a A,
     right: &'a B,
@@ -273,8 +276,8 @@ pub fn iter_both<'a, A: Bits, B: Bits>(
     left.and(right).into_ones()
 }
 
-/// Counts by an iterator the bits that are set in both of two words. The view is wrapped in a `Set`
-/// that is read from the left.
+/// Counts the items of an iterator over the bits that are set in both of two words. The view of the
+/// two words is wrapped in a `Set` with little-endian order.
 pub fn items_from_left(one: u64, other: u64) -> usize
     ensures { result ≡ length (ascending (read_in true 64
         (both_of (bit_set 64 one) (bit_set 64 other)))) }
@@ -289,8 +292,8 @@ pub fn first_free(one: u64, other: u64) -> Option<u32>
     one.or(&other).first_zero()
 }
 
-/// Returns the least number that is in neither set. Two clauses say that the number is not in the
-/// one set, and not in the other.
+/// Returns the least number that is in neither set. One clause says that the number is not in
+/// `one`, and another clause that it is not in `other`.
 #[tactic(auto, using(bittle_lemmas::proofs::FoundNumbers::unset_in_first, bittle_lemmas::proofs::FoundNumbers::unset_in_second))]
 pub fn unset_in_both(one: u64, other: u64) -> Option<u32>
     ensures one { IfSome result (λ number. contains (bit_set 64 one) number ≡ false) }

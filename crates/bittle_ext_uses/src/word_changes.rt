@@ -31,7 +31,8 @@ pub fn take_away(mask: &mut i64, index: u32) -> bool
     mask.remove(index)
 }
 
-/// Sets or clears a bit, which is counted from the left, and returns whether it was set.
+/// Gives bit `index` the value `value`, and returns whether the bit was set. The index follows the
+/// little-endian order.
 pub fn put(mask: &mut u8, index: u32, value: bool) -> bool
     ensures was { result ≡ contains (read_in true 8 (bit_set 8 mask.old)) index }
     ensures set { read_in true 8 (bit_set 8 mask.new)
@@ -118,8 +119,8 @@ pub fn take_least(mask: &mut u128) -> Option<u32>
     mask.pop_first()
 }
 
-/// Clears the greatest set bit, counted from the left, and returns its index, or `None` if no bit
-/// is set.
+/// Clears the set bit with the greatest index in little-endian order, and returns that index, or
+/// `None` if no bit is set.
 pub fn take_greatest_le(mask: &mut u8) -> Option<u32>
     ensures greatest { IsLastIn (read_in true 8 (bit_set 8 mask.old)) 0 8 result }
 {
@@ -135,7 +136,8 @@ pub fn take_slot(slots: &mut u32) -> Option<u32>
     slots.take_first_zero()
 }
 
-/// Returns the word without its least and its greatest set bit. Neither call has a condition.
+/// Returns the word without its least and its greatest set bit. Neither `pop_first` nor `pop_last`
+/// has a condition.
 pub fn without_ends(mask: u64) -> u64
     ensures { (first : Option ℕ) × (last : Option ℕ) × (middle : ℕ)
         × IsFirstIn (bit_set 64 mask) 0 64 first
@@ -151,7 +153,7 @@ pub fn without_ends(mask: u64) -> u64
     rest
 }
 
-/// Sets a bit, and returns how many bits are set then. It counts only before the change.
+/// Sets a bit, and returns how many bits are set after that. It counts bits only before the change.
 pub fn insert_and_count(mask: &mut u64, index: u32) -> u32
     ensures { result ≡ size (bit_set 64 mask.new) }
 {

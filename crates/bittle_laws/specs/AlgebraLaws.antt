@@ -1,4 +1,4 @@
--- The laws of operations on sets of one capacity.
+-- The laws of operations on two sets of the same capacity.
 use Rattle.std.specs.Prelude.{◌≡◌, ℕ, ◌≤◌, false}
 use Rattle.bittle.specs.PlainSet.{PlainSet}
 
@@ -20,12 +20,12 @@ Associates op = (c : ℕ) (s t u : PlainSet) → IsBelow c s → IsBelow c t →
 abbrev pub IsIdempotent : (PlainSet → PlainSet → PlainSet) → Type 0
 IsIdempotent op = (s : PlainSet) → op s s ≡ s
 
--- `op` with the result of `over` is the same as `op` with each of its two sets, combined by `over`
+-- `op` distributes over `over`, as * distributes over + in a * (b + c) = a * b + a * c
 abbrev pub DistributesOver : (PlainSet → PlainSet → PlainSet) → (PlainSet → PlainSet → PlainSet) →
     Type 0
 DistributesOver over op = (c : ℕ) (s t u : PlainSet) → IsBelow c s → IsBelow c t → IsBelow c u →
     op s (over t u) ≡ over (op s t) (op s u)
 
--- the operation with the same second set, made twice, gives the first set back
+-- the operation made twice with the same second set gives the first set back
 abbrev pub UndoesItself : (PlainSet → PlainSet → PlainSet) → Type 0
 UndoesItself op = (c : ℕ) (s t : PlainSet) → IsBelow c s → IsBelow c t → op (op s t) t ≡ s

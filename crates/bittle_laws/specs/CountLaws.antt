@@ -1,10 +1,11 @@
--- Members and the other numbers below the capacity.
+-- The numbers below the capacity: how many are members, how many are not, and the lists of both.
 use Rattle.std.specs.Prelude.{◌≡◌, ℕ, ◌+◌, ◌<◌, ◌==◌, not, length}
 use Rattle.std.specs.List.{list_any}
 use Rattle.bittle.specs.PlainSet.{PlainSet, size, complement, ascending}
 
--- The members and the other numbers below the capacity add up to the capacity. The list of each
--- kind is as long as its count. Each number below the capacity is in just one of the two lists.
+-- The count of the members and the count of the other numbers below the capacity add up to the
+-- capacity. Each count is the length of the list of these numbers. Each number below the capacity
+-- is in just one of the two lists.
 pub record IsPartitioned (s : PlainSet) : Type 0 where
   pub total : size s + size (complement s) ≡ s.capacity
   pub ones_listed : length (ascending s) ≡ size s

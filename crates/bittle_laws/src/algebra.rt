@@ -1,12 +1,13 @@
 //! The laws of the operations on two sets.
 //!
-//! They hold for all plain sets (sets of numbers in contracts) of the same capacity. The contracts
-//! of the calls state results as plain sets, so the laws hold for the values of an owned type too.
+//! The laws hold for plain sets (the sets of numbers in contracts) of the same capacity. The
+//! contracts of calls such as `union` state results as plain sets, so the laws hold for the values
+//! of an owned type too.
 
 ghost use Rattle.bittle_laws.specs.AlgebraLaws.{Commutes, Associates, IsIdempotent, DistributesOver, UndoesItself};
 ghost use Rattle.bittle.specs.SetOperations.{union_of, conjunction_of, symmetric_difference_of};
 
-/// States that the union of two sets, and their conjunction, does not depend on which comes first.
+/// States that it does not matter which of two sets comes first in their union or conjunction.
 pub fn union_and_conjunction_commute()
     ensures union { Commutes union_of }
     ensures conjunction { Commutes conjunction_of }
@@ -19,7 +20,7 @@ pub fn union_and_conjunction_associate()
     ensures conjunction { Associates conjunction_of }
 {}
 
-/// States that the union of a set with itself, and the conjunction, is that set.
+/// States that the union of a set with itself is that set, and so is its conjunction with itself.
 pub fn union_and_conjunction_are_idempotent()
     ensures union { IsIdempotent union_of }
     ensures conjunction { IsIdempotent conjunction_of }
@@ -31,7 +32,8 @@ pub fn union_and_conjunction_distribute()
     ensures conjunction { DistributesOver union_of conjunction_of }
 {}
 
-/// States that the symmetric difference with the same set, taken twice, gives the first set back.
+/// States that the symmetric difference taken twice with the same second set gives the first set
+/// back.
 pub fn symmetric_difference_undoes_itself()
     ensures { UndoesItself symmetric_difference_of }
 {}

@@ -1,5 +1,5 @@
 //! Laws of how two sets of any shapes are ordered, tested for equality and hashed. Each function
-//! makes no calls, and its contract is the law.
+//! does nothing, and its contract is the law.
 
 ghost use Rattle.bittle_laws.specs.ComparisonLaws.{OrderIsTotal, OrderAgreesWithEquality, OrderReverses, EqualityIsSymmetric, EqualSetsFeedAlike};
 
@@ -8,7 +8,7 @@ pub fn order_is_total()
     ensures { OrderIsTotal }
 {}
 
-/// States that two sets are equal exactly if their order is `Equal`.
+/// States that two sets are equal exactly if the comparison of their order gives `Equal`.
 pub fn order_agrees_with_equality()
     ensures { OrderAgreesWithEquality }
 {}

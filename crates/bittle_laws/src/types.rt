@@ -1,5 +1,5 @@
-//! The order that each type has for calls that name no order. Each function makes no calls, and its
-//! contract is the law.
+//! The bit order in which calls that name no order read each type. Each function does nothing, and
+//! its contract is the law.
 
 ghost use Rattle.std.specs.Prelude.{◌≡◌, false};
 

@@ -1,6 +1,6 @@
-//! Keeps a small set as the lines of the input say, and prints its answers. `bittle_run` and
-//! `bittle_run_refused` have this very text. The first is stored with a script that is answered,
-//! the second with one that is refused.
+//! Reads a script from standard input, carries out its commands on a small set, and prints the
+//! answers. `bittle_run` and `bittle_run_refused` have this same file. The folder of the first has
+//! a script that is answered, and the folder of the second has a script that is refused.
 #![tactic(auto)]
 
 use bittle_script::{RunStatus, run};

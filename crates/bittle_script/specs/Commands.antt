@@ -6,7 +6,7 @@ use Rattle.bittle_script.specs.declared.command.Command.TheVariants.{Set, Clear,
 use Rattle.bittle_script.specs.Numbers.{number_of}
 use Rattle.bittle_script.specs.CommandWords.{is_word, begins_with}
 
--- the command that a line says by a word, one space and an index
+-- the command of a line such as `set 5`: a word, one space and an index; None for any other line
 abbrev pub indexed_command_of : List ℕ → Option Command
 indexed_command_of line =
     if begins_with line (codes "set ") then option_map Set (number_of (drop 4 line))
@@ -14,7 +14,7 @@ indexed_command_of line =
     else (if begins_with line (codes "test ") then option_map Test (number_of (drop 5 line)) else
     None))
 
--- the command that a line says
+-- the command that a line says, or None if the line is no command
 abbrev pub command_of : List ℕ → Option Command
 command_of line =
     if is_word line (codes "count") then Some Count

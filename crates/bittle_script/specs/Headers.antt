@@ -1,4 +1,4 @@
--- What a first line says.
+-- The bit order and the shape that a first line names.
 use Rattle.std.specs.Prelude.{ℕ, List, Option, Some, None, codes, drop, if◌then◌else◌}
 use Rattle.std.specs.Option.{option_map}
 use Rattle.bittle_script.specs.declared.header.Header.{Header}
@@ -8,7 +8,7 @@ use Rattle.bittle_script.specs.declared.header.Shape.{Shape}
 use Rattle.bittle_script.specs.declared.header.Shape.TheVariants.{U8, U8x4, U8x2x2, U16x2, I32}
 use Rattle.bittle_script.specs.CommandWords.{is_word, begins_with}
 
--- the shape with this name
+-- the shape with this name, or None if no shape has it
 abbrev pub shape_of : List ℕ → Option Shape
 shape_of name =
     if is_word name (codes "u8") then Some U8
@@ -21,7 +21,7 @@ shape_of name =
 abbrev pub header_in_order : Order → Shape → Header
 header_in_order order shape = record { order = order; shape = shape }
 
--- the order and the shape that a first line names
+-- the bit order and the shape that a first line names, or None if the line has another form
 abbrev pub header_of : List ℕ → Option Header
 header_of line =
     if begins_with line (codes "be ") then option_map (header_in_order Big) (shape_of (drop 3 line))

@@ -9,6 +9,6 @@ use Rattle.bittle_script.specs.Texts.{script_lines}
 abbrev pub numbered_line : Line → ℕ × List ℕ
 numbered_line line = (line.number, line.text.now)
 
--- the lines left, each with its number
+-- the lines that the iterator has not yielded yet, each with its number
 abbrev pub lines_left : Lines → List (ℕ × List ℕ)
 lines_left s = enumerate_from (s.taken + 1) (script_lines s.rest.now)

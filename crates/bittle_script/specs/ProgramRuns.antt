@@ -9,7 +9,7 @@ use Rattle.bittle_script.specs.Answers.{Answers, script_answers}
 use Rattle.bittle_script.specs.Beginnings.{AppendsBeginning}
 use Rattle.bittle_script.specs.Refusals.{message_of}
 
--- the answers to an input that is refused whole
+-- the answers to an input that is refused as a whole: just the message of the refusal
 abbrev pub refusal_answers : Refusal → Answers
 refusal_answers refusal = record { text = message_of refusal; outcome = Refused }
 
@@ -18,7 +18,8 @@ abbrev pub input_answers : List ℕ → Answers
 input_answers text = if nat_lt 4096 (length text) then refusal_answers TooLong else script_answers
     text
 
--- the answers to what the reader has left, or the refusal because a read failed
+-- `given` are the answers to the bytes that the reader has left, or the refusal because a read
+-- failed
 abbrev pub MayBeAnswered : Option (List ℕ) → Answers → Type 0
 MayBeAnswered remaining given = ((text : List ℕ) × IfSome remaining (λ all. text ≡ all)
     × (given ≡ input_answers text)) ⊎ (given ≡ refusal_answers ReadFailed)

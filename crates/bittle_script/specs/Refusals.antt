@@ -1,4 +1,4 @@
--- What is printed for an input that is refused whole.
+-- What is printed for an input that is refused as a whole.
 use Rattle.std.specs.Prelude.{ℕ, List, codes}
 use Rattle.bittle_script.specs.declared.reading.Refusal.{Refusal}
 use Rattle.bittle_script.specs.declared.reading.Refusal.TheVariants.{TooLong, ReadFailed}

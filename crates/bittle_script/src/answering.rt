@@ -35,7 +35,8 @@ impl Outcome {
     }
 }
 
-/// Writes the answers to the lines of `text`, up to the first that is not understood.
+/// Writes the answers to the lines of the script `text`. At the first line that is not understood,
+/// it writes a refusal of that line and stops.
 pub fn answer<W: Write>(text: &[u8], output: &mut Output<'_, W>) -> Result<Outcome, WriteFailed>
     requires { length text.now ≤ MOST_BYTES }
     ensures same_writer { output.new.writer.ghost_name ≡ output.old.writer.ghost_name }
@@ -49,7 +50,8 @@ pub fn answer<W: Write>(text: &[u8], output: &mut Output<'_, W>) -> Result<Outco
     }
 }
 
-/// Takes the first line, and returns what it says, or `None` if it is not understood.
+/// Takes the first line, and returns the header that it says. Returns `None` if there is no line,
+/// or if the line is no header.
 fn take_header(lines: &mut Lines<'_>) -> Option<Header>
     ensures header { result ≡ header_in (lines_left lines.old) }
     ensures rest { OnSome result (lines_left lines.new ≡ drop 1 (lines_left lines.old)) }
@@ -57,7 +59,8 @@ fn take_header(lines: &mut Lines<'_>) -> Option<Header>
     Header::parse(lines.next()?.text)
 }
 
-/// Answers the lines in the order that the header names.
+/// Answers `lines`, the lines after the header. The header names the bit order and the shape of the
+/// set on which the commands work.
 fn answer_in_order<W: Write>(
     header: Header,
     lines: Lines<'_>,
@@ -73,7 +76,7 @@ fn answer_in_order<W: Write>(
     }
 }
 
-/// Answers the lines. The set is a value of the shape.
+/// Answers `lines`. The commands work on a set of the shape `shape`, in the bit order `E`.
 fn answer_shape<E: Endian, W: Write>(
     shape: Shape,
     lines: Lines<'_>,
@@ -92,8 +95,8 @@ fn answer_shape<E: Endian, W: Write>(
     }
 }
 
-/// Answers the lines. The set is a value of the type `B`, begins empty and is read in the order
-/// `E`.
+/// Answers `lines`, and skips empty lines. The commands work on a set of type `B`, which begins
+/// empty and is read in the bit order `E`.
 fn answer_lines<B: BitsOwned, E: Endian, W: Write>(
     lines: Lines<'_>,
     output: &mut Output<'_, W>,
@@ -116,7 +119,7 @@ fn answer_lines<B: BitsOwned, E: Endian, W: Write>(
     Ok(Outcome::Answered)
 }
 
-/// Returns the value that is the empty set.
+/// Returns the value of type `B` in which no bit is set.
 fn empty_value<B: BitsOwned>() -> B
     requires { IsTrue B.indexable }
     ensures { B.big result ≡ empty_set B.type_capacity }
@@ -124,7 +127,7 @@ fn empty_value<B: BitsOwned>() -> B
     set![]
 }
 
-/// Carries out a command, and prints the answer of a command that has one.
+/// Carries out `command` on `bits`, and prints the answer if the command has one.
 fn obey<B: BitsOwned, E: Endian, W: Write>(
     command: Command,
     bits: &mut B,
@@ -152,7 +155,7 @@ fn obey<B: BitsOwned, E: Endian, W: Write>(
     }
 }
 
-/// Prints on a line whether a bit is set.
+/// Prints a line that says whether a bit is set: `true` or `false`.
 fn print_bit<W: Write>(is_set: bool, output: &mut Output<'_, W>) -> Result<(), WriteFailed>
     ensures same_writer { output.new.writer.ghost_name ≡ output.old.writer.ghost_name }
     ensures prints { Puts W.contents output.old output.new result
@@ -175,7 +178,8 @@ fn print_number<W: Write>(number: u32, output: &mut Output<'_, W>) -> Result<(),
     output.put(b"\n")
 }
 
-/// Prints the members of a set, in increasing order and with one space between, on a line.
+/// Prints a line with the indexes of the set bits in increasing order, separated by one space. The
+/// line is empty if no bit is set.
 fn print_members<B: BitsOwned, E: Endian, W: Write>(
     set: &Set<B, E>,
     output: &mut Output<'_, W>,
@@ -192,7 +196,7 @@ fn print_members<B: BitsOwned, E: Endian, W: Write>(
     output.put(b"\n")
 }
 
-/// Prints that the line with this number is not understood.
+/// Prints that line `number` is not understood, and returns `Refused`.
 fn refuse<W: Write>(number: u32, output: &mut Output<'_, W>) -> Result<Outcome, WriteFailed>
     ensures same_writer { output.new.writer.ghost_name ≡ output.old.writer.ghost_name }
     ensures refused { IsGiven W.contents output.old output.new result

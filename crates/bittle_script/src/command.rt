@@ -35,8 +35,8 @@ impl Command {
         }
     }
 
-    /// Returns the command of a line that is a word, a space and an index, or `None` for another
-    /// line.
+    /// Returns the command of a line such as `set 5`: a word, one space and an index. Returns
+    /// `None` for any other line.
     fn parse_indexed(line: &[u8]) -> Option<Command>
         ensures { result ≡ indexed_command_of line.now }
     {

@@ -1,4 +1,4 @@
-//! What the first line says of the set.
+//! The first line of a script. It names the bit order and the shape of the set.
 ghost use Rattle.std.specs.Prelude.{◌≡◌};
 
 /// The order in which the bits of each word are indexed.
@@ -10,7 +10,7 @@ pub enum Order {
     Little,
 }
 
-/// The type of the value that is the set.
+/// A type that the set of a script may have.
 #[derive(Clone, Copy)]
 pub enum Shape {
     /// `u8`
@@ -48,19 +48,20 @@ impl Shape {
     }
 }
 
-/// What the first line says.
+/// The bit order and the shape that the first line of a script names.
 #[derive(Clone, Copy)]
 pub struct Header {
     /// The order in which the set is read.
     pub order: Order,
-    /// The type of its value.
+    /// The type of the set.
     pub shape: Shape,
 }
 
 impl Header {
     ghost use Rattle.bittle_script.specs.Headers.{header_of};
 
-    /// Returns the order and the shape that a first line names, or `None` if it names none.
+    /// Returns the bit order and the shape that a line such as `be u8x4` names, or `None` if the
+    /// line has another form.
     pub fn parse(line: &[u8]) -> Option<Header>
         ensures { result ≡ header_of line.now }
     {

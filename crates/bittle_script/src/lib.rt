@@ -23,8 +23,9 @@ use writing::{Output, WriteFailed};
 /// The status of a run whose output failed.
 const OUTPUT_FAILED: u8 = 1;
 
-/// Reads a script, writes the answers to it, and returns the status that the program ends with: 0,
-/// or 2 if the input is refused, or 1 if the output failed.
+/// Reads a script, writes the answers to it, and returns the status that the program ends with. The
+/// status is 0 if each line was understood, 2 if the input or one of its lines was refused, and 1
+/// if the output failed.
 pub fn run<R: Read, W: Write>(input: &mut R, output: &mut W) -> RunStatus
     ensures status { result ≤ 2 }
     ensures answered { IsRun (R.remaining input.old) (W.contents output.old)

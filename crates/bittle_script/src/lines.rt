@@ -8,13 +8,13 @@ use crate::reading::MOST_BYTES;
 /// A line, and its number, counted from 1.
 #[derive(Clone, Copy)]
 pub struct Line<'a> {
-    /// Its number.
+    /// The number of the line, counted from 1.
     pub number: u32,
     /// The line without its end.
     pub text: &'a [u8],
 }
 
-/// The lines of a text.
+/// An iterator over the lines of a text.
 #[derive(Drop)]
 pub struct Lines<'a> {
     rest: &'a [u8],
@@ -26,7 +26,7 @@ impl<'a> Lines<'a> {
     ghost use Rattle.std.specs.List.{enumerate_from};
     ghost use Rattle.bittle_script.specs.Lines.{lines_left};
 
-    /// Returns the lines of a text that is no longer than an input may be.
+    /// Returns an iterator over the lines of `text`, which may have at most `MOST_BYTES` bytes.
     pub fn new(text: &'a [u8]) -> Self
         requires { length text.now ≤ MOST_BYTES }
         ensures { lines_left result ≡ enumerate_from 1 (script_lines text.now) }
@@ -64,7 +64,8 @@ impl<'a> Iterator for Lines<'a> {
 }
 
 #[tactic(auto, using(crate::proofs::FirstLine::first_script_line, crate::proofs::FirstLine::only_script_line))]
-/// Returns the first line of a text that is not empty, without its line end, and the text after it.
+/// Returns the first line of `text` without its line end, and the rest of `text` after that line.
+/// The text must not be empty.
 fn first_line(text: &[u8]) -> (&[u8], &[u8])
     requires { 0 < length text.now }
     ensures lines { script_lines text.now ≡ result.0.now ∷ script_lines result.1.now }
@@ -76,7 +77,8 @@ fn first_line(text: &[u8]) -> (&[u8], &[u8])
     }
 }
 
-// Returns the index of the first line feed (byte 10), where the first line ends.
+// Returns the index of the first line feed (byte 10), which ends the first line, or `None` if there
+// is no line feed.
 fn end_of_line(text: &[u8]) -> Option<usize>
     ensures { result ≡ position (λ b. b == 10) text.now }
 {

@@ -8,7 +8,8 @@ use std::io::{Error, ErrorKind, Read};
 /// The most bytes that an input may have.
 pub const MOST_BYTES: usize = 4096;
 
-/// One more byte than an input may have, so that a longer input is noticed.
+/// The size of the array that the input is read into: one byte more than an input may have, so that
+/// a longer input is noticed.
 pub const ROOM: usize = 4097;
 
 /// The most calls of `read` in a run.
@@ -17,7 +18,7 @@ const MOST_READS: u32 = 8192;
 /// Why the input is refused.
 #[derive(Clone, Copy)]
 pub enum Refusal {
-    /// It has more than 4,096 bytes.
+    /// The input has more than 4,096 bytes.
     TooLong,
     /// A read failed, or 8,192 reads did not reach the end of the input.
     ReadFailed,
@@ -26,7 +27,7 @@ pub enum Refusal {
 impl Refusal {
     ghost use Rattle.bittle_script.specs.Refusals.{message_of};
 
-    /// Returns the line that is printed.
+    /// Returns the line that is printed for this refusal.
     pub fn message(&self) -> &'static [u8]
         ensures { result.now ≡ message_of self.now }
     {
@@ -37,7 +38,8 @@ impl Refusal {
     }
 }
 
-/// Reads the whole input into the start of `bytes`, and returns how many bytes it has.
+/// Reads the whole input into the start of `bytes`, and returns how many bytes the input has.
+/// Returns a refusal if the input is too long, or if it cannot be read to its end.
 pub fn read_all<R: Read>(input: &mut R, bytes: &mut [u8; ROOM]) -> Result<usize, Refusal>
     ensures fits { IfOk result (λ len. len ≤ MOST_BYTES) }
     ensures all { IfOk result
@@ -61,7 +63,8 @@ pub fn read_all<R: Read>(input: &mut R, bytes: &mut [u8; ROOM]) -> Result<usize,
     Err(Refusal::ReadFailed)
 }
 
-/// Returns whether a signal cut the call short, so that it may be made again.
+/// Returns whether `error` says that a signal interrupted a read or a write, which may then be
+/// tried again.
 pub fn is_interrupted(error: &Error) -> bool
     ensures { IsTrue result ↔ (error_kind error.now ≡ ErrorKind.Interrupted) }
 {

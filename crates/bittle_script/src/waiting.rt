@@ -6,7 +6,7 @@ use std::marker::Model;
 /// How many bytes may wait.
 const ROOM: usize = 4096;
 
-/// Bytes that wait to be written.
+/// A buffer of bytes that wait to be written.
 #[derive(Drop)]
 pub struct Waiting {
     bytes: [u8; ROOM],
@@ -49,7 +49,7 @@ impl Waiting {
         self.len == ROOM
     }
 
-    /// Adds a byte.
+    /// Adds a byte at the end. The buffer must not be full.
     pub fn push(&mut self, byte: u8)
         requires { length self.old < 4096 }
         ensures { self.new ≡ self.old ++ byte ∷ [] }

@@ -9,10 +9,11 @@ use crate::reading::is_interrupted;
 use crate::waiting::Waiting;
 use std::io::{Error, ErrorKind, Write};
 
-/// A run fails once this many writes were interrupted.
+/// The number of interrupted writes at which a run fails.
 const MOST_INTERRUPTED: u32 = 8192;
 
-/// The output failed, and nothing more is written. Only this module makes such a value.
+/// The error of a run whose output failed. After it nothing more is written. Only this module makes
+/// a value of this type.
 #[derive(Debug, Drop)]
 pub struct WriteFailed(());
 
@@ -28,7 +29,7 @@ pub struct Output<'a, W> {
 impl<'a, W: Write> Output<'a, W> {
     ghost use Rattle.bittle_script.specs.Outputs.{Puts};
 
-    /// Returns an output to a writer. No write was interrupted yet, and no bytes wait.
+    /// Returns an output that writes to `writer`. No write was interrupted yet, and no bytes wait.
     pub fn new(writer: &'a mut W) -> Self
         ensures same_writer { result.writer.ghost_name ≡ writer.entry.ghost_name }
         ensures contents { result.writer.now ≡ writer.old }
@@ -42,8 +43,8 @@ impl<'a, W: Write> Output<'a, W> {
         }
     }
 
-    /// Adds `bytes` to the bytes that wait. If it fails, only a beginning of all these bytes was
-    /// written.
+    /// Adds `bytes` after the bytes that wait. Whenever the buffer is full, its bytes are written.
+    /// If a write fails, only a beginning of all these bytes was written.
     pub fn put(&mut self, bytes: &[u8]) -> Result<(), WriteFailed>
         ensures same_writer { self.new.writer.ghost_name ≡ self.old.writer.ghost_name }
         ensures puts { Puts W.contents self.old self.new result bytes.now }
@@ -55,7 +56,7 @@ impl<'a, W: Write> Output<'a, W> {
         Ok(())
     }
 
-    /// Adds a number, in decimal digits.
+    /// Adds `number` in decimal digits after the bytes that wait.
     pub fn put_number(&mut self, number: u32) -> Result<(), WriteFailed>
         ensures same_writer { self.new.writer.ghost_name ≡ self.old.writer.ghost_name }
         ensures puts { Puts W.contents self.old self.new result (decimal number) }
@@ -67,7 +68,7 @@ impl<'a, W: Write> Output<'a, W> {
         self.put_byte(b'0' + (number % 10) as u8)
     }
 
-    /// Adds `before`, and then a number in decimal digits.
+    /// Adds the bytes `before`, and then `number` in decimal digits, after the bytes that wait.
     pub fn put_after(&mut self, before: &[u8], number: u32) -> Result<(), WriteFailed>
         ensures same_writer { self.new.writer.ghost_name ≡ self.old.writer.ghost_name }
         ensures puts { Puts W.contents self.old self.new result (before.now ++ decimal number) }
@@ -89,7 +90,7 @@ impl<'a, W: Write> Output<'a, W> {
         self.writer.flush().map_err(|_| WriteFailed(()))
     }
 
-    // Adds a byte to the bytes that wait. If the buffer is full, it first writes them.
+    // Adds `byte` after the bytes that wait. If the buffer is full, its bytes are written first.
     fn put_byte(&mut self, byte: u8) -> Result<(), WriteFailed>
         ensures same_writer { self.new.writer.ghost_name ≡ self.old.writer.ghost_name }
         ensures puts { Puts W.contents self.old self.new result (byte ∷ []) }
@@ -102,7 +103,7 @@ impl<'a, W: Write> Output<'a, W> {
         Ok(())
     }
 
-    // Writes the bytes that wait. After that no bytes wait.
+    // Writes the bytes that wait. If this succeeds, no bytes wait afterwards.
     fn send(&mut self) -> Result<(), WriteFailed>
         ensures same_writer { self.new.writer.ghost_name ≡ self.old.writer.ghost_name }
         ensures bytes { Writes (W.contents self.old.writer.now)
@@ -122,7 +123,8 @@ impl<'a, W: Write> Output<'a, W> {
         Ok(())
     }
 
-    // Counts an interrupted write. Fails if it is one too many, or at any other error.
+    // Counts a write that was interrupted. Returns `Err` if this is interruption number
+    // `MOST_INTERRUPTED`, and at any other error.
     fn note_failure(&mut self, error: &Error) -> Result<(), WriteFailed>
         ensures same_writer { self.new.writer ≡ self.old.writer }
         ensures same_bytes { self.new.waiting ≡ self.old.waiting }

@@ -3,7 +3,7 @@ use Rattle.std.proofs.Common.{ℕ, ◌*◌, ◌≤◌, Bool, ◌&&◌, nat_le, I
 use Rattle.std.proofs.lemmas.Bool.{and_parts, leb-true}
 use Rattle.bittle_tiers.specs.Tiers.{can_summarize}
 
--- the parts of `can_summarize`
+-- if `can_summarize` holds, each of its three parts holds; one proof for each part, in their order
 pub map_indexable : (a b : Bool) (c d w : ℕ) → IsTrue (can_summarize a b c d w) → IsTrue a
 map_indexable a b c d w h = (and_parts a (b && nat_le c (d * w)) h).0
 

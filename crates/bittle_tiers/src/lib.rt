@@ -1,6 +1,6 @@
 //! Sets with a summary of their words. The summary is a set itself: it shows which words have a bit
-//! of one kind, set or unset. A search or an iterator for this kind skips the other words instead
-//! of reading each one.
+//! of one kind, set or unset. A search or an iterator for bits of this kind skips most words that
+//! have none, instead of reading each word.
 //!
 //! ```rust
 //! use bittle::{Bits, BitsMut, BitsOwned};

@@ -1,5 +1,6 @@
-//! Sets with a summary, of the usual sizes. A summary is searched for its set bits, so its own
-//! summary is of the kind [`Ones`], whatever the kind of the set.
+//! Types of sets with a summary, in the usual sizes. In the larger types the summary has a summary
+//! itself. This second one is of the kind [`Ones`], whatever the kind of the set, since a search
+//! looks for the set bits of the first summary.
 
 ghost use Rattle.std.specs.Prelude.{◌≡◌};
 ghost use Rattle.bittle.specs.BitPatterns.{bit_set};
@@ -10,7 +11,7 @@ use crate::tiered::Tiered;
 use bittle_bits::bits_owned::BitsOwned;
 use bittle_bits::extension::{Kind, Ones};
 
-/// Has 4,096 bits: 64 words, and a summary of one word.
+/// A set of 4,096 bits: 64 words, and a summary of one word.
 ///
 /// ```
 /// Tiered4K::<Ones>::zeros();                          // for sparse sets
@@ -18,14 +19,16 @@ use bittle_bits::extension::{Kind, Ones};
 /// ```
 pub type Tiered4K<K> = Tiered<[u64; 64], u64, K>;
 
-/// Has 65,536 bits: 1,024 words, a summary of 16 words, and one word that summarizes the summary.
+/// A set of 65,536 bits: 1,024 words, a summary of 16 words, and one word that summarizes the
+/// summary.
 ///
 /// ```
 /// Tiered64K::<Ones>::bits();                          // 65,536
 /// ```
 pub type Tiered64K<K> = Tiered<[u64; 1024], Tiered<[u64; 16], u64, Ones>, K>;
 
-/// Has 262,144 bits: 4,096 words, a summary of 64 words, and one word that summarizes the summary.
+/// A set of 262,144 bits: 4,096 words, a summary of 64 words, and one word that summarizes the
+/// summary.
 ///
 /// ```
 /// Tiered256K::<Zeros>::bits();                        // 262,144

@@ -24,16 +24,17 @@ use std::fmt;
 use std::marker::PhantomData;
 
 /// A map, which is a set, with a summary of its words. The summary is a set itself: number `k` is a
-/// member exactly if word `k` of the map has a bit of the kind `K` (set or unset). A `Tiered`
-/// stands for the same set as its map, so each call does and returns what it does on the map.
+/// member exactly if word `k` of the map has a bit of the kind `K` (a set bit for [`Ones`], an
+/// unset bit for [`Zeros`]). A `Tiered` stands for the same set as its map, so each call has the
+/// same effect and the same result as on the map.
 ///
 /// With [`Ones`] it is for sparse sets: an iterator over the set bits, or a search for one, reads
 /// the words that have a set bit. Before each of these it reads at most one word without a set bit.
-/// With [`Zeros`] it is for allocators: a search finds the least free page of a nearly full map. A
-/// change of one bit also writes one bit of the summary.
+/// With [`Zeros`] it is for allocators: a search finds the least free page of a nearly full map.
+/// With either kind, a change of one bit also writes one bit of the summary.
 ///
-/// The summary may have a summary itself. The kind of that second summary is [`Ones`], since a
-/// search looks for the set bits of the first summary.
+/// The summary may have a summary itself. Use the kind [`Ones`] for that second summary, since a
+/// search looks for the set bits of the first one.
 ///
 /// The summary needs one bit for each word of the map. If it has too few bits, the shape does not
 /// fit: `bits()` and `bits_capacity()` return `u32::MAX`.
@@ -70,9 +71,9 @@ impl<B: Shape, S: Shape, K: Kind> Shape for Tiered<B, S, K> {
 }
 
 impl<B: BitsOwned, S: BitsOwned, K: Kind> Tiered<B, S, K> {
-    /// Makes the summary of a map, and keeps both.
+    /// Makes the summary of `map`, and returns the two together.
     ///
-    /// The shape has to fit: `bits()` is below `u32::MAX`. It reads each word.
+    /// The shape has to fit: `bits()` is below `u32::MAX`. The call reads each word of the map.
     ///
     /// ```
     /// Tiered::<[u64; 2], u8, Ones>::new([0, 1]).iter_ones();          // yields 64
@@ -92,7 +93,7 @@ impl<B: BitsOwned, S: BitsOwned, K: Kind> Tiered<B, S, K> {
 
     /// Returns the map.
     ///
-    /// Always callable. Costs nothing.
+    /// Always callable. The call costs O(1).
     ///
     /// ```
     /// Tiered::<[u64; 2], u8, Ones>::new([0, 1]).map()[1];             // 1
@@ -245,8 +246,8 @@ impl<B: BitsOwned, S: BitsOwned, K: Kind> Bits for Tiered<B, S, K> {
     }
 }
 
-// Sets the bit at an index, which wraps, if `V` is `Ones`, else clears it. Then updates the summary
-// for the word of that bit.
+// Sets the bit at `index` if `V` is `Ones`, and else clears it. An index past the capacity wraps.
+// Then updates the summary for the word of that bit.
 #[inline]
 fn put_bit<B: BitsOwned, S: BitsOwned, K: Kind, E: Endian, V: Kind>(
     tiered: &mut Tiered<B, S, K>,

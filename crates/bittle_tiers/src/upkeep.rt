@@ -1,5 +1,6 @@
-//! The upkeep of a summary: how it is read and written word by word. A summary has number `k`
-//! exactly if word `k` of its map has a bit of the kind `K` (set or unset).
+//! How a summary is read, and how it is updated for words of its map. Number `k` is a member of the
+//! summary exactly if word `k` of the map has a bit of kind `K`: a set bit if `K` is `Ones`, an
+//! unset bit if `K` is `Zeros`.
 
 ghost use Rattle.std.specs.Prelude.{◌≡◌, ◌≢◌, ℕ, ◌*◌, ◌%◌, ◌^◌, ◌<◌, ◌≤◌, ◌==◌, true, IsTrue};
 ghost use Rattle.bittle.specs.PlainSet.{size};
@@ -18,7 +19,8 @@ use bittle_bits::extension::{
     End, Front, Kind, Ones, ReadWords, Word, end_in, is_without_bits, word_of_kind, word_width,
 };
 
-// Returns whether word `k` of a set has a bit of the kind.
+// Returns whether word `k` of `map` has a bit of kind `K`: a set bit if `K` is `Ones`, else an
+// unset bit.
 #[inline]
 fn has_some<B: ReadWords, K: Kind>(map: &B, k: usize) -> bool
     requires fits { ShapeFits B.Shape map.now }
@@ -28,7 +30,7 @@ fn has_some<B: ReadWords, K: Kind>(map: &B, k: usize) -> bool
     !is_without_bits::<B::LeafWord>(word_of_kind::<B, K>(map, k))
 }
 
-/// Sets the bit at an index, which wraps, if `V` is `Ones`, else clears it.
+/// Sets the bit at `index` if `V` is `Ones`, and else clears it. An index past the capacity wraps.
 #[inline]
 pub(crate) fn put_bit<B: BitsMut, E: Endian, V: Kind>(map: &mut B, index: u32)
     requires { IsTrue B.indexable }
@@ -57,8 +59,8 @@ fn put<S: BitsMut>(summary: &mut S, k: usize, some: bool)
     }
 }
 
-/// Updates a summary for word `k` of the map. The word is not read if it is known to have a bit of
-/// the kind.
+/// Updates `summary` for word `k` of `map`. If `is_known` is `true`, the word is known to have a
+/// bit of kind `K`, and is not read.
 #[inline]
 pub(crate) fn refresh<B: ReadWords, S: BitsMut, K: Kind>(
     map: &B,
@@ -99,7 +101,7 @@ pub(crate) fn rebuild<B: BitsOwned, S: BitsOwned, K: Kind>(map: &B, summary: &mu
     }
 }
 
-/// Returns whether no word has a bit of the kind, as the summary shows.
+/// Returns whether no word of `map` has a bit of kind `K`. It reads only the summary.
 #[inline]
 pub(crate) fn has_none<B: BitsOwned, S: BitsOwned, K: Kind>(map: &B, summary: &S) -> bool
     requires map_fits { IsTrue B.indexable }
@@ -115,7 +117,8 @@ pub(crate) fn has_none<B: BitsOwned, S: BitsOwned, K: Kind>(map: &B, summary: &S
     }
 }
 
-/// Updates a summary for the words `first..=last`. For all other words it has to be right already.
+/// Updates `summary` for the words `first..=last` of `map`. For all other words, the summary has to
+/// be right already.
 #[inline]
 pub(crate) fn refresh_range<B: BitsOwned, S: BitsOwned, K: Kind>(
     map: &B,
@@ -137,8 +140,8 @@ pub(crate) fn refresh_range<B: BitsOwned, S: BitsOwned, K: Kind>(
     }
 }
 
-/// Returns the end `N` (front or back) of the words `low..high`, after moving it past all words at
-/// that end without a bit of the kind.
+/// Moves one end of the range of words `low..high` past all words at that end that have no bit of
+/// kind `K`, and returns the moved end. `N` names the end: the front or the back.
 #[inline]
 pub(crate) fn pass_over<B: BitsOwned, S: BitsOwned, K: Kind, N: End>(
     map: &B,
@@ -161,10 +164,11 @@ pub(crate) fn pass_over<B: BitsOwned, S: BitsOwned, K: Kind, N: End>(
     }
 }
 
-/// Returns a word whose bit `i` stands for group `64 * n + i`, a group of `64 ^ level` words of the
-/// map. A bit is set if its group may have a bit of the kind. At level 0 the result is a word of
-/// the summary. At higher levels it is what the summary returns for groups of its own words. If the
-/// words of the summary do not have 64 bits, every bit is set.
+/// Returns a word whose bit `i` stands for group `64 * n + i`. Each group is `64 ^ level` words of
+/// the map, and its bit is set if these words may have a bit of kind `K`. At level 0 the result is
+/// word `n` of the summary, or 0 past its last word. At a higher level it is what the summary
+/// returns for groups of its own words. If the words of the summary do not have 64 bits, every bit
+/// of the result is set.
 #[inline(always)]
 pub(crate) fn groups_told<B: BitsOwned, S: BitsOwned, K: Kind>(
     map: &B,

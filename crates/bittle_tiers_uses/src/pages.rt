@@ -9,7 +9,7 @@ ghost use Rattle.bittle.specs.Rows.{row_set};
 use bit_pages::{Answer, Pages, Request};
 use bittle_tiers::prelude::*;
 
-/// Serves requests from an allocator of 4,096 pages. One word shows which words of the map have a
+/// Lets an allocator of 4,096 pages serve `requests`. One word shows which words of the map have a
 /// free page.
 pub fn serve(requests: &[Request], answers: &mut [Answer])
     requires { length answers.old ≡ length requests.now }
@@ -19,8 +19,8 @@ pub fn serve(requests: &[Request], answers: &mut [Answer])
     pages.serve(requests, answers);
 }
 
-/// Serves requests from an allocator of 262,144 pages. Its map has a summary, and the summary has a
-/// summary itself.
+/// Lets an allocator of 262,144 pages serve `requests`. Its map has a summary, and the summary has
+/// a summary itself.
 pub fn serve_large(requests: &[Request], answers: &mut [Answer])
     requires { length answers.old ≡ length requests.now }
     ensures { answers.new ≡ request_answers (empty_set 262144) requests.now }
@@ -29,8 +29,8 @@ pub fn serve_large(requests: &[Request], answers: &mut [Answer])
     pages.serve(requests, answers);
 }
 
-/// Serves requests from a map with a summary of its set bits and one of its unset bits. A map that
-/// has one summary may get a second one.
+/// Lets an allocator serve `requests`. Its map has two summaries: one of its set bits, and one of
+/// its unset bits. A map with one summary may get a second one.
 pub fn serve_either(requests: &[Request], answers: &mut [Answer])
     requires { length answers.old ≡ length requests.now }
     ensures { answers.new ≡ request_answers (empty_set 4096) requests.now }
@@ -46,7 +46,8 @@ pub fn taken(words: [u64; 64]) -> u32
     Tiered4K::<Zeros>::new(words).count_ones()
 }
 
-/// Returns a map in which each page but one is taken, so that an allocator hands that one out.
+/// Returns a map in which all pages but `page` are taken. An allocator with this map hands out
+/// `page`.
 pub fn all_but(page: u32) -> Tiered4K<Zeros>
     ensures { row_set 64 64 (bit_set 64) result.map ≡ without_index (full_set 4096) page }
 {

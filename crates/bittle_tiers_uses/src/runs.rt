@@ -8,7 +8,7 @@ use bittle::replay::{Call, Reply, replay};
 use bittle::{BigEndian, LittleEndian, Set};
 use bittle_tiers::prelude::*;
 
-/// Makes a list of calls on a sparse set of 4,096 numbers.
+/// Makes `calls` on a sparse set with capacity 4,096, which begins empty, and writes the replies.
 pub fn run(calls: &[Call], replies: &mut [Reply])
     requires { length replies.old ≡ length calls.now }
     ensures { replies.new ≡ replies_of (empty_set 4096) calls.now }
@@ -17,7 +17,7 @@ pub fn run(calls: &[Call], replies: &mut [Reply])
     replay::<Tiered4K<Ones>, BigEndian>(&mut set, calls, replies);
 }
 
-/// Makes a list of calls on a `Set` that remembers the little-endian order.
+/// Makes `calls` on a `Set` that begins empty and remembers little-endian order.
 pub fn run_wrapped(calls: &[Call], replies: &mut [Reply])
     requires { length replies.old ≡ length calls.now }
     ensures { replies.new ≡ replies_of (empty_set 4096) calls.now }
@@ -26,8 +26,8 @@ pub fn run_wrapped(calls: &[Call], replies: &mut [Reply])
     replay::<Set<Tiered4K<Ones>, LittleEndian>, LittleEndian>(&mut set, calls, replies);
 }
 
-/// Makes a list of calls on a set of 65,536 numbers. The set has a summary, and the summary has a
-/// summary itself.
+/// Makes `calls` on a set with capacity 65,536, which begins empty. The set has a summary, and the
+/// summary has a summary itself.
 pub fn run_large(calls: &[Call], replies: &mut [Reply])
     requires { length replies.old ≡ length calls.now }
     ensures { replies.new ≡ replies_of (empty_set 65536) calls.now }

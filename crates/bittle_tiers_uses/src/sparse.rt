@@ -10,7 +10,7 @@ ghost use Rattle.bittle_ext.specs.Combined.{both_of};
 use bittle_ext::prelude::*;
 use bittle_tiers::prelude::*;
 
-/// Counts by an iterator the numbers that both of two sparse sets have.
+/// Counts the numbers that are members of both sparse sets, by an iterator.
 pub fn items_of_both(left: &Tiered4K<Ones>, right: &Tiered4K<Ones>) -> usize
     ensures { result ≡ length (ascending (both_of
         (row_set 64 64 (bit_set 64) left.now.map) (row_set 64 64 (bit_set 64) right.now.map))) }
@@ -18,7 +18,8 @@ pub fn items_of_both(left: &Tiered4K<Ones>, right: &Tiered4K<Ones>) -> usize
     left.and(right).iter_ones().count()
 }
 
-/// Marks the entries of a table at the numbers that both of two sparse sets have.
+/// Sets to `true` each entry of `table` whose index is a member of both sparse sets. The other
+/// entries stay the same.
 pub fn mark_common(left: &Tiered4K<Ones>, right: &Tiered4K<Ones>, table: &mut [bool; 4096]) {
     for number in left.and(right).iter_ones() {
         table[number as usize] = true;
@@ -34,7 +35,7 @@ pub fn note(set: &mut Tiered4K<Ones>, number: u32) -> bool
     set.insert(number)
 }
 
-/// Returns the least number of the set from `from` on, or `None`.
+/// Returns the least member of the set that is at least `from`, or `None` if there is none.
 pub fn next(set: &Tiered256K<Ones>, from: u32) -> Option<u32>
     ensures { IsFirstIn (row_set 4096 64 (bit_set 64) set.now.map) from 262144 result }
 {

@@ -1,4 +1,4 @@
-//! A board of eight rows of eight cells, whose set bits are the cells that are taken.
+//! A board of eight rows with eight cells each. A cell is taken if its bit is set.
 
 ghost use Rattle.std.specs.Prelude.{◌≡◌, IfOk, reverse};
 ghost use Rattle.bittle.specs.BitPatterns.{bit_set};
@@ -25,7 +25,7 @@ pub fn outer_cells(board: u64) -> (Option<u32>, Option<u32>)
     (first, free.next_back())
 }
 
-/// Returns the free cells, the last of them first.
+/// Returns the free cells in decreasing order.
 pub fn cells_from_last(alloc: Global, board: u64) -> Result<Vec<u32>, AllocError>
     ensures { IfOk result
         (λ cells. cells.items ≡ reverse (ascending (complement (bit_set 64 board)))) }

@@ -42,7 +42,7 @@ pub fn set_and_test_other(mask: u64, index: u32, other: u32) -> bool
     mask.test_bit(other)
 }
 
-/// Returns the role with a permission granted.
+/// Returns a copy of `role` that also grants `permission`.
 #[tactic(auto, using(bittle::proofs::CallerChanges::contains_after_set))]
 pub fn granted(role: u32, permission: u32) -> u32
     ensures { contains (bit_set 32 result) permission ≡ true }
@@ -108,8 +108,8 @@ pub fn no_permission(permission: u32) -> u32
     u32::zeros()
 }
 
-/// Returns the map with all bits from 100 on set. In a map of only 100 pages, these bits stand for
-/// no page.
+/// Returns a copy of `map` in which each bit from index 100 on is set. In a map of only 100 pages,
+/// these bits stand for no page.
 #[tactic(auto, using(bittle::proofs::CallerChanges::contains_after_set_span))]
 pub fn reserved(map: [u64; 2], page: u32) -> [u64; 2]
     requires past { 100 ≤ page }

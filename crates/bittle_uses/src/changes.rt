@@ -1,4 +1,5 @@
-//! Changes of the bits at one or two indexes. `insert` and `remove` tell what was there before.
+//! Changes of the bits at one or two indexes. `insert` and `remove` also return what the bit was
+//! before the change.
 
 ghost use Rattle.std.specs.Prelude.{◌≡◌, not, IsTrue, if◌then◌else◌};
 ghost use Rattle.bittle.specs.PlainSet.{contains, with_index, without_index};
@@ -7,8 +8,8 @@ ghost use Rattle.bittle.specs.Values.{set_in};
 use bittle::BitsMut;
 use bittle_ext::BitsMutExt;
 
-/// Sets the bit at an index, which wraps, and returns whether it was unset before. With capacity 0
-/// it returns `true`, and nothing changes.
+/// Sets the bit at `index`, and returns whether that bit was unset before. An index past the
+/// capacity wraps. With capacity 0 the call returns `true`, and nothing changes.
 pub fn insert<B: BitsMut>(set: &mut B, index: u32) -> bool
     requires { IsTrue B.indexable }
     ensures was_none { result ≡ not (contains (set_in B.Shape B.Order.Endian set.old) index) }
@@ -19,8 +20,8 @@ pub fn insert<B: BitsMut>(set: &mut B, index: u32) -> bool
     set.insert(index)
 }
 
-/// Clears the bit at an index, which wraps, and returns whether it was set before. With capacity 0
-/// it returns `false`.
+/// Clears the bit at `index`, and returns whether that bit was set before. An index past the
+/// capacity wraps. With capacity 0 the call returns `false`.
 pub fn remove<B: BitsMut>(set: &mut B, index: u32) -> bool
     requires { IsTrue B.indexable }
     ensures was_member { result ≡ contains (set_in B.Shape B.Order.Endian set.old) index }
@@ -31,8 +32,8 @@ pub fn remove<B: BitsMut>(set: &mut B, index: u32) -> bool
     set.remove(index)
 }
 
-/// Clears the bit at one index and sets the bit at another. If the first bit is unset, it changes
-/// nothing. Both indexes wrap.
+/// If the bit at `from` is set, clears it and then sets the bit at `to`. Otherwise nothing changes.
+/// An index past the capacity wraps.
 pub fn move_bit<B: BitsMut>(set: &mut B, from: u32, to: u32)
     requires { IsTrue B.indexable }
     ensures set { let before = set_in B.Shape B.Order.Endian set.old in

@@ -1,5 +1,5 @@
-//! Counts of set bits, as terms of sums and differences and cast to narrower types. Positions of
-//! items in an iterator.
+//! Counts of set bits or unset bits: some are added or subtracted, and some are cast to narrower
+//! types. Also positions of items in an iterator.
 
 ghost use Rattle.std.specs.Prelude.{◌≡◌, ◌==◌, ◌+◌, ◌-◌, true, length, position, sum, Some, map, slice_index};
 ghost use Rattle.std.specs.List.{last_or, enumerate_from};
@@ -33,14 +33,14 @@ pub fn count_of_free(mask: [u8; 2]) -> usize
     mask.into_iter_zeros_be().count()
 }
 
-/// Counts the set bits of a set in little-endian order by its iterator.
+/// Counts the set bits of a `Set` that remembers little-endian order, by its iterator.
 pub fn count_of_set(set: Set<u16, LittleEndian>) -> usize
     ensures { result ≡ length (ascending (read_in true 16 (bit_set 16 set.bits))) }
 {
     set.iter_ones().count()
 }
 
-/// Counts the set bits of a set by its `into_iter`.
+/// Counts the set bits of a `Set`, by the iterator that `into_iter` returns.
 pub fn count_of_iterated_set(set: Set<u64>) -> usize
     ensures { result ≡ length (ascending (bit_set 64 set.bits)) }
 {
@@ -55,7 +55,7 @@ pub fn count_of_any<B: BitsOwned>(set: B) -> usize
     set.iter_ones().count()
 }
 
-/// Counts the entries of a row at the indexes of set bits.
+/// Counts the entries of `row` at the indexes of the set bits of `mask`, by an iterator.
 pub fn count_of_joined(mask: u64, row: &[u32; 64]) -> usize
     ensures { result ≡ length (ascending (bit_set 64 mask)) }
 {
@@ -78,8 +78,8 @@ pub fn place_of_member_of_any<B: BitsOwned>(set: B, wanted: u32) -> Option<usize
     set.iter_ones().position(|index| index == wanted)
 }
 
-/// Returns how many unset bits lie before the bit `wanted` of any set, which is read from the left.
-/// Returns `None` if that bit is set.
+/// Returns how many unset bits of any set have an index below `wanted`, in little-endian order.
+/// Returns `None` if the bit at `wanted` is set.
 pub fn place_of_free_of_any<B: BitsOwned>(set: B, wanted: u32) -> Option<usize>
     requires { ShapeFits B.Shape set }
     ensures { result ≡ position (λ i. i == wanted)
@@ -88,8 +88,8 @@ pub fn place_of_free_of_any<B: BitsOwned>(set: B, wanted: u32) -> Option<usize>
     set.into_iter_zeros_le().position(|index| index == wanted)
 }
 
-/// Returns the exclusive or of two entries of a row: one at the index of the last set bit, and one
-/// at the number of set bits below it. Returns 0 if no bit is set.
+/// Returns the exclusive or of two entries of `row`: the entry at the index of the last set bit,
+/// and the entry whose index is the number of set bits below that bit. Returns 0 if no bit is set.
 pub fn entries_at_place_and_member(mask: u64, row: &[u32; 64]) -> u32
     ensures { Some result ≡ last_or (Some 0) (map
         (λ p. bit_xor (slice_index row.now p.0) (slice_index row.now p.1))
@@ -114,28 +114,28 @@ pub fn last_place_of_any<B: BitsOwned>(set: B) -> usize
     last
 }
 
-/// Returns the sum of how many bits are set in each of two bytes.
+/// Returns the number of set bits of `one` plus the number of set bits of `other`.
 pub fn count_of_both(one: u8, other: u8) -> u32
     ensures { result ≡ size (bit_set 8 one) + size (bit_set 8 other) }
 {
     Bits::count_ones(&one) + Bits::count_ones(&other)
 }
 
-/// Returns the sum of how many bits are unset in each of two bytes.
+/// Returns the number of unset bits of `one` plus the number of unset bits of `other`.
 pub fn free_of_both(one: u8, other: u8) -> u32
     ensures { result ≡ (8 - size (bit_set 8 one)) + (8 - size (bit_set 8 other)) }
 {
     Bits::count_zeros(&one) + Bits::count_zeros(&other)
 }
 
-/// Counts the set bits of four words, as a `u16`.
+/// Returns the number of set bits of four words, cast to `u16`.
 pub fn narrow_count(board: &[u64; 4]) -> u16
     ensures { result ≡ size (row_set 4 64 (bit_set 64) board.now) }
 {
     board.count_ones() as u16
 }
 
-/// Counts the set bits of a set, as a byte.
+/// Returns the number of set bits of a `Set`, cast to `u8`.
 pub fn narrow_count_of_set(set: Set<u64>) -> u8
     ensures { result ≡ size (bit_set 64 set.bits) }
 {
@@ -149,7 +149,8 @@ pub fn free_of_word(board: u64) -> u32
     64 - Bits::count_ones(&board)
 }
 
-/// Returns the sum of how many bits are set in each of two sets of any one type.
+/// Returns the number of set bits of `one` plus the number of set bits of `other`. The two sets
+/// have the same type.
 pub fn count_of_any_both<B: BitsOwned>(one: B, other: B) -> u64
     requires one_fits { ShapeFits B.Shape one }
     requires other_fits { ShapeFits B.Shape other }
@@ -158,7 +159,8 @@ pub fn count_of_any_both<B: BitsOwned>(one: B, other: B) -> u64
     one.count_ones() as u64 + other.count_ones() as u64
 }
 
-/// Adds the indexes of the set bits from the greatest down, by `wrapping_add`.
+/// Returns the sum of the indexes of the set bits. It adds them by `wrapping_add`, from the
+/// greatest down.
 pub fn wrapping_sum(mask: u32) -> u64
     ensures { result ≡ sum (ascending (bit_set 32 mask)) }
 {

@@ -6,8 +6,8 @@ ghost use Rattle.bit_slots.specs.Entries.{entries};
 use bit_slots::{Key, Slots};
 use bittle::BitsOwned;
 
-/// Inserts a value, and returns whether its key finds a value. Returns `true` also if `insert`
-/// fails.
+/// Inserts a value, and returns whether its key finds a value. The result is always `true`, also if
+/// `insert` fails.
 pub fn insert_and_ask<V: Drop, B: BitsOwned>(slots: &mut Slots<V, B>, value: V) -> bool
     ensures { result ≡ true }
 {
@@ -17,7 +17,8 @@ pub fn insert_and_ask<V: Drop, B: BitsOwned>(slots: &mut Slots<V, B>, value: V) 
     }
 }
 
-/// Removes a key, and returns whether it still finds a value, which is `false`.
+/// Removes the value of `key`, and returns whether the key still finds a value. The result is
+/// always `false`.
 pub fn remove_and_ask<V: Drop, B: BitsOwned>(slots: &mut Slots<V, B>, key: Key) -> bool
     ensures { result ≡ false }
 {
@@ -25,7 +26,8 @@ pub fn remove_and_ask<V: Drop, B: BitsOwned>(slots: &mut Slots<V, B>, key: Key) 
     slots.contains(key)
 }
 
-/// Removes a key twice, and returns what the second call returns, which is `None`.
+/// Removes the value of `key` twice, and returns what the second call returns. The result is always
+/// `None`.
 pub fn remove_twice<V: Drop, B: BitsOwned>(slots: &mut Slots<V, B>, key: Key) -> Option<V>
     ensures { result ≡ None }
 {
@@ -33,7 +35,8 @@ pub fn remove_twice<V: Drop, B: BitsOwned>(slots: &mut Slots<V, B>, key: Key) ->
     slots.remove(key)
 }
 
-/// Sets the value of a key by `update`, and returns the value that the key finds then.
+/// Sets the value of `key` by `update`, and returns the value that the key finds afterwards, or
+/// `None` if it finds none.
 pub fn set_and_ask<B: BitsOwned>(slots: &mut Slots<u64, B>, key: Key, value: u64) -> Option<u64>
     ensures { IfSome result (λ held. held ≡ value) }
 {
@@ -41,8 +44,8 @@ pub fn set_and_ask<B: BitsOwned>(slots: &mut Slots<u64, B>, key: Key, value: u64
     slots.get(key).copied()
 }
 
-/// Adds one to the count of a key. Returns whether `update` and `contains` agree on whether the key
-/// finds a value.
+/// Adds one to the count of `key`. Returns whether `update` and `contains` agree on whether the key
+/// finds a value. The result is always `true`.
 pub fn count_and_ask<B: BitsOwned>(slots: &mut Slots<u64, B>, key: Key) -> bool
     ensures { result ≡ true }
 {

@@ -1,7 +1,7 @@
 //! Contracts that say what a lent slice, or any set, holds after a change.
 //!
 //! `take_least` finds the least unset bit as the first item of an iterator. `take_first_zero` of
-//! `bittle_ext` finds and sets it in one call.
+//! `bittle_ext` finds and sets that bit in one call.
 
 ghost use Rattle.std.specs.Prelude.{◌≡◌, ◌*◌, ◌<◌, length, MatchOption, slice_get};
 ghost use Rattle.bittle.specs.BitPatterns.{bit_set};
@@ -11,7 +11,7 @@ ghost use Rattle.bittle.specs.Values.{set_in, ShapeFits};
 
 use bittle::{Bits, BitsMut, Endian, Set};
 
-/// Sets a bit of a slice that fits.
+/// Sets the bit at `index` of a slice that fits (its capacity is below `u32::MAX`).
 pub fn set_in_slice(words: &mut [u64], index: u32)
     requires { length words.old * 64 < 4294967295 }
     ensures { row_set (length words.new) 64 (bit_set 64) words.new
@@ -51,7 +51,7 @@ pub fn take_least(words: &mut [u64]) -> Option<u32>
     least
 }
 
-/// Sets a bit of any set, read in any order.
+/// Sets the bit at `index` of any set, in the bit order `E`.
 pub fn set_in_any<B: BitsMut, E: Endian>(bits: &mut B, index: u32)
     requires { ShapeFits B.Shape bits.old }
     ensures { set_in B.Shape E.Endian bits.new

@@ -1,5 +1,5 @@
 //! Callers of `bittle`, `bittle_ext`, `bit_pages` and `bit_slots`. The contract of each caller says
-//! what its own values hold. The check proves that from public contracts and lemmas.
+//! what its own values hold. The check proves these contracts from public contracts and lemmas.
 #![tactic(auto)]
 
 pub mod board;

@@ -1,8 +1,10 @@
-//! Uses of each macro, on any type. The check refuses a macro that makes a wrong set of a list.
+//! Uses of the macros `set!`, `set_le!` and `set_be!`, on any type. The check refuses a macro that
+//! makes a wrong set from a list.
 //!
-//! In these lists an item of each kind stands before an item of another kind. Indexes stand beside
-//! indexes, and ranges beside ranges; both are first in some list, and last in some list. Ranges
-//! begin at 0, later in the first word, and past the first word.
+//! Together the lists cover these cases. An item of each kind stands before an item of another
+//! kind. Indexes stand beside indexes, and ranges beside ranges. An index is the first item of some
+//! list and the last of another, and so is a range. Some range begins at 0, some range begins later
+//! in the first word, and some range begins past the first word.
 
 ghost use Rattle.std.specs.Prelude.{◌≡◌, IsTrue};
 ghost use Rattle.bittle_uses.specs.MacroLists.{listed_set, listed_open_set, listed_whole_set, listed_ranges_set};
@@ -20,7 +22,7 @@ pub fn listed<B: BitsOwned>(index: u32) -> B
     bittle::set![index, 2..=3, 5..7, 9..4, 14..]
 }
 
-/// Makes the set of the list of [`listed`], in little-endian order.
+/// Makes the set of the same list as [`listed`], in little-endian order.
 pub fn listed_le<B: BitsOwned>(index: u32) -> B
     requires { IsTrue B.indexable }
     ensures { set_in B.Shape ⟦<LittleEndian as Endian>⟧ result ≡ listed_set B.type_capacity index }
@@ -28,7 +30,7 @@ pub fn listed_le<B: BitsOwned>(index: u32) -> B
     bittle::set_le![index, 2..=3, 5..7, 9..4, 14..]
 }
 
-/// Makes the set of the list of [`listed`], in big-endian order.
+/// Makes the set of the same list as [`listed`], in big-endian order.
 pub fn listed_be<B: BitsOwned>(index: u32) -> B
     requires { IsTrue B.indexable }
     ensures { set_in B.Shape ⟦<BigEndian as Endian>⟧ result ≡ listed_set B.type_capacity index }
@@ -44,7 +46,7 @@ pub fn listed_open<B: BitsOwned>(index: u32) -> B
     bittle::set![100.., 2..=3, 70..75, 9, index]
 }
 
-/// Makes the set of the list of [`listed_open`], in little-endian order.
+/// Makes the set of the same list as [`listed_open`], in little-endian order.
 pub fn listed_open_le<B: BitsOwned>(index: u32) -> B
     requires { IsTrue B.indexable }
     ensures { set_in B.Shape ⟦<LittleEndian as Endian>⟧ result
@@ -53,7 +55,7 @@ pub fn listed_open_le<B: BitsOwned>(index: u32) -> B
     bittle::set_le![100.., 2..=3, 70..75, 9, index]
 }
 
-/// Makes the set of the list of [`listed_open`], in big-endian order.
+/// Makes the set of the same list as [`listed_open`], in big-endian order.
 pub fn listed_open_be<B: BitsOwned>(index: u32) -> B
     requires { IsTrue B.indexable }
     ensures { set_in B.Shape ⟦<BigEndian as Endian>⟧ result
@@ -62,7 +64,7 @@ pub fn listed_open_be<B: BitsOwned>(index: u32) -> B
     bittle::set_be![100.., 2..=3, 70..75, 9, index]
 }
 
-/// Makes the set of a list that has one open range, of all indexes.
+/// Makes the set of a list that is one open range, which has all indexes.
 pub fn listed_whole<B: BitsOwned>() -> B
     requires { IsTrue B.indexable }
     ensures { set_in B.Shape B.Order.Endian result ≡ listed_whole_set B.type_capacity }
@@ -70,7 +72,7 @@ pub fn listed_whole<B: BitsOwned>() -> B
     bittle::set![0..]
 }
 
-/// Makes the set of the list of [`listed_whole`], in little-endian order.
+/// Makes the set of the same list as [`listed_whole`], in little-endian order.
 pub fn listed_whole_le<B: BitsOwned>() -> B
     requires { IsTrue B.indexable }
     ensures { set_in B.Shape ⟦<LittleEndian as Endian>⟧ result ≡ listed_whole_set B.type_capacity }
@@ -78,7 +80,7 @@ pub fn listed_whole_le<B: BitsOwned>() -> B
     bittle::set_le![0..]
 }
 
-/// Makes the set of the list of [`listed_whole`], in big-endian order.
+/// Makes the set of the same list as [`listed_whole`], in big-endian order.
 pub fn listed_whole_be<B: BitsOwned>() -> B
     requires { IsTrue B.indexable }
     ensures { set_in B.Shape ⟦<BigEndian as Endian>⟧ result ≡ listed_whole_set B.type_capacity }
@@ -94,7 +96,7 @@ pub fn listed_ranges<B: BitsOwned>() -> B
     bittle::set![1..=2, 4..=5, 7..9, 10..12]
 }
 
-/// Makes the set of the list of [`listed_ranges`], in little-endian order.
+/// Makes the set of the same list as [`listed_ranges`], in little-endian order.
 pub fn listed_ranges_le<B: BitsOwned>() -> B
     requires { IsTrue B.indexable }
     ensures { set_in B.Shape ⟦<LittleEndian as Endian>⟧ result ≡ listed_ranges_set B.type_capacity }
@@ -102,7 +104,7 @@ pub fn listed_ranges_le<B: BitsOwned>() -> B
     bittle::set_le![1..=2, 4..=5, 7..9, 10..12]
 }
 
-/// Makes the set of the list of [`listed_ranges`], in big-endian order.
+/// Makes the set of the same list as [`listed_ranges`], in big-endian order.
 pub fn listed_ranges_be<B: BitsOwned>() -> B
     requires { IsTrue B.indexable }
     ensures { set_in B.Shape ⟦<BigEndian as Endian>⟧ result ≡ listed_ranges_set B.type_capacity }

@@ -1,5 +1,5 @@
-//! Iterators over nested arrays. One owns its set, in a generic function for every shape. The other
-//! borrows its set.
+//! Iterators over nested arrays. One iterator owns its set, and its function accepts a set of any
+//! shape. The other iterator borrows its set.
 
 ghost use Rattle.std.specs.List.{last_or};
 ghost use Rattle.std.specs.Prelude.{◌≡◌, Some};

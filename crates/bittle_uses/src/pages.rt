@@ -40,7 +40,8 @@ pub fn take_two<B: BitsOwned>(pages: &mut Pages<B>) -> Option<(u32, u32)>
     Some((first, second))
 }
 
-/// Takes a page and gives it back. Returns `true`, since the allocator accepts the page.
+/// Takes a page, gives it back, and returns whether the allocator accepts the page. The result is
+/// always `true`, also if no page is free.
 pub fn borrow_page<B: BitsOwned>(pages: &mut Pages<B>) -> bool
     ensures { result ≡ true }
 {
@@ -50,7 +51,8 @@ pub fn borrow_page<B: BitsOwned>(pages: &mut Pages<B>) -> bool
     }
 }
 
-/// Takes a page, and returns whether it is taken then. Returns `true` also if no page is free.
+/// Takes a page, and returns whether it is taken afterwards. The result is always `true`, also if
+/// no page is free.
 pub fn take_and_ask<B: BitsOwned>(pages: &mut Pages<B>) -> bool
     ensures { result ≡ true }
 {
@@ -60,7 +62,8 @@ pub fn take_and_ask<B: BitsOwned>(pages: &mut Pages<B>) -> bool
     }
 }
 
-/// Takes a page, and notes its owner in a table with an entry for each page.
+/// Takes a page, writes `owner` to its entry of `owners`, and returns the page. Returns `None` if
+/// no page is free.
 pub fn take_for(pages: &mut Pages<u8>, owners: &mut [u32; 8], owner: u32) -> Option<u32> {
     let page = pages.take()?;
     owners[page as usize] = owner;
@@ -74,7 +77,7 @@ pub fn count_free(pages: &Pages<u8>) -> u32
     8 - pages.taken()
 }
 
-/// Takes a page, and returns how many pages are taken then.
+/// Takes a page, and returns how many pages are taken afterwards, or `None` if no page is free.
 pub fn take_and_count<B: BitsOwned>(pages: &mut Pages<B>) -> Option<u32>
     ensures { IfSome result (λ count.
         count ≡ size (set_in B.Shape B.Order.Endian pages.old.map) + 1) }
@@ -83,7 +86,8 @@ pub fn take_and_count<B: BitsOwned>(pages: &mut Pages<B>) -> Option<u32>
     Some(pages.taken())
 }
 
-/// Takes a run of pages and gives it back. Returns `true`, since the allocator accepts the run.
+/// Takes a run of pages, gives it back, and returns whether the allocator accepts the run. The
+/// result is always `true`, also if no such run is free.
 pub fn borrow_run<B: BitsOwned>(pages: &mut Pages<B>, length: u32) -> bool
     ensures { result ≡ true }
 {
@@ -93,7 +97,8 @@ pub fn borrow_run<B: BitsOwned>(pages: &mut Pages<B>, length: u32) -> bool
     }
 }
 
-/// Takes a page and a run of pages, and counts all pages that are then taken.
+/// Takes a page and then a run of `length` pages, and returns how many pages are taken afterwards.
+/// Returns `None` if no page or no such run is free.
 pub fn take_page_and_run<B: BitsOwned>(pages: &mut Pages<B>, length: u32) -> Option<u32>
     ensures { IfSome result (λ count.
         count ≡ size (set_in B.Shape B.Order.Endian pages.old.map) + 1 + length) }
@@ -103,8 +108,8 @@ pub fn take_page_and_run<B: BitsOwned>(pages: &mut Pages<B>, length: u32) -> Opt
     Some(pages.taken())
 }
 
-/// Takes two pages, gives the first back, and takes a third one, which differs from the second. Two
-/// more pages are taken then than before.
+/// Takes two pages, gives the first back, takes a third, and returns the second and the third. They
+/// differ, and two more pages are taken afterwards than before.
 pub fn turn_over<B: BitsOwned>(pages: &mut Pages<B>) -> Option<(u32, u32)>
     ensures differ { IfSome result (λ both. both.0 ≢ both.1) }
     ensures count { IfSome result (λ both. size (set_in B.Shape B.Order.Endian pages.new.map)
@@ -117,8 +122,8 @@ pub fn turn_over<B: BitsOwned>(pages: &mut Pages<B>) -> Option<(u32, u32)>
     Some((second, third))
 }
 
-/// Serves requests for pages and for runs of pages. By a law on lists of requests, the answers tell
-/// how many more pages are taken then than before.
+/// Serves requests for pages and for runs of pages. By a law on lists of requests, the requests and
+/// their answers tell how many more pages are taken afterwards than before.
 pub fn serve_and_count<B: BitsOwned>(
     pages: &mut Pages<B>,
     requests: &[Request],
@@ -135,7 +140,7 @@ pub fn serve_and_count<B: BitsOwned>(
 }
 
 /// Takes a page and a run of pages. The clause says that the two calls, with what they return, are
-/// a history of calls.
+/// a history of calls: they lead from the taken pages before to the taken pages afterwards.
 pub fn take_both<B: BitsOwned>(pages: &mut Pages<B>, length: u32) -> (Option<u32>, Option<u32>)
     ensures { IsHistory (set_in B.Shape B.Order.Endian pages.old.map)
         ((Request.Take, page_or_full result.0) ∷ (Request.TakeRun length, run_or_none result.1)
@@ -146,7 +151,8 @@ pub fn take_both<B: BitsOwned>(pages: &mut Pages<B>, length: u32) -> (Option<u32
     (page, first)
 }
 
-/// States that the answers of any sequence of calls tell how many more pages are taken after it.
+/// States that the requests and the answers of any sequence of calls tell how many more pages are
+/// taken after it than before it.
 pub fn calls_are_counted()
     ensures { (before after : PlainSet) (calls : List (Request × Answer))
         → IsHistory before calls after

@@ -13,7 +13,8 @@ ghost use Rattle.bittle_ext.specs.SetRelations.{IsSubset};
 use bittle::{BitsOwned, Set};
 use bittle_ext::BitsRelationExt;
 
-/// Returns what two roles grant together. The clause holds for roles read in either order.
+/// Returns the permissions that at least one of two roles grants. The clause holds for roles read
+/// in either order.
 pub fn together(one: Set<u32>, other: Set<u32>) -> Set<u32>
     ensures { (mirrored : Bool) → read_in mirrored 32 (bit_set 32 result.bits)
         ≡ union_of (read_in mirrored 32 (bit_set 32 one.bits))
@@ -22,7 +23,8 @@ pub fn together(one: Set<u32>, other: Set<u32>) -> Set<u32>
     one | other
 }
 
-/// Returns what two roles grant together. The clause names the two roles in the other order.
+/// Returns the permissions that at least one of two roles grants. The clause names `other` before
+/// `one`.
 #[tactic(auto, using(bittle_laws::proofs::CallerAlgebra::union_either_way))]
 pub fn merged(one: u32, other: u32) -> u32
     ensures { bit_set 32 result ≡ union_of (bit_set 32 other) (bit_set 32 one) }
@@ -54,8 +56,8 @@ pub fn sort(roles: &mut [Set<u32>])
     roles.sort_unstable();
 }
 
-/// Returns the index of a role in a sorted table that grants exactly what `wanted` grants, or
-/// `None` if no role does.
+/// Searches a sorted table of roles. Returns the index of a role that grants exactly what `wanted`
+/// grants, or `None` if no role does.
 pub fn find(roles: &[Set<u32>], wanted: Set<u32>) -> Option<usize>
     requires { IsSorted ⟦<Set<u32> as Ord>⟧.cmp roles.now }
     ensures { let asked = bit_set 32 wanted.bits in

@@ -1,4 +1,4 @@
-//! How many set bits lie below an index, or at it and above.
+//! Counts of the set bits that lie below an index, or that lie at an index or above it.
 //!
 //! One function counts in a loop, and one calls `position` of an iterator. `rank` and
 //! `count_ones_in_range` of `bittle_ext` return such counts faster, since they count word by word.
@@ -9,7 +9,8 @@ ghost use Rattle.bittle.specs.Values.{set_in, ShapeFits};
 
 use bittle::Bits;
 
-/// Returns how many set bits lie at a bound or above it, counted from the greatest down.
+/// Returns how many set bits lie at `bound` or above it. It steps an iterator from the greatest set
+/// bit down.
 pub fn how_many_from<B: Bits>(set: &B, bound: u32) -> u32
     requires { ShapeFits B.Shape set.now }
     ensures { result

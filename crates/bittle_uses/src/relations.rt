@@ -1,5 +1,5 @@
-//! Whether a set is a subset of another one of its type, is disjoint from it, or has the same bits
-//! set.
+//! Relations of two sets of the same type: whether one is a subset of the other, whether they are
+//! disjoint, and whether the same bits are set in both.
 //!
 //! Each function combines the two sets, and tests whether the result is empty. So it accepts every
 //! capacity, while `is_subset` and `is_disjoint` of `bittle_ext` require a shape that fits.
@@ -24,7 +24,8 @@ pub fn is_disjoint<B: BitsOwned>(first: B, second: B) -> bool
     first.conjunction(second).all_zeros()
 }
 
-/// Returns whether the same bits are set in both. It combines the sets only if `==` is false.
+/// Returns whether the same bits are set in both. It combines the sets only if `==` returns
+/// `false`.
 pub fn have_same_members<B: BitsOwned>(first: B, second: B) -> bool
     ensures { IsTrue result ↔ AreSame (B.big first) (B.big second) }
 {

@@ -1,5 +1,5 @@
-//! A set in which some bits are always set, as the reserved addresses of an allocator. Ghost fields
-//! of the type promise that. None of its functions has a proof file.
+//! A set in which some bits are always set, such as the reserved addresses of an allocator. Ghost
+//! fields of the type promise that these bits are set. No function has a proof file.
 
 ghost use Rattle.std.specs.Prelude.{◌≡◌, ◌+◌, ◌<◌, ◌≤◌, true, false, IfSome};
 ghost use Rattle.bittle.specs.BitPatterns.{bit_set};
@@ -18,7 +18,7 @@ pub struct Leases {
 }
 
 impl Leases {
-    /// Returns leases in which only the reserved addresses are taken.
+    /// Returns leases in which only the reserved addresses count as leased.
     #[tactic(auto, using(bittle_ext::proofs::CallerSpans::has_span_after_set_span, bittle_ext::proofs::CallerSpans::has_span_after_other_span))]
     pub fn new() -> Leases {
         let mut leased = <[u64; 4]>::zeros();
@@ -41,15 +41,15 @@ impl Leases {
         Some(address)
     }
 
-    /// Releases an address, and returns whether it was leased. Returns `false` and changes nothing
-    /// for a reserved address, and for one past the last.
+    /// Releases `address`, and returns whether it was leased. For a reserved address, and for an
+    /// address of 256 or more, it returns `false` and changes nothing.
     #[tactic(auto, using(bittle_ext::proofs::CallerSpans::has_span_after_clear, bittle_ext::proofs::CallerSpans::has_span_after_clear_past))]
     pub fn release(&mut self, address: u32) -> bool {
         10 <= address && address < 250 && self.leased.remove(address)
     }
 
-    /// Returns where the first run of `length` free addresses begins, or `None`. No address of the
-    /// run is reserved.
+    /// Returns the address at which the first run of `length` free addresses begins, or `None` if
+    /// there is no such run. No address of the run is reserved.
     pub fn first_run(&self, length: u32) -> Option<u32>
         ensures { IfSome result (λ address. address + length ≤ 250) }
     {

@@ -8,7 +8,7 @@ ghost use Rattle.bittle.specs.PlainSet.{ascending, size};
 
 use bittle::Bits;
 
-/// Returns the entry at the greatest set bit, or 0 if no bit is set.
+/// Returns the entry of `row` at the greatest set bit of `mask`, or 0 if no bit is set.
 pub fn entry_at_greatest(mask: u64, row: &[u32; 64]) -> u32
     ensures { Some result ≡ last_or (Some 0) (map (λ i. slice_index row.now i)
         (ascending (bit_set 64 mask))) }
@@ -40,8 +40,8 @@ pub fn how_many(mask: u64) -> usize
     mask.iter_ones().count()
 }
 
-/// Returns the sum of how many bits are set in each of two words. A bit that is set in both counts
-/// twice.
+/// Returns the number of set bits of `one` plus the number of set bits of `other`. A bit that is
+/// set in both counts twice.
 pub fn how_many_in_both(one: u64, other: u64) -> u32
     ensures { result ≡ size (bit_set 64 one) + size (bit_set 64 other) }
 {

@@ -19,7 +19,8 @@ pub fn wake(mask: &mut [u64; 4], priority: u32)
     mask.set_bit(priority);
 }
 
-/// Takes the least ready priority. If none is ready, it changes nothing and returns `None`.
+/// Returns the least ready priority, which is no longer ready afterwards. If none is ready, the
+/// call changes nothing and returns `None`.
 pub fn take(mask: &mut [u64; 4]) -> Option<u32>
     ensures least { IsFirstIn (row_set 4 64 (bit_set 64) mask.old) 0 256 result }
     ensures mask { MatchOption result

@@ -30,7 +30,7 @@ pub fn greatest<B: Bits>(set: &B) -> Option<u32>
     set.iter_ones().max()
 }
 
-/// Returns the greatest set bit, or `None`, by a search from the last word back.
+/// Returns the greatest set bit, or `None` if no bit is set. It searches from the last word back.
 pub fn last<B: Bits>(set: &B) -> Option<u32>
     requires { ShapeFits B.Shape set.now }
     ensures { let members = set_in B.Shape B.Order.Endian set.now in
@@ -47,7 +47,7 @@ pub fn has_all<B: Bits>(set: &B) -> bool
     set.all_ones()
 }
 
-/// Returns the indexes of the set bits, as a vector in increasing order.
+/// Returns a vector of the indexes of the set bits, in increasing order.
 pub fn list_members<B: Bits>(alloc: Global, set: &B) -> Result<Vec<u32>, AllocError>
     requires { ShapeFits B.Shape set.now }
     ensures { IfOk result
@@ -56,8 +56,9 @@ pub fn list_members<B: Bits>(alloc: Global, set: &B) -> Result<Vec<u32>, AllocEr
     set.iter_ones().collect(alloc)
 }
 
-/// Returns whether the first set bit is at most the first of another set, the second at most its
-/// second, and so on, as far as both sets go.
+/// Pairs the least set bit of `first` with the least of `second`, the next one with the next one,
+/// and so on, until one of the sets has no more. Returns whether in each pair the index from
+/// `first` is at most the index from `second`.
 pub fn is_pairwise_below<A: Bits, B: Bits>(first: &A, second: &B) -> bool
     requires first_fits { ShapeFits A.Shape first.now }
     requires second_fits { ShapeFits B.Shape second.now }

@@ -1,5 +1,5 @@
-//! Iterators over shared slices, mutably borrowed slices, and slices of any type of element. A
-//! clause requires that the slice fits, or the body tests `bits_capacity()`.
+//! Iterators over shared slices, mutably borrowed slices, and slices of any type of element. Each
+//! function either requires that the slice fits, or tests its `bits_capacity()`.
 
 ghost use Rattle.std.specs.Prelude.{◌≡◌, ◌≤◌, ◌<◌, ◌*◌, length, slice_get, reverse, MatchOption};
 ghost use Rattle.std.specs.Prelude.{Some, None, true, [], map, slice_index, unwrap_or};
@@ -13,7 +13,7 @@ ghost use Rattle.bittle.specs.Values.{set_in, ShapeFits};
 
 use bittle::{BigEndian, Bits, BitsOwned, Endian, LittleEndian, Set};
 
-/// Returns the entry at the greatest set bit of a slice, or 0.
+/// Returns the entry of `row` at the greatest set bit of the slice `mask`, or 0 if no bit is set.
 pub fn entry_at_greatest(mask: &[u64], row: &[u32]) -> u32
     requires fits { length mask.now * 64 < 4294967295 }
     requires long { length mask.now * 64 ≤ length row.now }
@@ -48,7 +48,7 @@ pub fn least_member_if_it_fits(mask: &[u64]) -> Option<u32>
     None
 }
 
-/// Returns the greatest set bit of a slice, counted from the left, or 0.
+/// Returns the greatest set bit of a slice in little-endian order, or 0 if no bit is set.
 pub fn greatest_from_the_left(mask: &[u64]) -> u32
     requires { length mask.now * 64 < 4294967295 }
     ensures { Some result ≡ last_or (Some 0) (ascending
@@ -61,7 +61,7 @@ pub fn greatest_from_the_left(mask: &[u64]) -> u32
     last
 }
 
-/// Returns the greatest unset bit of a slice, counted from the right, or 0.
+/// Returns the greatest unset bit of a slice in big-endian order, or 0 if each bit is set.
 pub fn greatest_free_from_the_right(mask: &[u64]) -> u32
     requires { length mask.now * 64 < 4294967295 }
     ensures { Some result ≡ last_or (Some 0) (ascending
@@ -74,8 +74,8 @@ pub fn greatest_free_from_the_right(mask: &[u64]) -> u32
     last
 }
 
-/// Returns the least unset bit of a slice of triples of bytes, counted from the left, or 0. It
-/// steps an iterator from the back.
+/// Returns the least unset bit of a slice of triples of bytes in little-endian order, or 0 if each
+/// bit is set. It steps an iterator from the back.
 pub fn least_free_of_triples(mask: &[[u8; 3]]) -> u32
     requires { length mask.now * 24 < 4294967295 }
     ensures { result ≡ unwrap_or (slice_get (ascending (complement (read_in true 8
@@ -84,7 +84,8 @@ pub fn least_free_of_triples(mask: &[[u8; 3]]) -> u32
     least_free_of::<&[[u8; 3]], LittleEndian>(&mask)
 }
 
-// Returns the least unset bit of any set, or 0. It steps an iterator from the back.
+// Returns the least unset bit of any set in the bit order `E`, or 0 if each bit is set. It steps an
+// iterator from the back.
 fn least_free_of<B: Bits, E: Endian>(set: &B) -> u32
     requires { ShapeFits B.Shape set.now }
     ensures { result ≡ unwrap_or
@@ -120,7 +121,7 @@ pub fn greatest_of_lent(mask: &mut [u64]) -> u32
     last
 }
 
-/// Returns the least and the greatest set bit of a slice, read in any order. Returns `None` if no
+/// Returns the least and the greatest set bit of a slice in the bit order `E`. Returns `None` if no
 /// bit is set, or the slice does not fit.
 pub fn ends_of_members<T: BitsOwned, E: Endian>(mask: &[T]) -> Option<(u32, u32)>
     ensures { Fits T.indexable (length mask.now * T.type_capacity) → MatchOption result
@@ -137,7 +138,8 @@ pub fn ends_of_members<T: BitsOwned, E: Endian>(mask: &[T]) -> Option<(u32, u32)
     ends_of::<&[T], E>(&mask)
 }
 
-// Returns the least and the greatest set bit of any set, or `None` if no bit is set.
+// Returns the least and the greatest set bit of any set in the bit order `E`, or `None` if no bit
+// is set.
 fn ends_of<B: Bits, E: Endian>(set: &B) -> Option<(u32, u32)>
     requires { ShapeFits B.Shape set.now }
     ensures { let members = ascending (set_in B.Shape E.Endian set.now) in
@@ -152,7 +154,8 @@ fn ends_of<B: Bits, E: Endian>(set: &B) -> Option<(u32, u32)>
     }
 }
 
-/// Returns the greatest unset bit of a slice of any sets, read in any order, or 0.
+/// Returns the greatest unset bit of a slice of any sets in the bit order `E`, or 0 if each bit is
+/// set.
 pub fn greatest_free_of_any<T: BitsOwned, E: Endian>(mask: &[T]) -> u32
     requires { Fits T.indexable (length mask.now * T.type_capacity) }
     ensures { Some result ≡ last_or (Some 0) (ascending
@@ -162,7 +165,7 @@ pub fn greatest_free_of_any<T: BitsOwned, E: Endian>(mask: &[T]) -> u32
     greatest_free_of::<&[T], E>(&mask)
 }
 
-// Returns the greatest unset bit of any set, or 0.
+// Returns the greatest unset bit of any set in the bit order `E`, or 0 if each bit is set.
 fn greatest_free_of<B: Bits, E: Endian>(set: &B) -> u32
     requires { ShapeFits B.Shape set.now }
     ensures { Some result
@@ -188,7 +191,8 @@ pub fn greatest_of_any<T: BitsOwned>(mask: &[T]) -> u32
     last
 }
 
-/// Returns the greatest set bit of a slice, wrapped in a `Set` in little-endian order, or 0.
+/// Wraps a slice in a `Set` that remembers little-endian order. Returns the greatest set bit of
+/// that `Set`, or 0 if no bit is set.
 pub fn greatest_of_wrapped(mask: &[u64]) -> u32
     requires { length mask.now * 64 < 4294967295 }
     ensures { Some result ≡ last_or (Some 0) (ascending

@@ -30,7 +30,8 @@ pub fn replay_on_slice<T: BitsOwned, E: Endian>(
     replay::<&mut [T], E>(&mut lent.0, calls, replies);
 }
 
-/// Makes the calls on words of 16 bits, read with the bit of greatest weight first.
+/// Makes the calls on words of 16 bits in little-endian order: index 0 is the most significant bit
+/// of the first word.
 pub fn replay_on_words(words: &mut [u16], calls: &[Call], replies: &mut [Reply])
     requires fits { length words.old * 16 < 4294967295 }
     requires room { length replies.old ≡ length calls.now }
@@ -41,7 +42,8 @@ pub fn replay_on_words(words: &mut [u16], calls: &[Call], replies: &mut [Reply])
     replay_on_slice::<u16, LittleEndian>(words, calls, replies);
 }
 
-/// Makes the calls on pairs of bytes, read with the bit of least weight first.
+/// Makes the calls on pairs of bytes in big-endian order: index 0 is the least significant bit of
+/// the first byte.
 pub fn replay_on_pairs(pairs: &mut [[u8; 2]], calls: &[Call], replies: &mut [Reply])
     requires fits { length pairs.old * 16 < 4294967295 }
     requires room { length replies.old ≡ length calls.now }

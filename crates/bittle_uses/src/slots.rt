@@ -16,7 +16,7 @@ pub struct Slots<'a> {
 }
 
 impl<'a> Slots<'a> {
-    /// Makes the table over these words.
+    /// Returns a table of slots over `words`.
     pub fn over(words: &'a mut [u64]) -> Slots<'a>
         ensures same_words { result.words.ghost_name ≡ words.entry.ghost_name }
         ensures value { result.words.now ≡ words.old }

@@ -19,8 +19,8 @@ pub fn sum_of_members<B: Bits>(set: &B) -> u64
     total
 }
 
-/// Returns the sum of the indexes of the set bits of a word, from the greatest down, by the
-/// reversed iterator.
+/// Returns the sum of the indexes of the set bits of a word. It adds them from the greatest down,
+/// by a reversed iterator.
 pub fn sum_in_reverse(mask: u32) -> u64
     ensures { result ≡ sum (ascending (bit_set 32 mask)) }
 {

@@ -1,5 +1,5 @@
-//! A row with an entry for each index of a set, read at the set bits. A function that finds no
-//! entry returns 0.
+//! Rows with an entry for each index of a set. The functions use the entries at the set bits, or at
+//! the unset bits. A function that finds no entry returns 0.
 
 ghost use Rattle.std.specs.Prelude.{◌≡◌, ◌≤◌, Option, ℕ, length, option_map, slice_index, unwrap_or};
 ghost use Rattle.std.specs.List.{reduce, last_or, filter, fold, slice_index_or};
@@ -27,7 +27,7 @@ pub fn entry_at_greatest_of_words(mask: &[u64; 4], row: &[u32; 256]) -> u32
     last
 }
 
-/// Returns the entry at the greatest unset bit, counted from the left, or 0.
+/// Returns the entry at the greatest unset bit in little-endian order, or 0 if each bit is set.
 pub fn entry_at_greatest_free(mask: u64, row: &[u32; 64]) -> u32
     ensures { Some result ≡ last_or (Some 0) (map (λ i. slice_index row.now i)
         (ascending (complement (read_in true 64 (bit_set 64 mask))))) }
@@ -51,7 +51,7 @@ pub fn entry_at_greatest_of_owned(mask: [u16; 4], row: &[u32; 64]) -> u32
     last
 }
 
-/// Returns the entry at the least set bit, or 0, by an iterator from the back.
+/// Returns the entry at the least set bit, or 0. It steps an iterator from the back.
 pub fn entry_at_least(mask: u64, row: &[u32; 64]) -> u32
     ensures { result ≡ unwrap_or (option_map (λ i. slice_index row.now i)
         (slice_get (ascending (bit_set 64 mask)) 0)) 0 }
@@ -63,7 +63,7 @@ pub fn entry_at_least(mask: u64, row: &[u32; 64]) -> u32
     last
 }
 
-/// Returns the entry at the greatest set bit of a set in its own order, or 0.
+/// Returns the entry at the greatest set bit of a `Set` in the bit order that it remembers, or 0.
 pub fn entry_at_greatest_of_set(mask: Set<u64, LittleEndian>, row: &[u32; 64]) -> u32
     ensures { Some result ≡ last_or (Some 0) (map (λ i. slice_index row.now i)
         (ascending (read_in true 64 (bit_set 64 mask.bits)))) }
@@ -75,7 +75,7 @@ pub fn entry_at_greatest_of_set(mask: Set<u64, LittleEndian>, row: &[u32; 64]) -
     last
 }
 
-/// Returns the entry at the greatest set bit of a set that is lent, or 0.
+/// Returns the entry at the greatest set bit of a borrowed `Set`, or 0.
 pub fn entry_at_greatest_of_lent_set(mask: &Set<[u64; 4]>, row: &[u32; 256]) -> u32
     ensures { Some result ≡ last_or (Some 0) (map (λ i. slice_index row.now i)
         (ascending (row_set 4 64 (bit_set 64) mask.now.bits))) }
@@ -87,7 +87,7 @@ pub fn entry_at_greatest_of_lent_set(mask: &Set<[u64; 4]>, row: &[u32; 256]) -> 
     last
 }
 
-/// Returns the entry at the greatest set bit of a set, or 0, by its method `iter_ones`.
+/// Returns the entry at the greatest set bit of a `Set`, or 0. It calls `iter_ones` of the `Set`.
 pub fn entry_at_greatest_of_walked_set(mask: Set<u64>, row: &[u32; 64]) -> u32
     ensures { Some result ≡ last_or (Some 0) (map (λ i. slice_index row.now i)
         (ascending (bit_set 64 mask.bits))) }
@@ -113,7 +113,7 @@ pub fn entry_at_greatest_of_any<B: BitsOwned>(mask: B, row: &[u32]) -> u32
     last
 }
 
-/// Returns the entry at the greatest set bit, or 0, by the iterator of one word.
+/// Returns the entry at the greatest set bit, or 0. It uses the iterator over one word.
 pub fn entry_at_greatest_of_word(mask: u64, row: &[u32; 64]) -> u32
     ensures { Some result ≡ last_or (Some 0) (map (λ i. slice_index row.now i)
         (ascending (bit_set 64 mask))) }
@@ -125,7 +125,8 @@ pub fn entry_at_greatest_of_word(mask: u64, row: &[u32; 64]) -> u32
     last
 }
 
-/// Marks each set bit in a row.
+/// For each set bit of `mask`, sets the entry of `row` at its index to `true`. The other entries
+/// stay the same.
 pub fn mark_members(mask: u64, row: &mut [bool; 64])
     ensures { (i : ℕ) → i < 64 → slice_index_or row.new i false
         ≡ (slice_index_or row.old i false || (bit_set 64 mask).has i) }
@@ -146,8 +147,8 @@ pub fn word_of_members(mask: u64) -> u64
     word
 }
 
-/// Returns the exclusive or of the entries at the set bits of a board of eight rows and eight
-/// columns.
+/// Returns the exclusive or of the entries of `cells` at the set bits of `board`. The board has
+/// eight rows of eight cells.
 pub fn combine_cells(board: u64, cells: &[[u8; 8]; 8]) -> u8
     ensures { result ≡ fold (λ all i. bit_xor all
         (slice_index (slice_index_or cells.now (i / 8) []) (i % 8))) 0
@@ -172,7 +173,7 @@ pub fn greatest_as_byte(mask: &[u64; 4]) -> u8
     last
 }
 
-/// Returns the entry at the first item of an iterator, or 0.
+/// Returns the entry at the first item of an iterator over the set bits, or 0.
 pub fn entry_at_first(mask: u64, row: &[u32; 64]) -> u32
     ensures { result ≡ unwrap_or (option_map (λ i. slice_index row.now i)
         (slice_get (ascending (bit_set 64 mask)) 0)) 0 }
@@ -194,7 +195,7 @@ pub fn entry_at_first_free(mask: u64, row: &[u32; 64]) -> u32
     }
 }
 
-/// Returns the entry at the least set bit, or 0, by a search of the range `0..64`.
+/// Returns the entry at the least set bit, or 0. It searches the range `0..64`.
 pub fn entry_at_found(mask: u64, row: &[u32; 64]) -> u32
     ensures { (found : Option ℕ) × IsFirstIn (bit_set 64 mask) 0 64 found
         × (result ≡ unwrap_or (option_map (λ i. slice_index row.now i) found) 0) }
@@ -205,7 +206,7 @@ pub fn entry_at_found(mask: u64, row: &[u32; 64]) -> u32
     }
 }
 
-/// Returns the entry at the greatest item of an iterator, or 0.
+/// Returns the entry at the greatest item of an iterator over the set bits, or 0.
 pub fn entry_at_maximum(mask: u64, row: &[u32; 64]) -> u32
     ensures { result ≡ unwrap_or (option_map (λ i. slice_index row.now i)
         (reduce max (ascending (bit_set 64 mask)))) 0 }
@@ -216,7 +217,7 @@ pub fn entry_at_maximum(mask: u64, row: &[u32; 64]) -> u32
     }
 }
 
-/// Returns the entry at the greatest set bit, or 0, by calls of `next`.
+/// Returns the entry at the greatest set bit, or 0. It steps an iterator by calls of `next`.
 pub fn entry_at_last_step(mask: u64, row: &[u32; 64]) -> u32
     ensures { Some result ≡ last_or (Some 0) (map (λ i. slice_index row.now i)
         (ascending (bit_set 64 mask))) }
@@ -229,8 +230,8 @@ pub fn entry_at_last_step(mask: u64, row: &[u32; 64]) -> u32
     last
 }
 
-/// Skips bit 7 and the first of the other set bits, and returns the entry at the last of the next
-/// three, or 0.
+/// Leaves out bit 7 and the first of the other set bits. Of the set bits that remain, takes the
+/// first three at most, and returns the entry at the last one taken, or 0.
 pub fn entry_at_chosen(mask: u64, row: &[u32; 64]) -> u32
     ensures { Some result ≡ last_or (Some 0) (map (λ i. slice_index row.now i)
         (take 3 (drop 1 (filter (λ i. not (i == 7)) (ascending (bit_set 64 mask)))))) }
@@ -242,7 +243,7 @@ pub fn entry_at_chosen(mask: u64, row: &[u32; 64]) -> u32
     last
 }
 
-/// Returns the entry at the greatest set bit, or 0, by a clone of the iterator.
+/// Returns the entry at the greatest set bit, or 0. It steps a clone of an iterator.
 pub fn entry_at_greatest_of_clone(mask: u64, row: &[u32; 64]) -> u32
     ensures { Some result ≡ last_or (Some 0) (map (λ i. slice_index row.now i)
         (ascending (bit_set 64 mask))) }

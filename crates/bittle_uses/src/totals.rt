@@ -17,7 +17,7 @@ pub fn sum(mask: u64) -> u64
     total
 }
 
-/// Returns the sum of the indexes of the set bits of a word, from the greatest down.
+/// Returns the sum of the indexes of the set bits of a word. It adds them from the greatest down.
 pub fn sum_from_greatest(mask: u32) -> u64
     ensures { result ≡ sum (ascending (bit_set 32 mask)) }
 {

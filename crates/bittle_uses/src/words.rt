@@ -1,4 +1,4 @@
-//! Iterators over one word, with adapters and from the back.
+//! Iterators over one word. Some have adapters, and one is stepped from the back.
 
 ghost use Rattle.std.specs.Int.{w8, cast_unsigned};
 ghost use Rattle.std.specs.Prelude.{◌≡◌, ◌/◌, length, map, count_by, nat_lt, true, false, MatchOption, [], ◌∷◌, ◌++◌, ℕ, List};
@@ -26,7 +26,8 @@ pub fn how_many_lacking(word: u64, bound: u32) -> usize
         .count()
 }
 
-/// Counts the set bits of a byte for which half of the index, rounded down, is above a bound.
+/// Halves the index of each set bit of a byte, rounded down. Counts the halves that are above
+/// `bound`.
 pub fn halves_above(word: i8, bound: u32) -> usize
     ensures { result ≡ count_by (λ i. nat_lt bound i)
         (map (λ i. i / 2) (ascending (read_in false 8 (bit_set 8 (cast_unsigned w8 word))))) }
@@ -37,7 +38,8 @@ pub fn halves_above(word: i8, bound: u32) -> usize
         .count()
 }
 
-/// Returns the greatest unset bit of a word of 16 bits, or `None` if each bit is set.
+/// Returns the greatest unset bit of a word of 16 bits in little-endian order, or `None` if each
+/// bit is set.
 pub fn greatest_lacking(word: u16) -> Option<u32>
     ensures { MatchOption result (ascending (complement (read_in true 16 (bit_set 16 word))) ≡ [])
         (λ i. (rest : List ℕ)

@@ -11,7 +11,8 @@ ghost use Rattle.bittle.specs.Values.{set_in};
 use bittle::replay::{Call, Reply, replay};
 use bittle::{BitsMut, BitsOwned, DefaultEndian, Endian, LittleEndian, Set};
 
-/// Sets the bit at one index and clears the bit at another, through a set in the default order.
+/// Sets the bit at index `set`, and then clears the bit at index `clear`, through a `Set` in the
+/// default order.
 pub fn set_and_clear<U: BitsOwned>(slice: &mut [U], set: u32, clear: u32)
     requires { Fits U.indexable (length slice.old * U.type_capacity) }
     ensures { read_in ⟦<DefaultEndian as Endian>⟧.mirrored U.width
@@ -25,7 +26,8 @@ pub fn set_and_clear<U: BitsOwned>(slice: &mut [U], set: u32, clear: u32)
     set_then_clear(&mut wrapped, set, clear);
 }
 
-/// Sets the bit at one index and clears the bit at another, through a set in little-endian order.
+/// Sets the bit at index `set`, and then clears the bit at index `clear`, through a `Set` in
+/// little-endian order.
 pub fn set_and_clear_le<U: BitsOwned>(slice: &mut [U], set: u32, clear: u32)
     requires { Fits U.indexable (length slice.old * U.type_capacity) }
     ensures { read_in ⟦<LittleEndian as Endian>⟧.mirrored U.width
@@ -39,7 +41,8 @@ pub fn set_and_clear_le<U: BitsOwned>(slice: &mut [U], set: u32, clear: u32)
     set_then_clear(&mut wrapped, set, clear);
 }
 
-// Sets the bit at one index and clears the bit at another, through a set of any shape.
+// Sets the bit at index `set`, and then clears the bit at index `clear`, through a `Set` of any
+// shape.
 fn set_then_clear<T: BitsMut, E: Endian>(wrapped: &mut Set<T, E>, set: u32, clear: u32)
     ensures set { set_in T.Shape E.Endian wrapped.new.bits
         ≡ without_index (with_index (set_in T.Shape E.Endian wrapped.old.bits) set) clear }
@@ -49,7 +52,8 @@ fn set_then_clear<T: BitsMut, E: Endian>(wrapped: &mut Set<T, E>, set: u32, clea
     wrapped.clear_bit(clear);
 }
 
-/// Makes calls that name the order `E` on a slice, through a set in the default order.
+/// Makes `calls` on a slice, through a `Set` in the default order. The calls name the order `E`,
+/// and the slice is read in that order.
 pub fn replay_through<U: BitsOwned, E: Endian>(
     slice: &mut [U],
     calls: &[Call],

@@ -4,7 +4,8 @@
 //! Nearly all entities are alive, so each mask has a summary of its unset bits: a spawn finds a
 //! free number in a few steps. What is proved is what `bit_entities` promises. A new entity was not
 //! alive, and has no component. A removed entity has no component. A number past the world is no
-//! entity. A query yields each entity that has the components once, so a step moves it once.
+//! entity. A query for components yields each entity that has them exactly once, so a step moves it
+//! once.
 #![tactic(auto)]
 
 ghost use Rattle.std.specs.Prelude.{◌≡◌, ◌∷◌, [], ◌≤◌, length};
@@ -17,20 +18,20 @@ use bittle_ext::prelude::*;
 use bittle_tiers::prelude::*;
 use std::io;
 
-/// The component of an entity that has a place.
+/// The number that names the component `place`. An entity has this component if it has a place.
 const PLACE: u32 = 0;
 
-/// The component of an entity that has a speed.
+/// The number that names the component `speed`. An entity has this component if it has a speed.
 const SPEED: u32 = 1;
 
-/// The component of an entity that is awake.
+/// The number that names the component `awake`. An entity has this component if it is awake.
 const AWAKE: u32 = 2;
 
 /// A mask of the entities that are alive, or that have a component.
 type Mask = Tiered64K<Zeros>;
 
-/// Makes an entity with a place, and with a speed unless it is 0. If all are alive, it changes
-/// nothing.
+/// Spawns an entity with the place `place`, and with the speed `speed` unless that is 0. Returns
+/// the entity. If all entities are alive, it changes nothing and returns `None`.
 fn place<B: BitsOwned>(
     world: &mut World<B, 3>,
     places: &mut [i32],
@@ -118,7 +119,7 @@ fn populate<B: BitsOwned>(world: &mut World<B, 3>, places: &mut [i32], speeds: &
     let _sleeper = place(world, places, speeds, 40, 7);
 }
 
-/// Makes the movers, lets them move twice, and prints where they are.
+/// Makes some entities, lets them move twice, and prints how many move and where they are.
 fn move_twice<B: BitsOwned>(
     rt: &HostRuntime,
     world: &mut World<B, 3>,
@@ -135,8 +136,8 @@ fn move_twice<B: BitsOwned>(
     print_places(rt, world, places)
 }
 
-/// Removes two entities, makes three and prints them. Prints which entities are not awake, and that
-/// a number past the world is refused.
+/// Removes two entities, makes three and prints them. Then prints the entities that have a speed
+/// and are not awake, and whether a number past the world is refused.
 fn turn_over<B: BitsOwned>(rt: &HostRuntime, world: &mut World<B, 3>) -> io::Result<()> {
     world.remove(60_001);
     world.remove(4_000);
@@ -160,7 +161,7 @@ fn live<B: BitsOwned>(
     turn_over(rt, world)
 }
 
-/// Returns a world of which the first 60,000 entities are alive, with no component.
+/// Returns a world in which the first 60,000 entities are alive. No entity has a component.
 fn begin() -> World<Mask, 3> {
     let mut alive = Mask::zeros();
     alive.set_span(..60_000);

@@ -18,8 +18,9 @@ impl Growing {
         }
     }
 
-    /// Adds a number, and returns whether it was no member. If it lies past the words, words with
-    /// no bit set are added first. If there is no memory for them, nothing changes.
+    /// Adds a number, and returns whether it was no member before. If the number lies past the
+    /// words, words with no bit set are added first. If there is no memory for these words, nothing
+    /// changes, and the call returns the error.
     pub(crate) fn insert(&mut self, number: u32) -> Result<bool, AllocError> {
         let wanted = number as usize / 64 + 1;
         if self.words.len() < wanted {

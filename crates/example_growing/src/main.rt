@@ -1,7 +1,7 @@
-//! A set of numbers that grows. Its words are in a `Vec` of the program's own, which takes memory.
+//! A set of numbers that grows. Its words are in a `Vec` of the program, which allocates memory.
 //!
-//! What is proved: no call reads past the words, none panics, and each ends. A number past the words
-//! is no member, and only `insert` takes memory.
+//! What is proved: no call reads past the words, none panics, and each ends. A number past the
+//! words is no member, and only `insert` allocates memory.
 #![tactic(auto)]
 
 mod growing;

@@ -1,4 +1,4 @@
-//! Hands out pages of 4 KiB from a gibibyte, of which nearly all pages are taken.
+//! Hands out pages of 4 KiB from a gibibyte of memory. Nearly all of its pages are taken.
 //!
 //! A page is taken if its bit is set. A summary shows which words of the map have a free page. What
 //! is proved: which three pages are free at first. The contract of `Pages` says the rest: a page
@@ -15,10 +15,10 @@ use bittle::BigEndian;
 use bittle_tiers::prelude::*;
 use std::io;
 
-/// A map of the taken pages, of 262,144 pages in all.
+/// A map of 262,144 pages. A page is taken if its bit is set.
 type Map = Tiered256K<Zeros>;
 
-/// Returns the map of which three pages are free.
+/// Returns a map in which the pages 199,998 to 200,000 are free, and all others are taken.
 fn map_with_three_free() -> Map
     ensures { row_set 4096 64 (bit_set 64) result.map
         ≡ without_span (full_set 262144) 199998 200001 }
@@ -28,7 +28,8 @@ fn map_with_three_free() -> Map
     map
 }
 
-/// Serves requests from an allocator in which the pages of a map are taken.
+/// Lets an allocator serve `requests`, and returns the answers. At first the pages whose bits are
+/// set in `map` are taken.
 fn serve(map: Map, requests: &[Request; 12]) -> [Answer; 12] {
     let mut answers = [Answer::Full; 12];
     Pages::with_taken(map).serve(requests, &mut answers);

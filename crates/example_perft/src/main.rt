@@ -17,7 +17,7 @@ use std::io;
 /// The squares of the board.
 const BOARD: u16 = 0b111_111_111;
 
-/// Three rows, three columns and two diagonals.
+/// The lines of the board: three rows, three columns and two diagonals.
 const LINES: [u16; 8] = [
     0b000_000_111,
     0b000_111_000,
@@ -29,7 +29,7 @@ const LINES: [u16; 8] = [
     0b001_010_100,
 ];
 
-/// The stones of the player who is to move, and those of the other.
+/// The stones of the player who is to move, and the stones of the other player.
 #[derive(Clone, Copy)]
 struct Position {
     mine: u16,
@@ -81,7 +81,7 @@ impl Position {
     }
 }
 
-/// Counts the ways to go on from a position by just `moves` more moves.
+/// Counts the ways to go on from a position by exactly `moves` more moves.
 fn count_games(position: Position, moves: u32) -> u64 {
     if moves == 0 {
         return 1;

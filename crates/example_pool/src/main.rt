@@ -39,8 +39,8 @@ impl Pool {
         Some(first)
     }
 
-    /// Gives `pages` pages back, from `first` on, and returns `true`. If one of them is not taken,
-    /// nothing changes, and it returns `false`.
+    /// Gives back the `pages` pages from `first` on, and returns `true`. If they end past the pool,
+    /// or one of them is not taken, nothing changes, and it returns `false`.
     fn release(&mut self, first: u32, pages: u32) -> bool
         ensures { let before = row_set 2 64 (bit_set 64) self.old.taken in
             MatchBool result

@@ -17,9 +17,9 @@ use std::snapshot::Snapshot;
 /// The end of an iterator from which a step takes an item.
 #[derive(Clone, Copy, Debug, PartialEq, Eq)]
 pub enum Step {
-    /// The first item that remains.
+    /// The front: the step takes the first item that remains.
     Front,
-    /// The last item that remains.
+    /// The back: the step takes the last item that remains.
     Back,
 }
 
@@ -30,8 +30,8 @@ enum CountList {
     And(Snapshot<CountList>, Snapshot<Count>),
 }
 
-/// How many scans of words an iterator made up to each step. Only contracts see these numbers, and
-/// they take no memory.
+/// A list with one number for each step of an iterator: how many scans of words the iterator has
+/// made up to that step. Only contracts see the list, and it takes no memory.
 #[derive(Drop)]
 pub struct Scans {
     trail: Snapshot<CountList>,
@@ -60,7 +60,7 @@ impl Scans {
         }
     }
 
-    /// Adds the count that an iterator has reached.
+    /// Adds the count that an iterator has reached to the end of the list.
     fn push(&mut self, count: &Count)
         ensures { self.new ≡ self.old ++ count.now ∷ [] }
     {
@@ -117,13 +117,13 @@ fn run_whole<W: Counted + Drop>(walk: W, steps: &[Step], answers: &mut [Option<u
     run(&mut walk, steps, answers)
 }
 
-/// Makes the `steps` with one iterator over a set, in the order `E`, and writes what each step
-/// returns to `answers`. The iterator is over the set bits if `ones` is `true`, and else over the
-/// unset bits.
+/// Makes the `steps` with one iterator over `bits` in the order `E`. What each step returns is
+/// written to `answers`. The iterator yields the indexes of the set bits if `ones` is `true`, and
+/// else those of the unset bits.
 ///
 /// The items are an increasing list. A step returns the first or the last item that remains, or
-/// `None` once no item remains. In contracts, the result is the list of how many scans of words
-/// were made up to each step.
+/// `None` once no item remains. In contracts, the result is a list with one number for each step:
+/// how many scans of words were made up to that step.
 ///
 /// The shape has to fit (`bits_capacity() < u32::MAX`), and `answers` has to be as long as `steps`.
 /// Each word is fetched at most once.

@@ -1,5 +1,5 @@
-//! Equality and the order of two sets. If both sets have words of the same width and are read in
-//! the same order, they are compared by words, and their first difference decides.
+//! Equality and comparison of two sets. If both sets have words of the same width and are read in
+//! the same bit order, they are compared by words, and their first difference decides.
 
 ghost use Rattle.std.specs.Cmp.{partial_equiv_from_equiv, partial_order_from_agreeing_total, on_equiv, on_total};
 ghost use Rattle.std.specs.Cmp.Lexicographic.{nat_list_eq_equiv, nat_list_cmp_total, texts_ties};
@@ -60,8 +60,8 @@ fn difference_out_of_line<A: Bits, B: Bits, E: Endian>(
     difference_by_words::<A, B, E>(left, right, capacity, other)
 }
 
-// Does the same as `difference_by_words`. For a slice it compares the first words alone before all
-// else, since they often decide. If they do not, they are read again with the other words.
+// Does the same as `difference_by_words`. For a slice it first compares only the first word of each
+// set, since these two often decide. If they do not, they are read again with the other words.
 #[inline]
 fn first_difference<A: Bits, B: Bits, E: Endian>(
     left: &A,
@@ -98,8 +98,8 @@ fn has<B: Bits, E: Endian>(bits: &B, capacity: u32, index: u32) -> bool
     test_bit::<B::LeafWord, E>(bits.nth_leaf_word((index / width) as usize), index % width)
 }
 
-// Returns whether a member lies past an index that is not a member. The search begins at the index
-// itself, which is always in a word of the set. The index after it may be past the last word.
+// Returns whether some member is greater than `index`, which is not a member itself. The search
+// begins at `index`, since `index + 1` may be past the last word of the set.
 #[inline]
 fn has_past<B: Bits, E: Endian>(bits: &B, capacity: u32, index: u32) -> bool
     requires fits { ShapeFits B.Shape bits.now }
@@ -111,8 +111,8 @@ fn has_past<B: Bits, E: Endian>(bits: &B, capacity: u32, index: u32) -> bool
     index < capacity && bits.first_one_in::<E>(index, capacity).is_some()
 }
 
-// Just one side has a certain index: the left one if `is_left` is `true`. Returns whether the other
-// side has a member past that index.
+// Returns whether the set without the member `index` has a member greater than `index`. This index
+// is a member of just one of the two sets: of `left` if `is_left` is `true`, else of `right`.
 #[inline]
 fn other_goes_on<A: Bits, B: Bits, E: Endian>(
     left: &A,
@@ -151,7 +151,7 @@ fn compare_words<A: Bits, B: Bits, E: Endian>(left: &A, right: &B) -> Ordering
         Some(index) => {
             let is_left = has::<A, E>(left, capacity, index);
             let goes_on = other_goes_on::<A, B, E>(left, right, capacity, other, index, is_left);
-            // The side that has the index comes first exactly if the other side goes on past it.
+            // The set with the index comes first exactly if the other set has a greater member.
             // In this form, no branch depends on the bits of the two words.
             if is_left == goes_on {
                 Ordering::Less
@@ -162,9 +162,9 @@ fn compare_words<A: Bits, B: Bits, E: Endian>(left: &A, right: &B) -> Ordering
     }
 }
 
-// Returns the order of two sets, each read in its own order. If their words have the same width and
-// the same order, the words are compared. Otherwise both sets are iterated, up to their first
-// difference.
+// Compares two sets, each read in its own bit order. If their words have the same width and both
+// are read in the same order, the words are compared. Otherwise both sets are iterated, up to their
+// first difference.
 #[inline]
 fn compare<A: Bits, B: Bits, E: Endian, F: Endian>(left: &A, right: &B) -> Ordering
     requires left_fits { ShapeFits A.Shape left.now }
@@ -183,7 +183,7 @@ fn compare<A: Bits, B: Bits, E: Endian, F: Endian>(left: &A, right: &B) -> Order
     }
 }
 
-// Returns whether two sets, each read in its own order, have the same members.
+// Returns whether two sets, each read in its own bit order, have the same members.
 #[inline]
 fn are_equal<A: Bits, B: Bits, E: Endian, F: Endian>(left: &A, right: &B) -> bool
     requires left_fits { ShapeFits A.Shape left.now }
@@ -204,10 +204,10 @@ fn are_equal<A: Bits, B: Bits, E: Endian, F: Endian>(left: &A, right: &B) -> boo
 }
 
 impl<T: Bits, E: Endian> Set<T, E> {
-    /// Compares this set with another one of any shape, by their increasing lists of indexes.
+    /// Compares this set with `other`, a set of any shape, by their increasing lists of members.
     ///
-    /// The other shape has to fit (`bits_capacity() < u32::MAX`). Each side is read in its own
-    /// order: this set in `E`, the other one in `U::Order`. It compares words, or items of
+    /// The shape of `other` has to fit (`bits_capacity() < u32::MAX`). Each set is read in its own
+    /// bit order: this set in `E`, and `other` in `U::Order`. The call compares words, or items of
     /// iterators, up to the first difference.
     ///
     /// ```
@@ -227,10 +227,10 @@ impl<T: Bits, E: Endian> Set<T, E> {
         compare::<T, U, E, U::Order>(&self.bits, other)
     }
 
-    /// Returns `true` if this set and another one of any shape have the same members.
+    /// Returns `true` if this set and `other`, a set of any shape, have the same members.
     ///
-    /// The other shape has to fit (`bits_capacity() < u32::MAX`). Each side is read in its own
-    /// order: this set in `E`, the other one in `U::Order`. It compares words, or items of
+    /// The shape of `other` has to fit (`bits_capacity() < u32::MAX`). Each set is read in its own
+    /// bit order: this set in `E`, and `other` in `U::Order`. The call compares words, or items of
     /// iterators, up to the first difference.
     ///
     /// ```

@@ -31,7 +31,7 @@ impl<T: Bits, E: Endian> Hash for Set<T, E> {
     }
 }
 
-// Feeds the items of an iterator, and returns how many there were.
+// Feeds the items of an iterator to the hasher, and returns the number of items.
 fn feed_all<I: Counted + Drop, H: Hasher>(indexes: I, state: &mut H) -> u32
     requires ends { IsFinite (I.remaining indexes) }
     requires few { length (I.walk indexes).remaining < 4294967295 }

@@ -1,4 +1,4 @@
-//! Iteration over the members of a set, in the order that it remembers.
+//! Iteration over the members of a set. The indexes follow the bit order that the set remembers.
 
 ghost use Rattle.std.specs.Prelude.{◌≡◌};
 ghost use Rattle.bittle_bits.specs.PlainSet.{ascending};

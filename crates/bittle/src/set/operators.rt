@@ -29,7 +29,7 @@ fn combined<T: BitsOwned, E: Endian, O: Operation>(bits: T, other: &T) -> Set<T,
     Set::new_in(set)
 }
 
-// Combines a set with a value by an operation.
+// Replaces `set` by the result of an operation on `set` and `other`.
 #[inline]
 pub(super) fn combine<T: BitsMut, E: Endian, O: Operation>(set: &mut Set<T, E>, other: &T)
     ensures set { (mirrored : Bool) → set_mirrored T.Shape mirrored set.new.bits

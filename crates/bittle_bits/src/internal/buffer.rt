@@ -41,7 +41,7 @@ impl Model for Count {
 }
 
 impl Count {
-    // Returns a count of `number`.
+    // Returns a count with the value `number`.
     #[inline(always)]
     fn of(number: usize) -> Count
         ensures { result ≡ number }
@@ -51,7 +51,7 @@ impl Count {
         }
     }
 
-    /// Returns a count of zero.
+    /// Returns a count with the value 0.
     pub fn new() -> Count
         ensures { result ≡ 0 }
     {
@@ -68,7 +68,7 @@ impl Count {
         }
     }
 
-    /// Counts `number` more.
+    /// Adds `number` to the count.
     #[inline(always)]
     pub fn add(&mut self, number: usize)
         ensures { self.new ≡ self.old + number }
@@ -76,7 +76,7 @@ impl Count {
         *self = self.with(&Count::of(number));
     }
 
-    /// Counts one more.
+    /// Adds 1 to the count.
     pub fn raise(&mut self)
         ensures { self.new ≡ self.old + 1 }
     {
@@ -86,10 +86,10 @@ impl Count {
 
 const _: () = prove!(size_of::<Count>() == 0);
 
-// A word of a set. `edge` is the index that the word's bit of least weight has in the set. From
-// `edge`, the indexes of the other bits go up or, in little-endian order, down. If no word is
-// loaded, or if the word is exhausted, no bit of `word` is set. So a step tests only `word`;
-// `is_loaded` is used only to count scans.
+// A buffer for one word of a set. `edge` is the index in the set of the word's bit of least weight.
+// From `edge`, the indexes of the other bits go up in big-endian order, and down in little-endian
+// order. If no word is loaded, or if the word is exhausted, no bit of `word` is set. So a step
+// tests only `word`; `is_loaded` is used only to count scans.
 #[derive(Clone, Copy)]
 struct BufferedWord<W: Copy> {
     word: W,
@@ -97,9 +97,9 @@ struct BufferedWord<W: Copy> {
     is_loaded: bool,
 }
 
-// Returns how many bits `words` words have. It computes the product as a rotation. With a
-// multiplication, the compiler would update the product in each turn of a loop over words, but the
-// product is needed only after the loop.
+// Returns how many bits `words` words have: the product of `words` and the width, computed as a
+// rotation. With a multiplication, the compiler would update the product in each turn of a loop
+// over words, but the product is needed only after the loop.
 #[inline(always)]
 fn bits_of<W: Word>(words: usize) -> u32
     requires { words * W.width < 4294967296 }
@@ -108,8 +108,9 @@ fn bits_of<W: Word>(words: usize) -> u32
     words.rotate_left(W::width().trailing_zeros()) as u32
 }
 
-// Returns word `k` of a set as a buffered word for the end `N`. At the front its first index is
-// computed from `k + 1`, since the cursor's `low` is `k + 1` by then.
+// Returns word `k` of a set as a buffered word for the end `N`. At the front, the index of the
+// word's first bit is computed from `k + 1`, since this number is at hand: it is the new value of
+// the cursor's `low`.
 #[inline(always)]
 fn buffered<W: Word, E: Endian, N: End>(word: W, k: usize) -> BufferedWord<W>
     requires { k * W.width + W.width < 4294967296 }
@@ -185,7 +186,8 @@ fn is_exhausted<W: Word, E: Endian>(buffered: &mut BufferedWord<W>, scans: &mut 
     true
 }
 
-// Scans a buffered word, and takes its item at the end `N`.
+// Scans a buffered word, and takes its item at the end `N`. If it has no item, a loaded word is
+// dropped, and the call returns `None`.
 #[inline(always)]
 fn scan<W: Word, E: Endian, N: End>(
     buffered: &mut BufferedWord<W>,
@@ -209,8 +211,8 @@ fn scan<W: Word, E: Endian, N: End>(
 /// The two buffered words of an iterator: its head and its tail. An iterator over unset bits holds
 /// them with each bit flipped.
 ///
-/// Each call that searches a loaded word is one scan. The call yields an item or finds that the
-/// word is exhausted.
+/// A scan is a call that searches a loaded word. The call yields an item, or it finds that the word
+/// is exhausted.
 #[derive(Drop)]
 pub struct Buffers<W: Word, E: Endian> {
     head: BufferedWord<W>,
@@ -237,7 +239,7 @@ impl<W: Word, E: Endian> Model for Buffers<W, E> {
 }
 
 impl<W: Word, E: Endian> Buffers<W, E> {
-    /// Makes two buffers with no word loaded, and with no scans and no fetches counted.
+    /// Makes two buffers with no word loaded. The counts of scans and of fetches are 0.
     #[inline(always)]
     #[tactic(auto, unfolding(crate::specs::Buffers::buffered_items))]
     pub fn none() -> Buffers<W, E>
@@ -257,7 +259,8 @@ impl<W: Word, E: Endian> Buffers<W, E> {
         }
     }
 
-    /// Returns the same buffered words, with no scans and no fetches counted.
+    /// Returns a copy of the two buffered words. The counts of scans and of fetches of the copy are
+    /// 0.
     #[inline(always)]
     pub fn duplicate(&self) -> Buffers<W, E>
         ensures { result
@@ -307,7 +310,8 @@ impl<W: Word, E: Endian> Buffers<W, E> {
         }
     }
 
-    // Fetches word `k`, as a word whose set bits are the bits of the kind `K`.
+    // Fetches word `k` of the set. The set bits of the returned word are this word's bits of the
+    // kind `K`.
     #[inline(always)]
     fn fetch<B: ReadWords<LeafWord = W>, K: Kind>(&mut self, source: &Source<'_, B>, k: usize) -> W
         requires fits { ShapeFits B.Shape source.now.set.now }
@@ -325,8 +329,8 @@ impl<W: Word, E: Endian> Buffers<W, E> {
         source.fetch::<K>(k, &mut self.fetches)
     }
 
-    /// Fetches word `k`, as a word whose set bits are the bits of the kind `K`, and loads it at the
-    /// end `N`.
+    /// Fetches word `k` of the set, and loads it at the end `N`. The set bits of the loaded word
+    /// are the bits of the kind `K` of word `k`.
     #[inline(always)]
     pub fn load<B: ReadWords<LeafWord = W>, K: Kind, N: End>(
         &mut self,
@@ -347,9 +351,9 @@ impl<W: Word, E: Endian> Buffers<W, E> {
         self.put::<N>(word, k);
     }
 
-    /// Fetches word `k`, as a word whose set bits are the bits of the kind `K`, and returns whether
-    /// it has an item. If so, the word is loaded at the end `N`, where the caller found no word
-    /// loaded. Else the word is not loaded, and this test counts as its one scan.
+    /// Fetches word `k` of the set, and returns whether it has an item (a bit of the kind `K`). If
+    /// it has one, the word is loaded at the end `N`, as by `load`; the caller has found no word
+    /// loaded there. If it has none, the word is not loaded, and this test counts as its only scan.
     #[inline(always)]
     pub fn refill<B: ReadWords<LeafWord = W>, K: Kind, N: End>(
         &mut self,
@@ -394,8 +398,9 @@ impl<W: Word, E: Endian> Buffers<W, E> {
         self.tail.is_loaded = is_loaded;
     }
 
-    /// Returns whether the word at the end `N`, the head or the tail, has no item. A loaded word
-    /// without an item is dropped, and this test counts as its last scan.
+    /// Returns whether the word at the end `N` has no item. At the front this word is the head, at
+    /// the back it is the tail. A loaded word without an item is dropped, and this test counts as
+    /// its last scan.
     #[inline(always)]
     pub fn is_exhausted<N: End>(&mut self) -> bool
         ensures told { TellsExhausted result (buffer_of N.FRONT self.old)
@@ -412,7 +417,9 @@ impl<W: Word, E: Endian> Buffers<W, E> {
         }
     }
 
-    /// Scans the word at the end `N`, the head or the tail, and takes its item at that end.
+    /// Scans the word at the end `N`, and takes its item at that end. At the front this word is the
+    /// head, at the back it is the tail. If it has no item, a loaded word is dropped, and the call
+    /// returns `None`.
     #[inline(always)]
     pub fn scan<N: End>(&mut self) -> Option<u32>
         ensures found { ScansFrom N.FRONT (buffer_of N.FRONT self.old) result

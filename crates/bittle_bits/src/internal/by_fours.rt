@@ -1,5 +1,6 @@
-//! The first bit of a kind, set or unset, in whole words. A search skips words at both ends that
-//! the set knows to have no such bit, and reads the other words four at a time.
+//! Searches whole words for the first bit of a kind: the first set bit or the first unset bit. A
+//! search skips words at both ends if the set knows that they have no such bit, and reads the other
+//! words four at a time.
 
 ghost use Rattle.std.specs.Prelude.{◌+◌, ◌*◌, ◌≤◌, ◌↔◌, IsTrue};
 ghost use Rattle.bittle_bits.specs.Searches.{IsFirstIn, NoneIn};
@@ -31,8 +32,8 @@ fn first_among<B: ReadWords, E: Endian, K: Kind>(bits: &B, from: u32, to: u32) -
     None
 }
 
-// Returns whether the four words from `from` on have no bit of the kind `K`, by one test for all
-// four.
+// Returns whether the four words from `from` on have no bit of the kind `K`. One test serves all
+// four words.
 #[inline]
 fn are_four_empty<B: ReadWords, E: Endian, K: Kind>(bits: &B, from: u32) -> bool
     requires fits { ShapeFits B.Shape bits.now }
@@ -71,7 +72,7 @@ fn first_by_fours<B: ReadWords, E: Endian, K: Kind>(bits: &B, from: u32, to: u32
 }
 
 /// Returns the least index of a bit of the kind `K` in the first `words` words, or `None` if they
-/// have no such bit. It skips words at both ends that the set knows to have no such bit.
+/// have no such bit. It skips words at both ends if the set knows that they have no such bit.
 #[inline]
 pub fn first_in_words<B: ReadWords, E: Endian, K: Kind>(bits: &B, words: u32) -> Option<u32>
     requires fits { ShapeFits B.Shape bits.now }

@@ -28,11 +28,12 @@ pub struct Cursor<B: Shape, E: Endian> {
     pub passed: Count,
 }
 
-/// Begins an iterator. It leaves out words at both ends that the set knows to have no item.
+/// Begins an iterator. The call leaves out words at both ends if the set knows that they have no
+/// item.
 ///
-/// For a type of fixed length it loads the first word that is left into the head. For a slice it
-/// loads no word. So if an iterator over a slice is stepped from one end alone, the compiler drops
-/// the buffer of the other end.
+/// For a type of fixed length, the call loads the first of the remaining words into the head. For a
+/// slice it loads no word. So if an iterator over a slice is stepped from one end alone, the
+/// compiler drops the buffer of the other end.
 #[inline]
 pub fn begin<B: ReadWords, E: Endian, K: Kind>(source: &Source<'_, B>) -> Cursor<B, E>
     requires { ShapeFits B.Shape source.now.set.now }
@@ -59,8 +60,8 @@ pub fn begin<B: ReadWords, E: Endian, K: Kind>(source: &Source<'_, B>) -> Cursor
     at
 }
 
-/// Returns the same position for `clone`, with no scan, item or fetch counted. The words that were
-/// fetched before count as passed over.
+/// Returns the position of a clone, which is the same. The clone's counts of scans, items and
+/// fetches are 0. The words that were fetched before count as passed over.
 #[inline]
 pub fn duplicate<B: ReadWords, E: Endian>(at: &Cursor<B, E>) -> Cursor<B, E>
     ensures resumes { (s : PlainSet) (words w : ℕ) → IsCounted words at.now
@@ -112,7 +113,8 @@ fn take_word<B: Shape, E: Endian, N: End>(at: &mut Cursor<B, E>) -> usize
     }
 }
 
-// Moves the end `N` of `low..high`, the words between the buffered ones, to `on`.
+// Moves the end `N` of `low..high` to `on`. The words of `low..high` are those between the buffered
+// ones.
 #[inline(always)]
 fn move_end<B: Shape, E: Endian, N: End>(at: &mut Cursor<B, E>, on: usize)
     ensures { at.new
@@ -131,8 +133,8 @@ fn move_end<B: Shape, E: Endian, N: End>(at: &mut Cursor<B, E>, on: usize)
     }
 }
 
-// Passes over words at the end `N` of `low..high`, the words between the buffered ones. It passes
-// over words that the set knows to have no item, and fetches none of them.
+// Passes over words at the end `N` of `low..high`, the words between the buffered ones. The set
+// knows that the words passed over have no item, and none of them is fetched.
 #[inline(always)]
 #[tactic(auto, unfolding(crate::specs::Cursor::items_left_in))]
 fn pass_over<B: ReadWords, E: Endian, K: Kind, N: End>(
@@ -150,9 +152,9 @@ fn pass_over<B: ReadWords, E: Endian, K: Kind, N: End>(
     move_end::<B, E, N>(at, on);
 }
 
-// Fills the buffer at the end `N` if it has no item: it takes words from `low..high`, drops words
-// without an item, and loads the next word with an item. It returns whether the buffer has an item.
-// If it returns `false`, no word is left in `low..high`.
+// Fills the buffer at the end `N` if the buffer has no item. The call takes words from `low..high`,
+// drops words without an item, and loads the first word with an item. It returns whether the buffer
+// has an item afterwards. If it returns `false`, no word is left in `low..high`.
 //
 // It calls `pass_over` only after it has fetched a word without an item. A call before each fetch
 // would cost an iterator over a dense set one call per word.
@@ -206,7 +208,7 @@ pub fn step<B: ReadWords, E: Endian, K: Kind, N: End>(
         }
         return found;
     }
-    // No word is left in `low..high`, so the word at the other end has all items that remain.
+    // No word is left in `low..high`, so the buffer at the other end has all items that remain.
     let found = at.buffers.scan_across::<N>();
     if found.is_some() {
         at.items.raise();

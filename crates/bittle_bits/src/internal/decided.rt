@@ -15,8 +15,9 @@ use crate::shape::Shape;
 use crate::word::Word;
 use std::marker::PhantomData;
 
-/// The result of an operation on two borrowed sets, below both capacities. Each word of the result
-/// is computed when it is read; no word is stored. The words of the two sets have the same width.
+/// The set that is the result of an operation on two borrowed sets. Its capacity is the lesser of
+/// their capacities. Each word of the result is computed when it is read; no word is stored. The
+/// words of the two sets have the same width.
 #[derive(Drop)]
 struct Both<'a, A: Shape, B: Shape, O: Operation> {
     left: &'a A,
@@ -86,9 +87,9 @@ impl<'a, A: ReadWords, B: ReadWords, O: Operation> Both<'a, A, B, O> {
     }
 }
 
-/// Returns the least index in the result of an operation on the first word of each of two sets, or
-/// `None` if that result is empty. The words of the two sets have the same width. `common` is the
-/// lesser of their capacities.
+/// Combines the first words of two sets by the operation `O`, and returns the least index of a set
+/// bit of the result. It returns `None` if the result has no set bit, or if a set has no word. The
+/// words of the two sets have the same width. `common` is the lesser of their capacities.
 // The compiler inlines this small function. So if the first words decide, a caller makes no call.
 #[inline]
 pub fn first_decided_at_once<A: ReadWords, B: ReadWords, E: Endian, O: Operation>(
@@ -111,9 +112,9 @@ pub fn first_decided_at_once<A: ReadWords, B: ReadWords, E: Endian, O: Operation
     first_in_words::<Both<'_, A, B, O>, E, Ones>(&Both::of(left, right, common), 1)
 }
 
-/// Returns the least index below both capacities in the result of an operation on two sets, or
-/// `None` if there is none. The words of the two sets have the same width. `common` is the lesser
-/// of their capacities.
+/// Combines two sets by the operation `O`, and returns the least index below both capacities whose
+/// bit is set in the result, or `None` if there is no such index. The words of the two sets have
+/// the same width. `common` is the lesser of their capacities.
 #[inline]
 pub fn first_decided_below<A: ReadWords, B: ReadWords, E: Endian, O: Operation>(
     left: &A,

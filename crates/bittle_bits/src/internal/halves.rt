@@ -1,4 +1,4 @@
-//! Works on a word of 128 bits by its two halves. A processor holds each half in a register.
+//! Work on words of 128 bits half by half. A processor holds each half in a register.
 
 ghost use Rattle.std.specs.Prelude.{◌≡◌, ◌+◌, ◌*◌, ◌^◌, ◌<◌};
 ghost use Rattle.bittle_bits.specs.SetOperations.{combination_of};

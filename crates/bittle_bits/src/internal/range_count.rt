@@ -10,7 +10,8 @@ use crate::one_word::range;
 use crate::read_words::{ReadWords, word_width};
 use crate::word::Word;
 
-/// Counts the set bits at the indexes `from..to` within word `k`, in the order `E`.
+/// Counts the set bits of word `k` whose index within the word is in `from..to`. Indexes follow the
+/// bit order `E`.
 #[inline]
 pub fn count_in_word<B: ReadWords, E: Endian>(bits: &B, k: u32, from: u32, to: u32) -> u32
     requires fits { ShapeFits B.Shape bits.now }
@@ -25,8 +26,9 @@ pub fn count_in_word<B: ReadWords, E: Endian>(bits: &B, k: u32, from: u32, to: u
     word.and(range::<B::LeafWord, E>(from, to)).count_ones()
 }
 
-/// Counts the set bits of `from..to`, in the order `E`. In the first and the last word a mask
-/// keeps the bits of the range; each word between them is counted whole.
+/// Counts the set bits with an index in `from..to`. Indexes follow the bit order `E`. In the first
+/// and in the last word, a mask keeps the bits of the range; each word between these two is counted
+/// whole.
 #[inline]
 pub fn count_ones<B: ReadWords, E: Endian>(bits: &B, from: u32, to: u32) -> u32
     requires fits { ShapeFits B.Shape bits.now }

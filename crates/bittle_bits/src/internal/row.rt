@@ -22,7 +22,8 @@ use crate::kind::{Kind, Ones, Zeros};
 use crate::operation::{Operation, RangeOperation};
 use crate::read_words::word_width;
 
-/// Returns the capacity of `len` elements, or `u32::MAX` if they do not fit.
+/// Returns the capacity of a row of `len` elements, or `u32::MAX` if the row does not fit. The
+/// comment on `Bits` says when it fits.
 #[inline]
 pub fn bits_capacity<T: BitsOwned>(len: usize) -> u32
     ensures value { Fits T.indexable (len * T.type_capacity) → result ≡ len * T.type_capacity }
@@ -41,8 +42,8 @@ pub fn bits_capacity<T: BitsOwned>(len: usize) -> u32
     len as u32 * each
 }
 
-/// Returns whether an array of `len` elements is short: it has at most 128 bytes. It affects speed
-/// only, so it has no contract.
+/// Returns whether an array of `len` elements is short, which means that it has at most 128 bytes.
+/// The result affects speed only, so this function has no contract.
 #[inline]
 pub fn is_short<T: BitsOwned>(len: usize) -> bool {
     bits_capacity::<T>(len) <= 1024
@@ -63,9 +64,10 @@ fn wrapped(index: u32, capacity: u32) -> u32
     }
 }
 
-// Returns the number of the element that an index goes to, and the index within this element. With
-// capacity 0 it returns `None`. If the length is a constant, dividing by it costs less than testing
-// whether the index is past the capacity.
+// Returns the number of the element that the bit at `index` lies in, and the bit's index within
+// this element. An index past the capacity wraps. With capacity 0 the call returns `None`. If the
+// length is a constant, a division by the length costs less than a test whether the index is past
+// the capacity.
 #[inline]
 fn locate<T: BitsOwned>(len: usize, index: u32, is_constant: bool) -> Option<(usize, u32)>
     requires { IsTrue T.indexable }
@@ -83,8 +85,8 @@ fn locate<T: BitsOwned>(len: usize, index: u32, is_constant: bool) -> Option<(us
     Some(((within / each) as usize, within % each))
 }
 
-/// Tests the bit at an index, which wraps, of an array or of a slice. With capacity 0 it returns
-/// `false`.
+/// Returns whether the bit at `index` of an array or of a slice is set. An index past the capacity
+/// wraps. With capacity 0 the call returns `false`.
 #[inline]
 pub fn test_bit<T: BitsOwned, E: Endian>(elements: &[T], index: u32, is_array: bool) -> bool
     requires { IsTrue T.indexable }
@@ -96,8 +98,8 @@ pub fn test_bit<T: BitsOwned, E: Endian>(elements: &[T], index: u32, is_array: b
     }
 }
 
-/// Sets the bit at an index of an array or of a slice if `K` is `Ones`, and clears it if `K` is
-/// `Zeros`. The index wraps. With capacity 0 it changes nothing.
+/// Changes the bit at `index` of an array or of a slice: sets it if `K` is `Ones`, and clears it if
+/// `K` is `Zeros`. An index past the capacity wraps. With capacity 0 nothing changes.
 #[inline]
 pub fn put_bit<T: BitsOwned, E: Endian, K: Kind>(elements: &mut [T], index: u32, is_array: bool)
     requires { IsTrue T.indexable }
@@ -122,7 +124,8 @@ pub fn clear_bits<T: BitsOwned>(elements: &mut [T])
     }
 }
 
-// Changes each bit of element `at` at the indexes `from..to` within it, by the operation `O`.
+// Changes each bit of element `at` whose index within the element is in `from..to`, by the
+// operation `O`.
 #[inline]
 fn assign_in_element<T: BitsOwned, E: Endian, O: RangeOperation>(
     elements: &mut [T],
@@ -143,9 +146,9 @@ fn assign_in_element<T: BitsOwned, E: Endian, O: RangeOperation>(
     elements[at as usize].assign_range_by_operation::<E, O>(from, to);
 }
 
-// Returns five numbers: how many bits an element has, the element that the first index of
-// `from..to` lies in, the index within this element, and then the element and the index within it
-// for the last index.
+// Returns five numbers. The first is how many bits an element has. The next two are the element
+// that the first index of `from..to` lies in, and the index within this element. The last two are
+// the same for the last index of `from..to`.
 #[inline]
 fn element_ends<T: BitsOwned>(len: usize, from: u32, to: u32) -> (u32, u32, u32, u32, u32)
     requires fits { IsTrue T.indexable }
@@ -160,9 +163,10 @@ fn element_ends<T: BitsOwned>(len: usize, from: u32, to: u32) -> (u32, u32, u32,
     (each, first, begin, last, top)
 }
 
-/// Changes each bit of `from..to` by the operation `O`: `Union` sets these bits, `Difference`
-/// clears them, and `SymmetricDifference` flips them. Each element between the first and the last
-/// one is changed as a whole. If the elements are words, all of these are changed by the same mask.
+/// Changes each bit with an index in `from..to` by the operation `O`: `Union` sets these bits,
+/// `Difference` clears them, and `SymmetricDifference` flips them. Each element between the first
+/// and the last one of the range is changed as a whole. If the elements are words, the same mask
+/// changes each of these.
 pub fn assign_range<T: BitsOwned, E: Endian, O: RangeOperation>(
     elements: &mut [T],
     from: u32,
@@ -315,8 +319,8 @@ fn part_is_without<T: BitsOwned, K: Kind>(elements: &[T], from: usize, to: usize
     without
 }
 
-// Returns whether no element has a bit of the kind `K`. The elements before `from` are known to
-// have no such bit. It tests the other elements one by one.
+// Returns whether no element has a bit of the kind `K`. The caller knows that the elements before
+// `from` have no such bit. The call tests the other elements one by one, until one has such a bit.
 #[inline]
 fn rest_is_without<T: BitsOwned, K: Kind>(elements: &[T], from: usize) -> bool
     requires within { from ≤ length elements.now }
@@ -450,9 +454,10 @@ fn words_at_end<N: End>(front: usize, back: usize) -> usize
 }
 
 // Passes over words at the end `N` of `low..high`, in the one element that lies at that end. The
-// element knows that these words have no bit of the kind `K`. The call returns the new `low` if `N`
-// is the front, and the new `high` if `N` is the back. It also returns whether it passed over all
-// words of `low..high` that lie in the element. The range `low..high` must not be empty.
+// element knows that the words passed over have no bit of the kind `K`. The call returns the new
+// `low` if `N` is the front, and the new `high` if `N` is the back. It also returns whether it
+// passed over all words of `low..high` that lie in the element. The range `low..high` must not be
+// empty.
 #[inline]
 fn pass_over_in_element<T: BitsOwned, K: Kind, N: End>(
     elements: &[T],
@@ -476,8 +481,8 @@ fn pass_over_in_element<T: BitsOwned, K: Kind, N: End>(
 }
 
 // Passes over words at the end `N` of `low..high`, one element after another. The elements know
-// that these words have no bit of the kind `K`. The call returns the new `low` if `N` is the front,
-// and the new `high` if `N` is the back.
+// that the words passed over have no bit of the kind `K`. The call returns the new `low` if `N` is
+// the front, and the new `high` if `N` is the back.
 fn pass_over_elements<T: BitsOwned, K: Kind, N: End>(
     elements: &[T],
     low: usize,
@@ -504,9 +509,9 @@ fn pass_over_elements<T: BitsOwned, K: Kind, N: End>(
     }
 }
 
-/// Passes over words at the end `N` of `low..high`. The elements know that these words have no bit
-/// of the kind `K`. The call returns the new `low` if `N` is the front, and the new `high` if `N`
-/// is the back.
+/// Passes over words at the end `N` of `low..high`. The elements know that the words passed over
+/// have no bit of the kind `K`. The call returns the new `low` if `N` is the front, and the new
+/// `high` if `N` is the back.
 ///
 /// It calls `pass_over` of elements only if their type may pass over words.
 #[inline(always)]

@@ -1,4 +1,5 @@
-//! The first or the last bit of a kind, set or unset, in a range, found word by word.
+//! Searches a range, word by word, for the first or the last bit of a kind: a set bit or an unset
+//! bit.
 
 ghost use Rattle.std.specs.Prelude.{◌≡◌, ◌+◌, ◌*◌, ◌<◌, ◌≤◌, Bool, ℕ};
 ghost use Rattle.bittle_bits.specs.Ends.{is_ahead, IsEndIn};
@@ -15,9 +16,8 @@ use crate::one_word::from_end;
 use crate::read_words::{ReadWords, word_width};
 use crate::word::Word;
 
-// Returns the word in which the bits from index `at` on are set, seen from the end `N`. From the
-// front these are bit `at` and the bits of greater index, from the back bit `at` and those of
-// lesser index.
+// Returns the word in which just these bits are set: bit `at`, and each bit of greater index if `N`
+// is the front, or each bit of lesser index if `N` is the back.
 #[inline]
 fn ahead<T: Word, E: Endian, N: End>(at: u32) -> T
     requires { at < T.width }
@@ -31,10 +31,11 @@ fn ahead<T: Word, E: Endian, N: End>(at: u32) -> T
     since.not().or(E::mask::<T>(at))
 }
 
-// Returns the number of the next word after word `k`, seen from the end `N`, among the words from
-// `first` to `last`. It skips words that the set knows to have no bit of the kind `K`, and returns
-// `None` if no word is left. The test whether `k` is the last word comes first. So if a set skips
-// no words, the compiled code makes no other test.
+// Returns the number of the next word after word `k` among the words from `first` to `last`. The
+// words come in increasing order if `N` is the front, and in decreasing order if `N` is the back.
+// The call skips words that the set knows to have no bit of the kind `K`, and returns `None` if no
+// word is left. The test whether `k` is the last word comes first. So if a set skips no words, the
+// compiled code makes no other test.
 #[inline(always)]
 fn next_word<B: ReadWords, K: Kind, N: End>(bits: &B, first: u32, last: u32, k: u32) -> Option<u32>
     requires fits { ShapeFits B.Shape bits.now }
@@ -63,9 +64,8 @@ fn next_word<B: ReadWords, K: Kind, N: End>(bits: &B, first: u32, last: u32, k: 
     }
 }
 
-/// Returns the first index of `from..to`, seen from the end `N`, whose bit is of the kind `K`: the
-/// least index from the front, the greatest from the back. It returns `None` if there is no such
-/// index.
+/// Returns an index in `from..to` whose bit is of the kind `K`: the least such index if `N` is the
+/// front, the greatest if `N` is the back, and `None` if there is no such index.
 #[inline]
 pub fn end_in<B: ReadWords, E: Endian, K: Kind, N: End>(bits: &B, from: u32, to: u32) -> Option<u32>
     requires fits { ShapeFits B.Shape bits.now }

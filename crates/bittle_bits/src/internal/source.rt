@@ -15,7 +15,8 @@ use crate::kind::{Kind, bits_of_kind};
 use crate::read_words::{ReadWords, word_width};
 use crate::shape::Shape;
 
-/// Returns word `k` of a set, as a word whose set bits are the bits of the kind `K`.
+/// Returns word `k` of a set, with each bit flipped if `K` is `Zeros`. So the set bits of the
+/// result are the bits of the kind `K`.
 #[inline(always)]
 pub fn word_of_kind<B: ReadWords, K: Kind>(bits: &B, k: usize) -> B::LeafWord
     requires fits { ShapeFits B.Shape bits.now }
@@ -26,9 +27,9 @@ pub fn word_of_kind<B: ReadWords, K: Kind>(bits: &B, k: usize) -> B::LeafWord
     bits_of_kind::<B::LeafWord, K>(bits.nth_leaf_word(k))
 }
 
-/// Passes over words at the end `N` of `low..high`. The set knows that these words have no bit of
-/// the kind `K`, in either order. The call returns the new `low` if `N` is the front, and the new
-/// `high` if `N` is the back.
+/// Passes over words at the end `N` of `low..high`. The set knows that the words passed over have
+/// no bit of the kind `K`, in either order. The call returns the new `low` if `N` is the front, and
+/// the new `high` if `N` is the back.
 #[inline(always)]
 pub fn pass_over<B: ReadWords, K: Kind, N: End>(bits: &B, low: usize, high: usize) -> usize
     requires fits { ShapeFits B.Shape bits.now }
@@ -58,7 +59,7 @@ impl<'a, B: ReadWords> Source<'a, B> {
         Source { set }
     }
 
-    /// Borrows the words of the same set.
+    /// Borrows the words of the same set once more.
     #[inline]
     pub fn duplicate(&self) -> Source<'a, B>
         ensures { result.set ≡ self.now.set }
@@ -75,8 +76,8 @@ impl<'a, B: ReadWords> Source<'a, B> {
         self.set.capacity() / word_width::<B>()
     }
 
-    /// Fetches word `k`, as a word whose set bits are the bits of the kind `K`, and counts the
-    /// fetch.
+    /// Fetches word `k`, and adds 1 to `fetches`. The set bits of the returned word are the bits of
+    /// the kind `K` of word `k`.
     #[inline(always)]
     pub fn fetch<K: Kind>(&self, k: usize, fetches: &mut Count) -> B::LeafWord
         requires fits { ShapeFits B.Shape self.now.set.now }
@@ -89,9 +90,10 @@ impl<'a, B: ReadWords> Source<'a, B> {
         word_of_kind::<B, K>(self.set, k)
     }
 
-    /// Passes over words at the end `N` of `low..high`. The set knows that these words have no bit
-    /// of the kind `K`, in either order. The call counts these words, and fetches none of them. It
-    /// returns the new `low` if `N` is the front, and the new `high` if `N` is the back.
+    /// Passes over words at the end `N` of `low..high`. The set knows that the words passed over
+    /// have no bit of the kind `K`, in either order. The call adds their number to `passed`, and
+    /// fetches none of them. It returns the new `low` if `N` is the front, and the new `high` if
+    /// `N` is the back.
     #[inline(always)]
     pub fn pass_over<K: Kind, N: End>(&self, low: usize, high: usize, passed: &mut Count) -> usize
         requires fits { ShapeFits B.Shape self.now.set.now }
@@ -117,7 +119,7 @@ pub struct OwnedSource<B: Shape> {
 }
 
 impl<B: ReadWords> OwnedSource<B> {
-    /// Takes the set.
+    /// Makes a source that owns `set`.
     #[inline]
     pub fn new(set: B) -> OwnedSource<B>
         ensures { result.set ≡ set }

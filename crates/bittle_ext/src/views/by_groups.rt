@@ -11,8 +11,9 @@ ghost use Rattle.bittle.specs.Values.{set_in, ShapeFits};
 use bittle::{BigEndian, Endian};
 use bittle_bits::extension::{End, Ones, ReadWords, end_in};
 
-/// Returns a number with one bit for each of 64 groups of words. The bit of a group is unset only
-/// if no bit of the group is set in both sets. `groups_told` does this for one set.
+/// Returns a number with one bit for each of 64 groups of words. Bit `i` stands for group
+/// `64 * n + i`, and each group has `64 ^ level` words. The bit of a group is unset only if no bit
+/// of the group is set in both sets. `groups_told` does this for one set.
 #[inline(always)]
 pub fn told_of_both<A: ReadWords, B: ReadWords, E: Endian, F: Endian>(
     left: &A,
@@ -68,7 +69,7 @@ fn moved<A: ReadWords, B: ReadWords, E: Endian, F: Endian, N: End>(
     }
 }
 
-// Returns whether the end `N` of `low..high`, moved to `at`, has not reached the other end.
+// Returns whether the end `N` of `low..high` has not reached the other end after it moved to `at`.
 #[inline(always)]
 fn is_inside<N: End>(low: usize, high: usize, at: usize) -> bool
     ensures { result ≡ is_inside N.FRONT low high at }
@@ -76,7 +77,7 @@ fn is_inside<N: End>(low: usize, high: usize, at: usize) -> bool
     if N::FRONT { at < high } else { low < at }
 }
 
-// Returns `at`, or the other end of `low..high` if `at` lies past that end.
+// Returns the lesser of `at` and `high` if `N` is the front, else the greater of `at` and `low`.
 #[inline(always)]
 fn clamped<N: End>(low: usize, high: usize, at: usize) -> usize
     ensures { result ≡ cond N.FRONT (min at high) (max at low) }
@@ -84,8 +85,8 @@ fn clamped<N: End>(low: usize, high: usize, at: usize) -> usize
     if N::FRONT { at.min(high) } else { at.max(low) }
 }
 
-/// Skips words of `low..high`, from the end `N`, in which the sets have no set bit in common. The
-/// sets tell this by groups of words. It returns the new `low` if `N` is the front, else the new
+/// Skips words at the end `N` of `low..high` in which the two sets have no set bit in common. The
+/// sets tell this by groups of words. Returns the new `low` if `N` is the front, else the new
 /// `high`.
 #[inline(always)]
 pub fn passed_by_groups<A: ReadWords, B: ReadWords, E: Endian, F: Endian, N: End>(

@@ -38,7 +38,8 @@ pub fn count<B: ReadWords>(bits: &B) -> u32
 }
 
 /// Moves the end `N` of the words `low..high` past words that the set does not have, or knows to be
-/// empty, and returns the new end. The words have the width of the set's words.
+/// empty. Returns the new `low` if `N` is the front, else the new `high`. The words have the width
+/// of the set's words.
 #[inline]
 pub fn passed<B: ReadWords, N: End>(bits: &B, low: usize, high: usize) -> usize
     requires fits { ShapeFits B.Shape bits.now }
@@ -78,7 +79,8 @@ pub fn is_full<B: ReadWords>(bits: &B) -> bool
     first_in_words::<B, BigEndian, Zeros>(bits, words).is_none()
 }
 
-/// Tests the bit at an index, which wraps.
+/// Returns whether the bit at `index` is set. An index past the capacity wraps. With capacity 0 it
+/// returns `false`.
 #[inline]
 pub fn test<B: ReadWords, E: Endian>(bits: &B, index: u32) -> bool
     requires { ShapeFits B.Shape bits.now }

@@ -10,8 +10,8 @@ use bittle::{Bits, Endian, Shape};
 use bittle_bits::extension::{End, Kind, Ones, ReadWords, Sealed, Zeros, word_of_kind};
 use std::alloc::AllocError;
 
-/// The unset bits of a borrowed set: a set of the same capacity, in the order of the borrowed set's
-/// type. Each word is computed when it is read.
+/// A view in which each bit is set exactly if it is unset in a borrowed set. It has the capacity
+/// and the bit order of that set. Each word is computed when it is read.
 #[derive(Drop)]
 pub struct Complement<'a, B: Shape> {
     set: &'a B,

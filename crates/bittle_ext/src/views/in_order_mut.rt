@@ -131,13 +131,13 @@ impl<'a, B: BitsMut, U: Endian> BitsMut for InOrderMut<'a, B, U> {
     }
 }
 
-/// Views of any set that can be changed, which borrow the set mutably.
+/// Views that mutably borrow a set, which may be any set that can be changed.
 pub trait BitsMutViewExt: BitsMut {
-    /// Borrows the set mutably, to be read and changed in the order `E`. A change of the view
-    /// changes the set.
+    /// Returns a view that borrows the set mutably, and reads and changes it in the order `E`. A
+    /// change of the view changes the set.
     ///
-    /// Always callable. The view has the capacity of the set, and a call on the view costs what it
-    /// costs on the set.
+    /// The call can be made on any set. The view has the capacity of the set, and a call on the
+    /// view costs what it costs on the set.
     ///
     /// ```
     /// let mut word = 0b1000_0000u8;

@@ -20,22 +20,22 @@ use bittle_bits::extension::{
 use std::alloc::AllocError;
 use std::marker::PhantomData;
 
-/// A view of the indexes that are set in both of two sets.
+/// A view of the indexes whose bits are set in both of two sets.
 pub type AndView<'a, A, B, E, F> = OfBoth<'a, A, B, E, F, Conjunction>;
 
-/// A view of the indexes that are set in the first of two sets and not in the second.
+/// A view of the indexes whose bits are set in the first of two sets and not in the second.
 pub type MinusView<'a, A, B, E, F> = OfBoth<'a, A, B, E, F, Difference>;
 
-/// A view of the indexes that are set in either of two sets.
+/// A view of the indexes whose bits are set in at least one of two sets.
 pub type OrView<'a, A, B, E, F> = OfBoth<'a, A, B, E, F, Union>;
 
-/// A view of the indexes that are set in just one of two sets.
+/// A view of the indexes whose bits are set in exactly one of two sets.
 pub type XorView<'a, A, B, E, F> = OfBoth<'a, A, B, E, F, SymmetricDifference>;
 
 /// An operation on two sets whose result a view shows.
 pub trait ViewOperation: Operation {
-    /// Returns `true` if every index of the result is in the first set. This decides how the words
-    /// of the first set are read.
+    /// Returns `true` if every set bit of the result is set in the first set too. This decides how
+    /// the words of the first set are read.
     #[doc(hidden)]
     #[inline(always)]
     fn keeps_to_first() -> bool
@@ -44,8 +44,8 @@ pub trait ViewOperation: Operation {
         false
     }
 
-    /// Returns `true` if every index of the result is in the second set. This decides which words
-    /// are skipped.
+    /// Returns `true` if every set bit of the result is set in the second set too. This decides
+    /// which words are skipped.
     #[doc(hidden)]
     #[inline(always)]
     fn keeps_to_second() -> bool
@@ -54,12 +54,12 @@ pub trait ViewOperation: Operation {
         false
     }
 
-    // An index that is in neither set is not in the result.
+    // A bit that is unset in both sets is unset in the result.
     ghost keeps_empty: { Self.decide false false ≡ false };
 }
 
-/// An operation whose result has an index outside the first set exactly if the second set has that
-/// index.
+/// An operation on two sets. Where the first set's bit is unset, the result has the bit of the
+/// second set.
 pub trait EitherOperation: ViewOperation {
     ghost takes_second: { (b : Bool) → Self.decide false b ≡ b };
 }
@@ -80,7 +80,7 @@ impl EitherOperation for SymmetricDifference {
     ghost takes_second = { λ _. refl };
 }
 
-/// An operation whose result has only indexes of the first set.
+/// An operation on two sets. Every set bit of the result is set in the first set too.
 pub trait FirstOperation: ViewOperation {
     ghost keeps_first: { (b : Bool) → Self.decide false b ≡ false };
 }
@@ -116,8 +116,9 @@ impl FirstOperation for Difference {
     ghost keeps_first = { λ _. refl };
 }
 
-// Returns `true` if each index of the result is in both sets, their words have the same width, and
-// both sets can tell which groups of words may have a set bit.
+// Returns `true` if three conditions hold: each set bit of the result is set in both sets, the
+// words of both sets have the same width, and both sets can tell which groups of words may have a
+// set bit.
 #[inline(always)]
 fn combines_groups<A: ReadWords, B: ReadWords, O: ViewOperation>() -> bool
     ensures width { IsTrue result → A.width ≡ B.width }
@@ -131,12 +132,13 @@ fn combines_groups<A: ReadWords, B: ReadWords, O: ViewOperation>() -> bool
         && B::tells_groups::<Ones>()
 }
 
-/// The result of the operation `O` on two borrowed sets, the first read in the order `E` and the
-/// second in `F`. It is a set of words of the first set's type, read in `E`.
+/// A view of the result of the operation `O` on two borrowed sets. The first set is read in the
+/// order `E`, and the second in the order `F`. The view is a set of words of the first set's type,
+/// read in the order `E`.
 ///
 /// Each word is computed when it is read. If the words of the two sets differ in width or order,
-/// the second set's set bits in that word are searched for one by one. `R` says whether both sets
-/// are known to have each word that is read.
+/// the second set's set bits in that word are searched for one by one. `R` says whether every word
+/// that is read is known to exist in both sets.
 #[derive(Drop)]
 pub struct OfBoth<'a, A: Shape, B: Shape, E: Endian, F: Endian, O: Operation, R: Reach = Part> {
     left: &'a A,
@@ -274,8 +276,8 @@ impl<'a, A: Bits, B: Bits, E: Endian, F: Endian, O: ViewOperation, R: Reach> Rea
     }
 }
 
-// Returns a view of the same words that makes no test for the end of a set. It returns `None` if
-// one of the sets lacks a word, or if their words differ in width or order.
+// Returns a view that has the same words, but makes no test for the end of a set. Returns `None` if
+// one of the sets lacks a word of the view, or if the words of the sets differ in width or order.
 #[inline(always)]
 fn whole<'a, A: Bits, B: Bits, E: Endian, F: Endian, O: Operation, R: Reach>(
     view: &OfBoth<'a, A, B, E, F, O, R>,
@@ -327,8 +329,8 @@ impl<'a, A: Bits, B: Bits, U: Endian, F: Endian, O: ViewOperation, R: Reach> Bit
 }
 
 impl<'a, A: Bits, B: Bits, E: Endian, F: Endian, O: Operation> OfBoth<'a, A, B, E, F, O> {
-    /// Returns a view with the capacity `end`. The result of the operation must have no index from
-    /// `end` on.
+    /// Returns a view with the capacity `end`. The result of the operation must have no set bit
+    /// from `end` on.
     #[inline]
     fn until(left: &'a A, right: &'a B, end: u32) -> Self
         requires left_fits { ShapeFits A.Shape left.now }
@@ -357,7 +359,8 @@ impl<'a, A: Bits, B: Bits, E: Endian, F: Endian, O: Operation> OfBoth<'a, A, B, 
 }
 
 impl<'a, A: Bits, B: Bits, E: Endian, F: Endian, O: FirstOperation> OfBoth<'a, A, B, E, F, O> {
-    /// Returns a view of the result of an operation whose indexes are all in the first set.
+    /// Returns a view of the result of an operation whose set bits are all set in `left` too. The
+    /// view has the capacity of `left`.
     #[inline]
     pub(crate) fn of_first(left: &'a A, right: &'a B) -> Self
         requires left_fits { ShapeFits A.Shape left.now }
@@ -381,6 +384,7 @@ impl<'a, A: Bits, B: Bits, E: Endian, F: Endian, O: FirstOperation> OfBoth<'a, A
 
 impl<'a, A: Bits, B: Bits, E: Endian, F: Endian, O: EitherOperation> OfBoth<'a, A, B, E, F, O> {
     /// Returns a view of the result of an operation on two sets whose words have the same width.
+    /// The view has the greater of the two capacities.
     #[inline]
     pub(crate) fn of_alike(left: &'a A, right: &'a B) -> Self
         requires width { A.width ≡ B.width }
@@ -404,7 +408,8 @@ impl<'a, A: Bits, B: Bits, E: Endian, F: Endian, O: EitherOperation> OfBoth<'a, 
     }
 
     /// Returns a view of the result of an operation on two sets whose words may differ in width.
-    /// Its capacity is the greater of the two, rounded up to whole words of the first set.
+    /// The capacity of the view is the greater of the two, rounded up to whole words of the first
+    /// set.
     #[inline]
     pub(crate) fn of_unlike(left: &'a A, right: &'a B) -> Self
         requires left_fits { ShapeFits A.Shape left.now }

@@ -15,13 +15,13 @@ use bittle_bits::extension::{
 use std::alloc::AllocError;
 use std::marker::PhantomData;
 
-/// The set bits in a range of a borrowed set.
+/// A view of the set bits in a range of a borrowed set.
 pub type Within<'a, B, E> = KindWithin<'a, B, E, Ones>;
 
-/// The set of the bits of the kind `K` (set or unset) in a range of a borrowed set. The view has
-/// the capacity of that set, and both are read in the order `E`. Each word is computed when it is
-/// read. An iterator over the set bits of the view reads only the words of the range; a search
-/// reads at most one more.
+/// A view in which exactly the bits of the kind `K` (set or unset) in a range of a borrowed set are
+/// set. The view has the capacity of that set, and both are read in the order `E`. Each word is
+/// computed when it is read. An iterator over the set bits of the view reads only the words of the
+/// range. A search reads at most one word more.
 #[derive(Drop)]
 pub struct KindWithin<'a, B: Shape, E: Endian, K: Kind> {
     set: &'a B,

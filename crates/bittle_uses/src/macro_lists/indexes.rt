@@ -1,5 +1,6 @@
-//! Uses of each macro with indexes alone. Each function `listed_*` returns the sets that the three
-//! macros make of one list. In the lists, an index of each form is beside one of the same form.
+//! Uses of the macros `set!`, `set_le!` and `set_be!` with lists of indexes, without ranges. Each
+//! function `listed_*` returns the three sets that the macros make from one list. For each form of
+//! index, some list has two indexes of that form side by side.
 
 ghost use Rattle.std.specs.Prelude.{◌≡◌, ◌+◌, ◌<◌, IsTrue, slice_index};
 ghost use Rattle.bittle.specs.Values.{set_mirrored};
@@ -31,7 +32,7 @@ impl Place {
     }
 }
 
-/// A number that a path names.
+/// A module with a constant, so that a path can name an index.
 pub mod numbers {
     /// The number.
     pub const SEVEN: u32 = 7;
@@ -51,7 +52,7 @@ pub fn same(index: u32) -> u32
     index
 }
 
-/// Lists names beside one another, and a call.
+/// Lists two names beside one another, and then a call.
 pub fn listed_names<B: BitsOwned>(a: u32, b: u32, c: u32) -> (B, B, B)
     requires { IsTrue B.indexable }
     ensures { AreListed (set_mirrored B.Shape) B.Order.Endian.mirrored result

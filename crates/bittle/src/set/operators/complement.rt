@@ -19,7 +19,7 @@ fn complement_of<T: BitsOwned, E: Endian>(bits: T) -> Set<T, E>
     Set::new_in(T::ones().difference(bits))
 }
 
-/// `!` returns the indexes below the capacity that are not members.
+/// `!` returns the set of the indexes below the capacity that are not members.
 impl<T: BitsOwned, E: Endian> Not for Set<T, E> {
     type Output = Set<T, E>;
 

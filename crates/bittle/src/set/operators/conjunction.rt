@@ -12,7 +12,7 @@ use bittle_bits::endian::Endian;
 use bittle_bits::extension::Conjunction;
 use std::ops::{BitAnd, BitAndAssign};
 
-/// `&` returns the members of both sets.
+/// `&` returns the set of the indexes that are members of both the left and the right set.
 impl<T: BitsOwned, E: Endian> BitAnd<Set<T, E>> for Set<T, E> {
     type Output = Set<T, E>;
 
@@ -61,8 +61,8 @@ impl<'a, 'b, T: BitsOwned, E: Endian> BitAnd<&'b Set<T, E>> for &'a Set<T, E> {
     }
 }
 
-/// `&=` removes each member that the other set lacks. Between two slices of unequal length, only
-/// bits below both capacities change.
+/// `&=` removes from the left set each member that the right set lacks. If the sets wrap slices of
+/// unequal length, bits at or past the lesser capacity do not change.
 impl<T: BitsMut, E: Endian> BitAndAssign<Set<T, E>> for Set<T, E> {
     ghost bitand_assign_gives = { λ a b r. IsInBothOrders conjunction_of T.width (T.big a.bits)
         (T.big b.bits) (T.big r.bits) × (T.loan a.bits ≡ T.loan r.bits) };

@@ -12,7 +12,7 @@ use bittle_bits::endian::Endian;
 use bittle_bits::extension::Difference;
 use std::ops::{Sub, SubAssign};
 
-/// `-` returns the members of the first set that the second set lacks.
+/// `-` returns the set of the members of the left set that the right set lacks.
 impl<T: BitsOwned, E: Endian> Sub<Set<T, E>> for Set<T, E> {
     type Output = Set<T, E>;
 
@@ -61,8 +61,8 @@ impl<'a, 'b, T: BitsOwned, E: Endian> Sub<&'b Set<T, E>> for &'a Set<T, E> {
     }
 }
 
-/// `-=` removes each member of the other set. Between two slices of unequal length, only bits below
-/// both capacities change.
+/// `-=` removes each member of the right set from the left set. If the sets wrap slices of unequal
+/// length, bits at or past the lesser capacity do not change.
 impl<T: BitsMut, E: Endian> SubAssign<Set<T, E>> for Set<T, E> {
     ghost sub_assign_gives = { λ a b r. IsInBothOrders difference_of T.width (T.big a.bits)
         (T.big b.bits) (T.big r.bits) × (T.loan a.bits ≡ T.loan r.bits) };

@@ -12,7 +12,7 @@ use bittle_bits::endian::Endian;
 use bittle_bits::extension::SymmetricDifference;
 use std::ops::{BitXor, BitXorAssign};
 
-/// `^` returns the members of just one of the sets.
+/// `^` returns the set of the indexes that are members of just one of the two sets.
 impl<T: BitsOwned, E: Endian> BitXor<Set<T, E>> for Set<T, E> {
     type Output = Set<T, E>;
 
@@ -61,8 +61,9 @@ impl<'a, 'b, T: BitsOwned, E: Endian> BitXor<&'b Set<T, E>> for &'a Set<T, E> {
     }
 }
 
-/// `^=` adds each member of the other set, or removes it if it is a member already. Between two
-/// slices of unequal length, only bits below both capacities change.
+/// `^=` adds each member of the right set to the left set, or removes it if the left set has this
+/// member already. If the sets wrap slices of unequal length, bits at or past the lesser capacity
+/// do not change.
 impl<T: BitsMut, E: Endian> BitXorAssign<Set<T, E>> for Set<T, E> {
     ghost bitxor_assign_gives = { λ a b r. IsInBothOrders symmetric_difference_of T.width
         (T.big a.bits) (T.big b.bits) (T.big r.bits) × (T.loan a.bits ≡ T.loan r.bits) };

@@ -12,7 +12,7 @@ use bittle_bits::endian::Endian;
 use bittle_bits::extension::Union;
 use std::ops::{BitOr, BitOrAssign};
 
-/// `|` returns the members of either set.
+/// `|` returns the set of the indexes that are members of at least one of the two sets.
 impl<T: BitsOwned, E: Endian> BitOr<Set<T, E>> for Set<T, E> {
     type Output = Set<T, E>;
 
@@ -61,8 +61,8 @@ impl<'a, 'b, T: BitsOwned, E: Endian> BitOr<&'b Set<T, E>> for &'a Set<T, E> {
     }
 }
 
-/// `|=` adds each member of the other set. Between two slices of unequal length, only bits below
-/// both capacities change.
+/// `|=` adds each member of the right set to the left set. If the sets wrap slices of unequal
+/// length, bits at or past the lesser capacity do not change.
 impl<T: BitsMut, E: Endian> BitOrAssign<Set<T, E>> for Set<T, E> {
     ghost bitor_assign_gives = { λ a b r. IsInBothOrders union_of T.width (T.big a.bits)
         (T.big b.bits) (T.big r.bits) × (T.loan a.bits ≡ T.loan r.bits) };
