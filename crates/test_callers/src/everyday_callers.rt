@@ -122,7 +122,8 @@ fn clauses_of_one_line(rt: HostRuntime) {
 
 #[test]
 fn bays_that_are_open_or_wide(rt: HostRuntime) {
-    // Bays 0 to 63 are taken and bay 64 is closed. Bays 1 and 65 are wide. There is no bay 201.
+    // Bays 0 to 63 are taken and bay 64 is closed. Bays 1 and 65 are wide. Bit 201 is set too, but
+    // there is no bay 201.
     let (taken, closed) = ([u64::MAX, 0, 0, 0], [0, 1, 0, 0]);
     same!(rt; first_open_bay(&taken, &closed), Some(65));
     same!(rt; first_open_bay(&taken, &[0, u64::MAX, u64::MAX, 0xFF]), None);
@@ -132,7 +133,7 @@ fn bays_that_are_open_or_wide(rt: HostRuntime) {
 
 #[test]
 fn days_of_a_month(rt: HostRuntime) {
-    // Somebody was there on days 0 to 3 and on day 5.
+    // The person was there on days 0 to 3 and on day 5.
     let days = 0b0010_1111;
     same!(rt; (was_there_all(days, 0, 4), was_there_all(days, 3, 6)), (true, false));
     same!(rt; (was_there_all(days, 9, 9), was_there_all(days, 5, 31)), (true, false));

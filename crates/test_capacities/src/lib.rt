@@ -1,4 +1,5 @@
-//! Tests of capacities: 0, the bound `u32::MAX`, and those of nested arrays and slices.
+//! Tests of capacities: of capacity 0, of large capacities, which stop at `u32::MAX`, and of the
+//! capacities of nested arrays and slices.
 #![tactic(auto)]
 
 #[cfg(test)]

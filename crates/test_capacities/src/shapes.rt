@@ -26,8 +26,8 @@ fn put_each_way<B: BitsOwned + Debug>(
     same!(rt; sets, expected);
 }
 
-// Does what `put_each_way` does, on arrays of two sets. Each function adds one level of nesting, so
-// that a type of several levels is proved in less time.
+// Does what `put_each_way` does, on arrays of two sets. This function and the next one each add one
+// level of nesting, so that a type of several levels is proved in less time.
 fn put_in_pairs<T: BitsOwned + Debug>(
     rt: &impl Abort,
     big: u32,
@@ -117,7 +117,7 @@ fn no_words<E: Endian>(rt: &impl Abort) {
     same!(rt; replies, expected);
 }
 
-// Sets one bit of an empty set. Then checks that this bit is set, that one bit in all is set, and
+// Sets one bit of an empty set. Then checks that this bit is set, that just one bit is set, and
 // that the set has the given capacity.
 fn put_and_ask<B: BitsMut, E: Endian>(rt: &impl Abort, bits: &mut B, index: u32, capacity: u32)
     requires { ShapeFits B.Shape bits.old }

@@ -23,7 +23,7 @@ fn reads<B: Bits>(rt: &impl Abort, bits: &B) {
     reads_nothing(rt, bits);
 }
 
-// Checks what every call that reads returns where there is no bit, neither set nor unset.
+// Checks what every reading call returns for a set that has no bits at all.
 fn reads_nothing<B: Bits>(rt: &impl Abort, bits: &B)
     requires { ShapeFits B.Shape bits.now }
 {
@@ -39,7 +39,7 @@ fn reads_nothing<B: Bits>(rt: &impl Abort, bits: &B)
     same!(rt; bits.count_ones_in_range_in::<LittleEndian>(0, 0), 0);
 }
 
-// Checks that no index tests as set.
+// Checks that the calls that test a bit return `false` for each index.
 fn tests_nothing<B: Bits>(rt: &impl Abort, bits: &B)
     requires { IsTrue B.indexable }
 {
@@ -48,7 +48,7 @@ fn tests_nothing<B: Bits>(rt: &impl Abort, bits: &B)
     }
 }
 
-// Tests one bit by each of the five calls.
+// Tests one bit by each of the five calls that test a bit.
 fn tests_of<B: Bits>(bits: &B, index: u32) -> [bool; 5]
     requires { IsTrue B.indexable }
 {
@@ -300,8 +300,8 @@ fn listed<B: BitsOwned>(rt: &impl Abort)
 }
 
 // The next three functions check every call on arrays of zero or four elements. Each adds one level
-// of arrays, so that a type of several levels is proved in less time. An argument of the type shows
-// that the type fits into memory.
+// of arrays, so that a type of several levels is proved in less time. The last two take an argument
+// of the type, which shows that the type fits into memory.
 fn owned_none<T: BitsOwned>(rt: &impl Abort) {
     owned::<[T; 0]>(rt);
 }
@@ -374,7 +374,7 @@ fn writes_wrapped<B: BitsMut, E: Endian>(rt: &impl Abort, set: &mut Set<B, E>) {
     writes(rt, set);
 }
 
-// Checks the calls that read on a `Set` over a shared slice, in each order.
+// Checks the reading calls of a `Set` over a shared slice, in each order.
 fn wrapped_shared<T: BitsOwned>(rt: &impl Abort, slice: &[T])
     requires { Fits T.indexable (length slice.now * T.type_capacity) }
 {
@@ -441,7 +441,7 @@ fn order_of<A: BitsOwned, B: Bits>(one: A, other: &B) -> Ordering
     Set::new(one).cmp_bits(other)
 }
 
-// Returns whether a set is equal to a `Set`.
+// Returns whether a set is equal to another set, which is wrapped in a `Set`.
 fn equals_wrapped<A: BitsOwned, B: Bits>(one: A, other: &Set<B>) -> bool
     requires one_fits { ShapeFits A.Shape one }
     requires other_fits { ShapeFits B.Shape other.now.bits }
@@ -463,7 +463,7 @@ fn equals_fours<A: BitsOwned, T: BitsOwned>(one: A, other: [T; 4]) -> bool
     equals_wrapped(one, &Set::new(other))
 }
 
-// Checks that a set is less than a set with a member, and that its debug text is `{}`.
+// Checks that `set` is less than the set {0}, and that the debug text of `set` is `{}`.
 fn comes_first<B: BitsOwned>(rt: &impl Abort, alloc: Global, set: B) -> Result<(), AllocError>
     requires { ShapeFits B.Shape set }
 {

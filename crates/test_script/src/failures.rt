@@ -137,7 +137,8 @@ fn writes_that_are_each_interrupted_are_made_again(rt: HostRuntime) {
     }
 }
 
-/// Runs a refused script. Interrupts the first write, the first five, or the first of each piece.
+/// Runs a script that the program refuses, and checks what it prints. The first write is
+/// interrupted, or the first five writes are, or the first write of each piece is.
 fn refuses_when_interrupted(rt: &impl Abort, input: &[u8], printed: &[u8]) {
     for (interruptions, stutters) in [(1, false), (5, false), (0, true)] {
         for most in [100, 7, 1] {
@@ -170,7 +171,7 @@ fn a_failed_read_is_told_after_interruptions(rt: HostRuntime) {
     }
 }
 
-/// Runs a script of `len` bytes, at least 12: a header, a `test`, and empty lines.
+/// Runs a script of `len` bytes (12 or more): a header, a line `test 0`, and empty lines.
 fn reads_length(rt: &impl Abort, len: usize) {
     let mut text = [b'\n'; 4096];
     text[..13].copy_from_slice(b"be u8\ntest 0\n");

@@ -8,13 +8,13 @@ use std::alloc::Global;
 use std::process::Abort;
 use std::test::Fail;
 
-/// Sets bits 0 to 31.
+/// The lines of a script that set bits 0 to 31.
 const SETS: &[u8] = b"set 0\nset 1\nset 2\nset 3\nset 4\nset 5\nset 6\nset 7\n\
     set 8\nset 9\nset 10\nset 11\nset 12\nset 13\nset 14\nset 15\n\
     set 16\nset 17\nset 18\nset 19\nset 20\nset 21\nset 22\nset 23\n\
     set 24\nset 25\nset 26\nset 27\nset 28\nset 29\nset 30\nset 31\n";
 
-/// Sets bits 0 to 31, and counts after each one.
+/// The lines of a script that set bits 0 to 31, with a line `count` after each of them.
 const FILLS: &[u8] = b"set 0\ncount\nset 1\ncount\nset 2\ncount\nset 3\ncount\n\
     set 4\ncount\nset 5\ncount\nset 6\ncount\nset 7\ncount\n\
     set 8\ncount\nset 9\ncount\nset 10\ncount\nset 11\ncount\n\
@@ -24,11 +24,11 @@ const FILLS: &[u8] = b"set 0\ncount\nset 1\ncount\nset 2\ncount\nset 3\ncount\n\
     set 24\ncount\nset 25\ncount\nset 26\ncount\nset 27\ncount\n\
     set 28\ncount\nset 29\ncount\nset 30\ncount\nset 31\ncount\n";
 
-/// What `ones` prints for a full set of 32 bits.
+/// The text that `ones` prints for a full set of 32 bits.
 const MEMBERS: &[u8] = b"0 1 2 3 4 5 6 7 8 9 10 11 12 13 14 15 16 17 18 19 20 21 22 23 \
     24 25 26 27 28 29 30 31\n";
 
-/// What the counts of `FILLS` print for a set of 32 bits.
+/// The text that the lines `count` of `FILLS` print for a set of 32 bits.
 const COUNTS: &[u8] = b"1\n2\n3\n4\n5\n6\n7\n8\n9\n10\n11\n12\n13\n14\n15\n16\n\
     17\n18\n19\n20\n21\n22\n23\n24\n25\n26\n27\n28\n29\n30\n31\n32\n";
 

@@ -1,5 +1,5 @@
 //! Scripts of many lengths up to the limit of 4,096 bytes, and outputs of many lengths up to 8,192
-//! bytes, which are written in two pieces.
+//! bytes. An output of more than 4,096 bytes is written in two pieces.
 
 use crate::checks::same;
 use crate::streams::{Sink, Source, Tally, status_of};
@@ -7,10 +7,10 @@ use bittle_script::run;
 use std::cmp::min;
 use std::process::Abort;
 
-/// The most bytes that a `Script` holds: a few more than the program accepts, 4,096.
+/// The most bytes that a `Script` holds: a few more than the 4,096 that the program accepts.
 const ROOM: usize = 4100;
 
-/// Collects the bytes of a script.
+/// The bytes of a script, of which the first `length` are used.
 #[derive(Drop)]
 struct Script {
     bytes: [u8; ROOM],
@@ -38,8 +38,8 @@ impl Script {
     }
 }
 
-/// Returns a script of `length` bytes, at least 12: its first line, empty lines, and one `count`,
-/// which prints 0.
+/// Returns a script of `length` bytes, or of 12 bytes if `length` is less: the first line, empty
+/// lines, and one line `count`, which prints 0.
 fn script_of(length: usize) -> Script {
     let mut script = Script::new();
     script.put(b"be u8\n");
@@ -50,9 +50,9 @@ fn script_of(length: usize) -> Script {
     script
 }
 
-/// Runs scripts of 12 to 4,096 bytes: the shortest and the longest ones, and between them those of
-/// every 89th length from `first` on. The first `interruptions` reads are interrupted. Each other
-/// read returns at most `most` bytes.
+/// Runs scripts of 12 to 4,096 bytes: the shortest ones, the longest ones, and between them those
+/// whose length has the remainder `first` if it is divided by 89. The first `interruptions` reads
+/// are interrupted. Each other read returns at most `most` bytes.
 fn read_lengths(rt: &impl Abort, first: usize, most: usize, interruptions: u32) {
     for length in 12..=4096 {
         if length < 40 || length > 4084 || length % 89 == first {
@@ -97,8 +97,8 @@ fn refused_text() -> Script {
     text
 }
 
-/// Runs the first `length` bytes of a text, read in pieces of at most `most` bytes, and checks that
-/// the program refuses the first line.
+/// Runs the program on the first `length` bytes of a text. Each read returns at most `most` bytes.
+/// Checks that the program refuses the first line.
 fn reads_and_refuses(rt: &impl Abort, text: &[u8], length: usize, most: usize) {
     let mut input = Source::new(&text[..min(length, text.len())]);
     input.most = most;
@@ -159,8 +159,9 @@ fn each_beginning_of_a_script_is_answered(rt: HostRuntime) {
     }
 }
 
-/// Returns a script that prints `length` bytes, at least 18. Each `ones` prints the members of a
-/// full byte, which are 16 bytes. Each `count` prints 2. If `length` is odd, one `test` prints 5.
+/// Returns a script that prints `length` bytes (18 or more). Each `ones` prints the members of a
+/// full byte, which takes 16 bytes. Each `count` prints 2 bytes. If `length` is odd, one `test`
+/// prints 5 bytes.
 fn script_that_prints(length: usize) -> Script {
     let mut script = Script::new();
     script.put(b"be u8\nset 0\nset 1\nset 2\nset 3\nset 4\nset 5\nset 6\nset 7\n");
@@ -179,8 +180,8 @@ fn script_that_prints(length: usize) -> Script {
 }
 
 /// Checks outputs of 18 to 8,192 bytes: the shortest ones, those that about fill one or two pieces
-/// of 4,096 bytes, and between them every 101st length from `first` on. If `stutters` is set, the
-/// first write of each piece is interrupted.
+/// of 4,096 bytes, and between them those whose length has the remainder `first` if it is divided
+/// by 101. If `stutters` is `true`, the first write of each piece is interrupted.
 fn print_lengths(rt: &impl Abort, first: usize, stutters: bool) {
     for length in 18..=8192 {
         let is_near = length < 60 || length > 4085 && length < 4105 || length > 8180;

@@ -132,7 +132,8 @@ fn reads_texts_of_every_length(rt: HostRuntime) -> Result<(), Fail> {
 
 #[test]
 fn makes_at_most_8192_reads(rt: HostRuntime) -> Result<(), Fail> {
-    // In these rows read 8,192 returns: no byte (the end), byte 4,096, byte 4,097, byte 4,096.
+    // In the four rows, the 8,192nd read returns no byte (the end), byte 4,096, byte 4,097 and
+    // byte 4,096.
     for (empty_lines, interruptions, status, printed) in [
         (4090, 4095, 0, ""),
         (4090, 4096, 2, "read failed\n"),
@@ -242,7 +243,8 @@ fn gives_up_on_a_write_that_fails_midway(rt: HostRuntime) {
 
 #[test]
 fn counts_interrupted_writes_of_the_whole_run(rt: HostRuntime) {
-    // 4,096 writes are interrupted before the first six bytes, 4,095 or 4,096 before the others.
+    // 4,096 writes are interrupted before the first six bytes are taken, and 4,095 or 4,096 writes
+    // before the other bytes are.
     for (later, status, printed) in [(4095, 0, PRINTED), (4096, 1, b"true\nf".as_slice())] {
         let mut output = Sink::new();
         output.most = 6;

@@ -1,4 +1,4 @@
-//! Readers and writers that are interrupted or fail as a test says.
+//! A reader and two writers that are interrupted, or fail, where a test says so.
 ghost use Rattle.std.specs.Prelude.{◌≤◌, length};
 
 use bittle_script::run;
@@ -6,7 +6,7 @@ use std::cmp::min;
 use std::io;
 use std::io::{Error, ErrorKind, Read, Write};
 
-/// Reads from given bytes. The first reads are interrupted, and so are some reads after `sound`
+/// A reader of given bytes. The first reads are interrupted, and so are some reads after `sound`
 /// bytes. At the end of the bytes a read returns 0 bytes, or fails.
 #[derive(Drop)]
 pub struct Source<'a> {
@@ -64,11 +64,11 @@ impl Read for Source<'_> {
     }
 }
 
-/// How many bytes a `Sink` holds.
+/// The number of bytes that a `Sink` has room for.
 const ROOM: usize = 5000;
 
-/// Keeps the bytes that are written. The first writes are interrupted, and so are some writes after
-/// `sound` bytes. Then writes succeed or fail.
+/// A writer that keeps the bytes. The first writes are interrupted, and so are some writes after
+/// `sound` bytes. After that, the writes succeed, or they fail with `write_fault`.
 #[derive(Drop)]
 pub struct Sink {
     bytes: [u8; ROOM],
@@ -163,7 +163,7 @@ impl Write for Sink {
     }
 }
 
-/// Takes all bytes, and counts them and the writes.
+/// A writer that takes all bytes, and counts the bytes and the writes.
 #[derive(Drop)]
 pub struct Tally {
     /// How many writes were made.
@@ -204,7 +204,7 @@ pub fn status_of(input: &mut Source<'_>, output: &mut Sink) -> u8 {
     run(input, output).code()
 }
 
-/// Runs a script into an output, and returns the status.
+/// Runs a script whose output goes to `output`, and returns the status of the program.
 pub fn status_into(script: &[u8], output: &mut Sink) -> u8 {
     run(&mut Source::new(script), output).code()
 }

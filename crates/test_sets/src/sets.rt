@@ -43,7 +43,7 @@ fn a_set_of_an_array(rt: HostRuntime) {
     );
 }
 
-// Checks that all `members` are set and that `index` is not. Then sets `index`.
+// Checks that each bit of `members` is set and that bit `index` is unset. Then sets bit `index`.
 fn gains<B: BitsMut>(rt: &impl Abort, bits: &mut B, members: &[u32], index: u32)
     requires { IsTrue B.indexable }
 {
@@ -84,8 +84,8 @@ fn walks_le<B: Bits>(bits: &B, items: &[u32]) -> bool
     yields(bits.iter_ones_le(), items)
 }
 
-// Returns whether an iterator in the order of the type yields exactly `items`, and one in
-// little-endian order exactly `little`.
+// Returns whether an iterator in the order of the type yields exactly `items`, and an iterator in
+// little-endian order yields exactly `little`.
 fn walks_each_way<B: Bits>(bits: &B, items: &[u32], little: &[u32]) -> bool
     requires { ShapeFits B.Shape bits.now }
 {

@@ -1,4 +1,4 @@
-//! Joins, compared with values worked out by hand.
+//! Joins of a mask with an iterator, compared with values worked out by hand.
 
 ghost use Rattle.std.specs.Prelude.{◌-◌};
 ghost use Rattle.std.specs.Iterator.{at_most};
@@ -10,7 +10,8 @@ use bittle::{set, set_le};
 use std::fmt::Debug;
 use std::process::Abort;
 
-/// Yields how many calls were made, up to 9. The second call returns `None` instead.
+/// An iterator that yields the number of each call, from 1 to 9. The second call returns `None`
+/// instead.
 #[derive(Drop)]
 struct Stutter {
     asked: u32,

@@ -27,8 +27,8 @@ fn answers<W: DoubleEndedIterator<Item = u32>>(
 }
 
 // Returns whether an iterator yields these items from the front, a clone of it yields them from the
-// back, and another clone from both ends in turn. After that each has to return `None`, from both
-// ends, twice.
+// back, and another clone yields them from both ends in turn. After that, each of the three has to
+// return `None` twice at each end.
 fn gives<W: DoubleEndedIterator<Item = u32> + Clone>(mut walk: W, items: &[u32]) -> bool
     requires front { (w : W) → W.can_next w }
     requires back { (w : W) → W.can_next_back w }
@@ -239,7 +239,7 @@ fn take<W: DoubleEndedIterator<Item = u32>>(
     }
 }
 
-// Which iterator takes a step: the first one, or its clone.
+// The iterator that takes a step: the first one, or its clone.
 #[derive(Clone, Copy)]
 enum Taker {
     Source,

@@ -77,7 +77,7 @@ fn counted<B: BitsOwned, E: Endian>(bits: B) -> usize
     bits.into_iter_ones_in::<E>().count()
 }
 
-/// Lists the indexes of the set bits of a set in the order `E`, the greatest first.
+/// Lists the indexes of the set bits of a set, from the greatest down. They follow the order `E`.
 fn reversed<B: Bits, E: Endian>(alloc: Global, bits: &B) -> Result<Vec<u32>, AllocError>
     requires { ShapeFits B.Shape bits.now }
     ensures { IfOk result (λ v. v.items ≡ reverse (ascending (set_in B.Shape E.Endian bits.now))) }
@@ -85,7 +85,7 @@ fn reversed<B: Bits, E: Endian>(alloc: Global, bits: &B) -> Result<Vec<u32>, All
     bits.iter_ones_in::<E>().rev().collect(alloc)
 }
 
-/// Lists the indexes of the set bits of a word, the greatest first.
+/// Lists the indexes of the set bits of a word, from the greatest down.
 fn word_reversed(alloc: Global, word: i16) -> Result<Vec<u32>, AllocError>
     ensures { IfOk result (λ v. v.items
         ≡ reverse (ascending (read_in false 16 (bit_set 16 (cast_unsigned w16 word))))) }
@@ -93,7 +93,8 @@ fn word_reversed(alloc: Global, word: i16) -> Result<Vec<u32>, AllocError>
     word.into_iter_ones_be().rev().collect(alloc)
 }
 
-/// Lists half the index of each unset bit of a word, in little-endian order.
+/// Lists half of the index, rounded down, for each unset bit of a word. The indexes follow the
+/// little-endian order.
 fn halves(alloc: Global, word: u8) -> Result<Vec<u32>, AllocError>
     ensures { IfOk result (λ v. v.items
         ≡ map (λ i. i / 2) (ascending (complement (read_in true 8 (bit_set 8 word))))) }
@@ -116,7 +117,8 @@ fn each_digit<T: Word, E: Endian>(word: T) -> u64
     total
 }
 
-/// Lists the indexes of the unset bits of one word in little-endian order, the greatest first.
+/// Lists the indexes of the unset bits of one word, from the greatest down. They follow the
+/// little-endian order.
 fn lacking_reversed(alloc: Global, word: u32) -> Result<Vec<u32>, AllocError>
     ensures { IfOk result (λ v. v.items
         ≡ reverse (ascending (complement (read_in true 32 (bit_set 32 word))))) }

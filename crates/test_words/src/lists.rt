@@ -7,7 +7,8 @@ use bittle::prelude::*;
 use bittle::{LittleEndian, Set, set, set_be, set_le};
 use std::process::Abort;
 
-// Checks the words that lists make. Each row has a name of the list, its word and the wanted word.
+// Checks the words that lists make. Each row has the name of a list, the word that the list makes,
+// and the wanted word.
 fn each_is(rt: &impl Abort, lists: &[(&str, u8, u8)]) {
     for (list, word, want) in lists {
         same!(rt; (*list, *word), (*list, *want));
@@ -33,7 +34,7 @@ fn words_of_lists(rt: HostRuntime) {
     each_is(&rt, &lists);
 }
 
-/// Holds an index in a field.
+/// A struct whose field is an index.
 #[derive(Drop)]
 struct Place {
     x: u32,
@@ -151,12 +152,12 @@ fn mixed(index: u32, slot: u32) -> [u32; 4] {
     set![120.., index, 34..=36, 66..68, slot]
 }
 
-// The same list in big-endian order.
+// The list of `mixed` in big-endian order.
 fn mixed_be(index: u32, slot: u32) -> [u32; 4] {
     set_be![120.., index, 34..=36, 66..68, slot]
 }
 
-// The same list in little-endian order.
+// The list of `mixed` in little-endian order.
 fn mixed_le(index: u32, slot: u32) -> [u32; 4] {
     set_le![120.., index, 34..=36, 66..68, slot]
 }
@@ -186,7 +187,8 @@ fn full() -> [[u32; 4]; 3] {
     [set![0..], set_le![0..], set_be![0..]]
 }
 
-// Ranges without an end that start past 0, in the same three orders.
+// Ranges without an end that start past 0: in the order of the type, in little-endian and in
+// big-endian order.
 fn open() -> [[u32; 4]; 3] {
     [set![100..], set_le![100..], set_be![100.., 33..]]
 }

@@ -128,7 +128,8 @@ fn with_each_way<B: BitsOwned + Debug>(rt: &impl Abort, bits: B, big: u32, littl
     same!(rt; bits.with_bit_be(big).with_bit_le(little), want);
 }
 
-// Checks the set with bit `index` set: in the order of the type, and in little-endian order.
+// Sets bit `index` of a set in the order of the type, and in a copy in little-endian order. Checks
+// both results.
 fn with_one<B: BitsOwned + Debug>(rt: &impl Abort, bits: B, index: u32, want: B, little: B)
     requires { IsTrue B.indexable }
 {

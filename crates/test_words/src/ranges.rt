@@ -1,4 +1,5 @@
-//! Ranges in the lists of macros, and calls that set, clear, flip or count the bits of a range.
+//! Ranges in the lists of the macros `set!`, `set_le!` and `set_be!`, and calls that set, clear,
+//! flip or count the bits of a range.
 
 ghost use Rattle.std.specs.Prelude.{◌≤◌, IsTrue};
 ghost use Rattle.bittle.specs.Values.{ShapeFits};
@@ -84,12 +85,13 @@ fn past_the_capacity() -> [[u8; 2]; 3] {
     [set![12..20], set![28..36], set_le![12..20]]
 }
 
-// A range of the last index and the next one, which wraps to 0. A range of the greatest indexes.
+// A range of the last index and the index after it, which wraps to 0. A range that ends at the
+// greatest `u32`.
 fn past_the_last() -> [[u8; 2]; 2] {
     [set![15..=16], set![4294967290..=4294967295]]
 }
 
-// Two ranges past the capacity 24, which is no power of two.
+// Two ranges that end past the capacity. The capacity is 24, which is no power of two.
 fn past_three_words() -> [[u8; 3]; 2] {
     [set![20..28], set![4294967290..=4294967295]]
 }
@@ -101,7 +103,7 @@ fn ranges_that_wrap(rt: HostRuntime) {
     same!(rt; past_three_words(), [[0x0F, 0, 0xF0], [0, 0xFC, 0]]);
 }
 
-// Ranges of at least as many indexes as the capacity.
+// Ranges that have at least as many indexes as the set has bits.
 fn all_indexes() -> [[u8; 2]; 4] {
     [set![5..50], set![5..21], set![0..16], set![0..=4294967295]]
 }
@@ -200,7 +202,8 @@ fn ranges_in_slices(rt: HostRuntime) {
     same!(rt; bytes, [0xF0, 0, 0x0F, 0]);
 }
 
-// Checks what setting, clearing and flipping the bits `from..to` each make of a set.
+// Sets the bits `from..to` in one copy of a set, clears them in another and flips them in a third.
+// Then checks the three copies.
 fn changes<B: BitsOwned + Debug, E: Endian>(
     rt: &impl Abort,
     bits: B,

@@ -92,8 +92,8 @@ fn at_index<T: BitsOwned, E: Endian>(
     same!(rt; [with == changed.0, without == changed.1], [true; 2]);
 }
 
-// Checks the searches and the iterators of a word. In the order `E` the word has the same set bits
-// as the byte `members` has from the right.
+// Checks the searches and the iterators of a word. In the order `E`, the word has the same indexes
+// set as the byte `members` has in big-endian order.
 fn walks<T: Word, E: Endian>(rt: &impl Abort, word: T, members: u8) {
     searches::<T, E>(rt, word, members);
     walks_from_the_front(rt, IterOnes::<T, E>::new(word), members);
@@ -115,12 +115,13 @@ fn searches_of_ones<T: Word, E: Endian>(word: T) -> (u32, u32) {
     (E::ones(word), E::ones_rev(word))
 }
 
-// Returns how many bits are below the least set bit, and how many above the greatest.
+// Returns how many bits are below the least set bit, and how many are above the greatest set bit.
 fn zeros_at_the_ends(members: u8) -> (u32, u32) {
     (members.trailing_zeros(), members.leading_zeros())
 }
 
-// Returns how many bits are below the least unset bit, and how many above the greatest.
+// Returns how many bits are below the least unset bit, and how many are above the greatest unset
+// bit.
 fn ones_at_the_ends(members: u8) -> (u32, u32) {
     (members.trailing_ones(), members.leading_ones())
 }
@@ -151,7 +152,8 @@ fn walks_from_the_front<W: Iterator<Item = u32>>(rt: &impl Abort, mut walk: W, m
     same!(rt; front(&mut walk), None);
 }
 
-// Checks that an iterator yields from the back the indexes of a byte's set bits, greatest first.
+// Checks that the steps from the back of an iterator yield the indexes of a byte's set bits in
+// decreasing order.
 fn walks_from_the_back<W: DoubleEndedIterator<Item = u32>>(
     rt: &impl Abort,
     mut walk: W,

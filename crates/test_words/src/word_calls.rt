@@ -85,12 +85,14 @@ fn is_reversed<W: DoubleEndedIterator<Item = u32>>(walk: W, items: &[u32]) -> bo
     walk.rev().eq(items.iter().copied())
 }
 
-// Returns whether `items` are the set bits of a word in little-endian order, the greatest first.
+// Returns whether `items` are the set bits of a word, from the greatest index down. The indexes
+// follow the little-endian order.
 fn are_ones_reversed<T: Word>(word: T, items: &[u32]) -> bool {
     is_reversed(IterOnes::<T, LittleEndian>::new(word), items)
 }
 
-// Returns whether `items` are the unset bits of a word in little-endian order, the greatest first.
+// Returns whether `items` are the unset bits of a word, from the greatest index down. The indexes
+// follow the little-endian order.
 fn are_zeros_reversed<T: Word>(word: T, items: &[u32]) -> bool {
     is_reversed(IterZeros::<T, LittleEndian>::new(word), items)
 }
