@@ -44,7 +44,7 @@ abbrev pub answer_in_turn : Round → Event → Answer
 answer_in_turn r (Wake task) = woken_or_none r.ready task
 answer_in_turn r Next = runs_or_idle (next_in_turn r)
 
--- the round after an event
+-- the state of the queue (ready tasks and turn) after an event
 abbrev pub round_after : Round → Event → Round
 round_after r (Wake task) = round_at (with_woken r.ready task) r.turn
 round_after r Next = past_picked r (next_in_turn r)

@@ -59,8 +59,8 @@ impl<V: Drop> Slot<V> {
     }
 
     // Takes out the value of a generation and returns it. The slot goes on to the next generation,
-    // or is retired after the last one. If the slot holds no value of that generation, changes
-    // nothing and returns `None`.
+    // or is retired after the last one. If the slot holds no value of that generation, the call
+    // changes nothing and returns `None`.
     pub(crate) fn empty(&mut self, generation: u32) -> Option<V>
         ensures found { result ≡ found (stage_of self.old generation) }
         ensures stages { (k : ℕ)

@@ -30,8 +30,8 @@ module _ {B E W : Type 0} where
     words = words;
   }
 
--- Each scan yielded an item or found a word exhausted. Each word was fetched once, is between the
--- two buffered words, or was passed over (skipped unread).
+-- Each scan yielded an item or found a word exhausted. Each word was fetched once, or was
+-- passed over (skipped unread), or is not fetched yet: then it is between the two buffered words.
 pub record IsCounted {B E W : Type 0} (words : ℕ) (at : Cursor B E W) : Type 0 where
   pub ordered : at.low ≤ at.high
   pub within : at.high ≤ words

@@ -8,7 +8,8 @@ unfoldable pub combination_has : (Bool → Bool → Bool) → PlainSet → Plain
 combination_has decide s t k = cond (nat_lt k s.capacity && nat_lt k t.capacity)
     (decide (s.has k) (t.has k)) (s.has k)
 
--- what an operation with the second set makes of the first set
+-- the result of an operation on two sets: it has the capacity of the first set; `decide` tells from
+-- the membership in each set whether a number below both capacities is a member
 abbrev pub combination_of : (Bool → Bool → Bool) → PlainSet → PlainSet → PlainSet
 combination_of decide s t = record { capacity = s.capacity; has = combination_has decide s t }
 

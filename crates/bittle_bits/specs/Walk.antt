@@ -95,10 +95,10 @@ pub record ResumesAs (source clone : Walk) : Type 0 where
   pub fetches : clone.fetches ≡ 0
   pub fresh : IsFresh source.words clone
 
--- runs of steps from the front of a list of numbers yield its items in order
+-- if an iterator over a list of numbers takes steps from the front, they yield the items in order
 abbrev pub ListsInOrder : Type 0
 ListsInOrder = YieldsInOrder (YieldsFirst (λ (items : List ℕ). items)) (λ items. items)
 
--- runs of steps from the back of a list of numbers yield its items in reverse
+-- if an iterator over a list of numbers takes steps from the back, they yield the items in reverse
 abbrev pub ListsInReverse : Type 0
 ListsInReverse = YieldsInReverse (YieldsLast (λ (items : List ℕ). items)) (λ items. items)

@@ -1,9 +1,8 @@
 //! The set that a value stands for, stated by ghost members, which only contracts see.
 //!
-//! A struct that is generic over sets has the bound `Shape`, since each type has only one impl of
-//! `Shape`. Two impls of [`Bits`](crate::bits::Bits) match an array: the impl for arrays, and the
-//! impl for all words, which requires `Integer`. With `Shape` the checker need not decide which
-//! impl applies.
+//! A struct that is generic over sets has the bound `Shape`, not [`Bits`](crate::bits::Bits). For an
+//! array the checker finds two impls of `Bits`: the impl for arrays, and the impl for every
+//! `T: Integer`. It would have to decide which one applies. Each type has only one impl of `Shape`.
 
 ghost use Rattle.std.specs.Prelude.{ℕ, Bool, List, []};
 ghost use Rattle.bittle_bits.specs.PlainSet.{PlainSet};

@@ -51,8 +51,8 @@ pub record IsDistance (w capacity by words skipped rest : ℕ) : Type 0 where
   pub within : rest < w
   pub parts : skipped * w + rest ≡ by
 
--- u is a word of w bits of the set s: its index 0 is index `from` of s, and an index of s past the
--- capacity wraps
+-- the word u holds w bits of the set s, from index `from` on: index i of u is a member exactly if
+-- s contains from + i; an index at or past the capacity of s wraps
 abbrev pub IsWordFrom : ℕ → PlainSet → ℕ → PlainSet → Type 0
 IsWordFrom w s from u = (i : ℕ) → i < w → u.has i ≡ contains s (from + i)
 

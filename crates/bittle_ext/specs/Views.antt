@@ -24,7 +24,7 @@ abbrev pub has_placed : Bool → ℕ → PlainSet → ℕ → Bool
 has_placed true w s = is_placed w s
 has_placed false w s = s.has
 
--- the set that `read_in`, with the same `mirrored` and w, turns into s
+-- the inverse of `read_in`: `read_in mirrored w` of the result is s
 abbrev pub read_back : Bool → ℕ → PlainSet → PlainSet
 read_back mirrored w s = record { capacity = s.capacity; has = has_placed mirrored w s }
 

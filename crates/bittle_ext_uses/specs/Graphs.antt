@@ -1,12 +1,12 @@
--- Graphs of 64 nodes: row k has the nodes that an edge leads to from node k.
+-- Graphs of 64 nodes. Row k has node m as a member if there is an edge from node k to node m.
 use Rattle.std.specs.Prelude.{◌≡◌, ℕ, ◌<◌, true, List, fold, get_or}
 use Rattle.bittle.specs.BitPatterns.{bit_set}
 use Rattle.bittle.specs.PlainSet.{PlainSet, ascending, empty_set}
 use Rattle.bittle.specs.SetOperations.{union_of}
 use Rattle.bittle_ext.specs.SetRelations.{IsSubset}
 
--- a set of nodes is closed: it has `first` if that is a node, and it has each node that an edge
--- leads to from one of its nodes
+-- a set of nodes is closed: it has `first` if that is a node, and if it has node k and there is an
+-- edge from k to m, it has m
 pub record IsClosed (rows : List ℕ) (first : ℕ) (nodes : PlainSet) : Type 0 where
   pub start : first < 64 → nodes.has first ≡ true
   pub edges : (k : ℕ) → k < 64 → nodes.has k ≡ true → IsSubset (bit_set 64 (get_or rows k 0)) nodes

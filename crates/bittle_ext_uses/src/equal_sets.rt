@@ -5,7 +5,8 @@ ghost use Rattle.bittle.specs.BitPatterns.{bit_set};
 
 use bittle::{Bits, BitsMut, BitsOwned};
 
-/// Copies a set by a loop over all numbers. Such a loop is useful if it does more with each number.
+/// Copies a set bit by bit, in a loop over all indexes. Write such a loop if there is more to do at
+/// each index. Otherwise assign the value.
 pub fn copied(from: u64) -> u64
     ensures { bit_set 64 result ≡ bit_set 64 from }
 {

@@ -1,4 +1,4 @@
--- The increasing list of a set.
+-- Laws of the list of a set's members, in increasing order.
 use Rattle.std.specs.Prelude.{◌≡◌, ℕ, ◌<◌, ◌==◌, length, slice_index}
 use Rattle.std.specs.List.{list_any}
 use Rattle.bittle.specs.PlainSet.{PlainSet, ascending}
@@ -11,6 +11,6 @@ pub record IsListed (s : PlainSet) : Type 0 where
   pub below : (k : ℕ) → k < length (ascending s) → slice_index (ascending s) k < s.capacity
   pub members : (i : ℕ) → i < s.capacity → list_any (λ k. k == i) (ascending s) ≡ s.has i
 
--- every set is listed in this way
+-- `IsListed` holds of every set
 abbrev pub ListsIncrease : Type 0
 ListsIncrease = (s : PlainSet) → IsListed s

@@ -75,8 +75,9 @@ fn an_iterator_over_a_range_fetches_each_word_of_it_once(rt: HostRuntime) {
     measure_rows(&rt, Walk::Ranges);
 }
 
-// The iterator fetches eight words up to the run at 451, and one for its end. It fetches one word
-// for the run at 508, and one for its end. Then it fetches five words up to the last one.
+// Each of the two iterators fetches 16 words: eight to find the run that begins at 451, and one for
+// the end of that run; one to find the run that begins at 508, and one for its end. Then it fetches
+// five words, up to the last word of the set, and finds no other run.
 fn iterate_over_runs<B: Bits>(rt: &impl Abort, few: &B, most: &B, asked: &Asked)
     requires few { ShapeFits B.Shape few.now }
     requires most { ShapeFits B.Shape most.now }

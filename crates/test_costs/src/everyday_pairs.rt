@@ -10,7 +10,7 @@ use bittle::{Bits, BitsOwned, LittleEndian};
 use bittle_ext::{BitsRelationExt, BitsViewExt};
 use std::process::Abort;
 
-// Which pair of sets is read, and by which calls.
+// The pair of sets that is read, and the calls that read it.
 #[derive(Drop)]
 enum Pair {
     Meet,

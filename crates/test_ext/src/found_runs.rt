@@ -11,7 +11,8 @@ use bittle::{BitsOwned, LittleEndian};
 use bittle_ext::prelude::*;
 use std::process::Abort;
 
-/// Returns for each length where the first run of that many unset bits begins, from an index on.
+/// Searches from index `from` on. For each length, returns the index at which the first run of that
+/// many unset bits begins, or `None` if there is no such run.
 fn zero_runs<B: Bits, const N: usize>(set: &B, from: u32, lengths: [u32; N]) -> [Option<u32>; N]
     requires { ShapeFits B.Shape set.now }
 {
@@ -22,7 +23,8 @@ fn zero_runs<B: Bits, const N: usize>(set: &B, from: u32, lengths: [u32; N]) -> 
     found
 }
 
-/// Returns for each length where the first run of that many set bits begins, from an index on.
+/// Searches from index `from` on. For each length, returns the index at which the first run of that
+/// many set bits begins, or `None` if there is no such run.
 fn one_runs<B: Bits, const N: usize>(set: &B, from: u32, lengths: [u32; N]) -> [Option<u32>; N]
     requires { ShapeFits B.Shape set.now }
 {

@@ -152,7 +152,8 @@ fn looped<B: BitsOwned, E: Endian>(way: u32, set: &B, by: u32) -> B
     made
 }
 
-// Returns the set with its bits moved in one of four ways, in the order `E`, by one call.
+// Makes one call that moves all bits of the set by `by` indexes, and returns the set. `way` selects
+// one of four calls. Indexes follow the bit order `E`.
 fn moved_in<B: BitsOwned, E: Endian>(way: u32, set: B, by: u32) -> B
     requires { IsTrue B.indexable }
 {

@@ -117,7 +117,7 @@ fn each_digit<T: Word, E: Endian>(word: T) -> u64
     total
 }
 
-/// Lists the indexes of the unset bits of one word, from the greatest down. They follow the
+/// Lists the indexes of the unset bits of one word, from the greatest down. The bits are indexed in
 /// little-endian order.
 fn lacking_reversed(alloc: Global, word: u32) -> Result<Vec<u32>, AllocError>
     ensures { IfOk result (λ v. v.items

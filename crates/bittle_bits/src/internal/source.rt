@@ -76,8 +76,8 @@ impl<'a, B: ReadWords> Source<'a, B> {
         self.set.capacity() / word_width::<B>()
     }
 
-    /// Fetches word `k`, and adds 1 to `fetches`. The set bits of the returned word are the bits of
-    /// the kind `K` of word `k`.
+    /// Fetches word `k`, and adds 1 to `fetches`. Returns the word if `K` is `Ones`, and its
+    /// complement if `K` is `Zeros`.
     #[inline(always)]
     pub fn fetch<K: Kind>(&self, k: usize, fetches: &mut Count) -> B::LeafWord
         requires fits { ShapeFits B.Shape self.now.set.now }

@@ -134,7 +134,7 @@ pub fn listed_methods<B: BitsOwned>(p: Place, q: Place) -> (B, B, B)
     by_each![p.number(), q.number()]
 }
 
-/// Lists two macro calls, and then two blocks.
+/// Makes a set by each macro from four indexes: two macro calls, and then two blocks.
 pub fn listed_groups_twice<B: BitsOwned>(a: u32, b: u32, c: u32) -> (B, B, B)
     requires { IsTrue B.indexable }
     ensures { AreListed (set_mirrored B.Shape) B.Order.Endian.mirrored result
