@@ -5,13 +5,13 @@
 //! that is handed out was free, no lesser page was free, and all are taken if the answer is `Full`.
 #![tactic(auto)]
 
-ghost use Rattle.std.specs.Prelude.{◌≡◌};
+ghost use Rattle.std.specs.Prelude.{◌≡◌, IsTrue};
 ghost use Rattle.bittle.specs.BitPatterns.{bit_set};
 ghost use Rattle.bittle.specs.PlainSet.{full_set, without_span};
 ghost use Rattle.bittle.specs.Rows.{row_set};
 
 use bit_pages::{Answer, Pages, Request};
-use bittle::BigEndian;
+use bittle::{BigEndian, BitsOwned};
 use bittle_tiers::prelude::*;
 use std::io;
 
@@ -30,7 +30,9 @@ fn map_with_three_free() -> Map
 
 /// Lets an allocator serve `requests`, and returns the answers. At first the pages whose bits are
 /// set in `map` are taken.
-fn serve(map: Map, requests: &[Request; 12]) -> [Answer; 12] {
+fn serve<B: BitsOwned>(map: B, requests: &[Request; 12]) -> [Answer; 12]
+    requires { IsTrue B.indexable }
+{
     let mut answers = [Answer::Full; 12];
     Pages::with_taken(map).serve(requests, &mut answers);
     answers
