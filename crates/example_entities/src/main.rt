@@ -8,7 +8,7 @@
 //! once.
 #![tactic(auto)]
 
-ghost use Rattle.std.specs.Prelude.{◌≡◌, ◌∷◌, [], ◌≤◌, length};
+ghost use Rattle.std.specs.Prelude.{◌≡◌, ◌∷◌, [], ◌≤◌, length, IsTrue};
 ghost use Rattle.bittle.specs.PlainSet.{size};
 ghost use Rattle.bittle.specs.Values.{set_in};
 ghost use Rattle.bit_entities.specs.Entities.{matching, world_of};
@@ -161,15 +161,26 @@ fn live<B: BitsOwned>(
     turn_over(rt, world)
 }
 
-/// Returns a world in which the first 60,000 entities are alive. No entity has a component.
-fn begin() -> World<Mask, 3> {
-    let mut alive = Mask::zeros();
+/// Returns a mask in which the first 60,000 entities are alive.
+fn first_alive<B: BitsOwned>() -> B
+    requires fits { IsTrue B.indexable }
+    requires room { 60000 ≤ B.type_capacity }
+{
+    let mut alive = B::zeros();
     alive.set_span(..60_000);
-    World::with_alive(alive)
+    alive
+}
+
+/// Returns a world in which the first 60,000 entities are alive. No entity has a component.
+fn begin<B: BitsOwned>() -> World<B, 3>
+    requires fits { IsTrue B.indexable }
+    requires room { 60000 ≤ B.type_capacity }
+{
+    World::with_alive(first_alive::<B>())
 }
 
 fn main(rt: HostRuntime) -> io::Result<()> {
-    let mut world = begin();
+    let mut world = begin::<Mask>();
     let mut places = [0; 65536];
     let mut speeds = [0; 65536];
     live(&rt, &mut world, &mut places, &mut speeds)
