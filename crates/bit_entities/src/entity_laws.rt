@@ -34,8 +34,8 @@ pub fn refused_changes_nothing()
     ensures { RefusedChangesNothing }
 {}
 
-/// States that answer `i` of a list is the answer to event `i` in the world that the events before
-/// it leave. So what holds of one answer in any world holds of each answer of the list.
+/// States that in every list, answer `i` is the answer to event `i` in the world that the earlier
+/// events leave. So what holds of one answer in any world holds of each answer of the list.
 pub fn answers_are_of_their_worlds()
     ensures { AnswersAreOfTheirWorlds }
 {}

@@ -30,8 +30,8 @@ pub fn no_run_exactly_if_none_is_free()
     ensures { NoRunExactlyIfNoneIsFree }
 {}
 
-/// States that answer `i` of a list is the answer to request `i` in the state that the requests
-/// before it leave. So what holds of one answer in any state holds of each answer of the list.
+/// States that in every list, answer `i` is the answer to request `i` in the state that the earlier
+/// requests leave. So what holds of one answer in any state holds of each answer of the list.
 pub fn answers_are_of_their_states()
     ensures { AnswersAreOfTheirStates }
 {}

@@ -16,9 +16,9 @@ pub fn idle_exactly_if_none_is_ready()
     ensures { IdleExactlyIfNoneIsReady }
 {}
 
-/// States that answer `i` of a list is the answer to event `i` in the state (the set of the ready
-/// tasks) that the events before it leave. So what holds of one answer in any state holds of each
-/// answer of the list.
+/// States that in every list, answer `i` is the answer to event `i` in the state (the set of the
+/// ready tasks) that the earlier events leave. So what holds of one answer in any state holds of
+/// each answer of the list.
 pub fn answers_are_of_their_states()
     ensures { AnswersAreOfTheirStates }
 {}

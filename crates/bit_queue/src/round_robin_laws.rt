@@ -18,8 +18,8 @@ pub fn idle_exactly_if_none_is_ready()
     ensures { RoundIsIdleExactlyIfNoneIsReady }
 {}
 
-/// States that answer `i` of a list is the answer to event `i` in the round (the ready tasks and
-/// the turn) that the events before it leave. So what holds of one answer in any round holds of
+/// States that in every list, answer `i` is the answer to event `i` in the round (the ready tasks
+/// and the turn) that the earlier events leave. So what holds of one answer in any round holds of
 /// each answer of the list.
 pub fn answers_are_of_their_rounds()
     ensures { AnswersAreOfTheirRounds }

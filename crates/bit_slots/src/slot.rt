@@ -94,8 +94,8 @@ impl<V: Drop> Slot<V> {
         }
     }
 
-    // Calls a function on the value of a generation, and returns whether the slot holds such a
-    // value.
+    // If the slot holds a value whose generation is `generation`, calls `change` on it. Returns
+    // whether it did.
     pub(crate) fn update<F: FnOnce(&mut V)>(&mut self, generation: u32, change: F) -> bool
         requires { (value : MutBor V) → found (stage_of self.old generation) ≡ Some value.now
             → F.pre change value }
