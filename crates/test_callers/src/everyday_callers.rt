@@ -1,6 +1,6 @@
 //! Callers of the everyday calls (`bittle_ext`), compared with values worked out by hand.
 
-use crate::checks::same;
+use crate::checks::{holds, same};
 use bittle::Bits;
 use bittle_ext_uses::blocks::Blocks;
 use bittle_ext_uses::equal_sets::copied;
@@ -11,6 +11,10 @@ use bittle_ext_uses::found_bits::{
     safe_squares, was_there_all,
 };
 use bittle_ext_uses::graphs::{reachable, targets};
+use bittle_ext_uses::known_members::{
+    Ports, are_hidden, book, book_again, book_before, cancel, cancel_from, copy_cells, empty_hall,
+    free_pages, hidden_mine, is_on_with, join, leave, paint, take_pages, take_seat, visit,
+};
 use bittle_ext_uses::listed::write_first;
 use bittle_ext_uses::mines::Board;
 use bittle_ext_uses::one_line::{free_hour, letters, offered, taken_from_first};
@@ -188,4 +192,86 @@ fn shots_at_ships(rt: HostRuntime) {
         answers[k] = number_of(fire(ships, &mut fired, *square));
     }
     same!(rt; (answers, fired), ([2, 1, 0, 2, 0], 1 << 63 | 0b0110));
+}
+
+#[test]
+fn mines_that_are_hidden(rt: HostRuntime) {
+    same!(rt; (are_hidden(0b0101, 0b1010), are_hidden(0b0101, 0b0110)), (true, false));
+    same!(rt; (hidden_mine(0b0100, 0b0011), hidden_mine(0b0110, 0b0100)), (Some(2), None));
+    same!(rt; (hidden_mine(0, 0b0001), hidden_mine(1 << 63, 0)), (None, Some(63)));
+}
+
+#[test]
+fn seats_and_lamps(rt: HostRuntime) {
+    // Seats 0, 1 and 3 are taken, so seat 2 is the next one, and 60 seats are free after that.
+    let (mut seats, mut full) = (0b1011u64, u64::MAX);
+    same!(rt; (take_seat(&mut seats), take_seat(&mut full)), (Some(60), None));
+    same!(rt; (seats, full, empty_hall()), (0b1111, u64::MAX, 0));
+    same!(rt; (is_on_with(4, 1, 1), is_on_with(4, 1, 2), is_on_with(4, 1, 3)), (true, true, false));
+}
+
+#[test]
+fn pages_and_cells(rt: HostRuntime) {
+    let mut pages = 0b1000_0001u64;
+    take_pages(&mut pages, 2, 5);
+    same!(rt; pages, 0b1001_1101);
+    free_pages(&mut pages, 0, 3);
+    same!(rt; pages, 0b1001_1000);
+    let mut cells = 1 << 63 | 0b1000u64;
+    paint(&mut cells, 0, 2);
+    same!(rt; cells, 1 << 63 | 0b1011);
+    // Cells 0 to 2 are copied to cells 8 to 10, so cell 10 becomes unset.
+    let mut cells = 0b0100_0000_1011u64;
+    copy_cells(&mut cells, 0, 3, 8);
+    same!(rt; cells, 0b0011_0000_1011);
+}
+
+#[test]
+fn ports_that_stay_unused(rt: HostRuntime) {
+    same!(rt; (Ports::restored(1 << 9).is_none(), Ports::restored(1).is_none()), (true, true));
+    match Ports::restored(1 << 10) {
+        Some(mut ports) => {
+            ports.take(63);
+            same!(rt; (ports.is_used(10), ports.is_used(63)), (true, true));
+            same!(rt; (ports.is_used(9), ports.is_used(11)), (false, false));
+        }
+        None => holds!(rt; false),
+    }
+}
+
+#[test]
+fn nodes_and_groups(rt: HostRuntime) {
+    let mut seen = 0b0010u64;
+    visit(&mut seen, 1);
+    same!(rt; seen, 0b0010);
+    visit(&mut seen, 63);
+    same!(rt; seen, 1 << 63 | 0b0010);
+    let mut group = 0b0000_0001u8;
+    join(&mut group, 7);
+    join(&mut group, 0);
+    same!(rt; group, 0b1000_0001);
+    leave(&mut group, 0);
+    leave(&mut group, 1);
+    same!(rt; group, 0b1000_0000);
+}
+
+#[test]
+fn hours_of_a_timetable(rt: HostRuntime) {
+    let mut day = 0u8;
+    book(&mut day, 2, 5);
+    same!(rt; day, 0b0001_1100);
+    cancel(&mut day, 3, 4);
+    same!(rt; day, 0b0001_0100);
+    let mut hours = 0b0111_1000u64;
+    book_again(&mut hours, 3, 7);
+    same!(rt; hours, 0b0111_1000);
+    book_again(&mut hours, 6, 8);
+    same!(rt; hours, 0b1111_1000);
+    cancel_from(&mut hours, 5);
+    same!(rt; hours, 0b0001_1000);
+    book_before(&mut hours, 2);
+    same!(rt; hours, 0b0001_1011);
+    cancel_from(&mut hours, 64);
+    book_before(&mut hours, 0);
+    same!(rt; hours, 0b0001_1011);
 }
