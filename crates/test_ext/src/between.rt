@@ -5,19 +5,13 @@
 ghost use Rattle.std.specs.Prelude.{IsTrue};
 ghost use Rattle.bittle.specs.Values.{ShapeFits};
 
-use crate::checks::same;
+use crate::calls::{ALONE, COMMON, UNION, UNLIKE};
+use crate::checks::{Compared, same};
 use crate::random::{combined, draw, draw_row, flags_of};
 use crate::rotations::turned_in;
 use bittle::{Bits, BitsMut, BitsOwned, LittleEndian, Set};
 use bittle_ext::prelude::*;
-
-const UNION: u32 = 0;
-
-const COMMON: u32 = 1;
-
-const ALONE: u32 = 2;
-
-const UNLIKE: u32 = 3;
+use std::process::Abort;
 
 // Changes a set by one of four operations with another set. Returns what the call returns: whether
 // the set changed.
@@ -34,8 +28,8 @@ fn change<A: BitsMut, B: Bits>(kind: u32, set: &mut A, other: &B) -> bool
 }
 
 // Returns the set after an operation, and whether the call reports a change.
-fn changed<A: BitsOwned, B: Bits>(kind: u32, set: A, other: &B) -> (A, bool)
-    requires indexable { IsTrue A.indexable }
+fn changed<A: BitsMut, B: Bits>(kind: u32, set: A, other: &B) -> (A, bool)
+    requires fits { ShapeFits A.Shape set }
     requires other_fits { ShapeFits B.Shape other.now }
 {
     let mut now = set;
@@ -43,99 +37,101 @@ fn changed<A: BitsOwned, B: Bits>(kind: u32, set: A, other: &B) -> (A, bool)
     (now, told)
 }
 
-// Returns the union, intersection, difference and symmetric difference of a set with another set,
-// each with whether the call reports a change.
-fn changed_each_way<A: BitsOwned, B: Bits>(set: A, other: &B) -> [(A, bool); 4]
-    requires indexable { IsTrue A.indexable }
+// Checks the set after an operation, and whether the call reports a change.
+fn changes<A: BitsMut + Compared, B: Bits>(
+    rt: &impl Abort,
+    kind: u32,
+    set: A,
+    other: &B,
+    expected: (A, bool),
+)
+    requires fits { ShapeFits A.Shape set }
     requires other_fits { ShapeFits B.Shape other.now }
 {
-    let mut answers = [(set, false); 4];
+    same!(*rt; changed(kind, set, other), expected);
+}
+
+// Checks the union, intersection, difference and symmetric difference of a set with another set,
+// each with whether the call reports a change.
+fn changes_each_way<A: BitsMut + Copy + Compared, B: Bits>(
+    rt: &impl Abort,
+    set: A,
+    other: &B,
+    expected: [(A, bool); 4],
+)
+    requires fits { ShapeFits A.Shape set }
+    requires other_fits { ShapeFits B.Shape other.now }
+{
     for kind in 0..4u32 {
-        answers[kind as usize] = changed(kind, set, other);
+        changes(rt, kind, set, other, expected[kind as usize]);
     }
-    answers
 }
 
 #[test]
 fn a_byte_by_a_wider_word(rt: HostRuntime) {
     // `byte` has the members 0 and 1, and `word` has 1, 2 and 8.
     let (byte, word) = (0b0011u8, 0x0106u16);
-    let [either, both, alone, unlike] = changed_each_way(byte, &word);
-    same!(rt; (either, both), ((0b0111, true), (0b0010, true)));
-    same!(rt; (alone, unlike), ((0b0001, true), (0b0101, true)));
+    let expected = [
+        (0b0111, true),
+        (0b0010, true),
+        (0b0001, true),
+        (0b0101, true),
+    ];
+    changes_each_way(&rt, byte, &word, expected);
 }
 
 #[test]
 fn a_word_by_a_byte(rt: HostRuntime) {
     let (byte, word) = (0b0011u8, 0x0106u16);
-    let [either, both, alone, unlike] = changed_each_way(word, &byte);
-    same!(rt; (either, both), ((0x0107, true), (0x0002, true)));
-    same!(rt; (alone, unlike), ((0x0104, true), (0x0105, true)));
+    let expected = [
+        (0x0107, true),
+        (0x0002, true),
+        (0x0104, true),
+        (0x0105, true),
+    ];
+    changes_each_way(&rt, word, &byte, expected);
 }
 
 #[test]
 fn a_longer_row_by_a_byte(rt: HostRuntime) {
     let (byte, row) = (0b0011u8, [0b0110u8, 1, 0x80]);
-    let [either, both, alone, unlike] = changed_each_way(row, &byte);
-    same!(rt; (either, both), (([0b0111, 1, 0x80], true), ([0b0010, 0, 0], true)));
-    same!(rt; (alone, unlike), (([0b0100, 1, 0x80], true), ([0b0101, 1, 0x80], true)));
-}
-
-// Returns the set after each of the four operations, each with another one of `others`.
-fn changed_by_each<A: BitsOwned, B: BitsOwned>(set: A, others: [B; 4]) -> [(A, bool); 4]
-    requires indexable { IsTrue A.indexable }
-    requires other_indexable { IsTrue B.indexable }
-{
-    let [first, second, third, fourth] = others;
-    [
-        changed(UNION, set, &first),
-        changed(COMMON, set, &second),
-        changed(ALONE, set, &third),
-        changed(UNLIKE, set, &fourth),
-    ]
+    let expected = [
+        ([0b0111, 1, 0x80], true),
+        ([0b0010, 0, 0], true),
+        ([0b0100, 1, 0x80], true),
+        ([0b0101, 1, 0x80], true),
+    ];
+    changes_each_way(&rt, row, &byte, expected);
 }
 
 #[test]
 fn what_changes_nothing_is_told(rt: HostRuntime) {
     // Bits 8 to 15 of the other sets are past the byte's capacity, so they change nothing.
     let byte = 0b0111u8;
-    let others = [0xFF06u16, 0x000F, 0xFF08, 0xFF00];
-    let [either, both, alone, unlike] = changed_by_each(byte, others);
-    same!(rt; (either, both), ((byte, false), (byte, false)));
-    same!(rt; (alone, unlike), ((byte, false), (byte, false)));
-}
-
-// Returns the set after a union with `one`, and after an intersection with `other`.
-fn either_and_both<A: BitsOwned, B: Bits, C: Bits>(set: A, one: &B, other: &C) -> [(A, bool); 2]
-    requires indexable { IsTrue A.indexable }
-    requires one_fits { ShapeFits B.Shape one.now }
-    requires other_fits { ShapeFits C.Shape other.now }
-{
-    [changed(UNION, set, one), changed(COMMON, set, other)]
+    changes(&rt, UNION, byte, &0xFF06u16, (byte, false));
+    changes(&rt, COMMON, byte, &0x000Fu16, (byte, false));
+    changes(&rt, ALONE, byte, &0xFF08u16, (byte, false));
+    changes(&rt, UNLIKE, byte, &0xFF00u16, (byte, false));
 }
 
 #[test]
 fn the_last_word_alone_changes(rt: HostRuntime) {
     let row = [0xFFFFu16, 1, 1];
-    let [either, both] = either_and_both(row, &[0u16, 1, 3], &[0xFFFFu16, 1]);
-    same!(rt; (either, both), (([0xFFFF, 1, 3], true), ([0xFFFF, 1, 0], true)));
+    changes(&rt, UNION, row, &[0u16, 1, 3], ([0xFFFF, 1, 3], true));
+    changes(&rt, COMMON, row, &[0xFFFFu16, 1], ([0xFFFF, 1, 0], true));
 }
 
-// Returns the set after each of the four operations with a little-endian set.
-fn changed_each_way_by_left<A: BitsOwned, T: BitsOwned>(set: A, left: T) -> [(A, bool); 4]
+// Calls `changes_each_way` with a little-endian set.
+fn changes_each_way_by_left<A: BitsOwned + Compared, T: BitsOwned>(
+    rt: &impl Abort,
+    set: A,
+    left: T,
+    expected: [(A, bool); 4],
+)
     requires indexable { IsTrue A.indexable }
     requires other_indexable { IsTrue T.indexable }
 {
-    changed_each_way(set, &Set::new_le(left))
-}
-
-// Returns a little-endian set after an operation, and whether the call reports a change.
-fn left_changed<T: BitsOwned, B: Bits>(kind: u32, left: T, other: &B) -> (T, bool)
-    requires indexable { IsTrue T.indexable }
-    requires other_fits { ShapeFits B.Shape other.now }
-{
-    let (set, told) = changed(kind, Set::new_le(left), other);
-    (set.into_bits(), told)
+    changes_each_way(rt, set, &Set::new_le(left), expected);
 }
 
 #[test]
@@ -143,61 +139,70 @@ fn two_rows_each_in_its_own_order(rt: HostRuntime) {
     // `row` has the members 0, 15 and 33. In little-endian order, `left` has 0, 33 and 63.
     let row = [0x8001u16, 0, 2];
     let left = [0x8000_0000u32, 0x4000_0001];
-    let [either, both, alone, unlike] = changed_each_way_by_left(row, left);
-    same!(rt; (either, both), ((row, false), ([1, 0, 2], true)));
-    same!(rt; (alone, unlike), (([0x8000, 0, 0], true), ([0x8000, 0, 0], true)));
+    let expected = [
+        (row, false),
+        ([1, 0, 2], true),
+        ([0x8000, 0, 0], true),
+        ([0x8000, 0, 0], true),
+    ];
+    changes_each_way_by_left(&rt, row, left, expected);
+}
+
+// Checks a little-endian set after an operation, and whether the call reports a change.
+fn left_changes<T: BitsOwned + Compared, B: Bits>(
+    rt: &impl Abort,
+    kind: u32,
+    left: T,
+    other: &B,
+    expected: (T, bool),
+)
+    requires indexable { IsTrue T.indexable }
+    requires other_fits { ShapeFits B.Shape other.now }
+{
+    let mut set = Set::new_le(left);
+    let told = change(kind, &mut set, other);
+    same!(*rt; (set.into_bits(), told), expected);
 }
 
 #[test]
 fn a_set_from_the_left_by_a_row(rt: HostRuntime) {
     let row = [0x8001u16, 0, 2];
     let left = [0x8000_0000u32, 0x4000_0001];
-    same!(rt; left_changed(UNION, left, &row), ([0x8001_0000, 0x4000_0001], true));
-    same!(rt; left_changed(COMMON, left, &row), ([0x8000_0000, 0x4000_0000], true));
+    left_changes(&rt, UNION, left, &row, ([0x8001_0000, 0x4000_0001], true));
+    left_changes(&rt, COMMON, left, &row, ([0x8000_0000, 0x4000_0000], true));
 }
 
-// Returns a little-endian set after an operation with another little-endian set.
-fn left_changed_by_left<T: BitsOwned, U: BitsOwned>(kind: u32, left: T, other: U) -> (T, bool)
+// Checks a little-endian set after an operation with another little-endian set.
+fn left_changes_by_left<T: BitsOwned + Compared, U: BitsOwned>(
+    rt: &impl Abort,
+    kind: u32,
+    left: T,
+    other: U,
+    expected: (T, bool),
+)
     requires indexable { IsTrue T.indexable }
     requires other_indexable { IsTrue U.indexable }
 {
-    left_changed(kind, left, &Set::new_le(other))
+    left_changes(rt, kind, left, &Set::new_le(other), expected);
 }
 
 #[test]
 fn two_sets_from_the_left(rt: HostRuntime) {
     // In little-endian order, `byte` has the members 0 and 7, and `row` has 1, 7 and 8.
     let (byte, row) = (0x81u8, [0x41u8, 0x80]);
-    same!(rt; left_changed_by_left(UNION, byte, row), (0xC1, true));
-    same!(rt; left_changed_by_left(ALONE, row, byte), ([0x40, 0x80], true));
-}
-
-// Returns a set of capacity 0 after operations with `some` and with itself. Then returns `some` and
-// `empty` after operations with the set of capacity 0.
-fn changed_with_nothing<A: BitsOwned, B: BitsOwned>(
-    none: A,
-    some: B,
-    empty: B,
-) -> ([(A, bool); 2], [(B, bool); 3])
-    requires indexable { IsTrue A.indexable }
-    requires other_indexable { IsTrue B.indexable }
-{
-    let nothing = [changed(UNION, none, &some), changed(UNLIKE, none, &none)];
-    let others = [
-        changed(UNION, some, &none),
-        changed(COMMON, some, &none),
-        changed(COMMON, empty, &none),
-    ];
-    (nothing, others)
+    left_changes_by_left(&rt, UNION, byte, row, (0xC1, true));
+    left_changes_by_left(&rt, ALONE, row, byte, ([0x40, 0x80], true));
 }
 
 #[test]
 fn capacity_0(rt: HostRuntime) {
     let none: [u64; 0] = [];
-    let ([more, unlike], [either, both, empty]) = changed_with_nothing(none, 0x0Fu8, 0);
-    same!(rt; (more, unlike), ((none, false), (none, false)));
-    same!(rt; (either, both, empty), ((0x0F, false), (0, true), (0, false)));
-    same!(rt; changed(UNION, none, &0xFFu8), (none, false));
+    changes(&rt, UNION, none, &0x0Fu8, (none, false));
+    changes(&rt, UNLIKE, none, &none, (none, false));
+    changes(&rt, UNION, 0x0Fu8, &none, (0x0F, false));
+    changes(&rt, COMMON, 0x0Fu8, &none, (0, true));
+    changes(&rt, COMMON, 0u8, &none, (0, false));
+    changes(&rt, UNION, none, &0xFFu8, (none, false));
 }
 
 // Adds `other` to a set that is read in little-endian order.
@@ -238,9 +243,8 @@ fn add_and_take_out<A: BitsMut, B: Bits, C: Bits>(set: &mut A, one: &B, other: &
 #[test]
 fn a_lent_slice(rt: HostRuntime) {
     let mut row = [1u32, 0, 0x8000_0000];
-    let mut held = (row.as_mut_slice(),);
-    let lent = &mut held;
-    same!(rt; add_and_take_out(&mut lent.0, &[0u8, 0, 0, 0, 1], &[1u64, 0]), [true, true]);
+    let mut lent = row.as_mut_slice();
+    same!(rt; add_and_take_out(&mut lent, &[0u8, 0, 0, 0, 1], &[1u64, 0]), [true, true]);
     same!(rt; row, [0, 1, 0x8000_0000]);
 }
 
@@ -298,8 +302,8 @@ fn drawn_changes_by_unlike_words_agree_with_plain_loops(rt: HostRuntime) {
 }
 
 // Returns the set after `copy_from` copied another set to it.
-fn copied<A: BitsOwned, B: Bits>(set: A, other: &B) -> A
-    requires indexable { IsTrue A.indexable }
+fn copied<A: BitsMut, B: Bits>(set: A, other: &B) -> A
+    requires fits { ShapeFits A.Shape set }
     requires other_fits { ShapeFits B.Shape other.now }
 {
     let mut now = set;
@@ -315,23 +319,24 @@ fn copied_from_left<A: BitsOwned, T: BitsOwned>(set: A, left: T) -> A
     copied(set, &Set::new_le(left))
 }
 
-// Returns a little-endian set after `copy_from` copied another set to it.
-fn left_copied<T: BitsOwned, B: Bits>(left: T, other: &B) -> T
-    requires indexable { IsTrue T.indexable }
+// Checks a set after `copy_from` copied another set to it.
+fn copies_to<A: BitsMut + Compared, B: Bits>(rt: &impl Abort, set: A, other: &B, expected: A)
+    requires fits { ShapeFits A.Shape set }
     requires other_fits { ShapeFits B.Shape other.now }
 {
-    copied(Set::new_le(left), other).into_bits()
+    same!(*rt; copied(set, other), expected);
 }
 
 #[test]
 fn copies(rt: HostRuntime) {
     // In little-endian order, `[0x41, 0x80]` has the members 1, 7 and 8.
-    same!(rt; copied([0xFFu8, 0xFF, 0xFF], &0x0107u16), [0x07, 0x01, 0]);
-    same!(rt; copied(0xFFu8, &[0x0106u16, 3]), 0x06);
+    copies_to(&rt, [0xFFu8, 0xFF, 0xFF], &0x0107u16, [0x07, 0x01, 0]);
+    copies_to(&rt, 0xFFu8, &[0x0106u16, 3], 0x06);
     same!(rt; copied_from_left(0xFFFFu16, [0x41u8, 0x80]), 0x0182);
-    same!(rt; left_copied(0xFFu8, &0x0101u16), 0x80);
+    same!(rt; copied(Set::new_le(0xFFu8), &0x0101u16).into_bits(), 0x80);
     let none: [u8; 0] = [];
-    same!(rt; (copied(none, &7u8), copied(7u8, &none)), (none, 0));
+    copies_to(&rt, none, &7u8, none);
+    copies_to(&rt, 7u8, &none, 0);
 }
 
 // Makes a set of the type `A` that has the members of another set below its capacity.
@@ -381,28 +386,39 @@ fn shifted<B: BitsMut>(up: bool, set: B, by: u32) -> B
     now
 }
 
+// Checks a set that was shifted in place.
+fn shifts<B: BitsMut + Compared>(rt: &impl Abort, up: bool, set: B, by: u32, expected: B)
+    requires { ShapeFits B.Shape set }
+{
+    same!(*rt; shifted(up, set, by), expected);
+}
+
 #[test]
 fn shifts_in_place(rt: HostRuntime) {
     // Bits 0, 7 and 23 are set.
     let row = [0x81u8, 0, 0x80];
-    same!(rt; shifted(false, row, 8), [0, 0x80, 0]);
-    same!(rt; shifted(false, row, 7), [0x01, 0, 0x01]);
-    same!(rt; shifted(true, row, 9), [0, 0x02, 0x01]);
-    same!(rt; shifted(true, row, 16), [0, 0, 0x81]);
-    same!(rt; (shifted(true, row, 0), shifted(false, row, 0)), (row, row));
+    shifts(&rt, false, row, 8, [0, 0x80, 0]);
+    shifts(&rt, false, row, 7, [0x01, 0, 0x01]);
+    shifts(&rt, true, row, 9, [0, 0x02, 0x01]);
+    shifts(&rt, true, row, 16, [0, 0, 0x81]);
+    shifts(&rt, true, row, 0, row);
+    shifts(&rt, false, row, 0, row);
+    // The row is shifted by two words of 8 bits, and by one bit less than one, two and three words.
+    shifts(&rt, false, row, 15, [0, 1, 0]);
+    shifts(&rt, false, row, 16, [0x80, 0, 0]);
+    shifts(&rt, true, row, 7, [0x80, 0x40, 0]);
+    shifts(&rt, true, row, 15, [0, 0x80, 0x40]);
+    shifts(&rt, false, row, 23, [1, 0, 0]);
+    shifts(&rt, true, row, 23, [0, 0, 0x80]);
 }
 
 #[test]
-fn shifts_in_place_beside_a_word(rt: HostRuntime) {
-    // Bits 0, 7 and 23 of the row are set. It is shifted by two words of 8 bits, and by one bit
-    // less than one, two and three words.
-    let row = [0x81u8, 0, 0x80];
-    same!(rt; (shifted(false, row, 15), shifted(false, row, 16)), ([0, 1, 0], [0x80, 0, 0]));
-    same!(rt; (shifted(true, row, 7), shifted(true, row, 15)), ([0x80, 0x40, 0], [0, 0x80, 0x40]));
-    same!(rt; (shifted(false, row, 23), shifted(true, row, 23)), ([1, 0, 0], [0, 0, 0x80]));
-    same!(rt; (shifted(false, 0x80u8, 7), shifted(true, 3u8, 7)), (1, 0x80));
+fn shifts_in_place_of_one_word(rt: HostRuntime) {
+    shifts(&rt, false, 0x80u8, 7, 1);
+    shifts(&rt, true, 3u8, 7, 0x80);
     let wide = 0x8000_0000_0000_0000_0000_0000_0000_0001u128;
-    same!(rt; (shifted(false, wide, 127), shifted(true, wide, 127)), (1, 1 << 127));
+    shifts(&rt, false, wide, 127, 1);
+    shifts(&rt, true, wide, 127, 1 << 127);
 }
 
 // Returns a little-endian set that was shifted in place: up if `up` is `true`, else down.
@@ -423,18 +439,27 @@ fn shifts_in_place_from_the_left(rt: HostRuntime) {
 #[test]
 fn shifts_in_place_past_all(rt: HostRuntime) {
     let row = [0x81u16, 1];
-    same!(rt; (shifted(true, row, 32), shifted(false, row, 32)), ([0; 2], [0; 2]));
-    same!(rt; (shifted(true, row, u32::MAX), shifted(false, row, u32::MAX)), ([0; 2], [0; 2]));
-    same!(rt; (shifted(true, [0u8; 0], 1), shifted(false, [0u8; 0], 0)), ([], []));
+    shifts(&rt, true, row, 32, [0; 2]);
+    shifts(&rt, false, row, 32, [0; 2]);
+    shifts(&rt, true, row, u32::MAX, [0; 2]);
+    shifts(&rt, false, row, u32::MAX, [0; 2]);
+    shifts(&rt, true, [0u8; 0], 1, []);
+    shifts(&rt, false, [0u8; 0], 0, []);
+}
+
+// Shifts a set in place, first up and then down.
+fn shift_up_and_down<B: BitsMut>(set: &mut B, up: u32, down: u32)
+    requires { ShapeFits B.Shape set.old }
+{
+    set.shift_up(up);
+    set.shift_down(down);
 }
 
 #[test]
 fn a_lent_slice_is_shifted(rt: HostRuntime) {
     let mut row = [0x8000_0001u32, 0, 6];
-    let mut held = (row.as_mut_slice(),);
-    let lent = &mut held;
-    lent.0.shift_up(1);
-    lent.0.shift_down(33);
+    let mut lent = row.as_mut_slice();
+    shift_up_and_down(&mut lent, 1, 33);
     same!(rt; row, [0, 6, 0]);
 }
 
@@ -469,15 +494,26 @@ pub(crate) fn turned<B: BitsMut>(up: bool, set: B, by: u32) -> B
     now
 }
 
+// Checks a set that was rotated in place.
+fn turns<B: BitsMut + Compared>(rt: &impl Abort, up: bool, set: B, by: u32, expected: B)
+    requires { ShapeFits B.Shape set }
+{
+    same!(*rt; turned(up, set, by), expected);
+}
+
 #[test]
 fn rotations_in_place(rt: HostRuntime) {
     // Bits 0, 7 and 23 are set.
     let row = [0x81u8, 0, 0x80];
-    same!(rt; (turned(false, row, 8), turned(false, row, 7)), ([0, 0x80, 0x81], [0x01, 0, 0x03]));
-    same!(rt; (turned(true, row, 9), turned(true, row, 16)), ([0, 0x03, 0x01], [0, 0x80, 0x81]));
-    same!(rt; (turned(true, row, 0), turned(false, row, 24)), (row, row));
+    turns(&rt, false, row, 8, [0, 0x80, 0x81]);
+    turns(&rt, false, row, 7, [0x01, 0, 0x03]);
+    turns(&rt, true, row, 9, [0, 0x03, 0x01]);
+    turns(&rt, true, row, 16, [0, 0x80, 0x81]);
+    turns(&rt, true, row, 0, row);
+    turns(&rt, false, row, 24, row);
     // The capacity is 24, so a distance of 33 wraps to 9, and `u32::MAX` wraps to 15.
-    same!(rt; (turned(true, row, 33), turned(true, row, u32::MAX)), ([0, 3, 1], [0, 0xC0, 0x40]));
+    turns(&rt, true, row, 33, [0, 3, 1]);
+    turns(&rt, true, row, u32::MAX, [0, 0xC0, 0x40]);
 }
 
 #[test]
@@ -491,17 +527,25 @@ fn rotations_in_place_from_the_left(rt: HostRuntime) {
 #[test]
 fn rotations_in_place_of_one_word_and_of_none(rt: HostRuntime) {
     let wide = 0x8000_0000_0000_0000_0000_0000_0000_0001u128;
-    same!(rt; (turned(false, wide, 127), turned(true, 0x81u8, 1)), (3, 0x03));
-    same!(rt; (turned(true, [0u8; 0], 1), turned(false, [0u8; 0], 0)), ([], []));
+    turns(&rt, false, wide, 127, 3);
+    turns(&rt, true, 0x81u8, 1, 0x03);
+    turns(&rt, true, [0u8; 0], 1, []);
+    turns(&rt, false, [0u8; 0], 0, []);
+}
+
+// Rotates a set up in place.
+fn turn_up<B: BitsMut>(set: &mut B, by: u32)
+    requires { ShapeFits B.Shape set.old }
+{
+    set.rotate_up(by);
 }
 
 #[test]
 fn a_lent_slice_is_rotated(rt: HostRuntime) {
     // Bits 0, 31, 65 and 66 of 96 are set. A rotation by 33 moves bits 65 and 66 to 2 and 3.
     let mut row = [0x8000_0001u32, 0, 6];
-    let mut held = (row.as_mut_slice(),);
-    let lent = &mut held;
-    lent.0.rotate_up(33);
+    let mut lent = row.as_mut_slice();
+    turn_up(&mut lent, 33);
     same!(rt; row, [0xC, 2, 1]);
 }
 

@@ -6,16 +6,30 @@ ghost use Rattle.std.specs.Prelude.{◌<◌, max, IsTrue};
 ghost use Rattle.bittle_ext.specs.Views.{rounded_up};
 ghost use Rattle.bittle.specs.Values.{ShapeFits};
 
+use crate::checks::same;
 use bittle::prelude::*;
 use bittle::{Bits, BitsMut, Endian};
 use bittle_ext::prelude::*;
 use std::ops::Range;
+use std::process::Abort;
 
 /// Says that an item is taken from the front.
 pub(crate) const FRONT: bool = true;
 
 /// Says that an item is taken from the back.
 pub(crate) const BACK: bool = false;
+
+/// Names the union of two sets, in a call that combines them.
+pub(crate) const UNION: u32 = 0;
+
+/// Names the intersection of two sets.
+pub(crate) const COMMON: u32 = 1;
+
+/// Names the difference of two sets: the members that only the first one has.
+pub(crate) const ALONE: u32 = 2;
+
+/// Names the symmetric difference of two sets.
+pub(crate) const UNLIKE: u32 = 3;
 
 /// Takes an item from the front or from the back of an iterator.
 fn item<W: DoubleEndedIterator>(walk: &mut W, at_front: bool) -> Option<W::Item>
@@ -202,8 +216,9 @@ pub(crate) fn ask_just_one<A: Bits, B: Bits, Q: Question>(
     question.ask(&one.xor_unlike(other))
 }
 
-/// Takes items from an iterator over the union of two sets.
-pub(crate) fn union<A: Bits, B: Bits, const N: usize>(
+/// Takes items from an iterator over two sets that are combined by one of the four operations.
+pub(crate) fn combination<A: Bits, B: Bits, const N: usize>(
+    kind: u32,
     one: &A,
     other: &B,
     ends: [bool; N],
@@ -213,7 +228,13 @@ pub(crate) fn union<A: Bits, B: Bits, const N: usize>(
     requires rounded { rounded_up (max (A.big one.now).capacity (B.big other.now).capacity) A.width
         < 4294967295 }
 {
-    ask_either(&Ones(ends), one, other)
+    let items = Ones(ends);
+    match kind {
+        UNION => ask_either(&items, one, other),
+        COMMON => ask_both(&items, one, other),
+        ALONE => ask_alone(&items, one, other),
+        _ => ask_just_one(&items, one, other),
+    }
 }
 
 /// Takes items from an iterator over the union of two sets, in the order `E`.
@@ -227,65 +248,24 @@ pub(crate) fn union_in<A: Bits, B: Bits, E: Endian, const N: usize>(
     requires rounded { rounded_up (max (A.big one.now).capacity (B.big other.now).capacity) A.width
         < 4294967295 }
 {
-    union(&one.in_order::<E>(), &other.in_order::<E>(), ends)
+    ask_either(&Ones(ends), &one.in_order::<E>(), &other.in_order::<E>())
 }
 
-/// Takes items from an iterator over the intersection of two sets.
-pub(crate) fn conjunction<A: Bits, B: Bits, const N: usize>(
-    one: &A,
-    other: &B,
-    ends: [bool; N],
-) -> [Option<u32>; N]
-    requires one_fits { ShapeFits A.Shape one.now }
-    requires other_fits { ShapeFits B.Shape other.now }
-{
-    ask_both(&Ones(ends), one, other)
-}
-
-/// Takes items from an iterator over the difference of two sets.
-pub(crate) fn difference<A: Bits, B: Bits, const N: usize>(
-    one: &A,
-    other: &B,
-    ends: [bool; N],
-) -> [Option<u32>; N]
-    requires one_fits { ShapeFits A.Shape one.now }
-    requires other_fits { ShapeFits B.Shape other.now }
-{
-    ask_alone(&Ones(ends), one, other)
-}
-
-/// Takes items from an iterator over the symmetric difference of two sets.
-pub(crate) fn symmetric_difference<A: Bits, B: Bits, const N: usize>(
-    one: &A,
-    other: &B,
-    ends: [bool; N],
-) -> [Option<u32>; N]
-    requires one_fits { ShapeFits A.Shape one.now }
-    requires other_fits { ShapeFits B.Shape other.now }
-    requires rounded { rounded_up (max (A.big one.now).capacity (B.big other.now).capacity) A.width
-        < 4294967295 }
-{
-    ask_just_one(&Ones(ends), one, other)
-}
-
-/// Takes items from an iterator over two sets that are combined by one of the four operations.
-pub(crate) fn combination<A: Bits, B: Bits, const N: usize>(
+/// Checks the items that an iterator yields over two sets that are combined.
+pub(crate) fn combines<A: Bits, B: Bits, const N: usize>(
+    rt: &impl Abort,
     kind: u32,
     one: &A,
     other: &B,
     ends: [bool; N],
-) -> [Option<u32>; N]
+    expected: [Option<u32>; N],
+)
     requires one_fits { ShapeFits A.Shape one.now }
     requires other_fits { ShapeFits B.Shape other.now }
     requires rounded { rounded_up (max (A.big one.now).capacity (B.big other.now).capacity) A.width
         < 4294967295 }
 {
-    match kind {
-        0 => union(one, other, ends),
-        1 => conjunction(one, other, ends),
-        2 => difference(one, other, ends),
-        _ => symmetric_difference(one, other, ends),
-    }
+    same!(*rt; combination(kind, one, other, ends), expected);
 }
 
 /// Makes the set of these indexes, which are below the capacity. A `None` is left out.
@@ -373,33 +353,19 @@ pub(crate) fn selected_in<B: Bits, E: Endian, const N: usize>(
 }
 
 /// Returns whether one set is a subset of another set, a superset of it, disjoint from it, and
-/// whether the two intersect.
-fn relations<A: Bits, B: Bits>(one: &A, other: &B) -> [bool; 4]
-    requires one_fits { ShapeFits A.Shape one.now }
-    requires other_fits { ShapeFits B.Shape other.now }
-{
-    [
-        one.is_subset(other),
-        one.is_superset(other),
-        one.is_disjoint(other),
-        one.intersects(other),
-    ]
-}
-
-/// Returns the four relations of one set to another, and then the two indexes of `firsts`.
+/// whether the two intersect. Then returns the first index in both sets, and the first index in the
+/// first set alone.
 pub(crate) fn stand<A: Bits, B: Bits>(one: &A, other: &B) -> ([bool; 4], [Option<u32>; 2])
     requires one_fits { ShapeFits A.Shape one.now }
     requires other_fits { ShapeFits B.Shape other.now }
 {
-    (relations(one, other), firsts(one, other))
-}
-
-/// Returns the first index in both sets, and the first index in the first set alone.
-fn firsts<A: Bits, B: Bits>(one: &A, other: &B) -> [Option<u32>; 2]
-    requires one_fits { ShapeFits A.Shape one.now }
-    requires other_fits { ShapeFits B.Shape other.now }
-{
-    [one.first_common(other), one.first_alone(other)]
+    let relations = [
+        one.is_subset(other),
+        one.is_superset(other),
+        one.is_disjoint(other),
+        one.intersects(other),
+    ];
+    (relations, [one.first_common(other), one.first_alone(other)])
 }
 
 /// Inserts each of these indexes, and returns what each call returns.
@@ -419,14 +385,6 @@ pub(crate) fn extend_by_set<B: BitsMut, C: Bits>(set: &mut B, other: &C)
     requires fits { ShapeFits C.Shape other.now }
 {
     set.extend(other.iter_ones());
-}
-
-/// Inserts the indexes that an iterator over another set yields from its back.
-pub(crate) fn extend_from_back<B: BitsMut, C: Bits>(set: &mut B, other: &C)
-    requires indexable { IsTrue B.indexable }
-    requires fits { ShapeFits C.Shape other.now }
-{
-    set.extend(other.iter_ones().rev());
 }
 
 /// A change of a set of any shape. A function that makes a mutable view takes the change as a

@@ -410,19 +410,26 @@ fn lists_and_iterators_are_set(rt: HostRuntime) {
     same!(rt; (first, second), ([0xC0, 0x07], [0xE0, 0x07]));
 }
 
+/// Keeps the set bits of the range `from..to` whose index is even, or, if `odd` is `true`, all set
+/// bits of the range. Clears all other bits.
+fn keep<B: BitsMut>(set: &mut B, from: u32, to: u32, odd: bool)
+    requires { ShapeFits B.Shape set.old }
+{
+    set.retain(|index| from <= index && index < to && (odd || index % 2 == 0));
+}
+
 #[test]
 fn bits_that_are_kept(rt: HostRuntime) {
     let mut word = 0b1000_0110u8;
-    word.in_order_mut::<LittleEndian>()
-        .retain(|index| index < 6);
+    keep(&mut word.in_order_mut::<LittleEndian>(), 0, 6, true);
     same!(rt; word, 0b1000_0100);
     let mut row = [0x07u8, 0x81];
-    row.retain(|index| index % 2 == 0);
+    keep(&mut row, 0, u32::MAX, false);
     same!(rt; row, [0x05, 0x01]);
-    row.retain(|index| index > 20);
+    keep(&mut row, 21, u32::MAX, true);
     same!(rt; row, [0, 0]);
     let mut none: [u8; 0] = [];
-    none.retain(|_index| false);
+    keep(&mut none, 0, 0, true);
     same!(rt; none, []);
 }
 
@@ -437,18 +444,11 @@ fn each_bit_is_asked_once_from_the_least(rt: HostRuntime) {
     same!(rt; (asked, word), (1247, 0b1001_0010));
 }
 
-/// Keeps the set bits at the indexes 63 to 126, and clears all others.
-fn keep_some<B: BitsMut>(set: &mut B)
-    requires { ShapeFits B.Shape set.old }
-{
-    set.retain(|index| index > 62 && index < 127);
-}
-
 #[test]
 fn bits_of_a_lent_slice_that_are_kept(rt: HostRuntime) {
     let mut words = [0b11u64, 0b101];
     let mut set = Set::from_mut_le(words.as_mut_slice());
-    keep_some(&mut set);
+    keep(&mut set, 63, 127, true);
     same!(rt; words, [0b01, 0b100]);
 }
 

@@ -2,35 +2,38 @@
 //! sets, with expected values worked out by hand.
 
 use crate::calls::{
-    BACK, FRONT, Question, ask_either, conjunction, difference, symmetric_difference, taken, union,
-    union_in,
+    ALONE, BACK, COMMON, FRONT, Question, UNION, UNLIKE, ask_either, combines, taken, union_in,
 };
 use crate::checks::same;
 use bittle::LittleEndian;
 use bittle_ext::prelude::*;
 
 #[test]
-fn either_of_two_shapes(rt: HostRuntime) {
+fn two_shapes_in_each_way(rt: HostRuntime) {
     // `word` has the members 0 and 1, and `row` has 1, 2 and 8.
     let (word, row) = (0b0011u8, [0b0110u8, 1]);
     let turns = [FRONT, FRONT, FRONT, FRONT, FRONT, BACK];
-    let either = union(&word, &row, turns);
-    same!(rt; either, [Some(0), Some(1), Some(2), Some(8), None, None]);
-}
-
-#[test]
-fn both_and_one_of_two_shapes(rt: HostRuntime) {
-    let (word, row) = (0b0011u8, [0b0110u8, 1]);
-    same!(rt; conjunction(&word, &row, [FRONT; 2]), [Some(1), None]);
-    same!(rt; difference(&word, &row, [FRONT; 2]), [Some(0), None]);
-    same!(rt; difference(&row, &word, [FRONT; 3]), [Some(2), Some(8), None]);
-}
-
-#[test]
-fn just_one_from_both_ends(rt: HostRuntime) {
-    let (word, row) = (0b0011u8, [0b0110u8, 1]);
-    let one = symmetric_difference(&word, &row, [BACK, FRONT, BACK, BACK]);
-    same!(rt; one, [Some(8), Some(0), Some(2), None]);
+    let expected = [Some(0), Some(1), Some(2), Some(8), None, None];
+    combines(&rt, UNION, &word, &row, turns, expected);
+    combines(&rt, COMMON, &word, &row, [FRONT; 2], [Some(1), None]);
+    combines(&rt, ALONE, &word, &row, [FRONT; 2], [Some(0), None]);
+    combines(
+        &rt,
+        ALONE,
+        &row,
+        &word,
+        [FRONT; 3],
+        [Some(2), Some(8), None],
+    );
+    let expected = [Some(8), Some(0), Some(2), None];
+    combines(
+        &rt,
+        UNLIKE,
+        &word,
+        &row,
+        [BACK, FRONT, BACK, BACK],
+        expected,
+    );
 }
 
 #[test]
@@ -84,8 +87,8 @@ fn a_clone_goes_on_from_its_source(rt: HostRuntime) {
 #[test]
 fn capacity_0(rt: HostRuntime) {
     let none: [u8; 0] = [];
-    same!(rt; union(&none, &none, [FRONT]), [None]);
-    same!(rt; union(&none, &0b1000u8, [FRONT]), [Some(3)]);
-    same!(rt; difference(&0b1000u8, &none, [BACK]), [Some(3)]);
-    same!(rt; conjunction(&0b1000u8, &none, [FRONT]), [None]);
+    combines(&rt, UNION, &none, &none, [FRONT], [None]);
+    combines(&rt, UNION, &none, &0b1000u8, [FRONT], [Some(3)]);
+    combines(&rt, ALONE, &0b1000u8, &none, [BACK], [Some(3)]);
+    combines(&rt, COMMON, &0b1000u8, &none, [FRONT], [None]);
 }

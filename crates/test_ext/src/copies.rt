@@ -4,7 +4,7 @@
 ghost use Rattle.std.specs.Prelude.{IsTrue};
 ghost use Rattle.bittle.specs.Values.{ShapeFits};
 
-use crate::checks::same;
+use crate::checks::{Compared, same};
 use crate::random::{draw, draw_row, flags_of};
 use bittle::prelude::*;
 use bittle::{BigEndian, BitsOwned, Endian, LittleEndian, Set, Shape};
@@ -13,8 +13,8 @@ use std::process::Abort;
 
 // Returns the set after the range `from..to` of another set is copied to index `at`, or unchanged
 // if `copy_range` does not allow that.
-fn pasted<A: BitsOwned, B: Bits>(set: A, other: &B, from: u32, to: u32, at: u32) -> A
-    requires indexable { IsTrue A.indexable }
+fn pasted<A: BitsMut, B: Bits>(set: A, other: &B, from: u32, to: u32, at: u32) -> A
+    requires fits { ShapeFits A.Shape set }
     requires other_fits { ShapeFits B.Shape other.now }
 {
     let mut now = set;
@@ -27,8 +27,8 @@ fn pasted<A: BitsOwned, B: Bits>(set: A, other: &B, from: u32, to: u32, at: u32)
 
 // Returns the set after its range `from..to` is copied to index `at`, or unchanged if `copy_within`
 // does not allow that.
-fn moved<A: BitsOwned>(set: A, from: u32, to: u32, at: u32) -> A
-    requires { IsTrue A.indexable }
+fn moved<A: BitsMut>(set: A, from: u32, to: u32, at: u32) -> A
+    requires { ShapeFits A.Shape set }
 {
     let mut now = set;
     let capacity = now.bits_capacity();
@@ -67,48 +67,63 @@ fn moved_in<A: BitsOwned, E: Endian>(set: A, from: u32, to: u32, at: u32) -> A
     moved(Set::<A, E>::new_in(set), from, to, at).into_bits()
 }
 
+// Checks the set after the range `from..to` of another set is copied to index `at`.
+fn pastes<A: BitsMut + Compared, B: Bits>(
+    rt: &impl Abort,
+    set: A,
+    other: &B,
+    from: u32,
+    to: u32,
+    at: u32,
+    expected: A,
+)
+    requires fits { ShapeFits A.Shape set }
+    requires other_fits { ShapeFits B.Shape other.now }
+{
+    same!(*rt; pasted(set, other, from, to, at), expected);
+}
+
 #[test]
 fn words_of_other_widths(rt: HostRuntime) {
     // Bits 4 to 11 of the word are 1010_0101.
     let word = 0x0A50u16;
-    same!(rt; pasted([0xFFu8; 2], &word, 4, 12, 6), [0x7F, 0xE9]);
-    same!(rt; pasted(0u64, &[0x12u8, 0x34, 0x56], 4, 20, 1), 0x6341 << 1);
-    same!(rt; pasted(u128::MAX, &0u8, 0, 8, 120), u128::MAX >> 8);
-    same!(rt; pasted(-1i8, &word, 7, 7, 3), -1);
+    pastes(&rt, [0xFFu8; 2], &word, 4, 12, 6, [0x7F, 0xE9]);
+    pastes(&rt, 0u64, &[0x12u8, 0x34, 0x56], 4, 20, 1, 0x6341 << 1);
+    pastes(&rt, u128::MAX, &0u8, 0, 8, 120, u128::MAX >> 8);
+    pastes(&rt, -1i8, &word, 7, 7, 3, -1);
 }
 
 #[test]
 fn past_the_end_of_the_other_set(rt: HostRuntime) {
     // Bits 6 and 7 of the other set are set. Its capacity is 8, so it has no bits from 8 on.
-    same!(rt; pasted([0xFFu8; 2], &0xFFu8, 6, 12, 2), [0x0F, 0xFF]);
-    same!(rt; pasted(0xFFu8, &0xFFu8, u32::MAX - 4, u32::MAX, 1), 0b1110_0001);
-}
-
-// Calls `pasted` with another set in little-endian order.
-fn pasted_of_left<A: BitsOwned, B: BitsOwned>(set: A, left: B, from: u32, to: u32, at: u32) -> A
-    requires indexable { IsTrue A.indexable }
-    requires other_indexable { IsTrue B.indexable }
-{
-    pasted(set, &Set::new_le(left), from, to, at)
+    pastes(&rt, [0xFFu8; 2], &0xFFu8, 6, 12, 2, [0x0F, 0xFF]);
+    pastes(&rt, 0xFFu8, &0xFFu8, u32::MAX - 4, u32::MAX, 1, 0b1110_0001);
 }
 
 #[test]
 fn other_orders(rt: HostRuntime) {
     // In little-endian order, bits 0 and 3 are set.
     let left = 0b1001_0000u8;
-    same!(rt; pasted_of_left(0u8, left, 0, 8, 0), 0b0000_1001);
+    pastes(&rt, 0u8, &Set::new_le(left), 0, 8, 0, 0b0000_1001);
     let rows = pasted_in_both::<_, LittleEndian, _, LittleEndian>([0u16; 2], left, 0, 4, 14);
     same!(rt; rows, [2, 0x4000]);
     let word = pasted_in::<_, LittleEndian, _>(0u8, &0b0000_0011u8, 1, 3, 4);
     same!(rt; word, 0b0000_1000);
 }
 
+// Checks the set after its range `from..to` is copied to index `at`.
+fn moves<A: BitsMut + Compared>(rt: &impl Abort, set: A, from: u32, to: u32, at: u32, expected: A)
+    requires { ShapeFits A.Shape set }
+{
+    same!(*rt; moved(set, from, to, at), expected);
+}
+
 #[test]
 fn ranges_that_overlap(rt: HostRuntime) {
-    same!(rt; moved([0x35u8, 0x00], 0, 8, 4), [0x55, 0x03]);
-    same!(rt; moved([0x53u8, 0x04], 4, 12, 0), [0x45, 0x04]);
-    same!(rt; moved([0x81u8, 0x7E, 0x18], 0, 16, 8), [0x81, 0x81, 0x7E]);
-    same!(rt; moved([0x81u8, 0x7E, 0x18], 8, 24, 0), [0x7E, 0x18, 0x18]);
+    moves(&rt, [0x35u8, 0x00], 0, 8, 4, [0x55, 0x03]);
+    moves(&rt, [0x53u8, 0x04], 4, 12, 0, [0x45, 0x04]);
+    moves(&rt, [0x81u8, 0x7E, 0x18], 0, 16, 8, [0x81, 0x81, 0x7E]);
+    moves(&rt, [0x81u8, 0x7E, 0x18], 8, 24, 0, [0x7E, 0x18, 0x18]);
     same!(rt; moved_in::<_, LittleEndian>([0x80u8, 0x01], 0, 15, 1), [0xC0, 0]);
 }
 
@@ -228,8 +243,9 @@ fn capacity_0(rt: HostRuntime) {
     let none: [u32; 0] = [];
     agree(&rt, 32, none, 0xC5u8);
     agree(&rt, 8, 0xC5u8, none);
-    same!(rt; pasted(0xFFu8, &none, 0, 3, 2), 0b1110_0011);
-    same!(rt; (pasted(none, &1u8, 4, 4, 0), moved(none, 9, 9, 0)), (none, none));
+    pastes(&rt, 0xFFu8, &none, 0, 3, 2, 0b1110_0011);
+    pastes(&rt, none, &1u8, 4, 4, 0, none);
+    moves(&rt, none, 9, 9, 0, none);
 }
 
 #[test]

@@ -88,48 +88,78 @@ fn runs_within<B: Bits>(set: &B, from: u32, to: u32, length: u32) -> [Option<u32
     ]
 }
 
+/// Checks what `runs_within` returns. Each case is a range, from the first number on and below the
+/// second, then a length, and what is expected.
+fn runs_within_are<B: Bits, const N: usize>(
+    rt: &impl Abort,
+    set: &B,
+    cases: [(u32, u32, u32, [Option<u32>; 2]); N],
+)
+    requires { ShapeFits B.Shape set.now }
+{
+    for k in 0..N {
+        let (from, to, length, expected) = cases[k];
+        let found = runs_within(set, from, to, length);
+        same!(*rt; (from, to, length, found), (from, to, length, expected));
+    }
+}
+
 #[test]
 fn runs_within_a_range(rt: HostRuntime) {
     // Bits 7 to 16 are unset. In little-endian order, these are bits 0, 8 to 15, and 23.
     let row: [u8; 3] = [0b0111_1111, 0, 0b1111_1110];
-    same!(rt; runs_within(&row, 3, 12, 4), [Some(3), Some(7)]);
-    same!(rt; runs_within(&row, 3, 10, 4), [Some(3), None]);
-    same!(rt; runs_within(&row, 5, 6, 2), [None, None]);
-    let left = row.in_order::<LittleEndian>();
-    same!(rt; runs_within(&left, 1, 12, 3), [Some(1), Some(8)]);
-    same!(rt; runs_within(&left, 1, 10, 3), [Some(1), None]);
+    let cases = [
+        (3, 12, 4, [Some(3), Some(7)]),
+        (3, 10, 4, [Some(3), None]),
+        (5, 6, 2, [None, None]),
+    ];
+    runs_within_are(&rt, &row, cases);
+    let from_left = [(1, 12, 3, [Some(1), Some(8)]), (1, 10, 3, [Some(1), None])];
+    runs_within_are(&rt, &row.in_order::<LittleEndian>(), from_left);
 }
 
 #[test]
 fn runs_that_end_with_a_range_or_go_past_its_end(rt: HostRuntime) {
     // Bits 7 to 16 are unset.
     let row: [u8; 3] = [0b0111_1111, 0, 0b1111_1110];
-    same!(rt; runs_within(&row, 3, 11, 4), [Some(3), Some(7)]);
-    same!(rt; runs_within(&row, 3, 7, 4), [Some(3), None]);
-    same!(rt; runs_within(&row, 3, 6, 4), [None, None]);
-    same!(rt; runs_within(&row, 0, 16, 9), [None, Some(7)]);
-    same!(rt; runs_within(&row, 0, 15, 9), [None, None]);
+    let cases = [
+        (3, 11, 4, [Some(3), Some(7)]),
+        (3, 7, 4, [Some(3), None]),
+        (3, 6, 4, [None, None]),
+        (0, 16, 9, [None, Some(7)]),
+        (0, 15, 9, [None, None]),
+    ];
+    runs_within_are(&rt, &row, cases);
     // Bits 8 to 14, and 16 to 48, are unset.
     let row: [u8; 8] = [255, 128, 0, 0, 0, 0, 254, 255];
-    same!(rt; runs_within(&row, 0, 49, 33), [None, Some(16)]);
-    same!(rt; runs_within(&row, 0, 48, 33), [None, None]);
-    same!(rt; runs_within(&row, 40, 49, 9), [None, Some(40)]);
-    same!(rt; runs_within(&row, 41, 64, 15), [Some(49), None]);
-    same!(rt; runs_within(&row, 41, 63, 15), [None, None]);
+    let cases = [
+        (0, 49, 33, [None, Some(16)]),
+        (0, 48, 33, [None, None]),
+        (40, 49, 9, [None, Some(40)]),
+        (41, 64, 15, [Some(49), None]),
+        (41, 63, 15, [None, None]),
+    ];
+    runs_within_are(&rt, &row, cases);
 }
 
 #[test]
 fn runs_within_a_range_past_the_capacity_or_backwards(rt: HostRuntime) {
     let row: [u8; 3] = [0b0111_1111, 0, 0b1111_1110];
-    same!(rt; runs_within(&row, 20, 40, 4), [Some(20), None]);
-    same!(rt; runs_within(&row, 20, 40, 5), [None, None]);
-    same!(rt; runs_within(&row, 9, 3, 1), [None, None]);
-    same!(rt; runs_within(&row, 9, 3, 0), [Some(9), Some(9)]);
-    same!(rt; runs_within(&row, 24, 30, 0), [Some(24), Some(24)]);
-    same!(rt; runs_within(&row, 25, 30, 0), [None, None]);
+    let cases = [
+        (20, 40, 4, [Some(20), None]),
+        (20, 40, 5, [None, None]),
+        (9, 3, 1, [None, None]),
+        (9, 3, 0, [Some(9), Some(9)]),
+        (24, 30, 0, [Some(24), Some(24)]),
+        (25, 30, 0, [None, None]),
+    ];
+    runs_within_are(&rt, &row, cases);
     let none: [u16; 0] = [];
-    same!(rt; runs_within(&none, 0, 9, 0), [Some(0), Some(0)]);
-    same!(rt; runs_within(&none, 0, 9, 1), [None, None]);
+    runs_within_are(
+        &rt,
+        &none,
+        [(0, 9, 0, [Some(0), Some(0)]), (0, 9, 1, [None, None])],
+    );
 }
 
 /// Sets the first run of `length` unset bits. Returns where the run begins, and the changed set.

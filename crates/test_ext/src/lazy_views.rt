@@ -277,19 +277,6 @@ fn a_complement(rt: HostRuntime) {
     same!(rt; ask_unset(&Whole, &0u8), (false, true));
 }
 
-// Reads a range, returns for two other ranges whether all bits are unset, and counts the set bits
-// of two more.
-fn read_ranges<B: Bits>(row: &B) -> (Read, [bool; 2], [u32; 2])
-    requires { ShapeFits B.Shape row.now }
-{
-    let unset = [row.within(2, 5).all_zeros(), row.within(1, 2).all_zeros()];
-    let counts = [
-        row.within(0, 16).count_ones(),
-        row.within(3, 3).count_ones(),
-    ];
-    (ask_within(&Reading, row, 5, 8), unset, counts)
-}
-
 // Makes a little-endian set. Counts the set bits of a range, and returns the first set bit of
 // another range.
 fn count_and_first_of_left<T: BitsOwned>(left: T) -> (u32, Option<u32>)
@@ -305,34 +292,26 @@ fn count_and_first_of_left<T: BitsOwned>(left: T) -> (u32, Option<u32>)
 fn a_range(rt: HostRuntime) {
     // Bits 1, 5, 6 and 8 are set.
     let row = [0b0110_0010u8, 1];
-    let inner = (16, 2, [Some(5), Some(6)]);
-    same!(rt; read_ranges(&row), (inner, [true, false], [4, 0]));
+    same!(rt; ask_within(&Reading, &row, 5, 8), (16, 2, [Some(5), Some(6)]));
+    same!(rt; ask_within(&Reading, &row, 0, 16), (16, 4, [Some(1), Some(8)]));
+    same!(rt; ask_within(&Reading, &row, 3, 3), (16, 0, [None, None]));
+    same!(rt; ask_within(&Whole, &row, 2, 5), (true, false));
+    same!(rt; ask_within(&Whole, &row, 1, 2), (false, false));
     same!(rt; ask_within(&Tested([6, 8]), &row, 5, 8), [true, false]);
     // In little-endian order, bits 0 and 8 are set.
     same!(rt; count_and_first_of_left([0x80u8, 0x80]), (1, Some(8)));
 }
 
-// Counts the set bits of a view below index 6.
+// Counts the set bits of a view below index 6, and returns where its first run of four set bits
+// begins.
 #[derive(Drop)]
-struct CountBelowSix;
+struct BelowSixAndRun;
 
-impl Question for CountBelowSix {
-    type Answer = u32;
+impl Question for BelowSixAndRun {
+    type Answer = (u32, Option<u32>);
 
-    fn ask<V: View>(&self, view: &V) -> u32 {
-        view.within(0, 6).count_ones()
-    }
-}
-
-// Returns where the first run of four set bits of a view begins.
-#[derive(Drop)]
-struct FirstRunOfFour;
-
-impl Question for FirstRunOfFour {
-    type Answer = Option<u32>;
-
-    fn ask<V: View>(&self, view: &V) -> Option<u32> {
-        view.first_one_run(4)
+    fn ask<V: View>(&self, view: &V) -> (u32, Option<u32>) {
+        (view.within(0, 6).count_ones(), view.first_one_run(4))
     }
 }
 
@@ -366,11 +345,11 @@ fn ask_alone_within<A: Bits, B: Bits, Q: Question>(
 fn views_of_views(rt: HostRuntime) {
     // `one` has the members 1, 5, 6 and 9, and `other` has 5, 6 and 7.
     let (one, other) = (0x0262u16, 0xE0u8);
-    same!(rt; ask_both(&CountBelowSix, &one, &other), 1);
+    same!(rt; ask_both(&BelowSixAndRun, &one, &other), (1, None));
     let (_, _, ends) = ask_alone_within(&Reading, &one, &other, 0, 9);
     same!(rt; ends[0], Some(1));
     same!(rt; ask_alone_within(&Whole, &one, &other, 5, 7), (true, false));
-    same!(rt; ask_unset(&FirstRunOfFour, &one), Some(10));
+    same!(rt; ask_unset(&BelowSixAndRun, &one), (4, Some(10)));
     same!(rt; ask_both(&FirstFromLeft, &one, &other), [Some(9)]);
 }
 

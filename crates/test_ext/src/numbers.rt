@@ -4,7 +4,8 @@
 ghost use Rattle.std.specs.Prelude.{IsTrue};
 ghost use Rattle.bittle.specs.Values.{ShapeFits};
 
-use crate::checks::{holds, same};
+use crate::calls::{Change, change_in};
+use crate::checks::{Compared, holds, same};
 use crate::random::{draw, draw_row, flags_of};
 use bittle::prelude::*;
 use bittle::{BigEndian, BitsOwned, Endian, LittleEndian, Set, Shape};
@@ -20,8 +21,8 @@ fn loaded<B: Bits>(set: &B, first: u32, count: u32) -> u64
 
 // Returns the set with a number stored in a range, or unchanged if `store` does not allow the
 // range.
-fn stored<B: BitsOwned>(set: B, first: u32, count: u32, value: u64) -> B
-    requires { IsTrue B.indexable }
+fn stored<B: BitsMut>(set: B, first: u32, count: u32, value: u64) -> B
+    requires { ShapeFits B.Shape set }
 {
     let mut now = set;
     let capacity = now.bits_capacity();
@@ -45,21 +46,53 @@ fn stored_in<B: BitsOwned, E: Endian>(bits: B, first: u32, count: u32, value: u6
     stored(Set::<B, E>::new_in(bits), first, count, value).into_bits()
 }
 
+// Checks the numbers that are read from some ranges. Each case is the first index of a range, how
+// many bits it has, and the number.
+fn loads<B: Bits, const N: usize>(rt: &impl Abort, set: &B, cases: [(u32, u32, u64); N])
+    requires { ShapeFits B.Shape set.now }
+{
+    for k in 0..N {
+        let (first, count, number) = cases[k];
+        same!(*rt; (first, count, loaded(set, first, count)), (first, count, number));
+    }
+}
+
 #[test]
 fn a_row(rt: HostRuntime) {
     // The row has the bits of 0x1234, the lowest byte first.
-    let row = [0x34u8, 0x12];
-    same!(rt; (row.load(0, 16), row.load(0, 8), row.load(4, 8)), (0x1234, 0x34, 0x23));
-    same!(rt; (row.load(2, 3), row.load(5, 0), row.load(12, 64)), (0b101, 0, 1));
-    same!(rt; (row.load(16, 8), row.load(u32::MAX, 64)), (0, 0));
+    let cases = [
+        (0, 16, 0x1234),
+        (0, 8, 0x34),
+        (4, 8, 0x23),
+        (2, 3, 0b101),
+        (5, 0, 0),
+        (12, 64, 1),
+        (16, 8, 0),
+        (u32::MAX, 64, 0),
+    ];
+    loads(&rt, &[0x34u8, 0x12], cases);
+}
+
+// Checks the set after a number is stored in a range.
+fn stores<B: BitsMut + Compared>(
+    rt: &impl Abort,
+    set: B,
+    first: u32,
+    count: u32,
+    value: u64,
+    expected: B,
+)
+    requires { ShapeFits B.Shape set }
+{
+    same!(*rt; stored(set, first, count, value), expected);
 }
 
 #[test]
 fn a_row_that_is_written(rt: HostRuntime) {
-    same!(rt; stored([0u8, 0], 4, 8, 0x123), [0x30, 0x02]);
-    same!(rt; stored([0xFFu8, 0xFF], 6, 4, 0b0110), [0xBF, 0xFD]);
-    same!(rt; stored([0xFFu8, 0xFF], 3, 0, 9), [0xFF, 0xFF]);
-    same!(rt; stored([0u8; 2], 0, 16, u64::MAX), [0xFF, 0xFF]);
+    stores(&rt, [0u8, 0], 4, 8, 0x123, [0x30, 0x02]);
+    stores(&rt, [0xFFu8, 0xFF], 6, 4, 0b0110, [0xBF, 0xFD]);
+    stores(&rt, [0xFFu8, 0xFF], 3, 0, 9, [0xFF, 0xFF]);
+    stores(&rt, [0u8; 2], 0, 16, u64::MAX, [0xFF, 0xFF]);
 }
 
 #[test]
@@ -74,10 +107,15 @@ fn a_row_from_the_left(rt: HostRuntime) {
 
 #[test]
 fn words(rt: HostRuntime) {
-    same!(rt; (i8::MIN.load(6, 2), (-1i64).load(1, 64)), (0b10, u64::MAX / 2));
-    same!(rt; 0x1_2345_6789_ABCD_EF01u128.load(4, 64), 0x1234_5678_9ABC_DEF0);
-    same!(rt; stored(0u128, 60, 8, 0xA5), 0xA5 << 60);
-    same!(rt; stored(-1i32, 28, 4, 0), 0x0FFF_FFFF);
+    loads(&rt, &i8::MIN, [(6, 2, 0b10)]);
+    loads(&rt, &-1i64, [(1, 64, u64::MAX / 2)]);
+    loads(
+        &rt,
+        &0x1_2345_6789_ABCD_EF01u128,
+        [(4, 64, 0x1234_5678_9ABC_DEF0)],
+    );
+    stores(&rt, 0u128, 60, 8, 0xA5, 0xA5 << 60);
+    stores(&rt, -1i32, 28, 4, 0, 0x0FFF_FFFF);
 }
 
 // Reads a range as a number, bit by bit.
@@ -189,32 +227,43 @@ fn rows_agree_with_a_loop(rt: HostRuntime) {
     agree_from_left(&rt, 16, [0xC001u16, 0x1234, 0xF08D]);
 }
 
-// Writes a number to bits 4 to 11 of a set, in little-endian order. Then reads the first 64 bits as
-// a number, in the same order.
-fn through_a_view<B: BitsMut>(set: &mut B, value: u64) -> u64
-    requires { ShapeFits B.Shape set.old }
-{
-    if 12 <= set.bits_capacity() {
-        set.in_order_mut::<LittleEndian>().store(4, 8, value);
+// Writes a number to bits 4 to 11 of a set, if it has them. The answer is the number that is then
+// read from the first 64 bits.
+#[derive(Drop)]
+struct StoreEight(u64);
+
+impl Change for StoreEight {
+    type Answer = u64;
+
+    fn change<B: BitsMut>(&self, set: &mut B) -> u64 {
+        if 12 <= set.bits_capacity() {
+            set.store(4, 8, self.0);
+        }
+        set.load(0, 64)
     }
-    set.in_order::<LittleEndian>().load(0, 64)
 }
 
 #[test]
 fn slices_and_views(rt: HostRuntime) {
     let mut words = [0u8; 4];
     let mut lent = Set::from_mut(words.as_mut_slice());
-    same!(rt; through_a_view(&mut lent, 0b1000_0011), 0b1000_0011_0000);
+    let read = change_in::<_, LittleEndian, _>(&StoreEight(0b1000_0011), &mut lent);
+    same!(rt; read, 0b1000_0011_0000);
     same!(rt; words, [0b0000_1100, 0b0001_0000, 0, 0]);
+    loads(
+        &rt,
+        &words.in_order::<LittleEndian>(),
+        [(0, 64, 0b1000_0011_0000)],
+    );
     let part = Set::from_ref(&words[..2]);
-    same!(rt; (loaded(&part, 2, 2), loaded(&part, 10, 64)), (0b11, 0b100));
+    loads(&rt, &part, [(2, 2, 0b11), (10, 64, 0b100)]);
 }
 
 #[test]
 fn capacity_0(rt: HostRuntime) {
     let none: [u32; 0] = [];
     agree(&rt, 32, none);
-    same!(rt; (none.load(0, 64), none.load(u32::MAX, 1)), (0, 0));
+    loads(&rt, &none, [(0, 64, 0), (u32::MAX, 1, 0)]);
     holds!(rt; stored(none, 0, 0, u64::MAX).all_zeros());
 }
 

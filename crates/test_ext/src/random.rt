@@ -6,7 +6,8 @@ ghost use Rattle.bittle_ext.specs.Views.{rounded_up};
 ghost use Rattle.bittle.specs.Values.{ShapeFits};
 
 use crate::calls::{
-    BACK, FRONT, combination, extend_by_set, one_runs, set_of, zero_runs, zeros_in_range,
+    BACK, FRONT, combination, extend_by_set, one_runs, ones_in_range, set_of, zero_runs,
+    zeros_in_range,
 };
 use crate::checks::same;
 use crate::rotations::moved;
@@ -171,29 +172,19 @@ fn drawn_combinations_agree_with_plain_loops(rt: HostRuntime) {
     }
 }
 
-// Makes the set of the set bits of a range of a row, which an iterator yields from its back.
-fn ones_from_back<A: BitsOwned, B: Bits>(row: &B, from: u32, to: u32) -> A
-    requires indexable { IsTrue A.indexable }
-    requires fits { ShapeFits B.Shape row.now }
-{
-    let mut made = A::zeros();
-    made.extend(row.iter_ones_in_range(from, to).rev());
-    made
-}
-
 // Makes the set of the unset bits of a range, taken from both ends of an iterator in turn, or else
 // of the set bits, taken from the back.
 fn walked_range<B: BitsOwned>(zeros: bool, row: &B, from: u32, to: u32) -> B
     requires { IsTrue B.indexable }
 {
+    let mut turns = [BACK; 25];
     if zeros {
-        let mut turns = [FRONT; 25];
-        for k in 0..12usize {
-            turns[2 * k + 1] = BACK;
+        for k in 0..13usize {
+            turns[2 * k] = FRONT;
         }
         set_of(zeros_in_range(row, from, to, turns))
     } else {
-        ones_from_back(row, from, to)
+        set_of(ones_in_range(row, from, to, turns))
     }
 }
 

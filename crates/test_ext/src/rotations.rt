@@ -86,22 +86,26 @@ fn a_row_from_the_left(rt: HostRuntime) {
     same!(rt; (rows[2], rows[3]), ([0x80, 0x40, 0], [0, 0x40, 0x80]));
 }
 
-// Calls `moved_each_way` on a pair of sets. The prover needs less time for a generic `[T; 2]` than
-// for `[[u16; 2]; 2]`.
-fn pairs_moved_each_way<T: BitsOwned>(pair: [T; 2], by: [u32; 4]) -> [[T; 2]; 4]
+// Compares the calls on a pair of sets with the loop, and returns what `moved_each_way` returns.
+// The prover needs less time for a generic `[T; 2]` than for `[[u16; 2]; 2]`.
+fn agree_pair<T: BitsOwned>(rt: &impl Abort, width: u32, pair: [T; 2], by: [u32; 4]) -> [[T; 2]; 4]
     requires { IsTrue ⟦<[T; 2] as Shape>⟧.indexable }
 {
+    agree(rt, width, pair);
     moved_each_way(pair, by)
 }
 
 #[test]
 fn nested_rows(rt: HostRuntime) {
     // Bits 0 and 63 are set.
-    let rows = pairs_moved_each_way([[1u16, 0], [0, 0x8000]], [33, 17, 48, 1]);
+    let rows = agree_pair(&rt, 16, [[1u16, 0], [0, 0x8000]], [33, 17, 48, 1]);
     same!(rt; (rows[0][0], rows[0][1]), ([0, 0xC000], [0, 0]));
     same!(rt; (rows[1][0], rows[1][1]), ([0, 3], [0, 0]));
     same!(rt; (rows[2][0], rows[2][1]), ([0x8000, 0], [0, 0]));
     same!(rt; (rows[3][0], rows[3][1]), ([2, 0], [0, 0]));
+    let pair = [[0x8003u16, 0x1234], [0xFEDC, 0x4001]];
+    let rows = agree_pair(&rt, 16, pair, [0; 4]);
+    same!(rt; (rows[3][0], rows[3][1]), (pair[0], pair[1]));
 }
 
 #[test]
@@ -235,13 +239,6 @@ fn agree<B: BitsOwned>(rt: &impl Abort, width: u32, set: B)
     }
 }
 
-// Compares the calls on a pair of sets with the loop.
-fn agree_pair<T: BitsOwned>(rt: &impl Abort, width: u32, pair: [T; 2])
-    requires { IsTrue ⟦<[T; 2] as Shape>⟧.indexable }
-{
-    agree(rt, width, pair);
-}
-
 #[test]
 fn words_agree_with_a_loop(rt: HostRuntime) {
     agree(&rt, 8, 0b1001_0110u8);
@@ -254,7 +251,6 @@ fn words_agree_with_a_loop(rt: HostRuntime) {
 fn rows_agree_with_a_loop(rt: HostRuntime) {
     agree(&rt, 8, [0xC5u8, 0x3A, 0x91]);
     agree(&rt, 64, [0x8000_0000_0000_0003u64, 0xF0F0_1234_5678_9ABD]);
-    agree_pair(&rt, 16, [[0x8003u16, 0x1234], [0xFEDC, 0x4001]]);
 }
 
 #[test]

@@ -4,7 +4,7 @@
 ghost use Rattle.std.specs.Prelude.{◌≤◌, IsTrue};
 ghost use Rattle.bittle.specs.Values.{ShapeFits};
 
-use crate::calls::{BACK, Change, FRONT, change_in, ends, ones_in_range, taken};
+use crate::calls::{BACK, Change, FRONT, change_in, ones_in_range, taken};
 use crate::checks::same;
 use crate::random::draw;
 use bittle::{Bits, BitsMut, BitsOwned, Endian, LittleEndian, Set};
@@ -38,23 +38,17 @@ fn each_form_of_a_range_is_counted(rt: HostRuntime) {
     same!(rt; counted_in_each_form(&WORD), ([2, 3, 1, 2, 2, 3, 2], [2, 2]));
 }
 
-// Counts the set or the unset bits of ranges that reach past a capacity of 8.
-fn counted_past<B: Bits>(row: &B) -> [u32; 4]
+// Counts the set or the unset bits of four ranges that reach past a capacity of 8. Then searches
+// five such ranges, and returns whether two more have a set bit.
+fn read_past<B: Bits>(row: &B) -> ([u32; 4], [Option<u32>; 5], [bool; 2])
     requires { ShapeFits B.Shape row.now }
 {
-    [
+    let counts = [
         row.count_ones_in_range(6, 900),
         row.count_zeros_in_range(6, 900),
         row.count_ones_in_span(..=u32::MAX),
         row.count_zeros_in_span(8..),
-    ]
-}
-
-// Searches five ranges that reach past a capacity of 8, and returns whether two more have a set
-// bit.
-fn searched_past<B: Bits>(row: &B) -> ([Option<u32>; 5], [bool; 2])
-    requires { ShapeFits B.Shape row.now }
-{
+    ];
     let ends = [
         row.first_one_in_range(2, 99),
         row.last_one_in_range(2, 99),
@@ -62,56 +56,45 @@ fn searched_past<B: Bits>(row: &B) -> ([Option<u32>; 5], [bool; 2])
         row.last_zero_in_range(8, 99),
         row.first_one_in_range(8, 99),
     ];
-    (ends, [row.any_in_range(7, 99), row.any_in_range(6, 99)])
+    let any = [row.any_in_range(7, 99), row.any_in_range(6, 99)];
+    (counts, ends, any)
 }
 
 #[test]
 fn a_range_that_reaches_past_the_capacity_ends_there(rt: HostRuntime) {
-    same!(rt; counted_past(&WORD), [1, 1, 3, 0]);
     let ends = [Some(5), Some(6), Some(7), None, None];
-    same!(rt; searched_past(&WORD), (ends, [false, true]));
+    same!(rt; read_past(&WORD), ([1, 1, 3, 0], ends, [false, true]));
 }
 
-// Counts the bits of a backward range, in three ways.
-fn counted_backwards<B: Bits>(row: &B) -> [u32; 3]
+// Counts the bits of a backward range in three ways, and searches it in three ways. Then returns
+// whether it has a set bit, whether all its bits are set, and whether all bits of another backward
+// range are set.
+fn read_backwards<B: Bits>(row: &B) -> ([u32; 3], [Option<u32>; 3], [bool; 3])
     requires { ShapeFits B.Shape row.now }
 {
-    [
+    let counts = [
         row.count_ones_in_range(7, 1),
         row.count_zeros_in_range(7, 1),
         row.within(7, 1).count_ones(),
-    ]
-}
-
-// Searches a backward range, in three ways.
-fn searched_backwards<B: Bits>(row: &B) -> [Option<u32>; 3]
-    requires { ShapeFits B.Shape row.now }
-{
+    ];
     let [item] = ones_in_range(row, 7, 1, [FRONT]);
-    [
+    let ends = [
         row.first_one_in_range(7, 1),
         row.last_zero_in_range(7, 1),
         item,
-    ]
-}
-
-// Returns whether a backward range has a set bit, whether all its bits are set, and whether all
-// bits of another backward range are set.
-fn questioned_backwards<B: Bits>(row: &B) -> [bool; 3]
-    requires { ShapeFits B.Shape row.now }
-{
-    [
+    ];
+    let answers = [
         row.any_in_range(7, 1),
         row.all_in_range(7, 1),
         row.all_in_range(99, 90),
-    ]
+    ];
+    (counts, ends, answers)
 }
 
 #[test]
 fn a_range_that_runs_backwards_is_empty(rt: HostRuntime) {
-    same!(rt; counted_backwards(&WORD), [0, 0, 0]);
-    same!(rt; searched_backwards(&WORD), [None, None, None]);
-    same!(rt; questioned_backwards(&WORD), [false, true, true]);
+    let answers = [false, true, true];
+    same!(rt; read_backwards(&WORD), ([0, 0, 0], [None, None, None], answers));
 }
 
 // Returns for nine ranges whether all bits are set. The capacity is 8. The first three ranges end
@@ -147,31 +130,32 @@ fn all_of_a_range_is_false_where_an_index_is_past_the_capacity(rt: HostRuntime) 
     same!(rt; all_of_each(&0xFFu8), (to_eight, to_eight, all));
 }
 
-// Searches four ranges, and returns the last set bit of a view of the range `2..`.
-fn searched<B: Bits>(row: &B) -> [Option<u32>; 5]
+// Returns the last set bit of a view of the range `2..`.
+fn last_of_view<B: Bits>(row: &B) -> Option<u32>
     requires { ShapeFits B.Shape row.now }
 {
-    [
+    row.within_span(2..).last_one()
+}
+
+// Searches four ranges, and returns the last set bit of a view of the range `2..`. Then counts the
+// set bits of a range, and returns whether another range has a set bit.
+fn searched<B: Bits>(row: &B) -> ([Option<u32>; 5], u32, bool)
+    requires { ShapeFits B.Shape row.now }
+{
+    let ends = [
         row.first_one_in_span(2..),
         row.last_one_in_span(..=5),
         row.first_zero_in_span(1..),
         row.last_zero_in_span(..6),
-        ends(&row.within_span(2..))[1],
-    ]
-}
-
-// Counts the set bits of a range, and returns whether another range has a set bit.
-fn counted_and_questioned<B: Bits>(row: &B) -> (u32, bool)
-    requires { ShapeFits B.Shape row.now }
-{
-    (row.count_ones_in_span(3..), row.any_in_span(3..6))
+        last_of_view(row),
+    ];
+    (ends, row.count_ones_in_span(3..), row.any_in_span(3..6))
 }
 
 #[test]
 fn searches_of_a_range_from_the_left(rt: HostRuntime) {
-    let set = Set::new_le(WORD);
-    same!(rt; searched(&set), [Some(2), Some(2), Some(3), Some(5), Some(6)]);
-    same!(rt; counted_and_questioned(&set), (1, false));
+    let ends = [Some(2), Some(2), Some(3), Some(5), Some(6)];
+    same!(rt; searched(&Set::new_le(WORD)), (ends, 1, false));
 }
 
 // Returns the set bits that an iterator yields over `2..700`, which reaches past the capacity.
@@ -215,8 +199,16 @@ impl Change for ClearFour {
     }
 }
 
-// Changes five ranges of a set, the last one in the order `E`. Returns the set after each change.
-fn after_each_range<B: BitsOwned, E: Endian>(mut row: B) -> [B; 5]
+// Clears the first four bits of a set in the order `E`.
+fn with_four_cleared<B: BitsOwned, E: Endian>(mut row: B) -> B
+    requires { IsTrue B.indexable }
+{
+    change_in::<B, E, _>(&ClearFour, &mut row);
+    row
+}
+
+// Changes four ranges of a set. Returns the set after each change.
+fn after_each_range<B: BitsOwned>(mut row: B) -> [B; 4]
     requires indexable { IsTrue B.indexable }
     requires long { 16 ≤ B.type_capacity }
 {
@@ -227,14 +219,13 @@ fn after_each_range<B: BitsOwned, E: Endian>(mut row: B) -> [B; 5]
     row.toggle_span(9..);
     let third = row;
     row.assign_span(..=8, true);
-    let fourth = row;
-    change_in::<B, E, _>(&ClearFour, &mut row);
-    [first, second, third, fourth, row]
+    [first, second, third, row]
 }
 
 #[test]
 fn ranges_are_changed(rt: HostRuntime) {
-    let [first, second, third, fourth, fifth] = after_each_range::<_, LittleEndian>([0u8; 2]);
+    let [first, second, third, fourth] = after_each_range([0u8; 2]);
+    let fifth = with_four_cleared::<_, LittleEndian>(fourth);
     same!(rt; (first, second, third), ([0xC0, 0x07], [0x80, 0x07], [0x80, 0xF9]));
     same!(rt; (fourth, fifth), ([0xFF, 0xF9], [0x0F, 0xF9]));
 }
@@ -266,7 +257,9 @@ fn sets_are_made_of_ranges(rt: HostRuntime) {
 }
 
 // Counts bits in two ranges of a set of capacity 0, searches two ranges, and iterates over one.
-fn read_nothing<B: Bits>(none: &B) -> ([u32; 2], [Option<u32>; 3])
+// Then returns whether all bits of the set are set, whether any bit is set, and whether all bits of
+// a range past the capacity are set.
+fn read_nothing<B: Bits>(none: &B) -> ([u32; 2], [Option<u32>; 3], [bool; 3])
     requires { ShapeFits B.Shape none.now }
 {
     let counts = [none.count_ones_in_range(0, 9), none.count_zeros_in_span(..)];
@@ -276,19 +269,12 @@ fn read_nothing<B: Bits>(none: &B) -> ([u32; 2], [Option<u32>; 3])
         none.last_zero_in_span(3..),
         item,
     ];
-    (counts, items)
-}
-
-// Returns whether all bits of a set of capacity 0 are set, whether any bit is set, and whether all
-// bits of a range past the capacity are set.
-fn question_nothing<B: Bits>(none: &B) -> [bool; 3]
-    requires { ShapeFits B.Shape none.now }
-{
-    [
+    let answers = [
         none.all_in_span(..),
         none.any_in_span(..),
         none.all_in_range(0, 1),
-    ]
+    ];
+    (counts, items, answers)
 }
 
 // Calls `set_span`, `toggle_span` and `with_span` on a set of capacity 0, and returns the result.
@@ -303,8 +289,8 @@ fn change_nothing<B: BitsOwned>(mut none: B) -> B
 #[test]
 fn ranges_of_no_bits(rt: HostRuntime) {
     let none: [u8; 0] = [];
-    same!(rt; read_nothing(&none), ([0, 0], [None, None, None]));
-    same!(rt; question_nothing(&none), [true, false, false]);
+    let answers = [true, false, false];
+    same!(rt; read_nothing(&none), ([0, 0], [None, None, None], answers));
     same!(rt; change_nothing(none), []);
 }
 
@@ -313,8 +299,9 @@ fn ranges_of_no_bits(rt: HostRuntime) {
 type Answers = ((u32, u32), [Option<u32>; 4], (bool, bool));
 
 // Makes each of the eight calls on a range of a set.
-fn answers<B: Bits>(row: &B, range: (Bound<u32>, Bound<u32>)) -> Answers
-    requires { ShapeFits B.Shape row.now }
+fn answers<B: Bits, R: RangeBounds<u32> + Copy>(row: &B, range: R) -> Answers
+    requires fits { ShapeFits B.Shape row.now }
+    requires known { R.has_bounds range }
 {
     let counts = (
         row.count_ones_in_span(range),

@@ -5,7 +5,7 @@ ghost use Rattle.bittle.specs.Values.{ShapeFits};
 
 use crate::checks::{holds, same};
 use bittle::prelude::*;
-use bittle::{LittleEndian, Set};
+use bittle::{LittleEndian, Set, Shape};
 use bittle_ext::prelude::*;
 use std::alloc::{AllocError, Global};
 use std::fmt;
@@ -34,6 +34,19 @@ fn left_reads<T: BitsOwned>(
     reads(rt, alloc, &Set::new_le(left), text)
 }
 
+// Checks the binary text of a pair of sets. The prover needs less time for a generic `[T; 2]` than
+// for `[[u8; 1]; 2]`.
+fn pair_reads<T: BitsOwned>(
+    rt: &impl Abort,
+    alloc: Global,
+    pair: [T; 2],
+    text: &str,
+) -> Result<(), AllocError>
+    requires { IsTrue ⟦<[T; 2] as Shape>⟧.indexable }
+{
+    reads(rt, alloc, &pair, text)
+}
+
 #[test]
 fn a_word_is_printed_as_its_number(rt: HostRuntime) -> Result<(), Fail> {
     reads(&rt, rt.alloc(), &0b0010_0110u8, "00100110")?;
@@ -58,7 +71,7 @@ fn the_greatest_index_of_the_order_comes_first(rt: HostRuntime) -> Result<(), Fa
 #[test]
 fn rows_and_views(rt: HostRuntime) -> Result<(), Fail> {
     reads(&rt, rt.alloc(), &[0x05u8, 0x80], "1000000000000101")?;
-    reads(&rt, rt.alloc(), &[[0x01u8], [0x0F]], "0000111100000001")?;
+    pair_reads(&rt, rt.alloc(), [[0x01u8], [0x0F]], "0000111100000001")?;
     reads(&rt, rt.alloc(), &0x0Fu8.minus(&0x05u8), "00001010")?;
     Ok(())
 }

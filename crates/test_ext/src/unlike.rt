@@ -7,8 +7,7 @@ ghost use Rattle.bittle_ext.specs.Views.{rounded_up};
 ghost use Rattle.bittle.specs.Values.{ShapeFits};
 
 use crate::calls::{
-    BACK, FRONT, Question, ask_both, combination, conjunction, difference, extend_from_back,
-    set_of, symmetric_difference, union, union_in,
+    ALONE, BACK, COMMON, FRONT, UNION, UNLIKE, combination, combines, set_of, union_in,
 };
 use crate::checks::same;
 use crate::random::{combined, draw};
@@ -20,12 +19,18 @@ use std::process::Abort;
 fn a_byte_and_a_wider_word(rt: HostRuntime) {
     // `byte` has the members 0 and 1, and `word` has 1, 2 and 8.
     let (byte, word) = (0b0011u8, 0x0106u16);
-    let either = union(&byte, &word, [FRONT; 5]);
-    same!(rt; either, [Some(0), Some(1), Some(2), Some(8), None]);
-    same!(rt; conjunction(&byte, &word, [FRONT; 2]), [Some(1), None]);
-    same!(rt; difference(&byte, &word, [BACK; 2]), [Some(0), None]);
-    let one = symmetric_difference(&byte, &word, [FRONT; 4]);
-    same!(rt; one, [Some(0), Some(2), Some(8), None]);
+    let expected = [Some(0), Some(1), Some(2), Some(8), None];
+    combines(&rt, UNION, &byte, &word, [FRONT; 5], expected);
+    combines(&rt, COMMON, &byte, &word, [FRONT; 2], [Some(1), None]);
+    combines(&rt, ALONE, &byte, &word, [BACK; 2], [Some(0), None]);
+    combines(
+        &rt,
+        UNLIKE,
+        &byte,
+        &word,
+        [FRONT; 4],
+        [Some(0), Some(2), Some(8), None],
+    );
 }
 
 #[test]
@@ -33,10 +38,17 @@ fn a_byte_and_a_row_of_long_words_from_both_ends(rt: HostRuntime) {
     // `byte` has the members 0 and 7, and `row` has 1, 7, 8 and 64.
     let (byte, row) = (0x81u8, [0x0182u64, 1]);
     let turns = [FRONT, BACK, BACK, FRONT, FRONT, FRONT, BACK];
-    let either = union(&byte, &row, turns);
-    same!(rt; either, [Some(0), Some(64), Some(8), Some(1), Some(7), None, None]);
-    let alone = difference(&row, &byte, [BACK, FRONT, FRONT, FRONT, BACK]);
-    same!(rt; alone, [Some(64), Some(1), Some(8), None, None]);
+    let expected = [Some(0), Some(64), Some(8), Some(1), Some(7), None, None];
+    combines(&rt, UNION, &byte, &row, turns, expected);
+    let expected = [Some(64), Some(1), Some(8), None, None];
+    combines(
+        &rt,
+        ALONE,
+        &row,
+        &byte,
+        [BACK, FRONT, FRONT, FRONT, BACK],
+        expected,
+    );
 }
 
 #[test]
@@ -44,11 +56,32 @@ fn two_rows_each_in_its_own_order(rt: HostRuntime) {
     // `row` has the members 0, 15 and 33, and the little-endian `set` has 0, 33 and 63.
     let row = [0x8001u16, 0, 2];
     let set: Set<[u32; 2], LittleEndian> = Set::new_le([0x8000_0000, 0x4000_0001]);
-    let either = union(&row, &set, [BACK, FRONT, BACK, FRONT, FRONT]);
-    same!(rt; either, [Some(63), Some(0), Some(33), Some(15), None]);
-    same!(rt; conjunction(&set, &row, [FRONT, BACK, FRONT]), [Some(0), Some(33), None]);
-    same!(rt; difference(&row, &set, [FRONT; 2]), [Some(15), None]);
-    same!(rt; symmetric_difference(&set, &row, [BACK; 3]), [Some(63), Some(15), None]);
+    let expected = [Some(63), Some(0), Some(33), Some(15), None];
+    combines(
+        &rt,
+        UNION,
+        &row,
+        &set,
+        [BACK, FRONT, BACK, FRONT, FRONT],
+        expected,
+    );
+    combines(
+        &rt,
+        COMMON,
+        &set,
+        &row,
+        [FRONT, BACK, FRONT],
+        [Some(0), Some(33), None],
+    );
+    combines(&rt, ALONE, &row, &set, [FRONT; 2], [Some(15), None]);
+    combines(
+        &rt,
+        UNLIKE,
+        &set,
+        &row,
+        [BACK; 3],
+        [Some(63), Some(15), None],
+    );
 }
 
 #[test]
@@ -67,32 +100,25 @@ fn two_widths_from_the_left(rt: HostRuntime) {
 fn a_capacity_of_no_whole_words_of_the_other(rt: HostRuntime) {
     // `word` has the member 63, and `bytes`, whose capacity is 72, has 8 and 71.
     let (word, bytes) = (0x8000_0000_0000_0000u64, [0u8, 1, 0, 0, 0, 0, 0, 0, 0x80]);
-    let either = union(&word, &bytes, [BACK, BACK, BACK, FRONT]);
-    same!(rt; either, [Some(71), Some(63), Some(8), None]);
-    same!(rt; conjunction(&bytes, &word, [FRONT, BACK]), [None, None]);
+    let expected = [Some(71), Some(63), Some(8), None];
+    combines(
+        &rt,
+        UNION,
+        &word,
+        &bytes,
+        [BACK, BACK, BACK, FRONT],
+        expected,
+    );
+    combines(&rt, COMMON, &bytes, &word, [FRONT, BACK], [None, None]);
 }
 
 #[test]
 fn capacity_0(rt: HostRuntime) {
     let (none, wide): ([u8; 0], [u64; 0]) = ([], []);
-    same!(rt; union(&none, &wide, [FRONT]), [None]);
-    same!(rt; union(&none, &0x8000u16, [FRONT]), [Some(15)]);
-    same!(rt; symmetric_difference(&0x8000u16, &none, [BACK]), [Some(15)]);
-    same!(rt; difference(&wide, &0xFFu8, [BACK]), [None]);
-}
-
-// Makes the set of the indexes that an iterator over a view yields from its back.
-#[derive(Drop)]
-struct FromBack;
-
-impl Question for FromBack {
-    type Answer = [u64; 2];
-
-    fn ask<V: View>(&self, view: &V) -> [u64; 2] {
-        let mut made = [0u64; 2];
-        extend_from_back(&mut made, view);
-        made
-    }
+    combines(&rt, UNION, &none, &wide, [FRONT], [None]);
+    combines(&rt, UNION, &none, &0x8000u16, [FRONT], [Some(15)]);
+    combines(&rt, UNLIKE, &0x8000u16, &none, [BACK], [Some(15)]);
+    combines(&rt, ALONE, &wide, &0xFFu8, [BACK], [None]);
 }
 
 // Makes the set of the indexes that an iterator over a combination of two sets yields. The items of
@@ -103,13 +129,10 @@ fn walked<A: Bits, B: Bits>(kind: u32, one: &A, other: &B) -> [u64; 2]
     requires rounded { rounded_up (max (A.big one.now).capacity (B.big other.now).capacity) A.width
         < 4294967295 }
 {
-    if kind == 1 {
-        return ask_both(&FromBack, one, other);
-    }
-    let mut turns = [kind != 3; 129];
-    if kind == 0 {
-        for k in 0..64usize {
-            turns[2 * k + 1] = BACK;
+    let mut turns = [if kind == ALONE { FRONT } else { BACK }; 129];
+    if kind == UNION {
+        for k in 0..65usize {
+            turns[2 * k] = FRONT;
         }
     }
     set_of(combination(kind, one, other, turns))

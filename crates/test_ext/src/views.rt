@@ -10,20 +10,30 @@ use bittle::prelude::*;
 use bittle::{BigEndian, Bits, BitsMut, Endian, LittleEndian, Set};
 use bittle_ext::prelude::*;
 
-/// Reads a set through a view in the order `E`. Returns the capacity, how many bits are set,
-/// whether bit 0 is set, and the first and the last set bit.
-fn read<B: Bits, E: Endian>(bits: &B) -> (u32, u32, bool, [Option<u32>; 2])
+/// What `read` returns: the capacity, how many bits are set, whether bit 0 is set, and the first
+/// and the last set bit.
+type Read = (u32, u32, bool, [Option<u32>; 2]);
+
+/// Reads a set, as a `Read`.
+fn parts<B: Bits>(bits: &B) -> Read
     requires fits { ShapeFits B.Shape bits.now }
     requires indexable { IsTrue B.indexable }
 {
-    let view = bits.in_order::<E>();
-    let ends = [view.first_one(), view.last_one()];
+    let ends = [bits.first_one(), bits.last_one()];
     (
-        view.bits_capacity(),
-        view.count_ones(),
-        view.test_bit(0),
+        bits.bits_capacity(),
+        bits.count_ones(),
+        bits.test_bit(0),
         ends,
     )
+}
+
+/// Reads a set through a view in the order `E`.
+fn read<B: Bits, E: Endian>(bits: &B) -> Read
+    requires fits { ShapeFits B.Shape bits.now }
+    requires indexable { IsTrue B.indexable }
+{
+    parts(&bits.in_order::<E>())
 }
 
 #[test]
@@ -172,6 +182,13 @@ fn taken<B: BitsMut, E: Endian>(bits: &mut B) -> [Option<u32>; 2]
     change_in::<B, E, _>(&Whole, bits)
 }
 
+/// Clears each bit through a view in the order `E`.
+fn clear<B: BitsMut, E: Endian>(bits: &mut B)
+    requires { ShapeFits B.Shape bits.old }
+{
+    bits.in_order_mut::<E>().clear_bits();
+}
+
 #[test]
 fn a_view_is_changed_as_a_whole(rt: HostRuntime) {
     // In little-endian order, bits 3, 8 and 15 are set.
@@ -179,7 +196,7 @@ fn a_view_is_changed_as_a_whole(rt: HostRuntime) {
     same!(rt; taken::<_, LittleEndian>(&mut row), [Some(3), Some(15)]);
     same!(rt; row, [0x9F, 0x7F]);
     let mut word = 0b0110_0000u8;
-    word.in_order_mut::<LittleEndian>().clear_bits();
+    clear::<_, LittleEndian>(&mut word);
     same!(rt; word, 0);
 }
 

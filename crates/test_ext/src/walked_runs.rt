@@ -5,36 +5,41 @@ ghost use Rattle.bittle.specs.Values.{ShapeFits};
 
 use crate::calls::{BACK, FRONT, one_runs, runs_taken, zero_runs};
 use crate::checks::same;
-use bittle::{Bits, BitsOwned, LittleEndian, Set};
+use bittle::{Bits, BitsOwned, LittleEndian, Set, Shape};
 use bittle_ext::prelude::*;
 
 #[test]
-fn the_one_runs_of_a_word(rt: HostRuntime) {
-    // Bits 1, 5 and 6 are set. In little-endian order, these are bits 6, 2 and 1.
+fn the_runs_of_a_word(rt: HostRuntime) {
+    // Bits 1, 5 and 6 are set, and all others are unset.
     let word = 0b0110_0010u8;
     let ones = one_runs(&word, [FRONT, FRONT, FRONT, FRONT, BACK]);
     same!(rt; ones, [Some((1, 2)), Some((5, 7)), None, None, None]);
-    let left = one_runs(&word.in_order::<LittleEndian>(), [BACK, BACK, BACK, FRONT]);
-    same!(rt; left, [Some((6, 7)), Some((1, 3)), None, None]);
-}
-
-#[test]
-fn the_zero_runs_of_a_word(rt: HostRuntime) {
-    // Bits 0, 2, 3, 4 and 7 are unset. In little-endian order, these are bits 7, 5, 4, 3 and 0.
-    let word = 0b0110_0010u8;
     let zeros = zero_runs(&word, [FRONT, BACK, FRONT, BACK, FRONT]);
     same!(rt; zeros, [Some((0, 1)), Some((7, 8)), Some((2, 5)), None, None]);
-    let left = zero_runs(&word.in_order::<LittleEndian>(), [FRONT; 3]);
+    // In little-endian order, bits 1, 2 and 6 are set, and all others are unset.
+    let view = word.in_order::<LittleEndian>();
+    let left = one_runs(&view, [BACK, BACK, BACK, FRONT]);
+    same!(rt; left, [Some((6, 7)), Some((1, 3)), None, None]);
+    let left = zero_runs(&view, [FRONT; 3]);
     same!(rt; left, [Some((0, 1)), Some((3, 6)), Some((7, 8))]);
+}
+
+/// Returns runs of set bits and runs of unset bits of a pair of sets. The prover needs less time
+/// for a generic `[T; 2]` than for `[[u8; 2]; 2]`.
+fn runs_of_pair<T: BitsOwned>(pair: [T; 2]) -> ([Option<(u32, u32)>; 4], [Option<(u32, u32)>; 3])
+    requires { IsTrue ⟦<[T; 2] as Shape>⟧.indexable }
+{
+    (
+        one_runs(&pair, [BACK, BACK, BACK, FRONT]),
+        zero_runs(&pair, [FRONT, BACK, FRONT]),
+    )
 }
 
 #[test]
 fn runs_across_the_words_of_nested_rows(rt: HostRuntime) {
     // Bits 7 to 16 and 31 are set.
-    let rows = [[0x80u8, 0xFF], [0x01, 0x80]];
-    let ones = one_runs(&rows, [BACK, BACK, BACK, FRONT]);
+    let (ones, zeros) = runs_of_pair([[0x80u8, 0xFF], [0x01, 0x80]]);
     same!(rt; ones, [Some((31, 32)), Some((7, 17)), None, None]);
-    let zeros = zero_runs(&rows, [FRONT, BACK, FRONT]);
     same!(rt; zeros, [Some((0, 7)), Some((17, 31)), None]);
 }
 
