@@ -205,7 +205,7 @@ fn capacity_0(rt: HostRuntime) {
     changes(&rt, UNION, none, &0xFFu8, (none, false));
 }
 
-// Adds `other` to a set that is read in little-endian order.
+// Adds the members of `other` to a set through a little-endian view of the set.
 fn add_from_left<A: BitsMut, B: Bits>(set: &mut A, other: &B) -> bool
     requires fits { ShapeFits A.Shape set.old }
     requires other_fits { ShapeFits B.Shape other.now }
@@ -213,7 +213,7 @@ fn add_from_left<A: BitsMut, B: Bits>(set: &mut A, other: &B) -> bool
     change(UNION, &mut set.in_order_mut::<LittleEndian>(), other)
 }
 
-// Adds the intersection of `one` and `other` to a set that is read in little-endian order.
+// Adds the common members of `one` and `other` to a set through a little-endian view of the set.
 fn add_common<A: BitsMut, B: Bits>(set: &mut A, one: &B, other: &B) -> bool
     requires fits { ShapeFits A.Shape set.old }
     requires one_fits { ShapeFits B.Shape one.now }
@@ -339,7 +339,7 @@ fn copies(rt: HostRuntime) {
     copies_to(&rt, 7u8, &none, 0);
 }
 
-// Makes a set of the type `A` that has the members of another set below its capacity.
+// Makes a set of the type `A` with those members of `other` that are below the new set's capacity.
 fn made_of<A: BitsOwned, B: Bits>(other: &B) -> A
     requires indexable { IsTrue A.indexable }
     requires other_fits { ShapeFits B.Shape other.now }
@@ -356,7 +356,7 @@ fn sets_of_other_types(rt: HostRuntime) {
     same!(rt; left.into_bits(), 0b0110_0000);
 }
 
-// Returns a set with every bit set.
+// Sets every bit of a set, and returns the set.
 fn filled<B: BitsMut>(set: B) -> B
     requires { ShapeFits B.Shape set }
 {
@@ -564,7 +564,7 @@ fn drawn_rotations_in_place_agree_with_plain_loops(rt: HostRuntime) {
     }
 }
 
-// Returns for each rank the unset bit that has this many unset bits below it.
+// For each rank, returns the index of the unset bit that has this many unset bits below it.
 fn selected_zeros<B: Bits, const N: usize>(set: &B, ranks: [u32; N]) -> [Option<u32>; N]
     requires { ShapeFits B.Shape set.now }
 {
@@ -586,8 +586,8 @@ fn zero_ranks<B: Bits, const N: usize>(set: &B, indexes: [u32; N]) -> [u32; N]
     answers
 }
 
-// Makes a little-endian set. Returns its unset bit of a rank, and how many bits below an index are
-// unset.
+// Makes a little-endian set. Returns the index of its unset bit with the rank `rank`, and how many
+// bits below `index` are unset.
 fn zeros_of_left<T: BitsOwned>(left: T, rank: u32, index: u32) -> ([Option<u32>; 1], [u32; 1])
     requires { IsTrue T.indexable }
 {

@@ -13,10 +13,10 @@ use bittle_ext::prelude::*;
 use std::ops::Range;
 use std::process::Abort;
 
-/// Says that an item is taken from the front.
+/// The value that says that an item is taken from the front.
 pub(crate) const FRONT: bool = true;
 
-/// Says that an item is taken from the back.
+/// The value that says that an item is taken from the back.
 pub(crate) const BACK: bool = false;
 
 /// Names the union of two sets, in a call that combines them.
@@ -43,7 +43,7 @@ fn item<W: DoubleEndedIterator>(walk: &mut W, at_front: bool) -> Option<W::Item>
     }
 }
 
-/// Takes items from an iterator, one from each of these ends in turn.
+/// Takes items from an iterator, one from each of `ends` in turn.
 pub(crate) fn taken<W: DoubleEndedIterator<Item = u32>, const N: usize>(
     walk: &mut W,
     ends: [bool; N],
@@ -58,8 +58,8 @@ pub(crate) fn taken<W: DoubleEndedIterator<Item = u32>, const N: usize>(
     items
 }
 
-/// Takes runs from an iterator, one from each of these ends in turn. Returns where each run begins
-/// and where it ends.
+/// Takes runs from an iterator, one from each of `ends` in turn. Returns where each run begins and
+/// where it ends.
 pub(crate) fn runs_taken<W: DoubleEndedIterator<Item = Range<u32>>, const N: usize>(
     walk: &mut W,
     ends: [bool; N],
@@ -145,8 +145,8 @@ pub(crate) fn zero_runs<B: Bits, const N: usize>(
     runs_taken(&mut bits.iter_zero_runs(), ends)
 }
 
-/// A question about a view. A function that makes a view takes the question as a parameter, so it
-/// is proved once and not again for each question.
+/// A question about a view. A function that makes a view takes the question as a parameter, so the
+/// function is proved once and not again for each question.
 pub(crate) trait Question {
     type Answer;
 
@@ -156,7 +156,8 @@ pub(crate) trait Question {
         requires indexable { IsTrue V.indexable };
 }
 
-/// Takes items from an iterator over the set bits of a view, one from each of these ends in turn.
+/// A question: the items of an iterator over the set bits of a view, one from each end that the
+/// array lists.
 #[derive(Drop)]
 pub(crate) struct Ones<const N: usize>(pub(crate) [bool; N]);
 
@@ -293,7 +294,8 @@ pub(crate) fn ends<B: Bits>(bits: &B) -> [Option<u32>; 4]
     ]
 }
 
-/// Counts the indexes that are in both of two sets, in the first alone, and in just one of them.
+/// Counts the common members of two sets, the members that only the first set has, and the members
+/// that just one of the two sets has.
 pub(crate) fn counts<A: Bits, B: Bits>(one: &A, other: &B) -> [u32; 3]
     requires one_fits { ShapeFits A.Shape one.now }
     requires other_fits { ShapeFits B.Shape other.now }
@@ -324,7 +326,7 @@ pub(crate) fn ranks<B: Bits, const N: usize>(bits: &B, indexes: [u32; N]) -> [u3
     answers
 }
 
-/// Returns the set bits that have these ranks.
+/// Returns for each rank the index of the set bit with this rank.
 pub(crate) fn selected<B: Bits, const N: usize>(bits: &B, ranks: [u32; N]) -> [Option<u32>; N]
     requires { ShapeFits B.Shape bits.now }
 {
@@ -342,7 +344,7 @@ pub(crate) fn ranks_in<B: Bits, E: Endian, const N: usize>(bits: &B, indexes: [u
     ranks(&bits.in_order::<E>(), indexes)
 }
 
-/// Returns the set bits that have these ranks, in the order `E`.
+/// Returns for each rank the index of the set bit with this rank, in the order `E`.
 pub(crate) fn selected_in<B: Bits, E: Endian, const N: usize>(
     bits: &B,
     ranks: [u32; N],
@@ -388,7 +390,7 @@ pub(crate) fn extend_by_set<B: BitsMut, C: Bits>(set: &mut B, other: &C)
 }
 
 /// A change of a set of any shape. A function that makes a mutable view takes the change as a
-/// parameter, so it is proved once and not again for each change.
+/// parameter, so the function is proved once and not again for each change.
 pub(crate) trait Change {
     type Answer;
 

@@ -64,8 +64,8 @@ const CLEAR: u32 = 3;
 
 const ASSIGN: u32 = 4;
 
-/// Changes one bit. The first number is the kind of change, such as `INSERT`, and the second is the
-/// index. The answer is what the call returns, or `true` if the call returns nothing.
+/// A change of one bit. The first number is the kind of change, such as `INSERT`, and the second is
+/// the index. The answer is what the call returns, or `true` if the call returns nothing.
 #[derive(Drop)]
 struct OneBit(u32, u32);
 
@@ -184,8 +184,8 @@ fn capacity_0_is_never_changed(rt: HostRuntime) {
     same!(rt; nothing_is_taken(none), [None; 3]);
 }
 
-/// Sets a range of a set, clears one, flips one, and assigns `true` and then `false` to two more.
-/// Returns the set after each of the five changes.
+/// Sets one range of a set, clears a second one, flips a third one, and assigns `true` and then
+/// `false` to two more. Returns the set after each of the five changes.
 fn after_each_range<B: BitsOwned>(mut row: B) -> [B; 5]
     requires indexable { IsTrue B.indexable }
     requires long { 24 ≤ B.type_capacity }
@@ -226,8 +226,8 @@ fn after_empty_and_whole_ranges<B: BitsOwned>(mut word: B) -> [B; 3]
     [first, second, word]
 }
 
-/// Assigns a value to a range of bits, from the first number on and below the second. If the set
-/// does not have the range, nothing changes.
+/// A change that assigns a value to a range of bits, from the first number on and below the second.
+/// If the range runs backwards or reaches past the capacity, nothing changes.
 #[derive(Drop)]
 struct AssignRange(u32, u32, bool);
 
@@ -290,7 +290,7 @@ fn popped<B: BitsOwned>(mut row: B) -> ([(Option<u32>, B); 3], [Option<u32>; 2])
     ([first, second, third], [row.pop_first(), row.pop_last()])
 }
 
-/// Takes out the first set bit and then the last.
+/// A change that takes out the first set bit and then the last. The answer is their indexes.
 #[derive(Drop)]
 struct Ends;
 
@@ -322,7 +322,7 @@ fn ends_are_taken_out(rt: HostRuntime) {
     same!(rt; left, ([Some(3), Some(15)], [0, 0x80]));
 }
 
-/// Sets the first unset bit. The answer is its index.
+/// A change that sets the first unset bit. The answer is the index of this bit.
 #[derive(Drop)]
 struct Slot;
 
@@ -357,7 +357,7 @@ fn free_slots_are_taken(rt: HostRuntime) {
     same!(rt; slot_taken(255u8), (None, 255));
 }
 
-/// Inserts a list of indexes.
+/// A change that inserts a list of indexes.
 #[derive(Drop)]
 struct List<const N: usize>([u32; N]);
 
@@ -379,7 +379,7 @@ fn with_lists<B: BitsOwned, E: Endian>(mut set: B) -> [B; 2]
     [first, set]
 }
 
-/// Inserts the indexes that an iterator over the set bits of a byte yields.
+/// A change that inserts the indexes that an iterator over the set bits of a byte yields.
 #[derive(Drop)]
 struct OnesOf(u8);
 

@@ -123,7 +123,8 @@ fn insertions_of_words(rt: HostRuntime) {
     same!(rt; removed(0b1001u8), ([Some(true), Some(false), None], 0b1000));
 }
 
-// Tries to insert indexes 8 and 24 and to set bit 23. The answer is what each call returns.
+// A change that tries to insert indexes 8 and 24 and to set bit 23. The answer is what each call
+// returns.
 #[derive(Drop)]
 struct Put;
 
@@ -135,7 +136,8 @@ impl Change for Put {
     }
 }
 
-// Tries to remove index 8 and to clear bits 23 and 31. The answer is what each call returns.
+// A change that tries to remove index 8 and to clear bits 23 and 31. The answer is what each call
+// returns.
 #[derive(Drop)]
 struct Take;
 

@@ -1,7 +1,7 @@
-//! Checks that the tests use. In a function with several checks, each of these is proved in a tenth
-//! of the time of an `assert_eq!`. A check that fails ends the test. The message names the test,
-//! and shows the checked expression and both values; of two tuples, it shows the first parts that
-//! differ.
+//! Checks that the tests use. In a function with several checks, each check is proved in a tenth of
+//! the time of an `assert_eq!`. A check that fails ends the test. The message names the test, and
+//! shows the checked expression. For `same!` it also shows both values, or, if these are tuples,
+//! only the first parts that differ.
 
 use std::fmt::Debug;
 use std::process::Abort;
@@ -35,7 +35,7 @@ pub(crate) trait Compared: Sized {
     fn compare(self, rt: &impl Abort, text: &str, right: Self);
 }
 
-// No macro writes these: the gate takes no impl that a macro of the repository writes.
+// These impls are written out, since the gate accepts no impl that a macro of the repository makes.
 impl Compared for bool {
     fn compare(self, rt: &impl Abort, text: &str, right: Self) {
         compare(rt, text, self, right)

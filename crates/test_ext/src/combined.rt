@@ -44,8 +44,8 @@ fn two_shapes_from_the_left(rt: HostRuntime) {
     same!(rt; either, [Some(8), Some(2), Some(1), Some(0), None]);
 }
 
-/// Takes an item from an iterator, and clones the iterator. Then takes two items from the source,
-/// four from the clone, and one more from the source.
+/// A question that takes an item from an iterator over a view, and clones the iterator. Then it
+/// takes two items from the source, four from the clone, and one more from the source.
 #[derive(Drop)]
 struct SourceAndClone;
 

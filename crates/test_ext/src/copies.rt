@@ -150,7 +150,7 @@ fn by_bits<A: BitsOwned, B: Bits, E: Endian, F: Endian>(
     made
 }
 
-// Compares `copy_range` and `copy_within` with the loop above, for one range.
+// Compares `copy_range` and `copy_within` with the loop of `by_bits`, for one range.
 fn agree_at<A: BitsOwned, B: BitsOwned, E: Endian, F: Endian>(
     rt: &impl Abort,
     set: A,
@@ -173,8 +173,8 @@ fn agree_at<A: BitsOwned, B: BitsOwned, E: Endian, F: Endian>(
     }
 }
 
-// Compares the calls with the loop, for ranges near the ends of words and of the set, in each pair
-// of bit orders.
+// Does the same as `agree_at` for ranges near the ends of words and of the set, in each pair of bit
+// orders.
 fn agree<A: BitsOwned, B: BitsOwned>(rt: &impl Abort, width: u32, set: A, other: B)
     requires indexable { IsTrue A.indexable }
     requires other_indexable { IsTrue B.indexable }
@@ -196,7 +196,7 @@ fn agree<A: BitsOwned, B: BitsOwned>(rt: &impl Abort, width: u32, set: A, other:
     }
 }
 
-// Compares the calls with the loop, for a set and a little-endian set.
+// Does the same as `agree`, with `other` in little-endian order.
 fn agree_with_left<A: BitsOwned, T: BitsOwned>(rt: &impl Abort, width: u32, set: A, other: T)
     requires indexable { IsTrue A.indexable }
     requires other_indexable { IsTrue T.indexable }
@@ -204,8 +204,8 @@ fn agree_with_left<A: BitsOwned, T: BitsOwned>(rt: &impl Abort, width: u32, set:
     agree(rt, width, set, Set::new_le(other));
 }
 
-// Compares the calls with the loop, for a pair of sets and a little-endian set. The prover needs
-// less time for a generic `[T; 2]` than for `[[u16; 2]; 2]`.
+// Does the same as `agree_with_left` for a pair of sets. The prover needs less time for a generic
+// `[T; 2]` than for `[[u16; 2]; 2]`.
 fn agree_pair<T: BitsOwned, U: BitsOwned>(rt: &impl Abort, width: u32, pair: [T; 2], other: U)
     requires indexable { IsTrue ⟦<[T; 2] as Shape>⟧.indexable }
     requires other_indexable { IsTrue U.indexable }

@@ -77,8 +77,8 @@ fn runs_of_four_words_and_of_more(rt: HostRuntime) {
     same!(rt; one_runs(&row, 0, [8, 9, 15, 16]), [Some(0), Some(49), Some(49), None]);
 }
 
-/// Returns where the first run of `length` set bits in a range begins, and where the first run of
-/// `length` unset bits begins.
+/// Searches in the range `from..to`. Returns where the first run of `length` set bits begins, and
+/// where the first run of `length` unset bits begins.
 fn runs_within<B: Bits>(set: &B, from: u32, to: u32, length: u32) -> [Option<u32>; 2]
     requires { ShapeFits B.Shape set.now }
 {
@@ -188,8 +188,8 @@ fn flags(row: &[u8; 8], from_left: bool) -> [bool; 64] {
     flags
 }
 
-/// Returns where the first run of `length` bits of a value begins, from an index on, by a loop over
-/// the bits.
+/// Searches from index `from` on, by a loop over the flags. Returns where the first run of `length`
+/// flags that equal `value` begins.
 pub(crate) fn plain_run(flags: &[bool; 64], value: bool, from: u32, length: u32) -> Option<u32> {
     if length == 0 {
         return if from <= 64 { Some(from) } else { None };
@@ -213,8 +213,8 @@ pub(crate) fn plain_run(flags: &[bool; 64], value: bool, from: u32, length: u32)
 /// The lengths of the runs that the tests of random rows search for.
 const LENGTHS: [u32; 11] = [0, 1, 2, 3, 5, 7, 8, 9, 16, 32, 33];
 
-/// Returns the bits of a range. The bits outside of it get the other value, so that no run of
-/// `value` is found there.
+/// Returns the flags, with every flag outside the range `from..to` replaced by the opposite of
+/// `value`, so that no run of `value` is found there.
 fn part_of(flags: &[bool; 64], value: bool, from: u32, to: u32) -> [bool; 64] {
     let mut part = *flags;
     for k in 0..64usize {
@@ -225,7 +225,7 @@ fn part_of(flags: &[bool; 64], value: bool, from: u32, to: u32) -> [bool; 64] {
     part
 }
 
-/// Compares the runs in a range of a set of 64 bits with those of the plain loop.
+/// Compares the runs in a range of a set of 64 bits with those that `plain_run` finds.
 fn runs_within_as_plain<B: Bits>(rt: &impl Abort, set: &B, flags: &[bool; 64], from: u32, to: u32)
     requires { ShapeFits B.Shape set.now }
 {
@@ -241,7 +241,8 @@ fn runs_within_as_plain<B: Bits>(rt: &impl Abort, set: &B, flags: &[bool; 64], f
     }
 }
 
-/// Compares the runs of a set of 64 bits, from an index on, with those of the plain loop.
+/// Compares the runs in a set of 64 bits, at or after index `from`, with those that `plain_run`
+/// finds.
 fn runs_as_plain<B: Bits>(rt: &impl Abort, set: &B, flags: &[bool; 64], from: u32)
     requires { ShapeFits B.Shape set.now }
 {
@@ -253,7 +254,7 @@ fn runs_as_plain<B: Bits>(rt: &impl Abort, set: &B, flags: &[bool; 64], from: u3
     }
 }
 
-/// Compares the runs from an index on, and the runs in a range, with those of the plain loop.
+/// Makes the comparisons of `runs_as_plain` and of `runs_within_as_plain`.
 fn all_runs_as_plain<B: Bits>(rt: &impl Abort, set: &B, flags: &[bool; 64], from: u32, to: u32)
     requires { ShapeFits B.Shape set.now }
 {
@@ -272,8 +273,8 @@ fn left_runs_as_plain<B: Bits>(rt: &impl Abort, set: &B, flags: &[bool; 64], fro
 fn drawn_rows_have_the_runs_of_plain_arrays(rt: HostRuntime) {
     let mut state = 1u32;
     for round in 0..300u32 {
-        // The bits change their value at three random places. In every second round, two single
-        // bits are flipped too.
+        // From index 0 on, the value of the bits changes at up to three random indexes. In every
+        // second round, two single bits are flipped too.
         let mut word = 0u64;
         for _ in 0..3u32 {
             word ^= u64::MAX << (draw(&mut state) % 64);

@@ -48,10 +48,11 @@ fn first(bits: &[bool; 64]) -> Option<u32> {
     None
 }
 
-// What `Reading` returns: the capacity, how many bits are set, and the first and the last set bit.
+// The answer to `Reading`: the capacity, how many bits are set, and the first and the last set bit.
 type Read = (u32, u32, [Option<u32>; 2]);
 
-// Reads the capacity and the set bits of a view, as a `Read`.
+// A question: the capacity of a view, how many of its bits are set, and the first and the last set
+// bit.
 #[derive(Drop)]
 struct Reading;
 
@@ -64,7 +65,7 @@ impl Question for Reading {
     }
 }
 
-// Returns the first set bit and the first unset bit of a view.
+// A question: the first set bit and the first unset bit of a view.
 #[derive(Drop)]
 struct Firsts;
 
@@ -76,7 +77,7 @@ impl Question for Firsts {
     }
 }
 
-// Returns whether all bits of a view are unset, and whether all are set.
+// A question: whether all bits of a view are unset, and whether all are set.
 #[derive(Drop)]
 struct Whole;
 
@@ -88,7 +89,7 @@ impl Question for Whole {
     }
 }
 
-// Tests two bits of a view.
+// A question: whether each of two bits of a view is set.
 #[derive(Drop)]
 struct Tested([u32; 2]);
 
@@ -100,7 +101,7 @@ impl Question for Tested {
     }
 }
 
-// Counts the items that an iterator over the set bits of a view yields.
+// A question: how many items an iterator over the set bits of a view yields.
 #[derive(Drop)]
 struct Walked;
 
@@ -234,8 +235,8 @@ fn rows_of_unlike_lengths(rt: HostRuntime) {
     same!(rt; ask_common_alone(&Whole, &row), (true, false));
 }
 
-// Returns whether the difference of `full` and `row` is empty, and its first member. Then returns
-// whether all bits of their intersection are set, and how many.
+// Returns whether the difference of `full` and `row` is empty, and the first member of this
+// difference. Then returns whether all bits of the intersection are set, and how many are set.
 fn compared<B: Bits>(full: &B, row: &B) -> (bool, Option<u32>, bool, u32)
     requires full_fits { ShapeFits B.Shape full.now }
     requires row_fits { ShapeFits B.Shape row.now }
@@ -247,8 +248,8 @@ fn compared<B: Bits>(full: &B, row: &B) -> (bool, Option<u32>, bool, u32)
 
 #[test]
 fn many_words_at_once(rt: HostRuntime) {
-    // `row` differs from `full` in just one byte. It is each of the eleven in turn: among the first
-    // four, the next four and the last three.
+    // `row` differs from `full` in just one byte. This byte is each of the eleven in turn: one of
+    // the first four, then one of the next four, and then one of the last three.
     let full = [255u8; 11];
     for place in 0..11u32 {
         let mut row = [255u8; 11];
@@ -315,7 +316,7 @@ impl Question for BelowSixAndRun {
     }
 }
 
-// Returns the first set bit that an iterator over a view yields in little-endian order.
+// A question: the first set bit that an iterator over a view yields in little-endian order.
 #[derive(Drop)]
 struct FirstFromLeft;
 
@@ -369,8 +370,8 @@ fn capacity_0_and_a_slice(rt: HostRuntime) {
     same!(rt; ask_unset(&Reading, &slice), (320, 319, [Some(1), Some(319)]));
 }
 
-// Counts the members of the intersection of two words. Returns also the first member that `one` has
-// in common with the halves of `other`.
+// Counts the common members of `one` and `other`. Also returns the first common member of `one` and
+// `halves`, which are the halves of `other`.
 fn common<A: Bits, B: Bits>(one: &A, other: &A, halves: &B) -> (u32, Option<u32>)
     requires one_fits { ShapeFits A.Shape one.now }
     requires other_fits { ShapeFits A.Shape other.now }
@@ -381,8 +382,8 @@ fn common<A: Bits, B: Bits>(one: &A, other: &A, halves: &B) -> (u32, Option<u32>
     (count, ends[0])
 }
 
-// Counts the members of the union of two words, and the members of `one` that the halves of `other`
-// do not have.
+// Counts the members of the union of `one` and `other`, and the members of `one` that are not
+// members of `halves`, which are the halves of `other`.
 fn either_and_alone<A: Bits, B: Bits>(one: &A, other: &A, halves: &B) -> [u32; 2]
     requires one_fits { ShapeFits A.Shape one.now }
     requires other_fits { ShapeFits A.Shape other.now }
@@ -403,7 +404,7 @@ fn unset_and_within<B: Bits>(one: &B) -> ([Option<u32>; 2], u32)
     ([unset[0], within[0]], ask_within(&Walked, one, 3, 50))
 }
 
-// Returns the intersection of two words, their union, and the bits that only the first word has.
+// Returns the intersection and the union of two words, and the bits that are set only in the first.
 fn of_two(ours: &[bool; 64], theirs: &[bool; 64]) -> ([bool; 64], [bool; 64], [bool; 64]) {
     let (mut both, mut either, mut alone) = ([false; 64], [false; 64], [false; 64]);
     for k in 0..64usize {

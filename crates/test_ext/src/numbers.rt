@@ -12,7 +12,8 @@ use bittle::{BigEndian, BitsOwned, Endian, LittleEndian, Set, Shape};
 use bittle_ext::prelude::*;
 use std::process::Abort;
 
-// Reads a range as a number. Of a range of more than 64 bits, it reads the first 64.
+// Reads `count` bits of a set, from index `first` on, as a number. If `count` is greater than 64,
+// reads only the first 64 of these bits.
 fn loaded<B: Bits>(set: &B, first: u32, count: u32) -> u64
     requires { ShapeFits B.Shape set.now }
 {
@@ -151,7 +152,7 @@ fn put_by_bits<B: BitsOwned, E: Endian>(set: &B, first: u32, count: u32, value: 
     made
 }
 
-// Compares `load` and `store` with the loops above, for one range and one order.
+// Compares `load` with `by_bits`, and `store` with `put_by_bits`, for one range and one order.
 fn agree_at<B: BitsOwned, E: Endian>(rt: &impl Abort, set: B, first: u32, count: u32)
     requires { IsTrue B.indexable }
 {
@@ -171,7 +172,7 @@ fn agree_at<B: BitsOwned, E: Endian>(rt: &impl Abort, set: B, first: u32, count:
     }
 }
 
-// Compares the calls with the loops, for ranges near the ends of words and of the set.
+// Does the same as `agree_at` for ranges near the ends of words and of the set, in both orders.
 fn agree<B: BitsOwned>(rt: &impl Abort, width: u32, set: B)
     requires { IsTrue B.indexable }
 {
@@ -192,15 +193,15 @@ fn agree<B: BitsOwned>(rt: &impl Abort, width: u32, set: B)
     }
 }
 
-// Compares the calls on a pair of sets with the loops. The prover needs less time for a generic
-// `[T; 2]` than for `[[u16; 2]; 2]`.
+// Does the same as `agree` for a pair of sets. The prover needs less time for a generic `[T; 2]`
+// than for `[[u16; 2]; 2]`.
 fn agree_pair<T: BitsOwned>(rt: &impl Abort, width: u32, pair: [T; 2])
     requires { IsTrue ⟦<[T; 2] as Shape>⟧.indexable }
 {
     agree(rt, width, pair);
 }
 
-// Compares the calls on a little-endian set with the loops.
+// Does the same as `agree` for a little-endian set.
 fn agree_from_left<T: BitsOwned>(rt: &impl Abort, width: u32, bits: T)
     requires { IsTrue T.indexable }
 {

@@ -88,7 +88,8 @@ fn change_range<B: BitsMut>(kind: u32, from: u32, to: u32, row: &mut B, flags: &
     }
 }
 
-// Clears the first or the last set flag, or sets the first unset flag. Returns its index.
+// Clears the first set flag if `kind` is 0, and the last set flag if it is 1. Sets the first unset
+// flag if `kind` is 2. Returns the index of the changed flag, or `None` if no flag is changed.
 fn take_flag(kind: u32, flags: &mut [bool; 24]) -> Option<u32> {
     let mut found = None;
     for i in 0..24usize {
@@ -101,7 +102,8 @@ fn take_flag(kind: u32, flags: &mut [bool; 24]) -> Option<u32> {
     found
 }
 
-// Does what `take_flag` does to the flags and to the row, and checks that the two indexes agree.
+// Calls `take_flag` on the flags, makes the same change of the row, and checks that both changes
+// return the same index.
 fn take_one<B: BitsMut>(rt: &impl Abort, kind: u32, row: &mut B, flags: &mut [bool; 24])
     requires { ShapeFits B.Shape row.old }
 {
@@ -129,7 +131,8 @@ fn drawn_changes_agree_with_plain_loops(rt: HostRuntime) {
     }
 }
 
-// Returns the flag that one of the four operations makes of two flags.
+// Combines two flags by the operation that `kind` picks: union, intersection, difference or
+// symmetric difference.
 pub(crate) fn combined(kind: u32, one: bool, other: bool) -> bool {
     match kind {
         0 => one || other,
@@ -248,7 +251,8 @@ fn drawn_runs_agree_with_plain_loops(rt: HostRuntime) {
     }
 }
 
-// Returns the flag that is at index `at` after all flags are moved by `by` in one of four ways.
+// Returns the flag that is at index `at` after all flags are moved by `by`. `kind` picks the way:
+// rotated down, rotated up, shifted down or shifted up.
 fn flag_after(kind: u32, flags: &[bool; 24], at: usize, by: usize) -> bool
     requires index { at < 24 }
     requires distance { by < 50 }

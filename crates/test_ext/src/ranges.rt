@@ -37,8 +37,9 @@ fn a_range_of_a_word_from_the_left(rt: HostRuntime) {
     same!(rt; zeros, [Some(3), Some(4), None]);
 }
 
-/// Returns set bits of a range of a pair of sets, in the order of the type and in little-endian
-/// order. The prover needs less time for a generic `[T; 2]` than for `[[u8; 2]; 2]`.
+/// Returns set bits in two ranges of a pair of sets: in `1..32` in the order of the type, and in
+/// `7..24` in little-endian order. The prover needs less time for a generic `[T; 2]` than for
+/// `[[u8; 2]; 2]`.
 fn ones_in_ranges_of_a_pair<T: BitsOwned>(pair: &[T; 2]) -> [[Option<u32>; 4]; 2]
     requires { IsTrue ⟦<[T; 2] as Shape>⟧.indexable }
 {

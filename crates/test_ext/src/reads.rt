@@ -32,8 +32,8 @@ fn ends_of_longer_shapes(rt: HostRuntime) {
     same!(rt; ends(&none), [None; 4]);
 }
 
-/// Returns the first set bit from an index on and the last set bit before the index. Then returns
-/// the first unset bit from the index on and the last unset bit before it.
+/// Returns the first set bit at or after `index` and the last set bit before `index`. Then returns
+/// the first unset bit at or after `index` and the last unset bit before `index`.
 fn neighbours<B: Bits>(set: &B, index: u32) -> [Option<u32>; 4]
     requires { ShapeFits B.Shape set.now }
 {
@@ -167,8 +167,8 @@ fn first_runs<B: Bits>(set: &B, length: u32) -> [Option<u32>; 2]
     [set.first_one_run(length), set.first_zero_run(length)]
 }
 
-/// Returns where the first run of `length` set bits from index `from` on begins, and where the
-/// first run of `length` unset bits from there on begins.
+/// Searches from index `from` on. Returns where the first run of `length` set bits begins, and
+/// where the first run of `length` unset bits begins.
 fn next_runs<B: Bits>(set: &B, from: u32, length: u32) -> [Option<u32>; 2]
     requires { ShapeFits B.Shape set.now }
 {
@@ -254,7 +254,7 @@ fn plain_rank(bits: &[bool; 64], end: u32) -> u32 {
     count
 }
 
-/// Tests the bits from `from` on one by one, and returns the first that has this value.
+/// Tests the bits one by one, and returns the first index at or after `from` whose bit is `value`.
 fn plain_next(bits: &[bool; 64], from: u32, value: bool) -> Option<u32> {
     for k in 0..64usize {
         if from <= k as u32 && bits[k] == value {
@@ -264,7 +264,7 @@ fn plain_next(bits: &[bool; 64], from: u32, value: bool) -> Option<u32> {
     None
 }
 
-/// Tests the bits below `to` one by one, and returns the last that has this value.
+/// Tests the bits one by one, and returns the last index below `to` whose bit is `value`.
 fn plain_prev(bits: &[bool; 64], to: u32, value: bool) -> Option<u32> {
     let mut found = None;
     for k in 0..64usize {
@@ -275,7 +275,8 @@ fn plain_prev(bits: &[bool; 64], to: u32, value: bool) -> Option<u32> {
     found
 }
 
-/// Checks that the calls on a set of 64 bits return what the plain functions return.
+/// Checks that the calls on a set of 64 bits return what `plain_next`, `plain_prev`, `plain_rank`
+/// and `plain_run` return for the bits of the set.
 fn read_as_plain<B: Bits>(rt: &impl Abort, set: &B, bits: &[bool; 64], from: u32, length: u32)
     requires { ShapeFits B.Shape set.now }
 {
@@ -315,9 +316,9 @@ fn random_rows_are_read_as_plain_arrays(rt: HostRuntime) {
 #[test]
 fn relations_of_two_shapes(rt: HostRuntime) {
     let row: [u8; 8] = [0b0110, 0, 0, 0, 0, 0, 0, 1];
-    // The members of `row` are 1, 2 and 56. Each line says whether the first set is a subset, is a
-    // superset, is disjoint, and intersects. Then come the first index in both sets, and the first
-    // index in the first set alone.
+    // The members of `row` are 1, 2 and 56. Each line says whether the first set is a subset of the
+    // second, is a superset of it, is disjoint from it, and intersects it. Then come the first
+    // common member, and the first member that only the first set has.
     same!(rt; stand(&0b0110u64, &row), ([true, false, false, true], [Some(1), None]));
     same!(rt; stand(&0b0111u64, &row), ([false, false, false, true], [Some(1), Some(0)]));
     same!(rt; stand(&0b1001u64, &row), ([false, false, true, false], [None, Some(0)]));
@@ -331,8 +332,9 @@ fn relations_of_two_shapes(rt: HostRuntime) {
 fn relations_of_like_words(rt: HostRuntime) {
     let long: [u32; 3] = [1, 0, 1];
     let short: [u32; 2] = [1, 0];
-    // Each line says whether the first set is a subset, is a superset, is disjoint, and intersects.
-    // Then come the first index in both sets, and the first index in the first set alone.
+    // Each line says whether the first set is a subset of the second, is a superset of it, is
+    // disjoint from it, and intersects it. Then come the first common member, and the first member
+    // that only the first set has.
     same!(rt; stand(&short, &long), ([true, false, false, true], [Some(0), None]));
     same!(rt; stand(&long, &short), ([false, true, false, true], [Some(0), Some(64)]));
     let other: [u32; 1] = [2];
@@ -371,8 +373,8 @@ fn relations_of_no_capacity(rt: HostRuntime) {
     same!(rt; stand(&none, &none), ([true, true, true, false], [None, None]));
 }
 
-/// Returns the first index in both sets, and the first index in the first set alone, by a loop over
-/// all indexes.
+/// Returns the first common member of two sets, and the first member that only the first set has.
+/// Finds them by a loop over all indexes.
 fn plain_firsts(ours: &[bool; 64], theirs: &[bool; 64]) -> [Option<u32>; 2] {
     let mut common = None;
     let mut alone = None;
@@ -387,7 +389,7 @@ fn plain_firsts(ours: &[bool; 64], theirs: &[bool; 64]) -> [Option<u32>; 2] {
     [common, alone]
 }
 
-/// Checks that `stand` returns for two sets what follows from the indexes of `plain_firsts`.
+/// Checks what `stand` returns for two sets. `expected` is what `plain_firsts` returns for them.
 fn stand_as_plain<A: Bits, B: Bits>(rt: &impl Abort, one: &A, other: &B, expected: [Option<u32>; 2])
     requires one_fits { ShapeFits A.Shape one.now }
     requires other_fits { ShapeFits B.Shape other.now }

@@ -119,7 +119,8 @@ fn sets(rt: HostRuntime) {
     same!(rt; moved_in::<_, BigEndian>(3, right, 33), [0, 0, 2]);
 }
 
-// Returns the index to which a bit is moved in one of four ways, or `None` if the bit is left out.
+// Returns the index to which the call that `way` selects in `moved` moves the bit at `index`, or
+// `None` if the bit is shifted out.
 fn target(way: u32, index: u32, by: u32, capacity: u32) -> Option<u32>
     requires { index < capacity }
 {
@@ -140,7 +141,7 @@ fn target(way: u32, index: u32, by: u32, capacity: u32) -> Option<u32>
     }
 }
 
-// Returns the set with its bits moved in one of four ways, by a loop over the indexes.
+// Makes the set that `moved_in` should return, by a loop over the indexes.
 fn looped<B: BitsOwned, E: Endian>(way: u32, set: &B, by: u32) -> B
     requires { IsTrue B.indexable }
 {
@@ -164,7 +165,8 @@ fn moved_in<B: BitsOwned, E: Endian>(way: u32, set: B, by: u32) -> B
     moved(way, Set::<B, E>::new_in(set), by).into_bits()
 }
 
-// Returns the set with its bits moved in one of four ways, in the order of the type, by one call.
+// Returns `set` with its bits moved by `by` indexes, in the order of the type. `way` selects one of
+// four calls.
 pub(crate) fn moved<B: BitsOwned>(way: u32, set: B, by: u32) -> B
     requires { IsTrue B.indexable }
 {
@@ -176,14 +178,15 @@ pub(crate) fn moved<B: BitsOwned>(way: u32, set: B, by: u32) -> B
     }
 }
 
-// Returns the set with its bits rotated in place: down if `way` is 0, else up.
+// Rotates a set in place, down if `way` is 0, else up, and returns the set. Indexes follow the bit
+// order `E`.
 pub(crate) fn turned_in<B: BitsOwned, E: Endian>(way: u32, set: B, by: u32) -> B
     requires { IsTrue B.indexable }
 {
     turned(way != 0, Set::<B, E>::new_in(set), by).into_bits()
 }
 
-// Compares rotations in place with the loop, for one distance.
+// Compares rotations in place with the loop of `looped`, for one distance.
 fn agree_in_place<B: BitsOwned>(rt: &impl Abort, set: B, by: u32)
     requires { IsTrue B.indexable }
 {
@@ -195,7 +198,7 @@ fn agree_in_place<B: BitsOwned>(rt: &impl Abort, set: B, by: u32)
     }
 }
 
-// Compares the calls with the loop, for one distance.
+// Compares the four calls of `moved` with the loop of `looped`, for one distance.
 fn agree_at<B: BitsOwned>(rt: &impl Abort, set: B, by: u32)
     requires { IsTrue B.indexable }
 {
@@ -216,7 +219,8 @@ fn comes_back<B: BitsOwned, E: Endian>(set: B, by: u32) -> bool
     moved_in::<B, E>(0, moved_in::<B, E>(1, set, by), by) == set
 }
 
-// Compares the calls with the loop, for distances near the width of a word and near the capacity.
+// Does the same as `agree_at` and `agree_in_place`, for distances near the width of a word and near
+// the capacity. Also checks `comes_back`.
 fn agree<B: BitsOwned>(rt: &impl Abort, width: u32, set: B)
     requires { IsTrue B.indexable }
 {
@@ -255,7 +259,7 @@ fn rows_agree_with_a_loop(rt: HostRuntime) {
 
 #[test]
 fn rows_of_other_words_agree_with_a_loop(rt: HostRuntime) {
-    // The words have 8 bits. The argument 16 adds distances near two words.
+    // The words of this row have 8 bits. The argument 16 makes distances near the width of two.
     agree(&rt, 16, [0xC5u8, 0x3A, 0x91, 0x07, 0xE8]);
     agree(&rt, 64, [0x8F00_0000_0000_0005u64]);
     agree(
@@ -265,7 +269,7 @@ fn rows_of_other_words_agree_with_a_loop(rt: HostRuntime) {
     );
 }
 
-// Compares the calls on a set in the order `E` with the loop.
+// Does the same as `agree` for a set in the order `E`.
 fn agree_in<B: BitsOwned, E: Endian>(rt: &impl Abort, width: u32, bits: B)
     requires { IsTrue B.indexable }
 {

@@ -11,7 +11,7 @@ use bittle::{Bits, BitsMut, BitsOwned, Endian, LittleEndian, Set};
 use bittle_ext::prelude::*;
 use std::ops::{Bound, RangeBounds};
 
-// Bits 1, 5 and 6 are set. In little-endian order, these are bits 6, 2 and 1.
+// A word in which bits 1, 5 and 6 are set. In little-endian order, these are bits 6, 2 and 1.
 const WORD: u8 = 0b0110_0010;
 
 // Counts the set bits of a range of each form, such as `1..6` and `..=5`, and the unset bits of two
@@ -97,9 +97,9 @@ fn a_range_that_runs_backwards_is_empty(rt: HostRuntime) {
     same!(rt; read_backwards(&WORD), ([0, 0, 0], [None, None, None], answers));
 }
 
-// Returns for nine ranges whether all bits are set. The capacity is 8. The first three ranges end
-// below, at and past the capacity; the next three end twice at it and then past it. The last three
-// are the whole set, an empty range at 9, and the index 8 alone.
+// Returns for nine ranges of a set of capacity 8 whether all bits are set. The first three ranges
+// end below, at and past the capacity. Of the next three, two end at the capacity, and the third
+// ends past it. The last three are the whole set, an empty range at 9, and the index 8 alone.
 fn all_of_each<B: Bits>(row: &B) -> ([bool; 3], [bool; 3], [bool; 3])
     requires { ShapeFits B.Shape row.now }
 {
@@ -158,7 +158,7 @@ fn searches_of_a_range_from_the_left(rt: HostRuntime) {
     same!(rt; searched(&Set::new_le(WORD)), (ends, 1, false));
 }
 
-// Returns the set bits that an iterator yields over `2..700`, which reaches past the capacity.
+// Returns the set bits that an iterator over `2..700` yields. The range reaches past the capacity.
 fn ones_past<B: Bits>(row: &B) -> [Option<u32>; 3]
     requires { ShapeFits B.Shape row.now }
 {
@@ -185,7 +185,7 @@ fn iterators_over_a_range_past_the_capacity(rt: HostRuntime) {
     same!(rt; zeros, [Some(4), Some(7), Some(5)]);
 }
 
-// Clears the first four bits of a set, if its capacity is at least 4.
+// A change that clears the first four bits of a set, if its capacity is at least 4.
 #[derive(Drop)]
 struct ClearFour;
 
@@ -294,8 +294,8 @@ fn ranges_of_no_bits(rt: HostRuntime) {
     same!(rt; change_nothing(none), []);
 }
 
-// What the calls return for a range: how many bits are set, and how many unset; the first and the
-// last set bit, and the first and the last unset bit; whether any bit is set, and whether all are.
+// The results of eight calls for a range: how many bits are set, how many are unset, the first and
+// the last set bit, the first and the last unset bit, whether any bit is set, and whether all are.
 type Answers = ((u32, u32), [Option<u32>; 4], (bool, bool));
 
 // Makes each of the eight calls on a range of a set.
@@ -317,7 +317,7 @@ fn answers<B: Bits, R: RangeBounds<u32> + Copy>(row: &B, range: R) -> Answers
     )
 }
 
-// Works out the same answers by a loop over the flags, for the range `from..to`.
+// Works out by a loop over the flags what `answers` should return for the range `from..to`.
 fn expected(flags: &[bool; 24], from: u32, to: u32) -> Answers {
     let mut counts = (0u32, 0u32);
     let mut ends = [None; 4];

@@ -138,7 +138,7 @@ fn walked<A: Bits, B: Bits>(kind: u32, one: &A, other: &B) -> [u64; 2]
     set_of(combination(kind, one, other, turns))
 }
 
-// Makes the same set by a test of each bit of both sets.
+// Makes the same set as `walked`, by a test of each bit of both sets.
 fn tested<A: Bits, B: Bits>(kind: u32, one: &A, other: &B) -> [u64; 2]
     requires one_fits { ShapeFits A.Shape one.now }
     requires other_fits { ShapeFits B.Shape other.now }
@@ -159,8 +159,8 @@ fn draw_word(state: &mut u32) -> u64 {
     u64::from(draw(state)) << 40 ^ u64::from(draw(state)) << 20 ^ u64::from(draw(state))
 }
 
-// Checks that `walked` and `tested` make the same set of `one` and `other`, and of `other` and
-// `one`.
+// Checks that `walked` and `tested` make the same set, both for `one` combined with `other` and for
+// `other` combined with `one`.
 fn agree<A: Bits, B: Bits>(rt: &impl Abort, kind: u32, one: &A, other: &B)
     requires one_fits { ShapeFits A.Shape one.now }
     requires other_fits { ShapeFits B.Shape other.now }

@@ -98,8 +98,8 @@ fn a_view_is_iterated_from_both_ends(rt: HostRuntime) {
     same!(rt; items, [Some(6), Some(1), Some(2)]);
 }
 
-/// Flips bit 1, sets bit 0 and clears bit 3. The answer is what `insert` and `remove` return, and
-/// how many bits are set afterwards.
+/// A change that flips bit 1, sets bit 0 and clears bit 3. The answer is what `insert` and `remove`
+/// return, and how many bits are set afterwards.
 #[derive(Drop)]
 struct ThreeBits;
 
@@ -158,8 +158,8 @@ fn capacity_0_is_changed_by_nothing(rt: HostRuntime) {
     same!(rt; changed::<_, LittleEndian>(&mut none), ([true, false], 0));
 }
 
-/// Takes out the first and the last set bit, sets bits 1 and 2, and flips every bit. The answer is
-/// the two bits that were taken out.
+/// A change that takes out the first and the last set bit, sets bits 1 and 2, and flips every bit.
+/// The answer is the indexes of the two bits that were taken out.
 #[derive(Drop)]
 struct Whole;
 

@@ -63,7 +63,7 @@ pub(crate) fn has<B: Bits>(set: &B, index: u32) -> bool
     set.test_bit(index)
 }
 
-/// Returns the set after the bits at some indexes are set, in the order `E`. The indexes wrap.
+/// Sets the bits at `indexes` in the order `E`, and returns the changed set. The indexes wrap.
 pub(crate) fn with<B: BitsOwned, E: Endian>(set: B, indexes: &[u32]) -> B
     requires { IsTrue B.indexable }
 {
@@ -74,7 +74,7 @@ pub(crate) fn with<B: BitsOwned, E: Endian>(set: B, indexes: &[u32]) -> B
     set
 }
 
-/// Returns the set after the bits at some indexes are cleared. The indexes wrap.
+/// Clears the bits at `indexes`, and returns the changed set. The indexes wrap.
 pub(crate) fn without<B: BitsOwned>(set: B, indexes: &[u32]) -> B
     requires { IsTrue B.indexable }
 {
@@ -85,8 +85,8 @@ pub(crate) fn without<B: BitsOwned>(set: B, indexes: &[u32]) -> B
     set
 }
 
-/// Returns the set after a range is set (if `kind` is 0), cleared (if it is 1), or else toggled.
-/// Indexes past the capacity are left out.
+/// Sets the bits in `from..to` if `kind` is 0, clears them if `kind` is 1, and else toggles them.
+/// Returns the changed set. Indexes past the capacity are left out.
 pub(crate) fn with_range<B: BitsMut, E: Endian>(set: B, kind: u32, from: u32, to: u32) -> B
     requires { ShapeFits B.Shape set }
 {

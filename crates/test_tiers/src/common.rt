@@ -37,8 +37,8 @@ impl Common {
     }
 }
 
-// Returns a random distance to the next number: 1 to 7, just 64 (one word), 1 to 4,096 (64 words),
-// or 1 to `most`.
+// Returns a random distance to the next number: 1 to 7, exactly 64 (one word), 1 to 4,096 (64
+// words), or 1 to `most`.
 fn draw_gap(state: &mut u32, most: u32) -> u32 {
     let kind = draw(state) % 4;
     let any = draw(state);
@@ -50,8 +50,8 @@ fn draw_gap(state: &mut u32, most: u32) -> u32 {
     }
 }
 
-// Adds random numbers to two empty sets, and returns the common members. It adds each number to one
-// of the sets, or to both.
+// Adds random numbers to two empty sets, each number to one of the sets or to both. Returns the
+// common members.
 fn draw_both<A: BitsMut, B: BitsMut, E: Endian, F: Endian>(
     state: &mut u32,
     one: &mut A,
@@ -85,8 +85,8 @@ fn draw_both<A: BitsMut, B: BitsMut, E: Endian, F: Endian>(
     common
 }
 
-// Steps an iterator to its end, each time from a random end. Tests that it yields the numbers of
-// the list.
+// Steps an iterator until no item is left, each time at random from the front or from the back.
+// Tests that the iterator yields the numbers of the list.
 fn ask_steps<B: Bits, E: Endian, K: Kind>(
     rt: &impl Abort,
     state: &mut u32,
@@ -133,7 +133,8 @@ fn ask_common<A: Bits, B: Bits>(
     ask_members(rt, state, &one.and(other), common);
 }
 
-// Makes random pairs of sets, beginning with a seed. Tests the common members of each pair.
+// Makes `pairs` pairs of sets, which are random but determined by `seed`. Tests the common members
+// of each pair.
 fn agree_on_common<A: BitsOwned, B: BitsOwned>(rt: &impl Abort, seed: u32, pairs: u32)
     requires one { IsTrue A.indexable }
     requires other { IsTrue B.indexable }
@@ -149,8 +150,8 @@ fn agree_on_common<A: BitsOwned, B: BitsOwned>(rt: &impl Abort, seed: u32, pairs
     }
 }
 
-// Does the same as `agree_on_common` for any set and a set with a summary. The calls are proved in
-// less time than for a set of a usual size.
+// Does the same as `agree_on_common` for any set and a set with a summary. The prover needs less
+// time for this generic type than for a usual size such as `Tiered4K`.
 fn agree_on_any_and_tier<A: BitsOwned, B: BitsOwned, T: BitsOwned>(
     rt: &impl Abort,
     seed: u32,
@@ -192,7 +193,7 @@ fn agree_on_two_tiers<B: BitsOwned, S: BitsOwned, T: BitsOwned>(
     agree_on_same_tiers::<B, Tiered<S, T, Ones>>(rt, seed, pairs);
 }
 
-// The two tests that follow name the parts of `Tiered4K` and of `Tiered64K`.
+// The types in the next two tests are the parts of `Tiered4K` and of `Tiered64K`.
 
 #[test]
 fn of_one_group_of_words(rt: HostRuntime) {
@@ -204,8 +205,8 @@ fn of_two_levels_of_groups(rt: HostRuntime) {
     agree_on_two_tiers::<[u64; 1024], [u64; 16], u64>(&rt, 2, 20);
 }
 
-// A set knows which groups of its words are empty only if it has a summary with words of 64 bits.
-// Here the first set does not know it: its summary has words of 32 bits, or it has no summary.
+// Only a set whose summary has words of 64 bits knows which groups of its own words are empty. Here
+// the first set does not know this: its summary has words of 32 bits, or the set has no summary.
 #[test]
 fn of_sets_that_tell_of_no_group(rt: HostRuntime) {
     agree_on_tiers::<[u64; 64], [u32; 2], [u64; 64], u64>(&rt, 8, 10);
@@ -236,14 +237,15 @@ fn count_with_full<B: BitsOwned>(part: B) -> [usize; 2]
     [count_common(&all, &all), count_common(&all, &part)]
 }
 
-// Does the same as `count_with_full` for a set with a summary, made of a map.
+// Does the same as `count_with_full` for the set with a summary that `new` makes of `map`.
 fn count_map_with_full<B: BitsOwned, S: BitsOwned>(map: B) -> [usize; 2]
     requires { IsTrue ⟦<Tiered<B, S, Ones> as Shape>⟧.indexable }
 {
     count_with_full(Tiered::<B, S, Ones>::new(map))
 }
 
-// The summary of the full set that `ones` returns has set bits also past the last word of the map.
+// In the summary of the full set that `ones` returns, the bits that stand for no word of the map
+// are set too.
 #[test]
 fn of_full_sets(rt: HostRuntime) {
     let counts = count_map_with_full::<[u64; 5], u64>([0, 2, 0, 0, 1]);

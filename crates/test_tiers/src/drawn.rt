@@ -108,8 +108,9 @@ fn change<B: BitsOwned, E: Endian>(state: &mut u32, set: &mut B, flags: &mut [bo
     }
 }
 
-// Makes 300 random changes of a set and of its flags, from a seed. After each change, tests that
-// the set agrees with the flags. At first the set must be full if `all` is `true`, and else empty.
+// Makes 300 random changes of a set and of its flags. After each change, tests that the set agrees
+// with the flags. `seed` determines the changes. The set that is passed must be full if `all` is
+// `true`, and else empty.
 fn agree_from<B: BitsOwned, E: Endian>(rt: &impl Abort, seed: u32, mut set: B, all: bool)
     requires { IsTrue B.indexable }
 {
@@ -165,7 +166,7 @@ fn a_summary_of_the_zeros_agrees_in_little_endian_order(rt: HostRuntime) {
 }
 
 // There are three tiers: a map of 24 bits, its summary of 8 bits, and the summary of this summary.
-// The last one has 8 bits and uses one.
+// The last one has 8 bits, and uses only one of them.
 #[test]
 fn a_summary_of_a_summary_agrees_with_plain_loops(rt: HostRuntime) {
     agree_on_tier::<[u8; 3], Tiered<u8, u8, Ones>, Zeros, BigEndian>(&rt, 5, true);

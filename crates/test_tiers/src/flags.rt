@@ -89,7 +89,8 @@ pub(crate) fn ask_whole<B: Bits, E: Endian>(
     );
 }
 
-// Steps an iterator to its end, each time from a random end. Tests each item.
+// Steps an iterator until no item is left, each time at random from the front or from the back.
+// Tests each item.
 pub(crate) fn ask_steps<B: Bits, E: Endian, K: Kind>(
     rt: &impl Abort,
     state: &mut u32,

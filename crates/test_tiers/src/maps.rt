@@ -1,4 +1,4 @@
-//! Tests sets with a summary, of the usual sizes, as maps of allocators and as sparse sets.
+//! Tests sets of the usual sizes with a summary, used as maps of allocators and as sparse sets.
 
 ghost use Rattle.std.specs.Prelude.{IsTrue};
 ghost use Rattle.bittle.specs.Shapes.{Fits};
@@ -39,9 +39,9 @@ fn pages_are_found_by_the_summary(rt: HostRuntime) {
     same!(rt; given, [true, false]);
 }
 
-// Frees two pages of a full map. Returns the first and the last free page, and what searches
-// between them find. Then takes the first of the two, and then frees a range. After each of these
-// changes it returns the first and the last free page again.
+// Frees two pages of a full map, then takes the first of the two, then frees a range. Returns the
+// first and the last free page after the first change, what searches between the two pages find at
+// that time, and the first and the last free page after each of the two later changes.
 fn find_last_pages<B: BitsOwned>() -> ([Option<u32>; 2], [Option<u32>; 4], [[Option<u32>; 2]; 2])
     requires { IsTrue B.indexable }
 {
@@ -54,8 +54,8 @@ fn find_last_pages<B: BitsOwned>() -> ([Option<u32>; 2], [Option<u32>; 4], [[Opt
     (free, between, [last, ends_of_zeros(&map)])
 }
 
-// Does the same as `find_last_pages` for a map with a summary. The calls are proved in less time
-// than for a map of a usual size.
+// Does the same as `find_last_pages` for a map with a summary. The prover needs less time for this
+// generic type than for a usual size such as `Tiered256K`.
 fn find_last_pages_of_tier<B: BitsOwned, S: BitsOwned>() -> (
     [Option<u32>; 2],
     [Option<u32>; 4],
@@ -94,7 +94,7 @@ fn steps_of_members<B: Bits>(set: &B) -> [Option<u32>; 5]
 }
 
 // Does the same as `steps` for the set of 0, 2000 and 4095 in the order `LittleEndian`. Also
-// returns whether bit 63 of the wrapped set is set.
+// returns whether bit 63 is set in the set of type `T` that the `Set` wraps.
 fn steps_from_the_left<T: BitsOwned>() -> ([Option<u32>; 5], bool)
     requires { IsTrue T.indexable }
 {
@@ -118,7 +118,7 @@ fn ends_of_common<B: Bits>(one: &B, other: &B) -> [Option<u32>; 2]
     ends_of_ones(&one.and(other))
 }
 
-// Does the same as `ends_of_common` for the sets of these numbers.
+// Does the same as `ends_of_common` for the set of the numbers `ours` and that of `theirs`.
 fn ends_of_common_numbers<B: BitsOwned>(ours: [u32; 4], theirs: [u32; 4]) -> [Option<u32>; 2]
     requires { IsTrue B.indexable }
 {

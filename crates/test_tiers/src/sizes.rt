@@ -1,5 +1,5 @@
-//! Tests the capacities of sets with a summary: of the usual sizes, of shapes that do not fit, and
-//! capacity 0.
+//! Tests the capacities of types of sets with a summary: types of the usual sizes, types whose
+//! shape does not fit, and types of capacity 0.
 
 ghost use Rattle.std.specs.Prelude.{IsTrue};
 
@@ -12,7 +12,7 @@ use bittle::{BigEndian, BitsOwned, LittleEndian, Shape};
 use bittle_tiers::{Kind, Ones, Tiered, Tiered4K, Tiered64K, Tiered256K, Zeros};
 use std::process::Abort;
 
-// What calls on a set of a usual size return.
+// The results of calls on a set of a usual size.
 #[derive(Drop)]
 struct Answers {
     bits: u32,
@@ -22,8 +22,8 @@ struct Answers {
     zeros: [Option<u32>; 2],
 }
 
-// Returns the capacity of a set by its type and by its value, what calls on all bits return, and
-// the first and the last set bit and unset bit.
+// Returns the capacity that the type of a set gives, the capacity that the set itself gives, what
+// calls on all bits return, the first and the last set bit, and the first and the last unset bit.
 fn answers_of<B: BitsOwned>(set: &B) -> Answers
     requires { IsTrue B.indexable }
 {
@@ -43,8 +43,8 @@ fn answers_of_tier<B: BitsOwned, S: BitsOwned, K: Kind>(set: &Tiered<B, S, K>) -
     answers_of(set)
 }
 
-// Does the same as `answers_of` for a set whose summary has a summary. This last one is of the kind
-// `Ones`, whatever `K` is, since a search looks for the set bits of a summary.
+// Does the same as `answers_of` for a set whose summary has a summary. The summary of the summary
+// is of the kind `Ones`, whatever `K` is, since a search looks for the set bits of a summary.
 fn answers_of_two_tiers<B: BitsOwned, S: BitsOwned, T: BitsOwned, K: Kind>(
     set: &Tiered<B, Tiered<S, T, Ones>, K>,
 ) -> Answers
@@ -102,7 +102,7 @@ fn two_tier_sizes<B: BitsOwned, S: BitsOwned, T: BitsOwned, K: Kind>() -> (u32, 
     tier_sizes::<B, Tiered<S, T, Ones>, K>()
 }
 
-// What `sizes` returns for a type whose shape does not fit.
+// The result of `sizes` for a type whose shape does not fit.
 const NO_FIT: (u32, u32) = (u32::MAX, u32::MAX);
 
 #[test]
@@ -121,8 +121,8 @@ fn a_part_that_does_not_fit_is_told(rt: HostRuntime) {
     same!(rt; tier_sizes::<u8, [u64; 67_108_864], Ones>(), NO_FIT);
 }
 
-// Sets bit 5 of a set of capacity 0. Returns the capacity, whether bit 5 is set, what calls on all
-// bits return, and the first and the last set bit and unset bit.
+// Tries to set bit 5 of a set of capacity 0. Returns the capacity, whether bit 5 is set, what calls
+// on all bits return, the first and the last set bit, and the first and the last unset bit.
 fn asked_of_none<B: BitsOwned>() -> (u32, bool, (u32, bool, bool), [[Option<u32>; 2]; 2])
     requires { IsTrue B.indexable }
 {
@@ -138,8 +138,8 @@ fn a_set_without_numbers(rt: HostRuntime) {
     same!(rt; ends, [[None; 2]; 2]);
 }
 
-// Clears bit 1 of a set of capacity 0, and toggles an empty range. Returns what calls on all bits
-// return, the first and the last unset bit, and what searches find.
+// Tries to clear bit 1 of a set of capacity 0, and toggles an empty range. Returns what calls on
+// all bits return, the first and the last unset bit, and what searches find.
 fn changed_without_any<B: BitsOwned>() -> ((u32, bool, bool), [Option<u32>; 2], [Option<u32>; 4])
     requires { IsTrue B.indexable }
 {

@@ -15,7 +15,7 @@ use std::fmt::Debug;
 use std::process::Abort;
 use std::test::Fail;
 
-// What is tested of the sets.
+// The choice of the tests that `ask_set` makes.
 #[derive(Drop)]
 enum Question {
     Ends,
@@ -27,7 +27,8 @@ enum Question {
     PastTheCapacity,
 }
 
-// Makes the tests of a question on two sets. Returns the first set, or the set that the tests make.
+// Makes the tests of a question on two sets. For `Ranges` and `PastTheCapacity`, returns the set
+// that the tests make, else the first set.
 fn ask_set<B: BitsOwned>(rt: &impl Abort, question: Question, set: B, other: B) -> B
     requires { IsTrue B.indexable }
 {
@@ -46,8 +47,8 @@ fn ask_set<B: BitsOwned>(rt: &impl Abort, question: Question, set: B, other: B) 
     set
 }
 
-// Does the same as `ask_set` for sets with a summary, made of two maps. Returns the map of the set
-// that results: as `map` lends it, and as `into_map` returns it.
+// Does the same as `ask_set` for the sets with a summary that `new` makes of two maps. Returns the
+// map of the set that `ask_set` returns: once as `map` lends it, and once as `into_map` returns it.
 fn ask_tier<B: BitsOwned, S: BitsOwned, K: Kind>(
     rt: &impl Abort,
     question: Question,
@@ -74,8 +75,8 @@ fn a_map_is_wrapped_and_unwrapped(rt: HostRuntime) {
     same!(rt; unwrapped, [0, 1, 0]);
 }
 
-// Tests that the set of 9 equals `nine`, and does not equal the empty set. Tests that it equals the
-// empty set after 9 is removed, and that the full set equals `full`.
+// Tests that the set with the only member 9 equals `nine` and differs from the empty set. Tests
+// that this set without 9 equals the empty set, and that the full set equals `full`.
 fn ask_equality<B: BitsOwned>(rt: &impl Abort, nine: B, full: B)
     requires { IsTrue B.indexable }
 {
@@ -91,8 +92,8 @@ fn ask_equality<B: BitsOwned>(rt: &impl Abort, nine: B, full: B)
 
 #[test]
 fn sets_are_equal_by_their_maps(rt: HostRuntime) {
-    // The summary of the full set that `ones` returns has set bits past the last word. The summary
-    // that `new` makes of a full map has none there.
+    // In the summary of the full set that `ones` returns, bits that stand for no word of the map
+    // are set. In the summary that `new` makes of a full map, these bits are unset.
     ask::<Ones>(&rt, Question::Equality, [[0, 2, 0], [255; 3]]);
 }
 
@@ -112,8 +113,9 @@ fn a_copy_goes_its_own_way(rt: HostRuntime) {
     ask::<Zeros>(&rt, Question::Copy, [[0; 3]; 2]);
 }
 
-// Sets a range, and searches this set, which it returns at the end. Clears the range except its
-// last bit, and tests that this bit is left. Toggles this bit in the order `LittleEndian`.
+// Sets a range of an empty set, and tests what searches find. In a copy, clears the range except
+// its last bit, and tests that only this bit is set. Toggles this bit in the order `LittleEndian`,
+// and tests that the copy is then empty. Returns the first set, in which the whole range is set.
 fn after_ranges<B: BitsOwned>(rt: &impl Abort) -> B
     requires { IsTrue B.indexable }
 {
@@ -122,7 +124,7 @@ fn after_ranges<B: BitsOwned>(rt: &impl Abort) -> B
     same!(rt; found, [Some(6), Some(17), Some(0), Some(23)]);
     let second = with_range::<B, BigEndian>(first, 1, 6, 17);
     same!(rt; ends_of_ones(&second), [Some(17), Some(17)]);
-    // In the order `LittleEndian` index 22 is bit 1 of the last byte, the bit that is left.
+    // In the order `LittleEndian`, index 22 is bit 1 of the last byte, the only set bit.
     let third = with_range::<B, LittleEndian>(second, 2, 22, 23);
     same!(rt; whole(&third), (0, true, false));
     first
@@ -134,8 +136,8 @@ fn a_range_across_words(rt: HostRuntime) {
     same!(rt; unwrapped, [0xC0, 0xFF, 0x03]);
 }
 
-// Tests where the first runs begin in the set of 7, 16 and 17. The byte between 7 and 16 is
-// skipped, and no run of set bits goes on past it.
+// Tests where the first runs begin in the set with the members 7, 16 and 17. The byte between 7 and
+// 16 has no set bit, so a search for set bits can skip it, and no run of set bits crosses it.
 fn ask_for_runs_of_ones<B: Bits>(rt: &impl Abort, set: &B)
     requires { ShapeFits B.Shape set.now }
 {
@@ -161,7 +163,7 @@ fn runs_about_a_word_that_is_passed_over(rt: HostRuntime) {
     ask::<Zeros>(&rt, Question::Runs, maps);
 }
 
-// Tests the first and the last member of what each of four operations makes of two sets.
+// Combines two sets by each of four operations. Tests the first and the last member of each result.
 fn ask_operations<B: BitsOwned>(rt: &impl Abort, one: B, other: B)
     requires { IsTrue B.indexable }
 {
@@ -176,8 +178,8 @@ fn operations_on_two_sets(rt: HostRuntime) {
     ask::<Ones>(&rt, Question::Operations, [[1, 0, 0], [1, 0, 128]]);
 }
 
-// Clears bit 9 by index 57, which wraps at the capacity of 24, and clears bit 8. Tests that the set
-// of these two bits is then empty.
+// Clears the only two members of a set: bit 9 by index 57, which wraps at the capacity of 24, and
+// bit 8. Tests that the set is then empty.
 fn ask_without_both<B: BitsOwned>(rt: &impl Abort, set: B)
     requires { IsTrue B.indexable }
 {
@@ -186,7 +188,7 @@ fn ask_without_both<B: BitsOwned>(rt: &impl Abort, set: B)
     same!(rt; ends_of_ones(&set), [None, None]);
 }
 
-// Returns the set of 9 and 8. It sets both bits by indexes that wrap at the capacity of 24.
+// Sets bits 9 and 8 of an empty set, by indexes that wrap at the capacity of 24. Returns this set.
 fn with_two_past<B: BitsOwned>(rt: &impl Abort) -> B
     requires { IsTrue B.indexable }
 {
